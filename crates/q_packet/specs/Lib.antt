@@ -1,0 +1,4 @@
+pub mod Descriptor
+pub mod Key
+pub mod Least
+pub mod Totals

@@ -1,0 +1,74 @@
+ghost use Rattle.std.specs.Prelude.{◌≡◌, ◌↔◌, IsTrue, IfSome, IsSome};
+
+use std::marker::Model;
+
+/// What tells one flow from another: addresses, ports and protocol. A contract sees it as the record `Key` of its fields.
+///
+/// `family` is 0 (not IP), 4 or 6. An IPv4 address stands in the low 32 bits of `src` and `dst`. What a packet lacks is 0.
+#[derive(Clone, Copy, PartialEq, Eq, Debug)]
+pub struct FlowKey {
+    pub family: u8,
+    pub proto: u8,
+    pub src: u128,
+    pub dst: u128,
+    pub sport: u16,
+    pub dport: u16,
+}
+
+impl Model for FlowKey {
+    ghost use Rattle.std.specs.Prelude.{IsTrue};
+    ghost use Rattle.q_packet.specs.Key.{Key, is_family};
+
+    ghost Value = { Key };
+
+    ghost view = { λ k. record { family = k.family; proto = k.proto; src = k.src; dst = k.dst; sport = k.sport; dport = k.dport } };
+
+    ghost invariant = { λ k. IsTrue (is_family k.family) };
+
+    ghost inverse = { λ k. record { family = k.family; proto = k.proto; src = k.src; dst = k.dst; sport = k.sport; dport = k.dport } };
+}
+
+impl FlowKey {
+    ghost use Rattle.q_packet.specs.Key.{is_family, zero_key};
+
+    /// The key of a packet that is not IP: every field 0.
+    pub const fn zero() -> FlowKey
+        ensures { result ≡ zero_key }
+    {
+        FlowKey {
+            family: 0,
+            proto: 0,
+            src: 0,
+            dst: 0,
+            sport: 0,
+            dport: 0,
+        }
+    }
+
+    /// The key with these fields; `None` where `family` is not 0, 4 or 6.
+    pub fn new(
+        family: u8,
+        proto: u8,
+        src: u128,
+        dst: u128,
+        sport: u16,
+        dport: u16,
+    ) -> Option<FlowKey>
+        ensures known { IsSome result ↔ IsTrue (is_family family) }
+        ensures value { IfSome result
+            (λ k. k ≡ record { family = family; proto = proto; src = src; dst = dst; sport = sport; dport = dport }) }
+    {
+        if family == 0 || family == 4 || family == 6 {
+            Some(FlowKey {
+                family,
+                proto,
+                src,
+                dst,
+                sport,
+                dport,
+            })
+        } else {
+            None
+        }
+    }
+}

@@ -1,0 +1,25 @@
+//! Packet descriptors: what the scheduler knows of a packet, and when.
+//!
+//! - [`Moment`] is a time in whole nanoseconds, 0 to 2^62.
+//! - [`Packet`] is a `Copy` descriptor; payload bytes never enter. [`Stamped`] is a packet with the moment of its arrival.
+//! - [`FlowKey`] is what tells flows apart, with its 38 bytes for a hash. [`Ecn`] is the packet's ECN codepoint.
+//! - [`Cause`] says why a packet was lost.
+//!
+//! The constructors' contracts say that a value is made exactly where each field is within its range, which the types
+//! keep from then on. `specs/Totals.antt` counts and sizes lists of stamped packets, and `specs/Least.antt` has the least
+//! number at which a test holds: the crates above state their rules in these words.
+#![tactic(auto)]
+
+mod cause;
+mod ecn;
+mod flow_key;
+mod moment;
+mod packet;
+mod stamped;
+
+pub use cause::Cause;
+pub use ecn::Ecn;
+pub use flow_key::FlowKey;
+pub use moment::Moment;
+pub use packet::Packet;
+pub use stamped::Stamped;

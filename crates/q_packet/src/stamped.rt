@@ -1,0 +1,9 @@
+use crate::moment::Moment;
+use crate::packet::Packet;
+
+/// A packet with the moment at which it was queued.
+#[derive(Clone, Copy, PartialEq, Eq, Debug)]
+pub struct Stamped {
+    pub packet: Packet,
+    pub at: Moment,
+}
