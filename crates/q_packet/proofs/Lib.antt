@@ -1,0 +1,2 @@
+pub mod LeastLemmas
+pub mod TotalsLemmas
