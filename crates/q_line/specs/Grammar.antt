@@ -1,0 +1,143 @@
+-- The lines of a script: which words fit where, and what the whole line says.
+-- The profile of tc's lines is this project's, after tc(8) and tc-pfifo(8).
+use Rattle.std.specs.Prelude.{ℕ, suc, ◌^◌, Bool, true, false, List, [], ◌∷◌, codes, if◌then◌else◌, Option, Some, None, Result, Ok, Err}
+use Rattle.std.specs.Str.{bytes_eq}
+use Rattle.q_line.specs.Words.{words, is_utf8, is_blank_line}
+use Rattle.q_line.specs.Values.{number_in, handle_of, is_name}
+use Rattle.q_line.specs.declared.wrong.Wrong.{Wrong}
+use Rattle.q_line.specs.declared.wrong.Wrong.TheVariants as wrong
+use Rattle.q_line.specs.declared.line_fault.LineFault.{LineFault}
+use Rattle.q_line.specs.declared.line_fault.LineFault.TheVariants as fault
+use Rattle.q_line.specs.declared.line.Line.{Line}
+use Rattle.q_line.specs.declared.line.Line.TheVariants.{Blank, Tc, Show, At, Pkt, Poll}
+use Rattle.q_line.specs.declared.command.Command.TheVariants.{QdiscAdd}
+use Rattle.q_line.specs.declared.place.Place.{Place}
+use Rattle.q_line.specs.declared.place.Place.TheVariants.{Root}
+use Rattle.q_line.specs.declared.kind.Kind.{Kind}
+use Rattle.q_line.specs.declared.kind.Kind.TheVariants.{Pfifo}
+
+-- what the head of `tc qdisc add` has given so far
+pub record Head : Type 0 where
+  pub named : Bool
+  pub place : Option Place
+  pub handle : Option ℕ
+
+abbrev pub no_head : Head
+no_head = record { named = false; place = None; handle = None }
+
+-- A position is where a word of a line stands, with what the words to its left have said.
+pub data Position : Type 0 where
+  first : Position
+  at : Position
+  pkt : Position
+  poll : Position
+  tc : Position
+  object : Bool → Position
+  verb : Bool → Position
+  add : Head → Position
+  add_dev : Head → Position
+  add_handle : Head → Position
+  pfifo : Head → Option ℕ → Position
+  pfifo_limit : Head → Position
+  show : Bool → Bool → Position
+  show_dev : Bool → Position
+  whole : Line → Position
+
+-- a position at which one of these words stands, each with what follows it
+abbrev pub one_of : List (List ℕ × Result Position Wrong) → List ℕ → Result Position Wrong
+one_of [] word = Err wrong.UnknownWord
+one_of (row ∷ rows) word = if bytes_eq word row.0 then row.1 else one_of rows word
+
+-- an option, which may be given once
+abbrev pub once : Bool → Position → Result Position Wrong
+once given next = if given then Err wrong.Twice else Ok next
+
+abbrev pub is_given : {A : Type 0} → Option A → Bool
+is_given None = false
+is_given (Some a) = true
+
+-- a position at which a value stands
+abbrev pub value : Result ℕ Wrong → (ℕ → Position) → Result Position Wrong
+value (Ok n) next = Ok (next n)
+value (Err e) next = Err e
+
+abbrev pub name : List ℕ → Position → Result Position Wrong
+name word next = if is_name word then Ok next else Err wrong.OutOfRange
+
+-- which words fit at a position, and the position after each
+abbrev pub fits : Position → List ℕ → Result Position Wrong
+fits first = one_of (
+    (codes "pkt", Ok pkt) ∷
+    (codes "poll", Ok poll) ∷
+    (codes "at", Ok at) ∷
+    (codes "tc", Ok tc) ∷ [])
+fits at = λ word. value (number_in 0 (2 ^ 62) word) (λ n. whole (At n))
+fits pkt = λ word. value (number_in 1 65535 word) (λ n. whole (Pkt (record { len = n })))
+fits poll = λ word. value (number_in 1 100000 word) (λ n. whole (Poll n))
+fits tc = one_of (
+    (codes "-s", Ok (object true)) ∷
+    (codes "qdisc", Ok (verb false)) ∷ [])
+fits (object counters) = one_of (
+    (codes "qdisc", Ok (verb counters)) ∷ [])
+fits (verb counters) = one_of (
+    (codes "add", Ok (add no_head)) ∷
+    (codes "show", Ok (show counters false)) ∷
+    (codes "list", Ok (show counters false)) ∷
+    (codes "ls", Ok (show counters false)) ∷ [])
+fits (add head) = one_of (
+    (codes "dev", once head.named (add_dev head)) ∷
+    (codes "root", once (is_given head.place) (add (record head { place = Some Root }))) ∷
+    (codes "handle", once (is_given head.handle) (add_handle head)) ∷
+    (codes "pfifo", Ok (pfifo head None)) ∷ [])
+fits (add_dev head) = λ word. name word (add (record head { named = true }))
+fits (add_handle head) = λ word. value (handle_of word) (λ major. add (record head { handle = Some major }))
+fits (pfifo head limit) = one_of (
+    (codes "limit", once (is_given limit) (pfifo_limit head)) ∷ [])
+fits (pfifo_limit head) = λ word. value (number_in 0 4294967295 word) (λ n. pfifo head (Some n))
+fits (show counters named) = one_of (
+    (codes "dev", once named (show_dev counters)) ∷ [])
+fits (show_dev counters) = λ word. name word (show counters true)
+fits (whole line) = one_of []
+
+-- a head that has all that a line needs: the device's name and the place
+abbrev pub added : Head → Kind → Option Line
+added head kind = if head.named then placed head.place else None
+  where
+    placed : Option Place → Option Line
+    placed None = None
+    placed (Some place) = Some (Tc (QdiscAdd place head.handle kind))
+
+-- what a line says that ends here; None where it needs another word
+abbrev pub ends : Position → Option Line
+ends poll = Some (Poll 1)
+ends (pfifo head limit) = added head (Pfifo limit)
+ends (show counters named) = Some (Show (record { counters = counters }))
+ends (whole line) = Some line
+ends _ = None
+
+abbrev pub numbered : Wrong → ℕ → LineFault
+numbered wrong.UnknownWord index = fault.UnknownWord index
+numbered wrong.BadNumber index = fault.BadNumber index
+numbered wrong.OutOfRange index = fault.OutOfRange index
+numbered wrong.Twice index = fault.Twice index
+numbered wrong.BadUtf8 index = fault.BadUtf8 index
+
+-- the position after a word that is looked at
+abbrev pub after : Position → List ℕ → Result Position Wrong
+after position word = if is_utf8 word then fits position word else Err wrong.BadUtf8
+
+-- the words from this position on, the first of which has this index: from left to right, up to the first that does not fit
+abbrev pub rest_of : Position → ℕ → List (List ℕ) → Result Line LineFault
+rest_of position index [] = ended (ends position)
+  where
+    ended : Option Line → Result Line LineFault
+    ended None = Err (fault.Missing index)
+    ended (Some line) = Ok line
+rest_of position index (word ∷ words) = elim (after position word) [ Ok next ↦ rest_of next (suc index) words | Err e ↦ Err (numbered e index) ]
+
+abbrev pub line_of_words : List (List ℕ) → Result Line LineFault
+line_of_words words = if is_blank_line words then Ok Blank else rest_of first 1 words
+
+-- what a line's bytes say, or its leftmost fault
+abbrev pub line_of : List ℕ → Result Line LineFault
+line_of bytes = line_of_words (words bytes)

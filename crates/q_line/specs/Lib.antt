@@ -1,0 +1,4 @@
+pub mod FaultText
+pub mod Grammar
+pub mod Values
+pub mod Words
