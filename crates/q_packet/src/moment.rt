@@ -24,6 +24,13 @@ impl Moment {
     /// The latest moment, in nanoseconds.
     pub const MAX: u64 = 4611686018427387904;
 
+    /// The moment at which the device was opened: 0 nanoseconds.
+    pub const fn zero() -> Moment
+        ensures { result ≡ 0 }
+    {
+        Moment { nanoseconds: 0 }
+    }
+
     /// The moment at `ns` nanoseconds; `None` past [`Moment::MAX`].
     pub fn new(ns: u64) -> Option<Moment>
         ensures in_range { IsSome result ↔ (ns ≤ 2 ^ 62) }
