@@ -1,2 +1,4 @@
+pub mod HeadLemmas
+pub mod KeyLemmas
 pub mod LeastLemmas
 pub mod TotalsLemmas

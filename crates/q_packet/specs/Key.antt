@@ -1,6 +1,7 @@
 -- What a contract sees of a flow key: its fields, as numbers.
 -- The family is 0 (not IP), 4 or 6; an IPv4 address stands in the low 32 bits.
-use Rattle.std.specs.Prelude.{ℕ, Bool, ◌||◌, ◌==◌}
+use Rattle.std.specs.Prelude.{ℕ, Bool, ◌||◌, ◌==◌, ◌<◌, ◌^◌, List, ◌∷◌, ◌++◌}
+use Rattle.byteorder.specs.Endian.{big_bytes}
 
 pub record Key : Type 0 where
   pub family : ℕ
@@ -17,3 +18,17 @@ is_family n = n == 0 || n == 4 || n == 6
 -- the key of a packet that is not IP
 abbrev pub zero_key : Key
 zero_key = record { family = 0; proto = 0; src = 0; dst = 0; sport = 0; dport = 0 }
+
+-- each number is within the width of its field, as it is in every `FlowKey`
+pub record IsKey (k : Key) : Type 0 where
+  pub family : k.family < 2 ^ 8
+  pub proto : k.proto < 2 ^ 8
+  pub src : k.src < 2 ^ 128
+  pub dst : k.dst < 2 ^ 128
+  pub sport : k.sport < 2 ^ 16
+  pub dport : k.dport < 2 ^ 16
+
+-- the 38 bytes of a key: its fields in order, the highest byte of each first (network byte order)
+unfoldable pub key_bytes : Key → List ℕ
+key_bytes k = k.family ∷ k.proto
+    ∷ (big_bytes 16 k.src ++ (big_bytes 16 k.dst ++ (big_bytes 2 k.sport ++ big_bytes 2 k.dport)))

@@ -1,5 +1,6 @@
 ghost use Rattle.std.specs.Prelude.{◌≡◌, ◌↔◌, IsTrue, IfSome, IsSome};
 
+use byteorder::{BigEndian, ByteOrder};
 use std::marker::Model;
 
 /// What tells one flow from another: addresses, ports and protocol. A contract sees it as the record `Key` of its fields.
@@ -29,7 +30,8 @@ impl Model for FlowKey {
 }
 
 impl FlowKey {
-    ghost use Rattle.q_packet.specs.Key.{is_family, zero_key};
+    ghost use Rattle.std.specs.Prelude.{◌≡◌, ◌↔◌, IsTrue, IfSome, IsSome};
+    ghost use Rattle.q_packet.specs.Key.{IsKey, Key, is_family, key_bytes, zero_key};
 
     /// The key of a packet that is not IP: every field 0.
     pub const fn zero() -> FlowKey
@@ -70,5 +72,21 @@ impl FlowKey {
         } else {
             None
         }
+    }
+
+    /// The fields in order as 38 bytes, each number in network byte order: family, protocol, source, destination, source
+    /// port, destination port. Different keys have different bytes.
+    pub fn bytes(self) -> [u8; 38]
+        ensures value { result ≡ key_bytes self }
+        ensures distinct { (other : Key) → IsKey other → key_bytes other ≡ result → other ≡ self }
+    {
+        let mut bytes = [0; 38];
+        bytes[0] = self.family;
+        bytes[1] = self.proto;
+        BigEndian::write_u128(&mut bytes[2..], self.src);
+        BigEndian::write_u128(&mut bytes[18..], self.dst);
+        BigEndian::write_u16(&mut bytes[34..], self.sport);
+        BigEndian::write_u16(&mut bytes[36..], self.dport);
+        bytes
     }
 }

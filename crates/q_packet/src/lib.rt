@@ -12,14 +12,20 @@
 
 mod cause;
 mod ecn;
+mod flow_hash;
 mod flow_key;
+mod head;
+mod jenkins;
 mod moment;
 mod packet;
 mod stamped;
 
 pub use cause::Cause;
 pub use ecn::Ecn;
+pub use flow_hash::FlowHash;
 pub use flow_key::FlowKey;
+pub use head::{Head, read_head};
+pub use jenkins::{OneAtATime, one_at_a_time};
 pub use moment::Moment;
 pub use packet::Packet;
 pub use stamped::Stamped;

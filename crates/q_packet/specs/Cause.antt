@@ -1,0 +1,23 @@
+-- The name of each cause of a loss, as reports write it, and which causes refuse a packet on arrival.
+-- The causes are this project's own.
+use Rattle.std.specs.Prelude.{ℕ, Bool, true, false, List, codes}
+use Rattle.q_packet.specs.declared.cause.Cause.{Cause}
+use Rattle.q_packet.specs.declared.cause.Cause.TheVariants.{TooLong, NoClass, OverLimit, CoDel, FatFlow, Purged}
+
+-- the bytes of its name
+abbrev pub cause_name : Cause → List ℕ
+cause_name TooLong = codes "TooLong"
+cause_name NoClass = codes "NoClass"
+cause_name OverLimit = codes "OverLimit"
+cause_name CoDel = codes "CoDel"
+cause_name FatFlow = codes "FatFlow"
+cause_name Purged = codes "Purged"
+
+-- the packet was refused on arrival, and never queued
+abbrev pub is_refusal : Cause → Bool
+is_refusal TooLong = true
+is_refusal NoClass = true
+is_refusal OverLimit = true
+is_refusal CoDel = false
+is_refusal FatFlow = false
+is_refusal Purged = false
