@@ -1,0 +1,3 @@
+pub mod LawLemmas
+pub mod LevelLemmas
+pub mod WorkedExamples

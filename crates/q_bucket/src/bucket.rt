@@ -1,0 +1,227 @@
+ghost use Rattle.std.specs.Prelude.{◌≡◌, ◌≤◌, ◌<◌, ◌^◌, ◌*◌, ℕ, true, false, IfSome, IfNone};
+ghost use Rattle.std.specs.Bool.{OnFalse};
+ghost use Rattle.q_bucket.specs.Level.{units_in_byte};
+
+use q_packet::Moment;
+use std::marker::Model;
+
+/// How many units of level make a byte. One bit a second brings one unit in each nanosecond.
+const UNITS_IN_BYTE: u64 = 8_000_000_000;
+
+/// A token bucket: it fills at a rate up to a burst, and a packet goes where the bucket holds its length.
+///
+/// Rates are 1 to 10^12 bits a second and bursts 1 to 2^32 - 1 bytes. The moments that a bucket is given never fall: each is
+/// at or after the last true spend, the last change and the making of the bucket, which is the `last` of its contracts.
+#[derive(Debug, Drop)]
+pub struct Bucket {
+    rate: u64,
+    burst: u32,
+    /// In units, at the moment `last`.
+    level: u128,
+    last: Moment,
+}
+
+impl Model for Bucket {
+    ghost use Rattle.q_bucket.specs.Level.{TokenBucket, IsInRange};
+
+    ghost Value = { TokenBucket };
+
+    ghost view = { λ b. record { rate = b.rate; burst = b.burst; level = b.level; last = b.last } };
+
+    ghost invariant = { λ b. IsInRange (record { rate = b.rate; burst = b.burst; level = b.level; last = b.last }) };
+}
+
+impl Bucket {
+    ghost use Rattle.q_bucket.specs.Level.{full, level_at, allows, after_spend, after_change, IsInRange};
+
+    /// A full bucket of `rate_bits` bits a second, 1 to 10^12, and `burst` bytes, at least 1.
+    pub fn new(rate_bits: u64, burst: u32, now: Moment) -> Bucket
+        requires rate_from { 1 ≤ rate_bits }
+        requires rate_to { rate_bits ≤ 10 ^ 12 }
+        requires burst_from { 1 ≤ burst }
+        ensures { result ≡ full rate_bits burst now }
+    {
+        Bucket {
+            rate: rate_bits,
+            burst,
+            level: capacity_of(burst),
+            last: now,
+        }
+    }
+
+    /// The level at `now`, in units of 1/(8*10^9) byte: what was there, and what the rate has brought since, up to the burst.
+    pub fn level_at(&self, now: Moment) -> u128
+        requires order { self.now.last ≤ now }
+        ensures { result ≡ level_at self.now now }
+    {
+        let elapsed = now.ns() - self.last.ns();
+        let gained = u128::from(self.rate) * u128::from(elapsed);
+        capacity_of(self.burst).min(self.level + gained)
+    }
+
+    /// May a packet of `len` bytes go at `now`? If so, its length is taken; if not, the bucket stays as it was.
+    pub fn spend(&mut self, now: Moment, len: u16) -> bool
+        requires order { self.old.last ≤ now }
+        ensures answer { result ≡ allows self.old now len }
+        ensures after { self.new ≡ after_spend self.old now len }
+        ensures kept { OnFalse result (self.new ≡ self.old) }
+    {
+        let level = self.level_at(now);
+        let cost = u128::from(len) * u128::from(UNITS_IN_BYTE);
+        if level < cost {
+            return false;
+        }
+        self.level = level - cost;
+        self.last = now;
+        true
+    }
+
+    /// The least moment, from `last` on, at which a packet of `len` bytes may go.
+    ///
+    /// `None` where there is no such moment: the packet is longer than the burst, or its moment would be past the latest one.
+    pub fn ready_at(&self, len: u16) -> Option<Moment>
+        ensures from { IfSome result (λ at. self.now.last ≤ at) }
+        ensures ready { IfSome result (λ at. allows self.now at len ≡ true) }
+        ensures no_earlier { IfSome result
+            (λ at. (t : ℕ) → self.now.last ≤ t → t < at → allows self.now t len ≡ false) }
+        ensures never { IfNone result
+            ((t : ℕ) → self.now.last ≤ t → t ≤ 2 ^ 62 → allows self.now t len ≡ false) }
+    {
+        if u32::from(len) > self.burst {
+            return None;
+        }
+        let cost = u64::from(len) * UNITS_IN_BYTE;
+        if u128::from(cost) <= self.level {
+            return Some(self.last);
+        }
+        let missing = cost - self.level as u64;
+        let wait = nanoseconds_for(missing, self.rate);
+        Moment::new(self.last.ns() + wait)
+    }
+
+    /// Gives the bucket another rate and burst, in the ranges of [`Bucket::new`].
+    ///
+    /// It first fills at the old rate up to `now`, within the old burst; what the new burst cannot hold is lost. No change
+    /// raises the level.
+    pub fn change(&mut self, rate: u64, burst: u32, now: Moment)
+        requires rate_from { 1 ≤ rate }
+        requires rate_to { rate ≤ 10 ^ 12 }
+        requires burst_from { 1 ≤ burst }
+        requires order { self.old.last ≤ now }
+        ensures { self.new ≡ after_change self.old rate burst now }
+    {
+        let filled = self.level_at(now);
+        self.rate = rate;
+        self.burst = burst;
+        self.level = capacity_of(burst).min(filled);
+        self.last = now;
+    }
+
+    /// The rate, in bits a second.
+    pub fn rate(&self) -> u64
+        ensures value { result ≡ self.now.rate }
+        ensures in_range { IsInRange self.now }
+    {
+        self.rate
+    }
+
+    /// The burst, in bytes.
+    pub fn burst(&self) -> u32
+        ensures value { result ≡ self.now.burst }
+        ensures in_range { IsInRange self.now }
+    {
+        self.burst
+    }
+}
+
+/// The level of a full bucket of this burst.
+fn capacity_of(burst: u32) -> u128
+    ensures { result ≡ burst * units_in_byte }
+{
+    u128::from(burst) * u128::from(UNITS_IN_BYTE)
+}
+
+/// The least number of nanoseconds in which the rate brings the units that are missing.
+fn nanoseconds_for(missing: u64, rate: u64) -> u64
+    requires { 1 ≤ rate }
+    ensures enough { missing ≤ rate * result }
+    ensures least { (shorter : ℕ) → shorter < result → rate * shorter < missing }
+{
+    missing.div_ceil(rate)
+}
+
+#[cfg(test)]
+mod tests {
+    use super::*;
+
+    fn moment(ns: u64) -> Moment
+        requires { ns ≤ 2 ^ 62 }
+        ensures { result ≡ ns }
+    {
+        Moment::new(ns).unwrap()
+    }
+
+    #[test]
+    fn three_bits_a_second(rt: HostRuntime) {
+        let mut bucket = Bucket::new(3, 2, moment(0));
+        assert!(rt; bucket.spend(moment(0), 2));
+        assert_eq!(rt; bucket.ready_at(1), Some(moment(2666666667)));
+        assert!(rt; !bucket.spend(moment(2666666666), 1));
+        assert!(rt; bucket.spend(moment(2666666667), 1));
+        assert_eq!(rt; bucket.level_at(moment(2666666667)), 1);
+        assert_eq!(rt; bucket.ready_at(3), None);
+    }
+
+    #[test]
+    fn second_packet_goes_when_its_bytes_have_come(rt: HostRuntime) {
+        let mut slow = Bucket::new(8000, 1500, moment(0));
+        assert!(rt; slow.spend(moment(0), 1000));
+        assert_eq!(rt; slow.ready_at(1000), Some(moment(500000000)));
+        assert!(rt; !slow.spend(moment(499999999), 1000));
+        assert!(rt; slow.spend(moment(500000000), 1000));
+
+        let mut fast = Bucket::new(8000000000, 1000, moment(0));
+        assert!(rt; fast.spend(moment(0), 1000));
+        assert_eq!(rt; fast.ready_at(1000), Some(moment(1000)));
+        assert!(rt; !fast.spend(moment(999), 1000));
+        assert!(rt; fast.spend(moment(1000), 1000));
+    }
+
+    #[test]
+    fn change_fills_then_cuts(rt: HostRuntime) {
+        let mut bucket = Bucket::new(8000, 1500, moment(0));
+        assert!(rt; bucket.spend(moment(0), 1500));
+        bucket.change(16000, 500, moment(1000000000));
+        assert_eq!(rt; bucket.level_at(moment(1000000000)), 500 * 8000000000);
+        bucket.change(16000, 1500, moment(1000000000));
+        assert_eq!(rt; bucket.ready_at(1500), Some(moment(1500000000)));
+        assert_eq!(rt; (bucket.rate(), bucket.burst()), (16000, 1500));
+    }
+
+    #[test]
+    fn ends_of_the_ranges(rt: HostRuntime) {
+        let latest = moment(1 << 62);
+
+        let mut slowest = Bucket::new(1, 1, moment(0));
+        assert!(rt; slowest.spend(moment(0), 1));
+        assert_eq!(rt; slowest.ready_at(1), Some(moment(8000000000)));
+        assert_eq!(rt; slowest.level_at(moment(7999999999)), 7999999999);
+        assert_eq!(rt; slowest.level_at(latest), 8000000000);
+        assert!(rt; slowest.spend(latest, 1));
+        assert_eq!(rt; slowest.ready_at(1), None);
+        assert_eq!(rt; slowest.ready_at(0), Some(latest));
+
+        let mut widest = Bucket::new(1000000000000, u32::MAX, moment(0));
+        assert!(rt; widest.spend(moment(0), u16::MAX));
+        assert_eq!(rt;
+            widest.level_at(moment(0)),
+            34359738360000000000 - 524280000000000
+        );
+        assert_eq!(rt; widest.level_at(moment(525)), 34359738360000000000);
+        assert_eq!(rt; widest.level_at(latest), 34359738360000000000);
+
+        let mut fastest = Bucket::new(1000000000000, 1, moment(0));
+        assert!(rt; fastest.spend(moment(0), 1));
+        assert_eq!(rt; fastest.ready_at(1), Some(moment(1)));
+    }
+}
