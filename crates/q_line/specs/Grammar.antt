@@ -2,8 +2,8 @@
 -- The profile of tc's lines is this project's, after tc(8) and tc-pfifo(8).
 use Rattle.std.specs.Prelude.{ℕ, suc, ◌^◌, Bool, true, false, List, [], ◌∷◌, codes, if◌then◌else◌, Option, Some, None, Result, Ok, Err}
 use Rattle.std.specs.Str.{bytes_eq}
-use Rattle.q_line.specs.Words.{words, is_utf8, is_blank_line}
-use Rattle.q_line.specs.Values.{number_in, handle_of, is_name}
+use Rattle.q_line.specs.Words.{words_in, is_utf8, is_blank_line}
+use Rattle.q_line.specs.Values.{number_in, handle_of, name_of}
 use Rattle.q_line.specs.declared.wrong.Wrong.{Wrong}
 use Rattle.q_line.specs.declared.wrong.Wrong.TheVariants as wrong
 use Rattle.q_line.specs.declared.line_fault.LineFault.{LineFault}
@@ -13,14 +13,9 @@ use Rattle.q_line.specs.declared.line.Line.TheVariants.{Blank, Tc, Show, At, Pkt
 use Rattle.q_line.specs.declared.command.Command.TheVariants.{QdiscAdd}
 use Rattle.q_line.specs.declared.place.Place.{Place}
 use Rattle.q_line.specs.declared.place.Place.TheVariants.{Root}
+use Rattle.q_line.specs.declared.head.Head.{Head}
 use Rattle.q_line.specs.declared.kind.Kind.{Kind}
 use Rattle.q_line.specs.declared.kind.Kind.TheVariants.{Pfifo}
-
--- what the head of `tc qdisc add` has given so far
-pub record Head : Type 0 where
-  pub named : Bool
-  pub place : Option Place
-  pub handle : Option ℕ
 
 abbrev pub no_head : Head
 no_head = record { named = false; place = None; handle = None }
@@ -57,12 +52,9 @@ is_given None = false
 is_given (Some a) = true
 
 -- a position at which a value stands
-abbrev pub value : Result ℕ Wrong → (ℕ → Position) → Result Position Wrong
-value (Ok n) next = Ok (next n)
+abbrev pub value : {A : Type 0} → Result A Wrong → (A → Position) → Result Position Wrong
+value (Ok a) next = Ok (next a)
 value (Err e) next = Err e
-
-abbrev pub name : List ℕ → Position → Result Position Wrong
-name word next = if is_name word then Ok next else Err wrong.OutOfRange
 
 -- which words fit at a position, and the position after each
 abbrev pub fits : Position → List ℕ → Result Position Wrong
@@ -89,14 +81,14 @@ fits (add head) = one_of (
     (codes "root", once (is_given head.place) (add (record head { place = Some Root }))) ∷
     (codes "handle", once (is_given head.handle) (add_handle head)) ∷
     (codes "pfifo", Ok (pfifo head None)) ∷ [])
-fits (add_dev head) = λ word. name word (add (record head { named = true }))
+fits (add_dev head) = λ word. value (name_of word) (λ _. add (record head { named = true }))
 fits (add_handle head) = λ word. value (handle_of word) (λ major. add (record head { handle = Some major }))
 fits (pfifo head limit) = one_of (
     (codes "limit", once (is_given limit) (pfifo_limit head)) ∷ [])
 fits (pfifo_limit head) = λ word. value (number_in 0 4294967295 word) (λ n. pfifo head (Some n))
 fits (show counters named) = one_of (
     (codes "dev", once named (show_dev counters)) ∷ [])
-fits (show_dev counters) = λ word. name word (show counters true)
+fits (show_dev counters) = λ word. value (name_of word) (λ _. show counters true)
 fits (whole line) = one_of []
 
 -- a head that has all that a line needs: the device's name and the place
@@ -122,6 +114,11 @@ numbered wrong.OutOfRange index = fault.OutOfRange index
 numbered wrong.Twice index = fault.Twice index
 numbered wrong.BadUtf8 index = fault.BadUtf8 index
 
+-- what was read of a word, or its fault with the word's index
+abbrev pub placed : {A : Type 0} → Result A Wrong → ℕ → Result A LineFault
+placed (Ok a) index = Ok a
+placed (Err e) index = Err (numbered e index)
+
 -- the position after a word that is looked at
 abbrev pub after : Position → List ℕ → Result Position Wrong
 after position word = if is_utf8 word then fits position word else Err wrong.BadUtf8
@@ -140,4 +137,4 @@ line_of_words words = if is_blank_line words then Ok Blank else rest_of first 1 
 
 -- what a line's bytes say, or its leftmost fault
 abbrev pub line_of : List ℕ → Result Line LineFault
-line_of bytes = line_of_words (words bytes)
+line_of bytes = line_of_words (words_in bytes)

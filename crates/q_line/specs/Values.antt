@@ -42,6 +42,6 @@ handle_of word =
     then (if is_major major && is_no_minor minor then Ok (digits_value 16 major) else Err OutOfRange)
     else Err BadNumber
 
--- NAME: a device's name has at most 15 bytes
-abbrev pub is_name : List ℕ → Bool
-is_name word = nat_le (length word) 15
+-- NAME: a device's name, of at most 15 bytes, which is compared with nothing
+abbrev pub name_of : List ℕ → Result (Unit {0}) Wrong
+name_of word = if nat_le (length word) 15 then Ok tt else Err OutOfRange

@@ -1,29 +1,19 @@
 -- A line's words: the pieces between blanks, where a blank is a space, a tab or a carriage return.
 -- The script language is this project's; its words are cut as tc's batch mode cuts them (tc(8)).
-use Rattle.std.specs.Prelude.{ℕ, Bool, true, false, ◌||◌, ◌==◌, List, [], ◌∷◌, length, if◌then◌else◌}
+use Rattle.std.specs.Prelude.{ℕ, Bool, true, false, ◌||◌, ◌==◌, List, [], ◌∷◌, length}
+use Rattle.std.specs.List.{filter, slice_split}
 use Rattle.std.specs.Str.Lossy.{utf8_valid_len}
 
 abbrev pub is_blank : ℕ → Bool
 is_blank b = b == 32 || b == 9 || b == 13
 
--- one byte more at the front of the first piece
-abbrev pub onto : ℕ → List (List ℕ) → List (List ℕ)
-onto b [] = (b ∷ []) ∷ []
-onto b (piece ∷ pieces) = (b ∷ piece) ∷ pieces
+abbrev pub is_filled : List ℕ → Bool
+is_filled [] = false
+is_filled (b ∷ bytes) = true
 
--- what stands before, between and after the blanks, empty pieces too
-abbrev pub pieces : List ℕ → List (List ℕ)
-pieces [] = [] ∷ []
-pieces (b ∷ bytes) = if is_blank b then [] ∷ pieces bytes else onto b (pieces bytes)
-
--- those that are not empty
-abbrev pub filled : List (List ℕ) → List (List ℕ)
-filled [] = []
-filled ([] ∷ pieces) = filled pieces
-filled ((b ∷ bytes) ∷ pieces) = (b ∷ bytes) ∷ filled pieces
-
-abbrev pub words : List ℕ → List (List ℕ)
-words bytes = filled (pieces bytes)
+-- cut at each blank, and leave out the empty pieces
+abbrev pub words_in : List ℕ → List (List ℕ)
+words_in bytes = filter is_filled (slice_split is_blank bytes)
 
 -- all of the word is UTF-8
 abbrev pub is_utf8 : List ℕ → Bool

@@ -3,11 +3,16 @@
 
 mod arrival;
 mod command;
+mod head;
 mod kind;
 mod line;
 mod line_fault;
 mod place;
+mod reading;
 mod show;
+mod tc;
+mod values;
+mod words;
 mod wrong;
 
 pub use arrival::Arrival;
@@ -16,4 +21,8 @@ pub use kind::Kind;
 pub use line::Line;
 pub use line_fault::LineFault;
 pub use place::Place;
+pub use reading::read_line;
 pub use show::Show;
+
+#[cfg(test)]
+mod tests;
