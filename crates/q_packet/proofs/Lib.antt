@@ -1,3 +1,4 @@
+mod Examples
 pub mod HeadLemmas
 pub mod KeyLemmas
 pub mod LeastLemmas

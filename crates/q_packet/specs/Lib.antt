@@ -1,6 +1,7 @@
 pub mod Cause
 pub mod Descriptor
 pub mod Ecn
+pub mod Fnv
 pub mod Head
 pub mod Key
 pub mod Least

@@ -90,3 +90,41 @@ impl FlowKey {
         bytes
     }
 }
+
+#[cfg(test)]
+mod tests {
+    use super::*;
+    use std::test::Fail;
+
+    #[test]
+    fn keys_have_three_families(rt: HostRuntime) -> Result<(), Fail> {
+        assert_eq!(rt; FlowKey::new(0, 0, 0, 0, 0, 0), Some(FlowKey::zero()));
+        assert!(rt; FlowKey::new(4, u8::MAX, u128::MAX, u128::MAX, u16::MAX, u16::MAX).is_some());
+        for family in [1, 3, 5, 7, u8::MAX] {
+            assert_eq!(rt;
+                FlowKey::new(family, 0, 0, 0, 0, 0),
+                None,
+                "family {family}"
+            );
+        }
+        let key = FlowKey::new(6, u8::MAX, u128::MAX, u128::MAX, u16::MAX, u16::MAX).ok_or(
+            "family 6",
+        )?;
+        let mut all = [255; 38];
+        all[0] = 6;
+        assert_eq!(rt; key.bytes(), all);
+        Ok(())
+    }
+
+    #[test]
+    fn bytes_are_the_fields_in_order(rt: HostRuntime) -> Result<(), Fail> {
+        let key = FlowKey::new(4, 17, 0x0a00_0001, 0x0a00_0002, 53, 0x1234).ok_or("family 4")?;
+        let bytes = b"\x04\x11\
+            \0\0\0\0\0\0\0\0\0\0\0\0\x0a\x00\x00\x01\
+            \0\0\0\0\0\0\0\0\0\0\0\0\x0a\x00\x00\x02\
+            \x00\x35\x12\x34";
+        assert_eq!(rt; key.bytes(), *bytes);
+        assert_eq!(rt; FlowKey::zero().bytes(), [0; 38]);
+        Ok(())
+    }
+}

@@ -4,16 +4,28 @@
 //! - [`Packet`] is a `Copy` descriptor; payload bytes never enter. [`Stamped`] is a packet with the moment of its arrival.
 //! - [`FlowKey`] is what tells flows apart, with its 38 bytes for a hash. [`Ecn`] is the packet's ECN codepoint.
 //! - [`Cause`] says why a packet was lost.
+//! - [`read_head`] reads a packet's key, priority and ECN codepoint from its first bytes, as a [`Head`].
+//! - [`FlowHash`] hashes keys to 32 bits. [`OneAtATime`] is [`one_at_a_time`] over a key's bytes; [`Fnv1a`] is a second one.
 //!
-//! The constructors' contracts say that a value is made exactly where each field is within its range, which the types
-//! keep from then on. `specs/Totals.antt` counts and sizes lists of stamped packets, and `specs/Least.antt` has the least
-//! number at which a test holds: the crates above state their rules in these words.
+//! What the contracts carry:
+//!
+//! - The constructors: a value is made exactly where each field is within its range, which the types keep from then on.
+//! - [`read_head`]: for every byte string the result is `head` of it, which `specs/Head.antt` states by the places of the
+//!   bytes in the RFCs' diagrams.
+//! - [`FlowKey::bytes`]: the fields in order, and different keys have different bytes.
+//! - [`one_at_a_time`] and each [`FlowHash`]: the result is the hash of the bytes as `specs/OneAtATime.antt` folds it, and
+//!   equal keys hash equally.
+//!
+//! `specs/Totals.antt` counts and sizes lists of stamped packets, and `specs/Least.antt` has the least number at which a
+//! test holds: the crates above state their rules in these words, and prove by `proofs/LeastLemmas.antt` and
+//! `proofs/TotalsLemmas.antt`.
 #![tactic(auto)]
 
 mod cause;
 mod ecn;
 mod flow_hash;
 mod flow_key;
+mod fnv;
 mod head;
 mod jenkins;
 mod moment;
@@ -24,6 +36,7 @@ pub use cause::Cause;
 pub use ecn::Ecn;
 pub use flow_hash::FlowHash;
 pub use flow_key::FlowKey;
+pub use fnv::Fnv1a;
 pub use head::{Head, read_head};
 pub use jenkins::{OneAtATime, one_at_a_time};
 pub use moment::Moment;

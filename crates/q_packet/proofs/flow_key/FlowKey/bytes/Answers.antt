@@ -1,6 +1,6 @@
 -- The four numbers are written one after the other into a row of 38 bytes.
 use Rattle.std.proofs.Common.{refl, rules, ◌∙◌}
-use Rattle.q_packet.specs.Key.{IsKey, Key, key_bytes}
+use Rattle.q_packet.specs.Key.{IsKey, key_bytes}
 use Rattle.q_packet.proofs.KeyLemmas.{key_from_bytes}
 use Rattle.q_packet.proofs.flow_key.FlowKey.bytes.Goals as goal
 
