@@ -1,0 +1,28 @@
+-- The bytes of a queue of short packets are bounded by their number, so that 64 bits hold them.
+use Rattle.std.proofs.Common.{◌≡◌, ℕ, ◌+◌, ◌-◌, ◌*◌, ◌^◌, ◌<◌, ◌≤◌, List, ◌∷◌, length, arith, subst}
+use Rattle.std.specs.List.{All}
+use Rattle.std.proofs.lemmas.List.Sums.{sum_by-le, sum_by-cons}
+use Rattle.std.proofs.lemmas.List.Elements.{All-drop}
+use Rattle.q_packet.specs.Totals.{size}
+use Rattle.q_packet.specs.declared.stamped.Stamped.{Stamped}
+use Rattle.q_codel.specs.FifoState.{IsCounted}
+
+pub size_bound : (queue : List Stamped) → All (λ s. s.packet.len < 2 ^ 16) queue → size queue ≤ length queue * 65535
+size_bound queue h =
+    sum_by-le (λ s. s.packet.len) 65535 queue (λ k d below. let short = h k d below in omega arith)
+
+-- one more length still fits
+pub one_more : (bytes : ℕ) (queue : List Stamped) (len : ℕ) → IsCounted bytes queue → len < 2 ^ 16 → bytes + len < 2 ^ 64
+one_more bytes queue len h short = let bound = size_bound queue h.short in let sum = h.summed in let few = h.few in omega arith
+
+-- the front leaves with its bytes
+pub IsCounted-front : (bytes : ℕ) (front : Stamped) (queue : List Stamped) → IsCounted bytes (front ∷ queue) → IsCounted (bytes - front.packet.len) queue
+IsCounted-front bytes front queue h = record {
+  summed = let sum = h.summed in omega (arith, sum_by-cons (λ s. s.packet.len) front queue);
+  short = All-drop (λ s. s.packet.len < 2 ^ 16) 1 (front ∷ queue) h.short;
+  few = let few = h.few in omega arith;
+}
+
+pub IsCounted-popped : (bytes : ℕ) (queue : List Stamped) (front : Stamped) (rest : List Stamped) (len : ℕ) → IsCounted bytes queue → queue ≡ front ∷ rest → len ≡ front.packet.len → IsCounted (bytes - len) rest
+IsCounted-popped bytes queue front rest len h is same =
+    rw same (IsCounted-front bytes front rest (subst (λ (q : List Stamped). IsCounted bytes q) is h))

@@ -1,0 +1,4 @@
+pub mod Counted
+pub mod Law
+pub mod Least
+pub mod Root

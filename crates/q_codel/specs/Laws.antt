@@ -1,0 +1,2 @@
+-- What RFC 8289 promises of CoDel, over the definition of one queue's law.
+-- Each law speaks of every state, moment and queue.

@@ -1,0 +1,5 @@
+pub mod Codel
+pub mod FifoState
+pub mod Gap
+pub mod Laws
+pub mod Losses

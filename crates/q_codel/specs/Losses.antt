@@ -1,0 +1,14 @@
+-- Losses: the packets that a scheduler gave up, each with the reason, in the order in which they were lost.
+-- A device that drops tells its caller so, packet by packet; nothing here is from a standard.
+use Rattle.std.specs.Prelude.{List, map}
+use Rattle.q_packet.specs.Descriptor.{Descriptor}
+use Rattle.q_packet.specs.declared.cause.Cause.{Cause}
+use Rattle.q_packet.specs.declared.stamped.Stamped.{Stamped}
+
+pub record Loss : Type 0 where
+  pub packet : Descriptor
+  pub cause : Cause
+
+-- the packets of a queue, front first, all lost for one reason
+abbrev pub losses_of : Cause → List Stamped → List Loss
+losses_of cause queue = map (λ s. record { packet = s.packet; cause = cause }) queue

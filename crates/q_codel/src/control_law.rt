@@ -1,0 +1,37 @@
+ghost use Rattle.std.specs.Prelude.{◌≡◌, ◌≤◌, ◌+◌, ◌*◌, ◌^◌, nat_lt};
+ghost use Rattle.q_codel.specs.Gap.{gap_of, IsGap};
+
+use std::num::saturating_f64_to_u64;
+
+/// The time from one drop to the next at this count, in nanoseconds: `interval` over the square root of `count`, rounded
+/// down (RFC 8289, section 5.4).
+///
+/// It is exact: the greatest `d` with `d * d * count <= interval * interval`. `interval` is in nanoseconds, at most
+/// 10^12 (1000 s), and `count` at least 1.
+pub fn gap(interval: u64, count: u32) -> u64
+    requires counted { 1 ≤ count }
+    requires in_range { interval ≤ 10 ^ 12 }
+    ensures greatest { IsGap interval count result }
+    ensures at_most { result ≤ interval }
+    ensures value { result ≡ gap_of interval count }
+{
+    // A root of 53 bits is within one of the answer, so that each loop runs at most once.
+    let guess = saturating_f64_to_u64(interval as f64 / (count as f64).sqrt());
+    let mut d = guess.min(interval);
+    while is_too_long(d, interval, count) {
+        d -= 1;
+    }
+    while d < interval && !is_too_long(d + 1, interval, count) {
+        d += 1;
+    }
+    d
+}
+
+// Whether d² count exceeds interval².
+fn is_too_long(d: u64, interval: u64, count: u32) -> bool
+    requires within { d ≤ interval }
+    requires in_range { interval ≤ 10 ^ 12 }
+    ensures { result ≡ nat_lt (interval * interval) (d * d * count) }
+{
+    d as u128 * d as u128 * count as u128 > interval as u128 * interval as u128
+}

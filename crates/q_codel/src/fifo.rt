@@ -1,0 +1,182 @@
+ghost use Rattle.std.specs.Prelude.{◌≡◌, ◌≤◌, ◌<◌, ◌+◌, [], ◌∷◌, ◌++◌, drop, slice_get, IsTrue, OnOk, OnErr};
+ghost use Rattle.q_packet.specs.Totals.{count, size};
+ghost use Rattle.q_codel.specs.Losses.{losses_of};
+
+use crate::limit::Limit;
+use crate::queue::Queue;
+use crate::sink::Sink;
+use q_packet::{Cause, Stamped};
+use std::alloc::{AllocError, Global};
+use std::collections::VecDeque;
+use std::marker::Model;
+
+/// A first-in first-out queue of stamped packets, limited in packets or in bytes (tc-pfifo(8), tc-bfifo(8)).
+///
+/// A contract sees it as the record `FifoState`: its packets, front first, its limit, and how many packets it has places
+/// for. Memory is taken by [`Fifo::reserve`] alone; every other call takes none, and `put`, `take` and `head` are O(1).
+#[derive(Drop)]
+pub struct Fifo {
+    packets: VecDeque<Stamped>,
+    bytes: u64,
+    limit: Limit,
+}
+
+impl Model for Fifo {
+    ghost use Rattle.std.specs.Prelude.{min};
+    ghost use Rattle.std.specs.VecDeque.{deque_capacity};
+    ghost use Rattle.q_codel.specs.FifoState.{FifoState, IsCounted, most_places};
+
+    ghost Value = { FifoState };
+
+    ghost view = { λ f. record {
+      packets = f.packets.items;
+      limit = f.limit;
+      places = min (deque_capacity f.packets) most_places;
+    } };
+
+    ghost invariant = { λ f. IsCounted f.bytes f.packets.items };
+}
+
+impl Fifo {
+    ghost use Rattle.q_codel.specs.FifoState.{takes};
+
+    /// The most packets that a fifo has places for: 2^47, more than any machine has memory for. Their bytes fit a `u64`.
+    pub const MOST_PLACES: usize = 140737488355328;
+
+    /// An empty queue with this limit. It takes no memory yet.
+    pub fn new(alloc: Global, limit: Limit) -> Fifo
+        ensures empty { result.packets ≡ [] }
+        ensures limit { result.limit ≡ limit }
+    {
+        Fifo {
+            packets: VecDeque::new(alloc),
+            bytes: 0,
+            limit,
+        }
+    }
+
+    /// Makes a place for one more packet, if there is none yet.
+    ///
+    /// It fails only where there was none and memory for it was refused.
+    pub fn reserve(&mut self) -> Result<(), AllocError>
+        ensures same { self.new ≡ record self.old { places = self.new.places } }
+        ensures grows { self.old.places ≤ self.new.places }
+        ensures ok { OnOk result (count self.new.packets < self.new.places) }
+        ensures full { OnErr result (self.old.places ≤ count self.old.packets) }
+    {
+        if self.packets.len() >= Fifo::MOST_PLACES {
+            return Err(AllocError);
+        }
+        self.packets.reserve(1)
+    }
+
+    /// Whether the limit allows one more packet of `len` bytes.
+    pub fn fits(&self, len: u16) -> bool
+        ensures { result ≡ takes self.now.limit self.now.packets len }
+    {
+        match self.limit {
+            Limit::Packets(most) => (self.packets.len() as u64) < most,
+            Limit::Bytes(most) => self.bytes + len as u64 <= most,
+        }
+    }
+
+    /// Appends a packet. There must be a place for it, and the limit must allow it.
+    pub fn put(&mut self, stamped: Stamped)
+        requires fits { IsTrue (takes self.old.limit self.old.packets stamped.packet.len) }
+        requires place { count self.old.packets < self.old.places }
+        ensures { self.new ≡ record self.old { packets = self.old.packets ++ stamped ∷ [] } }
+    {
+        let packet = stamped.packet;
+        self.bytes += packet.len as u64;
+        self.packets.push_back_reserved(stamped);
+    }
+
+    /// The packet in front; `None` where the queue is empty.
+    pub fn head(&self) -> Option<Stamped>
+        ensures { result ≡ slice_get self.now.packets 0 }
+    {
+        self.packets.front().copied()
+    }
+
+    /// Takes the packet in front; `None` where the queue is empty. Its place stays reserved.
+    pub fn take(&mut self) -> Option<Stamped>
+        ensures front { result ≡ slice_get self.old.packets 0 }
+        ensures rest { self.new ≡ record self.old { packets = drop 1 self.old.packets } }
+    {
+        let stamped = self.packets.pop_front()?;
+        let packet = stamped.packet;
+        self.bytes -= packet.len as u64;
+        Some(stamped)
+    }
+
+    /// The bytes of all its packets. The number is kept, not summed.
+    pub fn bytes(&self) -> u64
+        ensures { result ≡ size self.now.packets }
+    {
+        self.bytes
+    }
+
+    /// The number of its packets.
+    pub fn count(&self) -> u64
+        ensures { result ≡ count self.now.packets }
+    {
+        self.packets.len() as u64
+    }
+
+    /// Its limit.
+    pub fn limit(&self) -> Limit
+        ensures { result ≡ self.now.limit }
+    {
+        self.limit
+    }
+
+    /// Changes the limit. No packet leaves, also where the new limit is below what the queue holds.
+    pub fn set_limit(&mut self, limit: Limit)
+        ensures { self.new ≡ record self.old { limit = limit } }
+    {
+        self.limit = limit;
+    }
+
+    /// Loses every packet, front first, with the cause `Purged`. The places stay reserved.
+    pub fn purge<S: Sink>(&mut self, sink: &mut S)
+        requires { count self.old.packets ≤ S.room sink.old }
+        ensures empty { self.new ≡ record self.old { packets = [] } }
+        ensures lost { S.losses sink.new ≡ S.losses sink.old ++ losses_of Cause.Purged self.old.packets }
+        ensures room { S.room sink.new + count self.old.packets ≡ S.room sink.old }
+        ensures kept { S.keeps sink.old sink.new }
+    {
+        while let Some(stamped) = self.take() {
+            sink.lost(stamped.packet, Cause::Purged);
+        }
+    }
+}
+
+impl Queue for Fifo {
+    ghost use Rattle.std.specs.Prelude.{◌≡◌, refl};
+    ghost use Rattle.std.proofs.Common.{◌∙◌};
+    ghost use Rattle.q_codel.specs.FifoState.{FifoState};
+
+    ghost packets = { λ f. f.packets };
+
+    ghost keeps = { λ f g. g ≡ record f { packets = g.packets } };
+
+    fn head(&self) -> Option<Stamped> {
+        Fifo::head(self)
+    }
+
+    fn take(&mut self) -> Option<Stamped> {
+        Fifo::take(self)
+    }
+
+    fn bytes(&self) -> u64 {
+        Fifo::bytes(self)
+    }
+
+    fn count(&self) -> u64 {
+        Fifo::count(self)
+    }
+
+    ghost keeps_same = { λ f. refl };
+
+    ghost keeps_on = { λ f g h e d. Prim.cc };
+}

@@ -1,0 +1,20 @@
+//! One queue, and CoDel's law on any queue.
+//!
+#![tactic(auto)]
+
+mod chosen;
+mod codel;
+mod control_law;
+mod fifo;
+mod limit;
+mod queue;
+mod sink;
+mod taken;
+
+pub use codel::Codel;
+pub use control_law::gap;
+pub use fifo::Fifo;
+pub use limit::Limit;
+pub use queue::Queue;
+pub use sink::Sink;
+pub use taken::Taken;
