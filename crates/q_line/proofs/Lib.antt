@@ -1,2 +1,4 @@
 pub mod Cutting
 pub mod Numbers
+pub mod Ranges
+pub mod Steps

@@ -1,8 +1,9 @@
 -- The lines of a script: which words fit where, and what the whole line says.
 -- The profile of tc's lines is this project's, after tc(8) and tc-pfifo(8).
 use Rattle.std.specs.Prelude.{ℕ, suc, ◌^◌, Bool, true, false, List, [], ◌∷◌, codes, if◌then◌else◌, Option, Some, None, Result, Ok, Err}
-use Rattle.std.specs.Str.{bytes_eq}
-use Rattle.q_line.specs.Words.{words_in, is_utf8, is_blank_line}
+use Rattle.std.specs.Option.{is_some}
+use Rattle.std.specs.Str.{bytes_eq, is_utf8}
+use Rattle.q_line.specs.Words.{words_in, is_blank_line}
 use Rattle.q_line.specs.Values.{number_in, handle_of, name_of}
 use Rattle.q_line.specs.declared.wrong.Wrong.{Wrong}
 use Rattle.q_line.specs.declared.wrong.Wrong.TheVariants as wrong
@@ -22,87 +23,92 @@ no_head = record { named = false; place = None; handle = None }
 
 -- A position is where a word of a line stands, with what the words to its left have said.
 pub data Position : Type 0 where
+  -- the first word of a line
   first : Position
+  -- at N, pkt LEN, poll [N]: the number
   at : Position
   pkt : Position
   poll : Position
+  -- tc; tc [-s], whether -s is there; tc [-s] qdisc
   tc : Position
   object : Bool → Position
   verb : Bool → Position
+  -- tc qdisc add: in the head; behind its dev and its handle
   add : Head → Position
   add_dev : Head → Position
   add_handle : Head → Position
+  -- .. pfifo, with the limit that was given; behind limit
   pfifo : Head → Option ℕ → Position
   pfifo_limit : Head → Position
+  -- tc [-s] qdisc show, whether -s and whether dev NAME are there; behind dev
   show : Bool → Bool → Position
   show_dev : Bool → Position
+  -- where no word fits, since the line says this already
   whole : Line → Position
-
--- a position at which one of these words stands, each with what follows it
-abbrev pub one_of : List (List ℕ × Result Position Wrong) → List ℕ → Result Position Wrong
-one_of [] word = Err wrong.UnknownWord
-one_of (row ∷ rows) word = if bytes_eq word row.0 then row.1 else one_of rows word
 
 -- an option, which may be given once
 abbrev pub once : Bool → Position → Result Position Wrong
 once given next = if given then Err wrong.Twice else Ok next
 
-abbrev pub is_given : {A : Type 0} → Option A → Bool
-is_given None = false
-is_given (Some a) = true
-
--- a position at which a value stands
+-- a value, and the position after it
 abbrev pub value : {A : Type 0} → Result A Wrong → (A → Position) → Result Position Wrong
 value (Ok a) next = Ok (next a)
 value (Err e) next = Err e
 
--- which words fit at a position, and the position after each
-abbrev pub fits : Position → List ℕ → Result Position Wrong
-fits first = one_of (
+-- the words that stand at a position, and the position after each
+abbrev pub table : Position → List (List ℕ × Result Position Wrong)
+table first =
     (codes "pkt", Ok pkt) ∷
     (codes "poll", Ok poll) ∷
     (codes "at", Ok at) ∷
-    (codes "tc", Ok tc) ∷ [])
-fits at = λ word. value (number_in 0 (2 ^ 62) word) (λ n. whole (At n))
-fits pkt = λ word. value (number_in 1 65535 word) (λ n. whole (Pkt (record { len = n })))
-fits poll = λ word. value (number_in 1 100000 word) (λ n. whole (Poll n))
-fits tc = one_of (
+    (codes "tc", Ok tc) ∷ []
+table tc =
     (codes "-s", Ok (object true)) ∷
-    (codes "qdisc", Ok (verb false)) ∷ [])
-fits (object counters) = one_of (
-    (codes "qdisc", Ok (verb counters)) ∷ [])
-fits (verb counters) = one_of (
+    (codes "qdisc", Ok (verb false)) ∷ []
+table (object counters) =
+    (codes "qdisc", Ok (verb counters)) ∷ []
+table (verb counters) =
     (codes "add", Ok (add no_head)) ∷
     (codes "show", Ok (show counters false)) ∷
     (codes "list", Ok (show counters false)) ∷
-    (codes "ls", Ok (show counters false)) ∷ [])
-fits (add head) = one_of (
+    (codes "ls", Ok (show counters false)) ∷ []
+table (add head) =
     (codes "dev", once head.named (add_dev head)) ∷
-    (codes "root", once (is_given head.place) (add (record head { place = Some Root }))) ∷
-    (codes "handle", once (is_given head.handle) (add_handle head)) ∷
-    (codes "pfifo", Ok (pfifo head None)) ∷ [])
-fits (add_dev head) = λ word. value (name_of word) (λ _. add (record head { named = true }))
-fits (add_handle head) = λ word. value (handle_of word) (λ major. add (record head { handle = Some major }))
-fits (pfifo head limit) = one_of (
-    (codes "limit", once (is_given limit) (pfifo_limit head)) ∷ [])
-fits (pfifo_limit head) = λ word. value (number_in 0 4294967295 word) (λ n. pfifo head (Some n))
-fits (show counters named) = one_of (
-    (codes "dev", once named (show_dev counters)) ∷ [])
-fits (show_dev counters) = λ word. value (name_of word) (λ _. show counters true)
-fits (whole line) = one_of []
+    (codes "root", once (is_some head.place) (add (record head { place = Some Root }))) ∷
+    (codes "handle", once (is_some head.handle) (add_handle head)) ∷
+    (codes "pfifo", Ok (pfifo head None)) ∷ []
+table (pfifo head limit) =
+    (codes "limit", once (is_some limit) (pfifo_limit head)) ∷ []
+table (show counters named) =
+    (codes "dev", once named (show_dev counters)) ∷ []
+table _ = []
+
+-- the row of a table that has the word
+abbrev pub row_of : List (List ℕ × Result Position Wrong) → List ℕ → Result Position Wrong
+row_of [] word = Err wrong.UnknownWord
+row_of (row ∷ rows) word = if bytes_eq word row.0 then row.1 else row_of rows word
+
+-- the position after a word: where a value stands, the word is read as that value, else it is one of the table
+abbrev pub fits : Position → List ℕ → Result Position Wrong
+fits at word = value (number_in 0 (2 ^ 62) word) (λ n. whole (At n))
+fits pkt word = value (number_in 1 65535 word) (λ n. whole (Pkt (record { len = n })))
+fits poll word = value (number_in 1 100000 word) (λ n. whole (Poll n))
+fits (add_dev head) word = value (name_of word) (λ _. add (record head { named = true }))
+fits (add_handle head) word = value (handle_of word) (λ major. add (record head { handle = Some major }))
+fits (pfifo_limit head) word = value (number_in 0 4294967295 word) (λ n. pfifo head (Some n))
+fits (show_dev counters) word = value (name_of word) (λ _. show counters true)
+fits position word = row_of (table position) word
 
 -- a head that has all that a line needs: the device's name and the place
-abbrev pub added : Head → Kind → Option Line
-added head kind = if head.named then placed head.place else None
-  where
-    placed : Option Place → Option Line
-    placed None = None
-    placed (Some place) = Some (Tc (QdiscAdd place head.handle kind))
+abbrev pub added : Bool → Option Place → Option ℕ → Kind → Option Line
+added true (Some place) handle kind = Some (Tc (QdiscAdd place handle kind))
+added true None handle kind = None
+added false place handle kind = None
 
 -- what a line says that ends here; None where it needs another word
 abbrev pub ends : Position → Option Line
 ends poll = Some (Poll 1)
-ends (pfifo head limit) = added head (Pfifo limit)
+ends (pfifo head limit) = added head.named head.place head.handle (Pfifo limit)
 ends (show counters named) = Some (Show (record { counters = counters }))
 ends (whole line) = Some line
 ends _ = None
@@ -119,19 +125,21 @@ abbrev pub placed : {A : Type 0} → Result A Wrong → ℕ → Result A LineFau
 placed (Ok a) index = Ok a
 placed (Err e) index = Err (numbered e index)
 
--- the position after a word that is looked at
+-- the end of a line, or the fault that a word is missing
+abbrev pub ended : Option Line → ℕ → Result Line LineFault
+ended None index = Err (fault.Missing index)
+ended (Some line) index = Ok line
+
+-- the position after a word
 abbrev pub after : Position → List ℕ → Result Position Wrong
 after position word = if is_utf8 word then fits position word else Err wrong.BadUtf8
 
--- the words from this position on, the first of which has this index: from left to right, up to the first that does not fit
+-- what the words from this position on say, the first of which has this index: from the left, up to the first that does not fit
 abbrev pub rest_of : Position → ℕ → List (List ℕ) → Result Line LineFault
-rest_of position index [] = ended (ends position)
-  where
-    ended : Option Line → Result Line LineFault
-    ended None = Err (fault.Missing index)
-    ended (Some line) = Ok line
+rest_of position index [] = ended (ends position) index
 rest_of position index (word ∷ words) = elim (after position word) [ Ok next ↦ rest_of next (suc index) words | Err e ↦ Err (numbered e index) ]
 
+-- what a line's words say, counted from 1
 abbrev pub line_of_words : List (List ℕ) → Result Line LineFault
 line_of_words words = if is_blank_line words then Ok Blank else rest_of first 1 words
 

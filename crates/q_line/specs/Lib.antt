@@ -1,4 +1,5 @@
 pub mod FaultText
 pub mod Grammar
+pub mod Ranges
 pub mod Values
 pub mod Words

@@ -1,8 +1,7 @@
 -- A line's words: the pieces between blanks, where a blank is a space, a tab or a carriage return.
 -- The script language is this project's; its words are cut as tc's batch mode cuts them (tc(8)).
-use Rattle.std.specs.Prelude.{ℕ, Bool, true, false, ◌||◌, ◌==◌, List, [], ◌∷◌, length}
+use Rattle.std.specs.Prelude.{ℕ, Bool, true, false, ◌||◌, ◌==◌, List, [], ◌∷◌}
 use Rattle.std.specs.List.{filter, slice_split}
-use Rattle.std.specs.Str.Lossy.{utf8_valid_len}
 
 abbrev pub is_blank : ℕ → Bool
 is_blank b = b == 32 || b == 9 || b == 13
@@ -14,10 +13,6 @@ is_filled (b ∷ bytes) = true
 -- cut at each blank, and leave out the empty pieces
 abbrev pub words_in : List ℕ → List (List ℕ)
 words_in bytes = filter is_filled (slice_split is_blank bytes)
-
--- all of the word is UTF-8
-abbrev pub is_utf8 : List ℕ → Bool
-is_utf8 word = utf8_valid_len word == length word
 
 -- a line without words, or whose first word begins with a number sign
 abbrev pub is_blank_line : List (List ℕ) → Bool

@@ -1,4 +1,5 @@
-ghost use Rattle.std.specs.Prelude.{◌≡◌, suc};
+ghost use Rattle.std.specs.Prelude.{◌≡◌, suc, IfOk};
+ghost use Rattle.q_line.specs.Ranges.{IsLine};
 ghost use Rattle.q_line.specs.Words.{words_in};
 ghost use Rattle.q_line.specs.Grammar.{line_of, rest_of, at, pkt, poll};
 
@@ -15,6 +16,14 @@ const MAX_POLLS: u64 = 100_000;
 
 /// What a line of a script says, given its bytes without the newline; else its leftmost fault.
 pub fn read_line(line: &[u8]) -> Result<Line, LineFault>
+    ensures exact { result ≡ line_of line.now }
+    ensures in_range { IfOk result IsLine }
+{
+    line_of(line)
+}
+
+/// The same, by the line's first word.
+fn line_of(line: &[u8]) -> Result<Line, LineFault>
     ensures { result ≡ line_of line.now }
 {
     let mut words = Words::new(line);

@@ -1,6 +1,7 @@
 ghost use Rattle.std.specs.Prelude.{◌≡◌, ◌+◌, ◌^◌, ◌<◌, ◌≤◌, ℕ, suc, true, false, not, IsTrue, List, [], ◌∷◌, length, slice_index, Result, Option, Ok, Err, Some, None, IfOk, IfErr, MatchOption, if◌then◌else◌};
 ghost use Rattle.std.specs.List.{position};
-ghost use Rattle.q_line.specs.Words.{words_in, is_blank, is_utf8, is_blank_line};
+ghost use Rattle.std.specs.Str.{is_utf8};
+ghost use Rattle.q_line.specs.Words.{words_in, is_blank, is_blank_line};
 ghost use Rattle.q_line.specs.Grammar.{Position, rest_of, ends, whole, placed};
 
 use crate::line::Line;
