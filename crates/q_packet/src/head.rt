@@ -67,7 +67,7 @@ pub fn read_head(packet: &[u8]) -> Head
 }
 
 // The head of a packet of version 4.
-#[tactic(auto, using(crate::proofs::HeadLemmas::number_from), unfolding(crate::specs::Head::head, crate::specs::Head::ipv4_head))]
+#[tactic(auto, using(crate::proofs::HeadLemmas::prio_in_range), unfolding(crate::specs::Head::head))]
 fn read_ipv4(packet: &[u8]) -> Head
     requires { version packet.now ≡ 4 }
     ensures value { result ≡ head packet.now }
@@ -119,7 +119,7 @@ fn read_ipv4_ports(packet: &[u8], header: usize, proto: u8) -> (u16, u16)
 }
 
 // The head of a packet of version 6.
-#[tactic(auto, using(crate::proofs::HeadLemmas::number_from), unfolding(crate::specs::Head::head, crate::specs::Head::ipv6_head))]
+#[tactic(auto, using(crate::proofs::HeadLemmas::prio_in_range), unfolding(crate::specs::Head::head))]
 fn read_ipv6(packet: &[u8]) -> Head
     requires { version packet.now ≡ 6 }
     ensures value { result ≡ head packet.now }
@@ -177,8 +177,7 @@ fn carries_ports(proto: u8) -> bool
 
 // The priority that a traffic byte asks for.
 fn prio_of_traffic(traffic: u8) -> u8
-    ensures value { result ≡ prio_of traffic }
-    ensures in_range { result ≤ 15 }
+    ensures { result ≡ prio_of traffic }
 {
     PRIO[(traffic >> 1 & 0x0f) as usize]
 }
