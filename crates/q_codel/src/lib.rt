@@ -6,6 +6,7 @@ mod chosen;
 mod codel;
 mod control_law;
 mod fifo;
+pub mod laws;
 mod limit;
 mod queue;
 mod sink;
