@@ -5,7 +5,8 @@ use Rattle.q_packet.specs.Totals.{size}
 use Rattle.std.proofs.lemmas.Bool.{lt-ltb, le-ltb, le-leb, lt-leb}
 use Rattle.q_packet.specs.declared.stamped.Stamped.{Stamped}
 use Rattle.q_packet.specs.declared.cause.Cause.{Cause}
-use Rattle.q_codel.specs.Losses.{Loss, losses_of}
+use Rattle.q_codel.specs.declared.loss.Loss.{Loss}
+use Rattle.q_codel.specs.Losses.{losses_of}
 use Rattle.q_codel.specs.Gap.{gap_of}
 use Rattle.q_codel.specs.Codel.{CodelState, count_after, is_late, is_capable, is_markable, moment, stops, drops, marks, gone_on, control_after, above_after, after, Chooses}
 use Rattle.q_codel.proofs.Least.{least-is}

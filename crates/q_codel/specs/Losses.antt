@@ -1,13 +1,14 @@
 -- Losses: the packets that a scheduler gave up, each with the reason, in the order in which they were lost.
 -- A device that drops tells its caller so, packet by packet; nothing here is from a standard.
-use Rattle.std.specs.Prelude.{List, map}
-use Rattle.q_packet.specs.Descriptor.{Descriptor}
+use Rattle.std.specs.Prelude.{ℕ, List, map}
 use Rattle.q_packet.specs.declared.cause.Cause.{Cause}
 use Rattle.q_packet.specs.declared.stamped.Stamped.{Stamped}
+pub use Rattle.q_codel.specs.declared.loss.Loss.{Loss}
 
-pub record Loss : Type 0 where
-  pub packet : Descriptor
-  pub cause : Cause
+-- the losses that wait, oldest first, and how many there are places for
+pub record LossList : Type 0 where
+  pub waiting : List Loss
+  pub places : ℕ
 
 -- the packets of a queue, front first, all lost for one reason
 abbrev pub losses_of : Cause → List Stamped → List Loss

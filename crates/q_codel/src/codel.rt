@@ -127,6 +127,27 @@ impl Codel {
         self.dropping = false;
     }
 
+    /// The moment of the next drop or mark while dropping, in nanoseconds; else that of the last time.
+    pub fn drop_next(&self) -> u64
+        ensures { result ≡ self.now.drop_next }
+    {
+        self.drop_next
+    }
+
+    /// How many packets were dropped or marked since dropping began, of this time or the last. It stays at 2^32 - 1.
+    pub fn count(&self) -> u32
+        ensures { result ≡ self.now.count }
+    {
+        self.count
+    }
+
+    /// Whether it is dropping.
+    pub fn is_dropping(&self) -> bool
+        ensures { result ≡ self.now.dropping }
+    {
+        self.dropping
+    }
+
     /// Takes the next packet to send, at the moment `now`, and tells `sink` of those that are dropped before it, with the
     /// cause `CoDel`. The answer is `None` exactly where the queue is empty. It takes no memory.
     ///
