@@ -8,6 +8,9 @@ use std::marker::Model;
 /// How many units of level make a byte. One bit a second brings one unit in each nanosecond.
 const UNITS_IN_BYTE: u64 = 8_000_000_000;
 
+/// Up to this burst, in bytes, twice the level of a full bucket fits 64 bits, in which the level is then found.
+const NARROW_BURST: u32 = 1 << 30;
+
 /// A token bucket: it fills at a rate up to a burst, and a packet goes where the bucket holds its length.
 ///
 /// Rates are 1 to 10^12 bits a second and bursts 1 to 2^32 - 1 bytes. The moments that a bucket is given never fall: each is
@@ -56,7 +59,12 @@ impl Bucket {
     {
         let elapsed = now.ns() - self.last.ns();
         let gained = u128::from(self.rate) * u128::from(elapsed);
-        capacity_of(self.burst).min(self.level + gained)
+        if self.burst > NARROW_BURST {
+            return capacity_of(self.burst).min(self.level + gained);
+        }
+        let capacity = u64::from(self.burst) * UNITS_IN_BYTE;
+        let gained = gained.min(u128::from(capacity)) as u64;
+        u128::from(capacity.min(self.level as u64 + gained))
     }
 
     /// May a packet of `len` bytes go at `now`? If so, its length is taken; if not, the bucket stays as it was.
@@ -67,7 +75,7 @@ impl Bucket {
         ensures kept { OnFalse result (self.new ≡ self.old) }
     {
         let level = self.level_at(now);
-        let cost = u128::from(len) * u128::from(UNITS_IN_BYTE);
+        let cost = u128::from(u64::from(len) * UNITS_IN_BYTE);
         if level < cost {
             return false;
         }
