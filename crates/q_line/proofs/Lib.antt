@@ -2,3 +2,6 @@ pub mod Cutting
 pub mod Numbers
 pub mod Ranges
 pub mod Steps
+pub mod Leftmost
+pub mod SpelledWords
+pub mod SpelledLines

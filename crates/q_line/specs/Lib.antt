@@ -1,5 +1,7 @@
 pub mod FaultText
 pub mod Grammar
+pub mod Laws
 pub mod Ranges
+pub mod Spelling
 pub mod Values
 pub mod Words

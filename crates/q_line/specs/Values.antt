@@ -33,14 +33,16 @@ is_major digits = nat_le (length digits) 4 && (nat_le 1 (digits_value 16 digits)
 abbrev pub is_no_minor : List ℕ → Bool
 is_no_minor digits = nat_le (length digits) 1 && digits_value 16 digits == 0
 
--- HANDLE: M, M: or M:0, where M is a major number
-abbrev pub handle_of : List ℕ → Result ℕ Wrong
-handle_of word =
-    let major = before_first is_colon word in
-    let minor = after_first is_colon word in
+-- the major number of a handle, given what stands before its colon and behind it
+abbrev pub handle_from : List ℕ → List ℕ → Result ℕ Wrong
+handle_from major minor =
     if is_numeral 16 major && is_digits 16 minor
     then (if is_major major && is_no_minor minor then Ok (digits_value 16 major) else Err OutOfRange)
     else Err BadNumber
+
+-- HANDLE: M, M: or M:0, where M is a major number
+abbrev pub handle_of : List ℕ → Result ℕ Wrong
+handle_of word = handle_from (before_first is_colon word) (after_first is_colon word)
 
 -- NAME: a device's name, of at most 15 bytes, which is compared with nothing
 abbrev pub name_of : List ℕ → Result (Unit {0}) Wrong

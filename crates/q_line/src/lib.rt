@@ -5,6 +5,7 @@ mod arrival;
 mod command;
 mod head;
 mod kind;
+pub mod laws;
 mod line;
 mod line_fault;
 mod place;
