@@ -1,3 +1,4 @@
+pub mod Examples
 pub mod FaultText
 pub mod Grammar
 pub mod Laws

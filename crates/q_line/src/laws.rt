@@ -1,5 +1,6 @@
 //! What holds of the grammar as a whole. Each law is the contract of a function that does nothing.
 
+ghost use Rattle.q_line.specs.Examples.{WorkedExamples};
 ghost use Rattle.q_line.specs.Laws.{FaultsAreLeftmost, SpellingsAreRead};
 
 /// A fault is the leftmost one: nothing is wrong with the words before its word, its word is wrong whatever stands
@@ -12,5 +13,11 @@ pub fn faults_are_leftmost()
 /// Each line whose numbers are in range can be written, and is read as itself.
 pub fn spellings_are_read()
     ensures { SpellingsAreRead }
+{
+}
+
+/// The definitions, computed on worked lines.
+pub fn examples_are_computed()
+    ensures { WorkedExamples }
 {
 }

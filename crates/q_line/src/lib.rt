@@ -1,4 +1,16 @@
-//! (page to be written)
+//! The lines of a script: what each says, or its leftmost fault.
+//!
+//! - [`read_line`] reads the bytes of one line, without its newline, into a [`Line`]; it allocates nothing.
+//! - [`Line`] is blank, a [`Command`] of `tc`, a [`Show`], a moment, an [`Arrival`] or a number of polls. A command has a
+//!   [`Place`], a handle where the line gives one, and a [`Kind`] with its options.
+//! - [`LineFault`] says why a line is none of the language, with the index of the word; its text is
+//!   `fault 3 BadNumber word 9` and the like.
+//!
+//! `specs/Grammar.antt` has the lines of the language, as tables of the words that stand at each position of a line;
+//! `specs/Values.antt` numbers, handles and names, and `specs/Words.antt` how a line is cut into words. The contract of
+//! `read_line` says that it gives exactly what they say (`exact`), and that every number is in range (`in_range`, after
+//! `specs/Ranges.antt`). Above the grammar stand the laws of the module [`laws`]: a fault is the leftmost one, `Missing`
+//! comes only where nothing is wrong with any word, and each line can be written and is read as itself.
 #![tactic(auto)]
 
 mod arrival;
