@@ -21,8 +21,10 @@ least-is p (suc n) (suc d) within below here =
 pub least-below : (p : ℕ → Bool) (n i : ℕ) → i < least p n → p i ≡ false
 least-below p zero i below = absurd (omega arith)
 least-below p (suc n) zero below = elim (cases_Bool (p zero)) [
-    inl holds ↦ let none : least p (suc n) ≡ zero = least-first p n holds in absurd (omega arith)
-  | inr fails ↦ fails ]
+  | inl holds ↦ let none : least p (suc n) ≡ zero = least-first p n holds in absurd (omega arith)
+  | inr fails ↦ fails
+]
 least-below p (suc n) (suc i) below = elim (cases_Bool (p zero)) [
-    inl holds ↦ let none : least p (suc n) ≡ zero = least-first p n holds in absurd (omega arith)
-  | inr fails ↦ least-below (λ k. p (suc k)) n i (let more : least p (suc n) ≡ suc (least (λ k. p (suc k)) n) = least-later p n fails in omega arith) ]
+  | inl holds ↦ let none : least p (suc n) ≡ zero = least-first p n holds in absurd (omega arith)
+  | inr fails ↦ least-below (λ k. p (suc k)) n i (let more : least p (suc n) ≡ suc (least (λ k. p (suc k)) n) = least-later p n fails in omega arith)
+]

@@ -42,29 +42,33 @@ goes_late s now queue i dropping below =
 -- while not dropping, at most the first head goes, and only where it is late
 goes_first : (s : CodelState) (now : ℕ) (queue : List Stamped) → s.dropping ≡ false → (drops s now queue ≡ 0) ⊎ ((drops s now queue ≡ 1) × (is_late s now queue ≡ true))
 goes_first s now queue resting = elim (cases_Bool (is_late s now queue && not (is_markable s queue))) [
-    inl holds ↦ inr (if_false s.dropping _ _ resting ∙ if_true _ _ _ holds, (both (is_late s now queue) (not (is_markable s queue)) holds).0)
-  | inr fails ↦ inl (if_false s.dropping _ _ resting ∙ if_false _ _ _ fails) ]
+  | inl holds ↦ inr (if_false s.dropping _ _ resting ∙ if_true _ _ _ holds, (both (is_late s now queue) (not (is_markable s queue)) holds).0)
+  | inr fails ↦ inl (if_false s.dropping _ _ resting ∙ if_false _ _ _ fails)
+]
 
 dropped_late : (s : CodelState) (now : ℕ) (queue : List Stamped) (i : ℕ) → i < drops s now queue → is_late s now (drop i queue) ≡ true
 dropped_late s now queue i below = elim (cases_Bool s.dropping) [
-    inl dropping ↦ goes_late s now queue i dropping below
+  | inl dropping ↦ goes_late s now queue i dropping below
   | inr resting ↦ elim (goes_first s now queue resting) [
-        inl none ↦ absurd (omega arith)
-      | inr one ↦ let first : 0 ≡ i = let e = one.0 in omega arith in subst (λ (n : ℕ). is_late s now (drop n queue) ≡ true) first one.1 ] ]
+    | inl none ↦ absurd (omega arith)
+    | inr one ↦ let first : 0 ≡ i = let e = one.0 in omega arith in subst (λ (n : ℕ). is_late s now (drop n queue) ≡ true) first one.1
+  ]
+]
 
 marked_late : (s : CodelState) (now : ℕ) (queue : List Stamped) → marks s now queue ≡ true → is_late s now (drop (drops s now queue) queue) ≡ true
 marked_late s now queue marked = elim (cases_Bool s.dropping) [
-    inl dropping ↦
+  | inl dropping ↦
       let j = drops s now queue in
       (all_three (is_late s now (drop j queue)) (nat_le (moment s j) now) (is_markable s (drop j queue)) (sym (if_true s.dropping _ _ dropping) ∙ marked)).0
   | inr resting ↦
       let is = both (is_late s now queue) (is_markable s queue) (sym (if_false s.dropping _ _ resting) ∙ marked) in
       let stays : drops s now queue ≡ 0 = if_false s.dropping _ _ resting ∙ if_false _ _ _ (not_both (is_late s now queue) (is_markable s queue) is.1) in
-      subst (λ (n : ℕ). is_late s now (drop n queue) ≡ true) (sym stays) is.0 ] where
-        not_both : (a b : Bool) → b ≡ true → (a && not b) ≡ false
-        not_both true true e = refl
-        not_both false true e = refl
-        not_both a false e = cc
+      subst (λ (n : ℕ). is_late s now (drop n queue) ≡ true) (sym stays) is.0
+] where
+  not_both : (a b : Bool) → b ≡ true → (a && not b) ≡ false
+  not_both true true e = refl
+  not_both false true e = refl
+  not_both a false e = cc
 
 pub only_late_heads-holds : OnlyLateHeads
 only_late_heads-holds s now queue = record { dropped = dropped_late s now queue; marked = marked_late s now queue }
@@ -73,8 +77,8 @@ pub at_their_moments-holds : AtTheirMoments
 at_their_moments-holds s now queue dropping = record {
   dropped = λ i below. ltb-false now (moment s i) (not_or (not (is_late s now (drop i queue))) (nat_lt now (moment s i)) (is_markable s (drop i queue)) (goes s now queue i dropping below)).1;
   marked = λ marked.
-    let j = drops s now queue in
-    leb-true (moment s j) now (all_three (is_late s now (drop j queue)) (nat_le (moment s j) now) (is_markable s (drop j queue)) (sym (if_true s.dropping _ _ dropping) ∙ marked)).1;
+      let j = drops s now queue in
+      leb-true (moment s j) now (all_three (is_late s now (drop j queue)) (nat_le (moment s j) now) (is_markable s (drop j queue)) (sym (if_true s.dropping _ _ dropping) ∙ marked)).1;
   first = refl;
   next = λ i. refl;
 }
@@ -95,22 +99,24 @@ last_is_not_late s now (packet ∷ queue) (suc i) e = last_is_not_late s now que
 
 pub last_packet_stays-holds : LastPacketStays
 last_packet_stays-holds s now queue some = elim (cases_lt (drops s now queue) (length queue)) [
-    inl below ↦ below
+  | inl below ↦ below
   | inr above ↦
       let last : length queue ≡ suc (length queue - 1) = omega arith in
       let early = last_is_not_late s now queue (length queue - 1) last in
       let late = dropped_late s now queue (length queue - 1) (omega arith) in
-      absurd (let never : false ≡ true = sym early ∙ late in cc) ]
+      absurd (let never : false ≡ true = sym early ∙ late in cc)
+]
 
 -- where the head is markable nothing is dropped
 stays : (s : CodelState) (now : ℕ) (queue : List Stamped) → is_markable s queue ≡ true → drops s now queue ≡ 0
 stays s now queue markable = elim (cases_Bool s.dropping) [
-    inl dropping ↦ if_true s.dropping _ _ dropping ∙ least-is (stops s now queue) (length queue) 0 (omega arith) (λ i below. absurd (omega arith)) (λ some. stops-markable s now queue 0 markable)
-  | inr resting ↦ if_false s.dropping _ _ resting ∙ if_false _ _ _ (not_both (is_late s now queue) (is_markable s queue) markable) ] where
-      not_both : (a b : Bool) → b ≡ true → (a && not b) ≡ false
-      not_both true true e = refl
-      not_both false true e = refl
-      not_both a false e = cc
+  | inl dropping ↦ if_true s.dropping _ _ dropping ∙ least-is (stops s now queue) (length queue) 0 (omega arith) (λ i below. absurd (omega arith)) (λ some. stops-markable s now queue 0 markable)
+  | inr resting ↦ if_false s.dropping _ _ resting ∙ if_false _ _ _ (not_both (is_late s now queue) (is_markable s queue) markable)
+] where
+  not_both : (a b : Bool) → b ≡ true → (a && not b) ≡ false
+  not_both true true e = refl
+  not_both false true e = refl
+  not_both a false e = cc
 
 pub marks_in_place_of_drops-holds : MarksInPlaceOfDrops
 marks_in_place_of_drops-holds s now [] ecn capable = none s.dropping where

@@ -223,10 +223,10 @@ impl Codel {
                 marked: true,
             };
         }
-        let packet = first.packet;
-        sink.lost(packet, Cause::CoDel);
         // A late head has packets behind it.
         let head = queue.take().unwrap();
+        let dropped = first.packet;
+        sink.lost(dropped, Cause::CoDel);
         Chosen {
             head,
             marked: false,
@@ -324,3 +324,6 @@ impl Codel {
         self.ecn && packet.ecn != Ecn::NotEct
     }
 }
+
+#[cfg(test)]
+mod tests;

@@ -6,35 +6,29 @@ ghost use Rattle.q_codel.specs.Laws.{BelowTarget, OneMtu, LastPacketStays, Marks
 /// A queue whose sojourn is below the target loses and marks nothing, and its time above the target begins anew.
 pub fn below_target()
     ensures { BelowTarget }
-{
-}
+{}
 
 /// With one mtu or less behind the head nothing is dropped or marked.
 pub fn one_mtu()
     ensures { OneMtu }
-{
-}
+{}
 
 /// The last packet is never dropped.
 pub fn last_packet_stays()
     ensures { LastPacketStays }
-{
-}
+{}
 
 /// With ECN on, and every packet of a transport that takes part in it, nothing is dropped at all.
 pub fn marks_in_place_of_drops()
     ensures { MarksInPlaceOfDrops }
-{
-}
+{}
 
 /// A head is dropped or marked only where it is late.
 pub fn only_late_heads()
     ensures { OnlyLateHeads }
-{
-}
+{}
 
 /// While dropping, each head is dropped or marked only where its moment of the control law has come.
 pub fn at_their_moments()
     ensures { AtTheirMoments }
-{
-}
+{}
