@@ -78,6 +78,7 @@ impl FlowKey {
     /// port, destination port. Different keys have different bytes.
     pub fn bytes(self) -> [u8; 38]
         ensures value { result ≡ key_bytes self }
+        ensures in_range { IsKey self }
         ensures distinct { (other : Key) → IsKey other → key_bytes other ≡ result → other ≡ self }
     {
         let mut bytes = [0; 38];
