@@ -1,0 +1,4 @@
+pub mod NameLemmas
+pub mod RingLemmas
+pub mod ScheduleLemmas
+pub mod StateLemmas

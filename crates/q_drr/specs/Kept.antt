@@ -1,0 +1,35 @@
+-- What the fields of an active list show and keep of each other: a table of classes, and the circle of the active ones.
+-- The bound on deficits is that of deficit round robin (tc-drr(8)): no deficit reaches a quantum and a longest packet.
+use Rattle.std.specs.Prelude.{◌≡◌, ℕ, ◌+◌, ◌^◌, ◌<◌, ◌≤◌, true, false, List, [], ◌∷◌, map}
+use Rattle.std.specs.List.{AllByRecursion}
+use Rattle.q_drr.specs.Schedule.{Schedule}
+use Rattle.q_drr.specs.States.{has_state, class_in, entry_in}
+use Rattle.q_drr.specs.Links.{Circle, AllDiffer}
+use Rattle.q_drr.specs.declared.class_state.ClassState.{ClassState}
+
+abbrev pub shown : ℕ → ℕ → List ClassState → List ℕ → Schedule
+shown max_len turns states order = record {
+  max_len = max_len;
+  classes = map class_in states;
+  active = map (entry_in states) order;
+  turns = turns
+}
+
+-- what holds of each class
+pub record IsState (max_len room : ℕ) (c : ClassState) : Type 0 where
+  pub has_room : c.name < room
+  pub at_least_one : 1 ≤ c.quantum
+  pub bounded : c.deficit < c.quantum + max_len
+  pub in_range : c.granted < 2 ^ 64
+
+-- no two states have one name
+abbrev pub StatesDiffer : List ClassState → Type 0
+StatesDiffer [] = Unit {0}
+StatesDiffer (c ∷ states) = (has_state c.name states ≡ false) × StatesDiffer states
+
+pub record IsKept (max_len : ℕ) (states : List ClassState) (circle : Circle) : Type 0 where
+  pub positive : 1 ≤ max_len
+  pub each : AllByRecursion (IsState max_len circle.room) states
+  pub states_differ : StatesDiffer states
+  pub known : AllByRecursion (λ n. has_state n states ≡ true) circle.order
+  pub order_differs : AllDiffer circle.order

@@ -1,0 +1,4 @@
+pub mod Kept
+pub mod Links
+pub mod Schedule
+pub mod States

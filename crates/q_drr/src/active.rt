@@ -1,0 +1,207 @@
+ghost use Rattle.std.specs.Prelude.{◌≡◌, ◌<◌, ◌≤◌, ◌+◌, IsTrue, OnOk, OnErr, false, length};
+ghost use Rattle.q_drr.specs.Schedule.{Schedule, no_classes, has_class, quantum_of, is_active, deficit_of, granted_of, added, woken, asleep, removed, with_quantum, front_of, turn_answer, turned};
+
+use crate::class_state::ClassState;
+use crate::class_table::ClassTable;
+use crate::ring::Ring;
+use crate::turn::Turn;
+use std::alloc::{AllocError, Global};
+use std::marker::Model;
+
+/// The classes of a deficit round robin, and the list of those that are active.
+///
+/// A contract sees the record `Schedule`: the classes with their quanta in order of adding and, for those active, their
+/// place, deficit and grants.
+#[derive(Drop)]
+pub struct Active {
+    table: ClassTable,
+    ring: Ring,
+    max_len: u16,
+    turns: u64,
+}
+
+impl Model for Active {
+    ghost use Rattle.q_drr.specs.Schedule.{Schedule};
+
+    ghost Value = { Schedule };
+
+    ghost use Rattle.q_drr.specs.Kept.{shown, IsKept};
+
+    ghost view = { λ a. shown a.max_len a.turns a.table a.ring.order };
+
+    ghost invariant = { λ a. IsKept a.max_len a.table a.ring };
+}
+
+impl Active {
+    /// No classes yet. `max_len` is the length in bytes of the longest packet, at least 1.
+    pub fn new(alloc: Global, max_len: u16) -> Active
+        requires { 1 ≤ max_len }
+        ensures { result ≡ no_classes max_len }
+    {
+        Active {
+            table: ClassTable::new(alloc),
+            ring: Ring::new(alloc),
+            max_len,
+            turns: 0,
+        }
+    }
+
+    /// Adds a class, asleep. `quantum` is the bytes of one grant, at least 1.
+    ///
+    /// # Errors
+    ///
+    /// `AllocError` where memory has run out; nothing has changed then.
+    pub fn add(&mut self, class: u16, quantum: u32) -> Result<(), AllocError>
+        requires fresh { has_class class self.old.classes ≡ false }
+        requires positive { 1 ≤ quantum }
+        ensures ok { OnOk result (self.new ≡ added class quantum self.old) }
+        ensures err { OnErr result (self.new ≡ self.old) }
+    {
+        self.ring.reserve(class)?;
+        self.table.add(ClassState {
+            name: class,
+            quantum,
+            deficit: 0,
+            granted: 0,
+        })?;
+        Ok(())
+    }
+
+    /// Takes a class away, out of the active list too. It takes time in proportion to the number of classes.
+    pub fn remove(&mut self, class: u16)
+        requires { IsTrue (has_class class self.old.classes) }
+        ensures { self.new ≡ removed class self.old }
+    {
+        if self.ring.contains(class) {
+            self.ring.remove(class);
+        }
+        self.table.remove(class);
+    }
+
+    /// Puts a class at the end of the active list, with a deficit of one quantum. One that is active stays as it is.
+    pub fn wake(&mut self, class: u16)
+        requires { IsTrue (has_class class self.old.classes) }
+        ensures { self.new ≡ woken class self.old }
+    {
+        if self.ring.contains(class) {
+            return;
+        }
+        let state = self.table.get(class);
+        self.table.put(ClassState {
+            deficit: u64::from(state.quantum),
+            granted: 0,
+            ..state
+        });
+        self.ring.push(class);
+    }
+
+    /// Takes a class out of the active list. One that is asleep stays so.
+    pub fn sleep(&mut self, class: u16)
+        requires { IsTrue (has_class class self.old.classes) }
+        ensures { self.new ≡ asleep class self.old }
+    {
+        if self.ring.contains(class) {
+            self.ring.remove(class);
+        }
+    }
+
+    /// The class whose turn it is; `None` where none is active.
+    pub fn front(&self) -> Option<u16>
+        ensures { result ≡ front_of self.now }
+    {
+        self.ring.front()
+    }
+
+    /// Gives the class in front its turn, where the packet at the head of its queue has `head_len` bytes.
+    pub fn turn(&mut self, head_len: u16) -> Turn
+        requires front { 0 < length self.old.active }
+        requires in_range { head_len ≤ self.old.max_len }
+        ensures answer { result ≡ turn_answer head_len self.old.active }
+        ensures after { self.new ≡ turned head_len self.old }
+    {
+        self.turns = self.turns.saturating_add(1);
+        let Some(class) = self.ring.front() else {
+            unreachable!()
+        };
+        let state = self.table.get(class);
+        let head_len = u64::from(head_len);
+        if head_len <= state.deficit {
+            self.table.put(ClassState {
+                deficit: state.deficit - head_len,
+                ..state
+            });
+            return Turn::Send;
+        }
+        let quantum = u64::from(state.quantum);
+        self.table.put(ClassState {
+            deficit: state.deficit + quantum,
+            granted: state.granted.saturating_add(quantum),
+            ..state
+        });
+        self.ring.rotate();
+        Turn::Granted
+    }
+
+    /// Sets the bytes of one grant, at least 1. The deficit is cut to at most `quantum + max_len - 1`.
+    pub fn set_quantum(&mut self, class: u16, quantum: u32)
+        requires there { IsTrue (has_class class self.old.classes) }
+        requires positive { 1 ≤ quantum }
+        ensures { self.new ≡ with_quantum class quantum self.old }
+    {
+        let state = self.table.get(class);
+        let most = u64::from(quantum) + u64::from(self.max_len) - 1;
+        self.table.put(ClassState {
+            quantum,
+            deficit: state.deficit.min(most),
+            ..state
+        });
+    }
+
+    /// The bytes of one grant.
+    pub fn quantum(&self, class: u16) -> u32
+        requires { IsTrue (has_class class self.now.classes) }
+        ensures { result ≡ quantum_of class self.now.classes }
+    {
+        self.table.get(class).quantum
+    }
+
+    pub fn is_active(&self, class: u16) -> bool
+        requires { IsTrue (has_class class self.now.classes) }
+        ensures { result ≡ is_active class self.now.active }
+    {
+        self.ring.contains(class)
+    }
+
+    /// The bytes that a class may send before its next grant; 0 where it is asleep.
+    pub fn deficit(&self, class: u16) -> u64
+        requires { IsTrue (has_class class self.now.classes) }
+        ensures value { result ≡ deficit_of class self.now.active }
+        ensures bound { result < quantum_of class self.now.classes + self.now.max_len }
+    {
+        if self.ring.contains(class) {
+            self.table.get(class).deficit
+        } else {
+            0
+        }
+    }
+
+    /// The bytes granted to a class since it woke, without the quantum that waking gave; 0 where it is asleep. It stays
+    /// at 2^64 - 1 once it is there.
+    pub fn granted(&self, class: u16) -> u64
+        requires { IsTrue (has_class class self.now.classes) }
+        ensures { result ≡ granted_of class self.now.active }
+    {
+        if self.ring.contains(class) {
+            self.table.get(class).granted
+        } else {
+            0
+        }
+    }
+
+    /// The number of turns. It stays at 2^64 - 1 once it is there.
+    pub fn turns(&self) -> u64
+        ensures { result ≡ self.now.turns }
+    {
+        self.turns
+    }
+}

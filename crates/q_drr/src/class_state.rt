@@ -1,0 +1,11 @@
+/// What is kept of a class. Deficit and grants have a meaning only while the class is active.
+#[derive(Clone, Copy)]
+pub(crate) struct ClassState {
+    pub(crate) name: u16,
+    /// Bytes of one grant.
+    pub(crate) quantum: u32,
+    /// Bytes that it may send before its next grant.
+    pub(crate) deficit: u64,
+    /// Bytes granted since it woke.
+    pub(crate) granted: u64,
+}

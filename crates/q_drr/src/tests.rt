@@ -1,0 +1,83 @@
+use crate::{Active, Turn};
+use std::test::Fail;
+
+#[test]
+fn two_classes_take_turns(rt: HostRuntime) -> Result<(), Fail> {
+    let mut active = Active::new(rt.alloc(), 1514);
+    active.add(1, 1000)?;
+    active.add(2, 1000)?;
+    active.wake(1);
+    active.wake(2);
+    active.wake(1);
+    assert_eq!(rt; active.front(), Some(1));
+    assert_eq!(rt; active.turn(1500), Turn::Granted);
+    assert_eq!(rt; active.deficit(1), 2000);
+    assert_eq!(rt; active.turn(500), Turn::Send);
+    assert_eq!(rt; active.front(), Some(2));
+    assert_eq!(rt; active.turn(500), Turn::Send);
+    assert_eq!(rt; active.deficit(2), 0);
+    assert_eq!(rt; active.turn(500), Turn::Granted);
+    assert_eq!(rt; active.deficit(2), 1000);
+    assert_eq!(rt; active.turn(1500), Turn::Send);
+    assert_eq!(rt; active.deficit(1), 500);
+    assert_eq!(rt; active.turns(), 5);
+    assert_eq!(rt; active.granted(1), 1000);
+    assert_eq!(rt; active.granted(2), 1000);
+    Ok(())
+}
+
+#[test]
+fn a_smaller_quantum_cuts_the_deficit(rt: HostRuntime) -> Result<(), Fail> {
+    let mut active = Active::new(rt.alloc(), 1514);
+    active.add(1, 1000)?;
+    active.add(2, 1000)?;
+    active.wake(1);
+    active.wake(2);
+    assert_eq!(rt; active.turn(1500), Turn::Granted);
+    active.set_quantum(1, 100);
+    assert_eq!(rt; active.deficit(1), 1613);
+    assert_eq!(rt; active.quantum(1), 100);
+    assert_eq!(rt; active.quantum(2), 1000);
+    Ok(())
+}
+
+#[test]
+fn a_quantum_of_one_byte_needs_a_grant_for_each_byte(rt: HostRuntime) -> Result<(), Fail> {
+    let mut active = Active::new(rt.alloc(), 1514);
+    active.add(7, 1)?;
+    active.wake(7);
+    for _ in 0..1513 {
+        assert_eq!(rt; active.front(), Some(7));
+        assert_eq!(rt; active.turn(1514), Turn::Granted);
+    }
+    assert_eq!(rt; active.front(), Some(7));
+    assert_eq!(rt; active.turn(1514), Turn::Send);
+    assert_eq!(rt; active.deficit(7), 0);
+    assert_eq!(rt; active.granted(7), 1513);
+    Ok(())
+}
+
+#[test]
+fn classes_come_and_go(rt: HostRuntime) -> Result<(), Fail> {
+    let mut active = Active::new(rt.alloc(), 1514);
+    for class in [9, 0, 65535, 4] {
+        active.add(class, 300)?;
+        active.wake(class);
+    }
+    active.sleep(0);
+    assert_eq!(rt; active.is_active(0), false);
+    assert_eq!(rt; active.deficit(0), 0);
+    active.remove(9);
+    assert_eq!(rt; active.front(), Some(65535));
+    assert_eq!(rt; active.turn(1000), Turn::Granted);
+    assert_eq!(rt; active.front(), Some(4));
+    active.wake(0);
+    active.sleep(4);
+    assert_eq!(rt; active.front(), Some(65535));
+    assert_eq!(rt; active.deficit(65535), 600);
+    active.remove(65535);
+    assert_eq!(rt; active.front(), Some(0));
+    active.sleep(0);
+    assert_eq!(rt; active.front(), None);
+    Ok(())
+}
