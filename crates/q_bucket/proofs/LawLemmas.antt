@@ -10,13 +10,15 @@ use Rattle.q_bucket.specs.Laws.{Spend, InOrder, true_spends, is_within, bytes_wi
 abbrev len_of : Spend → ℕ
 len_of s = s.len
 
--- what one more spend in front adds to the bytes
-bytes_if_within : (from to : ℕ) (s : Spend) (later : List Spend) → is_within from to s ≡ true → bytes_within from to (s ∷ later) ≡ s.len + bytes_within from to later
+-- what one more spend in front adds to the bytes, if it is within the stretch and if it is not
+bytes_if_within : (from to : ℕ) (s : Spend) (later : List Spend) → is_within from to s ≡ true
+    → bytes_within from to (s ∷ later) ≡ s.len + bytes_within from to later
 bytes_if_within from to s later e =
     ap (sum_by len_of) (cond-true (is_within from to s) (s ∷ filter (is_within from to) later) (filter (is_within from to) later) e)
     ∙ sum_by-cons len_of s (filter (is_within from to) later)
 
-bytes_if_not : (from to : ℕ) (s : Spend) (later : List Spend) → is_within from to s ≡ false → bytes_within from to (s ∷ later) ≡ bytes_within from to later
+bytes_if_not : (from to : ℕ) (s : Spend) (later : List Spend) → is_within from to s ≡ false
+    → bytes_within from to (s ∷ later) ≡ bytes_within from to later
 bytes_if_not from to s later e =
     ap (sum_by len_of) (cond-false (is_within from to s) (s ∷ filter (is_within from to) later) (filter (is_within from to) later) e)
 
@@ -27,6 +29,7 @@ and_false : (a : Bool) → (a && false) ≡ false
 and_false true = refl
 and_false false = refl
 
+-- a spend is within the stretch, before it or after it
 within : (from to : ℕ) (s : Spend) → from ≤ s.at → s.at ≤ to → is_within from to s ≡ true
 within from to s low high = and_true _ _ (le-leb from s.at low) (le-leb s.at to high)
 
@@ -41,22 +44,26 @@ abbrev taken : TokenBucket → Spend → TokenBucket
 taken b s = record b { level = level_at b s.at - s.len * units_in_byte; last = s.at }
 
 -- the first of the spends is true, or it is not
-spends_if_allowed : (b : TokenBucket) (s : Spend) (rest : List Spend) → allows b s.at s.len ≡ true → true_spends b (s ∷ rest) ≡ s ∷ true_spends (taken b s) rest
+spends_if_allowed : (b : TokenBucket) (s : Spend) (rest : List Spend) → allows b s.at s.len ≡ true
+    → true_spends b (s ∷ rest) ≡ s ∷ true_spends (taken b s) rest
 spends_if_allowed b s rest e =
     cond-true (allows b s.at s.len) (s ∷ true_spends (after_spend b s.at s.len) rest) (true_spends (after_spend b s.at s.len) rest) e
     ∙ ap (λ (d : TokenBucket). s ∷ true_spends d rest) (cond-true (allows b s.at s.len) (taken b s) b e)
 
-spends_if_refused : (b : TokenBucket) (s : Spend) (rest : List Spend) → allows b s.at s.len ≡ false → true_spends b (s ∷ rest) ≡ true_spends b rest
+spends_if_refused : (b : TokenBucket) (s : Spend) (rest : List Spend) → allows b s.at s.len ≡ false
+    → true_spends b (s ∷ rest) ≡ true_spends b rest
 spends_if_refused b s rest e =
     cond-false (allows b s.at s.len) (s ∷ true_spends (after_spend b s.at s.len) rest) (true_spends (after_spend b s.at s.len) rest) e
     ∙ ap (λ (d : TokenBucket). true_spends d rest) (cond-false (allows b s.at s.len) (taken b s) b e)
 
+-- what does not fall from a moment on does not fall from a sooner one on
 in_order_sooner : (sooner last : ℕ) (spends : List Spend) → sooner ≤ last → InOrder last spends → InOrder sooner spends
 in_order_sooner sooner last [] before order = tt
 in_order_sooner sooner last (s ∷ rest) before order = (omega arith, order.1)
 
 -- nothing counts once the stretch is over
-none_above : (b : TokenBucket) (spends : List Spend) (from to last : ℕ) → to < last → InOrder last spends → bytes_within from to (true_spends b spends) ≡ 0
+none_above : (b : TokenBucket) (spends : List Spend) (from to last : ℕ) → to < last → InOrder last spends
+    → bytes_within from to (true_spends b spends) ≡ 0
 none_above b [] from to last over order = refl
 none_above b (s ∷ rest) from to last over order = elim (cases_Bool (allows b s.at s.len)) [
   | inl allowed ↦
@@ -68,7 +75,8 @@ none_above b (s ∷ rest) from to last over order = elim (cases_Bool (allows b s
 ]
 
 -- from within the stretch on: what the bucket holds, and what the rate brings until the end
-bounded_inside : (b : TokenBucket) (spends : List Spend) (from to : ℕ) → from ≤ b.last → b.last ≤ to → InOrder b.last spends
+bounded_inside : (b : TokenBucket) (spends : List Spend) (from to : ℕ) → from ≤ b.last → b.last ≤ to
+    → InOrder b.last spends
     → bytes_within from to (true_spends b spends) * units_in_byte ≤ b.level + b.rate * (to - b.last)
 bounded_inside b [] from to low high order = omega arith
 bounded_inside b (s ∷ rest) from to low high order = elim (cases_lt to s.at) [
@@ -92,9 +100,10 @@ bounded_inside b (s ∷ rest) from to low high order = elim (cases_lt to s.at) [
   ]
 ]
 
+-- spends before the stretch leave a bucket within its burst; the first true spend in it begins the case above
 pub stretch_is_bounded_lem : StretchIsBounded
-stretch_is_bounded_lem b [] from to full order = omega arith
-stretch_is_bounded_lem b (s ∷ rest) from to full order = elim (cases_lt to s.at) [
+stretch_is_bounded_lem b [] from to within_burst order = omega arith
+stretch_is_bounded_lem b (s ∷ rest) from to within_burst order = elim (cases_lt to s.at) [
   | inl over ↦
       let none = none_above b (s ∷ rest) from to s.at over (omega arith, order.1) in
       omega (arith, none)
@@ -115,7 +124,7 @@ stretch_is_bounded_lem b (s ∷ rest) from to full order = elim (cases_lt to s.a
         ]
     | inr refused ↦
         let all = ap (bytes_within from to) (spends_if_refused b s rest refused) in
-        let later = stretch_is_bounded_lem b rest from to full (in_order_sooner b.last s.at rest order.0 order.1) in
+        let later = stretch_is_bounded_lem b rest from to within_burst (in_order_sooner b.last s.at rest order.0 order.1) in
         omega (arith, all, later)
   ]
 ]

@@ -1,3 +1,2 @@
 pub mod LawLemmas
-pub mod LevelLemmas
 pub mod WorkedExamples

@@ -1,5 +1,5 @@
--- What holds of a bucket over whole lists of spends.
--- From tc-tbf(8): over any stretch, no more goes than the burst and what the rate brings meanwhile.
+-- What holds of a bucket over whole lists of spends, and of one that is left alone.
+-- From RFC 2211: what a token bucket of rate r and burst b lets through in any period T is at most rT + b.
 use Rattle.std.specs.Prelude.{◌≡◌, ℕ, ◌+◌, ◌-◌, ◌*◌, ◌≤◌, Bool, nat_le, ◌&&◌, if◌then◌else◌, List, [], ◌∷◌, filter, sum_by}
 use Rattle.std.specs.Int.{div_ceil}
 use Rattle.q_bucket.specs.Level.{TokenBucket, units_in_byte, capacity, level_at, allows, after_spend}
@@ -29,7 +29,7 @@ is_within from to s = nat_le from s.at && nat_le s.at to
 abbrev pub bytes_within : ℕ → ℕ → List Spend → ℕ
 bytes_within from to spends = sum_by (λ s. s.len) (filter (is_within from to) spends)
 
--- whatever is asked of a bucket, the bytes that go in a stretch are at most its burst and what its rate brings in that stretch
+-- whatever is asked of a bucket, the bytes that go in a stretch of time are at most its burst and what its rate brings then
 abbrev pub StretchIsBounded : Type 0
 StretchIsBounded =
     (b : TokenBucket) (spends : List Spend) (from to : ℕ) → b.level ≤ capacity b → InOrder b.last spends

@@ -1,6 +1,7 @@
 -- The level of a token bucket, what it lets through, and what a spend and a change leave.
--- From tc-tbf(8): tokens correspond to bytes, arrive at `rate` and are kept up to `burst`.
--- Levels are counted in units of 1/(8*10^9) byte, which is what one bit a second brings in one nanosecond.
+-- From tc-tbf(8): a token stands for a byte, tokens come at the rate until the bucket is full, and a new bucket is full.
+-- What a change leaves is this project's own choice. Levels are counted in units of 1/(8*10^9) byte, which is what one bit
+-- a second brings in one nanosecond.
 use Rattle.std.specs.Prelude.{ℕ, ◌+◌, ◌-◌, ◌*◌, ◌^◌, ◌≤◌, Bool, nat_le, min, if◌then◌else◌}
 
 -- a bucket: its rate in bits a second, its burst in bytes, and the level in units that it had at the moment `last`
@@ -45,4 +46,9 @@ after_spend b now len =
 
 -- the bucket fills at its old rate up to `now`; what the new burst cannot hold is lost
 abbrev pub after_change : TokenBucket → ℕ → ℕ → ℕ → TokenBucket
-after_change b rate burst now = record { rate = rate; burst = burst; level = min (burst * units_in_byte) (level_at b now); last = now }
+after_change b rate burst now = record {
+  rate = rate;
+  burst = burst;
+  level = min (burst * units_in_byte) (level_at b now);
+  last = now;
+}

@@ -31,7 +31,8 @@ impl Model for Bucket {
 
     ghost view = { λ b. record { rate = b.rate; burst = b.burst; level = b.level; last = b.last } };
 
-    ghost invariant = { λ b. IsInRange (record { rate = b.rate; burst = b.burst; level = b.level; last = b.last }) };
+    ghost invariant = { λ b. IsInRange
+        (record { rate = b.rate; burst = b.burst; level = b.level; last = b.last }) };
 }
 
 impl Bucket {
@@ -53,6 +54,7 @@ impl Bucket {
     }
 
     /// The level at `now`, in units of 1/(8*10^9) byte: what was there, and what the rate has brought since, up to the burst.
+    /// Nothing is rounded.
     pub fn level_at(&self, now: Moment) -> u128
         requires order { self.now.last ≤ now }
         ensures { result ≡ level_at self.now now }
@@ -67,7 +69,8 @@ impl Bucket {
         u128::from(capacity.min(self.level as u64 + gained))
     }
 
-    /// May a packet of `len` bytes go at `now`? If so, its length is taken; if not, the bucket stays as it was.
+    /// May a packet of `len` bytes go at `now`? If so, its length is taken and `now` is the new `last`; if not, the bucket stays
+    /// as it was.
     pub fn spend(&mut self, now: Moment, len: u16) -> bool
         requires order { self.old.last ≤ now }
         ensures answer { result ≡ allows self.old now len }
