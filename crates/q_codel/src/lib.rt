@@ -1,5 +1,17 @@
-//! One queue, and CoDel's law on any queue.
+//! One queue of packets, and CoDel's law (RFC 8289, with the marks of RFC 3168) on any queue.
 //!
+//! - [`Fifo`] is a first-in first-out queue under a [`Limit`] in packets or in bytes. Its memory is taken by `reserve`
+//!   alone; `put`, `take` and `head` are O(1). Each contract says what the call does to the list of packets.
+//! - [`Queue`] is what CoDel takes from. Its ghost members are the list of packets and a frame, `keeps`, which says what a
+//!   take leaves alone: so a queue may be a view of a larger whole. [`Fifo`] is one.
+//! - [`Sink`] is where lost packets go, in order. It is asked for nothing but room. [`Losses`] is one that keeps each
+//!   [`Loss`] until it is reaped.
+//! - [`gap`] is the interval over the root of the count, exactly: its contract says so in two ways, as the greatest number
+//!   that fits and as the definition's.
+//! - [`Codel`] is the state of one queue's CoDel. The contract of [`Codel::take`] says what is sent and whether it is
+//!   marked ([`Taken`]), what is lost, what stays in the queue and what the state becomes, each as a function of the queue,
+//!   the state and the moment. These functions (`specs/Codel.antt`) count the heads that go by a least number.
+//! - [`laws`] states what RFC 8289 promises, over those functions.
 #![tactic(auto)]
 
 mod chosen;
