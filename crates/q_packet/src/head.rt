@@ -1,23 +1,24 @@
 ghost use Rattle.std.specs.Prelude.{◌≡◌, ◌≤◌, ◌+◌, ◌==◌, length};
-ghost use Rattle.q_packet.specs.Head.{has_ports, head, header_length, ipv4_ports_are_there, traffic_class, port, ports_are_there, prio_of, version, zero_head};
+ghost use Rattle.q_packet.specs.Head.{has_ports, head, header_length, ipv4_ports_are_there, port, ports_are_there, prio_of, traffic_class, version, zero_head};
 
 use crate::ecn::Ecn;
 use crate::flow_key::FlowKey;
 use byteorder::{BigEndian, ByteOrder};
 
+// Protocol numbers.
 const TCP: u8 = 6;
 
 const UDP: u8 = 17;
 
 const SCTP: u8 = 132;
 
-/// The length of an IPv6 header, in bytes.
-const IPV6_HEADER: usize = 40;
-
 /// The least length of an IPv4 header, in bytes.
 const IPV4_HEADER: usize = 20;
 
-/// The fragment offset in bytes 6 and 7 of an IPv4 header.
+/// The length of an IPv6 header, in bytes.
+const IPV6_HEADER: usize = 40;
+
+/// The bits of bytes 6 and 7 of an IPv4 header that are the fragment offset; the three above are flags.
 const FRAGMENT_OFFSET: u16 = 0x1fff;
 
 /// The priority for each value of the four bits above the lowest of the traffic byte.
