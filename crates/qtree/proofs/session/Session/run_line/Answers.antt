@@ -1,0 +1,15 @@
+use Rattle.std.proofs.Common.{false}
+use Rattle.qtree.specs.Step.{effect_of}
+use Rattle.qtree.proofs.OnErr.{on_err}
+use Rattle.qtree.proofs.WrittenLemmas.{front-longer}
+use Rattle.qtree.proofs.session.Session.run_line.Goals as goal
+
+pub returns-in_err-make_room-in-Ok-clause-err : goal.returns-in_err-make_room-in-Ok-clause-err
+returns-in_err-make_room-in-Ok-clause-err g c =
+    let text = (effect_of false c.args.number c.args.line.now c.args.self.now).text in
+    on_err c.from_residual.result (false, front-longer _ _ c.args.output.now text c.in_err-make_room-in-Ok.ensures.err)
+
+pub returns-in_err-make_room-in-Err-clause-err : goal.returns-in_err-make_room-in-Err-clause-err
+returns-in_err-make_room-in-Err-clause-err g c =
+    let text = (effect_of false c.args.number c.args.line.now c.args.self.now).text in
+    on_err c.from_residual-in_err-make_room-in-Err.result (false, front-longer _ _ c.args.output.now text c.in_err-make_room-in-Err.ensures.err)

@@ -1,0 +1,9 @@
+pub mod Conserved
+pub mod Device
+pub mod Insides
+pub mod Report
+pub mod Settings
+pub mod Step
+pub mod Tally
+pub mod Text
+pub mod Written

@@ -1,0 +1,11 @@
+-- What a writer holds of a text that is written bit by bit.
+use Rattle.std.specs.Prelude.{◌≡◌, ℕ, List, ◌++◌, Option}
+use Rattle.std.specs.Io.KnownBytes.{Appends}
+
+-- the writer's known bytes grew by a front of the text
+abbrev pub AppendsFront : Option (List ℕ) → Option (List ℕ) → List ℕ → Type 0
+AppendsFront old new text = (front : List ℕ) × (rest : List ℕ) × Appends old new front × (text ≡ front ++ rest)
+
+-- the text is what the writer's known bytes grew by, and then what is still buffered
+abbrev pub IsBuffered : Option (List ℕ) → Option (List ℕ) → List ℕ → List ℕ → Type 0
+IsBuffered old new buffered text = (front : List ℕ) × Appends old new front × (text ≡ front ++ buffered)

@@ -1,0 +1,75 @@
+//! The program `qtree`: `qtree play` reads a script on standard input and writes its report on standard output.
+//!
+//! - [`run::run`] reads a script from any reader and writes its report to any writer. Its contract is the program's
+//!   theorem: what was written is `report settings script starved` of `specs/Report.antt`, for some list `starved` of
+//!   lines at which memory was refused, and nothing else; the outcome is `Refused` exactly where a line had a fault or was
+//!   refused; and each `RunFault` says what was written.
+//! - [`command_line::options`] reads the command line.
+//!
+//! `specs/Report.antt` says what each line of a script does and writes, over the model device of `specs/Device.antt`, which
+//! is generic in how packets are remembered: the report is that of a device which keeps every packet.
+#![tactic(auto)]
+
+mod command_line;
+mod counters;
+mod device;
+mod leaf;
+mod lines;
+mod options;
+mod outcome;
+mod output;
+mod refusal;
+mod run;
+mod run_fault;
+mod script;
+mod session;
+mod settings;
+mod text;
+mod totals;
+
+use crate::options::Options;
+use crate::outcome::Outcome;
+use crate::run::run;
+use crate::settings::RunSettings;
+use std::process::ExitCode;
+use std::{env, io};
+
+/// The status where nothing was run, or the report not written: usage, input, output or memory.
+const FAULT: u8 = 2;
+
+fn main(rt: HostRuntime) -> ExitCode {
+    match start(&rt) {
+        Ok(code) => code,
+        Err(e) => {
+            let _ = eprintln!(rt; "qtree: {e}");
+            ExitCode::from(FAULT)
+        }
+    }
+}
+
+/// Reads the command line and does what it asks for.
+fn start(rt: &HostRuntime) -> io::Result<ExitCode> {
+    let words: Vec<String> = env::args(rt)?.collect(rt.alloc())?;
+    let words: Vec<&str> = words.iter().map(|word| word.as_str()).collect(rt.alloc())?;
+    let options = match command_line::options(rt.alloc(), &words) {
+        Ok(options) => options,
+        Err(e) => {
+            e.print(rt)?;
+            return Ok(ExitCode::from(e.exit_code() as u8));
+        }
+    };
+    let Options::Play(settings) = options;
+    Ok(play(rt, settings))
+}
+
+/// Runs a script from standard input to standard output.
+fn play(rt: &HostRuntime, settings: RunSettings) -> ExitCode {
+    match run(rt.alloc(), &mut rt.reader(), &mut io::writer(rt), settings) {
+        Ok(Outcome::Clean) => ExitCode::SUCCESS,
+        Ok(Outcome::Refused) => ExitCode::FAILURE,
+        Err(fault) => {
+            let _ = eprintln!(rt; "qtree: {fault}");
+            ExitCode::from(FAULT)
+        }
+    }
+}
