@@ -6,3 +6,4 @@ pub mod Leftmost
 pub mod SpelledWords
 pub mod SpelledLines
 pub mod Examples
+pub mod Order

@@ -71,7 +71,7 @@ handle_ascii w d = list_all-append (λ b. ltb b 128) w (58 ∷ []) ∙ both (dig
 
 -- one word read
 
-keyword : (p q : Position) (w : List ℕ) (i : ℕ) (ws : List (List ℕ)) → list_all (λ b. ltb b 128) w ≡ true → fits p w ≡ Ok q → rest_of p i (w ∷ ws) ≡ rest_of q (suc i) ws
+pub keyword : (p q : Position) (w : List ℕ) (i : ℕ) (ws : List (List ℕ)) → list_all (λ b. ltb b 128) w ≡ true → fits p w ≡ Ok q → rest_of p i (w ∷ ws) ≡ rest_of q (suc i) ws
 keyword p q w i ws a f = word_fits p q i w ws (after_utf8 p w (utf8_from_ascii w a) ∙ f)
 
 name_read : (name : List ℕ) → length name ≤ 15 → name_of name ≡ Ok tt

@@ -1,5 +1,13 @@
 -- The lines of a script: which words fit where, and what the whole line says.
 -- The profile of tc's lines is this project's, after tc(8) and tc-pfifo(8).
+--
+--   at N
+--   pkt LEN
+--   poll [N]
+--   tc [-s] qdisc add {dev NAME, root, [handle HANDLE]} pfifo [limit NUMBER]
+--   tc [-s] qdisc {show | list | ls} [dev NAME]
+--
+-- What stands in braces with commas comes in any order, each once.
 use Rattle.std.specs.Prelude.{ℕ, suc, ◌^◌, Bool, true, false, List, [], ◌∷◌, codes, if◌then◌else◌, Option, Some, None, Result, Ok, Err}
 use Rattle.std.specs.Option.{is_some}
 use Rattle.std.specs.Str.{bytes_eq, is_utf8}

@@ -1,5 +1,5 @@
 -- A line's words: the pieces between blanks, where a blank is a space, a tab or a carriage return.
--- The script language is this project's; its words are cut as tc's batch mode cuts them (tc(8)).
+-- The script language is this project's: nothing quotes a blank, and no blank is part of a word.
 use Rattle.std.specs.Prelude.{ℕ, Bool, true, false, ◌||◌, ◌==◌, List, [], ◌∷◌}
 use Rattle.std.specs.List.{filter, slice_split}
 

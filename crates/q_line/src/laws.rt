@@ -1,6 +1,7 @@
 //! What holds of the grammar as a whole. Each law is the contract of a function that does nothing.
 
 ghost use Rattle.q_line.specs.Examples.{WorkedExamples};
+ghost use Rattle.q_line.specs.Settings.{OrderIsFree};
 ghost use Rattle.q_line.specs.Laws.{FaultsAreLeftmost, SpellingsAreRead};
 
 /// A fault is the leftmost one: nothing is wrong with the words before its word, its word is wrong whatever stands
@@ -19,5 +20,11 @@ pub fn spellings_are_read()
 /// The definitions, computed on worked lines.
 pub fn examples_are_computed()
     ensures { WorkedExamples }
+{
+}
+
+/// The settings of a head can stand in any order: two neighbours can change places in every line that is read.
+pub fn order_of_settings_is_free()
+    ensures { OrderIsFree }
 {
 }

@@ -5,7 +5,7 @@ ghost use Rattle.q_line.specs.Values.{is_digits, is_colon, number_in, handle_of,
 
 use crate::wrong::Wrong;
 
-/// The greatest major number of a handle; tc(8) keeps ffff for the root and the like.
+/// The greatest major number of a handle: in Linux's `pkt_sched.h` ffff is that of the root and of ingress.
 const MAX_MAJOR: u64 = 0xfffe;
 
 /// The number that the digits write in the base, and the greatest `u64` where it is greater; `None` where a byte is no digit.
