@@ -8,12 +8,12 @@ use std::marker::Model;
 /// `family` is 0 (not IP), 4 or 6. An IPv4 address stands in the low 32 bits of `src` and `dst`. What a packet lacks is 0.
 #[derive(Clone, Copy, PartialEq, Eq, Debug)]
 pub struct FlowKey {
-    pub family: u8,
-    pub proto: u8,
     pub src: u128,
     pub dst: u128,
     pub sport: u16,
     pub dport: u16,
+    pub proto: u8,
+    pub family: u8,
 }
 
 impl Model for FlowKey {

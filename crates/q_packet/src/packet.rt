@@ -6,22 +6,24 @@ use std::marker::Model;
 
 /// A packet's descriptor. The payload stays with the caller, who finds it again by `buf`.
 ///
+/// The widest fields stand first, since fields are laid out in this order.
+///
 /// A contract sees it as the record `Descriptor` of its fields. `len` is 1 to 65535 and `prio` 0 to 15: code that would
 /// leave another number there is refused.
 #[derive(Clone, Copy, PartialEq, Eq, Debug)]
 pub struct Packet {
-    /// The sender's port.
-    pub port: u32,
-    /// The packet's number among those of its port, from 1.
-    pub number: u64,
-    /// The caller's buffer number, which comes back with the packet.
-    pub buf: u32,
-    /// Length in bytes, 1 to 65535.
-    pub len: u16,
     /// What tells its flow from others.
     pub key: FlowKey,
+    /// The packet's number among those of its port, from 1.
+    pub number: u64,
+    /// The sender's port.
+    pub port: u32,
+    /// The caller's buffer number, which comes back with the packet.
+    pub buf: u32,
     /// The hash of its key, by which fq_codel chooses the flow.
     pub hash: u32,
+    /// Length in bytes, 1 to 65535.
+    pub len: u16,
     /// Priority as in Linux's `skb->priority`, 0 to 15.
     pub prio: u8,
     /// ECN codepoint.
