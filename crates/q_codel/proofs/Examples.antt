@@ -1,12 +1,12 @@
 -- Worked examples. The gaps are at their full size; the takes are computed, at an interval that is short enough for it.
-use Rattle.std.proofs.Common.{◌≡◌, ℕ, ◌+◌, ◌*◌, ◌<◌, ◌≤◌, Bool, true, false, List, [], ◌∷◌, Option, Some, None, take, sym, refl, lit<, lit≤}
+use Rattle.std.proofs.Common.{◌≡◌, ℕ, Bool, true, false, List, [], ◌∷◌, Option, Some, None, take, sym, refl, lit<, lit≤}
 use Rattle.std.specs.Prelude.{option_map, map, ◌++◌}
 use Rattle.q_packet.specs.Key.{zero_key}
 use Rattle.q_packet.specs.declared.ecn.Ecn.{Ecn}
 use Rattle.q_packet.specs.declared.ecn.Ecn.TheVariants.{NotEct, Ect0}
 use Rattle.q_packet.specs.declared.stamped.Stamped.{Stamped}
 use Rattle.q_codel.specs.declared.taken.Taken.{Taken}
-use Rattle.q_codel.specs.Gap.{gap_of, IsGap}
+use Rattle.q_codel.specs.Gap.{gap_of}
 use Rattle.q_codel.specs.Codel.{CodelState, at_first, drops, taken, left, after}
 use Rattle.q_codel.proofs.Root.{gap_of-is}
 

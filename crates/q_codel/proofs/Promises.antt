@@ -1,14 +1,11 @@
 -- The laws of CoDel, from its definition.
-use Rattle.std.proofs.Common.{◌≡◌, ℕ, zero, suc, ◌+◌, ◌-◌, ◌<◌, ◌≤◌, Bool, true, false, not, ◌&&◌, ◌||◌, nat_lt, nat_le, List, [], ◌∷◌, length, drop, arith, refl, sym, ap, ◌∙◌, subst, inl, inr, ◌⊎◌}
+use Rattle.std.proofs.Common.{◌≡◌, ℕ, zero, suc, ◌-◌, ◌<◌, Bool, true, false, not, ◌&&◌, ◌||◌, nat_lt, nat_le, List, [], ◌∷◌, length, drop, arith, refl, sym, ap, ◌∙◌, subst, inl, inr, ◌⊎◌}
 use Rattle.std.specs.Prelude.{if◌then◌else◌}
-use Rattle.std.specs.List.{All}
 use Rattle.std.proofs.lemmas.Bool.{cases_Bool, cases_lt, ltb-false, leb-true, le-ltb}
-use Rattle.q_packet.specs.Least.{least}
-use Rattle.q_packet.specs.Totals.{count, size}
 use Rattle.q_packet.specs.declared.stamped.Stamped.{Stamped}
-use Rattle.q_codel.specs.Codel.{CodelState, is_standing, is_late, is_capable, is_markable, moment, stops, drops, marks}
+use Rattle.q_codel.specs.Codel.{CodelState, is_late, is_capable, is_markable, moment, stops, drops, marks}
 use Rattle.q_codel.specs.Laws.{LastPacketStays, MarksInPlaceOfDrops, OnlyLateHeads, AtTheirMoments}
-use Rattle.q_codel.proofs.Law.{if_true, if_false, stops-early, stops-markable}
+use Rattle.q_codel.proofs.Law.{if_true, if_false, stops-markable}
 use Rattle.q_codel.proofs.Least.{least-is, least-below}
 
 -- a head that goes, or stays, by the three reasons to stop

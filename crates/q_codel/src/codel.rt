@@ -13,7 +13,7 @@ use std::marker::Model;
 /// The settings and the state of CoDel on one queue (RFC 8289, section 5).
 ///
 /// A contract sees it as the record `CodelState`. It holds no packet: [`Codel::take`] is lent the queue.
-#[derive(Clone, Copy, Debug)]
+#[derive(Clone, Copy, PartialEq, Eq, Debug)]
 pub struct Codel {
     target: u64,
     interval: u64,

@@ -21,78 +21,52 @@ loop-self-init g c =
       },
     )
 
-pub returns-clause-chosen : goal.returns-clause-chosen
-returns-clause-chosen g c =
+-- the moment of the next drop or mark is yet to come
+pub returns : goal.returns
+returns g c =
     let i = c.loop-self.invariant in
     let waits : c.args.now < c.self-in-loop-self.inside.drop_next = let t = c.loop-self-test.false in let n = c.ns.ensures.value in omega arith in
     let ends = turn-waits _ _ _ i.0 _ _ _ _ c.requires.dropping i.1.way c.self-in-loop-self.view_is waits in
-    ends.chosen
+    record {
+      chosen = ends.chosen;
+      lost = lost_at _ _ _ _ i.0 _ ends.count i.1.lost;
+      room = room_at _ _ i.0 _ ends.count i.1.room;
+      kept = i.1.kept;
+      sink_kept = i.1.sink_kept;
+    }
 
-pub returns-clause-lost : goal.returns-clause-lost
-returns-clause-lost g c =
-    let i = c.loop-self.invariant in
-    let waits : c.args.now < c.self-in-loop-self.inside.drop_next = let t = c.loop-self-test.false in let n = c.ns.ensures.value in omega arith in
-    let ends = turn-waits _ _ _ i.0 _ _ _ _ c.requires.dropping i.1.way c.self-in-loop-self.view_is waits in
-    lost_at _ _ _ _ i.0 _ ends.count i.1.lost
-
-pub returns-clause-room : goal.returns-clause-room
-returns-clause-room g c =
-    let i = c.loop-self.invariant in
-    let waits : c.args.now < c.self-in-loop-self.inside.drop_next = let t = c.loop-self-test.false in let n = c.ns.ensures.value in omega arith in
-    let ends = turn-waits _ _ _ i.0 _ _ _ _ c.requires.dropping i.1.way c.self-in-loop-self.view_is waits in
-    room_at _ _ i.0 _ ends.count i.1.room
-
-pub returns-then-is_markable-clause-chosen : goal.returns-then-is_markable-clause-chosen
-returns-then-is_markable-clause-chosen g c =
+-- the head is marked
+pub returns-then-is_markable : goal.returns-then-is_markable
+returns-then-is_markable g c =
     let i = c.loop-self.invariant in
     let due : c.self-in-loop-self.inside.drop_next ≤ c.args.now = let t = c.loop-self-test.true in let n = c.ns.ensures.value in omega arith in
     let length : c.gap.result ≡ gap_of c.args.self.now.interval c.saturating_add-self-inside.result = c.gap.ensures.value ∙ ap (λ (x : CodelState). gap_of x.interval c.saturating_add-self-inside.result) c.self.view_is in
     let ends = turn-marks _ _ _ i.0 _ _ _ _ _ _ i.1.way c.self-in-loop-self.view_is due c.saturating_add-self-inside.ensures c.requires.dropping (sym c.if-is_markable.ensures) length in
-    ends.chosen
+    record {
+      chosen = ends.chosen;
+      lost = lost_at _ _ _ _ i.0 _ ends.count i.1.lost;
+      room = room_at _ _ i.0 _ ends.count i.1.room;
+      kept = i.1.kept;
+      sink_kept = i.1.sink_kept;
+    }
 
-pub returns-then-is_markable-clause-lost : goal.returns-then-is_markable-clause-lost
-returns-then-is_markable-clause-lost g c =
-    let i = c.loop-self.invariant in
-    let due : c.self-in-loop-self.inside.drop_next ≤ c.args.now = let t = c.loop-self-test.true in let n = c.ns.ensures.value in omega arith in
-    let length : c.gap.result ≡ gap_of c.args.self.now.interval c.saturating_add-self-inside.result = c.gap.ensures.value ∙ ap (λ (x : CodelState). gap_of x.interval c.saturating_add-self-inside.result) c.self.view_is in
-    let ends = turn-marks _ _ _ i.0 _ _ _ _ _ _ i.1.way c.self-in-loop-self.view_is due c.saturating_add-self-inside.ensures c.requires.dropping (sym c.if-is_markable.ensures) length in
-    lost_at _ _ _ _ i.0 _ ends.count i.1.lost
-
-pub returns-then-is_markable-clause-room : goal.returns-then-is_markable-clause-room
-returns-then-is_markable-clause-room g c =
-    let i = c.loop-self.invariant in
-    let due : c.self-in-loop-self.inside.drop_next ≤ c.args.now = let t = c.loop-self-test.true in let n = c.ns.ensures.value in omega arith in
-    let length : c.gap.result ≡ gap_of c.args.self.now.interval c.saturating_add-self-inside.result = c.gap.ensures.value ∙ ap (λ (x : CodelState). gap_of x.interval c.saturating_add-self-inside.result) c.self.view_is in
-    let ends = turn-marks _ _ _ i.0 _ _ _ _ _ _ i.1.way c.self-in-loop-self.view_is due c.saturating_add-self-inside.ensures c.requires.dropping (sym c.if-is_markable.ensures) length in
-    room_at _ _ i.0 _ ends.count i.1.room
-
-pub returns-then-not-is_late-clause-chosen : goal.returns-then-not-is_late-clause-chosen
-returns-then-not-is_late-clause-chosen g c =
+-- the head is dropped, and the next one is not late
+pub returns-then-not-is_late : goal.returns-then-not-is_late
+returns-then-not-is_late g c =
     let i = c.loop-self.invariant in
     let due : c.self-in-loop-self.inside.drop_next ≤ c.args.now = let t = c.loop-self-test.true in let n = c.ns.ensures.value in omega arith in
     let behind = front-is _ _ _ _ c.take.ensures.front c.unwrap-head.ensures c.take.ensures.rest in
     let ends = turn-ends _ _ _ i.0 _ _ _ _ _ 0 i.1.way c.self-in-loop-self.view_is due c.saturating_add-self-inside.ensures _ _ c.requires.dropping (sym c.if-is_markable.ensures) behind (sym c.if-not-is_late.ensures) in
     let lost = losses_more _ _ _ _ _ i.0 _ _ i.1.way.place i.1.lost c.lost.ensures.losses in
-    ends.chosen
+    record {
+      chosen = ends.chosen;
+      lost = lost_at _ _ _ _ _ _ ends.count lost;
+      room = let r = i.1.room in let k = c.lost.ensures.room in let n = ends.count in omega arith;
+      kept = g.met.Q.Queue.keeps_on _ _ _ i.1.kept c.take.ensures.kept;
+      sink_kept = g.met.S.Sink.keeps_on _ _ _ i.1.sink_kept c.lost.ensures.kept;
+    }
 
-pub returns-then-not-is_late-clause-lost : goal.returns-then-not-is_late-clause-lost
-returns-then-not-is_late-clause-lost g c =
-    let i = c.loop-self.invariant in
-    let due : c.self-in-loop-self.inside.drop_next ≤ c.args.now = let t = c.loop-self-test.true in let n = c.ns.ensures.value in omega arith in
-    let behind = front-is _ _ _ _ c.take.ensures.front c.unwrap-head.ensures c.take.ensures.rest in
-    let ends = turn-ends _ _ _ i.0 _ _ _ _ _ 0 i.1.way c.self-in-loop-self.view_is due c.saturating_add-self-inside.ensures _ _ c.requires.dropping (sym c.if-is_markable.ensures) behind (sym c.if-not-is_late.ensures) in
-    let lost = losses_more _ _ _ _ _ i.0 _ _ i.1.way.place i.1.lost c.lost.ensures.losses in
-    lost_at _ _ _ _ _ _ ends.count lost
-
-pub returns-then-not-is_late-clause-room : goal.returns-then-not-is_late-clause-room
-returns-then-not-is_late-clause-room g c =
-    let i = c.loop-self.invariant in
-    let due : c.self-in-loop-self.inside.drop_next ≤ c.args.now = let t = c.loop-self-test.true in let n = c.ns.ensures.value in omega arith in
-    let behind = front-is _ _ _ _ c.take.ensures.front c.unwrap-head.ensures c.take.ensures.rest in
-    let ends = turn-ends _ _ _ i.0 _ _ _ _ _ 0 i.1.way c.self-in-loop-self.view_is due c.saturating_add-self-inside.ensures _ _ c.requires.dropping (sym c.if-is_markable.ensures) behind (sym c.if-not-is_late.ensures) in
-    let lost = losses_more _ _ _ _ _ i.0 _ _ i.1.way.place i.1.lost c.lost.ensures.losses in
-    let r = i.1.room in let k = c.lost.ensures.room in let n = ends.count in omega arith
-
+-- the head is dropped, and the next one is late too
 pub loop-self-preserved : goal.loop-self-preserved
 loop-self-preserved g c =
     let i = c.loop-self.invariant in
