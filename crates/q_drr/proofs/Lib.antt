@@ -1,4 +1,7 @@
 pub mod NameLemmas
 pub mod RingLemmas
+mod Rows
 pub mod ScheduleLemmas
 pub mod StateLemmas
+pub mod StretchLemmas
+pub mod TakeLemmas

@@ -57,8 +57,8 @@ each_push P x (y ∷ xs) h p = (h.0, each_push P x xs h.1 p)
 pub each_at : (P : ℕ → Type 0) (n : ℕ) (ns : List ℕ) → AllByRecursion P ns → is_among n ns ≡ true → P n
 each_at P n [] h there = absurd (false≢true there)
 each_at P n (m ∷ ns) h there = elim (cases_Bool (eqb n m)) [
-    inl e ↦ subst P (sym (eqb-true n m e)) h.0
-    | inr e ↦ each_at P n ns h.1 (sym (ap (λ t. t || is_among n ns) e) ∙ there)
+  | inl e ↦ subst P (sym (eqb-true n m e)) h.0
+  | inr e ↦ each_at P n ns h.1 (sym (ap (λ t. t || is_among n ns) e) ∙ there)
 ]
 
 apart : (n : ℕ) (ns : List ℕ) → is_among n ns ≡ false → AllByRecursion (λ m. eqb n m ≡ false) ns
@@ -91,18 +91,18 @@ pub record Place (n : ℕ) (ns : List ℕ) : Type 0 where
 pub place_of : (n : ℕ) (ns : List ℕ) → AllDiffer ns → is_among n ns ≡ true → Place n ns
 place_of n [] d there = absurd (false≢true there)
 place_of n (m ∷ ns) d there = elim (cases_Bool (eqb n m)) [
-    inl e ↦ let same : n ≡ m = eqb-true n m e in
-    record {
-      front = [];
-      rest = ns;
-      is = ap (λ k. k ∷ ns) (sym same);
-      others = ap (λ t. cond (not t) (m ∷ without n ns) (without n ns)) e ∙ without_absent n ns (ap (λ k. is_among k ns) same ∙ d.0);
-    }
-    | inr e ↦ let p = place_of n ns d.1 (sym (ap (λ t. t || is_among n ns) e) ∙ there) in
-    record {
-      front = m ∷ p.front;
-      rest = p.rest;
-      is = ap (λ ks. m ∷ ks) p.is;
-      others = ap (λ t. cond (not t) (m ∷ without n ns) (without n ns)) e ∙ ap (λ ks. m ∷ ks) p.others;
-    }
+  | inl e ↦ let same : n ≡ m = eqb-true n m e in
+      record {
+        front = [];
+        rest = ns;
+        is = ap (λ k. k ∷ ns) (sym same);
+        others = ap (λ t. cond (not t) (m ∷ without n ns) (without n ns)) e ∙ without_absent n ns (ap (λ k. is_among k ns) same ∙ d.0);
+      }
+  | inr e ↦ let p = place_of n ns d.1 (sym (ap (λ t. t || is_among n ns) e) ∙ there) in
+      record {
+        front = m ∷ p.front;
+        rest = p.rest;
+        is = ap (λ ks. m ∷ ks) p.is;
+        others = ap (λ t. cond (not t) (m ∷ without n ns) (without n ns)) e ∙ ap (λ ks. m ∷ ks) p.others;
+      }
 ]

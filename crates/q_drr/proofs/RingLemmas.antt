@@ -51,31 +51,30 @@ widen false false z h = h
 
 -- links that agree at each member lead the same way
 path_same : (nx bf nx' bf' : ℕ → ℕ) (a : ℕ) (ns : List ℕ) (b : ℕ)
-  → ((m : ℕ) → is_among m (a ∷ ns) ≡ true → nx' m ≡ nx m) → ((m : ℕ) → is_among m (b ∷ ns) ≡ true → bf' m ≡ bf m)
-  → IsPath nx bf a ns b → IsPath nx' bf' a ns b
+    → ((m : ℕ) → is_among m (a ∷ ns) ≡ true → nx' m ≡ nx m) → ((m : ℕ) → is_among m (b ∷ ns) ≡ true → bf' m ≡ bf m)
+    → IsPath nx bf a ns b → IsPath nx' bf' a ns b
 path_same nx bf nx' bf' a [] b nexts befores p = (nexts a (among_itself a []) ∙ p.0, befores b (among_itself b []) ∙ p.1)
 path_same nx bf nx' bf' a (n ∷ ns) b nexts befores p = (
   nexts a (among_itself a (n ∷ ns)) ∙ p.0,
   befores n (or_right (eqb n b) _ (among_itself n ns)) ∙ p.1,
-  path_same nx bf nx' bf' n ns b (λ m h. nexts m (or_right (eqb m a) _ h)) (λ m h. befores m (widen (eqb m b) (eqb m n) (is_among m ns) h)) p.2
+  path_same nx bf nx' bf' n ns b (λ m h. nexts m (or_right (eqb m a) _ h)) (λ m h. befores m (widen (eqb m b) (eqb m n) (is_among m ns) h)) p.2,
 )
 
 -- the last of a path is led to another number than before
 path_redirected : (nx bf nx' bf' : ℕ → ℕ) (a : ℕ) (ns : List ℕ) (c b l : ℕ) → l ≡ last_of a ns
-  → ((m : ℕ) → nx' m ≡ (if eqb m l then b else nx m)) → ((m : ℕ) → bf' m ≡ (if eqb m b then l else bf m))
-  → AllDiffer (a ∷ ns) → is_among b ns ≡ false → IsPath nx bf a ns c → IsPath nx' bf' a ns b
+    → ((m : ℕ) → nx' m ≡ (if eqb m l then b else nx m)) → ((m : ℕ) → bf' m ≡ (if eqb m b then l else bf m))
+    → AllDiffer (a ∷ ns) → is_among b ns ≡ false → IsPath nx bf a ns c → IsPath nx' bf' a ns b
 unfolding last_of
 path_redirected nx bf nx' bf' a [] c b l is nexts befores d absent p = (
   if_true _ _ _ _ (nexts a) (eq-eqb a l (sym is)),
-  if_true _ _ _ _ (befores b) (eq-eqb b b refl) ∙ is
+  if_true _ _ _ _ (befores b) (eq-eqb b b refl) ∙ is,
 )
 path_redirected nx bf nx' bf' a (n ∷ ns) c b l is nexts befores d absent p =
     let parts = or_parts (eqb b n) (is_among b ns) absent in
-    let last : is_among l (n ∷ ns) ≡ true = ap (λ k. is_among k (n ∷ ns)) is ∙ last_among n ns in
-    (
+    let last : is_among l (n ∷ ns) ≡ true = ap (λ k. is_among k (n ∷ ns)) is ∙ last_among n ns in (
       if_false _ _ _ _ (nexts a) (differ_by_member a l (n ∷ ns) last d.0) ∙ p.0,
       if_false _ _ _ _ (befores n) (eqb_swap b n parts.0) ∙ p.1,
-      path_redirected nx bf nx' bf' n ns c b l is nexts befores d.1 parts.1 p.2
+      path_redirected nx bf nx' bf' n ns c b l is nexts befores d.1 parts.1 p.2,
     )
 
 -- the members of a circle, as a walk along its links
@@ -88,7 +87,7 @@ length-walk nx (suc count) n = ap suc (length-walk nx count (nx n))
 
 -- links that make a circle of a list are a walk along it
 pub circle_walks : (links : List Link) (ns : List ℕ) (count front : ℕ) → IsCircle links ns → length ns ≡ count
-  → ((m : ℕ) (ms : List ℕ) → ns ≡ m ∷ ms → front ≡ m) → walk (next_of links) count front ≡ ns
+    → ((m : ℕ) (ms : List ℕ) → ns ≡ m ∷ ms → front ≡ m) → walk (next_of links) count front ≡ ns
 circle_walks links [] count front h len head = ap (λ k. walk (next_of links) k front) (sym len)
 circle_walks links (n ∷ ns) count front h len head =
     ap (λ k. walk (next_of links) k front) (sym len) ∙ ap (λ m. walk (next_of links) (suc (length ns)) m) (head n ns refl) ∙ circle_walk links n ns h
@@ -115,8 +114,8 @@ circle_swapped links (n ∷ ns) ms h =
 
 -- `rotate`
 pub circle_turns : (links : List Link) (count front : ℕ) → IsCircle links (walk (next_of links) count front) → 0 < count
-  → (walk (next_of links) count (next_of links front) ≡ drop 1 (walk (next_of links) count front) ++ take 1 (walk (next_of links) count front))
-  × IsCircle links (walk (next_of links) count (next_of links front))
+    → (walk (next_of links) count (next_of links front) ≡ drop 1 (walk (next_of links) count front) ++ take 1 (walk (next_of links) count front))
+    × IsCircle links (walk (next_of links) count (next_of links front))
 circle_turns links zero front h some = absurd (omega arith)
 circle_turns links (suc zero) front h some =
     let same : next_of links front ≡ front = h.closed.0 in
@@ -127,9 +126,9 @@ circle_turns links (suc (suc k)) front h some =
     let ns : List ℕ = walk nx (suc k) (nx front) in
     let turned : IsCircle links (ns ++ front ∷ []) = circle_rotated links front ns h in
     let e : walk nx (suc (suc k)) (nx front) ≡ ns ++ front ∷ [] =
-          circle_walks links (ns ++ front ∷ []) (suc (suc k)) (nx front) turned
-          (length_push ns front ∙ add-one (length ns) ∙ ap suc (length-walk nx (suc k) (nx front)))
-          (λ m ms q. cc) in
+    circle_walks links (ns ++ front ∷ []) (suc (suc k)) (nx front) turned
+    (length_push ns front ∙ add-one (length ns) ∙ ap suc (length-walk nx (suc k) (nx front)))
+    (λ m ms q. cc) in
     (e, subst (λ ks. IsCircle links ks) (sym e) turned)
 
 below_same : (old new : List Link) (ns : List ℕ) → length new ≡ length old → AllByRecursion (λ n. n < length old) ns → AllByRecursion (λ n. n < length new) ns
@@ -145,24 +144,24 @@ members_more m n ns old new e f = e ∙ ap (λ b. if eqb m n then true else b) f
 
 -- one more member, behind the last
 pub circle_grown : (links joined closed marked : List Link) (first : ℕ) (ns : List ℕ) (n : ℕ) → IsCircle links (first ∷ ns)
-  → IsJoined links joined (before_of links first) n → IsJoined joined closed n first → IsMarked closed marked n true
-  → n < length links → is_among n (first ∷ ns) ≡ false → IsCircle marked ((first ∷ ns) ++ n ∷ [])
+    → IsJoined links joined (before_of links first) n → IsJoined joined closed n first → IsMarked closed marked n true
+    → n < length links → is_among n (first ∷ ns) ≡ false → IsCircle marked ((first ∷ ns) ++ n ∷ [])
 circle_grown links joined closed marked first ns n h j i k below absent =
     let parts = or_parts (eqb n first) (is_among n ns) absent in
     let l = path_last (next_of links) (before_of links) first ns first h.closed in
     let there : IsPath (next_of joined) (before_of joined) first ns n =
-          path_redirected (next_of links) (before_of links) (next_of joined) (before_of joined) first ns first n (before_of links first) l j.next j.before h.differ parts.1 h.closed in
+    path_redirected (next_of links) (before_of links) (next_of joined) (before_of joined) first ns first n (before_of links first) l j.next j.before h.differ parts.1 h.closed in
     let whole : IsPath (next_of marked) (before_of marked) first ns n =
-          path_same (next_of joined) (before_of joined) (next_of marked) (before_of marked) first ns n
-          (λ m q. k.next m ∙ if_false _ _ _ _ (i.next m) (eqb_swap n m (differ_by_member n m (first ∷ ns) q absent)))
-          (λ m q. k.before m ∙ if_false _ _ _ _ (i.before m) (eqb_swap first m (differ_by_member first m (n ∷ ns) q (or_from (eqb first n) (is_among first ns) (eqb_swap n first parts.0) h.differ.0)))) there in
+    path_same (next_of joined) (before_of joined) (next_of marked) (before_of marked) first ns n
+    (λ m q. k.next m ∙ if_false _ _ _ _ (i.next m) (eqb_swap n m (differ_by_member n m (first ∷ ns) q absent)))
+    (λ m q. k.before m ∙ if_false _ _ _ _ (i.before m) (eqb_swap first m (differ_by_member first m (n ∷ ns) q (or_from (eqb first n) (is_among first ns) (eqb_swap n first parts.0) h.differ.0)))) there in
     record {
       room = omega (arith, h.room, j.len, i.len, k.len);
       differ = differ_push n (first ∷ ns) h.differ absent;
       inside = each_push (λ m. m < length marked) n (first ∷ ns) (below_same links marked (first ∷ ns) (k.len ∙ i.len ∙ j.len) h.inside) (omega (arith, j.len, i.len, k.len));
       closed = path-append (next_of marked) (before_of marked) first ns n [] first whole (
         k.next n ∙ if_true _ _ _ _ (i.next n) (eq-eqb n n refl),
-        k.before first ∙ if_true _ _ _ _ (i.before first) (eq-eqb first first refl)
+        k.before first ∙ if_true _ _ _ _ (i.before first) (eq-eqb first first refl),
       );
       members = λ m q. members_more m n (first ∷ ns) _ _ (k.changed m) (i.here m ∙ j.here m ∙ h.members m (omega (arith, j.len, i.len, k.len))) ∙ sym (among_rotated m n (first ∷ ns));
     }
@@ -170,12 +169,12 @@ circle_grown links joined closed marked first ns n h j i k below absent =
 -- the front taken out
 members_less : (m n : ℕ) (ns : List ℕ) (old new : Bool) → is_among n ns ≡ false → new ≡ (if eqb m n then false else old) → old ≡ is_among m (n ∷ ns) → new ≡ is_among m ns
 members_less m n ns old new absent e f = elim (cases_Bool (eqb m n)) [
-    inl q ↦ e ∙ ap (λ t. if t then false else old) q ∙ sym absent ∙ ap (λ k. is_among k ns) (sym (eqb-true m n q))
-    | inr q ↦ e ∙ ap (λ t. if t then false else old) q ∙ f ∙ ap (λ t. t || is_among m ns) q
+  | inl q ↦ e ∙ ap (λ t. if t then false else old) q ∙ sym absent ∙ ap (λ k. is_among k ns) (sym (eqb-true m n q))
+  | inr q ↦ e ∙ ap (λ t. if t then false else old) q ∙ f ∙ ap (λ t. t || is_among m ns) q
 ]
 
 closed_without : (links joined marked : List Link) (n : ℕ) (ns : List ℕ) → IsCircle links (n ∷ ns)
-  → IsJoined links joined (before_of links n) (next_of links n) → IsMarked joined marked n false → IsClosed (next_of marked) (before_of marked) ns
+    → IsJoined links joined (before_of links n) (next_of links n) → IsMarked joined marked n false → IsClosed (next_of marked) (before_of marked) ns
 unfolding last_of
 closed_without links joined marked n [] h j k = tt
 closed_without links joined marked n (m ∷ ms) h j k =
@@ -184,13 +183,13 @@ closed_without links joined marked n (m ∷ ms) h j k =
     let l = path_last nx bf n (m ∷ ms) n h.closed in
     let first : nx n ≡ m = h.closed.0 in
     let nexts : (q : ℕ) → next_of marked q ≡ (if eqb q (bf n) then m else nx q) =
-          λ q. k.next q ∙ j.next q ∙ ap (λ r. if eqb q (bf n) then r else nx q) first in
+    λ q. k.next q ∙ j.next q ∙ ap (λ r. if eqb q (bf n) then r else nx q) first in
     let befores : (q : ℕ) → before_of marked q ≡ (if eqb q m then bf n else bf q) =
-          λ q. k.before q ∙ j.before q ∙ ap (λ r. if eqb q r then bf n else bf q) first in
+    λ q. k.before q ∙ j.before q ∙ ap (λ r. if eqb q r then bf n else bf q) first in
     path_redirected nx bf (next_of marked) (before_of marked) m ms n m (bf n) l nexts befores h.differ.1 h.differ.1.0 h.closed.2
 
 pub circle_without : (links joined marked : List Link) (n : ℕ) (ns : List ℕ) → IsCircle links (n ∷ ns)
-  → IsJoined links joined (before_of links n) (next_of links n) → IsMarked joined marked n false → IsCircle marked ns
+    → IsJoined links joined (before_of links n) (next_of links n) → IsMarked joined marked n false → IsCircle marked ns
 circle_without links joined marked n ns h j k = record {
   room = omega (arith, h.room, j.len, k.len);
   differ = h.differ.1;
@@ -213,7 +212,7 @@ near links n [] h = (subst (λ m. m < length links) (sym h.closed.0) h.inside.0,
 near links n (m ∷ ms) h = (
   subst (λ k. k < length links) (sym h.closed.0) h.inside.1.0,
   subst (λ k. k < length links) (sym (path_last (next_of links) (before_of links) n (m ∷ ms) n h.closed))
-  (each_at (λ k. k < length links) (last_of n (m ∷ ms)) (n ∷ m ∷ ms) h.inside (last_among n (m ∷ ms)))
+      (each_at (λ k. k < length links) (last_of n (m ∷ ms)) (n ∷ m ∷ ms) h.inside (last_among n (m ∷ ms))),
 )
 
 -- a member brought to the front
@@ -233,31 +232,31 @@ neighbours links n ns h there =
 
 -- links whose circle is the old walk make that walk
 pub circle_rewalks : (links new : List Link) (count front : ℕ) → IsCircle new (walk (next_of links) count front)
-  → walk (next_of new) count front ≡ walk (next_of links) count front
+    → walk (next_of new) count front ≡ walk (next_of links) count front
 circle_rewalks links new zero front h = refl
 circle_rewalks links new (suc k) front h =
     circle_walks new (front ∷ walk (next_of links) k (next_of links front)) (suc k) front h (ap suc (length-walk (next_of links) k (next_of links front))) (λ m ms e. cc)
 
 -- `push`
 pub circle_pushed : (links new : List Link) (count front n : ℕ) → IsCircle links (walk (next_of links) count front) → 0 < count
-  → is_among n (walk (next_of links) count front) ≡ false
-  → ((ns : List ℕ) → IsCircle links (front ∷ ns) → is_among n (front ∷ ns) ≡ false → IsCircle new (front ∷ ns ++ n ∷ []))
-  → (walk (next_of new) (count + 1) front ≡ walk (next_of links) count front ++ n ∷ []) × IsCircle new (walk (next_of new) (count + 1) front)
+    → is_among n (walk (next_of links) count front) ≡ false
+    → ((ns : List ℕ) → IsCircle links (front ∷ ns) → is_among n (front ∷ ns) ≡ false → IsCircle new (front ∷ ns ++ n ∷ []))
+    → (walk (next_of new) (count + 1) front ≡ walk (next_of links) count front ++ n ∷ []) × IsCircle new (walk (next_of new) (count + 1) front)
 circle_pushed links new zero front n h some absent grown = absurd (omega arith)
 circle_pushed links new (suc k) front n h some absent grown =
     let ns : List ℕ = walk (next_of links) k (next_of links front) in
     let more = grown ns h absent in
     let e : walk (next_of new) (suc k + 1) front ≡ front ∷ ns ++ n ∷ [] =
-          circle_walks new (front ∷ ns ++ n ∷ []) (suc k + 1) front more
-          (length_push (front ∷ ns) n ∙ ap (λ m. suc m + 1) (length-walk (next_of links) k (next_of links front)))
-          (λ m ms q. cc) in
+    circle_walks new (front ∷ ns ++ n ∷ []) (suc k + 1) front more
+    (length_push (front ∷ ns) n ∙ ap (λ m. suc m + 1) (length-walk (next_of links) k (next_of links front)))
+    (λ m ms q. cc) in
     (e, subst (λ ks. IsCircle new ks) (sym e) more)
 
 -- `remove`, where the member stands between these
 removed_front : (links : List Link) (n first moved : ℕ) (front rest : List ℕ) (count first_old : ℕ)
-  → IsCircle links (front ++ n ∷ rest) → walk (next_of links) count first_old ≡ front ++ n ∷ rest
-  → (first_old ≡ n → moved ≡ next_of links n) → (first_old ≢ n → moved ≡ first_old)
-  → (m : ℕ) (ms : List ℕ) → front ++ rest ≡ m ∷ ms → moved ≡ m
+    → IsCircle links (front ++ n ∷ rest) → walk (next_of links) count first_old ≡ front ++ n ∷ rest
+    → (first_old ≡ n → moved ≡ next_of links n) → (first_old ≢ n → moved ≡ first_old)
+    → (m : ℕ) (ms : List ℕ) → front ++ rest ≡ m ∷ ms → moved ≡ m
 removed_front links n first moved front rest zero old h w same other m ms e = elim front as (λ f. [] ≡ f ++ n ∷ rest → moved ≡ m) [ [] ↦ λ q. cc | x ∷ xs ↦ λ q. cc ] w
 removed_front links n first moved [] [] (suc k) old h w same other m ms e = cc
 removed_front links n first moved [] (r ∷ rs) (suc k) old h w same other m ms e =
@@ -272,18 +271,18 @@ removed_front links n first moved (x ∷ xs) rest (suc k) old h w same other m m
     other (λ q. false≢true (sym apart ∙ eq-eqb x n (sym front_is ∙ q))) ∙ front_is ∙ head
 
 pub circle_removed : (links new : List Link) (count front moved n : ℕ) → IsCircle links (walk (next_of links) count front)
-  → is_among n (walk (next_of links) count front) ≡ true → ((ns : List ℕ) → IsCircle links (n ∷ ns) → IsCircle new ns)
-  → (front ≡ n → moved ≡ next_of links n) → (front ≢ n → moved ≡ front)
-  → (walk (next_of new) (count - 1) moved ≡ without n (walk (next_of links) count front)) × IsCircle new (walk (next_of new) (count - 1) moved)
+    → is_among n (walk (next_of links) count front) ≡ true → ((ns : List ℕ) → IsCircle links (n ∷ ns) → IsCircle new ns)
+    → (front ≡ n → moved ≡ next_of links n) → (front ≢ n → moved ≡ front)
+    → (walk (next_of new) (count - 1) moved ≡ without n (walk (next_of links) count front)) × IsCircle new (walk (next_of new) (count - 1) moved)
 circle_removed links new count front moved n h there taken same other =
     let order = walk (next_of links) count front in
     let p = place_of n order h.differ there in
     let left : IsCircle new (p.front ++ p.rest) = circle_swapped new p.rest p.front (taken (p.rest ++ p.front) (brought links n order p.front p.rest h p.is)) in
     let long : length (p.front ++ p.rest) ≡ count - 1 =
-          omega (arith, length-append p.front p.rest, length-append p.front (n ∷ p.rest), ap length p.is, length-walk (next_of links) count front) in
+    omega (arith, length-append p.front p.rest, length-append p.front (n ∷ p.rest), ap length p.is, length-walk (next_of links) count front) in
     let e : walk (next_of new) (count - 1) moved ≡ p.front ++ p.rest =
-          circle_walks new (p.front ++ p.rest) (count - 1) moved left long
-          (removed_front links n front moved p.front p.rest count front (subst (λ ks. IsCircle links ks) p.is h) p.is same other) in
+    circle_walks new (p.front ++ p.rest) (count - 1) moved left long
+    (removed_front links n front moved p.front p.rest count front (subst (λ ks. IsCircle links ks) p.is h) p.is same other) in
     (e ∙ sym p.others, subst (λ ks. IsCircle new ks) (sym e) left)
 
 each_weaker : (ns : List ℕ) (a b : ℕ) → a ≤ b → AllByRecursion (λ n. n < a) ns → AllByRecursion (λ n. n < b) ns
@@ -296,26 +295,26 @@ blank_at (l ∷ more) zero h = h.0
 blank_at (l ∷ more) (suc k) h = blank_at more k h.1
 
 closed_same : (links new : List Link) (ns : List ℕ) → ((m : ℕ) → is_among m ns ≡ true → slice_index_or new m no_link ≡ slice_index_or links m no_link)
-  → IsClosed (next_of links) (before_of links) ns → IsClosed (next_of new) (before_of new) ns
+    → IsClosed (next_of links) (before_of links) ns → IsClosed (next_of new) (before_of new) ns
 closed_same links new [] same h = tt
 closed_same links new (n ∷ ns) same h =
     path_same (next_of links) (before_of links) (next_of new) (before_of new) n ns n (λ m there. ap (λ l. l.next) (same m there)) (λ m there. ap (λ l. l.before) (same m there)) h
 
 -- `reserve`
 pub circle_roomier : (links : List Link) (more : List Link) (ns : List ℕ) → length (links ++ more) ≤ 2 ^ 16
-  → AllByRecursion (λ l. l ≡ no_link) more → IsCircle links ns → IsCircle (links ++ more) ns
+    → AllByRecursion (λ l. l ≡ no_link) more → IsCircle links ns → IsCircle (links ++ more) ns
 circle_roomier links more ns room blank h =
     let same : (m : ℕ) → is_among m ns ≡ true → slice_index_or (links ++ more) m no_link ≡ slice_index_or links m no_link =
-          λ m there. get_or_append_left links more no_link m (each_at (λ k. k < length links) m ns h.inside there) in
+    λ m there. get_or_append_left links more no_link m (each_at (λ k. k < length links) m ns h.inside there) in
     record {
       room = room;
       differ = h.differ;
       inside = each_weaker ns (length links) (length (links ++ more)) (omega (arith, length-append links more)) h.inside;
       closed = closed_same links (links ++ more) ns same h.closed;
       members = λ m below. elim (cases_lt m (length links)) [
-        inl lt ↦ ap (λ l. l.here) (get_or_append_left links more no_link m lt) ∙ h.members m lt
+        | inl lt ↦ ap (λ l. l.here) (get_or_append_left links more no_link m lt) ∙ h.members m lt
         | inr ge ↦ ap (λ l. l.here) (get_or-append_right links more (length links) m no_link refl ge ∙ blank_at more (m - length links) blank)
-          ∙ sym (false_from_ne_true (is_among m ns) (λ there. absurd (omega (arith, each_at (λ k. k < length links) m ns h.inside there))))
+            ∙ sym (false_from_ne_true (is_among m ns) (λ there. absurd (omega (arith, each_at (λ k. k < length links) m ns h.inside there))))
       ];
     }
 
@@ -325,7 +324,7 @@ blank_replicate (suc k) = (refl, blank_replicate k)
 
 -- links made longer, where that succeeds
 pub circle_resized : (ok : Bool) (links new : List Link) (n len : ℕ) (ns : List ℕ) → length links < n → n ≤ 2 ^ 16
-  → len ≡ length links → new ≡ (if ok then take n links ++ replicate (n - len) no_link else links) → IsCircle links ns → IsCircle new ns
+    → len ≡ length links → new ≡ (if ok then take n links ++ replicate (n - len) no_link else links) → IsCircle links ns → IsCircle new ns
 circle_resized false links new n len ns shorter room long e h = subst (λ ls. IsCircle ls ns) (sym e) h
 circle_resized true links new n len ns shorter room long e h =
     let joined : new ≡ links ++ replicate (n - len) no_link = e ∙ ap (λ ls. ls ++ replicate (n - len) no_link) (take_all n links (omega arith)) in

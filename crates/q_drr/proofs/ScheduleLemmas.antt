@@ -8,7 +8,7 @@ use Rattle.q_drr.specs.declared.class_state.ClassState.{ClassState}
 use Rattle.q_drr.specs.Links.{Circle, is_among, without, AllDiffer}
 use Rattle.q_drr.specs.declared.turn.Turn.TheVariants.{Send, Granted}
 use Rattle.q_drr.specs.States.{no_state, has_state, state_of, with_state, without_state, class_in, entry_in}
-use Rattle.q_drr.specs.Schedule.{Class, Entry, Schedule, woken, asleep, removed, added, with_quantum, has_class, quantum_of, is_active, deficit_of, granted_of, after_grants, turn_answer, active_after, turned, cut, IsEntry, ClassesDiffer, EntriesDiffer, counted}
+use Rattle.q_drr.specs.Schedule.{Class, Entry, Schedule, woken, asleep, removed, added, with_quantum, has_class, quantum_of, is_active, deficit_of, granted_of, after_grants, turn_answer, active_after, turned, cut, IsEntry, ClassesDiffer, EntriesDiffer, IsLawful, counted}
 use Rattle.q_drr.specs.Kept.{shown, IsState, StatesDiffer, IsKept}
 use Rattle.q_drr.proofs.NameLemmas.{each_at, each_push, differ_by_member, differ_push, differ_rotated, eqb_swap, without_absent}
 use Rattle.q_drr.proofs.StateLemmas.{with_absent}
@@ -22,8 +22,8 @@ same_class new c name quantum = cc
 
 same_name : (new c : ClassState) → (if eqb new.name c.name then new else c).name ≡ c.name
 same_name new c = elim (cases_Bool (eqb new.name c.name)) [
-    inl e ↦ ap (λ (t : Bool). (if t then new else c).name) e ∙ eqb-true new.name c.name e
-    | inr e ↦ ap (λ (t : Bool). (if t then new else c).name) e
+  | inl e ↦ ap (λ (t : Bool). (if t then new else c).name) e ∙ eqb-true new.name c.name e
+  | inr e ↦ ap (λ (t : Bool). (if t then new else c).name) e
 ]
 
 -- what the classes and the entries show of the states
@@ -34,8 +34,8 @@ has_class_in n (c ∷ states) = ap (λ t. eqb n c.name || t) (has_class_in n sta
 pub quantum_in : (n : ℕ) (states : List ClassState) → quantum_of n (map class_in states) ≡ (state_of n states).quantum
 quantum_in n [] = refl
 quantum_in n (c ∷ states) = elim (cases_Bool (eqb n c.name)) [
-    inl e ↦ ap (λ (t : Bool). if t then c.quantum else quantum_of n (map class_in states)) e ∙ ap (λ (t : Bool). (if t then c else state_of n states).quantum) (sym e)
-    | inr e ↦ ap (λ (t : Bool). if t then c.quantum else quantum_of n (map class_in states)) e ∙ quantum_in n states ∙ ap (λ (t : Bool). (if t then c else state_of n states).quantum) (sym e)
+  | inl e ↦ ap (λ (t : Bool). if t then c.quantum else quantum_of n (map class_in states)) e ∙ ap (λ (t : Bool). (if t then c else state_of n states).quantum) (sym e)
+  | inr e ↦ ap (λ (t : Bool). if t then c.quantum else quantum_of n (map class_in states)) e ∙ quantum_in n states ∙ ap (λ (t : Bool). (if t then c else state_of n states).quantum) (sym e)
 ]
 
 pub active_in : (n : ℕ) (states : List ClassState) (order : List ℕ) → is_active n (map (entry_in states) order) ≡ is_among n order
@@ -45,15 +45,15 @@ active_in n states (m ∷ order) = ap (λ t. eqb n m || t) (active_in n states o
 pub deficit_in : (n : ℕ) (states : List ClassState) (order : List ℕ) → is_among n order ≡ true → deficit_of n (map (entry_in states) order) ≡ (state_of n states).deficit
 deficit_in n states [] there = absurd (false≢true there)
 deficit_in n states (m ∷ order) there = elim (cases_Bool (eqb n m)) [
-    inl e ↦ ap (λ (t : Bool). if t then (state_of m states).deficit else deficit_of n (map (entry_in states) order)) e ∙ ap (λ k. (state_of k states).deficit) (sym (eqb-true n m e))
-    | inr e ↦ ap (λ (t : Bool). if t then (state_of m states).deficit else deficit_of n (map (entry_in states) order)) e ∙ deficit_in n states order (sym (ap (λ t. t || is_among n order) e) ∙ there)
+  | inl e ↦ ap (λ (t : Bool). if t then (state_of m states).deficit else deficit_of n (map (entry_in states) order)) e ∙ ap (λ k. (state_of k states).deficit) (sym (eqb-true n m e))
+  | inr e ↦ ap (λ (t : Bool). if t then (state_of m states).deficit else deficit_of n (map (entry_in states) order)) e ∙ deficit_in n states order (sym (ap (λ t. t || is_among n order) e) ∙ there)
 ]
 
 pub granted_in : (n : ℕ) (states : List ClassState) (order : List ℕ) → is_among n order ≡ true → granted_of n (map (entry_in states) order) ≡ (state_of n states).granted
 granted_in n states [] there = absurd (false≢true there)
 granted_in n states (m ∷ order) there = elim (cases_Bool (eqb n m)) [
-    inl e ↦ ap (λ (t : Bool). if t then (state_of m states).granted else granted_of n (map (entry_in states) order)) e ∙ ap (λ k. (state_of k states).granted) (sym (eqb-true n m e))
-    | inr e ↦ ap (λ (t : Bool). if t then (state_of m states).granted else granted_of n (map (entry_in states) order)) e ∙ granted_in n states order (sym (ap (λ t. t || is_among n order) e) ∙ there)
+  | inl e ↦ ap (λ (t : Bool). if t then (state_of m states).granted else granted_of n (map (entry_in states) order)) e ∙ ap (λ k. (state_of k states).granted) (sym (eqb-true n m e))
+  | inr e ↦ ap (λ (t : Bool). if t then (state_of m states).granted else granted_of n (map (entry_in states) order)) e ∙ granted_in n states order (sym (ap (λ t. t || is_among n order) e) ∙ there)
 ]
 
 pub deficit_asleep : (n : ℕ) (states : List ClassState) (order : List ℕ) → is_among n order ≡ false → deficit_of n (map (entry_in states) order) ≡ 0
@@ -72,30 +72,30 @@ granted_asleep n states (m ∷ order) absent =
 pub name_of_state : (n : ℕ) (states : List ClassState) → has_state n states ≡ true → (state_of n states).name ≡ n
 name_of_state n [] there = absurd (false≢true there)
 name_of_state n (c ∷ states) there = elim (cases_Bool (eqb n c.name)) [
-    inl e ↦ ap (λ (t : Bool). (if t then c else state_of n states).name) e ∙ sym (eqb-true n c.name e)
-    | inr e ↦ ap (λ (t : Bool). (if t then c else state_of n states).name) e ∙ name_of_state n states (sym (ap (λ t. t || has_state n states) e) ∙ there)
+  | inl e ↦ ap (λ (t : Bool). (if t then c else state_of n states).name) e ∙ sym (eqb-true n c.name e)
+  | inr e ↦ ap (λ (t : Bool). (if t then c else state_of n states).name) e ∙ name_of_state n states (sym (ap (λ t. t || has_state n states) e) ∙ there)
 ]
 
 pub state_meets : (P : ClassState → Type 0) (n : ℕ) (states : List ClassState) → AllByRecursion P states → has_state n states ≡ true → P (state_of n states)
 state_meets P n [] each there = absurd (false≢true there)
 state_meets P n (c ∷ states) each there = elim (cases_Bool (eqb n c.name)) [
-    inl e ↦ subst (λ (t : Bool). P (if t then c else state_of n states)) (sym e) each.0
-    | inr e ↦ subst (λ (t : Bool). P (if t then c else state_of n states)) (sym e) (state_meets P n states each.1 (sym (ap (λ t. t || has_state n states) e) ∙ there))
+  | inl e ↦ subst (λ (t : Bool). P (if t then c else state_of n states)) (sym e) each.0
+  | inr e ↦ subst (λ (t : Bool). P (if t then c else state_of n states)) (sym e) (state_meets P n states each.1 (sym (ap (λ t. t || has_state n states) e) ∙ there))
 ]
 
 -- one state written
 pub state_of_same : (new : ClassState) (states : List ClassState) → has_state new.name states ≡ true → state_of new.name (with_state new states) ≡ new
 state_of_same new [] there = absurd (false≢true there)
 state_of_same new (c ∷ states) there = elim (cases_Bool (eqb new.name c.name)) [
-    inl e ↦ ap (λ (t : Bool). state_of new.name ((if t then new else c) ∷ with_state new states)) e ∙ ap (λ (t : Bool). if t then new else state_of new.name (with_state new states)) (eq-eqb new.name new.name refl)
-    | inr e ↦ ap (λ (t : Bool). state_of new.name ((if t then new else c) ∷ with_state new states)) e ∙ ap (λ (t : Bool). if t then c else state_of new.name (with_state new states)) e
+  | inl e ↦ ap (λ (t : Bool). state_of new.name ((if t then new else c) ∷ with_state new states)) e ∙ ap (λ (t : Bool). if t then new else state_of new.name (with_state new states)) (eq-eqb new.name new.name refl)
+  | inr e ↦ ap (λ (t : Bool). state_of new.name ((if t then new else c) ∷ with_state new states)) e ∙ ap (λ (t : Bool). if t then c else state_of new.name (with_state new states)) e
       ∙ state_of_same new states (sym (ap (λ t. t || has_state new.name states) e) ∙ there)
 ]
 
 head_name : (n : ℕ) (new c : ClassState) → eqb n (if eqb new.name c.name then new else c).name ≡ eqb n c.name
 head_name n new c = elim (cases_Bool (eqb new.name c.name)) [
-    inl e ↦ ap (λ (t : Bool). eqb n (if t then new else c).name) e ∙ ap (eqb n) (eqb-true new.name c.name e)
-    | inr e ↦ ap (λ (t : Bool). eqb n (if t then new else c).name) e
+  | inl e ↦ ap (λ (t : Bool). eqb n (if t then new else c).name) e ∙ ap (eqb n) (eqb-true new.name c.name e)
+  | inr e ↦ ap (λ (t : Bool). eqb n (if t then new else c).name) e
 ]
 
 pub has_with : (n : ℕ) (new : ClassState) (states : List ClassState) → has_state n (with_state new states) ≡ has_state n states
@@ -107,11 +107,11 @@ state_of_other n new [] apart = refl
 state_of_other n new (c ∷ states) apart =
     ap (λ (t : Bool). if t then (if eqb new.name c.name then new else c) else state_of n (with_state new states)) (head_name n new c)
     ∙ elim (cases_Bool (eqb n c.name)) [
-      inl e ↦ ap (λ (t : Bool). if t then (if eqb new.name c.name then new else c) else state_of n (with_state new states)) e
-        ∙ ap (λ (t : Bool). if t then new else c) (ap (eqb new.name) (sym (eqb-true n c.name e)) ∙ apart)
-        ∙ ap (λ (t : Bool). if t then c else state_of n states) (sym e)
+      | inl e ↦ ap (λ (t : Bool). if t then (if eqb new.name c.name then new else c) else state_of n (with_state new states)) e
+          ∙ ap (λ (t : Bool). if t then new else c) (ap (eqb new.name) (sym (eqb-true n c.name e)) ∙ apart)
+          ∙ ap (λ (t : Bool). if t then c else state_of n states) (sym e)
       | inr e ↦ ap (λ (t : Bool). if t then (if eqb new.name c.name then new else c) else state_of n (with_state new states)) e
-        ∙ state_of_other n new states apart ∙ ap (λ (t : Bool). if t then c else state_of n states) (sym e)
+          ∙ state_of_other n new states apart ∙ ap (λ (t : Bool). if t then c else state_of n states) (sym e)
     ]
 
 pub each_with : (P : ClassState → Type 0) (new : ClassState) (states : List ClassState) → P new → AllByRecursion P states → AllByRecursion P (with_state new states)
@@ -122,7 +122,7 @@ pub differ_with : (new : ClassState) (states : List ClassState) → StatesDiffer
 differ_with new [] d = tt
 differ_with new (c ∷ states) d = (
   has_with _ new states ∙ ap (λ m. has_state m states) (same_name new c) ∙ d.0,
-  differ_with new states d.1
+  differ_with new states d.1,
 )
 
 known_by : (old new : List ClassState) (order : List ℕ) → ((n : ℕ) → is_among n order ≡ true → has_state n new ≡ has_state n old) → AllByRecursion (λ n. has_state n old ≡ true) order → AllByRecursion (λ n. has_state n new ≡ true) order
@@ -135,13 +135,13 @@ known_with new states order known = known_by states (with_state new states) orde
 pub classes_with : (new : ClassState) (states : List ClassState) → StatesDiffer states → new.quantum ≡ (state_of new.name states).quantum → map class_in (with_state new states) ≡ map class_in states
 classes_with new [] d same = refl
 classes_with new (c ∷ states) d same = elim (cases_Bool (eqb new.name c.name)) [
-    inl e ↦
+  | inl e ↦
       let name : new.name ≡ c.name = eqb-true new.name c.name e in
       let quantum : new.quantum ≡ c.quantum = same ∙ ap (λ (t : Bool). (if t then c else state_of new.name states).quantum) e in
       ap (λ (t : Bool). class_in (if t then new else c) ∷ map class_in (with_state new states)) e
       ∙ ap (λ rest. class_in new ∷ map class_in rest) (with_absent new states (ap (λ m. has_state m states) name ∙ d.0))
       ∙ ap (λ k. k ∷ map class_in states) (same_class new c name quantum)
-    | inr e ↦ ap (λ (t : Bool). class_in (if t then new else c) ∷ map class_in (with_state new states)) e
+  | inr e ↦ ap (λ (t : Bool). class_in (if t then new else c) ∷ map class_in (with_state new states)) e
       ∙ ap (λ rest. class_in c ∷ rest) (classes_with new states d.1 (same ∙ ap (λ (t : Bool). (if t then c else state_of new.name states).quantum) e))
 ]
 
@@ -179,7 +179,7 @@ kept_put max_len states circle new p h = record {
 }
 
 pub kept_order : (max_len : ℕ) (states : List ClassState) (circle : Circle) (order : List ℕ) → AllByRecursion (λ n. has_state n states ≡ true) order → AllDiffer order
-  → IsKept max_len states circle → IsKept max_len states (record circle { order = order })
+    → IsKept max_len states circle → IsKept max_len states (record circle { order = order })
 kept_order max_len states circle order known differ h = record {
   positive = h.positive;
   each = h.each;
@@ -190,44 +190,44 @@ kept_order max_len states circle order known differ h = record {
 
 -- the entry of the class written
 pub entry_put : (new : ClassState) (states : List ClassState) (n : ℕ) → new.name ≡ n → has_state n states ≡ true
-  → entry_in (with_state new states) n ≡ record { class = n; deficit = new.deficit; granted = new.granted }
+    → entry_in (with_state new states) n ≡ record { class = n; deficit = new.deficit; granted = new.granted }
 entry_put new states n name there =
     let at : state_of n (with_state new states) ≡ new =
-          ap (λ m. state_of m (with_state new states)) (sym name) ∙ state_of_same new states (ap (λ m. has_state m states) name ∙ there) in
+    ap (λ m. state_of m (with_state new states)) (sym name) ∙ state_of_same new states (ap (λ m. has_state m states) name ∙ there) in
     ap (λ (c : ClassState). record { class = n; deficit = c.deficit; granted = c.granted }) at
 
 same_entry : (n deficit deficit' granted granted' : ℕ) → deficit ≡ deficit' → granted ≡ granted'
-  → ◌≡◌ {A = Entry} (record { class = n; deficit = deficit; granted = granted }) (record { class = n; deficit = deficit'; granted = granted' })
+    → ◌≡◌ {A = Entry} (record { class = n; deficit = deficit; granted = granted }) (record { class = n; deficit = deficit'; granted = granted' })
 same_entry n deficit deficit' granted granted' e f = cc
 
 same_schedule : (max_len turns turns' : ℕ) (cs cs' : List Class) (es es' : List Entry) → cs ≡ cs' → es ≡ es' → turns ≡ turns'
-  → ◌≡◌ {A = Schedule} (record { max_len = max_len; classes = cs; active = es; turns = turns }) (record { max_len = max_len; classes = cs'; active = es'; turns = turns' })
+    → ◌≡◌ {A = Schedule} (record { max_len = max_len; classes = cs; active = es; turns = turns }) (record { max_len = max_len; classes = cs'; active = es'; turns = turns' })
 same_schedule max_len turns turns' cs cs' es es' e f g = cc
 
 -- `wake`
 pub woken_shown : (max_len turns : ℕ) (states : List ClassState) (order : List ℕ) (n : ℕ) (new : ClassState) → StatesDiffer states → has_state n states ≡ true
-  → is_among n order ≡ false → new.name ≡ n → new.quantum ≡ (state_of n states).quantum → new.deficit ≡ (state_of n states).quantum → new.granted ≡ 0
-  → shown max_len turns (with_state new states) (order ++ n ∷ []) ≡ woken n (shown max_len turns states order)
+    → is_among n order ≡ false → new.name ≡ n → new.quantum ≡ (state_of n states).quantum → new.deficit ≡ (state_of n states).quantum → new.granted ≡ 0
+    → shown max_len turns (with_state new states) (order ++ n ∷ []) ≡ woken n (shown max_len turns states order)
 woken_shown max_len turns states order n new differ there absent name quantum deficit granted =
     let cs = classes_with new states differ (quantum ∙ ap (λ m. (state_of m states).quantum) (sym name)) in
     let rest = entries_with new states order (ap (λ m. is_among m order) name ∙ absent) in
     let last : entry_in (with_state new states) n ≡ record { class = n; deficit = quantum_of n (map class_in states); granted = 0 } =
-          entry_put new states n name there ∙ same_entry n _ _ _ _ (deficit ∙ sym (quantum_in n states)) granted in
+    entry_put new states n name there ∙ same_entry n _ _ _ _ (deficit ∙ sym (quantum_in n states)) granted in
     let es : map (entry_in (with_state new states)) (order ++ n ∷ []) ≡ map (entry_in states) order ++ record { class = n; deficit = quantum_of n (map class_in states); granted = 0 } ∷ [] =
-          map-append (entry_in (with_state new states)) order (n ∷ []) ∙ ap (λ xs. xs ++ entry_in (with_state new states) n ∷ []) rest
-          ∙ ap (λ x. map (entry_in states) order ++ x ∷ []) last in
+    map-append (entry_in (with_state new states)) order (n ∷ []) ∙ ap (λ xs. xs ++ entry_in (with_state new states) n ∷ []) rest
+    ∙ ap (λ x. map (entry_in states) order ++ x ∷ []) last in
     same_schedule max_len turns turns _ _ _ _ cs es refl
     ∙ ap (λ (t : Bool). if t then shown max_len turns states order else record (shown max_len turns states order) {
-      active = map (entry_in states) order ++ record { class = n; deficit = quantum_of n (map class_in states); granted = 0 } ∷ []
+      active = map (entry_in states) order ++ record { class = n; deficit = quantum_of n (map class_in states); granted = 0 } ∷ [];
     }) (sym (active_in n states order ∙ absent))
 
 -- `sleep`
 pub asleep_entries : (states : List ClassState) (order : List ℕ) (n : ℕ) → map (entry_in states) (without n order) ≡ filter (λ e. not (n == e.class)) (map (entry_in states) order)
 asleep_entries states [] n = refl
 asleep_entries states (m ∷ order) n = elim (cases_Bool (eqb n m)) [
-    inl e ↦ ap (λ t. map (entry_in states) (cond (not t) (m ∷ without n order) (without n order))) e ∙ asleep_entries states order n
+  | inl e ↦ ap (λ t. map (entry_in states) (cond (not t) (m ∷ without n order) (without n order))) e ∙ asleep_entries states order n
       ∙ ap (λ t. cond (not t) (entry_in states m ∷ filter (λ e. not (n == e.class)) (map (entry_in states) order)) (filter (λ e. not (n == e.class)) (map (entry_in states) order))) (sym e)
-    | inr e ↦ ap (λ t. map (entry_in states) (cond (not t) (m ∷ without n order) (without n order))) e ∙ ap (λ es. entry_in states m ∷ es) (asleep_entries states order n)
+  | inr e ↦ ap (λ t. map (entry_in states) (cond (not t) (m ∷ without n order) (without n order))) e ∙ ap (λ es. entry_in states m ∷ es) (asleep_entries states order n)
       ∙ ap (λ t. cond (not t) (entry_in states m ∷ filter (λ e. not (n == e.class)) (map (entry_in states) order)) (filter (λ e. not (n == e.class)) (map (entry_in states) order))) (sym e)
 ]
 
@@ -239,22 +239,22 @@ among_without m n [] absent = refl
 among_without m n (k ∷ ns) absent =
     let parts = or_parts (eqb m k) (is_among m ns) absent in
     elim (cases_Bool (eqb n k)) [
-      inl e ↦ ap (λ t. is_among m (cond (not t) (k ∷ without n ns) (without n ns))) e ∙ among_without m n ns parts.1
+      | inl e ↦ ap (λ t. is_among m (cond (not t) (k ∷ without n ns) (without n ns))) e ∙ among_without m n ns parts.1
       | inr e ↦ ap (λ t. is_among m (cond (not t) (k ∷ without n ns) (without n ns))) e ∙ or_from (eqb m k) _ parts.0 (among_without m n ns parts.1)
     ]
 
 pub differ_without : (n : ℕ) (ns : List ℕ) → AllDiffer ns → AllDiffer (without n ns)
 differ_without n [] d = tt
 differ_without n (k ∷ ns) d = elim (eqb n k) as (λ t. AllDiffer (cond (not t) (k ∷ without n ns) (without n ns))) [
-    true ↦ differ_without n ns d.1
-    | false ↦ (among_without k n ns d.0, differ_without n ns d.1)
+  | true ↦ differ_without n ns d.1
+  | false ↦ (among_without k n ns d.0, differ_without n ns d.1)
 ]
 
 pub each_without : (P : ℕ → Type 0) (n : ℕ) (ns : List ℕ) → AllByRecursion P ns → AllByRecursion P (without n ns)
 each_without P n [] h = tt
 each_without P n (k ∷ ns) h = elim (eqb n k) as (λ t. AllByRecursion P (cond (not t) (k ∷ without n ns) (without n ns))) [
-    true ↦ each_without P n ns h.1
-    | false ↦ (h.0, each_without P n ns h.1)
+  | true ↦ each_without P n ns h.1
+  | false ↦ (h.0, each_without P n ns h.1)
 ]
 
 pub kept_asleep : (max_len : ℕ) (states : List ClassState) (circle : Circle) (n : ℕ) → IsKept max_len states circle → IsKept max_len states (record circle { order = without n circle.order })
@@ -288,48 +288,48 @@ kept_rotated max_len states circle h =
 has_without : (m n : ℕ) (states : List ClassState) → eqb n m ≡ false → has_state m (without_state n states) ≡ has_state m states
 has_without m n [] apart = refl
 has_without m n (c ∷ states) apart = elim (cases_Bool (eqb n c.name)) [
-    inl e ↦ ap (λ t. has_state m (cond (not t) (c ∷ without_state n states) (without_state n states))) e ∙ has_without m n states apart
+  | inl e ↦ ap (λ t. has_state m (cond (not t) (c ∷ without_state n states) (without_state n states))) e ∙ has_without m n states apart
       ∙ ap (λ t. t || has_state m states) (sym (ap (eqb m) (sym (eqb-true n c.name e)) ∙ eqb_swap n m apart))
-    | inr e ↦ ap (λ t. has_state m (cond (not t) (c ∷ without_state n states) (without_state n states))) e ∙ ap (λ t. eqb m c.name || t) (has_without m n states apart)
+  | inr e ↦ ap (λ t. has_state m (cond (not t) (c ∷ without_state n states) (without_state n states))) e ∙ ap (λ t. eqb m c.name || t) (has_without m n states apart)
 ]
 
 state_of_without : (m n : ℕ) (states : List ClassState) → eqb n m ≡ false → state_of m (without_state n states) ≡ state_of m states
 state_of_without m n [] apart = refl
 state_of_without m n (c ∷ states) apart = elim (cases_Bool (eqb n c.name)) [
-    inl e ↦ ap (λ t. state_of m (cond (not t) (c ∷ without_state n states) (without_state n states))) e ∙ state_of_without m n states apart
+  | inl e ↦ ap (λ t. state_of m (cond (not t) (c ∷ without_state n states) (without_state n states))) e ∙ state_of_without m n states apart
       ∙ ap (λ (t : Bool). if t then c else state_of m states) (sym (ap (eqb m) (sym (eqb-true n c.name e)) ∙ eqb_swap n m apart))
-    | inr e ↦ ap (λ t. state_of m (cond (not t) (c ∷ without_state n states) (without_state n states))) e
+  | inr e ↦ ap (λ t. state_of m (cond (not t) (c ∷ without_state n states) (without_state n states))) e
       ∙ ap (λ x. if eqb m c.name then c else x) (state_of_without m n states apart)
 ]
 
 classes_without : (n : ℕ) (states : List ClassState) → map class_in (without_state n states) ≡ filter (λ c. not (n == c.name)) (map class_in states)
 classes_without n [] = refl
 classes_without n (c ∷ states) = elim (cases_Bool (eqb n c.name)) [
-    inl e ↦ ap (λ t. map class_in (cond (not t) (c ∷ without_state n states) (without_state n states))) e ∙ classes_without n states
+  | inl e ↦ ap (λ t. map class_in (cond (not t) (c ∷ without_state n states) (without_state n states))) e ∙ classes_without n states
       ∙ ap (λ t. cond (not t) (class_in c ∷ filter (λ k. not (n == k.name)) (map class_in states)) (filter (λ k. not (n == k.name)) (map class_in states))) (sym e)
-    | inr e ↦ ap (λ t. map class_in (cond (not t) (c ∷ without_state n states) (without_state n states))) e ∙ ap (λ cs. class_in c ∷ cs) (classes_without n states)
+  | inr e ↦ ap (λ t. map class_in (cond (not t) (c ∷ without_state n states) (without_state n states))) e ∙ ap (λ cs. class_in c ∷ cs) (classes_without n states)
       ∙ ap (λ t. cond (not t) (class_in c ∷ filter (λ k. not (n == k.name)) (map class_in states)) (filter (λ k. not (n == k.name)) (map class_in states))) (sym e)
 ]
 
 not_among_without : (n : ℕ) (ns : List ℕ) → is_among n (without n ns) ≡ false
 not_among_without n [] = refl
 not_among_without n (k ∷ ns) = elim (cases_Bool (eqb n k)) [
-    inl e ↦ ap (λ t. is_among n (cond (not t) (k ∷ without n ns) (without n ns))) e ∙ not_among_without n ns
-    | inr e ↦ ap (λ t. is_among n (cond (not t) (k ∷ without n ns) (without n ns))) e ∙ or_from (eqb n k) _ e (not_among_without n ns)
+  | inl e ↦ ap (λ t. is_among n (cond (not t) (k ∷ without n ns) (without n ns))) e ∙ not_among_without n ns
+  | inr e ↦ ap (λ t. is_among n (cond (not t) (k ∷ without n ns) (without n ns))) e ∙ or_from (eqb n k) _ e (not_among_without n ns)
 ]
 
 pub removed_shown : (max_len turns : ℕ) (states : List ClassState) (order : List ℕ) (n : ℕ)
-  → shown max_len turns (without_state n states) (without n order) ≡ removed n (shown max_len turns states order)
+    → shown max_len turns (without_state n states) (without n order) ≡ removed n (shown max_len turns states order)
 removed_shown max_len turns states order n =
     same_schedule max_len turns turns _ _ _ _ (classes_without n states)
     (entries_by states (without_state n states) (without n order) (λ m there. state_of_without m n states (differ_by_member n m (without n order) there (not_among_without n order)))
-     ∙ asleep_entries states order n) refl
+    ∙ asleep_entries states order n) refl
 
 each_filtered : (P : ClassState → Type 0) (n : ℕ) (states : List ClassState) → AllByRecursion P states → AllByRecursion P (without_state n states)
 each_filtered P n [] h = tt
 each_filtered P n (c ∷ states) h = elim (eqb n c.name) as (λ t. AllByRecursion P (cond (not t) (c ∷ without_state n states) (without_state n states))) [
-    true ↦ each_filtered P n states h.1
-    | false ↦ (h.0, each_filtered P n states h.1)
+  | true ↦ each_filtered P n states h.1
+  | false ↦ (h.0, each_filtered P n states h.1)
 ]
 
 absent_filtered : (m n : ℕ) (states : List ClassState) → has_state m states ≡ false → has_state m (without_state n states) ≡ false
@@ -337,15 +337,15 @@ absent_filtered m n [] absent = refl
 absent_filtered m n (c ∷ states) absent =
     let parts = or_parts (eqb m c.name) (has_state m states) absent in
     elim (cases_Bool (eqb n c.name)) [
-      inl e ↦ ap (λ t. has_state m (cond (not t) (c ∷ without_state n states) (without_state n states))) e ∙ absent_filtered m n states parts.1
+      | inl e ↦ ap (λ t. has_state m (cond (not t) (c ∷ without_state n states) (without_state n states))) e ∙ absent_filtered m n states parts.1
       | inr e ↦ ap (λ t. has_state m (cond (not t) (c ∷ without_state n states) (without_state n states))) e ∙ or_from (eqb m c.name) _ parts.0 (absent_filtered m n states parts.1)
     ]
 
 differ_filtered : (n : ℕ) (states : List ClassState) → StatesDiffer states → StatesDiffer (without_state n states)
 differ_filtered n [] d = tt
 differ_filtered n (c ∷ states) d = elim (eqb n c.name) as (λ t. StatesDiffer (cond (not t) (c ∷ without_state n states) (without_state n states))) [
-    true ↦ differ_filtered n states d.1
-    | false ↦ (absent_filtered c.name n states d.0, differ_filtered n states d.1)
+  | true ↦ differ_filtered n states d.1
+  | false ↦ (absent_filtered c.name n states d.0, differ_filtered n states d.1)
 ]
 
 pub kept_removed : (max_len : ℕ) (states : List ClassState) (circle : Circle) (n : ℕ) → IsKept max_len states circle → IsKept max_len (without_state n states) (record circle { order = without n circle.order })
@@ -354,8 +354,8 @@ kept_removed max_len states circle n h = record {
   each = each_filtered (IsState max_len circle.room) n states h.each;
   states_differ = differ_filtered n states h.states_differ;
   known = known_by states (without_state n states) (without n circle.order)
-    (λ m there. has_without m n states (differ_by_member n m (without n circle.order) there (not_among_without n circle.order)))
-    (each_without (λ m. has_state m states ≡ true) n circle.order h.known);
+      (λ m there. has_without m n states (differ_by_member n m (without n circle.order) there (not_among_without n circle.order)))
+      (each_without (λ m. has_state m states ≡ true) n circle.order h.known);
   order_differs = differ_without n circle.order h.order_differs;
 }
 
@@ -382,8 +382,8 @@ has_added n new (c ∷ states) = ap (λ t. eqb n c.name || t) (has_added n new s
 state_of_added : (n : ℕ) (new : ClassState) (states : List ClassState) → has_state n states ≡ true → state_of n (states ++ new ∷ []) ≡ state_of n states
 state_of_added n new [] there = absurd (false≢true there)
 state_of_added n new (c ∷ states) there = elim (cases_Bool (eqb n c.name)) [
-    inl e ↦ ap (λ (t : Bool). if t then c else state_of n (states ++ new ∷ [])) e ∙ ap (λ (t : Bool). if t then c else state_of n states) (sym e)
-    | inr e ↦ ap (λ x. if eqb n c.name then c else x) (state_of_added n new states (sym (ap (λ t. t || has_state n states) e) ∙ there))
+  | inl e ↦ ap (λ (t : Bool). if t then c else state_of n (states ++ new ∷ [])) e ∙ ap (λ (t : Bool). if t then c else state_of n states) (sym e)
+  | inr e ↦ ap (λ x. if eqb n c.name then c else x) (state_of_added n new states (sym (ap (λ t. t || has_state n states) e) ∙ there))
 ]
 
 differ_added : (new : ClassState) (states : List ClassState) → StatesDiffer states → has_state new.name states ≡ false → StatesDiffer (states ++ new ∷ [])
@@ -396,7 +396,7 @@ each_in_more_room : (max_len room more : ℕ) (states : List ClassState) → roo
 each_in_more_room max_len room more [] le h = tt
 each_in_more_room max_len room more (c ∷ states) le h = (
   record { has_room = omega (arith, le, h.0.has_room); at_least_one = h.0.at_least_one; bounded = h.0.bounded; in_range = h.0.in_range },
-  each_in_more_room max_len room more states le h.1
+  each_in_more_room max_len room more states le h.1,
 )
 
 pub kept_roomier : (max_len : ℕ) (states : List ClassState) (old new : Circle) → new.order ≡ old.order → old.room ≤ new.room → IsKept max_len states old → IsKept max_len states new
@@ -409,7 +409,7 @@ kept_roomier max_len states old new e le h = record {
 }
 
 pub added_shown : (max_len turns : ℕ) (states : List ClassState) (order : List ℕ) (new : ClassState) → AllByRecursion (λ n. has_state n states ≡ true) order
-  → shown max_len turns (states ++ new ∷ []) order ≡ added new.name new.quantum (shown max_len turns states order)
+    → shown max_len turns (states ++ new ∷ []) order ≡ added new.name new.quantum (shown max_len turns states order)
 added_shown max_len turns states order new known =
     same_schedule max_len turns turns _ _ _ _ (map-append class_in states (new ∷ []))
     (entries_by states (states ++ new ∷ []) order (λ n there. state_of_added n new states (each_at (λ m. has_state m states ≡ true) n order known there))) refl
@@ -420,73 +420,73 @@ kept_added max_len states circle new absent p h = record {
   each = each_push (IsState max_len circle.room) new states h.each p;
   states_differ = differ_added new states h.states_differ absent;
   known = known_by states (states ++ new ∷ []) circle.order (λ n there. has_added n new states ∙ or_known (has_state n states) (eqb n new.name) (each_at (λ m. has_state m states ≡ true) n circle.order h.known there)
-    ∙ sym (each_at (λ m. has_state m states ≡ true) n circle.order h.known there)) h.known;
+      ∙ sym (each_at (λ m. has_state m states ≡ true) n circle.order h.known there)) h.known;
   order_differs = h.order_differs;
 }
 
 -- `turn`
 pub sent_shown : (max_len turns len : ℕ) (states : List ClassState) (n : ℕ) (order : List ℕ) (new : ClassState) → StatesDiffer states → has_state n states ≡ true → is_among n order ≡ false
-  → len ≤ (state_of n states).deficit → new.name ≡ n → new.quantum ≡ (state_of n states).quantum → new.deficit ≡ (state_of n states).deficit - len → new.granted ≡ (state_of n states).granted
-  → shown max_len (counted (turns + 1)) (with_state new states) (n ∷ order) ≡ turned len (shown max_len turns states (n ∷ order))
+    → len ≤ (state_of n states).deficit → new.name ≡ n → new.quantum ≡ (state_of n states).quantum → new.deficit ≡ (state_of n states).deficit - len → new.granted ≡ (state_of n states).granted
+    → shown max_len (counted (turns + 1)) (with_state new states) (n ∷ order) ≡ turned len (shown max_len turns states (n ∷ order))
 sent_shown max_len turns len states n order new differ there absent covers name quantum deficit granted =
     let e : map (entry_in (with_state new states)) (n ∷ order) ≡ record { class = n; deficit = (state_of n states).deficit - len; granted = (state_of n states).granted } ∷ map (entry_in states) order =
-          ap (λ x. x ∷ map (entry_in (with_state new states)) order) (entry_put new states n name there ∙ same_entry n _ _ _ _ deficit granted)
-          ∙ ap (λ xs. record { class = n; deficit = (state_of n states).deficit - len; granted = (state_of n states).granted } ∷ xs) (entries_with new states order (ap (λ m. is_among m order) name ∙ absent)) in
+    ap (λ x. x ∷ map (entry_in (with_state new states)) order) (entry_put new states n name there ∙ same_entry n _ _ _ _ deficit granted)
+    ∙ ap (λ xs. record { class = n; deficit = (state_of n states).deficit - len; granted = (state_of n states).granted } ∷ xs) (entries_with new states order (ap (λ m. is_among m order) name ∙ absent)) in
     same_schedule max_len _ _ _ _ _ _ (classes_with new states differ (quantum ∙ ap (λ m. (state_of m states).quantum) (sym name)))
     (e ∙ sym (ap (λ (t : Bool). if t then record (entry_in states n) { deficit = (state_of n states).deficit - len } ∷ map (entry_in states) order
-      else map (entry_in states) order ++ after_grants (quantum_of n (map class_in states)) 1 (entry_in states n) ∷ []) (le-leb len (state_of n states).deficit covers))) refl
+    else map (entry_in states) order ++ after_grants (quantum_of n (map class_in states)) 1 (entry_in states n) ∷ []) (le-leb len (state_of n states).deficit covers))) refl
 
 pub granted_shown : (max_len turns len : ℕ) (states : List ClassState) (n : ℕ) (order : List ℕ) (new : ClassState) → StatesDiffer states → has_state n states ≡ true → is_among n order ≡ false
-  → (state_of n states).deficit < len → new.name ≡ n → new.quantum ≡ (state_of n states).quantum → new.deficit ≡ (state_of n states).deficit + (state_of n states).quantum
-  → new.granted ≡ counted ((state_of n states).granted + (state_of n states).quantum)
-  → shown max_len (counted (turns + 1)) (with_state new states) (order ++ n ∷ []) ≡ turned len (shown max_len turns states (n ∷ order))
+    → (state_of n states).deficit < len → new.name ≡ n → new.quantum ≡ (state_of n states).quantum → new.deficit ≡ (state_of n states).deficit + (state_of n states).quantum
+    → new.granted ≡ counted ((state_of n states).granted + (state_of n states).quantum)
+    → shown max_len (counted (turns + 1)) (with_state new states) (order ++ n ∷ []) ≡ turned len (shown max_len turns states (n ∷ order))
 granted_shown max_len turns len states n order new differ there absent short name quantum deficit granted =
     let one : quantum_of n (map class_in states) ≡ (state_of n states).quantum = quantum_in n states in
     let last : entry_in (with_state new states) n ≡ after_grants (quantum_of n (map class_in states)) 1 (entry_in states n) =
-          entry_put new states n name there ∙ same_entry n _ _ _ _
-          (deficit ∙ omega (arith, one))
-          (granted ∙ ap (λ k. counted ((state_of n states).granted + k)) (omega (arith, one))) in
+    entry_put new states n name there ∙ same_entry n _ _ _ _
+    (deficit ∙ omega (arith, one))
+    (granted ∙ ap (λ k. counted ((state_of n states).granted + k)) (omega (arith, one))) in
     let e : map (entry_in (with_state new states)) (order ++ n ∷ []) ≡ map (entry_in states) order ++ after_grants (quantum_of n (map class_in states)) 1 (entry_in states n) ∷ [] =
-          map-append (entry_in (with_state new states)) order (n ∷ [])
-          ∙ ap (λ xs. xs ++ entry_in (with_state new states) n ∷ []) (entries_with new states order (ap (λ m. is_among m order) name ∙ absent))
-          ∙ ap (λ x. map (entry_in states) order ++ x ∷ []) last in
+    map-append (entry_in (with_state new states)) order (n ∷ [])
+    ∙ ap (λ xs. xs ++ entry_in (with_state new states) n ∷ []) (entries_with new states order (ap (λ m. is_among m order) name ∙ absent))
+    ∙ ap (λ x. map (entry_in states) order ++ x ∷ []) last in
     same_schedule max_len _ _ _ _ _ _ (classes_with new states differ (quantum ∙ ap (λ m. (state_of m states).quantum) (sym name)))
     (e ∙ sym (ap (λ (t : Bool). if t then record (entry_in states n) { deficit = (state_of n states).deficit - len } ∷ map (entry_in states) order
-      else map (entry_in states) order ++ after_grants (quantum_of n (map class_in states)) 1 (entry_in states n) ∷ []) (lt-leb len (state_of n states).deficit short))) refl
+    else map (entry_in states) order ++ after_grants (quantum_of n (map class_in states)) 1 (entry_in states n) ∷ []) (lt-leb len (state_of n states).deficit short))) refl
 
 -- `set_quantum`
 head_class : (n q : ℕ) (new c : ClassState) → new.name ≡ n → new.quantum ≡ q → class_in (if eqb new.name c.name then new else c) ≡ (if eqb n c.name then record (class_in c) { quantum = q } else class_in c)
 head_class n q new c name quantum = elim (cases_Bool (eqb new.name c.name)) [
-    inl e ↦ ap (λ (t : Bool). class_in (if t then new else c)) e ∙ one_class new c q (eqb-true new.name c.name e) quantum
+  | inl e ↦ ap (λ (t : Bool). class_in (if t then new else c)) e ∙ one_class new c q (eqb-true new.name c.name e) quantum
       ∙ sym (ap (λ (t : Bool). if t then record (class_in c) { quantum = q } else class_in c) (ap (λ m. eqb m c.name) (sym name) ∙ e))
-    | inr e ↦ ap (λ (t : Bool). class_in (if t then new else c)) e ∙ sym (ap (λ (t : Bool). if t then record (class_in c) { quantum = q } else class_in c) (ap (λ m. eqb m c.name) (sym name) ∙ e))
+  | inr e ↦ ap (λ (t : Bool). class_in (if t then new else c)) e ∙ sym (ap (λ (t : Bool). if t then record (class_in c) { quantum = q } else class_in c) (ap (λ m. eqb m c.name) (sym name) ∙ e))
 ]
 
 classes_requantized : (n q : ℕ) (new : ClassState) (states : List ClassState) → new.name ≡ n → new.quantum ≡ q
-  → map class_in (with_state new states) ≡ map (λ (c : Class). if n == c.name then record c { quantum = q } else c) (map class_in states)
+    → map class_in (with_state new states) ≡ map (λ (c : Class). if n == c.name then record c { quantum = q } else c) (map class_in states)
 classes_requantized n q new [] name quantum = refl
 classes_requantized n q new (c ∷ states) name quantum =
     ap (λ x. x ∷ map class_in (with_state new states)) (head_class n q new c name quantum)
     ∙ ap (λ xs. (if eqb n c.name then record (class_in c) { quantum = q } else class_in c) ∷ xs) (classes_requantized n q new states name quantum)
 
 entries_cut : (n q max_len : ℕ) (new : ClassState) (states : List ClassState) (order : List ℕ) → has_state n states ≡ true → new.name ≡ n
-  → new.deficit ≡ min (state_of n states).deficit (q + max_len - 1) → new.granted ≡ (state_of n states).granted
-  → map (entry_in (with_state new states)) order ≡ map (cut n q max_len) (map (entry_in states) order)
+    → new.deficit ≡ min (state_of n states).deficit (q + max_len - 1) → new.granted ≡ (state_of n states).granted
+    → map (entry_in (with_state new states)) order ≡ map (cut n q max_len) (map (entry_in states) order)
 entries_cut n q max_len new states [] there name deficit granted = refl
 entries_cut n q max_len new states (m ∷ order) there name deficit granted =
     ap (λ x. x ∷ map (entry_in (with_state new states)) order) (elim (cases_Bool (eqb n m)) [
-      inl e ↦ let same : n ≡ m = eqb-true n m e in
-        ap (entry_in (with_state new states)) (sym same) ∙ entry_put new states n name there ∙ same_entry n _ _ _ _ deficit granted
-        ∙ ap (λ k. record (entry_in states k) { deficit = min (entry_in states k).deficit (q + max_len - 1) }) same
-        ∙ sym (ap (λ (t : Bool). if t then record (entry_in states m) { deficit = min (entry_in states m).deficit (q + max_len - 1) } else entry_in states m) e)
+      | inl e ↦ let same : n ≡ m = eqb-true n m e in
+          ap (entry_in (with_state new states)) (sym same) ∙ entry_put new states n name there ∙ same_entry n _ _ _ _ deficit granted
+          ∙ ap (λ k. record (entry_in states k) { deficit = min (entry_in states k).deficit (q + max_len - 1) }) same
+          ∙ sym (ap (λ (t : Bool). if t then record (entry_in states m) { deficit = min (entry_in states m).deficit (q + max_len - 1) } else entry_in states m) e)
       | inr e ↦ ap (λ (c : ClassState). record { class = m; deficit = c.deficit; granted = c.granted }) (state_of_other m new states (ap (λ k. eqb k m) name ∙ e))
-        ∙ sym (ap (λ (t : Bool). if t then record (entry_in states m) { deficit = min (entry_in states m).deficit (q + max_len - 1) } else entry_in states m) e)
+          ∙ sym (ap (λ (t : Bool). if t then record (entry_in states m) { deficit = min (entry_in states m).deficit (q + max_len - 1) } else entry_in states m) e)
     ])
     ∙ ap (λ xs. cut n q max_len (entry_in states m) ∷ xs) (entries_cut n q max_len new states order there name deficit granted)
 
 pub requantized_shown : (max_len turns q : ℕ) (states : List ClassState) (order : List ℕ) (n : ℕ) (new : ClassState) → has_state n states ≡ true → new.name ≡ n → new.quantum ≡ q
-  → new.deficit ≡ min (state_of n states).deficit (q + max_len - 1) → new.granted ≡ (state_of n states).granted
-  → shown max_len turns (with_state new states) order ≡ with_quantum n q (shown max_len turns states order)
+    → new.deficit ≡ min (state_of n states).deficit (q + max_len - 1) → new.granted ≡ (state_of n states).granted
+    → shown max_len turns (with_state new states) order ≡ with_quantum n q (shown max_len turns states order)
 requantized_shown max_len turns q states order n new there name quantum deficit granted =
     same_schedule max_len turns turns _ _ _ _ (classes_requantized n q new states name quantum) (entries_cut n q max_len new states order there name deficit granted) refl
 
@@ -496,13 +496,13 @@ front_there states [] n front known = cc
 front_there states (m ∷ order) n front known = let e : m ≡ n = cc in ap (λ k. has_state k states) (sym e) ∙ known.0
 
 pub front_deficit : (max_len turns : ℕ) (states : List ClassState) (order : List ℕ) (n len : ℕ) → slice_get order 0 ≡ Some n
-  → turn_answer len (shown max_len turns states order).active ≡ (if nat_le len (state_of n states).deficit then Send else Granted)
+    → turn_answer len (shown max_len turns states order).active ≡ (if nat_le len (state_of n states).deficit then Send else Granted)
 front_deficit max_len turns states [] n len front = cc
 front_deficit max_len turns states (m ∷ order) n len front = let e : m ≡ n = cc in ap (λ k. if nat_le len (state_of k states).deficit then Send else Granted) e
 
 pub sent_front : (max_len turns len : ℕ) (states : List ClassState) (order : List ℕ) (n : ℕ) (new : ClassState) → slice_get order 0 ≡ Some n → AllDiffer order → StatesDiffer states → has_state n states ≡ true
-  → len ≤ (state_of n states).deficit → new.name ≡ n → new.quantum ≡ (state_of n states).quantum → new.deficit ≡ (state_of n states).deficit - len → new.granted ≡ (state_of n states).granted
-  → shown max_len (counted (turns + 1)) (with_state new states) order ≡ turned len (shown max_len turns states order)
+    → len ≤ (state_of n states).deficit → new.name ≡ n → new.quantum ≡ (state_of n states).quantum → new.deficit ≡ (state_of n states).deficit - len → new.granted ≡ (state_of n states).granted
+    → shown max_len (counted (turns + 1)) (with_state new states) order ≡ turned len (shown max_len turns states order)
 sent_front max_len turns len states [] n new front apart differ there covers name quantum deficit granted = cc
 sent_front max_len turns len states (m ∷ order) n new front apart differ there covers name quantum deficit granted =
     let e : n ≡ m = cc in
@@ -510,11 +510,46 @@ sent_front max_len turns len states (m ∷ order) n new front apart differ there
     (sent_shown max_len turns len states n order new differ there (ap (λ k. is_among k order) e ∙ apart.0) covers name quantum deficit granted)
 
 pub granted_front : (max_len turns len : ℕ) (states : List ClassState) (order : List ℕ) (n : ℕ) (new : ClassState) → slice_get order 0 ≡ Some n → AllDiffer order → StatesDiffer states → has_state n states ≡ true
-  → (state_of n states).deficit < len → new.name ≡ n → new.quantum ≡ (state_of n states).quantum → new.deficit ≡ (state_of n states).deficit + (state_of n states).quantum
-  → new.granted ≡ counted ((state_of n states).granted + (state_of n states).quantum)
-  → shown max_len (counted (turns + 1)) (with_state new states) (drop 1 order ++ take 1 order) ≡ turned len (shown max_len turns states order)
+    → (state_of n states).deficit < len → new.name ≡ n → new.quantum ≡ (state_of n states).quantum → new.deficit ≡ (state_of n states).deficit + (state_of n states).quantum
+    → new.granted ≡ counted ((state_of n states).granted + (state_of n states).quantum)
+    → shown max_len (counted (turns + 1)) (with_state new states) (drop 1 order ++ take 1 order) ≡ turned len (shown max_len turns states order)
 granted_front max_len turns len states [] n new front apart differ there short name quantum deficit granted = cc
 granted_front max_len turns len states (m ∷ order) n new front apart differ there short name quantum deficit granted =
     let e : n ≡ m = cc in
     subst (λ k. shown max_len (counted (turns + 1)) (with_state new states) (order ++ k ∷ []) ≡ turned len (shown max_len turns states (k ∷ order))) e
     (granted_shown max_len turns len states n order new differ there (ap (λ k. is_among k order) e ∙ apart.0) short name quantum deficit granted)
+
+-- what holds of every active list
+classes_lawful : (states : List ClassState) → StatesDiffer states → ClassesDiffer (map class_in states)
+classes_lawful [] d = tt
+classes_lawful (c ∷ states) d = (has_class_in c.name states ∙ d.0, classes_lawful states d.1)
+
+quanta_lawful : (max_len room : ℕ) (states : List ClassState) → AllByRecursion (IsState max_len room) states → AllByRecursion (λ (c : Class). 1 ≤ c.quantum) (map class_in states)
+quanta_lawful max_len room [] h = tt
+quanta_lawful max_len room (c ∷ states) h = (h.0.at_least_one, quanta_lawful max_len room states h.1)
+
+entries_lawful : (states : List ClassState) (order : List ℕ) → AllDiffer order → EntriesDiffer (map (entry_in states) order)
+entries_lawful states [] d = tt
+entries_lawful states (n ∷ order) d = (active_in n states order ∙ d.0, entries_lawful states order d.1)
+
+each_entry_lawful : (max_len room : ℕ) (states : List ClassState) (order : List ℕ) → AllByRecursion (IsState max_len room) states → AllByRecursion (λ n. has_state n states ≡ true) order
+    → AllByRecursion (IsEntry max_len (map class_in states)) (map (entry_in states) order)
+each_entry_lawful max_len room states [] each known = tt
+each_entry_lawful max_len room states (n ∷ order) each known =
+    let s = state_meets (IsState max_len room) n states each known.0 in (
+      record {
+        there = has_class_in n states ∙ known.0;
+        bounded = omega (arith, s.bounded, quantum_in n states);
+        in_range = s.in_range;
+      },
+      each_entry_lawful max_len room states order each known.1,
+    )
+
+pub shown_lawful : (max_len turns : ℕ) (states : List ClassState) (circle : Circle) → turns < 2 ^ 64 → IsKept max_len states circle → IsLawful (shown max_len turns states circle.order)
+shown_lawful max_len turns states circle range h = record {
+  classes_differ = classes_lawful states h.states_differ;
+  quanta = quanta_lawful max_len circle.room states h.each;
+  entries_differ = entries_lawful states circle.order h.order_differs;
+  entries = each_entry_lawful max_len circle.room states circle.order h.each h.known;
+  counted_turns = range;
+}

@@ -24,8 +24,8 @@ pub record Found (n : ℕ) (states : List ClassState) : Type 0 where
 pub found_of : (n : ℕ) (states : List ClassState) → has_state n states ≡ true → Found n states
 found_of n [] there = absurd (false≢true there)
 found_of n (c ∷ states) there = elim (cases_Bool (eqb n c.name)) [
-    inl e ↦ record { place = 0; within = omega arith; name = sym (eqb-true n c.name e); is = ap (λ t. if t then c else state_of n states) e }
-    | inr e ↦ let f = found_of n states (sym (ap (λ t. t || has_state n states) e) ∙ there) in
+  | inl e ↦ record { place = 0; within = omega arith; name = sym (eqb-true n c.name e); is = ap (λ t. if t then c else state_of n states) e }
+  | inr e ↦ let f = found_of n states (sym (ap (λ t. t || has_state n states) e) ∙ there) in
       record { place = suc f.place; within = omega (arith, f.within); name = f.name; is = ap (λ t. if t then c else state_of n states) e ∙ f.is }
 ]
 
@@ -73,7 +73,7 @@ without_absent_state n (c ∷ states) absent =
     ap (λ t. cond (not t) (c ∷ without_state n states) (without_state n states)) parts.0 ∙ ap (λ cs. c ∷ cs) (without_absent_state n states parts.1)
 
 pub set_replaces : (states : List ClassState) (place : ℕ) (new : ClassState) → place < length states → (slice_index_or states place no_state).name ≡ new.name
-  → ((k : ℕ) → k < length states → (slice_index_or states k no_state).name ≡ new.name → k ≡ place) → set states place new ≡ with_state new states
+    → ((k : ℕ) → k < length states → (slice_index_or states k no_state).name ≡ new.name → k ≡ place) → set states place new ≡ with_state new states
 set_replaces [] place new lt name only = absurd (omega arith)
 set_replaces (c ∷ states) zero new lt name only =
     sym (ap (λ (t : Bool). (if t then new else c) ∷ with_state new states) (eq-eqb new.name c.name (sym name))
@@ -83,7 +83,7 @@ set_replaces (c ∷ states) (suc place) new lt name only =
     ∙ sym (ap (λ (t : Bool). (if t then new else c) ∷ with_state new states) (ne_eqb new.name c.name (λ e. absurd (omega (arith, only zero (omega arith) (sym e))))))
 
 pub remove_drops : (states : List ClassState) (place n : ℕ) → place < length states → (slice_index_or states place no_state).name ≡ n
-  → ((k : ℕ) → k < length states → (slice_index_or states k no_state).name ≡ n → k ≡ place) → remove states place ≡ without_state n states
+    → ((k : ℕ) → k < length states → (slice_index_or states k no_state).name ≡ n → k ≡ place) → remove states place ≡ without_state n states
 remove_drops [] place n lt name only = absurd (omega arith)
 remove_drops (c ∷ states) zero n lt name only =
     sym (ap (λ t. cond (not t) (c ∷ without_state n states) (without_state n states)) (eq-eqb n c.name (sym name))
@@ -99,13 +99,13 @@ at_names n [] = refl
 at_names n (c ∷ states) = ap (λ t. eqb n c.name || t) (at_names n states)
 
 names_differ : (places : List ℕ) (states : List ClassState) (from : ℕ)
-  → ((k : ℕ) → k < length states → slice_index places (slice_index_or states k no_state).name ≡ from + k) → AllDiffer (names states)
+    → ((k : ℕ) → k < length states → slice_index places (slice_index_or states k no_state).name ≡ from + k) → AllDiffer (names states)
 unfolding names
 names_differ places [] from at = tt
 names_differ places (c ∷ states) from at = (
   at_names c.name states ∙ absent_from c.name states
-  (λ k lt e. absurd (omega (arith, at zero (omega arith), at (suc k) (omega arith), ap (λ m. slice_index places m) e))),
-  names_differ places states (suc from) (λ k lt. let e = at (suc k) (omega arith) in omega (arith, e))
+      (λ k lt e. absurd (omega (arith, at zero (omega arith), at (suc k) (omega arith), ap (λ m. slice_index places m) e))),
+  names_differ places states (suc from) (λ k lt. let e = at (suc k) (omega arith) in omega (arith, e)),
 )
 
 names_below : (bound : ℕ) (states : List ClassState) → ((k : ℕ) → k < length states → (slice_index_or states k no_state).name < bound) → AllByRecursion (λ n. n < bound) (names states)
@@ -131,13 +131,13 @@ minus_itself n = omega arith
 
 -- the name at each place, after a write that keeps it
 pub index_put : (places : List ℕ) (states : List ClassState) (place : ℕ) (new : ClassState) → place < length states
-  → (slice_index_or states place no_state).name ≡ new.name → IsIndex places states → IsIndex places (set states place new)
+    → (slice_index_or states place no_state).name ≡ new.name → IsIndex places states → IsIndex places (set states place new)
 index_put places states place new lt name h =
     let same : (k : ℕ) → (slice_index_or (set states place new) k no_state).name ≡ (slice_index_or states k no_state).name =
-          λ k. elim (cases_eq k place) [
-            inl e ↦ ap (λ j. (slice_index_or (set states place new) j no_state).name) e ∙ ap (λ c. c.name) (get_or-set_same states place new no_state lt) ∙ sym name ∙ ap (λ j. (slice_index_or states j no_state).name) (sym e)
-            | inr ne ↦ ap (λ c. c.name) (get_or-set_other states place k new no_state ne)
-          ] in
+    λ k. elim (cases_eq k place) [
+      | inl e ↦ ap (λ j. (slice_index_or (set states place new) j no_state).name) e ∙ ap (λ c. c.name) (get_or-set_same states place new no_state lt) ∙ sym name ∙ ap (λ j. (slice_index_or states j no_state).name) (sym e)
+      | inr ne ↦ ap (λ c. c.name) (get_or-set_other states place k new no_state ne)
+    ] in
     record {
       room = h.room;
       inside = λ k below. subst (λ m. m < length places) (sym (same k)) (h.inside k (omega (arith, length-set states place new)));
@@ -145,23 +145,23 @@ index_put places states place new lt name h =
     }
 
 pub index_added : (places : List ℕ) (states : List ClassState) (new : ClassState) → new.name < length places → has_state new.name states ≡ false
-  → IsIndex places states → IsIndex (set places new.name (length states)) (states ++ new ∷ [])
+    → IsIndex places states → IsIndex (set places new.name (length states)) (states ++ new ∷ [])
 index_added places states new lt absent h =
     let at_end : slice_index_or (states ++ new ∷ []) (length states) no_state ≡ new =
-          get_or-append_right states (new ∷ []) (length states) (length states) no_state refl (omega arith) ∙ ap (λ k. slice_index_or (new ∷ []) k no_state) (minus_itself (length states)) in
+    get_or-append_right states (new ∷ []) (length states) (length states) no_state refl (omega arith) ∙ ap (λ k. slice_index_or (new ∷ []) k no_state) (minus_itself (length states)) in
     record {
       room = omega (arith, h.room, length-set places new.name (length states));
       inside = λ k below. elim (cases_lt k (length states)) [
-        inl less ↦ subst (λ c. c.name < length (set places new.name (length states))) (sym (get_or_append_left states (new ∷ []) no_state k less)) (omega (arith, h.inside k less, length-set places new.name (length states)))
+        | inl less ↦ subst (λ c. c.name < length (set places new.name (length states))) (sym (get_or_append_left states (new ∷ []) no_state k less)) (omega (arith, h.inside k less, length-set places new.name (length states)))
         | inr more ↦ let e : k ≡ length states = omega (arith, length_push states new) in
-          subst (λ c. c.name < length (set places new.name (length states))) (sym (ap (λ j. slice_index_or (states ++ new ∷ []) j no_state) e ∙ at_end)) (omega (arith, lt, length-set places new.name (length states)))
+            subst (λ c. c.name < length (set places new.name (length states))) (sym (ap (λ j. slice_index_or (states ++ new ∷ []) j no_state) e ∙ at_end)) (omega (arith, lt, length-set places new.name (length states)))
       ];
       found = λ k below. elim (cases_lt k (length states)) [
-        inl less ↦ ap (λ c. slice_index (set places new.name (length states)) c.name) (get_or_append_left states (new ∷ []) no_state k less)
-          ∙ get_or-set_other places new.name (slice_index_or states k no_state).name (length states) 0 (absent_at new.name states absent k less) ∙ h.found k less
+        | inl less ↦ ap (λ c. slice_index (set places new.name (length states)) c.name) (get_or_append_left states (new ∷ []) no_state k less)
+            ∙ get_or-set_other places new.name (slice_index_or states k no_state).name (length states) 0 (absent_at new.name states absent k less) ∙ h.found k less
         | inr more ↦ let e : k ≡ length states = omega (arith, length_push states new) in
-          ap (λ c. slice_index (set places new.name (length states)) c.name) (ap (λ j. slice_index_or (states ++ new ∷ []) j no_state) e ∙ at_end)
-          ∙ get_or-set_same places new.name (length states) 0 lt ∙ sym e
+            ap (λ c. slice_index (set places new.name (length states)) c.name) (ap (λ j. slice_index_or (states ++ new ∷ []) j no_state) e ∙ at_end)
+            ∙ get_or-set_same places new.name (length states) 0 lt ∙ sym e
       ];
     }
 

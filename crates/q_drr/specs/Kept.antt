@@ -12,7 +12,7 @@ shown max_len turns states order = record {
   max_len = max_len;
   classes = map class_in states;
   active = map (entry_in states) order;
-  turns = turns
+  turns = turns;
 }
 
 -- what holds of each class
@@ -33,3 +33,7 @@ pub record IsKept (max_len : ℕ) (states : List ClassState) (circle : Circle) :
   pub states_differ : StatesDiffer states
   pub known : AllByRecursion (λ n. has_state n states ≡ true) circle.order
   pub order_differs : AllDiffer circle.order
+
+pub record IsSound (max_len turns : ℕ) (states : List ClassState) (circle : Circle) : Type 0 where
+  pub kept : IsKept max_len states circle
+  pub counted_turns : turns < 2 ^ 64

@@ -2,3 +2,5 @@ pub mod Kept
 pub mod Links
 pub mod Schedule
 pub mod States
+pub mod Stretch
+pub mod Take

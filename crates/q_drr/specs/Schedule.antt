@@ -57,7 +57,7 @@ added n quantum s = record s { classes = s.classes ++ record { name = n; quantum
 -- waking puts a class at the end, with a deficit of one quantum; an active one stays as it is
 abbrev pub woken : ℕ → Schedule → Schedule
 woken n s = if is_active n s.active then s else record s {
-  active = s.active ++ record { class = n; deficit = quantum_of n s.classes; granted = 0 } ∷ []
+  active = s.active ++ record { class = n; deficit = quantum_of n s.classes; granted = 0 } ∷ [];
 }
 
 -- the others keep their order
@@ -74,7 +74,7 @@ cut n quantum max_len e = if n == e.class then record e { deficit = min e.defici
 abbrev pub with_quantum : ℕ → ℕ → Schedule → Schedule
 with_quantum n quantum s = record s {
   classes = map (λ (c : Class). if n == c.name then record c { quantum = quantum } else c) s.classes;
-  active = map (cut n quantum s.max_len) s.active
+  active = map (cut n quantum s.max_len) s.active;
 }
 
 abbrev pub front_of : Schedule → Option ℕ

@@ -1,5 +1,5 @@
 ghost use Rattle.std.specs.Prelude.{◌≡◌, ◌<◌, ◌≤◌, ◌+◌, IsTrue, OnOk, OnErr, false, length};
-ghost use Rattle.q_drr.specs.Schedule.{Schedule, no_classes, has_class, quantum_of, is_active, deficit_of, granted_of, added, woken, asleep, removed, with_quantum, front_of, turn_answer, turned};
+ghost use Rattle.q_drr.specs.Schedule.{Schedule, no_classes, has_class, quantum_of, is_active, deficit_of, granted_of, added, woken, asleep, removed, with_quantum, front_of, turn_answer, turned, IsLawful};
 
 use crate::class_state::ClassState;
 use crate::class_table::ClassTable;
@@ -25,11 +25,11 @@ impl Model for Active {
 
     ghost Value = { Schedule };
 
-    ghost use Rattle.q_drr.specs.Kept.{shown, IsKept};
+    ghost use Rattle.q_drr.specs.Kept.{shown, IsSound};
 
     ghost view = { λ a. shown a.max_len a.turns a.table a.ring.order };
 
-    ghost invariant = { λ a. IsKept a.max_len a.table a.ring };
+    ghost invariant = { λ a. IsSound a.max_len a.turns a.table a.ring };
 }
 
 impl Active {
@@ -107,7 +107,8 @@ impl Active {
 
     /// The class whose turn it is; `None` where none is active.
     pub fn front(&self) -> Option<u16>
-        ensures { result ≡ front_of self.now }
+        ensures front { result ≡ front_of self.now }
+        ensures lawful { IsLawful self.now }
     {
         self.ring.front()
     }

@@ -1,4 +1,4 @@
-use crate::{Active, Turn};
+use crate::{Active, Met, Turn, serve};
 use std::test::Fail;
 
 #[test]
@@ -79,5 +79,33 @@ fn classes_come_and_go(rt: HostRuntime) -> Result<(), Fail> {
     assert_eq!(rt; active.front(), Some(0));
     active.sleep(0);
     assert_eq!(rt; active.front(), None);
+    Ok(())
+}
+
+#[test]
+fn a_whole_take_meets_the_class_that_needs_fewest_grants(rt: HostRuntime) -> Result<(), Fail> {
+    let mut active = Active::new(rt.alloc(), 100);
+    for class in [1, 2, 3] {
+        active.add(class, 10)?;
+    }
+    assert_eq!(rt; serve(&mut active, &[]), None);
+    active.wake(1);
+    active.wake(2);
+    let heads = [None, Some(25), Some(14), Some(9)];
+    let second = Met {
+        class: 2,
+        head: Some(14),
+    };
+    assert_eq!(rt; serve(&mut active, &heads), Some(second));
+    assert_eq!(rt; active.deficit(1), 30);
+    assert_eq!(rt; active.deficit(2), 6);
+    assert_eq!(rt; active.turns(), 4);
+    active.sleep(2);
+    let nothing = Met {
+        class: 1,
+        head: None,
+    };
+    assert_eq!(rt; serve(&mut active, &[None, None]), Some(nothing));
+    assert_eq!(rt; active.turns(), 4);
     Ok(())
 }

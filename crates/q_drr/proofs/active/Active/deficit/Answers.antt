@@ -9,7 +9,7 @@ there : (c : After-self) → has_state c.args.class c.self.inside.table ≡ true
 there c = there_of _ _ _ _ _ c.args.class c.self.view_is c.requires
 
 pub contains-requires : goal.contains-requires
-contains-requires c = room_for _ _ _ c.args.class c.self.invariant (there c)
+contains-requires c = room_for _ _ _ c.args.class c.self.invariant.kept (there c)
 
 pub get-requires : goal.get-requires
 get-requires c = there (goal.at.get-requires c).After-self
@@ -22,7 +22,7 @@ returns-then-contains-clause-value c =
 pub returns-then-contains-clause-bound : goal.returns-then-contains-clause-bound
 returns-then-contains-clause-bound c =
     let s = c.self.inside in
-    let kept = state_kept _ _ _ c.args.class c.self.invariant (there (goal.at.returns-then-contains-clause-bound c).After-self) in
+    let kept = state_kept _ _ _ c.args.class c.self.invariant.kept (there (goal.at.returns-then-contains-clause-bound c).After-self) in
     omega (arith, kept.bounded, ap (λ r. r.deficit) c.get.ensures, quantum_in c.args.class s.table, ap (λ v. quantum_of c.args.class v.classes) c.self.view_is, ap (λ v. v.max_len) c.self.view_is)
 
 pub returns-else-contains-clause-value : goal.returns-else-contains-clause-value

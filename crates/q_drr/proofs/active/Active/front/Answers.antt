@@ -1,7 +1,12 @@
-use Rattle.std.proofs.Common.{◌≡◌, sym, ap, ◌∙◌}
-use Rattle.q_drr.specs.Schedule.{front_of}
-use Rattle.q_drr.proofs.ScheduleLemmas.{front_in}
+use Rattle.std.proofs.Common.{◌≡◌, ◌<◌, ◌^◌, sym, ap, ◌∙◌, subst, arith}
+use Rattle.q_drr.specs.Schedule.{front_of, IsLawful}
+use Rattle.q_drr.proofs.ScheduleLemmas.{front_in, shown_lawful}
 use Rattle.q_drr.proofs.active.Active.front.Goals as goal
 
-pub returns : goal.returns
-returns c = c.front.ensures ∙ sym (front_in c.self.inside.table c.self.inside.ring.order) ∙ ap front_of c.self.view_is
+pub returns-clause-front : goal.returns-clause-front
+returns-clause-front c = c.front.ensures ∙ sym (front_in c.self.inside.table c.self.inside.ring.order) ∙ ap front_of c.self.view_is
+
+pub returns-clause-lawful : goal.returns-clause-lawful
+returns-clause-lawful c =
+    let s = c.self.inside in
+    subst IsLawful c.self.view_is (shown_lawful s.max_len s.turns s.table s.ring c.self.invariant.counted_turns c.self.invariant.kept)

@@ -9,7 +9,7 @@ there : (c : After-self) → has_state c.args.class c.self.inside.table ≡ true
 there c = there_of _ _ _ _ _ c.args.class c.self.view_is c.requires
 
 pub contains-requires : goal.contains-requires
-contains-requires c = room_for _ _ _ c.args.class c.self.invariant (there c)
+contains-requires c = room_for _ _ _ c.args.class c.self.invariant.kept (there c)
 
 pub get-requires : goal.get-requires
 get-requires c = there (goal.at.get-requires c).After-self

@@ -1,4 +1,4 @@
-use Rattle.std.proofs.Common.{◌≡◌, ℕ, true, sym, ap, ◌∙◌, subst}
+use Rattle.std.proofs.Common.{◌≡◌, ℕ, true, sym, ap, ◌∙◌, subst, arith}
 use Rattle.q_drr.specs.States.{has_state}
 use Rattle.q_drr.specs.Kept.{shown, IsKept}
 use Rattle.q_drr.specs.Schedule.{asleep}
@@ -10,12 +10,15 @@ there : (c : After-self) → has_state c.args.class c.self.inside.table ≡ true
 there c = there_of _ _ _ _ _ c.args.class c.self.view_is c.requires
 
 pub contains-requires : goal.contains-requires
-contains-requires c = room_for _ _ _ c.args.class c.self.invariant (there (goal.at.contains-requires c).After-self)
+contains-requires c = room_for _ _ _ c.args.class c.self.invariant.kept (there (goal.at.contains-requires c).After-self)
 
 pub invariant_of-self : goal.invariant_of-self
-invariant_of-self c =
-    let s = c.self.inside in
-    subst (IsKept s.max_len s.table) (sym c.remove.ensures) (kept_asleep s.max_len s.table s.ring c.args.class c.self.invariant)
+invariant_of-self c = record {
+  kept =
+      let s = c.self.inside in
+      subst (IsKept s.max_len s.table) (sym c.remove.ensures) (kept_asleep s.max_len s.table s.ring c.args.class c.self.invariant.kept);
+  counted_turns = omega (arith, c.self.invariant.counted_turns);
+}
 
 pub returns-then-contains : goal.returns-then-contains
 returns-then-contains c =

@@ -14,7 +14,7 @@ first : (c : After-get-state) → slice_get c.self.inside.ring.order 0 ≡ Some 
 first c = sym c.in-Some.ensures
 
 there : (c : After-get-state) → has_state c.in-Some.class c.self.inside.table ≡ true
-there c = front_there c.self.inside.table c.self.inside.ring.order c.in-Some.class (first c) c.self.invariant.known
+there c = front_there c.self.inside.table c.self.inside.ring.order c.in-Some.class (first c) c.self.invariant.kept.known
 
 name_is : (c : After-get-state) → c.get-state.result.name ≡ c.in-Some.class
 name_is c = ap (λ x. x.name) c.get-state.ensures ∙ name_of_state c.in-Some.class c.self.inside.table (there c)
@@ -24,17 +24,17 @@ put-requires c = let a = (goal.at.put-requires c).After-get-state in ap (λ n. h
 
 -- a write of the front class's state that fits
 put_fits : (c : After-get-state) (new : ClassState) → new.name ≡ c.get-state.result.name → new.quantum ≡ c.get-state.result.quantum
-  → new.deficit < c.get-state.result.quantum + c.self.inside.max_len → new.granted < 2 ^ 64 → IsKept c.self.inside.max_len (with_state new c.self.inside.table) c.self.inside.ring
+    → new.deficit < c.get-state.result.quantum + c.self.inside.max_len → new.granted < 2 ^ 64 → IsKept c.self.inside.max_len (with_state new c.self.inside.table) c.self.inside.ring
 put_fits c new name quantum deficit granted =
     let s = c.self.inside in
-    let old : IsState s.max_len s.ring.room c.get-state.result = subst (IsState s.max_len s.ring.room) (sym c.get-state.ensures) (state_kept s.max_len s.table s.ring c.in-Some.class c.self.invariant (there c)) in
+    let old : IsState s.max_len s.ring.room c.get-state.result = subst (IsState s.max_len s.ring.room) (sym c.get-state.ensures) (state_kept s.max_len s.table s.ring c.in-Some.class c.self.invariant.kept (there c)) in
     kept_put s.max_len s.table s.ring new
-    (record { has_room = subst (λ n. n < s.ring.room) (sym name) old.has_room; at_least_one = omega (arith, old.at_least_one, quantum); bounded = omega (arith, deficit, quantum); in_range = granted }) c.self.invariant
+    (record { has_room = subst (λ n. n < s.ring.room) (sym name) old.has_room; at_least_one = omega (arith, old.at_least_one, quantum); bounded = omega (arith, deficit, quantum); in_range = granted }) c.self.invariant.kept
 
 old_fits : (c : After-get-state) → IsState c.self.inside.max_len c.self.inside.ring.room c.get-state.result
 old_fits c =
     let s = c.self.inside in
-    subst (IsState s.max_len s.ring.room) (sym c.get-state.ensures) (state_kept s.max_len s.table s.ring c.in-Some.class c.self.invariant (there c))
+    subst (IsState s.max_len s.ring.room) (sym c.get-state.ensures) (state_kept s.max_len s.table s.ring c.in-Some.class c.self.invariant.kept (there c))
 
 answer_is : (c : After-get-state) → turn_answer c.args.head_len c.args.self.now.active ≡ (if leb c.args.head_len (state_of c.in-Some.class c.self.inside.table).deficit then Send else Granted)
 answer_is c =
@@ -45,10 +45,13 @@ pub put-requires-2 : goal.put-requires-2
 put-requires-2 c = let a = (goal.at.put-requires-2 c).After-get-state in ap (λ n. has_state n c.self.inside.table) (name_is a) ∙ there a
 
 pub invariant_of-self : goal.invariant_of-self
-invariant_of-self c =
-    let a = (goal.at.invariant_of-self c).After-get-state in
-    let old = old_fits a in
-    subst (λ t. IsKept c.self.inside.max_len t c.self.inside.ring) (sym c.put.ensures) (put_fits a _ refl refl (omega (arith, old.bounded)) old.in_range)
+invariant_of-self c = record {
+  kept =
+      let a = (goal.at.invariant_of-self c).After-get-state in
+      let old = old_fits a in
+      subst (λ t. IsKept c.self.inside.max_len t c.self.inside.ring) (sym c.put.ensures) (put_fits a _ refl refl (omega (arith, old.bounded)) old.in_range);
+  counted_turns = omega (arith, c.saturating_add-self-inside.ensures);
+}
 
 pub returns-then-head_len-state-clause-answer : goal.returns-then-head_len-state-clause-answer
 returns-then-head_len-state-clause-answer c =
@@ -65,16 +68,19 @@ returns-then-head_len-state-clause-after c =
     let new : ClassState = record { name = r.name; quantum = r.quantum; deficit = r.deficit - c.from-head_len.result; granted = r.granted } in
     ap (λ t. shown s.max_len c.saturating_add-self-inside.result t s.ring.order) c.put.ensures
     ∙ ap (λ k. shown s.max_len k (with_state new s.table) s.ring.order) c.saturating_add-self-inside.ensures
-    ∙ sent_front s.max_len s.turns c.args.head_len s.table s.ring.order c.in-Some.class new (first a) c.self.invariant.order_differs c.self.invariant.states_differ (there a)
-      (omega (arith, deficit, c.from-head_len.ensures, c.if-head_len-state.true)) (name_is a) (ap (λ x. x.quantum) c.get-state.ensures) (omega (arith, deficit, c.from-head_len.ensures)) (ap (λ x. x.granted) c.get-state.ensures)
+    ∙ sent_front s.max_len s.turns c.args.head_len s.table s.ring.order c.in-Some.class new (first a) c.self.invariant.kept.order_differs c.self.invariant.kept.states_differ (there a)
+    (omega (arith, deficit, c.from-head_len.ensures, c.if-head_len-state.true)) (name_is a) (ap (λ x. x.quantum) c.get-state.ensures) (omega (arith, deficit, c.from-head_len.ensures)) (ap (λ x. x.granted) c.get-state.ensures)
     ∙ ap (turned c.args.head_len) c.self.view_is
 
 pub invariant_of-self-2 : goal.invariant_of-self-2
-invariant_of-self-2 c =
-    let s = c.self.inside in
-    let a = (goal.at.invariant_of-self-2 c).After-get-state in
-    let fits = put_fits a _ refl refl (omega (arith, c.from-head_len.ensures, c.if-head_len-state.false, c.from-quantum.ensures, c.requires.in_range, ap (λ v. v.max_len) c.self.view_is)) (omega (arith, c.saturating_add.ensures)) in
-    subst (λ t. IsKept s.max_len t c.rotate.new.self) (sym c.put-2.ensures) (subst (IsKept s.max_len _) (sym c.rotate.ensures) (kept_rotated s.max_len _ s.ring fits))
+invariant_of-self-2 c = record {
+  kept =
+      let s = c.self.inside in
+      let a = (goal.at.invariant_of-self-2 c).After-get-state in
+      let fits = put_fits a _ refl refl (omega (arith, c.from-head_len.ensures, c.if-head_len-state.false, c.from-quantum.ensures, c.requires.in_range, ap (λ v. v.max_len) c.self.view_is)) (omega (arith, c.saturating_add.ensures)) in
+      subst (λ t. IsKept s.max_len t c.rotate.new.self) (sym c.put-2.ensures) (subst (IsKept s.max_len _) (sym c.rotate.ensures) (kept_rotated s.max_len _ s.ring fits));
+  counted_turns = omega (arith, c.saturating_add-self-inside.ensures);
+}
 
 pub returns-clause-after : goal.returns-clause-after
 returns-clause-after c =
@@ -87,7 +93,7 @@ returns-clause-after c =
     ap (λ t. shown s.max_len c.saturating_add-self-inside.result t c.rotate.new.self.order) c.put-2.ensures
     ∙ ap (λ x. shown s.max_len c.saturating_add-self-inside.result (with_state new s.table) x.order) c.rotate.ensures
     ∙ ap (λ k. shown s.max_len k (with_state new s.table) (drop 1 s.ring.order ++ take 1 s.ring.order)) c.saturating_add-self-inside.ensures
-    ∙ granted_front s.max_len s.turns c.args.head_len s.table s.ring.order c.in-Some.class new (first a) c.self.invariant.order_differs c.self.invariant.states_differ (there a)
-      (omega (arith, deficit, c.from-head_len.ensures, c.if-head_len-state.false)) (name_is a) quantum (omega (arith, deficit, quantum, c.from-quantum.ensures))
-      (c.saturating_add.ensures ∙ ap (λ k. counted k) (omega (arith, ap (λ x. x.granted) c.get-state.ensures, quantum, c.from-quantum.ensures)))
+    ∙ granted_front s.max_len s.turns c.args.head_len s.table s.ring.order c.in-Some.class new (first a) c.self.invariant.kept.order_differs c.self.invariant.kept.states_differ (there a)
+    (omega (arith, deficit, c.from-head_len.ensures, c.if-head_len-state.false)) (name_is a) quantum (omega (arith, deficit, quantum, c.from-quantum.ensures))
+    (c.saturating_add.ensures ∙ ap (λ k. counted k) (omega (arith, ap (λ x. x.granted) c.get-state.ensures, quantum, c.from-quantum.ensures)))
     ∙ ap (turned c.args.head_len) c.self.view_is

@@ -9,9 +9,13 @@ invariant_of-self c = c.make_place.ensures.index c.self.inside.states.items c.se
 pub overflow_cast-place : goal.overflow_cast-place
 overflow_cast-place c =
     let s = c.self.inside in
-    omega (arith, s.states.ok.0, c.len-place.ensures,
-    place_to_spare c.make_place.new.places.items s.states.items c.args.state.name (c.make_place.ensures.index s.states.items c.self.invariant)
-    (ap (has_state c.args.state.name) c.self.view_is ∙ c.requires) c.in_ok-make_place.ensures.ok)
+    omega (
+      arith,
+      s.states.ok.0,
+      c.len-place.ensures,
+      place_to_spare c.make_place.new.places.items s.states.items c.args.state.name (c.make_place.ensures.index s.states.items c.self.invariant)
+          (ap (has_state c.args.state.name) c.self.view_is ∙ c.requires) c.in_ok-make_place.ensures.ok,
+    )
 
 pub invariant_of-self-in_err-push : goal.invariant_of-self-in_err-push
 invariant_of-self-in_err-push c =

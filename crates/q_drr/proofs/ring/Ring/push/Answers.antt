@@ -41,6 +41,6 @@ returns c =
     let s = c.self.inside in
     same_circle _ _ _ _
     (ap (λ ls. walk (next_of ls) (s.count + 1) s.front) (items_are c)
-     ∙ (circle_pushed s.links.items c.append.new.links s.count s.front c.args.name c.self.invariant (omega arith) (fresh c) (grown c)).0
-     ∙ ap (λ v. v.order ++ c.args.name ∷ []) c.self.view_is)
+    ∙ (circle_pushed s.links.items c.append.new.links s.count s.front c.args.name c.self.invariant (omega arith) (fresh c) (grown c)).0
+    ∙ ap (λ v. v.order ++ c.args.name ∷ []) c.self.view_is)
     (ap length (items_are c) ∙ c.append.ensures.len ∙ ap length c.deref_mut-2.ensures.value ∙ ap (λ v. v.room) c.self.view_is)

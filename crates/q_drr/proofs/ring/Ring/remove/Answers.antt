@@ -38,20 +38,20 @@ next_is c = c.detach-next.ensures.next ∙ ap (λ ls. next_of ls c.args.name) c.
 
 -- what is left, whichever of the two is the front
 left : (c : After-detach-next) (front : ℕ) → (c.self.inside.front ≡ c.args.name → front ≡ c.detach-next.result) → (c.self.inside.front ≢ c.args.name → front ≡ c.self.inside.front)
-  → (walk (next_of c.detach-next.new.links) (c.self.inside.count - 1) front ≡ without c.args.name (walk (next_of c.self.inside.links.items) c.self.inside.count c.self.inside.front))
-  × IsCircle c.detach-next.new.links (walk (next_of c.detach-next.new.links) (c.self.inside.count - 1) front)
+    → (walk (next_of c.detach-next.new.links) (c.self.inside.count - 1) front ≡ without c.args.name (walk (next_of c.self.inside.links.items) c.self.inside.count c.self.inside.front))
+    × IsCircle c.detach-next.new.links (walk (next_of c.detach-next.new.links) (c.self.inside.count - 1) front)
 left c front same other =
     let s = c.self.inside in
     circle_removed s.links.items c.detach-next.new.links s.count s.front front c.args.name c.self.invariant
     (ap (λ v. is_among c.args.name v.order) c.self.view_is ∙ c.requires) (taken c) (λ e. same e ∙ next_is c) other
 
 circle : (c : After-detach-next) (front : ℕ) → (c.self.inside.front ≡ c.args.name → front ≡ c.detach-next.result) → (c.self.inside.front ≢ c.args.name → front ≡ c.self.inside.front)
-  → let links = (with_items c.self.inside.links c.detach-next.new.links).items in IsCircle links (walk (next_of links) (c.self.inside.count - 1) front)
+    → let links = (with_items c.self.inside.links c.detach-next.new.links).items in IsCircle links (walk (next_of links) (c.self.inside.count - 1) front)
 circle c front same other =
     subst (λ ls. IsCircle ls (walk (next_of ls) (c.self.inside.count - 1) front)) (sym (items_are c)) (left c front same other).1
 
 shown : (c : After-detach-next) (front : ℕ) → (c.self.inside.front ≡ c.args.name → front ≡ c.detach-next.result) → (c.self.inside.front ≢ c.args.name → front ≡ c.self.inside.front)
-  → let links = (with_items c.self.inside.links c.detach-next.new.links).items in
+    → let links = (with_items c.self.inside.links c.detach-next.new.links).items in
     ◌≡◌ {A = Circle} (record { order = walk (next_of links) (c.self.inside.count - 1) front; room = length links }) (record { order = without c.args.name c.args.self.now.order; room = c.args.self.now.room })
 shown c front same other =
     same_circle _ _ _ _

@@ -1,0 +1,33 @@
+ghost use Rattle.std.specs.Prelude.{◌≡◌, ◌<◌, ◌≤◌, All, length, IfSome};
+ghost use Rattle.q_drr.specs.Take.{met, served, head_at};
+
+use crate::active::Active;
+use crate::met::Met;
+use crate::turn::Turn;
+
+/// Gives turns until a class sends its head, or a class is in front that shows nothing: what a drr does at one take.
+/// `heads` has what each class shows, by its name.
+///
+/// The answer is `None` where no class is active. The contract says at once which class is met and what each is granted.
+pub fn serve(active: &mut Active, heads: &[Option<u16>]) -> Option<Met>
+    requires named { All (λ e. e.class < length heads.now) active.old.active }
+    requires in_range { All (λ head. IfSome head (λ len. len ≤ active.old.max_len)) heads.now }
+    ensures met { result ≡ met (head_at heads.now) active.old }
+    ensures after { active.new ≡ served (head_at heads.now) active.old }
+{
+    while let Some(class) = active.front() {
+        let Some(len) = heads[class as usize] else {
+            return Some(Met { class, head: None });
+        };
+        match active.turn(len) {
+            Turn::Send => {
+                return Some(Met {
+                    class,
+                    head: Some(len),
+                });
+            }
+            Turn::Granted => {}
+        }
+    }
+    None
+}
