@@ -1,0 +1,130 @@
+//! The inputs of the workloads, the same in every run.
+
+use crate::plain::gap::gap;
+
+/// Bytes of a head's place in a table; the last one is the head's length.
+pub const SLOT: usize = 64;
+
+/// Marsaglia's xorshift, with 64 bits of state.
+pub struct Xorshift(u64);
+
+impl Xorshift {
+    pub fn new() -> Xorshift {
+        Xorshift(0x9e37_79b9_7f4a_7c15)
+    }
+
+    pub fn next(&mut self) -> u64 {
+        self.0 ^= self.0 << 13;
+        self.0 ^= self.0 >> 7;
+        self.0 ^= self.0 << 17;
+        self.0
+    }
+
+    /// A number below `end`.
+    pub fn below(&mut self, end: u64) -> u64 {
+        self.next() % end
+    }
+}
+
+/// A table of heads: half IPv4 and half IPv6, in a random order, of TCP, UDP, SCTP and ICMP; one in sixteen IPv4 heads is a
+/// later fragment, and one in sixteen has options.
+pub fn heads(count: usize) -> Vec<u8> {
+    let mut random = Xorshift::new();
+    let mut table = Vec::with_capacity(count * SLOT);
+    for _ in 0..count {
+        let mut slot = [0; SLOT];
+        for byte in &mut slot {
+            *byte = random.next() as u8;
+        }
+        let proto = [6, 6, 6, 6, 17, 17, 132, 1][random.below(8) as usize];
+        if random.below(2) == 0 {
+            let options = random.below(16) == 0;
+            slot[0] = if options { 0x46 } else { 0x45 };
+            let fragment = random.below(16) == 0;
+            (slot[6], slot[7]) = if fragment { (0, 9) } else { (0x40, 0) };
+            slot[9] = proto;
+            slot[SLOT - 1] = if options { 44 } else { 40 };
+        } else {
+            slot[0] = 0x60 | slot[0] & 0x0f;
+            slot[6] = proto;
+            slot[SLOT - 1] = 60;
+        }
+        table.extend(slot);
+    }
+    table
+}
+
+/// Lengths of packets, in bytes: small and full ones, as in most traffic.
+pub fn lens(count: usize) -> Vec<u16> {
+    let mut random = Xorshift::new();
+    (0..count)
+        .map(|_| match random.below(4) {
+            0 => 1514,
+            1 => 60 + random.below(40) as u16,
+            _ => 60 + random.below(1454) as u16,
+        })
+        .collect()
+}
+
+/// Moments 10 us apart, in nanoseconds.
+pub fn even_moments(count: usize) -> Vec<u64> {
+    (1..=count as u64).map(|step| step * 10_000).collect()
+}
+
+/// The moments at which a standing queue loses exactly one packet each, once CoDel has begun to drop.
+pub fn drop_moments(count: usize, interval: u64) -> Vec<u64> {
+    let mut now = 10_000_000;
+    let mut moments = vec![now];
+    now += interval;
+    for drops in 1..count as u32 {
+        moments.push(now);
+        now += gap(interval, drops);
+    }
+    moments
+}
+
+/// Packets for a bucket: the nanoseconds between one and the next, and their lengths.
+///
+/// No packet is within 200 bytes of what the bucket holds at its moment, so that an arithmetic that rounds by a few
+/// nanoseconds gives the same answers. The first wait fills the bucket.
+pub fn spends(rate: u64, burst: u32, count: usize) -> (Vec<u32>, Vec<u16>) {
+    let mut random = Xorshift::new();
+    let unit: u128 = 8_000_000_000;
+    let full = u128::from(burst) * unit;
+    let mut level = full;
+    let mut waits = vec![(full / u128::from(rate) + 1) as u32];
+    let mut lens = vec![100];
+    level -= 100 * unit;
+    let mean = 800 * 8_000_000_000 / rate;
+    let mut waited = 0;
+    while lens.len() < count {
+        let long = if random.below(64) == 0 { 100 } else { 1 };
+        let wait = random.below(2 * mean * long * 7 / 8) + 1;
+        let len = 60 + random.below(1454) as u16;
+        let here = full.min(level + u128::from(rate) * u128::from(waited + wait));
+        let cost = u128::from(len) * unit;
+        if here.abs_diff(cost) < 200 * unit {
+            continue;
+        }
+        waits.push(wait as u32);
+        lens.push(len);
+        waited += wait;
+        if here >= cost {
+            level = here - cost;
+            waited = 0;
+        }
+    }
+    (waits, lens)
+}
+
+/// A text of lines without newlines, and where each ends.
+pub fn text(count: usize, mut line: impl FnMut(&mut Xorshift) -> String) -> (Vec<u8>, Vec<u32>) {
+    let mut random = Xorshift::new();
+    let mut text = Vec::new();
+    let mut ends = Vec::new();
+    for _ in 0..count {
+        text.extend(line(&mut random).bytes());
+        ends.push(text.len() as u32);
+    }
+    (text, ends)
+}

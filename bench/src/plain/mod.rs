@@ -1,0 +1,11 @@
+//! The same work in plain Rust, as one would write it for speed and without proofs.
+
+pub mod active;
+pub mod bucket;
+pub mod codel;
+pub mod fifo;
+pub mod gap;
+pub mod head;
+pub mod line;
+pub mod player;
+pub mod work;

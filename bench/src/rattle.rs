@@ -1,0 +1,87 @@
+//! The workloads of `crates/q_bench`, which `rt lib` builds as a static library.
+
+// A slice crosses as a pointer and a length, and an allocator takes no room among the parameters. Nothing compares these
+// declarations with those in `crates/q_bench/src`.
+unsafe extern "C" {
+    fn q_bench_read_head(table: *const u8, len: usize, passes: u32) -> u64;
+    fn q_bench_hash(table: *const u8, len: usize, passes: u32) -> u64;
+    fn q_bench_fifo(queued: u32, lens: *const u16, len: usize, passes: u32) -> u64;
+    fn q_bench_codel(queued: u32, moments: *const u64, len: usize) -> u64;
+    safe fn q_bench_gap(interval: u64, first: u32, counts: u32, passes: u32) -> u64;
+    fn q_bench_spend(
+        rate: u64,
+        burst: u32,
+        waits: *const u32,
+        waits_len: usize,
+        lens: *const u16,
+        lens_len: usize,
+        passes: u32,
+    ) -> u64;
+    fn q_bench_turn(
+        classes: u16,
+        quantum: u32,
+        lens: *const u16,
+        len: usize,
+        passes: u32,
+    ) -> u64;
+    fn q_bench_read_line(
+        text: *const u8,
+        text_len: usize,
+        ends: *const u32,
+        ends_len: usize,
+        passes: u32,
+    ) -> u64;
+}
+
+// SAFETY, of every call below: each pointer and length are those of one slice, which is borrowed for the call, and the
+// exported functions require nothing else.
+
+pub fn read_head(table: &[u8], passes: u32) -> u64 {
+    unsafe { q_bench_read_head(table.as_ptr(), table.len(), passes) }
+}
+
+pub fn hash(table: &[u8], passes: u32) -> u64 {
+    unsafe { q_bench_hash(table.as_ptr(), table.len(), passes) }
+}
+
+pub fn fifo(queued: u32, lens: &[u16], passes: u32) -> u64 {
+    unsafe { q_bench_fifo(queued, lens.as_ptr(), lens.len(), passes) }
+}
+
+pub fn codel(queued: u32, moments: &[u64]) -> u64 {
+    unsafe { q_bench_codel(queued, moments.as_ptr(), moments.len()) }
+}
+
+pub fn gap(interval: u64, first: u32, counts: u32, passes: u32) -> u64 {
+    q_bench_gap(interval, first, counts, passes)
+}
+
+pub fn spend(rate: u64, burst: u32, waits: &[u32], lens: &[u16], passes: u32) -> u64 {
+    unsafe {
+        q_bench_spend(
+            rate,
+            burst,
+            waits.as_ptr(),
+            waits.len(),
+            lens.as_ptr(),
+            lens.len(),
+            passes,
+        )
+    }
+}
+
+pub fn turn(classes: u16, quantum: u32, lens: &[u16], passes: u32) -> u64 {
+    unsafe { q_bench_turn(classes, quantum, lens.as_ptr(), lens.len(), passes) }
+}
+
+pub fn read_line(text: &[u8], ends: &[u32], passes: u32) -> u64 {
+    unsafe {
+        q_bench_read_line(
+            text.as_ptr(),
+            text.len(),
+            ends.as_ptr(),
+            ends.len(),
+            passes,
+        )
+    }
+}

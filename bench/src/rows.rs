@@ -1,0 +1,151 @@
+//! The rows of the table: each is one workload, in Rattle and in plain Rust.
+
+use crate::plain::work;
+use crate::{inputs, rattle};
+
+/// A workload, run so many times over; answers its checksum.
+type Work = Box<dyn Fn(u32) -> u64>;
+
+pub struct Row {
+    pub name: String,
+    /// What is counted as one operation.
+    pub unit: &'static str,
+    /// Operations of one pass.
+    pub ops: u64,
+    /// Passes of one round.
+    pub passes: u32,
+    pub rattle: Work,
+    pub plain: Work,
+}
+
+/// CoDel's interval, in nanoseconds.
+const INTERVAL: u64 = 100_000_000;
+
+pub fn all() -> Vec<Row> {
+    let mut rows = vec![read_head(), hash()];
+    rows.extend([(1, 4096), (1000, 4096), (100_000, 4096)].map(|(queued, lens)| fifo(queued, lens)));
+    rows.push(codel("Codel::take, no drops", 100, inputs::even_moments(40_000)));
+    rows.push(codel(
+        "Codel::take, one drop each",
+        1000,
+        inputs::drop_moments(40_000, INTERVAL),
+    ));
+    rows.push(gap("gap, counts 1 to 64", 1, 2000));
+    rows.push(gap("gap, 64 counts at 2^31", 1 << 31, 2000));
+    rows.push(spend("Bucket::spend, 1 mbit", 1_000_000, 15_140));
+    rows.push(spend("Bucket::spend, 100 gbit", 100_000_000_000, 1_000_000));
+    rows.extend([2, 64, 1000].map(turn));
+    rows.push(read_line("read_line, pkt", |random| {
+        format!("pkt {}", 60 + random.below(1454))
+    }));
+    rows.push(read_line("read_line, poll", |random| match random.below(2) {
+        0 => "poll".to_string(),
+        _ => format!("poll {}", 1 + random.below(100)),
+    }));
+    rows.push(read_line("read_line, tc", |random| {
+        let (handle, limit) = (1 + random.below(0xffff - 1), random.below(100_000));
+        format!("tc qdisc add dev eth0 root handle {handle:x}: pfifo limit {limit}")
+    }));
+    rows
+}
+
+fn read_head() -> Row {
+    let table = inputs::heads(512);
+    let same = table.clone();
+    Row {
+        name: "read_head".to_string(),
+        unit: "head",
+        ops: 512,
+        passes: 2000,
+        rattle: Box::new(move |passes| rattle::read_head(&table, passes)),
+        plain: Box::new(move |passes| work::read_head(&same, passes)),
+    }
+}
+
+fn hash() -> Row {
+    let table = inputs::heads(512);
+    let same = table.clone();
+    Row {
+        name: "OneAtATime::hash".to_string(),
+        unit: "key",
+        ops: 512,
+        passes: 300,
+        rattle: Box::new(move |passes| rattle::hash(&table, passes)),
+        plain: Box::new(move |passes| work::hash(&same, passes)),
+    }
+}
+
+fn fifo(queued: u32, count: usize) -> Row {
+    let lens = inputs::lens(count);
+    let same = lens.clone();
+    Row {
+        name: format!("Fifo put and take, {queued} queued"),
+        unit: "pair",
+        ops: count as u64,
+        passes: 200,
+        rattle: Box::new(move |passes| rattle::fifo(queued, &lens, passes)),
+        plain: Box::new(move |passes| work::fifo(queued, &same, passes)),
+    }
+}
+
+fn codel(name: &str, queued: u32, moments: Vec<u64>) -> Row {
+    let same = moments.clone();
+    Row {
+        name: name.to_string(),
+        unit: "take",
+        ops: 1000,
+        passes: moments.len() as u32 / 1000,
+        rattle: Box::new(move |passes| rattle::codel(queued, &moments[..passes as usize * 1000])),
+        plain: Box::new(move |passes| work::codel(queued, &same[..passes as usize * 1000])),
+    }
+}
+
+fn gap(name: &str, first: u32, passes: u32) -> Row {
+    Row {
+        name: name.to_string(),
+        unit: "gap",
+        ops: 64,
+        passes,
+        rattle: Box::new(move |passes| rattle::gap(INTERVAL, first, 64, passes)),
+        plain: Box::new(move |passes| work::gap(INTERVAL, first, 64, passes)),
+    }
+}
+
+fn spend(name: &str, rate: u64, burst: u32) -> Row {
+    let (waits, lens) = inputs::spends(rate, burst, 4096);
+    let (same_waits, same_lens) = (waits.clone(), lens.clone());
+    Row {
+        name: name.to_string(),
+        unit: "spend",
+        ops: 4096,
+        passes: 500,
+        rattle: Box::new(move |passes| rattle::spend(rate, burst, &waits, &lens, passes)),
+        plain: Box::new(move |passes| work::spend(rate, burst, &same_waits, &same_lens, passes)),
+    }
+}
+
+fn turn(classes: u16) -> Row {
+    let lens = inputs::lens(4096);
+    let same = lens.clone();
+    Row {
+        name: format!("Active::turn, {classes} active"),
+        unit: "turn",
+        ops: 4096,
+        passes: 500,
+        rattle: Box::new(move |passes| rattle::turn(classes, 1514, &lens, passes)),
+        plain: Box::new(move |passes| work::turn(classes, 1514, &same, passes)),
+    }
+}
+
+fn read_line(name: &str, line: impl FnMut(&mut inputs::Xorshift) -> String) -> Row {
+    let (text, ends) = inputs::text(1024, line);
+    let (same_text, same_ends) = (text.clone(), ends.clone());
+    Row {
+        name: name.to_string(),
+        unit: "line",
+        ops: 1024,
+        passes: 200,
+        rattle: Box::new(move |passes| rattle::read_line(&text, &ends, passes)),
+        plain: Box::new(move |passes| work::read_line(&same_text, &same_ends, passes)),
+    }
+}
