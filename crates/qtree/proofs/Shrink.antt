@@ -1,5 +1,5 @@
 -- Shrinking: totals in place of whole histories. A step on histories, shrunk, is the step on totals.
-use Rattle.std.proofs.Common.{if◌then◌else◌, ◌≡◌, ℕ, zero, suc, ◌+◌, max, Bool, true, false, List, [], ◌∷◌, ◌++◌, length, Option, Result, Ok, Err, refl, ap, ◌∙◌, arith, length-append}
+use Rattle.std.proofs.Common.{if◌then◌else◌, ◌≡◌, ℕ, zero, suc, ◌+◌, max, Bool, true, false, ◌&&◌, List, [], ◌∷◌, ◌++◌, length, Option, Result, Ok, Err, refl, ap, ◌∙◌, arith, length-append}
 use Rattle.std.proofs.lemmas.List.Sums.{sum_by_push}
 use Rattle.q_packet.specs.Descriptor.{Descriptor}
 use Rattle.q_packet.specs.declared.stamped.Stamped.{Stamped}
@@ -13,7 +13,7 @@ use Rattle.q_line.specs.declared.command.Command.TheVariants.{QdiscAdd}
 use Rattle.q_line.specs.declared.kind.Kind.TheVariants.{Pfifo}
 use Rattle.q_line.specs.declared.place.Place.TheVariants.{Root}
 use Rattle.qtree.specs.declared.totals.Totals.{Totals}
-use Rattle.qtree.specs.declared.refusal.Refusal.TheVariants.{Exists}
+use Rattle.qtree.specs.declared.refusal.Refusal.TheVariants.{Exists, Memory}
 use Rattle.qtree.specs.Text.{refused_line, poll_line}
 use Rattle.qtree.proofs.Polling.{preceded}
 use Rattle.qtree.specs.Tally.{history, totals}
@@ -109,11 +109,19 @@ shrink-with_root : (d : DeviceState History) (handle limit : Option ℕ) (now : 
 shrink-with_root d handle limit now =
     ap (λ (c : Counted Totals). record (with_root totals (shrink_device d) handle limit now) { top = c }) (shrink-purged d.top d.root.queue)
 
+-- either way
+shrink-if : (b : Bool) (x y : Effect History) (u v : Effect Totals) → shrink_effect x ≡ u → shrink_effect y ≡ v → shrink_effect (if b then x else y) ≡ (if b then u else v)
+shrink-if true x y u v p q = p
+shrink-if false x y u v p q = q
+
 shrink-arrival : (starved : Bool) (k len : ℕ) (s : SessionState History) → shrink_effect (arrival history starved k len s) ≡ arrival totals starved k len (shrink_session s)
-shrink-arrival true k len s = refl
-shrink-arrival false k len s =
-    ap (λ (d : DeviceState Totals). record { text = []; session = record { device = d; moment = s.moment; packets = suc s.packets; refused = s.refused } })
-    (shrink-arrival_at s.device (numbered_packet (suc s.packets) len) s.moment)
+shrink-arrival starved k len s =
+    let packet = numbered_packet (suc s.packets) len in
+    let counted = record s { packets = suc s.packets } in
+    shrink-if (starved && is_accepted s.device packet) (refusing (refused_line k Memory) counted) (silent (record counted { device = arrived history s.device packet s.moment }))
+    (refusing (refused_line k Memory) (shrink_session counted)) (silent (record (shrink_session counted) { device = arrived totals (shrink_device s.device) packet s.moment }))
+    refl
+    (ap (λ (d : DeviceState Totals). silent (record (shrink_session counted) { device = d })) (shrink-arrival_at s.device packet s.moment))
 
 shrink-polls : (n : ℕ) (s : SessionState History) → shrink_effect (polls history n s) ≡ polls totals n (shrink_session s)
 shrink-polls zero s = refl
@@ -121,11 +129,6 @@ shrink-polls (suc n) s =
     let text = poll_line (given s.device) in
     ap (preceded text) (shrink-polls n (record s { device = polled history s.device s.moment }))
     ∙ ap (λ (d : DeviceState Totals). preceded text (polls totals n (record (shrink_session s) { device = d }))) (shrink-polled s.device s.moment)
-
--- either way
-shrink-if : (b : Bool) (x y : Effect History) (u v : Effect Totals) → shrink_effect x ≡ u → shrink_effect y ≡ v → shrink_effect (if b then x else y) ≡ (if b then u else v)
-shrink-if true x y u v p q = p
-shrink-if false x y u v p q = q
 
 shrink-commanded : (k : ℕ) (c : Command) (s : SessionState History) → shrink_effect (commanded history k c s) ≡ commanded totals k c (shrink_session s)
 shrink-commanded k (QdiscAdd Root handle (Pfifo limit)) s =

@@ -1,6 +1,6 @@
 -- The report of a script: what each of its lines makes of a new device, and the text that it writes.
 -- Memory may be refused at some lines; such a line says so, and the device stays as it was.
-use Rattle.std.specs.Prelude.{◌≡◌, ℕ, zero, suc, Bool, true, false, ◌==◌, List, [], ◌∷◌, ◌++◌, Option, Result, Ok, Err, if◌then◌else◌}
+use Rattle.std.specs.Prelude.{◌≡◌, ℕ, zero, suc, Bool, true, false, ◌==◌, ◌&&◌, List, [], ◌∷◌, ◌++◌, Option, Result, Ok, Err, if◌then◌else◌}
 use Rattle.std.specs.List.{list_any}
 use Rattle.q_packet.specs.Descriptor.{Descriptor}
 use Rattle.q_packet.specs.Key.{zero_key}
@@ -20,7 +20,7 @@ use Rattle.std.specs.Io.KnownBytes.{Appends}
 use Rattle.qtree.specs.Written.{AppendsFront}
 use Rattle.qtree.specs.Settings.{Settings}
 use Rattle.qtree.specs.Tally.{Tally, history}
-use Rattle.qtree.specs.Device.{DeviceState, new_device, arrived, given, polled, has_explicit_root, with_root}
+use Rattle.qtree.specs.Device.{DeviceState, new_device, is_accepted, arrived, given, polled, has_explicit_root, with_root}
 use Rattle.qtree.specs.Text.{refused_line, fault_line, poll_line, show_text}
 
 -- What a script's lines have made so far: the device, the moment of the lines that follow, how many packets were
@@ -51,11 +51,11 @@ refusing text s = record { text = text; session = record s { refused = true } }
 abbrev pub numbered_packet : ℕ → ℕ → Descriptor
 numbered_packet n len = record { port = 0; number = n; buf = n; len = len; key = zero_key; hash = 0; prio = 0; ecn = NotEct }
 
--- an arrival takes its number first, also where there is no memory for it
+-- An arrival takes its number first, also where there is no memory for it. Only a packet that would be queued needs memory.
 abbrev pub arrival : {T : Type 0} → Tally T → Bool → ℕ → ℕ → SessionState T → Effect T
 arrival t starved k len s =
     let packet = numbered_packet (suc s.packets) len in
-    if starved
+    if starved && is_accepted s.device packet
     then refusing (refused_line k Memory) (record s { packets = suc s.packets })
     else silent (record s { device = arrived t s.device packet s.moment; packets = suc s.packets })
 

@@ -1,4 +1,4 @@
-ghost use Rattle.std.specs.Prelude.{◌≡◌, ◌<◌, ◌^◌, OnOk, OnErr, is_some, max};
+ghost use Rattle.std.specs.Prelude.{◌≡◌, ◌<◌, ◌^◌, OnOk, OnErr, IsTrue, is_some, max};
 
 use crate::counters::Counters;
 use crate::leaf::Leaf;
@@ -33,7 +33,7 @@ impl Model for Device {
 impl Device {
     ghost use Rattle.qtree.specs.Tally.{totals};
     ghost use Rattle.qtree.specs.Insides.{leaf_of};
-    ghost use Rattle.qtree.specs.Device.{new_device, arrived, polled, given, with_root};
+    ghost use Rattle.qtree.specs.Device.{new_device, is_accepted, arrived, polled, given, with_root};
 
     /// The handle that a qdisc without one is given: 8001, in hexadecimal.
     pub const FIRST_HANDLE: u16 = 0x8001;
@@ -58,6 +58,7 @@ impl Device {
         requires { self.old.top.arrived.packets < 2 ^ 32 }
         ensures ok { OnOk result (self.new ≡ arrived totals self.old packet now) }
         ensures err { OnErr result (self.new ≡ self.old) }
+        ensures err_only { OnErr result (IsTrue (is_accepted self.old packet)) }
     {
         let at = later(self.clock, now);
         let bytes = packet.len as u64;
