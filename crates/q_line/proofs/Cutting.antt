@@ -1,10 +1,9 @@
 -- How a line is cut into words: what the bytes before the first blank, and the blanks at the front, leave.
-use Rattle.std.proofs.Common.{◌≡◌, ℕ, suc, ◌+◌, ◌<◌, ◌≤◌, Bool, true, false, not, cond, List, [], ◌∷◌, length, get_or, take, drop, nat_lt, refl, sym, subst, ap, ◌∙◌, arith, rules, add-one, inl, inr, ◌⊎◌, Option, Some, None}
-use Rattle.std.specs.List.{filter, slice_split, onto_first, position, position_or_len, prefix_len}
+use Rattle.std.proofs.Common.{◌≡◌, ℕ, suc, ◌+◌, ◌<◌, Bool, true, false, not, cond, List, [], ◌∷◌, length, get_or, take, drop, nat_lt, refl, sym, subst, ap, ◌∙◌, arith, Option, Some, None}
+use Rattle.std.specs.List.{filter, slice_split, position, position_or_len}
 use Rattle.std.specs.Option.{unwrap_or}
 use Rattle.std.proofs.lemmas.Bool.{ltb-false}
-use Rattle.std.proofs.lemmas.List.Splits.{slice_split-cons_yes, slice_split-cons_no}
-use Rattle.std.proofs.lemmas.List.Sums.{passes_at_first, prefix_len-le-length}
+use Rattle.std.proofs.lemmas.List.Sums.{prefix_len-le-length}
 use Rattle.q_line.specs.Words.{words_in, is_blank, is_filled}
 
 one_add : (n : ℕ) → 1 + n ≡ suc n

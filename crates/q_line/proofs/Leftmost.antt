@@ -11,7 +11,7 @@ use Rattle.q_line.specs.declared.line_fault.LineFault.{LineFault}
 use Rattle.q_line.specs.declared.line_fault.LineFault.TheVariants as fault
 use Rattle.q_line.specs.declared.wrong.Wrong.{Wrong}
 use Rattle.q_line.specs.declared.wrong.Wrong.TheVariants as wrong
-use Rattle.q_line.proofs.Steps.{word_fits, word_faults, rest_of-cons, continued}
+use Rattle.q_line.proofs.Steps.{word_fits, word_faults}
 
 -- nothing is wrong so far, where the next word has this index
 abbrev Fine : Result Line LineFault → ℕ → Type 0
@@ -69,6 +69,7 @@ at_word p i w ws x e = let index = index_numbered x i in record {
     at : (n next : ℕ) → next ≡ i + n → next ≤ i → Fine (rest_of p i (take n (w ∷ ws))) next
     at zero next q h = none_yet (ends p) i next (omega arith)
     at (suc n) next q h = absurd (omega arith)
+
     from : (n : ℕ) (others : List (List ℕ)) → i < i + n → rest_of p i (take n (w ∷ ws) ++ others) ≡ Err (numbered x i)
     from zero others h = absurd (omega arith)
     from (suc n) others h = word_faults p x i w (take n ws ++ others) e
@@ -87,6 +88,7 @@ past_word p q i w ws f e rest = let low = rest.low in let high = rest.high in re
     at zero next k h = none_yet (ends p) i next (omega arith)
     at (suc n) next k h = let P : Result Line LineFault → Type 0 = λ r. Fine r next in
         subst P (sym (word_fits p q i w (take n ws) e)) (rest.before n next (omega arith) h)
+
     from : (n : ℕ) (others : List (List ℕ)) → index_of f < i + n → n ≤ length (w ∷ ws) → rest_of p i (take n (w ∷ ws) ++ others) ≡ Err f
     from zero others h k = let low = rest.low in absurd (omega arith)
     from (suc n) others h k = word_fits p q i w (take n ws ++ others) e ∙ rest.behind n others (omega arith) (omega arith)
@@ -139,6 +141,7 @@ leftmost (w ∷ ws) f e = by_blank (is_blank_line (w ∷ ws)) refl
             let next = suc (suc (length (take n ws))) in
             let P : Result Line LineFault → Type 0 = λ r. Fine r next in
             subst P (sym (not_blank w ws q (take n ws))) (here.before (suc n) next (omega arith) (omega arith))
+
         behind : From first 1 (w ∷ ws) f → (n : ℕ) (others : List (List ℕ)) → index_of f ≤ n → n ≤ length (w ∷ ws) → line_of_words (take n (w ∷ ws) ++ others) ≡ Err f
         behind here zero others h k = let low = here.low in absurd (omega arith)
         behind here (suc n) others h k = not_blank w ws q (take n ws ++ others) ∙ here.behind (suc n) others (omega arith) k

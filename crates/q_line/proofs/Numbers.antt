@@ -19,5 +19,6 @@ capped_step m v base d one = elim (cases_lt m v) [ inl past ↦ passed past | in
         let a : m ≤ m * base = times_one_le m m base (omega arith) one in
         let b : m ≤ v * base = times_one_le m v base (omega arith) one in
         rw e (omega arith)
+
     kept : v ≤ m → min (min (min v m * base) m + d) m ≡ min (v * base + d) m
     kept within = let e : min v m ≡ v = omega arith in rw e (capped_add m (v * base) d)

@@ -1,5 +1,5 @@
 -- What is read is in range: each position keeps what its words have given within the ranges.
-use Rattle.std.proofs.Common.{cond, if◌then◌else◌, lit≤, ◌^◌, ◌≡◌, ℕ, suc, ◌<◌, ◌≤◌, ◌&&◌, Bool, true, false, List, [], ◌∷◌, length, Option, Some, None, Result, Ok, Err, refl, sym, arith, leb}
+use Rattle.std.proofs.Common.{cond, if◌then◌else◌, lit≤, ◌^◌, ◌≡◌, ℕ, suc, ◌≤◌, ◌&&◌, Bool, true, false, List, [], ◌∷◌, length, Option, Some, None, Result, Ok, Err, refl, leb}
 use Rattle.std.specs.Result.{IfOk}
 use Rattle.std.specs.Option.{IfSome}
 use Rattle.std.specs.Str.{bytes_eq, is_utf8}
@@ -7,10 +7,9 @@ use Rattle.std.specs.Str.Parse.{digits_value}
 use Rattle.std.specs.List.{before_first, after_first}
 use Rattle.std.proofs.lemmas.Bool.{leb-true}
 use Rattle.q_line.specs.Words.{words_in, is_blank_line}
-use Rattle.q_line.specs.Values.{number_in, is_numeral, is_digits, handle_of, is_major, is_no_minor, is_colon, name_of}
-use Rattle.q_line.specs.Grammar.{Position, first, at, pkt, poll, tc, object, verb, add, add_dev, add_handle, pfifo, pfifo_limit, show, show_dev, whole, fits, table, row_of, once, value, after, rest_of, ended, ends, added, line_of, numbered}
-use Rattle.q_line.specs.Ranges.{IsLine, IsMajor, IsKind, IsCommand}
-use Rattle.q_line.specs.declared.head.Head.{Head}
+use Rattle.q_line.specs.Values.{number_in, is_numeral, is_digits, handle_of, is_no_minor, is_colon, name_of}
+use Rattle.q_line.specs.Grammar.{Position, first, at, pkt, poll, tc, object, verb, add, add_dev, add_handle, pfifo, pfifo_limit, show, show_dev, whole, fits, table, row_of, once, value, rest_of, ended, ends, added, line_of, numbered}
+use Rattle.q_line.specs.Ranges.{IsLine, IsMajor, IsKind}
 use Rattle.q_line.specs.declared.line.Line.{Line}
 use Rattle.q_line.specs.declared.line.Line.TheVariants.{Blank}
 use Rattle.q_line.specs.declared.line_fault.LineFault.{LineFault}

@@ -1,24 +1,22 @@
 -- Each line that is written is read as itself, word by word.
-use Rattle.std.proofs.Common.{◌≡◌, ◌∙◌, ℕ, suc, ◌+◌, ◌^◌, ◌<◌, ◌≤◌, ◌&&◌, not, Bool, true, false, List, [], ◌∷◌, ◌++◌, length, length-append, ltb, leb, Result, Ok, Err, Option, Some, None, refl, sym, ap, arith, if◌then◌else◌, codes, lit<, lit≤}
+use Rattle.std.proofs.Common.{◌≡◌, ◌∙◌, ℕ, suc, ◌^◌, ◌<◌, ◌≤◌, not, Bool, true, false, List, [], ◌∷◌, ◌++◌, length, length-append, ltb, Ok, Err, Option, Some, None, refl, ap, arith, if◌then◌else◌, codes, lit<, lit≤}
 use Rattle.std.specs.Option.{IfSome}
-use Rattle.std.specs.List.{list_all, join_with_byte}
+use Rattle.std.specs.List.{list_all}
 use Rattle.std.specs.Char.{is_digit}
 use Rattle.std.specs.Fmt.{decimal, digits}
-use Rattle.std.specs.Str.{is_utf8}
-use Rattle.std.proofs.lemmas.Bool.{lt-ltb, le-leb}
+use Rattle.std.proofs.lemmas.Bool.{le-leb}
 use Rattle.std.proofs.lemmas.Bool.Decides.{nat_tests}
 use Rattle.std.proofs.lemmas.Fmt.{decimal_is_IsNumeral, digits_is_IsNumeral}
 use Rattle.std.proofs.lemmas.List.Folds.{list_all-append}
 use Rattle.std.proofs.lemmas.Str.{is_utf8-from_IsUtf8}
-use Rattle.q_line.specs.Words.{words_in, is_blank, is_filled}
-use Rattle.q_line.specs.Values.{is_digits, number_in, handle_of, name_of}
-use Rattle.q_line.specs.Grammar.{Position, first, at, pkt, poll, tc, object, verb, add, add_dev, add_handle, pfifo, pfifo_limit, show, show_dev, whole, no_head, fits, value, rest_of, line_of, line_of_words}
+use Rattle.q_line.specs.Words.{is_blank, is_filled}
+use Rattle.q_line.specs.Values.{is_digits, number_in, name_of}
+use Rattle.q_line.specs.Grammar.{Position, first, at, pkt, poll, tc, object, verb, add, add_dev, add_handle, pfifo, pfifo_limit, show, whole, no_head, fits, value, rest_of, line_of_words}
 use Rattle.q_line.specs.Ranges.{IsLine, IsMajor, IsKind, IsCommand}
-use Rattle.q_line.specs.Spelling.{is_word, place_words, handle_words, limit_words, kind_words, command_words, show_words, line_words, spelling}
+use Rattle.q_line.specs.Spelling.{is_word, handle_words, limit_words, kind_words, command_words, show_words, line_words}
 use Rattle.q_line.specs.Laws.{IsName, SpellingsAreRead}
 use Rattle.q_line.specs.declared.line.Line.{Line}
 use Rattle.q_line.specs.declared.line.Line.TheVariants as line
-use Rattle.q_line.specs.declared.line_fault.LineFault.{LineFault}
 use Rattle.q_line.specs.declared.command.Command.{Command}
 use Rattle.q_line.specs.declared.command.Command.TheVariants.{QdiscAdd}
 use Rattle.q_line.specs.declared.place.Place.{Place}
@@ -26,7 +24,6 @@ use Rattle.q_line.specs.declared.place.Place.TheVariants.{Root}
 use Rattle.q_line.specs.declared.head.Head.{Head}
 use Rattle.q_line.specs.declared.kind.Kind.{Kind}
 use Rattle.q_line.specs.declared.kind.Kind.TheVariants.{Pfifo}
-use Rattle.q_line.specs.declared.wrong.Wrong.{Wrong}
 use Rattle.q_line.specs.declared.wrong.Wrong.TheVariants as wrong
 use Rattle.q_line.proofs.Steps.{word_fits, after_utf8}
 use Rattle.q_line.proofs.SpelledWords.{both, handle_read, number_read, words_of_spelling, utf8_from_ascii, digits_from_numeral, every_digit, digit_small, digit_not_blank}
@@ -64,7 +61,7 @@ handle_word : (w : List ℕ) → Digits w → is_word (w ++ codes ":") ≡ true
 handle_word w d =
     let some = d.some in
     both (filled (w ++ 58 ∷ []) (simp length-append (omega arith)))
-      (list_all-append (λ c. not (is_blank c)) w (58 ∷ []) ∙ both (every_digit 16 (λ c. not (is_blank c)) digit_not_blank w d.each) refl)
+    (list_all-append (λ c. not (is_blank c)) w (58 ∷ []) ∙ both (every_digit 16 (λ c. not (is_blank c)) digit_not_blank w d.each) refl)
 
 handle_ascii : (w : List ℕ) → Digits w → list_all (λ b. ltb b 128) (w ++ codes ":") ≡ true
 handle_ascii w d = list_all-append (λ b. ltb b 128) w (58 ∷ []) ∙ both (digits_ascii w d) refl
@@ -92,7 +89,7 @@ kind_read place handle (Pfifo (Some n)) i h =
     keyword (add (full place handle)) (pfifo (full place handle) None) (codes "pfifo") i (codes "limit" ∷ decimal n ∷ []) refl refl
     ∙ keyword (pfifo (full place handle) None) (pfifo_limit (full place handle)) (codes "limit") (suc i) (decimal n ∷ []) refl refl
     ∙ keyword (pfifo_limit (full place handle)) (pfifo (full place handle) (Some n)) (decimal n) (suc (suc i)) [] (digits_ascii (decimal n) (decimal_digits n (omega arith)))
-        (ap (λ r. value r (λ n. pfifo (full place handle) (Some n))) (number_read 0 4294967295 n (omega arith) h (lit< tt)))
+    (ap (λ r. value r (λ n. pfifo (full place handle) (Some n))) (number_read 0 4294967295 n (omega arith) h (lit< tt)))
 
 handled_read : (place : Place) (handle : Option ℕ) (kind : Kind) (i : ℕ) → IfSome handle IsMajor → IsKind kind
     → rest_of (add (full place None)) i (handle_words handle ++ kind_words kind) ≡ Ok (line.Tc (QdiscAdd place handle kind))
@@ -101,7 +98,7 @@ handled_read place (Some major) kind i h k =
     let word = digits 16 false major ++ codes ":" in
     keyword (add (full place None)) (add_handle (full place None)) (codes "handle") i (word ∷ kind_words kind) refl refl
     ∙ keyword (add_handle (full place None)) (add (full place (Some major))) word (suc i) (kind_words kind) (handle_ascii (digits 16 false major) (hex_digits major h.1))
-        (ap (λ r. value r (λ major. add (full place (Some major)))) (handle_read major h.0 h.1))
+    (ap (λ r. value r (λ major. add (full place (Some major)))) (handle_read major h.0 h.1))
     ∙ kind_read place (Some major) kind (suc (suc i)) k
 
 command_read : (name : List ℕ) (command : Command) → IsName name → IsCommand command → rest_of tc 2 (command_words name command) ≡ Ok (line.Tc command)
@@ -131,7 +128,7 @@ number_line : (p : Position) (w : List ℕ) (low high n : ℕ) (said : ℕ → L
 number_line p w low high n said a f reads above below small =
     keyword first p w 1 (decimal n ∷ []) a f
     ∙ keyword p (whole (said n)) (decimal n) 2 [] (digits_ascii (decimal n) (decimal_digits n (omega arith)))
-        (reads (decimal n) ∙ ap (λ r. value r (λ n. whole (said n))) (number_read low high n above below small))
+    (reads (decimal n) ∙ ap (λ r. value r (λ n. whole (said n))) (number_read low high n above below small))
 
 words_read : (name : List ℕ) (l : Line) → IsName name → IsLine l → line_of_words (line_words name l) ≡ Ok l
 words_read name line.Blank is_name h = refl

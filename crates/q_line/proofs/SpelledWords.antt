@@ -1,22 +1,20 @@
 -- What is written is cut into the words that it was written of, and numbers and handles are read as what was written.
-use Rattle.std.proofs.Common.{◌≡◌, ◌∙◌, ℕ, zero, suc, ◌+◌, ◌*◌, ◌/◌, ◌%◌, ◌^◌, ◌<◌, ◌≤◌, ◌&&◌, ◌||◌, ◌==◌, not, Bool, true, false, List, [], ◌∷◌, ◌++◌, length, length-append, take, drop, get_or, eqb, ltb, leb, Result, Ok, Err, Option, Some, None, refl, sym, ap, subst, arith, if◌then◌else◌, cond, codes, lit<, lit≤}
-use Rattle.std.specs.List.{filter, slice_split, onto_first, join_with_byte, list_all, position_or_len, prefix_len, before_first, after_first}
-use Rattle.std.specs.Char.{is_digit, digit_value}
+use Rattle.std.proofs.Common.{◌≡◌, ◌∙◌, ℕ, zero, suc, ◌+◌, ◌*◌, ◌/◌, ◌%◌, ◌^◌, ◌<◌, ◌≤◌, ◌&&◌, not, Bool, true, false, List, [], ◌∷◌, ◌++◌, length, length-append, drop, get_or, eqb, ltb, leb, Ok, Err, refl, sym, ap, arith, if◌then◌else◌, cond, codes, lit<, lit≤}
+use Rattle.std.specs.List.{filter, slice_split, onto_first, join_with_byte, list_all, position_or_len, before_first, after_first}
+use Rattle.std.specs.Char.{is_digit}
 use Rattle.std.specs.Fmt.{decimal, digits, digits_onto, digit_glyph}
-use Rattle.std.specs.Str.{is_utf8, IsAscii, IsUtf8}
-use Rattle.std.specs.Str.Parse.{digits_value, AllDigits, IsNumeral}
+use Rattle.std.specs.Str.{is_utf8}
+use Rattle.std.specs.Str.Parse.{digits_value, AllDigits}
 use Rattle.std.proofs.lemmas.Bool.Decides.{nat_tests}
-use Rattle.std.proofs.lemmas.Bool.{eq-eqb, ltb-true, lt-ltb, le-leb, cases_lt}
+use Rattle.std.proofs.lemmas.Bool.{eq-eqb, ltb-true, lt-ltb, le-leb}
 use Rattle.std.proofs.lemmas.Fmt.{decimal_is_IsNumeral, digits_is_IsNumeral}
-use Rattle.std.proofs.lemmas.List.Folds.{list_all-append, list_all_at}
-use Rattle.std.proofs.lemmas.List.Splits.{slice_split-cons_yes, slice_split-cons_no}
+use Rattle.std.proofs.lemmas.List.Splits.{slice_split-cons_no}
 use Rattle.std.proofs.lemmas.Str.{IsUtf8-from_ascii, is_utf8-from_IsUtf8}
 use Rattle.std.proofs.Math.Nat.{pow-succ'}
 use Rattle.std.proofs.lemmas.List.{take_at, drop_all}
 use Rattle.q_line.specs.Words.{words_in, is_blank, is_filled}
-use Rattle.q_line.specs.Values.{is_digits, is_numeral, number_in, handle_of, handle_from, is_colon, is_major, is_no_minor}
+use Rattle.q_line.specs.Values.{is_digits, is_numeral, number_in, handle_of, handle_from, is_colon}
 use Rattle.q_line.specs.Spelling.{is_word}
-use Rattle.q_line.specs.declared.wrong.Wrong.{Wrong}
 use Rattle.q_line.specs.declared.wrong.Wrong.TheVariants as wrong
 
 pub both : {a b : Bool} → a ≡ true → b ≡ true → (a && b) ≡ true

@@ -1,8 +1,8 @@
 -- One word of a line: what follows it where it fits, and the fault where it does not.
-use Rattle.std.proofs.Common.{◌≡◌, ◌∙◌, ℕ, suc, Bool, true, false, List, [], ◌∷◌, Result, Ok, Err, Option, Some, None, refl, ap, if◌then◌else◌}
+use Rattle.std.proofs.Common.{◌≡◌, ◌∙◌, ℕ, suc, Bool, true, false, List, ◌∷◌, Result, Ok, Err, refl, ap, if◌then◌else◌}
 use Rattle.std.specs.Str.{is_utf8, IsUtf8}
 use Rattle.std.proofs.lemmas.Str.{IsUtf8-from_is_utf8}
-use Rattle.q_line.specs.Grammar.{Position, fits, after, rest_of, numbered, ends, ended}
+use Rattle.q_line.specs.Grammar.{Position, fits, after, rest_of, numbered}
 use Rattle.q_line.specs.declared.line.Line.{Line}
 use Rattle.q_line.specs.declared.line_fault.LineFault.{LineFault}
 use Rattle.q_line.specs.declared.line_fault.LineFault.TheVariants as fault

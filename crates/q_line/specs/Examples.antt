@@ -1,6 +1,6 @@
 -- Lines, and what they say, computed from the definitions.
 -- The faults are those of this project's script language; the forms of tc lines are of tc(8) and tc-pfifo(8).
-use Rattle.std.specs.Prelude.{◌≡◌, []  , ◌∷◌, ◌++◌, codes, Some, None, Ok, Err}
+use Rattle.std.specs.Prelude.{◌≡◌, [], ◌∷◌, ◌++◌, codes, Some, Ok, Err}
 use Rattle.q_line.specs.Grammar.{line_of}
 use Rattle.q_line.specs.Words.{words_in}
 use Rattle.q_line.specs.Values.{handle_of, number_in}

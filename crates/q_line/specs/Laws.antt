@@ -1,6 +1,6 @@
 -- What holds of the grammar as a whole: where a fault lies, and that each line can be written.
 -- The script language is this project's, after tc(8); the laws stand on the functions of the module `laws`.
-use Rattle.std.specs.Prelude.{◌≡◌, ℕ, suc, ◌<◌, ◌≤◌, ◌↔◌, true, List, length, take, ◌++◌, Result, Ok, Err}
+use Rattle.std.specs.Prelude.{◌≡◌, ℕ, suc, ◌<◌, ◌≤◌, ◌↔◌, true, List, length, take, ◌++◌, Ok, Err}
 use Rattle.std.specs.Result.{MatchResult}
 use Rattle.std.specs.Str.{IsUtf8}
 use Rattle.q_line.specs.Grammar.{line_of, line_of_words}

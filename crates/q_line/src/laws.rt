@@ -8,23 +8,19 @@ ghost use Rattle.q_line.specs.Laws.{FaultsAreLeftmost, SpellingsAreRead};
 /// behind it, and `Missing` is exactly one past the last word.
 pub fn faults_are_leftmost()
     ensures { FaultsAreLeftmost }
-{
-}
+{}
 
 /// Each line whose numbers are in range can be written, and is read as itself.
 pub fn spellings_are_read()
     ensures { SpellingsAreRead }
-{
-}
+{}
 
 /// The definitions, computed on worked lines.
 pub fn examples_are_computed()
     ensures { WorkedExamples }
-{
-}
+{}
 
 /// The settings of a head can stand in any order: two neighbours can change places in every line that is read.
 pub fn order_of_settings_is_free()
     ensures { OrderIsFree }
-{
-}
+{}

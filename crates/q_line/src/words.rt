@@ -43,7 +43,7 @@ impl<'a> Words<'a> {
     pub fn next(&mut self) -> Result<Option<&'a str>, LineFault>
         ensures ok { IfOk result (λ found. MatchOption found ((words_in self.old.rest.now ≡ []) × (self.new.taken ≡ self.old.taken))
             (λ word. (words_in self.old.rest.now ≡ word.now ∷ words_in self.new.rest.now)
-                × (self.new.taken ≡ suc self.old.taken) × (is_utf8 word.now ≡ true))) }
+            × (self.new.taken ≡ suc self.old.taken) × (is_utf8 word.now ≡ true))) }
         ensures err { IfErr result (λ fault. (position : Position)
             → rest_of position (suc self.old.taken) (words_in self.old.rest.now) ≡ Err fault) }
     {

@@ -1,4 +1,4 @@
-use Rattle.std.proofs.Common.{◌≡◌, sym, subst, Result}
+use Rattle.std.proofs.Common.{sym, subst, Result}
 use Rattle.std.specs.Result.{IfOk}
 use Rattle.q_line.specs.Ranges.{IsLine}
 use Rattle.q_line.specs.declared.line.Line.{Line}

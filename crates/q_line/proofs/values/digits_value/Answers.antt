@@ -1,10 +1,9 @@
-use Rattle.std.proofs.Common.{◌≡◌, ◌+◌, ◌*◌, ◌^◌, ◌-◌, ◌∙◌, ◌<◌, ◌&&◌, Bool, ap, min, true, take, length, get_or, refl, arith}
+use Rattle.std.proofs.Common.{◌≡◌, ◌^◌, ◌-◌, ◌∙◌, ◌<◌, ◌&&◌, Bool, ap, true, take, length, get_or, refl, arith}
 use Rattle.std.specs.Char.{is_digit, digit_value}
 use Rattle.std.proofs.lemmas.Bool.{lt-ltb}
 use Rattle.std.specs.Str.Parse.{digits_value}
 use Rattle.std.proofs.lemmas.Int.Digits.{digits_value_more}
 use Rattle.std.proofs.lemmas.List.Folds.{list_all_more}
-use Rattle.q_line.specs.Values.{is_digits}
 use Rattle.q_line.proofs.Numbers.{capped_step}
 use Rattle.q_line.proofs.values.digits_value.Goals as goal
 
@@ -24,5 +23,5 @@ loop-byte-preserved c =
       so_far =
           let d : c.from-in-loop-byte-2.result ≡ digit_value (get_or bytes i 0) = c.from-in-loop-byte-2.ensures ∙ v.1 ∙ ap digit_value c.from.ensures in
           rw (c.saturating_add-value.ensures, c.saturating_mul.ensures, c.loop-byte.invariant.so_far, c.from-in-loop-byte.ensures, d, more)
-            (capped_step (2 ^ 64 - 1) (digits_value base (take i bytes)) base (digit_value (get_or bytes i 0)) (omega arith));
+          (capped_step (2 ^ 64 - 1) (digits_value base (take i bytes)) base (digit_value (get_or bytes i 0)) (omega arith));
     }

@@ -1,5 +1,5 @@
-use Rattle.std.proofs.Common.{◌≡◌, ◌∙◌, ap, take, drop, ◌∷◌}
-use Rattle.q_line.specs.Words.{words_in, is_blank}
+use Rattle.std.proofs.Common.{◌∙◌}
+use Rattle.q_line.specs.Words.{is_blank}
 use Rattle.q_line.proofs.Cutting.{cut_word_is, first_or_length}
 use Rattle.q_line.proofs.words.cut_word.Goals as goal
 
