@@ -134,7 +134,8 @@ impl Codel {
         self.drop_next
     }
 
-    /// How many packets were dropped or marked since dropping began, of this time or the last. It stays at 2^32 - 1.
+    /// The count by whose root the gaps shorten: the drops and marks since dropping began, of this time or the last, with
+    /// what was resumed of the time before. It stays at 2^32 - 1 once there.
     pub fn count(&self) -> u32
         ensures { result ≡ self.now.count }
     {
@@ -151,7 +152,9 @@ impl Codel {
     /// Takes the next packet to send, at the moment `now`, and tells `sink` of those that are dropped before it, with the
     /// cause `CoDel`. The answer is `None` exactly where the queue is empty. It takes no memory.
     ///
-    /// `sink` needs room for as many packets as the queue holds.
+    /// `sink` needs room for as many packets as the queue holds. A packet that is stamped later than `now` counts as one
+    /// that came just now. A mark sets the packet's codepoint to `Ce`, does to the state what a drop does, and ends the
+    /// call (RFC 8289, section 5; RFC 3168, section 5).
     pub fn take<Q: Queue, S: Sink>(
         &mut self,
         queue: &mut Q,
@@ -163,8 +166,9 @@ impl Codel {
         ensures some { IsSome result ↔ (0 < count (Q.packets queue.old)) }
         ensures left { Q.packets queue.new ≡ left self.old now (Q.packets queue.old) }
         ensures state { self.new ≡ after self.old now (Q.packets queue.old) }
-        ensures lost { S.losses sink.new ≡ S.losses sink.old
-            ++ losses_of Cause.CoDel (take (drops self.old now (Q.packets queue.old)) (Q.packets queue.old)) }
+        ensures lost { let all = Q.packets queue.old in
+            S.losses sink.new ≡ S.losses sink.old
+            ++ losses_of Cause.CoDel (take (drops self.old now all) all) }
         ensures room { S.room sink.new + drops self.old now (Q.packets queue.old) ≡ S.room sink.old }
         ensures kept { Q.keeps queue.old queue.new }
         ensures sink_kept { S.keeps sink.old sink.new }
@@ -183,7 +187,7 @@ impl Codel {
         Some(Taken { packet, marked })
     }
 
-    // Drops heads as the law says, and chooses the one to be sent. `first` is the head, and `queue` what stands behind it.
+    // Drops heads as the law says, and chooses the one to be sent. `queue` is what stands behind `first`.
     fn choose<Q: Queue, S: Sink>(
         &mut self,
         first: Stamped,
@@ -192,9 +196,11 @@ impl Codel {
         sink: &mut S,
     ) -> Chosen
         requires { count (Q.packets queue.old) < S.room sink.old }
-        ensures chosen { Chooses self.old now (first ∷ Q.packets queue.old) result.head result.marked (Q.packets queue.new) self.new }
+        ensures chosen { Chooses self.old now (first ∷ Q.packets queue.old)
+            result.head result.marked (Q.packets queue.new) self.new }
         ensures lost { let all = first ∷ Q.packets queue.old in
-            S.losses sink.new ≡ S.losses sink.old ++ losses_of Cause.CoDel (take (drops self.old now all) all) }
+            S.losses sink.new ≡ S.losses sink.old
+            ++ losses_of Cause.CoDel (take (drops self.old now all) all) }
         ensures room { S.room sink.new + drops self.old now (first ∷ Q.packets queue.old) ≡ S.room sink.old }
         ensures kept { Q.keeps queue.old queue.new }
         ensures sink_kept { S.keeps sink.old sink.new }
@@ -244,9 +250,11 @@ impl Codel {
         requires room { count (Q.packets queue.old) < S.room sink.old }
         requires dropping { self.old.dropping ≡ true }
         requires late { is_late self.old now (first ∷ Q.packets queue.old) ≡ true }
-        ensures chosen { Chooses self.old now (first ∷ Q.packets queue.old) result.head result.marked (Q.packets queue.new) self.new }
+        ensures chosen { Chooses self.old now (first ∷ Q.packets queue.old)
+            result.head result.marked (Q.packets queue.new) self.new }
         ensures lost { let all = first ∷ Q.packets queue.old in
-            S.losses sink.new ≡ S.losses sink.old ++ losses_of Cause.CoDel (take (drops self.old now all) all) }
+            S.losses sink.new ≡ S.losses sink.old
+            ++ losses_of Cause.CoDel (take (drops self.old now all) all) }
         ensures room { S.room sink.new + drops self.old now (first ∷ Q.packets queue.old) ≡ S.room sink.old }
         ensures kept { Q.keeps queue.old queue.new }
         ensures sink_kept { S.keeps sink.old sink.new }
@@ -292,7 +300,9 @@ impl Codel {
 
     // Notes whether the queue stands, by the head that is sent.
     fn look<Q: Queue>(&mut self, head: &Stamped, queue: &Q, now: Moment)
-        ensures { self.new ≡ record self.old { above = above_after self.old now (head.now ∷ Q.packets queue.now) } }
+        ensures { self.new ≡ record self.old {
+          above = above_after self.old now (head.now ∷ Q.packets queue.now);
+        } }
     {
         if !self.is_standing(head, queue, now) {
             self.above = 0;

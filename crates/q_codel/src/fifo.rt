@@ -10,6 +10,9 @@ use std::alloc::{AllocError, Global};
 use std::collections::VecDeque;
 use std::marker::Model;
 
+// No fifo has places for more packets than this: more than any machine has memory for, and their bytes fit a `u64`.
+const MOST_PLACES: usize = 1 << 47;
+
 /// A first-in first-out queue of stamped packets, limited in packets or in bytes (tc-pfifo(8), tc-bfifo(8)).
 ///
 /// A contract sees it as the record `FifoState`: its packets, front first, its limit, and how many packets it has places
@@ -40,9 +43,6 @@ impl Model for Fifo {
 impl Fifo {
     ghost use Rattle.q_codel.specs.FifoState.{takes};
 
-    /// The most packets that a fifo has places for: 2^47, more than any machine has memory for. Their bytes fit a `u64`.
-    pub const MOST_PLACES: usize = 140737488355328;
-
     /// An empty queue with this limit. It takes no memory yet.
     pub fn new(alloc: Global, limit: Limit) -> Fifo
         ensures empty { result.packets ≡ [] }
@@ -57,14 +57,14 @@ impl Fifo {
 
     /// Makes a place for one more packet, if there is none yet.
     ///
-    /// It fails only where there was none and memory for it was refused.
+    /// It fails only where there was none, and memory for it was refused or 2^47 packets are held. The packets stay.
     pub fn reserve(&mut self) -> Result<(), AllocError>
         ensures same { self.new ≡ record self.old { places = self.new.places } }
         ensures grows { self.old.places ≤ self.new.places }
         ensures ok { OnOk result (count self.new.packets < self.new.places) }
         ensures full { OnErr result (self.old.places ≤ count self.old.packets) }
     {
-        if self.packets.len() >= Fifo::MOST_PLACES {
+        if self.packets.len() >= MOST_PLACES {
             return Err(AllocError);
         }
         self.packets.reserve(1)
