@@ -1,4 +1,5 @@
--- What a line may say: the ranges of its numbers. Those of tc lines are after tc(8) and tc-pfifo(8), the others this project's.
+-- What a line may say: the ranges of its numbers.
+-- Those of tc lines are after tc(8) and tc-pfifo(8), the others this project's.
 use Rattle.std.specs.Prelude.{ℕ, ◌^◌, ◌≤◌, IfSome}
 use Rattle.q_line.specs.declared.line.Line.{Line}
 use Rattle.q_line.specs.declared.line.Line.TheVariants.{Blank, Tc, Show, At, Pkt, Poll}

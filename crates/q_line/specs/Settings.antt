@@ -1,4 +1,5 @@
--- The settings of a head of `tc qdisc add`, each with its words, as tc(8) has them; and that their order is free.
+-- The settings of a head of `tc qdisc add`, each with its words, and that their order is free.
+-- The words are those of tc(8).
 use Rattle.std.specs.Prelude.{◌≡◌, ℕ, List, [], ◌∷◌, ◌++◌, codes, Ok}
 use Rattle.std.specs.List.{flat_map}
 use Rattle.q_line.specs.Grammar.{line_of_words}

@@ -1,4 +1,5 @@
--- One way to write each line: the words of tc(8) in the order of its manual page, numbers in decimal, handles in hexadecimal.
+-- One way to write each line, numbers in decimal and handles in hexadecimal.
+-- The words of tc lines are those of tc(8) and tc-pfifo(8).
 use Rattle.std.specs.Prelude.{ℕ, Bool, true, false, ◌&&◌, not, List, [], ◌∷◌, ◌++◌, codes, Option, Some, None}
 use Rattle.std.specs.List.{join_with_byte, list_all}
 use Rattle.std.specs.Fmt.{decimal, digits}

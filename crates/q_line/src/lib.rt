@@ -10,7 +10,8 @@
 //! `specs/Values.antt` numbers, handles and names, and `specs/Words.antt` how a line is cut into words. The contract of
 //! `read_line` says that it gives exactly what they say (`exact`), and that every number is in range (`in_range`, after
 //! `specs/Ranges.antt`). Above the grammar stand the laws of the module [`laws`]: a fault is the leftmost one, `Missing`
-//! comes only where nothing is wrong with any word, and each line can be written and is read as itself.
+//! comes only where nothing is wrong with any word, each line can be written and is read as itself, and the settings of a
+//! head can stand in any order.
 #![tactic(auto)]
 
 mod arrival;
