@@ -24,6 +24,8 @@ mod run_fault;
 mod script;
 mod session;
 mod settings;
+#[cfg(test)]
+mod tests;
 mod text;
 mod totals;
 
