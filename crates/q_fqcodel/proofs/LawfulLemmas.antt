@@ -1,0 +1,174 @@
+-- Each flow stays listed at most once, and each flow with packets exactly once, over a turn and over a packet that is sent.
+use Rattle.std.proofs.Common.{◌≡◌, ◌≢◌, ℕ, zero, suc, ◌+◌, ◌<◌, ◌≤◌, ◌==◌, Bool, true, false, cond, List, [], ◌∷◌, ◌++◌, length, refl, sym, ap, ◌∙◌, arith, ⊎_elim, length-append, map, replicate, nat_eq, sum_by}
+use Rattle.std.proofs.lemmas.List.{length-map, length-replicate}
+use Rattle.q_packet.specs.declared.stamped.Stamped.{Stamped}
+use Rattle.std.proofs.lemmas.Bool.{eq-eqb, ne_eqb, cases_lt, true≢false, cond-true, cond-false, true_from_ne_false}
+use Rattle.std.proofs.lemmas.List.Sums.{sum_by-cons, sum_by-append}
+use Rattle.q_packet.specs.Totals.{count}
+use Rattle.q_fqcodel.specs.Cleared.{adjust}
+use Rattle.q_fqcodel.specs.FqState.{FqSettings, Flow, FqState, queues, is_idle, packets_of, rested_flow, first_flow, first_state, retuned, after_change}
+use Rattle.q_fqcodel.specs.Lawful.{times, IsLawful}
+use Rattle.q_fqcodel.specs.declared.entry.Entry.{Entry}
+use Rattle.q_fqcodel.proofs.FlowLemmas.{length-adjust, idle-rested, packets-rested, busy-shrunk, packets-shrunk, packets-none, packets-nil, packets-cons, packets_by_queues, idle_in}
+
+-- 1 where the entry is of flow n
+abbrev pub one : ℕ → Entry → ℕ
+one n e = cond (e.flow == n) 1 0
+
+pub times-cons : (n : ℕ) (e : Entry) (es : List Entry) → times n (e ∷ es) ≡ one n e + times n es
+times-cons n e es = sum_by-cons (λ (e : Entry). cond (e.flow == n) 1 0) e es
+
+pub times-append : (n : ℕ) (xs ys : List Entry) → times n (xs ++ ys) ≡ times n xs + times n ys
+times-append n xs ys = sum_by-append (λ (e : Entry). cond (e.flow == n) 1 0) xs ys
+
+pub one-same : (n : ℕ) (e m : Entry) → m.flow ≡ e.flow → one n m ≡ one n e
+one-same n e m same = ap (λ (k : ℕ). cond (k == n) 1 0) same
+
+pub one-own : (e : Entry) → one e.flow e ≡ 1
+one-own e = cond-true (e.flow == e.flow) 1 0 (eq-eqb e.flow e.flow refl)
+
+pub one-other : (n : ℕ) (e : Entry) → e.flow ≢ n → one n e ≡ 0
+one-other n e ne = cond-false (e.flow == n) 1 0 (ne_eqb e.flow n ne)
+
+-- fewer entries, but none fewer of a flow with packets
+pub IsLawful-from : (s t : FqState) → IsLawful s → t.settings.flows ≡ s.settings.flows → length t.flows ≡ length s.flows
+    → ((n : ℕ) → times n (t.fresh ++ t.stale) ≤ times n (s.fresh ++ s.stale))
+    → ((n : ℕ) → is_idle t.flows n ≡ false → (is_idle s.flows n ≡ false) × (times n (s.fresh ++ s.stale) ≤ times n (t.fresh ++ t.stale)))
+    → length t.fresh + length t.stale ≤ length s.fresh + length s.stale → packets_of t.flows ≤ packets_of s.flows → IsLawful t
+IsLawful-from s t lawful settings flows no_more no_fewer short packets = record {
+  each_flow = flows ∙ lawful.each_flow ∙ sym settings;
+  in_range = λ n h. omega (arith, no_more n, lawful.in_range n (omega (arith, h, settings)));
+  within = omega (arith, lawful.within, short, settings);
+  once = λ n. omega (arith, no_more n, lawful.once n);
+  busy = λ n h. omega (arith, (no_fewer n h).1, lawful.busy n (no_fewer n h).0);
+  few = omega (arith, packets, lawful.few);
+}
+
+-- the flow in front of either list is one of the flows
+pub front_within : (s : FqState) (e : Entry) (rest : List Entry) → IsLawful s → s.fresh ++ s.stale ≡ e ∷ rest → e.flow < s.settings.flows
+front_within s e rest lawful front =
+    ⊎_elim (λ (h : e.flow < s.settings.flows). h)
+    (λ (h : s.settings.flows ≤ e.flow).
+    let none : times e.flow (s.fresh ++ s.stale) ≡ 0 = lawful.in_range e.flow h in
+    let some : times e.flow (s.fresh ++ s.stale) ≡ one e.flow e + times e.flow rest = ap (times e.flow) front ∙ times-cons e.flow e rest in
+    absurd (omega (arith, none, some, one-own e)))
+    (cases_lt e.flow s.settings.flows)
+
+-- the front of the new list goes to the end of the old one
+pub lawful_moved : (s : FqState) (e m : Entry) (rest : List Entry) → IsLawful s → s.fresh ≡ e ∷ rest → m.flow ≡ e.flow → IsLawful (record s { fresh = rest; stale = s.stale ++ m ∷ [] })
+lawful_moved s e m rest lawful front same =
+    let t : FqState = record s { fresh = rest; stale = s.stale ++ m ∷ [] } in
+    let even : (n : ℕ) → times n (rest ++ (s.stale ++ m ∷ [])) ≡ times n (s.fresh ++ s.stale) = λ n.
+    omega (
+      arith,
+      times-append n rest (s.stale ++ m ∷ []),
+      times-append n s.stale (m ∷ []),
+      times-cons n m [],
+      times-append n s.fresh s.stale,
+      ap (times n) front,
+      times-cons n e rest,
+      one-same n e m same,
+    ) in
+    IsLawful-from s t lawful refl refl (λ n. omega (arith, even n)) (λ n h. (h, omega (arith, even n)))
+    (omega (arith, ap length front, length-append s.stale (m ∷ []))) (omega arith)
+
+-- the front of the old list goes to its end
+pub lawful_turned : (s : FqState) (e m : Entry) (rest : List Entry) → IsLawful s → s.stale ≡ e ∷ rest → m.flow ≡ e.flow → IsLawful (record s { stale = rest ++ m ∷ [] })
+lawful_turned s e m rest lawful front same =
+    let t : FqState = record s { stale = rest ++ m ∷ [] } in
+    let even : (n : ℕ) → times n (s.fresh ++ (rest ++ m ∷ [])) ≡ times n (s.fresh ++ s.stale) = λ n.
+    omega (
+      arith,
+      times-append n s.fresh (rest ++ m ∷ []),
+      times-append n rest (m ∷ []),
+      times-cons n m [],
+      times-append n s.fresh s.stale,
+      ap (times n) front,
+      times-cons n e rest,
+      one-same n e m same,
+    ) in
+    IsLawful-from s t lawful refl refl (λ n. omega (arith, even n)) (λ n h. (h, omega (arith, even n)))
+    (omega (arith, ap length front, length-append rest (m ∷ []))) (omega arith)
+
+-- an empty flow leaves the front of the old list
+pub lawful_left : (s : FqState) (e : Entry) (rest : List Entry) → IsLawful s → s.stale ≡ e ∷ rest → is_idle s.flows e.flow ≡ true → IsLawful (record s { stale = rest })
+lawful_left s e rest lawful front empty =
+    let t : FqState = record s { stale = rest } in
+    let less : (n : ℕ) → times n (s.fresh ++ s.stale) ≡ one n e + times n (s.fresh ++ rest) = λ n.
+    omega (arith, times-append n s.fresh rest, times-append n s.fresh s.stale, ap (times n) front, times-cons n e rest) in
+    IsLawful-from s t lawful refl refl (λ n. omega (arith, less n))
+    (λ n h. (h, omega (arith, less n, one-other n e (λ same. true≢false (sym empty ∙ ap (is_idle s.flows) same ∙ h)))))
+    (omega (arith, ap length front)) (omega arith)
+
+-- what CoDel knows of a flow changes
+pub lawful_rested : (s : FqState) (n : ℕ) → IsLawful s → IsLawful (record s { flows = adjust rested_flow n s.flows })
+lawful_rested s n lawful =
+    let t : FqState = record s { flows = adjust rested_flow n s.flows } in
+    IsLawful-from s t lawful refl (length-adjust rested_flow n s.flows) (λ m. omega arith)
+    (λ m h. (ap (λ (i : ℕ → Bool). i m) (sym (idle-rested n s.flows)) ∙ h, omega arith))
+    (omega arith) (omega (arith, packets-rested n s.flows))
+
+-- packets leave a flow
+pub lawful_shrunk : (s : FqState) (g : Flow → Flow) → ((f : Flow) → count (g f).queue ≤ count f.queue) → (n : ℕ) → IsLawful s → IsLawful (record s { flows = adjust g n s.flows })
+lawful_shrunk s g fewer n lawful =
+    let t : FqState = record s { flows = adjust g n s.flows } in
+    IsLawful-from s t lawful refl (length-adjust g n s.flows) (λ m. omega arith)
+    (λ m h. (busy-shrunk g fewer n m s.flows h, omega arith))
+    (omega arith) (packets-shrunk g fewer n s.flows)
+
+-- the credits of the front change
+pub lawful_paid_fresh : (s : FqState) (e m : Entry) (rest : List Entry) → IsLawful s → s.fresh ≡ e ∷ rest → m.flow ≡ e.flow → IsLawful (record s { fresh = m ∷ rest })
+lawful_paid_fresh s e m rest lawful front same =
+    let t : FqState = record s { fresh = m ∷ rest } in
+    let even : (n : ℕ) → times n ((m ∷ rest) ++ s.stale) ≡ times n (s.fresh ++ s.stale) = λ n.
+    omega (arith, times-append n (m ∷ rest) s.stale, times-cons n m rest, times-append n s.fresh s.stale, ap (times n) front, times-cons n e rest, one-same n e m same) in
+    IsLawful-from s t lawful refl refl (λ n. omega (arith, even n)) (λ n h. (h, omega (arith, even n))) (omega (arith, ap length front)) (omega arith)
+
+pub lawful_paid_stale : (s : FqState) (e m : Entry) (rest : List Entry) → IsLawful s → s.stale ≡ e ∷ rest → m.flow ≡ e.flow → IsLawful (record s { stale = m ∷ rest })
+lawful_paid_stale s e m rest lawful front same =
+    let t : FqState = record s { stale = m ∷ rest } in
+    let even : (n : ℕ) → times n (s.fresh ++ (m ∷ rest)) ≡ times n (s.fresh ++ s.stale) = λ n.
+    omega (arith, times-append n s.fresh (m ∷ rest), times-cons n m rest, times-append n s.fresh s.stale, ap (times n) front, times-cons n e rest, one-same n e m same) in
+    IsLawful-from s t lawful refl refl (λ n. omega (arith, even n)) (λ n h. (h, omega (arith, even n))) (omega (arith, ap length front)) (omega arith)
+
+-- where both lists are empty no flow has a packet
+pub none_waits : (s : FqState) → IsLawful s → s.fresh ≡ [] → s.stale ≡ [] → packets_of s.flows ≡ 0
+none_waits s lawful no_fresh no_stale =
+    packets-none s.flows (λ n. true_from_ne_false (is_idle s.flows n)
+    (λ busy. absurd (omega (arith, lawful.busy n busy, times-append n s.fresh s.stale, ap (times n) no_fresh, ap (times n) no_stale))))
+
+-- ---- a new fq_codel, and one with other settings
+
+idle-first : (f : Flow) (n m : ℕ) → f.queue ≡ [] → is_idle (replicate n f) m ≡ true
+idle-first f zero m empty = refl
+idle-first f (suc n) zero empty = ap (λ (q : List Stamped). nat_eq (count q) 0) empty
+idle-first f (suc n) (suc m) empty = idle-first f n m empty
+
+pub packets-first : (f : Flow) (n : ℕ) → f.queue ≡ [] → packets_of (replicate n f) ≡ 0
+packets-first f zero empty = packets-nil
+packets-first f (suc n) empty = omega (arith, packets-cons f (replicate n f), ap (λ (q : List Stamped). count q) empty, packets-first f n empty)
+
+pub lawful_first : (settings : FqSettings) (places : ℕ) → IsLawful (first_state settings places)
+lawful_first settings places =
+    let none : packets_of (replicate settings.flows (first_flow settings)) ≡ 0 = packets-first (first_flow settings) settings.flows refl in
+    record {
+      each_flow = length-replicate settings.flows (first_flow settings);
+      in_range = λ n h. refl;
+      within = omega arith;
+      once = λ n. omega arith;
+      busy = λ n h. absurd (true≢false (sym (idle-first (first_flow settings) settings.flows n refl) ∙ h));
+      few = omega (arith, none);
+    }
+
+queues-retuned : (target interval : ℕ) (ecn : Bool) (flows : List Flow) → queues (map (retuned target interval ecn) flows) ≡ queues flows
+unfolding retuned
+queues-retuned target interval ecn [] = refl
+queues-retuned target interval ecn (f ∷ fs) = ap (λ (l : List (List Stamped)). f.queue ∷ l) (queues-retuned target interval ecn fs)
+
+pub lawful_changed : (s : FqState) (settings : FqSettings) → IsLawful s → settings.flows ≡ s.settings.flows → IsLawful (after_change s settings)
+lawful_changed s settings lawful flows =
+    let t : FqState = after_change s settings in
+    let qs = queues-retuned settings.target settings.interval settings.ecn s.flows in
+    IsLawful-from s t lawful flows (length-map s.flows (retuned settings.target settings.interval settings.ecn)) (λ n. omega arith)
+    (λ n h. (ap (λ (l : List (List Stamped)). idle_in l n) (sym qs) ∙ h, omega arith))
+    (omega arith) (omega (arith, packets_by_queues t.flows, packets_by_queues s.flows, ap (λ (l : List (List Stamped)). sum_by (λ (q : List Stamped). count q) l) qs))

@@ -1,0 +1,12 @@
+pub mod ClearedLemmas
+pub mod FatLemmas
+pub mod FlowLemmas
+pub mod LawfulLemmas
+pub mod PoolLemmas
+pub mod PooledLemmas
+pub mod PutLemmas
+pub mod QuantaLemmas
+pub mod SelectionLemmas
+pub mod SentLemmas
+pub mod ShedLemmas
+pub mod TurnLemmas

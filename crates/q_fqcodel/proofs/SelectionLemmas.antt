@@ -1,0 +1,381 @@
+-- One turn of the scheduler leaves the selection as it is: what is chosen from the lists before it is chosen from those
+-- after it.
+use Rattle.std.proofs.Common.{◌≡◌, ℕ, zero, suc, ◌<◌, ◌≤◌, pos, ◌≤ℤ◌, nat_le, ◌==◌, Bool, true, false, cond, List, [], ◌∷◌, ◌++◌, map, length, take, drop, Option, Some, None, IfSome, refl, sym, ap, ap₂, ◌∙◌, arith, ⊎_elim, append_assoc, append-nil, subst}
+use Rattle.std.proofs.lemmas.Bool.{le-leb, lt-leb, eq-eqb, ne_eqb, cases_lt, cond-true, cond-false, cond_both}
+use Rattle.std.proofs.lemmas.List.{map-append, drop-append-le, take-append-le, drop_at, take_at}
+use Rattle.q_fqcodel.specs.Cleared.{adjust, clear}
+use Rattle.q_fqcodel.specs.Quanta.{need, given, stay, leave}
+use Rattle.q_fqcodel.specs.Selection.{Choice, Lists, later, sooner, choose, turned, first_ready, moved, with_rest, arranged}
+use Rattle.q_fqcodel.specs.declared.entry.Entry.{Entry}
+use Rattle.q_fqcodel.proofs.ClearedLemmas.{clear-middle, clear-cons}
+use Rattle.q_fqcodel.proofs.QuantaLemmas.{need-more, flow-given, stay-append, leave-append, stay-dropped, leave-kept, leave-dropped, stay-nil, leave-nil, stay-shift, leave-shift, stay-none, leave-none}
+
+-- the choice from a list with one flow more at its end, which needs n quanta
+last_one : ℕ → ℕ → Option Choice → Choice
+last_one n len None = record { rounds = n; place = len }
+last_one n len (Some c) = cond (nat_le c.rounds n) c (record { rounds = n; place = len })
+
+later_if : (b : Bool) (c d : Choice) → later (Some (cond b c d)) ≡ Some (cond b (record { rounds = c.rounds; place = suc c.place }) (record { rounds = d.rounds; place = suc d.place }))
+unfolding later
+later_if true c d = refl
+later_if false c d = refl
+
+later-end : (n len : ℕ) (o : Option Choice) → later (Some (last_one n len o)) ≡ Some (last_one n (suc len) (later o))
+unfolding later last_one
+later-end n len None = refl
+later-end n len (Some c) = later_if (nat_le c.rounds n) c (record { rounds = n; place = len })
+
+sooner-le : (n : ℕ) (c : Choice) → n ≤ c.rounds → sooner n (Some c) ≡ record { rounds = n; place = 0 }
+unfolding sooner
+sooner-le n c h = cond-true (nat_le n c.rounds) _ _ (le-leb _ _ h)
+
+sooner-gt : (n : ℕ) (c : Choice) → c.rounds < n → sooner n (Some c) ≡ record { rounds = c.rounds; place = suc c.place }
+unfolding sooner
+sooner-gt n c h = cond-false (nat_le n c.rounds) _ _ (lt-leb _ _ h)
+
+sooner-none : (n : ℕ) → sooner n None ≡ record { rounds = n; place = 0 }
+unfolding sooner
+sooner-none n = refl
+
+last-le : (n len : ℕ) (c : Choice) → c.rounds ≤ n → last_one n len (Some c) ≡ c
+unfolding last_one
+last-le n len c h = cond-true (nat_le c.rounds n) _ _ (le-leb _ _ h)
+
+last-gt : (n len : ℕ) (c : Choice) → n < c.rounds → last_one n len (Some c) ≡ record { rounds = n; place = len }
+unfolding last_one
+last-gt n len c h = cond-false (nat_le c.rounds n) _ _ (lt-leb _ _ h)
+
+sooner-end : (k n len : ℕ) (o : Option Choice) → sooner k (Some (last_one n len o)) ≡ last_one n (suc len) (Some (sooner k o))
+unfolding sooner last_one
+sooner-end k n len None = refl
+sooner-end k n len (Some c) =
+    let at_k : Choice = record { rounds = k; place = 0 } in
+    let behind : Choice = record { rounds = c.rounds; place = suc c.place } in
+    let at_n : Choice = record { rounds = n; place = len } in
+    let at_end : Choice = record { rounds = n; place = suc len } in
+    ⊎_elim
+    (λ (near : c.rounds < suc n).
+    ap (λ (d : Choice). sooner k (Some d)) (last-le n len c (omega arith))
+    ∙ ⊎_elim
+    (λ (first : k < suc c.rounds).
+    let e : sooner k (Some c) ≡ at_k = sooner-le k c (omega arith) in
+    e ∙ sym (last-le n (suc len) at_k (omega arith)) ∙ ap (λ (d : Choice). last_one n (suc len) (Some d)) (sym e))
+    (λ (second : suc c.rounds ≤ k).
+    let e : sooner k (Some c) ≡ behind = sooner-gt k c (omega arith) in
+    e ∙ sym (last-le n (suc len) behind (omega arith)) ∙ ap (λ (d : Choice). last_one n (suc len) (Some d)) (sym e))
+    (cases_lt k (suc c.rounds)))
+    (λ (far : suc n ≤ c.rounds).
+    ap (λ (d : Choice). sooner k (Some d)) (last-gt n len c (omega arith))
+    ∙ ⊎_elim
+    (λ (first : k < suc n).
+    let e : sooner k (Some c) ≡ at_k = sooner-le k c (omega arith) in
+    sooner-le k at_n (omega arith) ∙ sym (last-le n (suc len) at_k (omega arith)) ∙ ap (λ (d : Choice). last_one n (suc len) (Some d)) (sym e))
+    (λ (later' : suc n ≤ k).
+    ⊎_elim
+    (λ (within : k < suc c.rounds).
+    let e : sooner k (Some c) ≡ at_k = sooner-le k c (omega arith) in
+    sooner-gt k at_n (omega arith) ∙ sym (last-gt n (suc len) at_k (omega arith)) ∙ ap (λ (d : Choice). last_one n (suc len) (Some d)) (sym e))
+    (λ (beyond : suc c.rounds ≤ k).
+    let e : sooner k (Some c) ≡ behind = sooner-gt k c (omega arith) in
+    sooner-gt k at_n (omega arith) ∙ sym (last-gt n (suc len) behind (omega arith)) ∙ ap (λ (d : Choice). last_one n (suc len) (Some d)) (sym e))
+    (cases_lt k (suc c.rounds)))
+    (cases_lt k (suc n)))
+    (cases_lt c.rounds (suc n))
+
+-- one flow more in front, and one more at the end, where each may be empty
+both_ends : (i j : Bool) (n k len : ℕ) (o : Option Choice) → cond i (later (cond j o (Some (last_one n len o)))) (Some (sooner k (cond j o (Some (last_one n len o))))) ≡ cond j (cond i (later o) (Some (sooner k o))) (Some (last_one n (suc len) (cond i (later o) (Some (sooner k o)))))
+both_ends true true n k len o = refl
+both_ends true false n k len o = later-end n len o
+both_ends false true n k len o = refl
+both_ends false false n k len o = ap (λ (d : Choice). Some d) (sooner-end k n len o)
+
+end_alone : (j : Bool) (n : ℕ) → cond j (later None) (Some (sooner n None)) ≡ cond j None (Some (last_one n 0 None))
+unfolding later sooner last_one
+end_alone true n = refl
+end_alone false n = refl
+
+choose-end : (q : ℕ) (idle : ℕ → Bool) (es : List Entry) (x : Entry) → choose q idle (es ++ x ∷ []) ≡ cond (idle x.flow) (choose q idle es) (Some (last_one (need q x) (length es) (choose q idle es)))
+unfolding choose
+choose-end q idle [] x = end_alone (idle x.flow) (need q x)
+choose-end q idle (y ∷ ys) x =
+    ap (λ (o : Option Choice). cond (idle y.flow) (later o) (Some (sooner (need q y) o))) (choose-end q idle ys x)
+    ∙ both_ends (idle y.flow) (idle x.flow) (need q x) (need q y) (length ys) (choose q idle ys)
+
+-- a choice stands within its list
+within-later : (n : ℕ) (o : Option Choice) → IfSome o (λ c. c.place < n) → IfSome (later o) (λ c. c.place < suc n)
+unfolding later
+within-later n None h = h
+within-later n (Some c) h = omega (arith, h)
+
+within-sooner : (k n : ℕ) (o : Option Choice) → IfSome o (λ c. c.place < n) → (sooner k o).place < suc n
+unfolding sooner
+within-sooner k n None h = omega arith
+within-sooner k n (Some c) h = cond_both (nat_le k c.rounds) (record { rounds = k; place = 0 }) (record { rounds = c.rounds; place = suc c.place }) (λ (d : Choice). d.place < suc n) (λ e. omega arith) (λ e. omega (arith, h))
+
+within_if : (b : Bool) (k n : ℕ) (o : Option Choice) → IfSome o (λ c. c.place < n) → IfSome (cond b (later o) (Some (sooner k o))) (λ c. c.place < suc n)
+within_if true k n o h = within-later n o h
+within_if false k n o h = within-sooner k n o h
+
+choose-within : (q : ℕ) (idle : ℕ → Bool) (es : List Entry) → IfSome (choose q idle es) (λ c. c.place < length es)
+unfolding choose
+choose-within q idle [] = tt
+choose-within q idle (e ∷ es) = within_if (idle e.flow) (need q e) (length es) (choose q idle es) (choose-within q idle es)
+
+-- ---- one turn of the old list
+
+-- Two selections are the same: equal lists, and the same flows changed.
+pub record Agree {F : Type 0} (r : F → F) (fs gs : List F) (a b : Lists) : Type 0 where
+  pub fresh : a.fresh ≡ b.fresh
+  pub stale : a.stale ≡ b.stale
+  pub flows : clear r a.gone fs ≡ clear r b.gone gs
+
+turned-some : (q : ℕ) (es : List Entry) (c : Choice) → turned q es (Some c) ≡ record {
+  fresh = [];
+  stale = stay q c.rounds (drop c.place es) ++ stay q (suc c.rounds) (take c.place es);
+  gone = leave q c.rounds (drop c.place es) ++ leave q (suc c.rounds) (take c.place es);
+}
+unfolding turned
+turned-some q es c = refl
+
+turned-none : (q : ℕ) (es : List Entry) → turned q es None ≡ record { fresh = []; stale = []; gone = map (λ (e : Entry). e.flow) es }
+unfolding turned
+turned-none q es = refl
+
+-- lists that are equal as records
+pub same_lists : {F : Type 0} (r : F → F) (flows : List F) (a b : Lists) → a ≡ b → Agree r flows flows a b
+same_lists r flows a b e = record {
+  fresh = ap (λ (l : Lists). l.fresh) e;
+  stale = ap (λ (l : Lists). l.stale) e;
+  flows = ap (λ (l : Lists). clear r l.gone flows) e;
+}
+
+module _ {F : Type 0} (r : F → F) (q : ℕ) (positive : 1 ≤ q) (e : Entry) (low : e.credits ≤ℤ pos 0) (es : List Entry) where
+  -- one of those behind is chosen
+  granted-behind : (c : Choice) → c.place < length es → (flows : List F)
+      → turned q (e ∷ es) (Some (record { rounds = c.rounds; place = suc c.place })) ≡ turned q (es ++ given q 1 e ∷ []) (Some c)
+  granted-behind c within flows =
+      let k : ℕ = c.rounds in
+      let p : ℕ = c.place in
+      let last : List Entry = given q 1 e ∷ [] in
+      let d : drop p (es ++ last) ≡ drop p es ++ last = drop-append-le p es last (omega arith) in
+      let t : take p (es ++ last) ≡ take p es = take-append-le p es last (omega arith) in
+      let stays : stay q k (drop p es) ++ stay q (suc k) ((e ∷ []) ++ take p es) ≡ stay q k (drop p (es ++ last)) ++ stay q (suc k) (take p (es ++ last)) =
+      ap (λ (l : List Entry). stay q k (drop p es) ++ l) (stay-append q (suc k) (e ∷ []) (take p es) ∙ ap (λ (l : List Entry). l ++ stay q (suc k) (take p es)) (stay-shift q k e positive low))
+      ∙ sym (append_assoc (stay q k (drop p es)) (stay q k last) (stay q (suc k) (take p es)))
+      ∙ ap (λ (l : List Entry). l ++ stay q (suc k) (take p es)) (sym (ap (stay q k) d ∙ stay-append q k (drop p es) last))
+      ∙ ap (λ (l : List Entry). stay q k (drop p (es ++ last)) ++ stay q (suc k) l) (sym t) in
+      let leaves : leave q k (drop p es) ++ leave q (suc k) ((e ∷ []) ++ take p es) ≡ leave q k (drop p (es ++ last)) ++ leave q (suc k) (take p (es ++ last)) =
+      ap (λ (l : List ℕ). leave q k (drop p es) ++ l) (leave-append q (suc k) (e ∷ []) (take p es) ∙ ap (λ (l : List ℕ). l ++ leave q (suc k) (take p es)) (leave-shift q k e positive low))
+      ∙ sym (append_assoc (leave q k (drop p es)) (leave q k last) (leave q (suc k) (take p es)))
+      ∙ ap (λ (l : List ℕ). l ++ leave q (suc k) (take p es)) (sym (ap (leave q k) d ∙ leave-append q k (drop p es) last))
+      ∙ ap (λ (l : List Entry). leave q k (drop p (es ++ last)) ++ leave q (suc k) l) (sym t) in
+      turned-some q (e ∷ es) (record { rounds = k; place = suc p })
+      ∙ ap₂ (λ (s : List Entry) (g : List ℕ). record { fresh = []; stale = s; gone = g }) stays leaves
+      ∙ sym (turned-some q (es ++ last) c)
+
+  -- the one that got the quantum is chosen, now from the end
+  granted-front : (k : ℕ)
+      → turned q (e ∷ es) (Some (record { rounds = suc k; place = 0 })) ≡ turned q (es ++ given q 1 e ∷ []) (Some (record { rounds = k; place = length es }))
+  granted-front k =
+      let last : List Entry = given q 1 e ∷ [] in
+      let d : drop (length es) (es ++ last) ≡ last = drop_at es last (length es) refl in
+      let t : take (length es) (es ++ last) ≡ es = take_at es last (length es) refl in
+      let stays : stay q (suc k) ((e ∷ []) ++ es) ++ stay q (suc (suc k)) [] ≡ stay q k (drop (length es) (es ++ last)) ++ stay q (suc k) (take (length es) (es ++ last)) =
+      ap (λ (l : List Entry). stay q (suc k) ((e ∷ []) ++ es) ++ l) (stay-nil q (suc (suc k)))
+      ∙ append-nil (stay q (suc k) ((e ∷ []) ++ es))
+      ∙ stay-append q (suc k) (e ∷ []) es
+      ∙ ap (λ (l : List Entry). l ++ stay q (suc k) es) (stay-shift q k e positive low)
+      ∙ ap₂ (λ (l m : List Entry). stay q k l ++ stay q (suc k) m) (sym d) (sym t) in
+      let leaves : leave q (suc k) ((e ∷ []) ++ es) ++ leave q (suc (suc k)) [] ≡ leave q k (drop (length es) (es ++ last)) ++ leave q (suc k) (take (length es) (es ++ last)) =
+      ap (λ (l : List ℕ). leave q (suc k) ((e ∷ []) ++ es) ++ l) (leave-nil q (suc (suc k)))
+      ∙ append-nil (leave q (suc k) ((e ∷ []) ++ es))
+      ∙ leave-append q (suc k) (e ∷ []) es
+      ∙ ap (λ (l : List ℕ). l ++ leave q (suc k) es) (leave-shift q k e positive low)
+      ∙ ap₂ (λ (l m : List Entry). leave q k l ++ leave q (suc k) m) (sym d) (sym t) in
+      turned-some q (e ∷ es) (record { rounds = suc k; place = 0 })
+      ∙ ap₂ (λ (s : List Entry) (g : List ℕ). record { fresh = []; stale = s; gone = g }) stays leaves
+      ∙ sym (turned-some q (es ++ last) (record { rounds = k; place = length es }))
+
+  -- nobody is chosen
+  granted-none : (flows : List F) → Agree r flows flows (turned q (e ∷ es) None) (turned q (es ++ given q 1 e ∷ []) None)
+  unfolding turned
+  granted-none flows = record {
+    fresh = refl;
+    stale = refl;
+    flows =
+        clear-cons r e.flow (map (λ (e : Entry). e.flow) es) flows
+        ∙ ap (λ (l : List ℕ). clear r l (adjust r e.flow flows)) (sym (append-nil (map (λ (e : Entry). e.flow) es)))
+        ∙ sym (clear-middle r (map (λ (e : Entry). e.flow) es) e.flow [] flows)
+        ∙ ap (λ (n : ℕ). clear r (map (λ (e : Entry). e.flow) es ++ n ∷ []) flows) (sym (flow-given q 1 e))
+        ∙ ap (λ (l : List ℕ). clear r l flows) (sym (map-append (λ (e : Entry). e.flow) es (given q 1 e ∷ [])));
+  }
+
+  -- with a choice o from those behind, and the one in front empty or not
+  granted-idle : (o : Option Choice) → IfSome o (λ c. c.place < length es) → (flows : List F)
+      → Agree r flows flows (turned q (e ∷ es) (later o)) (turned q (es ++ given q 1 e ∷ []) o)
+  unfolding later
+  granted-idle None within flows = granted-none flows
+  granted-idle (Some c) within flows = same_lists r flows _ _ (granted-behind c within flows)
+
+  granted-busy : (k : ℕ) (o : Option Choice) → IfSome o (λ c. c.place < length es) → (flows : List F)
+      → turned q (e ∷ es) (Some (sooner (suc k) o)) ≡ turned q (es ++ given q 1 e ∷ []) (Some (last_one k (length es) o))
+  unfolding last_one
+  granted-busy k None within flows =
+      ap (λ (c : Choice). turned q (e ∷ es) (Some c)) (sooner-none (suc k)) ∙ granted-front k
+  granted-busy k (Some c) within flows =
+      ⊎_elim
+      (λ (behind : c.rounds < suc k).
+      ap (λ (c : Choice). turned q (e ∷ es) (Some c)) (sooner-gt (suc k) c behind)
+      ∙ granted-behind c within flows
+      ∙ ap (λ (c : Choice). turned q (es ++ given q 1 e ∷ []) (Some c)) (sym (last-le k (length es) c (omega arith))))
+      (λ (front : suc k ≤ c.rounds).
+      ap (λ (c : Choice). turned q (e ∷ es) (Some c)) (sooner-le (suc k) c front)
+      ∙ granted-front k
+      ∙ ap (λ (c : Choice). turned q (es ++ given q 1 e ∷ []) (Some c)) (sym (last-gt k (length es) c (omega arith))))
+      (cases_lt c.rounds (suc k))
+
+  granted_if : (b : Bool) (o : Option Choice) → IfSome o (λ c. c.place < length es) → (flows : List F)
+      → Agree r flows flows (turned q (e ∷ es) (cond b (later o) (Some (sooner (need q e) o))))
+      (turned q (es ++ given q 1 e ∷ []) (cond b o (Some (last_one (need q (given q 1 e)) (length es) o))))
+  granted_if true o within flows = granted-idle o within flows
+  granted_if false o within flows =
+      same_lists r flows _ _
+      (ap (λ (n : ℕ). turned q (e ∷ es) (Some (sooner n o))) (need-more q e positive low)
+      ∙ granted-busy (need q (given q 1 e)) o within flows)
+
+  -- A flow in front without credits gets a quantum and goes to the end.
+  pub turned-granted : (idle : ℕ → Bool) (flows : List F)
+      → Agree r flows flows (turned q (e ∷ es) (choose q idle (e ∷ es))) (turned q (es ++ given q 1 e ∷ []) (choose q idle (es ++ given q 1 e ∷ [])))
+  unfolding choose
+  turned-granted idle flows =
+      let last : Entry = given q 1 e in
+      let o : Option Choice = choose q idle es in
+      let at_end : choose q idle (es ++ last ∷ []) ≡ cond (idle e.flow) o (Some (last_one (need q last) (length es) o)) =
+      choose-end q idle es last ∙ ap (λ (n : ℕ). cond (idle n) o (Some (last_one (need q last) (length es) o))) (flow-given q 1 e) in
+      subst (λ (o' : Option Choice). Agree r flows flows (turned q (e ∷ es) (cond (idle e.flow) (later o) (Some (sooner (need q e) o)))) (turned q (es ++ last ∷ []) o'))
+      (sym at_end) (granted_if (idle e.flow) o (choose-within q idle es) flows)
+
+-- An empty flow in front with credits leaves.
+leaves-some : {F : Type 0} (r : F → F) (q : ℕ) (e : Entry) (es : List Entry) → need q e ≡ 0 → (o : Option Choice) → (flows : List F)
+    → Agree r flows (adjust r e.flow flows) (turned q (e ∷ es) (later o)) (turned q es o)
+unfolding later turned
+leaves-some r q e es ready None flows = record { fresh = refl; stale = refl; flows = clear-cons r e.flow (map (λ (e : Entry). e.flow) es) flows }
+leaves-some r q e es ready (Some c) flows = record {
+  fresh = refl;
+  stale = ap (λ (l : List Entry). stay q c.rounds (drop c.place es) ++ l) (stay-dropped q (suc c.rounds) e (take c.place es) (omega arith));
+  flows =
+      ap (λ (l : List ℕ). clear r (leave q c.rounds (drop c.place es) ++ l) flows) (leave-dropped q (suc c.rounds) e (take c.place es) (omega arith))
+      ∙ clear-middle r (leave q c.rounds (drop c.place es)) e.flow (leave q (suc c.rounds) (take c.place es)) flows;
+}
+
+pub turned-leaves : {F : Type 0} (r : F → F) (q : ℕ) (e : Entry) (es : List Entry) → need q e ≡ 0 → (idle : ℕ → Bool) → idle e.flow ≡ true → (flows : List F)
+    → Agree r flows (adjust r e.flow flows) (turned q (e ∷ es) (choose q idle (e ∷ es))) (turned q es (choose q idle es))
+unfolding choose
+turned-leaves r q e es ready idle empty flows =
+    subst (λ (o : Option Choice). Agree r flows (adjust r e.flow flows) (turned q (e ∷ es) o) (turned q es (choose q idle es)))
+    (sym (cond-true (idle e.flow) (later (choose q idle es)) (Some (sooner (need q e) (choose q idle es))) empty))
+    (leaves-some r q e es ready (choose q idle es) flows)
+
+sooner-first : (o : Option Choice) → sooner 0 o ≡ record { rounds = 0; place = 0 }
+sooner-first None = sooner-none 0
+sooner-first (Some c) = sooner-le 0 c (omega arith)
+
+-- A flow in front with credits and a packet is the one.
+pub turned-ready : (q : ℕ) (e : Entry) (es : List Entry) → need q e ≡ 0 → (idle : ℕ → Bool) → idle e.flow ≡ false
+    → turned q (e ∷ es) (choose q idle (e ∷ es)) ≡ record { fresh = []; stale = e ∷ es; gone = [] }
+unfolding choose
+turned-ready q e es ready idle busy =
+    ap (turned q (e ∷ es))
+    (cond-false (idle e.flow) (later (choose q idle es)) (Some (sooner (need q e) (choose q idle es))) busy
+    ∙ ap (λ (n : ℕ). Some (sooner n (choose q idle es))) ready
+    ∙ ap (λ (c : Choice). Some c) (sooner-first (choose q idle es)))
+    ∙ turned-some q (e ∷ es) (record { rounds = 0; place = 0 })
+    ∙ ap₂ (λ (s : List Entry) (g : List ℕ). record { fresh = []; stale = s; gone = g })
+    (ap₂ (λ (a b : List Entry). a ++ b) (stay-none q (e ∷ es)) (stay-nil q 1) ∙ append-nil (e ∷ es))
+    (ap₂ (λ (a b : List ℕ). a ++ b) (leave-none q (e ∷ es)) (leave-nil q 1))
+
+-- ---- one turn of the new list
+
+pub arranged-nil : (q : ℕ) (idle : ℕ → Bool) (stale : List Entry) → arranged q idle [] stale ≡ turned q stale (choose q idle stale)
+unfolding arranged with_rest first_ready
+arranged-nil q idle stale =
+    ap₂ (λ (l : List Entry) (g : List ℕ). let t = turned q l (choose q idle l) in record t { gone = g ++ t.gone }) (append-nil stale) (leave-nil q 1)
+
+-- both lists where the new one is passed over up to this place
+arranged_at : ℕ → (ℕ → Bool) → List Entry → List Entry → ℕ → Lists
+arranged_at q idle fresh stale p =
+    let rest = with_rest q idle (drop p fresh) (stale ++ map (moved q) (take p fresh)) in
+    record rest { gone = leave q 1 (take p fresh) ++ rest.gone }
+
+skip_if : (i z : Bool) (n : ℕ) → z ≡ false → cond i (suc n) (cond z zero (suc n)) ≡ suc n
+skip_if true z n h = refl
+skip_if false z n h = cond-false z zero (suc n) h
+
+first-short : (q : ℕ) (idle : ℕ → Bool) (e : Entry) (es : List Entry) (n : ℕ) → need q e ≡ suc n → first_ready q idle (e ∷ es) ≡ suc (first_ready q idle es)
+unfolding first_ready
+first-short q idle e es n k = skip_if (idle e.flow) (need q e == 0) (first_ready q idle es) (ne_eqb (need q e) 0 (λ z. absurd (omega (arith, k, z))))
+
+first-idle : (q : ℕ) (idle : ℕ → Bool) (e : Entry) (es : List Entry) → idle e.flow ≡ true → first_ready q idle (e ∷ es) ≡ suc (first_ready q idle es)
+unfolding first_ready
+first-idle q idle e es empty = cond-true (idle e.flow) _ _ empty
+
+first-ready : (q : ℕ) (idle : ℕ → Bool) (e : Entry) (es : List Entry) → need q e ≡ 0 → idle e.flow ≡ false → first_ready q idle (e ∷ es) ≡ 0
+unfolding first_ready
+first-ready q idle e es ready busy = cond-false (idle e.flow) _ _ busy ∙ cond-true (need q e == 0) zero (suc (first_ready q idle es)) (eq-eqb _ _ ready)
+
+moved-short : (q : ℕ) (e : Entry) (n : ℕ) → need q e ≡ suc n → moved q e ≡ given q 1 e
+unfolding moved
+moved-short q e n k = cond-false (need q e == 0) e (given q 1 e) (ne_eqb (need q e) 0 (λ z. absurd (omega (arith, k, z))))
+
+moved-ready : (q : ℕ) (e : Entry) → need q e ≡ 0 → moved q e ≡ e
+unfolding moved
+moved-ready q e ready = cond-true (need q e == 0) e (given q 1 e) (eq-eqb _ _ ready)
+
+arranged-at : (q : ℕ) (idle : ℕ → Bool) (fresh stale : List Entry) (p : ℕ) → first_ready q idle fresh ≡ p → arranged q idle fresh stale ≡ arranged_at q idle fresh stale p
+unfolding arranged arranged_at
+arranged-at q idle fresh stale p h = ap (arranged_at q idle fresh stale) h
+
+-- the lists where the flow in front of the new one is passed over, and goes to the old one as m
+passed : (q : ℕ) (idle : ℕ → Bool) (e m : Entry) (es stale : List Entry) (p : ℕ) → moved q e ≡ m
+    → arranged_at q idle (e ∷ es) stale (suc p)
+    ≡ (let a = arranged_at q idle es (stale ++ m ∷ []) p in
+    record a { gone = leave q 1 ((e ∷ []) ++ take p es) ++ (with_rest q idle (drop p es) ((stale ++ m ∷ []) ++ map (moved q) (take p es))).gone })
+unfolding arranged_at
+passed q idle e m es stale p h =
+    let l : stale ++ (moved q e ∷ map (moved q) (take p es)) ≡ (stale ++ m ∷ []) ++ map (moved q) (take p es) =
+    ap (λ (x : Entry). stale ++ (x ∷ map (moved q) (take p es))) h ∙ sym (append_assoc stale (m ∷ []) (map (moved q) (take p es))) in
+    ap (λ (l : List Entry). let rest = with_rest q idle (drop p es) l in record rest { gone = leave q 1 ((e ∷ []) ++ take p es) ++ rest.gone }) l
+
+-- A new flow without credits gets a quantum and goes to the end of the old list.
+pub arranged-granted : (q : ℕ) (idle : ℕ → Bool) (e : Entry) (es stale : List Entry) → 1 ≤ q → e.credits ≤ℤ pos 0
+    → arranged q idle (e ∷ es) stale ≡ arranged q idle es (stale ++ given q 1 e ∷ [])
+unfolding arranged_at
+arranged-granted q idle e es stale positive low =
+    let n : ℕ = need q (given q 1 e) in
+    let k : need q e ≡ suc n = need-more q e positive low in
+    let p : ℕ = first_ready q idle es in
+    arranged-at q idle (e ∷ es) stale (suc p) (first-short q idle e es n k)
+    ∙ passed q idle e (given q 1 e) es stale p (moved-short q e n k)
+    ∙ ap (λ (g : List ℕ). let rest = with_rest q idle (drop p es) ((stale ++ given q 1 e ∷ []) ++ map (moved q) (take p es)) in record rest { gone = g ++ rest.gone })
+    (leave-kept q 1 e (take p es) (omega arith))
+    ∙ sym (arranged-at q idle es (stale ++ given q 1 e ∷ []) p refl)
+
+-- An empty new flow with credits goes to the end of the old list.
+pub arranged-moves : (q : ℕ) (idle : ℕ → Bool) (e : Entry) (es stale : List Entry) → need q e ≡ 0 → idle e.flow ≡ true
+    → arranged q idle (e ∷ es) stale ≡ (let a = arranged q idle es (stale ++ e ∷ []) in record a { gone = e.flow ∷ a.gone })
+unfolding arranged_at
+arranged-moves q idle e es stale ready empty =
+    let p : ℕ = first_ready q idle es in
+    arranged-at q idle (e ∷ es) stale (suc p) (first-idle q idle e es empty)
+    ∙ passed q idle e e es stale p (moved-ready q e ready)
+    ∙ ap (λ (g : List ℕ). let rest = with_rest q idle (drop p es) ((stale ++ e ∷ []) ++ map (moved q) (take p es)) in record rest { gone = g ++ rest.gone })
+    (leave-dropped q 1 e (take p es) (omega arith))
+    ∙ ap (λ (a : Lists). record a { gone = e.flow ∷ a.gone }) (sym (arranged-at q idle es (stale ++ e ∷ []) p refl))
+
+-- A new flow with credits and a packet is the one.
+pub arranged-ready : (q : ℕ) (idle : ℕ → Bool) (e : Entry) (es stale : List Entry) → need q e ≡ 0 → idle e.flow ≡ false
+    → arranged q idle (e ∷ es) stale ≡ record { fresh = e ∷ es; stale = stale; gone = [] }
+unfolding arranged_at with_rest
+arranged-ready q idle e es stale ready busy =
+    arranged-at q idle (e ∷ es) stale 0 (first-ready q idle e es ready busy)
+    ∙ ap₂ (λ (l : List Entry) (g : List ℕ). record { fresh = e ∷ es; stale = l; gone = g ++ [] }) (append-nil stale) (leave-nil q 1)

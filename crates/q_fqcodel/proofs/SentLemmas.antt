@@ -1,0 +1,122 @@
+-- CoDel at one flow: it drops no more packets than the flow has, and an empty flow sends nothing.
+use Rattle.std.proofs.Common.{◌≡◌, ℕ, zero, suc, ◌<◌, ◌≤◌, Bool, true, false, cond, List, [], ◌∷◌, length, take, Option, Some, None, IsSome, option_map, ◌++◌, IfSome, option_and_then, unwrap_or, ℤ, pos, ◌-ℤ◌, refl, sym, ap, ap₂, ◌∙◌, arith, subst}
+use Rattle.std.specs.Prelude.{slice_get}
+use Rattle.std.proofs.lemmas.List.{length-take, length-drop}
+use Rattle.q_packet.specs.Totals.{count}
+use Rattle.q_packet.specs.declared.stamped.Stamped.{Stamped}
+use Rattle.q_codel.specs.Codel.{CodelState, drops, taken}
+use Rattle.q_codel.specs.declared.taken.Taken.{Taken}
+use Rattle.q_fqcodel.specs.Cleared.{adjust}
+use Rattle.q_fqcodel.specs.FqState.{Flow, FqState}
+use Rattle.q_fqcodel.specs.Take.{packet_sent, packets_dropped, flow_after, front, sender, sent_from, dropped_from, paid, with_sent, after_sending}
+use Rattle.q_fqcodel.specs.declared.entry.Entry.{Entry}
+
+drops-empty : (s : CodelState) (now : ℕ) → drops s now [] ≡ 0
+drops-empty s now = empty_if s.dropping
+  where
+    empty_if : (b : Bool) → cond b zero zero ≡ zero
+    empty_if true = refl
+    empty_if false = refl
+
+slice_within : (q : List Stamped) (n : ℕ) → IsSome (slice_get q n) → n < length q
+slice_within [] n h = absurd cc
+slice_within (x ∷ xs) zero h = omega arith
+slice_within (x ∷ xs) (suc n) h = omega (arith, slice_within xs n h)
+
+mapped_some : {A B : Type 0} (f : A → B) (o : Option A) → IsSome (option_map f o) → IsSome o
+mapped_some f None h = h
+mapped_some f (Some x) h = h
+
+-- no more are dropped than the flow has
+pub drops_within : (s : CodelState) (now : ℕ) (q : List Stamped) → (0 < count q → IsSome (taken s now q)) → drops s now q ≤ count q
+drops_within s now [] some = omega (arith, drops-empty s now)
+drops_within s now (x ∷ xs) some =
+    let within : drops s now (x ∷ xs) < length (x ∷ xs) = slice_within (x ∷ xs) (drops s now (x ∷ xs)) (mapped_some _ (slice_get (x ∷ xs) (drops s now (x ∷ xs))) (some (omega arith))) in
+    omega (arith, within)
+
+-- the packets dropped are so many
+pub count_dropped : (s : CodelState) (now : ℕ) (q : List Stamped) → (0 < count q → IsSome (taken s now q)) → count (take (drops s now q) q) ≡ drops s now q
+count_dropped s now q some = omega (arith, length-take (drops s now q) q, drops_within s now q some)
+
+-- ---- the flow in front sends
+
+pub slice_there : {X : Type 0} (xs : List X) (n : ℕ) → n < length xs → IsSome (slice_get xs n)
+slice_there [] n h = absurd (omega arith)
+slice_there (x ∷ xs) zero h = refl
+slice_there (x ∷ xs) (suc n) h = slice_there xs n (omega arith)
+
+-- the sender is the flow of the entry in front
+pub sender-is : (s : FqState) (e : Entry) (rest : List Entry) → s.fresh ++ s.stale ≡ e ∷ rest → sender s ≡ slice_get s.flows e.flow
+unfolding sender front
+sender-is s e rest h = ap (λ (l : List Entry). option_and_then (λ (e : Entry). slice_get s.flows e.flow) (slice_get l 0)) h
+
+sent_of : (now : ℕ) (o : Option Flow) (r : Option Taken) → IsSome o → IfSome o (λ f. r ≡ packet_sent now f) → option_and_then (packet_sent now) o ≡ r
+sent_of now None r some h = absurd cc
+sent_of now (Some f) r some h = sym h
+
+pub sent-is : (s : FqState) (e : Entry) (rest : List Entry) (now : ℕ) (r : Option Taken) → s.fresh ++ s.stale ≡ e ∷ rest → e.flow < length s.flows
+    → IfSome (slice_get s.flows e.flow) (λ f. r ≡ packet_sent now f) → sent_from now s ≡ r
+unfolding sent_from
+sent-is s e rest now r front within h =
+    ap (option_and_then (packet_sent now)) (sender-is s e rest front)
+    ∙ sent_of now (slice_get s.flows e.flow) r (slice_there s.flows e.flow within) h
+
+dropped_of : (now : ℕ) (o : Option Flow) (P : List Stamped → Type 0) → IsSome o → IfSome o (λ f. P (packets_dropped now f)) → P (unwrap_or (option_map (packets_dropped now) o) [])
+dropped_of now None P some h = absurd cc
+dropped_of now (Some f) P some h = h
+
+-- what is known of the packets that CoDel drops
+pub dropped-is : (s : FqState) (e : Entry) (rest : List Entry) (now : ℕ) (P : List Stamped → Type 0) → s.fresh ++ s.stale ≡ e ∷ rest → e.flow < length s.flows
+    → IfSome (slice_get s.flows e.flow) (λ f. P (packets_dropped now f)) → P (dropped_from now s)
+unfolding dropped_from
+dropped-is s e rest now P front within h =
+    subst (λ (o : Option Flow). P (unwrap_or (option_map (packets_dropped now) o) [])) (sym (sender-is s e rest front))
+    (dropped_of now (slice_get s.flows e.flow) P (slice_there s.flows e.flow within) h)
+
+pub after-fresh : (s : FqState) (e : Entry) (rest : List Entry) (now : ℕ) → s.fresh ≡ e ∷ rest
+    → after_sending now s ≡ record s { flows = adjust (flow_after now) e.flow s.flows; fresh = paid (sent_from now s) e ∷ rest }
+unfolding after_sending with_sent
+after-fresh s e rest now front = ap (λ (l : List Entry). with_sent now s l s.stale) front
+
+pub after-stale : (s : FqState) (e : Entry) (rest : List Entry) (now : ℕ) → s.fresh ≡ [] → s.stale ≡ e ∷ rest
+    → after_sending now s ≡ record s { flows = adjust (flow_after now) e.flow s.flows; stale = paid (sent_from now s) e ∷ rest }
+unfolding after_sending with_sent
+after-stale s e rest now none front =
+    ap₂ (λ (l m : List Entry). with_sent now s l m) none front
+    ∙ ap (λ (l : List Entry). record s { flows = adjust (flow_after now) e.flow s.flows; fresh = l; stale = paid (sent_from now s) e ∷ rest }) (sym none)
+
+pub after-none : (s : FqState) (now : ℕ) → s.fresh ≡ [] → s.stale ≡ [] → after_sending now s ≡ s
+unfolding after_sending with_sent
+after-none s now no_fresh no_stale =
+    ap₂ (λ (l m : List Entry). with_sent now s l m) no_fresh no_stale
+    ∙ ap₂ (λ (l m : List Entry). record s { fresh = l; stale = m }) (sym no_fresh) (sym no_stale)
+
+pub sent-none : (s : FqState) (now : ℕ) → s.fresh ≡ [] → s.stale ≡ [] → sent_from now s ≡ None
+unfolding sent_from sender front
+sent-none s now no_fresh no_stale =
+    ap₂ (λ (l m : List Entry). option_and_then (packet_sent now) (option_and_then (λ (e : Entry). slice_get s.flows e.flow) (slice_get (l ++ m) 0))) no_fresh no_stale
+
+pub dropped-none : (s : FqState) (now : ℕ) → s.fresh ≡ [] → s.stale ≡ [] → dropped_from now s ≡ []
+unfolding dropped_from sender front
+dropped-none s now no_fresh no_stale =
+    ap₂ (λ (l m : List Entry). unwrap_or (option_map (packets_dropped now) (option_and_then (λ (e : Entry). slice_get s.flows e.flow) (slice_get (l ++ m) 0))) []) no_fresh no_stale
+
+-- a flow that has sent has no more packets than before
+pub count-after : (now : ℕ) (f : Flow) → count (flow_after now f).queue ≤ count f.queue
+unfolding flow_after
+count-after now f = omega (arith, length-drop (suc (drops f.codel now f.queue)) f.queue)
+
+pub paid-is : (o : Option Taken) (t : Taken) (e : Entry) → o ≡ Some t → paid o e ≡ record e { credits = e.credits -ℤ pos t.packet.len }
+unfolding paid
+paid-is o t e h = ap (λ (p : Option Taken). paid p e) h
+
+pub flow-paid : (o : Option Taken) (e : Entry) → (paid o e).flow ≡ e.flow
+unfolding paid
+flow-paid None e = refl
+flow-paid (Some t) e = refl
+
+pub paid-by : (o : Option Taken) (t : Taken) (e : Entry) (len : ℕ) (z : ℤ) → o ≡ Some t → len ≡ t.packet.len → z ≡ e.credits -ℤ pos len → paid o e ≡ record { flow = e.flow; credits = z }
+paid-by o t e len z h same paying =
+    paid-is o t e h
+    ∙ ap (λ (n : ℕ). record e { credits = e.credits -ℤ pos n }) (sym same)
+    ∙ ap (λ (x : ℤ). record e { credits = x }) (sym paying)

@@ -1,0 +1,145 @@
+-- Packets leave the front of a flow one by one; a list changed from its first element to its last.
+use Rattle.std.proofs.Common.{◌≡◌, ℕ, zero, suc, ◌+◌, ◌<◌, ◌≤◌, Bool, List, [], ◌∷◌, ◌++◌, map, length, get_or, set, take, drop, replicate, Some, IsSome, refl, sym, ap, ap₂, ◌∙◌, arith, subst, append_assoc, append-nil, drop-drop, add-one}
+use Rattle.std.specs.Prelude.{slice_get}
+use Rattle.std.proofs.lemmas.List.{map-append, length-drop, drop_all}
+use Rattle.q_packet.specs.Totals.{count}
+use Rattle.q_packet.specs.declared.stamped.Stamped.{Stamped}
+use Rattle.q_packet.specs.declared.cause.Cause.{Cause}
+use Rattle.q_codel.specs.Codel.{CodelState}
+use Rattle.q_codel.specs.Losses.{losses_of}
+use Rattle.q_codel.specs.declared.loss.Loss.{Loss}
+use Rattle.q_fqcodel.specs.Cleared.{adjust}
+use Rattle.q_fqcodel.specs.FqState.{Flow, queue_of, packets_of, all_packets, retuned}
+use Rattle.q_fqcodel.specs.Put.{shortened}
+use Rattle.q_fqcodel.specs.Pool.{flows_from, queue_in}
+use Rattle.q_fqcodel.specs.declared.held.Held.{Held}
+use Rattle.q_fqcodel.proofs.FlowLemmas.{packets-cons, packets-nil}
+use Rattle.q_fqcodel.proofs.PoolLemmas.{queue_in-nil}
+use Rattle.q_fqcodel.proofs.SentLemmas.{slice_there}
+
+pub adjust-adjust : {F : Type 0} (g h : F → F) (n : ℕ) (xs : List F) → adjust h n (adjust g n xs) ≡ adjust (λ x. h (g x)) n xs
+unfolding adjust
+adjust-adjust g h n [] = refl
+adjust-adjust g h zero (x ∷ xs) = refl
+adjust-adjust g h (suc n) (x ∷ xs) = ap (λ (l : List _). x ∷ l) (adjust-adjust g h n xs)
+
+pub adjust-same : {F : Type 0} (g h : F → F) (n : ℕ) (xs : List F) → ((x : F) → g x ≡ h x) → adjust g n xs ≡ adjust h n xs
+unfolding adjust
+adjust-same g h n [] e = refl
+adjust-same g h zero (x ∷ xs) e = ap (λ (y : _). y ∷ xs) (e x)
+adjust-same g h (suc n) (x ∷ xs) e = ap (λ (l : List _). x ∷ l) (adjust-same g h n xs e)
+
+pub adjust-id : {F : Type 0} (g : F → F) (n : ℕ) (xs : List F) → ((x : F) → g x ≡ x) → adjust g n xs ≡ xs
+unfolding adjust
+adjust-id g n [] e = refl
+adjust-id g zero (x ∷ xs) e = ap (λ (y : _). y ∷ xs) (e x)
+adjust-id g (suc n) (x ∷ xs) e = ap (λ (l : List _). x ∷ l) (adjust-id g n xs e)
+
+-- no packet less
+pub shortened-none : (n : ℕ) (flows : List Flow) → adjust (shortened 0) n flows ≡ flows
+shortened-none n flows = adjust-id (shortened 0) n flows (λ f. refl)
+
+-- one packet more
+pub shortened-more : (i n : ℕ) (flows : List Flow) → adjust (shortened 1) n (adjust (shortened i) n flows) ≡ adjust (shortened (i + 1)) n flows
+shortened-more i n flows =
+    adjust-adjust (shortened i) (shortened 1) n flows
+    ∙ adjust-same (λ f. shortened 1 (shortened i f)) (shortened (i + 1)) n flows (λ f. ap (λ (q : List Stamped). record f { queue = q }) (drop-drop 1 i f.queue))
+
+-- what is left in the flow
+pub queue-shortened : (i n : ℕ) (flows : List Flow) → queue_of (adjust (shortened i) n flows) n ≡ drop i (queue_of flows n)
+unfolding adjust
+queue-shortened zero n [] = refl
+queue-shortened (suc i) n [] = refl
+queue-shortened i zero (f ∷ fs) = refl
+queue-shortened i (suc n) (f ∷ fs) = queue-shortened i n fs
+
+pub front_left : (i n : ℕ) (flows : List Flow) → i < count (queue_of flows n) → IsSome (slice_get (queue_of (adjust (shortened i) n flows) n) 0)
+front_left i n flows h =
+    subst (λ (q : List Stamped). IsSome (slice_get q 0)) (sym (queue-shortened i n flows))
+    (slice_there (drop i (queue_of flows n)) 0 (omega (arith, length-drop i (queue_of flows n))))
+
+-- a queue read at its i-th packet
+pub taken_more : (q : List Stamped) (i : ℕ) (x : Stamped) → slice_get (drop i q) 0 ≡ Some x → take (suc i) q ≡ take i q ++ x ∷ []
+taken_more [] zero x h = absurd cc
+taken_more [] (suc i) x h = absurd cc
+taken_more (y ∷ ys) zero x h = let e : y ≡ x = cc in ap (λ (z : Stamped). z ∷ []) e
+taken_more (y ∷ ys) (suc i) x h = ap (λ (l : List Stamped). y ∷ l) (taken_more ys i x h)
+
+-- the losses with one more
+pub lost_one : (old now new : List Loss) (cause : Cause) (q : List Stamped) (i : ℕ) (x : Stamped) → now ≡ old ++ losses_of cause (take i q) → new ≡ now ++ record { packet = x.packet; cause = cause } ∷ []
+    → slice_get (drop i q) 0 ≡ Some x → new ≡ old ++ losses_of cause (take (i + 1) q)
+lost_one old now new cause q i x before more read =
+    let one : losses_of cause (take (suc i) q) ≡ losses_of cause (take i q) ++ record { packet = x.packet; cause = cause } ∷ [] =
+    ap (losses_of cause) (taken_more q i x read) ∙ map-append (λ (s : Stamped). record { packet = s.packet; cause = cause }) (take i q) (x ∷ []) in
+    let next : losses_of cause (take (suc i) q) ≡ losses_of cause (take (i + 1) q) = ap (λ (n : ℕ). losses_of cause (take n q)) (sym (add-one i)) in
+    more
+    ∙ ap (λ (l : List Loss). l ++ record { packet = x.packet; cause = cause } ∷ []) before
+    ∙ append_assoc old (losses_of cause (take i q)) (record { packet = x.packet; cause = cause } ∷ [])
+    ∙ ap (λ (l : List Loss). old ++ l) (sym one ∙ next)
+
+-- all packets of a flow are lost
+pub emptied : (codel : CodelState) (m n : ℕ) (flows : List Flow) → n ≡ count (queue_of flows m)
+    → adjust (λ (f : Flow). record { queue = drop n f.queue; codel = codel }) m flows ≡ adjust (λ (f : Flow). record { queue = []; codel = codel }) m flows
+unfolding adjust
+emptied codel m n [] e = refl
+emptied codel zero n (f ∷ fs) e = ap (λ (q : List Stamped). record { queue = q; codel = codel } ∷ fs) (drop_all n f.queue (omega (arith, e)))
+emptied codel (suc m) n (f ∷ fs) e = ap (λ (l : List Flow). f ∷ l) (emptied codel m n fs e)
+
+-- ---- a purge, flow by flow
+
+-- the first n flows are as x, the others as they were
+pub purged-next : (x : Flow) (n : ℕ) (flows : List Flow) → n < length flows → adjust (λ _. x) n (replicate n x ++ drop n flows) ≡ replicate (suc n) x ++ drop (suc n) flows
+unfolding adjust
+purged-next x zero [] h = absurd (omega arith)
+purged-next x zero (f ∷ fs) h = refl
+purged-next x (suc n) [] h = absurd (omega arith)
+purged-next x (suc n) (f ∷ fs) h = ap (λ (l : List Flow). x ∷ l) (purged-next x n fs (omega arith))
+
+-- the next one is as it was
+pub purged-at : (x : Flow) (n : ℕ) (flows : List Flow) → n < length flows → queue_of (replicate n x ++ drop n flows) n ≡ queue_of flows n
+purged-at x zero flows h = refl
+purged-at x (suc n) [] h = absurd (omega arith)
+purged-at x (suc n) (f ∷ fs) h = purged-at x n fs (omega arith)
+
+pub all_packets-more : (n : ℕ) (flows : List Flow) → n < length flows → all_packets (take n flows) ++ queue_of flows n ≡ all_packets (take (suc n) flows)
+unfolding all_packets
+all_packets-more n [] h = absurd (omega arith)
+all_packets-more zero (f ∷ fs) h = sym (append-nil f.queue)
+all_packets-more (suc n) (f ∷ fs) h = append_assoc f.queue (all_packets (take n fs)) (queue_of fs n) ∙ ap (λ (l : List Stamped). f.queue ++ l) (all_packets-more n fs (omega arith))
+
+pub packets_of-more : (n : ℕ) (flows : List Flow) → n < length flows → packets_of (take n flows) + count (queue_of flows n) ≡ packets_of (take (suc n) flows)
+packets_of-more n [] h = absurd (omega arith)
+packets_of-more zero (f ∷ fs) h = omega (arith, packets-nil, packets-cons f [])
+packets_of-more (suc n) (f ∷ fs) h = omega (arith, packets-cons f (take n fs), packets-cons f (take (suc n) fs), packets_of-more n fs (omega arith))
+
+pub packets_of-part : (n : ℕ) (flows : List Flow) → packets_of (take n flows) ≤ packets_of flows
+packets_of-part zero flows = omega (arith, packets-nil)
+packets_of-part (suc n) [] = omega arith
+packets_of-part (suc n) (f ∷ fs) = omega (arith, packets-cons f (take n fs), packets-cons f fs, packets_of-part n fs)
+
+-- ---- every flow is changed alike
+
+pub changed-next : {X : Type 0} (g : X → X) (n : ℕ) (xs : List X) (d : X) → n < length xs → set (map g (take n xs) ++ drop n xs) n (g (get_or xs n d)) ≡ map g (take (suc n) xs) ++ drop (suc n) xs
+changed-next g n [] d h = absurd (omega arith)
+changed-next g zero (x ∷ xs) d h = refl
+changed-next g (suc n) (x ∷ xs) d h = ap (λ (l : List _). g x ∷ l) (changed-next g n xs d (omega arith))
+
+pub changed-at : {X : Type 0} (g : X → X) (n : ℕ) (xs : List X) (d : X) → n < length xs → get_or (map g (take n xs) ++ drop n xs) n d ≡ get_or xs n d
+changed-at g zero xs d h = refl
+changed-at g (suc n) [] d h = absurd (omega arith)
+changed-at g (suc n) (x ∷ xs) d h = changed-at g n xs d (omega arith)
+
+pub flows-retuned : (target interval : ℕ) (ecn : Bool) (k : ℕ) (held : List Held) (cs : List CodelState)
+    → flows_from k held (map (λ (c : CodelState). record c { target = target; interval = interval; ecn = ecn }) cs) ≡ map (retuned target interval ecn) (flows_from k held cs)
+unfolding flows_from retuned
+flows-retuned target interval ecn k held [] = refl
+flows-retuned target interval ecn k held (c ∷ cs) = ap (λ (l : List Flow). record { queue = queue_in k held; codel = record c { target = target; interval = interval; ecn = ecn } } ∷ l) (flows-retuned target interval ecn (suc k) held cs)
+
+pub flows-first : (codel : CodelState) (k n : ℕ) → flows_from k [] (replicate n codel) ≡ replicate n (record { queue = []; codel = codel })
+unfolding flows_from
+flows-first codel k zero = refl
+flows-first codel k (suc n) = ap₂ (λ (q : List Stamped) (l : List Flow). record { queue = q; codel = codel } ∷ l) (queue_in-nil k) (flows-first codel (suc k) n)
+
+pub all_packets-nil : all_packets [] ≡ []
+unfolding all_packets
+all_packets-nil = refl

@@ -1,0 +1,193 @@
+-- One turn of the scheduler: what it does to the state, and that the selection stays the same.
+use Rattle.std.proofs.Common.{◌≡◌, ℕ, suc, ◌+◌, ◌<◌, ◌≤◌, ℤ, pos, ◌+ℤ◌, ◌≤ℤ◌, ◌<ℤ◌, Bool, true, false, List, [], ◌∷◌, ◌++◌, length, drop, sum_by, refl, sym, ap, ap₂, ◌∙◌, subst, arith, get_or, ◌*◌}
+use Rattle.std.proofs.lemmas.Int.{ints}
+use Rattle.std.proofs.lemmas.List.Sums.{sum_by-cons, sum_by_push}
+use Rattle.q_fqcodel.specs.Cleared.{adjust, clear}
+use Rattle.q_fqcodel.specs.Quanta.{need, given}
+use Rattle.q_fqcodel.specs.Selection.{Lists, choose, turned, arranged}
+use Rattle.q_fqcodel.specs.FqState.{FqSettings, Flow, FqState, is_idle, rested_flow}
+use Rattle.q_fqcodel.specs.Take.{selected}
+use Rattle.q_fqcodel.specs.Turns.{GoesOn, turns}
+use Rattle.q_fqcodel.specs.declared.entry.Entry.{Entry}
+use Rattle.q_fqcodel.proofs.ClearedLemmas.{clear-nil, clear-cons}
+use Rattle.q_fqcodel.proofs.FlowLemmas.{idle-rested, packets-rested}
+use Rattle.q_fqcodel.proofs.QuantaLemmas.{need-none, need-more}
+use Rattle.q_fqcodel.proofs.SelectionLemmas.{Agree, same_lists, turned-granted, turned-leaves, turned-ready, arranged-nil, arranged-granted, arranged-moves, arranged-ready}
+
+with_lists : FqState → List Flow → List Entry → List Entry → FqState
+with_lists s flows fresh stale = record s { flows = flows; fresh = fresh; stale = stale }
+
+arranged_in : FqState → Lists
+arranged_in s = arranged s.settings.quantum (is_idle s.flows) s.fresh s.stale
+
+selected-is : (s : FqState) → selected s ≡ with_lists s (clear rested_flow (arranged_in s).gone s.flows) (arranged_in s).fresh (arranged_in s).stale
+unfolding selected with_lists arranged_in
+selected-is s = refl
+
+-- two states that select the same
+same_selected : (s t : FqState) → s.settings ≡ t.settings → s.places ≡ t.places → Agree rested_flow s.flows t.flows (arranged_in s) (arranged_in t) → selected s ≡ selected t
+unfolding with_lists
+same_selected s t settings places agree =
+    selected-is s
+    ∙ ap₂ (λ (x : FqSettings) (y : ℕ). record s { settings = x; places = y; flows = clear rested_flow (arranged_in s).gone s.flows; fresh = (arranged_in s).fresh; stale = (arranged_in s).stale }) settings places
+    ∙ ap (λ (x : List Flow). record t { flows = x; fresh = (arranged_in s).fresh; stale = (arranged_in s).stale }) agree.flows
+    ∙ ap₂ (λ (x y : List Entry). record t { flows = clear rested_flow (arranged_in t).gone t.flows; fresh = x; stale = y }) agree.fresh agree.stale
+    ∙ sym (selected-is t)
+
+fresh_turns : ℕ → Entry → ℕ
+fresh_turns q e = suc (suc (need q e))
+
+stale_turns : ℕ → Entry → ℕ
+stale_turns q e = suc (need q e)
+
+turns-is : (s : FqState) → turns s ≡ sum_by (fresh_turns s.settings.quantum) s.fresh + sum_by (stale_turns s.settings.quantum) s.stale
+unfolding turns fresh_turns stale_turns
+turns-is s = refl
+
+fresh_turns-is : (q : ℕ) (e : Entry) → fresh_turns q e ≡ suc (suc (need q e))
+unfolding fresh_turns
+fresh_turns-is q e = refl
+
+stale_turns-is : (q : ℕ) (e : Entry) → stale_turns q e ≡ suc (need q e)
+unfolding stale_turns
+stale_turns-is q e = refl
+
+-- ---- the new list
+
+module _ (s : FqState) (e : Entry) (rest : List Entry) (front : s.fresh ≡ e ∷ rest) where
+  pub fresh_granted : 1 ≤ s.settings.quantum → e.credits ≤ℤ pos 0 → GoesOn s (record s { fresh = rest; stale = s.stale ++ given s.settings.quantum 1 e ∷ [] })
+  unfolding arranged_in
+  fresh_granted positive low =
+      let q : ℕ = s.settings.quantum in
+      let t : FqState = record s { fresh = rest; stale = s.stale ++ given q 1 e ∷ [] } in
+      let lists : arranged_in s ≡ arranged_in t =
+      ap (λ (l : List Entry). arranged q (is_idle s.flows) l s.stale) front ∙ arranged-granted q (is_idle s.flows) e rest s.stale positive low in
+      record {
+        same = sym (same_selected s t refl refl (same_lists rested_flow s.flows (arranged_in s) (arranged_in t) lists));
+        fewer =
+            let a : sum_by (fresh_turns q) s.fresh ≡ fresh_turns q e + sum_by (fresh_turns q) rest = ap (sum_by (fresh_turns q)) front ∙ sum_by-cons (fresh_turns q) e rest in
+            let b : sum_by (stale_turns q) (s.stale ++ given q 1 e ∷ []) ≡ sum_by (stale_turns q) s.stale + stale_turns q (given q 1 e) = sum_by_push (stale_turns q) s.stale (given q 1 e) in
+            omega (arith, a, b, turns-is s, turns-is t, fresh_turns-is q e, stale_turns-is q (given q 1 e), need-more q e positive low);
+        packets = refl;
+      }
+
+  pub fresh_moves : pos 0 <ℤ e.credits → is_idle s.flows e.flow ≡ true → GoesOn s (record s { flows = adjust rested_flow e.flow s.flows; fresh = rest; stale = s.stale ++ e ∷ [] })
+  unfolding arranged_in
+  fresh_moves high empty =
+      let q : ℕ = s.settings.quantum in
+      let t : FqState = record s { flows = adjust rested_flow e.flow s.flows; fresh = rest; stale = s.stale ++ e ∷ [] } in
+      let ready : need q e ≡ 0 = need-none q e high in
+      let after : Lists = arranged q (is_idle s.flows) rest (s.stale ++ e ∷ []) in
+      let lists : arranged_in s ≡ record after { gone = e.flow ∷ after.gone } =
+      ap (λ (l : List Entry). arranged q (is_idle s.flows) l s.stale) front ∙ arranged-moves q (is_idle s.flows) e rest s.stale ready empty in
+      let lists' : after ≡ arranged_in t = ap (λ (i : ℕ → Bool). arranged q i rest (s.stale ++ e ∷ [])) (sym (idle-rested e.flow s.flows)) in
+      record {
+        same = sym (same_selected s t refl refl (record {
+          fresh = ap (λ (l : Lists). l.fresh) lists ∙ ap (λ (l : Lists). l.fresh) lists';
+          stale = ap (λ (l : Lists). l.stale) lists ∙ ap (λ (l : Lists). l.stale) lists';
+          flows =
+              ap (λ (l : Lists). clear rested_flow l.gone s.flows) lists
+              ∙ clear-cons rested_flow e.flow after.gone s.flows
+              ∙ ap (λ (l : Lists). clear rested_flow l.gone t.flows) lists';
+        }));
+        fewer =
+            let a : sum_by (fresh_turns q) s.fresh ≡ fresh_turns q e + sum_by (fresh_turns q) rest = ap (sum_by (fresh_turns q)) front ∙ sum_by-cons (fresh_turns q) e rest in
+            let b : sum_by (stale_turns q) (s.stale ++ e ∷ []) ≡ sum_by (stale_turns q) s.stale + stale_turns q e = sum_by_push (stale_turns q) s.stale e in
+            omega (arith, a, b, turns-is s, turns-is t, fresh_turns-is q e, stale_turns-is q e);
+        packets = packets-rested e.flow s.flows;
+      }
+
+  pub fresh_ready : pos 0 <ℤ e.credits → is_idle s.flows e.flow ≡ false → selected s ≡ s
+  unfolding arranged_in with_lists
+  fresh_ready high busy =
+      let q : ℕ = s.settings.quantum in
+      let lists : arranged_in s ≡ record { fresh = s.fresh; stale = s.stale; gone = [] } =
+      ap (λ (l : List Entry). arranged q (is_idle s.flows) l s.stale) front
+      ∙ arranged-ready q (is_idle s.flows) e rest s.stale (need-none q e high) busy
+      ∙ ap (λ (l : List Entry). record { fresh = l; stale = s.stale; gone = [] }) (sym front) in
+      selected-is s
+      ∙ ap (λ (l : Lists). with_lists s (clear rested_flow l.gone s.flows) l.fresh l.stale) lists
+      ∙ ap (λ (l : List Flow). with_lists s l s.fresh s.stale) (clear-nil rested_flow s.flows)
+
+-- ---- the old list
+
+module _ (s : FqState) (e : Entry) (rest : List Entry) (none : s.fresh ≡ []) (front : s.stale ≡ e ∷ rest) where
+  old_lists : arranged_in s ≡ turned s.settings.quantum (e ∷ rest) (choose s.settings.quantum (is_idle s.flows) (e ∷ rest))
+  unfolding arranged_in
+  old_lists =
+      ap₂ (λ (l m : List Entry). arranged s.settings.quantum (is_idle s.flows) l m) none front
+      ∙ arranged-nil s.settings.quantum (is_idle s.flows) (e ∷ rest)
+
+  pub stale_granted : 1 ≤ s.settings.quantum → e.credits ≤ℤ pos 0 → GoesOn s (record s { stale = rest ++ given s.settings.quantum 1 e ∷ [] })
+  unfolding arranged_in
+  stale_granted positive low =
+      let q : ℕ = s.settings.quantum in
+      let last : List Entry = rest ++ given q 1 e ∷ [] in
+      let t : FqState = record s { stale = last } in
+      let lists' : arranged_in t ≡ turned q last (choose q (is_idle s.flows) last) =
+      ap (λ (l : List Entry). arranged q (is_idle s.flows) l last) none ∙ arranged-nil q (is_idle s.flows) last in
+      let agree = turned-granted rested_flow q positive e low rest (is_idle s.flows) s.flows in
+      record {
+        same = sym (same_selected s t refl refl
+            (subst (λ (b : Lists). Agree rested_flow s.flows s.flows (arranged_in s) b) (sym lists')
+            (subst (λ (a : Lists). Agree rested_flow s.flows s.flows a (turned q last (choose q (is_idle s.flows) last))) (sym old_lists) agree)));
+        fewer =
+            let a : sum_by (stale_turns q) s.stale ≡ stale_turns q e + sum_by (stale_turns q) rest = ap (sum_by (stale_turns q)) front ∙ sum_by-cons (stale_turns q) e rest in
+            let b : sum_by (stale_turns q) last ≡ sum_by (stale_turns q) rest + stale_turns q (given q 1 e) = sum_by_push (stale_turns q) rest (given q 1 e) in
+            omega (arith, a, b, turns-is s, turns-is t, stale_turns-is q e, stale_turns-is q (given q 1 e), need-more q e positive low);
+        packets = refl;
+      }
+
+  pub stale_leaves : pos 0 <ℤ e.credits → is_idle s.flows e.flow ≡ true → GoesOn s (record s { flows = adjust rested_flow e.flow s.flows; stale = rest })
+  unfolding arranged_in
+  stale_leaves high empty =
+      let q : ℕ = s.settings.quantum in
+      let flows' : List Flow = adjust rested_flow e.flow s.flows in
+      let t : FqState = record s { flows = flows'; stale = rest } in
+      let lists' : arranged_in t ≡ turned q rest (choose q (is_idle s.flows) rest) =
+      ap₂ (λ (i : ℕ → Bool) (l : List Entry). arranged q i l rest) (idle-rested e.flow s.flows) none ∙ arranged-nil q (is_idle s.flows) rest in
+      let agree = turned-leaves rested_flow q e rest (need-none q e high) (is_idle s.flows) empty s.flows in
+      record {
+        same = sym (same_selected s t refl refl
+            (subst (λ (b : Lists). Agree rested_flow s.flows flows' (arranged_in s) b) (sym lists')
+            (subst (λ (a : Lists). Agree rested_flow s.flows flows' a (turned q rest (choose q (is_idle s.flows) rest))) (sym old_lists) agree)));
+        fewer =
+            let a : sum_by (stale_turns q) s.stale ≡ stale_turns q e + sum_by (stale_turns q) rest = ap (sum_by (stale_turns q)) front ∙ sum_by-cons (stale_turns q) e rest in
+            omega (arith, a, turns-is s, turns-is t, stale_turns-is q e);
+        packets = packets-rested e.flow s.flows;
+      }
+
+  pub stale_ready : pos 0 <ℤ e.credits → is_idle s.flows e.flow ≡ false → selected s ≡ s
+  unfolding with_lists
+  stale_ready high busy =
+      let q : ℕ = s.settings.quantum in
+      let lists : arranged_in s ≡ record { fresh = s.fresh; stale = s.stale; gone = [] } =
+      old_lists
+      ∙ turned-ready q e rest (need-none q e high) (is_idle s.flows) busy
+      ∙ ap₂ (λ (l m : List Entry). record { fresh = l; stale = m; gone = [] }) (sym none) (sym front) in
+      selected-is s
+      ∙ ap (λ (l : Lists). with_lists s (clear rested_flow l.gone s.flows) l.fresh l.stale) lists
+      ∙ ap (λ (l : List Flow). with_lists s l s.fresh s.stale) (clear-nil rested_flow s.flows)
+
+pub none_left : (s : FqState) → s.fresh ≡ [] → s.stale ≡ [] → selected s ≡ s
+unfolding with_lists arranged_in choose turned
+none_left s no_fresh no_stale =
+    let q : ℕ = s.settings.quantum in
+    let lists : arranged_in s ≡ record { fresh = s.fresh; stale = s.stale; gone = [] } =
+    ap₂ (λ (l m : List Entry). arranged q (is_idle s.flows) l m) no_fresh no_stale
+    ∙ arranged-nil q (is_idle s.flows) []
+    ∙ ap₂ (λ (l m : List Entry). record { fresh = l; stale = m; gone = [] }) (sym no_fresh) (sym no_stale) in
+    selected-is s
+    ∙ ap (λ (l : Lists). with_lists s (clear rested_flow l.gone s.flows) l.fresh l.stale) lists
+    ∙ ap (λ (l : List Flow). with_lists s l s.fresh s.stale) (clear-nil rested_flow s.flows)
+
+-- ---- for the code, which knows its lists by equations
+
+pub front_is : {X : Type 0} (xs : List X) (e : X) → 0 < length xs → e ≡ get_or xs 0 e → xs ≡ e ∷ drop 1 xs
+front_is [] e some read = absurd (omega arith)
+front_is (x ∷ xs) e some read = ap (λ (y : _). y ∷ xs) (sym read)
+
+-- an entry with one quantum more
+pub given-is : (q : ℕ) (e : Entry) (z : ℤ) → z ≡ e.credits +ℤ pos q → record { flow = e.flow; credits = z } ≡ given q 1 e
+unfolding given
+given-is q e z h = let w : z ≡ e.credits +ℤ pos (1 * q) = omega (arith, ints, h) in ap (λ (z : ℤ). record e { credits = z }) w

@@ -1,0 +1,83 @@
+-- What a contract sees of an fq_codel: its settings, its flows by index, and the lists of new and of old flows.
+-- RFC 8290, section 4; tc-fq_codel(8) has the settings.
+use Rattle.std.specs.Prelude.{ℕ, Bool, List, [], map, get_or, replicate, sum_by, flat_map, nat_eq}
+use Rattle.q_packet.specs.Totals.{count, size}
+use Rattle.q_packet.specs.declared.stamped.Stamped.{Stamped}
+use Rattle.q_codel.specs.Codel.{CodelState, at_first, rested}
+use Rattle.q_fqcodel.specs.declared.entry.Entry.{Entry}
+
+-- Times are in nanoseconds, lengths in bytes, `limit` and `drop_batch` in packets.
+pub record FqSettings : Type 0 where
+  pub limit : ℕ
+  pub flows : ℕ
+  pub quantum : ℕ
+  pub target : ℕ
+  pub interval : ℕ
+  pub ecn : Bool
+  pub drop_batch : ℕ
+  pub mtu : ℕ
+
+-- a flow: its packets, front first, and what CoDel knows of it
+pub record Flow : Type 0 where
+  pub queue : List Stamped
+  pub codel : CodelState
+
+-- `fresh` is the list of new flows and `stale` that of old ones, each from its front; `places` is the number of packets
+-- that there is memory for.
+pub record FqState : Type 0 where
+  pub settings : FqSettings
+  pub flows : List Flow
+  pub fresh : List Entry
+  pub stale : List Entry
+  pub places : ℕ
+
+abbrev pub queues : List Flow → List (List Stamped)
+queues flows = map (λ (f : Flow). f.queue) flows
+
+-- the packets of the flow with this index
+abbrev pub queue_of : List Flow → ℕ → List Stamped
+queue_of flows n = get_or (queues flows) n []
+
+-- whether the flow with this index is empty
+abbrev pub is_idle : List Flow → ℕ → Bool
+is_idle flows n = nat_eq (count (queue_of flows n)) 0
+
+-- the packets in all flows, and their bytes
+unfoldable pub packets_of : List Flow → ℕ
+packets_of flows = sum_by (λ (f : Flow). count f.queue) flows
+
+unfoldable pub bytes_of : List Flow → ℕ
+bytes_of flows = sum_by (λ (f : Flow). size f.queue) flows
+
+-- a flow that has sent nothing yet
+abbrev pub first_flow : FqSettings → Flow
+first_flow settings = record { queue = []; codel = at_first settings.target settings.interval settings.mtu settings.ecn }
+
+-- an fq_codel without packets that has sent nothing yet
+abbrev pub first_state : FqSettings → ℕ → FqState
+first_state settings places = record {
+  settings = settings;
+  flows = replicate settings.flows (first_flow settings);
+  fresh = [];
+  stale = [];
+  places = places;
+}
+
+-- a flow that was met empty, with credits
+unfoldable pub rested_flow : Flow → Flow
+rested_flow f = record f { codel = rested f.codel }
+
+-- a flow whose CoDel has other settings; its state stays
+unfoldable pub retuned : ℕ → ℕ → Bool → Flow → Flow
+retuned target interval ecn f = record f { codel = record f.codel { target = target; interval = interval; ecn = ecn } }
+
+-- the packets of all flows, flow by flow, each from its front
+unfoldable pub all_packets : List Flow → List Stamped
+all_packets flows = flat_map (λ (f : Flow). f.queue) flows
+
+-- a change of the settings: credits, lists and what CoDel knows stay
+abbrev pub after_change : FqState → FqSettings → FqState
+after_change s settings = record s {
+  settings = settings;
+  flows = map (retuned settings.target settings.interval settings.ecn) s.flows;
+}

@@ -1,0 +1,12 @@
+pub mod Cleared
+pub mod FlowsState
+pub mod FqState
+pub mod Lawful
+pub mod Pool
+pub mod PoolKept
+pub mod Put
+pub mod Quanta
+pub mod Ranges
+pub mod Selection
+pub mod Take
+pub mod Turns

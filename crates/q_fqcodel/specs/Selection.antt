@@ -1,0 +1,63 @@
+-- Which flow sends next, and what the lists of new and old flows are then, by numbers of quanta and not by rounds.
+-- RFC 8290, section 4.2. `idle n` says that flow n is empty; `gone` are the flows that left a list empty, with credits.
+use Rattle.std.specs.Prelude.{ℕ, zero, suc, Bool, if◌then◌else◌, nat_le, ◌==◌, List, [], ◌∷◌, ◌++◌, map, take, drop, Option, Some, None}
+use Rattle.q_fqcodel.specs.Quanta.{need, given, stay, leave}
+use Rattle.q_fqcodel.specs.declared.entry.Entry.{Entry}
+
+-- how many quanta the chosen flow gets, and where in the list it stands
+pub record Choice : Type 0 where
+  pub rounds : ℕ
+  pub place : ℕ
+
+-- both lists, and the flows that left one empty
+pub record Lists : Type 0 where
+  pub fresh : List Entry
+  pub stale : List Entry
+  pub gone : List ℕ
+
+-- a choice one place further back
+unfoldable pub later : Option Choice → Option Choice
+later None = None
+later (Some c) = Some (record { rounds = c.rounds; place = suc c.place })
+
+-- the flow in front, which needs n quanta, unless one behind it needs fewer
+unfoldable pub sooner : ℕ → Option Choice → Choice
+sooner n None = record { rounds = n; place = 0 }
+sooner n (Some c) = if nat_le n c.rounds then record { rounds = n; place = 0 } else record { rounds = c.rounds; place = suc c.place }
+
+-- of the flows that are not empty, the one that needs fewest quanta, of equals the first
+unfoldable pub choose : ℕ → (ℕ → Bool) → List Entry → Option Choice
+choose quantum idle [] = None
+choose quantum idle (e ∷ es) = if idle e.flow then later (choose quantum idle es) else Some (sooner (need quantum e) (choose quantum idle es))
+
+-- The old list once the chosen flow is in front: those that stood before it are visited once more than it and those
+-- behind it, and stand at the end. With none to choose, all leave.
+unfoldable pub turned : ℕ → List Entry → Option Choice → Lists
+turned quantum es None = record { fresh = []; stale = []; gone = map (λ e. e.flow) es }
+turned quantum es (Some c) = record {
+  fresh = [];
+  stale = stay quantum c.rounds (drop c.place es) ++ stay quantum (suc c.rounds) (take c.place es);
+  gone = leave quantum c.rounds (drop c.place es) ++ leave quantum (suc c.rounds) (take c.place es);
+}
+
+-- the place of the first flow that is not empty and needs no quantum, else the length
+unfoldable pub first_ready : ℕ → (ℕ → Bool) → List Entry → ℕ
+first_ready quantum idle [] = zero
+first_ready quantum idle (e ∷ es) = if idle e.flow then suc (first_ready quantum idle es) else (if need quantum e == 0 then zero else suc (first_ready quantum idle es))
+
+-- a new flow as it goes over to the old list: with one quantum, unless it has credits
+unfoldable pub moved : ℕ → Entry → Entry
+moved quantum e = if need quantum e == 0 then e else given quantum 1 e
+
+-- the lists where the new one begins with its first ready flow, or is empty
+unfoldable pub with_rest : ℕ → (ℕ → Bool) → List Entry → List Entry → Lists
+with_rest quantum idle [] stale = turned quantum stale (choose quantum idle stale)
+with_rest quantum idle (e ∷ es) stale = record { fresh = e ∷ es; stale = stale; gone = [] }
+
+-- Both lists once the flow that sends is in front of the new one, or of the old one where the new one is empty; both
+-- are empty where no flow has a packet.
+unfoldable pub arranged : ℕ → (ℕ → Bool) → List Entry → List Entry → Lists
+arranged quantum idle fresh stale =
+    let p = first_ready quantum idle fresh in
+    let rest = with_rest quantum idle (drop p fresh) (stale ++ map (moved quantum) (take p fresh)) in
+    record rest { gone = leave quantum 1 (take p fresh) ++ rest.gone }

@@ -1,0 +1,55 @@
+-- What an fq_codel sends next, what CoDel drops before it, and the state after.
+-- RFC 8290, section 4.2, with CoDel as RFC 8289, section 5, has it.
+use Rattle.std.specs.Prelude.{ℕ, pos, ◌-ℤ◌, List, [], ◌∷◌, ◌++◌, take, Option, Some, None, option_map, option_and_then, slice_get, unwrap_or}
+use Rattle.q_packet.specs.declared.stamped.Stamped.{Stamped}
+use Rattle.q_codel.specs.Codel.{drops, taken, left, after}
+use Rattle.q_codel.specs.declared.taken.Taken.{Taken}
+use Rattle.q_fqcodel.specs.Cleared.{adjust, clear}
+use Rattle.q_fqcodel.specs.Selection.{arranged}
+use Rattle.q_fqcodel.specs.FqState.{Flow, FqState, is_idle, rested_flow}
+use Rattle.q_fqcodel.specs.declared.entry.Entry.{Entry}
+
+-- the state once the flow that sends is in front, and before it sends
+unfoldable pub selected : FqState → FqState
+selected s =
+    let lists = arranged s.settings.quantum (is_idle s.flows) s.fresh s.stale in
+    record s { flows = clear rested_flow lists.gone s.flows; fresh = lists.fresh; stale = lists.stale }
+
+-- what CoDel makes of a flow that sends: the packet, those dropped before it, and the flow after
+unfoldable pub packet_sent : ℕ → Flow → Option Taken
+packet_sent now f = taken f.codel now f.queue
+
+unfoldable pub packets_dropped : ℕ → Flow → List Stamped
+packets_dropped now f = take (drops f.codel now f.queue) f.queue
+
+unfoldable pub flow_after : ℕ → Flow → Flow
+flow_after now f = record { queue = left f.codel now f.queue; codel = after f.codel now f.queue }
+
+-- the entry in front: of the new list, or of the old one where the new one is empty
+unfoldable pub front : FqState → Option Entry
+front s = slice_get (s.fresh ++ s.stale) 0
+
+-- the flow of that entry
+unfoldable pub sender : FqState → Option Flow
+sender s = option_and_then (λ (e : Entry). slice_get s.flows e.flow) (front s)
+
+-- the packet that the flow in front sends, and those that CoDel drops before it
+unfoldable pub sent_from : ℕ → FqState → Option Taken
+sent_from now s = option_and_then (packet_sent now) (sender s)
+
+unfoldable pub dropped_from : ℕ → FqState → List Stamped
+dropped_from now s = unwrap_or (option_map (packets_dropped now) (sender s)) []
+
+-- a flow that has sent pays the length of the packet
+unfoldable pub paid : Option Taken → Entry → Entry
+paid None e = e
+paid (Some t) e = record e { credits = e.credits -ℤ pos t.packet.len }
+
+-- the state where these are the lists, and the flow in front has sent and paid
+unfoldable pub with_sent : ℕ → FqState → List Entry → List Entry → FqState
+with_sent now s [] [] = record s { fresh = []; stale = [] }
+with_sent now s [] (e ∷ es) = record s { flows = adjust (flow_after now) e.flow s.flows; fresh = []; stale = paid (sent_from now s) e ∷ es }
+with_sent now s (e ∷ es) stale = record s { flows = adjust (flow_after now) e.flow s.flows; fresh = paid (sent_from now s) e ∷ es; stale = stale }
+
+unfoldable pub after_sending : ℕ → FqState → FqState
+after_sending now s = with_sent now s s.fresh s.stale

@@ -1,0 +1,276 @@
+ghost use Rattle.std.specs.Prelude.{◌≡◌, ◌+◌, ◌*◌, ◌<◌, ◌≤◌, ◌^◌, [], ◌++◌, ◌&&◌, ◌==◌, nat_le, length, map, replicate, take, slice_get, ◌↔◌, IsSome, IfSome, IsOk, IfOk, OnOk, OnErr};
+ghost use Rattle.q_packet.specs.Totals.{count};
+ghost use Rattle.q_codel.specs.Codel.{CodelState, drops, taken, left, after};
+ghost use Rattle.q_codel.specs.Losses.{losses_of};
+ghost use Rattle.q_fqcodel.specs.Cleared.{adjust};
+ghost use Rattle.q_fqcodel.specs.FqState.{queue_of, is_idle, packets_of, bytes_of, rested_flow, retuned, all_packets};
+ghost use Rattle.q_fqcodel.specs.Put.{joined, shortened, fattest, shed_count};
+ghost use Rattle.q_fqcodel.specs.Take.{packet_sent, packets_dropped, flow_after};
+ghost use Rattle.q_fqcodel.specs.Pool.{queue_in, SameBeside};
+
+use crate::flow_queue::FlowQueue;
+use crate::pool::Pool;
+use q_codel::{Codel, Sink, Taken};
+use q_packet::{Cause, Moment, Stamped};
+use std::alloc::{AllocError, Global};
+use std::marker::Model;
+
+/// All flows, by index: their packets, and CoDel for each.
+#[derive(Drop)]
+pub(crate) struct Flows {
+    pool: Pool,
+    codels: Vec<Codel>,
+}
+
+impl Model for Flows {
+    ghost use Rattle.std.specs.Prelude.{length, All, ◌<◌, ◌≤◌};
+    ghost use Rattle.q_fqcodel.specs.FlowsState.{FlowsState};
+    ghost use Rattle.q_fqcodel.specs.Pool.{flows_from};
+    ghost use Rattle.q_fqcodel.specs.declared.held.Held.{Held};
+
+    ghost Value = { FlowsState };
+
+    ghost view = { λ f. record { flows = flows_from 0 f.pool.held f.codels.items; places = f.pool.places } };
+
+    ghost invariant = { λ f.
+        All (λ (h : Held). h.flow < length f.codels.items) f.pool.held × (length f.codels.items ≤ 65536) };
+}
+
+impl Flows {
+    /// So many empty flows, each with this state of CoDel.
+    pub(crate) fn new(alloc: Global, count: u32, codel: Codel) -> Result<Flows, AllocError>
+        requires { count ≤ 65536 }
+        ensures { IfOk result (λ f. f.flows ≡ replicate count (record { queue = []; codel = codel })) }
+    {
+        let codels = vec![in alloc; codel; count as usize]?;
+        Ok(Flows {
+            pool: Pool::new(alloc),
+            codels,
+        })
+    }
+
+    /// Makes room for one packet more.
+    pub(crate) fn reserve(&mut self) -> Result<(), AllocError>
+        ensures flows { self.new.flows ≡ self.old.flows }
+        ensures ok { OnOk result (packets_of self.new.flows < self.new.places) }
+        ensures err { OnErr result (self.new ≡ self.old) }
+        ensures succeeds { packets_of self.old.flows < self.old.places → IsOk result }
+    {
+        self.pool.reserve()
+    }
+
+    /// The packets in all flows.
+    pub(crate) fn count(&self) -> u64
+        ensures { result ≡ packets_of self.now.flows }
+    {
+        self.pool.count()
+    }
+
+    /// Their bytes.
+    pub(crate) fn bytes(&self) -> u64
+        ensures { result ≡ bytes_of self.now.flows }
+    {
+        self.pool.bytes()
+    }
+
+    /// Whether a flow is empty.
+    pub(crate) fn is_idle(&self, flow: u32) -> bool
+        ensures { result ≡ is_idle self.now.flows flow }
+    {
+        self.pool.count_of(flow) == 0
+    }
+
+    /// The packets in a flow.
+    pub(crate) fn count_of(&self, flow: u32) -> u64
+        ensures { result ≡ count (queue_of self.now.flows flow) }
+    {
+        self.pool.count_of(flow)
+    }
+
+    /// Appends a packet to a flow.
+    pub(crate) fn push(&mut self, flow: u32, stamped: Stamped)
+        requires in_range { flow < length self.old.flows }
+        requires place { packets_of self.old.flows < self.old.places }
+        requires few { packets_of self.old.flows < 2 ^ 32 }
+        ensures flows { self.new.flows ≡ adjust (joined stamped) flow self.old.flows }
+        ensures places { self.new.places ≡ self.old.places }
+    {
+        self.pool.push(stamped, flow);
+    }
+
+    /// Takes the packet in front of a flow.
+    pub(crate) fn drop_front(&mut self, flow: u32) -> Option<Stamped>
+        ensures front { result ≡ slice_get (queue_of self.old.flows flow) 0 }
+        ensures flows { self.new.flows ≡ adjust (shortened 1) flow self.old.flows }
+        ensures places { self.new.places ≡ self.old.places }
+    {
+        self.pool.take_of(flow)
+    }
+
+    /// Notes that a flow was met empty, with credits.
+    pub(crate) fn rest(&mut self, flow: u32)
+        requires { flow < length self.old.flows }
+        ensures flows { self.new.flows ≡ adjust rested_flow flow self.old.flows }
+        ensures places { self.new.places ≡ self.old.places }
+    {
+        self.codels[flow as usize].rest();
+    }
+
+    /// Lets a flow send by CoDel's law.
+    pub(crate) fn send<S: Sink>(&mut self, flow: u32, now: Moment, sink: &mut S) -> Option<Taken>
+        requires in_range { flow < length self.old.flows }
+        requires room { count (queue_of self.old.flows flow) ≤ S.room sink.old }
+        ensures sent { IfSome (slice_get self.old.flows flow) (λ f. result ≡ packet_sent now f) }
+        ensures flows { self.new.flows ≡ adjust (flow_after now) flow self.old.flows }
+        ensures places { self.new.places ≡ self.old.places }
+        ensures lost { IfSome (slice_get self.old.flows flow)
+            (λ f. S.losses sink.new ≡ S.losses sink.old ++ losses_of Cause.CoDel (packets_dropped now f)) }
+        ensures room { IfSome (slice_get self.old.flows flow)
+            (λ f. S.room sink.new + count (packets_dropped now f) ≡ S.room sink.old) }
+        ensures some { IsSome result ↔ (0 < count (queue_of self.old.flows flow)) }
+        ensures kept { S.keeps sink.old sink.new }
+    {
+        send_from(
+            &mut self.pool,
+            &mut self.codels[flow as usize],
+            flow,
+            now,
+            sink,
+        )
+    }
+
+    /// The flow with the most bytes, of equals the first.
+    pub(crate) fn fattest(&self) -> u32
+        requires { 0 < length self.now.flows }
+        ensures value { result ≡ fattest self.now.flows }
+        ensures within { result < length self.now.flows }
+        ensures some { 0 < packets_of self.now.flows → 0 < count (queue_of self.now.flows result) }
+    {
+        let mut fattest = 0;
+        let mut most = self.pool.bytes_of(0);
+        for flow in 1..self.codels.len() as u32 {
+            let bytes = self.pool.bytes_of(flow);
+            if bytes > most {
+                fattest = flow;
+                most = bytes;
+            }
+        }
+        fattest
+    }
+
+    /// Loses the first `lost` packets of a flow.
+    pub(crate) fn lose<S: Sink>(&mut self, flow: u32, lost: u64, cause: Cause, sink: &mut S)
+        requires held { lost ≤ count (queue_of self.old.flows flow) }
+        requires room { lost ≤ S.room sink.old }
+        ensures flows { self.new.flows ≡ adjust (shortened lost) flow self.old.flows }
+        ensures places { self.new.places ≡ self.old.places }
+        ensures lost { S.losses sink.new ≡ S.losses sink.old ++ losses_of cause (take lost (queue_of self.old.flows flow)) }
+        ensures room { S.room sink.new + lost ≡ S.room sink.old }
+        ensures kept { S.keeps sink.old sink.new }
+    {
+        for _i in 0..lost {
+            let stamped = self.drop_front(flow).unwrap();
+            sink.lost(stamped.packet, cause);
+        }
+    }
+
+    /// How many packets the fat flow loses where the limit is passed.
+    pub(crate) fn shed_count(&self, fat: u32, batch: u32) -> u64
+        requires fat { fat ≡ fattest self.now.flows }
+        requires some { 0 < packets_of self.now.flows }
+        ensures { result ≡ shed_count self.now.flows batch }
+    {
+        let most = self.count_of(fat).min(self.count() - 1);
+        most.min(batch as u64)
+    }
+
+    /// Whether the last packet of the flow `own` is among the first `lost` packets of the flow `fat`.
+    pub(crate) fn is_last_among(&self, own: u32, fat: u32, lost: u64) -> bool
+        ensures { result ≡ ((fat == own) && nat_le (count (queue_of self.now.flows own)) lost) }
+    {
+        fat == own && self.count_of(own) <= lost
+    }
+
+    /// Changes the settings of CoDel for all flows.
+    pub(crate) fn set_params(&mut self, target: u64, interval: u64, ecn: bool)
+        requires target { target ≤ 10 ^ 12 }
+        requires interval_low { 1000 ≤ interval }
+        requires interval_high { interval ≤ 10 ^ 12 }
+        ensures flows { self.new.flows ≡ map (retuned target interval ecn) self.old.flows }
+        ensures places { self.new.places ≡ self.old.places }
+    {
+        retune(&mut self.codels, target, interval, ecn);
+    }
+
+    /// Loses all packets of a flow, and sets the state of its CoDel.
+    fn empty<S: Sink>(&mut self, flow: u32, codel: Codel, sink: &mut S)
+        requires in_range { flow < length self.old.flows }
+        requires room { count (queue_of self.old.flows flow) ≤ S.room sink.old }
+        ensures flows { self.new.flows ≡ adjust (λ _. record { queue = []; codel = codel }) flow self.old.flows }
+        ensures places { self.new.places ≡ self.old.places }
+        ensures lost { S.losses sink.new ≡ S.losses sink.old ++ losses_of Cause.Purged (queue_of self.old.flows flow) }
+        ensures room { S.room sink.new + count (queue_of self.old.flows flow) ≡ S.room sink.old }
+        ensures kept { S.keeps sink.old sink.new }
+    {
+        let count = self.count_of(flow);
+        self.lose(flow, count, Cause::Purged, sink);
+        self.codels[flow as usize] = codel;
+    }
+
+    /// Loses every packet, flow by flow, and sets the state of CoDel of each.
+    pub(crate) fn purge<S: Sink>(&mut self, codel: Codel, sink: &mut S)
+        requires { packets_of self.old.flows ≤ S.room sink.old }
+        ensures flows { self.new.flows ≡ replicate (length self.old.flows) (record { queue = []; codel = codel }) }
+        ensures places { self.new.places ≡ self.old.places }
+        ensures lost { S.losses sink.new ≡ S.losses sink.old ++ losses_of Cause.Purged (all_packets self.old.flows) }
+        ensures room { S.room sink.new + packets_of self.old.flows ≡ S.room sink.old }
+        ensures kept { S.keeps sink.old sink.new }
+    {
+        for flow in 0..self.len() {
+            self.empty(flow, codel, sink);
+        }
+    }
+
+    // The number of flows.
+    fn len(&self) -> u32
+        ensures value { result ≡ length self.now.flows }
+        ensures small { result ≤ 65536 }
+    {
+        self.codels.len() as u32
+    }
+}
+
+// Sets what the settings of an fq_codel say of CoDel, for each flow.
+fn retune(codels: &mut Vec<Codel>, target: u64, interval: u64, ecn: bool)
+    requires target { target ≤ 10 ^ 12 }
+    requires interval_low { 1000 ≤ interval }
+    requires interval_high { interval ≤ 10 ^ 12 }
+    ensures { codels.new.items ≡ map (λ (c : CodelState). record c { target = target; interval = interval; ecn = ecn }) codels.old.items }
+{
+    for i in 0..codels.len() {
+        codels[i].set_params(target, interval, ecn);
+    }
+}
+
+fn send_from<S: Sink>(
+    pool: &mut Pool,
+    codel: &mut Codel,
+    flow: u32,
+    now: Moment,
+    sink: &mut S,
+) -> Option<Taken>
+    requires { count (queue_in flow pool.old.held) ≤ S.room sink.old }
+    ensures sent { result ≡ taken codel.old now (queue_in flow pool.old.held) }
+    ensures left { queue_in flow pool.new.held ≡ left codel.old now (queue_in flow pool.old.held) }
+    ensures state { codel.new ≡ after codel.old now (queue_in flow pool.old.held) }
+    ensures lost { S.losses sink.new ≡ S.losses sink.old
+        ++ losses_of Cause.CoDel (take (drops codel.old now (queue_in flow pool.old.held)) (queue_in flow pool.old.held)) }
+    ensures room { S.room sink.new + drops codel.old now (queue_in flow pool.old.held) ≡ S.room sink.old }
+    ensures some { IsSome result ↔ (0 < count (queue_in flow pool.old.held)) }
+    ensures others { SameBeside flow pool.old.held pool.new.held }
+    ensures places { pool.new.places ≡ pool.old.places }
+    ensures kept { S.keeps sink.old sink.new }
+{
+    let mut queue = FlowQueue { pool, flow };
+    codel.take(&mut queue, now, sink)
+}

@@ -1,0 +1,28 @@
+//! FQ-CoDel: flows that share a link by quanta, each managed by CoDel (RFC 8290, tc-fq_codel(8)).
+//!
+//! - [`Settings`] are the settings, each within its range: `Settings::new(..) -> Option<Settings>`, `Settings::defaults(mtu)`.
+//! - [`FqCodel::new`] takes all memory of flows and lists, [`FqCodel::reserve`] a place for one packet. No other call takes
+//!   memory.
+//! - [`FqCodel::put`] puts a packet into its flow, `hash mod flows`. Past the limit the flow with the most bytes loses a batch
+//!   from its front; the answer says whether the packet that was put is itself lost.
+//! - [`FqCodel::take`] gives the next packet to send, with CoDel's drops and marks.
+//! - [`FqCodel::change`] replaces the settings, [`FqCodel::purge`] loses every packet, [`FqCodel::queued`] counts.
+//!
+//! A contract sees an fq_codel as the record `FqState` (`specs/FqState.antt`). `put` is `after_put` and `lost_by_put` of
+//! `specs/Put.antt`: the fat flow and its batch. `take` is `selected` and what is sent from it (`specs/Take.antt`): for each
+//! listed flow the least number of quanta that makes its credits positive (`specs/Quanta.antt`), and from these numbers the
+//! flow that sends and both lists (`specs/Selection.antt`). No definition goes round by round, as the code does. Each call's
+//! losses reach the lent sink in order, with their cause. `specs/Lawful.antt` has what every value of the type keeps.
+#![tactic(auto)]
+
+mod entry;
+mod flow_queue;
+mod flows;
+mod fq_codel;
+mod held;
+mod pool;
+mod settings;
+
+pub use entry::Entry;
+pub use fq_codel::FqCodel;
+pub use settings::Settings;
