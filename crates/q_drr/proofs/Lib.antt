@@ -5,3 +5,4 @@ pub mod ScheduleLemmas
 pub mod StateLemmas
 pub mod StretchLemmas
 pub mod TakeLemmas
+pub mod TurnLemmas

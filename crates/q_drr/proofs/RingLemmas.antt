@@ -1,13 +1,13 @@
 -- Paths along links, and what a new link makes of a circle.
-use Rattle.std.proofs.Common.{◌≡◌, ℕ, zero, suc, ◌+◌, ◌<◌, ◌≤◌, Bool, true, false, eqb, ◌||◌, cond, List, [], ◌∷◌, ◌++◌, length, refl, sym, ap, ◌∙◌, subst, inl, inr, arith, eq-eqb, append_assoc, add-one, take, drop, ◌-◌, ◌≢◌, ◌^◌, length-append, replicate}
+use Rattle.std.proofs.Common.{◌≡◌, ℕ, zero, suc, ◌+◌, ◌<◌, ◌≤◌, Bool, true, false, eqb, ◌||◌, List, [], ◌∷◌, ◌++◌, length, refl, sym, ap, ◌∙◌, subst, inl, inr, arith, eq-eqb, append_assoc, add-one, take, drop, ◌-◌, ◌≢◌, ◌^◌, length-append, replicate}
 use Rattle.std.proofs.Math.ListN.{length-replicate}
 use Rattle.std.specs.Prelude.{if◌then◌else◌, slice_index_or}
-use Rattle.std.proofs.lemmas.Bool.{eqb-true, ne_eqb, false≢true, or_parts, or_from, cases_Bool, cases_lt, false_from_ne_true}
+use Rattle.std.proofs.lemmas.Bool.{eqb-true, false≢true, or_parts, or_from, cases_Bool, cases_lt, false_from_ne_true}
 use Rattle.std.proofs.lemmas.List.{append-nil, length_push, get_or_append_left, get_or-append_right, take_all}
 use Rattle.std.specs.List.{AllByRecursion}
 use Rattle.q_drr.specs.declared.ring.Link.{Link}
-use Rattle.q_drr.specs.Links.{Circle, no_link, without, is_among, AllDiffer, walk, IsPath, IsClosed, IsCircle, IsJoined, IsMarked, next_of, before_of, here_of}
-use Rattle.q_drr.proofs.NameLemmas.{differ_by_member, eqb_swap, among_itself, among_push, among_rotated, differ_push, differ_rotated, each_push, each_at, place_of, Place, among-append}
+use Rattle.q_drr.specs.Links.{Circle, no_link, without, is_among, AllDiffer, walk, IsPath, IsClosed, IsCircle, IsJoined, IsMarked, next_of, before_of}
+use Rattle.q_drr.proofs.NameLemmas.{differ_by_member, eqb_swap, among_itself, among_rotated, differ_push, differ_rotated, each_push, each_at, place_of, among-append}
 
 if_true : (t : Bool) (x y z : ℕ) → z ≡ (if t then x else y) → t ≡ true → z ≡ x
 if_true true x y z e p = e

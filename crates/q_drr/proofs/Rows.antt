@@ -1,9 +1,7 @@
 -- Worked examples of the definitions, by computation.
-use Rattle.std.proofs.Common.{◌≡◌, ℕ, List, [], ◌∷◌, Option, Some, None, refl}
-use Rattle.q_drr.specs.declared.turn.Turn.{Turn}
+use Rattle.std.proofs.Common.{◌≡◌, [], ◌∷◌, Some, None, refl}
 use Rattle.q_drr.specs.declared.turn.Turn.TheVariants.{Send, Granted}
-use Rattle.q_drr.specs.declared.met.Met.{Met}
-use Rattle.q_drr.specs.Schedule.{Schedule, Entry, no_classes, added, woken, asleep, removed, with_quantum, turned, turn_answer, deficit_of, granted_of}
+use Rattle.q_drr.specs.Schedule.{Schedule, no_classes, added, woken, with_quantum, turned, turn_answer, deficit_of}
 use Rattle.q_drr.specs.Take.{grants_for, served, met, head_at}
 use Rattle.q_drr.specs.Stretch.{after_turns, grants, sent}
 

@@ -1,14 +1,13 @@
 -- What an active list shows, after each change of its table and its circle.
-use Rattle.std.proofs.Common.{◌≡◌, ◌≢◌, ℕ, zero, suc, ◌+◌, ◌-◌, ◌*◌, ◌<◌, ◌≤◌, ◌^◌, min, Bool, true, false, eqb, leb, ltb, ◌||◌, not, cond, List, [], ◌∷◌, ◌++◌, map, length, refl, sym, ap, ◌∙◌, subst, inl, inr, arith, eq-eqb, take, drop, Option, Some, None}
-use Rattle.std.specs.Prelude.{if◌then◌else◌, slice_get, ◌==◌, nat_le}
+use Rattle.std.proofs.Common.{◌≡◌, ℕ, ◌+◌, ◌-◌, ◌<◌, ◌≤◌, ◌^◌, min, Bool, true, false, eqb, ◌||◌, not, cond, List, [], ◌∷◌, ◌++◌, map, refl, sym, ap, ◌∙◌, subst, inl, inr, arith, eq-eqb, take, drop}
+use Rattle.std.specs.Prelude.{if◌then◌else◌, slice_get, ◌==◌}
 use Rattle.std.specs.List.{AllByRecursion, filter}
-use Rattle.std.proofs.lemmas.Bool.{eqb-true, ne_eqb, false≢true, or_parts, or_from, cases_Bool, le-leb, lt-leb}
+use Rattle.std.proofs.lemmas.Bool.{eqb-true, false≢true, or_parts, or_from, cases_Bool}
 use Rattle.std.proofs.lemmas.List.{map-append}
 use Rattle.q_drr.specs.declared.class_state.ClassState.{ClassState}
 use Rattle.q_drr.specs.Links.{Circle, is_among, without, AllDiffer}
-use Rattle.q_drr.specs.declared.turn.Turn.TheVariants.{Send, Granted}
-use Rattle.q_drr.specs.States.{no_state, has_state, state_of, with_state, without_state, class_in, entry_in}
-use Rattle.q_drr.specs.Schedule.{Class, Entry, Schedule, woken, asleep, removed, added, with_quantum, has_class, quantum_of, is_active, deficit_of, granted_of, after_grants, turn_answer, active_after, turned, cut, IsEntry, ClassesDiffer, EntriesDiffer, IsLawful, counted}
+use Rattle.q_drr.specs.States.{has_state, state_of, with_state, without_state, class_in, entry_in}
+use Rattle.q_drr.specs.Schedule.{Class, Entry, Schedule, woken, asleep, removed, added, with_quantum, has_class, quantum_of, is_active, deficit_of, granted_of, cut, IsEntry, ClassesDiffer, EntriesDiffer, IsLawful}
 use Rattle.q_drr.specs.Kept.{shown, IsState, StatesDiffer, IsKept}
 use Rattle.q_drr.proofs.NameLemmas.{each_at, each_push, differ_by_member, differ_push, differ_rotated, eqb_swap, without_absent}
 use Rattle.q_drr.proofs.StateLemmas.{with_absent}
@@ -196,11 +195,11 @@ entry_put new states n name there =
     ap (λ m. state_of m (with_state new states)) (sym name) ∙ state_of_same new states (ap (λ m. has_state m states) name ∙ there) in
     ap (λ (c : ClassState). record { class = n; deficit = c.deficit; granted = c.granted }) at
 
-same_entry : (n deficit deficit' granted granted' : ℕ) → deficit ≡ deficit' → granted ≡ granted'
+pub same_entry : (n deficit deficit' granted granted' : ℕ) → deficit ≡ deficit' → granted ≡ granted'
     → ◌≡◌ {A = Entry} (record { class = n; deficit = deficit; granted = granted }) (record { class = n; deficit = deficit'; granted = granted' })
 same_entry n deficit deficit' granted granted' e f = cc
 
-same_schedule : (max_len turns turns' : ℕ) (cs cs' : List Class) (es es' : List Entry) → cs ≡ cs' → es ≡ es' → turns ≡ turns'
+pub same_schedule : (max_len turns turns' : ℕ) (cs cs' : List Class) (es es' : List Entry) → cs ≡ cs' → es ≡ es' → turns ≡ turns'
     → ◌≡◌ {A = Schedule} (record { max_len = max_len; classes = cs; active = es; turns = turns }) (record { max_len = max_len; classes = cs'; active = es'; turns = turns' })
 same_schedule max_len turns turns' cs cs' es es' e f g = cc
 
@@ -424,36 +423,6 @@ kept_added max_len states circle new absent p h = record {
   order_differs = h.order_differs;
 }
 
--- `turn`
-pub sent_shown : (max_len turns len : ℕ) (states : List ClassState) (n : ℕ) (order : List ℕ) (new : ClassState) → StatesDiffer states → has_state n states ≡ true → is_among n order ≡ false
-    → len ≤ (state_of n states).deficit → new.name ≡ n → new.quantum ≡ (state_of n states).quantum → new.deficit ≡ (state_of n states).deficit - len → new.granted ≡ (state_of n states).granted
-    → shown max_len (counted (turns + 1)) (with_state new states) (n ∷ order) ≡ turned len (shown max_len turns states (n ∷ order))
-sent_shown max_len turns len states n order new differ there absent covers name quantum deficit granted =
-    let e : map (entry_in (with_state new states)) (n ∷ order) ≡ record { class = n; deficit = (state_of n states).deficit - len; granted = (state_of n states).granted } ∷ map (entry_in states) order =
-    ap (λ x. x ∷ map (entry_in (with_state new states)) order) (entry_put new states n name there ∙ same_entry n _ _ _ _ deficit granted)
-    ∙ ap (λ xs. record { class = n; deficit = (state_of n states).deficit - len; granted = (state_of n states).granted } ∷ xs) (entries_with new states order (ap (λ m. is_among m order) name ∙ absent)) in
-    same_schedule max_len _ _ _ _ _ _ (classes_with new states differ (quantum ∙ ap (λ m. (state_of m states).quantum) (sym name)))
-    (e ∙ sym (ap (λ (t : Bool). if t then record (entry_in states n) { deficit = (state_of n states).deficit - len } ∷ map (entry_in states) order
-    else map (entry_in states) order ++ after_grants (quantum_of n (map class_in states)) 1 (entry_in states n) ∷ []) (le-leb len (state_of n states).deficit covers))) refl
-
-pub granted_shown : (max_len turns len : ℕ) (states : List ClassState) (n : ℕ) (order : List ℕ) (new : ClassState) → StatesDiffer states → has_state n states ≡ true → is_among n order ≡ false
-    → (state_of n states).deficit < len → new.name ≡ n → new.quantum ≡ (state_of n states).quantum → new.deficit ≡ (state_of n states).deficit + (state_of n states).quantum
-    → new.granted ≡ counted ((state_of n states).granted + (state_of n states).quantum)
-    → shown max_len (counted (turns + 1)) (with_state new states) (order ++ n ∷ []) ≡ turned len (shown max_len turns states (n ∷ order))
-granted_shown max_len turns len states n order new differ there absent short name quantum deficit granted =
-    let one : quantum_of n (map class_in states) ≡ (state_of n states).quantum = quantum_in n states in
-    let last : entry_in (with_state new states) n ≡ after_grants (quantum_of n (map class_in states)) 1 (entry_in states n) =
-    entry_put new states n name there ∙ same_entry n _ _ _ _
-    (deficit ∙ omega (arith, one))
-    (granted ∙ ap (λ k. counted ((state_of n states).granted + k)) (omega (arith, one))) in
-    let e : map (entry_in (with_state new states)) (order ++ n ∷ []) ≡ map (entry_in states) order ++ after_grants (quantum_of n (map class_in states)) 1 (entry_in states n) ∷ [] =
-    map-append (entry_in (with_state new states)) order (n ∷ [])
-    ∙ ap (λ xs. xs ++ entry_in (with_state new states) n ∷ []) (entries_with new states order (ap (λ m. is_among m order) name ∙ absent))
-    ∙ ap (λ x. map (entry_in states) order ++ x ∷ []) last in
-    same_schedule max_len _ _ _ _ _ _ (classes_with new states differ (quantum ∙ ap (λ m. (state_of m states).quantum) (sym name)))
-    (e ∙ sym (ap (λ (t : Bool). if t then record (entry_in states n) { deficit = (state_of n states).deficit - len } ∷ map (entry_in states) order
-    else map (entry_in states) order ++ after_grants (quantum_of n (map class_in states)) 1 (entry_in states n) ∷ []) (lt-leb len (state_of n states).deficit short))) refl
-
 -- `set_quantum`
 head_class : (n q : ℕ) (new c : ClassState) → new.name ≡ n → new.quantum ≡ q → class_in (if eqb new.name c.name then new else c) ≡ (if eqb n c.name then record (class_in c) { quantum = q } else class_in c)
 head_class n q new c name quantum = elim (cases_Bool (eqb new.name c.name)) [
@@ -489,35 +458,6 @@ pub requantized_shown : (max_len turns q : ℕ) (states : List ClassState) (orde
     → shown max_len turns (with_state new states) order ≡ with_quantum n q (shown max_len turns states order)
 requantized_shown max_len turns q states order n new there name quantum deficit granted =
     same_schedule max_len turns turns _ _ _ _ (classes_requantized n q new states name quantum) (entries_cut n q max_len new states order there name deficit granted) refl
-
--- the class in front
-pub front_there : (states : List ClassState) (order : List ℕ) (n : ℕ) → slice_get order 0 ≡ Some n → AllByRecursion (λ m. has_state m states ≡ true) order → has_state n states ≡ true
-front_there states [] n front known = cc
-front_there states (m ∷ order) n front known = let e : m ≡ n = cc in ap (λ k. has_state k states) (sym e) ∙ known.0
-
-pub front_deficit : (max_len turns : ℕ) (states : List ClassState) (order : List ℕ) (n len : ℕ) → slice_get order 0 ≡ Some n
-    → turn_answer len (shown max_len turns states order).active ≡ (if nat_le len (state_of n states).deficit then Send else Granted)
-front_deficit max_len turns states [] n len front = cc
-front_deficit max_len turns states (m ∷ order) n len front = let e : m ≡ n = cc in ap (λ k. if nat_le len (state_of k states).deficit then Send else Granted) e
-
-pub sent_front : (max_len turns len : ℕ) (states : List ClassState) (order : List ℕ) (n : ℕ) (new : ClassState) → slice_get order 0 ≡ Some n → AllDiffer order → StatesDiffer states → has_state n states ≡ true
-    → len ≤ (state_of n states).deficit → new.name ≡ n → new.quantum ≡ (state_of n states).quantum → new.deficit ≡ (state_of n states).deficit - len → new.granted ≡ (state_of n states).granted
-    → shown max_len (counted (turns + 1)) (with_state new states) order ≡ turned len (shown max_len turns states order)
-sent_front max_len turns len states [] n new front apart differ there covers name quantum deficit granted = cc
-sent_front max_len turns len states (m ∷ order) n new front apart differ there covers name quantum deficit granted =
-    let e : n ≡ m = cc in
-    subst (λ k. shown max_len (counted (turns + 1)) (with_state new states) (k ∷ order) ≡ turned len (shown max_len turns states (k ∷ order))) e
-    (sent_shown max_len turns len states n order new differ there (ap (λ k. is_among k order) e ∙ apart.0) covers name quantum deficit granted)
-
-pub granted_front : (max_len turns len : ℕ) (states : List ClassState) (order : List ℕ) (n : ℕ) (new : ClassState) → slice_get order 0 ≡ Some n → AllDiffer order → StatesDiffer states → has_state n states ≡ true
-    → (state_of n states).deficit < len → new.name ≡ n → new.quantum ≡ (state_of n states).quantum → new.deficit ≡ (state_of n states).deficit + (state_of n states).quantum
-    → new.granted ≡ counted ((state_of n states).granted + (state_of n states).quantum)
-    → shown max_len (counted (turns + 1)) (with_state new states) (drop 1 order ++ take 1 order) ≡ turned len (shown max_len turns states order)
-granted_front max_len turns len states [] n new front apart differ there short name quantum deficit granted = cc
-granted_front max_len turns len states (m ∷ order) n new front apart differ there short name quantum deficit granted =
-    let e : n ≡ m = cc in
-    subst (λ k. shown max_len (counted (turns + 1)) (with_state new states) (order ++ k ∷ []) ≡ turned len (shown max_len turns states (k ∷ order))) e
-    (granted_shown max_len turns len states n order new differ there (ap (λ k. is_among k order) e ∙ apart.0) short name quantum deficit granted)
 
 -- what holds of every active list
 classes_lawful : (states : List ClassState) → StatesDiffer states → ClassesDiffer (map class_in states)

@@ -1,14 +1,13 @@
 -- States found by name, directly and by an index of their places.
-use Rattle.std.proofs.Common.{◌≡◌, ◌≢◌, ℕ, zero, suc, ◌+◌, ◌-◌, ◌<◌, ◌≤◌, ◌^◌, Bool, true, false, eqb, ltb, ◌||◌, not, cond, List, [], ◌∷◌, ◌++◌, map, length, length-append, take, drop, set, replicate, refl, sym, ap, ◌∙◌, subst, inl, inr, arith, eq-eqb, add-one, get_or}
+use Rattle.std.proofs.Common.{◌≡◌, ◌≢◌, ℕ, zero, suc, ◌+◌, ◌-◌, ◌<◌, ◌^◌, Bool, true, false, eqb, ◌||◌, not, cond, List, [], ◌∷◌, ◌++◌, map, length, set, refl, sym, ap, ◌∙◌, subst, inl, inr, arith, eq-eqb, get_or}
 use Rattle.std.specs.Prelude.{if◌then◌else◌, slice_index_or, slice_index}
 use Rattle.std.specs.List.{AllByRecursion, remove}
-use Rattle.std.proofs.Math.ListN.{length-replicate, length-set}
-use Rattle.std.proofs.lemmas.Bool.{eqb-true, ne_eqb, false≢true, or_parts, cases_Bool, cases_lt, cases_eq, false_from_ne_true, lt-ltb, le-ltb}
-use Rattle.std.proofs.lemmas.List.{get_or_append_left, get_or-append_right, take_all, get_or-set_same, get_or-set_other, length_push, get_or_read}
-use Rattle.std.proofs.lemmas.List.Edits.{length-remove, get_or-remove_below, get_or-remove_above}
+use Rattle.std.proofs.Math.ListN.{length-set}
+use Rattle.std.proofs.lemmas.Bool.{eqb-true, ne_eqb, false≢true, or_parts, cases_Bool, cases_lt, cases_eq, false_from_ne_true}
+use Rattle.std.proofs.lemmas.List.{get_or_append_left, get_or-append_right, get_or-set_same, get_or-set_other, length_push, get_or_read}
 use Rattle.q_drr.specs.declared.class_state.ClassState.{ClassState}
 use Rattle.q_drr.specs.Links.{is_among, AllDiffer}
-use Rattle.q_drr.specs.States.{no_state, has_state, state_of, with_state, without_state, IsIndex, IsIndexUpTo}
+use Rattle.q_drr.specs.States.{no_state, has_state, state_of, with_state, without_state, IsIndex}
 use Rattle.q_drr.proofs.NameLemmas.{length-le_from_differ}
 
 pub names : List ClassState → List ℕ

@@ -1,6 +1,6 @@
 -- Any list of turns on a set of classes that all stay active: what each is granted and sends in deficit round robin.
 -- After M. Shreedhar and G. Varghese, "Efficient Fair Queuing Using Deficit Round-Robin" (1995), and tc-drr(8).
-use Rattle.std.specs.Prelude.{◌≡◌, ◌≢◌, ℕ, suc, ◌+◌, ◌*◌, ◌≤◌, Bool, true, false, ◌==◌, nat_le, if◌then◌else◌, List, [], ◌∷◌}
+use Rattle.std.specs.Prelude.{◌≡◌, ◌≢◌, ℕ, ◌+◌, ◌*◌, ◌≤◌, Bool, true, false, ◌==◌, nat_le, if◌then◌else◌, List, [], ◌∷◌}
 use Rattle.q_drr.specs.Schedule.{Entry, Schedule, turned, is_active, deficit_of, quantum_of, IsLawful}
 
 -- after turns of classes whose heads have these lengths, in this order

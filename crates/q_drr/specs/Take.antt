@@ -1,6 +1,6 @@
 -- A whole take of deficit round robin, said at once: which class is met, how many grants each gets until then, and the
 -- list after. After M. Shreedhar and G. Varghese, "Efficient Fair Queuing Using Deficit Round-Robin" (1995), tc-drr(8).
-use Rattle.std.specs.Prelude.{ℕ, zero, suc, ◌+◌, ◌-◌, ◌*◌, nat_le, if◌then◌else◌, List, [], ◌∷◌, ◌++◌, map, length, take, drop, slice_index_or, Option, Some, None}
+use Rattle.std.specs.Prelude.{ℕ, suc, ◌+◌, ◌-◌, ◌*◌, nat_le, if◌then◌else◌, List, [], ◌∷◌, ◌++◌, map, length, take, drop, slice_index_or, Option, Some, None}
 use Rattle.q_packet.specs.Least.{least}
 use Rattle.q_drr.specs.Schedule.{Entry, Schedule, quantum_of, after_grants, counted}
 use Rattle.q_drr.specs.declared.met.Met.{Met}

@@ -8,7 +8,11 @@ use crate::turn::Turn;
 use std::alloc::{AllocError, Global};
 use std::marker::Model;
 
-/// The classes of a deficit round robin, and the list of those that are active.
+/// The classes of a deficit round robin (M. Shreedhar and G. Varghese, "Efficient Fair Queuing Using Deficit
+/// Round-Robin", 1995; tc-drr(8)), and the list of those that are active.
+///
+/// A class is named by a number of 16 bits. The table is as long as the greatest name, so names that lie close together
+/// keep it short.
 ///
 /// A contract sees the record `Schedule`: the classes with their quanta in order of adding and, for those active, their
 /// place, deficit and grants.
@@ -113,7 +117,11 @@ impl Active {
         self.ring.front()
     }
 
-    /// Gives the class in front its turn, where the packet at the head of its queue has `head_len` bytes.
+    /// Gives the class in front its turn, where the packet at the head of its queue has `head_len` bytes, at most the
+    /// `max_len` of `new`.
+    ///
+    /// It sends where the head is no longer than the deficit, which falls by the head's length, and stays in front. Else
+    /// the deficit grows by one quantum, and it goes to the end.
     pub fn turn(&mut self, head_len: u16) -> Turn
         requires front { 0 < length self.old.active }
         requires in_range { head_len ≤ self.old.max_len }
@@ -166,6 +174,7 @@ impl Active {
         self.table.get(class).quantum
     }
 
+    /// Whether a class is in the active list.
     pub fn is_active(&self, class: u16) -> bool
         requires { IsTrue (has_class class self.now.classes) }
         ensures { result ≡ is_active class self.now.active }

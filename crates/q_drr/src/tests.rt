@@ -89,7 +89,10 @@ fn a_whole_take_meets_the_class_that_needs_fewest_grants(rt: HostRuntime) -> Res
         class: 2,
         head: Some(14),
     };
-    assert_eq!(rt; serve(&mut active, &[None, Some(25), Some(14)]), Some(second));
+    assert_eq!(rt;
+        serve(&mut active, &[None, Some(25), Some(14)]),
+        Some(second)
+    );
     assert_eq!(rt; active.turns(), 4);
     Ok(())
 }

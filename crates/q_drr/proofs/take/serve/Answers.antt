@@ -1,5 +1,5 @@
-use Rattle.std.proofs.Common.{◌≡◌, ℕ, ◌<◌, ◌≤◌, All, sum_by, length, get_or, Option, Some, None, refl, sym, ap, ◌∙◌, subst, arith}
-use Rattle.q_drr.specs.Schedule.{Schedule, IsLawful, quantum_of}
+use Rattle.std.proofs.Common.{◌≡◌, ℕ, ◌<◌, All, sum_by, length, Some, None, sym, ap, ◌∙◌, subst, arith}
+use Rattle.q_drr.specs.Schedule.{quantum_of}
 use Rattle.q_drr.specs.Take.{prepared, head_at, need}
 use Rattle.q_drr.proofs.TakeLemmas.{Front, front_is, front_named, front_quantum, covers, falls_short, nothing_shown, come_to, met_at, served_nothing, served_head, empty_front, prepared_empty, met_nobody, served_nobody, prepared_granted, measure_falls, named_after}
 use Rattle.q_drr.proofs.take.serve.Goals.{In-Some}

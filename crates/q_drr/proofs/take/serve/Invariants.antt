@@ -1,7 +1,6 @@
-use Rattle.std.proofs.Common.{◌≡◌, ℕ, ◌<◌, ◌≤◌, All, length, IfSome, sum_by}
+use Rattle.std.proofs.Common.{◌≡◌, ℕ, ◌<◌, All, length, sum_by}
 use Rattle.q_drr.specs.Schedule.{quantum_of}
 use Rattle.q_drr.specs.Take.{need, prepared, head_at}
-use Rattle.q_drr.proofs.TakeLemmas.{need_more, choose_end}
 use Rattle.q_drr.proofs.take.serve.Given as goal
 
 abbrev pub invariant-loop-class : goal.invariant-loop-class

@@ -1,4 +1,4 @@
-use Rattle.std.proofs.Common.{◌≡◌, ℕ, ◌<◌, ◌+◌, true, sym, ap, ◌∙◌, subst, arith}
+use Rattle.std.proofs.Common.{◌≡◌, true, sym, ap, ◌∙◌, arith}
 use Rattle.q_drr.specs.Schedule.{deficit_of, quantum_of}
 use Rattle.q_drr.specs.States.{has_state}
 use Rattle.q_drr.proofs.ScheduleLemmas.{there_of, room_for, state_kept, quantum_in, deficit_in, deficit_asleep}

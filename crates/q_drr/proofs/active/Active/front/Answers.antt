@@ -1,4 +1,4 @@
-use Rattle.std.proofs.Common.{◌≡◌, ◌<◌, ◌^◌, sym, ap, ◌∙◌, subst, arith}
+use Rattle.std.proofs.Common.{sym, ap, ◌∙◌, subst}
 use Rattle.q_drr.specs.Schedule.{front_of, IsLawful}
 use Rattle.q_drr.proofs.ScheduleLemmas.{front_in, shown_lawful}
 use Rattle.q_drr.proofs.active.Active.front.Goals as goal

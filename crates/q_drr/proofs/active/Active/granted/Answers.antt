@@ -1,4 +1,4 @@
-use Rattle.std.proofs.Common.{◌≡◌, ℕ, true, sym, ap, ◌∙◌}
+use Rattle.std.proofs.Common.{◌≡◌, true, sym, ap, ◌∙◌}
 use Rattle.q_drr.specs.Schedule.{granted_of}
 use Rattle.q_drr.specs.States.{has_state}
 use Rattle.q_drr.proofs.ScheduleLemmas.{there_of, room_for, granted_in, granted_asleep}

@@ -1,4 +1,4 @@
-use Rattle.std.proofs.Common.{◌≡◌, sym, ap, ◌∙◌}
+use Rattle.std.proofs.Common.{sym, ap, ◌∙◌}
 use Rattle.q_drr.specs.Schedule.{is_active}
 use Rattle.q_drr.proofs.ScheduleLemmas.{there_of, room_for, active_in}
 use Rattle.q_drr.proofs.active.Active.is_active.Goals as goal

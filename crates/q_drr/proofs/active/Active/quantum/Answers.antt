@@ -1,4 +1,4 @@
-use Rattle.std.proofs.Common.{◌≡◌, sym, ap, ◌∙◌}
+use Rattle.std.proofs.Common.{sym, ap, ◌∙◌}
 use Rattle.q_drr.specs.Schedule.{quantum_of}
 use Rattle.q_drr.proofs.ScheduleLemmas.{there_of, quantum_in}
 use Rattle.q_drr.proofs.active.Active.quantum.Goals as goal

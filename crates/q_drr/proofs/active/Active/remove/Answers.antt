@@ -1,6 +1,5 @@
-use Rattle.std.proofs.Common.{◌≡◌, ℕ, true, ◌<◌, refl, sym, ap, ◌∙◌, subst, arith}
-use Rattle.q_drr.specs.declared.active.Active.TheInside.{Inside}
-use Rattle.q_drr.specs.Links.{Circle, without}
+use Rattle.std.proofs.Common.{◌≡◌, true, sym, ap, ◌∙◌, subst, arith}
+use Rattle.q_drr.specs.Links.{without}
 use Rattle.q_drr.specs.States.{has_state, without_state}
 use Rattle.q_drr.specs.Kept.{shown, IsKept}
 use Rattle.q_drr.specs.Schedule.{removed}

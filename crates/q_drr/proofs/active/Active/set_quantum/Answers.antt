@@ -1,6 +1,6 @@
-use Rattle.std.proofs.Common.{◌≡◌, ℕ, ◌+◌, ◌-◌, ◌<◌, ◌≤◌, ◌^◌, true, min, refl, sym, ap, ◌∙◌, subst, arith}
+use Rattle.std.proofs.Common.{◌≡◌, ◌<◌, true, refl, sym, ap, ◌∙◌, subst, arith}
 use Rattle.q_drr.specs.declared.class_state.ClassState.{ClassState}
-use Rattle.q_drr.specs.States.{has_state, state_of, with_state}
+use Rattle.q_drr.specs.States.{has_state, state_of}
 use Rattle.q_drr.specs.Schedule.{with_quantum}
 use Rattle.q_drr.specs.Kept.{shown, IsKept, IsState}
 use Rattle.q_drr.proofs.ScheduleLemmas.{there_of, room_for, state_kept, name_of_state, kept_put, requantized_shown}

@@ -1,4 +1,4 @@
-use Rattle.std.proofs.Common.{◌≡◌, ℕ, true, sym, ap, ◌∙◌, subst, arith}
+use Rattle.std.proofs.Common.{◌≡◌, true, sym, ap, ◌∙◌, subst, arith}
 use Rattle.q_drr.specs.States.{has_state}
 use Rattle.q_drr.specs.Kept.{shown, IsKept}
 use Rattle.q_drr.specs.Schedule.{asleep}

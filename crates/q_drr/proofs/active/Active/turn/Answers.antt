@@ -1,12 +1,13 @@
-use Rattle.std.proofs.Common.{◌≡◌, ℕ, ◌+◌, ◌-◌, ◌<◌, ◌≤◌, ◌^◌, ◌++◌, take, drop, Bool, true, false, leb, Some, refl, sym, ap, ◌∙◌, subst, arith}
+use Rattle.std.proofs.Common.{◌≡◌, ◌+◌, ◌-◌, ◌<◌, ◌^◌, ◌++◌, take, drop, Bool, true, leb, Some, refl, sym, ap, ◌∙◌, subst, arith}
 use Rattle.std.specs.Prelude.{slice_get, if◌then◌else◌}
-use Rattle.std.proofs.lemmas.Bool.{le-leb, lt-leb}
+use Rattle.std.proofs.lemmas.Bool.{le-leb}
 use Rattle.q_drr.specs.declared.class_state.ClassState.{ClassState}
 use Rattle.q_drr.specs.declared.turn.Turn.TheVariants.{Send, Granted}
 use Rattle.q_drr.specs.States.{has_state, state_of, with_state}
 use Rattle.q_drr.specs.Schedule.{turned, turn_answer, counted}
 use Rattle.q_drr.specs.Kept.{shown, IsKept, IsState}
-use Rattle.q_drr.proofs.ScheduleLemmas.{front_there, front_deficit, sent_front, granted_front, state_kept, name_of_state, kept_put, kept_rotated}
+use Rattle.q_drr.proofs.ScheduleLemmas.{state_kept, name_of_state, kept_put, kept_rotated}
+use Rattle.q_drr.proofs.TurnLemmas.{front_there, front_deficit, sent_front, granted_front}
 use Rattle.q_drr.proofs.active.Active.turn.Goals.{After-get-state}
 use Rattle.q_drr.proofs.active.Active.turn.Goals as goal
 

@@ -1,4 +1,4 @@
-use Rattle.std.proofs.Common.{◌≡◌, ℕ, true, ◌<◌, refl, sym, ap, ◌∙◌, subst, arith}
+use Rattle.std.proofs.Common.{◌≡◌, true, ◌<◌, refl, sym, ap, ◌∙◌, subst, arith}
 use Rattle.q_drr.specs.declared.class_state.ClassState.{ClassState}
 use Rattle.q_drr.specs.States.{has_state, state_of, with_state}
 use Rattle.q_drr.specs.Kept.{shown, IsKept, IsState}

@@ -1,5 +1,5 @@
-use Rattle.std.proofs.Common.{◌≡◌, ℕ, ◌<◌, ◌+◌, ◌^◌, ◌++◌, ◌∷◌, [], false, length, vec_len, get_or, set, sym, ap, ◌∙◌, subst, arith}
-use Rattle.q_drr.specs.States.{no_state, state_of, has_state, IsIndex}
+use Rattle.std.proofs.Common.{◌≡◌, ◌++◌, ◌∷◌, [], length, set, sym, ap, ◌∙◌, subst, arith}
+use Rattle.q_drr.specs.States.{has_state, IsIndex}
 use Rattle.q_drr.proofs.StateLemmas.{index_added, place_to_spare}
 use Rattle.q_drr.proofs.class_table.ClassTable.add.Goals as goal
 

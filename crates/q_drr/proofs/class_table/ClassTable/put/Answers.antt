@@ -1,5 +1,5 @@
-use Rattle.std.proofs.Common.{◌≡◌, ℕ, ◌<◌, true, length, get_or, set, sym, ap, ◌∙◌, subst, arith}
-use Rattle.q_drr.specs.States.{no_state, with_state, has_state, IsIndex}
+use Rattle.std.proofs.Common.{◌≡◌, true, set, sym, ap, ◌∙◌, subst, arith}
+use Rattle.q_drr.specs.States.{with_state, has_state, IsIndex}
 use Rattle.q_drr.proofs.StateLemmas.{found_by, place_read, index_put, set_replaces, IsFoundBy}
 use Rattle.q_drr.proofs.class_table.ClassTable.put.Goals.{After-self}
 use Rattle.q_drr.proofs.class_table.ClassTable.put.Goals as goal

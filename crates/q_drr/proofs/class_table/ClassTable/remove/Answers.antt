@@ -1,6 +1,6 @@
-use Rattle.std.proofs.Common.{◌≡◌, ℕ, ◌<◌, true, length, sym, ap, ◌∙◌, subst, arith}
+use Rattle.std.proofs.Common.{◌≡◌, true, sym, ap, ◌∙◌, subst, arith}
 use Rattle.std.specs.List.{remove}
-use Rattle.q_drr.specs.States.{without_state, has_state, IsIndex}
+use Rattle.q_drr.specs.States.{without_state, has_state}
 use Rattle.q_drr.proofs.StateLemmas.{found_by, place_read, remove_drops, IsFoundBy}
 use Rattle.q_drr.proofs.class_table.ClassTable.remove.Goals.{After-self}
 use Rattle.q_drr.proofs.class_table.ClassTable.remove.Goals as goal

@@ -1,10 +1,10 @@
-use Rattle.std.proofs.Common.{◌≡◌, ℕ, ◌+◌, ◌<◌, ◌≤◌, ◌^◌, Bool, false, List, [], ◌∷◌, ◌++◌, length, sym, ap, ◌∙◌, subst, arith}
+use Rattle.std.proofs.Common.{◌≡◌, ℕ, ◌+◌, ◌<◌, false, List, [], ◌∷◌, ◌++◌, length, sym, ap, ◌∙◌, subst, arith}
 use Rattle.std.proofs.Common.{zero, suc}
 use Rattle.std.specs.Vec.{with_items}
 use Rattle.std.proofs.lemmas.List.{with_items_is}
 use Rattle.q_drr.specs.declared.ring.Link.{Link}
-use Rattle.q_drr.specs.Links.{Circle, IsCircle, walk, next_of, before_of, is_among}
-use Rattle.q_drr.proofs.NameLemmas.{length-le_from_differ, differ_push, each_push}
+use Rattle.q_drr.specs.Links.{IsCircle, walk, next_of, before_of, is_among}
+use Rattle.q_drr.proofs.NameLemmas.{length-le_from_differ}
 use Rattle.q_drr.proofs.RingLemmas.{circle_pushed, near, length-walk, same_circle}
 use Rattle.q_drr.proofs.ring.Ring.push.Goals as goal
 

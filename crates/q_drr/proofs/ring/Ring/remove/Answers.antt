@@ -1,9 +1,8 @@
-use Rattle.std.proofs.Common.{◌≡◌, ◌≢◌, ℕ, zero, suc, ◌+◌, ◌-◌, ◌<◌, ◌≤◌, ◌^◌, Bool, true, false, List, [], ◌∷◌, ◌++◌, length, refl, sym, ap, ◌∙◌, subst, arith}
+use Rattle.std.proofs.Common.{◌≡◌, ◌≢◌, ℕ, ◌-◌, true, List, ◌∷◌, length, refl, sym, ap, ◌∙◌, subst}
 use Rattle.std.specs.Vec.{with_items}
 use Rattle.std.proofs.lemmas.List.{with_items_is}
-use Rattle.q_drr.specs.declared.ring.Link.{Link}
-use Rattle.q_drr.specs.Links.{Circle, IsCircle, walk, next_of, before_of, is_among, without}
-use Rattle.q_drr.proofs.RingLemmas.{circle_removed, neighbours, Neighbours, length-walk, same_circle}
+use Rattle.q_drr.specs.Links.{Circle, IsCircle, walk, next_of, is_among, without}
+use Rattle.q_drr.proofs.RingLemmas.{circle_removed, neighbours, Neighbours, same_circle}
 use Rattle.q_drr.proofs.ring.Ring.remove.Goals.{After-deref_mut, After-detach-next}
 use Rattle.q_drr.proofs.ring.Ring.remove.Goals as goal
 

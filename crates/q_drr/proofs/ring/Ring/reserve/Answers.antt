@@ -1,5 +1,5 @@
-use Rattle.std.proofs.Common.{◌≡◌, ◌≢◌, ℕ, zero, suc, ◌+◌, ◌-◌, ◌<◌, ◌≤◌, ◌^◌, Bool, true, false, vec_len, List, [], ◌∷◌, ◌++◌, length, refl, sym, ap, ◌∙◌, subst, arith}
-use Rattle.q_drr.specs.Links.{Circle, IsCircle, walk, next_of}
+use Rattle.std.proofs.Common.{◌+◌, vec_len, sym, ap, ◌∙◌, subst, arith}
+use Rattle.q_drr.specs.Links.{IsCircle, walk, next_of}
 use Rattle.q_drr.proofs.RingLemmas.{circle_resized, circle_rewalks}
 use Rattle.q_drr.proofs.ring.Ring.reserve.Goals.{In_ok-resize}
 use Rattle.q_drr.proofs.ring.Ring.reserve.Goals as goal

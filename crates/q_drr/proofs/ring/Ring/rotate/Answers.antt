@@ -1,6 +1,6 @@
-use Rattle.std.proofs.Common.{◌≡◌, ℕ, ◌<◌, List, [], ◌∷◌, ◌++◌, length, take, drop, sym, ap, ◌∙◌, subst, arith}
+use Rattle.std.proofs.Common.{◌≡◌, ◌<◌, ◌++◌, length, take, drop, sym, ap, ◌∙◌, subst, arith}
 use Rattle.std.proofs.lemmas.List.{get_or_read}
-use Rattle.q_drr.specs.Links.{Circle, IsCircle, walk, next_of, no_link}
+use Rattle.q_drr.specs.Links.{IsCircle, walk, next_of, no_link}
 use Rattle.q_drr.proofs.RingLemmas.{circle_turns, length-walk, front_inside, same_circle}
 use Rattle.q_drr.proofs.ring.Ring.rotate.Goals as goal
 
