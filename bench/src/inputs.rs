@@ -85,25 +85,24 @@ pub fn drop_moments(count: usize, interval: u64) -> Vec<u64> {
 
 /// Packets for a bucket: the nanoseconds between one and the next, and their lengths.
 ///
-/// No packet is within 200 bytes of what the bucket holds at its moment, so that an arithmetic that rounds by a few
-/// nanoseconds gives the same answers. The first wait fills the bucket.
-pub fn spends(rate: u64, burst: u32, count: usize) -> (Vec<u32>, Vec<u16>) {
+/// Of the bytes that the packets have, the rate brings so many hundredths between them. One wait in 16, and the first, fills
+/// the bucket too. No packet is nearer to what the bucket holds than the rate brings in a nanosecond for each packet since
+/// it was full, so that an arithmetic that rounds to nanoseconds gives the same answers.
+pub fn spends(rate: u64, burst: u32, brought: u64, count: usize) -> (Vec<u32>, Vec<u16>) {
+    const UNIT: u64 = 8_000_000_000;
     let mut random = Xorshift::new();
-    let unit: u128 = 8_000_000_000;
-    let full = u128::from(burst) * unit;
-    let mut level = full;
-    let mut waits = vec![(full / u128::from(rate) + 1) as u32];
-    let mut lens = vec![100];
-    level -= 100 * unit;
-    let mean = 800 * 8_000_000_000 / rate;
-    let mut waited = 0;
+    let full = u64::from(burst) * UNIT;
+    let mean = 787 * UNIT / rate * brought / 100;
+    let (mut waits, mut lens) = (Vec::new(), Vec::new());
+    let (mut level, mut waited, mut since_full) = (full, 0, 0);
     while lens.len() < count {
-        let long = if random.below(64) == 0 { 100 } else { 1 };
-        let wait = random.below(2 * mean * long * 7 / 8) + 1;
+        let is_long = lens.is_empty() || random.below(16) == 0;
+        let wait = random.below(2 * mean) + if is_long { full / rate } else { 0 } + 1;
         let len = 60 + random.below(1454) as u16;
-        let here = full.min(level + u128::from(rate) * u128::from(waited + wait));
-        let cost = u128::from(len) * unit;
-        if here.abs_diff(cost) < 200 * unit {
+        let here = full.min(level + rate * (waited + wait));
+        let cost = u64::from(len) * UNIT;
+        since_full = if here == full { 0 } else { since_full + 1 };
+        if here.abs_diff(cost) <= (since_full + 1) * rate {
             continue;
         }
         waits.push(wait as u32);

@@ -23,7 +23,7 @@ const INTERVAL: u64 = 100_000_000;
 
 pub fn all() -> Vec<Row> {
     let mut rows = vec![read_head(), hash()];
-    rows.extend([(1, 4096), (1000, 4096), (100_000, 4096)].map(|(queued, lens)| fifo(queued, lens)));
+    rows.extend([1, 1000, 100_000].map(fifo));
     rows.push(codel("Codel::take, no drops", 100, inputs::even_moments(40_000)));
     rows.push(codel(
         "Codel::take, one drop each",
@@ -32,8 +32,9 @@ pub fn all() -> Vec<Row> {
     ));
     rows.push(gap("gap, counts 1 to 64", 1, 2000));
     rows.push(gap("gap, 64 counts at 2^31", 1 << 31, 2000));
-    rows.push(spend("Bucket::spend, 1 mbit", 1_000_000, 15_140));
-    rows.push(spend("Bucket::spend, 100 gbit", 100_000_000_000, 1_000_000));
+    rows.push(spend("Bucket::spend, 1 mbit", 1_000_000, 45));
+    rows.push(spend("Bucket::spend, 100 gbit", 100_000_000_000, 45));
+    rows.push(spend("Bucket::spend, 100 gbit, never short", 100_000_000_000, 150));
     rows.extend([2, 64, 1000].map(turn));
     rows.push(read_line("read_line, pkt", |random| {
         format!("pkt {}", 60 + random.below(1454))
@@ -50,13 +51,13 @@ pub fn all() -> Vec<Row> {
 }
 
 fn read_head() -> Row {
-    let table = inputs::heads(512);
+    let table = inputs::heads(8192);
     let same = table.clone();
     Row {
         name: "read_head".to_string(),
         unit: "head",
-        ops: 512,
-        passes: 2000,
+        ops: 8192,
+        passes: 100,
         rattle: Box::new(move |passes| rattle::read_head(&table, passes)),
         plain: Box::new(move |passes| work::read_head(&same, passes)),
     }
@@ -75,13 +76,13 @@ fn hash() -> Row {
     }
 }
 
-fn fifo(queued: u32, count: usize) -> Row {
-    let lens = inputs::lens(count);
+fn fifo(queued: u32) -> Row {
+    let lens = inputs::lens(4096);
     let same = lens.clone();
     Row {
         name: format!("Fifo put and take, {queued} queued"),
         unit: "pair",
-        ops: count as u64,
+        ops: 4096,
         passes: 200,
         rattle: Box::new(move |passes| rattle::fifo(queued, &lens, passes)),
         plain: Box::new(move |passes| work::fifo(queued, &same, passes)),
@@ -111,40 +112,42 @@ fn gap(name: &str, first: u32, passes: u32) -> Row {
     }
 }
 
-fn spend(name: &str, rate: u64, burst: u32) -> Row {
-    let (waits, lens) = inputs::spends(rate, burst, 4096);
+/// A bucket of five packets, to which the rate brings so many hundredths of what the packets would take.
+fn spend(name: &str, rate: u64, brought: u64) -> Row {
+    let burst = 7570;
+    let (waits, lens) = inputs::spends(rate, burst, brought, 1 << 17);
     let (same_waits, same_lens) = (waits.clone(), lens.clone());
     Row {
         name: name.to_string(),
         unit: "spend",
-        ops: 4096,
-        passes: 500,
+        ops: 1 << 17,
+        passes: 10,
         rattle: Box::new(move |passes| rattle::spend(rate, burst, &waits, &lens, passes)),
         plain: Box::new(move |passes| work::spend(rate, burst, &same_waits, &same_lens, passes)),
     }
 }
 
 fn turn(classes: u16) -> Row {
-    let lens = inputs::lens(4096);
+    let lens = inputs::lens(1 << 17);
     let same = lens.clone();
     Row {
         name: format!("Active::turn, {classes} active"),
         unit: "turn",
-        ops: 4096,
-        passes: 500,
+        ops: 1 << 17,
+        passes: 10,
         rattle: Box::new(move |passes| rattle::turn(classes, 1514, &lens, passes)),
         plain: Box::new(move |passes| work::turn(classes, 1514, &same, passes)),
     }
 }
 
 fn read_line(name: &str, line: impl FnMut(&mut inputs::Xorshift) -> String) -> Row {
-    let (text, ends) = inputs::text(1024, line);
+    let (text, ends) = inputs::text(8192, line);
     let (same_text, same_ends) = (text.clone(), ends.clone());
     Row {
         name: name.to_string(),
         unit: "line",
-        ops: 1024,
-        passes: 200,
+        ops: 8192,
+        passes: 20,
         rattle: Box::new(move |passes| rattle::read_line(&text, &ends, passes)),
         plain: Box::new(move |passes| work::read_line(&same_text, &same_ends, passes)),
     }
