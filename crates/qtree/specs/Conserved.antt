@@ -1,5 +1,5 @@
 -- Nothing is lost or made at a node: what arrived was sent, refused or dropped, or is queued, in packets and in bytes.
--- Beside it the bounds by which no counter passes 64 bits.
+-- The counters are those that `tc -s qdisc show` has (tc(8)). Beside them stand the bounds by which none passes 64 bits.
 use Rattle.std.specs.Prelude.{◌≡◌, ◌+◌, ◌*◌, ◌≤◌, ◌^◌, List}
 use Rattle.q_packet.specs.Totals.{count, size}
 use Rattle.q_packet.specs.declared.stamped.Stamped.{Stamped}

@@ -1,4 +1,5 @@
--- What the program keeps, as the model sees it.
+-- What the program keeps, as the model sees it: its counters are totals, and a queue is the packets in it.
+-- What each part means is said in Device.antt.
 use Rattle.qtree.specs.declared.totals.Totals.{Totals}
 use Rattle.qtree.specs.declared.counters.Counters.{Counters}
 use Rattle.qtree.specs.declared.leaf.Leaf.{Leaf}

@@ -1,4 +1,5 @@
 -- What one line of a script may do, at the program: memory may be refused at it, or the writer may fail.
+-- It is the step of Report.antt with totals, beside what was written and what is still buffered.
 use Rattle.std.specs.Prelude.{◌≡◌, ℕ, Bool, List, ◌++◌, Option}
 use Rattle.q_line.specs.Grammar.{line_of}
 use Rattle.q_line.specs.declared.line.Line.{Line}

@@ -1,4 +1,5 @@
--- What a writer holds of a text that is written bit by bit.
+-- What a writer holds of a text that is written bit by bit: a front of it, with the rest in a buffer or lost to an error.
+-- A writer's bytes are std's `contents`, known or not; `Appends` says what they grew by.
 use Rattle.std.specs.Prelude.{◌≡◌, ℕ, List, ◌++◌, Option}
 use Rattle.std.specs.Io.KnownBytes.{Appends}
 

@@ -9,9 +9,13 @@ use std::marker::Model;
 /// A device with one pfifo as its root. A contract sees it as the record `DeviceState`, with totals for what is counted.
 #[derive(Drop)]
 pub struct Device {
+    /// The latest moment of an arrival, a poll or a command.
     clock: Moment,
+    /// The most bytes that a packet may have.
     mtu: u16,
+    /// How many packets a pfifo holds that is given no limit.
     txqueuelen: u32,
+    /// What the device counted, as a node above the root.
     top: Counters,
     root: Leaf,
 }

@@ -30,7 +30,6 @@ mod text;
 mod totals;
 
 use crate::options::Options;
-use crate::outcome::Outcome;
 use crate::run::run;
 use crate::settings::RunSettings;
 use std::process::ExitCode;
@@ -67,8 +66,7 @@ fn start(rt: &HostRuntime) -> io::Result<ExitCode> {
 /// Runs a script from standard input to standard output.
 fn play(rt: &HostRuntime, settings: RunSettings) -> ExitCode {
     match run(rt.alloc(), &mut rt.reader(), &mut io::writer(rt), settings) {
-        Ok(Outcome::Clean) => ExitCode::SUCCESS,
-        Ok(Outcome::Refused) => ExitCode::FAILURE,
+        Ok(outcome) => ExitCode::from(outcome.status()),
         Err(fault) => {
             let _ = eprintln!(rt; "qtree: {fault}");
             ExitCode::from(FAULT)

@@ -37,9 +37,11 @@ fn run_lines<W: Write>(
     output.flush(writer)
 }
 
-/// Reads a script and writes its report. The script is read whole before a line of it is run.
+/// Reads a script of at most 16,777,216 bytes and writes its report. The script is read whole before a line of it is run,
+/// by at most 16,777,218 reads, interrupted ones counted.
 ///
-/// After `Read`, `TooLong` and `Memory` nothing was written, and after `Write` a front of a report.
+/// After `Read`, `TooLong` and `Memory` nothing was written, and after `Write` (any error of a write, or one that takes no
+/// byte) a front of a report.
 pub fn run<R: Read, W: Write>(
     alloc: Global,
     reader: &mut R,

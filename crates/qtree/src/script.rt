@@ -15,6 +15,9 @@ const MAX_READS: u32 = 16_777_218;
 const CHUNK: usize = 65536;
 
 /// Reads a script whole.
+///
+/// `TooLong` where it has more than [`MAX_LENGTH`] bytes, `Read` where a read fails or more than 16,777,218 are needed, and
+/// `Memory` where memory is refused. An interrupted read is made again.
 pub fn read_script<R: Read>(alloc: Global, reader: &mut R) -> Result<Vec<u8>, RunFault>
     ensures script { IfOk result (λ script. IfSome (R.remaining reader.old) (λ all. script.items ≡ all)) }
     ensures short { IfOk result (λ script. length script.items ≤ 16777216) }

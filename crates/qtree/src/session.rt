@@ -18,8 +18,11 @@ use std::marker::Model;
 pub struct Session {
     alloc: Global,
     device: Device,
+    /// The moment of the lines that follow.
     moment: Moment,
+    /// How many packets were numbered.
     packets: u32,
+    /// Whether a line had a fault or was refused.
     refused: bool,
 }
 
