@@ -1,4 +1,5 @@
 pub mod Arrivals
+pub mod Examples
 pub mod Hexadecimal
 pub mod LinesLemmas
 pub mod OnErr

@@ -1,5 +1,6 @@
 pub mod Conserved
 pub mod Device
+pub mod Examples
 pub mod Insides
 pub mod Report
 pub mod Settings
