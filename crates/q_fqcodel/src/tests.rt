@@ -2,6 +2,7 @@ use crate::fq_codel::FqCodel;
 use crate::settings::Settings;
 use q_codel::Losses;
 use q_packet::{Cause, Ecn, FlowKey, Moment, Packet};
+use std::alloc::Global;
 use std::process::Abort;
 use std::test::Fail;
 
@@ -79,132 +80,152 @@ fn limited(limit: u32, drop_batch: u32) -> Settings {
     settings
 }
 
+// Settings of 0 but for these, in the order of the fields from `limit` to `interval`, then `drop_batch` and `mtu`.
+fn is_in_range(counts: (u32, u32, u32), times: (u64, u64), drop_batch: u32, mtu: u16) -> bool {
+    Settings::new(
+        counts.0, counts.1, counts.2, times.0, times.1, false, drop_batch, mtu,
+    )
+    .is_some()
+}
+
 #[test]
-fn settings_are_in_range(rt: HostRuntime) -> Result<(), Fail> {
+fn settings_are_in_range(rt: HostRuntime) {
     let most: u64 = 1_000_000_000_000;
-    let least = Settings::new(1, 1, 1, 0, 1000, false, 1, 1).ok_or("least")?;
-    assert_eq!(rt; least.limit, 1);
-    let greatest = Settings::new(
-        u32::MAX,
-        65536,
-        u32::MAX,
-        most,
-        most,
-        true,
-        65536,
-        u16::MAX,
-    ).ok_or("most")?;
-    assert_eq!(rt; greatest.flows, 65536);
-    assert!(rt; Settings::new(0, 1, 1, 0, 1000, true, 1, 1).is_none());
-    assert!(rt; Settings::new(1, 0, 1, 0, 1000, true, 1, 1).is_none());
-    assert!(rt; Settings::new(1, 65537, 1, 0, 1000, true, 1, 1).is_none());
-    assert!(rt; Settings::new(1, 1, 0, 0, 1000, true, 1, 1).is_none());
-    assert!(rt; Settings::new(1, 1, 1, most + 1, 1000, true, 1, 1).is_none());
-    assert!(rt; Settings::new(1, 1, 1, 0, 999, true, 1, 1).is_none());
-    assert!(rt; Settings::new(1, 1, 1, 0, 1000, true, 0, 1).is_none());
-    assert!(rt; Settings::new(1, 1, 1, 0, 1000, true, 65537, 1).is_none());
-    assert!(rt; Settings::new(1, 1, 1, 0, 1000, true, 1, 0).is_none());
+    assert!(rt; is_in_range((1, 1, 1), (0, 1000), 1, 1));
+    assert!(rt; is_in_range((u32::MAX, 65536, u32::MAX), (most, most), 65536, u16::MAX));
+    let beyond = [
+        ((0, 1, 1), (0, 1000), 1, 1),
+        ((1, 0, 1), (0, 1000), 1, 1),
+        ((1, 65537, 1), (0, 1000), 1, 1),
+        ((1, 1, 0), (0, 1000), 1, 1),
+        ((1, 1, 1), (most + 1, 1000), 1, 1),
+        ((1, 1, 1), (0, 999), 1, 1),
+        ((1, 1, 1), (0, most + 1), 1, 1),
+        ((1, 1, 1), (0, 1000), 0, 1),
+        ((1, 1, 1), (0, 1000), 65537, 1),
+        ((1, 1, 1), (0, 1000), 1, 0),
+    ];
+    for (counts, times, drop_batch, mtu) in beyond.as_slice() {
+        assert!(rt; !is_in_range(*counts, *times, *drop_batch, *mtu));
+    }
+}
+
+// Puts packets of these lengths and hashes at moment 0, numbered from `number`; each answers whether it is itself lost.
+fn puts(
+    rt: &impl Abort,
+    fq: &mut FqCodel,
+    losses: &mut Losses,
+    mut number: u64,
+    packets: &[(u16, u32, bool)],
+) -> Result<(), Fail> {
+    for (len, hash, is_lost) in packets {
+        assert_eq!(rt; put(fq, losses, number, *len, *hash)?, *is_lost);
+        number = number.saturating_add(1);
+    }
     Ok(())
+}
+
+// What is sent of these packets, in order, and what the fat flow loses.
+fn row(
+    rt: &impl Abort,
+    alloc: Global,
+    settings: Settings,
+    packets: &[(u16, u32, bool)],
+    sent: &[u64],
+    lost: &[u64],
+) -> Result<(), Fail> {
+    let mut losses = Losses::new(alloc);
+    let mut fq = FqCodel::new(alloc, settings)?;
+    puts(rt, &mut fq, &mut losses, 1, packets)?;
+    takes(rt, &mut fq, &mut losses, sent)?;
+    reaps(rt, &mut losses, lost, Cause::FatFlow)
 }
 
 // Flow 1 is sent its packet before flow 0 its third: flow 0 has used up its first quantum of 1514 bytes.
 #[test]
 fn flows_share_by_quanta(rt: HostRuntime) -> Result<(), Fail> {
-    let mut losses = Losses::new(rt.alloc());
-    let mut fq = FqCodel::new(rt.alloc(), Settings::defaults(1500))?;
-    assert!(rt; !put(&mut fq, &mut losses, 1, 1000, 0)?);
-    assert!(rt; !put(&mut fq, &mut losses, 2, 1000, 0)?);
-    assert!(rt; !put(&mut fq, &mut losses, 3, 1000, 0)?);
-    assert!(rt; !put(&mut fq, &mut losses, 4, 100, 1)?);
-    let (packets, bytes) = fq.queued();
-    assert_eq!(rt; packets, 4);
-    assert_eq!(rt; bytes, 3100);
-    takes(&rt, &mut fq, &mut losses, [1, 2, 4, 3, 0].as_slice())?;
-    reaps(&rt, &mut losses, [].as_slice(), Cause::CoDel)
+    let packets = [
+        (1000, 0, false),
+        (1000, 0, false),
+        (1000, 0, false),
+        (100, 1, false),
+    ];
+    row(
+        &rt,
+        rt.alloc(),
+        Settings::defaults(1500),
+        &packets,
+        &[1, 2, 4, 3, 0],
+        &[],
+    )
 }
 
-// With a quantum of 1000 flow 0 has none left after its first packet.
+// With a quantum of 1000 flow 0 has none left after its first packet. The last take finds both lists empty.
 #[test]
 fn a_quantum_of_1000(rt: HostRuntime) -> Result<(), Fail> {
-    let mut losses = Losses::new(rt.alloc());
     let mut settings = Settings::defaults(1500);
     settings.quantum = 1000;
-    let mut fq = FqCodel::new(rt.alloc(), settings)?;
-    put(&mut fq, &mut losses, 1, 1000, 0)?;
-    put(&mut fq, &mut losses, 2, 1000, 0)?;
-    put(&mut fq, &mut losses, 3, 100, 1)?;
-    takes(&rt, &mut fq, &mut losses, [1, 3, 2, 0, 0].as_slice())
+    let packets = [(1000, 0, false), (1000, 0, false), (100, 1, false)];
+    row(&rt, rt.alloc(), settings, &packets, &[1, 3, 2, 0, 0], &[])
 }
 
 // Many rounds pass in one take, where a quantum is a byte; and there is a flow for each hash of 16 bits.
 #[test]
 fn a_quantum_of_1_and_65536_flows(rt: HostRuntime) -> Result<(), Fail> {
-    let mut losses = Losses::new(rt.alloc());
     let mut settings = Settings::defaults(1500);
     settings.quantum = 1;
     settings.flows = 65536;
-    let mut fq = FqCodel::new(rt.alloc(), settings)?;
-    put(&mut fq, &mut losses, 1, 100, 65535)?;
-    put(&mut fq, &mut losses, 2, 100, 65535)?;
-    put(&mut fq, &mut losses, 3, 40, 0)?;
-    put(&mut fq, &mut losses, 4, 1, 65536)?;
-    takes(&rt, &mut fq, &mut losses, [1, 3, 4, 2, 0].as_slice())
+    let packets = [
+        (100, 65535, false),
+        (100, 65535, false),
+        (40, 0, false),
+        (1, 65536, false),
+    ];
+    row(&rt, rt.alloc(), settings, &packets, &[1, 3, 4, 2, 0], &[])
 }
 
 #[test]
 fn the_fat_flow_loses_its_first_packet(rt: HostRuntime) -> Result<(), Fail> {
-    let mut losses = Losses::new(rt.alloc());
-    let mut fq = FqCodel::new(rt.alloc(), limited(1, 1))?;
-    assert!(rt; !put(&mut fq, &mut losses, 1, 100, 0)?);
-    assert!(rt; !put(&mut fq, &mut losses, 2, 200, 0)?);
-    takes(&rt, &mut fq, &mut losses, [2, 0].as_slice())?;
-    reaps(&rt, &mut losses, [1].as_slice(), Cause::FatFlow)
+    let packets = [(100, 0, false), (200, 0, false)];
+    row(&rt, rt.alloc(), limited(1, 1), &packets, &[2, 0], &[1])
 }
 
 // Flows 3 and 7 have 300 bytes each: flow 3 is the fat one.
 #[test]
 fn a_tie_is_broken_to_the_lower_index(rt: HostRuntime) -> Result<(), Fail> {
-    let mut losses = Losses::new(rt.alloc());
-    let mut fq = FqCodel::new(rt.alloc(), limited(2, 1))?;
-    assert!(rt; !put(&mut fq, &mut losses, 1, 300, 7)?);
-    assert!(rt; !put(&mut fq, &mut losses, 2, 100, 3)?);
-    assert!(rt; !put(&mut fq, &mut losses, 3, 200, 3)?);
-    takes(&rt, &mut fq, &mut losses, [1, 3, 0].as_slice())?;
-    reaps(&rt, &mut losses, [2].as_slice(), Cause::FatFlow)
+    let packets = [(300, 7, false), (100, 3, false), (200, 3, false)];
+    row(&rt, rt.alloc(), limited(2, 1), &packets, &[1, 3, 0], &[2])
 }
 
 #[test]
 fn a_batch_is_lost_at_once(rt: HostRuntime) -> Result<(), Fail> {
-    let mut losses = Losses::new(rt.alloc());
-    let mut fq = FqCodel::new(rt.alloc(), limited(3, 2))?;
-    put(&mut fq, &mut losses, 1, 500, 0)?;
-    put(&mut fq, &mut losses, 2, 500, 0)?;
-    put(&mut fq, &mut losses, 3, 500, 0)?;
-    assert!(rt; !put(&mut fq, &mut losses, 4, 100, 1)?);
-    takes(&rt, &mut fq, &mut losses, [3, 4, 0].as_slice())?;
-    reaps(&rt, &mut losses, [1, 2].as_slice(), Cause::FatFlow)
+    let packets = [
+        (500, 0, false),
+        (500, 0, false),
+        (500, 0, false),
+        (100, 1, false),
+    ];
+    row(
+        &rt,
+        rt.alloc(),
+        limited(3, 2),
+        &packets,
+        &[3, 4, 0],
+        &[1, 2],
+    )
 }
 
 #[test]
 fn a_batch_leaves_one_packet(rt: HostRuntime) -> Result<(), Fail> {
-    let mut losses = Losses::new(rt.alloc());
-    let mut fq = FqCodel::new(rt.alloc(), limited(1, 10))?;
-    put(&mut fq, &mut losses, 1, 100, 0)?;
-    assert!(rt; !put(&mut fq, &mut losses, 2, 200, 0)?);
-    takes(&rt, &mut fq, &mut losses, [2, 0].as_slice())?;
-    reaps(&rt, &mut losses, [1].as_slice(), Cause::FatFlow)
+    let packets = [(100, 0, false), (200, 0, false)];
+    row(&rt, rt.alloc(), limited(1, 10), &packets, &[2, 0], &[1])
 }
 
 // The fat flow is the newcomer's, and is lost whole.
 #[test]
 fn a_batch_may_take_the_newcomer(rt: HostRuntime) -> Result<(), Fail> {
-    let mut losses = Losses::new(rt.alloc());
-    let mut fq = FqCodel::new(rt.alloc(), limited(2, 3))?;
-    put(&mut fq, &mut losses, 1, 50, 0)?;
-    assert!(rt; !put(&mut fq, &mut losses, 2, 100, 1)?);
-    assert!(rt; put(&mut fq, &mut losses, 3, 100, 1)?);
-    takes(&rt, &mut fq, &mut losses, [1, 0].as_slice())?;
-    reaps(&rt, &mut losses, [2, 3].as_slice(), Cause::FatFlow)
+    let packets = [(50, 0, false), (100, 1, false), (100, 1, true)];
+    row(&rt, rt.alloc(), limited(2, 3), &packets, &[1, 0], &[2, 3])
 }
 
 // Ten packets of 1000 bytes that arrive at moment 0 in flow 0.
@@ -236,7 +257,7 @@ fn codel_drops_within_a_flow(rt: HostRuntime) -> Result<(), Fail> {
     for (number, at) in sent.iter().zip(MOMENTS.as_slice()) {
         assert_eq!(rt; take(&mut fq, &mut losses, *at)?, (*number, false));
     }
-    reaps(&rt, &mut losses, [2, 4, 7].as_slice(), Cause::CoDel)
+    reaps(&rt, &mut losses, &[2, 4, 7], Cause::CoDel)
 }
 
 #[test]
@@ -253,23 +274,22 @@ fn codel_marks_within_a_flow(rt: HostRuntime) -> Result<(), Fail> {
     let (packets, bytes) = fq.queued();
     assert_eq!(rt; packets, 2);
     assert_eq!(rt; bytes, 2000);
-    reaps(&rt, &mut losses, [].as_slice(), Cause::CoDel)
+    reaps(&rt, &mut losses, &[], Cause::CoDel)
 }
 
 #[test]
 fn a_purge_takes_flow_by_flow(rt: HostRuntime) -> Result<(), Fail> {
     let mut losses = Losses::new(rt.alloc());
     let mut fq = FqCodel::new(rt.alloc(), Settings::defaults(1500))?;
-    put(&mut fq, &mut losses, 1, 100, 5)?;
-    put(&mut fq, &mut losses, 2, 100, 2)?;
-    put(&mut fq, &mut losses, 3, 100, 5)?;
-    let (packets, _) = fq.queued();
-    losses.reserve(packets as usize)?;
+    let packets = [(100, 5, false), (100, 2, false), (100, 5, false)];
+    puts(&rt, &mut fq, &mut losses, 1, &packets)?;
+    let (queued, bytes) = fq.queued();
+    assert_eq!(rt; bytes, 300);
+    losses.reserve(queued as usize)?;
     fq.purge(&mut losses);
-    assert_eq!(rt; fq.queued().0, 0);
-    reaps(&rt, &mut losses, [2, 1, 3].as_slice(), Cause::Purged)?;
-    put(&mut fq, &mut losses, 4, 100, 5)?;
-    takes(&rt, &mut fq, &mut losses, [4, 0].as_slice())
+    reaps(&rt, &mut losses, &[2, 1, 3], Cause::Purged)?;
+    puts(&rt, &mut fq, &mut losses, 4, &[(100, 5, false)])?;
+    takes(&rt, &mut fq, &mut losses, &[4, 0])
 }
 
 // A smaller limit loses nothing; the next put loses one packet, though the flows hold three too many.
@@ -278,16 +298,14 @@ fn a_change_loses_nothing(rt: HostRuntime) -> Result<(), Fail> {
     let mut losses = Losses::new(rt.alloc());
     let mut settings = Settings::defaults(1500);
     let mut fq = FqCodel::new(rt.alloc(), settings)?;
-    put(&mut fq, &mut losses, 1, 100, 0)?;
-    put(&mut fq, &mut losses, 2, 100, 0)?;
-    put(&mut fq, &mut losses, 3, 100, 0)?;
+    let packets = [(100, 0, false), (100, 0, false), (100, 0, false)];
+    puts(&rt, &mut fq, &mut losses, 1, &packets)?;
     settings.limit = 1;
     settings.quantum = 2000;
     let now = fq.settings();
     assert!(rt; now.flows == settings.flows && now.mtu == settings.mtu);
     fq.change(settings);
-    assert_eq!(rt; fq.queued().0, 3);
-    put(&mut fq, &mut losses, 4, 100, 1)?;
-    reaps(&rt, &mut losses, [1].as_slice(), Cause::FatFlow)?;
-    takes(&rt, &mut fq, &mut losses, [2, 3, 4, 0].as_slice())
+    puts(&rt, &mut fq, &mut losses, 4, &[(100, 1, false)])?;
+    reaps(&rt, &mut losses, &[1], Cause::FatFlow)?;
+    takes(&rt, &mut fq, &mut losses, &[2, 3, 4, 0])
 }
