@@ -48,6 +48,7 @@ impl Fifo {
     }
 
     /// `None` where memory is refused or the limit is reached.
+    #[inline(always)]
     pub fn put(&mut self, stamped: Stamped) -> Option<()> {
         self.packets.try_reserve(1).ok()?;
         if !self.fits(stamped.packet.len) {
@@ -58,6 +59,7 @@ impl Fifo {
         Some(())
     }
 
+    #[inline(always)]
     pub fn take(&mut self) -> Option<Stamped> {
         let stamped = self.packets.pop_front()?;
         self.bytes -= u64::from(stamped.packet.len);
