@@ -1,0 +1,2 @@
+pub mod ShrinkLemmas
+pub mod ShrinkSteps

@@ -1,0 +1,34 @@
+use crate::fq_codel_options::FqCodelOptions;
+use crate::tbf_limit::TbfLimit;
+
+/// A kind of qdisc with the options that a line gives.
+///
+/// `None` is what the line does not give: a new qdisc has the default there, and one that is changed keeps what it has.
+#[derive(Clone, Copy, PartialEq, Eq, Debug)]
+pub enum Kind {
+    /// First in, first out, with a limit in packets (tc-pfifo(8)).
+    Pfifo {
+        limit: Option<u32>,
+    },
+    /// First in, first out, with a limit in bytes (tc-bfifo(8)).
+    Bfifo {
+        limit: Option<u32>,
+    },
+    /// Bands that are served in order (tc-prio(8)): 2 to 16 of them, and the band, from 0, of each priority.
+    Prio {
+        bands: u8,
+        priomap: [u8; 16],
+    },
+    /// A token bucket filter (tc-tbf(8)).
+    Tbf {
+        /// In bits a second, 1 to 10^12.
+        rate: u64,
+        /// In bytes, at least 1.
+        burst: u32,
+        limit: TbfLimit,
+    },
+    /// Deficit round robin (tc-drr(8)).
+    Drr,
+    /// Fair queueing with CoDel (tc-fq_codel(8)).
+    FqCodel(FqCodelOptions),
+}

@@ -1,0 +1,13 @@
+use crate::place::Place;
+use crate::qdisc_view::QdiscView;
+use crate::row::Row;
+
+/// What `tc -s qdisc show` prints of a node.
+#[derive(Clone, Copy, PartialEq, Eq, Debug)]
+pub struct NodeView {
+    /// The major number of its handle; `None` for an implicit leaf.
+    pub handle: Option<u16>,
+    pub place: Place,
+    pub qdisc: QdiscView,
+    pub row: Row,
+}
