@@ -1,0 +1,6 @@
+pub mod Laws
+pub mod Refusal
+pub mod Replay
+pub mod Settings
+pub mod Shrink
+pub mod Step

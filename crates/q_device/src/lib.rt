@@ -1,0 +1,26 @@
+//! One device: its clock, its tree, the packets that it lost, and a record of what was done to it.
+//!
+//! - [`Settings`] are a device's mtu, queue length and recorder.
+//! - An [`Event`] is an arrival, a poll or a command, with its moment. A [`Reply`] is what it is answered: a [`Fate`], a
+//!   [`Polled`], or whether the command was done, else the [`Refusal`].
+//! - A [`Lost`] is a packet that was lost, with the cause.
+//!
+//! `specs/Step.antt` says what an event makes of a device, and `specs/Replay.antt` what a list of them does: a device is
+//! the replay of its events. [`laws`] holds what is true of every replay.
+#![tactic(auto)]
+
+mod event;
+mod fate;
+pub mod laws;
+mod polled;
+mod refusal;
+mod reply;
+mod settings;
+
+pub use event::Event;
+pub use fate::Fate;
+pub use polled::Polled;
+pub use q_codel::Loss as Lost;
+pub use refusal::Refusal;
+pub use reply::Reply;
+pub use settings::Settings;

@@ -1,0 +1,14 @@
+use crate::fate::Fate;
+use crate::polled::Polled;
+use crate::refusal::Refusal;
+
+/// What an event is answered.
+#[derive(Clone, Copy, PartialEq, Eq, Debug)]
+pub enum Reply {
+    /// To an arrival.
+    Fate(Fate),
+    /// To a poll.
+    Polled(Polled),
+    /// To a command.
+    Done(Result<(), Refusal>),
+}
