@@ -1,6 +1,7 @@
 pub mod ClearedLemmas
 pub mod FatLemmas
 pub mod FlowLemmas
+pub mod LawLemmas
 pub mod LawfulLemmas
 pub mod PoolLemmas
 pub mod PooledLemmas

@@ -120,3 +120,8 @@ paid-by o t e len z h same paying =
     paid-is o t e h
     ∙ ap (λ (n : ℕ). record e { credits = e.credits -ℤ pos n }) (sym same)
     ∙ ap (λ (x : ℤ). record e { credits = x }) (sym paying)
+
+pub sender-none : (s : FqState) → s.fresh ≡ [] → s.stale ≡ [] → sender s ≡ None
+unfolding sender front
+sender-none s no_fresh no_stale =
+    ap₂ (λ (l m : List Entry). option_and_then (λ (e : Entry). slice_get s.flows e.flow) (slice_get (l ++ m) 0)) no_fresh no_stale

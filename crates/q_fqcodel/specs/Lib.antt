@@ -2,6 +2,7 @@ pub mod Cleared
 pub mod FlowsState
 pub mod FqState
 pub mod Lawful
+pub mod Laws
 pub mod Pool
 pub mod PoolKept
 pub mod Put

@@ -251,25 +251,25 @@ impl FqCodel {
         ensures same_room { IfNone result (S.room sink.new ≡ S.room sink.old) }
     {
         let settings = self.settings;
-        let entry = self.stale[0];
-        if entry.credits <= 0 {
+        let front = self.stale[0];
+        if front.credits <= 0 {
             self.stale[0] = Entry {
-                flow: entry.flow,
-                credits: entry.credits + settings.quantum as i64,
+                flow: front.flow,
+                credits: front.credits + settings.quantum as i64,
             };
             self.stale.rotate_left(1);
             return None;
         }
-        if self.flows.is_idle(entry.flow) {
-            self.flows.rest(entry.flow);
+        if self.flows.is_idle(front.flow) {
+            self.flows.rest(front.flow);
             let _ = self.stale.pop_front();
             return None;
         }
-        let taken = self.flows.send(entry.flow, now, sink).unwrap();
+        let taken = self.flows.send(front.flow, now, sink).unwrap();
         let packet = taken.packet;
         self.stale[0] = Entry {
-            flow: entry.flow,
-            credits: entry.credits - packet.len as i64,
+            flow: front.flow,
+            credits: front.credits - packet.len as i64,
         };
         Some(taken)
     }

@@ -20,6 +20,7 @@ mod flow_queue;
 mod flows;
 mod fq_codel;
 mod held;
+pub mod laws;
 mod pool;
 mod settings;
 

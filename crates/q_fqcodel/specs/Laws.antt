@@ -1,0 +1,38 @@
+-- Laws of the definitions that the calls equal: nothing is made or lost, and a put leaves a packet (RFC 8290, section 4).
+-- Each law speaks of every state, every packet and every moment.
+use Rattle.std.specs.Prelude.{◌≡◌, ℕ, ◌+◌, ◌<◌, List, length, sum_by, Option, Some, option_and_then, option_to_list}
+use Rattle.q_packet.specs.Descriptor.{Descriptor}
+use Rattle.q_packet.specs.declared.stamped.Stamped.{Stamped}
+use Rattle.q_codel.specs.Codel.{sent, leaving}
+use Rattle.q_codel.specs.declared.taken.Taken.{Taken}
+use Rattle.q_fqcodel.specs.FqState.{Flow, FqState, packets_of, all_packets}
+use Rattle.q_fqcodel.specs.Put.{flow_of, after_put, lost_by_put}
+use Rattle.q_fqcodel.specs.Take.{selected, sender, sent_from, dropped_from, after_sending}
+
+-- the packet that the flow in front sends, as it stood in its queue
+abbrev pub head_sent : ℕ → FqState → Option Stamped
+head_sent now s = option_and_then (λ (f : Flow). sent f.codel now f.queue) (sender s)
+
+-- The packets that were queued and the one that is put are those queued then and those lost. w is any weight: 1 counts
+-- them, the length adds up their bytes, and a test of one packet tells how often it is there.
+abbrev pub PutKeepsAll : Type 0
+PutKeepsAll =
+    (w : Stamped → ℕ) (s : FqState) (packet : Descriptor) (now : ℕ) → flow_of s packet < length s.flows
+    → sum_by w (all_packets (after_put s packet now).flows) + sum_by w (lost_by_put s packet now) ≡ sum_by w (all_packets s.flows) + w (record { packet = packet; at = now })
+
+-- The packets that were queued are those queued after a take, those that CoDel dropped, and the one sent.
+abbrev pub TakeKeepsAll : Type 0
+TakeKeepsAll =
+    (w : Stamped → ℕ) (s : FqState) (now : ℕ)
+    → sum_by w (all_packets (after_sending now (selected s)).flows) + sum_by w (dropped_from now (selected s)) + sum_by w (option_to_list (head_sent now (selected s)))
+    ≡ sum_by w (all_packets s.flows)
+
+-- What a take gives is the packet that was sent, with its codepoint changed where it was marked.
+abbrev pub GivesTheHead : Type 0
+GivesTheHead =
+    (s : FqState) (now : ℕ) (given : Taken) (head : Stamped) → sent_from now s ≡ Some given → head_sent now s ≡ Some head
+    → given.packet ≡ leaving given.marked head.packet
+
+-- A put leaves at least one packet, whatever the limit and the batch.
+abbrev pub PutLeavesOne : Type 0
+PutLeavesOne = (s : FqState) (packet : Descriptor) (now : ℕ) → flow_of s packet < length s.flows → 0 < packets_of (after_put s packet now).flows

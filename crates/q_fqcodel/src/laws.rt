@@ -1,0 +1,24 @@
+//! Laws of the definitions that the calls of [`FqCodel`](crate::FqCodel) equal.
+//!
+//! Each function does nothing. Its contract is a law, stated in `specs/Laws.antt`, for every state, packet and moment.
+ghost use Rattle.q_fqcodel.specs.Laws.{PutKeepsAll, TakeKeepsAll, GivesTheHead, PutLeavesOne};
+
+/// A put makes and loses nothing: what was queued and what is put are what is queued then and what is lost.
+pub fn put_keeps_all()
+    ensures { PutKeepsAll }
+{}
+
+/// A take makes and loses nothing: what was queued is what is queued then, what CoDel dropped, and what is sent.
+pub fn take_keeps_all()
+    ensures { TakeKeepsAll }
+{}
+
+/// What a take gives is the packet that was sent, with its codepoint changed where it was marked.
+pub fn gives_the_head()
+    ensures { GivesTheHead }
+{}
+
+/// A put leaves at least one packet.
+pub fn put_leaves_one()
+    ensures { PutLeavesOne }
+{}
