@@ -160,7 +160,7 @@ fn packet_of(number: u64, len: u16, at: u64) -> Option<Stamped> {
 fn packet_summary(packet: &Packet) -> u64 {
     let place = u64::from(packet.port) << 32 | u64::from(packet.buf);
     let queue = u64::from(packet.hash) << 32 | u64::from(packet.len) << 8 | u64::from(packet.prio);
-    packet.number ^ place ^ queue ^ u64::from(packet.key.sport)
+    packet.number ^ place ^ queue ^ packet.key.src as u64
 }
 
 #[inline(never)]

@@ -89,7 +89,7 @@ fn summary(packet: &Packet) -> u64 {
     } = *packet;
     let place = (u64::from(port) << 32) | u64::from(buf);
     let queue = (u64::from(hash) << 32) | (u64::from(len) << 8) | u64::from(prio);
-    number ^ place ^ queue ^ u64::from(key.sport)
+    number ^ place ^ queue ^ checksum::low(key.src)
 }
 
 /// Puts a packet at the end; `None` where memory is refused or the limit is reached.
