@@ -12,7 +12,7 @@ use Rattle.q_tree.specs.Tally.{no_totals}
 use Rattle.q_device.specs.declared.event.Event.{Event}
 use Rattle.q_device.specs.declared.reply.Reply.{Reply}
 use Rattle.q_device.proofs.SharedRules.{shared_rules}
-use Rattle.q_device.proofs.Script.{run, rows_at, packet, arrives, polls, add_root, no_options, ok, kept, sent, idle, loss, pb}
+use Rattle.q_device.proofs.Script.{run, seen, packet, arrives, polls, add_root, no_options, ok, kept, sent, idle, loss, pb}
 
 abbrev quick : FqCodelOptions
 quick = record no_options { flows = Some 2; target = Some 50; interval = Some 1000 }
@@ -39,14 +39,13 @@ dropping =
     add_root None (FqCodel quick) ∷ map (λ n. arrives 0 (plain n)) ten
     ++ polls 100 1 ++ polls 1100 1 ++ polls 2100 1 ++ polls 2806 1 ++ polls 2807 1 ++ polls 3384 3
 
-dropping_replies : (run dropping).replies
-    ≡ begun ++ sent (plain 1) ∷ sent (plain 3) ∷ sent (plain 5) ∷ sent (plain 6) ∷ sent (plain 8) ∷ sent (plain 9) ∷ sent (plain 10) ∷ idle ∷ []
+dropping_runs : seen [] (run dropping) ≡ record {
+  replies = begun ++ sent (plain 1) ∷ sent (plain 3) ∷ sent (plain 5) ∷ sent (plain 6) ∷ sent (plain 8) ∷ sent (plain 9) ∷ sent (plain 10) ∷ idle ∷ [];
+  losses = loss (plain 2) CoDel ∷ loss (plain 4) CoDel ∷ loss (plain 7) CoDel ∷ [];
+  rows = [];
+}
 unfolding dropping shared_rules
-dropping_replies = refl
-
-dropping_losses : (run dropping).losses ≡ loss (plain 2) CoDel ∷ loss (plain 4) CoDel ∷ loss (plain 7) CoDel ∷ []
-unfolding dropping shared_rules
-dropping_losses = refl
+dropping_runs = refl
 
 -- the same where packets can be marked: nothing is dropped, and each call marks at most one
 marking : List Event
@@ -54,19 +53,13 @@ marking =
     add_root None (FqCodel quick) ∷ map (λ n. arrives 0 (capable n)) ten
     ++ polls 100 1 ++ polls 1100 1 ++ polls 2100 1 ++ polls 2806 1 ++ polls 2807 1 ++ polls 3384 3
 
-marking_replies : (run marking).replies
-    ≡ begun ++ sent (capable 1) ∷ sent (marked 2) ∷ sent (marked 3) ∷ sent (capable 4) ∷ sent (marked 5) ∷ sent (marked 6) ∷ sent (capable 7) ∷ sent (capable 8) ∷ []
+marking_runs : seen (Root ∷ []) (run marking) ≡ record {
+  replies = begun ++ sent (capable 1) ∷ sent (marked 2) ∷ sent (marked 3) ∷ sent (capable 4) ∷ sent (marked 5) ∷ sent (marked 6) ∷ sent (capable 7) ∷ sent (capable 8) ∷ [];
+  losses = [];
+  rows = Some (record { arrived = pb 10 10000; sent = pb 8 8000; refused = no_totals; dropped = no_totals; queued = pb 2 2000; marked = pb 4 4000 }) ∷ [];
+}
 unfolding marking shared_rules
-marking_replies = refl
-
-marking_losses : (run marking).losses ≡ []
-unfolding marking shared_rules
-marking_losses = refl
-
-marking_row : rows_at marking Root
-    ≡ Some (record { arrived = pb 10 10000; sent = pb 8 8000; refused = no_totals; dropped = no_totals; queued = pb 2 2000; marked = pb 4 4000 })
-unfolding marking shared_rules
-marking_row = refl
+marking_runs = refl
 
 -- packet 3 cannot be marked, and is dropped before packet 4 is marked
 mixed : List Event
@@ -75,13 +68,13 @@ mixed =
     ∷ map (λ n. arrives 0 (capable n)) (4 ∷ 5 ∷ 6 ∷ 7 ∷ 8 ∷ 9 ∷ 10 ∷ [])
     ++ polls 100 1 ++ polls 1100 1 ++ polls 3000 1
 
-mixed_replies : (run mixed).replies ≡ begun ++ sent (capable 1) ∷ sent (marked 2) ∷ sent (marked 4) ∷ []
+mixed_runs : seen [] (run mixed) ≡ record {
+  replies = begun ++ sent (capable 1) ∷ sent (marked 2) ∷ sent (marked 4) ∷ [];
+  losses = loss (plain 3) CoDel ∷ [];
+  rows = [];
+}
 unfolding mixed shared_rules
-mixed_replies = refl
-
-mixed_losses : (run mixed).losses ≡ loss (plain 3) CoDel ∷ []
-unfolding mixed shared_rules
-mixed_losses = refl
+mixed_runs = refl
 
 -- polls at moments before the latest count at that one
 backwards : List Event
@@ -89,11 +82,10 @@ backwards =
     add_root None (FqCodel quick) ∷ map (λ n. arrives 0 (plain n)) ten
     ++ polls 100 1 ++ polls 1100 1 ++ polls 0 6
 
-backwards_replies : (run backwards).replies
-    ≡ begun ++ sent (plain 1) ∷ sent (plain 3) ∷ map (λ n. sent (plain n)) (4 ∷ 5 ∷ 6 ∷ 7 ∷ 8 ∷ 9 ∷ [])
+backwards_runs : seen [] (run backwards) ≡ record {
+  replies = begun ++ sent (plain 1) ∷ sent (plain 3) ∷ map (λ n. sent (plain n)) (4 ∷ 5 ∷ 6 ∷ 7 ∷ 8 ∷ 9 ∷ []);
+  losses = loss (plain 2) CoDel ∷ [];
+  rows = [];
+}
 unfolding backwards shared_rules
-backwards_replies = refl
-
-backwards_losses : (run backwards).losses ≡ loss (plain 2) CoDel ∷ []
-unfolding backwards shared_rules
-backwards_losses = refl
+backwards_runs = refl

@@ -2,17 +2,16 @@
 use Rattle.std.proofs.Common.{◌≡◌, ℕ, List, [], ◌∷◌, ◌++◌, refl}
 use Rattle.std.specs.Prelude.{Some, None, map, replicate}
 use Rattle.q_packet.specs.declared.cause.Cause.TheVariants.{NoClass}
-use Rattle.q_drr.specs.Schedule.{Entry}
+use Rattle.q_tree.specs.declared.class_kind.ClassKind.TheVariants as kind
 use Rattle.q_tree.specs.declared.command.Command.TheVariants.{ClassChange}
 use Rattle.q_tree.specs.declared.kind.Kind.TheVariants.{Drr, Tbf}
 use Rattle.q_tree.specs.declared.tbf_limit.TbfLimit.TheVariants.{Bytes}
 use Rattle.q_tree.specs.declared.place.Place.TheVariants.{Root}
 use Rattle.q_tree.specs.Tally.{no_totals}
-use Rattle.q_tree.specs.Node.{Discipline}
-use Rattle.q_tree.specs.Node as node
+use Rattle.q_tree.specs.Views.{class_views}
 use Rattle.q_device.specs.declared.event.Event.{Event}
 use Rattle.q_device.proofs.SharedRules.{shared_rules}
-use Rattle.q_device.proofs.Script.{run, rows_at, class, packet, from_port, arrives, polls, tc, add_root, add_in, add_class, filter_port, ok, kept, lost, sent, idle, later, loss, pb}
+use Rattle.q_device.proofs.Script.{run, seen, class, packet, from_port, arrives, polls, tc, add_root, add_in, add_class, filter_port, ok, kept, lost, sent, idle, later, loss, pb}
 
 -- two classes of one quantum, by source port
 abbrev two_classes : ℕ → ℕ → List Event
@@ -27,21 +26,13 @@ grants =
     ++ arrives 0 (from_port 1 1 1500) ∷ arrives 0 (from_port 2 2 500) ∷ arrives 0 (from_port 2 3 500) ∷ arrives 0 (from_port 2 4 500)
     ∷ polls 0 5 ++ arrives 0 (packet 5 40) ∷ []
 
-grants_replies : (run grants).replies
-    ≡ ok ∷ ok ∷ ok ∷ ok ∷ ok ∷ kept ∷ kept ∷ kept ∷ kept
-    ∷ sent (from_port 2 2 500) ∷ sent (from_port 2 3 500) ∷ sent (from_port 1 1 1500) ∷ sent (from_port 2 4 500) ∷ idle
-    ∷ lost NoClass ∷ []
+grants_runs : seen (Root ∷ []) (run grants) ≡ record {
+  replies = ok ∷ ok ∷ ok ∷ ok ∷ ok ∷ kept ∷ kept ∷ kept ∷ kept ∷ sent (from_port 2 2 500) ∷ sent (from_port 2 3 500) ∷ sent (from_port 1 1 1500) ∷ sent (from_port 2 4 500) ∷ idle ∷ lost NoClass ∷ [];
+  losses = loss (packet 5 40) NoClass ∷ [];
+  rows = Some (record { arrived = pb 5 3040; sent = pb 4 3000; refused = pb 1 40; dropped = no_totals; queued = no_totals; marked = no_totals }) ∷ [];
+}
 unfolding grants shared_rules
-grants_replies = refl
-
-grants_losses : (run grants).losses ≡ loss (packet 5 40) NoClass ∷ []
-unfolding grants shared_rules
-grants_losses = refl
-
-grants_row : rows_at grants Root
-    ≡ Some (record { arrived = pb 5 3040; sent = pb 4 3000; refused = pb 1 40; dropped = no_totals; queued = no_totals; marked = no_totals })
-unfolding grants shared_rules
-grants_row = refl
+grants_runs = refl
 
 -- quanta of 1000 and 500: two packets of the first class for one of the second
 shares : List Event
@@ -51,32 +42,28 @@ shares =
     ++ map (λ n. arrives 0 (from_port 2 n 500)) (11 ∷ 12 ∷ 13 ∷ 14 ∷ 15 ∷ 16 ∷ 17 ∷ 18 ∷ 19 ∷ 20 ∷ [])
     ++ polls 0 6
 
-shares_replies : (run shares).replies
-    ≡ ok ∷ ok ∷ ok ∷ ok ∷ ok ∷ replicate 20 kept
-    ++ sent (from_port 1 1 500) ∷ sent (from_port 1 2 500) ∷ sent (from_port 2 11 500)
-    ∷ sent (from_port 1 3 500) ∷ sent (from_port 1 4 500) ∷ sent (from_port 2 12 500) ∷ []
+shares_runs : seen [] (run shares) ≡ record {
+  replies = ok ∷ ok ∷ ok ∷ ok ∷ ok ∷ replicate 20 kept ++ sent (from_port 1 1 500) ∷ sent (from_port 1 2 500) ∷ sent (from_port 2 11 500) ∷ sent (from_port 1 3 500) ∷ sent (from_port 1 4 500) ∷ sent (from_port 2 12 500) ∷ [];
+  losses = [];
+  rows = [];
+}
 unfolding shares shared_rules
-shares_replies = refl
+shares_runs = refl
 
--- the active list of a drr
-abbrev active_of : Discipline → List Entry
-active_of (node.Drr s) = s.active
-active_of (node.Fifo limit queue) = []
-active_of (node.Prio priomap) = []
-active_of (node.Tbf bucket limit) = []
-active_of (node.FqCodel s) = []
-
--- the deficits that are left: the first class has had two grants of 1000 beside the quantum with which it woke, the second one
-shares_deficits : active_of (run shares).device.tree.root.own.discipline
-    ≡ record { class = 2; deficit = 0; granted = 500 } ∷ record { class = 1; deficit = 1000; granted = 2000 } ∷ []
+-- what `tc class show` has of it: the first class has had two grants of 1000 beside the quantum with which it woke
+shares_classes : class_views (run shares).device.tree.root
+    ≡ record { class = class 1 1; kind = kind.Drr 1000 (Some 1000) } ∷ record { class = class 1 2; kind = kind.Drr 500 (Some 0) } ∷ []
 unfolding shares shared_rules
-shares_deficits = refl
+shares_classes = refl
 
 -- a smaller quantum cuts no deficit that is below it and the mtu together
-shares_changed : active_of (run (shares ++ tc (ClassChange None (class 1 1) (Some 100)) ∷ [])).device.tree.root.own.discipline
-    ≡ record { class = 2; deficit = 0; granted = 500 } ∷ record { class = 1; deficit = 1000; granted = 2000 } ∷ []
-unfolding shares shared_rules
-shares_changed = refl
+changed : List Event
+changed = shares ++ tc (ClassChange None (class 1 1) (Some 100)) ∷ []
+
+changed_classes : class_views (run changed).device.tree.root
+    ≡ record { class = class 1 1; kind = kind.Drr 100 (Some 1000) } ∷ record { class = class 1 2; kind = kind.Drr 500 (Some 0) } ∷ []
+unfolding shares changed shared_rules
+changed_classes = refl
 
 -- a front class whose tbf waits for tokens stops the drr, though another class could send
 over_tbf : List Event
@@ -86,8 +73,10 @@ over_tbf =
     ∷ arrives 0 (from_port 1 1 1000) ∷ arrives 0 (from_port 1 2 1000) ∷ arrives 0 (from_port 2 3 500)
     ∷ polls 0 2 ++ polls 1000000000 2
 
-over_tbf_replies : (run over_tbf).replies
-    ≡ ok ∷ ok ∷ ok ∷ ok ∷ ok ∷ ok ∷ kept ∷ kept ∷ kept
-    ∷ sent (from_port 1 1 1000) ∷ later ∷ sent (from_port 2 3 500) ∷ sent (from_port 1 2 1000) ∷ []
+over_tbf_runs : seen [] (run over_tbf) ≡ record {
+  replies = ok ∷ ok ∷ ok ∷ ok ∷ ok ∷ ok ∷ kept ∷ kept ∷ kept ∷ sent (from_port 1 1 1000) ∷ later ∷ sent (from_port 2 3 500) ∷ sent (from_port 1 2 1000) ∷ [];
+  losses = [];
+  rows = [];
+}
 unfolding over_tbf shared_rules
-over_tbf_replies = refl
+over_tbf_runs = refl

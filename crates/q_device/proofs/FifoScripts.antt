@@ -6,18 +6,16 @@ use Rattle.q_tree.specs.declared.kind.Kind.TheVariants.{Pfifo}
 use Rattle.q_tree.specs.declared.place.Place.TheVariants.{Root}
 use Rattle.q_tree.specs.Tally.{no_totals}
 use Rattle.q_device.specs.declared.event.Event.{Event}
-use Rattle.q_device.proofs.Script.{run, rows_at, packet, arrives, polls, add_root, ok, kept, lost, sent, idle, pb}
+use Rattle.q_device.proofs.Script.{run, seen, packet, arrives, polls, add_root, ok, kept, lost, sent, idle, loss, pb}
 
 -- a pfifo of two packets, at which three arrive
 two_of_three : List Event
 two_of_three = add_root (Some 1) (Pfifo (Some 2)) ∷ arrives 0 (packet 1 100) ∷ arrives 0 (packet 2 200) ∷ arrives 0 (packet 3 300) ∷ polls 0 3
 
-two_of_three_replies : (run two_of_three).replies
-    ≡ ok ∷ kept ∷ kept ∷ lost OverLimit ∷ sent (packet 1 100) ∷ sent (packet 2 200) ∷ idle ∷ []
+two_of_three_runs : seen (Root ∷ []) (run two_of_three) ≡ record {
+  replies = ok ∷ kept ∷ kept ∷ lost OverLimit ∷ sent (packet 1 100) ∷ sent (packet 2 200) ∷ idle ∷ [];
+  losses = loss (packet 3 300) OverLimit ∷ [];
+  rows = Some (record { arrived = pb 3 600; sent = pb 2 300; refused = pb 1 300; dropped = no_totals; queued = no_totals; marked = no_totals }) ∷ [];
+}
 unfolding two_of_three
-two_of_three_replies = refl
-
-two_of_three_row : rows_at two_of_three Root
-    ≡ Some (record { arrived = pb 3 600; sent = pb 2 300; refused = pb 1 300; dropped = no_totals; queued = no_totals; marked = no_totals })
-unfolding two_of_three
-two_of_three_row = refl
+two_of_three_runs = refl

@@ -5,7 +5,7 @@ use Rattle.q_packet.specs.declared.cause.Cause.TheVariants.{FatFlow}
 use Rattle.q_tree.specs.declared.kind.Kind.TheVariants.{FqCodel}
 use Rattle.q_device.specs.declared.event.Event.{Event}
 use Rattle.q_device.proofs.SharedRules.{shared_rules}
-use Rattle.q_device.proofs.Script.{run, hashed, arrives, polls, add_root, no_options, ok, kept, lost, sent, idle, loss}
+use Rattle.q_device.proofs.Script.{run, seen, hashed, arrives, polls, add_root, no_options, ok, kept, lost, sent, idle, loss}
 
 -- three packets of flow 0 and one of flow 1: flow 1, emptied, passes to the old list
 new_to_old : List Event
@@ -14,11 +14,13 @@ new_to_old =
     ∷ arrives 0 (hashed 0 1 1000) ∷ arrives 0 (hashed 0 2 1000) ∷ arrives 0 (hashed 0 3 1000) ∷ arrives 0 (hashed 1 4 100)
     ∷ polls 0 4
 
-new_to_old_replies : (run new_to_old).replies
-    ≡ ok ∷ kept ∷ kept ∷ kept ∷ kept
-    ∷ sent (hashed 0 1 1000) ∷ sent (hashed 0 2 1000) ∷ sent (hashed 1 4 100) ∷ sent (hashed 0 3 1000) ∷ []
+new_to_old_runs : seen [] (run new_to_old) ≡ record {
+  replies = ok ∷ kept ∷ kept ∷ kept ∷ kept ∷ sent (hashed 0 1 1000) ∷ sent (hashed 0 2 1000) ∷ sent (hashed 1 4 100) ∷ sent (hashed 0 3 1000) ∷ [];
+  losses = [];
+  rows = [];
+}
 unfolding new_to_old shared_rules
-new_to_old_replies = refl
+new_to_old_runs = refl
 
 -- of two flows with 300 bytes each, the one with the lower index is the fat one
 tie : List Event
@@ -27,13 +29,13 @@ tie =
     ∷ arrives 0 (hashed 7 1 300) ∷ arrives 0 (hashed 3 2 100) ∷ arrives 0 (hashed 3 3 200)
     ∷ polls 0 3
 
-tie_replies : (run tie).replies ≡ ok ∷ kept ∷ kept ∷ kept ∷ sent (hashed 7 1 300) ∷ sent (hashed 3 3 200) ∷ idle ∷ []
+tie_runs : seen [] (run tie) ≡ record {
+  replies = ok ∷ kept ∷ kept ∷ kept ∷ sent (hashed 7 1 300) ∷ sent (hashed 3 3 200) ∷ idle ∷ [];
+  losses = loss (hashed 3 2 100) FatFlow ∷ [];
+  rows = [];
+}
 unfolding tie shared_rules
-tie_replies = refl
-
-tie_losses : (run tie).losses ≡ loss (hashed 3 2 100) FatFlow ∷ []
-unfolding tie shared_rules
-tie_losses = refl
+tie_runs = refl
 
 -- a batch of two is taken from the front of the fat flow
 batch : List Event
@@ -42,13 +44,13 @@ batch =
     ∷ arrives 0 (hashed 0 1 500) ∷ arrives 0 (hashed 0 2 500) ∷ arrives 0 (hashed 0 3 500) ∷ arrives 0 (hashed 1 4 100)
     ∷ polls 0 3
 
-batch_replies : (run batch).replies ≡ ok ∷ kept ∷ kept ∷ kept ∷ kept ∷ sent (hashed 0 3 500) ∷ sent (hashed 1 4 100) ∷ idle ∷ []
+batch_runs : seen [] (run batch) ≡ record {
+  replies = ok ∷ kept ∷ kept ∷ kept ∷ kept ∷ sent (hashed 0 3 500) ∷ sent (hashed 1 4 100) ∷ idle ∷ [];
+  losses = loss (hashed 0 1 500) FatFlow ∷ loss (hashed 0 2 500) FatFlow ∷ [];
+  rows = [];
+}
 unfolding batch shared_rules
-batch_replies = refl
-
-batch_losses : (run batch).losses ≡ loss (hashed 0 1 500) FatFlow ∷ loss (hashed 0 2 500) FatFlow ∷ []
-unfolding batch shared_rules
-batch_losses = refl
+batch_runs = refl
 
 -- a batch has no more than its flow has, here with the packet that has just come
 whole_flow : List Event
@@ -57,10 +59,10 @@ whole_flow =
     ∷ arrives 0 (hashed 0 1 50) ∷ arrives 0 (hashed 1 2 100) ∷ arrives 0 (hashed 1 3 100)
     ∷ polls 0 2
 
-whole_flow_replies : (run whole_flow).replies ≡ ok ∷ kept ∷ kept ∷ lost FatFlow ∷ sent (hashed 0 1 50) ∷ idle ∷ []
+whole_flow_runs : seen [] (run whole_flow) ≡ record {
+  replies = ok ∷ kept ∷ kept ∷ lost FatFlow ∷ sent (hashed 0 1 50) ∷ idle ∷ [];
+  losses = loss (hashed 1 2 100) FatFlow ∷ loss (hashed 1 3 100) FatFlow ∷ [];
+  rows = [];
+}
 unfolding whole_flow shared_rules
-whole_flow_replies = refl
-
-whole_flow_losses : (run whole_flow).losses ≡ loss (hashed 1 2 100) FatFlow ∷ loss (hashed 1 3 100) FatFlow ∷ []
-unfolding whole_flow shared_rules
-whole_flow_losses = refl
+whole_flow_runs = refl

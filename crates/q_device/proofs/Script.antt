@@ -1,6 +1,6 @@
 -- What the worked scripts are written with: packets, lines, answers and rows.
 use Rattle.std.proofs.Common.{ℕ, List}
-use Rattle.std.specs.Prelude.{Option, Some, None, Ok, Err, replicate}
+use Rattle.std.specs.Prelude.{Option, Some, None, Ok, Err, map, replicate}
 use Rattle.q_packet.specs.Descriptor.{Descriptor}
 use Rattle.q_packet.specs.Key.{zero_key}
 use Rattle.q_packet.specs.declared.ecn.Ecn.TheVariants.{NotEct}
@@ -110,8 +110,14 @@ loss p cause = record { packet = p; cause = cause }
 abbrev pub run : List Event → Replay Counts
 run events = replay totals settings events
 
-abbrev pub rows_at : List Event → Place → Option Row
-rows_at events p = stats totals p (run events).device.tree
+-- what is seen of it: what each line was answered, what was lost, and the rows of some places
+pub record Seen : Type 0 where
+  pub replies : List Reply
+  pub losses : List Loss
+  pub rows : List (Option Row)
+
+abbrev pub seen : List Place → Replay Counts → Seen
+seen places r = record { replies = r.replies; losses = r.losses; rows = map (λ p. stats totals p r.device.tree) places }
 
 abbrev pub pb : ℕ → ℕ → Totals
 pb packets bytes = record { packets = packets; bytes = bytes }

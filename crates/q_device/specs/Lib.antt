@@ -1,4 +1,6 @@
+pub mod Conserved
 pub mod Laws
+pub mod Ranges
 pub mod Refusal
 pub mod Replay
 pub mod Settings

@@ -6,7 +6,7 @@ use Rattle.q_packet.specs.Descriptor.{Descriptor}
 use Rattle.q_packet.specs.declared.cause.Cause.{Cause}
 use Rattle.q_codel.specs.declared.loss.Loss.{Loss}
 use Rattle.q_tree.specs.declared.command.Command.{Command}
-use Rattle.q_tree.specs.Tally.{Tally, Note, Arrived, Sent, Lost, Marked, Granted, Spent}
+use Rattle.q_tree.specs.Tally.{Tally, Note, Arrived, Sent, Lost, Marked, Granted, Spent, FlowGranted, FlowGave}
 use Rattle.q_tree.specs.Node.{shape}
 use Rattle.q_tree.specs.Beneath.{is_empty}
 use Rattle.q_tree.specs.Edit.{Edit, lost_by}
@@ -44,6 +44,8 @@ loss_in (Sent p) = None
 loss_in (Marked p) = None
 loss_in (Granted class times) = None
 loss_in (Spent bytes) = None
+loss_in (FlowGranted flow times) = None
+loss_in (FlowGave flow bytes) = None
 
 abbrev pub losses_in : List Note → List Loss
 losses_in notes = filter_map loss_in notes

@@ -20,6 +20,7 @@ use Rattle.q_tree.specs.Beneath.{packets_of, is_empty}
 use Rattle.q_tree.specs.Route.{class_at}
 use Rattle.q_tree.specs.Work.{Work, Worked, worked, losses_of, settled_class}
 use Rattle.q_tree.specs.Grants.{choice_of, asked_entries, granted_notes}
+use Rattle.q_tree.specs.Quanta.{flow_notes}
 
 -- What asking a node comes to. `before`: it was not asked. `peeked`: it was asked for its packet, and shows it. `given`: it
 -- was asked and has given that packet. `rises`: what each node above has to note once it was asked.
@@ -109,11 +110,6 @@ abbrev pub peeked_classes : Schedule → List Entry → List Asked → List Work
 peeked_classes s entries below =
     map (λ pair. if is_among entries pair.0 then pair.1.peeked else pair.1.before) (zip s.classes below)
 
--- the class that is met gives its packet, and leaves the active list where its child is empty
-abbrev pub class_gives : Own → List Asked → Schedule → ℕ → Asked → List Worked → List Note → List Note → Descriptor → Asked
-class_gives own below after i child peeked notes mine p =
-    dequeued own below (record own { discipline = Drr (settled_class i (is_empty child.given) after) }) (set peeked i child.given) notes mine (Some p)
-
 -- what each class shows: the length of its packet
 abbrev pub length_of : Asked → Option ℕ
 length_of a = option_map (λ (p : Descriptor). p.len) a.shown
@@ -121,25 +117,48 @@ length_of a = option_map (λ (p : Descriptor). p.len) a.shown
 abbrev pub head_of : Schedule → List Asked → ℕ → Option ℕ
 head_of s below name = option_and_then length_of (class_answer s below name)
 
+-- What a drr's asking comes to before anything is given: its schedule after the grants, where the class that is met has
+-- paid for what it shows; its children, peeked where they were asked; what they have to tell the nodes above; the grants.
+pub record Service : Type 0 where
+  pub schedule : Schedule
+  pub below : List Worked
+  pub rises : List Note
+  pub grants : List Note
+
+abbrev pub service_of : Schedule → List Asked → Service
+service_of s below =
+    let choice = choice_of (head_of s below) s in
+    let entries = asked_entries choice s.active in
+    record {
+      schedule = served (head_of s below) s;
+      below = peeked_classes s entries below;
+      rises = flat_map (λ (e : Entry). option_map_or (λ (a : Asked). a.rises) (class_answer s below e.class) []) entries;
+      grants = granted_notes choice s.active;
+    }
+
+-- where the class that is met stands among the children
+abbrev pub place_met : Schedule → List Asked → Option ℕ
+place_met s below = option_and_then (λ (m : Met). class_at m.class s) (met (head_of s below) s)
+
+abbrev pub gives_nothing : Own → List Asked → Service → Asked
+gives_nothing own below v = dequeued own below (record own { discipline = Drr v.schedule }) v.below v.rises v.grants None
+
+-- the class gives its packet, and leaves the active list where its child is empty
+abbrev pub class_gives : Own → List Asked → Service → ℕ → Asked → Descriptor → Asked
+class_gives own below v i child p =
+    let schedule = settled_class i (is_empty child.given) v.schedule in
+    dequeued own below (record own { discipline = Drr schedule }) (set v.below i child.given) v.rises v.grants (Some p)
+
+abbrev pub class_serves : Own → List Asked → Service → ℕ → Asked → Asked
+class_serves own below v i child = option_map_or (class_gives own below v i child) child.shown (gives_nothing own below v)
+
 -- A drr asks the classes of its active list in turn, and grants to each whose packet is longer than its deficit, until one
 -- is met that can send its packet, or that shows nothing; then the drr gives nothing.
 abbrev pub ask_drr : Own → List Asked → Schedule → Asked
 ask_drr own below s =
-    let heads = head_of s below in
-    let choice = choice_of heads s in
-    let entries = asked_entries choice s.active in
-    let after = served heads s in
-    let peeked = peeked_classes s entries below in
-    let notes = flat_map (λ (e : Entry). option_map_or (λ (a : Asked). a.rises) (class_answer s below e.class) []) entries in
-    let mine = granted_notes choice s.active in
-    let nothing = dequeued own below (record own { discipline = Drr after }) peeked notes mine None in
-    option_map_or
-    (λ (m : Met). option_map_or
-    (λ i. option_map_or
-    (λ (child : Asked). option_map_or (class_gives own below after i child peeked notes mine) child.shown nothing)
-    (slice_get below i) nothing)
-    (class_at m.class s) nothing)
-    (met heads s) nothing
+    let v = service_of s below in
+    let nothing = gives_nothing own below v in
+    option_map_or (λ i. option_map_or (class_serves own below v i) (slice_get below i) nothing) (place_met s below) nothing
 
 -- an fq_codel chooses a flow, from which CoDel takes a packet; what CoDel drops is lost before that
 abbrev pub marks_of : Option Taken → List Note
@@ -151,7 +170,8 @@ ask_fq_codel now own below s =
     let chosen = selected s in
     let taken = sent_from now chosen in
     dequeued own below (record own { discipline = FqCodel (after_sending now chosen) }) (befores below)
-    (losses_of CoDel (packets_of (dropped_from now chosen)) ++ marks_of taken) [] (option_map (λ (t : Taken). t.packet) taken)
+    (losses_of CoDel (packets_of (dropped_from now chosen)) ++ marks_of taken) (flow_notes s chosen taken)
+    (option_map (λ (t : Taken). t.packet) taken)
 
 abbrev pub ask_discipline : ℕ → Own → List Asked → Discipline → Asked
 ask_discipline now own below (Fifo limit queue) = ask_fifo own below limit queue

@@ -6,7 +6,7 @@ use Rattle.std.specs.List.Sorted.{IsPermutation}
 use Rattle.q_packet.specs.Descriptor.{Descriptor}
 use Rattle.q_packet.specs.declared.ecn.Ecn.TheVariants.{NotEct}
 use Rattle.q_tree.specs.declared.row.Row.{Row}
-use Rattle.q_tree.specs.Tally.{Note, Arrived, Sent, Lost, Marked, Granted, Spent}
+use Rattle.q_tree.specs.Tally.{Note, Arrived, Sent, Lost, Marked, Granted, Spent, FlowGranted, FlowGave}
 use Rattle.q_tree.specs.Node.{Forest, none, more, Node}
 
 -- a node and all nodes beneath it, each before its children
@@ -25,6 +25,8 @@ arrival_in (Lost p cause) = None
 arrival_in (Marked p) = None
 arrival_in (Granted class times) = None
 arrival_in (Spent bytes) = None
+arrival_in (FlowGranted flow times) = None
+arrival_in (FlowGave flow bytes) = None
 
 abbrev pub sent_in : Note → Option Descriptor
 sent_in (Arrived p) = None
@@ -33,6 +35,8 @@ sent_in (Lost p cause) = None
 sent_in (Marked p) = None
 sent_in (Granted class times) = None
 sent_in (Spent bytes) = None
+sent_in (FlowGranted flow times) = None
+sent_in (FlowGave flow bytes) = None
 
 abbrev pub lost_in : Note → Option Descriptor
 lost_in (Arrived p) = None
@@ -41,6 +45,8 @@ lost_in (Lost p cause) = Some p
 lost_in (Marked p) = None
 lost_in (Granted class times) = None
 lost_in (Spent bytes) = None
+lost_in (FlowGranted flow times) = None
+lost_in (FlowGave flow bytes) = None
 
 -- the packets as they are but for the codepoint
 abbrev pub unmarked : List Descriptor → List Descriptor

@@ -13,9 +13,12 @@ pub mod Node
 pub mod NotDone
 pub mod Put
 pub mod QdiscCommands
+pub mod Quanta
+pub mod Ranges
 pub mod Refusals
 pub mod Route
 pub mod Shrink
 pub mod Tally
 pub mod TreeState
+pub mod Views
 pub mod Work

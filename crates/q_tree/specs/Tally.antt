@@ -8,7 +8,8 @@ use Rattle.q_packet.specs.declared.cause.Cause.{Cause}
 use Rattle.q_tree.specs.declared.totals.Totals.{Totals}
 
 -- Arrived: a packet reached the node. Sent: the node gave it to the one above. Lost and Marked: at the node or beneath it.
--- Granted: a class of a drr got so many quanta. Spent: the bucket of a tbf paid so many bytes.
+-- Granted: a class of a drr got so many quanta. Spent: the bucket of a tbf paid so many bytes. FlowGranted: a flow of an
+-- fq_codel got so many quanta. FlowGave: it gave so many bytes.
 pub data Note : Type 0 where
   Arrived : Descriptor → Note
   Sent : Descriptor → Note
@@ -16,6 +17,8 @@ pub data Note : Type 0 where
   Marked : Descriptor → Note
   Granted : ℕ → ℕ → Note
   Spent : ℕ → Note
+  FlowGranted : ℕ → ℕ → Note
+  FlowGave : ℕ → ℕ → Note
 
 -- what was counted of packets
 pub record Counts : Type 0 where
@@ -43,6 +46,8 @@ counted c (Lost p cause) =
 counted c (Marked p) = record c { marked = with_packet c.marked p }
 counted c (Granted class times) = c
 counted c (Spent bytes) = c
+counted c (FlowGranted flow times) = c
+counted c (FlowGave flow bytes) = c
 
 -- what notes come to
 abbrev pub counts_in : List Note → Counts

@@ -40,7 +40,7 @@ new_tree t d = record { device = d; top = t.none; root = blank t (implicit_pfifo
 abbrev pub with_work : {M : Type 0} → Tally M → List Note → Worked → TreeState M → TreeState M
 with_work t notes w s = record s { top = noted t s.top notes; root = booked t s.root w }
 
--- A packet that is put: the way is found, and then followed. `lost` is what the put loses, the packet itself where it is refused.
+-- a packet that is put: the way is found, and then followed
 abbrev pub put_work : ℕ → Descriptor → Device → Shape → Work
 put_work now p d root =
     if nat_lt d.mtu p.len then record { node = quiet root; rises = Lost p TooLong ∷ [] }
@@ -59,19 +59,22 @@ own_loss now p d root = if nat_lt d.mtu p.len then Some TooLong else loss_at_end
 abbrev pub put : {M : Type 0} → Tally M → ℕ → Descriptor → TreeState M → TreeState M
 put t now p s = let w = put_work now p s.device (shape s.root) in with_work t (Arrived p ∷ w.rises) w.node s
 
--- what a put, a take and a peek of the root lose and mark
+-- what a put loses: the packet itself where it is refused, and what an fq_codel drops
 abbrev pub noted_by_put : {M : Type 0} → ℕ → Descriptor → TreeState M → List Note
 noted_by_put now p s = (put_work now p s.device (shape s.root)).rises
 
 abbrev pub asked : {M : Type 0} → ℕ → TreeState M → Asked
 asked now s = ask now (shape s.root)
 
--- the packet that a take gives
+-- the packet that a peek shows and a take gives, and what both lose and mark on the way
 abbrev pub given : {M : Type 0} → ℕ → TreeState M → Option Descriptor
 given now s = (asked now s).shown
 
 abbrev pub noted_by_take : {M : Type 0} → ℕ → TreeState M → List Note
 noted_by_take now s = (asked now s).rises
+
+abbrev pub peek_packet : {M : Type 0} → Tally M → ℕ → TreeState M → TreeState M
+peek_packet t now s = with_work t (noted_by_take now s) (asked now s).peeked s
 
 abbrev pub take_packet : {M : Type 0} → Tally M → ℕ → TreeState M → TreeState M
 take_packet t now s =
