@@ -1,5 +1,5 @@
 -- Lemmas on texts that are written bit by bit.
-use Rattle.std.proofs.Common.{◌≡◌, ℕ, ◌-◌, List, ◌++◌, Option, sym, ap, ◌∙◌, subst, append_assoc, take, drop, length, take-append-drop, arith, length-drop}
+use Rattle.std.proofs.Common.{◌≡◌, ℕ, ◌-◌, List, ◌++◌, Option, sym, ap, ◌∙◌, subst, append_assoc, take, drop, length, take-append-drop, arith, length-append, length-drop}
 use Rattle.std.proofs.lemmas.List.{take_all}
 use Rattle.std.specs.Io.KnownBytes.{Appends}
 use Rattle.std.proofs.KnownBytes.{Appends-trans}
@@ -25,11 +25,11 @@ buffered-more a b buffered text more h = (h.0, h.1, ap (λ l. l ++ more) h.2 ∙
 -- a writer that failed within what is buffered has a front of the text
 pub front-of : (a b c : Option (List ℕ)) (buffered text : List ℕ) → IsBuffered a b buffered text → AppendsFront b c buffered → AppendsFront a c text
 front-of a b c buffered text h w =
-    (h.0 ++ w.0, w.1, Appends-trans a b c h.0 w.0 h.1 w.2, h.2 ∙ (ap (λ l. h.0 ++ l) w.3 ∙ sym (append_assoc h.0 w.0 w.1)))
+    (h.0 ++ w.0, w.1, Appends-trans a b c h.0 w.0 h.1 w.2, w.3, h.2 ∙ (ap (λ l. h.0 ++ l) w.4 ∙ sym (append_assoc h.0 w.0 w.1)))
 
 -- a front of a text is a front of a longer one
 pub front-longer : (a b : Option (List ℕ)) (text more : List ℕ) → AppendsFront a b text → AppendsFront a b (text ++ more)
-front-longer a b text more w = (w.0, w.1 ++ more, w.2, ap (λ l. l ++ more) w.3 ∙ append_assoc w.0 w.1 more)
+front-longer a b text more w = (w.0, w.1 ++ more, w.2, omega (arith, length-append w.1 more, w.3), ap (λ l. l ++ more) w.4 ∙ append_assoc w.0 w.1 more)
 
 -- all that was buffered is written
 pub buffered-all : (a b c : Option (List ℕ)) (buffered text : List ℕ) → IsBuffered a b buffered text → Appends b c buffered → Appends a c text

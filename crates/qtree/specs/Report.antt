@@ -128,6 +128,6 @@ pub record IsReported (settings : Settings) (script : List ℕ) (told : Outcome)
   pub text : Appends old new (report settings script starved)
   pub outcome_is : told ≡ outcome settings script starved
 
--- the writer has a front of such a report
+-- the writer has a front of such a report, and some of the report is not written
 abbrev pub IsPartlyReported : Settings → List ℕ → Option (List ℕ) → Option (List ℕ) → Type 0
 IsPartlyReported settings script old new = (starved : List ℕ) × AppendsFront old new (report settings script starved)

@@ -33,7 +33,7 @@ FailsWithin k line old held holds before =
 abbrev pub run_of : List ℕ → ℕ → List (List ℕ) → SessionState Totals → Effect Totals
 run_of starved k lines s = replayed totals (is_starved starved) k lines s
 
--- a front of the report was written
+-- a front of the report was written, and not all of it
 abbrev pub IsPartOfRun : Option (List ℕ) → Option (List ℕ) → List (List ℕ) → SessionState Totals → Type 0
 IsPartOfRun held holds all first = (starved : List ℕ) × AppendsFront held holds (run_of starved 1 all first).text
 

@@ -1,11 +1,11 @@
 -- What a writer holds of a text that is written bit by bit: a front of it, with the rest in a buffer or lost to an error.
 -- A writer's bytes are std's `contents`, known or not; `Appends` says what they grew by.
-use Rattle.std.specs.Prelude.{◌≡◌, ℕ, List, ◌++◌, Option}
+use Rattle.std.specs.Prelude.{◌≡◌, ℕ, ◌<◌, List, ◌++◌, length, Option}
 use Rattle.std.specs.Io.KnownBytes.{Appends}
 
--- the writer's known bytes grew by a front of the text
+-- the writer's known bytes grew by a front of the text, and some of the text is not written
 abbrev pub AppendsFront : Option (List ℕ) → Option (List ℕ) → List ℕ → Type 0
-AppendsFront old new text = (front : List ℕ) × (rest : List ℕ) × Appends old new front × (text ≡ front ++ rest)
+AppendsFront old new text = (front : List ℕ) × (rest : List ℕ) × Appends old new front × (0 < length rest) × (text ≡ front ++ rest)
 
 -- the text is what the writer's known bytes grew by, and then what is still buffered
 abbrev pub IsBuffered : Option (List ℕ) → Option (List ℕ) → List ℕ → List ℕ → Type 0

@@ -7,7 +7,8 @@
 //! - [`command_line::options`] reads the command line.
 //!
 //! `specs/Report.antt` says what each line of a script does and writes, over the model device of `specs/Device.antt`, which
-//! is generic in how packets are remembered: the report is that of a device which keeps every packet.
+//! is generic in how packets are remembered: the report is that of a device which keeps every packet. `specs/Examples.antt`
+//! computes the reports of worked scripts.
 #![tactic(auto)]
 
 mod command_line;

@@ -74,7 +74,7 @@ impl Output {
         Ok(())
     }
 
-    /// Writes all that is buffered. After an error the writer holds a front of it.
+    /// Writes all that is buffered. After an error the writer holds a front of it, and not all.
     pub fn flush<W: Write>(&mut self, writer: &mut W) -> Result<(), WriteFault>
         ensures written { OnOk result (Appends (W.contents writer.old) (W.contents writer.new) self.old) }
         ensures empty { OnOk result (self.new ≡ []) }
@@ -86,7 +86,7 @@ impl Output {
     }
 }
 
-/// Writes all the bytes. After an error the writer holds a front of them.
+/// Writes all the bytes. After an error the writer holds a front of them, and not all.
 fn write_whole<W: Write>(writer: &mut W, bytes: &[u8]) -> Result<(), WriteFault>
     ensures ok { OnOk result (Appends (W.contents writer.old) (W.contents writer.new) bytes.now) }
     ensures err { OnErr result (AppendsFront (W.contents writer.old) (W.contents writer.new) bytes.now) }

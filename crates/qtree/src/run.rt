@@ -41,7 +41,7 @@ fn run_lines<W: Write>(
 /// by at most 16,777,218 reads, interrupted ones counted.
 ///
 /// After `Read`, `TooLong` and `Memory` nothing was written, and after `Write` (any error of a write, or one that takes no
-/// byte) a front of a report.
+/// byte) a front of a report, and not all of it.
 pub fn run<R: Read, W: Write>(
     alloc: Global,
     reader: &mut R,
