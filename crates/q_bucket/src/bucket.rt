@@ -1,4 +1,4 @@
-ghost use Rattle.std.specs.Prelude.{◌≡◌, ◌≤◌, ◌<◌, ◌^◌, ◌*◌, ℕ, true, false, IfSome, IfNone};
+ghost use Rattle.std.specs.Prelude.{◌≡◌, ◌≤◌, ◌<◌, ◌^◌, ◌*◌, ◌-◌, ℕ, true, false, IfSome, IfNone};
 ghost use Rattle.std.specs.Bool.{OnFalse};
 ghost use Rattle.q_bucket.specs.Level.{units_in_byte};
 
@@ -22,9 +22,12 @@ pub struct Bucket {
     /// In units, at the moment `last`.
     level: u128,
     last: Moment,
+    /// What the rate brings from moment 0 to `last`, in units. It is kept, since a product would hold up the next spend.
+    brought: u128,
 }
 
 impl Model for Bucket {
+    ghost use Rattle.std.specs.Prelude.{◌≡◌, ◌*◌};
     ghost use Rattle.q_bucket.specs.Level.{TokenBucket, IsInRange};
 
     ghost Value = { TokenBucket };
@@ -32,7 +35,8 @@ impl Model for Bucket {
     ghost view = { λ b. record { rate = b.rate; burst = b.burst; level = b.level; last = b.last } };
 
     ghost invariant = { λ b. IsInRange
-        (record { rate = b.rate; burst = b.burst; level = b.level; last = b.last }) };
+        (record { rate = b.rate; burst = b.burst; level = b.level; last = b.last })
+        × (b.brought ≡ b.rate * b.last) };
 }
 
 impl Bucket {
@@ -50,6 +54,7 @@ impl Bucket {
             burst,
             level: capacity_of(burst),
             last: now,
+            brought: brought_at(rate_bits, now),
         }
     }
 
@@ -59,14 +64,21 @@ impl Bucket {
         requires order { self.now.last ≤ now }
         ensures { result ≡ level_at self.now now }
     {
-        let elapsed = now.ns() - self.last.ns();
-        let gained = u128::from(self.rate) * u128::from(elapsed);
+        let gained = self.gained_by(now);
         if self.burst > NARROW_BURST {
             return capacity_of(self.burst).min(self.level + gained);
         }
         let capacity = u64::from(self.burst) * UNITS_IN_BYTE;
         let gained = gained.min(u128::from(capacity)) as u64;
         u128::from(capacity.min(self.level as u64 + gained))
+    }
+
+    /// What the rate has brought since `last`.
+    fn gained_by(&self, now: Moment) -> u128
+        requires order { self.now.last ≤ now }
+        ensures { result ≡ self.now.rate * (now - self.now.last) }
+    {
+        brought_at(self.rate, now) - self.brought
     }
 
     /// May a packet of `len` bytes go at `now`? If so, its length is taken and `now` is the new `last`; if not, the bucket stays
@@ -84,6 +96,7 @@ impl Bucket {
         }
         self.level = level - cost;
         self.last = now;
+        self.brought = brought_at(self.rate, now);
         true
     }
 
@@ -126,6 +139,7 @@ impl Bucket {
         self.burst = burst;
         self.level = capacity_of(burst).min(filled);
         self.last = now;
+        self.brought = brought_at(rate, now);
     }
 
     /// The rate, in bits a second.
@@ -150,6 +164,13 @@ fn capacity_of(burst: u32) -> u128
     ensures { result ≡ burst * units_in_byte }
 {
     u128::from(burst) * u128::from(UNITS_IN_BYTE)
+}
+
+/// What a rate brings from moment 0 on.
+fn brought_at(rate: u64, now: Moment) -> u128
+    ensures { result ≡ rate * now }
+{
+    u128::from(rate) * u128::from(now.ns())
 }
 
 /// The least number of nanoseconds in which the rate brings the units that are missing.

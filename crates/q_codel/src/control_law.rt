@@ -1,8 +1,6 @@
 ghost use Rattle.std.specs.Prelude.{◌≡◌, ◌≤◌, ◌+◌, ◌*◌, ◌^◌, nat_lt};
 ghost use Rattle.q_codel.specs.Gap.{gap_of, IsGap};
 
-use std::num::saturating_f64_to_u64;
-
 /// The time from one drop to the next at this count, in nanoseconds: `interval` over the square root of `count`, rounded
 /// down (RFC 8289, section 5.4).
 ///
@@ -16,8 +14,8 @@ pub fn gap(interval: u64, count: u32) -> u64
     ensures value { result ≡ gap_of interval count }
 {
     // A root of 53 bits is within one of the answer, so that each loop runs at most once.
-    let guess = saturating_f64_to_u64(interval as f64 / (count as f64).sqrt());
-    let mut d = guess.min(interval);
+    let quotient = interval as f64 / (count as f64).sqrt();
+    let mut d = whole_part(quotient).min(interval);
     while is_too_long(d, interval, count) {
         d -= 1;
     }
@@ -25,6 +23,18 @@ pub fn gap(interval: u64, count: u32) -> u64
         d += 1;
     }
     d
+}
+
+// The whole part of `x`, or a number beside it; of no meaning past 2^52.
+//
+// From 2^52 on, a float's last bit is worth 1: so the low 52 bits of the sum are x - 1/2, rounded to a whole number.
+fn whole_part(x: f64) -> u64 {
+    let sum = x + 4503599627370495.5;
+    if sum >= 4503599627370496.0 {
+        sum.to_bits() & 0xf_ffff_ffff_ffff
+    } else {
+        0
+    }
 }
 
 // Whether d² count exceeds interval².

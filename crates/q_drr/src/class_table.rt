@@ -43,7 +43,11 @@ impl ClassTable {
         ensures { result ≡ state_of name self.now }
     {
         let place = self.places[name as usize];
-        self.states[place as usize]
+        // With its name given, a `put` of it goes to the same place with no second look at the state's memory.
+        ClassState {
+            name,
+            ..self.states[place as usize]
+        }
     }
 
     /// Puts this state in the place of the one under its name.
