@@ -1,18 +1,17 @@
 -- The laws of specs/Laws.antt.
-use Rattle.std.proofs.Common.{◌≡◌, ℕ, zero, suc, ◌+◌, ◌-◌, ◌<◌, ◌≤◌, List, [], ◌∷◌, ◌++◌, length, take, drop, sum_by, flat_map, Option, Some, None, option_map, option_and_then, option_to_list, unwrap_or, refl, sym, ap, ap₂, ◌∙◌, arith, ⊎_elim}
+use Rattle.std.proofs.Common.{◌≡◌, ℕ, zero, suc, ◌+◌, ◌<◌, ◌≤◌, List, [], ◌∷◌, ◌++◌, length, take, drop, sum_by, flat_map, Option, Some, None, option_map, option_and_then, option_to_list, unwrap_or, refl, sym, ap, ap₂, ◌∙◌, arith, ⊎_elim}
 use Rattle.std.specs.Prelude.{slice_get}
 use Rattle.std.proofs.lemmas.Bool.{cases_lt}
 use Rattle.std.proofs.lemmas.List.Sums.{sum_by-cons, sum_by-append, sum_by_push, sum_by-take-drop}
-use Rattle.q_packet.specs.Totals.{count}
 use Rattle.q_packet.specs.Descriptor.{Descriptor}
 use Rattle.q_packet.specs.declared.stamped.Stamped.{Stamped}
-use Rattle.q_codel.specs.Codel.{drops, sent, left, leaving, marks, taken}
+use Rattle.q_codel.specs.Codel.{drops, sent, leaving, marks}
 use Rattle.q_codel.specs.declared.taken.Taken.{Taken}
 use Rattle.q_fqcodel.specs.Cleared.{adjust, clear}
-use Rattle.q_fqcodel.specs.Selection.{Lists, arranged}
+use Rattle.q_fqcodel.specs.Selection.{arranged}
 use Rattle.q_fqcodel.specs.FqState.{Flow, FqState, queues, queue_of, is_idle, packets_of, all_packets, rested_flow}
 use Rattle.q_fqcodel.specs.Put.{flow_of, joined, appended, shortened, fattest, shed_count, overflow, cut_back, shed, after_put, lost_by_put}
-use Rattle.q_fqcodel.specs.Take.{selected, packet_sent, packets_dropped, flow_after, front, sender, sent_from, dropped_from, with_sent, after_sending}
+use Rattle.q_fqcodel.specs.Take.{selected, packet_sent, packets_dropped, flow_after, sender, sent_from, dropped_from, with_sent, after_sending}
 use Rattle.q_fqcodel.specs.Laws.{head_sent, PutKeepsAll, TakeKeepsAll, GivesTheHead, PutLeavesOne}
 use Rattle.q_fqcodel.specs.declared.entry.Entry.{Entry}
 use Rattle.q_fqcodel.proofs.FlowLemmas.{queues-rested}
@@ -120,7 +119,7 @@ module _ (w : Stamped → ℕ) where
         ap (λ (o : Option Flow). sum_by w (option_to_list (option_and_then (λ (f : Flow). sent f.codel now f.queue) o))) (sender-none s f l),
       )
 
-  queues-clear : (ns : List ℕ) (fs : List Flow) → queues (clear rested_flow ns fs) ≡ queues fs
+  pub queues-clear : (ns : List ℕ) (fs : List Flow) → queues (clear rested_flow ns fs) ≡ queues fs
   unfolding clear
   queues-clear [] fs = refl
   queues-clear (n ∷ ns) fs = queues-clear ns (adjust rested_flow n fs) ∙ queues-rested n fs
@@ -169,7 +168,7 @@ shed-leaves : (flows : List Flow) (batch : ℕ) → 0 < packets_of flows → she
 unfolding shed_count
 shed-leaves flows batch some = omega arith
 
-appended-packets : (s : FqState) (packet : Descriptor) (now : ℕ) → flow_of s packet < length s.flows → packets_of (appended s packet now).flows ≡ packets_of s.flows + 1
+pub appended-packets : (s : FqState) (packet : Descriptor) (now : ℕ) → flow_of s packet < length s.flows → packets_of (appended s packet now).flows ≡ packets_of s.flows + 1
 unfolding appended
 appended-packets s packet now within = packets-joined (record { packet = packet; at = now }) (flow_of s packet) s.flows within
 

@@ -1,8 +1,10 @@
+mod Rows
 pub mod ClearedLemmas
 pub mod FatLemmas
 pub mod FlowLemmas
 pub mod LawLemmas
 pub mod LawfulLemmas
+pub mod NewFlowLemmas
 pub mod PoolLemmas
 pub mod PooledLemmas
 pub mod PutLemmas

@@ -111,7 +111,7 @@ packets-shortened k zero (f ∷ fs) h = omega (arith, packets-cons f fs, packets
 packets-shortened k (suc n) (f ∷ fs) h = omega (arith, packets-cons f fs, packets-cons f (adjust (shortened k) n fs), packets-shortened k n fs h)
 
 -- another flow is as it was
-other_queue : (g : Flow → Flow) (n m : ℕ) (flows : List Flow) → m ≢ n → queue_of (adjust g n flows) m ≡ queue_of flows m
+pub other_queue : (g : Flow → Flow) (n m : ℕ) (flows : List Flow) → m ≢ n → queue_of (adjust g n flows) m ≡ queue_of flows m
 unfolding adjust
 other_queue g n m [] ne = refl
 other_queue g zero zero (f ∷ fs) ne = absurd (ne refl)
@@ -183,7 +183,7 @@ unfolding shed
 shed-some a fat lost h same all = ap₂ (λ (n m : ℕ). take n (queue_of a.flows m)) (overflow-some a h ∙ sym all) (sym same)
 
 -- the flow that a packet has joined has one
-own_some : (p : Stamped) (n : ℕ) (flows : List Flow) → n < length flows → 1 ≤ count (queue_of (adjust (joined p) n flows) n)
+pub own_some : (p : Stamped) (n : ℕ) (flows : List Flow) → n < length flows → 1 ≤ count (queue_of (adjust (joined p) n flows) n)
 unfolding adjust
 own_some p n [] h = absurd (omega arith)
 own_some p zero (f ∷ fs) h = omega (arith, length-append f.queue (p ∷ []))

@@ -1,7 +1,7 @@
 -- One turn of the scheduler leaves the selection as it is: what is chosen from the lists before it is chosen from those
 -- after it.
-use Rattle.std.proofs.Common.{◌≡◌, ℕ, zero, suc, ◌<◌, ◌≤◌, pos, ◌≤ℤ◌, nat_le, ◌==◌, Bool, true, false, cond, List, [], ◌∷◌, ◌++◌, map, length, take, drop, Option, Some, None, IfSome, refl, sym, ap, ap₂, ◌∙◌, arith, ⊎_elim, append_assoc, append-nil, subst}
-use Rattle.std.proofs.lemmas.Bool.{le-leb, lt-leb, eq-eqb, ne_eqb, cases_lt, cond-true, cond-false, cond_both}
+use Rattle.std.proofs.Common.{◌-◌, ◌⊎◌, inl, inr, ◌≡◌, ℕ, zero, suc, ◌<◌, ◌≤◌, pos, ◌≤ℤ◌, nat_le, ◌==◌, Bool, true, false, cond, List, [], ◌∷◌, ◌++◌, map, length, take, drop, Option, Some, None, IfSome, refl, sym, ap, ap₂, ◌∙◌, arith, ⊎_elim, append_assoc, append-nil, subst}
+use Rattle.std.proofs.lemmas.Bool.{cases_Bool, cases_eq, true≢false, le-leb, lt-leb, eq-eqb, ne_eqb, cases_lt, cond-true, cond-false, cond_both}
 use Rattle.std.proofs.lemmas.List.{map-append, drop-append-le, take-append-le, drop_at, take_at}
 use Rattle.q_fqcodel.specs.Cleared.{adjust, clear}
 use Rattle.q_fqcodel.specs.Quanta.{need, given, stay, leave}
@@ -319,9 +319,24 @@ first-idle : (q : ℕ) (idle : ℕ → Bool) (e : Entry) (es : List Entry) → i
 unfolding first_ready
 first-idle q idle e es empty = cond-true (idle e.flow) _ _ empty
 
-first-ready : (q : ℕ) (idle : ℕ → Bool) (e : Entry) (es : List Entry) → need q e ≡ 0 → idle e.flow ≡ false → first_ready q idle (e ∷ es) ≡ 0
+pub first-ready : (q : ℕ) (idle : ℕ → Bool) (e : Entry) (es : List Entry) → need q e ≡ 0 → idle e.flow ≡ false → first_ready q idle (e ∷ es) ≡ 0
 unfolding first_ready
 first-ready q idle e es ready busy = cond-false (idle e.flow) _ _ busy ∙ cond-true (need q e == 0) zero (suc (first_ready q idle es)) (eq-eqb _ _ ready)
+
+pub first_passes : (q : ℕ) (idle : ℕ → Bool) (e : Entry) (es : List Entry)
+    → (first_ready q idle (e ∷ es) ≡ 0) ⊎ ((first_ready q idle (e ∷ es) ≡ suc (first_ready q idle es)) × (idle e.flow ≡ false → need q e ≡ 0 → ⊥))
+first_passes q idle e es =
+    ⊎_elim
+    (λ (empty : idle e.flow ≡ true). inr (first-idle q idle e es empty, λ busy ready. true≢false (sym empty ∙ busy)))
+    (λ (busy : idle e.flow ≡ false).
+    ⊎_elim
+    (λ (ready : need q e ≡ 0). inl (first-ready q idle e es ready busy))
+    (λ (short : need q e ≡ 0 → ⊥).
+    let n : ℕ = need q e - 1 in
+    let k : need q e ≡ suc n = omega (arith, short) in
+    inr (first-short q idle e es n k, λ _ ready. short ready))
+    (cases_eq (need q e) 0))
+    (cases_Bool (idle e.flow))
 
 moved-short : (q : ℕ) (e : Entry) (n : ℕ) → need q e ≡ suc n → moved q e ≡ given q 1 e
 unfolding moved

@@ -1,6 +1,6 @@
 -- Laws of the definitions that the calls equal: nothing is made or lost, and a put leaves a packet (RFC 8290, section 4).
 -- Each law speaks of every state, every packet and every moment.
-use Rattle.std.specs.Prelude.{◌≡◌, ℕ, ◌+◌, ◌<◌, List, length, sum_by, Option, Some, option_and_then, option_to_list}
+use Rattle.std.specs.Prelude.{◌≡◌, ℕ, ◌+◌, ◌<◌, length, sum_by, Option, Some, option_and_then, option_to_list}
 use Rattle.q_packet.specs.Descriptor.{Descriptor}
 use Rattle.q_packet.specs.declared.stamped.Stamped.{Stamped}
 use Rattle.q_codel.specs.Codel.{sent, leaving}

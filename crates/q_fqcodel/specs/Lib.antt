@@ -3,6 +3,7 @@ pub mod FlowsState
 pub mod FqState
 pub mod Lawful
 pub mod Laws
+pub mod NewFlow
 pub mod Pool
 pub mod PoolKept
 pub mod Put

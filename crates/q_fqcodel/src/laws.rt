@@ -1,7 +1,8 @@
 //! Laws of the definitions that the calls of [`FqCodel`](crate::FqCodel) equal.
 //!
-//! Each function does nothing. Its contract is a law, stated in `specs/Laws.antt`, for every state, packet and moment.
+//! Each function does nothing. Its contract is a law, stated in `specs/Laws.antt` and `specs/NewFlow.antt`, for every state, packet and moment.
 ghost use Rattle.q_fqcodel.specs.Laws.{PutKeepsAll, TakeKeepsAll, GivesTheHead, PutLeavesOne};
+ghost use Rattle.q_fqcodel.specs.NewFlow.{BecomesNew, NewBeforeOld};
 
 /// A put makes and loses nothing: what was queued and what is put are what is queued then and what is lost.
 pub fn put_keeps_all()
@@ -21,4 +22,16 @@ pub fn gives_the_head()
 /// A put leaves at least one packet.
 pub fn put_leaves_one()
     ensures { PutLeavesOne }
+{}
+
+/// A packet within the limit that finds its flow in neither list makes it new: it is in the new list, with credits and a
+/// packet.
+pub fn becomes_new()
+    ensures { BecomesNew }
+{}
+
+/// Until a new flow sends, no flow sends that was in the old list: RFC 8290's promise to sparse flows (section 4.2), over any
+/// number of takes.
+pub fn new_before_old()
+    ensures { NewBeforeOld }
 {}
