@@ -167,9 +167,12 @@ impl FqCodel {
     }
 
     /// The packets in all flows, and their bytes.
+    ///
+    /// Every fq_codel is lawful: its lists hold each flow at most once in all, and each flow that has a packet.
     pub fn queued(&self) -> (u64, u64)
         ensures packets { result.0 ≡ packets_of self.now.flows }
         ensures bytes { result.1 ≡ bytes_of self.now.flows }
+        ensures lawful { IsLawful self.now }
     {
         (self.flows.count(), self.flows.bytes())
     }

@@ -13,6 +13,9 @@
 //! listed flow the least number of quanta that makes its credits positive (`specs/Quanta.antt`), and from these numbers the
 //! flow that sends and both lists (`specs/Selection.antt`). No definition goes round by round, as the code does. Each call's
 //! losses reach the lent sink in order, with their cause. `specs/Lawful.antt` has what every value of the type keeps.
+//!
+//! [`laws`] states what follows from these definitions: nothing is made or lost, a put leaves a packet, and a flow that has
+//! just become new sends before any flow of the old list.
 #![tactic(auto)]
 
 mod entry;
