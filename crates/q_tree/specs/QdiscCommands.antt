@@ -39,15 +39,22 @@ place_checks (place.Class class) root =
 place_checks place.Root root = []
 place_checks place.Top root = refuse Exists true ∷ []
 
+-- and then: another explicit qdisc stands there, or has the handle
+abbrev pub qdisc_add_checks : Place → Option ℕ → List ℕ → Shape → List Check
+qdisc_add_checks place handle path root =
+    place_checks place root
+    ++ refuse Exists (is_explicit path root)
+    ∷ refuse HandleTaken (is_so (λ h. has_handle h root) handle)
+    ∷ []
+
+-- the new qdisc at the end of the way
+abbrev pub new_qdisc : Device → ℕ → Option ℕ → Kind → Shape → Shape
+new_qdisc d now handle kind root = made d now (Some (unwrap_or handle (free_handle root))) kind
+
 abbrev pub qdisc_add : Device → ℕ → Place → Option ℕ → Kind → Shape → Result Edit NotDone
 qdisc_add d now place handle kind root =
     let path = unwrap_or (place_path place root) [] in
-    done_unless
-    (place_checks place root
-    ++ refuse Exists (is_explicit path root)
-    ∷ refuse HandleTaken (is_so (λ h. has_handle h root) handle)
-    ∷ [])
-    (Graft path (made d now (Some (unwrap_or handle (free_handle root))) kind))
+    done_unless (qdisc_add_checks place handle path root) (Graft path (new_qdisc d now handle kind root))
 
 -- CHANGE AND DEL
 
@@ -78,9 +85,9 @@ retuned n path discipline = Remake path (record n.own { discipline = discipline 
 abbrev pub rebanded : Device → Shape → List ℕ → ℕ → List ℕ → Edit
 rebanded d n path bands priomap =
     let old = length (children n) in
-    Remake path (record n.own { discipline = Prio priomap })
-    (map Kept (range_with_len 0 (min old bands)) ++ replicate (bands - old) (New (implicit_pfifo d)))
-    (flat_map (λ (band : Shape). beneath band) (drop bands (children n)))
+    let new_bands = map Kept (range_with_len 0 (min old bands)) ++ replicate (bands - old) (New (implicit_pfifo d)) in
+    let lost = flat_map (λ (band : Shape). beneath band) (drop bands (children n)) in
+    Remake path (record n.own { discipline = Prio priomap }) new_bands lost
 
 -- An implicit bfifo beneath a tbf has the new limit at once; its packets stay.
 abbrev pub relimited : ℕ → Discipline → Discipline
@@ -99,19 +106,28 @@ abbrev pub reshaped : ℕ → Shape → List ℕ → TokenBucket → ℕ → ℕ
 reshaped now n path bucket rate burst bytes =
     Remake path (record n.own { discipline = Tbf (after_change bucket rate burst now) bytes }) (map (leaf_of_tbf bytes) (children n)) []
 
+-- a prio may not lose a band that a filter names; the burst of a tbf may not fall below both what it was and the mtu; the
+-- number of flows stays
+abbrev pub bands_check : ℕ → Shape → List Check
+bands_check bands n = refuse Busy (list_any (λ (f : Filter). nat_lt bands f.minor) n.own.filters) ∷ []
+
+abbrev pub burst_check : ℕ → ℕ → ℕ → List Check
+burst_check old new mtu = refuse SmallBurst (nat_lt new (min old mtu)) ∷ []
+
+abbrev pub flows_check : Option ℕ → ℕ → List Check
+flows_check given flows = refuse CannotChange (not (unwrap_or given flows == flows)) ∷ []
+
 -- what a change makes of a qdisc, where it is of the same kind
 abbrev pub change_of : Device → ℕ → Shape → List ℕ → Discipline → Kind → Result Edit NotDone
 change_of d now n path (Fifo (Packets old) queue) (kind.Pfifo limit) = Ok (retuned n path (Fifo (Packets (unwrap_or limit old)) queue))
 change_of d now n path (Fifo (Bytes old) queue) (kind.Bfifo limit) = Ok (retuned n path (Fifo (Bytes (unwrap_or limit old)) queue))
 change_of d now n path (Prio old) (kind.Prio bands priomap) =
-    done_unless (refuse Busy (list_any (λ (f : Filter). nat_lt bands f.minor) n.own.filters) ∷ []) (rebanded d n path bands priomap)
+    done_unless (bands_check bands n) (rebanded d n path bands priomap)
 change_of d now n path (Tbf bucket old) (kind.Tbf rate burst limit) =
-    done_unless (refuse SmallBurst (nat_lt burst (min bucket.burst d.mtu)) ∷ [])
-    (reshaped now n path bucket rate burst (limit_bytes rate burst limit))
+    done_unless (burst_check bucket.burst burst d.mtu) (reshaped now n path bucket rate burst (limit_bytes rate burst limit))
 change_of d now n path (Drr s) kind.Drr = Ok (retuned n path (Drr s))
 change_of d now n path (FqCodel s) (kind.FqCodel o) =
-    done_unless (refuse CannotChange (not (unwrap_or o.flows s.settings.flows == s.settings.flows)) ∷ [])
-    (retuned n path (FqCodel (flows.after_change s (with_options o s.settings))))
+    done_unless (flows_check o.flows s.settings.flows) (retuned n path (FqCodel (flows.after_change s (with_options o s.settings))))
 change_of d now n path discipline other = Err CannotChange
 
 -- an edit of the node that is found, or the refusal where there is none
