@@ -5,8 +5,10 @@
 //!   [`Polled`], or whether the command was done, else the [`Refusal`].
 //! - A [`Lost`] is a packet that was lost, with the cause.
 //!
-//! `specs/Step.antt` says what an event makes of a device, and `specs/Replay.antt` what a list of them does: a device is
-//! the replay of its events. [`laws`] holds what is true of every replay.
+//! `specs/Step.antt` says what an event makes of a device, and `specs/Replay.antt` what a list of them does. [`laws`] carries
+//! what is true of every replay: that of a longer list is the step of the replay, and a device that keeps totals does what
+//! one does that keeps whole histories, with the same replies and losses. The worked scripts in `proofs/` compute these
+//! definitions from commands, arrivals and polls to replies, losses and rows.
 #![tactic(auto)]
 
 mod event;
