@@ -14,7 +14,7 @@ use Rattle.q_tree.specs.declared.fq_codel_options.FqCodelOptions.{FqCodelOptions
 use Rattle.q_tree.specs.declared.kind.Kind.{Kind}
 use Rattle.q_tree.specs.declared.place.Place.{Place}
 use Rattle.q_tree.specs.declared.place.Place.TheVariants as place
-use Rattle.q_tree.specs.declared.protocol.Protocol.TheVariants.{All}
+use Rattle.q_tree.specs.declared.protocol.Protocol.TheVariants as protocol
 use Rattle.q_tree.specs.declared.row.Row.{Row}
 use Rattle.q_tree.specs.declared.totals.Totals.{Totals}
 use Rattle.q_tree.specs.Tally.{Counts, totals}
@@ -73,7 +73,7 @@ no_keys = record { ip_proto = None; src_ip = None; dst_ip = None; src_port = Non
 
 -- a filter of priority `prio` for packets from this port, or for all packets
 abbrev pub add_filter : ℕ → ℕ → FilterKeys → ℕ → Event
-add_filter major prio keys minor = tc (FilterAdd major major (record { prio = prio; protocol = All; keys = keys; minor = minor }))
+add_filter major prio keys minor = tc (FilterAdd major major (record { prio = prio; protocol = protocol.All; keys = keys; minor = minor }))
 
 abbrev pub filter_port : ℕ → ℕ → ℕ → ℕ → Event
 filter_port major prio sport minor = add_filter major prio (record no_keys { src_port = Some sport }) minor

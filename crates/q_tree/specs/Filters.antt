@@ -9,7 +9,7 @@ use Rattle.q_tree.specs.declared.ip_version.IpVersion.{IpVersion}
 use Rattle.q_tree.specs.declared.ip_version.IpVersion.TheVariants.{V4, V6}
 use Rattle.q_tree.specs.declared.ip_prefix.IpPrefix.{IpPrefix}
 use Rattle.q_tree.specs.declared.protocol.Protocol.{Protocol}
-use Rattle.q_tree.specs.declared.protocol.Protocol.TheVariants.{All, Ip, Ipv6}
+use Rattle.q_tree.specs.declared.protocol.Protocol.TheVariants as protocol
 use Rattle.q_tree.specs.declared.filter_keys.FilterKeys.{FilterKeys}
 use Rattle.q_tree.specs.declared.filter.Filter.{Filter}
 
@@ -28,9 +28,9 @@ has_prefix p key address =
     let rest = 2 ^ (bits_of p.version - p.len) in key.family == family_of p.version && address / rest == p.address / rest
 
 abbrev pub is_of : Protocol → Key → Bool
-is_of All key = true
-is_of Ip key = key.family == 4
-is_of Ipv6 key = key.family == 6
+is_of protocol.All key = true
+is_of protocol.Ip key = key.family == 4
+is_of protocol.Ipv6 key = key.family == 6
 
 -- a key that is not given agrees with every packet
 abbrev pub agrees : {A : Type 0} → Option A → (A → Bool) → Bool
