@@ -68,8 +68,9 @@ impl Model for Settings {
 }
 
 impl Settings {
-    /// The settings that tc-fq_codel(8) gives where none are named, for a device with this mtu: limit 10240, flows 1024,
-    /// quantum 1514, target 5 ms, interval 100 ms, ECN on, and drop_batch 1.
+    /// The settings where none are named, for a device with this mtu. Those of tc-fq_codel(8): limit 10240, flows 1024,
+    /// quantum 1514, target 5 ms, interval 100 ms and ECN on. But drop_batch is 1, this project's choice, where
+    /// tc-fq_codel(8) has 64.
     pub fn defaults(mtu: u16) -> Settings
         requires { 1 ≤ mtu }
         ensures { result ≡ record {
