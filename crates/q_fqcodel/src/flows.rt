@@ -52,6 +52,7 @@ impl Flows {
     /// Makes room for one packet more.
     pub(crate) fn reserve(&mut self) -> Result<(), AllocError>
         ensures flows { self.new.flows ≡ self.old.flows }
+        ensures grows { self.old.places ≤ self.new.places }
         ensures ok { OnOk result (packets_of self.new.flows < self.new.places) }
         ensures err { OnErr result (self.new ≡ self.old) }
         ensures succeeds { packets_of self.old.flows < self.old.places → IsOk result }

@@ -121,6 +121,7 @@ impl FqCodel {
     pub fn reserve(&mut self) -> Result<(), AllocError>
         ensures ok { OnOk result (packets_of self.new.flows < self.new.places) }
         ensures rest { self.new ≡ record self.old { places = self.new.places } }
+        ensures grows { self.old.places ≤ self.new.places }
         ensures err { OnErr result (self.new ≡ self.old) }
         ensures succeeds { packets_of self.old.flows < self.old.places → IsOk result }
     {

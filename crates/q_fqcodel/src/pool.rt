@@ -37,6 +37,7 @@ impl Pool {
     /// Makes a place for one packet more.
     pub(crate) fn reserve(&mut self) -> Result<(), AllocError>
         ensures held { self.new.held ≡ self.old.held }
+        ensures grows { self.old.places ≤ self.new.places }
         ensures ok { OnOk result (length self.new.held < self.new.places) }
         ensures err { OnErr result (self.new ≡ self.old) }
         ensures succeeds { length self.old.held < self.old.places → IsOk result }
