@@ -1,0 +1,158 @@
+-- What the words of a line have said so far: its head, the options of a qdisc, the keys of a filter, a packet's fields.
+-- Each word of a head and each option stands once; these are what may be given, and what a whole line makes of them.
+use Rattle.std.specs.Prelude.{ℕ, ◌+◌, ◌==◌, Bool, false, nat_lt, nat_le, List, [], ◌∷◌, length, if◌then◌else◌, Option, Some, None, is_some, option_map, option_and_then, unwrap_or}
+use Rattle.std.specs.List.{position}
+use Rattle.std.specs.Option.{option_map_or}
+use Rattle.q_packet.specs.declared.ecn.Ecn.{Ecn}
+use Rattle.q_tree.specs.declared.class_id.ClassId.{ClassId}
+use Rattle.q_tree.specs.declared.command.Command.{Command}
+use Rattle.q_tree.specs.declared.command.Command.TheVariants as command
+use Rattle.q_tree.specs.declared.filter_keys.FilterKeys.{FilterKeys}
+use Rattle.q_tree.specs.declared.fq_codel_options.FqCodelOptions.{FqCodelOptions}
+use Rattle.q_tree.specs.declared.kind.Kind.{Kind}
+use Rattle.q_tree.specs.declared.kind.Kind.TheVariants as kind
+use Rattle.q_tree.specs.declared.place.Place.{Place}
+use Rattle.q_tree.specs.declared.protocol.Protocol.{Protocol}
+use Rattle.q_tree.specs.declared.protocol.Protocol.TheVariants.{All}
+use Rattle.q_tree.specs.declared.tbf_limit.TbfLimit.{TbfLimit}
+use Rattle.q_language.specs.Addresses.{Address}
+
+-- what a tc line does, and the kinds by name
+pub data Verb : Type 0 where
+  qdisc_add qdisc_change qdisc_del class_add class_change class_del filter_add filter_del : Verb
+
+pub data KindName : Type 0 where
+  pfifo bfifo prio tbf drr fq_codel : KindName
+
+pub record HeadDraft : Type 0 where
+  pub named : Bool
+  pub place : Option Place
+  pub handle : Option ℕ
+  pub parent : Option ℕ
+  pub class : Option ClassId
+  pub prio : Option ℕ
+  pub protocol : Option Protocol
+
+abbrev pub no_head : HeadDraft
+no_head = record { named = false; place = None; handle = None; parent = None; class = None; prio = None; protocol = None }
+
+-- the numbers of a priomap so far, and the index of the first of them
+pub record Bands : Type 0 where
+  pub from : ℕ
+  pub numbers : List ℕ
+
+pub record OptionDraft : Type 0 where
+  pub limit : Option ℕ
+  pub tbf_limit : Option TbfLimit
+  pub bands : Option ℕ
+  pub priomap : Option Bands
+  pub rate : Option ℕ
+  pub burst : Option ℕ
+  pub fq_codel : FqCodelOptions
+
+abbrev pub no_options : OptionDraft
+no_options = record {
+  limit = None;
+  tbf_limit = None;
+  bands = None;
+  priomap = None;
+  rate = None;
+  burst = None;
+  fq_codel = record { limit = None; flows = None; quantum = None; target = None; interval = None; ecn = None; drop_batch = None };
+}
+
+-- tc-prio(8): three bands, and their priomap, where none is given; it names band 2
+abbrev pub bands_of : OptionDraft → ℕ
+bands_of o = unwrap_or o.bands 3
+
+abbrev pub default_priomap : List ℕ
+default_priomap = 1 ∷ 2 ∷ 2 ∷ 2 ∷ 1 ∷ 2 ∷ 0 ∷ 0 ∷ 1 ∷ 1 ∷ 1 ∷ 1 ∷ 1 ∷ 1 ∷ 1 ∷ 1 ∷ []
+
+abbrev pub whole_priomap : OptionDraft → Option (List ℕ)
+whole_priomap o = option_map_or
+    (λ (b : Bands). if length b.numbers == 16 then Some b.numbers else None)
+    o.priomap (if nat_lt 2 (bands_of o) then Some default_priomap else None)
+
+-- the index of the first number of a priomap that names no band
+abbrev pub bad_band : OptionDraft → Option ℕ
+bad_band o = option_and_then
+    (λ (b : Bands). option_map (λ i. b.from + i) (position (λ n. nat_le (bands_of o) n) b.numbers)) o.priomap
+
+-- the kind with its options; None where one that it needs is not given
+abbrev pub kind_of : KindName → OptionDraft → Option Kind
+kind_of pfifo o = Some (kind.Pfifo o.limit)
+kind_of bfifo o = Some (kind.Bfifo o.limit)
+kind_of prio o = option_map (λ map. kind.Prio (bands_of o) map) (whole_priomap o)
+kind_of tbf o = option_and_then (λ rate. option_and_then (λ burst. option_map (λ limit. kind.Tbf rate burst limit) o.tbf_limit) o.burst) o.rate
+kind_of drr o = Some kind.Drr
+kind_of fq_codel o = Some (kind.FqCodel o.fq_codel)
+
+-- a value where something is so, and none elsewhere
+abbrev pub where_so : {A : Type 0} → Bool → Option A → Option A
+where_so b a = if b then a else None
+
+-- a qdisc line with a kind; None where a word that it needs is missing
+abbrev pub qdisc_line : Verb → HeadDraft → Kind → Option Command
+qdisc_line qdisc_add h k = where_so h.named (option_map (λ place. command.QdiscAdd place h.handle k) h.place)
+qdisc_line qdisc_change h k =
+    where_so h.named (if is_some h.place then Some (command.QdiscChange h.place h.handle k)
+    else option_map (λ handle. command.QdiscChange None (Some handle) k) h.handle)
+qdisc_line other h k = None
+
+abbrev pub qdisc_del_line : HeadDraft → Option Command
+qdisc_del_line h =
+    where_so h.named (if is_some h.place then Some (command.QdiscDel h.place h.handle)
+    else option_map (λ handle. command.QdiscDel None (Some handle)) h.handle)
+
+-- a class line, with the quantum that was given
+abbrev pub class_line : Verb → HeadDraft → Option ℕ → Option Command
+class_line class_add h quantum =
+    where_so h.named (option_and_then (λ parent. option_map (λ class. command.ClassAdd parent class quantum) h.class) h.parent)
+class_line class_change h quantum = where_so h.named (option_map (λ class. command.ClassChange h.parent class quantum) h.class)
+class_line class_del h quantum = where_so h.named (option_map (λ class. command.ClassDel h.parent class) h.class)
+class_line other h quantum = None
+
+-- a filter's keys and class
+pub record KeyDraft : Type 0 where
+  pub keys : FilterKeys
+  pub class : Option ClassId
+
+abbrev pub no_keys : KeyDraft
+no_keys = record { keys = record { ip_proto = None; src_ip = None; dst_ip = None; src_port = None; dst_port = None }; class = None }
+
+abbrev pub filter_line : HeadDraft → KeyDraft → Option Command
+filter_line h k = where_so h.named (option_and_then (λ parent. option_and_then (λ prio. option_map
+    (λ (class : ClassId). command.FilterAdd parent class.major (record {
+      prio = prio;
+      protocol = unwrap_or h.protocol All;
+      keys = k.keys;
+      minor = class.minor;
+    })) k.class) h.prio) h.parent)
+
+abbrev pub filter_del_line : HeadDraft → Option Command
+filter_del_line h = where_so h.named (option_and_then (λ parent. option_map (λ prio. command.FilterDel parent prio) h.prio) h.parent)
+
+-- the fields of a packet
+pub record PacketDraft : Type 0 where
+  pub len : ℕ
+  pub hash : Option ℕ
+  pub prio : Option ℕ
+  pub ip_proto : Option ℕ
+  pub src_ip : Option Address
+  pub dst_ip : Option Address
+  pub src_port : Option ℕ
+  pub dst_port : Option ℕ
+  pub ecn : Option Ecn
+
+abbrev pub no_fields : ℕ → PacketDraft
+no_fields len = record {
+  len = len;
+  hash = None;
+  prio = None;
+  ip_proto = None;
+  src_ip = None;
+  dst_ip = None;
+  src_port = None;
+  dst_port = None;
+  ecn = None;
+}

@@ -1,0 +1,166 @@
+-- Where a word of a line stands, with what the words to its left have said, and which words stand there.
+-- The profile of tc's lines is this project's, after tc(8) and the pages of the disciplines.
+use Rattle.std.specs.Prelude.{ℕ, Bool, true, false, ◌++◌, List, [], ◌∷◌, codes, if◌then◌else◌, Option, Some, None, Result, Ok, Err, is_some}
+use Rattle.q_tree.specs.declared.place.Place.TheVariants as place
+use Rattle.q_language.specs.declared.line.Line.{Line}
+use Rattle.q_language.specs.declared.line.Line.TheVariants as line
+use Rattle.q_language.specs.declared.show.Show.{Show}
+use Rattle.q_language.specs.declared.show.Show.TheVariants as show
+use Rattle.q_line.specs.declared.wrong.Wrong.{Wrong}
+use Rattle.q_line.specs.declared.wrong.Wrong.TheVariants as wrong
+use Rattle.q_language.specs.Drafts.{Verb, qdisc_add, qdisc_change, qdisc_del, class_add, class_change, class_del, filter_add, filter_del, KindName, pfifo, bfifo, prio, tbf, drr, fq_codel, HeadDraft, no_head, OptionDraft, no_options, KeyDraft, no_keys, PacketDraft}
+
+-- the values that a head, a kind, a filter and a packet can have
+pub data HeadValue : Type 0 where
+  dev in_class handle parent class_id filter_prio protocol : HeadValue
+
+pub data OptionValue : Type 0 where
+  limit latency bands rate burst flows quantum target interval drop_batch : OptionValue
+
+pub data KeyValue : Type 0 where
+  ip_proto src_ip dst_ip src_port dst_port key_class : KeyValue
+
+pub data PacketValue : Type 0 where
+  hash packet_prio packet_proto packet_src packet_dst packet_sport packet_dport ecn : PacketValue
+
+-- An object is what a tc line is about. Behind `value` a word is read as that value.
+pub data Position : Type 0 where
+  first at pkt frame poll : Position
+  frame_bytes : ℕ → Position
+  packet : PacketDraft → Position
+  packet_value : PacketValue → PacketDraft → Position
+  tc : Bool → Position
+  qdisc : Bool → Position
+  class filter : Position
+  head : Verb → HeadDraft → Position
+  head_value : HeadValue → Verb → HeadDraft → Position
+  options : Verb → HeadDraft → KindName → OptionDraft → Position
+  option_value : OptionValue → Verb → HeadDraft → KindName → OptionDraft → Position
+  priomap : Verb → HeadDraft → KindName → OptionDraft → Position
+  quantum_of : Verb → HeadDraft → Option ℕ → Position
+  quantum_value : Verb → HeadDraft → Position
+  keys : HeadDraft → KeyDraft → Position
+  key_value : KeyValue → HeadDraft → KeyDraft → Position
+  done : Verb → HeadDraft → Position
+  show_line : Show → Bool → Position
+  show_dev : Show → Position
+  whole : Line → Position
+
+abbrev pub Row : Type 0
+Row = List ℕ × Result Position Wrong
+
+-- an option, which may be given once
+abbrev pub once : Bool → Position → Result Position Wrong
+once given next = if given then Err wrong.Twice else Ok next
+
+-- the words of each head: `root` and `parent` are one, and so are `prio` and `pref`
+abbrev pub dev_row : Verb → HeadDraft → List Row
+dev_row v h = (codes "dev", once h.named (head_value dev v h)) ∷ []
+
+abbrev pub place_rows : Verb → HeadDraft → List Row
+place_rows v h =
+    (codes "root", once (is_some h.place) (head v (record h { place = Some place.Root })))
+    ∷ (codes "parent", once (is_some h.place) (head_value in_class v h))
+    ∷ (codes "handle", once (is_some h.handle) (head_value handle v h)) ∷ []
+
+abbrev pub class_rows : Verb → HeadDraft → List Row
+class_rows v h = (codes "parent", once (is_some h.parent) (head_value parent v h)) ∷ (codes "classid", once (is_some h.class) (head_value class_id v h)) ∷ []
+
+abbrev pub filter_rows : Verb → HeadDraft → List Row
+filter_rows v h =
+    (codes "parent", once (is_some h.parent) (head_value parent v h))
+    ∷ (codes "prio", once (is_some h.prio) (head_value filter_prio v h))
+    ∷ (codes "pref", once (is_some h.prio) (head_value filter_prio v h))
+    ∷ (codes "protocol", once (is_some h.protocol) (head_value protocol v h)) ∷ []
+
+-- the word that ends a head
+abbrev pub kind_rows : (KindName → Position) → List Row
+kind_rows f =
+    (codes "pfifo", Ok (f pfifo)) ∷ (codes "bfifo", Ok (f bfifo)) ∷ (codes "prio", Ok (f prio)) ∷ (codes "tbf", Ok (f tbf))
+    ∷ (codes "drr", Ok (f drr)) ∷ (codes "fq_codel", Ok (f fq_codel)) ∷ []
+
+abbrev pub head_rows : Verb → HeadDraft → List Row
+head_rows qdisc_add h = place_rows qdisc_add h ++ kind_rows (λ k. options qdisc_add h k no_options)
+head_rows qdisc_change h = place_rows qdisc_change h ++ kind_rows (λ k. options qdisc_change h k no_options)
+head_rows qdisc_del h = place_rows qdisc_del h ++ kind_rows (λ k. done qdisc_del h)
+head_rows class_add h = class_rows class_add h ++ (codes "drr", Ok (quantum_of class_add h None)) ∷ []
+head_rows class_change h = class_rows class_change h ++ (codes "drr", Ok (quantum_of class_change h None)) ∷ []
+head_rows class_del h = class_rows class_del h
+head_rows filter_add h = filter_rows filter_add h ++ (codes "flower", Ok (keys h no_keys)) ∷ []
+head_rows filter_del h = filter_rows filter_del h ++ (codes "flower", Ok (done filter_del h)) ∷ []
+
+-- the options of each kind; limit and latency are one, and so are the three names of the burst, and ecn and noecn
+abbrev pub option_rows : Verb → HeadDraft → KindName → OptionDraft → List Row
+option_rows v h pfifo o = (codes "limit", once (is_some o.limit) (option_value limit v h pfifo o)) ∷ []
+option_rows v h bfifo o = (codes "limit", once (is_some o.limit) (option_value limit v h bfifo o)) ∷ []
+option_rows v h prio o =
+    (codes "bands", once (is_some o.bands) (option_value bands v h prio o))
+    ∷ (codes "priomap", once (is_some o.priomap) (priomap v h prio o)) ∷ []
+option_rows v h tbf o =
+    (codes "rate", once (is_some o.rate) (option_value rate v h tbf o))
+    ∷ (codes "burst", once (is_some o.burst) (option_value burst v h tbf o))
+    ∷ (codes "buffer", once (is_some o.burst) (option_value burst v h tbf o))
+    ∷ (codes "maxburst", once (is_some o.burst) (option_value burst v h tbf o))
+    ∷ (codes "limit", once (is_some o.tbf_limit) (option_value limit v h tbf o))
+    ∷ (codes "latency", once (is_some o.tbf_limit) (option_value latency v h tbf o)) ∷ []
+option_rows v h drr o = []
+option_rows v h fq_codel o =
+    (codes "limit", once (is_some o.fq_codel.limit) (option_value limit v h fq_codel o))
+    ∷ (codes "flows", once (is_some o.fq_codel.flows) (option_value flows v h fq_codel o))
+    ∷ (codes "quantum", once (is_some o.fq_codel.quantum) (option_value quantum v h fq_codel o))
+    ∷ (codes "target", once (is_some o.fq_codel.target) (option_value target v h fq_codel o))
+    ∷ (codes "interval", once (is_some o.fq_codel.interval) (option_value interval v h fq_codel o))
+    ∷ (codes "drop_batch", once (is_some o.fq_codel.drop_batch) (option_value drop_batch v h fq_codel o))
+    ∷ (codes "ecn", once (is_some o.fq_codel.ecn) (options v h fq_codel (record o { fq_codel = record o.fq_codel { ecn = Some true } })))
+    ∷ (codes "noecn", once (is_some o.fq_codel.ecn) (options v h fq_codel (record o { fq_codel = record o.fq_codel { ecn = Some false } }))) ∷ []
+
+abbrev pub key_rows : HeadDraft → KeyDraft → List Row
+key_rows h k =
+    (codes "ip_proto", once (is_some k.keys.ip_proto) (key_value ip_proto h k))
+    ∷ (codes "src_ip", once (is_some k.keys.src_ip) (key_value src_ip h k))
+    ∷ (codes "dst_ip", once (is_some k.keys.dst_ip) (key_value dst_ip h k))
+    ∷ (codes "src_port", once (is_some k.keys.src_port) (key_value src_port h k))
+    ∷ (codes "dst_port", once (is_some k.keys.dst_port) (key_value dst_port h k))
+    ∷ (codes "classid", once (is_some k.class) (key_value key_class h k))
+    ∷ (codes "flowid", once (is_some k.class) (key_value key_class h k)) ∷ []
+
+abbrev pub packet_rows : PacketDraft → List Row
+packet_rows p =
+    (codes "hash", once (is_some p.hash) (packet_value hash p))
+    ∷ (codes "prio", once (is_some p.prio) (packet_value packet_prio p))
+    ∷ (codes "ip_proto", once (is_some p.ip_proto) (packet_value packet_proto p))
+    ∷ (codes "src_ip", once (is_some p.src_ip) (packet_value packet_src p))
+    ∷ (codes "dst_ip", once (is_some p.dst_ip) (packet_value packet_dst p))
+    ∷ (codes "src_port", once (is_some p.src_port) (packet_value packet_sport p))
+    ∷ (codes "dst_port", once (is_some p.dst_port) (packet_value packet_dport p))
+    ∷ (codes "ecn", once (is_some p.ecn) (packet_value ecn p)) ∷ []
+
+abbrev pub show_rows : Show → List Row
+show_rows s = (codes "show", Ok (show_line s false)) ∷ (codes "list", Ok (show_line s false)) ∷ (codes "ls", Ok (show_line s false)) ∷ []
+
+abbrev pub verb_rows : Verb → Verb → Verb → List Row
+verb_rows add change del =
+    (codes "add", Ok (head add no_head)) ∷ (codes "change", Ok (head change no_head))
+    ∷ (codes "del", Ok (head del no_head)) ∷ (codes "delete", Ok (head del no_head)) ∷ []
+
+abbrev pub object_rows : Bool → List Row
+object_rows counters = (codes "qdisc", Ok (qdisc counters)) ∷ (codes "class", Ok class) ∷ (codes "filter", Ok filter) ∷ []
+
+-- the words that stand at a position, and the position after each
+abbrev pub table : Position → List Row
+table first =
+    (codes "at", Ok at) ∷ (codes "pkt", Ok pkt) ∷ (codes "frame", Ok frame) ∷ (codes "poll", Ok poll)
+    ∷ (codes "reap", Ok (whole line.Reap)) ∷ (codes "totals", Ok (whole line.Totals)) ∷ (codes "tc", Ok (tc false)) ∷ []
+table (tc false) = (codes "-s", Ok (tc true)) ∷ object_rows false
+table (tc true) = object_rows true
+table (qdisc counters) = verb_rows qdisc_add qdisc_change qdisc_del ++ show_rows (show.Qdiscs counters)
+table class = verb_rows class_add class_change class_del ++ show_rows show.Classes
+table filter =
+    (codes "add", Ok (head filter_add no_head)) ∷ (codes "del", Ok (head filter_del no_head)) ∷ (codes "delete", Ok (head filter_del no_head)) ∷ show_rows show.Filters
+table (head v h) = dev_row v h ++ head_rows v h
+table (options v h k o) = option_rows v h k o
+table (quantum_of v h given) = (codes "quantum", once (is_some given) (quantum_value v h)) ∷ []
+table (keys h k) = key_rows h k
+table (packet p) = packet_rows p
+table (show_line s named) = (codes "dev", once named (show_dev s)) ∷ []
+table _ = []

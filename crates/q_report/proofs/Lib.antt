@@ -1,0 +1,4 @@
+mod CoDelRows
+mod FqCodelRows
+mod LargeRows
+mod Rows
