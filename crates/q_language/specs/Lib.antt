@@ -1,5 +1,6 @@
 pub mod Addresses
 pub mod Drafts
+pub mod FirstPath
 pub mod Grammar
 pub mod Positions
 pub mod Units

@@ -9,6 +9,7 @@
 #![tactic(auto)]
 
 mod arrival;
+pub mod laws;
 mod line;
 mod show;
 

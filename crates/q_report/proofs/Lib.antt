@@ -1,4 +1,6 @@
 mod CoDelRows
 mod FqCodelRows
 mod LargeRows
+pub mod ReportLemmas
 mod Rows
+pub mod ShownLemmas

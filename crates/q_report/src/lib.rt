@@ -7,3 +7,5 @@
 //!
 //! No function stands here yet. The program's own report, over one root pfifo, is a part of this one.
 #![tactic(auto)]
+
+pub mod laws;

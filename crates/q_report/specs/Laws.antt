@@ -1,0 +1,20 @@
+-- What holds of every report: a session whose nodes keep totals writes what one whose nodes keep whole histories writes.
+-- So a program that keeps totals alone can write the report that is defined over histories.
+use Rattle.std.specs.Prelude.{◌≡◌, ℕ, Bool, List}
+use Rattle.q_tree.specs.Tally.{Note, Counts, history, totals}
+use Rattle.q_device.specs.Settings.{DeviceSettings}
+use Rattle.q_device.specs.Shrink.{shrunk}
+use Rattle.q_report.specs.Report.{SessionState, Effect, replay_with}
+
+-- the same session, where each node keeps totals in place of its history
+abbrev pub shrunk_session : SessionState (List Note) → SessionState Counts
+shrunk_session s = record { device = shrunk s.device; waiting = s.waiting; moment = s.moment; packets = s.packets; refused = s.refused }
+
+pub record IsShrunkEffect (e : Effect (List Note)) (f : Effect Counts) : Type 0 where
+  pub text : e.text ≡ f.text
+  pub session : shrunk_session e.session ≡ f.session
+
+-- whichever words are spoken, and wherever memory is refused
+abbrev pub TotalsAreEnough : Type 0
+TotalsAreEnough = (spoken : List ℕ → Bool) (settings : DeviceSettings) (seed : ℕ) (script starved : List ℕ) →
+    IsShrunkEffect (replay_with history spoken settings seed script starved) (replay_with totals spoken settings seed script starved)
