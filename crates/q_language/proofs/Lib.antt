@@ -1,1 +1,1 @@
-mod FirstPathLemmas
+pub mod FirstPathLemmas

@@ -3,4 +3,4 @@ mod FqCodelRows
 mod LargeRows
 pub mod ReportLemmas
 mod Rows
-pub mod ShownLemmas
+mod ShownLemmas

@@ -3,7 +3,8 @@ use Rattle.std.proofs.Common.{◌≡◌, ℕ, suc, ◌<◌, ◌≤◌, Bool, tru
 use Rattle.std.proofs.KnownBytes.{Appends-nil}
 use Rattle.std.specs.Io.KnownBytes.{Appends}
 use Rattle.qtree.specs.declared.totals.Totals.{Totals}
-use Rattle.qtree.specs.Report.{SessionState, Effect, is_starved}
+use Rattle.q_report.specs.Report.{is_starved}
+use Rattle.qtree.specs.Session.{SessionState, Effect}
 use Rattle.qtree.specs.Step.{effect_of, HasEffect, FailsWithin, run_of, IsPartOfRun, IsWholeRun}
 use Rattle.qtree.specs.Written.{AppendsFront, IsBuffered}
 use Rattle.qtree.proofs.Polling.{preceded}
@@ -17,19 +18,19 @@ abbrev pub AllFrom : ℕ → List ℕ → Type 0
 AllFrom k [] = Unit {0}
 AllFrom k (n ∷ ns) = (k ≤ n) × AllFrom k ns
 
-below-later : (k : ℕ) (ns : List ℕ) → AllBelow k ns → AllBelow (suc k) ns
+pub below-later : (k : ℕ) (ns : List ℕ) → AllBelow k ns → AllBelow (suc k) ns
 below-later k [] h = tt
 below-later k (n ∷ ns) h = (omega arith, below-later k ns h.1)
 
-below-push : (k : ℕ) (ns : List ℕ) → AllBelow k ns → AllBelow (suc k) (ns ++ k ∷ [])
+pub below-push : (k : ℕ) (ns : List ℕ) → AllBelow k ns → AllBelow (suc k) (ns ++ k ∷ [])
 below-push k [] h = (omega arith, tt)
 below-push k (n ∷ ns) h = (omega arith, below-push k ns h.1)
 
-from-earlier : (k : ℕ) (ns : List ℕ) → AllFrom (suc k) ns → AllFrom k ns
+pub from-earlier : (k : ℕ) (ns : List ℕ) → AllFrom (suc k) ns → AllFrom k ns
 from-earlier k [] h = tt
 from-earlier k (n ∷ ns) h = (omega arith, from-earlier k ns h.1)
 
-starved-here : (k : ℕ) (ns later : List ℕ) → is_starved (ns ++ k ∷ later) k ≡ true
+pub starved-here : (k : ℕ) (ns later : List ℕ) → is_starved (ns ++ k ∷ later) k ≡ true
 starved-here k [] later = ap (λ b. b || is_starved later k) (eq-eqb k k refl)
 starved-here k (n ∷ ns) later = ap (λ b. (n == k) || b) (starved-here k ns later) ∙ or-true (n == k)
   where
@@ -37,7 +38,7 @@ starved-here k (n ∷ ns) later = ap (λ b. (n == k) || b) (starved-here k ns la
     or-true true = refl
     or-true false = refl
 
-starved-not : (k : ℕ) (ns later : List ℕ) → AllBelow k ns → AllFrom (suc k) later → is_starved (ns ++ later) k ≡ false
+pub starved-not : (k : ℕ) (ns later : List ℕ) → AllBelow k ns → AllFrom (suc k) later → is_starved (ns ++ later) k ≡ false
 starved-not k [] [] b f = refl
 starved-not k [] (n ∷ later) b f = ap (λ t. t || is_starved later k) (ne_eqb n k (λ e. omega arith)) ∙ starved-not k [] later tt f.1
 starved-not k (n ∷ ns) later b f = ap (λ t. t || is_starved (ns ++ later) k) (ne_eqb n k (λ e. omega arith)) ∙ starved-not k ns later b.1 f

@@ -6,7 +6,7 @@ use Rattle.qtree.specs.Tally.{totals}
 use Rattle.q_packet.specs.Descriptor.{Descriptor}
 use Rattle.qtree.specs.Device.{DeviceState, given, polled}
 use Rattle.qtree.specs.Text.{poll_line}
-use Rattle.qtree.specs.Report.{SessionState, Effect, polls}
+use Rattle.qtree.specs.Session.{SessionState, Effect, polls}
 use Rattle.qtree.specs.Written.{AppendsFront, IsBuffered}
 use Rattle.qtree.proofs.WrittenLemmas.{buffered-trans, buffered-more, front-of, front-longer}
 

@@ -1,25 +1,26 @@
--- A run over totals is a report over histories.
+-- A run over totals of the device of one pfifo is a report over histories, and that of the whole model.
 use Rattle.std.proofs.Common.{◌≡◌, ℕ, Bool, List, Option, Some, None, IfSome, if◌then◌else◌, sym, ap, ◌∙◌, subst}
 use Rattle.std.specs.Io.KnownBytes.{Appends}
 use Rattle.qtree.specs.declared.totals.Totals.{Totals}
 use Rattle.qtree.specs.declared.outcome.Outcome.{Outcome}
 use Rattle.qtree.specs.declared.outcome.Outcome.TheVariants.{Clean, Refused}
 use Rattle.qtree.specs.Settings.{Settings}
-use Rattle.qtree.specs.Tally.{history, totals}
-use Rattle.qtree.specs.Report.{SessionState, new_session, replay, lines_of, is_starved, IsReported, IsPartlyReported}
+use Rattle.qtree.specs.Tally.{totals}
+use Rattle.q_language.proofs.FirstPathLemmas.{first_path_is_part}
+use Rattle.q_report.proofs.ReportLemmas.{replay-shrunk}
+use Rattle.q_report.specs.Report.{lines_of}
+use Rattle.qtree.specs.Report.{IsReported, IsPartlyReported}
+use Rattle.qtree.specs.Session.{SessionState, new_session, pfifo_replay, IsPfifoReported, IsPartlyPfifoReported}
 use Rattle.qtree.specs.Step.{run_of, IsWholeRun, IsPartOfRun}
 use Rattle.qtree.specs.Written.{AppendsFront}
-use Rattle.qtree.proofs.Shrink.{shrink_effect, shrink-replayed}
-
--- the replay over totals is that over histories, shrunk
-run_is : (settings : Settings) (script starved : List ℕ) → shrink_effect (replay settings script starved) ≡ run_of starved 1 (lines_of script) (new_session totals settings)
-run_is settings script starved = shrink-replayed (is_starved starved) 1 (lines_of script) (new_session history settings)
+use Rattle.qtree.proofs.FirstPath.{pfifo-is-whole, run-is}
+use Rattle.qtree.proofs.Shrink.{shrink_effect}
 
 reported : (held holds : Option (List ℕ)) (settings : Settings) (script : List ℕ) (first last : SessionState Totals) (told : Outcome)
     → IsWholeRun held holds (lines_of script) first last → first ≡ new_session totals settings → told ≡ (if last.refused then Refused else Clean)
-    → IsReported settings script told held holds
+    → IsPfifoReported settings script told held holds
 reported held holds settings script first last told h new is =
-    let e : shrink_effect (replay settings script h.starved) ≡ run_of h.starved 1 (lines_of script) first = run_is settings script h.starved ∙ ap (run_of h.starved 1 (lines_of script)) (sym new) in
+    let e : shrink_effect (pfifo_replay settings script h.starved) ≡ run_of h.starved 1 (lines_of script) first = run-is settings script h.starved ∙ ap (run_of h.starved 1 (lines_of script)) (sym new) in
     record {
       starved = h.starved;
       text = subst (Appends held holds) (sym (ap (λ x. x.text) e)) h.text;
@@ -27,9 +28,9 @@ reported held holds settings script first last told h new is =
     }
 
 partly_reported : (held holds : Option (List ℕ)) (settings : Settings) (script : List ℕ) (first : SessionState Totals)
-    → IsPartOfRun held holds (lines_of script) first → first ≡ new_session totals settings → IsPartlyReported settings script held holds
+    → IsPartOfRun held holds (lines_of script) first → first ≡ new_session totals settings → IsPartlyPfifoReported settings script held holds
 partly_reported held holds settings script first h new =
-    let e = run_is settings script h.0 ∙ ap (run_of h.0 1 (lines_of script)) (sym new) in
+    let e = run-is settings script h.0 ∙ ap (run_of h.0 1 (lines_of script)) (sym new) in
     (h.0, subst (AppendsFront held holds) (sym (ap (λ x. x.text) e)) h.1)
 
 -- a fact of what the reader had, where that is known
@@ -37,19 +38,36 @@ known : (P : List ℕ → Type 0) (script : List ℕ) (had : Option (List ℕ)) 
 known P script None is p = tt
 known P script (Some all) is p = subst P is p
 
--- the whole report of what was read, where the session is refused or not
-pub told_whole : (had held holds : Option (List ℕ)) (settings : Settings) (bytes script : List ℕ) (first last : SessionState Totals) (is_refused refused : Bool)
+-- the report of what was read, where the session is refused or not
+pub told_pfifo : (had held holds : Option (List ℕ)) (settings : Settings) (bytes script : List ℕ) (first last : SessionState Totals) (is_refused refused : Bool)
     → IfSome had (λ all. script ≡ all) → bytes ≡ script → IsWholeRun held holds (lines_of bytes) first last → first ≡ new_session totals settings
     → is_refused ≡ last.refused → is_refused ≡ refused
-    → IfSome had (λ all. IsReported settings all (if refused then Refused else Clean) held holds)
-told_whole had held holds settings bytes script first last is_refused refused is read whole new seen told =
-    known (λ all. IsReported settings all (if refused then Refused else Clean) held holds) script had is
+    → IfSome had (λ all. IsPfifoReported settings all (if refused then Refused else Clean) held holds)
+told_pfifo had held holds settings bytes script first last is_refused refused is read whole new seen told =
+    known (λ all. IsPfifoReported settings all (if refused then Refused else Clean) held holds) script had is
     (reported held holds settings script first last (if refused then Refused else Clean)
     (subst (λ b. IsWholeRun held holds (lines_of b) first last) read whole) new (ap (λ b. if b then Refused else Clean) (sym told ∙ seen)))
 
 pub told_partly : (had held holds : Option (List ℕ)) (settings : Settings) (bytes script : List ℕ) (first : SessionState Totals)
     → IfSome had (λ all. script ≡ all) → bytes ≡ script → IsPartOfRun held holds (lines_of bytes) first → first ≡ new_session totals settings
-    → IfSome had (λ all. IsPartlyReported settings all held holds)
+    → IfSome had (λ all. IsPartlyPfifoReported settings all held holds)
 told_partly had held holds settings bytes script first is read part new =
-    known (λ all. IsPartlyReported settings all held holds) script had is
+    known (λ all. IsPartlyPfifoReported settings all held holds) script had is
     (partly_reported held holds settings script first (subst (λ b. IsPartOfRun held holds (lines_of b) first) read part) new)
+
+-- and it is that of the whole model
+whole : (settings : Settings) (script : List ℕ) (told : Outcome) (held holds : Option (List ℕ)) → IsPfifoReported settings script told held holds → IsReported settings script told held holds
+whole settings script told held holds h =
+    let w = pfifo-is-whole first_path_is_part replay-shrunk settings script h.starved in
+    record { starved = w.lines; text = subst (Appends held holds) w.text h.text; outcome_is = h.outcome_is ∙ w.outcome_is }
+
+pub told_whole : (had held holds : Option (List ℕ)) (settings : Settings) (told : Outcome) → IfSome had (λ all. IsPfifoReported settings all told held holds)
+    → IfSome had (λ all. IsReported settings all told held holds)
+told_whole None held holds settings told h = tt
+told_whole (Some all) held holds settings told h = whole settings all told held holds h
+
+pub told_whole_partly : (had held holds : Option (List ℕ)) (settings : Settings) → IfSome had (λ all. IsPartlyPfifoReported settings all held holds)
+    → IfSome had (λ all. IsPartlyReported settings all held holds)
+told_whole_partly None held holds settings h = tt
+told_whole_partly (Some all) held holds settings h =
+    let w = pfifo-is-whole first_path_is_part replay-shrunk settings all h.0 in (w.lines, subst (AppendsFront held holds) w.text h.1)

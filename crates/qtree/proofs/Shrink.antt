@@ -18,7 +18,7 @@ use Rattle.qtree.specs.Text.{refused_line, poll_line}
 use Rattle.qtree.proofs.Polling.{preceded}
 use Rattle.qtree.specs.Tally.{history, totals}
 use Rattle.qtree.specs.Device.{Counted, LeafState, DeviceState, with_arrived, with_refused, with_purged, is_too_long, is_accepted, reached, arrived, sent, polled, with_root, has_explicit_root, given}
-use Rattle.qtree.specs.Report.{SessionState, Effect, numbered_packet, silent, refusing, arrival, polls, commanded, answered, effect, replayed}
+use Rattle.qtree.specs.Session.{SessionState, Effect, numbered_packet, silent, refusing, arrival, polls, commanded, answered, effect, replayed}
 
 abbrev pub History : Type 0
 History = List Descriptor

@@ -5,8 +5,9 @@ use Rattle.q_packet.specs.Descriptor.{Descriptor}
 use Rattle.qtree.specs.declared.outcome.Outcome.TheVariants.{Clean, Refused}
 use Rattle.qtree.specs.Settings.{default_settings}
 use Rattle.qtree.specs.Device.{Counted}
-use Rattle.qtree.specs.Text.{newline}
-use Rattle.qtree.specs.Report.{lines_of, numbered_packet, replay, report, outcome}
+use Rattle.q_report.specs.Text.{newline}
+use Rattle.q_report.specs.Report.{lines_of}
+use Rattle.qtree.specs.Session.{numbered_packet, pfifo_replay, pfifo_report, pfifo_outcome}
 
 -- these lines, each with its end
 abbrev pub ended : List (List ℕ) → List ℕ
@@ -15,7 +16,7 @@ ended (line ∷ lines) = line ++ newline ++ ended lines
 
 -- what the device has counted behind a script to which no memory was refused
 abbrev pub counted : List ℕ → Counted (List Descriptor)
-counted script = (replay default_settings script []).session.device.top
+counted script = (pfifo_replay default_settings script []).session.device.top
 
 -- the third packet comes to a full queue
 abbrev pub three_packets : List ℕ
@@ -70,14 +71,14 @@ too_long =
 pub record WorkedExamples : Type 0 where
   pub ended_line : lines_of (codes "poll" ++ newline) ≡ codes "poll" ∷ []
   pub last_line : lines_of (codes "poll" ++ newline ++ newline ++ codes "at 1") ≡ codes "poll" ∷ [] ∷ codes "at 1" ∷ []
-  pub nothing : report default_settings [] [] ≡ []
-  pub three : report default_settings three_packets [] ≡ report_of_three
-  pub three_are_clean : outcome default_settings three_packets [] ≡ Clean
+  pub nothing : pfifo_report default_settings [] [] ≡ []
+  pub three : pfifo_report default_settings three_packets [] ≡ report_of_three
+  pub three_are_clean : pfifo_outcome default_settings three_packets [] ≡ Clean
   pub third_is_refused : (counted three_packets).refused ≡ numbered_packet 3 300 ∷ []
-  pub roots : report default_settings new_roots [] ≡ report_of_roots
-  pub second_is_refused : outcome default_settings new_roots [] ≡ Refused
+  pub roots : pfifo_report default_settings new_roots [] ≡ report_of_roots
+  pub second_is_refused : pfifo_outcome default_settings new_roots [] ≡ Refused
   pub first_is_purged : (counted new_roots).dropped ≡ numbered_packet 1 100 ∷ []
-  pub second_is_sent : report default_settings too_long [] ≡ ended (codes "sent 2 60" ∷ [])
+  pub second_is_sent : pfifo_report default_settings too_long [] ≡ ended (codes "sent 2 60" ∷ [])
   -- memory is refused at the packet that would be queued, and at one that would not be
-  pub starved : report default_settings too_long (2 ∷ []) ≡ ended (codes "line 2: refused 90 Memory" ∷ codes "idle" ∷ [])
-  pub starved_in_vain : report default_settings too_long (1 ∷ []) ≡ ended (codes "sent 2 60" ∷ [])
+  pub starved : pfifo_report default_settings too_long (2 ∷ []) ≡ ended (codes "line 2: refused 90 Memory" ∷ codes "idle" ∷ [])
+  pub starved_in_vain : pfifo_report default_settings too_long (1 ∷ []) ≡ ended (codes "sent 2 60" ∷ [])

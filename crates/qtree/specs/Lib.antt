@@ -3,6 +3,8 @@ pub mod Device
 pub mod Examples
 pub mod Insides
 pub mod Report
+pub mod RunFault
+pub mod Session
 pub mod Settings
 pub mod Step
 pub mod Tally

@@ -7,7 +7,8 @@ use Rattle.q_line.specs.declared.line.Line.TheVariants.{Poll}
 use Rattle.qtree.specs.declared.totals.Totals.{Totals}
 use Rattle.qtree.specs.Tally.{totals}
 use Rattle.std.specs.Io.KnownBytes.{Appends}
-use Rattle.qtree.specs.Report.{SessionState, Effect, effect, replayed, is_starved}
+use Rattle.q_report.specs.Report.{is_starved}
+use Rattle.qtree.specs.Session.{SessionState, Effect, effect, replayed}
 use Rattle.qtree.specs.Written.{AppendsFront, IsBuffered}
 
 -- any line but polls

@@ -6,20 +6,12 @@ use Rattle.q_packet.specs.Descriptor.{Descriptor}
 use Rattle.q_packet.specs.Totals.{count, size}
 use Rattle.q_codel.specs.declared.limit.Limit.{Limit}
 use Rattle.q_codel.specs.declared.limit.Limit.TheVariants.{Packets, Bytes}
-use Rattle.q_line.specs.FaultText.{fault_text}
-use Rattle.q_line.specs.declared.line_fault.LineFault.{LineFault}
+use Rattle.q_report.specs.Text.{newline, line_text}
 use Rattle.qtree.specs.declared.totals.Totals.{Totals}
 use Rattle.qtree.specs.declared.refusal.Refusal.{Refusal}
 use Rattle.qtree.specs.declared.refusal.Refusal.TheVariants.{Exists, Memory}
 use Rattle.qtree.specs.Tally.{Tally}
 use Rattle.qtree.specs.Device.{LeafState, DeviceState}
-
-abbrev pub newline : List ℕ
-newline = 10 ∷ []
-
--- what is said of a line begins with its number, counted from 1
-abbrev pub line_text : ℕ → List ℕ
-line_text k = codes "line " ++ decimal k ++ codes ": "
 
 abbrev pub refusal_text : Refusal → List ℕ
 refusal_text Exists = codes "refused 11 Exists"
@@ -27,9 +19,6 @@ refusal_text Memory = codes "refused 90 Memory"
 
 abbrev pub refused_line : ℕ → Refusal → List ℕ
 refused_line k refusal = line_text k ++ refusal_text refusal ++ newline
-
-abbrev pub fault_line : ℕ → LineFault → List ℕ
-fault_line k f = line_text k ++ fault_text f ++ newline
 
 -- what a poll writes
 abbrev pub poll_line : Option Descriptor → List ℕ

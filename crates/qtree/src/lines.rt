@@ -1,5 +1,5 @@
 ghost use Rattle.std.specs.Prelude.{◌≡◌, ◌<◌, ◌≤◌, ◌+◌, ◌∷◌, length};
-ghost use Rattle.qtree.specs.Report.{lines_of};
+ghost use Rattle.q_report.specs.Report.{lines_of};
 
 use memchr::memchr;
 

@@ -14,6 +14,7 @@
 mod command_line;
 mod counters;
 mod device;
+mod failed_read;
 mod leaf;
 mod lines;
 mod options;
@@ -23,6 +24,7 @@ mod refusal;
 mod run;
 mod run_fault;
 mod script;
+mod script_fault;
 mod session;
 mod settings;
 #[cfg(test)]

@@ -1,6 +1,8 @@
 ghost use Rattle.std.specs.Prelude.{◌≡◌, ◌≤◌, ◌<◌, ◌+◌, ◌^◌, [], length, IfOk, IfSome, OnOk, OnErr, Err};
 ghost use Rattle.std.specs.Io.KnownBytes.{Keeps};
-ghost use Rattle.qtree.specs.Report.{lines_of, IsReported, IsPartlyReported};
+ghost use Rattle.q_report.specs.Report.{lines_of};
+ghost use Rattle.qtree.specs.Report.{IsReported, IsPartlyReported};
+ghost use Rattle.qtree.specs.Session.{IsPfifoReported, IsPartlyPfifoReported};
 ghost use Rattle.qtree.specs.Step.{IsWholeRun, IsPartOfRun};
 
 use crate::lines::split_line;
@@ -51,6 +53,9 @@ pub fn run<R: Read, W: Write>(
     // What was written is the report of what the reader had, and nothing else.
     ensures report { IfOk result (λ outcome. IfSome (R.remaining reader.old) (λ script.
         IsReported settings script outcome (W.contents writer.old) (W.contents writer.new))) }
+    // Memory was refused at no line but those of packets that would be queued.
+    ensures pfifo { IfOk result (λ outcome. IfSome (R.remaining reader.old) (λ script.
+        IsPfifoReported settings script outcome (W.contents writer.old) (W.contents writer.new))) }
     ensures short { OnOk result (IfSome (R.remaining reader.old) (λ script. length script ≤ 16777216)) }
 
     ensures read { result ≡ Err RunFault.Read → Keeps (W.contents writer.old) (W.contents writer.new) }
@@ -59,8 +64,13 @@ pub fn run<R: Read, W: Write>(
     ensures memory { result ≡ Err RunFault.Memory → Keeps (W.contents writer.old) (W.contents writer.new) }
     ensures write { result ≡ Err RunFault.Write → IfSome (R.remaining reader.old) (λ script.
         IsPartlyReported settings script (W.contents writer.old) (W.contents writer.new)) }
+    ensures write_pfifo { result ≡ Err RunFault.Write → IfSome (R.remaining reader.old) (λ script.
+        IsPartlyPfifoReported settings script (W.contents writer.old) (W.contents writer.new)) }
 {
-    let script = read_script(alloc, reader)?;
+    let script = match read_script(alloc, reader) {
+        Ok(script) => script,
+        Err(fault) => return Err(RunFault::from(fault)),
+    };
     let mut output = Output::new(alloc).map_err(|_| RunFault::Memory)?;
     let mut session = Session::new(alloc, &settings);
     match run_lines(&mut session, &script, &mut output, writer) {

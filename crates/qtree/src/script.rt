@@ -1,9 +1,10 @@
 ghost use Rattle.std.specs.Prelude.{◌≡◌, ◌<◌, ◌≤◌, length, IfOk, IfSome, IsErrOf, vec_len};
 ghost use Rattle.std.specs.Io.KnownBytes.{IsAtEnd};
 
-use crate::run_fault::RunFault;
+use crate::failed_read::{FailedRead, read};
+use crate::script_fault::ScriptFault;
 use std::alloc::Global;
-use std::io::{ErrorKind, Read};
+use std::io::Read;
 
 /// The most bytes that a script may have.
 pub const MAX_LENGTH: usize = 16_777_216;
@@ -18,24 +19,25 @@ const CHUNK: usize = 65536;
 ///
 /// `TooLong` where it has more than [`MAX_LENGTH`] bytes, `Read` where a read fails or more than 16,777,218 are needed, and
 /// `Memory` where memory is refused. An interrupted read is made again.
-pub fn read_script<R: Read>(alloc: Global, reader: &mut R) -> Result<Vec<u8>, RunFault>
+pub fn read_script<R: Read>(alloc: Global, reader: &mut R) -> Result<Vec<u8>, ScriptFault>
     ensures script { IfOk result (λ script. IfSome (R.remaining reader.old) (λ all. script.items ≡ all)) }
     ensures short { IfOk result (λ script. length script.items ≤ 16777216) }
-    ensures too_long { IsErrOf result RunFault.TooLong → IfSome (R.remaining reader.old) (λ all. 16777216 < length all) }
-    ensures no_write { IsErrOf result RunFault.Write → ⊥ }
+    ensures too_long { IsErrOf result ScriptFault.TooLong → IfSome (R.remaining reader.old) (λ all. 16777216 < length all) }
 {
-    let mut chunk = vec![in alloc; 0u8; CHUNK].map_err(|_| RunFault::Memory)?;
+    let mut chunk = vec![in alloc; 0u8; CHUNK].map_err(|_| ScriptFault::Memory)?;
     let mut script = Vec::new(alloc);
+    let mut interrupted = None;
     for _ in 0..MAX_READS {
-        match reader.read(&mut chunk) {
+        match read(reader, &mut chunk) {
             Ok(0) => return Ok(script),
-            Ok(n) if n > MAX_LENGTH - script.len() => return Err(RunFault::TooLong),
+            Ok(n) if n > MAX_LENGTH - script.len() => return Err(ScriptFault::TooLong),
             Ok(n) => script
                 .extend_from_slice(&chunk[..n])
-                .map_err(|_| RunFault::Memory)?,
-            Err(e) if e.kind() == ErrorKind::Interrupted => {}
-            Err(_) => return Err(RunFault::Read),
+                .map_err(|_| ScriptFault::Memory)?,
+            Err(failed) if failed.is_interrupted() => interrupted = Some(failed),
+            Err(failed) => return Err(ScriptFault::Read(failed)),
         }
     }
-    Err(RunFault::Read)
+    // So many reads of a byte or more would have brought too long a script: one was interrupted.
+    Err(ScriptFault::Read(interrupted.unwrap()))
 }

@@ -29,7 +29,7 @@ pub struct Session {
 impl Model for Session {
     ghost use Rattle.std.specs.Prelude.{◌≤◌};
     ghost use Rattle.qtree.specs.declared.totals.Totals.{Totals};
-    ghost use Rattle.qtree.specs.Report.{SessionState};
+    ghost use Rattle.qtree.specs.Session.{SessionState};
 
     ghost Value = { SessionState Totals };
 
@@ -39,8 +39,9 @@ impl Model for Session {
 }
 
 impl Session {
-    ghost use Rattle.qtree.specs.Report.{new_session, arrival, polls, commanded, answered};
-    ghost use Rattle.qtree.specs.Text.{fault_line, show_text};
+    ghost use Rattle.qtree.specs.Session.{new_session, arrival, polls, commanded, answered};
+    ghost use Rattle.q_report.specs.Text.{fault_line};
+    ghost use Rattle.qtree.specs.Text.{show_text};
     ghost use Rattle.qtree.specs.Step.{HasEffect, FailsWithin, IsNoPoll};
     ghost use Rattle.qtree.specs.Written.{IsBuffered, AppendsFront};
 

@@ -4,7 +4,8 @@ ghost use Rattle.std.specs.Fmt.{digits, digit_glyph};
 ghost use Rattle.q_line.specs.FaultText.{fault_text};
 ghost use Rattle.qtree.specs.Tally.{totals};
 ghost use Rattle.qtree.specs.Insides.{counted_of, leaf_of};
-ghost use Rattle.qtree.specs.Text.{line_text, refused_line, fault_line, poll_line, totals_text, counters_line, handle_text, limit_text, kind_text, qdisc_line};
+ghost use Rattle.q_report.specs.Text.{line_text, fault_line};
+ghost use Rattle.qtree.specs.Text.{refused_line, poll_line, totals_text, counters_line, handle_text, limit_text, kind_text, qdisc_line};
 
 use crate::leaf::Leaf;
 use crate::output::Output;

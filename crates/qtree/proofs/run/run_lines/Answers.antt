@@ -1,7 +1,7 @@
 use Rattle.std.proofs.Common.{◌≡◌, [], add-one, arith, sym, ◌∙◌}
 use Rattle.std.proofs.lemmas.Bool.{eqb-true}
 use Rattle.std.proofs.lemmas.Result.{on_ok_weaker}
-use Rattle.qtree.specs.Report.{lines_of}
+use Rattle.q_report.specs.Report.{lines_of}
 use Rattle.qtree.proofs.LinesLemmas.{lines-none}
 use Rattle.qtree.proofs.OnErr.{on_err, on_err_weaker}
 use Rattle.qtree.proofs.Playing.{playing-start, playing-cut, playing-empty, playing-next, playing-fails, playing-flush, playing-end}

@@ -1,5 +1,5 @@
 use Rattle.std.proofs.Common.{◌≤◌, ◌<◌, ◌+◌, length}
-use Rattle.qtree.specs.Report.{lines_of}
+use Rattle.q_report.specs.Report.{lines_of}
 use Rattle.qtree.proofs.Playing.{Playing}
 use Rattle.qtree.proofs.run.run_lines.Given as goal
 

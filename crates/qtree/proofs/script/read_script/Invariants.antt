@@ -1,4 +1,4 @@
-use Rattle.std.proofs.Common.{◌≤◌, vec_len}
+use Rattle.std.proofs.Common.{◌≤◌, IsNone, vec_len}
 use Rattle.std.specs.Io.KnownBytes.{Consumes}
 use Rattle.qtree.proofs.script.read_script.Given as goal
 
@@ -9,4 +9,6 @@ invariant-loop g l =
     record {
       consumed : Consumes (remaining l.fn.reader) (remaining l.reader) l.script.items;
       short : vec_len l.script ≤ 16777216;
+      -- each read that was not interrupted brought a byte
+      each : IsNone l.interrupted → l.counter ≤ vec_len l.script;
     }
