@@ -17,7 +17,7 @@ use Rattle.q_line.specs.declared.wrong.Wrong.{Wrong}
 use Rattle.q_line.specs.declared.wrong.Wrong.TheVariants as wrong
 use Rattle.q_language.specs.declared.line.Line.{Line as WholeLine}
 use Rattle.q_language.specs.declared.line.Line.TheVariants as in_whole_line
-use Rattle.q_language.specs.declared.show.Show.TheVariants as whole_show
+use Rattle.q_language.specs.declared.object.Object.TheVariants as object
 use Rattle.q_language.specs.Drafts.{HeadDraft, no_head, OptionDraft, no_options, no_fields, qdisc_add, pfifo}
 use Rattle.q_language.specs.Positions
 use Rattle.q_language.specs.Grammar as all
@@ -48,8 +48,8 @@ whole_position (part.add_dev h) = Positions.head_value Positions.dev qdisc_add (
 whole_position (part.add_handle h) = Positions.head_value Positions.handle qdisc_add (whole_head h)
 whole_position (part.pfifo h limit) = Positions.options qdisc_add (whole_head h) pfifo (whole_options limit)
 whole_position (part.pfifo_limit h) = Positions.option_value Positions.limit qdisc_add (whole_head h) pfifo no_options
-whole_position (part.show counters named) = Positions.show_line (whole_show.Qdiscs counters) named
-whole_position (part.show_dev counters) = Positions.show_dev (whole_show.Qdiscs counters)
+whole_position (part.show counters named) = Positions.show_line (record { object = object.Qdisc; counters = counters }) named
+whole_position (part.show_dev counters) = Positions.show_dev (record { object = object.Qdisc; counters = counters })
 whole_position (part.whole l) = whole_end l
 
 -- the one position that no words lead to: behind `-s`, but without it

@@ -11,7 +11,7 @@ use Rattle.q_tree.specs.declared.place.Place.{Place as WholePlace}
 use Rattle.q_tree.specs.declared.place.Place.TheVariants as in_whole_place
 use Rattle.q_language.specs.declared.line.Line.{Line as WholeLine}
 use Rattle.q_language.specs.declared.line.Line.TheVariants as in_whole_line
-use Rattle.q_language.specs.declared.show.Show.TheVariants as whole_show
+use Rattle.q_language.specs.declared.object.Object.TheVariants as object
 use Rattle.q_language.specs.Drafts.{no_fields}
 use Rattle.q_language.specs.Grammar.{arrival, line_in}
 use Rattle.q_line.specs.Grammar.{line_of}
@@ -47,7 +47,7 @@ whole_command (command.QdiscAdd p handle k) = in_whole_command.QdiscAdd (whole_p
 abbrev pub whole_line : Line → WholeLine
 whole_line line.Blank = in_whole_line.Blank
 whole_line (line.Tc c) = in_whole_line.Tc (whole_command c)
-whole_line (line.Show s) = in_whole_line.Show (whole_show.Qdiscs s.counters)
+whole_line (line.Show s) = in_whole_line.Show (record { object = object.Qdisc; counters = s.counters })
 whole_line (line.At moment) = in_whole_line.At moment
 whole_line (line.Pkt a) = arrival (no_fields a.len)
 whole_line (line.Poll n) = in_whole_line.Poll n

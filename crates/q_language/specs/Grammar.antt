@@ -136,11 +136,11 @@ key_of p = record {
 }
 
 abbrev pub arrival : PacketDraft → Line
-arrival p = line.Arrive (record { len = p.len; key = key_of p; prio = unwrap_or p.prio 0; ecn = unwrap_or p.ecn NotEct; hash = p.hash })
+arrival p = line.Pkt (record { len = p.len; key = key_of p; prio = unwrap_or p.prio 0; ecn = unwrap_or p.ecn NotEct; hash = p.hash })
 
 -- and the one of a `frame` line: its head is read from its bytes
 abbrev pub framed : ℕ → List ℕ → Line
-framed len bytes = let h = head_in bytes in line.Arrive (record { len = len; key = h.key; prio = h.prio; ecn = h.ecn; hash = None })
+framed len bytes = line.Frame len (head_in bytes)
 
 -- the row of a table that has the word
 abbrev pub row_of : List Row → List ℕ → Result Position Wrong

@@ -5,7 +5,7 @@ use Rattle.q_tree.specs.declared.place.Place.TheVariants as place
 use Rattle.q_language.specs.declared.line.Line.{Line}
 use Rattle.q_language.specs.declared.line.Line.TheVariants as line
 use Rattle.q_language.specs.declared.show.Show.{Show}
-use Rattle.q_language.specs.declared.show.Show.TheVariants as show
+use Rattle.q_language.specs.declared.object.Object.TheVariants as object
 use Rattle.q_line.specs.declared.wrong.Wrong.{Wrong}
 use Rattle.q_line.specs.declared.wrong.Wrong.TheVariants as wrong
 use Rattle.q_language.specs.Drafts.{Verb, qdisc_add, qdisc_change, qdisc_del, class_add, class_change, class_del, filter_add, filter_del, KindName, pfifo, bfifo, prio, tbf, drr, fq_codel, HeadDraft, no_head, OptionDraft, no_options, KeyDraft, no_keys, PacketDraft}
@@ -30,8 +30,7 @@ pub data Position : Type 0 where
   packet : PacketDraft → Position
   packet_value : PacketValue → PacketDraft → Position
   tc : Bool → Position
-  qdisc : Bool → Position
-  class filter : Position
+  qdisc class filter : Bool → Position
   head : Verb → HeadDraft → Position
   head_value : HeadValue → Verb → HeadDraft → Position
   options : Verb → HeadDraft → KindName → OptionDraft → Position
@@ -144,7 +143,7 @@ verb_rows add change del =
     ∷ (codes "del", Ok (head del no_head)) ∷ (codes "delete", Ok (head del no_head)) ∷ []
 
 abbrev pub object_rows : Bool → List Row
-object_rows counters = (codes "qdisc", Ok (qdisc counters)) ∷ (codes "class", Ok class) ∷ (codes "filter", Ok filter) ∷ []
+object_rows counters = (codes "qdisc", Ok (qdisc counters)) ∷ (codes "class", Ok (class counters)) ∷ (codes "filter", Ok (filter counters)) ∷ []
 
 -- the words that stand at a position, and the position after each
 abbrev pub table : Position → List Row
@@ -153,10 +152,10 @@ table first =
     ∷ (codes "reap", Ok (whole line.Reap)) ∷ (codes "totals", Ok (whole line.Totals)) ∷ (codes "tc", Ok (tc false)) ∷ []
 table (tc false) = (codes "-s", Ok (tc true)) ∷ object_rows false
 table (tc true) = object_rows true
-table (qdisc counters) = verb_rows qdisc_add qdisc_change qdisc_del ++ show_rows (show.Qdiscs counters)
-table class = verb_rows class_add class_change class_del ++ show_rows show.Classes
-table filter =
-    (codes "add", Ok (head filter_add no_head)) ∷ (codes "del", Ok (head filter_del no_head)) ∷ (codes "delete", Ok (head filter_del no_head)) ∷ show_rows show.Filters
+table (qdisc counters) = verb_rows qdisc_add qdisc_change qdisc_del ++ show_rows (record { object = object.Qdisc; counters = counters })
+table (class counters) = verb_rows class_add class_change class_del ++ show_rows (record { object = object.Class; counters = counters })
+table (filter counters) =
+    (codes "add", Ok (head filter_add no_head)) ∷ (codes "del", Ok (head filter_del no_head)) ∷ (codes "delete", Ok (head filter_del no_head)) ∷ show_rows (record { object = object.Filter; counters = counters })
 table (head v h) = dev_row v h ++ head_rows v h
 table (options v h k o) = option_rows v h k o
 table (quantum_of v h given) = (codes "quantum", once (is_some given) (quantum_value v h)) ∷ []

@@ -1,6 +1,6 @@
 use q_packet::{Ecn, FlowKey};
 
-/// A packet that arrives at the device, by a `pkt` or a `frame` line.
+/// A packet that arrives at the device, as a `pkt` line says it.
 #[derive(Clone, Copy, PartialEq, Eq, Debug)]
 pub struct Arrival {
     /// Its length in bytes, 1 to 65535.

@@ -1,6 +1,6 @@
 use crate::arrival::Arrival;
 use crate::show::Show;
-use q_packet::Moment;
+use q_packet::{Head, Moment};
 use q_tree::Command;
 
 /// What a line of a script says.
@@ -14,8 +14,14 @@ pub enum Line {
     Show(Show),
     /// `at N`: the moment of the lines that follow.
     At(Moment),
-    /// `pkt` or `frame`: a packet arrives.
-    Arrive(Arrival),
+    /// `pkt`: a packet arrives, of which the line gives the fields.
+    Pkt(Arrival),
+    /// `frame`: a packet arrives, whose fields are read from its first bytes.
+    Frame {
+        /// Its length in bytes, 1 to 65535.
+        len: u16,
+        head: Head,
+    },
     /// `poll [N]`: the device is polled so many times, 1 to 100000.
     Poll(u32),
     /// `reap`: the losses not yet handed out.

@@ -1,8 +1,10 @@
-/// What a show line asks for (tc(8)).
+use crate::object::Object;
+
+/// A line that asks for a show text (tc(8), `show`).
 #[derive(Clone, Copy, PartialEq, Eq, Debug)]
-pub enum Show {
-    /// The qdiscs, each followed by its counters where `-s` is given.
-    Qdiscs { counters: bool },
-    Classes,
-    Filters,
+pub struct Show {
+    /// What is shown.
+    pub object: Object,
+    /// Whether `-s` stands there: each qdisc is then followed by its counters. Classes and filters have none.
+    pub counters: bool,
 }

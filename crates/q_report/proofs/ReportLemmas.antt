@@ -23,7 +23,7 @@ use Rattle.q_language.specs.declared.line.Line.{Line}
 use Rattle.q_language.specs.declared.line.Line.TheVariants as line
 use Rattle.q_line.specs.declared.line_fault.LineFault.{LineFault}
 use Rattle.q_report.specs.Text.{poll_line, device_line}
-use Rattle.q_report.specs.Report.{SessionState, new_session, after, numbered_packet, arrival, polls, planned, commanded, answered, effect, replayed, lines_of, is_starved}
+use Rattle.q_report.specs.Report.{SessionState, new_session, after, numbered_packet, framed, arrival, polls, planned, commanded, answered, effect, replayed, lines_of, is_starved}
 use Rattle.q_report.specs.Laws.{shrunk_session, IsShrunkEffect, TotalsAreEnough}
 use Rattle.q_report.proofs.ShownLemmas.{beneath-shrunk, show_text-shrunk}
 
@@ -86,7 +86,8 @@ commanded-shrunk starved k c s =
 answered-shrunk : (seed : ℕ) (starved : Bool) (k : ℕ) (l : Line) (s : SessionState (List Note)) → IsShrunkEffect (answered history seed starved k l s) (answered totals seed starved k l (shrunk_session s))
 answered-shrunk seed starved k line.Blank s = record { text = refl; session = refl }
 answered-shrunk seed starved k (line.At moment) s = record { text = refl; session = refl }
-answered-shrunk seed starved k (line.Arrive a) s = arrival-shrunk seed starved k a s
+answered-shrunk seed starved k (line.Pkt a) s = arrival-shrunk seed starved k a s
+answered-shrunk seed starved k (line.Frame len head) s = arrival-shrunk seed starved k (framed len head) s
 answered-shrunk seed starved k (line.Poll n) s = polls-shrunk n s
 answered-shrunk seed starved k (line.Tc c) s = commanded-shrunk starved k c s
 answered-shrunk seed starved k (line.Show what) s = record { text = show_text-shrunk what s.device; session = refl }

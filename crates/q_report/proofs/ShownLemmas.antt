@@ -18,7 +18,8 @@ use Rattle.q_tree.proofs.ShrinkLemmas.{each-each_memory}
 use Rattle.q_device.specs.Step.{DeviceState}
 use Rattle.q_device.specs.Shrink.{shrunk}
 use Rattle.q_language.specs.declared.show.Show.{Show}
-use Rattle.q_language.specs.declared.show.Show.TheVariants as show
+use Rattle.q_language.specs.declared.object.Object.{Object}
+use Rattle.q_language.specs.declared.object.Object.TheVariants as object
 use Rattle.q_report.specs.Text.{qdisc_text, class_line, filter_line}
 use Rattle.q_report.specs.Report.{show_text}
 
@@ -75,9 +76,12 @@ texts-shrunk : (f : Node (List Note) → List ℕ) (g : Node Counts → List ℕ
 texts-shrunk f g h n = ap₂ (λ (a b : List ℕ). a ++ b) (h n) (texts_below-shrunk f g h n.below)
 
 pub show_text-shrunk : (s : Show) (d : DeviceState (List Note)) → show_text history s d ≡ show_text totals s (shrunk d)
-show_text-shrunk (show.Qdiscs counters) d = ap (λ (vs : List NodeView). flat_map (qdisc_text counters) vs) (root_views-shrunk d.tree.root)
-show_text-shrunk show.Classes d =
-    texts-shrunk (λ n. flat_map class_line (class_views n)) (λ n. flat_map class_line (class_views n))
-    (λ n. ap (λ (vs : List ClassView). flat_map class_line vs) (class_views-shrunk n)) d.tree.root
-show_text-shrunk show.Filters d =
-    texts-shrunk (λ n. flat_map filter_line (filter_views n)) (λ n. flat_map filter_line (filter_views n)) (λ n. refl) d.tree.root
+show_text-shrunk s d = by s.object
+  where
+    by : (o : Object) → show_text history (record s { object = o }) d ≡ show_text totals (record s { object = o }) (shrunk d)
+    by object.Qdisc = ap (λ (vs : List NodeView). flat_map (qdisc_text s.counters) vs) (root_views-shrunk d.tree.root)
+    by object.Class =
+        texts-shrunk (λ n. flat_map class_line (class_views n)) (λ n. flat_map class_line (class_views n))
+        (λ n. ap (λ (vs : List ClassView). flat_map class_line vs) (class_views-shrunk n)) d.tree.root
+    by object.Filter =
+        texts-shrunk (λ n. flat_map filter_line (filter_views n)) (λ n. flat_map filter_line (filter_views n)) (λ n. refl) d.tree.root

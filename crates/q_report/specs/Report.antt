@@ -1,9 +1,10 @@
 -- The report of a script: what each of its lines makes of a new device, and the text that it writes.
 -- Memory may be refused at some lines; such a line says so, and the device stays as it was.
-use Rattle.std.specs.Prelude.{ℕ, zero, suc, Bool, true, false, ◌==◌, List, [], ◌∷◌, ◌++◌, if◌then◌else◌, Result, Ok, Err, unwrap_or}
+use Rattle.std.specs.Prelude.{ℕ, zero, suc, Bool, true, false, ◌==◌, List, [], ◌∷◌, ◌++◌, if◌then◌else◌, None, Result, Ok, Err, unwrap_or}
 use Rattle.std.specs.List.{flat_map, list_any}
 use Rattle.q_packet.specs.Descriptor.{Descriptor}
 use Rattle.q_packet.specs.Key.{key_bytes}
+use Rattle.q_packet.specs.declared.head.Head.{Head}
 use Rattle.q_packet.specs.OneAtATime.{one_at_a_time}
 use Rattle.q_codel.specs.declared.loss.Loss.{Loss}
 use Rattle.q_tree.specs.declared.command.Command.{Command}
@@ -24,7 +25,7 @@ use Rattle.q_language.specs.declared.line.Line.{Line}
 use Rattle.q_language.specs.declared.line.Line.TheVariants as line
 use Rattle.q_line.specs.declared.line_fault.LineFault.{LineFault}
 use Rattle.q_language.specs.declared.show.Show.{Show}
-use Rattle.q_language.specs.declared.show.Show.TheVariants as show
+use Rattle.q_language.specs.declared.object.Object.TheVariants as object
 use Rattle.q_report.specs.Text.{refused_line, fault_line, poll_line, lost_line, device_line, qdisc_text, class_line, filter_line}
 
 -- What a script's lines have made so far: the device, the losses that wait to be reaped, the moment of the lines that
@@ -68,6 +69,10 @@ numbered_packet seed n a = record {
   ecn = a.ecn;
 }
 
+-- the arrival of a frame, of which its head says all but the length
+abbrev pub framed : ℕ → Head → Arrival
+framed len head = record { len = len; key = head.key; prio = head.prio; ecn = head.ecn; hash = None }
+
 -- an arrival takes its number first, also where there is no memory for it
 abbrev pub arrival : {M : Type 0} → Tally M → ℕ → Bool → ℕ → Arrival → SessionState M → Effect M
 arrival t seed starved k a s =
@@ -97,15 +102,18 @@ commanded t starved k c s =
 
 -- each qdisc, class or filter, node by node from the root down
 abbrev pub show_text : {M : Type 0} → Tally M → Show → DeviceState M → List ℕ
-show_text t (show.Qdiscs counters) d = flat_map (qdisc_text counters) (views t d.tree)
-show_text t show.Classes d = flat_map (λ n. flat_map class_line (class_views n)) (every_node d.tree.root)
-show_text t show.Filters d = flat_map (λ n. flat_map filter_line (filter_views n)) (every_node d.tree.root)
+show_text t show d = elim show.object [
+  | object.Qdisc ↦ flat_map (qdisc_text show.counters) (views t d.tree)
+  | object.Class ↦ flat_map (λ n. flat_map class_line (class_views n)) (every_node d.tree.root)
+  | object.Filter ↦ flat_map (λ n. flat_map filter_line (filter_views n)) (every_node d.tree.root)
+]
 
 -- what a line does that has no fault; k is its number, and starved says that memory was refused at it
 abbrev pub answered : {M : Type 0} → Tally M → ℕ → Bool → ℕ → Line → SessionState M → Effect M
 answered t seed starved k line.Blank s = silent s
 answered t seed starved k (line.At moment) s = silent (record s { moment = moment })
-answered t seed starved k (line.Arrive a) s = arrival t seed starved k a s
+answered t seed starved k (line.Pkt a) s = arrival t seed starved k a s
+answered t seed starved k (line.Frame len head) s = arrival t seed starved k (framed len head) s
 answered t seed starved k (line.Poll n) s = polls t n s
 answered t seed starved k (line.Tc c) s = commanded t starved k c s
 answered t seed starved k (line.Show show) s = record { text = show_text t show s.device; session = s }

@@ -5,7 +5,10 @@
 //! - `proofs/*Rows.antt` compute the reports of worked scripts, from their bytes to the bytes that are written. Where whole
 //!   settings would take too long to compute, flows are few and times small.
 //!
-//! No function stands here yet. The program's own report, over one root pfifo, is a part of this one.
+//! - [`laws`] says that a session whose nodes keep totals writes what one whose nodes keep whole histories writes.
+//!
+//! No function writes a report here. The contract of `run` in `qtree` is stated over this one, of which the words of today
+//! are spoken.
 #![tactic(auto)]
 
 pub mod laws;

@@ -1,7 +1,6 @@
 -- What a script's lines make of a device whose root is one pfifo, and what each of them writes.
 -- Report.antt has the report itself; that this one is the same is proved.
-use Rattle.std.specs.Prelude.{◌≡◌, ℕ, zero, suc, Bool, true, false, ◌==◌, ◌&&◌, List, [], ◌∷◌, ◌++◌, Option, Result, Ok, Err, if◌then◌else◌}
-use Rattle.std.specs.List.{list_any}
+use Rattle.std.specs.Prelude.{◌≡◌, ℕ, zero, suc, Bool, true, false, ◌&&◌, List, [], ◌∷◌, ◌++◌, Option, Result, Ok, Err, if◌then◌else◌}
 use Rattle.q_packet.specs.Descriptor.{Descriptor}
 use Rattle.q_packet.specs.Key.{zero_key}
 use Rattle.q_packet.specs.declared.ecn.Ecn.TheVariants.{NotEct}

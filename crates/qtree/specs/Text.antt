@@ -1,6 +1,6 @@
 -- The texts of a report: what a poll gave, what was refused, and the qdiscs with their counters, as this project writes them.
 -- A qdisc is shown in the manner of `tc -s qdisc show` (tc(8)), with its handle in hexadecimal.
-use Rattle.std.specs.Prelude.{ℕ, List, [], ◌∷◌, ◌++◌, Option, Some, None, Bool, false, codes, decimal, if◌then◌else◌}
+use Rattle.std.specs.Prelude.{ℕ, List, [], ◌++◌, Option, Some, None, Bool, false, codes, decimal, if◌then◌else◌}
 use Rattle.std.specs.Fmt.{digits}
 use Rattle.q_packet.specs.Descriptor.{Descriptor}
 use Rattle.q_packet.specs.Totals.{count, size}

@@ -6,9 +6,10 @@
 //!   refused; and each `RunFault` says what was written.
 //! - [`command_line::options`] reads the command line.
 //!
-//! `specs/Report.antt` says what each line of a script does and writes, over the model device of `specs/Device.antt`, which
-//! is generic in how packets are remembered: the report is that of a device which keeps every packet. `specs/Examples.antt`
-//! computes the reports of worked scripts.
+//! `specs/Report.antt` takes the report of `q_report`, over the model of the whole device that keeps every packet, in a
+//! language of which the words of today are spoken. The program itself holds one root pfifo: `specs/Session.antt` says what
+//! each line makes of the device of `specs/Device.antt` and writes, and `proofs/FirstPath.antt` that this is the same.
+//! `specs/Examples.antt` computes worked scripts.
 #![tactic(auto)]
 
 mod command_line;

@@ -1,7 +1,6 @@
 ghost use Rattle.std.specs.Prelude.{◌≡◌, ◌<◌, ◌≤◌, length, IfOk, IfSome, IsErrOf, vec_len};
-ghost use Rattle.std.specs.Io.KnownBytes.{IsAtEnd};
 
-use crate::failed_read::{FailedRead, read};
+use crate::failed_read::read;
 use crate::script_fault::ScriptFault;
 use std::alloc::Global;
 use std::io::Read;
