@@ -24,9 +24,9 @@ purge : List Event
 purge =
     drr_over_fq_codel (record no_options { flows = Some 4 })
     ++ arrives 0 (packet 1 100) ∷ arrives 0 (packet 2 200) ∷ arrives 0 (packet 3 300)
-    ∷ tc (QdiscDel (Some (Class (class 1 1))) None) ∷ polls 0 1
+    ∷ tc (QdiscDel (Some (Class 1 1)) None) ∷ polls 0 1
 
-purge_runs : seen (Root ∷ (Class (class 1 1)) ∷ []) (run purge) ≡ record {
+purge_runs : seen (Root ∷ (Class 1 1) ∷ []) (run purge) ≡ record {
   replies = ok ∷ ok ∷ ok ∷ ok ∷ kept ∷ kept ∷ kept ∷ ok ∷ idle ∷ [];
   losses = loss (packet 1 100) Purged ∷ loss (packet 2 200) Purged ∷ loss (packet 3 300) Purged ∷ [];
   rows = Some (record { arrived = pb 3 600; sent = no_totals; refused = no_totals; dropped = pb 3 600; queued = no_totals; marked = no_totals }) ∷ Some (record { arrived = no_totals; sent = no_totals; refused = no_totals; dropped = no_totals; queued = no_totals; marked = no_totals }) ∷ [];
@@ -41,7 +41,7 @@ drop_below =
     ++ map (λ n. arrives 0 (packet n 1000)) (1 ∷ 2 ∷ 3 ∷ 4 ∷ 5 ∷ 6 ∷ 7 ∷ 8 ∷ 9 ∷ 10 ∷ [])
     ++ polls 100 1 ++ polls 1100 1
 
-drop_below_runs : seen (Root ∷ (Class (class 1 1)) ∷ []) (run drop_below) ≡ record {
+drop_below_runs : seen (Root ∷ (Class 1 1) ∷ []) (run drop_below) ≡ record {
   replies = ok ∷ ok ∷ ok ∷ ok ∷ replicate 10 kept ++ sent (packet 1 1000) ∷ sent (packet 3 1000) ∷ [];
   losses = loss (packet 2 1000) CoDel ∷ [];
   rows = Some (record { arrived = pb 10 10000; sent = pb 2 2000; refused = no_totals; dropped = pb 1 1000; queued = pb 7 7000; marked = no_totals }) ∷ Some (record { arrived = pb 10 10000; sent = pb 2 2000; refused = no_totals; dropped = pb 1 1000; queued = pb 7 7000; marked = no_totals }) ∷ [];
@@ -57,7 +57,7 @@ held =
     ∷ arrives 0 (packet 1 1000) ∷ arrives 0 (packet 2 900) ∷ arrives 0 (packet 3 800)
     ∷ polls 0 3 ++ tc (QdiscDel None (Some 2)) ∷ polls 0 1
 
-held_runs : seen (Root ∷ Class (class 1 1) ∷ []) (run held) ≡ record {
+held_runs : seen (Root ∷ Class 1 1 ∷ []) (run held) ≡ record {
   replies = ok ∷ ok ∷ kept ∷ kept ∷ kept ∷ sent (packet 1 1000) ∷ later ∷ later ∷ ok ∷ idle ∷ [];
   losses = loss (packet 2 900) Purged ∷ loss (packet 3 800) Purged ∷ [];
   rows =
@@ -80,7 +80,7 @@ deep =
     ∷ arrives 0 (packet 1 100) ∷ arrives 0 (packet 2 200)
     ∷ tc (QdiscDel None (Some 3)) ∷ arrives 0 (packet 3 300) ∷ polls 0 2
 
-deep_runs : seen (Root ∷ (Class (class 1 1)) ∷ (Class (class 2 2)) ∷ []) (run deep) ≡ record {
+deep_runs : seen (Root ∷ (Class 1 1) ∷ (Class 2 2) ∷ []) (run deep) ≡ record {
   replies = ok ∷ ok ∷ ok ∷ ok ∷ ok ∷ kept ∷ kept ∷ ok ∷ kept ∷ sent (packet 3 300) ∷ idle ∷ [];
   losses = loss (packet 1 100) Purged ∷ loss (packet 2 200) Purged ∷ [];
   rows = Some (record { arrived = pb 3 600; sent = pb 1 300; refused = no_totals; dropped = pb 2 300; queued = no_totals; marked = no_totals }) ∷ Some (record { arrived = pb 3 600; sent = pb 1 300; refused = no_totals; dropped = pb 2 300; queued = no_totals; marked = no_totals }) ∷ Some (record { arrived = pb 1 300; sent = pb 1 300; refused = no_totals; dropped = no_totals; queued = no_totals; marked = no_totals }) ∷ [];
@@ -97,7 +97,7 @@ refusals =
     ∷ add_in 1 4 None (Pfifo None)
     ∷ add_in 1 1 (Some 1) (Pfifo None)
     ∷ tc (ClassAdd 1 (class 1 9) None)
-    ∷ tc (QdiscChange (Some (Class (class 1 2))) None (Pfifo (Some 5)))
+    ∷ tc (QdiscChange (Some (Class 1 2)) None (Pfifo (Some 5)))
     ∷ tc (FilterDel 1 3)
     ∷ []
 

@@ -63,7 +63,7 @@ abbrev pub add_root : Option ℕ → Kind → Event
 add_root handle k = tc (QdiscAdd place.Root handle k)
 
 abbrev pub add_in : ℕ → ℕ → Option ℕ → Kind → Event
-add_in major minor handle k = tc (QdiscAdd (place.Class (class major minor)) handle k)
+add_in major minor handle k = tc (QdiscAdd (place.Class major minor) handle k)
 
 abbrev pub add_class : ℕ → ℕ → Option ℕ → Event
 add_class major minor quantum = tc (ClassAdd major (class major minor) quantum)

@@ -10,7 +10,7 @@ use Rattle.q_tree.specs.declared.place.Place.TheVariants.{Top, Root, Class}
 use Rattle.q_tree.specs.Tally.{no_totals}
 use Rattle.q_device.specs.declared.event.Event.{Event}
 use Rattle.q_device.specs.declared.refusal.Refusal.TheVariants.{SmallBurst}
-use Rattle.q_device.proofs.Script.{run, seen, class, packet, with_prio, arrives, polls, tc, add_root, add_in, ok, not_done, kept, lost, sent, idle, later, loss, pb}
+use Rattle.q_device.proofs.Script.{run, seen, packet, with_prio, arrives, polls, tc, add_root, add_in, ok, not_done, kept, lost, sent, idle, later, loss, pb}
 
 -- 8000 bits a second are a byte in 1000000 ns: the second packet of 1000 bytes goes at 500000000 ns, and not before
 tokens : List Event
@@ -49,7 +49,7 @@ bursts =
     add_root (Some 1) (new_tbf 1000) ∷ arrives 0 (packet 1 1001) ∷ arrives 0 (packet 2 2000)
     ∷ tc (QdiscChange (Some Root) None (new_tbf 900)) ∷ tc (QdiscChange (Some Root) None (new_tbf 2000)) ∷ []
 
-bursts_runs : seen (Root ∷ (Class (class 1 1)) ∷ Top ∷ []) (run bursts) ≡ record {
+bursts_runs : seen (Root ∷ (Class 1 1) ∷ Top ∷ []) (run bursts) ≡ record {
   replies = ok ∷ lost TooLong ∷ lost TooLong ∷ not_done SmallBurst ∷ ok ∷ [];
   losses = loss (packet 1 1001) TooLong ∷ loss (packet 2 2000) TooLong ∷ [];
   rows = Some (record { arrived = pb 1 1001; sent = no_totals; refused = pb 1 1001; dropped = no_totals; queued = no_totals; marked = no_totals }) ∷ Some (record { arrived = no_totals; sent = no_totals; refused = no_totals; dropped = no_totals; queued = no_totals; marked = no_totals }) ∷ Some (record { arrived = pb 2 3001; sent = no_totals; refused = pb 2 3001; dropped = no_totals; queued = no_totals; marked = no_totals }) ∷ [];

@@ -44,7 +44,7 @@ longest = 10 ^ 12
 
 abbrev pub head_fits : HeadValue → Verb → HeadDraft → List ℕ → Result Position Wrong
 head_fits Positions.dev v h word = value (name_of word) (λ u. Positions.head v (record h { named = true }))
-head_fits Positions.in_class v h word = value (class_of word) (λ c. Positions.head v (record h { place = Some (place.Class c) }))
+head_fits Positions.in_class v h word = value (class_of word) (λ c. Positions.head v (record h { place = Some (place.Class c.major c.minor) }))
 head_fits Positions.handle v h word = value (handle_of word) (λ n. Positions.head v (record h { handle = Some n }))
 head_fits Positions.parent v h word = value (handle_of word) (λ n. Positions.head v (record h { parent = Some n }))
 head_fits Positions.class_id v h word = value (class_of word) (λ c. Positions.head v (record h { class = Some c }))

@@ -88,7 +88,7 @@ class_text c = hex c.major ++ codes ":" ++ hex c.minor
 abbrev pub place_text : Place → List ℕ
 place_text place.Top = []
 place_text place.Root = codes "root"
-place_text (place.Class c) = codes "parent " ++ class_text c
+place_text (place.Class major minor) = codes "parent " ++ class_text (record { major = major; minor = minor })
 
 abbrev pub kind_text : QdiscView → List ℕ
 kind_text (qdisc.Pfifo limit) = codes "pfifo"

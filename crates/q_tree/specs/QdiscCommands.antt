@@ -24,17 +24,17 @@ use Rattle.q_tree.specs.Refusals.{Check, refuse, done_unless, is_so, is_classles
 
 -- the qdisc whose class a place is; the root is in no class
 abbrev pub parent_of : Place → Shape → Option Shape
-parent_of (place.Class class) root = option_and_then (λ path. node_at path root) (path_of class.major root)
+parent_of (place.Class major minor) root = option_and_then (λ path. node_at path root) (path_of major root)
 parent_of place.Root root = None
 parent_of place.Top root = None
 
 -- refusals of the place: its qdisc is not there, has no classes, or has no such class
 abbrev pub place_checks : Place → Shape → List Check
-place_checks (place.Class class) root =
-    let parent = parent_of (place.Class class) root in
+place_checks (place.Class major minor) root =
+    let parent = parent_of (place.Class major minor) root in
     refuse NoParent (is_none parent)
     ∷ refuse NotClassful (is_so (λ (n : Shape). is_classless n.own.discipline) parent)
-    ∷ refuse NoClass (is_so (λ (n : Shape). is_none (class_place class.minor n)) parent)
+    ∷ refuse NoClass (is_so (λ (n : Shape). is_none (class_place minor n)) parent)
     ∷ []
 place_checks place.Root root = []
 place_checks place.Top root = refuse Exists true ∷ []

@@ -32,7 +32,7 @@ pub record IsClassId (c : ClassId) : Type 0 where
 abbrev pub IsPlace : Place → Type 0
 IsPlace place.Top = Unit {0}
 IsPlace place.Root = Unit {0}
-IsPlace (place.Class class) = IsClassId class
+IsPlace (place.Class major minor) = IsClassId (record { major = major; minor = minor })
 
 -- packets, and the bytes of a quantum, a burst or a limit, fit 32 bits
 abbrev pub most_u32 : ℕ

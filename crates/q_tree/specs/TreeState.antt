@@ -114,5 +114,5 @@ with_edit t edit s =
 abbrev pub stats : {M : Type 0} → Tally M → Place → TreeState M → Option Row
 stats t place.Top s = Some (row_of (t.counts_of s.top) (beneath s.root))
 stats t place.Root s = Some (row t s.root)
-stats t (place.Class class) s =
-    option_map (row t) (option_and_then (λ path. node_at path s.root) (place_path (place.Class class) s.root))
+stats t (place.Class major minor) s =
+    option_map (row t) (option_and_then (λ path. node_at path s.root) (place_path (place.Class major minor) s.root))

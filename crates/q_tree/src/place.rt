@@ -1,5 +1,3 @@
-use crate::class_id::ClassId;
-
 /// Where in the tree a node stands.
 #[derive(Clone, Copy, PartialEq, Eq, Debug)]
 pub enum Place {
@@ -7,6 +5,6 @@ pub enum Place {
     Top,
     /// At the root of the device (tc(8), `root`).
     Root,
-    /// In a class of another qdisc (tc(8), `parent major:minor`).
-    Class(ClassId),
+    /// In the class of another qdisc with this major and minor number, each at least 1 (tc(8), `parent major:minor`).
+    Class(u16, u16),
 }
