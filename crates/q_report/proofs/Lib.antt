@@ -3,4 +3,5 @@ mod FqCodelRows
 mod LargeRows
 pub mod ReportLemmas
 mod Rows
+mod RuleRows
 mod ShownLemmas
