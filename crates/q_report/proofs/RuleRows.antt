@@ -29,6 +29,10 @@ reap_twice : report settings 0 (lines (codes "pkt 2000" ∷ codes "reap" ∷ cod
 unfolding is_utf8 chars lib.Utf8.encode digits key_bytes one_at_a_time mixed finished grants_for quanta_between gap_of adjust clear packets_of bytes_of rested_flow retuned all_packets appended fattest shed_count overflow shed cut_back is_lost_itself need given stay leave later sooner choose turned first_ready moved with_rest arranged selected packet_sent packets_dropped flow_after front sender sent_from dropped_from paid with_sent after_sending
 reap_twice = refl
 
+totals_with_a_packet_queued : report settings 0 (lines (codes "pkt 100" ∷ codes "pkt 200" ∷ codes "poll" ∷ codes "totals" ∷ [])) ([]) ≡ lines (codes "sent 1 100" ∷ codes "device arrived 2p 300b sent 1p 100b refused 0p 0b dropped 0p 0b queued 1p 200b" ∷ [])
+unfolding is_utf8 chars lib.Utf8.encode digits key_bytes one_at_a_time mixed finished grants_for quanta_between gap_of adjust clear packets_of bytes_of rested_flow retuned all_packets appended fattest shed_count overflow shed cut_back is_lost_itself need given stay leave later sooner choose turned first_ready moved with_rest arranged selected packet_sent packets_dropped flow_after front sender sent_from dropped_from paid with_sent after_sending
+totals_with_a_packet_queued = refl
+
 exists_before_memory : report settings 0 (lines (codes "tc qdisc add dev eth0 root pfifo" ∷ codes "tc qdisc add dev eth0 root pfifo" ∷ [])) (2 ∷ []) ≡ lines (codes "line 2: refused 11 Exists" ∷ [])
 unfolding is_utf8 chars lib.Utf8.encode digits key_bytes one_at_a_time mixed finished grants_for quanta_between gap_of adjust clear packets_of bytes_of rested_flow retuned all_packets appended fattest shed_count overflow shed cut_back is_lost_itself need given stay leave later sooner choose turned first_ready moved with_rest arranged selected packet_sent packets_dropped flow_after front sender sent_from dropped_from paid with_sent after_sending
 exists_before_memory = refl

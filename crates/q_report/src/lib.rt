@@ -2,7 +2,7 @@
 //!
 //! - `specs/Report.antt` has the text that each line of a script writes, over the model of the whole device (`q_device`) and
 //!   the grammar of all lines (`q_language`); `specs/Text.antt` has the texts.
-//! - `proofs/*Rows.antt` compute the reports of 50 worked scripts, from their bytes to the bytes that are written. Where whole
+//! - `proofs/*Rows.antt` compute the reports of 51 worked scripts, from their bytes to the bytes that are written. Where whole
 //!   settings would take too long to compute, flows are few and times small.
 //!
 //! - [`laws`] says that a session whose nodes keep totals writes what one whose nodes keep whole histories writes.
