@@ -3,6 +3,7 @@ pub mod FaultText
 pub mod Grammar
 pub mod Laws
 pub mod Ranges
+pub mod Script
 pub mod Settings
 pub mod Spelling
 pub mod Values

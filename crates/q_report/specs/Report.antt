@@ -1,7 +1,7 @@
 -- The report of a script: what each of its lines makes of a new device, and the text that it writes.
 -- Memory may be refused at some lines; such a line says so, and the device stays as it was.
-use Rattle.std.specs.Prelude.{ℕ, zero, suc, Bool, true, false, ◌==◌, List, [], ◌∷◌, ◌++◌, if◌then◌else◌, None, Result, Ok, Err, unwrap_or}
-use Rattle.std.specs.List.{flat_map, list_any}
+use Rattle.std.specs.Prelude.{ℕ, zero, suc, Bool, true, false, List, [], ◌∷◌, ◌++◌, if◌then◌else◌, None, Result, Ok, Err, unwrap_or}
+use Rattle.std.specs.List.{flat_map}
 use Rattle.q_packet.specs.Descriptor.{Descriptor}
 use Rattle.q_packet.specs.Key.{key_bytes}
 use Rattle.q_packet.specs.declared.head.Head.{Head}
@@ -23,10 +23,11 @@ use Rattle.q_language.specs.Grammar.{line_in, every_word}
 use Rattle.q_language.specs.declared.arrival.Arrival.{Arrival}
 use Rattle.q_language.specs.declared.line.Line.{Line}
 use Rattle.q_language.specs.declared.line.Line.TheVariants as line
+use Rattle.q_line.specs.Script.{lines_of, is_starved, fault_line}
 use Rattle.q_line.specs.declared.line_fault.LineFault.{LineFault}
 use Rattle.q_language.specs.declared.show.Show.{Show}
 use Rattle.q_language.specs.declared.object.Object.TheVariants as object
-use Rattle.q_report.specs.Text.{refused_line, fault_line, poll_line, lost_line, device_line, qdisc_text, class_line, filter_line}
+use Rattle.q_report.specs.Text.{refused_line, poll_line, lost_line, device_line, qdisc_text, class_line, filter_line}
 
 -- What a script's lines have made so far: the device, the losses that wait to be reaped, the moment of the lines that
 -- follow, how many packets were numbered, and whether a line had a fault or was refused.
@@ -134,18 +135,6 @@ replayed t spoken seed starved k (l ∷ lines) s =
     let first = effect t seed (starved k) k (line_in spoken l) s in
     let rest = replayed t spoken seed starved (suc k) lines first.session in
     record rest { text = first.text ++ rest.text }
-
--- the lines of a script: each ends with byte 10, and the last one with the script, where it has any byte
-abbrev pub onto_first : ℕ → List (List ℕ) → List (List ℕ)
-onto_first b [] = (b ∷ []) ∷ []
-onto_first b (l ∷ lines) = (b ∷ l) ∷ lines
-
-abbrev pub lines_of : List ℕ → List (List ℕ)
-lines_of [] = []
-lines_of (b ∷ bytes) = if b == 10 then [] ∷ lines_of bytes else onto_first b (lines_of bytes)
-
-abbrev pub is_starved : List ℕ → ℕ → Bool
-is_starved starved k = list_any (λ n. n == k) starved
 
 -- a script's replay on a new device, where memory is refused at these lines
 abbrev pub replay_with : {M : Type 0} → Tally M → (List ℕ → Bool) → DeviceSettings → ℕ → List ℕ → List ℕ → Effect M

@@ -31,24 +31,13 @@ use Rattle.q_tree.specs.declared.totals.Totals.{Totals}
 use Rattle.q_tree.specs.NotDone.{refusal_number, refusal_name}
 use Rattle.q_device.specs.declared.polled.Polled.{Polled}
 use Rattle.q_device.specs.declared.polled.Polled.TheVariants as polled
-use Rattle.q_line.specs.FaultText.{fault_text}
-use Rattle.q_line.specs.declared.line_fault.LineFault.{LineFault}
-
-abbrev pub newline : List ℕ
-newline = 10 ∷ []
+use Rattle.q_line.specs.Script.{newline, line_text}
 
 abbrev pub hex : ℕ → List ℕ
 hex n = digits 16 false n
 
--- what is said of a line begins with its number, counted from 1
-abbrev pub line_text : ℕ → List ℕ
-line_text k = codes "line " ++ decimal k ++ codes ": "
-
 abbrev pub refused_line : ℕ → NotDone → List ℕ
 refused_line k refusal = line_text k ++ codes "refused " ++ decimal (refusal_number refusal) ++ codes " " ++ refusal_name refusal ++ newline
-
-abbrev pub fault_line : ℕ → LineFault → List ℕ
-fault_line k f = line_text k ++ fault_text f ++ newline
 
 -- a packet, by its number and length
 abbrev pub packet_text : Descriptor → List ℕ

@@ -9,15 +9,15 @@ use Rattle.q_language.specs.Grammar.{line_in}
 use Rattle.q_language.specs.FirstPath.{is_first_word, whole_answer, FirstPathIsPart}
 use Rattle.q_report.specs.Laws.{TotalsAreEnough}
 use Rattle.q_report.specs.Report as whole
-use Rattle.q_report.specs.Report.{lines_of, is_starved}
-use Rattle.qtree.specs.declared.totals.Totals.{Totals}
-use Rattle.qtree.specs.declared.outcome.Outcome.TheVariants.{Clean, Refused}
-use Rattle.qtree.specs.Settings.{Settings}
-use Rattle.qtree.specs.Tally.{history, totals}
-use Rattle.qtree.specs.Session.{SessionState, Effect, new_session, effect, replayed, pfifo_replay, pfifo_report, pfifo_outcome}
+use Rattle.q_line.specs.Script.{lines_of, is_starved}
+use Rattle.q_script.specs.declared.totals.Totals.{Totals}
+use Rattle.q_script.specs.declared.outcome.Outcome.TheVariants.{Clean, Refused}
+use Rattle.q_script.specs.Settings.{Settings}
+use Rattle.q_script.specs.Tally.{totals}
+use Rattle.q_script.specs.Session.{SessionState, Effect, new_session, effect, replayed, pfifo_report, pfifo_outcome}
 use Rattle.qtree.specs.Report.{device_settings, report, outcome}
-use Rattle.qtree.proofs.Playing.{AllBelow, AllFrom, below-later, below-push, from-earlier, starved-here, starved-not}
-use Rattle.qtree.proofs.Shrink.{shrink_effect, shrink-replayed}
+use Rattle.q_script.proofs.StarvedLines.{AllBelow, AllFrom, below-later, below-push, from-earlier, starved-here, starved-not}
+use Rattle.q_script.proofs.Shrink.{run-is}
 use Rattle.qtree.proofs.WholeLines.{whole_session, IsWholeEffect, whole_preceded, is_refused_at, whole-line}
 
 -- the whole replay with totals, where memory is refused at these lines
@@ -90,11 +90,6 @@ pub record IsWhole (settings : Settings) (script starved : List ℕ) : Type 0 wh
   pub lines : List ℕ
   pub text : pfifo_report settings script starved ≡ report settings script lines
   pub outcome_is : pfifo_outcome settings script starved ≡ outcome settings script lines
-
--- the replay over totals is that over histories, shrunk
-pub run-is : (settings : Settings) (script starved : List ℕ)
-    → shrink_effect (pfifo_replay settings script starved) ≡ replayed totals (is_starved starved) 1 (lines_of script) (new_session totals settings)
-run-is settings script starved = shrink-replayed (is_starved starved) 1 (lines_of script) (new_session history settings)
 
 pub pfifo-is-whole : FirstPathIsPart → TotalsAreEnough → (settings : Settings) (script starved : List ℕ) → IsWhole settings script starved
 pfifo-is-whole part enough settings script starved =

@@ -1,15 +1,5 @@
-pub mod Arrivals
-pub mod Examples
 pub mod FirstPath
-pub mod Hexadecimal
-pub mod LinesLemmas
-pub mod OnErr
-pub mod Playing
-pub mod Polling
-pub mod Purged
 pub mod Reported
-pub mod Shrink
 pub mod WholeDevice
 pub mod WholeLines
 pub mod WholeTexts
-pub mod WrittenLemmas

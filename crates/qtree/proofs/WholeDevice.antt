@@ -31,9 +31,9 @@ use Rattle.q_device.specs.declared.polled.Polled.{Polled}
 use Rattle.q_device.specs.declared.polled.Polled.TheVariants as polled_as
 use Rattle.q_language.specs.declared.arrival.Arrival.{Arrival}
 use Rattle.q_report.specs.Report.{numbered_packet}
-use Rattle.qtree.specs.declared.totals.Totals.{Totals}
-use Rattle.qtree.specs.Tally.{totals}
-use Rattle.qtree.specs.Device.{Counted, LeafState, DeviceState, with_purged, arrived, given, polled, sent, with_root, has_explicit_root, with_arrived, with_refused}
+use Rattle.q_script.specs.declared.totals.Totals.{Totals}
+use Rattle.q_script.specs.Tally.{totals}
+use Rattle.q_script.specs.Device.{Counted, LeafState, DeviceState, with_purged, arrived, given, polled, sent, with_root, has_explicit_root, with_arrived, with_refused}
 
 -- an arrival of this length, of which nothing else is said
 abbrev pub bare_arrival : ℕ → Arrival

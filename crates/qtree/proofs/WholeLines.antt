@@ -19,12 +19,12 @@ use Rattle.q_line.specs.declared.place.Place.TheVariants.{Root}
 use Rattle.q_language.specs.FirstPath.{whole_command, whole_answer}
 use Rattle.q_report.specs.Text as whole_text
 use Rattle.q_report.specs.Report as whole
-use Rattle.qtree.specs.declared.totals.Totals.{Totals}
-use Rattle.qtree.specs.declared.refusal.Refusal.TheVariants.{Exists, Memory}
-use Rattle.qtree.specs.Tally.{totals}
-use Rattle.qtree.specs.Text.{refused_line, poll_line}
-use Rattle.qtree.specs.Device.{is_accepted, arrived, given, polled, with_root, has_explicit_root}
-use Rattle.qtree.specs.Session.{SessionState, Effect, numbered_packet, silent, refusing, arrival, polls, commanded, effect}
+use Rattle.q_script.specs.declared.totals.Totals.{Totals}
+use Rattle.q_script.specs.declared.refusal.Refusal.TheVariants.{Exists, Memory}
+use Rattle.q_script.specs.Tally.{totals}
+use Rattle.q_script.specs.Text.{refused_line, poll_line}
+use Rattle.q_script.specs.Device.{is_accepted, arrived, given, polled, with_root, has_explicit_root}
+use Rattle.q_script.specs.Session.{SessionState, Effect, numbered_packet, silent, refusing, arrival, polls, commanded, effect}
 use Rattle.qtree.proofs.WholeDevice.{bare_arrival, whole_packet, whole_tree, whole_device, new_root, whole-put, whole-taken, whole-polled, whole-plan, whole-root}
 use Rattle.qtree.proofs.WholeTexts.{same_exists, same_memory, same_poll, same_show}
 

@@ -15,12 +15,12 @@ use Rattle.q_tree.specs.Tally as tree
 use Rattle.q_tree.specs.Beneath.{packets_of, totals_in, beneath, row_of}
 use Rattle.q_tree.specs.Views.{views, node_view}
 use Rattle.q_report.specs.Text as whole_text
-use Rattle.q_report.specs.Text.{newline, line_text}
-use Rattle.qtree.specs.declared.totals.Totals.{Totals}
-use Rattle.qtree.specs.declared.refusal.Refusal.TheVariants.{Exists, Memory}
-use Rattle.qtree.specs.Tally.{totals}
-use Rattle.qtree.specs.Text.{refused_line, poll_line, counters_line, handle_text, qdisc_line, show_text}
-use Rattle.qtree.specs.Device.{LeafState, DeviceState}
+use Rattle.q_line.specs.Script.{newline, line_text}
+use Rattle.q_script.specs.declared.totals.Totals.{Totals}
+use Rattle.q_script.specs.declared.refusal.Refusal.TheVariants.{Exists, Memory}
+use Rattle.q_script.specs.Tally.{totals}
+use Rattle.q_script.specs.Text.{refused_line, poll_line, counters_line, handle_text, qdisc_line, show_text}
+use Rattle.q_script.specs.Device.{LeafState, DeviceState}
 use Rattle.qtree.proofs.WholeDevice.{whole_queue, whole_counts, whole_root, whole_tree, whole_polled}
 
 eleven : decimal 11 ≡ codes "11"

@@ -6,10 +6,10 @@ use Rattle.q_tree.specs.Tally.{Note}
 use Rattle.q_device.specs.Settings.{DeviceSettings}
 use Rattle.q_language.specs.FirstPath.{is_first_word}
 use Rattle.q_report.specs.Report.{Effect, replay_in}
-use Rattle.qtree.specs.declared.outcome.Outcome.{Outcome}
-use Rattle.qtree.specs.declared.outcome.Outcome.TheVariants.{Clean, Refused}
-use Rattle.qtree.specs.Settings.{Settings}
-use Rattle.qtree.specs.Written.{AppendsFront}
+use Rattle.q_script.specs.declared.outcome.Outcome.{Outcome}
+use Rattle.q_script.specs.declared.outcome.Outcome.TheVariants.{Clean, Refused}
+use Rattle.q_script.specs.Settings.{Settings}
+use Rattle.q_script.specs.Written.{AppendsFront}
 
 abbrev pub device_settings : Settings → DeviceSettings
 device_settings s = record { mtu = s.mtu; txqueuelen = s.txqueuelen; recorder = s.recorder }

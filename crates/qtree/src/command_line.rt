@@ -1,6 +1,6 @@
 use crate::options::Options;
-use crate::settings::RunSettings;
 use clap::{Command, Error};
+use q_script::RunSettings;
 use std::alloc::Global;
 
 /// Reads a command line, the program's name first. An error is clap's: it has the usage or the help that it prints.

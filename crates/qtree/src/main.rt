@@ -7,35 +7,19 @@
 //! - [`command_line::options`] reads the command line.
 //!
 //! `specs/Report.antt` takes the report of `q_report`, over the model of the whole device that keeps every packet, in a
-//! language of which the words of today are spoken. The program itself holds one root pfifo: `specs/Session.antt` says what
-//! each line makes of the device of `specs/Device.antt` and writes, and `proofs/FirstPath.antt` that this is the same.
-//! `specs/Examples.antt` computes worked scripts.
+//! language of which the words of today are spoken. What runs a script is `q_script`, which holds one root pfifo; that its
+//! report is the same stands in `proofs/FirstPath.antt`.
 #![tactic(auto)]
 
 mod command_line;
-mod counters;
-mod device;
-mod failed_read;
-mod leaf;
-mod lines;
 mod options;
-mod outcome;
-mod output;
-mod refusal;
 mod run;
-mod run_fault;
-mod script;
-mod script_fault;
-mod session;
-mod settings;
 #[cfg(test)]
 mod tests;
-mod text;
-mod totals;
 
 use crate::options::Options;
 use crate::run::run;
-use crate::settings::RunSettings;
+use q_script::RunSettings;
 use std::process::ExitCode;
 use std::{env, io};
 

@@ -1,4 +1,4 @@
-use crate::settings::RunSettings;
+use q_script::RunSettings;
 
 /// What the command line asks for.
 #[derive(Clone, Copy, PartialEq, Eq, Debug)]

@@ -1,43 +1,11 @@
-ghost use Rattle.std.specs.Prelude.{◌≡◌, ◌≤◌, ◌<◌, ◌+◌, ◌^◌, [], length, IfOk, IfSome, OnOk, OnErr, Err};
+ghost use Rattle.std.specs.Prelude.{◌≡◌, ◌≤◌, ◌<◌, length, IfOk, IfSome, OnOk, Err};
 ghost use Rattle.std.specs.Io.KnownBytes.{Keeps};
-ghost use Rattle.q_report.specs.Report.{lines_of};
+ghost use Rattle.q_script.specs.Session.{IsPfifoReported, IsPartlyPfifoReported};
 ghost use Rattle.qtree.specs.Report.{IsReported, IsPartlyReported};
-ghost use Rattle.qtree.specs.Session.{IsPfifoReported, IsPartlyPfifoReported};
-ghost use Rattle.qtree.specs.Step.{IsWholeRun, IsPartOfRun};
 
-use crate::lines::split_line;
-use crate::outcome::Outcome;
-use crate::output::{Output, WriteFault};
-use crate::run_fault::RunFault;
-use crate::script::read_script;
-use crate::session::Session;
-use crate::settings::RunSettings;
+use q_script::{Outcome, RunFault, RunSettings};
 use std::alloc::Global;
 use std::io::{Read, Write};
-
-/// Runs the lines of a script in turn, and writes what they report.
-fn run_lines<W: Write>(
-    session: &mut Session,
-    script: &[u8],
-    output: &mut Output,
-    writer: &mut W,
-) -> Result<(), WriteFault>
-    requires short { length script.now ≤ 16777216 }
-    requires new { session.old.packets ≡ 0 }
-    requires empty { output.old ≡ [] }
-    ensures ok { OnOk result (IsWholeRun (W.contents writer.old) (W.contents writer.new) (lines_of script.now) session.old session.new) }
-    ensures err { OnErr result (IsPartOfRun (W.contents writer.old) (W.contents writer.new) (lines_of script.now) session.old) }
-{
-    let mut rest = script;
-    let mut number = 1u64;
-    while !rest.is_empty() {
-        let (line, behind) = split_line(rest);
-        session.run_line(number, line, output, writer)?;
-        rest = behind;
-        number += 1;
-    }
-    output.flush(writer)
-}
 
 /// Reads a script of at most 16,777,216 bytes and writes its report. The script is read whole before a line of it is run,
 /// by at most 16,777,218 reads, interrupted ones counted.
@@ -67,15 +35,5 @@ pub fn run<R: Read, W: Write>(
     ensures write_pfifo { result ≡ Err RunFault.Write → IfSome (R.remaining reader.old) (λ script.
         IsPartlyPfifoReported settings script (W.contents writer.old) (W.contents writer.new)) }
 {
-    let script = match read_script(alloc, reader) {
-        Ok(script) => script,
-        Err(fault) => return Err(RunFault::from(fault)),
-    };
-    let mut output = Output::new(alloc).map_err(|_| RunFault::Memory)?;
-    let mut session = Session::new(alloc, &settings);
-    match run_lines(&mut session, &script, &mut output, writer) {
-        Ok(()) if session.is_refused() => Ok(Outcome::Refused),
-        Ok(()) => Ok(Outcome::Clean),
-        Err(WriteFault) => Err(RunFault::Write),
-    }
+    q_script::run::run(alloc, reader, writer, settings)
 }

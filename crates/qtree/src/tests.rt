@@ -1,9 +1,6 @@
 //! Whole runs: scripts with the reports that docs/LANGUAGE.md gives them, and readers and writers that fail.
-use crate::outcome::Outcome;
 use crate::run::run;
-use crate::run_fault::RunFault;
-use crate::script::MAX_LENGTH;
-use crate::settings::RunSettings;
+use q_script::{MAX_LENGTH, Outcome, RunFault, RunSettings};
 use std::alloc::Global;
 use std::io::{Error, ErrorKind, Read, Result as IoResult, Write};
 use std::process::Abort;

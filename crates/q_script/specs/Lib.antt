@@ -1,0 +1,11 @@
+pub mod Conserved
+pub mod Device
+pub mod Examples
+pub mod Insides
+pub mod RunFault
+pub mod Session
+pub mod Settings
+pub mod Step
+pub mod Tally
+pub mod Text
+pub mod Written

@@ -1,0 +1,102 @@
+ghost use Rattle.std.specs.Prelude.{◌≡◌, ◌+◌, ◌≤◌, ◌++◌, List, [], ℕ, OnOk, OnErr, IfOk, length, decimal};
+ghost use Rattle.std.specs.Io.KnownBytes.{Appends};
+ghost use Rattle.q_script.specs.Written.{AppendsFront, IsBuffered};
+
+use std::alloc::{AllocError, Global};
+use std::io::Write;
+use std::marker::Model;
+
+/// The writer took no byte, or failed.
+#[derive(Clone, Copy, PartialEq, Eq, Debug)]
+pub struct WriteFault;
+
+/// The report's text on its way to the writer, in a buffer that is taken once. A contract sees the buffered bytes.
+#[derive(Drop)]
+pub struct Output {
+    buffer: Vec<u8>,
+}
+
+/// How many bytes the buffer holds.
+const CAPACITY: usize = 65536;
+
+/// How many bytes one step of the report writes at most.
+const STEP: usize = 1024;
+
+impl Model for Output {
+    ghost use Rattle.std.specs.Prelude.{List, ℕ, ◌≤◌, vec_capacity};
+
+    ghost Value = { List ℕ };
+
+    ghost view = { λ o. o.buffer.items };
+
+    ghost invariant = { λ o. 65536 ≤ vec_capacity o.buffer };
+}
+
+impl Output {
+    /// An empty buffer.
+    pub fn new(alloc: Global) -> Result<Output, AllocError>
+        ensures { IfOk result (λ o. o ≡ []) }
+    {
+        Ok(Output {
+            buffer: Vec::with_capacity(alloc, CAPACITY)?,
+        })
+    }
+
+    /// Adds bytes for which there is room.
+    pub fn put(&mut self, bytes: &[u8])
+        requires { length self.old + length bytes.now ≤ 65536 }
+        ensures text { self.new ≡ self.old ++ bytes.now }
+        ensures len { length self.new ≡ length self.old + length bytes.now }
+    {
+        let Ok(()) = self.buffer.extend_from_slice(bytes) else {
+            unreachable!()
+        };
+    }
+
+    /// Adds a number in decimal digits.
+    pub fn put_number(&mut self, n: u64)
+        requires { length self.old + 20 ≤ 65536 }
+        ensures text { self.new ≡ self.old ++ decimal n }
+        ensures short { length self.new ≤ length self.old + 20 }
+    {
+        self.put(itoa::Buffer::new().format(n).as_bytes());
+    }
+
+    /// Makes room for one step of the report, by writing out what is buffered where there is none.
+    pub fn make_room<W: Write>(&mut self, writer: &mut W) -> Result<(), WriteFault>
+        ensures room { OnOk result (length self.new + 1024 ≤ 65536) }
+        ensures ok { OnOk result (IsBuffered (W.contents writer.old) (W.contents writer.new) self.new self.old) }
+        ensures err { OnErr result (AppendsFront (W.contents writer.old) (W.contents writer.new) self.old) }
+    {
+        if self.buffer.len() > CAPACITY - STEP {
+            return self.flush(writer);
+        }
+        Ok(())
+    }
+
+    /// Writes all that is buffered. After an error the writer holds a front of it, and not all.
+    pub fn flush<W: Write>(&mut self, writer: &mut W) -> Result<(), WriteFault>
+        ensures written { OnOk result (Appends (W.contents writer.old) (W.contents writer.new) self.old) }
+        ensures empty { OnOk result (self.new ≡ []) }
+        ensures err { OnErr result (AppendsFront (W.contents writer.old) (W.contents writer.new) self.old) }
+    {
+        write_whole(writer, &self.buffer)?;
+        self.buffer.clear();
+        Ok(())
+    }
+}
+
+/// Writes all the bytes. After an error the writer holds a front of them, and not all.
+fn write_whole<W: Write>(writer: &mut W, bytes: &[u8]) -> Result<(), WriteFault>
+    ensures ok { OnOk result (Appends (W.contents writer.old) (W.contents writer.new) bytes.now) }
+    ensures err { OnErr result (AppendsFront (W.contents writer.old) (W.contents writer.new) bytes.now) }
+{
+    let mut rest = bytes;
+    while !rest.is_empty() {
+        match writer.write(rest) {
+            Ok(0) | Err(_) => return Err(WriteFault),
+            Ok(n) => rest = &rest[n..],
+        }
+    }
+    Ok(())
+}

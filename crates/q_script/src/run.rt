@@ -1,0 +1,76 @@
+ghost use Rattle.std.specs.Prelude.{◌≡◌, ◌≤◌, ◌<◌, ◌+◌, ◌^◌, [], length, IfOk, IfSome, OnOk, OnErr, Err};
+ghost use Rattle.std.specs.Io.KnownBytes.{Keeps};
+ghost use Rattle.q_line.specs.Script.{lines_of};
+ghost use Rattle.q_script.specs.Session.{IsPfifoReported, IsPartlyPfifoReported};
+ghost use Rattle.q_script.specs.Step.{IsWholeRun, IsPartOfRun};
+
+use crate::lines::split_line;
+use crate::outcome::Outcome;
+use crate::output::{Output, WriteFault};
+use crate::run_fault::RunFault;
+use crate::script::read_script;
+use crate::session::Session;
+use crate::settings::RunSettings;
+use std::alloc::Global;
+use std::io::{Read, Write};
+
+/// Runs the lines of a script in turn, and writes what they report.
+fn run_lines<W: Write>(
+    session: &mut Session,
+    script: &[u8],
+    output: &mut Output,
+    writer: &mut W,
+) -> Result<(), WriteFault>
+    requires short { length script.now ≤ 16777216 }
+    requires new { session.old.packets ≡ 0 }
+    requires empty { output.old ≡ [] }
+    ensures ok { OnOk result (IsWholeRun (W.contents writer.old) (W.contents writer.new) (lines_of script.now) session.old session.new) }
+    ensures err { OnErr result (IsPartOfRun (W.contents writer.old) (W.contents writer.new) (lines_of script.now) session.old) }
+{
+    let mut rest = script;
+    let mut number = 1u64;
+    while !rest.is_empty() {
+        let (line, behind) = split_line(rest);
+        session.run_line(number, line, output, writer)?;
+        rest = behind;
+        number += 1;
+    }
+    output.flush(writer)
+}
+
+/// Reads a script of at most 16,777,216 bytes and writes its report. The script is read whole before a line of it is run,
+/// by at most 16,777,218 reads, interrupted ones counted.
+///
+/// After `Read`, `TooLong` and `Memory` nothing was written, and after `Write` (any error of a write, or one that takes no
+/// byte) a front of a report, and not all of it.
+pub fn run<R: Read, W: Write>(
+    alloc: Global,
+    reader: &mut R,
+    writer: &mut W,
+    settings: RunSettings,
+) -> Result<Outcome, RunFault>
+    // What was written is the report of what the reader had, and nothing else. Memory was refused at no line but those of
+    // packets that would be queued.
+    ensures report { IfOk result (λ outcome. IfSome (R.remaining reader.old) (λ script.
+        IsPfifoReported settings script outcome (W.contents writer.old) (W.contents writer.new))) }
+    ensures short { OnOk result (IfSome (R.remaining reader.old) (λ script. length script ≤ 16777216)) }
+
+    ensures read { result ≡ Err RunFault.Read → Keeps (W.contents writer.old) (W.contents writer.new) }
+    ensures too_long { result ≡ Err RunFault.TooLong → Keeps (W.contents writer.old) (W.contents writer.new) }
+    ensures too_long_only { result ≡ Err RunFault.TooLong → IfSome (R.remaining reader.old) (λ script. 16777216 < length script) }
+    ensures memory { result ≡ Err RunFault.Memory → Keeps (W.contents writer.old) (W.contents writer.new) }
+    ensures write { result ≡ Err RunFault.Write → IfSome (R.remaining reader.old) (λ script.
+        IsPartlyPfifoReported settings script (W.contents writer.old) (W.contents writer.new)) }
+{
+    let script = match read_script(alloc, reader) {
+        Ok(script) => script,
+        Err(fault) => return Err(RunFault::from(fault)),
+    };
+    let mut output = Output::new(alloc).map_err(|_| RunFault::Memory)?;
+    let mut session = Session::new(alloc, &settings);
+    match run_lines(&mut session, &script, &mut output, writer) {
+        Ok(()) if session.is_refused() => Ok(Outcome::Refused),
+        Ok(()) => Ok(Outcome::Clean),
+        Err(WriteFault) => Err(RunFault::Write),
+    }
+}

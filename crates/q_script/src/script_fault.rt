@@ -1,0 +1,28 @@
+ghost use Rattle.std.specs.Prelude.{◌≡◌};
+ghost use Rattle.q_script.specs.RunFault.{run_fault_of};
+
+use crate::failed_read::FailedRead;
+use crate::run_fault::RunFault;
+
+/// Why a script was not read whole.
+#[derive(Debug, Drop)]
+pub enum ScriptFault {
+    /// A read failed, or was interrupted once too often.
+    Read(FailedRead),
+    /// There are more than 16,777,216 bytes.
+    TooLong,
+    /// Memory was refused.
+    Memory,
+}
+
+impl From<ScriptFault> for RunFault {
+    fn from(fault: ScriptFault) -> RunFault
+        ensures { result ≡ run_fault_of fault }
+    {
+        match fault {
+            ScriptFault::Read(_) => RunFault::Read,
+            ScriptFault::TooLong => RunFault::TooLong,
+            ScriptFault::Memory => RunFault::Memory,
+        }
+    }
+}

@@ -1,0 +1,223 @@
+//! The report's texts, each put into the output whole.
+ghost use Rattle.std.specs.Prelude.{◌≡◌, ◌+◌, ◌<◌, ◌≤◌, ◌++◌, length, decimal, false};
+ghost use Rattle.std.specs.Fmt.{digits, digit_glyph};
+ghost use Rattle.q_line.specs.FaultText.{fault_text};
+ghost use Rattle.q_script.specs.Tally.{totals};
+ghost use Rattle.q_script.specs.Insides.{counted_of, leaf_of};
+ghost use Rattle.q_line.specs.Script.{line_text, fault_line};
+ghost use Rattle.q_script.specs.Text.{refused_line, poll_line, totals_text, counters_line, handle_text, limit_text, kind_text, qdisc_line};
+
+use crate::leaf::Leaf;
+use crate::output::Output;
+use crate::refusal::Refusal;
+use crate::totals::Totals;
+use q_codel::Limit;
+use q_line::LineFault;
+use q_packet::Packet;
+
+/// `line K: `, with the line's number.
+fn put_line_number(output: &mut Output, number: u64)
+    requires { length output.old + 32 ≤ 65536 }
+    ensures text { output.new ≡ output.old ++ line_text number }
+    ensures short { length output.new ≤ length output.old + 32 }
+{
+    output.put(b"line ");
+    output.put_number(number);
+    output.put(b": ");
+}
+
+/// The line on a refusal.
+pub fn put_refusal(output: &mut Output, number: u64, refusal: Refusal)
+    requires { length output.old + 64 ≤ 65536 }
+    ensures { output.new ≡ output.old ++ refused_line number refusal }
+{
+    put_line_number(output, number);
+    match refusal {
+        Refusal::Exists => output.put(b"refused 11 Exists"),
+        Refusal::Memory => output.put(b"refused 90 Memory"),
+    }
+    output.put(b"\n");
+}
+
+/// A fault's number and name, and the index of the word that has it.
+fn put_named_fault(output: &mut Output, name: &[u8], word: usize)
+    requires room { length output.old + 64 ≤ 65536 }
+    requires name { length name.now ≤ 32 }
+    ensures text { output.new ≡ output.old ++ (name.now ++ decimal word) }
+    ensures short { length output.new ≤ length output.old + 64 }
+{
+    output.put(name);
+    output.put_number(word as u64);
+}
+
+/// A fault and the word that has it.
+fn put_fault_text(output: &mut Output, fault: LineFault)
+    requires { length output.old + 64 ≤ 65536 }
+    ensures text { output.new ≡ output.old ++ fault_text fault }
+    ensures short { length output.new ≤ length output.old + 64 }
+{
+    match fault {
+        LineFault::UnknownWord(word) => {
+            put_named_fault(output, b"fault 1 UnknownWord word ", word)
+        }
+        LineFault::Missing(word) => put_named_fault(output, b"fault 2 Missing word ", word),
+        LineFault::BadNumber(word) => put_named_fault(output, b"fault 3 BadNumber word ", word),
+        LineFault::OutOfRange(word) => put_named_fault(output, b"fault 4 OutOfRange word ", word),
+        LineFault::Twice(word) => put_named_fault(output, b"fault 5 Twice word ", word),
+        LineFault::BadUtf8(word) => put_named_fault(output, b"fault 6 BadUtf8 word ", word),
+    }
+}
+
+/// The line on a fault.
+pub fn put_fault(output: &mut Output, number: u64, fault: LineFault)
+    requires { length output.old + 128 ≤ 65536 }
+    ensures { output.new ≡ output.old ++ fault_line number fault }
+{
+    put_line_number(output, number);
+    put_fault_text(output, fault);
+    output.put(b"\n");
+}
+
+/// What a poll gave.
+pub fn put_poll(output: &mut Output, given: Option<Packet>)
+    requires { length output.old + 64 ≤ 65536 }
+    ensures { output.new ≡ output.old ++ poll_line given }
+{
+    let Some(packet) = given else {
+        output.put(b"idle\n");
+        return;
+    };
+    output.put(b"sent ");
+    output.put_number(packet.number);
+    output.put(b" ");
+    output.put_number(packet.len as u64);
+    output.put(b"\n");
+}
+
+/// A counter's name, packets and bytes.
+fn put_totals(output: &mut Output, name: &[u8], counted: Totals)
+    requires room { length output.old + 64 ≤ 65536 }
+    requires name { length name.now ≤ 8 }
+    ensures text { output.new ≡ output.old ++ totals_text name.now counted }
+    ensures short { length output.new ≤ length output.old + 64 }
+{
+    output.put(b" ");
+    output.put(name);
+    output.put(b" ");
+    output.put_number(counted.packets);
+    output.put(b"p ");
+    output.put_number(counted.bytes);
+    output.put(b"b");
+}
+
+/// The counters of a node, on a line.
+pub fn put_counters(output: &mut Output, leaf: &Leaf)
+    requires { length output.old + 400 ≤ 65536 }
+    ensures { output.new ≡ output.old ++ counters_line totals (leaf_of leaf.now) }
+{
+    put_totals(output, b"arrived", leaf.counters.arrived);
+    put_totals(output, b"sent", leaf.counters.sent);
+    put_totals(output, b"refused", leaf.counters.refused);
+    put_totals(output, b"dropped", leaf.counters.dropped);
+    let queued = Totals {
+        packets: leaf.queue.count(),
+        bytes: leaf.queue.bytes(),
+    };
+    put_totals(output, b"queued", queued);
+    output.put(b"\n");
+}
+
+/// The ASCII digit of a number below 16.
+fn hexadecimal_digit(n: u16) -> u8
+    requires { n < 16 }
+    ensures { result ≡ digit_glyph false n }
+{
+    if n < 10 {
+        b'0' + n as u8
+    } else {
+        b'a' + (n as u8 - 10)
+    }
+}
+
+/// A number in hexadecimal digits.
+fn put_hexadecimal(output: &mut Output, n: u16)
+    requires { length output.old + 4 ≤ 65536 }
+    ensures text { output.new ≡ output.old ++ digits 16 false n }
+    ensures short { length output.new ≤ length output.old + 4 }
+{
+    let low = hexadecimal_digit(n % 16);
+    if n < 16 {
+        output.put(&[low]);
+        return;
+    }
+    let second = hexadecimal_digit(n / 16 % 16);
+    if n < 256 {
+        output.put(&[second, low]);
+        return;
+    }
+    let third = hexadecimal_digit(n / 256 % 16);
+    if n < 4096 {
+        output.put(&[third, second, low]);
+        return;
+    }
+    output.put(&[hexadecimal_digit(n / 4096), third, second, low]);
+}
+
+/// A major number in hexadecimal; an implicit leaf is shown as 0.
+fn put_handle(output: &mut Output, handle: Option<u16>)
+    requires { length output.old + 4 ≤ 65536 }
+    ensures text { output.new ≡ output.old ++ handle_text handle }
+    ensures short { length output.new ≤ length output.old + 4 }
+{
+    match handle {
+        Some(major) => put_hexadecimal(output, major),
+        None => output.put(b"0"),
+    }
+}
+
+/// The kind of a queue with this limit.
+fn put_kind(output: &mut Output, limit: Limit)
+    requires { length output.old + 5 ≤ 65536 }
+    ensures text { output.new ≡ output.old ++ kind_text limit }
+    ensures short { length output.new ≤ length output.old + 5 }
+{
+    match limit {
+        Limit::Packets(_) => output.put(b"pfifo"),
+        Limit::Bytes(_) => output.put(b"bfifo"),
+    }
+}
+
+/// A limit in packets or in bytes.
+fn put_limit(output: &mut Output, limit: Limit)
+    requires { length output.old + 32 ≤ 65536 }
+    ensures text { output.new ≡ output.old ++ limit_text limit }
+    ensures short { length output.new ≤ length output.old + 32 }
+{
+    output.put(b"limit ");
+    match limit {
+        Limit::Packets(most) => {
+            output.put_number(most);
+            output.put(b"p");
+        }
+        Limit::Bytes(most) => {
+            output.put_number(most);
+            output.put(b"b");
+        }
+    }
+}
+
+/// A qdisc's line: its kind, its handle, its place and its limit.
+pub fn put_qdisc(output: &mut Output, leaf: &Leaf)
+    requires { length output.old + 100 ≤ 65536 }
+    ensures text { output.new ≡ output.old ++ qdisc_line (leaf_of leaf.now) }
+    ensures short { length output.new ≤ length output.old + 100 }
+{
+    let limit = leaf.queue.limit();
+    output.put(b"qdisc ");
+    put_kind(output, limit);
+    output.put(b" ");
+    put_handle(output, leaf.handle);
+    output.put(b": root ");
+    put_limit(output, limit);
+    output.put(b"\n");
+}
