@@ -1,4 +1,4 @@
--- Worked scripts of fifos and of the device: what each line is answered, what is lost, and what is counted.
+-- A worked script of a pfifo: what each line is answered, what is lost, and what is counted.
 use Rattle.std.proofs.Common.{◌≡◌, List, [], ◌∷◌, refl}
 use Rattle.std.specs.Prelude.{Some}
 use Rattle.q_packet.specs.declared.cause.Cause.TheVariants.{OverLimit}

@@ -1,4 +1,4 @@
--- The ranges of an event's fields, for the laws that speak of every list of events.
+-- The ranges of an event's fields; no law names them yet.
 -- A moment is at most 2^62 ns.
 use Rattle.std.specs.Prelude.{◌≤◌, ◌^◌}
 use Rattle.q_tree.specs.Ranges.{IsPacket, IsCommand}

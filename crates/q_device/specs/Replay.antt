@@ -1,5 +1,5 @@
 -- The replay of a list of events: the device that they make of a new one, what each is answered, and all that is lost.
--- A device is the replay of its recorded events.
+-- A device is to be the replay of its recorded events.
 use Rattle.std.specs.Prelude.{List, [], ◌∷◌, ◌++◌}
 use Rattle.q_codel.specs.declared.loss.Loss.{Loss}
 use Rattle.q_tree.specs.Tally.{Tally}

@@ -1,4 +1,4 @@
-//! One device: its clock, its tree, the packets that it lost, and a record of what was done to it.
+//! The model of one device: its clock and its tree, and what events make of them. The code of the device is still to come.
 //!
 //! - [`Settings`] are a device's mtu, queue length and recorder.
 //! - An [`Event`] is an arrival, a poll or a command, with its moment. A [`Reply`] is what it is answered: a [`Fate`], a

@@ -32,7 +32,7 @@ five_turns_granted = refl
 cut_by_a_quantum : deficit_of 1 (with_quantum 1 100 (turned 1500 two)).active ≡ 1613
 cut_by_a_quantum = refl
 
--- quanta of 10 bytes, and heads of 25 and 14 bytes: the second class is met after one grant each
+-- quanta of 10 bytes, and heads of 25 and 14 bytes: the second class is met after two grants of the first and one of its own
 abbrev small : Schedule
 small = woken 2 (woken 1 (added 2 10 (added 1 10 (no_classes 100))))
 

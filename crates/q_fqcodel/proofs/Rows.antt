@@ -1,5 +1,5 @@
 -- Worked rows, computed from the definitions. With a quantum of 1000 bytes, two packets of 1000 bytes in flow 0 and one
--- of 100 in flow 1: the lists and credits after each take, and the fat flow at a tie.
+-- of 100 in flow 1: what each take sends, the lists and credits after the third and the fourth; the fat flow at a tie; a batch.
 use Rattle.std.proofs.Common.{◌≡◌, ℕ, pos, true, false, [], ◌∷◌, map, Option, Some, None, option_map, refl}
 use Rattle.q_packet.specs.Key.{zero_key}
 use Rattle.q_packet.specs.Descriptor.{Descriptor}
@@ -32,7 +32,7 @@ packet number len hash = record { port = 0; number = number; buf = 0; len = len;
 abbrev entry : ℕ → ℕ → Entry
 entry flow credits = record { flow = flow; credits = pos credits }
 
--- what is sent, and both lists then
+-- the number of the packet that is sent
 abbrev shown : FqState → Option ℕ
 shown s = option_map (λ (t : Taken). t.packet.number) (sent_from 0 (selected s))
 

@@ -1,5 +1,6 @@
 -- A list with some of its elements changed, named by their places; a place may be named twice.
--- It says which flows lose what CoDel knew of them as they leave a list (RFC 8290, section 4.2).
+-- It says of which flows CoDel forgets since when they were late, and that they were dropping, as they leave a list
+-- (RFC 8290, section 4.2).
 use Rattle.std.specs.Prelude.{ℕ, zero, suc, List, [], ◌∷◌}
 
 -- the list with its n-th element changed by r

@@ -7,7 +7,8 @@
 //!   `fault 3 BadNumber word 9` and the like.
 //!
 //! `specs/Grammar.antt` has the lines of the language, as tables of the words that stand at each position of a line;
-//! `specs/Values.antt` numbers, handles and names, and `specs/Words.antt` how a line is cut into words. The contract of
+//! `specs/Values.antt` numbers, handles and names, `specs/Words.antt` how a line is cut into words, and `specs/Script.antt` how
+//! a script is cut into lines and a report speaks of one. The contract of
 //! `read_line` says that it gives exactly what they say (`exact`), and that every number is in range (`in_range`, after
 //! `specs/Ranges.antt`). Above the grammar stand the laws of the module [`laws`]: a fault is the leftmost one, `Missing`
 //! comes only where nothing is wrong with any word, each line can be written and is read as itself, and the settings of a

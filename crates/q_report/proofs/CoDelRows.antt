@@ -1,5 +1,5 @@
 -- Worked scripts of CoDel within an fq_codel of two flows, times divided by 10^5, from their bytes to the bytes of their reports.
--- Each is one of the scripts whose reports are stored beside this project's tests.
+-- Each is one of the scripts of docs/LANGUAGE.md, with fewer flows and shorter times.
 use Rattle.std.proofs.Common.{◌≡◌, ℕ, List, [], ◌∷◌, ◌++◌, refl}
 use Rattle.std.specs.Prelude.{codes}
 use Rattle.std.specs.List.{flat_map}

@@ -1,4 +1,4 @@
--- What holds of every tree, whatever was done to it.
+-- What is to hold of every tree, whatever was done to it.
 -- tc-prio(8), tc-tbf(8), tc-drr(8) and RFC 8290, section 4, for the lists and levels; the bounds are this project's choice.
 use Rattle.std.specs.Prelude.{◌≡◌, ℕ, ◌<◌, ◌≤◌, Bool, not, List, [], All, length, IsSome, is_some}
 use Rattle.std.specs.List.{AllZip, AllPairs}

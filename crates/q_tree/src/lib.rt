@@ -11,7 +11,7 @@
 //! What the tree does is defined in `specs/`: `Node` says what a tree is, `Route` where an arriving packet goes, `Put` what
 //! it does there, `Ask` how a qdisc is peeked and taken from; `QdiscCommands`, `ClassCommands` and `FilterCommands` say what
 //! each command changes and when it is refused, `Edit` what that does to the tree, `Views` what show prints of it, `Lawful`
-//! what every tree keeps. A rule never looks at what a node remembers (`Tally`): it works on the bare tree and says what each
+//! what every tree is to keep. A rule never looks at what a node remembers (`Tally`): it works on the bare tree and says what each
 //! node has to note. So it is all one whether a tree keeps totals or whole histories (`proofs/ShrinkSteps.antt`).
 //!
 //! The contracts of [`NotDone::number`] and [`NotDone::name`] are the table of `specs/NotDone.antt`.

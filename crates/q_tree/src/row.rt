@@ -2,7 +2,7 @@ use crate::totals::Totals;
 
 /// What a node counted, in the manner of `tc -s qdisc show` (tc(8)).
 ///
-/// `arrived` is `sent`, `refused`, `dropped` and `queued` together; `marked` is in no sum.
+/// `arrived` is to be `sent`, `refused`, `dropped` and `queued` together; `marked` is in no sum.
 #[derive(Clone, Copy, PartialEq, Eq, Debug)]
 pub struct Row {
     /// Packets that reached the node.

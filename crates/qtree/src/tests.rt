@@ -1,4 +1,4 @@
-//! Whole runs: scripts with the reports that docs/LANGUAGE.md gives them, and readers and writers that fail.
+//! Whole runs: scripts with the reports that follow from docs/LANGUAGE.md, and readers and writers that fail.
 use crate::run::run;
 use q_script::{MAX_LENGTH, Outcome, RunFault, RunSettings};
 use std::alloc::Global;
