@@ -1,23 +1,30 @@
 ghost use Rattle.std.specs.Io.{ReadsAtMost};
 ghost use Rattle.std.specs.Io.KnownBytes.{ReadConsumes};
 
-use std::io::{Error, ErrorKind, Read};
+use std::io::{ErrorKind, Read};
 
-/// A read that failed, with its error. Only [`read`] makes one, so what holds one was told of a failure by a reader.
-#[derive(Debug, Drop)]
+/// A read that failed, by the kind of its error. Only the call of a reader makes one, so whoever holds one was told of a
+/// failure by a reader.
+#[derive(Clone, Copy, PartialEq, Eq, Debug)]
 pub struct FailedRead {
-    error: Error,
+    kind: ErrorKind,
 }
 
 impl FailedRead {
     ghost use Rattle.std.specs.Prelude.{◌≡◌, ◌↔◌, IsTrue};
-    ghost use Rattle.std.specs.IoError.{error_kind};
+
+    /// The kind of the reader's error.
+    pub fn kind(self) -> ErrorKind
+        ensures { result ≡ self.kind }
+    {
+        self.kind
+    }
 
     /// Whether the read was interrupted, and is to be made again.
-    pub fn is_interrupted(&self) -> bool
-        ensures { IsTrue result ↔ (error_kind self.now.error ≡ ErrorKind.Interrupted) }
+    pub fn is_interrupted(self) -> bool
+        ensures { IsTrue result ↔ (self.kind ≡ ErrorKind.Interrupted) }
     {
-        self.error.kind() == ErrorKind::Interrupted
+        self.kind == ErrorKind::Interrupted
     }
 }
 
@@ -26,5 +33,7 @@ pub fn read<R: Read>(reader: &mut R, chunk: &mut [u8]) -> Result<usize, FailedRe
     ensures bound { ReadsAtMost result chunk.new }
     ensures bytes { ReadConsumes (R.remaining reader.old) (R.remaining reader.new) result chunk.new }
 {
-    reader.read(chunk).map_err(|error| FailedRead { error })
+    reader
+        .read(chunk)
+        .map_err(|error| FailedRead { kind: error.kind() })
 }

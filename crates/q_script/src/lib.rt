@@ -4,7 +4,8 @@
 //!   every script: `pfifo_report settings script starved` of `specs/Session.antt`, for some list `starved` of lines at which
 //!   memory was refused, and nothing else; that the outcome is `Refused` exactly where a line had a fault or was refused; and
 //!   what each `RunFault` leaves.
-//! - [`RunSettings`] are the options of a run, [`Outcome`] and [`RunFault`] what it answers.
+//! - [`RunSettings`] are the options of a run, [`Outcome`] and [`RunFault`] what it answers. The fault of a script that could
+//!   not be read holds a [`FailedRead`], which only the call of a reader makes.
 //!
 //! `specs/Device.antt` is the device, `specs/Session.antt` what each line makes of it and writes, `specs/Text.antt` the texts
 //! and `specs/Settings.antt` the settings. [`Totals`] and [`Refusal`] are public because these definitions name them.
@@ -29,6 +30,7 @@ mod settings;
 mod text;
 mod totals;
 
+pub use failed_read::FailedRead;
 pub use outcome::Outcome;
 pub use refusal::Refusal;
 pub use run_fault::RunFault;

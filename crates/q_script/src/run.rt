@@ -4,6 +4,7 @@ ghost use Rattle.q_line.specs.Script.{lines_of};
 ghost use Rattle.q_script.specs.Session.{IsPfifoReported, IsPartlyPfifoReported};
 ghost use Rattle.q_script.specs.Step.{IsWholeRun, IsPartOfRun};
 
+use crate::failed_read::FailedRead;
 use crate::lines::split_line;
 use crate::outcome::Outcome;
 use crate::output::{Output, WriteFault};
@@ -55,7 +56,7 @@ pub fn run<R: Read, W: Write>(
         IsPfifoReported settings script outcome (W.contents writer.old) (W.contents writer.new))) }
     ensures short { OnOk result (IfSome (R.remaining reader.old) (λ script. length script ≤ 16777216)) }
 
-    ensures read { result ≡ Err RunFault.Read → Keeps (W.contents writer.old) (W.contents writer.new) }
+    ensures read { (failed : FailedRead) → result ≡ Err (RunFault.Read failed) → Keeps (W.contents writer.old) (W.contents writer.new) }
     ensures too_long { result ≡ Err RunFault.TooLong → Keeps (W.contents writer.old) (W.contents writer.new) }
     ensures too_long_only { result ≡ Err RunFault.TooLong → IfSome (R.remaining reader.old) (λ script. 16777216 < length script) }
     ensures memory { result ≡ Err RunFault.Memory → Keeps (W.contents writer.old) (W.contents writer.new) }

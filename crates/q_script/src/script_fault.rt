@@ -5,7 +5,7 @@ use crate::failed_read::FailedRead;
 use crate::run_fault::RunFault;
 
 /// Why a script was not read whole.
-#[derive(Debug, Drop)]
+#[derive(Clone, Copy, PartialEq, Eq, Debug)]
 pub enum ScriptFault {
     /// A read failed, or was interrupted once too often.
     Read(FailedRead),
@@ -20,7 +20,7 @@ impl From<ScriptFault> for RunFault {
         ensures { result ≡ run_fault_of fault }
     {
         match fault {
-            ScriptFault::Read(_) => RunFault::Read,
+            ScriptFault::Read(failed) => RunFault::Read(failed),
             ScriptFault::TooLong => RunFault::TooLong,
             ScriptFault::Memory => RunFault::Memory,
         }

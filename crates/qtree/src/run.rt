@@ -3,7 +3,7 @@ ghost use Rattle.std.specs.Io.KnownBytes.{Keeps};
 ghost use Rattle.q_script.specs.Session.{IsPfifoReported, IsPartlyPfifoReported};
 ghost use Rattle.qtree.specs.Report.{IsReported, IsPartlyReported};
 
-use q_script::{Outcome, RunFault, RunSettings};
+use q_script::{FailedRead, Outcome, RunFault, RunSettings};
 use std::alloc::Global;
 use std::io::{Read, Write};
 
@@ -26,7 +26,7 @@ pub fn run<R: Read, W: Write>(
         IsPfifoReported settings script outcome (W.contents writer.old) (W.contents writer.new))) }
     ensures short { OnOk result (IfSome (R.remaining reader.old) (λ script. length script ≤ 16777216)) }
 
-    ensures read { result ≡ Err RunFault.Read → Keeps (W.contents writer.old) (W.contents writer.new) }
+    ensures read { (failed : FailedRead) → result ≡ Err (RunFault.Read failed) → Keeps (W.contents writer.old) (W.contents writer.new) }
     ensures too_long { result ≡ Err RunFault.TooLong → Keeps (W.contents writer.old) (W.contents writer.new) }
     ensures too_long_only { result ≡ Err RunFault.TooLong → IfSome (R.remaining reader.old) (λ script. 16777216 < length script) }
     ensures memory { result ≡ Err RunFault.Memory → Keeps (W.contents writer.old) (W.contents writer.new) }

@@ -324,6 +324,14 @@ fn long_lines_and_long_reports(rt: HostRuntime) -> Result<(), Fail> {
     Ok(())
 }
 
+/// The kind of the read that failed, where one did.
+fn failed_read(told: Result<Outcome, RunFault>) -> Option<ErrorKind> {
+    match told {
+        Err(RunFault::Read(failed)) => Some(failed.kind()),
+        _ => None,
+    }
+}
+
 #[test]
 fn readers_that_are_slow_or_fail(rt: HostRuntime) {
     let alloc = rt.alloc();
@@ -343,7 +351,11 @@ fn readers_that_are_slow_or_fail(rt: HostRuntime) {
         reader.failing = Some(step);
         let mut written = Vec::new(alloc);
         let told = run(alloc, &mut reader, &mut written, RunSettings::defaults());
-        assert_eq!(rt; told, Err(RunFault::Read), "failing at read {step}");
+        assert_eq!(rt;
+            failed_read(told),
+            Some(ErrorKind::ConnectionReset),
+            "failing at read {step}"
+        );
         assert!(rt; written.is_empty());
     }
 }
@@ -370,7 +382,7 @@ fn interrupted_without_end(rt: HostRuntime) {
     reader.interrupts = usize::MAX;
     let mut written = Vec::new(alloc);
     let told = run(alloc, &mut reader, &mut written, RunSettings::defaults());
-    assert_eq!(rt; told, Err(RunFault::Read));
+    assert_eq!(rt; failed_read(told), Some(ErrorKind::Interrupted));
     assert_eq!(rt; reader.reads, 16_777_218);
     assert!(rt; written.is_empty());
 }
