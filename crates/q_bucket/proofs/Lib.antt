@@ -1,2 +1,1 @@
 pub mod LawLemmas
-pub mod WorkedExamples

@@ -1,5 +1,4 @@
 pub mod Counted
-pub mod Examples
 pub mod Law
 pub mod Least
 pub mod Promises

@@ -2,23 +2,23 @@
 use Rattle.std.proofs.Common.{◌≡◌, ℕ, ◌∙◌, List, [], ◌∷◌, ◌++◌, refl, sym, ap, ap₂, Result, Ok, Err}
 use Rattle.std.specs.Prelude.{max}
 use Rattle.q_packet.specs.Descriptor.{Descriptor}
-use Rattle.q_tree.specs.declared.command.Command.{Command}
-use Rattle.q_tree.specs.declared.not_done.NotDone.{NotDone}
-use Rattle.q_tree.specs.Tally.{Note, Counts, counts_in, history, totals}
-use Rattle.q_tree.specs.Node.{Shape, shape}
-use Rattle.q_tree.specs.Beneath.{is_empty}
-use Rattle.q_tree.specs.Edit.{Edit, lost_by}
-use Rattle.q_tree.specs.TreeState.{put_work, own_loss, given, plan, take_packet}
-use Rattle.q_tree.specs.Ask.{ask}
-use Rattle.q_tree.proofs.ShrinkLemmas.{totals_for_history, shape-with_memory}
-use Rattle.q_tree.proofs.ShrinkSteps.{new_tree-stands, put-stands, take-stands, with_edit-stands}
-use Rattle.q_device.specs.declared.event.Event.{Event}
-use Rattle.q_device.specs.declared.event.Event.TheVariants as event
-use Rattle.q_device.specs.declared.reply.Reply.TheVariants as reply
-use Rattle.q_device.specs.Settings.{DeviceSettings}
-use Rattle.q_device.specs.Step.{DeviceState, Step, losses_in, fate_of, polled_of, arrive, poll, command, answered, step}
-use Rattle.q_device.specs.Replay.{Replay, nothing_yet, with_step, replay_from, replay}
-use Rattle.q_device.specs.Shrink.{shrunk, IsShrunkStep, IsShrunkReplay}
+use Rattle.q_model.specs.declared.command.Command.{Command}
+use Rattle.q_model.specs.declared.not_done.NotDone.{NotDone}
+use Rattle.q_model.specs.Tally.{Note, Counts, counts_in, history, totals}
+use Rattle.q_model.specs.Node.{Shape, shape}
+use Rattle.q_model.specs.Beneath.{is_empty}
+use Rattle.q_model.specs.Edit.{Edit, lost_by}
+use Rattle.q_model.specs.TreeState.{put_work, own_loss, given, plan, take_packet}
+use Rattle.q_model.specs.Ask.{ask}
+use Rattle.q_model.proofs.ShrinkLemmas.{totals_for_history, shape-with_memory}
+use Rattle.q_model.proofs.ShrinkSteps.{new_tree-stands, put-stands, take-stands, with_edit-stands}
+use Rattle.q_model.specs.declared.event.Event.{Event}
+use Rattle.q_model.specs.declared.event.Event.TheVariants as event
+use Rattle.q_model.specs.declared.reply.Reply.TheVariants as reply
+use Rattle.q_model.specs.Settings.{DeviceSettings}
+use Rattle.q_model.specs.Step.{DeviceState, Step, losses_in, fate_of, polled_of, arrive, poll, command, answered, step}
+use Rattle.q_model.specs.Replay.{Replay, nothing_yet, with_step, replay_from, replay}
+use Rattle.q_model.specs.ShrinkDevice.{shrunk, IsShrunkStep, IsShrunkReplay}
 
 -- the shrunk root has the same shape
 same_shape : (d : DeviceState (List Note)) → shape (shrunk d).tree.root ≡ shape d.tree.root

@@ -1,12 +1,12 @@
 -- What is true of every replay, over the definitions in specs/Step.antt and specs/Replay.antt.
 -- Each law speaks of all settings and all lists of events, with whole histories and with totals.
 use Rattle.std.specs.Prelude.{◌≡◌, List, [], ◌∷◌, ◌++◌}
-use Rattle.q_tree.specs.Tally.{Tally, Note, history, totals}
-use Rattle.q_device.specs.declared.event.Event.{Event}
-use Rattle.q_device.specs.Settings.{DeviceSettings}
-use Rattle.q_device.specs.Step.{DeviceState, step}
-use Rattle.q_device.specs.Replay.{replay, with_step}
-use Rattle.q_device.specs.Shrink.{shrunk, IsShrunkStep, IsShrunkReplay}
+use Rattle.q_model.specs.Tally.{Tally, Note, history, totals}
+use Rattle.q_model.specs.declared.event.Event.{Event}
+use Rattle.q_model.specs.Settings.{DeviceSettings}
+use Rattle.q_model.specs.Step.{DeviceState, step}
+use Rattle.q_model.specs.Replay.{replay, with_step}
+use Rattle.q_model.specs.ShrinkDevice.{shrunk, IsShrunkStep, IsShrunkReplay}
 
 -- the replay of a list with an event more is the step of its replay
 abbrev pub GoesOn : {M : Type 0} → Tally M → Type 0

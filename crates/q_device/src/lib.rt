@@ -1,28 +1,22 @@
-//! The model of one device: its clock and its tree, and what events make of them. The code of the device is still to come.
+//! The laws of a device, and the types that its calls speak of. The code of the device is still to come.
 //!
 //! - [`Settings`] are a device's mtu, queue length and recorder.
 //! - An [`Event`] is an arrival, a poll or a command, with its moment. A [`Reply`] is what it is answered: a [`Fate`], a
-//!   [`Polled`], or whether the command was done, else the [`Refusal`].
+//!   [`Polled`], or whether the command was done, else the [`Refusal`]. They are those of `q_model`.
 //! - A [`Lost`] is a packet that was lost, with the cause.
 //!
-//! `specs/Step.antt` says what an event makes of a device, and `specs/Replay.antt` what a list of them does. [`laws`] carries
-//! what is true of every replay: that of a longer list is the step of the replay, and a device that keeps totals does what
-//! one does that keeps whole histories, with the same replies and losses. The worked scripts in `proofs/` compute these
-//! definitions from commands, arrivals and polls to replies, losses and rows.
+//! What an event makes of a device is defined in `q_model` (`specs/Step.antt`), and what a list of them does
+//! (`specs/Replay.antt`). [`laws`] carries what is true of every replay: that of a longer list is the step of the replay, and
+//! a device that keeps totals does what one does that keeps whole histories, with the same replies and losses. `q_rows` has
+//! worked scripts that compute these definitions from commands, arrivals and polls to replies, losses and rows.
 #![tactic(auto)]
 
-mod event;
-mod fate;
 pub mod laws;
-mod polled;
-mod refusal;
-mod reply;
-mod settings;
 
-pub use event::Event;
-pub use fate::Fate;
-pub use polled::Polled;
 pub use q_codel::Loss as Lost;
-pub use refusal::Refusal;
-pub use reply::Reply;
-pub use settings::Settings;
+pub use q_model::Event;
+pub use q_model::Fate;
+pub use q_model::Polled;
+pub use q_model::Refusal;
+pub use q_model::Reply;
+pub use q_model::Settings;

@@ -1,6 +1,5 @@
 pub mod NameLemmas
 pub mod RingLemmas
-mod Rows
 pub mod ScheduleLemmas
 pub mod StateLemmas
 pub mod StretchLemmas

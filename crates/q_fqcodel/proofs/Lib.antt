@@ -1,4 +1,3 @@
-mod Rows
 pub mod ClearedLemmas
 pub mod FatLemmas
 pub mod FlowLemmas

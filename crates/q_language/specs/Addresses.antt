@@ -6,13 +6,13 @@ use Rattle.std.specs.Option.{option_map_or}
 use Rattle.std.specs.Str.{bytes_eq}
 use Rattle.std.specs.Str.Parse.{digits_value}
 use Rattle.q_packet.specs.Least.{least}
-use Rattle.q_tree.specs.declared.class_id.ClassId.{ClassId}
-use Rattle.q_tree.specs.declared.ip_prefix.IpPrefix.{IpPrefix}
-use Rattle.q_tree.specs.declared.ip_version.IpVersion.{IpVersion}
-use Rattle.q_tree.specs.declared.ip_version.IpVersion.TheVariants.{V4, V6}
-use Rattle.q_tree.specs.declared.protocol.Protocol.{Protocol}
-use Rattle.q_tree.specs.declared.protocol.Protocol.TheVariants.{All, Ip, Ipv6}
-use Rattle.q_tree.specs.Filters.{bits_of}
+use Rattle.q_model.specs.declared.class_id.ClassId.{ClassId}
+use Rattle.q_model.specs.declared.ip_prefix.IpPrefix.{IpPrefix}
+use Rattle.q_model.specs.declared.ip_version.IpVersion.{IpVersion}
+use Rattle.q_model.specs.declared.ip_version.IpVersion.TheVariants.{V4, V6}
+use Rattle.q_model.specs.declared.protocol.Protocol.{Protocol}
+use Rattle.q_model.specs.declared.protocol.Protocol.TheVariants.{All, Ip, Ipv6}
+use Rattle.q_model.specs.Filters.{bits_of}
 use Rattle.q_language.specs.Units.{is_point}
 use Rattle.q_line.specs.Values.{is_colon, is_major, is_numeral}
 use Rattle.q_line.specs.declared.wrong.Wrong.{Wrong}

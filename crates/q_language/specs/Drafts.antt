@@ -4,17 +4,17 @@ use Rattle.std.specs.Prelude.{ℕ, ◌+◌, ◌==◌, Bool, false, nat_lt, nat_l
 use Rattle.std.specs.List.{position}
 use Rattle.std.specs.Option.{option_map_or}
 use Rattle.q_packet.specs.declared.ecn.Ecn.{Ecn}
-use Rattle.q_tree.specs.declared.class_id.ClassId.{ClassId}
-use Rattle.q_tree.specs.declared.command.Command.{Command}
-use Rattle.q_tree.specs.declared.command.Command.TheVariants as command
-use Rattle.q_tree.specs.declared.filter_keys.FilterKeys.{FilterKeys}
-use Rattle.q_tree.specs.declared.fq_codel_options.FqCodelOptions.{FqCodelOptions}
-use Rattle.q_tree.specs.declared.kind.Kind.{Kind}
-use Rattle.q_tree.specs.declared.kind.Kind.TheVariants as kind
-use Rattle.q_tree.specs.declared.place.Place.{Place}
-use Rattle.q_tree.specs.declared.protocol.Protocol.{Protocol}
-use Rattle.q_tree.specs.declared.protocol.Protocol.TheVariants.{All}
-use Rattle.q_tree.specs.declared.tbf_limit.TbfLimit.{TbfLimit}
+use Rattle.q_model.specs.declared.class_id.ClassId.{ClassId}
+use Rattle.q_model.specs.declared.command.Command.{Command}
+use Rattle.q_model.specs.declared.command.Command.TheVariants as command
+use Rattle.q_model.specs.declared.filter_keys.FilterKeys.{FilterKeys}
+use Rattle.q_model.specs.declared.fq_codel_options.FqCodelOptions.{FqCodelOptions}
+use Rattle.q_model.specs.declared.kind.Kind.{Kind}
+use Rattle.q_model.specs.declared.kind.Kind.TheVariants as kind
+use Rattle.q_model.specs.declared.place.Place.{Place}
+use Rattle.q_model.specs.declared.protocol.Protocol.{Protocol}
+use Rattle.q_model.specs.declared.protocol.Protocol.TheVariants.{All}
+use Rattle.q_model.specs.declared.tbf_limit.TbfLimit.{TbfLimit}
 use Rattle.q_language.specs.Addresses.{Address}
 
 -- what a tc line does, and the kinds by name

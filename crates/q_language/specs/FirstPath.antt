@@ -3,12 +3,12 @@
 use Rattle.std.specs.Prelude.{◌≡◌, ℕ, Bool, List, [], ◌∷◌, codes, Result, Ok, Err}
 use Rattle.std.specs.List.{list_any}
 use Rattle.std.specs.Str.{bytes_eq}
-use Rattle.q_tree.specs.declared.command.Command.{Command as WholeCommand}
-use Rattle.q_tree.specs.declared.command.Command.TheVariants as in_whole_command
-use Rattle.q_tree.specs.declared.kind.Kind.{Kind as WholeKind}
-use Rattle.q_tree.specs.declared.kind.Kind.TheVariants as in_whole_kind
-use Rattle.q_tree.specs.declared.place.Place.{Place as WholePlace}
-use Rattle.q_tree.specs.declared.place.Place.TheVariants as in_whole_place
+use Rattle.q_model.specs.declared.command.Command.{Command as WholeCommand}
+use Rattle.q_model.specs.declared.command.Command.TheVariants as in_whole_command
+use Rattle.q_model.specs.declared.kind.Kind.{Kind as WholeKind}
+use Rattle.q_model.specs.declared.kind.Kind.TheVariants as in_whole_kind
+use Rattle.q_model.specs.declared.place.Place.{Place as WholePlace}
+use Rattle.q_model.specs.declared.place.Place.TheVariants as in_whole_place
 use Rattle.q_language.specs.declared.line.Line.{Line as WholeLine}
 use Rattle.q_language.specs.declared.line.Line.TheVariants as in_whole_line
 use Rattle.q_language.specs.declared.object.Object.TheVariants as object

@@ -8,14 +8,14 @@ use Rattle.q_packet.specs.Ecn.{ecn_of}
 use Rattle.q_packet.specs.Head.{head as head_in}
 use Rattle.q_packet.specs.Key.{Key}
 use Rattle.q_packet.specs.declared.ecn.Ecn.TheVariants.{NotEct}
-use Rattle.q_tree.specs.declared.ip_prefix.IpPrefix.{IpPrefix}
-use Rattle.q_tree.specs.declared.ip_version.IpVersion.{IpVersion}
-use Rattle.q_tree.specs.declared.ip_version.IpVersion.TheVariants.{V4, V6}
-use Rattle.q_tree.specs.declared.place.Place.TheVariants as place
-use Rattle.q_tree.specs.declared.protocol.Protocol.{Protocol}
-use Rattle.q_tree.specs.declared.protocol.Protocol.TheVariants.{All, Ip, Ipv6}
-use Rattle.q_tree.specs.declared.tbf_limit.TbfLimit.TheVariants as tbf_limit
-use Rattle.q_tree.specs.Filters.{family_of}
+use Rattle.q_model.specs.declared.ip_prefix.IpPrefix.{IpPrefix}
+use Rattle.q_model.specs.declared.ip_version.IpVersion.{IpVersion}
+use Rattle.q_model.specs.declared.ip_version.IpVersion.TheVariants.{V4, V6}
+use Rattle.q_model.specs.declared.place.Place.TheVariants as place
+use Rattle.q_model.specs.declared.protocol.Protocol.{Protocol}
+use Rattle.q_model.specs.declared.protocol.Protocol.TheVariants.{All, Ip, Ipv6}
+use Rattle.q_model.specs.declared.tbf_limit.TbfLimit.TheVariants as tbf_limit
+use Rattle.q_model.specs.Filters.{family_of}
 use Rattle.q_line.specs.Words.{words_in, is_blank_line}
 use Rattle.q_line.specs.Values.{is_numeral, number_in, handle_of, name_of}
 use Rattle.q_language.specs.Units.{rate_in, size_in, time_in}

@@ -1,7 +1,7 @@
 -- Where a word of a line stands, with what the words to its left have said, and which words stand there.
 -- The profile of tc's lines is this project's, after tc(8) and the pages of the disciplines.
 use Rattle.std.specs.Prelude.{ℕ, Bool, true, false, ◌++◌, List, [], ◌∷◌, codes, if◌then◌else◌, Option, Some, None, Result, Ok, Err, is_some}
-use Rattle.q_tree.specs.declared.place.Place.TheVariants as place
+use Rattle.q_model.specs.declared.place.Place.TheVariants as place
 use Rattle.q_language.specs.declared.line.Line.{Line}
 use Rattle.q_language.specs.declared.line.Line.TheVariants as line
 use Rattle.q_language.specs.declared.show.Show.{Show}

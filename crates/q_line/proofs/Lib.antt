@@ -5,5 +5,4 @@ pub mod Steps
 pub mod Leftmost
 pub mod SpelledWords
 pub mod SpelledLines
-pub mod Examples
 pub mod Order

@@ -1,4 +1,3 @@
-pub mod Examples
 pub mod FaultText
 pub mod Grammar
 pub mod Laws

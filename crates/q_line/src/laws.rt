@@ -1,6 +1,5 @@
 //! What holds of the grammar as a whole. Each law is the contract of a function that does nothing.
 
-ghost use Rattle.q_line.specs.Examples.{WorkedExamples};
 ghost use Rattle.q_line.specs.Settings.{OrderIsFree};
 ghost use Rattle.q_line.specs.Laws.{FaultsAreLeftmost, SpellingsAreRead};
 
@@ -13,11 +12,6 @@ pub fn faults_are_leftmost()
 /// Each line whose numbers are in range can be written, and is read as itself.
 pub fn spellings_are_read()
     ensures { SpellingsAreRead }
-{}
-
-/// The definitions, computed on worked lines.
-pub fn examples_are_computed()
-    ensures { WorkedExamples }
 {}
 
 /// The settings of a head can stand in any order: two neighbours can change places in every line that is read.

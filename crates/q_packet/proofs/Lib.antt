@@ -1,4 +1,3 @@
-mod Examples
 pub mod HeadLemmas
 pub mod KeyLemmas
 pub mod LeastLemmas

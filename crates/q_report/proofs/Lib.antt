@@ -1,7 +1,2 @@
-mod CoDelRows
-mod FqCodelRows
-mod LargeRows
 pub mod ReportLemmas
-mod Rows
-mod RuleRows
 mod ShownLemmas

@@ -2,20 +2,20 @@
 use Rattle.std.proofs.Common.{◌≡◌, ℕ, zero, suc, ◌∙◌, Bool, true, false, List, [], ◌∷◌, ◌++◌, refl, sym, ap, ap₂, subst, Result, Ok, Err}
 use Rattle.q_packet.specs.Descriptor.{Descriptor}
 use Rattle.q_codel.specs.declared.loss.Loss.{Loss}
-use Rattle.q_tree.specs.declared.command.Command.{Command}
-use Rattle.q_tree.specs.declared.not_done.NotDone.{NotDone}
-use Rattle.q_tree.specs.Tally.{Note, Counts, counts_in, history, totals}
-use Rattle.q_tree.specs.Node.{Shape, shape}
-use Rattle.q_tree.specs.Edit.{Edit, lost_by}
-use Rattle.q_tree.specs.TreeState.{TreeState, plan, given, take_packet}
-use Rattle.q_tree.specs.Ask.{ask}
-use Rattle.q_tree.specs.Beneath.{is_empty, row_of}
-use Rattle.q_tree.proofs.ShrinkLemmas.{totals_for_history, shape-with_memory}
-use Rattle.q_tree.proofs.ShrinkSteps.{new_tree-stands, take-stands, with_edit-stands}
-use Rattle.q_device.specs.declared.event.Event.TheVariants as event
-use Rattle.q_device.specs.Settings.{DeviceSettings}
-use Rattle.q_device.specs.Step.{DeviceState, Step, losses_in, polled_of, arrive, poll, done, counts_at}
-use Rattle.q_device.specs.Shrink.{shrunk, IsShrunkStep}
+use Rattle.q_model.specs.declared.command.Command.{Command}
+use Rattle.q_model.specs.declared.not_done.NotDone.{NotDone}
+use Rattle.q_model.specs.Tally.{Note, Counts, counts_in, history, totals}
+use Rattle.q_model.specs.Node.{Shape, shape}
+use Rattle.q_model.specs.Edit.{Edit, lost_by}
+use Rattle.q_model.specs.TreeState.{TreeState, plan, given, take_packet}
+use Rattle.q_model.specs.Ask.{ask}
+use Rattle.q_model.specs.Beneath.{is_empty, row_of}
+use Rattle.q_model.proofs.ShrinkLemmas.{totals_for_history, shape-with_memory}
+use Rattle.q_model.proofs.ShrinkSteps.{new_tree-stands, take-stands, with_edit-stands}
+use Rattle.q_model.specs.declared.event.Event.TheVariants as event
+use Rattle.q_model.specs.Settings.{DeviceSettings}
+use Rattle.q_model.specs.Step.{DeviceState, Step, losses_in, polled_of, arrive, poll, done, counts_at}
+use Rattle.q_model.specs.ShrinkDevice.{shrunk, IsShrunkStep}
 use Rattle.q_device.proofs.ShrinkLemmas.{step-shrunk}
 use Rattle.q_language.specs.Grammar.{line_in}
 use Rattle.q_language.specs.declared.arrival.Arrival.{Arrival}

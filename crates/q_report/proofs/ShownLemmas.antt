@@ -4,19 +4,19 @@ use Rattle.std.specs.Prelude.{drop, slice_get, unwrap_or}
 use Rattle.std.specs.List.{flat_map}
 use Rattle.std.proofs.lemmas.Grind.{flat_map-append}
 use Rattle.q_packet.specs.Descriptor.{Descriptor}
-use Rattle.q_tree.specs.declared.class_id.ClassId.{ClassId}
-use Rattle.q_tree.specs.declared.class_view.ClassView.{ClassView}
-use Rattle.q_tree.specs.declared.node_view.NodeView.{NodeView}
-use Rattle.q_tree.specs.declared.place.Place.{Place}
-use Rattle.q_tree.specs.declared.place.Place.TheVariants as place
-use Rattle.q_tree.specs.Tally.{Note, Counts, counts_in, history, totals}
-use Rattle.q_tree.specs.Node.{Own, Forest, none, more, Node, nodes_in, each_memory, with_memory}
-use Rattle.q_tree.specs.Beneath.{beneath_own, beneath, row_of}
-use Rattle.q_tree.specs.Conserved.{nodes_of, every_node}
-use Rattle.q_tree.specs.Views.{qdisc_view, ids_of, class_kind, class_views, filter_views, places_below, node_view, views_in}
-use Rattle.q_tree.proofs.ShrinkLemmas.{each-each_memory}
-use Rattle.q_device.specs.Step.{DeviceState}
-use Rattle.q_device.specs.Shrink.{shrunk}
+use Rattle.q_model.specs.declared.class_id.ClassId.{ClassId}
+use Rattle.q_model.specs.declared.class_view.ClassView.{ClassView}
+use Rattle.q_model.specs.declared.node_view.NodeView.{NodeView}
+use Rattle.q_model.specs.declared.place.Place.{Place}
+use Rattle.q_model.specs.declared.place.Place.TheVariants as place
+use Rattle.q_model.specs.Tally.{Note, Counts, counts_in, history, totals}
+use Rattle.q_model.specs.Node.{Own, Forest, none, more, Node, nodes_in, each_memory, with_memory}
+use Rattle.q_model.specs.Beneath.{beneath_own, beneath, row_of}
+use Rattle.q_model.specs.Conserved.{nodes_of, every_node}
+use Rattle.q_model.specs.Views.{qdisc_view, ids_of, class_kind, class_views, filter_views, places_below, node_view, views_in}
+use Rattle.q_model.proofs.ShrinkLemmas.{each-each_memory}
+use Rattle.q_model.specs.Step.{DeviceState}
+use Rattle.q_model.specs.ShrinkDevice.{shrunk}
 use Rattle.q_language.specs.declared.show.Show.{Show}
 use Rattle.q_language.specs.declared.object.Object.{Object}
 use Rattle.q_language.specs.declared.object.Object.TheVariants as object

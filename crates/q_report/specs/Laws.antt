@@ -1,9 +1,9 @@
 -- What holds of every report: a session whose nodes keep totals writes what one whose nodes keep whole histories writes.
 -- So a program that keeps totals alone can write the report that is defined over histories.
 use Rattle.std.specs.Prelude.{◌≡◌, ℕ, Bool, List}
-use Rattle.q_tree.specs.Tally.{Note, Counts, history, totals}
-use Rattle.q_device.specs.Settings.{DeviceSettings}
-use Rattle.q_device.specs.Shrink.{shrunk}
+use Rattle.q_model.specs.Tally.{Note, Counts, history, totals}
+use Rattle.q_model.specs.Settings.{DeviceSettings}
+use Rattle.q_model.specs.ShrinkDevice.{shrunk}
 use Rattle.q_report.specs.Report.{SessionState, Effect, replay_with}
 
 -- the same session, where each node keeps totals in place of its history

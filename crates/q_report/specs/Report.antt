@@ -7,18 +7,18 @@ use Rattle.q_packet.specs.Key.{key_bytes}
 use Rattle.q_packet.specs.declared.head.Head.{Head}
 use Rattle.q_packet.specs.OneAtATime.{one_at_a_time}
 use Rattle.q_codel.specs.declared.loss.Loss.{Loss}
-use Rattle.q_tree.specs.declared.command.Command.{Command}
-use Rattle.q_tree.specs.declared.not_done.NotDone.{NotDone}
-use Rattle.q_tree.specs.declared.not_done.NotDone.TheVariants.{Memory}
-use Rattle.q_tree.specs.Edit.{Edit}
-use Rattle.q_tree.specs.Node.{shape}
-use Rattle.q_tree.specs.Tally.{Tally, Note, history}
-use Rattle.q_tree.specs.TreeState.{plan, given}
-use Rattle.q_tree.specs.Beneath.{is_empty, beneath, row_of}
-use Rattle.q_tree.specs.Conserved.{every_node}
-use Rattle.q_tree.specs.Views.{views, class_views, filter_views}
-use Rattle.q_device.specs.Settings.{DeviceSettings}
-use Rattle.q_device.specs.Step.{DeviceState, Step, new_device, arrive, poll, done, counts_at, polled_of}
+use Rattle.q_model.specs.declared.command.Command.{Command}
+use Rattle.q_model.specs.declared.not_done.NotDone.{NotDone}
+use Rattle.q_model.specs.declared.not_done.NotDone.TheVariants.{Memory}
+use Rattle.q_model.specs.Edit.{Edit}
+use Rattle.q_model.specs.Node.{shape}
+use Rattle.q_model.specs.Tally.{Tally, Note, history}
+use Rattle.q_model.specs.TreeState.{plan, given}
+use Rattle.q_model.specs.Beneath.{is_empty, beneath, row_of}
+use Rattle.q_model.specs.Conserved.{every_node}
+use Rattle.q_model.specs.Views.{views, class_views, filter_views}
+use Rattle.q_model.specs.Settings.{DeviceSettings}
+use Rattle.q_model.specs.Step.{DeviceState, Step, new_device, arrive, poll, done, counts_at, polled_of}
 use Rattle.q_language.specs.Grammar.{line_in, every_word}
 use Rattle.q_language.specs.declared.arrival.Arrival.{Arrival}
 use Rattle.q_language.specs.declared.line.Line.{Line}

@@ -9,28 +9,28 @@ use Rattle.q_packet.specs.Cause.{cause_name}
 use Rattle.q_packet.specs.Ecn.{codepoint}
 use Rattle.q_codel.specs.declared.loss.Loss.{Loss}
 use Rattle.q_fqcodel.specs.FqState.{FqSettings}
-use Rattle.q_tree.specs.declared.class_id.ClassId.{ClassId}
-use Rattle.q_tree.specs.declared.class_kind.ClassKind.{ClassKind}
-use Rattle.q_tree.specs.declared.class_kind.ClassKind.TheVariants as class
-use Rattle.q_tree.specs.declared.class_view.ClassView.{ClassView}
-use Rattle.q_tree.specs.declared.filter_keys.FilterKeys.{FilterKeys}
-use Rattle.q_tree.specs.declared.filter_view.FilterView.{FilterView}
-use Rattle.q_tree.specs.declared.ip_prefix.IpPrefix.{IpPrefix}
-use Rattle.q_tree.specs.declared.ip_version.IpVersion.{IpVersion}
-use Rattle.q_tree.specs.declared.ip_version.IpVersion.TheVariants.{V4, V6}
-use Rattle.q_tree.specs.declared.node_view.NodeView.{NodeView}
-use Rattle.q_tree.specs.declared.not_done.NotDone.{NotDone}
-use Rattle.q_tree.specs.declared.place.Place.{Place}
-use Rattle.q_tree.specs.declared.place.Place.TheVariants as place
-use Rattle.q_tree.specs.declared.protocol.Protocol.{Protocol}
-use Rattle.q_tree.specs.declared.protocol.Protocol.TheVariants.{All, Ip, Ipv6}
-use Rattle.q_tree.specs.declared.qdisc_view.QdiscView.{QdiscView}
-use Rattle.q_tree.specs.declared.qdisc_view.QdiscView.TheVariants as qdisc
-use Rattle.q_tree.specs.declared.row.Row.{Row}
-use Rattle.q_tree.specs.declared.totals.Totals.{Totals}
-use Rattle.q_tree.specs.NotDone.{refusal_number, refusal_name}
-use Rattle.q_device.specs.declared.polled.Polled.{Polled}
-use Rattle.q_device.specs.declared.polled.Polled.TheVariants as polled
+use Rattle.q_model.specs.declared.class_id.ClassId.{ClassId}
+use Rattle.q_model.specs.declared.class_kind.ClassKind.{ClassKind}
+use Rattle.q_model.specs.declared.class_kind.ClassKind.TheVariants as class
+use Rattle.q_model.specs.declared.class_view.ClassView.{ClassView}
+use Rattle.q_model.specs.declared.filter_keys.FilterKeys.{FilterKeys}
+use Rattle.q_model.specs.declared.filter_view.FilterView.{FilterView}
+use Rattle.q_model.specs.declared.ip_prefix.IpPrefix.{IpPrefix}
+use Rattle.q_model.specs.declared.ip_version.IpVersion.{IpVersion}
+use Rattle.q_model.specs.declared.ip_version.IpVersion.TheVariants.{V4, V6}
+use Rattle.q_model.specs.declared.node_view.NodeView.{NodeView}
+use Rattle.q_model.specs.declared.not_done.NotDone.{NotDone}
+use Rattle.q_model.specs.declared.place.Place.{Place}
+use Rattle.q_model.specs.declared.place.Place.TheVariants as place
+use Rattle.q_model.specs.declared.protocol.Protocol.{Protocol}
+use Rattle.q_model.specs.declared.protocol.Protocol.TheVariants.{All, Ip, Ipv6}
+use Rattle.q_model.specs.declared.qdisc_view.QdiscView.{QdiscView}
+use Rattle.q_model.specs.declared.qdisc_view.QdiscView.TheVariants as qdisc
+use Rattle.q_model.specs.declared.row.Row.{Row}
+use Rattle.q_model.specs.declared.totals.Totals.{Totals}
+use Rattle.q_model.specs.NotDone.{refusal_number, refusal_name}
+use Rattle.q_model.specs.declared.polled.Polled.{Polled}
+use Rattle.q_model.specs.declared.polled.Polled.TheVariants as polled
 use Rattle.q_line.specs.Script.{newline, line_text}
 
 abbrev pub hex : ℕ → List ℕ

@@ -1,6 +1,5 @@
 pub mod Conserved
 pub mod Device
-pub mod Examples
 pub mod Insides
 pub mod RunFault
 pub mod Session

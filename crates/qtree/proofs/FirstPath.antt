@@ -3,8 +3,8 @@
 use Rattle.std.proofs.Common.{if◌then◌else◌, ◌≡◌, ℕ, suc, Bool, true, false, List, [], ◌∷◌, ◌++◌, refl, sym, ap, ◌∙◌, subst, append_assoc, arith}
 use Rattle.q_codel.specs.declared.loss.Loss.{Loss}
 use Rattle.q_line.specs.Grammar.{line_of}
-use Rattle.q_tree.specs.Tally.{Counts}
-use Rattle.q_tree.specs.Tally as tree
+use Rattle.q_model.specs.Tally.{Counts}
+use Rattle.q_model.specs.Tally as tree
 use Rattle.q_language.specs.Grammar.{line_in}
 use Rattle.q_language.specs.FirstPath.{is_first_word, whole_answer, FirstPathIsPart}
 use Rattle.q_report.specs.Laws.{TotalsAreEnough}

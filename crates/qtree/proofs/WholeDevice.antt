@@ -9,26 +9,26 @@ use Rattle.q_packet.specs.declared.cause.Cause.TheVariants.{TooLong, OverLimit, 
 use Rattle.q_codel.specs.FifoState.{takes}
 use Rattle.q_codel.specs.declared.limit.Limit.{Limit}
 use Rattle.q_codel.specs.declared.limit.Limit.TheVariants.{Packets, Bytes}
-use Rattle.q_tree.specs.declared.totals.Totals.{Totals as WholeTotals}
-use Rattle.q_tree.specs.declared.command.Command.TheVariants as whole_command
-use Rattle.q_tree.specs.declared.kind.Kind.TheVariants as whole_kind
-use Rattle.q_tree.specs.declared.place.Place.TheVariants as whole_place
-use Rattle.q_tree.specs.declared.not_done.NotDone.TheVariants as not_done
-use Rattle.q_tree.specs.Tally.{Counts, Arrived, Lost, no_totals, noted}
-use Rattle.q_tree.specs.Tally as tree
-use Rattle.q_tree.specs.Node.{Own, Fifo, none, Node, Shape, shape}
-use Rattle.q_tree.specs.Beneath.{packets_of, is_empty}
-use Rattle.q_tree.specs.Route.{Route, ends, refused}
-use Rattle.q_tree.specs.Work.{Work, quiet, losses_of}
-use Rattle.q_tree.specs.Put.{put_along}
-use Rattle.q_tree.specs.Make.{Device, made}
-use Rattle.q_tree.specs.Edit.{Edit, Graft}
-use Rattle.q_tree.specs.TreeState.{TreeState, put, with_work, take_packet, plan, with_edit}
-use Rattle.q_tree.specs.TreeState as tree_state
-use Rattle.q_device.specs.Step as whole
-use Rattle.q_device.specs.Step.{polled_of}
-use Rattle.q_device.specs.declared.polled.Polled.{Polled}
-use Rattle.q_device.specs.declared.polled.Polled.TheVariants as polled_as
+use Rattle.q_model.specs.declared.totals.Totals.{Totals as WholeTotals}
+use Rattle.q_model.specs.declared.command.Command.TheVariants as whole_command
+use Rattle.q_model.specs.declared.kind.Kind.TheVariants as whole_kind
+use Rattle.q_model.specs.declared.place.Place.TheVariants as whole_place
+use Rattle.q_model.specs.declared.not_done.NotDone.TheVariants as not_done
+use Rattle.q_model.specs.Tally.{Counts, Arrived, Lost, no_totals, noted}
+use Rattle.q_model.specs.Tally as tree
+use Rattle.q_model.specs.Node.{Own, Fifo, none, Node, Shape, shape}
+use Rattle.q_model.specs.Beneath.{packets_of, is_empty}
+use Rattle.q_model.specs.Route.{Route, ends, refused}
+use Rattle.q_model.specs.Work.{Work, quiet, losses_of}
+use Rattle.q_model.specs.Put.{put_along}
+use Rattle.q_model.specs.Make.{Device, made}
+use Rattle.q_model.specs.Edit.{Edit, Graft}
+use Rattle.q_model.specs.TreeState.{TreeState, put, with_work, take_packet, plan, with_edit}
+use Rattle.q_model.specs.TreeState as tree_state
+use Rattle.q_model.specs.Step as whole
+use Rattle.q_model.specs.Step.{polled_of}
+use Rattle.q_model.specs.declared.polled.Polled.{Polled}
+use Rattle.q_model.specs.declared.polled.Polled.TheVariants as polled_as
 use Rattle.q_language.specs.declared.arrival.Arrival.{Arrival}
 use Rattle.q_report.specs.Report.{numbered_packet}
 use Rattle.q_script.specs.declared.totals.Totals.{Totals}

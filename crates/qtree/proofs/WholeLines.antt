@@ -2,13 +2,13 @@
 -- Memory is refused in the whole model where it is refused here and a packet would be queued.
 use Rattle.std.proofs.Common.{if◌then◌else◌, ◌≡◌, ℕ, zero, suc, max, Bool, true, false, ◌&&◌, List, [], ◌++◌, Option, Result, Ok, Err, refl, ap, ◌∙◌}
 use Rattle.q_codel.specs.declared.loss.Loss.{Loss}
-use Rattle.q_tree.specs.declared.not_done.NotDone.TheVariants as not_done
-use Rattle.q_tree.specs.Tally.{Counts}
-use Rattle.q_tree.specs.Tally as tree
-use Rattle.q_tree.specs.Node.{shape}
-use Rattle.q_tree.specs.Edit.{lost_by}
-use Rattle.q_tree.specs.TreeState.{TreeState, noted_by_put, noted_by_take}
-use Rattle.q_device.specs.Step.{losses_in, poll}
+use Rattle.q_model.specs.declared.not_done.NotDone.TheVariants as not_done
+use Rattle.q_model.specs.Tally.{Counts}
+use Rattle.q_model.specs.Tally as tree
+use Rattle.q_model.specs.Node.{shape}
+use Rattle.q_model.specs.Edit.{lost_by}
+use Rattle.q_model.specs.TreeState.{TreeState, noted_by_put, noted_by_take}
+use Rattle.q_model.specs.Step.{losses_in, poll}
 use Rattle.q_line.specs.declared.line_fault.LineFault.{LineFault}
 use Rattle.q_line.specs.declared.line.Line.{Line}
 use Rattle.q_line.specs.declared.line.Line.TheVariants.{Blank, Tc, Show, At, Pkt, Poll}

@@ -7,13 +7,13 @@ use Rattle.q_packet.specs.Totals.{count, size}
 use Rattle.q_packet.specs.declared.stamped.Stamped.{Stamped}
 use Rattle.q_codel.specs.declared.limit.Limit.{Limit}
 use Rattle.q_codel.specs.declared.limit.Limit.TheVariants.{Packets, Bytes}
-use Rattle.q_tree.specs.declared.node_view.NodeView.{NodeView}
-use Rattle.q_tree.specs.declared.not_done.NotDone.TheVariants as not_done
-use Rattle.q_tree.specs.declared.place.Place.TheVariants as place
-use Rattle.q_tree.specs.declared.totals.Totals.{Totals as WholeTotals}
-use Rattle.q_tree.specs.Tally as tree
-use Rattle.q_tree.specs.Beneath.{packets_of, totals_in, beneath, row_of}
-use Rattle.q_tree.specs.Views.{views, node_view}
+use Rattle.q_model.specs.declared.node_view.NodeView.{NodeView}
+use Rattle.q_model.specs.declared.not_done.NotDone.TheVariants as not_done
+use Rattle.q_model.specs.declared.place.Place.TheVariants as place
+use Rattle.q_model.specs.declared.totals.Totals.{Totals as WholeTotals}
+use Rattle.q_model.specs.Tally as tree
+use Rattle.q_model.specs.Beneath.{packets_of, totals_in, beneath, row_of}
+use Rattle.q_model.specs.Views.{views, node_view}
 use Rattle.q_report.specs.Text as whole_text
 use Rattle.q_line.specs.Script.{newline, line_text}
 use Rattle.q_script.specs.declared.totals.Totals.{Totals}

@@ -2,8 +2,8 @@
 -- Every other word is a fault until the program speaks it. Memory may be refused at some lines; such a line says so.
 use Rattle.std.specs.Prelude.{◌≡◌, ℕ, List, Option, if◌then◌else◌}
 use Rattle.std.specs.Io.KnownBytes.{Appends}
-use Rattle.q_tree.specs.Tally.{Note}
-use Rattle.q_device.specs.Settings.{DeviceSettings}
+use Rattle.q_model.specs.Tally.{Note}
+use Rattle.q_model.specs.Settings.{DeviceSettings}
 use Rattle.q_language.specs.FirstPath.{is_first_word}
 use Rattle.q_report.specs.Report.{Effect, replay_in}
 use Rattle.q_script.specs.declared.outcome.Outcome.{Outcome}

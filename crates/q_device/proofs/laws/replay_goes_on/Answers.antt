@@ -1,5 +1,5 @@
-use Rattle.q_tree.specs.Tally.{history, totals}
-use Rattle.q_device.specs.Replay.{nothing_yet}
+use Rattle.q_model.specs.Tally.{history, totals}
+use Rattle.q_model.specs.Replay.{nothing_yet}
 use Rattle.q_device.proofs.ReplayLemmas.{replay_from-append}
 use Rattle.q_device.proofs.laws.replay_goes_on.Goals as goal
 

@@ -1,0 +1,194 @@
+-- What a node shows when it is peeked, what is left of it then, and what is left once it gives that packet.
+-- tc-prio(8), tc-tbf(8), tc-drr(8), tc-fq_codel(8); that tbf, drr and fq_codel hold what they show is this project's choice.
+use Rattle.std.specs.Prelude.{ℕ, suc, Bool, ◌==◌, if◌then◌else◌, List, [], ◌∷◌, ◌++◌, map, take, drop, Option, Some, None, is_some, option_map, option_and_then, slice_get, set}
+use Rattle.std.specs.List.{flat_map, list_any, position_or_len, zip}
+use Rattle.std.specs.Option.{option_map_or, option_to_list}
+use Rattle.q_packet.specs.Descriptor.{Descriptor}
+use Rattle.q_packet.specs.declared.stamped.Stamped.{Stamped}
+use Rattle.q_packet.specs.declared.cause.Cause.TheVariants.{CoDel}
+use Rattle.q_codel.specs.declared.limit.Limit.{Limit}
+use Rattle.q_codel.specs.declared.taken.Taken.{Taken}
+use Rattle.q_fqcodel.specs.FqState.{FqState}
+use Rattle.q_fqcodel.specs.Take.{selected, sent_from, dropped_from, after_sending}
+use Rattle.q_bucket.specs.Level.{TokenBucket, allows, after_spend}
+use Rattle.q_drr.specs.Schedule.{Class, Entry, Schedule}
+use Rattle.q_drr.specs.Take.{met, served}
+use Rattle.q_drr.specs.declared.met.Met.{Met}
+use Rattle.q_model.specs.Tally.{Note, Sent, Marked, Spent}
+use Rattle.q_model.specs.Node.{Discipline, Fifo, Prio, Tbf, Drr, FqCodel, Own, Shape, from_below}
+use Rattle.q_model.specs.Beneath.{packets_of, is_empty}
+use Rattle.q_model.specs.Route.{class_at}
+use Rattle.q_model.specs.Work.{Work, Worked, worked, losses_of, settled_class}
+use Rattle.q_model.specs.Grants.{choice_of, asked_entries, granted_notes}
+use Rattle.q_model.specs.Quanta.{flow_notes}
+
+-- What asking a node comes to. `before`: it was not asked. `peeked`: it was asked for its packet, and shows it. `given`: it
+-- was asked and has given that packet. `rises`: what each node above has to note once it was asked.
+pub record Asked : Type 0 where
+  pub before : Worked
+  pub peeked : Worked
+  pub shown : Option Descriptor
+  pub given : Worked
+  pub rises : List Note
+
+abbrev pub befores : List Asked → List Worked
+befores asked = map (λ (a : Asked). a.before) asked
+
+-- it shows what it has at hand, and gives that
+abbrev pub showing : Own → Own → List Worked → List Worked → List Worked → List Note → Option Descriptor → Asked
+showing own own_given below peeked given notes shown = record {
+  before = worked own [] below;
+  peeked = worked own notes peeked;
+  shown = shown;
+  given = worked own_given (notes ++ map Sent (option_to_list shown)) given;
+  rises = notes;
+}
+
+-- a node that holds a packet gives that one, and nobody beneath it is asked
+abbrev pub holding : Own → List Asked → Descriptor → Asked
+holding own below p =
+    let same = befores below in
+    showing own (record own { held = None }) same same same [] (Some p)
+
+-- a fifo shows its head
+abbrev pub ask_fifo : Own → List Asked → Limit → List Stamped → Asked
+ask_fifo own below limit queue =
+    let same = befores below in
+    showing own (record own { discipline = Fifo limit (drop 1 queue) }) same same same [] (slice_get (packets_of queue) 0)
+
+-- A prio asks its bands in order, up to the first that shows a packet, and shows that one.
+abbrev pub ask_prio : Own → List Asked → Asked
+ask_prio own below =
+    let k = position_or_len (λ (a : Asked). is_some a.shown) below in
+    let asked = take (suc k) below in
+    let others = befores (drop (suc k) below) in
+    let passed = map (λ (a : Asked). a.peeked) (take k below) in
+    let band = drop k asked in
+    showing own own (befores below)
+    (passed ++ map (λ (a : Asked). a.peeked) band ++ others)
+    (passed ++ map (λ (a : Asked). a.given) band ++ others)
+    (flat_map (λ (a : Asked). a.rises) asked)
+    (option_and_then (λ (a : Asked). a.shown) (slice_get below k))
+
+-- a node has dequeued a packet, or nothing, and holds it: `own` and `after` are what it was and is, and `notes` go on to the
+-- nodes above, `mine` do not
+abbrev pub dequeued : Own → List Asked → Own → List Worked → List Note → List Note → Option Descriptor → Asked
+dequeued own below after peeked notes mine shown = record {
+  before = worked own [] (befores below);
+  peeked = worked (record after { held = shown }) (notes ++ mine) peeked;
+  shown = shown;
+  given = worked (record after { held = None }) (notes ++ mine ++ map Sent (option_to_list shown)) peeked;
+  rises = notes;
+}
+
+-- A tbf asks its child; where the bucket allows the packet that is shown, it spends its length and takes the packet.
+abbrev pub spends : Own → List Asked → TokenBucket → ℕ → ℕ → Asked → Descriptor → Asked
+spends own below bucket limit now child p =
+    dequeued own below (record own { discipline = Tbf (after_spend bucket now p.len) limit }) (child.given ∷ []) child.rises (Spent p.len ∷ []) (Some p)
+
+abbrev pub waits : Own → List Asked → Asked → Asked
+waits own below child = dequeued own below own (child.peeked ∷ []) child.rises [] None
+
+abbrev pub ask_child : ℕ → Own → List Asked → TokenBucket → ℕ → Asked → Asked
+ask_child now own below bucket limit child =
+    option_map_or (λ (p : Descriptor). if allows bucket now p.len then spends own below bucket limit now child p else waits own below child)
+    child.shown (waits own below child)
+
+abbrev pub ask_tbf : ℕ → Own → List Asked → TokenBucket → ℕ → Asked
+ask_tbf now own below bucket limit =
+    option_map_or (ask_child now own below bucket limit) (slice_get below 0) (dequeued own below own [] [] [] None)
+
+-- the answer of a drr's class, by its number
+abbrev pub class_answer : Schedule → List Asked → ℕ → Option Asked
+class_answer s below name = option_and_then (slice_get below) (class_at name s)
+
+abbrev pub is_among : List Entry → Class → Bool
+is_among entries c = list_any (λ (e : Entry). e.class == c.name) entries
+
+-- the children of a drr, where those of these entries were asked
+abbrev pub peeked_classes : Schedule → List Entry → List Asked → List Worked
+peeked_classes s entries below =
+    map (λ pair. if is_among entries pair.0 then pair.1.peeked else pair.1.before) (zip s.classes below)
+
+-- what each class shows: the length of its packet
+abbrev pub length_of : Asked → Option ℕ
+length_of a = option_map (λ (p : Descriptor). p.len) a.shown
+
+abbrev pub head_of : Schedule → List Asked → ℕ → Option ℕ
+head_of s below name = option_and_then length_of (class_answer s below name)
+
+-- What a drr's asking comes to before anything is given: its schedule after the grants, where the class that is met has
+-- paid for what it shows; its children, peeked where they were asked; what they have to tell the nodes above; the grants.
+pub record Service : Type 0 where
+  pub schedule : Schedule
+  pub below : List Worked
+  pub rises : List Note
+  pub grants : List Note
+
+abbrev pub service_of : Schedule → List Asked → Service
+service_of s below =
+    let choice = choice_of (head_of s below) s in
+    let entries = asked_entries choice s.active in
+    record {
+      schedule = served (head_of s below) s;
+      below = peeked_classes s entries below;
+      rises = flat_map (λ (e : Entry). option_map_or (λ (a : Asked). a.rises) (class_answer s below e.class) []) entries;
+      grants = granted_notes choice s.active;
+    }
+
+-- where the class that is met stands among the children
+abbrev pub place_met : Schedule → List Asked → Option ℕ
+place_met s below = option_and_then (λ (m : Met). class_at m.class s) (met (head_of s below) s)
+
+abbrev pub gives_nothing : Own → List Asked → Service → Asked
+gives_nothing own below v = dequeued own below (record own { discipline = Drr v.schedule }) v.below v.rises v.grants None
+
+-- the class gives its packet, and leaves the active list where its child is empty
+abbrev pub class_gives : Own → List Asked → Service → ℕ → Asked → Descriptor → Asked
+class_gives own below v i child p =
+    let schedule = settled_class i (is_empty child.given) v.schedule in
+    dequeued own below (record own { discipline = Drr schedule }) (set v.below i child.given) v.rises v.grants (Some p)
+
+abbrev pub class_serves : Own → List Asked → Service → ℕ → Asked → Asked
+class_serves own below v i child = option_map_or (class_gives own below v i child) child.shown (gives_nothing own below v)
+
+-- A drr asks the classes of its active list in turn, and grants to each whose packet is longer than its deficit, until one
+-- is met that can send its packet, or that shows nothing; then the drr gives nothing.
+abbrev pub ask_drr : Own → List Asked → Schedule → Asked
+ask_drr own below s =
+    let v = service_of s below in
+    let nothing = gives_nothing own below v in
+    option_map_or (λ i. option_map_or (class_serves own below v i) (slice_get below i) nothing) (place_met s below) nothing
+
+-- an fq_codel chooses a flow, from which CoDel takes a packet; what CoDel drops is lost before that
+abbrev pub marks_of : Option Taken → List Note
+marks_of None = []
+marks_of (Some t) = if t.marked then Marked t.packet ∷ [] else []
+
+abbrev pub ask_fq_codel : ℕ → Own → List Asked → FqState → Asked
+ask_fq_codel now own below s =
+    let chosen = selected s in
+    let taken = sent_from now chosen in
+    dequeued own below (record own { discipline = FqCodel (after_sending now chosen) }) (befores below)
+    (losses_of CoDel (packets_of (dropped_from now chosen)) ++ marks_of taken) (flow_notes s chosen taken)
+    (option_map (λ (t : Taken). t.packet) taken)
+
+abbrev pub ask_discipline : ℕ → Own → List Asked → Discipline → Asked
+ask_discipline now own below (Fifo limit queue) = ask_fifo own below limit queue
+ask_discipline now own below (Prio priomap) = ask_prio own below
+ask_discipline now own below (Tbf bucket limit) = ask_tbf now own below bucket limit
+ask_discipline now own below (Drr s) = ask_drr own below s
+ask_discipline now own below (FqCodel s) = ask_fq_codel now own below s
+
+abbrev pub ask_own : ℕ → Own → List Asked → Asked
+ask_own now own below = option_map_or (holding own below) own.held (ask_discipline now own below own.discipline)
+
+-- a whole tree
+abbrev pub ask : ℕ → Shape → Asked
+ask now s = from_below (ask_own now) s
+
+-- a take is a peek, after which what is shown is given
+abbrev pub take_from : ℕ → Shape → Work
+take_from now s =
+    let a = ask now s in
+    record { node = if is_some a.shown then a.given else a.peeked; rises = a.rises }

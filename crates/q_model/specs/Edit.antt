@@ -1,0 +1,61 @@
+-- What a command does to a tree: one node is put in place of another, or one node gets other settings and children.
+-- What is removed loses its packets, and each node above notes them (tc(8), `del`; the order is this project's choice).
+use Rattle.std.specs.Prelude.{ℕ, List, [], ◌∷◌, map, slice_get, set}
+use Rattle.std.specs.List.{flat_map}
+use Rattle.std.specs.Option.{option_map_or, option_to_list}
+use Rattle.q_packet.specs.Descriptor.{Descriptor}
+use Rattle.q_packet.specs.declared.cause.Cause.TheVariants.{Purged}
+use Rattle.q_model.specs.Tally.{Tally, Note, noted}
+use Rattle.q_model.specs.Node.{Own, Node, Shape, blank, children, side_by_side}
+use Rattle.q_model.specs.Beneath.{beneath, is_empty}
+use Rattle.q_model.specs.Find.{node_at}
+use Rattle.q_model.specs.Work.{losses_of, settled}
+
+-- a child of a node that is edited: the one that stood at this place, with all that it remembers; the same with these
+-- settings; or a new one
+pub data Child : Type 0 where
+  Kept : ℕ → Child
+  Retuned : ℕ → Own → Child
+  New : Shape → Child
+
+-- Graft: this node stands at the end of the path, in place of what stood there. Remake: the node at its end gets these
+-- settings and children, and loses these packets.
+pub data Edit : Type 0 where
+  Graft : List ℕ → Shape → Edit
+  Remake : List ℕ → Own → List Child → List Descriptor → Edit
+
+abbrev pub with_own : {M : Type 0} → Own → Node M → Node M
+with_own own n = record n { own = own }
+
+abbrev pub child_of : {M : Type 0} → Tally M → List (Node M) → Child → List (Node M)
+child_of t old (Kept i) = option_to_list (slice_get old i)
+child_of t old (Retuned i own) = map (with_own own) (option_to_list (slice_get old i))
+child_of t old (New s) = blank t s ∷ []
+
+abbrev pub remade : {M : Type 0} → Tally M → Own → List Child → List Note → Node M → Node M
+remade t own below notes n = record {
+  own = own;
+  memory = noted t n.memory notes;
+  below = side_by_side (flat_map (child_of t (children n)) below);
+}
+
+-- a node above one that was edited: it notes what was lost, and a class of a drr that is thereby empty leaves the active list
+abbrev pub above : {M : Type 0} → Tally M → List Note → ℕ → Node M → Node M → Node M
+above t notes i child n = record {
+  own = settled i (is_empty child) n.own;
+  memory = noted t n.memory notes;
+  below = side_by_side (set (children n) i child);
+}
+
+abbrev pub edited_at : {M : Type 0} → Tally M → List Note → (Node M → Node M) → List ℕ → Node M → Node M
+edited_at t notes f [] n = f n
+edited_at t notes f (i ∷ path) n = option_map_or (λ child. above t notes i (edited_at t notes f path child) n) (slice_get (children n) i) n
+
+-- what an edit of this tree loses
+abbrev pub lost_by : Edit → Shape → List Note
+lost_by (Graft path new) root = losses_of Purged (option_map_or (λ (old : Shape). beneath old) (node_at path root) [])
+lost_by (Remake path own below lost) root = losses_of Purged lost
+
+abbrev pub edited : {M : Type 0} → Tally M → List Note → Edit → Node M → Node M
+edited t notes (Graft path new) root = edited_at t notes (λ old. blank t new) path root
+edited t notes (Remake path own below lost) root = edited_at t notes (remade t own below notes) path root

@@ -1,0 +1,11 @@
+-- The ranges of an event's fields; no law names them yet.
+-- A moment is at most 2^62 ns.
+use Rattle.std.specs.Prelude.{◌≤◌, ◌^◌}
+use Rattle.q_model.specs.Ranges.{IsPacket, IsCommand}
+use Rattle.q_model.specs.declared.event.Event.{Event}
+use Rattle.q_model.specs.declared.event.Event.TheVariants.{Arrive, Poll, Command}
+
+abbrev pub IsEvent : Event → Type 0
+IsEvent (Arrive p moment) = IsPacket p × (moment ≤ 2 ^ 62)
+IsEvent (Poll moment) = moment ≤ 2 ^ 62
+IsEvent (Command c moment) = IsCommand c × (moment ≤ 2 ^ 62)

@@ -1,0 +1,25 @@
+-- The definitions that a computed row unfolds: a row names one of the words below, and with it unfolds them all.
+-- `shared_rules` has those of drr and fq_codel, `report_rules` those of texts and heads as well.
+use Rattle.std.proofs.Common.{ℕ}
+use Rattle.std.specs.Str.{is_utf8, chars}
+use Rattle.std.specs.Fmt.{digits}
+use Rattle.q_packet.specs.Key.{key_bytes}
+use Rattle.q_packet.specs.Head.{head, ipv4_head, ipv6_head}
+use Rattle.q_packet.specs.OneAtATime.{one_at_a_time, mixed, finished}
+use Rattle.q_codel.specs.Gap.{gap_of}
+use Rattle.q_drr.specs.Take.{grants_for}
+use Rattle.q_fqcodel.specs.Cleared.{adjust, clear}
+use Rattle.q_fqcodel.specs.FqState.{packets_of, bytes_of, rested_flow, retuned, all_packets}
+use Rattle.q_fqcodel.specs.Put.{appended, fattest, shed_count, overflow, shed, cut_back, is_lost_itself}
+use Rattle.q_fqcodel.specs.Quanta.{need, given, stay, leave}
+use Rattle.q_fqcodel.specs.Selection.{later, sooner, choose, turned, first_ready, moved, with_rest, arranged}
+use Rattle.q_fqcodel.specs.Take.{selected, packet_sent, packets_dropped, flow_after, front, sender, sent_from, dropped_from, paid, with_sent, after_sending}
+use Rattle.q_model.specs.Quanta.{quanta_between}
+
+unfoldable pub shared_rules : ℕ
+unfolding gap_of grants_for adjust clear packets_of bytes_of rested_flow retuned all_packets appended fattest shed_count overflow shed cut_back is_lost_itself need given stay leave later sooner choose turned first_ready moved with_rest arranged selected packet_sent packets_dropped flow_after front sender sent_from dropped_from paid with_sent after_sending quanta_between
+shared_rules = 0
+
+unfoldable pub report_rules : ℕ
+unfolding shared_rules is_utf8 chars lib.Utf8.encode digits key_bytes head ipv4_head ipv6_head one_at_a_time mixed finished
+report_rules = 0
