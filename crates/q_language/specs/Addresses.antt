@@ -119,7 +119,7 @@ protocol_of word =
     if bytes_eq word (codes "ip") then Ok Ip else if bytes_eq word (codes "ipv6") then Ok Ipv6
     else if bytes_eq word (codes "all") then Ok All else Err UnknownWord
 
--- the bytes of a frame: an even number of hexadecimal digits, at least two
+-- the bytes of a frame: two hexadecimal digits a byte, and one byte or more
 abbrev pub bytes_from : List ℕ → List ℕ
 bytes_from (a ∷ b ∷ digits) = digits_value 16 (a ∷ b ∷ []) ∷ bytes_from digits
 bytes_from (a ∷ []) = []

@@ -16,7 +16,7 @@ is_point b = b == 46
 abbrev pub small : ℕ → ℕ
 small b = if nat_le 65 b && nat_le b 90 then b + 32 else b
 
--- DECIMAL: digits, or digits, a point and one to nine digits
+-- a decimal: a whole number, which a point and up to nine decimal places may follow
 abbrev pub whole_part : List ℕ → List ℕ
 whole_part word = before_first is_point word
 

@@ -14,7 +14,7 @@ is_filled (b ∷ bytes) = true
 abbrev pub words_in : List ℕ → List (List ℕ)
 words_in bytes = filter is_filled (slice_split is_blank bytes)
 
--- a line without words, or whose first word begins with a number sign
+-- nothing but blanks, or a comment, which a number sign opens
 abbrev pub is_blank_line : List (List ℕ) → Bool
 is_blank_line [] = true
 is_blank_line ([] ∷ rest) = false

@@ -52,7 +52,7 @@ with_purged t c (s ∷ queue) = with_purged t (record c { dropped = t.more c.dro
 abbrev pub empty_leaf : {T : Type 0} → Tally T → Option ℕ → ℕ → LeafState T
 empty_leaf t handle limit = record { handle = handle; limit = Packets limit; queue = []; counted = untouched t }
 
--- a new device has an implicit root pfifo of txqueuelen packets
+-- before any command the root is an implicit pfifo, whose limit is the queue length
 abbrev pub new_device : {T : Type 0} → Tally T → ℕ → ℕ → DeviceState T
 new_device t mtu txqueuelen =
     record {

@@ -103,7 +103,7 @@ pfifo_replay settings script starved = replayed history (is_starved starved) 1 (
 abbrev pub pfifo_report : Settings → List ℕ → List ℕ → List ℕ
 pfifo_report settings script starved = (pfifo_replay settings script starved).text
 
--- Refused where a line had a fault or was refused
+-- Refused if some line was faulty or turned down
 abbrev pub pfifo_outcome : Settings → List ℕ → List ℕ → Outcome
 pfifo_outcome settings script starved = if (pfifo_replay settings script starved).session.refused then Refused else Clean
 

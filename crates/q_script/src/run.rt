@@ -39,8 +39,8 @@ fn run_lines<W: Write>(
     output.flush(writer)
 }
 
-/// Reads a script of at most 16,777,216 bytes and writes its report. The script is read whole before a line of it is run,
-/// by at most 16,777,218 reads, interrupted ones counted.
+/// Reads a script of at most 16,777,216 bytes and writes its report. No line is run before the whole script was read. The
+/// reader is asked 16,777,218 times at most; a read that was interrupted counts as one.
 ///
 /// After `Read`, `TooLong` and `Memory` nothing was written, and after `Write` (any error of a write, or one that takes no
 /// byte) a front of a report, and not all of it.

@@ -21,7 +21,7 @@ replay settings script starved = replay_in is_first_word (device_settings settin
 abbrev pub report : Settings → List ℕ → List ℕ → List ℕ
 report settings script starved = (replay settings script starved).text
 
--- Refused where a line had a fault or was refused
+-- Refused if some line was faulty or turned down
 abbrev pub outcome : Settings → List ℕ → List ℕ → Outcome
 outcome settings script starved = if (replay settings script starved).session.refused then Refused else Clean
 

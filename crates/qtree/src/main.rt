@@ -2,8 +2,8 @@
 //!
 //! - [`run::run`] reads a script from any reader and writes its report to any writer. Its contract is the program's
 //!   theorem: what was written is `report settings script starved` of `specs/Report.antt`, for some list `starved` of
-//!   lines at which memory was refused, and nothing else; the outcome is `Refused` exactly where a line had a fault or was
-//!   refused; and each `RunFault` says what was written.
+//!   lines at which memory was refused, and nothing else; the outcome is `Refused` if and only if some line was faulty or
+//!   turned down; and each `RunFault` says what was written.
 //! - [`command_line::options`] reads the command line.
 //!
 //! `specs/Report.antt` takes the report of `q_report`, over the model of the whole device that keeps every packet, in a
