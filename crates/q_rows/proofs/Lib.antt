@@ -1,4 +1,5 @@
 mod BucketValues
+mod ChangeReports
 mod CoDelReports
 mod CoDelScripts
 mod CoDelValues
@@ -9,12 +10,15 @@ mod FifoScripts
 mod FqCodelReports
 mod FqCodelScripts
 mod FqCodelValues
+mod GrammarValues
 mod LargeReports
 mod LineValues
 mod PacketValues
+mod RefusalReports
 mod Reports
 mod RuleReports
 pub mod Script
 mod ScriptValues
 pub mod SharedRules
 mod TbfPrioScripts
+mod TreeReports
