@@ -26,6 +26,18 @@ no_more_than_the_burst = refl
 pub fills_then_cuts : (after_change (after_spend (full 8000 1500 0) 0 1500) 16000 500 1000000000).level ≡ 500 * units_in_byte
 fills_then_cuts = refl
 
+-- a change brings the bucket to its moment, at its new rate and burst, and does not fill it further
+pub changed : after_change (after_spend (full 8000 1500 0) 0 1500) 16000 3000 7 ≡ record { rate = 16000; burst = 3000; level = 56000; last = 7 }
+changed = refl
+
+-- a packet that may not go leaves the moment, too
+pub waits : after_spend slow 5 2 ≡ slow
+waits = refl
+
+-- what is left after a packet is counted from its moment on
+pub spent : after_spend (full 8000 1500 3) 9 1000 ≡ record { rate = 8000; burst = 1500; level = 500 * units_in_byte; last = 9 }
+spent = refl
+
 -- of three packets of 1000 bytes the second comes a nanosecond too early, and the third goes
 abbrev three : List Spend
 three = record { at = 0; len = 1000 } ∷ record { at = 499999999; len = 1000 } ∷ record { at = 500000000; len = 1000 } ∷ []

@@ -1,13 +1,13 @@
 -- Worked examples. The gaps are at their full size; the takes are computed, at an interval that is short enough for it.
 use Rattle.std.proofs.Common.{◌≡◌, ℕ, Bool, true, false, List, [], ◌∷◌, Option, Some, None, take, sym, refl, lit<, lit≤}
-use Rattle.std.specs.Prelude.{option_map, map, ◌++◌}
+use Rattle.std.specs.Prelude.{option_map, map, ◌++◌, if◌then◌else◌}
 use Rattle.q_packet.specs.Key.{zero_key}
 use Rattle.q_packet.specs.declared.ecn.Ecn.{Ecn}
-use Rattle.q_packet.specs.declared.ecn.Ecn.TheVariants.{NotEct, Ect0}
+use Rattle.q_packet.specs.declared.ecn.Ecn.TheVariants.{NotEct, Ect1, Ect0, Ce}
 use Rattle.q_packet.specs.declared.stamped.Stamped.{Stamped}
 use Rattle.q_codel.specs.declared.taken.Taken.{Taken}
 use Rattle.q_codel.specs.Gap.{gap_of}
-use Rattle.q_codel.specs.Codel.{CodelState, at_first, drops, taken, left, after}
+use Rattle.q_codel.specs.Codel.{CodelState, at_first, rested, is_capable, drops, marks, taken, left, after}
 use Rattle.q_codel.proofs.Root.{gap_of-is}
 
 gap-1 : gap_of 100000000 1 ≡ 100000000
@@ -63,3 +63,73 @@ marks-sent = refl
 marks-lost : lost_by (at_first 5 10 1514 true) (ten Ect0) moments ≡ []
 unfolding lost_by ten put moments gap_of
 marks-lost = refl
+
+-- count, last count, moment of the next drop, moment above the target, and 1 while dropping, after takes at these moments
+-- from these queues
+seen : CodelState → List (ℕ × List Stamped) → List (List ℕ)
+seen s [] = []
+seen s (step ∷ steps) =
+    let t = after s step.0 step.1 in
+    (t.count ∷ t.lastcount ∷ t.drop_next ∷ t.above ∷ (if t.dropping then 1 else 0) ∷ []) ∷ seen t steps
+
+-- a queue that stood since moment 0, and one that came just now
+old : List Stamped
+old = map (put NotEct) (1 ∷ 2 ∷ 3 ∷ 4 ∷ 5 ∷ 6 ∷ [])
+
+young : ℕ → List Stamped
+young now = map (λ (s : Stamped). record s { at = now }) old
+
+-- Three times dropping. The second begins within 16 intervals of the next drop of the first, with the two drops that the
+-- first made after it had begun; the third finds that the second made one alone, and begins with 1.
+three_times : seen (at_first 5 10 1514 false) (
+    (5, old) ∷ (15, old) ∷ (25, old) ∷ (32, old) ∷ (33, young 33) ∷
+    (40, old) ∷ (50, old) ∷ (57, old) ∷ (58, young 58) ∷
+    (60, old) ∷ (70, old) ∷ []) ≡
+    (0 ∷ 0 ∷ 0 ∷ 15 ∷ 0 ∷ []) ∷ (1 ∷ 1 ∷ 25 ∷ 15 ∷ 1 ∷ []) ∷ (2 ∷ 1 ∷ 32 ∷ 15 ∷ 1 ∷ []) ∷ (3 ∷ 1 ∷ 37 ∷ 15 ∷ 1 ∷ []) ∷ (3 ∷ 1 ∷ 37 ∷ 0 ∷ 0 ∷ []) ∷
+    (3 ∷ 1 ∷ 37 ∷ 50 ∷ 0 ∷ []) ∷ (2 ∷ 2 ∷ 57 ∷ 50 ∷ 1 ∷ []) ∷ (3 ∷ 2 ∷ 62 ∷ 50 ∷ 1 ∷ []) ∷ (3 ∷ 2 ∷ 62 ∷ 0 ∷ 0 ∷ []) ∷
+    (3 ∷ 2 ∷ 62 ∷ 70 ∷ 0 ∷ []) ∷ (1 ∷ 1 ∷ 80 ∷ 70 ∷ 1 ∷ []) ∷ []
+unfolding seen old young put gap_of
+three_times = refl
+
+-- a state that dropped three times since it began, and whose next drop was set for moment 100
+dropped_thrice : CodelState
+dropped_thrice = record (at_first 5 10 1514 false) { above = 50; drop_next = 100; count = 4; lastcount = 1 }
+
+-- 16 intervals after that moment the count begins with 1, and a nanosecond before it goes on with 3
+sixteen_intervals : seen dropped_thrice ((259, old) ∷ []) ++ seen dropped_thrice ((260, old) ∷ []) ≡
+    (3 ∷ 3 ∷ 264 ∷ 50 ∷ 1 ∷ []) ∷ (1 ∷ 1 ∷ 270 ∷ 50 ∷ 1 ∷ []) ∷ []
+unfolding seen dropped_thrice old put gap_of
+sixteen_intervals = refl
+
+-- while dropping, a head behind the one that is dropped has waited too short a time: dropping ends, and the next moment
+-- stays the one that was due
+ends_behind_a_drop : (
+    let s = record (at_first 5 10 1514 false) { above = 10; drop_next = 20; count = 1; lastcount = 1; dropping = true } in
+    let queue = map (put NotEct) (1 ∷ []) ++ young 18 in
+    (drops s 20 queue ≡ 1) × (seen s ((20, queue) ∷ []) ≡ (2 ∷ 1 ∷ 20 ∷ 0 ∷ 0 ∷ []) ∷ []))
+unfolding seen young old put gap_of
+ends_behind_a_drop = (refl, refl)
+
+-- the moment above the target is that of the head which is sent: the one behind the drop has only one packet behind it
+above_by_the_sent_head : (
+    let s = record (at_first 5 10 1514 false) { above = 10 } in
+    let queue = map (put NotEct) (1 ∷ 2 ∷ 3 ∷ []) in
+    (drops s 20 queue ≡ 1) × (seen s ((20, queue) ∷ []) ≡ (1 ∷ 1 ∷ 30 ∷ 0 ∷ 1 ∷ []) ∷ []))
+unfolding seen put gap_of
+above_by_the_sent_head = (refl, refl)
+
+-- an empty queue ends dropping, and keeps the rest
+empty_queue : after dropped_thrice 300 [] ≡ rested dropped_thrice
+unfolding dropped_thrice
+empty_queue = refl
+
+capable : map is_capable (NotEct ∷ Ect1 ∷ Ect0 ∷ Ce ∷ []) ≡ false ∷ true ∷ true ∷ true ∷ []
+capable = refl
+
+-- a head that is marked already counts as marked again, and is not dropped
+marked_already : (
+    let s = record (at_first 5 10 1514 true) { above = 10 } in
+    let queue = map (put Ce) (1 ∷ 2 ∷ 3 ∷ 4 ∷ []) in
+    (drops s 20 queue ≡ 0) × (marks s 20 queue ≡ true))
+unfolding put
+marked_already = (refl, refl)

@@ -1,7 +1,7 @@
 -- Worked examples of the definitions, by computation.
 use Rattle.std.proofs.Common.{◌≡◌, [], ◌∷◌, Some, None, refl}
 use Rattle.q_drr.specs.declared.turn.Turn.TheVariants.{Send, Granted}
-use Rattle.q_drr.specs.Schedule.{Schedule, no_classes, added, woken, with_quantum, turned, turn_answer, deficit_of}
+use Rattle.q_drr.specs.Schedule.{Schedule, no_classes, added, woken, asleep, removed, with_quantum, turned, turn_answer, deficit_of, granted_of}
 use Rattle.q_drr.specs.Take.{grants_for, served, met, head_at}
 use Rattle.q_drr.specs.Stretch.{after_turns, grants, sent}
 
@@ -52,3 +52,31 @@ met_nothing : served (head_at (None ∷ Some 25 ∷ None ∷ [])) small ≡ reco
 }
 unfolding grants_for
 met_nothing = refl
+
+-- waking an active class changes nothing, and one that wakes again begins anew: behind the others, with one quantum
+wakes_once : woken 1 two ≡ two
+wakes_once = refl
+
+begins_anew : (woken 1 (asleep 1 (turned 1500 two))).active ≡
+    record { class = 2; deficit = 1000; granted = 0 } ∷ record { class = 1; deficit = 1000; granted = 0 } ∷ []
+begins_anew = refl
+
+-- a class that sleeps has no deficit and no grants, and the others keep theirs
+sleeps : (let s = asleep 1 (turned 1500 two) in (deficit_of 1 s.active ≡ 0) × (granted_of 1 s.active ≡ 0) × (deficit_of 2 s.active ≡ 1000))
+sleeps = (refl, refl, refl)
+
+-- three classes, the second of which is active in the middle
+abbrev three : Schedule
+three = woken 3 (woken 2 (woken 1 (added 3 30 (added 2 20 (added 1 10 (no_classes 100))))))
+
+removed_in_the_middle : removed 2 three ≡ woken 3 (woken 1 (added 3 30 (added 1 10 (no_classes 100))))
+removed_in_the_middle = refl
+
+-- a new quantum is that of its class alone, and cuts the deficit of that class alone
+cut_behind_the_front : (let s = with_quantum 2 5 (turned 100 (turned 100 (turned 100 three))) in
+    (deficit_of 1 s.active ≡ 20) × (deficit_of 2 s.active ≡ 40) × (deficit_of 3 s.active ≡ 60))
+cut_behind_the_front = (refl, refl, refl)
+
+cut_to_the_bound : (let s = with_quantum 2 1 (woken 2 (added 2 500 (woken 1 (added 1 500 (no_classes 100))))) in
+    (deficit_of 1 s.active ≡ 500) × (deficit_of 2 s.active ≡ 100))
+cut_to_the_bound = (refl, refl)

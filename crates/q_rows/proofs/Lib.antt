@@ -11,6 +11,7 @@ mod FqCodelReports
 mod FqCodelScripts
 mod FqCodelValues
 mod GrammarValues
+mod HeadValues
 mod LargeReports
 mod LineValues
 mod PacketValues
