@@ -1,3 +1,5 @@
+pub mod DifferLemmas
+pub mod LookupLemmas
 pub mod NameLemmas
 pub mod RingLemmas
 mod Rows

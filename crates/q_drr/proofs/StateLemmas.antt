@@ -6,8 +6,10 @@ use Rattle.std.proofs.Math.ListN.{length-set}
 use Rattle.std.proofs.lemmas.Bool.{eqb-true, ne_eqb, false≢true, or_parts, cases_Bool, cases_lt, cases_eq, false_from_ne_true}
 use Rattle.std.proofs.lemmas.List.{get_or_append_left, get_or-append_right, get_or-set_same, get_or-set_other, length_push, get_or_read}
 use Rattle.q_drr.specs.declared.class_state.ClassState.{ClassState}
-use Rattle.q_drr.specs.Links.{is_among, AllDiffer}
+use Rattle.q_drr.specs.Links.{is_among}
 use Rattle.q_drr.specs.States.{no_state, has_state, state_of, with_state, without_state, IsIndex}
+use Rattle.q_drr.proofs.DifferLemmas.{AllDiffer}
+use Rattle.q_drr.proofs.LookupLemmas.{state-here, state-behind}
 use Rattle.q_drr.proofs.NameLemmas.{length-le_from_differ}
 
 pub names : List ClassState → List ℕ
@@ -23,9 +25,9 @@ pub record Found (n : ℕ) (states : List ClassState) : Type 0 where
 pub found_of : (n : ℕ) (states : List ClassState) → has_state n states ≡ true → Found n states
 found_of n [] there = absurd (false≢true there)
 found_of n (c ∷ states) there = elim (cases_Bool (eqb n c.name)) [
-  | inl e ↦ record { place = 0; within = omega arith; name = sym (eqb-true n c.name e); is = ap (λ t. if t then c else state_of n states) e }
+  | inl e ↦ record { place = 0; within = omega arith; name = sym (eqb-true n c.name e); is = state-here n c states e }
   | inr e ↦ let f = found_of n states (sym (ap (λ t. t || has_state n states) e) ∙ there) in
-      record { place = suc f.place; within = omega (arith, f.within); name = f.name; is = ap (λ t. if t then c else state_of n states) e ∙ f.is }
+      record { place = suc f.place; within = omega (arith, f.within); name = f.name; is = state-behind n c states e ∙ f.is }
 ]
 
 -- a class that is not there stands at no place

@@ -14,7 +14,8 @@ use Rattle.q_drr.specs.Schedule.{Class, Entry, Schedule, has_class, quantum_of, 
 use Rattle.q_drr.specs.Take.{grants_for, need, needs, choice_of, granted, brought_up, turns_until, prepared, sent_by, sent_in, served, met_in, met}
 use Rattle.q_drr.specs.declared.met.Met.{Met}
 use Rattle.q_drr.specs.declared.turn.Turn.TheVariants.{Send, Granted}
-use Rattle.std.proofs.lemmas.List.Elements.{All-push, All-head, All-tail}
+use Rattle.std.proofs.lemmas.List.Elements.{All-push, All-head, All-tail, recursion_from_All}
+use Rattle.q_drr.proofs.LookupLemmas.{quantum-here, quantum-behind}
 
 -- how many grants a class needs
 pub need_none : (q d len : ℕ) → len ≤ d → grants_for q d (Some len) ≡ 0
@@ -131,7 +132,7 @@ prepared_ready heads s n f law ready =
     ap (λ es. choose (needs quantum heads es)) f.is ∙ ap (λ k. Some (sooner k others)) ready ∙ ap Some (sooner-first others) in
     let list : brought_up quantum (choice_of heads s) s.active ≡ s.active =
     ap (λ c. brought_up quantum c s.active) choice ∙ append-nil (granted quantum 0 s.active)
-    ∙ granted_none quantum s.active (each_in_range s.max_len s.classes s.active law.entries) in
+    ∙ granted_none quantum s.active (each_in_range s.max_len s.classes s.active (recursion_from_All (IsEntry s.max_len s.classes) s.active law.entries)) in
     let turns : counted (s.turns + turns_until (choice_of heads s) (length s.active)) ≡ s.turns =
     ap (λ c. counted (s.turns + turns_until c (length s.active))) choice ∙ omega (arith, law.counted_turns) in
     same_list s _ _ list turns
@@ -208,17 +209,18 @@ measure_falls heads s n len f head one short =
     omega (arith, ap (sum_by g) (turned_granted s n len f short), ap (sum_by g) f.is, sum_by_push g f.rest last, sum_by-cons g f.first f.rest, need_falls heads s n len f head one short)
 
 -- a class of the list has a quantum
-has_quantum : (n : ℕ) (classes : List Class) → AllByRecursion (λ c. 1 ≤ c.quantum) classes → has_class n classes ≡ true → 1 ≤ quantum_of n classes
+has_quantum : (n : ℕ) (classes : List Class) → AllByRecursion (λ (c : Class). 1 ≤ c.quantum) classes → has_class n classes ≡ true → 1 ≤ quantum_of n classes
 has_quantum n [] h there = absurd (false≢true there)
 has_quantum n (c ∷ classes) h there = elim (cases_Bool (eqb n c.name)) [
-  | inl e ↦ subst (λ (t : Bool). 1 ≤ (if t then c.quantum else quantum_of n classes)) (sym e) h.0
-  | inr e ↦ subst (λ (t : Bool). 1 ≤ (if t then c.quantum else quantum_of n classes)) (sym e) (has_quantum n classes h.1 (sym (ap (λ t. t || has_class n classes) e) ∙ there))
+  | inl e ↦ subst (λ k. 1 ≤ k) (sym (quantum-here n c classes e)) h.0
+  | inr e ↦ subst (λ k. 1 ≤ k) (sym (quantum-behind n c classes e)) (has_quantum n classes h.1 (sym (ap (λ t. t || has_class n classes) e) ∙ there))
 ]
 
 pub front_quantum : (s : Schedule) (n : ℕ) (f : Front n s) → IsLawful s → 1 ≤ quantum_of n s.classes
 front_quantum s n f law =
-    let all : AllByRecursion (IsEntry s.max_len s.classes) (f.first ∷ f.rest) = subst (AllByRecursion (IsEntry s.max_len s.classes)) f.is law.entries in
-    has_quantum n s.classes law.quanta (ap (λ m. has_class m s.classes) (sym f.class) ∙ all.0.there)
+    let all : All (IsEntry s.max_len s.classes) (f.first ∷ f.rest) = subst (All (IsEntry s.max_len s.classes)) f.is law.entries in
+    let first : IsEntry s.max_len s.classes f.first = All-head (IsEntry s.max_len s.classes) f.first f.rest all in
+    has_quantum n s.classes (recursion_from_All (λ (c : Class). 1 ≤ c.quantum) s.classes law.quanta) (ap (λ m. has_class m s.classes) (sym f.class) ∙ first.there)
 
 -- what the front's turn answers
 pub covers : (s : Schedule) (n len : ℕ) (f : Front n s) → Send ≡ turn_answer len s.active → len ≤ f.first.deficit
