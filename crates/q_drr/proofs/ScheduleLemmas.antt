@@ -1,14 +1,14 @@
 -- What an active list shows, after each change of its table and its circle.
-use Rattle.std.proofs.Common.{◌≡◌, ◌≢◌, ℕ, ◌+◌, ◌-◌, ◌<◌, ◌≤◌, ◌^◌, min, Bool, true, false, eqb, ◌||◌, not, cond, List, [], ◌∷◌, ◌++◌, map, refl, sym, ap, ◌∙◌, subst, inl, inr, arith, eq-eqb, take, drop}
-use Rattle.std.specs.Prelude.{if◌then◌else◌, slice_get, ◌==◌}
-use Rattle.std.specs.List.{AllByRecursion, AllPairs, filter}
+use Rattle.std.proofs.Common.{◌≡◌, ◌≢◌, ℕ, ◌+◌, ◌-◌, ◌<◌, ◌≤◌, ◌^◌, min, Bool, true, false, eqb, ◌||◌, not, cond, List, [], ◌∷◌, ◌++◌, map, length, Some, None, refl, sym, ap, ◌∙◌, subst, inl, inr, arith, eq-eqb, take, drop}
+use Rattle.std.specs.Prelude.{if◌then◌else◌, slice_get, ◌==◌, nat_lt}
+use Rattle.std.specs.List.{AllByRecursion, AllPairs, filter, position_or_len}
 use Rattle.std.proofs.lemmas.List.Elements.{All-from_recursion}
 use Rattle.std.proofs.lemmas.Bool.{eqb-true, false≢true, or_parts, or_from, cases_Bool}
-use Rattle.std.proofs.lemmas.List.{map-append}
+use Rattle.std.proofs.lemmas.List.{map-append, length-map}
 use Rattle.q_drr.specs.declared.class_state.ClassState.{ClassState}
 use Rattle.q_drr.specs.Links.{Circle, is_among, without}
-use Rattle.q_drr.specs.States.{has_state, state_of, with_state, without_state, class_in, entry_in}
-use Rattle.q_drr.specs.Schedule.{Class, Entry, Schedule, woken, asleep, removed, added, with_quantum, has_class, quantum_of, is_active, deficit_of, granted_of, cut, IsEntry, IsLawful}
+use Rattle.q_drr.specs.States.{has_state, place_of_state, state_of, with_state, without_state, class_in, entry_in}
+use Rattle.q_drr.specs.Schedule.{Class, Entry, Schedule, woken, asleep, removed, added, with_quantum, has_class, place_of, quantum_of, is_active, deficit_of, granted_of, cut, IsEntry, IsLawful}
 use Rattle.q_drr.specs.Kept.{shown, IsState, IsKept}
 use Rattle.q_drr.proofs.DifferLemmas.{AllDiffer, StatesDiffer, ClassesDiffer, EntriesDiffer, pairs-from_differ, numbers_apart, states_apart, numbers_differ-from, states_differ-from}
 use Rattle.q_drr.proofs.LookupLemmas.{state-here, state-behind, quantum-here, quantum-behind, deficit-here, deficit-behind, granted-here, granted-behind}
@@ -495,7 +495,7 @@ each_entry_lawful max_len room states (n ∷ order) each known =
       each_entry_lawful max_len room states order each known.1,
     )
 
-pub shown_lawful : (max_len turns : ℕ) (states : List ClassState) (circle : Circle) → turns < 2 ^ 64 → IsKept max_len states circle → IsLawful (shown max_len turns states circle.order)
+shown_lawful : (max_len turns : ℕ) (states : List ClassState) (circle : Circle) → turns < 2 ^ 64 → IsKept max_len states circle → IsLawful (shown max_len turns states circle.order)
 shown_lawful max_len turns states circle range h = record {
   classes_differ = pairs-from_differ (λ (c : Class). c.name) (map class_in states) (classes_lawful states (states_apart states h.states_differ));
   quanta = All-from_recursion (λ (c : Class). 1 ≤ c.quantum) (map class_in states) (quanta_lawful max_len circle.room states h.each);
@@ -503,3 +503,16 @@ shown_lawful max_len turns states circle range h = record {
   entries = All-from_recursion (IsEntry max_len (map class_in states)) (map (entry_in states) circle.order) (each_entry_lawful max_len circle.room states circle.order h.each h.known);
   counted_turns = range;
 }
+
+pub lawful_view : (max_len turns : ℕ) (states : List ClassState) (circle : Circle) (s : Schedule) → shown max_len turns states circle.order ≡ s → turns < 2 ^ 64 → IsKept max_len states circle → IsLawful s
+lawful_view max_len turns states circle s e range h = subst IsLawful e (shown_lawful max_len turns states circle range h)
+
+-- the place of a class among those that are shown
+place_len_in : (n : ℕ) (states : List ClassState) → position_or_len (λ (c : Class). n == c.name) (map class_in states) ≡ position_or_len (λ (c : ClassState). n == c.name) states
+place_len_in n [] = refl
+place_len_in n (c ∷ states) = ap (λ k. cond (not (n == c.name)) (1 + k) 0) (place_len_in n states)
+
+pub place_in : (n : ℕ) (states : List ClassState) → place_of n (map class_in states) ≡ place_of_state n states
+place_in n states =
+    ap (λ i. cond (nat_lt i (length (map class_in states))) (Some i) None) (place_len_in n states)
+    ∙ ap (λ l. cond (nat_lt (position_or_len (λ (c : ClassState). n == c.name) states) l) (Some (position_or_len (λ (c : ClassState). n == c.name) states)) None) (length-map states class_in)

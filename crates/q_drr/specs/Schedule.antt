@@ -1,7 +1,7 @@
 -- The active list of deficit round robin: classes with their quanta and, for those active, place, deficit and grants.
 -- After M. Shreedhar and G. Varghese, "Efficient Fair Queuing Using Deficit Round-Robin" (1995), and tc-drr(8).
 use Rattle.std.specs.Prelude.{◌≡◌, ◌≢◌, ℕ, true, ◌+◌, ◌-◌, ◌*◌, ◌^◌, ◌<◌, ◌≤◌, min, Bool, false, not, ◌==◌, nat_le, if◌then◌else◌, List, [], ◌∷◌, ◌++◌, map, Option, slice_get}
-use Rattle.std.specs.List.{filter, find, list_any, All, AllPairs}
+use Rattle.std.specs.List.{filter, find, list_any, position, All, AllPairs}
 use Rattle.std.specs.Option.{option_map_or}
 use Rattle.q_drr.specs.declared.turn.Turn.{Turn}
 use Rattle.q_drr.specs.declared.turn.Turn.TheVariants.{Send, Granted}
@@ -26,6 +26,10 @@ pub record Schedule : Type 0 where
 
 abbrev pub has_class : ℕ → List Class → Bool
 has_class n classes = list_any (λ c. n == c.name) classes
+
+-- where a class stands in order of adding
+abbrev pub place_of : ℕ → List Class → Option ℕ
+place_of n classes = position (λ c. n == c.name) classes
 
 -- the quantum of a class that is there
 abbrev pub quantum_of : ℕ → List Class → ℕ
