@@ -16,7 +16,7 @@ module _ {X : Type 0} (key : X → ℕ) where
   absent n (x ∷ xs) apart =
       or_from (eqb n (key x)) (list_any (λ y. n == key y) xs) (ne_eqb n (key x) (apart zero x (omega arith))) (absent n xs (λ k d lt. apart (suc k) d (omega arith)))
 
-  nowhere : (n : ℕ) (xs : List X) → list_any (λ y. n == key y) xs ≡ false → (k : ℕ) (d : X) → k < length xs → n ≢ key (slice_index_or xs k d)
+  pub nowhere : (n : ℕ) (xs : List X) → list_any (λ y. n == key y) xs ≡ false → (k : ℕ) (d : X) → k < length xs → n ≢ key (slice_index_or xs k d)
   nowhere n [] none k d lt e = absurd (omega arith)
   nowhere n (x ∷ xs) none zero d lt e = false≢true (sym (or_parts (eqb n (key x)) (list_any (λ y. n == key y) xs) none).0 ∙ eq-eqb n (key x) e)
   nowhere n (x ∷ xs) none (suc k) d lt e = nowhere n xs (or_parts (eqb n (key x)) (list_any (λ y. n == key y) xs) none).1 k d (omega arith) e

@@ -1,9 +1,12 @@
+pub mod ChangeLemmas
 pub mod DifferLemmas
+pub mod KeyLemmas
 pub mod LookupLemmas
 pub mod NameLemmas
 pub mod RingLemmas
 mod Rows
 pub mod ScheduleLemmas
+pub mod ServedLemmas
 pub mod StateLemmas
 pub mod StretchLemmas
 pub mod TakeLemmas

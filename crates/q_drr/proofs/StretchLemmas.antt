@@ -22,7 +22,7 @@ active_push : (n : ℕ) (x : Entry) (es : List Entry) → is_active n (es ++ x �
 active_push n x [] = refl
 active_push n x (e ∷ es) = ap (λ t. eqb n e.class || t) (active_push n x es) ∙ or_exchange (eqb n e.class) (eqb n x.class) (is_active n es)
 
-differ_push : (x : Entry) (es : List Entry) → EntriesDiffer es → is_active x.class es ≡ false → EntriesDiffer (es ++ x ∷ [])
+pub differ_push : (x : Entry) (es : List Entry) → EntriesDiffer es → is_active x.class es ≡ false → EntriesDiffer (es ++ x ∷ [])
 differ_push x [] d absent = (refl, tt)
 differ_push x (e ∷ es) d absent =
     let parts = or_parts (eqb x.class e.class) (is_active x.class es) absent in
@@ -112,7 +112,7 @@ module _ (len : ℕ) (classes : List Class) (e : Entry) (es : List Entry) where
   ]
 
 -- any schedule's turn
-list_differ : (len : ℕ) (classes : List Class) (es : List Entry) → EntriesDiffer es → EntriesDiffer (active_after len classes es)
+pub list_differ : (len : ℕ) (classes : List Class) (es : List Entry) → EntriesDiffer es → EntriesDiffer (active_after len classes es)
 list_differ len classes [] d = tt
 list_differ len classes (e ∷ es) d = turn_differ len classes e es d
 

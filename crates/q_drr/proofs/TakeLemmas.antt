@@ -124,12 +124,17 @@ each_in_range max_len classes (e ∷ es) h = (h.0.in_range, each_in_range max_le
 same_list : (s : Schedule) (es : List Entry) (turns : ℕ) → es ≡ s.active → turns ≡ s.turns → record s { active = es; turns = turns } ≡ s
 same_list s es turns e f = ap (λ xs. record s { active = xs; turns = turns }) e ∙ ap (λ k. record s { turns = k }) f
 
+-- the choice where the front needs no grant
+pub choice_ready : (heads : ℕ → Option ℕ) (s : Schedule) (n : ℕ) (f : Front n s) → need (λ m. quantum_of m s.classes) heads f.first ≡ 0 → choice_of heads s ≡ Some (record { rounds = 0; place = 0 })
+choice_ready heads s n f ready =
+    let quantum : ℕ → ℕ = λ m. quantum_of m s.classes in
+    let others = choose (needs quantum heads f.rest) in
+    ap (λ es. choose (needs quantum heads es)) f.is ∙ ap (λ k. Some (sooner k others)) ready ∙ ap Some (sooner-first others)
+
 pub prepared_ready : (heads : ℕ → Option ℕ) (s : Schedule) (n : ℕ) (f : Front n s) → IsLawful s → need (λ m. quantum_of m s.classes) heads f.first ≡ 0 → prepared heads s ≡ s
 prepared_ready heads s n f law ready =
     let quantum : ℕ → ℕ = λ m. quantum_of m s.classes in
-    let others = choose (needs quantum heads f.rest) in
-    let choice : choice_of heads s ≡ Some (record { rounds = 0; place = 0 }) =
-    ap (λ es. choose (needs quantum heads es)) f.is ∙ ap (λ k. Some (sooner k others)) ready ∙ ap Some (sooner-first others) in
+    let choice : choice_of heads s ≡ Some (record { rounds = 0; place = 0 }) = choice_ready heads s n f ready in
     let list : brought_up quantum (choice_of heads s) s.active ≡ s.active =
     ap (λ c. brought_up quantum c s.active) choice ∙ append-nil (granted quantum 0 s.active)
     ∙ granted_none quantum s.active (each_in_range s.max_len s.classes s.active (recursion_from_All (IsEntry s.max_len s.classes) s.active law.entries)) in
@@ -145,7 +150,7 @@ prepared_empty heads s law none =
     (ap (λ c. counted (s.turns + turns_until c (length s.active))) choice ∙ omega (arith, law.counted_turns))
 
 -- and where its class is granted, what comes is what would have come
-turned_granted : (s : Schedule) (n len : ℕ) (f : Front n s) → f.first.deficit < len → active_after len s.classes s.active ≡ f.rest ++ after_grants (quantum_of f.first.class s.classes) 1 f.first ∷ []
+pub turned_granted : (s : Schedule) (n len : ℕ) (f : Front n s) → f.first.deficit < len → active_after len s.classes s.active ≡ f.rest ++ after_grants (quantum_of f.first.class s.classes) 1 f.first ∷ []
 turned_granted s n len f short =
     ap (active_after len s.classes) f.is
     ∙ ap (λ (t : Bool). if t then record f.first { deficit = f.first.deficit - len } ∷ f.rest else f.rest ++ after_grants (quantum_of f.first.class s.classes) 1 f.first ∷ []) (lt-leb len f.first.deficit short)
@@ -172,6 +177,19 @@ choice_within quantum heads es =
     let asked : Entry → Option ℕ = λ e. Some (need quantum heads e) in
     subst (λ n. IfSome (choose (needs quantum heads es)) (λ c. c.place < n)) (length-map es asked) (choose-within (needs quantum heads es))
 
+-- the choice where the front is granted, and that among the same classes once it was
+pub choice_before : (heads : ℕ → Option ℕ) (s : Schedule) (n len : ℕ) (f : Front n s) → heads n ≡ Some len → 1 ≤ quantum_of n s.classes → f.first.deficit < len
+    → choice_of heads s ≡ Some (sooner (suc (need (λ m. quantum_of m s.classes) heads (once (λ m. quantum_of m s.classes) f.first))) (choose (needs (λ m. quantum_of m s.classes) heads f.rest)))
+choice_before heads s n len f head one short =
+    let quantum : ℕ → ℕ = λ m. quantum_of m s.classes in
+    ap (λ es. choose (needs quantum heads es)) f.is ∙ ap (λ m. Some (sooner m (choose (needs quantum heads f.rest)))) (need_falls heads s n len f head one short)
+
+pub choice_after : (heads : ℕ → Option ℕ) (s : Schedule) (n len : ℕ) (f : Front n s) → f.first.deficit < len
+    → choice_of heads (turned len s) ≡ Some (last_one (need (λ m. quantum_of m s.classes) heads (once (λ m. quantum_of m s.classes) f.first)) (length f.rest) (choose (needs (λ m. quantum_of m s.classes) heads f.rest)))
+choice_after heads s n len f short =
+    let quantum : ℕ → ℕ = λ m. quantum_of m s.classes in
+    ap (λ es. choose (needs quantum heads es)) (turned_granted s n len f short) ∙ choice_end quantum heads f.rest (once quantum f.first)
+
 pub prepared_granted : (heads : ℕ → Option ℕ) (s : Schedule) (n len : ℕ) (f : Front n s) → heads n ≡ Some len → 1 ≤ quantum_of n s.classes → f.first.deficit < len
     → prepared heads (turned len s) ≡ prepared heads s
 prepared_granted heads s n len f head one short =
@@ -179,12 +197,10 @@ prepared_granted heads s n len f head one short =
     let last : Entry = once quantum f.first in
     let k : ℕ = need quantum heads last in
     let others : Option Choice = choose (needs quantum heads f.rest) in
-    let before : choice_of heads s ≡ Some (sooner (suc k) others) =
-    ap (λ es. choose (needs quantum heads es)) f.is ∙ ap (λ m. Some (sooner m others)) (need_falls heads s n len f head one short) in
+    let before : choice_of heads s ≡ Some (sooner (suc k) others) = choice_before heads s n len f head one short in
     let granted_list : List Entry = active_after len s.classes s.active in
     let list : granted_list ≡ f.rest ++ last ∷ [] = turned_granted s n len f short in
-    let after : choose (needs quantum heads granted_list) ≡ Some (last_one k (length f.rest) others) =
-    ap (λ es. choose (needs quantum heads es)) list ∙ choice_end quantum heads f.rest last in
+    let after : choose (needs quantum heads granted_list) ≡ Some (last_one k (length f.rest) others) = choice_after heads s n len f short in
     let long : length granted_list ≡ suc (length f.rest) = ap length list ∙ length_push f.rest last ∙ add-one (length f.rest) in
     let active : brought_up quantum (choose (needs quantum heads granted_list)) granted_list ≡ brought_up quantum (choice_of heads s) s.active =
     ap (λ c. brought_up quantum c granted_list) after
@@ -240,7 +256,7 @@ nothing_shown None no_value = refl
 nothing_shown (Some x) no_value = absurd (no_value x refl)
 
 -- the ends of a take
-need_at : (heads : ℕ → Option ℕ) (s : Schedule) (n : ℕ) (f : Front n s) (h : Option ℕ) → heads n ≡ h → ((len : ℕ) → h ≡ Some len → len ≤ f.first.deficit) → need (λ m. quantum_of m s.classes) heads f.first ≡ 0
+pub need_at : (heads : ℕ → Option ℕ) (s : Schedule) (n : ℕ) (f : Front n s) (h : Option ℕ) → heads n ≡ h → ((len : ℕ) → h ≡ Some len → len ≤ f.first.deficit) → need (λ m. quantum_of m s.classes) heads f.first ≡ 0
 unfolding grants_for
 need_at heads s n f None e covered = ap (grants_for (quantum_of f.first.class s.classes) f.first.deficit) (ap heads f.class ∙ e)
 need_at heads s n f (Some len) e covered =

@@ -1,6 +1,7 @@
-//! Laws of the definitions that the contracts cite, over every list of turns. Each function does nothing: its contract is
-//! the law.
+//! Laws of the definitions that the contracts cite. Each function does nothing: its contract is the law.
+ghost use Rattle.q_drr.specs.Changes.{EmptyIsLawful, AddedIsLawful, RemovedIsLawful, WokenIsLawful, AsleepIsLawful, RequantizedIsLawful, TurnedIsLawful, ServedIsLawful};
 ghost use Rattle.q_drr.specs.Stretch.{EachSendsItsShare, GrantsAreEven};
+ghost use Rattle.q_drr.specs.Turns.{TakesAreTurns, LeastNeedIsMet, TurnsGrantWhereShort, TakesGrantWhereShort};
 
 /// Over any stretch of turns each class that is active sends, in bytes, its grants times its quantum and the deficit that
 /// it had at first, less the deficit that it has at last.
@@ -12,4 +13,35 @@ pub fn each_sends_its_share()
 /// else the one that stood first gets one more.
 pub fn grants_are_even()
     ensures { GrantsAreEven }
+{}
+
+/// A whole take is a list of turns, each for the head that the class in front shows. They grant to each class that
+/// stands before the one that is met once more than to it and to those behind it, and only the class that is met sends.
+/// So what holds of turns holds of takes.
+pub fn takes_are_turns()
+    ensures { TakesAreTurns }
+{}
+
+/// The class that a take meets needs no more grants than any other, and fewer than each that stands before it.
+pub fn least_need_is_met()
+    ensures { LeastNeedIsMet }
+{}
+
+/// Just before a class is granted its deficit is below the length of the head that it shows: at a turn, and at the last
+/// of its grants in a whole take.
+pub fn grants_come_where_short()
+    ensures turn { TurnsGrantWhereShort }
+    ensures take { TakesGrantWhereShort }
+{}
+
+/// Every change of the list keeps what holds of every list, `IsLawful`.
+pub fn changes_stay_lawful()
+    ensures empty { EmptyIsLawful }
+    ensures added { AddedIsLawful }
+    ensures removed { RemovedIsLawful }
+    ensures woken { WokenIsLawful }
+    ensures asleep { AsleepIsLawful }
+    ensures requantized { RequantizedIsLawful }
+    ensures turned { TurnedIsLawful }
+    ensures served { ServedIsLawful }
 {}
