@@ -1,6 +1,6 @@
 -- A whole take as turns: how often each class is granted and what it sends, turn by turn and at once.
-use Rattle.std.proofs.Common.{◌≡◌, ◌≢◌, ◌⊎◌, ℕ, zero, suc, ◌+◌, ◌*◌, ◌<◌, ◌≤◌, Bool, true, false, eqb, cond, List, [], ◌∷◌, ◌++◌, map, length, get_or, Option, Some, None, IfSome, IsSomeAnd, MatchOption, refl, sym, ap, ◌∙◌, subst, inl, inr, arith, eq-eqb}
-use Rattle.std.specs.Prelude.{◌==◌, if◌then◌else◌, nat_lt, nat_le, slice_get, option_and_then, unwrap_or}
+use Rattle.std.proofs.Common.{◌≡◌, ◌≢◌, ◌⊎◌, ℕ, zero, suc, ◌+◌, ◌*◌, ◌<◌, ◌≤◌, Bool, true, false, eqb, cond, List, [], ◌∷◌, ◌++◌, map, length, get_or, take, drop, Option, Some, None, IfSome, IsSomeAnd, MatchOption, refl, sym, ap, ◌∙◌, subst, inl, inr, arith, eq-eqb}
+use Rattle.std.specs.Prelude.{◌==◌, if◌then◌else◌, nat_lt, nat_le, slice_get, option_map, option_and_then, unwrap_or}
 use Rattle.std.specs.List.{All, sum_by}
 use Rattle.std.proofs.Math.Seq.{get_or-append_seam}
 use Rattle.std.proofs.lemmas.Bool.{cases_Bool, cases_lt, cases_eq, cond-true, cond-false, eqb-true, ne_eqb, false≢true, lt-ltb, le-ltb, lt-leb, le-leb, leb-false}
@@ -11,8 +11,8 @@ use Rattle.q_packet.proofs.LeastLemmas.{least_gt}
 use Rattle.q_drr.specs.Changes.{HeadsFit, ServedIsLawful}
 use Rattle.q_drr.specs.Schedule.{Class, Entry, Schedule, quantum_of, deficit_of, front_of, is_active, after_grants, active_after, turned, IsEntry, IsLawful}
 use Rattle.q_drr.specs.Stretch.{after_turns, grant_in, bytes_in, grants, sent}
-use Rattle.q_drr.specs.Take.{grants_for, need, needs, choice_of, prepared, sent_in, served}
-use Rattle.q_drr.specs.Turns.{AreShown, grants_at, bytes_at, AreTurnsOf, TakesAreTurns, LeastNeedIsMet, TurnsGrantWhereShort, TakesGrantWhereShort}
+use Rattle.q_drr.specs.Take.{grants_for, need, needs, choice_of, granted, brought_up, prepared, sent_in, served, met_in}
+use Rattle.q_drr.specs.Turns.{AreShown, grants_at, bytes_at, AreTurnsOf, TakesAreTurns, LeastNeedIsMet, ChosenIsMet, TurnsGrantWhereShort, TakesGrantWhereShort}
 use Rattle.q_drr.proofs.ChangeLemmas.{turned_lawful}
 use Rattle.q_drr.proofs.DifferLemmas.{EntriesDiffer, entries_apart, nowhere}
 use Rattle.q_drr.proofs.LookupLemmas.{deficit-here}
@@ -318,6 +318,27 @@ least_met quantum heads (e ∷ es) = choice_is (needs quantum heads (e ∷ es))
 
 pub least_need_is_met : LeastNeedIsMet
 least_need_is_met s heads = least_met (λ n. quantum_of n s.classes) heads s.active
+
+-- the class at the chosen place comes to the front
+first_dropped : (heads : ℕ → Option ℕ) (quantum : ℕ → ℕ) (k p : ℕ) (es xs : List Entry) → p < length es
+    → met_in heads (granted quantum k (drop p es) ++ xs) ≡ option_map (λ (e : Entry). record { class = e.class; head = heads e.class }) (slice_get es p)
+first_dropped heads quantum k p [] xs below = absurd (omega arith)
+first_dropped heads quantum k zero (e ∷ es) xs below = refl
+first_dropped heads quantum k (suc p) (e ∷ es) xs below = first_dropped heads quantum k p es xs (omega arith)
+
+met_chosen : (heads : ℕ → Option ℕ) (quantum : ℕ → ℕ) (es : List Entry) (o : Option Choice) → MatchOption o (es ≡ []) (λ c. c.place < length es)
+    → met_in heads (brought_up quantum o es) ≡ option_map (λ (e : Entry). record { class = e.class; head = heads e.class }) (option_and_then (λ (c : Choice). slice_get es c.place) o)
+met_chosen heads quantum es None none = ap (met_in heads) none
+met_chosen heads quantum es (Some c) within = first_dropped heads quantum c.rounds c.place es (granted quantum (suc c.rounds) (take c.place es)) within
+
+chosen_within : (quantum : ℕ → ℕ) (heads : ℕ → Option ℕ) (es : List Entry) → MatchOption (choose (needs quantum heads es)) (es ≡ []) (λ c. c.place < length es)
+chosen_within quantum heads [] = refl
+chosen_within quantum heads (e ∷ es) = choice_within quantum heads (e ∷ es)
+
+pub chosen_is_met : ChosenIsMet
+chosen_is_met s heads =
+    let quantum : ℕ → ℕ = λ n. quantum_of n s.classes in
+    met_chosen heads quantum s.active (choice_of heads s) (chosen_within quantum heads s.active)
 
 turn_short : (len n : ℕ) (es : List Entry) → grant_in n len es ≡ 1 → deficit_of n es < len
 turn_short len n [] granted = absurd (omega arith)

@@ -37,8 +37,8 @@ EachSendsItsShare =
     (s : Schedule) (lens : List ℕ) (n : ℕ) → IsLawful s → is_active n s.active ≡ true
     → sent n lens s + deficit_of n (after_turns lens s).active ≡ grants n lens s * quantum_of n s.classes + deficit_of n s.active
 
--- two classes are granted equally often where they stand in the same order at both ends; else the one that stood first
--- was granted once more
+-- two classes are granted equally often over turns that leave them in the order that they had, and one that stood before
+-- the other and then stands behind it was granted once more
 pub record AreEven (i j : ℕ) (lens : List ℕ) (s : Schedule) : Type 0 where
   pub same_order : stands_first i j (after_turns lens s).active ≡ stands_first i j s.active → grants i lens s ≡ grants j lens s
   pub changed_order : stands_first i j s.active ≡ true → stands_first i j (after_turns lens s).active ≡ false → grants i lens s ≡ grants j lens s + 1

@@ -1,11 +1,11 @@
 -- A whole take of deficit round robin as the turns that it is made of, and how often it grants to each class.
 -- After M. Shreedhar and G. Varghese, "Efficient Fair Queuing Using Deficit Round-Robin" (1995), and tc-drr(8).
-use Rattle.std.specs.Prelude.{◌≡◌, ℕ, suc, ◌+◌, ◌*◌, ◌<◌, ◌==◌, nat_lt, if◌then◌else◌, List, [], ◌∷◌, length, slice_index_or, Option, Some, None, MatchOption, IsSomeAnd, option_and_then, unwrap_or}
+use Rattle.std.specs.Prelude.{◌≡◌, ℕ, suc, ◌+◌, ◌*◌, ◌<◌, ◌==◌, nat_lt, if◌then◌else◌, List, [], ◌∷◌, length, slice_get, slice_index_or, Option, Some, None, MatchOption, IsSomeAnd, option_map, option_and_then, unwrap_or}
 use Rattle.q_packet.specs.Choice.{Choice, IsChosen}
 use Rattle.q_drr.specs.Changes.{HeadsFit}
 use Rattle.q_drr.specs.Schedule.{Entry, Schedule, quantum_of, deficit_of, front_of, turned, IsLawful}
 use Rattle.q_drr.specs.Stretch.{after_turns, grant_in, grants, sent}
-use Rattle.q_drr.specs.Take.{needs, choice_of, served}
+use Rattle.q_drr.specs.Take.{needs, choice_of, served, met}
 
 -- turns at each of which the class in front shows a head of this length
 abbrev pub AreShown : (ℕ → Option ℕ) → List ℕ → Schedule → Type 0
@@ -35,6 +35,12 @@ TakesAreTurns = (s : Schedule) (heads : ℕ → Option ℕ) → IsLawful s → H
 -- the class that is met needs no more grants than any other, and fewer than each that stands before it
 abbrev pub LeastNeedIsMet : Type 0
 LeastNeedIsMet = (s : Schedule) (heads : ℕ → Option ℕ) → MatchOption (choice_of heads s) (s.active ≡ []) (IsChosen (needs (λ (n : ℕ). quantum_of n s.classes) heads s.active))
+
+-- and it stands at the chosen place; none is met where none is active
+abbrev pub ChosenIsMet : Type 0
+ChosenIsMet =
+    (s : Schedule) (heads : ℕ → Option ℕ)
+    → met heads s ≡ option_map (λ (e : Entry). record { class = e.class; head = heads e.class }) (option_and_then (λ (c : Choice). slice_get s.active c.place) (choice_of heads s))
 
 -- a turn grants to a class whose deficit is below the head that it shows
 abbrev pub TurnsGrantWhereShort : Type 0

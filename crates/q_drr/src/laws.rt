@@ -1,7 +1,7 @@
 //! Laws of the definitions that the contracts cite. Each function does nothing: its contract is the law.
 ghost use Rattle.q_drr.specs.Changes.{EmptyIsLawful, AddedIsLawful, RemovedIsLawful, WokenIsLawful, AsleepIsLawful, RequantizedIsLawful, TurnedIsLawful, ServedIsLawful};
 ghost use Rattle.q_drr.specs.Stretch.{EachSendsItsShare, GrantsAreEven};
-ghost use Rattle.q_drr.specs.Turns.{TakesAreTurns, LeastNeedIsMet, TurnsGrantWhereShort, TakesGrantWhereShort};
+ghost use Rattle.q_drr.specs.Turns.{TakesAreTurns, LeastNeedIsMet, ChosenIsMet, TurnsGrantWhereShort, TakesGrantWhereShort};
 
 /// Over any stretch of turns each class that is active sends, in bytes, its grants times its quantum and the deficit that
 /// it had at first, less the deficit that it has at last.
@@ -9,8 +9,8 @@ pub fn each_sends_its_share()
     ensures { EachSendsItsShare }
 {}
 
-/// Over any stretch of turns two active classes get equally many grants where they stand in the same order at both ends;
-/// else the one that stood first gets one more.
+/// Over any stretch of turns no active class is granted more than once more often than another: once more where it stood
+/// before the other at the start and stands behind it at the end, and as often where they have kept their order.
 pub fn grants_are_even()
     ensures { GrantsAreEven }
 {}
@@ -24,7 +24,8 @@ pub fn takes_are_turns()
 
 /// The class that a take meets needs no more grants than any other, and fewer than each that stands before it.
 pub fn least_need_is_met()
-    ensures { LeastNeedIsMet }
+    ensures least { LeastNeedIsMet }
+    ensures met { ChosenIsMet }
 {}
 
 /// Just before a class is granted its deficit is below the length of the head that it shows: at a turn, and at the last
