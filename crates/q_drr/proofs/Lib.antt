@@ -1,5 +1,6 @@
 pub mod ChangeLemmas
 pub mod DifferLemmas
+pub mod FairLemmas
 pub mod KeyLemmas
 pub mod LookupLemmas
 pub mod NameLemmas

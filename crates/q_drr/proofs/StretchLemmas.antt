@@ -116,7 +116,7 @@ pub list_differ : (len : ℕ) (classes : List Class) (es : List Entry) → Entri
 list_differ len classes [] d = tt
 list_differ len classes (e ∷ es) d = turn_differ len classes e es d
 
-list_active : (len : ℕ) (classes : List Class) (es : List Entry) (n : ℕ) → is_active n (active_after len classes es) ≡ is_active n es
+pub list_active : (len : ℕ) (classes : List Class) (es : List Entry) (n : ℕ) → is_active n (active_after len classes es) ≡ is_active n es
 list_active len classes [] n = refl
 list_active len classes (e ∷ es) n = turn_active len classes e es n
 

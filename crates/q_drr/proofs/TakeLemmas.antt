@@ -225,7 +225,7 @@ measure_falls heads s n len f head one short =
     omega (arith, ap (sum_by g) (turned_granted s n len f short), ap (sum_by g) f.is, sum_by_push g f.rest last, sum_by-cons g f.first f.rest, need_falls heads s n len f head one short)
 
 -- a class of the list has a quantum
-has_quantum : (n : ℕ) (classes : List Class) → AllByRecursion (λ (c : Class). 1 ≤ c.quantum) classes → has_class n classes ≡ true → 1 ≤ quantum_of n classes
+pub has_quantum : (n : ℕ) (classes : List Class) → AllByRecursion (λ (c : Class). 1 ≤ c.quantum) classes → has_class n classes ≡ true → 1 ≤ quantum_of n classes
 has_quantum n [] h there = absurd (false≢true there)
 has_quantum n (c ∷ classes) h there = elim (cases_Bool (eqb n c.name)) [
   | inl e ↦ subst (λ k. 1 ≤ k) (sym (quantum-here n c classes e)) h.0

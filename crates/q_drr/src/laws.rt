@@ -1,6 +1,6 @@
 //! Laws of the definitions that the contracts cite. Each function does nothing: its contract is the law.
 ghost use Rattle.q_drr.specs.Changes.{EmptyIsLawful, AddedIsLawful, RemovedIsLawful, WokenIsLawful, AsleepIsLawful, RequantizedIsLawful, TurnedIsLawful, ServedIsLawful};
-ghost use Rattle.q_drr.specs.Stretch.{EachSendsItsShare, GrantsAreEven};
+ghost use Rattle.q_drr.specs.Stretch.{EachSendsItsShare, GrantsAreEven, SharesAreFair};
 ghost use Rattle.q_drr.specs.Turns.{TakesAreTurns, LeastNeedIsMet, ChosenIsMet, TurnsGrantWhereShort, TakesGrantWhereShort};
 
 /// Over any stretch of turns each class that is active sends, in bytes, its grants times its quantum and the deficit that
@@ -13,6 +13,12 @@ pub fn each_sends_its_share()
 /// before the other at the start and stands behind it at the end, and as often where they have kept their order.
 pub fn grants_are_even()
     ensures { GrantsAreEven }
+{}
+
+/// Over any stretch of turns the bytes that two active classes send are to each other as their quanta: they differ, each
+/// times the other's quantum, by less than three products of the quanta and a longest packet times their sum.
+pub fn shares_are_fair()
+    ensures { SharesAreFair }
 {}
 
 /// A whole take is a list of turns, each for the head that the class in front shows. They grant to each class that
