@@ -3,7 +3,8 @@ use Rattle.std.proofs.Common.{◌≡◌, ℕ, ◌<◌, ◌≤◌, Bool, true, fa
 use Rattle.std.proofs.lemmas.Bool.{eqb-true, ne_eqb, false≢true, or_parts, or_from, cases_Bool}
 use Rattle.std.proofs.lemmas.Map.Steps.{length-le_from_distinct_below}
 use Rattle.std.specs.List.{IsDistinct, AllByRecursion}
-use Rattle.q_drr.specs.Links.{is_among, without, AllDiffer}
+use Rattle.q_drr.specs.Links.{is_among, without}
+use Rattle.q_drr.proofs.DifferLemmas.{AllDiffer}
 
 -- a number that is a member differs from one that is not
 pub differ_by_member : (a l : ℕ) (ns : List ℕ) → is_among l ns ≡ true → is_among a ns ≡ false → eqb a l ≡ false

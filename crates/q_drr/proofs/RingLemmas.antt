@@ -6,7 +6,8 @@ use Rattle.std.proofs.lemmas.Bool.{eqb-true, false≢true, or_parts, or_from, ca
 use Rattle.std.proofs.lemmas.List.{append-nil, length_push, get_or_append_left, get_or-append_right, take_all}
 use Rattle.std.specs.List.{AllByRecursion}
 use Rattle.q_drr.specs.declared.ring.Link.{Link}
-use Rattle.q_drr.specs.Links.{Circle, no_link, without, is_among, AllDiffer, walk, IsPath, IsClosed, IsCircle, IsJoined, IsMarked, next_of, before_of}
+use Rattle.q_drr.specs.Links.{Circle, no_link, without, is_among, walk, IsPath, IsClosed, IsCircle, IsJoined, IsMarked, next_of, before_of}
+use Rattle.q_drr.proofs.DifferLemmas.{AllDiffer, numbers_apart, numbers_differ-from}
 use Rattle.q_drr.proofs.NameLemmas.{differ_by_member, eqb_swap, among_itself, among_rotated, differ_push, differ_rotated, each_push, each_at, place_of, among-append}
 
 if_true : (t : Bool) (x y z : ℕ) → z ≡ (if t then x else y) → t ≡ true → z ≡ x
@@ -99,7 +100,7 @@ closed_rotated nx bf n (m ∷ ms) h = path-append nx bf m ms n [] m h.2 (h.0, h.
 circle_rotated : (links : List Link) (n : ℕ) (ns : List ℕ) → IsCircle links (n ∷ ns) → IsCircle links (ns ++ n ∷ [])
 circle_rotated links n ns h = record {
   room = h.room;
-  differ = differ_rotated n ns h.differ;
+  differ = numbers_differ-from (ns ++ n ∷ []) (differ_rotated n ns (numbers_apart (n ∷ ns) h.differ));
   inside = each_push (λ m. m < length links) n ns h.inside.1 h.inside.0;
   closed = closed_rotated (next_of links) (before_of links) n ns h.closed;
   members = λ m below. h.members m below ∙ sym (among_rotated m n ns);
@@ -148,16 +149,17 @@ pub circle_grown : (links joined closed marked : List Link) (first : ℕ) (ns : 
     → n < length links → is_among n (first ∷ ns) ≡ false → IsCircle marked ((first ∷ ns) ++ n ∷ [])
 circle_grown links joined closed marked first ns n h j i k below absent =
     let parts = or_parts (eqb n first) (is_among n ns) absent in
+    let differ : AllDiffer (first ∷ ns) = numbers_apart (first ∷ ns) h.differ in
     let l = path_last (next_of links) (before_of links) first ns first h.closed in
     let there : IsPath (next_of joined) (before_of joined) first ns n =
-    path_redirected (next_of links) (before_of links) (next_of joined) (before_of joined) first ns first n (before_of links first) l j.next j.before h.differ parts.1 h.closed in
+    path_redirected (next_of links) (before_of links) (next_of joined) (before_of joined) first ns first n (before_of links first) l j.next j.before differ parts.1 h.closed in
     let whole : IsPath (next_of marked) (before_of marked) first ns n =
     path_same (next_of joined) (before_of joined) (next_of marked) (before_of marked) first ns n
     (λ m q. k.next m ∙ if_false _ _ _ _ (i.next m) (eqb_swap n m (differ_by_member n m (first ∷ ns) q absent)))
-    (λ m q. k.before m ∙ if_false _ _ _ _ (i.before m) (eqb_swap first m (differ_by_member first m (n ∷ ns) q (or_from (eqb first n) (is_among first ns) (eqb_swap n first parts.0) h.differ.0)))) there in
+    (λ m q. k.before m ∙ if_false _ _ _ _ (i.before m) (eqb_swap first m (differ_by_member first m (n ∷ ns) q (or_from (eqb first n) (is_among first ns) (eqb_swap n first parts.0) differ.0)))) there in
     record {
       room = omega (arith, h.room, j.len, i.len, k.len);
-      differ = differ_push n (first ∷ ns) h.differ absent;
+      differ = numbers_differ-from ((first ∷ ns) ++ n ∷ []) (differ_push n (first ∷ ns) differ absent);
       inside = each_push (λ m. m < length marked) n (first ∷ ns) (below_same links marked (first ∷ ns) (k.len ∙ i.len ∙ j.len) h.inside) (omega (arith, j.len, i.len, k.len));
       closed = path-append (next_of marked) (before_of marked) first ns n [] first whole (
         k.next n ∙ if_true _ _ _ _ (i.next n) (eq-eqb n n refl),
@@ -182,20 +184,21 @@ closed_without links joined marked n (m ∷ ms) h j k =
     let bf = before_of links in
     let l = path_last nx bf n (m ∷ ms) n h.closed in
     let first : nx n ≡ m = h.closed.0 in
+    let differ : AllDiffer (n ∷ m ∷ ms) = numbers_apart (n ∷ m ∷ ms) h.differ in
     let nexts : (q : ℕ) → next_of marked q ≡ (if eqb q (bf n) then m else nx q) =
     λ q. k.next q ∙ j.next q ∙ ap (λ r. if eqb q (bf n) then r else nx q) first in
     let befores : (q : ℕ) → before_of marked q ≡ (if eqb q m then bf n else bf q) =
     λ q. k.before q ∙ j.before q ∙ ap (λ r. if eqb q r then bf n else bf q) first in
-    path_redirected nx bf (next_of marked) (before_of marked) m ms n m (bf n) l nexts befores h.differ.1 h.differ.1.0 h.closed.2
+    path_redirected nx bf (next_of marked) (before_of marked) m ms n m (bf n) l nexts befores differ.1 differ.1.0 h.closed.2
 
 pub circle_without : (links joined marked : List Link) (n : ℕ) (ns : List ℕ) → IsCircle links (n ∷ ns)
     → IsJoined links joined (before_of links n) (next_of links n) → IsMarked joined marked n false → IsCircle marked ns
 circle_without links joined marked n ns h j k = record {
   room = omega (arith, h.room, j.len, k.len);
-  differ = h.differ.1;
+  differ = numbers_differ-from ns (numbers_apart (n ∷ ns) h.differ).1;
   inside = below_same links marked ns (k.len ∙ j.len) h.inside.1;
   closed = closed_without links joined marked n ns h j k;
-  members = λ m q. members_less m n ns _ _ h.differ.0 (k.changed m) (j.here m ∙ h.members m (omega (arith, j.len, k.len)));
+  members = λ m q. members_less m n ns _ _ (numbers_apart (n ∷ ns) h.differ).0 (k.changed m) (j.here m ∙ h.members m (omega (arith, j.len, k.len)));
 }
 
 pub front_inside : (links : List Link) (count front : ℕ) → IsCircle links (walk (next_of links) count front) → 0 < count → front < length links
@@ -226,7 +229,7 @@ pub record Neighbours (links : List Link) (n : ℕ) : Type 0 where
 
 pub neighbours : (links : List Link) (n : ℕ) (ns : List ℕ) → IsCircle links ns → is_among n ns ≡ true → Neighbours links n
 neighbours links n ns h there =
-    let p = place_of n ns h.differ there in
+    let p = place_of n ns (numbers_apart ns h.differ) there in
     let b = near links n (p.rest ++ p.front) (brought links n ns p.front p.rest h p.is) in
     record { itself = each_at (λ k. k < length links) n ns h.inside there; next = b.0; before = b.1 }
 
@@ -267,7 +270,7 @@ removed_front links n first moved [] (r ∷ rs) (suc k) old h w same other m ms 
 removed_front links n first moved (x ∷ xs) rest (suc k) old h w same other m ms e =
     let front_is : old ≡ x = cc in
     let head : x ≡ m = cc in
-    let apart : eqb x n ≡ false = differ_by_member x n (xs ++ n ∷ rest) (among-append n xs (n ∷ rest) ∙ or_right (is_among n xs) _ (among_itself n rest)) h.differ.0 in
+    let apart : eqb x n ≡ false = differ_by_member x n (xs ++ n ∷ rest) (among-append n xs (n ∷ rest) ∙ or_right (is_among n xs) _ (among_itself n rest)) (numbers_apart (x ∷ xs ++ n ∷ rest) h.differ).0 in
     other (λ q. false≢true (sym apart ∙ eq-eqb x n (sym front_is ∙ q))) ∙ front_is ∙ head
 
 pub circle_removed : (links new : List Link) (count front moved n : ℕ) → IsCircle links (walk (next_of links) count front)
@@ -276,7 +279,7 @@ pub circle_removed : (links new : List Link) (count front moved n : ℕ) → IsC
     → (walk (next_of new) (count - 1) moved ≡ without n (walk (next_of links) count front)) × IsCircle new (walk (next_of new) (count - 1) moved)
 circle_removed links new count front moved n h there taken same other =
     let order = walk (next_of links) count front in
-    let p = place_of n order h.differ there in
+    let p = place_of n order (numbers_apart order h.differ) there in
     let left : IsCircle new (p.front ++ p.rest) = circle_swapped new p.rest p.front (taken (p.rest ++ p.front) (brought links n order p.front p.rest h p.is)) in
     let long : length (p.front ++ p.rest) ≡ count - 1 =
     omega (arith, length-append p.front p.rest, length-append p.front (n ∷ p.rest), ap length p.is, length-walk (next_of links) count front) in

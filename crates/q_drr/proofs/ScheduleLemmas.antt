@@ -1,14 +1,17 @@
 -- What an active list shows, after each change of its table and its circle.
-use Rattle.std.proofs.Common.{◌≡◌, ℕ, ◌+◌, ◌-◌, ◌<◌, ◌≤◌, ◌^◌, min, Bool, true, false, eqb, ◌||◌, not, cond, List, [], ◌∷◌, ◌++◌, map, refl, sym, ap, ◌∙◌, subst, inl, inr, arith, eq-eqb, take, drop}
-use Rattle.std.specs.Prelude.{if◌then◌else◌, slice_get, ◌==◌}
-use Rattle.std.specs.List.{AllByRecursion, filter}
+use Rattle.std.proofs.Common.{◌≡◌, ◌≢◌, ℕ, ◌+◌, ◌-◌, ◌<◌, ◌≤◌, ◌^◌, min, Bool, true, false, eqb, ◌||◌, not, cond, List, [], ◌∷◌, ◌++◌, map, length, Some, None, refl, sym, ap, ◌∙◌, subst, inl, inr, arith, eq-eqb, take, drop}
+use Rattle.std.specs.Prelude.{if◌then◌else◌, slice_get, ◌==◌, nat_lt}
+use Rattle.std.specs.List.{AllByRecursion, AllPairs, filter, position_or_len}
+use Rattle.std.proofs.lemmas.List.Elements.{All-from_recursion}
 use Rattle.std.proofs.lemmas.Bool.{eqb-true, false≢true, or_parts, or_from, cases_Bool}
-use Rattle.std.proofs.lemmas.List.{map-append}
+use Rattle.std.proofs.lemmas.List.{map-append, length-map}
 use Rattle.q_drr.specs.declared.class_state.ClassState.{ClassState}
-use Rattle.q_drr.specs.Links.{Circle, is_among, without, AllDiffer}
-use Rattle.q_drr.specs.States.{has_state, state_of, with_state, without_state, class_in, entry_in}
-use Rattle.q_drr.specs.Schedule.{Class, Entry, Schedule, woken, asleep, removed, added, with_quantum, has_class, quantum_of, is_active, deficit_of, granted_of, cut, IsEntry, ClassesDiffer, EntriesDiffer, IsLawful}
-use Rattle.q_drr.specs.Kept.{shown, IsState, StatesDiffer, IsKept}
+use Rattle.q_drr.specs.Links.{Circle, is_among, without}
+use Rattle.q_drr.specs.States.{has_state, place_of_state, state_of, with_state, without_state, class_in, entry_in}
+use Rattle.q_drr.specs.Schedule.{Class, Entry, Schedule, woken, asleep, removed, added, with_quantum, has_class, place_of, quantum_of, is_active, deficit_of, granted_of, cut, IsEntry, IsLawful}
+use Rattle.q_drr.specs.Kept.{shown, IsState, IsKept}
+use Rattle.q_drr.proofs.DifferLemmas.{AllDiffer, StatesDiffer, ClassesDiffer, EntriesDiffer, pairs-from_differ, numbers_apart, states_apart, numbers_differ-from, states_differ-from}
+use Rattle.q_drr.proofs.LookupLemmas.{state-here, state-behind, quantum-here, quantum-behind, deficit-here, deficit-behind, granted-here, granted-behind}
 use Rattle.q_drr.proofs.NameLemmas.{each_at, each_push, differ_by_member, differ_push, differ_rotated, eqb_swap, without_absent}
 use Rattle.q_drr.proofs.StateLemmas.{with_absent}
 
@@ -33,8 +36,8 @@ has_class_in n (c ∷ states) = ap (λ t. eqb n c.name || t) (has_class_in n sta
 pub quantum_in : (n : ℕ) (states : List ClassState) → quantum_of n (map class_in states) ≡ (state_of n states).quantum
 quantum_in n [] = refl
 quantum_in n (c ∷ states) = elim (cases_Bool (eqb n c.name)) [
-  | inl e ↦ ap (λ (t : Bool). if t then c.quantum else quantum_of n (map class_in states)) e ∙ ap (λ (t : Bool). (if t then c else state_of n states).quantum) (sym e)
-  | inr e ↦ ap (λ (t : Bool). if t then c.quantum else quantum_of n (map class_in states)) e ∙ quantum_in n states ∙ ap (λ (t : Bool). (if t then c else state_of n states).quantum) (sym e)
+  | inl e ↦ quantum-here n (class_in c) (map class_in states) e ∙ ap (λ x. x.quantum) (sym (state-here n c states e))
+  | inr e ↦ quantum-behind n (class_in c) (map class_in states) e ∙ quantum_in n states ∙ ap (λ x. x.quantum) (sym (state-behind n c states e))
 ]
 
 pub active_in : (n : ℕ) (states : List ClassState) (order : List ℕ) → is_active n (map (entry_in states) order) ≡ is_among n order
@@ -44,50 +47,57 @@ active_in n states (m ∷ order) = ap (λ t. eqb n m || t) (active_in n states o
 pub deficit_in : (n : ℕ) (states : List ClassState) (order : List ℕ) → is_among n order ≡ true → deficit_of n (map (entry_in states) order) ≡ (state_of n states).deficit
 deficit_in n states [] there = absurd (false≢true there)
 deficit_in n states (m ∷ order) there = elim (cases_Bool (eqb n m)) [
-  | inl e ↦ ap (λ (t : Bool). if t then (state_of m states).deficit else deficit_of n (map (entry_in states) order)) e ∙ ap (λ k. (state_of k states).deficit) (sym (eqb-true n m e))
-  | inr e ↦ ap (λ (t : Bool). if t then (state_of m states).deficit else deficit_of n (map (entry_in states) order)) e ∙ deficit_in n states order (sym (ap (λ t. t || is_among n order) e) ∙ there)
+  | inl e ↦ deficit-here n (entry_in states m) (map (entry_in states) order) e ∙ ap (λ k. (state_of k states).deficit) (sym (eqb-true n m e))
+  | inr e ↦ deficit-behind n (entry_in states m) (map (entry_in states) order) e ∙ deficit_in n states order (sym (ap (λ t. t || is_among n order) e) ∙ there)
 ]
 
 pub granted_in : (n : ℕ) (states : List ClassState) (order : List ℕ) → is_among n order ≡ true → granted_of n (map (entry_in states) order) ≡ (state_of n states).granted
 granted_in n states [] there = absurd (false≢true there)
 granted_in n states (m ∷ order) there = elim (cases_Bool (eqb n m)) [
-  | inl e ↦ ap (λ (t : Bool). if t then (state_of m states).granted else granted_of n (map (entry_in states) order)) e ∙ ap (λ k. (state_of k states).granted) (sym (eqb-true n m e))
-  | inr e ↦ ap (λ (t : Bool). if t then (state_of m states).granted else granted_of n (map (entry_in states) order)) e ∙ granted_in n states order (sym (ap (λ t. t || is_among n order) e) ∙ there)
+  | inl e ↦ granted-here n (entry_in states m) (map (entry_in states) order) e ∙ ap (λ k. (state_of k states).granted) (sym (eqb-true n m e))
+  | inr e ↦ granted-behind n (entry_in states m) (map (entry_in states) order) e ∙ granted_in n states order (sym (ap (λ t. t || is_among n order) e) ∙ there)
 ]
 
 pub deficit_asleep : (n : ℕ) (states : List ClassState) (order : List ℕ) → is_among n order ≡ false → deficit_of n (map (entry_in states) order) ≡ 0
 deficit_asleep n states [] absent = refl
 deficit_asleep n states (m ∷ order) absent =
     let parts = or_parts (eqb n m) (is_among n order) absent in
-    ap (λ (t : Bool). if t then (state_of m states).deficit else deficit_of n (map (entry_in states) order)) parts.0 ∙ deficit_asleep n states order parts.1
+    deficit-behind n (entry_in states m) (map (entry_in states) order) parts.0 ∙ deficit_asleep n states order parts.1
 
 pub granted_asleep : (n : ℕ) (states : List ClassState) (order : List ℕ) → is_among n order ≡ false → granted_of n (map (entry_in states) order) ≡ 0
 granted_asleep n states [] absent = refl
 granted_asleep n states (m ∷ order) absent =
     let parts = or_parts (eqb n m) (is_among n order) absent in
-    ap (λ (t : Bool). if t then (state_of m states).granted else granted_of n (map (entry_in states) order)) parts.0 ∙ granted_asleep n states order parts.1
+    granted-behind n (entry_in states m) (map (entry_in states) order) parts.0 ∙ granted_asleep n states order parts.1
 
 -- the state found for a class that is there
 pub name_of_state : (n : ℕ) (states : List ClassState) → has_state n states ≡ true → (state_of n states).name ≡ n
 name_of_state n [] there = absurd (false≢true there)
 name_of_state n (c ∷ states) there = elim (cases_Bool (eqb n c.name)) [
-  | inl e ↦ ap (λ (t : Bool). (if t then c else state_of n states).name) e ∙ sym (eqb-true n c.name e)
-  | inr e ↦ ap (λ (t : Bool). (if t then c else state_of n states).name) e ∙ name_of_state n states (sym (ap (λ t. t || has_state n states) e) ∙ there)
+  | inl e ↦ ap (λ x. x.name) (state-here n c states e) ∙ sym (eqb-true n c.name e)
+  | inr e ↦ ap (λ x. x.name) (state-behind n c states e) ∙ name_of_state n states (sym (ap (λ t. t || has_state n states) e) ∙ there)
 ]
 
 pub state_meets : (P : ClassState → Type 0) (n : ℕ) (states : List ClassState) → AllByRecursion P states → has_state n states ≡ true → P (state_of n states)
 state_meets P n [] each there = absurd (false≢true there)
 state_meets P n (c ∷ states) each there = elim (cases_Bool (eqb n c.name)) [
-  | inl e ↦ subst (λ (t : Bool). P (if t then c else state_of n states)) (sym e) each.0
-  | inr e ↦ subst (λ (t : Bool). P (if t then c else state_of n states)) (sym e) (state_meets P n states each.1 (sym (ap (λ t. t || has_state n states) e) ∙ there))
+  | inl e ↦ subst P (sym (state-here n c states e)) each.0
+  | inr e ↦ subst P (sym (state-behind n c states e)) (state_meets P n states each.1 (sym (ap (λ t. t || has_state n states) e) ∙ there))
+]
+
+-- lists that show the same state of a class show the same with one more in front
+state_more : (n : ℕ) (c : ClassState) (cs ds : List ClassState) → state_of n cs ≡ state_of n ds → state_of n (c ∷ cs) ≡ state_of n (c ∷ ds)
+state_more n c cs ds e = elim (cases_Bool (eqb n c.name)) [
+  | inl q ↦ state-here n c cs q ∙ sym (state-here n c ds q)
+  | inr q ↦ state-behind n c cs q ∙ e ∙ sym (state-behind n c ds q)
 ]
 
 -- one state written
 pub state_of_same : (new : ClassState) (states : List ClassState) → has_state new.name states ≡ true → state_of new.name (with_state new states) ≡ new
 state_of_same new [] there = absurd (false≢true there)
 state_of_same new (c ∷ states) there = elim (cases_Bool (eqb new.name c.name)) [
-  | inl e ↦ ap (λ (t : Bool). state_of new.name ((if t then new else c) ∷ with_state new states)) e ∙ ap (λ (t : Bool). if t then new else state_of new.name (with_state new states)) (eq-eqb new.name new.name refl)
-  | inr e ↦ ap (λ (t : Bool). state_of new.name ((if t then new else c) ∷ with_state new states)) e ∙ ap (λ (t : Bool). if t then c else state_of new.name (with_state new states)) e
+  | inl e ↦ ap (λ (t : Bool). state_of new.name ((if t then new else c) ∷ with_state new states)) e ∙ state-here new.name new (with_state new states) (eq-eqb new.name new.name refl)
+  | inr e ↦ ap (λ (t : Bool). state_of new.name ((if t then new else c) ∷ with_state new states)) e ∙ state-behind new.name c (with_state new states) e
       ∙ state_of_same new states (sym (ap (λ t. t || has_state new.name states) e) ∙ there)
 ]
 
@@ -104,13 +114,13 @@ has_with n new (c ∷ states) = ap (λ t. t || has_state n (with_state new state
 pub state_of_other : (n : ℕ) (new : ClassState) (states : List ClassState) → eqb new.name n ≡ false → state_of n (with_state new states) ≡ state_of n states
 state_of_other n new [] apart = refl
 state_of_other n new (c ∷ states) apart =
-    ap (λ (t : Bool). if t then (if eqb new.name c.name then new else c) else state_of n (with_state new states)) (head_name n new c)
-    ∙ elim (cases_Bool (eqb n c.name)) [
-      | inl e ↦ ap (λ (t : Bool). if t then (if eqb new.name c.name then new else c) else state_of n (with_state new states)) e
+    let first : ClassState = if eqb new.name c.name then new else c in
+    elim (cases_Bool (eqb n c.name)) [
+      | inl e ↦ state-here n first (with_state new states) (head_name n new c ∙ e)
           ∙ ap (λ (t : Bool). if t then new else c) (ap (eqb new.name) (sym (eqb-true n c.name e)) ∙ apart)
-          ∙ ap (λ (t : Bool). if t then c else state_of n states) (sym e)
-      | inr e ↦ ap (λ (t : Bool). if t then (if eqb new.name c.name then new else c) else state_of n (with_state new states)) e
-          ∙ state_of_other n new states apart ∙ ap (λ (t : Bool). if t then c else state_of n states) (sym e)
+          ∙ sym (state-here n c states e)
+      | inr e ↦ state-behind n first (with_state new states) (head_name n new c ∙ e)
+          ∙ state_of_other n new states apart ∙ sym (state-behind n c states e)
     ]
 
 pub each_with : (P : ClassState → Type 0) (new : ClassState) (states : List ClassState) → P new → AllByRecursion P states → AllByRecursion P (with_state new states)
@@ -136,12 +146,12 @@ classes_with new [] d same = refl
 classes_with new (c ∷ states) d same = elim (cases_Bool (eqb new.name c.name)) [
   | inl e ↦
       let name : new.name ≡ c.name = eqb-true new.name c.name e in
-      let quantum : new.quantum ≡ c.quantum = same ∙ ap (λ (t : Bool). (if t then c else state_of new.name states).quantum) e in
+      let quantum : new.quantum ≡ c.quantum = same ∙ ap (λ x. x.quantum) (state-here new.name c states e) in
       ap (λ (t : Bool). class_in (if t then new else c) ∷ map class_in (with_state new states)) e
       ∙ ap (λ rest. class_in new ∷ map class_in rest) (with_absent new states (ap (λ m. has_state m states) name ∙ d.0))
       ∙ ap (λ k. k ∷ map class_in states) (same_class new c name quantum)
   | inr e ↦ ap (λ (t : Bool). class_in (if t then new else c) ∷ map class_in (with_state new states)) e
-      ∙ ap (λ rest. class_in c ∷ rest) (classes_with new states d.1 (same ∙ ap (λ (t : Bool). (if t then c else state_of new.name states).quantum) e))
+      ∙ ap (λ rest. class_in c ∷ rest) (classes_with new states d.1 (same ∙ ap (λ x. x.quantum) (state-behind new.name c states e)))
 ]
 
 entries_by : (old new : List ClassState) (order : List ℕ) → ((n : ℕ) → is_among n order ≡ true → state_of n new ≡ state_of n old) → map (entry_in new) order ≡ map (entry_in old) order
@@ -172,7 +182,7 @@ pub kept_put : (max_len : ℕ) (states : List ClassState) (circle : Circle) (new
 kept_put max_len states circle new p h = record {
   positive = h.positive;
   each = each_with (IsState max_len circle.room) new states p h.each;
-  states_differ = differ_with new states h.states_differ;
+  states_differ = states_differ-from (with_state new states) (differ_with new states (states_apart states h.states_differ));
   known = known_with new states circle.order h.known;
   order_differs = h.order_differs;
 }
@@ -184,7 +194,7 @@ kept_order max_len states circle order known differ h = record {
   each = h.each;
   states_differ = h.states_differ;
   known = known;
-  order_differs = differ;
+  order_differs = numbers_differ-from order differ;
 }
 
 -- the entry of the class written
@@ -258,7 +268,7 @@ each_without P n (k ∷ ns) h = elim (eqb n k) as (λ t. AllByRecursion P (cond 
 
 pub kept_asleep : (max_len : ℕ) (states : List ClassState) (circle : Circle) (n : ℕ) → IsKept max_len states circle → IsKept max_len states (record circle { order = without n circle.order })
 kept_asleep max_len states circle n h =
-    kept_order max_len states circle (without n circle.order) (each_without (λ m. has_state m states ≡ true) n circle.order h.known) (differ_without n circle.order h.order_differs) h
+    kept_order max_len states circle (without n circle.order) (each_without (λ m. has_state m states ≡ true) n circle.order h.known) (differ_without n circle.order (numbers_apart circle.order h.order_differs)) h
 
 pub asleep_stays : (max_len turns : ℕ) (states : List ClassState) (order : List ℕ) (n : ℕ) → is_among n order ≡ false → shown max_len turns states order ≡ asleep n (shown max_len turns states order)
 asleep_stays max_len turns states order n absent = ap (shown max_len turns states) (sym (without_absent n order absent)) ∙ asleep_shown max_len turns states order n
@@ -268,7 +278,7 @@ awake_stays s n there = sym (ap (λ (t : Bool). if t then s else record s { acti
 
 pub kept_push : (max_len : ℕ) (states : List ClassState) (circle : Circle) (n : ℕ) → has_state n states ≡ true → is_among n circle.order ≡ false → IsKept max_len states circle → IsKept max_len states (record circle { order = circle.order ++ n ∷ [] })
 kept_push max_len states circle n there absent h =
-    kept_order max_len states circle (circle.order ++ n ∷ []) (each_push (λ m. has_state m states ≡ true) n circle.order h.known there) (differ_push n circle.order h.order_differs absent) h
+    kept_order max_len states circle (circle.order ++ n ∷ []) (each_push (λ m. has_state m states ≡ true) n circle.order h.known there) (differ_push n circle.order (numbers_apart circle.order h.order_differs) absent) h
 
 each_turned : (P : ℕ → Type 0) (ns : List ℕ) → AllByRecursion P ns → AllByRecursion P (drop 1 ns ++ take 1 ns)
 each_turned P [] h = tt
@@ -281,7 +291,7 @@ differ_turned (n ∷ ns) d = differ_rotated n ns d
 pub kept_rotated : (max_len : ℕ) (states : List ClassState) (circle : Circle) → IsKept max_len states circle → IsKept max_len states (record circle { order = drop 1 circle.order ++ take 1 circle.order })
 kept_rotated max_len states circle h =
     kept_order max_len states circle (drop 1 circle.order ++ take 1 circle.order) (each_turned (λ m. has_state m states ≡ true) circle.order h.known)
-    (differ_turned circle.order h.order_differs) h
+    (differ_turned circle.order (numbers_apart circle.order h.order_differs)) h
 
 -- `remove`
 has_without : (m n : ℕ) (states : List ClassState) → eqb n m ≡ false → has_state m (without_state n states) ≡ has_state m states
@@ -296,9 +306,9 @@ state_of_without : (m n : ℕ) (states : List ClassState) → eqb n m ≡ false 
 state_of_without m n [] apart = refl
 state_of_without m n (c ∷ states) apart = elim (cases_Bool (eqb n c.name)) [
   | inl e ↦ ap (λ t. state_of m (cond (not t) (c ∷ without_state n states) (without_state n states))) e ∙ state_of_without m n states apart
-      ∙ ap (λ (t : Bool). if t then c else state_of m states) (sym (ap (eqb m) (sym (eqb-true n c.name e)) ∙ eqb_swap n m apart))
+      ∙ sym (state-behind m c states (ap (eqb m) (sym (eqb-true n c.name e)) ∙ eqb_swap n m apart))
   | inr e ↦ ap (λ t. state_of m (cond (not t) (c ∷ without_state n states) (without_state n states))) e
-      ∙ ap (λ x. if eqb m c.name then c else x) (state_of_without m n states apart)
+      ∙ state_more m c (without_state n states) states (state_of_without m n states apart)
 ]
 
 classes_without : (n : ℕ) (states : List ClassState) → map class_in (without_state n states) ≡ filter (λ c. not (n == c.name)) (map class_in states)
@@ -351,11 +361,11 @@ pub kept_removed : (max_len : ℕ) (states : List ClassState) (circle : Circle) 
 kept_removed max_len states circle n h = record {
   positive = h.positive;
   each = each_filtered (IsState max_len circle.room) n states h.each;
-  states_differ = differ_filtered n states h.states_differ;
+  states_differ = states_differ-from (without_state n states) (differ_filtered n states (states_apart states h.states_differ));
   known = known_by states (without_state n states) (without n circle.order)
       (λ m there. has_without m n states (differ_by_member n m (without n circle.order) there (not_among_without n circle.order)))
       (each_without (λ m. has_state m states ≡ true) n circle.order h.known);
-  order_differs = differ_without n circle.order h.order_differs;
+  order_differs = numbers_differ-from (without n circle.order) (differ_without n circle.order (numbers_apart circle.order h.order_differs));
 }
 
 one_class : (new c : ClassState) (q : ℕ) → new.name ≡ c.name → new.quantum ≡ q → class_in new ≡ record (class_in c) { quantum = q }
@@ -381,8 +391,8 @@ has_added n new (c ∷ states) = ap (λ t. eqb n c.name || t) (has_added n new s
 state_of_added : (n : ℕ) (new : ClassState) (states : List ClassState) → has_state n states ≡ true → state_of n (states ++ new ∷ []) ≡ state_of n states
 state_of_added n new [] there = absurd (false≢true there)
 state_of_added n new (c ∷ states) there = elim (cases_Bool (eqb n c.name)) [
-  | inl e ↦ ap (λ (t : Bool). if t then c else state_of n (states ++ new ∷ [])) e ∙ ap (λ (t : Bool). if t then c else state_of n states) (sym e)
-  | inr e ↦ ap (λ x. if eqb n c.name then c else x) (state_of_added n new states (sym (ap (λ t. t || has_state n states) e) ∙ there))
+  | inl e ↦ state-here n c (states ++ new ∷ []) e ∙ sym (state-here n c states e)
+  | inr e ↦ state_more n c (states ++ new ∷ []) states (state_of_added n new states (sym (ap (λ t. t || has_state n states) e) ∙ there))
 ]
 
 differ_added : (new : ClassState) (states : List ClassState) → StatesDiffer states → has_state new.name states ≡ false → StatesDiffer (states ++ new ∷ [])
@@ -404,7 +414,7 @@ kept_roomier max_len states old new e le h = record {
   each = each_in_more_room max_len old.room new.room states le h.each;
   states_differ = h.states_differ;
   known = subst (AllByRecursion (λ m. has_state m states ≡ true)) (sym e) h.known;
-  order_differs = subst AllDiffer (sym e) h.order_differs;
+  order_differs = subst (AllPairs (λ m n. m ≢ n)) (sym e) h.order_differs;
 }
 
 pub added_shown : (max_len turns : ℕ) (states : List ClassState) (order : List ℕ) (new : ClassState) → AllByRecursion (λ n. has_state n states ≡ true) order
@@ -417,7 +427,7 @@ pub kept_added : (max_len : ℕ) (states : List ClassState) (circle : Circle) (n
 kept_added max_len states circle new absent p h = record {
   positive = h.positive;
   each = each_push (IsState max_len circle.room) new states h.each p;
-  states_differ = differ_added new states h.states_differ absent;
+  states_differ = states_differ-from (states ++ new ∷ []) (differ_added new states (states_apart states h.states_differ) absent);
   known = known_by states (states ++ new ∷ []) circle.order (λ n there. has_added n new states ∙ or_known (has_state n states) (eqb n new.name) (each_at (λ m. has_state m states ≡ true) n circle.order h.known there)
       ∙ sym (each_at (λ m. has_state m states ≡ true) n circle.order h.known there)) h.known;
   order_differs = h.order_differs;
@@ -485,11 +495,24 @@ each_entry_lawful max_len room states (n ∷ order) each known =
       each_entry_lawful max_len room states order each known.1,
     )
 
-pub shown_lawful : (max_len turns : ℕ) (states : List ClassState) (circle : Circle) → turns < 2 ^ 64 → IsKept max_len states circle → IsLawful (shown max_len turns states circle.order)
+shown_lawful : (max_len turns : ℕ) (states : List ClassState) (circle : Circle) → turns < 2 ^ 64 → IsKept max_len states circle → IsLawful (shown max_len turns states circle.order)
 shown_lawful max_len turns states circle range h = record {
-  classes_differ = classes_lawful states h.states_differ;
-  quanta = quanta_lawful max_len circle.room states h.each;
-  entries_differ = entries_lawful states circle.order h.order_differs;
-  entries = each_entry_lawful max_len circle.room states circle.order h.each h.known;
+  classes_differ = pairs-from_differ (λ (c : Class). c.name) (map class_in states) (classes_lawful states (states_apart states h.states_differ));
+  quanta = All-from_recursion (λ (c : Class). 1 ≤ c.quantum) (map class_in states) (quanta_lawful max_len circle.room states h.each);
+  entries_differ = pairs-from_differ (λ (e : Entry). e.class) (map (entry_in states) circle.order) (entries_lawful states circle.order (numbers_apart circle.order h.order_differs));
+  entries = All-from_recursion (IsEntry max_len (map class_in states)) (map (entry_in states) circle.order) (each_entry_lawful max_len circle.room states circle.order h.each h.known);
   counted_turns = range;
 }
+
+pub lawful_view : (max_len turns : ℕ) (states : List ClassState) (circle : Circle) (s : Schedule) → shown max_len turns states circle.order ≡ s → turns < 2 ^ 64 → IsKept max_len states circle → IsLawful s
+lawful_view max_len turns states circle s e range h = subst IsLawful e (shown_lawful max_len turns states circle range h)
+
+-- the place of a class among those that are shown
+place_len_in : (n : ℕ) (states : List ClassState) → position_or_len (λ (c : Class). n == c.name) (map class_in states) ≡ position_or_len (λ (c : ClassState). n == c.name) states
+place_len_in n [] = refl
+place_len_in n (c ∷ states) = ap (λ k. cond (not (n == c.name)) (1 + k) 0) (place_len_in n states)
+
+pub place_in : (n : ℕ) (states : List ClassState) → place_of n (map class_in states) ≡ place_of_state n states
+place_in n states =
+    ap (λ i. cond (nat_lt i (length (map class_in states))) (Some i) None) (place_len_in n states)
+    ∙ ap (λ l. cond (nat_lt (position_or_len (λ (c : ClassState). n == c.name) states) l) (Some (position_or_len (λ (c : ClassState). n == c.name) states)) None) (length-map states class_in)

@@ -1,13 +1,16 @@
 -- States found by name, directly and by an index of their places.
-use Rattle.std.proofs.Common.{◌≡◌, ◌≢◌, ℕ, zero, suc, ◌+◌, ◌-◌, ◌<◌, ◌^◌, Bool, true, false, eqb, ◌||◌, not, cond, List, [], ◌∷◌, ◌++◌, map, length, set, refl, sym, ap, ◌∙◌, subst, inl, inr, arith, eq-eqb, get_or}
-use Rattle.std.specs.Prelude.{if◌then◌else◌, slice_index_or, slice_index}
-use Rattle.std.specs.List.{AllByRecursion, remove}
+use Rattle.std.proofs.Common.{◌≡◌, ◌≢◌, ℕ, zero, suc, ◌+◌, ◌-◌, ◌<◌, ◌≤◌, ◌^◌, Some, None, Bool, true, false, eqb, ◌||◌, not, cond, List, [], ◌∷◌, ◌++◌, map, length, set, refl, sym, ap, ◌∙◌, subst, inl, inr, arith, eq-eqb, get_or}
+use Rattle.std.specs.Prelude.{if◌then◌else◌, ◌==◌, nat_lt, is_some, slice_index_or, slice_index}
+use Rattle.std.specs.List.{AllByRecursion, position_or_len, remove}
+use Rattle.std.proofs.lemmas.List.Sums.{position_or_len_is, fails_before_first}
 use Rattle.std.proofs.Math.ListN.{length-set}
-use Rattle.std.proofs.lemmas.Bool.{eqb-true, ne_eqb, false≢true, or_parts, cases_Bool, cases_lt, cases_eq, false_from_ne_true}
+use Rattle.std.proofs.lemmas.Bool.{eqb-true, ne_eqb, false≢true, or_parts, cases_Bool, cases_lt, cases_eq, false_from_ne_true, cond-true, cond-false, lt-ltb, le-ltb}
 use Rattle.std.proofs.lemmas.List.{get_or_append_left, get_or-append_right, get_or-set_same, get_or-set_other, length_push, get_or_read}
 use Rattle.q_drr.specs.declared.class_state.ClassState.{ClassState}
-use Rattle.q_drr.specs.Links.{is_among, AllDiffer}
-use Rattle.q_drr.specs.States.{no_state, has_state, state_of, with_state, without_state, IsIndex}
+use Rattle.q_drr.specs.Links.{is_among}
+use Rattle.q_drr.specs.States.{no_state, has_state, place_of_state, state_of, with_state, without_state, IsIndex}
+use Rattle.q_drr.proofs.DifferLemmas.{AllDiffer}
+use Rattle.q_drr.proofs.LookupLemmas.{state-here, state-behind}
 use Rattle.q_drr.proofs.NameLemmas.{length-le_from_differ}
 
 pub names : List ClassState → List ℕ
@@ -23,9 +26,9 @@ pub record Found (n : ℕ) (states : List ClassState) : Type 0 where
 pub found_of : (n : ℕ) (states : List ClassState) → has_state n states ≡ true → Found n states
 found_of n [] there = absurd (false≢true there)
 found_of n (c ∷ states) there = elim (cases_Bool (eqb n c.name)) [
-  | inl e ↦ record { place = 0; within = omega arith; name = sym (eqb-true n c.name e); is = ap (λ t. if t then c else state_of n states) e }
+  | inl e ↦ record { place = 0; within = omega arith; name = sym (eqb-true n c.name e); is = state-here n c states e }
   | inr e ↦ let f = found_of n states (sym (ap (λ t. t || has_state n states) e) ∙ there) in
-      record { place = suc f.place; within = omega (arith, f.within); name = f.name; is = ap (λ t. if t then c else state_of n states) e ∙ f.is }
+      record { place = suc f.place; within = omega (arith, f.within); name = f.name; is = state-behind n c states e ∙ f.is }
 ]
 
 -- a class that is not there stands at no place
@@ -166,3 +169,44 @@ index_added places states new lt absent h =
 
 pub place_read : (places : List ℕ) (states : List ClassState) (n place : ℕ) → IsFoundBy places states n → place ≡ get_or places n place → place ≡ slice_index places n
 place_read places states n place f read = get_or_read places n place f.inside read 0
+
+-- the place of a class by an index, and the number of classes
+pub place_found : (places : List ℕ) (states : List ClassState) (n place : ℕ) → IsIndex places states → slice_index places n ≡ place → place < length states
+    → (slice_index_or states place no_state).name ≡ n → place_of_state n states ≡ Some place
+place_found places states n place h at within name =
+    let first : position_or_len (λ (c : ClassState). n == c.name) states ≡ place =
+    position_or_len_is (λ (c : ClassState). n == c.name) states place no_state (omega arith)
+    (λ k lt. ne_eqb n (slice_index_or states k no_state).name
+    (λ e. absurd (omega (arith, h.found k (omega arith), ap (λ m. slice_index places m) e, at))))
+    (λ lt. eq-eqb n (slice_index_or states place no_state).name (sym name)) in
+    ap (λ i. cond (nat_lt i (length states)) (Some i) None) first ∙ cond-true (nat_lt place (length states)) (Some place) None (lt-ltb place (length states) within)
+
+pub no_place : (n : ℕ) (states : List ClassState) → has_state n states ≡ false → place_of_state n states ≡ None
+no_place n states absent =
+    let first : position_or_len (λ (c : ClassState). n == c.name) states ≡ length states =
+    position_or_len_is (λ (c : ClassState). n == c.name) states (length states) no_state (omega arith)
+    (λ k lt. ne_eqb n (slice_index_or states k no_state).name (λ e. absent_at n states absent k lt (sym e)))
+    (λ lt. absurd (omega arith)) in
+    ap (λ i. cond (nat_lt i (length states)) (Some i) None) first ∙ cond-false (nat_lt (length states) (length states)) (Some (length states)) None (le-ltb (length states) (length states) (omega arith))
+
+-- an index that does not lead to a class of this name leads to none
+pub no_place_by : (places : List ℕ) (states : List ClassState) (n : ℕ) → IsIndex places states → (IsFoundBy places states n → ⊥) → place_of_state n states ≡ None
+no_place_by places states n h not_found = no_place n states (false_from_ne_true (has_state n states) (λ there. not_found (found_by places states n h there)))
+
+pub has_place : (n : ℕ) (states : List ClassState) → is_some (place_of_state n states) ≡ has_state n states
+has_place n states = elim (cases_Bool (has_state n states)) [
+  | inr absent ↦ ap is_some (no_place n states absent) ∙ sym absent
+  | inl there ↦
+      let f = found_of n states there in
+      let p : ClassState → Bool = λ c. n == c.name in
+      elim (cases_lt (position_or_len p states) (length states)) [
+        | inl within ↦ ap (λ (t : Bool). is_some (cond t (Some (position_or_len p states)) None)) (lt-ltb (position_or_len p states) (length states) within) ∙ sym there
+        | inr beyond ↦ absurd (false≢true (sym (fails_before_first p states f.place no_state (omega (arith, f.within))) ∙ eq-eqb n (slice_index_or states f.place no_state).name (sym f.name)))
+      ]
+]
+
+pub few_states : (places : List ℕ) (states : List ClassState) → IsIndex places states → length states ≤ 2 ^ 16
+few_states places states h =
+    let differ : AllDiffer (names states) = names_differ places states 0 (λ k lt. omega (arith, h.found k lt)) in
+    let below : AllByRecursion (λ m. m < 2 ^ 16) (names states) = names_below (2 ^ 16) states (λ k lt. omega (arith, h.inside k lt, h.room)) in
+    omega (arith, length-le_from_differ (names states) (2 ^ 16) differ below, length-names states)

@@ -2,8 +2,10 @@
 use Rattle.std.proofs.Common.{◌≡◌, ◌≢◌, ℕ, ◌+◌, ◌-◌, ◌*◌, ◌<◌, ◌≤◌, Bool, true, false, eqb, ◌||◌, List, [], ◌∷◌, ◌++◌, refl, sym, ap, ◌∙◌, subst, inl, inr, arith}
 use Rattle.std.specs.Prelude.{if◌then◌else◌}
 use Rattle.std.proofs.lemmas.Bool.{eqb-true, ne_eqb, false≢true, or_parts, or_from, cases_Bool, le-leb, lt-leb, cases_lt}
-use Rattle.q_drr.specs.Schedule.{Class, Entry, Schedule, quantum_of, after_grants, is_active, deficit_of, active_after, turned, EntriesDiffer}
+use Rattle.q_drr.specs.Schedule.{Class, Entry, Schedule, quantum_of, after_grants, is_active, deficit_of, active_after, turned}
 use Rattle.q_drr.specs.Stretch.{after_turns, grant_in, bytes_in, grants, sent, stands_first, EachSendsItsShare, AreEven, GrantsAreEven}
+use Rattle.q_drr.proofs.DifferLemmas.{EntriesDiffer, entries_apart}
+use Rattle.q_drr.proofs.LookupLemmas.{deficit-here, deficit-behind}
 use Rattle.q_drr.proofs.NameLemmas.{eqb_swap}
 
 or_true : (x y : Bool) → y ≡ true → (x || y) ≡ true
@@ -20,25 +22,25 @@ active_push : (n : ℕ) (x : Entry) (es : List Entry) → is_active n (es ++ x �
 active_push n x [] = refl
 active_push n x (e ∷ es) = ap (λ t. eqb n e.class || t) (active_push n x es) ∙ or_exchange (eqb n e.class) (eqb n x.class) (is_active n es)
 
-differ_push : (x : Entry) (es : List Entry) → EntriesDiffer es → is_active x.class es ≡ false → EntriesDiffer (es ++ x ∷ [])
+pub differ_push : (x : Entry) (es : List Entry) → EntriesDiffer es → is_active x.class es ≡ false → EntriesDiffer (es ++ x ∷ [])
 differ_push x [] d absent = (refl, tt)
 differ_push x (e ∷ es) d absent =
     let parts = or_parts (eqb x.class e.class) (is_active x.class es) absent in
     (active_push e.class x es ∙ or_from (eqb e.class x.class) (is_active e.class es) (eqb_swap x.class e.class parts.0) d.0, differ_push x es d.1 parts.1)
 
 -- the deficit of a class once another, or it itself, has gone to the end
-deficit_behind : (n : ℕ) (x : Entry) (es : List Entry) → is_active n es ≡ true → deficit_of n (es ++ x ∷ []) ≡ deficit_of n es
-deficit_behind n x [] there = absurd (false≢true there)
-deficit_behind n x (e ∷ es) there = elim (cases_Bool (eqb n e.class)) [
-  | inl q ↦ ap (λ (t : Bool). if t then e.deficit else deficit_of n (es ++ x ∷ [])) q ∙ sym (ap (λ (t : Bool). if t then e.deficit else deficit_of n es) q)
-  | inr q ↦ ap (λ d. if eqb n e.class then e.deficit else d) (deficit_behind n x es (sym (ap (λ t. t || is_active n es) q) ∙ there))
+deficit_kept : (n : ℕ) (x : Entry) (es : List Entry) → is_active n es ≡ true → deficit_of n (es ++ x ∷ []) ≡ deficit_of n es
+deficit_kept n x [] there = absurd (false≢true there)
+deficit_kept n x (e ∷ es) there = elim (cases_Bool (eqb n e.class)) [
+  | inl q ↦ deficit-here n e (es ++ x ∷ []) q ∙ sym (deficit-here n e es q)
+  | inr q ↦ deficit-behind n e (es ++ x ∷ []) q ∙ deficit_kept n x es (sym (ap (λ t. t || is_active n es) q) ∙ there) ∙ sym (deficit-behind n e es q)
 ]
 
 deficit_last : (n : ℕ) (x : Entry) (es : List Entry) → is_active n es ≡ false → eqb n x.class ≡ true → deficit_of n (es ++ x ∷ []) ≡ x.deficit
-deficit_last n x [] absent same = ap (λ (t : Bool). if t then x.deficit else 0) same
+deficit_last n x [] absent same = deficit-here n x [] same
 deficit_last n x (e ∷ es) absent same =
     let parts = or_parts (eqb n e.class) (is_active n es) absent in
-    ap (λ (t : Bool). if t then e.deficit else deficit_of n (es ++ x ∷ [])) parts.0 ∙ deficit_last n x es parts.1 same
+    deficit-behind n e (es ++ x ∷ []) parts.0 ∙ deficit_last n x es parts.1 same
 
 -- one turn
 module _ (len : ℕ) (classes : List Class) (e : Entry) (es : List Entry) where
@@ -79,14 +81,14 @@ module _ (len : ℕ) (classes : List Class) (e : Entry) (es : List Entry) where
               let b : bytes_in n len (e ∷ es) ≡ 0 = bytes ∙ ap (λ (t : Bool). if t then 0 else 0) q in
               let g : grant_in n len (e ∷ es) ≡ 1 = grant ∙ ap (λ (t : Bool). if t then 1 else 0) q in
               let after : deficit_of n (active_after len classes (e ∷ es)) ≡ e.deficit + 1 * quantum_of e.class classes = list ∙ deficit_last n last es (ap (λ m. is_active m es) same ∙ d.0) q in
-              let before : deficit_of n (e ∷ es) ≡ e.deficit = ap (λ (t : Bool). if t then e.deficit else deficit_of n es) q in
+              let before : deficit_of n (e ∷ es) ≡ e.deficit = deficit-here n e es q in
               let quantum : quantum_of n classes ≡ quantum_of e.class classes = ap (λ m. quantum_of m classes) same in
               ap (λ k. k + deficit_of n (active_after len classes (e ∷ es))) b ∙ omega (arith, after, before, quantum) ∙ ap (λ k. k * quantum_of n classes + deficit_of n (e ∷ es)) (sym g)
           | inr q ↦
               let b : bytes_in n len (e ∷ es) ≡ 0 = bytes ∙ ap (λ (t : Bool). if t then 0 else 0) q in
               let g : grant_in n len (e ∷ es) ≡ 0 = grant ∙ ap (λ (t : Bool). if t then 1 else 0) q in
-              let after : deficit_of n (active_after len classes (e ∷ es)) ≡ deficit_of n es = list ∙ deficit_behind n last es (sym (ap (λ t. t || is_active n es) q) ∙ there) in
-              let before : deficit_of n (e ∷ es) ≡ deficit_of n es = ap (λ (t : Bool). if t then e.deficit else deficit_of n es) q in
+              let after : deficit_of n (active_after len classes (e ∷ es)) ≡ deficit_of n es = list ∙ deficit_kept n last es (sym (ap (λ t. t || is_active n es) q) ∙ there) in
+              let before : deficit_of n (e ∷ es) ≡ deficit_of n es = deficit-behind n e es q in
               ap (λ k. k + deficit_of n (active_after len classes (e ∷ es))) b ∙ omega (arith, after, before) ∙ ap (λ k. k * quantum_of n classes + deficit_of n (e ∷ es)) (sym g)
         ]
     | inr covers ↦
@@ -97,24 +99,24 @@ module _ (len : ℕ) (classes : List Class) (e : Entry) (es : List Entry) where
           | inl q ↦
               let b : bytes_in n len (e ∷ es) ≡ len = bytes ∙ ap (λ (t : Bool). if t then len else 0) q in
               let g : grant_in n len (e ∷ es) ≡ 0 = grant ∙ ap (λ (t : Bool). if t then 0 else 0) q in
-              let after : deficit_of n (active_after len classes (e ∷ es)) ≡ e.deficit - len = list ∙ ap (λ (t : Bool). if t then e.deficit - len else deficit_of n es) q in
-              let before : deficit_of n (e ∷ es) ≡ e.deficit = ap (λ (t : Bool). if t then e.deficit else deficit_of n es) q in
+              let after : deficit_of n (active_after len classes (e ∷ es)) ≡ e.deficit - len = list ∙ deficit-here n less es q in
+              let before : deficit_of n (e ∷ es) ≡ e.deficit = deficit-here n e es q in
               ap (λ k. k + deficit_of n (active_after len classes (e ∷ es))) b ∙ omega (arith, after, before, covers) ∙ ap (λ k. k * quantum_of n classes + deficit_of n (e ∷ es)) (sym g)
           | inr q ↦
               let b : bytes_in n len (e ∷ es) ≡ 0 = bytes ∙ ap (λ (t : Bool). if t then len else 0) q in
               let g : grant_in n len (e ∷ es) ≡ 0 = grant ∙ ap (λ (t : Bool). if t then 0 else 0) q in
-              let after : deficit_of n (active_after len classes (e ∷ es)) ≡ deficit_of n es = list ∙ ap (λ (t : Bool). if t then e.deficit - len else deficit_of n es) q in
-              let before : deficit_of n (e ∷ es) ≡ deficit_of n es = ap (λ (t : Bool). if t then e.deficit else deficit_of n es) q in
+              let after : deficit_of n (active_after len classes (e ∷ es)) ≡ deficit_of n es = list ∙ deficit-behind n less es q in
+              let before : deficit_of n (e ∷ es) ≡ deficit_of n es = deficit-behind n e es q in
               ap (λ k. k + deficit_of n (active_after len classes (e ∷ es))) b ∙ omega (arith, after, before) ∙ ap (λ k. k * quantum_of n classes + deficit_of n (e ∷ es)) (sym g)
         ]
   ]
 
 -- any schedule's turn
-list_differ : (len : ℕ) (classes : List Class) (es : List Entry) → EntriesDiffer es → EntriesDiffer (active_after len classes es)
+pub list_differ : (len : ℕ) (classes : List Class) (es : List Entry) → EntriesDiffer es → EntriesDiffer (active_after len classes es)
 list_differ len classes [] d = tt
 list_differ len classes (e ∷ es) d = turn_differ len classes e es d
 
-list_active : (len : ℕ) (classes : List Class) (es : List Entry) (n : ℕ) → is_active n (active_after len classes es) ≡ is_active n es
+pub list_active : (len : ℕ) (classes : List Class) (es : List Entry) (n : ℕ) → is_active n (active_after len classes es) ≡ is_active n es
 list_active len classes [] n = refl
 list_active len classes (e ∷ es) n = turn_active len classes e es n
 
@@ -131,7 +133,7 @@ stretch_books (len ∷ lens) s n d there =
     omega (arith, rest, list_books len s.classes s.active n d there)
 
 pub each_sends_its_share : EachSendsItsShare
-each_sends_its_share s lens n law there = stretch_books lens s n law.entries_differ there
+each_sends_its_share s lens n law there = stretch_books lens s n (entries_apart s.active law.entries_differ) there
 
 if_same : (t : Bool) → ◌≡◌ {A = ℕ} (if t then 0 else 0) 0
 if_same true = refl
@@ -241,4 +243,4 @@ module _ (i j : ℕ) where
       }
 
 pub grants_are_even : GrantsAreEven
-grants_are_even s lens i j law there_i there_j apart = even i j lens s apart law.entries_differ there_i there_j
+grants_are_even s lens i j law there_i there_j apart = even i j lens s apart (entries_apart s.active law.entries_differ) there_i there_j

@@ -1,18 +1,21 @@
 -- A whole take: where the front's head may be sent nothing comes before it, and where it is granted the take goes on.
-use Rattle.std.proofs.Common.{◌≡◌, ℕ, zero, suc, ◌+◌, ◌-◌, ◌*◌, ◌<◌, ◌≤◌, ◌^◌, Bool, true, leb, ltb, eqb, ◌||◌, List, [], ◌∷◌, ◌++◌, map, length, take, drop, append_assoc, Option, Some, None, refl, sym, ap, ◌∙◌, subst, inl, inr, arith, add-one}
+use Rattle.std.proofs.Common.{◌≡◌, ℕ, zero, suc, ◌+◌, ◌-◌, ◌*◌, ◌<◌, ◌≤◌, ◌^◌, Bool, true, eqb, ◌||◌, List, [], ◌∷◌, ◌++◌, map, length, take, drop, append_assoc, Option, Some, None, IfSome, refl, sym, ap, ◌∙◌, subst, inl, inr, arith, add-one}
 use Rattle.std.specs.Prelude.{if◌then◌else◌, nat_le, slice_get, All}
 use Rattle.std.specs.List.{AllByRecursion, sum_by}
 use Rattle.std.proofs.Math.Nat.{mul-le-mul_left}
-use Rattle.std.proofs.lemmas.Bool.{le-leb, lt-leb, lt-ltb, le-ltb, cases_lt, cases_Bool, false≢true}
+use Rattle.std.proofs.lemmas.Bool.{le-leb, lt-leb, cases_lt, cases_Bool, false≢true}
 use Rattle.std.proofs.lemmas.List.{append-nil, map-append, take_at, drop_at, drop-append-le, take-append-le, length-map, length_push}
 use Rattle.std.proofs.lemmas.List.Sums.{sum_by_push, sum_by-cons}
+use Rattle.q_packet.specs.Choice.{Choice, sooner, choose}
 use Rattle.q_packet.specs.Least.{least}
+use Rattle.q_packet.proofs.ChoiceLemmas.{sooner-le, sooner-gt, sooner-first, last_one, last-le, last-gt, choose-end, choose-within}
 use Rattle.q_packet.proofs.LeastLemmas.{least_here, least_later, least_is, least_le, least_holds, least_gt}
 use Rattle.q_drr.specs.Schedule.{Class, Entry, Schedule, has_class, quantum_of, after_grants, turn_answer, active_after, turned, counted, front_of, IsEntry, IsLawful}
-use Rattle.q_drr.specs.Take.{grants_for, need, Choice, sooner, choose, granted, brought_up, turns_until, prepared, sent_by, sent_in, served, met_in, met}
+use Rattle.q_drr.specs.Take.{grants_for, need, needs, choice_of, granted, brought_up, turns_until, prepared, sent_by, sent_in, served, met_in, met}
 use Rattle.q_drr.specs.declared.met.Met.{Met}
 use Rattle.q_drr.specs.declared.turn.Turn.TheVariants.{Send, Granted}
-use Rattle.std.proofs.lemmas.List.Elements.{All-push, All-head, All-tail}
+use Rattle.std.proofs.lemmas.List.Elements.{All-push, All-head, All-tail, recursion_from_All}
+use Rattle.q_drr.proofs.LookupLemmas.{quantum-here, quantum-behind}
 
 -- how many grants a class needs
 pub need_none : (q d len : ℕ) → len ≤ d → grants_for q d (Some len) ≡ 0
@@ -38,73 +41,6 @@ need_more_at q d len one short =
 pub need_more : (q d len : ℕ) → 1 ≤ q → d < len → grants_for q d (Some len) ≡ suc (grants_for q (d + 1 * q) (Some len))
 need_more q d zero one short = absurd (omega arith)
 need_more q d (suc len) one short = need_more_at q d len one short
-
--- the choice among one more at the end
-pub last_one : ℕ → ℕ → Option Choice → Choice
-last_one k n None = record { rounds = k; place = 0 }
-last_one k n (Some c) = if ltb k c.rounds then record { rounds = k; place = n } else c
-
-module _ (j k n : ℕ) where
-  first_kept : (c : Choice) → Choice
-  first_kept c = if leb j c.rounds then record { rounds = j; place = 0 } else record { rounds = c.rounds; place = suc c.place }
-
-  last_kept : (m : ℕ) (c : Choice) → Choice
-  last_kept m c = if ltb k c.rounds then record { rounds = k; place = m } else c
-
-  -- whether the first and the last are put together in this order or in the other
-  ends_commute : (c : Choice) → first_kept (last_kept n c) ≡ last_kept (suc n) (first_kept c)
-  unfolding first_kept last_kept
-  ends_commute c = elim (cases_lt k c.rounds) [
-    | inl less ↦
-        ap (λ (t : Bool). first_kept (if t then record { rounds = k; place = n } else c)) (lt-ltb k c.rounds less)
-        ∙ elim (cases_lt k j) [
-          | inl later ↦ ap (λ (t : Bool). if t then record { rounds = j; place = 0 } else record { rounds = k; place = suc n }) (lt-leb j k later)
-              ∙ sym (elim (cases_lt c.rounds j) [
-                | inl far ↦ ap (λ (t : Bool). last_kept (suc n) (if t then record { rounds = j; place = 0 } else record { rounds = c.rounds; place = suc c.place })) (lt-leb j c.rounds far)
-                    ∙ ap (λ (t : Bool). if t then record { rounds = k; place = suc n } else record { rounds = c.rounds; place = suc c.place }) (lt-ltb k c.rounds less)
-                | inr near ↦ ap (λ (t : Bool). last_kept (suc n) (if t then record { rounds = j; place = 0 } else record { rounds = c.rounds; place = suc c.place })) (le-leb j c.rounds near)
-                    ∙ ap (λ (t : Bool). if t then record { rounds = k; place = suc n } else record { rounds = j; place = 0 }) (lt-ltb k j later)
-              ])
-          | inr sooner_one ↦ ap (λ (t : Bool). if t then record { rounds = j; place = 0 } else record { rounds = k; place = suc n }) (le-leb j k sooner_one)
-              ∙ sym (ap (λ (t : Bool). last_kept (suc n) (if t then record { rounds = j; place = 0 } else record { rounds = c.rounds; place = suc c.place })) (le-leb j c.rounds (omega arith))
-              ∙ ap (λ (t : Bool). if t then record { rounds = k; place = suc n } else record { rounds = j; place = 0 }) (le-ltb k j sooner_one))
-        ]
-    | inr more ↦
-        ap (λ (t : Bool). first_kept (if t then record { rounds = k; place = n } else c)) (le-ltb k c.rounds more)
-        ∙ elim (cases_lt c.rounds j) [
-          | inl far ↦ ap (λ (t : Bool). if t then record { rounds = j; place = 0 } else record { rounds = c.rounds; place = suc c.place }) (lt-leb j c.rounds far)
-              ∙ sym (ap (λ (t : Bool). last_kept (suc n) (if t then record { rounds = j; place = 0 } else record { rounds = c.rounds; place = suc c.place })) (lt-leb j c.rounds far)
-              ∙ ap (λ (t : Bool). if t then record { rounds = k; place = suc n } else record { rounds = c.rounds; place = suc c.place }) (le-ltb k c.rounds more))
-          | inr near ↦ ap (λ (t : Bool). if t then record { rounds = j; place = 0 } else record { rounds = c.rounds; place = suc c.place }) (le-leb j c.rounds near)
-              ∙ sym (ap (λ (t : Bool). last_kept (suc n) (if t then record { rounds = j; place = 0 } else record { rounds = c.rounds; place = suc c.place })) (le-leb j c.rounds near)
-              ∙ ap (λ (t : Bool). if t then record { rounds = k; place = suc n } else record { rounds = j; place = 0 }) (le-ltb k j (omega arith)))
-        ]
-  ]
-
-pub choose_end : (ks : List ℕ) (k : ℕ) → choose (ks ++ k ∷ []) ≡ Some (last_one k (length ks) (choose ks))
-unfolding last_one first_kept last_kept
-choose_end [] k = refl
-choose_end (j ∷ []) k = ap Some (elim (cases_lt k j) [
-  | inl later ↦ ap (λ (t : Bool). if t then record { rounds = j; place = 0 } else record { rounds = k; place = 1 }) (lt-leb j k later)
-      ∙ sym (ap (λ (t : Bool). if t then record { rounds = k; place = 1 } else record { rounds = j; place = 0 }) (lt-ltb k j later))
-  | inr sooner_one ↦ ap (λ (t : Bool). if t then record { rounds = j; place = 0 } else record { rounds = k; place = 1 }) (le-leb j k sooner_one)
-      ∙ sym (ap (λ (t : Bool). if t then record { rounds = k; place = 1 } else record { rounds = j; place = 0 }) (le-ltb k j sooner_one))
-])
-choose_end (j ∷ i ∷ ks) k =
-    ap (λ o. Some (sooner j o)) (choose_end (i ∷ ks) k) ∙ ap Some (ends_commute j k (suc (length ks)) (sooner i (choose ks)))
-
-pub choose_within : (ks : List ℕ) (c : Choice) → choose ks ≡ Some c → c.place < length ks
-choose_within [] c e = cc
-choose_within (k ∷ []) c e = let p : 0 ≡ c.place = cc in omega arith
-choose_within (k ∷ i ∷ ks) c e =
-    let rest = sooner i (choose ks) in
-    let within = choose_within (i ∷ ks) rest refl in
-    elim (cases_lt rest.rounds k) [
-      | inl far ↦ let q : Some (record { rounds = rest.rounds; place = suc rest.place }) ≡ Some c = sym (ap (λ (t : Bool). Some (if t then record { rounds = k; place = 0 } else record { rounds = rest.rounds; place = suc rest.place })) (lt-leb k rest.rounds far)) ∙ e in
-          let p : suc rest.place ≡ c.place = cc in omega (arith, within)
-      | inr near ↦ let q : Some (record { rounds = k; place = 0 }) ≡ Some c = sym (ap (λ (t : Bool). Some (if t then record { rounds = k; place = 0 } else record { rounds = rest.rounds; place = suc rest.place })) (le-leb k rest.rounds near)) ∙ e in
-          let p : 0 ≡ c.place = cc in omega arith
-    ]
 
 -- grants in a row
 same_entry : (n d d' g g' : ℕ) → d ≡ d' → g ≡ g' → ◌≡◌ {A = Entry} (record { class = n; deficit = d; granted = g }) (record { class = n; deficit = d'; granted = g' })
@@ -142,32 +78,28 @@ module _ (quantum : ℕ → ℕ) (e : Entry) (es : List Entry) where
       ∙ append_assoc (granted quantum c.rounds (drop c.place es)) (after_grants (quantum e.class) c.rounds (once quantum e) ∷ []) (granted quantum (suc c.rounds) (take c.place es)))
 
   -- the same list and one turn less, whatever is chosen among the others
-  pub list_goes_on : (k : ℕ) (o : Option Choice) → (o ≡ None → es ≡ []) → ((c : Choice) → o ≡ Some c → c.place < length es)
+  pub list_goes_on : (k : ℕ) (o : Option Choice) → IfSome o (λ c. c.place < length es)
       → brought_up quantum (Some (sooner (suc k) o)) (e ∷ es) ≡ brought_up quantum (Some (last_one k (length es) o)) (es ++ once quantum e ∷ [])
-  unfolding last_one
-  list_goes_on k None empty within =
-      turned_first k ∙ ap (λ n. brought_up quantum (Some (record { rounds = k; place = n })) (es ++ once quantum e ∷ [])) (ap length (empty refl))
-  list_goes_on k (Some c) empty within = elim (cases_lt k c.rounds) [
-    | inl less ↦ ap (λ (t : Bool). brought_up quantum (Some (if t then record { rounds = suc k; place = 0 } else record { rounds = c.rounds; place = suc c.place })) (e ∷ es)) (le-leb (suc k) c.rounds (omega arith))
+  list_goes_on k None within = turned_first k
+  list_goes_on k (Some c) within = elim (cases_lt k c.rounds) [
+    | inl less ↦ ap (λ (d : Choice). brought_up quantum (Some d) (e ∷ es)) (sooner-le (suc k) c (omega arith))
         ∙ turned_first k
-        ∙ sym (ap (λ (t : Bool). brought_up quantum (Some (if t then record { rounds = k; place = length es } else c)) (es ++ once quantum e ∷ [])) (lt-ltb k c.rounds less))
-    | inr more ↦ ap (λ (t : Bool). brought_up quantum (Some (if t then record { rounds = suc k; place = 0 } else record { rounds = c.rounds; place = suc c.place })) (e ∷ es)) (lt-leb (suc k) c.rounds (omega arith))
-        ∙ turned_other c (within c refl)
-        ∙ sym (ap (λ (t : Bool). brought_up quantum (Some (if t then record { rounds = k; place = length es } else c)) (es ++ once quantum e ∷ [])) (le-ltb k c.rounds more))
+        ∙ sym (ap (λ (d : Choice). brought_up quantum (Some d) (es ++ once quantum e ∷ [])) (last-gt k (length es) c less))
+    | inr more ↦ ap (λ (d : Choice). brought_up quantum (Some d) (e ∷ es)) (sooner-gt (suc k) c (omega arith))
+        ∙ turned_other c within
+        ∙ sym (ap (λ (d : Choice). brought_up quantum (Some d) (es ++ once quantum e ∷ [])) (last-le k (length es) c more))
   ]
 
-  pub turns_go_on : (k : ℕ) (o : Option Choice) → (o ≡ None → es ≡ [])
+  pub turns_go_on : (k : ℕ) (o : Option Choice)
       → turns_until (Some (sooner (suc k) o)) (suc (length es)) ≡ suc (turns_until (Some (last_one k (length es) o)) (suc (length es)))
-  unfolding last_one
-  turns_go_on k None empty = let long : length es ≡ 0 = ap length (empty refl) in
-      ap (λ n. suc k * suc n + 0) long ∙ omega arith ∙ sym (ap (λ n. suc (k * suc n + 0)) long)
-  turns_go_on k (Some c) empty = elim (cases_lt k c.rounds) [
-    | inl less ↦ ap (λ (t : Bool). turns_until (Some (if t then record { rounds = suc k; place = 0 } else record { rounds = c.rounds; place = suc c.place })) (suc (length es))) (le-leb (suc k) c.rounds (omega arith))
+  turns_go_on k None = omega arith
+  turns_go_on k (Some c) = elim (cases_lt k c.rounds) [
+    | inl less ↦ ap (λ (d : Choice). turns_until (Some d) (suc (length es))) (sooner-le (suc k) c (omega arith))
         ∙ omega arith
-        ∙ sym (ap (λ (t : Bool). suc (turns_until (Some (if t then record { rounds = k; place = length es } else c)) (suc (length es)))) (lt-ltb k c.rounds less))
-    | inr more ↦ ap (λ (t : Bool). turns_until (Some (if t then record { rounds = suc k; place = 0 } else record { rounds = c.rounds; place = suc c.place })) (suc (length es))) (lt-leb (suc k) c.rounds (omega arith))
+        ∙ sym (ap (λ (d : Choice). suc (turns_until (Some d) (suc (length es)))) (last-gt k (length es) c less))
+    | inr more ↦ ap (λ (d : Choice). turns_until (Some d) (suc (length es))) (sooner-gt (suc k) c (omega arith))
         ∙ omega arith
-        ∙ sym (ap (λ (t : Bool). suc (turns_until (Some (if t then record { rounds = k; place = length es } else c)) (suc (length es)))) (le-ltb k c.rounds more))
+        ∙ sym (ap (λ (d : Choice). suc (turns_until (Some d) (suc (length es)))) (last-le k (length es) c more))
   ]
 
 -- the class in front and the others
@@ -185,10 +117,6 @@ pub front_is : (n : ℕ) (s : Schedule) → Some n ≡ front_of s → Front n s
 front_is n s h = let f = front_in_list n s.active (sym h) in record { first = f.0; rest = f.1; is = f.2; class = f.3 }
 
 -- where nothing stands in the front's way, the take has come to its class
-sooner_none : (o : Option Choice) → sooner 0 o ≡ record { rounds = 0; place = 0 }
-sooner_none None = refl
-sooner_none (Some c) = ap (λ (t : Bool). if t then record { rounds = 0; place = 0 } else record { rounds = c.rounds; place = suc c.place }) (le-leb 0 c.rounds (omega arith))
-
 each_in_range : (max_len : ℕ) (classes : List Class) (es : List Entry) → AllByRecursion (IsEntry max_len classes) es → AllByRecursion (λ e. e.granted < 2 ^ 64) es
 each_in_range max_len classes [] h = tt
 each_in_range max_len classes (e ∷ es) h = (h.0.in_range, each_in_range max_len classes es h.1)
@@ -196,28 +124,33 @@ each_in_range max_len classes (e ∷ es) h = (h.0.in_range, each_in_range max_le
 same_list : (s : Schedule) (es : List Entry) (turns : ℕ) → es ≡ s.active → turns ≡ s.turns → record s { active = es; turns = turns } ≡ s
 same_list s es turns e f = ap (λ xs. record s { active = xs; turns = turns }) e ∙ ap (λ k. record s { turns = k }) f
 
+-- the choice where the front needs no grant
+pub choice_ready : (heads : ℕ → Option ℕ) (s : Schedule) (n : ℕ) (f : Front n s) → need (λ m. quantum_of m s.classes) heads f.first ≡ 0 → choice_of heads s ≡ Some (record { rounds = 0; place = 0 })
+choice_ready heads s n f ready =
+    let quantum : ℕ → ℕ = λ m. quantum_of m s.classes in
+    let others = choose (needs quantum heads f.rest) in
+    ap (λ es. choose (needs quantum heads es)) f.is ∙ ap (λ k. Some (sooner k others)) ready ∙ ap Some (sooner-first others)
+
 pub prepared_ready : (heads : ℕ → Option ℕ) (s : Schedule) (n : ℕ) (f : Front n s) → IsLawful s → need (λ m. quantum_of m s.classes) heads f.first ≡ 0 → prepared heads s ≡ s
 prepared_ready heads s n f law ready =
     let quantum : ℕ → ℕ = λ m. quantum_of m s.classes in
-    let choice : choose (map (need quantum heads) s.active) ≡ Some (record { rounds = 0; place = 0 }) =
-    ap (λ es. choose (map (need quantum heads) es)) f.is
-    ∙ ap (λ k. Some (sooner k (choose (map (need quantum heads) f.rest)))) ready ∙ ap Some (sooner_none (choose (map (need quantum heads) f.rest))) in
-    let list : brought_up quantum (choose (map (need quantum heads) s.active)) s.active ≡ s.active =
+    let choice : choice_of heads s ≡ Some (record { rounds = 0; place = 0 }) = choice_ready heads s n f ready in
+    let list : brought_up quantum (choice_of heads s) s.active ≡ s.active =
     ap (λ c. brought_up quantum c s.active) choice ∙ append-nil (granted quantum 0 s.active)
-    ∙ granted_none quantum s.active (each_in_range s.max_len s.classes s.active law.entries) in
-    let turns : counted (s.turns + turns_until (choose (map (need quantum heads) s.active)) (length s.active)) ≡ s.turns =
+    ∙ granted_none quantum s.active (each_in_range s.max_len s.classes s.active (recursion_from_All (IsEntry s.max_len s.classes) s.active law.entries)) in
+    let turns : counted (s.turns + turns_until (choice_of heads s) (length s.active)) ≡ s.turns =
     ap (λ c. counted (s.turns + turns_until c (length s.active))) choice ∙ omega (arith, law.counted_turns) in
     same_list s _ _ list turns
 
 pub prepared_empty : (heads : ℕ → Option ℕ) (s : Schedule) → IsLawful s → s.active ≡ [] → prepared heads s ≡ s
 prepared_empty heads s law none =
     let quantum : ℕ → ℕ = λ m. quantum_of m s.classes in
-    let choice : choose (map (need quantum heads) s.active) ≡ None = ap (λ es. choose (map (need quantum heads) es)) none in
+    let choice : choice_of heads s ≡ None = ap (λ es. choose (needs quantum heads es)) none in
     same_list s _ _ (ap (λ c. brought_up quantum c s.active) choice)
     (ap (λ c. counted (s.turns + turns_until c (length s.active))) choice ∙ omega (arith, law.counted_turns))
 
 -- and where its class is granted, what comes is what would have come
-turned_granted : (s : Schedule) (n len : ℕ) (f : Front n s) → f.first.deficit < len → active_after len s.classes s.active ≡ f.rest ++ after_grants (quantum_of f.first.class s.classes) 1 f.first ∷ []
+pub turned_granted : (s : Schedule) (n len : ℕ) (f : Front n s) → f.first.deficit < len → active_after len s.classes s.active ≡ f.rest ++ after_grants (quantum_of f.first.class s.classes) 1 f.first ∷ []
 turned_granted s n len f short =
     ap (active_after len s.classes) f.is
     ∙ ap (λ (t : Bool). if t then record f.first { deficit = f.first.deficit - len } ∷ f.rest else f.rest ++ after_grants (quantum_of f.first.class s.classes) 1 f.first ∷ []) (lt-leb len f.first.deficit short)
@@ -231,44 +164,58 @@ need_falls heads s n len f head one short =
     ∙ need_more q f.first.deficit len (subst (λ m. 1 ≤ quantum_of m s.classes) (sym f.class) one) short
     ∙ ap (λ h. suc (grants_for q (f.first.deficit + 1 * q) h)) (sym shows)
 
-choose_nothing : (ks : List ℕ) → choose ks ≡ None → ks ≡ []
-choose_nothing [] e = refl
-choose_nothing (k ∷ ks) e = cc
+-- the choice from the others and one more at the end
+choice_end : (quantum : ℕ → ℕ) (heads : ℕ → Option ℕ) (es : List Entry) (x : Entry)
+    → choose (needs quantum heads (es ++ x ∷ [])) ≡ Some (last_one (need quantum heads x) (length es) (choose (needs quantum heads es)))
+choice_end quantum heads es x =
+    let asked : Entry → Option ℕ = λ e. Some (need quantum heads e) in
+    ap choose (map-append asked es (x ∷ [])) ∙ choose-end (needs quantum heads es) (need quantum heads x)
+    ∙ ap (λ n. Some (last_one (need quantum heads x) n (choose (needs quantum heads es)))) (length-map es asked)
 
-map_nothing : (g : Entry → ℕ) (es : List Entry) → map g es ≡ [] → es ≡ []
-map_nothing g [] e = refl
-map_nothing g (x ∷ es) e = cc
+pub choice_within : (quantum : ℕ → ℕ) (heads : ℕ → Option ℕ) (es : List Entry) → IfSome (choose (needs quantum heads es)) (λ c. c.place < length es)
+choice_within quantum heads es =
+    let asked : Entry → Option ℕ = λ e. Some (need quantum heads e) in
+    subst (λ n. IfSome (choose (needs quantum heads es)) (λ c. c.place < n)) (length-map es asked) (choose-within (needs quantum heads es))
+
+-- the choice where the front is granted, and that among the same classes once it was
+pub choice_before : (heads : ℕ → Option ℕ) (s : Schedule) (n len : ℕ) (f : Front n s) → heads n ≡ Some len → 1 ≤ quantum_of n s.classes → f.first.deficit < len
+    → choice_of heads s ≡ Some (sooner (suc (need (λ m. quantum_of m s.classes) heads (once (λ m. quantum_of m s.classes) f.first))) (choose (needs (λ m. quantum_of m s.classes) heads f.rest)))
+choice_before heads s n len f head one short =
+    let quantum : ℕ → ℕ = λ m. quantum_of m s.classes in
+    ap (λ es. choose (needs quantum heads es)) f.is ∙ ap (λ m. Some (sooner m (choose (needs quantum heads f.rest)))) (need_falls heads s n len f head one short)
+
+pub choice_after : (heads : ℕ → Option ℕ) (s : Schedule) (n len : ℕ) (f : Front n s) → f.first.deficit < len
+    → choice_of heads (turned len s) ≡ Some (last_one (need (λ m. quantum_of m s.classes) heads (once (λ m. quantum_of m s.classes) f.first)) (length f.rest) (choose (needs (λ m. quantum_of m s.classes) heads f.rest)))
+choice_after heads s n len f short =
+    let quantum : ℕ → ℕ = λ m. quantum_of m s.classes in
+    ap (λ es. choose (needs quantum heads es)) (turned_granted s n len f short) ∙ choice_end quantum heads f.rest (once quantum f.first)
 
 pub prepared_granted : (heads : ℕ → Option ℕ) (s : Schedule) (n len : ℕ) (f : Front n s) → heads n ≡ Some len → 1 ≤ quantum_of n s.classes → f.first.deficit < len
     → prepared heads (turned len s) ≡ prepared heads s
 prepared_granted heads s n len f head one short =
     let quantum : ℕ → ℕ = λ m. quantum_of m s.classes in
-    let g : Entry → ℕ = need quantum heads in
     let last : Entry = once quantum f.first in
-    let k : ℕ = g last in
-    let others : Option Choice = choose (map g f.rest) in
-    let empty : others ≡ None → f.rest ≡ [] = λ e. map_nothing g f.rest (choose_nothing (map g f.rest) e) in
-    let within : (c : Choice) → others ≡ Some c → c.place < length f.rest = λ c e. omega (arith, choose_within (map g f.rest) c e, length-map f.rest g) in
-    let before : choose (map g s.active) ≡ Some (sooner (suc k) others) =
-    ap (λ es. choose (map g es)) f.is ∙ ap (λ m. Some (sooner m others)) (need_falls heads s n len f head one short) in
-    let list : active_after len s.classes s.active ≡ f.rest ++ last ∷ [] = turned_granted s n len f short in
-    let after : choose (map g (active_after len s.classes s.active)) ≡ Some (last_one k (length f.rest) others) =
-    ap (λ es. choose (map g es)) list ∙ ap choose (map-append g f.rest (last ∷ [])) ∙ choose_end (map g f.rest) k
-    ∙ ap (λ m. Some (last_one k m others)) (length-map f.rest g) in
-    let long : length (active_after len s.classes s.active) ≡ suc (length f.rest) = ap length list ∙ length_push f.rest last ∙ add-one (length f.rest) in
-    let active : brought_up quantum (choose (map g (active_after len s.classes s.active))) (active_after len s.classes s.active) ≡ brought_up quantum (choose (map g s.active)) s.active =
-    ap (λ c. brought_up quantum c (active_after len s.classes s.active)) after
+    let k : ℕ = need quantum heads last in
+    let others : Option Choice = choose (needs quantum heads f.rest) in
+    let before : choice_of heads s ≡ Some (sooner (suc k) others) = choice_before heads s n len f head one short in
+    let granted_list : List Entry = active_after len s.classes s.active in
+    let list : granted_list ≡ f.rest ++ last ∷ [] = turned_granted s n len f short in
+    let after : choose (needs quantum heads granted_list) ≡ Some (last_one k (length f.rest) others) = choice_after heads s n len f short in
+    let long : length granted_list ≡ suc (length f.rest) = ap length list ∙ length_push f.rest last ∙ add-one (length f.rest) in
+    let active : brought_up quantum (choose (needs quantum heads granted_list)) granted_list ≡ brought_up quantum (choice_of heads s) s.active =
+    ap (λ c. brought_up quantum c granted_list) after
     ∙ ap (brought_up quantum (Some (last_one k (length f.rest) others))) list
-    ∙ sym (list_goes_on quantum f.first f.rest k others empty within)
+    ∙ sym (list_goes_on quantum f.first f.rest k others (choice_within quantum heads f.rest))
     ∙ sym (ap (λ c. brought_up quantum c s.active) before ∙ ap (brought_up quantum (Some (sooner (suc k) others))) f.is) in
-    let a : turns_until (choose (map g s.active)) (length s.active) ≡ turns_until (Some (sooner (suc k) others)) (suc (length f.rest)) =
+    let a : turns_until (choice_of heads s) (length s.active) ≡ turns_until (Some (sooner (suc k) others)) (suc (length f.rest)) =
     ap (λ c. turns_until c (length s.active)) before ∙ ap (λ es. turns_until (Some (sooner (suc k) others)) (length es)) f.is in
-    let b : turns_until (choose (map g (active_after len s.classes s.active))) (length (active_after len s.classes s.active)) ≡ turns_until (Some (last_one k (length f.rest) others)) (suc (length f.rest)) =
-    ap (λ c. turns_until c (length (active_after len s.classes s.active))) after ∙ ap (turns_until (Some (last_one k (length f.rest) others))) long in
-    let turns : counted (counted (s.turns + 1) + turns_until (choose (map g (active_after len s.classes s.active))) (length (active_after len s.classes s.active)))
-    ≡ counted (s.turns + turns_until (choose (map g s.active)) (length s.active)) =
-    omega (arith, a, b, turns_go_on quantum f.first f.rest k others empty) in
-    ap (λ es. record s { active = es; turns = counted (counted (s.turns + 1) + turns_until (choose (map g (active_after len s.classes s.active))) (length (active_after len s.classes s.active))) }) active ∙ ap (λ m. record s { active = brought_up quantum (choose (map g s.active)) s.active; turns = m }) turns
+    let b : turns_until (choose (needs quantum heads granted_list)) (length granted_list) ≡ turns_until (Some (last_one k (length f.rest) others)) (suc (length f.rest)) =
+    ap (λ c. turns_until c (length granted_list)) after ∙ ap (turns_until (Some (last_one k (length f.rest) others))) long in
+    let turns : counted (counted (s.turns + 1) + turns_until (choose (needs quantum heads granted_list)) (length granted_list))
+    ≡ counted (s.turns + turns_until (choice_of heads s) (length s.active)) =
+    omega (arith, a, b, turns_go_on quantum f.first f.rest k others) in
+    ap (λ es. record s { active = es; turns = counted (counted (s.turns + 1) + turns_until (choose (needs quantum heads granted_list)) (length granted_list)) }) active
+    ∙ ap (λ m. record s { active = brought_up quantum (choice_of heads s) s.active; turns = m }) turns
 
 pub measure_falls : (heads : ℕ → Option ℕ) (s : Schedule) (n len : ℕ) (f : Front n s) → heads n ≡ Some len → 1 ≤ quantum_of n s.classes → f.first.deficit < len
     → sum_by (need (λ m. quantum_of m s.classes) heads) (turned len s).active < sum_by (need (λ m. quantum_of m s.classes) heads) s.active
@@ -278,17 +225,18 @@ measure_falls heads s n len f head one short =
     omega (arith, ap (sum_by g) (turned_granted s n len f short), ap (sum_by g) f.is, sum_by_push g f.rest last, sum_by-cons g f.first f.rest, need_falls heads s n len f head one short)
 
 -- a class of the list has a quantum
-has_quantum : (n : ℕ) (classes : List Class) → AllByRecursion (λ c. 1 ≤ c.quantum) classes → has_class n classes ≡ true → 1 ≤ quantum_of n classes
+pub has_quantum : (n : ℕ) (classes : List Class) → AllByRecursion (λ (c : Class). 1 ≤ c.quantum) classes → has_class n classes ≡ true → 1 ≤ quantum_of n classes
 has_quantum n [] h there = absurd (false≢true there)
 has_quantum n (c ∷ classes) h there = elim (cases_Bool (eqb n c.name)) [
-  | inl e ↦ subst (λ (t : Bool). 1 ≤ (if t then c.quantum else quantum_of n classes)) (sym e) h.0
-  | inr e ↦ subst (λ (t : Bool). 1 ≤ (if t then c.quantum else quantum_of n classes)) (sym e) (has_quantum n classes h.1 (sym (ap (λ t. t || has_class n classes) e) ∙ there))
+  | inl e ↦ subst (λ k. 1 ≤ k) (sym (quantum-here n c classes e)) h.0
+  | inr e ↦ subst (λ k. 1 ≤ k) (sym (quantum-behind n c classes e)) (has_quantum n classes h.1 (sym (ap (λ t. t || has_class n classes) e) ∙ there))
 ]
 
 pub front_quantum : (s : Schedule) (n : ℕ) (f : Front n s) → IsLawful s → 1 ≤ quantum_of n s.classes
 front_quantum s n f law =
-    let all : AllByRecursion (IsEntry s.max_len s.classes) (f.first ∷ f.rest) = subst (AllByRecursion (IsEntry s.max_len s.classes)) f.is law.entries in
-    has_quantum n s.classes law.quanta (ap (λ m. has_class m s.classes) (sym f.class) ∙ all.0.there)
+    let all : All (IsEntry s.max_len s.classes) (f.first ∷ f.rest) = subst (All (IsEntry s.max_len s.classes)) f.is law.entries in
+    let first : IsEntry s.max_len s.classes f.first = All-head (IsEntry s.max_len s.classes) f.first f.rest all in
+    has_quantum n s.classes (recursion_from_All (λ (c : Class). 1 ≤ c.quantum) s.classes law.quanta) (ap (λ m. has_class m s.classes) (sym f.class) ∙ first.there)
 
 -- what the front's turn answers
 pub covers : (s : Schedule) (n len : ℕ) (f : Front n s) → Send ≡ turn_answer len s.active → len ≤ f.first.deficit
@@ -308,7 +256,7 @@ nothing_shown None no_value = refl
 nothing_shown (Some x) no_value = absurd (no_value x refl)
 
 -- the ends of a take
-need_at : (heads : ℕ → Option ℕ) (s : Schedule) (n : ℕ) (f : Front n s) (h : Option ℕ) → heads n ≡ h → ((len : ℕ) → h ≡ Some len → len ≤ f.first.deficit) → need (λ m. quantum_of m s.classes) heads f.first ≡ 0
+pub need_at : (heads : ℕ → Option ℕ) (s : Schedule) (n : ℕ) (f : Front n s) (h : Option ℕ) → heads n ≡ h → ((len : ℕ) → h ≡ Some len → len ≤ f.first.deficit) → need (λ m. quantum_of m s.classes) heads f.first ≡ 0
 unfolding grants_for
 need_at heads s n f None e covered = ap (grants_for (quantum_of f.first.class s.classes) f.first.deficit) (ap heads f.class ∙ e)
 need_at heads s n f (Some len) e covered =

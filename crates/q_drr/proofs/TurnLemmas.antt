@@ -5,11 +5,12 @@ use Rattle.std.specs.List.{AllByRecursion}
 use Rattle.std.proofs.lemmas.Bool.{le-leb, lt-leb}
 use Rattle.std.proofs.lemmas.List.{map-append}
 use Rattle.q_drr.specs.declared.class_state.ClassState.{ClassState}
-use Rattle.q_drr.specs.Links.{is_among, AllDiffer}
+use Rattle.q_drr.specs.Links.{is_among}
 use Rattle.q_drr.specs.declared.turn.Turn.TheVariants.{Send, Granted}
 use Rattle.q_drr.specs.States.{has_state, state_of, with_state, class_in, entry_in}
 use Rattle.q_drr.specs.Schedule.{quantum_of, after_grants, turn_answer, turned, counted}
-use Rattle.q_drr.specs.Kept.{shown, StatesDiffer}
+use Rattle.q_drr.specs.Kept.{shown}
+use Rattle.q_drr.proofs.DifferLemmas.{AllDiffer, StatesDiffer}
 use Rattle.q_drr.proofs.ScheduleLemmas.{quantum_in, classes_with, entries_with, entry_put, same_entry, same_schedule}
 
 -- `turn`

@@ -1,10 +1,10 @@
 -- What the fields of an active list show and keep of each other: a table of classes, and the circle of the active ones.
 -- The bound on deficits is that of deficit round robin (tc-drr(8)): no deficit reaches a quantum and a longest packet.
-use Rattle.std.specs.Prelude.{◌≡◌, ℕ, ◌+◌, ◌^◌, ◌<◌, ◌≤◌, true, false, List, [], ◌∷◌, map}
-use Rattle.std.specs.List.{AllByRecursion}
+use Rattle.std.specs.Prelude.{◌≡◌, ◌≢◌, ℕ, ◌+◌, ◌^◌, ◌<◌, ◌≤◌, true, false, List, [], ◌∷◌, map}
+use Rattle.std.specs.List.{AllByRecursion, AllPairs}
 use Rattle.q_drr.specs.Schedule.{Schedule}
 use Rattle.q_drr.specs.States.{has_state, class_in, entry_in}
-use Rattle.q_drr.specs.Links.{Circle, AllDiffer}
+use Rattle.q_drr.specs.Links.{Circle}
 use Rattle.q_drr.specs.declared.class_state.ClassState.{ClassState}
 
 abbrev pub shown : ℕ → ℕ → List ClassState → List ℕ → Schedule
@@ -22,17 +22,12 @@ pub record IsState (max_len room : ℕ) (c : ClassState) : Type 0 where
   pub bounded : c.deficit < c.quantum + max_len
   pub in_range : c.granted < 2 ^ 64
 
--- no two states have one name
-abbrev pub StatesDiffer : List ClassState → Type 0
-StatesDiffer [] = Unit {0}
-StatesDiffer (c ∷ states) = (has_state c.name states ≡ false) × StatesDiffer states
-
 pub record IsKept (max_len : ℕ) (states : List ClassState) (circle : Circle) : Type 0 where
   pub positive : 1 ≤ max_len
   pub each : AllByRecursion (IsState max_len circle.room) states
-  pub states_differ : StatesDiffer states
+  pub states_differ : AllPairs (λ (a b : ClassState). a.name ≢ b.name) states
   pub known : AllByRecursion (λ n. has_state n states ≡ true) circle.order
-  pub order_differs : AllDiffer circle.order
+  pub order_differs : AllPairs (λ (m n : ℕ). m ≢ n) circle.order
 
 pub record IsSound (max_len turns : ℕ) (states : List ClassState) (circle : Circle) : Type 0 where
   pub kept : IsKept max_len states circle

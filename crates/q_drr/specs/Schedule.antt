@@ -1,7 +1,8 @@
 -- The active list of deficit round robin: classes with their quanta and, for those active, place, deficit and grants.
 -- After M. Shreedhar and G. Varghese, "Efficient Fair Queuing Using Deficit Round-Robin" (1995), and tc-drr(8).
-use Rattle.std.specs.Prelude.{◌≡◌, ℕ, true, ◌+◌, ◌-◌, ◌*◌, ◌^◌, ◌<◌, ◌≤◌, min, Bool, false, not, ◌==◌, nat_le, if◌then◌else◌, List, [], ◌∷◌, ◌++◌, map, Option, slice_get}
-use Rattle.std.specs.List.{filter, list_any, AllByRecursion}
+use Rattle.std.specs.Prelude.{◌≡◌, ◌≢◌, ℕ, true, ◌+◌, ◌-◌, ◌*◌, ◌^◌, ◌<◌, ◌≤◌, min, Bool, false, not, ◌==◌, nat_le, if◌then◌else◌, List, [], ◌∷◌, ◌++◌, map, Option, slice_get}
+use Rattle.std.specs.List.{filter, find, list_any, position, All, AllPairs}
+use Rattle.std.specs.Option.{option_map_or}
 use Rattle.q_drr.specs.declared.turn.Turn.{Turn}
 use Rattle.q_drr.specs.declared.turn.Turn.TheVariants.{Send, Granted}
 
@@ -26,22 +27,23 @@ pub record Schedule : Type 0 where
 abbrev pub has_class : ℕ → List Class → Bool
 has_class n classes = list_any (λ c. n == c.name) classes
 
+-- where a class stands in order of adding
+abbrev pub place_of : ℕ → List Class → Option ℕ
+place_of n classes = position (λ c. n == c.name) classes
+
 -- the quantum of a class that is there
 abbrev pub quantum_of : ℕ → List Class → ℕ
-quantum_of n [] = 0
-quantum_of n (c ∷ classes) = if n == c.name then c.quantum else quantum_of n classes
+quantum_of n classes = option_map_or (λ (c : Class). c.quantum) (find (λ (c : Class). n == c.name) classes) 0
 
 abbrev pub is_active : ℕ → List Entry → Bool
 is_active n active = list_any (λ e. n == e.class) active
 
 -- the deficit and the grants of a class, 0 where it is asleep
 abbrev pub deficit_of : ℕ → List Entry → ℕ
-deficit_of n [] = 0
-deficit_of n (e ∷ active) = if n == e.class then e.deficit else deficit_of n active
+deficit_of n active = option_map_or (λ (e : Entry). e.deficit) (find (λ (e : Entry). n == e.class) active) 0
 
 abbrev pub granted_of : ℕ → List Entry → ℕ
-granted_of n [] = 0
-granted_of n (e ∷ active) = if n == e.class then e.granted else granted_of n active
+granted_of n active = option_map_or (λ (e : Entry). e.granted) (find (λ (e : Entry). n == e.class) active) 0
 
 -- a counter of 64 bits stays at its end once it is there
 abbrev pub counted : ℕ → ℕ
@@ -103,19 +105,10 @@ pub record IsEntry (max_len : ℕ) (classes : List Class) (e : Entry) : Type 0 w
   pub bounded : e.deficit < quantum_of e.class classes + max_len
   pub in_range : e.granted < 2 ^ 64
 
--- no two classes have one name, and no class stands twice in the active list
-abbrev pub ClassesDiffer : List Class → Type 0
-ClassesDiffer [] = Unit {0}
-ClassesDiffer (c ∷ classes) = (has_class c.name classes ≡ false) × ClassesDiffer classes
-
-abbrev pub EntriesDiffer : List Entry → Type 0
-EntriesDiffer [] = Unit {0}
-EntriesDiffer (e ∷ active) = (is_active e.class active ≡ false) × EntriesDiffer active
-
--- what holds of every active list
+-- what holds of every active list: no two classes have one name, and no class stands twice among the active ones
 pub record IsLawful (s : Schedule) : Type 0 where
-  pub classes_differ : ClassesDiffer s.classes
-  pub quanta : AllByRecursion (λ c. 1 ≤ c.quantum) s.classes
-  pub entries_differ : EntriesDiffer s.active
-  pub entries : AllByRecursion (IsEntry s.max_len s.classes) s.active
+  pub classes_differ : AllPairs (λ (a b : Class). a.name ≢ b.name) s.classes
+  pub quanta : All (λ (c : Class). 1 ≤ c.quantum) s.classes
+  pub entries_differ : AllPairs (λ (a b : Entry). a.class ≢ b.class) s.active
+  pub entries : All (IsEntry s.max_len s.classes) s.active
   pub counted_turns : s.turns < 2 ^ 64

@@ -1,7 +1,7 @@
 -- A table of classes as a list of their states in order of adding, and what the active list of deficit round robin
 -- (tc-drr(8)) shows of it.
-use Rattle.std.specs.Prelude.{◌≡◌, ℕ, ◌^◌, ◌<◌, ◌≤◌, Bool, not, ◌==◌, nat_lt, suc, if◌then◌else◌, List, [], ◌∷◌, map, length, slice_index, slice_index_or}
-use Rattle.std.specs.List.{filter, list_any}
+use Rattle.std.specs.Prelude.{◌≡◌, ℕ, ◌^◌, ◌<◌, ◌≤◌, Bool, not, ◌==◌, nat_lt, suc, if◌then◌else◌, List, [], ◌∷◌, map, length, Option, slice_index, slice_index_or, unwrap_or}
+use Rattle.std.specs.List.{filter, find, list_any, position}
 use Rattle.q_drr.specs.Schedule.{Class, Entry}
 use Rattle.q_drr.specs.declared.class_state.ClassState.{ClassState}
 
@@ -11,10 +11,13 @@ no_state = record { name = 0; quantum = 0; deficit = 0; granted = 0 }
 abbrev pub has_state : ℕ → List ClassState → Bool
 has_state n states = list_any (λ c. n == c.name) states
 
+-- where a class stands in order of adding
+abbrev pub place_of_state : ℕ → List ClassState → Option ℕ
+place_of_state n states = position (λ c. n == c.name) states
+
 -- the state of a class that is there
 abbrev pub state_of : ℕ → List ClassState → ClassState
-state_of n [] = no_state
-state_of n (c ∷ states) = if n == c.name then c else state_of n states
+state_of n states = unwrap_or (find (λ (c : ClassState). n == c.name) states) no_state
 
 -- the same table with another state for one class
 abbrev pub with_state : ClassState → List ClassState → List ClassState

@@ -1,6 +1,6 @@
 -- Any list of turns on a set of classes that all stay active: what each is granted and sends in deficit round robin.
 -- After M. Shreedhar and G. Varghese, "Efficient Fair Queuing Using Deficit Round-Robin" (1995), and tc-drr(8).
-use Rattle.std.specs.Prelude.{◌≡◌, ◌≢◌, ℕ, ◌+◌, ◌*◌, ◌≤◌, Bool, true, false, ◌==◌, nat_le, if◌then◌else◌, List, [], ◌∷◌}
+use Rattle.std.specs.Prelude.{◌≡◌, ◌≢◌, ℕ, ◌+◌, ◌*◌, ◌<◌, ◌≤◌, Bool, true, false, ◌==◌, nat_le, if◌then◌else◌, List, [], ◌∷◌, All}
 use Rattle.q_drr.specs.Schedule.{Entry, Schedule, turned, is_active, deficit_of, quantum_of, IsLawful}
 
 -- after turns of classes whose heads have these lengths, in this order
@@ -37,8 +37,8 @@ EachSendsItsShare =
     (s : Schedule) (lens : List ℕ) (n : ℕ) → IsLawful s → is_active n s.active ≡ true
     → sent n lens s + deficit_of n (after_turns lens s).active ≡ grants n lens s * quantum_of n s.classes + deficit_of n s.active
 
--- two classes are granted equally often where they stand in the same order at both ends; else the one that stood first
--- was granted once more
+-- two classes are granted equally often over turns that leave them in the order that they had, and one that stood before
+-- the other and then stands behind it was granted once more
 pub record AreEven (i j : ℕ) (lens : List ℕ) (s : Schedule) : Type 0 where
   pub same_order : stands_first i j (after_turns lens s).active ≡ stands_first i j s.active → grants i lens s ≡ grants j lens s
   pub changed_order : stands_first i j s.active ≡ true → stands_first i j (after_turns lens s).active ≡ false → grants i lens s ≡ grants j lens s + 1
@@ -47,3 +47,11 @@ pub record AreEven (i j : ℕ) (lens : List ℕ) (s : Schedule) : Type 0 where
 abbrev pub GrantsAreEven : Type 0
 GrantsAreEven =
     (s : Schedule) (lens : List ℕ) (i j : ℕ) → IsLawful s → is_active i s.active ≡ true → is_active j s.active ≡ true → i ≢ j → AreEven i j lens s
+
+-- The bytes that two classes send are to each other as their quanta, up to three grants of each and a longest packet:
+-- what one sends times the other's quantum exceeds the same of the other by less than that.
+abbrev pub SharesAreFair : Type 0
+SharesAreFair =
+    (s : Schedule) (lens : List ℕ) (i j : ℕ) → IsLawful s → All (λ len. len ≤ s.max_len) lens → is_active i s.active ≡ true → is_active j s.active ≡ true → i ≢ j
+    → sent i lens s * quantum_of j s.classes
+    < sent j lens s * quantum_of i s.classes + 3 * (quantum_of i s.classes * quantum_of j s.classes) + s.max_len * (quantum_of i s.classes + quantum_of j s.classes)

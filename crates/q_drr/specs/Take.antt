@@ -1,6 +1,7 @@
 -- A whole take of deficit round robin, said at once: which class is met, how many grants each gets until then, and the
 -- list after. After M. Shreedhar and G. Varghese, "Efficient Fair Queuing Using Deficit Round-Robin" (1995), tc-drr(8).
-use Rattle.std.specs.Prelude.{ℕ, suc, ◌+◌, ◌-◌, ◌*◌, nat_le, if◌then◌else◌, List, [], ◌∷◌, ◌++◌, map, length, take, drop, slice_index_or, Option, Some, None}
+use Rattle.std.specs.Prelude.{ℕ, suc, ◌+◌, ◌-◌, ◌*◌, nat_le, List, [], ◌∷◌, ◌++◌, map, length, take, drop, slice_index_or, Option, Some, None}
+use Rattle.q_packet.specs.Choice.{Choice, choose}
 use Rattle.q_packet.specs.Least.{least}
 use Rattle.q_drr.specs.Schedule.{Entry, Schedule, quantum_of, after_grants, counted}
 use Rattle.q_drr.specs.declared.met.Met.{Met}
@@ -13,18 +14,12 @@ grants_for quantum deficit (Some len) = least (λ k. nat_le len (deficit + k * q
 abbrev pub need : (ℕ → ℕ) → (ℕ → Option ℕ) → Entry → ℕ
 need quantum heads e = grants_for (quantum e.class) e.deficit (heads e.class)
 
--- the one with the least need, and among those the first: how often it is granted, and its place
-pub record Choice : Type 0 where
-  pub rounds : ℕ
-  pub place : ℕ
+abbrev pub needs : (ℕ → ℕ) → (ℕ → Option ℕ) → List Entry → List (Option ℕ)
+needs quantum heads active = map (λ (e : Entry). Some (need quantum heads e)) active
 
-abbrev pub sooner : ℕ → Option Choice → Choice
-sooner k None = record { rounds = k; place = 0 }
-sooner k (Some c) = if nat_le k c.rounds then record { rounds = k; place = 0 } else record { rounds = c.rounds; place = suc c.place }
-
-abbrev pub choose : List ℕ → Option Choice
-choose [] = None
-choose (k ∷ ks) = Some (sooner k (choose ks))
+-- the class that is met: the one with the least need, and of equals the first
+abbrev pub choice_of : (ℕ → Option ℕ) → Schedule → Option Choice
+choice_of heads s = choose (needs (λ (n : ℕ). quantum_of n s.classes) heads s.active)
 
 -- those before the chosen one are granted once more than it and those after it, and stand behind them
 abbrev pub granted : (ℕ → ℕ) → ℕ → List Entry → List Entry
@@ -42,7 +37,7 @@ turns_until (Some c) n = c.rounds * n + c.place
 abbrev pub prepared : (ℕ → Option ℕ) → Schedule → Schedule
 prepared heads s =
     let quantum = λ (n : ℕ). quantum_of n s.classes in
-    let choice = choose (map (need quantum heads) s.active) in
+    let choice = choice_of heads s in
     record s { active = brought_up quantum choice s.active; turns = counted (s.turns + turns_until choice (length s.active)) }
 
 -- where it shows a head, the head is sent

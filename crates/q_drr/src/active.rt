@@ -1,5 +1,5 @@
-ghost use Rattle.std.specs.Prelude.{◌≡◌, ◌<◌, ◌≤◌, ◌+◌, IsTrue, OnOk, OnErr, false, length};
-ghost use Rattle.q_drr.specs.Schedule.{Schedule, no_classes, has_class, quantum_of, is_active, deficit_of, granted_of, added, woken, asleep, removed, with_quantum, front_of, turn_answer, turned, IsLawful};
+ghost use Rattle.std.specs.Prelude.{◌≡◌, ◌<◌, ◌≤◌, ◌+◌, IsTrue, OnOk, OnErr, false, length, ◌^◌};
+ghost use Rattle.q_drr.specs.Schedule.{Schedule, no_classes, has_class, place_of, quantum_of, is_active, deficit_of, granted_of, added, woken, asleep, removed, with_quantum, front_of, turn_answer, turned, IsLawful};
 
 use crate::class_state::ClassState;
 use crate::class_table::ClassTable;
@@ -48,6 +48,31 @@ impl Active {
             max_len,
             turns: 0,
         }
+    }
+
+    /// The number of classes, at most 65536.
+    pub fn count(&self) -> usize
+        ensures value { result ≡ length self.now.classes }
+        ensures bound { result ≤ 2 ^ 16 }
+        ensures lawful { IsLawful self.now }
+    {
+        self.table.count()
+    }
+
+    /// Whether there is a class of this name.
+    pub fn has(&self, class: u16) -> bool
+        ensures value { result ≡ has_class class self.now.classes }
+        ensures lawful { IsLawful self.now }
+    {
+        self.table.has(class)
+    }
+
+    /// The place of a class in order of adding, from 0; `None` where there is none of this name.
+    pub fn place_of(&self, class: u16) -> Option<usize>
+        ensures value { result ≡ place_of class self.now.classes }
+        ensures lawful { IsLawful self.now }
+    {
+        self.table.place_of(class)
     }
 
     /// Adds a class, asleep. `quantum` is the bytes of one grant, at least 1.

@@ -1,6 +1,6 @@
-ghost use Rattle.std.specs.Prelude.{◌≡◌, ◌<◌, ◌≤◌, length, List, [], ◌∷◌, ◌++◌, IsTrue, OnOk, OnErr, false};
+ghost use Rattle.std.specs.Prelude.{◌≡◌, ◌<◌, ◌≤◌, ◌^◌, length, List, [], ◌∷◌, ◌++◌, IsTrue, OnOk, OnErr, false};
 ghost use Rattle.q_drr.specs.declared.class_state.ClassState.{ClassState};
-ghost use Rattle.q_drr.specs.States.{has_state, state_of, with_state, without_state, IsIndex, IsIndexUpTo};
+ghost use Rattle.q_drr.specs.States.{has_state, place_of_state, state_of, with_state, without_state, IsIndex, IsIndexUpTo};
 
 use crate::class_state::ClassState;
 use std::alloc::{AllocError, Global};
@@ -36,6 +36,31 @@ impl ClassTable {
             states: Vec::new(alloc),
             places: Vec::new(alloc),
         }
+    }
+
+    pub(crate) fn count(&self) -> usize
+        ensures value { result ≡ length self.now }
+        ensures bound { result ≤ 2 ^ 16 }
+    {
+        self.states.len()
+    }
+
+    pub(crate) fn place_of(&self, name: u16) -> Option<usize>
+        ensures { result ≡ place_of_state name self.now }
+    {
+        let place = *self.places.get(name as usize)? as usize;
+        let state = self.states.get(place)?;
+        if state.name == name {
+            Some(place)
+        } else {
+            None
+        }
+    }
+
+    pub(crate) fn has(&self, name: u16) -> bool
+        ensures { result ≡ has_state name self.now }
+    {
+        self.place_of(name).is_some()
     }
 
     pub(crate) fn get(&self, name: u16) -> ClassState

@@ -1,6 +1,7 @@
-//! Laws of the definitions that the contracts cite, over every list of turns. Each function does nothing: its contract is
-//! the law.
-ghost use Rattle.q_drr.specs.Stretch.{EachSendsItsShare, GrantsAreEven};
+//! Laws of the definitions that the contracts cite. Each function does nothing: its contract is the law.
+ghost use Rattle.q_drr.specs.Changes.{EmptyIsLawful, AddedIsLawful, RemovedIsLawful, WokenIsLawful, AsleepIsLawful, RequantizedIsLawful, TurnedIsLawful, ServedIsLawful};
+ghost use Rattle.q_drr.specs.Stretch.{EachSendsItsShare, GrantsAreEven, SharesAreFair};
+ghost use Rattle.q_drr.specs.Turns.{TakesAreTurns, LeastNeedIsMet, ChosenIsMet, TurnsGrantWhereShort, TakesGrantWhereShort};
 
 /// Over any stretch of turns each class that is active sends, in bytes, its grants times its quantum and the deficit that
 /// it had at first, less the deficit that it has at last.
@@ -8,8 +9,46 @@ pub fn each_sends_its_share()
     ensures { EachSendsItsShare }
 {}
 
-/// Over any stretch of turns two active classes get equally many grants where they stand in the same order at both ends;
-/// else the one that stood first gets one more.
+/// Over any stretch of turns no active class is granted more than once more often than another: once more where it stood
+/// before the other at the start and stands behind it at the end, and as often where they have kept their order.
 pub fn grants_are_even()
     ensures { GrantsAreEven }
+{}
+
+/// Over any stretch of turns the bytes that two active classes send are to each other as their quanta: they differ, each
+/// times the other's quantum, by less than three products of the quanta and a longest packet times their sum.
+pub fn shares_are_fair()
+    ensures { SharesAreFair }
+{}
+
+/// A whole take is a list of turns, each for the head that the class in front shows. They grant to each class that
+/// stands before the one that is met once more than to it and to those behind it, and only the class that is met sends.
+/// So what holds of turns holds of takes.
+pub fn takes_are_turns()
+    ensures { TakesAreTurns }
+{}
+
+/// The class that a take meets needs no more grants than any other, and fewer than each that stands before it.
+pub fn least_need_is_met()
+    ensures least { LeastNeedIsMet }
+    ensures met { ChosenIsMet }
+{}
+
+/// Just before a class is granted its deficit is below the length of the head that it shows: at a turn, and at the last
+/// of its grants in a whole take.
+pub fn grants_come_where_short()
+    ensures turn { TurnsGrantWhereShort }
+    ensures take { TakesGrantWhereShort }
+{}
+
+/// Every change of the list keeps what holds of every list, `IsLawful`.
+pub fn changes_stay_lawful()
+    ensures empty { EmptyIsLawful }
+    ensures added { AddedIsLawful }
+    ensures removed { RemovedIsLawful }
+    ensures woken { WokenIsLawful }
+    ensures asleep { AsleepIsLawful }
+    ensures requantized { RequantizedIsLawful }
+    ensures turned { TurnedIsLawful }
+    ensures served { ServedIsLawful }
 {}

@@ -2,19 +2,26 @@
 //! packets and queues are the caller's.
 //!
 //! - [`Active`] has the classes with their quanta. [`Active::add`] and [`Active::remove`] change them,
-//!   [`Active::set_quantum`] changes a quantum; [`Active::quantum`] shows it.
+//!   [`Active::set_quantum`] changes a quantum; [`Active::quantum`] shows it. [`Active::has`] tells whether a class is
+//!   there, [`Active::place_of`] at which place in order of adding, and [`Active::count`] how many there are.
 //! - [`Active::wake`] puts a class at the end of the active list, [`Active::sleep`] takes it out, [`Active::is_active`]
 //!   tells. [`Active::front`] is the class whose turn it is.
 //! - [`Active::turn`] is one turn of that class: a [`Turn`], `Send` or `Granted`. [`Active::deficit`],
 //!   [`Active::granted`] and [`Active::turns`] show what came of it.
 //! - [`serve`] gives turns until a class is [`Met`] whose head may be sent, or that shows none.
-//! - [`laws`] states what holds over every list of turns.
+//! - [`laws`] states what holds over every list of turns, of every take, and after every change.
 //!
 //! Each contract says what a call makes of a plain list of classes, and of those active their place, deficit and grants
 //! (`specs/Schedule.antt`). That no two classes have one name, that no class is twice in the list and that every deficit is
-//! below a quantum and a longest packet is `IsLawful`, which [`Active::front`] ensures of every list. [`serve`] carries the
-//! whole take (`specs/Take.antt`): the class met by the least number of grants, what each class is granted until then, and
-//! that the turns end. [`laws`] carries the shares (`specs/Stretch.antt`).
+//! below a quantum and a longest packet is `IsLawful`, which [`Active::front`], [`Active::has`], [`Active::place_of`] and
+//! [`Active::count`] ensure of every list. [`serve`] carries the whole take (`specs/Take.antt`): the class met by the least
+//! number of grants, what each class is granted until then, and that the turns end.
+//!
+//! [`laws`] carries the shares: [`laws::each_sends_its_share`], [`laws::grants_are_even`] and [`laws::shares_are_fair`], over
+//! every list of turns (`specs/Stretch.antt`). They reach takes by [`laws::takes_are_turns`]; [`laws::least_need_is_met`]
+//! says which class a take meets, and [`laws::grants_come_where_short`] that no class is granted whose deficit covers its
+//! head (`specs/Turns.antt`). [`laws::changes_stay_lawful`] says of each change that it keeps `IsLawful`
+//! (`specs/Changes.antt`).
 //!
 //! Only [`Active::add`] takes memory, and but for it and [`Active::remove`] each call takes the same few steps however many
 //! classes there are: a table finds a class by its name, and links lead from each active class to its neighbours.

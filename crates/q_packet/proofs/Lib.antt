@@ -1,3 +1,4 @@
+pub mod ChoiceLemmas
 pub mod HeadLemmas
 pub mod KeyLemmas
 pub mod LeastLemmas

@@ -6,6 +6,7 @@ use Rattle.q_drr.specs.declared.turn.Turn.TheVariants.{Send, Granted}
 use Rattle.q_drr.specs.States.{has_state, state_of, with_state}
 use Rattle.q_drr.specs.Schedule.{turned, turn_answer, counted}
 use Rattle.q_drr.specs.Kept.{shown, IsKept, IsState}
+use Rattle.q_drr.proofs.DifferLemmas.{numbers_apart, states_apart}
 use Rattle.q_drr.proofs.ScheduleLemmas.{state_kept, name_of_state, kept_put, kept_rotated}
 use Rattle.q_drr.proofs.TurnLemmas.{front_there, front_deficit, sent_front, granted_front}
 use Rattle.q_drr.proofs.active.Active.turn.Goals.{After-get-state}
@@ -69,7 +70,7 @@ returns-then-head_len-state-clause-after c =
     let new : ClassState = record { name = r.name; quantum = r.quantum; deficit = r.deficit - c.from-head_len.result; granted = r.granted } in
     ap (λ t. shown s.max_len c.saturating_add-self-inside.result t s.ring.order) c.put.ensures
     ∙ ap (λ k. shown s.max_len k (with_state new s.table) s.ring.order) c.saturating_add-self-inside.ensures
-    ∙ sent_front s.max_len s.turns c.args.head_len s.table s.ring.order c.in-Some.class new (first a) c.self.invariant.kept.order_differs c.self.invariant.kept.states_differ (there a)
+    ∙ sent_front s.max_len s.turns c.args.head_len s.table s.ring.order c.in-Some.class new (first a) (numbers_apart s.ring.order c.self.invariant.kept.order_differs) (states_apart s.table c.self.invariant.kept.states_differ) (there a)
     (omega (arith, deficit, c.from-head_len.ensures, c.if-head_len-state.true)) (name_is a) (ap (λ x. x.quantum) c.get-state.ensures) (omega (arith, deficit, c.from-head_len.ensures)) (ap (λ x. x.granted) c.get-state.ensures)
     ∙ ap (turned c.args.head_len) c.self.view_is
 
@@ -94,7 +95,7 @@ returns-clause-after c =
     ap (λ t. shown s.max_len c.saturating_add-self-inside.result t c.rotate.new.self.order) c.put-2.ensures
     ∙ ap (λ x. shown s.max_len c.saturating_add-self-inside.result (with_state new s.table) x.order) c.rotate.ensures
     ∙ ap (λ k. shown s.max_len k (with_state new s.table) (drop 1 s.ring.order ++ take 1 s.ring.order)) c.saturating_add-self-inside.ensures
-    ∙ granted_front s.max_len s.turns c.args.head_len s.table s.ring.order c.in-Some.class new (first a) c.self.invariant.kept.order_differs c.self.invariant.kept.states_differ (there a)
+    ∙ granted_front s.max_len s.turns c.args.head_len s.table s.ring.order c.in-Some.class new (first a) (numbers_apart s.ring.order c.self.invariant.kept.order_differs) (states_apart s.table c.self.invariant.kept.states_differ) (there a)
     (omega (arith, deficit, c.from-head_len.ensures, c.if-head_len-state.false)) (name_is a) quantum (omega (arith, deficit, quantum, c.from-quantum.ensures))
     (c.saturating_add.ensures ∙ ap (λ k. counted k) (omega (arith, ap (λ x. x.granted) c.get-state.ensures, quantum, c.from-quantum.ensures)))
     ∙ ap (turned c.args.head_len) c.self.view_is

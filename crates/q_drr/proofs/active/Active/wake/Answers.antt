@@ -3,6 +3,7 @@ use Rattle.q_drr.specs.declared.class_state.ClassState.{ClassState}
 use Rattle.q_drr.specs.States.{has_state, state_of, with_state}
 use Rattle.q_drr.specs.Kept.{shown, IsKept, IsState}
 use Rattle.q_drr.specs.Schedule.{woken, is_active}
+use Rattle.q_drr.proofs.DifferLemmas.{states_apart}
 use Rattle.q_drr.proofs.ScheduleLemmas.{there_of, room_for, state_kept, name_of_state, kept_put, kept_push, has_with, woken_shown, awake_stays, active_in}
 use Rattle.q_drr.proofs.active.Active.wake.Goals.{After-self}
 use Rattle.q_drr.proofs.active.Active.wake.Goals as goal
@@ -57,5 +58,5 @@ returns c =
     let new : ClassState = record { name = c.get-state.result.name; quantum = c.get-state.result.quantum; deficit = c.from.result; granted = 0 } in
     let q = ap (λ x. x.quantum) c.get-state.ensures in
     ap (λ t. shown s.max_len s.turns t c.push.new.self.order) c.put.ensures ∙ ap (λ r. shown s.max_len s.turns (with_state new s.table) r.order) c.push.ensures
-    ∙ woken_shown s.max_len s.turns s.table s.ring.order c.args.class new c.self.invariant.kept.states_differ (there a) (sym c.if-contains.ensures) (name_is a _ c.get-state.ensures) q (c.from.ensures ∙ q) refl
+    ∙ woken_shown s.max_len s.turns s.table s.ring.order c.args.class new (states_apart s.table c.self.invariant.kept.states_differ) (there a) (sym c.if-contains.ensures) (name_is a _ c.get-state.ensures) q (c.from.ensures ∙ q) refl
     ∙ ap (woken c.args.class) c.self.view_is

@@ -1,0 +1,27 @@
+use Rattle.q_drr.proofs.ChangeLemmas.{empty_lawful, added_lawful, removed_lawful, woken_lawful, asleep_lawful, requantized_lawful, turned_lawful}
+use Rattle.q_drr.proofs.ServedLemmas.{served_lawful}
+use Rattle.q_drr.proofs.laws.changes_stay_lawful.Goals as goal
+
+pub returns-clause-empty : goal.returns-clause-empty
+returns-clause-empty c = empty_lawful
+
+pub returns-clause-added : goal.returns-clause-added
+returns-clause-added c = added_lawful
+
+pub returns-clause-removed : goal.returns-clause-removed
+returns-clause-removed c = removed_lawful
+
+pub returns-clause-woken : goal.returns-clause-woken
+returns-clause-woken c = woken_lawful
+
+pub returns-clause-asleep : goal.returns-clause-asleep
+returns-clause-asleep c = asleep_lawful
+
+pub returns-clause-requantized : goal.returns-clause-requantized
+returns-clause-requantized c = requantized_lawful
+
+pub returns-clause-turned : goal.returns-clause-turned
+returns-clause-turned c = turned_lawful
+
+pub returns-clause-served : goal.returns-clause-served
+returns-clause-served c = served_lawful
