@@ -9,7 +9,7 @@ use Rattle.q_codel.specs.declared.loss.Loss.{Loss}
 use Rattle.q_codel.specs.Losses.{losses_of}
 use Rattle.q_codel.specs.Gap.{gap_of}
 use Rattle.q_codel.specs.Codel.{CodelState, count_after, is_late, is_capable, is_markable, moment, stops, drops, marks, gone_on, control_after, above_after, after, Chooses}
-use Rattle.q_codel.proofs.Least.{least-is}
+use Rattle.q_packet.proofs.LeastLemmas.{least_is}
 
 pub if_true : {A : Type 0} (b : Bool) (x y : A) → b ≡ true → (if b then x else y) ≡ x
 if_true true x y e = refl
@@ -67,7 +67,7 @@ stops-not s now all j head rest place late due plain =
 -- where a head is sent for whatever reason, it stops there
 pub drops-is : (s : CodelState) (now : ℕ) (all : List Stamped) (j : ℕ) → s.dropping ≡ true → j < length all → ((i : ℕ) → i < j → stops s now all i ≡ false) → stops s now all j ≡ true → drops s now all ≡ j
 drops-is s now all j dropping within passed stop =
-    if_true s.dropping _ _ dropping ∙ least-is (stops s now all) (length all) j (omega arith) passed (λ _. stop)
+    if_true s.dropping _ _ dropping ∙ least_is (stops s now all) (length all) j (omega arith) (λ _. stop) passed
 
 -- whether head j is marked, where it is the one that is sent
 abbrev pub marks_at : CodelState → ℕ → List Stamped → ℕ → Bool

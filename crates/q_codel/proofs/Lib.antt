@@ -1,6 +1,5 @@
 pub mod Counted
 pub mod Examples
 pub mod Law
-pub mod Least
 pub mod Promises
 pub mod Root

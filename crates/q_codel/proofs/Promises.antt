@@ -6,7 +6,7 @@ use Rattle.q_packet.specs.declared.stamped.Stamped.{Stamped}
 use Rattle.q_codel.specs.Codel.{CodelState, is_late, is_capable, is_markable, moment, stops, drops, marks}
 use Rattle.q_codel.specs.Laws.{LastPacketStays, MarksInPlaceOfDrops, OnlyLateHeads, AtTheirMoments}
 use Rattle.q_codel.proofs.Law.{if_true, if_false, stops-markable}
-use Rattle.q_codel.proofs.Least.{least-is, least-below}
+use Rattle.q_packet.proofs.LeastLemmas.{least_here, least_gt}
 
 -- a head that goes, or stays, by the three reasons to stop
 not_or : (a b c : Bool) → (a || b || c) ≡ false → (a ≡ false) × (b ≡ false) × (c ≡ false)
@@ -30,7 +30,7 @@ all_three false b c e = cc
 -- while dropping, a head goes only where nothing stops it
 goes : (s : CodelState) (now : ℕ) (queue : List Stamped) (i : ℕ) → s.dropping ≡ true → i < drops s now queue → stops s now queue i ≡ false
 goes s now queue i dropping below =
-    least-below (stops s now queue) (length queue) i (subst (λ (n : ℕ). i < n) (if_true s.dropping _ _ dropping) below)
+    least_gt (stops s now queue) (length queue) i (subst (λ (n : ℕ). i < n) (if_true s.dropping _ _ dropping) below)
 
 goes_late : (s : CodelState) (now : ℕ) (queue : List Stamped) (i : ℕ) → s.dropping ≡ true → i < drops s now queue → is_late s now (drop i queue) ≡ true
 goes_late s now queue i dropping below =
@@ -107,7 +107,7 @@ last_packet_stays-holds s now queue some = elim (cases_lt (drops s now queue) (l
 -- where the head is markable nothing is dropped
 stays : (s : CodelState) (now : ℕ) (queue : List Stamped) → is_markable s queue ≡ true → drops s now queue ≡ 0
 stays s now queue markable = elim (cases_Bool s.dropping) [
-  | inl dropping ↦ if_true s.dropping _ _ dropping ∙ least-is (stops s now queue) (length queue) 0 (omega arith) (λ i below. absurd (omega arith)) (λ some. stops-markable s now queue 0 markable)
+  | inl dropping ↦ if_true s.dropping _ _ dropping ∙ least_here (stops s now queue) (length queue) (stops-markable s now queue 0 markable)
   | inr resting ↦ if_false s.dropping _ _ resting ∙ if_false _ _ _ (not_both (is_late s now queue) (is_markable s queue) markable)
 ] where
   not_both : (a b : Bool) → b ≡ true → (a && not b) ≡ false

@@ -57,7 +57,7 @@ impl FlowKey {
         sport: u16,
         dport: u16,
     ) -> Option<FlowKey>
-        ensures known { IsSome result ↔ (IsTrue (is_family family)
+        ensures in_range { IsSome result ↔ (IsTrue (is_family family)
             × (src < 2 ^ address_bits family) × (dst < 2 ^ address_bits family)) }
         ensures value { IfSome result
             (λ k. k ≡ record { family = family; proto = proto; src = src; dst = dst; sport = sport; dport = dport }) }
