@@ -1,11 +1,11 @@
 -- The laws of CoDel, from its definition.
 use Rattle.std.proofs.Common.{◌≡◌, ℕ, zero, suc, ◌-◌, ◌<◌, Bool, true, false, not, ◌&&◌, ◌||◌, nat_lt, nat_le, List, [], ◌∷◌, length, drop, arith, refl, sym, ap, ◌∙◌, subst, inl, inr, ◌⊎◌}
 use Rattle.std.specs.Prelude.{if◌then◌else◌}
-use Rattle.std.proofs.lemmas.Bool.{cases_Bool, cases_lt, ltb-false, leb-true, le-ltb}
+use Rattle.std.proofs.lemmas.Bool.{cases_Bool, cases_lt, ltb-false, leb-true, le-ltb, cond-true, cond-false}
 use Rattle.q_packet.specs.declared.stamped.Stamped.{Stamped}
 use Rattle.q_codel.specs.Codel.{CodelState, is_late, is_capable, is_markable, moment, stops, drops, marks}
 use Rattle.q_codel.specs.Laws.{LastPacketStays, MarksInPlaceOfDrops, OnlyLateHeads, AtTheirMoments}
-use Rattle.q_codel.proofs.Law.{if_true, if_false, stops-markable}
+use Rattle.q_codel.proofs.Law.{stops-markable}
 use Rattle.q_packet.proofs.LeastLemmas.{least_here, least_gt}
 
 -- a head that goes, or stays, by the three reasons to stop
@@ -30,7 +30,7 @@ all_three false b c e = cc
 -- while dropping, a head goes only where nothing stops it
 goes : (s : CodelState) (now : ℕ) (queue : List Stamped) (i : ℕ) → s.dropping ≡ true → i < drops s now queue → stops s now queue i ≡ false
 goes s now queue i dropping below =
-    least_gt (stops s now queue) (length queue) i (subst (λ (n : ℕ). i < n) (if_true s.dropping _ _ dropping) below)
+    least_gt (stops s now queue) (length queue) i (subst (λ (n : ℕ). i < n) (cond-true s.dropping _ _ dropping) below)
 
 goes_late : (s : CodelState) (now : ℕ) (queue : List Stamped) (i : ℕ) → s.dropping ≡ true → i < drops s now queue → is_late s now (drop i queue) ≡ true
 goes_late s now queue i dropping below =
@@ -39,8 +39,8 @@ goes_late s now queue i dropping below =
 -- while not dropping, at most the first head goes, and only where it is late
 goes_first : (s : CodelState) (now : ℕ) (queue : List Stamped) → s.dropping ≡ false → (drops s now queue ≡ 0) ⊎ ((drops s now queue ≡ 1) × (is_late s now queue ≡ true))
 goes_first s now queue resting = elim (cases_Bool (is_late s now queue && not (is_markable s queue))) [
-  | inl holds ↦ inr (if_false s.dropping _ _ resting ∙ if_true _ _ _ holds, (both (is_late s now queue) (not (is_markable s queue)) holds).0)
-  | inr fails ↦ inl (if_false s.dropping _ _ resting ∙ if_false _ _ _ fails)
+  | inl holds ↦ inr (cond-false s.dropping _ _ resting ∙ cond-true _ _ _ holds, (both (is_late s now queue) (not (is_markable s queue)) holds).0)
+  | inr fails ↦ inl (cond-false s.dropping _ _ resting ∙ cond-false _ _ _ fails)
 ]
 
 dropped_late : (s : CodelState) (now : ℕ) (queue : List Stamped) (i : ℕ) → i < drops s now queue → is_late s now (drop i queue) ≡ true
@@ -56,10 +56,10 @@ marked_late : (s : CodelState) (now : ℕ) (queue : List Stamped) → marks s no
 marked_late s now queue marked = elim (cases_Bool s.dropping) [
   | inl dropping ↦
       let j = drops s now queue in
-      (all_three (is_late s now (drop j queue)) (nat_le (moment s j) now) (is_markable s (drop j queue)) (sym (if_true s.dropping _ _ dropping) ∙ marked)).0
+      (all_three (is_late s now (drop j queue)) (nat_le (moment s j) now) (is_markable s (drop j queue)) (sym (cond-true s.dropping _ _ dropping) ∙ marked)).0
   | inr resting ↦
-      let is = both (is_late s now queue) (is_markable s queue) (sym (if_false s.dropping _ _ resting) ∙ marked) in
-      let stays : drops s now queue ≡ 0 = if_false s.dropping _ _ resting ∙ if_false _ _ _ (not_both (is_late s now queue) (is_markable s queue) is.1) in
+      let is = both (is_late s now queue) (is_markable s queue) (sym (cond-false s.dropping _ _ resting) ∙ marked) in
+      let stays : drops s now queue ≡ 0 = cond-false s.dropping _ _ resting ∙ cond-false _ _ _ (not_both (is_late s now queue) (is_markable s queue) is.1) in
       subst (λ (n : ℕ). is_late s now (drop n queue) ≡ true) (sym stays) is.0
 ] where
   not_both : (a b : Bool) → b ≡ true → (a && not b) ≡ false
@@ -75,7 +75,7 @@ at_their_moments-holds s now queue dropping = record {
   dropped = λ i below. ltb-false now (moment s i) (not_or (not (is_late s now (drop i queue))) (nat_lt now (moment s i)) (is_markable s (drop i queue)) (goes s now queue i dropping below)).1;
   marked = λ marked.
       let j = drops s now queue in
-      leb-true (moment s j) now (all_three (is_late s now (drop j queue)) (nat_le (moment s j) now) (is_markable s (drop j queue)) (sym (if_true s.dropping _ _ dropping) ∙ marked)).1;
+      leb-true (moment s j) now (all_three (is_late s now (drop j queue)) (nat_le (moment s j) now) (is_markable s (drop j queue)) (sym (cond-true s.dropping _ _ dropping) ∙ marked)).1;
   first = refl;
   next = λ i. refl;
 }
@@ -107,8 +107,8 @@ last_packet_stays-holds s now queue some = elim (cases_lt (drops s now queue) (l
 -- where the head is markable nothing is dropped
 stays : (s : CodelState) (now : ℕ) (queue : List Stamped) → is_markable s queue ≡ true → drops s now queue ≡ 0
 stays s now queue markable = elim (cases_Bool s.dropping) [
-  | inl dropping ↦ if_true s.dropping _ _ dropping ∙ least_here (stops s now queue) (length queue) (stops-markable s now queue 0 markable)
-  | inr resting ↦ if_false s.dropping _ _ resting ∙ if_false _ _ _ (not_both (is_late s now queue) (is_markable s queue) markable)
+  | inl dropping ↦ cond-true s.dropping _ _ dropping ∙ least_here (stops s now queue) (length queue) (stops-markable s now queue 0 markable)
+  | inr resting ↦ cond-false s.dropping _ _ resting ∙ cond-false _ _ _ (not_both (is_late s now queue) (is_markable s queue) markable)
 ] where
   not_both : (a b : Bool) → b ≡ true → (a && not b) ≡ false
   not_both true true e = refl
