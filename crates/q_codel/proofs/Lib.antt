@@ -3,3 +3,4 @@ pub mod Examples
 pub mod Law
 pub mod Promises
 pub mod Root
+pub mod TakeLaws
