@@ -1,7 +1,8 @@
 -- How the heads go one by one, against the definition of how many go at once.
-use Rattle.std.proofs.Common.{◌≡◌, ℕ, zero, suc, ◌+◌, ◌-◌, ◌^◌, ◌<◌, ◌≤◌, min, Bool, true, false, not, ◌&&◌, ◌||◌, nat_lt, nat_le, Option, Some, List, [], ◌∷◌, length, drop, arith, refl, sym, ap, ◌∙◌, subst, below_more, take, ◌++◌, append_assoc}
+use Rattle.std.proofs.Common.{◌≡◌, ℕ, zero, suc, ◌+◌, ◌-◌, ◌^◌, ◌<◌, ◌≤◌, min, Bool, true, false, not, ◌&&◌, ◌||◌, nat_lt, nat_le, Option, Some, List, [], ◌∷◌, length, drop, arith, refl, sym, ap, ◌∙◌, subst, below_more, take, ◌++◌, append_assoc, drop-cons, length-drop}
 use Rattle.std.specs.Prelude.{slice_get, ◌==◌}
 use Rattle.std.proofs.lemmas.Bool.{lt-ltb, le-ltb, le-leb, lt-leb, ltb-true, ne_eqb, and_parts, or_left, or_right, or_from, not_from_true, not_from_false, cond-true, cond-false}
+use Rattle.std.proofs.lemmas.Option.{slice_get-get_or}
 use Rattle.q_packet.specs.declared.stamped.Stamped.{Stamped}
 use Rattle.q_packet.specs.declared.cause.Cause.{Cause}
 use Rattle.q_codel.specs.declared.loss.Loss.{Loss}
@@ -10,24 +11,19 @@ use Rattle.q_codel.specs.Gap.{gap_of}
 use Rattle.q_codel.specs.Codel.{CodelState, CodelParams, CodelVars, joined, count_after, is_standing, is_late, is_capable, is_markable, moment, stops, drops, marks, gone_on, control_after, above_after, Chooses}
 use Rattle.q_packet.proofs.LeastLemmas.{least_is}
 
--- what stands at a place, and behind it
-pub slice_get-drop : (queue : List Stamped) (j : ℕ) (head : Stamped) (rest : List Stamped) → drop j queue ≡ head ∷ rest → Some head ≡ slice_get queue j
-slice_get-drop [] zero head rest e = cc
-slice_get-drop [] (suc j) head rest e = cc
-slice_get-drop (x ∷ queue) zero head rest e = cc
-slice_get-drop (x ∷ queue) (suc j) head rest e = slice_get-drop queue j head rest e
+-- where a place is, what stands at it, and what behind it
+pub drop-within : (queue : List Stamped) (j : ℕ) (head : Stamped) (rest : List Stamped) → drop j queue ≡ head ∷ rest → j < length queue
+drop-within queue j head rest e = omega (arith, length-drop j queue, ap length e)
 
 pub drop-behind : (queue : List Stamped) (j : ℕ) (head : Stamped) (rest : List Stamped) → drop j queue ≡ head ∷ rest → rest ≡ drop (suc j) queue
-drop-behind [] zero head rest e = cc
-drop-behind [] (suc j) head rest e = cc
-drop-behind (x ∷ queue) zero head rest e = cc
-drop-behind (x ∷ queue) (suc j) head rest e = drop-behind queue j head rest e
+drop-behind queue j head rest e = let parts = drop-cons queue j head (drop-within queue j head rest e) in cc
 
-pub drop-within : (queue : List Stamped) (j : ℕ) (head : Stamped) (rest : List Stamped) → drop j queue ≡ head ∷ rest → j < length queue
-drop-within [] zero head rest e = cc
-drop-within [] (suc j) head rest e = cc
-drop-within (x ∷ queue) zero head rest e = omega arith
-drop-within (x ∷ queue) (suc j) head rest e = let h = drop-within queue j head rest e in omega arith
+pub slice_get-drop : (queue : List Stamped) (j : ℕ) (head : Stamped) (rest : List Stamped) → drop j queue ≡ head ∷ rest → Some head ≡ slice_get queue j
+slice_get-drop queue j head rest e =
+    let within = drop-within queue j head rest e in
+    let parts = drop-cons queue j head within in
+    let there = slice_get-get_or queue j head within in
+    cc
 
 pub below_suc : (P : ℕ → Type 0) (n : ℕ) → ((i : ℕ) → i < n → P i) → P n → (i : ℕ) → i < suc n → P i
 below_suc P n below here i h = below_more P n below here i (let e : i < n + 1 = omega arith in e)
