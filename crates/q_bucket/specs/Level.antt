@@ -1,7 +1,7 @@
 -- The level of a token bucket, what it lets through, and what a spend and a change leave.
 -- From tc-tbf(8): a token stands for a byte, tokens come at the rate until the bucket is full, and a new bucket is full.
--- What a change leaves is this project's own choice. Levels are counted in units of 1/(8*10^9) byte, which is what one bit
--- a second brings in one nanosecond.
+-- What a change leaves is this project's own choice. One bit a second brings 1/(8*10^9) byte in a nanosecond, and that is
+-- the unit of a level.
 use Rattle.std.specs.Prelude.{ℕ, ◌+◌, ◌-◌, ◌*◌, ◌^◌, ◌≤◌, Bool, nat_le, min, if◌then◌else◌}
 
 -- a bucket: its rate in bits a second, its burst in bytes, and the level in units that it had at the moment `last`

@@ -1,15 +1,14 @@
 -- The bytes of a queue of short packets are bounded by their number, so that 64 bits hold them.
 use Rattle.std.proofs.Common.{◌≡◌, ℕ, ◌+◌, ◌-◌, ◌*◌, ◌^◌, ◌<◌, ◌≤◌, List, ◌∷◌, length, arith, subst}
 use Rattle.std.specs.List.{All}
-use Rattle.std.proofs.lemmas.List.Sums.{sum_by-le, sum_by-cons}
 use Rattle.std.proofs.lemmas.List.Elements.{All-drop}
+use Rattle.q_packet.proofs.TotalsLemmas.{size-cons, size-le}
 use Rattle.q_packet.specs.Totals.{size}
 use Rattle.q_packet.specs.declared.stamped.Stamped.{Stamped}
 use Rattle.q_codel.specs.FifoState.{IsCounted}
 
 pub size_bound : (queue : List Stamped) → All (λ s. s.packet.len < 2 ^ 16) queue → size queue ≤ length queue * 65535
-size_bound queue h =
-    sum_by-le (λ s. s.packet.len) 65535 queue (λ k d below. let short = h k d below in omega arith)
+size_bound queue h = size-le 65535 queue (λ k d below. let short = h k d below in omega arith)
 
 -- one more length still fits
 pub one_more : (bytes : ℕ) (queue : List Stamped) (len : ℕ) → IsCounted bytes queue → len < 2 ^ 16 → bytes + len < 2 ^ 64
@@ -18,7 +17,7 @@ one_more bytes queue len h short = let bound = size_bound queue h.short in let s
 -- the front leaves with its bytes
 pub IsCounted-front : (bytes : ℕ) (front : Stamped) (queue : List Stamped) → IsCounted bytes (front ∷ queue) → IsCounted (bytes - front.packet.len) queue
 IsCounted-front bytes front queue h = record {
-  summed = let sum = h.summed in omega (arith, sum_by-cons (λ s. s.packet.len) front queue);
+  summed = let sum = h.summed in omega (arith, size-cons front queue);
   short = All-drop (λ s. s.packet.len < 2 ^ 16) 1 (front ∷ queue) h.short;
   few = let few = h.few in omega arith;
 }

@@ -1,5 +1,5 @@
 pub mod Counted
 pub mod Law
-pub mod Least
 pub mod Promises
 pub mod Root
+pub mod TakeLaws

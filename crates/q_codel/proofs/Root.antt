@@ -3,7 +3,7 @@ use Rattle.std.proofs.Common.{◌≡◌, ℕ, ◌+◌, ◌*◌, ◌<◌, ◌≤�
 use Rattle.std.proofs.Math.Nat.{mul-le-mul, mul-le-mul_right, mul-le-mul_left}
 use Rattle.std.proofs.lemmas.Bool.{ltb-true, ltb-false, lt-ltb, le-ltb, cases_lt}
 use Rattle.q_codel.specs.Gap.{gap_of, IsGap}
-use Rattle.q_codel.proofs.Least.{least-is}
+use Rattle.q_packet.proofs.LeastLemmas.{least_is}
 
 -- no gap is longer than the interval
 pub square_above : (interval count : ℕ) → 1 ≤ count → interval * interval < (interval + 1) * (interval + 1) * count
@@ -22,8 +22,8 @@ IsGap-at_end interval count d counted within fits next = record {
 pub gap_of-is : (interval count d : ℕ) → IsGap interval count d → d ≤ interval → d ≡ gap_of interval count
 unfolding gap_of
 gap_of-is interval count d h within =
-    sym (least-is (λ n. nat_lt (interval * interval) ((n + 1) * (n + 1) * count)) interval d within
-    (λ i below. le-ltb (interval * interval) ((i + 1) * (i + 1) * count) (shorter i below))
-    (λ below. lt-ltb (interval * interval) ((d + 1) * (d + 1) * count) h.next_fails)) where
+    sym (least_is (λ n. nat_lt (interval * interval) ((n + 1) * (n + 1) * count)) interval d within
+    (λ below. lt-ltb (interval * interval) ((d + 1) * (d + 1) * count) h.next_fails)
+    (λ i below. le-ltb (interval * interval) ((i + 1) * (i + 1) * count) (shorter i below))) where
       shorter : (i : ℕ) → i < d → (i + 1) * (i + 1) * count ≤ interval * interval
       shorter i below = let le : i + 1 ≤ d = omega arith in let s = mul-le-mul_right count (mul-le-mul le le) in let t = h.holds in omega arith

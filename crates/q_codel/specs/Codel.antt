@@ -1,5 +1,6 @@
--- CoDel on one queue (RFC 8289, section 5), in whole nanoseconds, with marks in place of drops where ECN allows them.
--- The heads that go are counted by a least number; what a mark does to the state is what a drop does.
+-- CoDel on one queue (RFC 8289, sections 5.5 and 5.6), in whole nanoseconds. The heads that go are counted by a least
+-- number. Marks are not in the RFC's pseudocode: that a mark takes a drop's place where ECN allows it, does to the state
+-- what a drop does, and ends the call is this project's choice.
 use Rattle.std.specs.Prelude.{◌≡◌, ℕ, zero, suc, ◌≤◌, ◌<◌, ◌+◌, ◌-◌, ◌*◌, ◌^◌, min, Bool, true, false, not, ◌&&◌, ◌||◌, ◌==◌, nat_lt, nat_le, if◌then◌else◌, List, [], ◌∷◌, length, drop, Option, Some, slice_get, option_map}
 use Rattle.q_packet.specs.Least.{least}
 use Rattle.q_packet.specs.Totals.{size}
@@ -11,7 +12,8 @@ use Rattle.q_codel.specs.Gap.{gap_of}
 use Rattle.q_codel.specs.declared.taken.Taken.{Taken}
 
 -- The settings and the state of one queue's CoDel. Times are in nanoseconds and `mtu` in bytes; `above` is the moment
--- at which a standing queue becomes late, 0 where none stands; `drop_next` is the moment of the next drop or mark.
+-- at which a standing queue becomes late, 0 where none stands (`first_above_time` in RFC 8289, section 5.2); `drop_next` is
+-- the moment of the next drop or mark.
 pub record CodelState : Type 0 where
   pub target : ℕ
   pub interval : ℕ
@@ -23,11 +25,50 @@ pub record CodelState : Type 0 where
   pub lastcount : ℕ
   pub dropping : Bool
 
+-- The settings alone, which many queues may share.
+pub record CodelParams : Type 0 where
+  pub target : ℕ
+  pub interval : ℕ
+  pub mtu : ℕ
+  pub ecn : Bool
+
+-- The state alone, which each queue has for itself.
+pub record CodelVars : Type 0 where
+  pub above : ℕ
+  pub drop_next : ℕ
+  pub count : ℕ
+  pub lastcount : ℕ
+  pub dropping : Bool
+
+-- the two put together, and taken apart
+abbrev pub joined : CodelParams → CodelVars → CodelState
+joined p v = record {
+  target = p.target;
+  interval = p.interval;
+  mtu = p.mtu;
+  ecn = p.ecn;
+  above = v.above;
+  drop_next = v.drop_next;
+  count = v.count;
+  lastcount = v.lastcount;
+  dropping = v.dropping;
+}
+
+abbrev pub params_of : CodelState → CodelParams
+params_of s = record { target = s.target; interval = s.interval; mtu = s.mtu; ecn = s.ecn }
+
+abbrev pub vars_of : CodelState → CodelVars
+vars_of s =
+    record { above = s.above; drop_next = s.drop_next; count = s.count; lastcount = s.lastcount; dropping = s.dropping }
+
 -- count stays here once it is reached: 2^32 - 1
 abbrev pub count_max : ℕ
 count_max = 2 ^ 32 - 1
 
--- the state of a queue that has not sent yet
+-- the state of a queue that has not sent yet, alone and with its settings
+abbrev pub vars_at_first : CodelVars
+vars_at_first = record { above = 0; drop_next = 0; count = 0; lastcount = 0; dropping = false }
+
 abbrev pub at_first : ℕ → ℕ → ℕ → Bool → CodelState
 at_first target interval mtu ecn =
     record { target = target; interval = interval; mtu = mtu; ecn = ecn; above = 0; drop_next = 0; count = 0; lastcount = 0; dropping = false }
@@ -36,12 +77,12 @@ at_first target interval mtu ecn =
 abbrev pub rested : CodelState → CodelState
 rested s = record s { above = 0; dropping = false }
 
--- the head has waited for the target or longer, and more than one mtu stands behind it
+-- the head has waited for the target or longer, and more than one mtu stands behind it (section 5.6, `dodequeue`)
 abbrev pub is_standing : CodelState → ℕ → List Stamped → Bool
 is_standing s now [] = false
 is_standing s now (head ∷ rest) = nat_le s.target (now - head.at) && nat_lt s.mtu (size rest)
 
--- the queue has stood for an interval
+-- the queue has stood for an interval (section 5.6, `ok_to_drop`)
 abbrev pub is_late : CodelState → ℕ → List Stamped → Bool
 is_late s now queue = is_standing s now queue && nat_lt 0 s.above && nat_le s.above now
 
@@ -62,11 +103,13 @@ abbrev pub count_after : CodelState → ℕ → ℕ
 count_after s n = min (s.count + n) count_max
 
 -- the control law: the moments of the drops and marks to come, each the one before plus the gap of the count then
+-- (section 5.6; section 3.3 says why the gaps shorten)
 abbrev pub moment : CodelState → ℕ → ℕ
 moment s zero = s.drop_next
 moment s (suc i) = moment s i + gap_of s.interval (count_after s (suc i))
 
 -- while dropping, the heads cease to be dropped at head j: it is not late, or its moment is yet to come, or it is markable
+-- (section 5.5, and for marks this project's choice)
 abbrev pub stops : CodelState → ℕ → List Stamped → ℕ → Bool
 stops s now queue j = not (is_late s now (drop j queue)) || nat_lt now (moment s j) || is_markable s (drop j queue)
 
@@ -101,7 +144,8 @@ taken s now queue =
 abbrev pub left : CodelState → ℕ → List Stamped → List Stamped
 left s now queue = drop (suc (drops s now queue)) queue
 
--- dropping begins: with the count of the last time less where it began then, where that was within 16 intervals, else with 1
+-- dropping begins: with the count of the last time less where it began then, where that was within 16 intervals, else
+-- with 1 (section 5.5)
 abbrev pub count_begun : CodelState → ℕ → ℕ
 count_begun s now =
     let delta = s.count - s.lastcount in
@@ -126,7 +170,7 @@ control_after s now queue =
     gone_on s j (marks s now queue) (is_late s now (drop j queue)))
     else if is_late s now queue then begun s now else s
 
--- whether a standing queue has begun to stand, has stood, or does not stand, by the head that is sent
+-- whether a standing queue has begun to stand, has stood, or does not stand, by the head that is sent (section 5.6)
 abbrev pub above_after : CodelState → ℕ → List Stamped → ℕ
 above_after s now queue =
     if is_standing s now queue then (if s.above == 0 then now + s.interval else s.above) else 0
@@ -136,20 +180,23 @@ abbrev pub after : CodelState → ℕ → List Stamped → CodelState
 after s now queue =
     record (control_after s now queue) { above = above_after s now (drop (drops s now queue) queue) }
 
--- what every state keeps: settings and counts in their ranges, and moments that can still be added to
-pub record IsInRange (s : CodelState) : Type 0 where
-  pub target : s.target ≤ 10 ^ 12
-  pub interval_low : 1000 ≤ s.interval
-  pub interval_high : s.interval ≤ 10 ^ 12
-  pub above : s.above ≤ 2 ^ 62 + 10 ^ 12
-  pub drop_next : s.drop_next ≤ 2 ^ 62 + 10 ^ 12
-  pub count : s.count < 2 ^ 32
-  pub lastcount : s.lastcount ≤ s.count
-  pub mtu : s.mtu < 2 ^ 16
+-- what settings keep: their ranges
+pub record IsCodelParams (p : CodelParams) : Type 0 where
+  pub target : p.target ≤ 10 ^ 12
+  pub interval_low : 1000 ≤ p.interval
+  pub interval_high : p.interval ≤ 10 ^ 12
+  pub mtu : p.mtu < 2 ^ 16
+
+-- what every state keeps, whichever settings it had: moments that an interval can still be added to, and counts in order
+pub record IsCodelVars (v : CodelVars) : Type 0 where
+  pub above : v.above ≤ 2 ^ 62 + 10 ^ 12
+  pub drop_next : v.drop_next ≤ 2 ^ 62 + 10 ^ 12
+  pub count : v.count < 2 ^ 32
+  pub lastcount : v.lastcount ≤ v.count
 
 -- the heads that go have been dropped: this head is sent, marked or not, this is the rest, and this the state
 pub record Chooses (s : CodelState) (now : ℕ) (queue : List Stamped) (head : Stamped) (marked : Bool) (rest : List Stamped) (t : CodelState) : Type 0 where
   pub head_is : Some head ≡ sent s now queue
   pub marked_is : marked ≡ marks s now queue
   pub rest_is : rest ≡ left s now queue
-  pub state_is : t ≡ control_after s now queue
+  pub state_is : t ≡ after s now queue

@@ -1,5 +1,5 @@
 -- The gap of CoDel's control law: the interval over the square root of the count, in whole nanoseconds, rounded down.
--- RFC 8289, section 5.4 (`control_law`), by whole numbers alone in place of its floating-point root.
+-- RFC 8289, section 5.6 (`control_law`; section 3.3 says why), by whole numbers alone in place of its floating-point root.
 use Rattle.std.specs.Prelude.{ℕ, ◌+◌, ◌*◌, ◌<◌, ◌≤◌, nat_lt}
 use Rattle.q_packet.specs.Least.{least}
 

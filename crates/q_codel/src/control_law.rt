@@ -2,7 +2,7 @@ ghost use Rattle.std.specs.Prelude.{◌≡◌, ◌≤◌, ◌+◌, ◌*◌, ◌^
 ghost use Rattle.q_codel.specs.Gap.{gap_of, IsGap};
 
 /// The time from one drop to the next at this count, in nanoseconds: `interval` over the square root of `count`, rounded
-/// down (RFC 8289, section 5.4).
+/// down (RFC 8289, section 5.6; section 3.3 says why it is the root).
 ///
 /// It is exact: the greatest `d` with `d * d * count <= interval * interval`. `interval` is in nanoseconds, at most
 /// 10^12 (1000 s), and `count` at least 1.

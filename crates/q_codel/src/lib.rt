@@ -8,30 +8,36 @@
 //!   [`Loss`] until it is reaped.
 //! - [`gap`] is the interval over the root of the count, exactly: its contract says so in two ways, as the greatest number
 //!   that fits and as the definition's.
-//! - [`Codel`] is the state of one queue's CoDel. The contract of [`Codel::take`] says what is sent and whether it is
-//!   marked ([`Taken`]), what is lost, what stays in the queue and what the state becomes, each as a function of the queue,
-//!   the state and the moment. These functions (`specs/Codel.antt`) count the heads that go by a least number.
+//! - [`ControlState`] is the state of one queue's CoDel, in 32 bytes, and [`Parameters`] are its settings, which many states
+//!   may be lent. The contract of [`ControlState::take`] says what is sent and whether it is marked ([`Taken`]), what is
+//!   lost, what stays in the queue and what the state becomes, each as a function of the queue, the state, the settings and
+//!   the moment. These functions (`specs/Codel.antt`) count the heads that go by a least number.
+//! - [`Codel`] is the two together, for one queue that has settings of its own.
 //! - [`laws`] states what RFC 8289 promises, over those functions.
 #![tactic(auto)]
 
 mod chosen;
 mod codel;
 mod control_law;
+mod control_state;
 mod fifo;
 pub mod laws;
 mod limit;
 mod loss;
 mod losses;
+mod parameters;
 mod queue;
 mod sink;
 mod taken;
 
 pub use codel::Codel;
 pub use control_law::gap;
+pub use control_state::ControlState;
 pub use fifo::Fifo;
 pub use limit::Limit;
 pub use loss::Loss;
 pub use losses::Losses;
+pub use parameters::Parameters;
 pub use queue::Queue;
 pub use sink::Sink;
 pub use taken::Taken;

@@ -1,9 +1,31 @@
--- The bytes of a flow key: there are 38, and keys whose numbers are in range have the same bytes only where they are equal.
-use Rattle.std.proofs.Common.{◌≡◌, ℕ, ◌<◌, ◌^◌, List, [], ◌++◌, length, get_or, drop, refl, sym, ap, ◌∙◌}
+-- The bytes of a flow key: there are 38, and keys whose numbers fit their bytes have the same bytes only where they are equal.
+use Rattle.std.proofs.Common.{◌≡◌, ℕ, ◌<◌, ◌^◌, Bool, true, false, List, [], ◌++◌, length, get_or, drop, refl, sym, ap, ◌∙◌, arith}
+use Rattle.std.specs.Prelude.{if◌then◌else◌, ◌==◌, IsTrue}
+use Rattle.std.proofs.lemmas.Grind.{common_steps}
 use Rattle.std.proofs.lemmas.List.{drop_at}
 use Rattle.byteorder.specs.Endian.{big_bytes, big_from}
 use Rattle.byteorder.specs.Numbers.{big_number-reads_back, length-bytes_high_first}
-use Rattle.q_packet.specs.Key.{Key, IsKey, key_bytes}
+use Rattle.q_packet.specs.Key.{Key, IsKey, FitsBytes, is_family, key_bytes}
+
+-- no address is wider than its field, whichever family it is of
+address_fits : (is_4 : Bool) (address : ℕ) → address < 2 ^ (if is_4 then 32 else 128) → address < 2 ^ 128
+address_fits true address below = omega arith
+address_fits false address below = below
+
+-- a family is a byte
+family_fits : (family : ℕ) → IsTrue (is_family family) → family < 2 ^ 8
+family_fits family known = grind (arith, common_steps)
+
+-- the numbers of every key fit their bytes
+pub FitsBytes-key : (k : Key) → IsKey k → FitsBytes k
+FitsBytes-key k h = record {
+  family = family_fits k.family h.family;
+  proto = h.proto;
+  src = address_fits (k.family == 4) k.src h.src;
+  dst = address_fits (k.family == 4) k.dst h.dst;
+  sport = h.sport;
+  dport = h.dport;
+}
 
 -- a number of n bytes and what follows it can both be read back
 front_number : (n x y : ℕ) (xs ys : List ℕ) → x < 256 ^ n → y < 256 ^ n → big_bytes n x ++ xs ≡ big_bytes n y ++ ys → x ≡ y
@@ -19,7 +41,7 @@ unfolding key_bytes
 length-key_bytes k = refl
 
 -- keys with the same bytes are the same key
-pub key_from_bytes : (a b : Key) → IsKey a → IsKey b → key_bytes a ≡ key_bytes b → a ≡ b
+pub key_from_bytes : (a b : Key) → FitsBytes a → FitsBytes b → key_bytes a ≡ key_bytes b → a ≡ b
 unfolding key_bytes
 key_from_bytes a b in_a in_b e =
     let src_on = ap (drop 2) e in

@@ -1,4 +1,4 @@
--- The name of each cause of a loss, as reports write it, and which causes refuse a packet on arrival.
+-- The name of each cause of a loss, as reports write it, its number, and which causes refuse a packet on arrival.
 -- The causes are this project's own.
 use Rattle.std.specs.Prelude.{ℕ, Bool, true, false, List, codes}
 use Rattle.q_packet.specs.declared.cause.Cause.{Cause}
@@ -21,3 +21,12 @@ is_refusal OverLimit = true
 is_refusal CoDel = false
 is_refusal FatFlow = false
 is_refusal Purged = false
+
+-- its number, where causes are numbered
+abbrev pub cause_number : Cause → ℕ
+cause_number TooLong = 1
+cause_number NoClass = 2
+cause_number OverLimit = 3
+cause_number CoDel = 4
+cause_number FatFlow = 5
+cause_number Purged = 6

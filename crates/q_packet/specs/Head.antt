@@ -22,7 +22,7 @@ version packet = slice_index packet 0 / 16
 abbrev pub header_length : List ℕ → ℕ
 header_length packet = slice_index packet 0 % 16 * 4
 
--- IPv4: the low 13 bits of bytes 6 and 7, below the flags
+-- IPv4: what follows the three flags in bytes 6 and 7, 13 bits
 abbrev pub fragment_offset : List ℕ → ℕ
 fragment_offset packet = big_from 6 2 packet % 2 ^ 13
 

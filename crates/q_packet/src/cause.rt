@@ -1,5 +1,5 @@
 ghost use Rattle.std.specs.Prelude.{◌≡◌, IsTrue, Some};
-ghost use Rattle.q_packet.specs.Cause.{cause_name, is_refusal};
+ghost use Rattle.q_packet.specs.Cause.{cause_name, cause_number, is_refusal};
 
 use std::fmt;
 
@@ -33,6 +33,13 @@ impl Cause {
             Cause::FatFlow => "FatFlow",
             Cause::Purged => "Purged",
         }
+    }
+
+    /// Its number, 1 to 6 in the order above.
+    pub fn number(self) -> u8
+        ensures { result ≡ cause_number self }
+    {
+        self as u8
     }
 
     /// Whether the packet was refused on arrival, and so was never queued.

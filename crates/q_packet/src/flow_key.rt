@@ -5,7 +5,8 @@ use std::marker::Model;
 
 /// What tells one flow from another: addresses, ports and protocol. A contract sees it as the record `Key` of its fields.
 ///
-/// `family` is 0 (not IP), 4 or 6. An IPv4 address stands in the low 32 bits of `src` and `dst`. What a packet lacks is 0.
+/// `family` is 0 (not IP), 4 or 6. An IPv4 address stands in the low 32 bits of `src` and `dst`, and no other bit of them is
+/// set (RFC 791, section 3.1). What a packet lacks is 0.
 #[derive(Clone, Copy, PartialEq, Eq, Debug)]
 pub struct FlowKey {
     pub src: u128,
@@ -17,21 +18,20 @@ pub struct FlowKey {
 }
 
 impl Model for FlowKey {
-    ghost use Rattle.std.specs.Prelude.{IsTrue};
-    ghost use Rattle.q_packet.specs.Key.{Key, is_family};
+    ghost use Rattle.q_packet.specs.Key.{Key, IsKey};
 
     ghost Value = { Key };
 
     ghost view = { λ k. record { family = k.family; proto = k.proto; src = k.src; dst = k.dst; sport = k.sport; dport = k.dport } };
 
-    ghost invariant = { λ k. IsTrue (is_family k.family) };
+    ghost invariant = { λ k. IsKey (record { family = k.family; proto = k.proto; src = k.src; dst = k.dst; sport = k.sport; dport = k.dport }) };
 
     ghost inverse = { λ k. record { family = k.family; proto = k.proto; src = k.src; dst = k.dst; sport = k.sport; dport = k.dport } };
 }
 
 impl FlowKey {
-    ghost use Rattle.std.specs.Prelude.{◌≡◌, ◌↔◌, IsTrue, IfSome, IsSome};
-    ghost use Rattle.q_packet.specs.Key.{IsKey, Key, is_family, key_bytes, zero_key};
+    ghost use Rattle.std.specs.Prelude.{◌≡◌, ◌<◌, ◌^◌, ◌↔◌, IsTrue, IfSome, IsSome};
+    ghost use Rattle.q_packet.specs.Key.{IsKey, FitsBytes, Key, address_bits, is_family, key_bytes, zero_key};
 
     /// The key of a packet that is not IP: every field 0.
     pub const fn zero() -> FlowKey
@@ -47,7 +47,8 @@ impl FlowKey {
         }
     }
 
-    /// The key with these fields; `None` where `family` is not 0, 4 or 6.
+    /// The key with these fields; `None` where `family` is not 0, 4 or 6, or where it is 4 and an address has more than 32
+    /// bits.
     pub fn new(
         family: u8,
         proto: u8,
@@ -56,22 +57,27 @@ impl FlowKey {
         sport: u16,
         dport: u16,
     ) -> Option<FlowKey>
-        ensures known { IsSome result ↔ IsTrue (is_family family) }
+        ensures in_range { IsSome result ↔ (IsTrue (is_family family)
+            × (src < 2 ^ address_bits family) × (dst < 2 ^ address_bits family)) }
         ensures value { IfSome result
             (λ k. k ≡ record { family = family; proto = proto; src = src; dst = dst; sport = sport; dport = dport }) }
     {
-        if family == 0 || family == 4 || family == 6 {
-            Some(FlowKey {
-                family,
-                proto,
-                src,
-                dst,
-                sport,
-                dport,
-            })
-        } else {
-            None
+        let widest = match family {
+            4 => u32::MAX as u128,
+            0 | 6 => u128::MAX,
+            _ => return None,
+        };
+        if src > widest || dst > widest {
+            return None;
         }
+        Some(FlowKey {
+            family,
+            proto,
+            src,
+            dst,
+            sport,
+            dport,
+        })
     }
 
     /// The fields in order as 38 bytes, each number in network byte order: family, protocol, source, destination, source
@@ -79,7 +85,7 @@ impl FlowKey {
     pub fn bytes(self) -> [u8; 38]
         ensures value { result ≡ key_bytes self }
         ensures in_range { IsKey self }
-        ensures distinct { (other : Key) → IsKey other → key_bytes other ≡ result → other ≡ self }
+        ensures distinct { (other : Key) → FitsBytes other → key_bytes other ≡ result → other ≡ self }
     {
         let mut bytes = [0; 38];
         bytes[0] = self.family;
@@ -100,7 +106,10 @@ mod tests {
     #[test]
     fn keys_have_three_families(rt: HostRuntime) -> Result<(), Fail> {
         assert_eq!(rt; FlowKey::new(0, 0, 0, 0, 0, 0), Some(FlowKey::zero()));
-        assert!(rt; FlowKey::new(4, u8::MAX, u128::MAX, u128::MAX, u16::MAX, u16::MAX).is_some());
+        let widest = u32::MAX as u128;
+        assert!(rt; FlowKey::new(4, u8::MAX, widest, widest, u16::MAX, u16::MAX).is_some());
+        assert_eq!(rt; FlowKey::new(4, 0, widest + 1, 0, 0, 0), None);
+        assert_eq!(rt; FlowKey::new(4, 0, 0, widest + 1, 0, 0), None);
         for family in [1, 3, 5, 7, u8::MAX] {
             assert_eq!(rt;
                 FlowKey::new(family, 0, 0, 0, 0, 0),

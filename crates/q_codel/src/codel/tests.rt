@@ -2,7 +2,7 @@ use super::*;
 use crate::fifo::Fifo;
 use crate::limit::Limit;
 use crate::losses::Losses;
-use q_packet::{FlowKey, Packet};
+use q_packet::{Cause, Ecn, FlowKey, Packet, Stamped};
 use std::alloc::Global;
 use std::process::Abort;
 use std::test::Fail;
@@ -172,15 +172,19 @@ fn a_count_is_resumed_within_16_intervals(rt: HostRuntime) -> Result<(), Fail> {
     for (drop_next, count, lastcount, now, then, resumed) in rows {
         assert!(rt; drop_next <= 2000 * MS && lastcount <= count);
         let codel = Codel {
-            target: 5 * MS,
-            interval: 100 * MS,
-            mtu: 1514,
-            ecn: false,
-            above: 1,
-            drop_next,
-            count,
-            lastcount,
-            dropping: false,
+            parameters: Parameters {
+                target: 5 * MS,
+                interval: 100 * MS,
+                mtu: 1514,
+                ecn: false,
+            },
+            state: ControlState {
+                above: 1,
+                drop_next,
+                count,
+                lastcount,
+                dropping: false,
+            },
         };
         let mut bench = Bench::new(rt.alloc(), codel);
         bench.put(&rt, 1, 11, 0, Ecn::NotEct)?;
@@ -194,15 +198,19 @@ fn a_count_is_resumed_within_16_intervals(rt: HostRuntime) -> Result<(), Fail> {
 #[test]
 fn the_count_ends_at_its_ceiling(rt: HostRuntime) -> Result<(), Fail> {
     let codel = Codel {
-        target: 5 * MS,
-        interval: 100 * MS,
-        mtu: 1514,
-        ecn: false,
-        above: 1,
-        drop_next: 200 * MS,
-        count: u32::MAX,
-        lastcount: 5,
-        dropping: true,
+        parameters: Parameters {
+            target: 5 * MS,
+            interval: 100 * MS,
+            mtu: 1514,
+            ecn: false,
+        },
+        state: ControlState {
+            above: 1,
+            drop_next: 200 * MS,
+            count: u32::MAX,
+            lastcount: 5,
+            dropping: true,
+        },
     };
     let mut bench = Bench::new(rt.alloc(), codel);
     bench.put(&rt, 1, 11, 0, Ecn::NotEct)?;

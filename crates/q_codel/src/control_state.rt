@@ -1,0 +1,292 @@
+ghost use Rattle.std.specs.Prelude.{◌≡◌, ◌≤◌, ◌<◌, ◌+◌, ◌^◌, ◌↔◌, ◌∷◌, ◌++◌, true, false, take, IsSome};
+ghost use Rattle.q_packet.specs.Totals.{count};
+ghost use Rattle.q_codel.specs.Losses.{losses_of};
+
+use crate::chosen::Chosen;
+use crate::control_law::gap;
+use crate::parameters::Parameters;
+use crate::queue::Queue;
+use crate::sink::Sink;
+use crate::taken::Taken;
+use q_packet::{Cause, Ecn, Moment, Stamped};
+use std::marker::Model;
+
+/// The state of CoDel on one queue, without its settings: 32 bytes, so that many queues may each have one.
+///
+/// A contract sees it as the record `CodelVars`, and puts it together with the settings by `joined`. It holds no packet:
+/// [`ControlState::take`] is lent the queue and the settings. The settings may differ from call to call.
+#[derive(Clone, Copy, PartialEq, Eq, Debug)]
+pub struct ControlState {
+    // RFC 8289 calls it `first_above_time`.
+    pub(crate) above: u64,
+    pub(crate) drop_next: u64,
+    pub(crate) count: u32,
+    pub(crate) lastcount: u32,
+    pub(crate) dropping: bool,
+}
+
+const _: () = prove!(size_of::<ControlState>() <= 32);
+
+impl Model for ControlState {
+    ghost use Rattle.q_codel.specs.Codel.{CodelVars, IsCodelVars};
+
+    ghost Value = { CodelVars };
+
+    ghost view = { λ c. record {
+      above = c.above;
+      drop_next = c.drop_next;
+      count = c.count;
+      lastcount = c.lastcount;
+      dropping = c.dropping;
+    } };
+
+    ghost invariant = { λ c. IsCodelVars (record {
+      above = c.above;
+      drop_next = c.drop_next;
+      count = c.count;
+      lastcount = c.lastcount;
+      dropping = c.dropping;
+    }) };
+
+    ghost inverse = { λ c. record {
+      above = c.above;
+      drop_next = c.drop_next;
+      count = c.count;
+      lastcount = c.lastcount;
+      dropping = c.dropping;
+    } };
+}
+
+impl ControlState {
+    ghost use Rattle.q_codel.specs.Codel.{joined, vars_at_first, taken, drops, left, after, begun, above_after, is_late, Chooses};
+
+    /// The state of a queue that has not sent yet.
+    pub fn new() -> ControlState
+        ensures { result ≡ vars_at_first }
+    {
+        ControlState {
+            above: 0,
+            drop_next: 0,
+            count: 0,
+            lastcount: 0,
+            dropping: false,
+        }
+    }
+
+    /// What a take from an empty queue leaves: nothing stands, and nothing is being dropped.
+    pub fn rest(&mut self)
+        ensures { self.new ≡ record self.old { above = 0; dropping = false } }
+    {
+        self.above = 0;
+        self.dropping = false;
+    }
+
+    /// The moment of the next drop or mark while dropping, in nanoseconds; else that of the last time.
+    pub fn drop_next(&self) -> u64
+        ensures { result ≡ self.now.drop_next }
+    {
+        self.drop_next
+    }
+
+    /// The count by whose root the gaps shorten: the drops and marks since dropping began, of this time or the last, with
+    /// what was resumed of the time before. It stays at 2^32 - 1 once there.
+    pub fn count(&self) -> u32
+        ensures { result ≡ self.now.count }
+    {
+        self.count
+    }
+
+    /// Whether it is dropping.
+    pub fn is_dropping(&self) -> bool
+        ensures { result ≡ self.now.dropping }
+    {
+        self.dropping
+    }
+
+    /// Takes the next packet to send, at the moment `now`, and tells `sink` of those that are dropped before it, with the
+    /// cause `CoDel`. The answer is `None` exactly where the queue is empty. It takes no memory.
+    ///
+    /// `sink` needs room for as many packets as the queue holds. A packet that is stamped later than `now` counts as one
+    /// that came just now. A mark sets the packet's codepoint to `Ce` and does to the state what a drop does (RFC 8289,
+    /// section 5.5; RFC 3168, section 5); that it also ends the call is this project's choice.
+    pub fn take<Q: Queue, S: Sink>(
+        &mut self,
+        parameters: &Parameters,
+        queue: &mut Q,
+        now: Moment,
+        sink: &mut S,
+    ) -> Option<Taken>
+        requires { count (Q.packets queue.old) ≤ S.room sink.old }
+        ensures taken { result ≡ taken (joined parameters.now self.old) now (Q.packets queue.old) }
+        ensures some { IsSome result ↔ (0 < count (Q.packets queue.old)) }
+        ensures left { Q.packets queue.new ≡ left (joined parameters.now self.old) now (Q.packets queue.old) }
+        ensures state { joined parameters.now self.new
+            ≡ after (joined parameters.now self.old) now (Q.packets queue.old) }
+        ensures lost { let all = Q.packets queue.old in
+            S.losses sink.new ≡ S.losses sink.old
+            ++ losses_of Cause.CoDel (take (drops (joined parameters.now self.old) now all) all) }
+        ensures room { S.room sink.new + drops (joined parameters.now self.old) now (Q.packets queue.old)
+            ≡ S.room sink.old }
+        ensures kept { Q.keeps queue.old queue.new }
+        ensures sink_kept { S.keeps sink.old sink.new }
+    {
+        let Some(first) = queue.take() else {
+            self.above = 0;
+            self.dropping = false;
+            return None;
+        };
+        let Chosen { head, marked } = self.choose(parameters, first, queue, now, sink);
+        let mut packet = head.packet;
+        if marked {
+            packet.ecn = Ecn::Ce;
+        }
+        Some(Taken { packet, marked })
+    }
+
+    // Drops heads as the law says, and chooses the one to be sent. `queue` is what stands behind `first`.
+    fn choose<Q: Queue, S: Sink>(
+        &mut self,
+        parameters: &Parameters,
+        first: Stamped,
+        queue: &mut Q,
+        now: Moment,
+        sink: &mut S,
+    ) -> Chosen
+        requires { count (Q.packets queue.old) < S.room sink.old }
+        ensures chosen { Chooses (joined parameters.now self.old) now (first ∷ Q.packets queue.old)
+            result.head result.marked (Q.packets queue.new) (joined parameters.now self.new) }
+        ensures lost { let all = first ∷ Q.packets queue.old in
+            S.losses sink.new ≡ S.losses sink.old
+            ++ losses_of Cause.CoDel (take (drops (joined parameters.now self.old) now all) all) }
+        ensures room { S.room sink.new + drops (joined parameters.now self.old) now (first ∷ Q.packets queue.old)
+            ≡ S.room sink.old }
+        ensures kept { Q.keeps queue.old queue.new }
+        ensures sink_kept { S.keeps sink.old sink.new }
+    {
+        if !self.should_drop(parameters, &first, queue, now) {
+            // What stood has drained, or has not stood for an interval: if dropping went on, it ends.
+            self.dropping = false;
+            return Chosen {
+                head: first,
+                marked: false,
+            };
+        }
+        if self.dropping {
+            return self.go_on(parameters, first, queue, now, sink);
+        }
+        self.begin(parameters, now);
+        if parameters.marks(&first.packet) {
+            // By this project's choice a mark ends the call: its packet is the one that is sent.
+            return Chosen {
+                head: first,
+                marked: true,
+            };
+        }
+        sink.lost(first.packet, Cause::CoDel);
+        // A late head has packets behind it.
+        let head = queue.take().unwrap();
+        // A second look, at the head that is sent in place of the dropped one. Late or not, it goes, since the next moment
+        // is a gap away; but the time above the target goes by the head that leaves, and may end with it.
+        let _is_late = self.should_drop(parameters, &head, queue, now);
+        Chosen {
+            head,
+            marked: false,
+        }
+    }
+
+    // While dropping, with a late head: drops heads, or marks one, each at its moment, until one is to be sent.
+    fn go_on<Q: Queue, S: Sink>(
+        &mut self,
+        parameters: &Parameters,
+        first: Stamped,
+        queue: &mut Q,
+        now: Moment,
+        sink: &mut S,
+    ) -> Chosen
+        requires room { count (Q.packets queue.old) < S.room sink.old }
+        requires counted { self.old.count < 2 ^ 32 }
+        requires dropping { self.old.dropping ≡ true }
+        requires late { is_late (joined parameters.now self.old) now (first ∷ Q.packets queue.old) ≡ true }
+        ensures chosen { Chooses (joined parameters.now self.old) now (first ∷ Q.packets queue.old)
+            result.head result.marked (Q.packets queue.new) (joined parameters.now self.new) }
+        ensures lost { let all = first ∷ Q.packets queue.old in
+            S.losses sink.new ≡ S.losses sink.old
+            ++ losses_of Cause.CoDel (take (drops (joined parameters.now self.old) now all) all) }
+        ensures room { S.room sink.new + drops (joined parameters.now self.old) now (first ∷ Q.packets queue.old)
+            ≡ S.room sink.old }
+        ensures kept { Q.keeps queue.old queue.new }
+        ensures sink_kept { S.keeps sink.old sink.new }
+    {
+        let mut head = first;
+        // Each moment is reckoned from the one before and not from now. So one call drops what several would have dropped,
+        // where none came for a while.
+        while self.drop_next <= now.ns() {
+            self.count = self.count.saturating_add(1);
+            if parameters.marks(&head.packet) {
+                // By this project's choice a mark ends the call, also where the next moment has come.
+                self.drop_next += gap(parameters.interval, self.count);
+                return Chosen { head, marked: true };
+            }
+            sink.lost(head.packet, Cause::CoDel);
+            // A late head has packets behind it.
+            head = queue.take().unwrap();
+            if !self.should_drop(parameters, &head, queue, now) {
+                // The drop has drained the queue. The next moment is not set: dropping has no more of them.
+                self.dropping = false;
+                return Chosen {
+                    head,
+                    marked: false,
+                };
+            }
+            // TCP's throughput goes by the root of how much is lost, so that the gaps shrink by the root of the count.
+            self.drop_next += gap(parameters.interval, self.count);
+        }
+        Chosen {
+            head,
+            marked: false,
+        }
+    }
+
+    // Dropping begins at the moment `now`.
+    fn begin(&mut self, parameters: &Parameters, now: Moment)
+        ensures { joined parameters.now self.new ≡ begun (joined parameters.now self.old) now }
+    {
+        // Where dropping ended only lately, the rate that held the queue down then is a good one to begin with: the count
+        // goes on from what it grew by in that time. After sixteen intervals that rate says nothing of today's flows.
+        let delta = self.count - self.lastcount;
+        let is_recent = now.ns() < self.drop_next + 16 * parameters.interval;
+        let count = if delta > 1 && is_recent { delta } else { 1 };
+        self.dropping = true;
+        self.count = count;
+        self.lastcount = count;
+        self.drop_next = now.ns() + gap(parameters.interval, count);
+    }
+
+    // Whether `head`, with `queue` behind it, is late. It notes since when the queue has stood, so each head is asked once.
+    fn should_drop<Q: Queue>(
+        &mut self,
+        parameters: &Parameters,
+        head: &Stamped,
+        queue: &Q,
+        now: Moment,
+    ) -> bool
+        ensures late { result ≡ is_late (joined parameters.now self.old) now (head.now ∷ Q.packets queue.now) }
+        ensures noted { self.new ≡ record self.old {
+          above = above_after (joined parameters.now self.old) now (head.now ∷ Q.packets queue.now);
+        } }
+    {
+        let sojourn = now.ns().saturating_sub(head.at.ns());
+        if sojourn < parameters.target || queue.bytes() <= parameters.mtu as u64 {
+            // One head below the target shows that the queue drains within an interval. With an mtu or less behind the
+            // head, a drop would leave the link idle.
+            self.above = 0;
+            return false;
+        }
+        if self.above == 0 {
+            // The first head above the target: a queue that still stands an interval from now is no burst.
+            self.above = now.ns() + parameters.interval;
+            return false;
+        }
+        self.above <= now.ns()
+    }
+}
