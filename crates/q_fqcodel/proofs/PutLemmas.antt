@@ -9,7 +9,7 @@ use Rattle.q_fqcodel.specs.Cleared.{adjust}
 use Rattle.q_fqcodel.specs.FqState.{Flow, FqState, queue_of, is_idle, packets_of}
 use Rattle.q_fqcodel.specs.Lawful.{times, IsLawful}
 use Rattle.q_fqcodel.specs.Put.{flow_of, is_listed, joined, appended, fattest, shed_count, overflow, shortened, cut_back, shed, is_lost_itself}
-use Rattle.q_fqcodel.specs.declared.entry.Entry.{Entry}
+use Rattle.q_fqcodel.specs.Entry.{Entry}
 use Rattle.q_fqcodel.proofs.FlowLemmas.{packets-cons, busy-shrunk}
 use Rattle.q_fqcodel.proofs.ShedLemmas.{shortened-none}
 use Rattle.q_fqcodel.proofs.LawfulLemmas.{one, times-cons, times-append, one-own, one-other}

@@ -6,7 +6,7 @@ use Rattle.std.proofs.lemmas.List.{map-append}
 use Rattle.std.proofs.lemmas.List.Elements.{filter-append}
 use Rattle.q_packet.specs.Least.{least}
 use Rattle.q_fqcodel.specs.Quanta.{need, given, stay, leave}
-use Rattle.q_fqcodel.specs.declared.entry.Entry.{Entry}
+use Rattle.q_fqcodel.specs.Entry.{Entry}
 
 -- Any bound from which on the test has held gives the same least number.
 pub least_bound : (p : ℕ → Bool) (m a b : ℕ) → p m ≡ true → m ≤ a → m ≤ b → least p a ≡ least p b
@@ -95,6 +95,11 @@ unfolding given
 given-none q e =
     let z : e.credits +ℤ pos (0 * q) ≡ e.credits = omega (arith, ints) in
     ap (λ z. record e { credits = z }) z
+
+-- an entry with one quantum more
+pub given-is : (q : ℕ) (e : Entry) (z : ℤ) → z ≡ e.credits +ℤ pos q → record { flow = e.flow; credits = z } ≡ given q 1 e
+unfolding given
+given-is q e z h = let w : z ≡ e.credits +ℤ pos (1 * q) = omega (arith, ints, h) in ap (λ (z : ℤ). record e { credits = z }) w
 
 pub flow-given : (q n : ℕ) (e : Entry) → (given q n e).flow ≡ e.flow
 unfolding given

@@ -6,7 +6,7 @@ use Rattle.std.proofs.lemmas.List.{map-append, drop-append-le, take-append-le, d
 use Rattle.q_fqcodel.specs.Cleared.{adjust, clear}
 use Rattle.q_fqcodel.specs.Quanta.{need, given, stay, leave}
 use Rattle.q_fqcodel.specs.Selection.{Choice, Lists, later, sooner, choose, turned, first_ready, moved, with_rest, arranged}
-use Rattle.q_fqcodel.specs.declared.entry.Entry.{Entry}
+use Rattle.q_fqcodel.specs.Entry.{Entry}
 use Rattle.q_fqcodel.proofs.ClearedLemmas.{clear-middle, clear-cons}
 use Rattle.q_fqcodel.proofs.QuantaLemmas.{need-more, flow-given, stay-append, leave-append, stay-dropped, leave-kept, leave-dropped, stay-nil, leave-nil, stay-shift, leave-shift, stay-none, leave-none}
 

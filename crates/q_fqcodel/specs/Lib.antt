@@ -1,4 +1,5 @@
 pub mod Cleared
+pub mod Entry
 pub mod FlowsState
 pub mod FqState
 pub mod Lawful

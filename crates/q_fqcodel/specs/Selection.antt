@@ -2,7 +2,7 @@
 -- RFC 8290, section 4.2. `idle n` says that flow n is empty; `gone` are the flows that left a list empty, with credits.
 use Rattle.std.specs.Prelude.{ℕ, zero, suc, Bool, if◌then◌else◌, nat_le, ◌==◌, List, [], ◌∷◌, ◌++◌, map, take, drop, Option, Some, None}
 use Rattle.q_fqcodel.specs.Quanta.{need, given, stay, leave}
-use Rattle.q_fqcodel.specs.declared.entry.Entry.{Entry}
+use Rattle.q_fqcodel.specs.Entry.{Entry}
 
 -- how many quanta the chosen flow gets, and where in the list it stands
 pub record Choice : Type 0 where
