@@ -1,3 +1,4 @@
+pub mod ChoiceLemmas
 mod Examples
 pub mod HeadLemmas
 pub mod KeyLemmas

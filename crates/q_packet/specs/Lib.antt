@@ -1,4 +1,5 @@
 pub mod Cause
+pub mod Choice
 pub mod Descriptor
 pub mod Ecn
 pub mod Fnv
