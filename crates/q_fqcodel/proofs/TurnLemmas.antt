@@ -4,7 +4,7 @@ use Rattle.std.specs.Prelude.{slice_get}
 use Rattle.std.proofs.lemmas.List.Sums.{sum_by-cons, sum_by_push}
 use Rattle.q_fqcodel.specs.Cleared.{adjust, clear}
 use Rattle.q_fqcodel.specs.Quanta.{need, given}
-use Rattle.q_fqcodel.specs.Selection.{Lists, choose, turned, arranged}
+use Rattle.q_fqcodel.specs.Selection.{Lists, chosen, turned, arranged}
 use Rattle.q_fqcodel.specs.FqState.{FqSettings, Flow, FqState, is_idle, rested_flow}
 use Rattle.q_fqcodel.specs.Take.{selected, front}
 use Rattle.q_fqcodel.specs.Turns.{GoesOn, IsSettled, turns}
@@ -112,7 +112,7 @@ module _ (s : FqState) (e : Entry) (rest : List Entry) (front : s.fresh ≡ e �
 -- ---- the old list
 
 module _ (s : FqState) (e : Entry) (rest : List Entry) (none : s.fresh ≡ []) (front : s.stale ≡ e ∷ rest) where
-  old_lists : arranged_in s ≡ turned s.settings.quantum (e ∷ rest) (choose s.settings.quantum (is_idle s.flows) (e ∷ rest))
+  old_lists : arranged_in s ≡ turned s.settings.quantum (e ∷ rest) (chosen s.settings.quantum (is_idle s.flows) (e ∷ rest))
   unfolding arranged_in
   old_lists =
       ap₂ (λ (l m : List Entry). arranged s.settings.quantum (is_idle s.flows) l m) none front
@@ -124,13 +124,13 @@ module _ (s : FqState) (e : Entry) (rest : List Entry) (none : s.fresh ≡ []) (
       let q : ℕ = s.settings.quantum in
       let last : List Entry = rest ++ given q 1 e ∷ [] in
       let t : FqState = record s { stale = last } in
-      let lists' : arranged_in t ≡ turned q last (choose q (is_idle s.flows) last) =
+      let lists' : arranged_in t ≡ turned q last (chosen q (is_idle s.flows) last) =
       ap (λ (l : List Entry). arranged q (is_idle s.flows) l last) none ∙ arranged-nil q (is_idle s.flows) last in
       let agree = turned-granted rested_flow q positive e low rest (is_idle s.flows) s.flows in
       record {
         same = sym (same_selected s t refl
             (subst (λ (b : Lists). Agree rested_flow s.flows s.flows (arranged_in s) b) (sym lists')
-            (subst (λ (a : Lists). Agree rested_flow s.flows s.flows a (turned q last (choose q (is_idle s.flows) last))) (sym old_lists) agree)));
+            (subst (λ (a : Lists). Agree rested_flow s.flows s.flows a (turned q last (chosen q (is_idle s.flows) last))) (sym old_lists) agree)));
         fewer =
             let a : sum_by (stale_turns q) s.stale ≡ stale_turns q e + sum_by (stale_turns q) rest = ap (sum_by (stale_turns q)) front ∙ sum_by-cons (stale_turns q) e rest in
             let b : sum_by (stale_turns q) last ≡ sum_by (stale_turns q) rest + stale_turns q (given q 1 e) = sum_by_push (stale_turns q) rest (given q 1 e) in
@@ -144,13 +144,13 @@ module _ (s : FqState) (e : Entry) (rest : List Entry) (none : s.fresh ≡ []) (
       let q : ℕ = s.settings.quantum in
       let flows' : List Flow = adjust rested_flow e.flow s.flows in
       let t : FqState = record s { flows = flows'; stale = rest } in
-      let lists' : arranged_in t ≡ turned q rest (choose q (is_idle s.flows) rest) =
+      let lists' : arranged_in t ≡ turned q rest (chosen q (is_idle s.flows) rest) =
       ap₂ (λ (i : ℕ → Bool) (l : List Entry). arranged q i l rest) (idle-rested e.flow s.flows) none ∙ arranged-nil q (is_idle s.flows) rest in
       let agree = turned-leaves rested_flow q e rest (need-none q e high) (is_idle s.flows) empty s.flows in
       record {
         same = sym (same_selected s t refl
             (subst (λ (b : Lists). Agree rested_flow s.flows flows' (arranged_in s) b) (sym lists')
-            (subst (λ (a : Lists). Agree rested_flow s.flows flows' a (turned q rest (choose q (is_idle s.flows) rest))) (sym old_lists) agree)));
+            (subst (λ (a : Lists). Agree rested_flow s.flows flows' a (turned q rest (chosen q (is_idle s.flows) rest))) (sym old_lists) agree)));
         fewer =
             let a : sum_by (stale_turns q) s.stale ≡ stale_turns q e + sum_by (stale_turns q) rest = ap (sum_by (stale_turns q)) front ∙ sum_by-cons (stale_turns q) e rest in
             omega (arith, a, turns-is s, turns-is t, stale_turns-is q e);
@@ -170,7 +170,7 @@ module _ (s : FqState) (e : Entry) (rest : List Entry) (none : s.fresh ≡ []) (
       ∙ ap (λ (l : List Flow). with_lists s l s.fresh s.stale) (clear-nil rested_flow s.flows)
 
 pub none_left : (s : FqState) → s.fresh ≡ [] → s.stale ≡ [] → selected s ≡ s
-unfolding with_lists arranged_in choose turned
+unfolding with_lists arranged_in chosen turned
 none_left s no_fresh no_stale =
     let q : ℕ = s.settings.quantum in
     let lists : arranged_in s ≡ record { fresh = s.fresh; stale = s.stale; gone = [] } =
