@@ -2,6 +2,8 @@ mod Rows
 pub mod ClearedLemmas
 pub mod FatLemmas
 pub mod FlowLemmas
+pub mod GivenLemmas
+pub mod InLemmas
 pub mod LawLemmas
 pub mod LawfulLemmas
 pub mod NewFlowLemmas

@@ -1,10 +1,15 @@
 -- Laws of the definitions that the calls equal: nothing is made or lost, and a put leaves a packet (RFC 8290, section 4).
 -- Each law speaks of every state, every packet and every moment.
-use Rattle.std.specs.Prelude.{◌≡◌, ℕ, ◌+◌, ◌<◌, length, sum_by, Option, Some, option_and_then, option_to_list}
+use Rattle.std.specs.Prelude.{◌≡◌, ℕ, ◌+◌, ◌*◌, ◌<◌, ◌≤◌, ◌==◌, ℤ, pos, ◌+ℤ◌, Bool, false, List, ◌++◌, length, sum_by, find, slice_get, Option, Some, option_map, option_and_then, option_to_list}
+use Rattle.q_packet.specs.Choice.{Choice}
 use Rattle.q_packet.specs.Descriptor.{Descriptor}
 use Rattle.q_packet.specs.declared.stamped.Stamped.{Stamped}
 use Rattle.q_codel.specs.Codel.{sent, leaving}
 use Rattle.q_codel.specs.declared.taken.Taken.{Taken}
+use Rattle.q_fqcodel.specs.Entry.{Entry}
+use Rattle.q_fqcodel.specs.Lawful.{times, IsLawful}
+use Rattle.q_fqcodel.specs.QuantaGiven.{visits, quanta_turned, quanta_given}
+use Rattle.q_fqcodel.specs.Selection.{chosen}
 use Rattle.q_fqcodel.specs.FqState.{Flow, FqState, packets_of, all_packets}
 use Rattle.q_fqcodel.specs.Put.{flow_of, after_put, lost_by_put}
 use Rattle.q_fqcodel.specs.Take.{selected, sender, sent_from, dropped_from, after_sending}
@@ -36,3 +41,20 @@ GivesTheHead =
 -- A put leaves at least one packet, whatever the limit and the batch.
 abbrev pub PutLeavesOne : Type 0
 PutLeavesOne = (s : FqState) (packet : Descriptor) (now : ℕ) → flow_of s packet < length s.flows → 0 < packets_of (after_put s packet now).flows
+
+-- the credits of a listed flow
+abbrev pub credits_of : ℕ → List Entry → Option ℤ
+credits_of n es = option_map (λ (e : Entry). e.credits) (find (λ (e : Entry). e.flow == n) es)
+
+-- A flow that is listed before the selection and after it has its credits, and a quantum for each that it was given.
+abbrev pub CreditsByQuanta : Type 0
+CreditsByQuanta =
+    (s : FqState) (n : ℕ) (before after : ℤ) → IsLawful s → credits_of n (s.fresh ++ s.stale) ≡ Some before → credits_of n ((selected s).fresh ++ (selected s).stale) ≡ Some after
+    → after ≡ before +ℤ pos (quanta_given s n * s.settings.quantum)
+
+-- As the old list turns to the chosen flow, a flow with packets is given a quantum at each visit: one more where it stands
+-- in front of the chosen one than the chosen one is, and those behind it.
+abbrev pub QuantaByPlace : Type 0
+QuantaByPlace =
+    (quantum : ℕ) (idle : ℕ → Bool) (es : List Entry) (c : Choice) (place : ℕ) (e : Entry) → times e.flow es ≤ 1 → chosen quantum idle es ≡ Some c
+    → slice_get es place ≡ Some e → idle e.flow ≡ false → quanta_turned quantum e.flow es (Some c) ≡ visits c place

@@ -9,6 +9,7 @@ pub mod Pool
 pub mod PoolKept
 pub mod Put
 pub mod Quanta
+pub mod QuantaGiven
 pub mod Ranges
 pub mod Selection
 pub mod Take

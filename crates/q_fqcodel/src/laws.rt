@@ -1,7 +1,7 @@
 //! Laws of the definitions that the calls of [`FqCodel`](crate::FqCodel) equal.
 //!
 //! Each function does nothing. Its contract is a law, stated in `specs/Laws.antt` and `specs/NewFlow.antt`, for every state, packet and moment.
-ghost use Rattle.q_fqcodel.specs.Laws.{PutKeepsAll, TakeKeepsAll, GivesTheHead, PutLeavesOne};
+ghost use Rattle.q_fqcodel.specs.Laws.{PutKeepsAll, TakeKeepsAll, GivesTheHead, PutLeavesOne, CreditsByQuanta, QuantaByPlace};
 ghost use Rattle.q_fqcodel.specs.NewFlow.{BecomesNew, NewBeforeOld};
 
 /// A put makes and loses nothing: what was queued and what is put are what is queued then and what is lost.
@@ -34,4 +34,15 @@ pub fn becomes_new()
 /// number of takes.
 pub fn new_before_old()
     ensures { NewBeforeOld }
+{}
+
+/// A flow that is listed before the selection and after it has its credits, and a quantum for each that it was given.
+pub fn credits_by_quanta()
+    ensures { CreditsByQuanta }
+{}
+
+/// As the old list turns, a flow with packets that stands in front of the chosen one is given one quantum more than the chosen
+/// one, and a flow behind it as many.
+pub fn quanta_by_place()
+    ensures { QuantaByPlace }
 {}
