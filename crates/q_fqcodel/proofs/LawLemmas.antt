@@ -18,7 +18,7 @@ use Rattle.q_fqcodel.proofs.FlowLemmas.{queues-rested}
 use Rattle.q_fqcodel.proofs.PutLemmas.{packets-joined, packets-shortened, cut-none, cut-some, shed-within}
 use Rattle.q_fqcodel.proofs.SentLemmas.{sender-is, sender-none, dropped-none}
 
-all_packets-cons : (f : Flow) (fs : List Flow) → all_packets (f ∷ fs) ≡ f.queue ++ all_packets fs
+pub all_packets-cons : (f : Flow) (fs : List Flow) → all_packets (f ∷ fs) ≡ f.queue ++ all_packets fs
 unfolding all_packets
 all_packets-cons f fs = refl
 
