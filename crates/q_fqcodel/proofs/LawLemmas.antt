@@ -13,12 +13,12 @@ use Rattle.q_fqcodel.specs.FqState.{Flow, FqState, queues, queue_of, is_idle, pa
 use Rattle.q_fqcodel.specs.Put.{flow_of, joined, appended, shortened, fattest, shed_count, overflow, cut_back, shed, after_put, lost_by_put}
 use Rattle.q_fqcodel.specs.Take.{selected, packet_sent, packets_dropped, flow_after, sender, sent_from, dropped_from, with_sent, after_sending}
 use Rattle.q_fqcodel.specs.Laws.{head_sent, PutKeepsAll, TakeKeepsAll, GivesTheHead, PutLeavesOne}
-use Rattle.q_fqcodel.specs.declared.entry.Entry.{Entry}
+use Rattle.q_fqcodel.specs.Entry.{Entry}
 use Rattle.q_fqcodel.proofs.FlowLemmas.{queues-rested}
 use Rattle.q_fqcodel.proofs.PutLemmas.{packets-joined, packets-shortened, cut-none, cut-some, shed-within}
 use Rattle.q_fqcodel.proofs.SentLemmas.{sender-is, sender-none, dropped-none}
 
-all_packets-cons : (f : Flow) (fs : List Flow) → all_packets (f ∷ fs) ≡ f.queue ++ all_packets fs
+pub all_packets-cons : (f : Flow) (fs : List Flow) → all_packets (f ∷ fs) ≡ f.queue ++ all_packets fs
 unfolding all_packets
 all_packets-cons f fs = refl
 

@@ -8,7 +8,7 @@ use Rattle.q_packet.specs.Totals.{count}
 use Rattle.q_fqcodel.specs.Cleared.{adjust}
 use Rattle.q_fqcodel.specs.FqState.{FqSettings, Flow, FqState, queues, is_idle, packets_of, rested_flow, first_flow, first_state, retuned, after_change}
 use Rattle.q_fqcodel.specs.Lawful.{times, IsLawful}
-use Rattle.q_fqcodel.specs.declared.entry.Entry.{Entry}
+use Rattle.q_fqcodel.specs.Entry.{Entry}
 use Rattle.q_fqcodel.proofs.FlowLemmas.{length-adjust, idle-rested, packets-rested, busy-shrunk, packets-shrunk, packets-none, packets-nil, packets-cons, packets_by_queues, idle_in}
 
 -- 1 where the entry is of flow n
@@ -117,19 +117,12 @@ lawful_shrunk s g fewer n lawful =
     (omega arith) (packets-shrunk g fewer n s.flows)
 
 -- the credits of the front change
-pub lawful_paid_fresh : (s : FqState) (e m : Entry) (rest : List Entry) → IsLawful s → s.fresh ≡ e ∷ rest → m.flow ≡ e.flow → IsLawful (record s { fresh = m ∷ rest })
-lawful_paid_fresh s e m rest lawful front same =
-    let t : FqState = record s { fresh = m ∷ rest } in
-    let even : (n : ℕ) → times n ((m ∷ rest) ++ s.stale) ≡ times n (s.fresh ++ s.stale) = λ n.
-    omega (arith, times-append n (m ∷ rest) s.stale, times-cons n m rest, times-append n s.fresh s.stale, ap (times n) front, times-cons n e rest, one-same n e m same) in
-    IsLawful-from s t lawful refl refl (λ n. omega (arith, even n)) (λ n h. (h, omega (arith, even n))) (omega (arith, ap length front)) (omega arith)
-
-pub lawful_paid_stale : (s : FqState) (e m : Entry) (rest : List Entry) → IsLawful s → s.stale ≡ e ∷ rest → m.flow ≡ e.flow → IsLawful (record s { stale = m ∷ rest })
-lawful_paid_stale s e m rest lawful front same =
-    let t : FqState = record s { stale = m ∷ rest } in
-    let even : (n : ℕ) → times n (s.fresh ++ (m ∷ rest)) ≡ times n (s.fresh ++ s.stale) = λ n.
-    omega (arith, times-append n s.fresh (m ∷ rest), times-cons n m rest, times-append n s.fresh s.stale, ap (times n) front, times-cons n e rest, one-same n e m same) in
-    IsLawful-from s t lawful refl refl (λ n. omega (arith, even n)) (λ n h. (h, omega (arith, even n))) (omega (arith, ap length front)) (omega arith)
+pub lawful_written : (s : FqState) (e m : Entry) (rest fresh stale : List Entry) → IsLawful s → s.fresh ++ s.stale ≡ e ∷ rest → m.flow ≡ e.flow → fresh ++ stale ≡ m ∷ rest → IsLawful (record s { fresh = fresh; stale = stale })
+lawful_written s e m rest fresh stale lawful front same written =
+    let even : (n : ℕ) → times n (fresh ++ stale) ≡ times n (s.fresh ++ s.stale) = λ n.
+    omega (arith, ap (times n) written, times-cons n m rest, ap (times n) front, times-cons n e rest, one-same n e m same) in
+    IsLawful-from s (record s { fresh = fresh; stale = stale }) lawful refl refl (λ n. omega (arith, even n)) (λ n h. (h, omega (arith, even n)))
+    (omega (arith, ap length written, ap length front, length-append fresh stale, length-append s.fresh s.stale)) (omega arith)
 
 -- where both lists are empty no flow has a packet
 pub none_waits : (s : FqState) → IsLawful s → s.fresh ≡ [] → s.stale ≡ [] → packets_of s.flows ≡ 0
@@ -148,8 +141,8 @@ pub packets-first : (f : Flow) (n : ℕ) → f.queue ≡ [] → packets_of (repl
 packets-first f zero empty = packets-nil
 packets-first f (suc n) empty = omega (arith, packets-cons f (replicate n f), ap (λ (q : List Stamped). count q) empty, packets-first f n empty)
 
-pub lawful_first : (settings : FqSettings) (places : ℕ) → IsLawful (first_state settings places)
-lawful_first settings places =
+pub lawful_first : (settings : FqSettings) → IsLawful (first_state settings)
+lawful_first settings =
     let none : packets_of (replicate settings.flows (first_flow settings)) ≡ 0 = packets-first (first_flow settings) settings.flows refl in
     record {
       each_flow = length-replicate settings.flows (first_flow settings);

@@ -1,8 +1,12 @@
 pub mod ClearedLemmas
 pub mod FatLemmas
 pub mod FlowLemmas
+pub mod GivenLemmas
+pub mod InLemmas
+pub mod KeptLemmas
 pub mod LawLemmas
 pub mod LawfulLemmas
+pub mod LostLemmas
 pub mod NewFlowLemmas
 pub mod PoolLemmas
 pub mod PooledLemmas

@@ -15,7 +15,7 @@ use Rattle.q_fqcodel.specs.Lawful.{times}
 use Rattle.q_fqcodel.specs.Put.{flow_of, is_listed, joined, appended}
 use Rattle.q_fqcodel.specs.Take.{selected, flow_after, front, sent_from, paid, after_sending}
 use Rattle.q_fqcodel.specs.NewFlow.{HasCredits, IsNew, served, served_before, BecomesNew, NewBeforeOld}
-use Rattle.q_fqcodel.specs.declared.entry.Entry.{Entry}
+use Rattle.q_fqcodel.specs.Entry.{Entry}
 use Rattle.q_fqcodel.proofs.QuantaLemmas.{need-none}
 use Rattle.q_fqcodel.proofs.SelectionLemmas.{first_passes}
 use Rattle.q_fqcodel.proofs.LawfulLemmas.{times-cons, times-append, one-own}

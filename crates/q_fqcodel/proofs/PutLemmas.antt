@@ -9,7 +9,7 @@ use Rattle.q_fqcodel.specs.Cleared.{adjust}
 use Rattle.q_fqcodel.specs.FqState.{Flow, FqState, queue_of, is_idle, packets_of}
 use Rattle.q_fqcodel.specs.Lawful.{times, IsLawful}
 use Rattle.q_fqcodel.specs.Put.{flow_of, is_listed, joined, appended, fattest, shed_count, overflow, shortened, cut_back, shed, is_lost_itself}
-use Rattle.q_fqcodel.specs.declared.entry.Entry.{Entry}
+use Rattle.q_fqcodel.specs.Entry.{Entry}
 use Rattle.q_fqcodel.proofs.FlowLemmas.{packets-cons, busy-shrunk}
 use Rattle.q_fqcodel.proofs.ShedLemmas.{shortened-none}
 use Rattle.q_fqcodel.proofs.LawfulLemmas.{one, times-cons, times-append, one-own, one-other}
@@ -182,12 +182,16 @@ pub shed-some : (a : FqState) (fat lost : ℕ) → a.settings.limit < packets_of
 unfolding shed
 shed-some a fat lost h same all = ap₂ (λ (n m : ℕ). take n (queue_of a.flows m)) (overflow-some a h ∙ sym all) (sym same)
 
+-- what the flow has that a packet has joined
+pub own_queue : (p : Stamped) (n : ℕ) (flows : List Flow) → n < length flows → queue_of (adjust (joined p) n flows) n ≡ queue_of flows n ++ p ∷ []
+unfolding adjust
+own_queue p n [] h = absurd (omega arith)
+own_queue p zero (f ∷ fs) h = refl
+own_queue p (suc n) (f ∷ fs) h = own_queue p n fs (omega arith)
+
 -- the flow that a packet has joined has one
 pub own_some : (p : Stamped) (n : ℕ) (flows : List Flow) → n < length flows → 1 ≤ count (queue_of (adjust (joined p) n flows) n)
-unfolding adjust
-own_some p n [] h = absurd (omega arith)
-own_some p zero (f ∷ fs) h = omega (arith, length-append f.queue (p ∷ []))
-own_some p (suc n) (f ∷ fs) h = own_some p n fs (omega arith)
+own_some p n flows h = omega (arith, ap count (own_queue p n flows h), length-append (queue_of flows n) (p ∷ []))
 
 pub lost-itself : (s a : FqState) (packet : Descriptor) (now n : ℕ) → a ≡ appended s packet now → n ≡ flow_of s packet → is_lost_itself s packet now ≡ ((fattest a.flows == n) && nat_le (count (queue_of a.flows n)) (overflow a))
 unfolding is_lost_itself

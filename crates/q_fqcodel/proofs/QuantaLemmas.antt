@@ -5,8 +5,9 @@ use Rattle.std.proofs.lemmas.Bool.{lt-ltb, le-ltb, le-leb, lt-leb, cases_lt, con
 use Rattle.std.proofs.lemmas.List.{map-append}
 use Rattle.std.proofs.lemmas.List.Elements.{filter-append}
 use Rattle.q_packet.specs.Least.{least}
+use Rattle.q_packet.proofs.LeastLemmas.{least_same}
 use Rattle.q_fqcodel.specs.Quanta.{need, given, stay, leave}
-use Rattle.q_fqcodel.specs.declared.entry.Entry.{Entry}
+use Rattle.q_fqcodel.specs.Entry.{Entry}
 
 -- Any bound from which on the test has held gives the same least number.
 pub least_bound : (p : ℕ → Bool) (m a b : ℕ) → p m ≡ true → m ≤ a → m ≤ b → least p a ≡ least p b
@@ -18,12 +19,6 @@ least_bound p (suc m) zero b h l k = absurd (omega arith)
 least_bound p (suc m) (suc a) zero h l k = absurd (omega arith)
 least_bound p (suc m) (suc a) (suc b) h l k =
     ap (λ n. cond (p 0) zero (suc n)) (least_bound (λ i. p (suc i)) m a b h (omega arith) (omega arith))
-
-pub least_same : (p r : ℕ → Bool) (n : ℕ) → ((i : ℕ) → p i ≡ r i) → least p n ≡ least r n
-least_same p r zero h = refl
-least_same p r (suc n) h =
-    ap (λ b. cond b zero (suc (least (λ i. p (suc i)) n))) (h 0)
-    ∙ ap (λ m. cond (r 0) zero (suc m)) (least_same (λ i. p (suc i)) (λ i. r (suc i)) n (λ i. h (suc i)))
 
 pub lt_test : (a b : ℤ) → a <ℤ b → int_lt a b ≡ true
 lt_test a b h = grind (arith, ints)
@@ -84,7 +79,7 @@ need-more q e h low =
     cond-false (pays z q 0) _ _ (pays_not z q 0 (omega (arith, ints)))
     ∙ ap suc (least_bound (λ i. pays z q (suc i)) w.0 (unsigned_abs z) (suc (unsigned_abs (z +ℤ pos (1 * q)))) w.1 w.2 w.3
     ∙ least_same (λ i. pays z q (suc i)) (pays (z +ℤ pos (1 * q)) q) (suc (unsigned_abs (z +ℤ pos (1 * q))))
-    (λ i. ap (int_lt (pos 0)) (sym (quantum_more z q i))))
+    (λ i _. ap (int_lt (pos 0)) (sym (quantum_more z q i))))
 
 pub given-more : (q n : ℕ) (e : Entry) → given q n (given q 1 e) ≡ given q (suc n) e
 unfolding given
@@ -95,6 +90,11 @@ unfolding given
 given-none q e =
     let z : e.credits +ℤ pos (0 * q) ≡ e.credits = omega (arith, ints) in
     ap (λ z. record e { credits = z }) z
+
+-- an entry with one quantum more
+pub given-is : (q : ℕ) (e : Entry) (z : ℤ) → z ≡ e.credits +ℤ pos q → record { flow = e.flow; credits = z } ≡ given q 1 e
+unfolding given
+given-is q e z h = let w : z ≡ e.credits +ℤ pos (1 * q) = omega (arith, ints, h) in ap (λ (z : ℤ). record e { credits = z }) w
 
 pub flow-given : (q n : ℕ) (e : Entry) → (given q n e).flow ≡ e.flow
 unfolding given

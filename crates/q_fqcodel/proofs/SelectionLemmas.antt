@@ -1,125 +1,46 @@
 -- One turn of the scheduler leaves the selection as it is: what is chosen from the lists before it is chosen from those
 -- after it.
-use Rattle.std.proofs.Common.{◌-◌, ◌⊎◌, inl, inr, ◌≡◌, ℕ, zero, suc, ◌<◌, ◌≤◌, pos, ◌≤ℤ◌, nat_le, ◌==◌, Bool, true, false, cond, List, [], ◌∷◌, ◌++◌, map, length, take, drop, Option, Some, None, IfSome, refl, sym, ap, ap₂, ◌∙◌, arith, ⊎_elim, append_assoc, append-nil, subst}
-use Rattle.std.proofs.lemmas.Bool.{cases_Bool, cases_eq, true≢false, le-leb, lt-leb, eq-eqb, ne_eqb, cases_lt, cond-true, cond-false, cond_both}
-use Rattle.std.proofs.lemmas.List.{map-append, drop-append-le, take-append-le, drop_at, take_at}
+use Rattle.std.proofs.Common.{◌-◌, ◌⊎◌, inl, inr, ◌≡◌, ℕ, zero, suc, ◌<◌, ◌≤◌, pos, ◌≤ℤ◌, ◌==◌, Bool, true, false, cond, List, [], ◌∷◌, ◌++◌, map, length, take, drop, Option, Some, None, IfSome, refl, sym, ap, ap₂, ◌∙◌, arith, ⊎_elim, append_assoc, append-nil, subst, subst₂}
+use Rattle.std.proofs.lemmas.Bool.{cases_Bool, cases_eq, true≢false, eq-eqb, ne_eqb, cases_lt, cond-true, cond-false}
+use Rattle.std.proofs.lemmas.List.{length-map, map-append, drop-append-le, take-append-le, drop_at, take_at}
 use Rattle.q_fqcodel.specs.Cleared.{adjust, clear}
 use Rattle.q_fqcodel.specs.Quanta.{need, given, stay, leave}
-use Rattle.q_fqcodel.specs.Selection.{Choice, Lists, later, sooner, choose, turned, first_ready, moved, with_rest, arranged}
-use Rattle.q_fqcodel.specs.declared.entry.Entry.{Entry}
+use Rattle.q_packet.specs.Choice.{Choice, later, sooner, choose}
+use Rattle.q_packet.proofs.ChoiceLemmas.{sooner-none, sooner-le, sooner-gt, sooner-first, last_one, last-le, last-gt, choose-if, choose-end_if, choose-within}
+use Rattle.q_fqcodel.specs.Selection.{Lists, chosen, turned, first_ready, moved, with_rest, arranged}
+use Rattle.q_fqcodel.specs.Entry.{Entry}
 use Rattle.q_fqcodel.proofs.ClearedLemmas.{clear-middle, clear-cons}
 use Rattle.q_fqcodel.proofs.QuantaLemmas.{need-more, flow-given, stay-append, leave-append, stay-dropped, leave-kept, leave-dropped, stay-nil, leave-nil, stay-shift, leave-shift, stay-none, leave-none}
 
--- the choice from a list with one flow more at its end, which needs n quanta
-last_one : ℕ → ℕ → Option Choice → Choice
-last_one n len None = record { rounds = n; place = len }
-last_one n len (Some c) = cond (nat_le c.rounds n) c (record { rounds = n; place = len })
+-- ---- the choice
 
-later_if : (b : Bool) (c d : Choice) → later (Some (cond b c d)) ≡ Some (cond b (record { rounds = c.rounds; place = suc c.place }) (record { rounds = d.rounds; place = suc d.place }))
-unfolding later
-later_if true c d = refl
-later_if false c d = refl
+needs : ℕ → (ℕ → Bool) → List Entry → List (Option ℕ)
+needs q idle es = map (λ (e : Entry). cond (idle e.flow) None (Some (need q e))) es
 
-later-end : (n len : ℕ) (o : Option Choice) → later (Some (last_one n len o)) ≡ Some (last_one n (suc len) (later o))
-unfolding later last_one
-later-end n len None = refl
-later-end n len (Some c) = later_if (nat_le c.rounds n) c (record { rounds = n; place = len })
+chosen-nil : (q : ℕ) (idle : ℕ → Bool) → chosen q idle [] ≡ None
+unfolding chosen
+chosen-nil q idle = refl
 
-sooner-le : (n : ℕ) (c : Choice) → n ≤ c.rounds → sooner n (Some c) ≡ record { rounds = n; place = 0 }
-unfolding sooner
-sooner-le n c h = cond-true (nat_le n c.rounds) _ _ (le-leb _ _ h)
+-- one flow more in front
+chosen-cons : (q : ℕ) (idle : ℕ → Bool) (e : Entry) (es : List Entry) → chosen q idle (e ∷ es) ≡ cond (idle e.flow) (later (chosen q idle es)) (Some (sooner (need q e) (chosen q idle es)))
+unfolding chosen needs
+chosen-cons q idle e es = choose-if (idle e.flow) (need q e) (needs q idle es)
 
-sooner-gt : (n : ℕ) (c : Choice) → c.rounds < n → sooner n (Some c) ≡ record { rounds = c.rounds; place = suc c.place }
-unfolding sooner
-sooner-gt n c h = cond-false (nat_le n c.rounds) _ _ (lt-leb _ _ h)
-
-sooner-none : (n : ℕ) → sooner n None ≡ record { rounds = n; place = 0 }
-unfolding sooner
-sooner-none n = refl
-
-last-le : (n len : ℕ) (c : Choice) → c.rounds ≤ n → last_one n len (Some c) ≡ c
-unfolding last_one
-last-le n len c h = cond-true (nat_le c.rounds n) _ _ (le-leb _ _ h)
-
-last-gt : (n len : ℕ) (c : Choice) → n < c.rounds → last_one n len (Some c) ≡ record { rounds = n; place = len }
-unfolding last_one
-last-gt n len c h = cond-false (nat_le c.rounds n) _ _ (lt-leb _ _ h)
-
-sooner-end : (k n len : ℕ) (o : Option Choice) → sooner k (Some (last_one n len o)) ≡ last_one n (suc len) (Some (sooner k o))
-unfolding sooner last_one
-sooner-end k n len None = refl
-sooner-end k n len (Some c) =
-    let at_k : Choice = record { rounds = k; place = 0 } in
-    let behind : Choice = record { rounds = c.rounds; place = suc c.place } in
-    let at_n : Choice = record { rounds = n; place = len } in
-    let at_end : Choice = record { rounds = n; place = suc len } in
-    ⊎_elim
-    (λ (near : c.rounds < suc n).
-    ap (λ (d : Choice). sooner k (Some d)) (last-le n len c (omega arith))
-    ∙ ⊎_elim
-    (λ (first : k < suc c.rounds).
-    let e : sooner k (Some c) ≡ at_k = sooner-le k c (omega arith) in
-    e ∙ sym (last-le n (suc len) at_k (omega arith)) ∙ ap (λ (d : Choice). last_one n (suc len) (Some d)) (sym e))
-    (λ (second : suc c.rounds ≤ k).
-    let e : sooner k (Some c) ≡ behind = sooner-gt k c (omega arith) in
-    e ∙ sym (last-le n (suc len) behind (omega arith)) ∙ ap (λ (d : Choice). last_one n (suc len) (Some d)) (sym e))
-    (cases_lt k (suc c.rounds)))
-    (λ (far : suc n ≤ c.rounds).
-    ap (λ (d : Choice). sooner k (Some d)) (last-gt n len c (omega arith))
-    ∙ ⊎_elim
-    (λ (first : k < suc n).
-    let e : sooner k (Some c) ≡ at_k = sooner-le k c (omega arith) in
-    sooner-le k at_n (omega arith) ∙ sym (last-le n (suc len) at_k (omega arith)) ∙ ap (λ (d : Choice). last_one n (suc len) (Some d)) (sym e))
-    (λ (later' : suc n ≤ k).
-    ⊎_elim
-    (λ (within : k < suc c.rounds).
-    let e : sooner k (Some c) ≡ at_k = sooner-le k c (omega arith) in
-    sooner-gt k at_n (omega arith) ∙ sym (last-gt n (suc len) at_k (omega arith)) ∙ ap (λ (d : Choice). last_one n (suc len) (Some d)) (sym e))
-    (λ (beyond : suc c.rounds ≤ k).
-    let e : sooner k (Some c) ≡ behind = sooner-gt k c (omega arith) in
-    sooner-gt k at_n (omega arith) ∙ sym (last-gt n (suc len) behind (omega arith)) ∙ ap (λ (d : Choice). last_one n (suc len) (Some d)) (sym e))
-    (cases_lt k (suc c.rounds)))
-    (cases_lt k (suc n)))
-    (cases_lt c.rounds (suc n))
-
--- one flow more in front, and one more at the end, where each may be empty
-both_ends : (i j : Bool) (n k len : ℕ) (o : Option Choice) → cond i (later (cond j o (Some (last_one n len o)))) (Some (sooner k (cond j o (Some (last_one n len o))))) ≡ cond j (cond i (later o) (Some (sooner k o))) (Some (last_one n (suc len) (cond i (later o) (Some (sooner k o)))))
-both_ends true true n k len o = refl
-both_ends true false n k len o = later-end n len o
-both_ends false true n k len o = refl
-both_ends false false n k len o = ap (λ (d : Choice). Some d) (sooner-end k n len o)
-
-end_alone : (j : Bool) (n : ℕ) → cond j (later None) (Some (sooner n None)) ≡ cond j None (Some (last_one n 0 None))
-unfolding later sooner last_one
-end_alone true n = refl
-end_alone false n = refl
-
-choose-end : (q : ℕ) (idle : ℕ → Bool) (es : List Entry) (x : Entry) → choose q idle (es ++ x ∷ []) ≡ cond (idle x.flow) (choose q idle es) (Some (last_one (need q x) (length es) (choose q idle es)))
-unfolding choose
-choose-end q idle [] x = end_alone (idle x.flow) (need q x)
-choose-end q idle (y ∷ ys) x =
-    ap (λ (o : Option Choice). cond (idle y.flow) (later o) (Some (sooner (need q y) o))) (choose-end q idle ys x)
-    ∙ both_ends (idle y.flow) (idle x.flow) (need q x) (need q y) (length ys) (choose q idle ys)
+-- one flow more at the end
+chosen-end : (q : ℕ) (idle : ℕ → Bool) (es : List Entry) (x : Entry) → chosen q idle (es ++ x ∷ []) ≡ cond (idle x.flow) (chosen q idle es) (Some (last_one (need q x) (length es) (chosen q idle es)))
+unfolding chosen needs
+chosen-end q idle es x =
+    ap choose (map-append (λ (e : Entry). cond (idle e.flow) None (Some (need q e))) es (x ∷ []))
+    ∙ choose-end_if (idle x.flow) (need q x) (needs q idle es)
+    ∙ ap (λ (n : ℕ). cond (idle x.flow) (choose (needs q idle es)) (Some (last_one (need q x) n (choose (needs q idle es)))))
+    (length-map es (λ (e : Entry). cond (idle e.flow) None (Some (need q e))))
 
 -- a choice stands within its list
-within-later : (n : ℕ) (o : Option Choice) → IfSome o (λ c. c.place < n) → IfSome (later o) (λ c. c.place < suc n)
-unfolding later
-within-later n None h = h
-within-later n (Some c) h = omega (arith, h)
-
-within-sooner : (k n : ℕ) (o : Option Choice) → IfSome o (λ c. c.place < n) → (sooner k o).place < suc n
-unfolding sooner
-within-sooner k n None h = omega arith
-within-sooner k n (Some c) h = cond_both (nat_le k c.rounds) (record { rounds = k; place = 0 }) (record { rounds = c.rounds; place = suc c.place }) (λ (d : Choice). d.place < suc n) (λ e. omega arith) (λ e. omega (arith, h))
-
-within_if : (b : Bool) (k n : ℕ) (o : Option Choice) → IfSome o (λ c. c.place < n) → IfSome (cond b (later o) (Some (sooner k o))) (λ c. c.place < suc n)
-within_if true k n o h = within-later n o h
-within_if false k n o h = within-sooner k n o h
-
-choose-within : (q : ℕ) (idle : ℕ → Bool) (es : List Entry) → IfSome (choose q idle es) (λ c. c.place < length es)
-unfolding choose
-choose-within q idle [] = tt
-choose-within q idle (e ∷ es) = within_if (idle e.flow) (need q e) (length es) (choose q idle es) (choose-within q idle es)
+pub chosen-within : (q : ℕ) (idle : ℕ → Bool) (es : List Entry) → IfSome (chosen q idle es) (λ c. c.place < length es)
+unfolding chosen needs
+chosen-within q idle es =
+    subst (λ (n : ℕ). IfSome (choose (needs q idle es)) (λ (c : Choice). c.place < n))
+    (length-map es (λ (e : Entry). cond (idle e.flow) None (Some (need q e)))) (choose-within (needs q idle es))
 
 -- ---- one turn of the old list
 
@@ -213,13 +134,11 @@ module _ {F : Type 0} (r : F → F) (q : ℕ) (positive : 1 ≤ q) (e : Entry) (
   -- with a choice o from those behind, and the one in front empty or not
   granted-idle : (o : Option Choice) → IfSome o (λ c. c.place < length es) → (flows : List F)
       → Agree r flows flows (turned q (e ∷ es) (later o)) (turned q (es ++ given q 1 e ∷ []) o)
-  unfolding later
   granted-idle None within flows = granted-none flows
   granted-idle (Some c) within flows = same_lists r flows _ _ (granted-behind c within flows)
 
   granted-busy : (k : ℕ) (o : Option Choice) → IfSome o (λ c. c.place < length es) → (flows : List F)
       → turned q (e ∷ es) (Some (sooner (suc k) o)) ≡ turned q (es ++ given q 1 e ∷ []) (Some (last_one k (length es) o))
-  unfolding last_one
   granted-busy k None within flows =
       ap (λ (c : Choice). turned q (e ∷ es) (Some c)) (sooner-none (suc k)) ∙ granted-front k
   granted-busy k (Some c) within flows =
@@ -245,20 +164,19 @@ module _ {F : Type 0} (r : F → F) (q : ℕ) (positive : 1 ≤ q) (e : Entry) (
 
   -- A flow in front without credits gets a quantum and goes to the end.
   pub turned-granted : (idle : ℕ → Bool) (flows : List F)
-      → Agree r flows flows (turned q (e ∷ es) (choose q idle (e ∷ es))) (turned q (es ++ given q 1 e ∷ []) (choose q idle (es ++ given q 1 e ∷ [])))
-  unfolding choose
+      → Agree r flows flows (turned q (e ∷ es) (chosen q idle (e ∷ es))) (turned q (es ++ given q 1 e ∷ []) (chosen q idle (es ++ given q 1 e ∷ [])))
   turned-granted idle flows =
       let last : Entry = given q 1 e in
-      let o : Option Choice = choose q idle es in
-      let at_end : choose q idle (es ++ last ∷ []) ≡ cond (idle e.flow) o (Some (last_one (need q last) (length es) o)) =
-      choose-end q idle es last ∙ ap (λ (n : ℕ). cond (idle n) o (Some (last_one (need q last) (length es) o))) (flow-given q 1 e) in
-      subst (λ (o' : Option Choice). Agree r flows flows (turned q (e ∷ es) (cond (idle e.flow) (later o) (Some (sooner (need q e) o)))) (turned q (es ++ last ∷ []) o'))
-      (sym at_end) (granted_if (idle e.flow) o (choose-within q idle es) flows)
+      let o : Option Choice = chosen q idle es in
+      let at_end : chosen q idle (es ++ last ∷ []) ≡ cond (idle e.flow) o (Some (last_one (need q last) (length es) o)) =
+      chosen-end q idle es last ∙ ap (λ (n : ℕ). cond (idle n) o (Some (last_one (need q last) (length es) o))) (flow-given q 1 e) in
+      subst₂ (λ (a b : Option Choice). Agree r flows flows (turned q (e ∷ es) a) (turned q (es ++ last ∷ []) b))
+      (sym (chosen-cons q idle e es)) (sym at_end) (granted_if (idle e.flow) o (chosen-within q idle es) flows)
 
 -- An empty flow in front with credits leaves.
 leaves-some : {F : Type 0} (r : F → F) (q : ℕ) (e : Entry) (es : List Entry) → need q e ≡ 0 → (o : Option Choice) → (flows : List F)
     → Agree r flows (adjust r e.flow flows) (turned q (e ∷ es) (later o)) (turned q es o)
-unfolding later turned
+unfolding turned
 leaves-some r q e es ready None flows = record { fresh = refl; stale = refl; flows = clear-cons r e.flow (map (λ (e : Entry). e.flow) es) flows }
 leaves-some r q e es ready (Some c) flows = record {
   fresh = refl;
@@ -269,26 +187,21 @@ leaves-some r q e es ready (Some c) flows = record {
 }
 
 pub turned-leaves : {F : Type 0} (r : F → F) (q : ℕ) (e : Entry) (es : List Entry) → need q e ≡ 0 → (idle : ℕ → Bool) → idle e.flow ≡ true → (flows : List F)
-    → Agree r flows (adjust r e.flow flows) (turned q (e ∷ es) (choose q idle (e ∷ es))) (turned q es (choose q idle es))
-unfolding choose
+    → Agree r flows (adjust r e.flow flows) (turned q (e ∷ es) (chosen q idle (e ∷ es))) (turned q es (chosen q idle es))
 turned-leaves r q e es ready idle empty flows =
-    subst (λ (o : Option Choice). Agree r flows (adjust r e.flow flows) (turned q (e ∷ es) o) (turned q es (choose q idle es)))
-    (sym (cond-true (idle e.flow) (later (choose q idle es)) (Some (sooner (need q e) (choose q idle es))) empty))
-    (leaves-some r q e es ready (choose q idle es) flows)
-
-sooner-first : (o : Option Choice) → sooner 0 o ≡ record { rounds = 0; place = 0 }
-sooner-first None = sooner-none 0
-sooner-first (Some c) = sooner-le 0 c (omega arith)
+    subst (λ (o : Option Choice). Agree r flows (adjust r e.flow flows) (turned q (e ∷ es) o) (turned q es (chosen q idle es)))
+    (sym (chosen-cons q idle e es ∙ cond-true (idle e.flow) (later (chosen q idle es)) (Some (sooner (need q e) (chosen q idle es))) empty))
+    (leaves-some r q e es ready (chosen q idle es) flows)
 
 -- A flow in front with credits and a packet is the one.
 pub turned-ready : (q : ℕ) (e : Entry) (es : List Entry) → need q e ≡ 0 → (idle : ℕ → Bool) → idle e.flow ≡ false
-    → turned q (e ∷ es) (choose q idle (e ∷ es)) ≡ record { fresh = []; stale = e ∷ es; gone = [] }
-unfolding choose
+    → turned q (e ∷ es) (chosen q idle (e ∷ es)) ≡ record { fresh = []; stale = e ∷ es; gone = [] }
 turned-ready q e es ready idle busy =
     ap (turned q (e ∷ es))
-    (cond-false (idle e.flow) (later (choose q idle es)) (Some (sooner (need q e) (choose q idle es))) busy
-    ∙ ap (λ (n : ℕ). Some (sooner n (choose q idle es))) ready
-    ∙ ap (λ (c : Choice). Some c) (sooner-first (choose q idle es)))
+    (chosen-cons q idle e es
+    ∙ cond-false (idle e.flow) (later (chosen q idle es)) (Some (sooner (need q e) (chosen q idle es))) busy
+    ∙ ap (λ (n : ℕ). Some (sooner n (chosen q idle es))) ready
+    ∙ ap (λ (c : Choice). Some c) (sooner-first (chosen q idle es)))
     ∙ turned-some q (e ∷ es) (record { rounds = 0; place = 0 })
     ∙ ap₂ (λ (s : List Entry) (g : List ℕ). record { fresh = []; stale = s; gone = g })
     (ap₂ (λ (a b : List Entry). a ++ b) (stay-none q (e ∷ es)) (stay-nil q 1) ∙ append-nil (e ∷ es))
@@ -296,10 +209,10 @@ turned-ready q e es ready idle busy =
 
 -- ---- one turn of the new list
 
-pub arranged-nil : (q : ℕ) (idle : ℕ → Bool) (stale : List Entry) → arranged q idle [] stale ≡ turned q stale (choose q idle stale)
+pub arranged-nil : (q : ℕ) (idle : ℕ → Bool) (stale : List Entry) → arranged q idle [] stale ≡ turned q stale (chosen q idle stale)
 unfolding arranged with_rest first_ready
 arranged-nil q idle stale =
-    ap₂ (λ (l : List Entry) (g : List ℕ). let t = turned q l (choose q idle l) in record t { gone = g ++ t.gone }) (append-nil stale) (leave-nil q 1)
+    ap₂ (λ (l : List Entry) (g : List ℕ). let t = turned q l (chosen q idle l) in record t { gone = g ++ t.gone }) (append-nil stale) (leave-nil q 1)
 
 -- both lists where the new one is passed over up to this place
 arranged_at : ℕ → (ℕ → Bool) → List Entry → List Entry → ℕ → Lists

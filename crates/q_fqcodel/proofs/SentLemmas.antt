@@ -1,7 +1,8 @@
 -- CoDel at one flow: it drops no more packets than the flow has, and an empty flow sends nothing.
-use Rattle.std.proofs.Common.{◌≡◌, ℕ, zero, suc, ◌<◌, ◌≤◌, Bool, true, false, cond, List, [], ◌∷◌, length, take, Option, Some, None, IsSome, option_map, ◌++◌, IfSome, option_and_then, unwrap_or, ℤ, pos, ◌-ℤ◌, refl, sym, ap, ap₂, ◌∙◌, arith, subst}
+use Rattle.std.proofs.Common.{◌≡◌, ℕ, zero, suc, ◌<◌, ◌≤◌, Bool, true, false, cond, List, [], ◌∷◌, length, take, Option, Some, None, IsSome, option_map, ◌++◌, IfSome, option_and_then, unwrap_or, pos, ◌-ℤ◌, refl, sym, ap, ap₂, ◌∙◌, arith, subst, drop, set, ◌≢◌, ◌==◌, if◌then◌else◌, not}
 use Rattle.std.specs.Prelude.{slice_get}
-use Rattle.std.proofs.lemmas.List.{length-take, length-drop}
+use Rattle.std.proofs.lemmas.Bool.{cond-false, ne_eqb, eqb-true, eqb-false, not-true, not-false}
+use Rattle.std.proofs.lemmas.List.{length-take, length-drop, nil_from_length}
 use Rattle.q_packet.specs.Totals.{count}
 use Rattle.q_packet.specs.declared.stamped.Stamped.{Stamped}
 use Rattle.q_codel.specs.Codel.{CodelState, drops, taken}
@@ -9,7 +10,7 @@ use Rattle.q_codel.specs.declared.taken.Taken.{Taken}
 use Rattle.q_fqcodel.specs.Cleared.{adjust}
 use Rattle.q_fqcodel.specs.FqState.{Flow, FqState}
 use Rattle.q_fqcodel.specs.Take.{packet_sent, packets_dropped, flow_after, front, sender, sent_from, dropped_from, paid, with_sent, after_sending}
-use Rattle.q_fqcodel.specs.declared.entry.Entry.{Entry}
+use Rattle.q_fqcodel.specs.Entry.{Entry}
 
 drops-empty : (s : CodelState) (now : ℕ) → drops s now [] ≡ 0
 drops-empty s now = empty_if s.dropping
@@ -78,13 +79,6 @@ pub after-fresh : (s : FqState) (e : Entry) (rest : List Entry) (now : ℕ) → 
 unfolding after_sending with_sent
 after-fresh s e rest now front = ap (λ (l : List Entry). with_sent now s l s.stale) front
 
-pub after-stale : (s : FqState) (e : Entry) (rest : List Entry) (now : ℕ) → s.fresh ≡ [] → s.stale ≡ e ∷ rest
-    → after_sending now s ≡ record s { flows = adjust (flow_after now) e.flow s.flows; stale = paid (sent_from now s) e ∷ rest }
-unfolding after_sending with_sent
-after-stale s e rest now none front =
-    ap₂ (λ (l m : List Entry). with_sent now s l m) none front
-    ∙ ap (λ (l : List Entry). record s { flows = adjust (flow_after now) e.flow s.flows; fresh = l; stale = paid (sent_from now s) e ∷ rest }) (sym none)
-
 pub after-none : (s : FqState) (now : ℕ) → s.fresh ≡ [] → s.stale ≡ [] → after_sending now s ≡ s
 unfolding after_sending with_sent
 after-none s now no_fresh no_stale =
@@ -115,13 +109,71 @@ unfolding paid
 flow-paid None e = refl
 flow-paid (Some t) e = refl
 
-pub paid-by : (o : Option Taken) (t : Taken) (e : Entry) (len : ℕ) (z : ℤ) → o ≡ Some t → len ≡ t.packet.len → z ≡ e.credits -ℤ pos len → paid o e ≡ record { flow = e.flow; credits = z }
-paid-by o t e len z h same paying =
-    paid-is o t e h
-    ∙ ap (λ (n : ℕ). record e { credits = e.credits -ℤ pos n }) (sym same)
-    ∙ ap (λ (x : ℤ). record e { credits = x }) (sym paying)
-
 pub sender-none : (s : FqState) → s.fresh ≡ [] → s.stale ≡ [] → sender s ≡ None
 unfolding sender front
 sender-none s no_fresh no_stale =
     ap₂ (λ (l m : List Entry). option_and_then (λ (e : Entry). slice_get s.flows e.flow) (slice_get (l ++ m) 0)) no_fresh no_stale
+
+-- ---- for the code, which reads the front of both lists
+
+list_front : (xs : List Entry) (e : Entry) → slice_get xs 0 ≡ Some e → xs ≡ e ∷ drop 1 xs
+list_front [] e h = absurd cc
+list_front (x ∷ xs) e h = ap (λ (o : Option Entry). unwrap_or o x ∷ xs) h
+
+pub front-is : (s : FqState) (e : Entry) → front s ≡ Some e → s.fresh ++ s.stale ≡ e ∷ drop 1 (s.fresh ++ s.stale)
+unfolding front
+front-is s e h = list_front (s.fresh ++ s.stale) e h
+
+none_in : (xs ys : List Entry) → slice_get (xs ++ ys) 0 ≡ None → (xs ≡ []) × (ys ≡ [])
+none_in [] [] h = (refl, refl)
+none_in [] (y ∷ ys) h = absurd cc
+none_in (x ∷ xs) ys h = absurd cc
+
+pub front-none : (s : FqState) → front s ≡ None → (s.fresh ≡ []) × (s.stale ≡ [])
+unfolding front
+front-none s h = none_in s.fresh s.stale h
+
+-- it is that of the new list, or of the old one where the new one is empty
+first_of_new : (xs ys : List Entry) → length xs ≢ 0 → slice_get xs 0 ≡ slice_get (xs ++ ys) 0
+first_of_new [] ys h = absurd (h refl)
+first_of_new (x ∷ xs) ys h = refl
+
+pub first_if : (xs : List Entry) (s : FqState) → xs ≡ s.fresh → not (length s.fresh == 0) ≡ true → slice_get xs 0 ≡ front s
+unfolding front
+first_if xs s same some = ap (λ (l : List Entry). slice_get l 0) same ∙ first_of_new s.fresh s.stale (eqb-false (length s.fresh) 0 (not-true (length s.fresh == 0) some))
+
+pub empty_of : {X : Type 0} (xs : List X) → not (length xs == 0) ≡ false → xs ≡ []
+empty_of xs h = nil_from_length xs (eqb-true (length xs) 0 (not-false (length xs == 0) h))
+
+pub first_else : (xs : List Entry) (s : FqState) → xs ≡ s.stale → not (length s.fresh == 0) ≡ false → slice_get xs 0 ≡ front s
+unfolding front
+first_else xs s same none = ap (λ (l : List Entry). slice_get l 0) same ∙ ap (λ (l : List Entry). slice_get (l ++ s.stale) 0) (sym (empty_of s.fresh none))
+
+-- the old list once the front is written: it stands there where the new list is empty
+abbrev pub written : Entry → List Entry → List Entry → List Entry
+written m fresh stale = if length fresh == 0 then set stale 0 m else stale
+
+with_sent-written : (now : ℕ) (s : FqState) (e : Entry) (fresh stale : List Entry) → slice_get (fresh ++ stale) 0 ≡ Some e
+    → with_sent now s fresh stale ≡ record s { flows = adjust (flow_after now) e.flow s.flows; fresh = set fresh 0 (paid (sent_from now s) e); stale = written (paid (sent_from now s) e) fresh stale }
+unfolding with_sent
+with_sent-written now s e [] [] h = absurd cc
+with_sent-written now s e [] (x ∷ xs) h =
+    ap (λ (o : Option Entry). record s { flows = adjust (flow_after now) (unwrap_or o x).flow s.flows; fresh = []; stale = paid (sent_from now s) (unwrap_or o x) ∷ xs }) h
+with_sent-written now s e (x ∷ xs) stale h =
+    ap (λ (o : Option Entry). record s { flows = adjust (flow_after now) (unwrap_or o x).flow s.flows; fresh = paid (sent_from now s) (unwrap_or o x) ∷ xs; stale = stale }) h
+    ∙ ap (λ (l : List Entry). record s { flows = adjust (flow_after now) e.flow s.flows; fresh = paid (sent_from now s) e ∷ xs; stale = l })
+    (sym (cond-false (length (x ∷ xs) == 0) (set stale 0 (paid (sent_from now s) e)) stale (ne_eqb (length (x ∷ xs)) 0 (omega arith))))
+
+pub after-written : (s : FqState) (e : Entry) (now : ℕ) → front s ≡ Some e
+    → after_sending now s ≡ record s { flows = adjust (flow_after now) e.flow s.flows; fresh = set s.fresh 0 (paid (sent_from now s) e); stale = written (paid (sent_from now s) e) s.fresh s.stale }
+unfolding after_sending front
+after-written s e now h = with_sent-written now s e s.fresh s.stale h
+
+written_lists : (m e : Entry) (fresh stale : List Entry) → slice_get (fresh ++ stale) 0 ≡ Some e → set fresh 0 m ++ written m fresh stale ≡ m ∷ drop 1 (fresh ++ stale)
+written_lists m e [] [] h = absurd cc
+written_lists m e [] (x ∷ xs) h = refl
+written_lists m e (x ∷ xs) stale h = ap (λ (l : List Entry). m ∷ (xs ++ l)) (cond-false (length (x ∷ xs) == 0) (set stale 0 m) stale (ne_eqb (length (x ∷ xs)) 0 (omega arith)))
+
+pub lists-written : (s : FqState) (m e : Entry) → front s ≡ Some e → set s.fresh 0 m ++ written m s.fresh s.stale ≡ m ∷ drop 1 (s.fresh ++ s.stale)
+unfolding front
+lists-written s m e h = written_lists m e s.fresh s.stale h

@@ -1,14 +1,14 @@
 -- One turn of the scheduler: what it does to the state, and that the selection stays the same.
-use Rattle.std.proofs.Common.{◌≡◌, ℕ, suc, ◌+◌, ◌<◌, ◌≤◌, ℤ, pos, ◌+ℤ◌, ◌≤ℤ◌, ◌<ℤ◌, Bool, true, false, List, [], ◌∷◌, ◌++◌, length, drop, sum_by, refl, sym, ap, ap₂, ◌∙◌, subst, arith, get_or, ◌*◌}
-use Rattle.std.proofs.lemmas.Int.{ints}
+use Rattle.std.proofs.Common.{◌≡◌, ℕ, suc, ◌+◌, ◌<◌, ◌≤◌, pos, ◌≤ℤ◌, ◌<ℤ◌, Bool, true, false, List, [], ◌∷◌, ◌++◌, length, drop, sum_by, refl, sym, ap, ap₂, ◌∙◌, subst, arith, get_or, IfSome}
+use Rattle.std.specs.Prelude.{slice_get}
 use Rattle.std.proofs.lemmas.List.Sums.{sum_by-cons, sum_by_push}
 use Rattle.q_fqcodel.specs.Cleared.{adjust, clear}
 use Rattle.q_fqcodel.specs.Quanta.{need, given}
-use Rattle.q_fqcodel.specs.Selection.{Lists, choose, turned, arranged}
+use Rattle.q_fqcodel.specs.Selection.{Lists, chosen, turned, arranged}
 use Rattle.q_fqcodel.specs.FqState.{FqSettings, Flow, FqState, is_idle, rested_flow}
-use Rattle.q_fqcodel.specs.Take.{selected}
-use Rattle.q_fqcodel.specs.Turns.{GoesOn, turns}
-use Rattle.q_fqcodel.specs.declared.entry.Entry.{Entry}
+use Rattle.q_fqcodel.specs.Take.{selected, front}
+use Rattle.q_fqcodel.specs.Turns.{GoesOn, IsSettled, turns}
+use Rattle.q_fqcodel.specs.Entry.{Entry}
 use Rattle.q_fqcodel.proofs.ClearedLemmas.{clear-nil, clear-cons}
 use Rattle.q_fqcodel.proofs.FlowLemmas.{idle-rested, packets-rested}
 use Rattle.q_fqcodel.proofs.QuantaLemmas.{need-none, need-more}
@@ -25,11 +25,11 @@ unfolding selected with_lists arranged_in
 selected-is s = refl
 
 -- two states that select the same
-same_selected : (s t : FqState) → s.settings ≡ t.settings → s.places ≡ t.places → Agree rested_flow s.flows t.flows (arranged_in s) (arranged_in t) → selected s ≡ selected t
+same_selected : (s t : FqState) → s.settings ≡ t.settings → Agree rested_flow s.flows t.flows (arranged_in s) (arranged_in t) → selected s ≡ selected t
 unfolding with_lists
-same_selected s t settings places agree =
+same_selected s t settings agree =
     selected-is s
-    ∙ ap₂ (λ (x : FqSettings) (y : ℕ). record s { settings = x; places = y; flows = clear rested_flow (arranged_in s).gone s.flows; fresh = (arranged_in s).fresh; stale = (arranged_in s).stale }) settings places
+    ∙ ap (λ (x : FqSettings). record s { settings = x; flows = clear rested_flow (arranged_in s).gone s.flows; fresh = (arranged_in s).fresh; stale = (arranged_in s).stale }) settings
     ∙ ap (λ (x : List Flow). record t { flows = x; fresh = (arranged_in s).fresh; stale = (arranged_in s).stale }) agree.flows
     ∙ ap₂ (λ (x y : List Entry). record t { flows = clear rested_flow (arranged_in t).gone t.flows; fresh = x; stale = y }) agree.fresh agree.stale
     ∙ sym (selected-is t)
@@ -63,7 +63,7 @@ module _ (s : FqState) (e : Entry) (rest : List Entry) (front : s.fresh ≡ e �
       let lists : arranged_in s ≡ arranged_in t =
       ap (λ (l : List Entry). arranged q (is_idle s.flows) l s.stale) front ∙ arranged-granted q (is_idle s.flows) e rest s.stale positive low in
       record {
-        same = sym (same_selected s t refl refl (same_lists rested_flow s.flows (arranged_in s) (arranged_in t) lists));
+        same = sym (same_selected s t refl (same_lists rested_flow s.flows (arranged_in s) (arranged_in t) lists));
         fewer =
             let a : sum_by (fresh_turns q) s.fresh ≡ fresh_turns q e + sum_by (fresh_turns q) rest = ap (sum_by (fresh_turns q)) front ∙ sum_by-cons (fresh_turns q) e rest in
             let b : sum_by (stale_turns q) (s.stale ++ given q 1 e ∷ []) ≡ sum_by (stale_turns q) s.stale + stale_turns q (given q 1 e) = sum_by_push (stale_turns q) s.stale (given q 1 e) in
@@ -82,7 +82,7 @@ module _ (s : FqState) (e : Entry) (rest : List Entry) (front : s.fresh ≡ e �
       ap (λ (l : List Entry). arranged q (is_idle s.flows) l s.stale) front ∙ arranged-moves q (is_idle s.flows) e rest s.stale ready empty in
       let lists' : after ≡ arranged_in t = ap (λ (i : ℕ → Bool). arranged q i rest (s.stale ++ e ∷ [])) (sym (idle-rested e.flow s.flows)) in
       record {
-        same = sym (same_selected s t refl refl (record {
+        same = sym (same_selected s t refl (record {
           fresh = ap (λ (l : Lists). l.fresh) lists ∙ ap (λ (l : Lists). l.fresh) lists';
           stale = ap (λ (l : Lists). l.stale) lists ∙ ap (λ (l : Lists). l.stale) lists';
           flows =
@@ -112,7 +112,7 @@ module _ (s : FqState) (e : Entry) (rest : List Entry) (front : s.fresh ≡ e �
 -- ---- the old list
 
 module _ (s : FqState) (e : Entry) (rest : List Entry) (none : s.fresh ≡ []) (front : s.stale ≡ e ∷ rest) where
-  old_lists : arranged_in s ≡ turned s.settings.quantum (e ∷ rest) (choose s.settings.quantum (is_idle s.flows) (e ∷ rest))
+  old_lists : arranged_in s ≡ turned s.settings.quantum (e ∷ rest) (chosen s.settings.quantum (is_idle s.flows) (e ∷ rest))
   unfolding arranged_in
   old_lists =
       ap₂ (λ (l m : List Entry). arranged s.settings.quantum (is_idle s.flows) l m) none front
@@ -124,13 +124,13 @@ module _ (s : FqState) (e : Entry) (rest : List Entry) (none : s.fresh ≡ []) (
       let q : ℕ = s.settings.quantum in
       let last : List Entry = rest ++ given q 1 e ∷ [] in
       let t : FqState = record s { stale = last } in
-      let lists' : arranged_in t ≡ turned q last (choose q (is_idle s.flows) last) =
+      let lists' : arranged_in t ≡ turned q last (chosen q (is_idle s.flows) last) =
       ap (λ (l : List Entry). arranged q (is_idle s.flows) l last) none ∙ arranged-nil q (is_idle s.flows) last in
       let agree = turned-granted rested_flow q positive e low rest (is_idle s.flows) s.flows in
       record {
-        same = sym (same_selected s t refl refl
+        same = sym (same_selected s t refl
             (subst (λ (b : Lists). Agree rested_flow s.flows s.flows (arranged_in s) b) (sym lists')
-            (subst (λ (a : Lists). Agree rested_flow s.flows s.flows a (turned q last (choose q (is_idle s.flows) last))) (sym old_lists) agree)));
+            (subst (λ (a : Lists). Agree rested_flow s.flows s.flows a (turned q last (chosen q (is_idle s.flows) last))) (sym old_lists) agree)));
         fewer =
             let a : sum_by (stale_turns q) s.stale ≡ stale_turns q e + sum_by (stale_turns q) rest = ap (sum_by (stale_turns q)) front ∙ sum_by-cons (stale_turns q) e rest in
             let b : sum_by (stale_turns q) last ≡ sum_by (stale_turns q) rest + stale_turns q (given q 1 e) = sum_by_push (stale_turns q) rest (given q 1 e) in
@@ -144,13 +144,13 @@ module _ (s : FqState) (e : Entry) (rest : List Entry) (none : s.fresh ≡ []) (
       let q : ℕ = s.settings.quantum in
       let flows' : List Flow = adjust rested_flow e.flow s.flows in
       let t : FqState = record s { flows = flows'; stale = rest } in
-      let lists' : arranged_in t ≡ turned q rest (choose q (is_idle s.flows) rest) =
+      let lists' : arranged_in t ≡ turned q rest (chosen q (is_idle s.flows) rest) =
       ap₂ (λ (i : ℕ → Bool) (l : List Entry). arranged q i l rest) (idle-rested e.flow s.flows) none ∙ arranged-nil q (is_idle s.flows) rest in
       let agree = turned-leaves rested_flow q e rest (need-none q e high) (is_idle s.flows) empty s.flows in
       record {
-        same = sym (same_selected s t refl refl
+        same = sym (same_selected s t refl
             (subst (λ (b : Lists). Agree rested_flow s.flows flows' (arranged_in s) b) (sym lists')
-            (subst (λ (a : Lists). Agree rested_flow s.flows flows' a (turned q rest (choose q (is_idle s.flows) rest))) (sym old_lists) agree)));
+            (subst (λ (a : Lists). Agree rested_flow s.flows flows' a (turned q rest (chosen q (is_idle s.flows) rest))) (sym old_lists) agree)));
         fewer =
             let a : sum_by (stale_turns q) s.stale ≡ stale_turns q e + sum_by (stale_turns q) rest = ap (sum_by (stale_turns q)) front ∙ sum_by-cons (stale_turns q) e rest in
             omega (arith, a, turns-is s, turns-is t, stale_turns-is q e);
@@ -170,7 +170,7 @@ module _ (s : FqState) (e : Entry) (rest : List Entry) (none : s.fresh ≡ []) (
       ∙ ap (λ (l : List Flow). with_lists s l s.fresh s.stale) (clear-nil rested_flow s.flows)
 
 pub none_left : (s : FqState) → s.fresh ≡ [] → s.stale ≡ [] → selected s ≡ s
-unfolding with_lists arranged_in choose turned
+unfolding with_lists arranged_in chosen turned
 none_left s no_fresh no_stale =
     let q : ℕ = s.settings.quantum in
     let lists : arranged_in s ≡ record { fresh = s.fresh; stale = s.stale; gone = [] } =
@@ -183,11 +183,31 @@ none_left s no_fresh no_stale =
 
 -- ---- for the code, which knows its lists by equations
 
+-- the states are known by equations
+pub goes_between : (a b s t : FqState) → s ≡ a → b ≡ t → GoesOn s t → GoesOn a b
+goes_between a b s t before after on =
+    subst (λ (x : FqState). GoesOn x b) before (subst (λ (x : FqState). GoesOn s x) (sym after) on)
+
+-- the flow in front sends
+pub settled_at : (s : FqState) (e : Entry) (rest : List Entry) → s.fresh ++ s.stale ≡ e ∷ rest → selected s ≡ s → pos 0 <ℤ e.credits → is_idle s.flows e.flow ≡ false → IsSettled s
+unfolding front
+settled_at s e rest first chosen high busy = record {
+  chosen = chosen;
+  credits = subst (λ (l : List Entry). IfSome (slice_get l 0) (λ (e : Entry). pos 0 <ℤ e.credits)) (sym first) high;
+  busy = subst (λ (l : List Entry). IfSome (slice_get l 0) (λ (e : Entry). is_idle s.flows e.flow ≡ false)) (sym first) busy;
+}
+
+-- no flow is listed
+pub settled_none : (s : FqState) → s.fresh ≡ [] → s.stale ≡ [] → IsSettled s
+unfolding front
+settled_none s no_fresh no_stale =
+    let none : s.fresh ++ s.stale ≡ [] = ap₂ (λ (l m : List Entry). l ++ m) no_fresh no_stale in
+    record {
+      chosen = none_left s no_fresh no_stale;
+      credits = subst (λ (l : List Entry). IfSome (slice_get l 0) (λ (e : Entry). pos 0 <ℤ e.credits)) (sym none) tt;
+      busy = subst (λ (l : List Entry). IfSome (slice_get l 0) (λ (e : Entry). is_idle s.flows e.flow ≡ false)) (sym none) tt;
+    }
+
 pub front_is : {X : Type 0} (xs : List X) (e : X) → 0 < length xs → e ≡ get_or xs 0 e → xs ≡ e ∷ drop 1 xs
 front_is [] e some read = absurd (omega arith)
 front_is (x ∷ xs) e some read = ap (λ (y : _). y ∷ xs) (sym read)
-
--- an entry with one quantum more
-pub given-is : (q : ℕ) (e : Entry) (z : ℤ) → z ≡ e.credits +ℤ pos q → record { flow = e.flow; credits = z } ≡ given q 1 e
-unfolding given
-given-is q e z h = let w : z ≡ e.credits +ℤ pos (1 * q) = omega (arith, ints, h) in ap (λ (z : ℤ). record e { credits = z }) w

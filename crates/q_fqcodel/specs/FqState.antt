@@ -4,7 +4,7 @@ use Rattle.std.specs.Prelude.{ℕ, Bool, List, [], map, get_or, replicate, sum_b
 use Rattle.q_packet.specs.Totals.{count, size}
 use Rattle.q_packet.specs.declared.stamped.Stamped.{Stamped}
 use Rattle.q_codel.specs.Codel.{CodelState, at_first, rested}
-use Rattle.q_fqcodel.specs.declared.entry.Entry.{Entry}
+use Rattle.q_fqcodel.specs.Entry.{Entry}
 
 -- Times are in nanoseconds, lengths in bytes, `limit` and `drop_batch` in packets.
 pub record FqSettings : Type 0 where
@@ -22,13 +22,16 @@ pub record Flow : Type 0 where
   pub queue : List Stamped
   pub codel : CodelState
 
--- `fresh` is the list of new flows and `stale` that of old ones, each from its front; `places` is the number of packets
--- that there is memory for.
+-- `fresh` is the list of new flows and `stale` that of old ones, each from its front: RFC 8290's new_flows and old_flows.
 pub record FqState : Type 0 where
   pub settings : FqSettings
   pub flows : List Flow
   pub fresh : List Entry
   pub stale : List Entry
+
+-- what a contract sees of an fq_codel: its state, and how many packets it has memory for
+pub record FqView : Type 0 where
+  pub state : FqState
   pub places : ℕ
 
 abbrev pub queues : List Flow → List (List Stamped)
@@ -54,13 +57,12 @@ abbrev pub first_flow : FqSettings → Flow
 first_flow settings = record { queue = []; codel = at_first settings.target settings.interval settings.mtu settings.ecn }
 
 -- an fq_codel without packets that has sent nothing yet
-abbrev pub first_state : FqSettings → ℕ → FqState
-first_state settings places = record {
+abbrev pub first_state : FqSettings → FqState
+first_state settings = record {
   settings = settings;
   flows = replicate settings.flows (first_flow settings);
   fresh = [];
   stale = [];
-  places = places;
 }
 
 -- a flow that was met empty, with credits

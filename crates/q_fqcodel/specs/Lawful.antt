@@ -2,7 +2,7 @@
 -- RFC 8290, section 4: a flow is in the new list, in the old one, or in neither.
 use Rattle.std.specs.Prelude.{◌≡◌, ℕ, ◌+◌, ◌<◌, ◌≤◌, ◌^◌, false, ◌==◌, List, ◌++◌, length, count_by}
 use Rattle.q_fqcodel.specs.FqState.{FqState, is_idle, packets_of}
-use Rattle.q_fqcodel.specs.declared.entry.Entry.{Entry}
+use Rattle.q_fqcodel.specs.Entry.{Entry}
 
 -- how often a flow stands in a list
 abbrev pub times : ℕ → List Entry → ℕ

@@ -1,4 +1,5 @@
 pub mod Cleared
+pub mod Entry
 pub mod FlowsState
 pub mod FqState
 pub mod Lawful
@@ -8,6 +9,7 @@ pub mod Pool
 pub mod PoolKept
 pub mod Put
 pub mod Quanta
+pub mod QuantaGiven
 pub mod Ranges
 pub mod Selection
 pub mod Take

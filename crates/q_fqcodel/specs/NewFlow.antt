@@ -6,7 +6,7 @@ use Rattle.q_fqcodel.specs.FqState.{FqState, is_idle, packets_of}
 use Rattle.q_fqcodel.specs.Lawful.{IsLawful}
 use Rattle.q_fqcodel.specs.Put.{flow_of, is_listed, after_put}
 use Rattle.q_fqcodel.specs.Take.{selected, front, after_sending}
-use Rattle.q_fqcodel.specs.declared.entry.Entry.{Entry}
+use Rattle.q_fqcodel.specs.Entry.{Entry}
 
 -- the flow is in the list, with credits
 abbrev pub HasCredits : ℕ → List Entry → Type 0

@@ -2,7 +2,7 @@
 -- RFC 8290, section 4.2: a visited flow without credits gets one quantum, and an empty old flow with credits leaves.
 use Rattle.std.specs.Prelude.{ℕ, suc, ◌*◌, pos, ◌+ℤ◌, int_lt, unsigned_abs, nat_lt, nat_le, List, map, filter}
 use Rattle.q_packet.specs.Least.{least}
-use Rattle.q_fqcodel.specs.declared.entry.Entry.{Entry}
+use Rattle.q_fqcodel.specs.Entry.{Entry}
 
 -- the least number of quanta that makes the flow's credits positive
 unfoldable pub need : ℕ → Entry → ℕ

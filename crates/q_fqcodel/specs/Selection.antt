@@ -1,13 +1,9 @@
 -- Which flow sends next, and what the lists of new and old flows are then, by numbers of quanta and not by rounds.
 -- RFC 8290, section 4.2. `idle n` says that flow n is empty; `gone` are the flows that left a list empty, with credits.
-use Rattle.std.specs.Prelude.{ℕ, zero, suc, Bool, if◌then◌else◌, nat_le, ◌==◌, List, [], ◌∷◌, ◌++◌, map, take, drop, Option, Some, None}
+use Rattle.std.specs.Prelude.{ℕ, zero, suc, Bool, if◌then◌else◌, ◌==◌, List, [], ◌∷◌, ◌++◌, map, take, drop, Option, Some, None}
+use Rattle.q_packet.specs.Choice.{Choice, choose}
 use Rattle.q_fqcodel.specs.Quanta.{need, given, stay, leave}
-use Rattle.q_fqcodel.specs.declared.entry.Entry.{Entry}
-
--- how many quanta the chosen flow gets, and where in the list it stands
-pub record Choice : Type 0 where
-  pub rounds : ℕ
-  pub place : ℕ
+use Rattle.q_fqcodel.specs.Entry.{Entry}
 
 -- both lists, and the flows that left one empty
 pub record Lists : Type 0 where
@@ -15,20 +11,9 @@ pub record Lists : Type 0 where
   pub stale : List Entry
   pub gone : List ℕ
 
--- a choice one place further back
-unfoldable pub later : Option Choice → Option Choice
-later None = None
-later (Some c) = Some (record { rounds = c.rounds; place = suc c.place })
-
--- the flow in front, which needs n quanta, unless one behind it needs fewer
-unfoldable pub sooner : ℕ → Option Choice → Choice
-sooner n None = record { rounds = n; place = 0 }
-sooner n (Some c) = if nat_le n c.rounds then record { rounds = n; place = 0 } else record { rounds = c.rounds; place = suc c.place }
-
 -- of the flows that are not empty, the one that needs fewest quanta, of equals the first
-unfoldable pub choose : ℕ → (ℕ → Bool) → List Entry → Option Choice
-choose quantum idle [] = None
-choose quantum idle (e ∷ es) = if idle e.flow then later (choose quantum idle es) else Some (sooner (need quantum e) (choose quantum idle es))
+unfoldable pub chosen : ℕ → (ℕ → Bool) → List Entry → Option Choice
+chosen quantum idle es = choose (map (λ (e : Entry). if idle e.flow then None else Some (need quantum e)) es)
 
 -- The old list once the chosen flow is in front: those that stood before it are visited once more than it and those
 -- behind it, and stand at the end. With none to choose, all leave.
@@ -51,7 +36,7 @@ moved quantum e = if need quantum e == 0 then e else given quantum 1 e
 
 -- the lists where the new one begins with its first ready flow, or is empty
 unfoldable pub with_rest : ℕ → (ℕ → Bool) → List Entry → List Entry → Lists
-with_rest quantum idle [] stale = turned quantum stale (choose quantum idle stale)
+with_rest quantum idle [] stale = turned quantum stale (chosen quantum idle stale)
 with_rest quantum idle (e ∷ es) stale = record { fresh = e ∷ es; stale = stale; gone = [] }
 
 -- Both lists once the flow that sends is in front of the new one, or of the old one where the new one is empty; both

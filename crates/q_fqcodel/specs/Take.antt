@@ -7,7 +7,7 @@ use Rattle.q_codel.specs.declared.taken.Taken.{Taken}
 use Rattle.q_fqcodel.specs.Cleared.{adjust, clear}
 use Rattle.q_fqcodel.specs.Selection.{arranged}
 use Rattle.q_fqcodel.specs.FqState.{Flow, FqState, is_idle, rested_flow}
-use Rattle.q_fqcodel.specs.declared.entry.Entry.{Entry}
+use Rattle.q_fqcodel.specs.Entry.{Entry}
 
 -- the state once the flow that sends is in front, and before it sends
 unfoldable pub selected : FqState → FqState

@@ -1,10 +1,10 @@
--- One look at the front of the new or the old list, at which nothing is sent.
--- RFC 8290, section 4.2: the selection starts again.
-use Rattle.std.specs.Prelude.{◌≡◌, ℕ, suc, ◌+◌, ◌<◌, sum_by}
+-- One look at the front of the new or the old list: either the flow there sends, or the selection starts again.
+-- RFC 8290, section 4.2.
+use Rattle.std.specs.Prelude.{◌≡◌, ℕ, suc, ◌+◌, ◌<◌, ◌<ℤ◌, pos, false, IfSome, sum_by}
+use Rattle.q_fqcodel.specs.Entry.{Entry}
 use Rattle.q_fqcodel.specs.Quanta.{need}
-use Rattle.q_fqcodel.specs.FqState.{FqState, packets_of}
-use Rattle.q_fqcodel.specs.Take.{selected}
-use Rattle.q_fqcodel.specs.declared.entry.Entry.{Entry}
+use Rattle.q_fqcodel.specs.FqState.{FqState, is_idle, packets_of}
+use Rattle.q_fqcodel.specs.Take.{selected, front}
 
 -- the work left before a flow sends: each look at the front lowers it
 unfoldable pub turns : FqState → ℕ
@@ -17,3 +17,9 @@ pub record GoesOn (s t : FqState) : Type 0 where
   pub same : selected t ≡ selected s
   pub fewer : turns t < turns s
   pub packets : packets_of t.flows ≡ packets_of s.flows
+
+-- the flow in front is the one that sends, or no flow is listed
+pub record IsSettled (s : FqState) : Type 0 where
+  pub chosen : selected s ≡ s
+  pub credits : IfSome (front s) (λ e. pos 0 <ℤ e.credits)
+  pub busy : IfSome (front s) (λ e. is_idle s.flows e.flow ≡ false)

@@ -1,8 +1,59 @@
-/// A place in the list of new or of old flows (RFC 8290, section 4.2).
-#[derive(Clone, Copy, PartialEq, Eq, Debug)]
-pub struct Entry {
+ghost use Rattle.std.specs.Prelude.{◌≡◌, ◌-ℤ◌, ◌<ℤ◌, ◌≤ℤ◌, pos};
+ghost use Rattle.q_fqcodel.specs.Quanta.{given};
+
+use std::marker::Model;
+
+/// A flow in the list of new or of old flows (RFC 8290, section 4.2).
+///
+/// A contract sees it as the record `Entry` of the fields.
+#[derive(Clone, Copy)]
+pub(crate) struct Entry {
     /// The flow's index, below the number of flows.
     pub flow: u32,
     /// The bytes that the flow may still send in this round; at most 0 means that it has to wait for a quantum.
     pub credits: i64,
+}
+
+impl Model for Entry {
+    ghost use Rattle.q_fqcodel.specs.Entry.{Entry};
+
+    ghost Value = { Entry };
+
+    ghost view = { λ e. record { flow = e.flow; credits = e.credits } };
+
+    ghost inverse = { λ e. record { flow = e.flow; credits = e.credits } };
+}
+
+impl Entry {
+    /// A flow that becomes new, with one quantum.
+    pub(crate) fn first(flow: u32, quantum: u32) -> Entry
+        ensures { result ≡ record { flow = flow; credits = pos quantum } }
+    {
+        Entry {
+            flow,
+            credits: quantum as i64,
+        }
+    }
+
+    /// The flow with one quantum more.
+    pub(crate) fn granted(self, quantum: u32) -> Entry
+        requires { self.credits ≤ℤ pos 0 }
+        ensures { result ≡ given quantum 1 self }
+    {
+        Entry {
+            flow: self.flow,
+            credits: self.credits + quantum as i64,
+        }
+    }
+
+    /// The flow once it has sent a packet of so many bytes.
+    pub(crate) fn charged(self, len: u16) -> Entry
+        requires { pos 0 <ℤ self.credits }
+        ensures { result ≡ record self { credits = self.credits -ℤ pos len } }
+    {
+        Entry {
+            flow: self.flow,
+            credits: self.credits - len as i64,
+        }
+    }
 }

@@ -1,6 +1,5 @@
-ghost use Rattle.std.specs.Prelude.{◌≡◌, ◌+◌, ◌<◌, ◌≤◌, ◌↔◌, ◌==◌, [], ◌++◌, length, IsSome, IsOk, IfSome, IfNone, IfOk, OnSome, OnOk, OnErr};
+ghost use Rattle.std.specs.Prelude.{◌≡◌, ◌+◌, ◌<◌, ◌≤◌, ◌↔◌, ◌==◌, [], ◌∷◌, ◌++◌, length, set, slice_get, pos, true, false, if◌then◌else◌, IsSome, IsOk, IfOk, OnOk, OnErr};
 ghost use Rattle.q_packet.specs.Totals.{count};
-ghost use Rattle.std.specs.Prelude.{◌∷◌, pos, false, if◌then◌else◌};
 ghost use Rattle.std.specs.VecDeque.{deque_len, deque_capacity};
 ghost use Rattle.q_codel.specs.Codel.{at_first};
 ghost use Rattle.q_codel.specs.Losses.{losses_of};
@@ -17,7 +16,8 @@ use std::marker::Model;
 
 /// FQ-CoDel (RFC 8290): flows that share a link by quanta, each managed by CoDel.
 ///
-/// A contract sees it as the record `FqState`: the settings, the flows by index, and the lists of new and old flows.
+/// A contract sees it as the record `FqView`: its state (`FqState`: the settings, the flows by index, and the lists of new
+/// and old flows), and how many packets it has places for. Memory for packets is taken by [`FqCodel::reserve`] alone.
 #[derive(Drop)]
 pub struct FqCodel {
     settings: Settings,
@@ -29,27 +29,16 @@ pub struct FqCodel {
 impl Model for FqCodel {
     ghost use Rattle.std.specs.Prelude.{◌≤◌};
     ghost use Rattle.std.specs.VecDeque.{deque_capacity};
-    ghost use Rattle.q_fqcodel.specs.FqState.{FqState};
+    ghost use Rattle.q_fqcodel.specs.FqState.{FqView};
+    ghost use Rattle.q_fqcodel.specs.FlowsState.{state_of};
     ghost use Rattle.q_fqcodel.specs.Lawful.{IsLawful};
 
-    ghost Value = { FqState };
+    ghost Value = { FqView };
 
-    ghost view = { λ q. record {
-      settings = q.settings;
-      flows = q.flows.flows;
-      fresh = q.fresh.items;
-      stale = q.stale.items;
-      places = q.flows.places;
-    } };
+    ghost view = { λ q. record { state = state_of q.settings q.flows q.fresh.items q.stale.items; places = q.flows.places } };
 
     ghost invariant = { λ q.
-        IsLawful (record {
-          settings = q.settings;
-          flows = q.flows.flows;
-          fresh = q.fresh.items;
-          stale = q.stale.items;
-          places = q.flows.places;
-        })
+        IsLawful (state_of q.settings q.flows q.fresh.items q.stale.items)
         × (q.settings.flows ≤ deque_capacity q.fresh)
         × (q.settings.flows ≤ deque_capacity q.stale) };
 }
@@ -59,34 +48,26 @@ impl FqCodel {
     ghost use Rattle.std.specs.Prelude.{min};
     ghost use Rattle.q_fqcodel.specs.FqState.{packets_of, bytes_of, all_packets, first_state, after_change};
     ghost use Rattle.q_fqcodel.specs.Put.{after_put, lost_by_put, is_lost_itself};
-    ghost use Rattle.q_fqcodel.specs.Take.{selected, sent_from, dropped_from, after_sending};
+    ghost use Rattle.q_fqcodel.specs.Take.{selected, front, sent_from, dropped_from, after_sending};
     ghost use Rattle.q_fqcodel.specs.Lawful.{IsLawful};
-    ghost use Rattle.q_fqcodel.specs.Turns.{GoesOn};
+    ghost use Rattle.q_fqcodel.specs.Turns.{GoesOn, IsSettled};
 
     /// Takes the next packet to send at the moment `now`, and tells `sink` of those that CoDel drops before it. The answer is
     /// `None` exactly where no flow has a packet. It takes no memory.
     ///
     /// `sink` needs room for as many packets as all flows hold.
     pub fn take<S: Sink>(&mut self, now: Moment, sink: &mut S) -> Option<Taken>
-        requires { packets_of self.old.flows ≤ S.room sink.old }
-        ensures sent { result ≡ sent_from now (selected self.old) }
-        ensures some { IsSome result ↔ (0 < packets_of self.old.flows) }
-        ensures after { self.new ≡ after_sending now (selected self.old) }
-        ensures lost { S.losses sink.new ≡ S.losses sink.old ++ losses_of Cause.CoDel (dropped_from now (selected self.old)) }
-        ensures room { S.room sink.new + count (dropped_from now (selected self.old)) ≡ S.room sink.old }
+        requires { packets_of self.old.state.flows ≤ S.room sink.old }
+        ensures sent { result ≡ sent_from now (selected self.old.state) }
+        ensures some { IsSome result ↔ (0 < packets_of self.old.state.flows) }
+        ensures after { self.new.state ≡ after_sending now (selected self.old.state) }
+        ensures places { self.new.places ≡ self.old.places }
+        ensures lost { S.losses sink.new ≡ S.losses sink.old ++ losses_of Cause.CoDel (dropped_from now (selected self.old.state)) }
+        ensures room { S.room sink.new + count (dropped_from now (selected self.old.state)) ≡ S.room sink.old }
         ensures kept { S.keeps sink.old sink.new }
     {
-        while self.has_new() {
-            if let Some(taken) = self.turn_new(now, sink) {
-                return Some(taken);
-            }
-        }
-        while self.has_old() {
-            if let Some(taken) = self.turn_old(now, sink) {
-                return Some(taken);
-            }
-        }
-        None
+        self.select();
+        self.send_front(now, sink)
     }
 
     /// Puts a packet at the end of its flow, at the moment `now`: the flow with the index `hash mod flows`.
@@ -95,12 +76,13 @@ impl FqCodel {
     /// more than it has, and one packet fewer than there are; `sink` is told of them. The answer says whether the packet
     /// that was put is itself among them. It takes no memory: [`FqCodel::reserve`] makes the place.
     pub fn put<S: Sink>(&mut self, packet: Packet, now: Moment, sink: &mut S) -> bool
-        requires place { packets_of self.old.flows < self.old.places }
-        requires room { min self.old.settings.drop_batch (packets_of self.old.flows + 1) ≤ S.room sink.old }
-        ensures answer { result ≡ is_lost_itself self.old packet now }
-        ensures after { self.new ≡ after_put self.old packet now }
-        ensures lost { S.losses sink.new ≡ S.losses sink.old ++ losses_of Cause.FatFlow (lost_by_put self.old packet now) }
-        ensures room { S.room sink.new + count (lost_by_put self.old packet now) ≡ S.room sink.old }
+        requires place { packets_of self.old.state.flows < self.old.places }
+        requires room { min self.old.state.settings.drop_batch (packets_of self.old.state.flows + 1) ≤ S.room sink.old }
+        ensures answer { result ≡ is_lost_itself self.old.state packet now }
+        ensures after { self.new.state ≡ after_put self.old.state packet now }
+        ensures places { self.new.places ≡ self.old.places }
+        ensures lost { S.losses sink.new ≡ S.losses sink.old ++ losses_of Cause.FatFlow (lost_by_put self.old.state packet now) }
+        ensures room { S.room sink.new + count (lost_by_put self.old.state packet now) ≡ S.room sink.old }
         ensures kept { S.keeps sink.old sink.new }
     {
         let settings = self.settings;
@@ -119,18 +101,18 @@ impl FqCodel {
 
     /// Makes a place for one packet more.
     pub fn reserve(&mut self) -> Result<(), AllocError>
-        ensures ok { OnOk result (packets_of self.new.flows < self.new.places) }
-        ensures rest { self.new ≡ record self.old { places = self.new.places } }
+        ensures ok { OnOk result (packets_of self.new.state.flows < self.new.places) }
+        ensures state { self.new.state ≡ self.old.state }
         ensures grows { self.old.places ≤ self.new.places }
         ensures err { OnErr result (self.new ≡ self.old) }
-        ensures succeeds { packets_of self.old.flows < self.old.places → IsOk result }
+        ensures succeeds { packets_of self.old.state.flows < self.old.places → IsOk result }
     {
         self.flows.reserve()
     }
 
     /// An fq_codel with these settings and without packets. It takes all memory but the places for packets.
     pub fn new(alloc: Global, settings: Settings) -> Result<FqCodel, AllocError>
-        ensures { IfOk result (λ q. q ≡ first_state settings q.places) }
+        ensures { IfOk result (λ q. q.state ≡ first_state settings) }
     {
         let flows = Flows::new(alloc, settings.flows, first_codel(settings))?;
         let fresh = VecDeque::with_capacity(alloc, settings.flows as usize)?;
@@ -145,9 +127,10 @@ impl FqCodel {
 
     /// Changes the settings, all but the number of flows and the mtu. It loses nothing; credits and what CoDel knows stay.
     pub fn change(&mut self, settings: Settings)
-        requires flows { settings.flows ≡ self.old.settings.flows }
-        requires mtu { settings.mtu ≡ self.old.settings.mtu }
-        ensures { self.new ≡ after_change self.old settings }
+        requires flows { settings.flows ≡ self.old.state.settings.flows }
+        requires mtu { settings.mtu ≡ self.old.state.settings.mtu }
+        ensures after { self.new.state ≡ after_change self.old.state settings }
+        ensures places { self.new.places ≡ self.old.places }
     {
         self.settings = settings;
         self.flows
@@ -156,10 +139,11 @@ impl FqCodel {
 
     /// Loses every packet, flow by flow, each from its front. The flows, the lists and their credits are then as at first.
     pub fn purge<S: Sink>(&mut self, sink: &mut S)
-        requires { packets_of self.old.flows ≤ S.room sink.old }
-        ensures after { self.new ≡ first_state self.old.settings self.old.places }
-        ensures lost { S.losses sink.new ≡ S.losses sink.old ++ losses_of Cause.Purged (all_packets self.old.flows) }
-        ensures room { S.room sink.new + packets_of self.old.flows ≡ S.room sink.old }
+        requires { packets_of self.old.state.flows ≤ S.room sink.old }
+        ensures after { self.new.state ≡ first_state self.old.state.settings }
+        ensures places { self.new.places ≡ self.old.places }
+        ensures lost { S.losses sink.new ≡ S.losses sink.old ++ losses_of Cause.Purged (all_packets self.old.state.flows) }
+        ensures room { S.room sink.new + packets_of self.old.state.flows ≡ S.room sink.old }
         ensures kept { S.keeps sink.old sink.new }
     {
         self.flows.purge(first_codel(self.settings), sink);
@@ -171,111 +155,162 @@ impl FqCodel {
     ///
     /// Every fq_codel is lawful: its lists hold each flow at most once in all, and each flow that has a packet.
     pub fn queued(&self) -> (u64, u64)
-        ensures packets { result.0 ≡ packets_of self.now.flows }
-        ensures bytes { result.1 ≡ bytes_of self.now.flows }
-        ensures lawful { IsLawful self.now }
+        ensures packets { result.0 ≡ packets_of self.now.state.flows }
+        ensures bytes { result.1 ≡ bytes_of self.now.state.flows }
+        ensures lawful { IsLawful self.now.state }
     {
         (self.flows.count(), self.flows.bytes())
     }
 
     /// The settings as they are now.
     pub fn settings(&self) -> Settings
-        ensures { result ≡ self.now.settings }
+        ensures { result ≡ self.now.state.settings }
     {
         self.settings
     }
 
+    // Brings the flow that sends next to the front of its list.
+    fn select(&mut self)
+        ensures state { self.new.state ≡ selected self.old.state }
+        ensures places { self.new.places ≡ self.old.places }
+        ensures settled { IsSettled self.new.state }
+        ensures packets { packets_of self.new.state.flows ≡ packets_of self.old.state.flows }
+    {
+        // A new flow goes before every old one: so a sparse flow waits for no bulk flow.
+        while self.has_new() {
+            if self.turn_new() {
+                return;
+            }
+        }
+        while self.has_old() {
+            if self.turn_old() {
+                return;
+            }
+        }
+    }
+
     fn has_new(&self) -> bool
-        ensures { result ≡ not (length self.now.fresh == 0) }
+        ensures { result ≡ not (length self.now.state.fresh == 0) }
     {
         !self.fresh.is_empty()
     }
 
     fn has_old(&self) -> bool
-        ensures value { result ≡ not (length self.now.stale == 0) }
-        ensures lawful { IsLawful self.now }
+        ensures { result ≡ not (length self.now.state.stale == 0) }
     {
         !self.stale.is_empty()
     }
 
-    // Looks at the front of the new list.
-    fn turn_new<S: Sink>(&mut self, now: Moment, sink: &mut S) -> Option<Taken>
-        requires waiting { 0 < length self.old.fresh }
-        requires room { packets_of self.old.flows ≤ S.room sink.old }
-        ensures sent { IsSome result → result ≡ sent_from now (selected self.old) }
-        ensures after { IsSome result → self.new ≡ after_sending now (selected self.old) }
-        ensures lost { IsSome result → S.losses sink.new ≡ S.losses sink.old ++ losses_of Cause.CoDel (dropped_from now (selected self.old)) }
-        ensures room { IsSome result → S.room sink.new + count (dropped_from now (selected self.old)) ≡ S.room sink.old }
-        ensures kept { S.keeps sink.old sink.new }
-        ensures some { IsSome result → 0 < packets_of self.old.flows }
-        ensures on { IfNone result (GoesOn self.old self.new) }
-        ensures same_losses { IfNone result (S.losses sink.new ≡ S.losses sink.old) }
-        ensures same_room { IfNone result (S.room sink.new ≡ S.room sink.old) }
+    // Whether the flow in front of the new list sends; where it does not, it goes to the end of the old list.
+    fn turn_new(&mut self) -> bool
+        requires { 0 < length self.old.state.fresh }
+        ensures stays { result ≡ true → self.new ≡ self.old }
+        ensures settled { result ≡ true → IsSettled self.new.state }
+        ensures on { result ≡ false → GoesOn self.old.state self.new.state }
+        ensures places { self.new.places ≡ self.old.places }
     {
         let settings = self.settings;
         let entry = self.fresh[0];
+        // Its quantum is spent: it is given the next, and is new no longer.
         if entry.credits <= 0 {
-            let credits = entry.credits + settings.quantum as i64;
             let _ = self.fresh.pop_front();
-            self.stale.push_back_reserved(Entry {
-                flow: entry.flow,
-                credits,
-            });
-            return None;
+            self.stale
+                .push_back_reserved(entry.granted(settings.quantum));
+            return false;
         }
+        // Emptied, it goes to the old list too: were it forgotten, its next packet would make it new at once, and a flow
+        // that sends a packet at a time would go before the old flows for ever.
         if self.flows.is_idle(entry.flow) {
             self.flows.rest(entry.flow);
             let _ = self.fresh.pop_front();
             self.stale.push_back_reserved(entry);
-            return None;
+            return false;
         }
-        let taken = self.flows.send(entry.flow, now, sink).unwrap();
-        let packet = taken.packet;
-        self.fresh[0] = Entry {
-            flow: entry.flow,
-            credits: entry.credits - packet.len as i64,
+        true
+    }
+
+    // Whether the flow in front of the old list sends, where the new one is empty; where it does not, it goes to the end or
+    // leaves.
+    fn turn_old(&mut self) -> bool
+        requires no_new { self.old.state.fresh ≡ [] }
+        requires waiting { 0 < length self.old.state.stale }
+        ensures stays { result ≡ true → self.new ≡ self.old }
+        ensures settled { result ≡ true → IsSettled self.new.state }
+        ensures on { result ≡ false → GoesOn self.old.state self.new.state }
+        ensures no_new { self.new.state.fresh ≡ [] }
+        ensures places { self.new.places ≡ self.old.places }
+    {
+        let settings = self.settings;
+        let entry = self.stale[0];
+        // Its quantum is spent: it is given the next, and the others have their turn before it.
+        if entry.credits <= 0 {
+            let _ = self.stale.pop_front();
+            self.stale
+                .push_back_reserved(entry.granted(settings.quantum));
+            return false;
+        }
+        // It has been empty for a round: its next packet may make it new again.
+        if self.flows.is_idle(entry.flow) {
+            self.flows.rest(entry.flow);
+            let _ = self.stale.pop_front();
+            return false;
+        }
+        true
+    }
+
+    // Lets the flow in front send by CoDel's law, and pay for the packet.
+    fn send_front<S: Sink>(&mut self, now: Moment, sink: &mut S) -> Option<Taken>
+        requires settled { IsSettled self.old.state }
+        requires room { packets_of self.old.state.flows ≤ S.room sink.old }
+        ensures sent { result ≡ sent_from now self.old.state }
+        ensures some { IsSome result ↔ (0 < packets_of self.old.state.flows) }
+        ensures after { self.new.state ≡ after_sending now self.old.state }
+        ensures places { self.new.places ≡ self.old.places }
+        ensures lost { S.losses sink.new ≡ S.losses sink.old ++ losses_of Cause.CoDel (dropped_from now self.old.state) }
+        ensures room { S.room sink.new + count (dropped_from now self.old.state) ≡ S.room sink.old }
+        ensures kept { S.keeps sink.old sink.new }
+    {
+        let Some(front) = self.front() else {
+            return None;
         };
+        let taken = self.flows.send(front.flow, now, sink).unwrap();
+        // CoDel's drops cost the flow nothing: only what is sent does.
+        let packet = taken.packet;
+        write_front(&mut self.fresh, &mut self.stale, front.charged(packet.len));
         Some(taken)
     }
 
-    // Looks at the front of the old list, where the new one is empty.
-    fn turn_old<S: Sink>(&mut self, now: Moment, sink: &mut S) -> Option<Taken>
-        requires no_new { self.old.fresh ≡ [] }
-        requires waiting { 0 < length self.old.stale }
-        requires room { packets_of self.old.flows ≤ S.room sink.old }
-        ensures sent { IsSome result → result ≡ sent_from now (selected self.old) }
-        ensures after { IsSome result → self.new ≡ after_sending now (selected self.old) }
-        ensures lost { IsSome result → S.losses sink.new ≡ S.losses sink.old ++ losses_of Cause.CoDel (dropped_from now (selected self.old)) }
-        ensures room { IsSome result → S.room sink.new + count (dropped_from now (selected self.old)) ≡ S.room sink.old }
-        ensures kept { S.keeps sink.old sink.new }
-        ensures some { IsSome result → 0 < packets_of self.old.flows }
-        ensures on { IfNone result (GoesOn self.old self.new) }
-        ensures no_new { IfNone result (self.new.fresh ≡ []) }
-        ensures same_losses { IfNone result (S.losses sink.new ≡ S.losses sink.old) }
-        ensures same_room { IfNone result (S.room sink.new ≡ S.room sink.old) }
+    // The flow in front: of the new list, or of the old one where the new one is empty.
+    fn front(&self) -> Option<Entry>
+        ensures value { result ≡ front self.now.state }
+        ensures lawful { IsLawful self.now.state }
     {
-        let settings = self.settings;
-        let front = self.stale[0];
-        if front.credits <= 0 {
-            self.stale[0] = Entry {
-                flow: front.flow,
-                credits: front.credits + settings.quantum as i64,
-            };
-            self.stale.rotate_left(1);
-            return None;
+        if self.has_new() {
+            return first(&self.fresh);
         }
-        if self.flows.is_idle(front.flow) {
-            self.flows.rest(front.flow);
-            let _ = self.stale.pop_front();
-            return None;
-        }
-        let taken = self.flows.send(front.flow, now, sink).unwrap();
-        let packet = taken.packet;
-        self.stale[0] = Entry {
-            flow: front.flow,
-            credits: front.credits - packet.len as i64,
-        };
-        Some(taken)
+        first(&self.stale)
+    }
+}
+
+// The flow in front of a list.
+fn first(list: &VecDeque<Entry>) -> Option<Entry>
+    ensures { result ≡ slice_get list.now.items 0 }
+{
+    list.front().copied()
+}
+
+// Writes the flow in front: of the new list, or of the old one where the new one is empty.
+fn write_front(fresh: &mut VecDeque<Entry>, stale: &mut VecDeque<Entry>, entry: Entry)
+    requires { 0 < deque_len fresh.old + deque_len stale.old }
+    ensures fresh { fresh.new.items ≡ set fresh.old.items 0 entry }
+    ensures stale { stale.new.items ≡ (if length fresh.old.items == 0 then set stale.old.items 0 entry else stale.old.items) }
+    ensures fresh_capacity { deque_capacity fresh.new ≡ deque_capacity fresh.old }
+    ensures stale_capacity { deque_capacity stale.new ≡ deque_capacity stale.old }
+{
+    if fresh.is_empty() {
+        stale[0] = entry;
+    } else {
+        fresh[0] = entry;
     }
 }
 
@@ -301,10 +336,7 @@ fn enlist(fresh: &mut VecDeque<Entry>, stale: &VecDeque<Entry>, flow: u32, quant
     if stands_in(fresh, flow) || stands_in(stale, flow) {
         return;
     }
-    fresh.push_back_reserved(Entry {
-        flow,
-        credits: quantum as i64,
-    });
+    fresh.push_back_reserved(Entry::first(flow, quantum));
 }
 
 // Whether a flow is in this list.

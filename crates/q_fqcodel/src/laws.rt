@@ -1,7 +1,7 @@
 //! Laws of the definitions that the calls of [`FqCodel`](crate::FqCodel) equal.
 //!
 //! Each function does nothing. Its contract is a law, stated in `specs/Laws.antt` and `specs/NewFlow.antt`, for every state, packet and moment.
-ghost use Rattle.q_fqcodel.specs.Laws.{PutKeepsAll, TakeKeepsAll, GivesTheHead, PutLeavesOne};
+ghost use Rattle.q_fqcodel.specs.Laws.{PutKeepsAll, TakeKeepsAll, GivesTheHead, PutLeavesOne, CreditsByQuanta, QuantaByPlace, LostByPlace, LostIsLast, SelectionKeepsPackets, PutKeepsLawful, TakeKeepsLawful, ChangeKeepsLawful, FirstIsLawful};
 ghost use Rattle.q_fqcodel.specs.NewFlow.{BecomesNew, NewBeforeOld};
 
 /// A put makes and loses nothing: what was queued and what is put are what is queued then and what is lost.
@@ -34,4 +34,50 @@ pub fn becomes_new()
 /// number of takes.
 pub fn new_before_old()
     ensures { NewBeforeOld }
+{}
+
+/// A flow that is listed before the selection and after it has its credits, and a quantum for each that it was given.
+pub fn credits_by_quanta()
+    ensures { CreditsByQuanta }
+{}
+
+/// As the old list turns, a flow with packets that stands in front of the chosen one is given one quantum more than the chosen
+/// one, and a flow behind it as many.
+pub fn quanta_by_place()
+    ensures { QuantaByPlace }
+{}
+
+/// A packet that was put is lost itself exactly where its own flow is the fat one, and loses as many as reach its place.
+pub fn lost_by_place()
+    ensures { LostByPlace }
+{}
+
+/// Where no packet like it was queued, it is lost itself exactly where it is the last of those lost.
+pub fn lost_is_last()
+    ensures { LostIsLast }
+{}
+
+/// The selection moves no packet, and changes what CoDel knows of a flow only as a rest does.
+pub fn selection_keeps_packets()
+    ensures { SelectionKeepsPackets }
+{}
+
+/// A put keeps the state lawful, where every packet has a byte.
+pub fn put_keeps_lawful()
+    ensures { PutKeepsLawful }
+{}
+
+/// A take keeps the state lawful, and so does its selection alone.
+pub fn take_keeps_lawful()
+    ensures { TakeKeepsLawful }
+{}
+
+/// A change of the settings that leaves the number of flows keeps the state lawful.
+pub fn change_keeps_lawful()
+    ensures { ChangeKeepsLawful }
+{}
+
+/// A new fq_codel is lawful, and so is one that was purged.
+pub fn first_is_lawful()
+    ensures { FirstIsLawful }
 {}

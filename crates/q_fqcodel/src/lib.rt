@@ -27,7 +27,6 @@ pub mod laws;
 mod pool;
 mod settings;
 
-pub use entry::Entry;
 pub use fq_codel::FqCodel;
 pub use settings::Settings;
 

@@ -6,7 +6,8 @@ use Rattle.q_packet.specs.declared.stamped.Stamped.{Stamped}
 use Rattle.q_packet.specs.declared.cause.Cause.TheVariants.{FatFlow}
 use Rattle.q_codel.specs.Losses.{losses_of}
 use Rattle.q_fqcodel.specs.Cleared.{adjust}
-use Rattle.q_fqcodel.specs.FqState.{FqSettings, Flow, FqState, queue_of, is_idle, packets_of}
+use Rattle.q_fqcodel.specs.FlowsState.{state_of}
+use Rattle.q_fqcodel.specs.FqState.{FqSettings, Flow, FqState, FqView, queue_of, is_idle, packets_of}
 use Rattle.q_fqcodel.specs.Put.{flow_of, joined, shortened, appended, fattest, shed_count, cut_back, shed, lost_by_put}
 use Rattle.q_fqcodel.proofs.FlowLemmas.{length-adjust}
 use Rattle.q_fqcodel.proofs.PutLemmas.{place_for, listed-not, packets-joined, packets-shortened, busy_put, busy_shed, appended-is, cut-none, cut-some, shed-none, shed-some, lost-none, lost-some, shed-within, shed-batch, shed-positive, lawful_put}
@@ -15,17 +16,14 @@ use Rattle.q_fqcodel.proofs.fq_codel.FqCodel.put.Goals.{After-push}
 
 -- the state as it was opened
 abbrev opened : (g : _) → After-push g → FqState
-opened g c = record {
-  settings = c.self.inside.settings;
-  flows = c.self.inside.flows.flows;
-  fresh = c.self.inside.fresh.items;
-  stale = c.self.inside.stale.items;
-  places = c.self.inside.flows.places;
-}
+opened g c = state_of c.self.inside.settings c.self.inside.flows c.self.inside.fresh.items c.self.inside.stale.items
+
+opened_is : (g : _) (c : After-push g) → opened g c ≡ c.args.self.now.state
+opened_is g c = ap (λ (v : FqView). v.state) c.self.view_is
 
 -- the state once the packet has joined its flow
 abbrev fuller : (g : _) → After-push g → FqState
-fuller g c = record (opened g c) { flows = c.push.new.self.flows; fresh = c.enlist.new.fresh.items; places = c.push.new.self.places }
+fuller g c = record (opened g c) { flows = c.push.new.self.flows; fresh = c.enlist.new.fresh.items }
 
 abbrev own : (g : _) → After-push g → ℕ
 own g c = c.packet.inside.hash % c.settings.inside.flows
@@ -38,13 +36,12 @@ within g c =
     let count : c.settings.inside.flows ≡ c.self.inside.settings.flows = ap (λ (x : FqSettings). x.flows) c.settings.view_is in
     omega (arith, count, c.settings.invariant.flows_low, c.self.invariant.0.each_flow)
 
-fuller_is : (g : _) (c : After-push g) → fuller g c ≡ appended c.args.self.now c.args.packet c.args.now
+fuller_is : (g : _) (c : After-push g) → fuller g c ≡ appended c.args.self.now.state c.args.packet c.args.now
 fuller_is g c =
     let s = opened g c in
-    ap (λ (p : ℕ). record s { flows = c.push.new.self.flows; fresh = c.enlist.new.fresh.items; places = p }) c.push.ensures.places
-    ∙ appended-is s c.args.packet c.args.now (own g c) c.settings.inside.quantum c.push.new.self.flows c.enlist.new.fresh.items (own_is g c)
+    appended-is s c.args.packet c.args.now (own g c) c.settings.inside.quantum c.push.new.self.flows c.enlist.new.fresh.items (own_is g c)
     (ap (λ (x : FqSettings). x.quantum) c.settings.view_is) c.push.ensures.flows c.enlist.ensures.items
-    ∙ ap (λ (x : FqState). appended x c.args.packet c.args.now) c.self.view_is
+    ∙ ap (λ (x : FqState). appended x c.args.packet c.args.now) (opened_is g c)
 
 -- one packet more than before
 more : (g : _) (c : After-push g) → packets_of c.push.new.self.flows ≡ packets_of c.self.inside.flows.flows + 1
@@ -52,13 +49,7 @@ more g c = ap packets_of c.push.ensures.flows ∙ packets-joined (record { packe
 
 pub enlist-requires : goal.enlist-requires
 enlist-requires g c =
-    let s : FqState = record {
-      settings = c.self.inside.settings;
-      flows = c.self.inside.flows.flows;
-      fresh = c.self.inside.fresh.items;
-      stale = c.self.inside.stale.items;
-      places = c.self.inside.flows.places;
-    } in
+    let s : FqState = state_of c.self.inside.settings c.self.inside.flows c.self.inside.fresh.items c.self.inside.stale.items in
     let n : ℕ = c.packet.inside.hash % c.settings.inside.flows in
     let count : c.settings.inside.flows ≡ s.settings.flows = ap (λ (x : FqSettings). x.flows) c.settings.view_is in
     let low : n < s.settings.flows = omega (arith, count, c.settings.invariant.flows_low) in
@@ -89,11 +80,11 @@ pub returns-then-count-settings-clause-answer : goal.returns-then-count-settings
 returns-then-count-settings-clause-answer g c =
     let at = (goal.at.returns-then-count-settings-clause-answer g c).After-push in
     let limit : c.settings.inside.limit ≡ c.self.inside.settings.limit = ap (λ (x : FqSettings). x.limit) c.settings.view_is in
-    sym (lost-none c.args.self.now (fuller g at) c.args.packet c.args.now (own g at) (record { packet = c.args.packet; at = c.args.now }) (fuller_is g at)
-    (own_is g at ∙ ap (λ (x : FqState). flow_of x c.args.packet) c.self.view_is)
+    sym (lost-none c.args.self.now.state (fuller g at) c.args.packet c.args.now (own g at) (record { packet = c.args.packet; at = c.args.now }) (fuller_is g at)
+    (own_is g at ∙ ap (λ (x : FqState). flow_of x c.args.packet) (opened_is g at))
     (omega (arith, c.if-count-settings.true, c.count.ensures, limit))
-    (c.push.ensures.flows ∙ ap (λ (x : FqState). adjust (joined (record { packet = c.args.packet; at = c.args.now })) (own g at) x.flows) c.self.view_is)
-    (omega (arith, within g at, ap (λ (x : FqState). length x.flows) c.self.view_is)))
+    (c.push.ensures.flows ∙ ap (λ (x : FqState). adjust (joined (record { packet = c.args.packet; at = c.args.now })) (own g at) x.flows) (opened_is g at))
+    (omega (arith, within g at, ap (λ (x : FqState). length x.flows) (opened_is g at))))
 
 pub returns-then-count-settings-clause-after : goal.returns-then-count-settings-clause-after
 returns-then-count-settings-clause-after g c =
@@ -105,7 +96,7 @@ pub returns-then-count-settings-clause-lost : goal.returns-then-count-settings-c
 returns-then-count-settings-clause-lost g c =
     let at = (goal.at.returns-then-count-settings-clause-lost g c).After-push in
     let limit : c.settings.inside.limit ≡ c.self.inside.settings.limit = ap (λ (x : FqSettings). x.limit) c.settings.view_is in
-    let none : [] ≡ lost_by_put c.args.self.now c.args.packet c.args.now =
+    let none : [] ≡ lost_by_put c.args.self.now.state c.args.packet c.args.now =
     sym (shed-none (fuller g at) (omega (arith, c.if-count-settings.true, c.count.ensures, limit))) ∙ ap shed (fuller_is g at) in
     sym (append-nil (g.S.Sink.losses c.args.sink.now)) ∙ ap (λ (l : List Stamped). g.S.Sink.losses c.args.sink.now ++ losses_of FatFlow l) none
 
@@ -113,7 +104,7 @@ pub returns-then-count-settings-clause-room : goal.returns-then-count-settings-c
 returns-then-count-settings-clause-room g c =
     let at = (goal.at.returns-then-count-settings-clause-room g c).After-push in
     let limit : c.settings.inside.limit ≡ c.self.inside.settings.limit = ap (λ (x : FqSettings). x.limit) c.settings.view_is in
-    let none : [] ≡ lost_by_put c.args.self.now c.args.packet c.args.now =
+    let none : [] ≡ lost_by_put c.args.self.now.state c.args.packet c.args.now =
     sym (shed-none (fuller g at) (omega (arith, c.if-count-settings.true, c.count.ensures, limit))) ∙ ap shed (fuller_is g at) in
     omega (arith, ap count none)
 
@@ -142,8 +133,8 @@ lose-requires-clause-room g c =
       shed-batch c.push.new.self.flows c.settings.inside.drop_batch,
       more g at,
       c.requires.room,
-      ap (λ (x : FqState). packets_of x.flows) c.self.view_is,
-      ap (λ (x : FqState). x.settings.drop_batch) c.self.view_is,
+      ap (λ (x : FqState). packets_of x.flows) (opened_is g at),
+      ap (λ (x : FqState). x.settings.drop_batch) (opened_is g at),
       ap (λ (x : FqSettings). x.drop_batch) c.settings.view_is,
     )
 
@@ -155,7 +146,7 @@ invariant_of-self-2 g c =
     let p : Stamped = record { packet = c.args.packet; at = c.args.now } in
     let lost : ℕ = c.shed_count-lost.result in
     let fat : ℕ = c.fattest-fat.result in
-    let t : FqState = record (fuller g at) { flows = c.lose.new.self.flows; places = c.lose.new.self.places } in
+    let t : FqState = record (fuller g at) { flows = c.lose.new.self.flows } in
     let held : lost ≤ count (queue_of c.push.new.self.flows fat) =
     omega (arith, c.shed_count-lost.ensures, shed-within c.push.new.self.flows c.settings.inside.drop_batch, ap (λ (n : ℕ). count (queue_of c.push.new.self.flows n)) c.fattest-fat.ensures.value) in
     let two : 2 ≤ packets_of c.push.new.self.flows = omega (arith, c.if-count-settings.false, c.count.ensures, c.settings.invariant.limit_low) in
@@ -180,8 +171,8 @@ returns-clause-answer g c =
     let limit : c.settings.inside.limit ≡ c.self.inside.settings.limit = ap (λ (x : FqSettings). x.limit) c.settings.view_is in
     let batch : c.settings.inside.drop_batch ≡ c.self.inside.settings.drop_batch = ap (λ (x : FqSettings). x.drop_batch) c.settings.view_is in
     c.is_last_among-is_own.ensures
-    ∙ sym (lost-some c.args.self.now (fuller g at) c.args.packet c.args.now (own g at) c.fattest-fat.result c.shed_count-lost.result (fuller_is g at)
-    (own_is g at ∙ ap (λ (x : FqState). flow_of x c.args.packet) c.self.view_is)
+    ∙ sym (lost-some c.args.self.now.state (fuller g at) c.args.packet c.args.now (own g at) c.fattest-fat.result c.shed_count-lost.result (fuller_is g at)
+    (own_is g at ∙ ap (λ (x : FqState). flow_of x c.args.packet) (opened_is g at))
     (omega (arith, c.if-count-settings.false, c.count.ensures, limit))
     c.fattest-fat.ensures.value
     (c.shed_count-lost.ensures ∙ ap (shed_count c.push.new.self.flows) batch))
@@ -192,7 +183,7 @@ returns-clause-after g c =
     let a = fuller g at in
     let limit : c.settings.inside.limit ≡ c.self.inside.settings.limit = ap (λ (x : FqSettings). x.limit) c.settings.view_is in
     let batch : c.settings.inside.drop_batch ≡ c.self.inside.settings.drop_batch = ap (λ (x : FqSettings). x.drop_batch) c.settings.view_is in
-    ap₂ (λ (f : List Flow) (p : ℕ). record a { flows = f; places = p }) c.lose.ensures.flows c.lose.ensures.places
+    ap (λ (f : List Flow). record a { flows = f }) c.lose.ensures.flows
     ∙ sym (cut-some a c.fattest-fat.result c.shed_count-lost.result (omega (arith, c.if-count-settings.false, c.count.ensures, limit)) c.fattest-fat.ensures.value
     (c.shed_count-lost.ensures ∙ ap (shed_count c.push.new.self.flows) batch))
     ∙ ap cut_back (fuller_is g at)
@@ -215,7 +206,7 @@ returns-clause-room g c =
     let batch : c.settings.inside.drop_batch ≡ c.self.inside.settings.drop_batch = ap (λ (x : FqSettings). x.drop_batch) c.settings.view_is in
     let lost : ℕ = c.shed_count-lost.result in
     let q : List Stamped = queue_of c.push.new.self.flows c.fattest-fat.result in
-    let shed_is : take lost q ≡ lost_by_put c.args.self.now c.args.packet c.args.now =
+    let shed_is : take lost q ≡ lost_by_put c.args.self.now.state c.args.packet c.args.now =
     sym (shed-some (fuller g at) c.fattest-fat.result lost (omega (arith, c.if-count-settings.false, c.count.ensures, limit)) c.fattest-fat.ensures.value
     (c.shed_count-lost.ensures ∙ ap (shed_count c.push.new.self.flows) batch))
     ∙ ap shed (fuller_is g at) in

@@ -1,195 +1,115 @@
-use Rattle.std.proofs.Common.{◌≡◌, ℕ, ◌+◌, ◌<◌, ◌≤◌, pos, ◌+ℤ◌, ◌-ℤ◌, ◌≤ℤ◌, ◌<ℤ◌, true, false, List, [], ◌∷◌, ◌++◌, length, set, drop, Some, is_some, refl, sym, ap, ap₂, ◌∙◌, arith, rules, subst, subst₂, SFits, w64, to_z, of_z}
+use Rattle.std.proofs.Common.{◌≡◌, ℕ, ◌≤◌, pos, ◌≤ℤ◌, ◌<ℤ◌, true, false, List, [], ◌∷◌, ◌++◌, length, drop, refl, sym, ap, ap₂, ◌∙◌, arith, subst}
 use Rattle.std.proofs.lemmas.Int.{ints}
-use Rattle.q_packet.specs.Totals.{count}
-use Rattle.q_packet.specs.Descriptor.{Descriptor}
-use Rattle.q_packet.specs.declared.stamped.Stamped.{Stamped}
-use Rattle.q_packet.specs.declared.cause.Cause.TheVariants.{CoDel}
-use Rattle.q_codel.specs.Losses.{losses_of}
 use Rattle.q_fqcodel.specs.Cleared.{adjust}
-use Rattle.q_fqcodel.specs.Quanta.{given}
-use Rattle.q_fqcodel.specs.FqState.{FqSettings, Flow, FqState, queue_of, is_idle, packets_of}
+use Rattle.q_fqcodel.specs.Entry.{Entry}
+use Rattle.q_fqcodel.specs.FlowsState.{state_of}
+use Rattle.q_fqcodel.specs.FqState.{FqSettings, Flow, FqState, FqView, is_idle, rested_flow}
 use Rattle.q_fqcodel.specs.Lawful.{IsLawful}
-use Rattle.q_fqcodel.specs.Turns.{GoesOn}
-use Rattle.q_fqcodel.specs.Take.{selected, sent_from, dropped_from, after_sending, flow_after, paid}
-use Rattle.q_fqcodel.specs.declared.entry.Entry.{Entry}
-use Rattle.q_fqcodel.proofs.FlowLemmas.{packets-at}
-use Rattle.q_fqcodel.proofs.LawfulLemmas.{lawful_moved, lawful_rested, lawful_shrunk, lawful_paid_fresh, front_within}
+use Rattle.q_fqcodel.specs.Turns.{IsSettled}
+use Rattle.q_fqcodel.specs.Quanta.{given}
 use Rattle.q_fqcodel.proofs.QuantaLemmas.{flow-given}
-use Rattle.q_fqcodel.proofs.TurnLemmas.{front_is, given-is, fresh_granted, fresh_moves, fresh_ready}
-use Rattle.q_fqcodel.proofs.SentLemmas.{sent-is, dropped-is, after-fresh, count-after, paid-by}
+use Rattle.q_fqcodel.proofs.LawfulLemmas.{lawful_moved, lawful_rested, front_within}
+use Rattle.q_fqcodel.proofs.TurnLemmas.{front_is, goes_between, settled_at, fresh_granted, fresh_moves, fresh_ready}
 use Rattle.q_fqcodel.proofs.fq_codel.FqCodel.turn_new.Goals as goal
 use Rattle.q_fqcodel.proofs.fq_codel.FqCodel.turn_new.Goals.{After-index-entry, After-push_back_reserved, After-push_back_reserved-then-is_idle}
 
--- the state as it was opened
-abbrev opened : (g : _) → After-index-entry g → FqState
-opened g c = record {
-  settings = c.self.inside.settings;
-  flows = c.self.inside.flows.flows;
-  fresh = c.self.inside.fresh.items;
-  stale = c.self.inside.stale.items;
-  places = c.self.inside.flows.places;
-}
+-- the state as it was opened, the flow in front, and those behind it
+abbrev opened : After-index-entry → FqState
+opened c = state_of c.self.inside.settings c.self.inside.flows c.self.inside.fresh.items c.self.inside.stale.items
 
-at_front : (g : _) (c : After-index-entry g) → c.self.inside.fresh.items ≡ c.index-entry.result.now ∷ drop 1 c.self.inside.fresh.items
-at_front g c =
+abbrev behind : After-index-entry → List Entry
+behind c = drop 1 c.self.inside.fresh.items
+
+opened_is : (c : After-index-entry) → opened c ≡ c.args.self.now.state
+opened_is c = ap (λ (v : FqView). v.state) c.self.view_is
+
+at_front : (c : After-index-entry) → c.self.inside.fresh.items ≡ c.index-entry.result.now ∷ behind c
+at_front c =
     front_is c.self.inside.fresh.items c.index-entry.result.now
-    (omega (arith, c.requires.waiting, ap (λ (s : FqState). length s.fresh) c.self.view_is)) c.index-entry.ensures
+    (omega (arith, c.requires, ap (λ (s : FqState). length s.fresh) (opened_is c))) c.index-entry.ensures
 
--- the first of both lists, and its flow
-first : (g : _) (c : After-index-entry g) → (opened g c).fresh ++ (opened g c).stale ≡ c.index-entry.result.now ∷ (drop 1 c.self.inside.fresh.items ++ c.self.inside.stale.items)
-first g c = ap (λ (l : List Entry). l ++ c.self.inside.stale.items) (at_front g c)
-
-within : (g : _) (c : After-index-entry g) → c.index-entry.result.now.flow < length c.self.inside.flows.flows
-within g c =
-    let s = opened g c in
-    omega (arith, front_within s c.index-entry.result.now (drop 1 c.self.inside.fresh.items ++ s.stale) c.self.invariant.0 (first g c), c.self.invariant.0.each_flow)
+first : (c : After-index-entry) → (opened c).fresh ++ (opened c).stale ≡ c.index-entry.result.now ∷ (behind c ++ c.self.inside.stale.items)
+first c = ap (λ (l : List Entry). l ++ c.self.inside.stale.items) (at_front c)
 
 pub rest-requires : goal.rest-requires
-rest-requires g c = within g (goal.at.rest-requires g c).After-index-entry
+rest-requires c =
+    let at = (goal.at.rest-requires c).After-index-entry in
+    omega (
+      arith,
+      front_within (opened at) c.index-entry.result.now (behind at ++ c.self.inside.stale.items) c.self.invariant.0 (first at),
+      c.self.invariant.0.each_flow,
+      ap (λ (e : Entry). e.flow) c.entry.view_is,
+    )
 
--- the front has no credits, and has one quantum more at the end
-granted : (g : _) (c : After-push_back_reserved g) → c.push_back_reserved.new.self.items ≡ c.self.inside.stale.items ++ given c.self.inside.settings.quantum 1 c.index-entry.result.now ∷ []
-granted g c =
-    let e = c.index-entry.result.now in
-    let q : ℕ = c.self.inside.settings.quantum in
-    let fits : SFits w64 e.credits = search rules in
-    let low : e.credits ≤ℤ pos 0 = grind (arith, ints, c.if-entry-le0.true) in
-    let quantum : c.settings.inside.quantum ≡ q = ap (λ (s : FqSettings). s.quantum) c.settings.view_is in
-    let z : to_z w64 (of_z w64 (to_z w64 (of_z w64 e.credits) +ℤ to_z w64 c.settings.inside.quantum)) ≡ e.credits +ℤ pos q =
-    omega (arith, ints, fits, low, quantum, c.settings.invariant.quantum_high) in
-    c.push_back_reserved.ensures.items ∙ ap (λ (m : Entry). c.self.inside.stale.items ++ m ∷ []) (given-is q e _ z)
+-- it has no credits, and gets one quantum
+granted : (c : After-push_back_reserved) → c.granted.result ≡ given c.self.inside.settings.quantum 1 c.index-entry.result.now
+granted c =
+    c.granted.ensures
+    ∙ ap (λ (q : ℕ). given q 1 c.index-entry.result.now) (ap (λ (x : FqSettings). x.quantum) c.settings.view_is)
+
+later : (c : After-push_back_reserved) → state_of c.self.inside.settings c.self.inside.flows c.pop_front.new.self.items c.push_back_reserved.new.self.items
+    ≡ state_of c.self.inside.settings c.self.inside.flows (drop 1 c.self.inside.fresh.items) (c.self.inside.stale.items ++ given c.self.inside.settings.quantum 1 c.index-entry.result.now ∷ [])
+later c =
+    ap₂ (λ (l m : List Entry). state_of c.self.inside.settings c.self.inside.flows l m) c.pop_front.ensures.rest
+    (c.push_back_reserved.ensures.items ∙ ap (λ (m : Entry). c.self.inside.stale.items ++ m ∷ []) (granted c))
 
 pub invariant_of-self : goal.invariant_of-self
-invariant_of-self g c =
-    let s = opened g (goal.at.invariant_of-self g c).After-index-entry in
-    let e = c.index-entry.result.now in
-    let front = at_front g (goal.at.invariant_of-self g c).After-index-entry in
-    let m = given s.settings.quantum 1 e in (
-      subst₂ (λ (l k : List Entry). IsLawful (record s { fresh = l; stale = k })) (sym c.pop_front.ensures.rest) (sym (granted g c))
-          (lawful_moved s e m (drop 1 c.self.inside.fresh.items) c.self.invariant.0 front (flow-given s.settings.quantum 1 e)),
+invariant_of-self c =
+    let at = (goal.at.invariant_of-self c).After-index-entry in
+    let s = opened at in
+    let e = c.index-entry.result.now in (
+      subst (λ (t : FqState). IsLawful t) (sym (later c))
+          (lawful_moved s e (given s.settings.quantum 1 e) (behind at) c.self.invariant.0 (at_front at) (flow-given s.settings.quantum 1 e)),
       omega (arith, c.self.invariant.1, c.pop_front.ensures.capacity),
       omega (arith, c.self.invariant.2, c.push_back_reserved.ensures.capacity),
     )
 
 pub returns-then-entry-le0-clause-on : goal.returns-then-entry-le0-clause-on
-returns-then-entry-le0-clause-on g c =
-    let at = (goal.at.returns-then-entry-le0-clause-on g c).After-index-entry in
-    let s = opened g at in
+returns-then-entry-le0-clause-on c = λ _.
+    let at = (goal.at.returns-then-entry-le0-clause-on c).After-index-entry in
+    let s = opened at in
     let e = c.index-entry.result.now in
-    let low : e.credits ≤ℤ pos 0 = grind (arith, ints, c.if-entry-le0.true) in
-    let positive : 1 ≤ s.settings.quantum = omega (arith, ap (λ (s : FqSettings). s.quantum) c.settings.view_is, c.settings.invariant.quantum_low) in
-    subst (λ (o : FqState). GoesOn o (record s { fresh = c.pop_front.new.self.items; stale = c.push_back_reserved.new.self.items })) c.self.view_is
-    (subst₂ (λ (l k : List Entry). GoesOn s (record s { fresh = l; stale = k })) (sym c.pop_front.ensures.rest) (sym (granted g c))
-    (fresh_granted s e (drop 1 c.self.inside.fresh.items) (at_front g at) positive low))
+    let low : e.credits ≤ℤ pos 0 = grind (arith, ints, c.if-entry-le0.true, ap (λ (e : Entry). e.credits) c.entry.view_is) in
+    let positive : 1 ≤ s.settings.quantum = omega (arith, ap (λ (x : FqSettings). x.quantum) c.settings.view_is, c.settings.invariant.quantum_low) in
+    goes_between _ _ _ _ (opened_is at) (later c) (fresh_granted s e (behind at) (at_front at) positive low)
+
+-- it has credits and no packet
+is_empty : (c : After-push_back_reserved-then-is_idle) → is_idle c.self.inside.flows.flows c.index-entry.result.now.flow ≡ true
+is_empty c = ap (λ (e : Entry). is_idle c.self.inside.flows.flows e.flow) (sym c.entry.view_is) ∙ sym c.is_idle.ensures ∙ c.if-is_idle.true
+
+emptied : (c : After-push_back_reserved-then-is_idle) → state_of c.self.inside.settings c.rest.new.self c.pop_front-then-is_idle.new.self.items c.push_back_reserved-then-is_idle.new.self.items
+    ≡ record (state_of c.self.inside.settings c.self.inside.flows (drop 1 c.self.inside.fresh.items) (c.self.inside.stale.items ++ c.index-entry.result.now ∷ [])) { flows = adjust rested_flow c.index-entry.result.now.flow c.self.inside.flows.flows }
+emptied c =
+    ap (λ (f : List Flow). record (state_of c.self.inside.settings c.self.inside.flows c.pop_front-then-is_idle.new.self.items c.push_back_reserved-then-is_idle.new.self.items) { flows = f })
+    (c.rest.ensures.flows ∙ ap (λ (e : Entry). adjust rested_flow e.flow c.self.inside.flows.flows) c.entry.view_is)
+    ∙ ap₂ (λ (l m : List Entry). record (state_of c.self.inside.settings c.self.inside.flows l m) { flows = adjust rested_flow c.index-entry.result.now.flow c.self.inside.flows.flows })
+    c.pop_front-then-is_idle.ensures.rest c.push_back_reserved-then-is_idle.ensures.items
 
 pub invariant_of-self-then-is_idle : goal.invariant_of-self-then-is_idle
-invariant_of-self-then-is_idle g c =
-    let at = (goal.at.invariant_of-self-then-is_idle g c).After-index-entry in
-    let s = opened g at in
+invariant_of-self-then-is_idle c =
+    let at = (goal.at.invariant_of-self-then-is_idle c).After-index-entry in
+    let s = opened at in
     let e = c.index-entry.result.now in
-    let moved = lawful_moved s e e (drop 1 c.self.inside.fresh.items) c.self.invariant.0 (at_front g at) refl in
-    let rested = lawful_rested (record s { fresh = drop 1 c.self.inside.fresh.items; stale = s.stale ++ e ∷ [] }) e.flow moved in (
-      subst₂ (λ (l k : List Entry). IsLawful (record s { flows = c.rest.new.self.flows; fresh = l; stale = k; places = c.rest.new.self.places }))
-          (sym c.pop_front-then-is_idle.ensures.rest) (sym c.push_back_reserved-then-is_idle.ensures.items)
-          (subst₂ (λ (f : List Flow) (p : ℕ). IsLawful (record s { flows = f; fresh = drop 1 c.self.inside.fresh.items; stale = s.stale ++ e ∷ []; places = p }))
-          (sym c.rest.ensures.flows) (sym c.rest.ensures.places) rested),
+    let moved = lawful_moved s e e (behind at) c.self.invariant.0 (at_front at) refl in (
+      subst (λ (t : FqState). IsLawful t) (sym (emptied c)) (lawful_rested (record s { fresh = behind at; stale = s.stale ++ e ∷ [] }) e.flow moved),
       omega (arith, c.self.invariant.1, c.pop_front-then-is_idle.ensures.capacity),
       omega (arith, c.self.invariant.2, c.push_back_reserved-then-is_idle.ensures.capacity),
     )
 
 pub returns-then-is_idle-clause-on : goal.returns-then-is_idle-clause-on
-returns-then-is_idle-clause-on g c =
-    let at = (goal.at.returns-then-is_idle-clause-on g c).After-index-entry in
-    let s = opened g at in
+returns-then-is_idle-clause-on c = λ _.
+    let at = (goal.at.returns-then-is_idle-clause-on c).After-index-entry in
+    let s = opened at in
     let e = c.index-entry.result.now in
-    let high : pos 0 <ℤ e.credits = grind (arith, ints, c.if-entry-le0.false) in
-    let empty : is_idle s.flows e.flow ≡ true = sym c.is_idle.ensures ∙ c.if-is_idle.true in
-    subst (λ (o : FqState). GoesOn o (record s { flows = c.rest.new.self.flows; fresh = c.pop_front-then-is_idle.new.self.items; stale = c.push_back_reserved-then-is_idle.new.self.items; places = c.rest.new.self.places })) c.self.view_is
-    (subst₂ (λ (l k : List Entry). GoesOn s (record s { flows = c.rest.new.self.flows; fresh = l; stale = k; places = c.rest.new.self.places }))
-    (sym c.pop_front-then-is_idle.ensures.rest) (sym c.push_back_reserved-then-is_idle.ensures.items)
-    (subst₂ (λ (f : List Flow) (p : ℕ). GoesOn s (record s { flows = f; fresh = drop 1 c.self.inside.fresh.items; stale = s.stale ++ e ∷ []; places = p }))
-    (sym c.rest.ensures.flows) (sym c.rest.ensures.places)
-    (fresh_moves s e (drop 1 c.self.inside.fresh.items) (at_front g at) high empty)))
+    let high : pos 0 <ℤ e.credits = grind (arith, ints, c.if-entry-le0.false, ap (λ (e : Entry). e.credits) c.entry.view_is) in
+    goes_between _ _ _ _ (opened_is at) (emptied c) (fresh_moves s e (behind at) (at_front at) high (is_empty c))
 
-pub send-requires-clause-room : goal.send-requires-clause-room
-send-requires-clause-room g c =
-    omega (arith, c.requires.room, packets-at c.index-entry.result.now.flow c.self.inside.flows.flows, ap (λ (s : FqState). packets_of s.flows) c.self.view_is)
-
-pub invariant_of-self-2 : goal.invariant_of-self-2
-invariant_of-self-2 g c =
-    let at = (goal.at.invariant_of-self-2 g c).After-index-entry in
-    let s = opened g at in
+pub returns-clause-settled : goal.returns-clause-settled
+returns-clause-settled c = λ _.
+    let at = (goal.at.returns-clause-settled c).After-index-entry in
+    let s = opened at in
     let e = c.index-entry.result.now in
-    let m : Entry = record { flow = e.flow; credits = to_z w64 (of_z w64 (to_z w64 (of_z w64 e.credits) -ℤ to_z w64 c.packet.inside.len)) } in
-    let rest : List Entry = drop 1 c.self.inside.fresh.items in
-    let written : set c.self.inside.fresh.items 0 m ≡ m ∷ rest = ap (λ (l : List Entry). set l 0 m) (at_front g at) in
-    let shrunk = lawful_shrunk s (flow_after c.args.now) (count-after c.args.now) e.flow c.self.invariant.0 in
-    let paid = lawful_paid_fresh (record s { flows = adjust (flow_after c.args.now) e.flow s.flows }) e m rest shrunk (at_front g at) refl in (
-      subst (λ (l : List Entry). IsLawful (record s { flows = c.send.new.self.flows; fresh = l; places = c.send.new.self.places })) (sym written)
-          (subst₂ (λ (f : List Flow) (p : ℕ). IsLawful (record s { flows = f; fresh = m ∷ rest; places = p })) (sym c.send.ensures.flows) (sym c.send.ensures.places) paid),
-      omega (arith, c.self.invariant.1),
-      omega (arith, c.self.invariant.2),
-    )
-
-pub returns-clause-sent : goal.returns-clause-sent
-returns-clause-sent g c = λ _.
-    let at = (goal.at.returns-clause-sent g c).After-index-entry in
-    let s = opened g at in
-    let e = c.index-entry.result.now in
-    let rest : List Entry = drop 1 c.self.inside.fresh.items in
-    let high : pos 0 <ℤ e.credits = grind (arith, ints, c.if-entry-le0.false) in
-    let busy : is_idle s.flows e.flow ≡ false = sym c.is_idle.ensures ∙ c.if-is_idle.false in
-    let chosen : selected c.args.self.now ≡ s = ap selected (sym c.self.view_is) ∙ fresh_ready s e rest (at_front g at) high busy in
-    sym (ap (sent_from c.args.now) chosen ∙ sent-is s e (rest ++ s.stale) c.args.now c.send.result (first g at) (within g at) c.send.ensures.sent ∙ c.unwrap-taken.ensures)
-
-pub returns-clause-after : goal.returns-clause-after
-returns-clause-after g c = λ _.
-    let at = (goal.at.returns-clause-after g c).After-index-entry in
-    let s = opened g at in
-    let e = c.index-entry.result.now in
-    let rest : List Entry = drop 1 c.self.inside.fresh.items in
-    let high : pos 0 <ℤ e.credits = grind (arith, ints, c.if-entry-le0.false) in
-    let busy : is_idle s.flows e.flow ≡ false = sym c.is_idle.ensures ∙ c.if-is_idle.false in
-    let chosen : selected c.args.self.now ≡ s = ap selected (sym c.self.view_is) ∙ fresh_ready s e rest (at_front g at) high busy in
-    let sent : sent_from c.args.now s ≡ Some c.unwrap-taken.result = sent-is s e (rest ++ s.stale) c.args.now c.send.result (first g at) (within g at) c.send.ensures.sent ∙ c.unwrap-taken.ensures in
-    let m : Entry = record { flow = e.flow; credits = to_z w64 (of_z w64 (to_z w64 (of_z w64 e.credits) -ℤ to_z w64 c.packet.inside.len)) } in
-    let fits : SFits w64 e.credits = search rules in
-    let len : c.packet.inside.len ≡ c.unwrap-taken.result.packet.len = ap (λ (p : Descriptor). p.len) c.packet.view_is in
-    let z : m.credits ≡ e.credits -ℤ pos c.packet.inside.len = omega (arith, ints, fits, high) in
-    let paying : paid (sent_from c.args.now s) e ≡ m = paid-by (sent_from c.args.now s) c.unwrap-taken.result e c.packet.inside.len m.credits sent len z in
-    let written : set c.self.inside.fresh.items 0 m ≡ m ∷ rest = ap (λ (l : List Entry). set l 0 m) (at_front g at) in
-    sym (ap (after_sending c.args.now) chosen
-    ∙ after-fresh s e rest c.args.now (at_front g at)
-    ∙ ap₂ (λ (f : List Flow) (x : Entry). record s { flows = f; fresh = x ∷ rest }) (sym c.send.ensures.flows) paying
-    ∙ ap₂ (λ (l : List Entry) (p : ℕ). record s { flows = c.send.new.self.flows; fresh = l; places = p }) (sym written) (sym c.send.ensures.places))
-
-pub returns-clause-lost : goal.returns-clause-lost
-returns-clause-lost g c = λ _.
-    let at = (goal.at.returns-clause-lost g c).After-index-entry in
-    let s = opened g at in
-    let e = c.index-entry.result.now in
-    let rest : List Entry = drop 1 c.self.inside.fresh.items in
-    let high : pos 0 <ℤ e.credits = grind (arith, ints, c.if-entry-le0.false) in
-    let busy : is_idle s.flows e.flow ≡ false = sym c.is_idle.ensures ∙ c.if-is_idle.false in
-    let chosen : selected c.args.self.now ≡ s = ap selected (sym c.self.view_is) ∙ fresh_ready s e rest (at_front g at) high busy in
-    let P : List Stamped → Type 0 = λ l. g.S.Sink.losses c.send.new.sink ≡ g.S.Sink.losses c.args.sink.now ++ losses_of CoDel l in
-    subst (λ (x : FqState). P (dropped_from c.args.now x)) (sym chosen)
-    (dropped-is s e (rest ++ s.stale) c.args.now P (first g at) (within g at) c.send.ensures.lost)
-
-pub returns-clause-room : goal.returns-clause-room
-returns-clause-room g c = λ _.
-    let at = (goal.at.returns-clause-room g c).After-index-entry in
-    let s = opened g at in
-    let e = c.index-entry.result.now in
-    let rest : List Entry = drop 1 c.self.inside.fresh.items in
-    let high : pos 0 <ℤ e.credits = grind (arith, ints, c.if-entry-le0.false) in
-    let busy : is_idle s.flows e.flow ≡ false = sym c.is_idle.ensures ∙ c.if-is_idle.false in
-    let chosen : selected c.args.self.now ≡ s = ap selected (sym c.self.view_is) ∙ fresh_ready s e rest (at_front g at) high busy in
-    let P : List Stamped → Type 0 = λ l. g.S.Sink.room c.send.new.sink + count l ≡ g.S.Sink.room c.args.sink.now in
-    subst (λ (x : FqState). P (dropped_from c.args.now x)) (sym chosen)
-    (dropped-is s e (rest ++ s.stale) c.args.now P (first g at) (within g at) c.send.ensures.room)
-
-pub returns-clause-some : goal.returns-clause-some
-returns-clause-some g c = λ _.
-    let some : 0 < count (queue_of c.self.inside.flows.flows c.index-entry.result.now.flow) = c.send.ensures.some.0 (ap is_some c.unwrap-taken.ensures) in
-    omega (arith, some, packets-at c.index-entry.result.now.flow c.self.inside.flows.flows, ap (λ (s : FqState). packets_of s.flows) c.self.view_is)
+    let high : pos 0 <ℤ e.credits = grind (arith, ints, c.if-entry-le0.false, ap (λ (e : Entry). e.credits) c.entry.view_is) in
+    let busy : is_idle s.flows e.flow ≡ false = ap (λ (e : Entry). is_idle s.flows e.flow) (sym c.entry.view_is) ∙ sym c.is_idle.ensures ∙ c.if-is_idle.false in
+    subst (λ (x : FqState). IsSettled x) (opened_is at)
+    (settled_at s e (behind at ++ c.self.inside.stale.items) (first at) (fresh_ready s e (behind at) (at_front at) high busy) high busy)

@@ -1,201 +1,117 @@
-use Rattle.std.proofs.Common.{◌≡◌, ℕ, ◌+◌, ◌<◌, ◌≤◌, pos, ◌+ℤ◌, ◌-ℤ◌, ◌≤ℤ◌, ◌<ℤ◌, true, false, List, [], ◌∷◌, ◌++◌, length, set, take, drop, Some, is_some, refl, sym, ap, ap₂, ◌∙◌, arith, rules, subst, subst₂, SFits, w64, to_z, of_z}
+use Rattle.std.proofs.Common.{◌≡◌, ℕ, ◌≤◌, pos, ◌≤ℤ◌, ◌<ℤ◌, true, false, List, [], ◌∷◌, ◌++◌, length, drop, sym, ap, ap₂, ◌∙◌, arith, subst}
 use Rattle.std.proofs.lemmas.Int.{ints}
-use Rattle.q_packet.specs.Totals.{count}
-use Rattle.q_packet.specs.Descriptor.{Descriptor}
-use Rattle.q_packet.specs.declared.stamped.Stamped.{Stamped}
-use Rattle.q_packet.specs.declared.cause.Cause.TheVariants.{CoDel}
-use Rattle.q_codel.specs.Losses.{losses_of}
 use Rattle.q_fqcodel.specs.Cleared.{adjust}
-use Rattle.q_fqcodel.specs.Quanta.{given}
-use Rattle.q_fqcodel.specs.FqState.{FqSettings, Flow, FqState, queue_of, is_idle, packets_of}
+use Rattle.q_fqcodel.specs.Entry.{Entry}
+use Rattle.q_fqcodel.specs.FlowsState.{state_of}
+use Rattle.q_fqcodel.specs.FqState.{FqSettings, Flow, FqState, FqView, is_idle, rested_flow}
 use Rattle.q_fqcodel.specs.Lawful.{IsLawful}
-use Rattle.q_fqcodel.specs.Turns.{GoesOn}
-use Rattle.q_fqcodel.specs.Take.{selected, sent_from, dropped_from, after_sending, flow_after, paid}
-use Rattle.q_fqcodel.specs.declared.entry.Entry.{Entry}
-use Rattle.q_fqcodel.proofs.FlowLemmas.{packets-at}
-use Rattle.q_fqcodel.proofs.LawfulLemmas.{lawful_turned, lawful_left, lawful_rested, lawful_shrunk, lawful_paid_stale, front_within}
+use Rattle.q_fqcodel.specs.Turns.{IsSettled}
+use Rattle.q_fqcodel.specs.Quanta.{given}
 use Rattle.q_fqcodel.proofs.QuantaLemmas.{flow-given}
-use Rattle.q_fqcodel.proofs.TurnLemmas.{front_is, given-is, stale_granted, stale_leaves, stale_ready}
-use Rattle.q_fqcodel.proofs.SentLemmas.{sent-is, dropped-is, after-stale, count-after, paid-by}
+use Rattle.q_fqcodel.proofs.LawfulLemmas.{lawful_turned, lawful_left, lawful_rested, front_within}
+use Rattle.q_fqcodel.proofs.TurnLemmas.{front_is, goes_between, settled_at, stale_granted, stale_leaves, stale_ready}
 use Rattle.q_fqcodel.proofs.fq_codel.FqCodel.turn_old.Goals as goal
-use Rattle.q_fqcodel.proofs.fq_codel.FqCodel.turn_old.Goals.{After-index-front, After-rotate_left}
+use Rattle.q_fqcodel.proofs.fq_codel.FqCodel.turn_old.Goals.{After-index-entry, After-push_back_reserved, After-pop_front-then-is_idle}
 
--- the state as it was opened
-abbrev opened : (g : _) → After-index-front g → FqState
-opened g c = record {
-  settings = c.self.inside.settings;
-  flows = c.self.inside.flows.flows;
-  fresh = c.self.inside.fresh.items;
-  stale = c.self.inside.stale.items;
-  places = c.self.inside.flows.places;
-}
+-- the state as it was opened, the flow in front, and those behind it
+abbrev opened : After-index-entry → FqState
+opened c = state_of c.self.inside.settings c.self.inside.flows c.self.inside.fresh.items c.self.inside.stale.items
 
-at_front : (g : _) (c : After-index-front g) → c.self.inside.stale.items ≡ c.index-front.result.now ∷ drop 1 c.self.inside.stale.items
-at_front g c =
-    front_is c.self.inside.stale.items c.index-front.result.now
-    (omega (arith, c.requires.waiting, ap (λ (s : FqState). length s.stale) c.self.view_is)) c.index-front.ensures
+abbrev behind : After-index-entry → List Entry
+behind c = drop 1 c.self.inside.stale.items
 
--- the new list is empty, and the first of both is that of the old one
-none_new : (g : _) (c : After-index-front g) → c.self.inside.fresh.items ≡ []
-none_new g c = ap (λ (s : FqState). s.fresh) c.self.view_is ∙ c.requires.no_new
+opened_is : (c : After-index-entry) → opened c ≡ c.args.self.now.state
+opened_is c = ap (λ (v : FqView). v.state) c.self.view_is
 
-first : (g : _) (c : After-index-front g) → (opened g c).fresh ++ (opened g c).stale ≡ c.index-front.result.now ∷ drop 1 c.self.inside.stale.items
-first g c = ap₂ (λ (l m : List Entry). l ++ m) (none_new g c) (at_front g c)
+at_front : (c : After-index-entry) → c.self.inside.stale.items ≡ c.index-entry.result.now ∷ behind c
+at_front c =
+    front_is c.self.inside.stale.items c.index-entry.result.now
+    (omega (arith, c.requires.waiting, ap (λ (s : FqState). length s.stale) (opened_is c))) c.index-entry.ensures
 
-within : (g : _) (c : After-index-front g) → c.index-front.result.now.flow < length c.self.inside.flows.flows
-within g c =
-    let s = opened g c in
-    omega (arith, front_within s c.index-front.result.now (drop 1 c.self.inside.stale.items) c.self.invariant.0 (first g c), c.self.invariant.0.each_flow)
+none_new : (c : After-index-entry) → c.self.inside.fresh.items ≡ []
+none_new c = ap (λ (s : FqState). s.fresh) (opened_is c) ∙ c.requires.no_new
+
+first : (c : After-index-entry) → (opened c).fresh ++ (opened c).stale ≡ c.index-entry.result.now ∷ behind c
+first c = ap₂ (λ (l m : List Entry). l ++ m) (none_new c) (at_front c)
 
 pub rest-requires : goal.rest-requires
-rest-requires g c = within g (goal.at.rest-requires g c).After-index-front
-
--- the front has no credits, and has one quantum more at the end
-granted : (g : _) (c : After-rotate_left g) → c.self.inside.stale.items ≡ c.index-front.result.now ∷ drop 1 c.self.inside.stale.items
-    → c.rotate_left.new.self.items ≡ drop 1 c.self.inside.stale.items ++ given c.self.inside.settings.quantum 1 c.index-front.result.now ∷ []
-granted g c front =
-    let e = c.index-front.result.now in
-    let q : ℕ = c.self.inside.settings.quantum in
-    let fits : SFits w64 e.credits = search rules in
-    let low : e.credits ≤ℤ pos 0 = grind (arith, ints, c.if-front-le0.true) in
-    let quantum : c.settings.inside.quantum ≡ q = ap (λ (s : FqSettings). s.quantum) c.settings.view_is in
-    let z : to_z w64 (of_z w64 (to_z w64 (of_z w64 e.credits) +ℤ to_z w64 c.settings.inside.quantum)) ≡ e.credits +ℤ pos q =
-    omega (arith, ints, fits, low, quantum, c.settings.invariant.quantum_high) in
-    let m : Entry = record { flow = e.flow; credits = to_z w64 (of_z w64 (to_z w64 (of_z w64 e.credits) +ℤ to_z w64 c.settings.inside.quantum)) } in
-    c.rotate_left.ensures.items
-    ∙ ap (λ (l : List Entry). drop 1 (set l 0 m) ++ take 1 (set l 0 m)) front
-    ∙ ap (λ (x : Entry). drop 1 c.self.inside.stale.items ++ x ∷ []) (given-is q e _ z)
-
-pub invariant_of-self : goal.invariant_of-self
-invariant_of-self g c =
-    let at = (goal.at.invariant_of-self g c).After-index-front in
-    let s = opened g at in
-    let e = c.index-front.result.now in
-    let m = given s.settings.quantum 1 e in (
-      subst (λ (k : List Entry). IsLawful (record s { stale = k })) (sym (granted g c (at_front g at)))
-          (lawful_turned s e m (drop 1 c.self.inside.stale.items) c.self.invariant.0 (at_front g at) (flow-given s.settings.quantum 1 e)),
-      c.self.invariant.1,
-      omega (arith, c.self.invariant.2, c.rotate_left.ensures.capacity),
+rest-requires c =
+    let at = (goal.at.rest-requires c).After-index-entry in
+    omega (
+      arith,
+      front_within (opened at) c.index-entry.result.now (behind at) c.self.invariant.0 (first at),
+      c.self.invariant.0.each_flow,
+      ap (λ (e : Entry). e.flow) c.entry.view_is,
     )
 
-pub returns-then-front-le0-clause-on : goal.returns-then-front-le0-clause-on
-returns-then-front-le0-clause-on g c =
-    let at = (goal.at.returns-then-front-le0-clause-on g c).After-index-front in
-    let s = opened g at in
-    let e = c.index-front.result.now in
-    let low : e.credits ≤ℤ pos 0 = grind (arith, ints, c.if-front-le0.true) in
-    let positive : 1 ≤ s.settings.quantum = omega (arith, ap (λ (s : FqSettings). s.quantum) c.settings.view_is, c.settings.invariant.quantum_low) in
-    subst (λ (o : FqState). GoesOn o (record s { stale = c.rotate_left.new.self.items })) c.self.view_is
-    (subst (λ (k : List Entry). GoesOn s (record s { stale = k })) (sym (granted g c (at_front g at)))
-    (stale_granted s e (drop 1 c.self.inside.stale.items) (none_new g at) (at_front g at) positive low))
+-- it has no credits, and gets one quantum
+granted : (c : After-push_back_reserved) → c.granted.result ≡ given c.self.inside.settings.quantum 1 c.index-entry.result.now
+granted c =
+    c.granted.ensures
+    ∙ ap (λ (q : ℕ). given q 1 c.index-entry.result.now) (ap (λ (x : FqSettings). x.quantum) c.settings.view_is)
+
+later : (c : After-push_back_reserved) → state_of c.self.inside.settings c.self.inside.flows c.self.inside.fresh.items c.push_back_reserved.new.self.items
+    ≡ state_of c.self.inside.settings c.self.inside.flows c.self.inside.fresh.items (drop 1 c.self.inside.stale.items ++ given c.self.inside.settings.quantum 1 c.index-entry.result.now ∷ [])
+later c =
+    ap (λ (m : List Entry). state_of c.self.inside.settings c.self.inside.flows c.self.inside.fresh.items m)
+    (c.push_back_reserved.ensures.items ∙ ap₂ (λ (l : List Entry) (m : Entry). l ++ m ∷ []) c.pop_front.ensures.rest (granted c))
+
+pub invariant_of-self : goal.invariant_of-self
+invariant_of-self c =
+    let at = (goal.at.invariant_of-self c).After-index-entry in
+    let s = opened at in
+    let e = c.index-entry.result.now in (
+      subst (λ (t : FqState). IsLawful t) (sym (later c))
+          (lawful_turned s e (given s.settings.quantum 1 e) (behind at) c.self.invariant.0 (at_front at) (flow-given s.settings.quantum 1 e)),
+      c.self.invariant.1,
+      omega (arith, c.self.invariant.2, c.pop_front.ensures.capacity, c.push_back_reserved.ensures.capacity),
+    )
+
+pub returns-then-entry-le0-clause-on : goal.returns-then-entry-le0-clause-on
+returns-then-entry-le0-clause-on c = λ _.
+    let at = (goal.at.returns-then-entry-le0-clause-on c).After-index-entry in
+    let s = opened at in
+    let e = c.index-entry.result.now in
+    let low : e.credits ≤ℤ pos 0 = grind (arith, ints, c.if-entry-le0.true, ap (λ (e : Entry). e.credits) c.entry.view_is) in
+    let positive : 1 ≤ s.settings.quantum = omega (arith, ap (λ (x : FqSettings). x.quantum) c.settings.view_is, c.settings.invariant.quantum_low) in
+    goes_between _ _ _ _ (opened_is at) (later c) (stale_granted s e (behind at) (none_new at) (at_front at) positive low)
+
+-- it has credits and no packet
+is_empty : (c : After-pop_front-then-is_idle) → is_idle c.self.inside.flows.flows c.index-entry.result.now.flow ≡ true
+is_empty c = ap (λ (e : Entry). is_idle c.self.inside.flows.flows e.flow) (sym c.entry.view_is) ∙ sym c.is_idle.ensures ∙ c.if-is_idle.true
+
+emptied : (c : After-pop_front-then-is_idle) → state_of c.self.inside.settings c.rest.new.self c.self.inside.fresh.items c.pop_front-then-is_idle.new.self.items
+    ≡ record (state_of c.self.inside.settings c.self.inside.flows c.self.inside.fresh.items (drop 1 c.self.inside.stale.items)) { flows = adjust rested_flow c.index-entry.result.now.flow c.self.inside.flows.flows }
+emptied c =
+    ap₂ (λ (f : List Flow) (m : List Entry). record (state_of c.self.inside.settings c.self.inside.flows c.self.inside.fresh.items m) { flows = f })
+    (c.rest.ensures.flows ∙ ap (λ (e : Entry). adjust rested_flow e.flow c.self.inside.flows.flows) c.entry.view_is)
+    c.pop_front-then-is_idle.ensures.rest
 
 pub invariant_of-self-then-is_idle : goal.invariant_of-self-then-is_idle
-invariant_of-self-then-is_idle g c =
-    let at = (goal.at.invariant_of-self-then-is_idle g c).After-index-front in
-    let s = opened g at in
-    let e = c.index-front.result.now in
-    let rest : List Entry = drop 1 c.self.inside.stale.items in
-    let empty : is_idle s.flows e.flow ≡ true = sym c.is_idle.ensures ∙ c.if-is_idle.true in
-    let left = lawful_left s e rest c.self.invariant.0 (at_front g at) empty in
-    let rested = lawful_rested (record s { stale = rest }) e.flow left in (
-      subst (λ (l : List Entry). IsLawful (record s { flows = c.rest.new.self.flows; stale = l; places = c.rest.new.self.places })) (sym c.pop_front.ensures.rest)
-          (subst₂ (λ (f : List Flow) (p : ℕ). IsLawful (record s { flows = f; stale = rest; places = p })) (sym c.rest.ensures.flows) (sym c.rest.ensures.places) rested),
+invariant_of-self-then-is_idle c =
+    let at = (goal.at.invariant_of-self-then-is_idle c).After-index-entry in
+    let s = opened at in
+    let e = c.index-entry.result.now in
+    let left = lawful_left s e (behind at) c.self.invariant.0 (at_front at) (is_empty c) in (
+      subst (λ (t : FqState). IsLawful t) (sym (emptied c)) (lawful_rested (record s { stale = behind at }) e.flow left),
       c.self.invariant.1,
-      omega (arith, c.self.invariant.2, c.pop_front.ensures.capacity),
+      omega (arith, c.self.invariant.2, c.pop_front-then-is_idle.ensures.capacity),
     )
 
 pub returns-then-is_idle-clause-on : goal.returns-then-is_idle-clause-on
-returns-then-is_idle-clause-on g c =
-    let at = (goal.at.returns-then-is_idle-clause-on g c).After-index-front in
-    let s = opened g at in
-    let e = c.index-front.result.now in
-    let rest : List Entry = drop 1 c.self.inside.stale.items in
-    let high : pos 0 <ℤ e.credits = grind (arith, ints, c.if-front-le0.false) in
-    let empty : is_idle s.flows e.flow ≡ true = sym c.is_idle.ensures ∙ c.if-is_idle.true in
-    subst (λ (o : FqState). GoesOn o (record s { flows = c.rest.new.self.flows; stale = c.pop_front.new.self.items; places = c.rest.new.self.places })) c.self.view_is
-    (subst (λ (l : List Entry). GoesOn s (record s { flows = c.rest.new.self.flows; stale = l; places = c.rest.new.self.places })) (sym c.pop_front.ensures.rest)
-    (subst₂ (λ (f : List Flow) (p : ℕ). GoesOn s (record s { flows = f; stale = rest; places = p })) (sym c.rest.ensures.flows) (sym c.rest.ensures.places)
-    (stale_leaves s e rest (none_new g at) (at_front g at) high empty)))
+returns-then-is_idle-clause-on c = λ _.
+    let at = (goal.at.returns-then-is_idle-clause-on c).After-index-entry in
+    let s = opened at in
+    let e = c.index-entry.result.now in
+    let high : pos 0 <ℤ e.credits = grind (arith, ints, c.if-entry-le0.false, ap (λ (e : Entry). e.credits) c.entry.view_is) in
+    goes_between _ _ _ _ (opened_is at) (emptied c) (stale_leaves s e (behind at) (none_new at) (at_front at) high (is_empty c))
 
-pub send-requires-clause-room : goal.send-requires-clause-room
-send-requires-clause-room g c =
-    omega (arith, c.requires.room, packets-at c.index-front.result.now.flow c.self.inside.flows.flows, ap (λ (s : FqState). packets_of s.flows) c.self.view_is)
-
-pub invariant_of-self-2 : goal.invariant_of-self-2
-invariant_of-self-2 g c =
-    let at = (goal.at.invariant_of-self-2 g c).After-index-front in
-    let s = opened g at in
-    let e = c.index-front.result.now in
-    let m : Entry = record { flow = e.flow; credits = to_z w64 (of_z w64 (to_z w64 (of_z w64 e.credits) -ℤ to_z w64 c.packet.inside.len)) } in
-    let rest : List Entry = drop 1 c.self.inside.stale.items in
-    let written : set c.self.inside.stale.items 0 m ≡ m ∷ rest = ap (λ (l : List Entry). set l 0 m) (at_front g at) in
-    let shrunk = lawful_shrunk s (flow_after c.args.now) (count-after c.args.now) e.flow c.self.invariant.0 in
-    let paid = lawful_paid_stale (record s { flows = adjust (flow_after c.args.now) e.flow s.flows }) e m rest shrunk (at_front g at) refl in (
-      subst (λ (l : List Entry). IsLawful (record s { flows = c.send.new.self.flows; stale = l; places = c.send.new.self.places })) (sym written)
-          (subst₂ (λ (f : List Flow) (p : ℕ). IsLawful (record s { flows = f; stale = m ∷ rest; places = p })) (sym c.send.ensures.flows) (sym c.send.ensures.places) paid),
-      omega (arith, c.self.invariant.1),
-      omega (arith, c.self.invariant.2),
-    )
-
-pub returns-clause-sent : goal.returns-clause-sent
-returns-clause-sent g c = λ _.
-    let at = (goal.at.returns-clause-sent g c).After-index-front in
-    let s = opened g at in
-    let e = c.index-front.result.now in
-    let rest : List Entry = drop 1 c.self.inside.stale.items in
-    let high : pos 0 <ℤ e.credits = grind (arith, ints, c.if-front-le0.false) in
-    let busy : is_idle s.flows e.flow ≡ false = sym c.is_idle.ensures ∙ c.if-is_idle.false in
-    let chosen : selected c.args.self.now ≡ s = ap selected (sym c.self.view_is) ∙ stale_ready s e rest (none_new g at) (at_front g at) high busy in
-    sym (ap (sent_from c.args.now) chosen ∙ sent-is s e rest c.args.now c.send.result (first g at) (within g at) c.send.ensures.sent ∙ c.unwrap-taken.ensures)
-
-pub returns-clause-after : goal.returns-clause-after
-returns-clause-after g c = λ _.
-    let at = (goal.at.returns-clause-after g c).After-index-front in
-    let s = opened g at in
-    let e = c.index-front.result.now in
-    let rest : List Entry = drop 1 c.self.inside.stale.items in
-    let high : pos 0 <ℤ e.credits = grind (arith, ints, c.if-front-le0.false) in
-    let busy : is_idle s.flows e.flow ≡ false = sym c.is_idle.ensures ∙ c.if-is_idle.false in
-    let chosen : selected c.args.self.now ≡ s = ap selected (sym c.self.view_is) ∙ stale_ready s e rest (none_new g at) (at_front g at) high busy in
-    let sent : sent_from c.args.now s ≡ Some c.unwrap-taken.result = sent-is s e rest c.args.now c.send.result (first g at) (within g at) c.send.ensures.sent ∙ c.unwrap-taken.ensures in
-    let m : Entry = record { flow = e.flow; credits = to_z w64 (of_z w64 (to_z w64 (of_z w64 e.credits) -ℤ to_z w64 c.packet.inside.len)) } in
-    let fits : SFits w64 e.credits = search rules in
-    let len : c.packet.inside.len ≡ c.unwrap-taken.result.packet.len = ap (λ (p : Descriptor). p.len) c.packet.view_is in
-    let z : m.credits ≡ e.credits -ℤ pos c.packet.inside.len = omega (arith, ints, fits, high) in
-    let paying : paid (sent_from c.args.now s) e ≡ m = paid-by (sent_from c.args.now s) c.unwrap-taken.result e c.packet.inside.len m.credits sent len z in
-    let written : set c.self.inside.stale.items 0 m ≡ m ∷ rest = ap (λ (l : List Entry). set l 0 m) (at_front g at) in
-    sym (ap (after_sending c.args.now) chosen
-    ∙ after-stale s e rest c.args.now (none_new g at) (at_front g at)
-    ∙ ap₂ (λ (f : List Flow) (x : Entry). record s { flows = f; stale = x ∷ rest }) (sym c.send.ensures.flows) paying
-    ∙ ap₂ (λ (l : List Entry) (p : ℕ). record s { flows = c.send.new.self.flows; stale = l; places = p }) (sym written) (sym c.send.ensures.places))
-
-pub returns-clause-lost : goal.returns-clause-lost
-returns-clause-lost g c = λ _.
-    let at = (goal.at.returns-clause-lost g c).After-index-front in
-    let s = opened g at in
-    let e = c.index-front.result.now in
-    let rest : List Entry = drop 1 c.self.inside.stale.items in
-    let high : pos 0 <ℤ e.credits = grind (arith, ints, c.if-front-le0.false) in
-    let busy : is_idle s.flows e.flow ≡ false = sym c.is_idle.ensures ∙ c.if-is_idle.false in
-    let chosen : selected c.args.self.now ≡ s = ap selected (sym c.self.view_is) ∙ stale_ready s e rest (none_new g at) (at_front g at) high busy in
-    let P : List Stamped → Type 0 = λ l. g.S.Sink.losses c.send.new.sink ≡ g.S.Sink.losses c.args.sink.now ++ losses_of CoDel l in
-    subst (λ (x : FqState). P (dropped_from c.args.now x)) (sym chosen)
-    (dropped-is s e rest c.args.now P (first g at) (within g at) c.send.ensures.lost)
-
-pub returns-clause-room : goal.returns-clause-room
-returns-clause-room g c = λ _.
-    let at = (goal.at.returns-clause-room g c).After-index-front in
-    let s = opened g at in
-    let e = c.index-front.result.now in
-    let rest : List Entry = drop 1 c.self.inside.stale.items in
-    let high : pos 0 <ℤ e.credits = grind (arith, ints, c.if-front-le0.false) in
-    let busy : is_idle s.flows e.flow ≡ false = sym c.is_idle.ensures ∙ c.if-is_idle.false in
-    let chosen : selected c.args.self.now ≡ s = ap selected (sym c.self.view_is) ∙ stale_ready s e rest (none_new g at) (at_front g at) high busy in
-    let P : List Stamped → Type 0 = λ l. g.S.Sink.room c.send.new.sink + count l ≡ g.S.Sink.room c.args.sink.now in
-    subst (λ (x : FqState). P (dropped_from c.args.now x)) (sym chosen)
-    (dropped-is s e rest c.args.now P (first g at) (within g at) c.send.ensures.room)
-
-pub returns-clause-some : goal.returns-clause-some
-returns-clause-some g c = λ _.
-    let some : 0 < count (queue_of c.self.inside.flows.flows c.index-front.result.now.flow) = c.send.ensures.some.0 (ap is_some c.unwrap-taken.ensures) in
-    omega (arith, some, packets-at c.index-front.result.now.flow c.self.inside.flows.flows, ap (λ (s : FqState). packets_of s.flows) c.self.view_is)
+pub returns-clause-settled : goal.returns-clause-settled
+returns-clause-settled c = λ _.
+    let at = (goal.at.returns-clause-settled c).After-index-entry in
+    let s = opened at in
+    let e = c.index-entry.result.now in
+    let high : pos 0 <ℤ e.credits = grind (arith, ints, c.if-entry-le0.false, ap (λ (e : Entry). e.credits) c.entry.view_is) in
+    let busy : is_idle s.flows e.flow ≡ false = ap (λ (e : Entry). is_idle s.flows e.flow) (sym c.entry.view_is) ∙ sym c.is_idle.ensures ∙ c.if-is_idle.false in
+    subst (λ (x : FqState). IsSettled x) (opened_is at)
+    (settled_at s e (behind at) (first at) (stale_ready s e (behind at) (none_new at) (at_front at) high busy) high busy)

@@ -1,0 +1,222 @@
+-- The quanta that a flow is given, joined with its credits, and how many that is by its place in the old list.
+use Rattle.std.proofs.Common.{◌≡◌, ℕ, zero, suc, ◌+◌, ◌*◌, ◌<◌, ◌≤◌, ◌⊎◌, inl, inr, min, nat_lt, ◌==◌, ℤ, pos, ◌+ℤ◌, Bool, true, false, cond, List, [], ◌∷◌, ◌++◌, map, take, drop, sum_by, Option, Some, None, refl, sym, ap, ◌∙◌, arith, ⊎_elim, subst, add-mul}
+use Rattle.std.specs.Prelude.{slice_get, slice_index_or}
+use Rattle.std.proofs.lemmas.Bool.{cases_eq, cases_lt, cond-true, cond-false, eq-eqb, ne_eqb, lt-ltb, le-ltb}
+use Rattle.std.proofs.lemmas.Int.{ints}
+use Rattle.std.proofs.lemmas.List.{take-append-drop}
+use Rattle.q_packet.specs.Choice.{Choice, IsChosen}
+use Rattle.q_packet.proofs.ChoiceLemmas.{chosen_is}
+use Rattle.q_fqcodel.specs.Entry.{Entry}
+use Rattle.q_fqcodel.specs.Quanta.{need, given, stay}
+use Rattle.q_fqcodel.specs.Selection.{chosen, turned, first_ready, moved, with_rest, arranged}
+use Rattle.q_fqcodel.specs.FqState.{FqState, is_idle}
+use Rattle.q_fqcodel.specs.Lawful.{times, IsLawful}
+use Rattle.q_fqcodel.specs.QuantaGiven.{quanta_in, visits, quanta_turned, passed_over, old_list, quanta_old, quanta_given}
+use Rattle.q_fqcodel.specs.Take.{selected}
+use Rattle.q_fqcodel.specs.Laws.{CreditsByQuanta, QuantaByPlace}
+use Rattle.q_fqcodel.proofs.LawfulLemmas.{times-cons, times-append, one-same}
+use Rattle.q_fqcodel.proofs.QuantaLemmas.{flow-given}
+use Rattle.q_fqcodel.proofs.InLemmas.{In, in-append, in-left, in-right, in-take, in-drop, in-map, in-stay, in-before, in-behind, in-found, in-times, same-entry, at, sum-none, sum-once}
+
+times-split : (n k : ℕ) (es : List Entry) → times n es ≡ times n (take k es) + times n (drop k es)
+times-split n k es = ap (times n) (sym (take-append-drop k es)) ∙ times-append n (take k es) (drop k es)
+
+-- ---- one flow, visited so often
+
+in-once : (q n visits : ℕ) (e : Entry) (es : List Entry) → In e es → e.flow ≡ n → times n es ≤ 1 → quanta_in q n visits es ≡ min visits (need q e)
+unfolding quanta_in
+in-once q n visits e es h own once = sum-once n (λ (e : Entry). min visits (need q e)) e es h own once
+
+in-none : (q n visits : ℕ) (es : List Entry) → times n es ≡ 0 → quanta_in q n visits es ≡ 0
+unfolding quanta_in
+in-none q n visits es none = sum-none n (λ (e : Entry). min visits (need q e)) es none
+
+credits-given : (q k : ℕ) (e : Entry) → (given q k e).credits ≡ e.credits +ℤ pos (k * q)
+unfolding given
+credits-given q k e = refl
+
+flow-moved : (q : ℕ) (e : Entry) → (moved q e).flow ≡ e.flow
+unfolding moved
+flow-moved q e =
+    ⊎_elim
+    (λ (none : need q e ≡ 0). ap (λ (x : Entry). x.flow) (cond-true (need q e == 0) e (given q 1 e) (eq-eqb _ _ none)))
+    (λ (some : need q e ≡ 0 → ⊥). ap (λ (x : Entry). x.flow) (cond-false (need q e == 0) e (given q 1 e) (ne_eqb _ _ some)) ∙ flow-given q 1 e)
+    (cases_eq (need q e) 0)
+
+credits-moved : (q : ℕ) (e : Entry) → (moved q e).credits ≡ e.credits +ℤ pos (min 1 (need q e) * q)
+unfolding moved
+credits-moved q e =
+    ⊎_elim
+    (λ (none : need q e ≡ 0).
+    ap (λ (x : Entry). x.credits) (cond-true (need q e == 0) e (given q 1 e) (eq-eqb _ _ none))
+    ∙ (let z : e.credits ≡ e.credits +ℤ pos (0 * q) = omega (arith, ints) in z)
+    ∙ ap (λ (k : ℕ). e.credits +ℤ pos (k * q)) (let m : 0 ≡ min 1 (need q e) = omega (arith, none) in m))
+    (λ (some : need q e ≡ 0 → ⊥).
+    ap (λ (x : Entry). x.credits) (cond-false (need q e == 0) e (given q 1 e) (ne_eqb _ _ some))
+    ∙ credits-given q 1 e
+    ∙ ap (λ (k : ℕ). e.credits +ℤ pos (k * q)) (let m : 1 ≡ min 1 (need q e) = omega (arith, some) in m))
+    (cases_eq (need q e) 0)
+
+times-moved : (q n : ℕ) (es : List Entry) → times n (map (moved q) es) ≡ times n es
+times-moved q n [] = refl
+times-moved q n (x ∷ xs) = omega (arith, times-cons n (moved q x) (map (moved q) xs), times-cons n x xs, one-same n x (moved q x) (flow-moved q x), times-moved q n xs)
+
+-- what a flow of the old list is given in the turn
+turned-some : (q n : ℕ) (es : List Entry) (c : Choice) → quanta_turned q n es (Some c) ≡ quanta_in q n c.rounds (drop c.place es) + quanta_in q n (suc c.rounds) (take c.place es)
+unfolding quanta_turned
+turned-some q n es c = refl
+
+behind-chosen : (q n : ℕ) (es : List Entry) (c : Choice) (e : Entry) → times n es ≤ 1 → e.flow ≡ n → In e (drop c.place es) → quanta_turned q n es (Some c) ≡ min c.rounds (need q e)
+behind-chosen q n es c e once own h =
+    let split = times-split n c.place es in
+    let some = in-times n e (drop c.place es) h own in
+    let here = in-once q n c.rounds e (drop c.place es) h own (omega (arith, split, once)) in
+    let none = in-none q n (suc c.rounds) (take c.place es) (omega (arith, split, once, some)) in
+    omega (arith, turned-some q n es c, here, none)
+
+before-chosen : (q n : ℕ) (es : List Entry) (c : Choice) (e : Entry) → times n es ≤ 1 → e.flow ≡ n → In e (take c.place es) → quanta_turned q n es (Some c) ≡ min (suc c.rounds) (need q e)
+before-chosen q n es c e once own h =
+    let split = times-split n c.place es in
+    let some = in-times n e (take c.place es) h own in
+    let here = in-once q n (suc c.rounds) e (take c.place es) h own (omega (arith, split, once)) in
+    let none = in-none q n c.rounds (drop c.place es) (omega (arith, split, once, some)) in
+    omega (arith, turned-some q n es c, here, none)
+
+-- one that has stayed in the turn
+turned-credits : (q n : ℕ) (es : List Entry) (c : Choice) (a : Entry) → times n es ≤ 1 → a.flow ≡ n
+    → In a (stay q c.rounds (drop c.place es) ++ stay q (suc c.rounds) (take c.place es))
+    → (x : Entry) × In x es × (x.flow ≡ n) × (a.credits ≡ x.credits +ℤ pos (quanta_turned q n es (Some c) * q))
+turned-credits q n es c a once own h =
+    ⊎_elim
+    (λ (behind : In a (stay q c.rounds (drop c.place es))).
+    let r = in-stay q c.rounds a (drop c.place es) behind in
+    let x : Entry = r.0 in
+    let own' : x.flow ≡ n = sym (flow-given q c.rounds x) ∙ ap (λ (y : Entry). y.flow) r.3 ∙ own in
+    let k : quanta_turned q n es (Some c) ≡ c.rounds = omega (arith, behind-chosen q n es c x once own' r.1, r.2) in
+    (x, in-drop x c.place es r.1, own', ap (λ (y : Entry). y.credits) (sym r.3) ∙ credits-given q c.rounds x ∙ ap (λ (k : ℕ). x.credits +ℤ pos (k * q)) (sym k)))
+    (λ (before : In a (stay q (suc c.rounds) (take c.place es))).
+    let r = in-stay q (suc c.rounds) a (take c.place es) before in
+    let x : Entry = r.0 in
+    let own' : x.flow ≡ n = sym (flow-given q (suc c.rounds) x) ∙ ap (λ (y : Entry). y.flow) r.3 ∙ own in
+    let k : quanta_turned q n es (Some c) ≡ suc c.rounds = omega (arith, before-chosen q n es c x once own' r.1, r.2) in
+    (x, in-take x c.place es r.1, own', ap (λ (y : Entry). y.credits) (sym r.3) ∙ credits-given q (suc c.rounds) x ∙ ap (λ (k : ℕ). x.credits +ℤ pos (k * q)) (sym k)))
+    (in-append a (stay q c.rounds (drop c.place es)) (stay q (suc c.rounds) (take c.place es)) h)
+
+-- so many quanta, and then so many
+quanta-more : (z : ℤ) (j k q : ℕ) → (z +ℤ pos (j * q)) +ℤ pos (k * q) ≡ z +ℤ pos ((j + k) * q)
+quanta-more z j k q = let m : (j + k) * q ≡ j * q + k * q = add-mul j k q in omega (arith, ints, m)
+
+-- ---- a whole selection, of lists that hold flow n at most once
+
+module _ (q n : ℕ) (idle : ℕ → Bool) (fresh stale : List Entry) (p : ℕ) (once : times n (fresh ++ stale) ≤ 1) (e : Entry) (listed : In e (fresh ++ stale)) (own : e.flow ≡ n) where
+  over : List Entry
+  over = take p fresh
+
+  old : List Entry
+  old = stale ++ map (moved q) over
+
+  at_most : times n (take p fresh) + times n (drop p fresh) + times n stale ≤ 1
+  at_most = omega (arith, once, times-append n fresh stale, times-split n p fresh)
+
+  old_once : times n old ≤ 1
+  unfolding old over
+  old_once = omega (arith, at_most, times-append n stale (map (moved q) (take p fresh)), times-moved q n (take p fresh))
+
+  -- an entry of flow n that the selection has not touched
+  untouched : (x : Entry) → In x (fresh ++ stale) → x.flow ≡ n → times n (take p fresh) ≡ 0 → x.credits ≡ e.credits +ℤ pos (quanta_in q n 1 over * q)
+  unfolding over
+  untouched x h own' none =
+      let same : x ≡ e = same-entry n x e (fresh ++ stale) h listed own' own once in
+      let k : quanta_in q n 1 (take p fresh) ≡ 0 = in-none q n 1 (take p fresh) none in
+      let z : e.credits ≡ e.credits +ℤ pos (0 * q) = omega (arith, ints) in
+      ap (λ (y : Entry). y.credits) same ∙ z ∙ ap (λ (k : ℕ). e.credits +ℤ pos (k * q)) (sym k)
+
+  -- the old list, once the new flows that were passed over have gone there
+  old_credits : (x : Entry) → In x old → x.flow ≡ n → x.credits ≡ e.credits +ℤ pos (quanta_in q n 1 over * q)
+  unfolding old over
+  old_credits x h own' =
+      ⊎_elim
+      (λ (stayed : In x stale). untouched x (in-right x fresh stale stayed) own' (omega (arith, at_most, in-times n x stale stayed own')))
+      (λ (came : In x (map (moved q) (take p fresh))).
+      let r = in-map (moved q) x (take p fresh) came in
+      let y : Entry = r.0 in
+      let own'' : y.flow ≡ n = sym (flow-moved q y) ∙ ap (λ (z : Entry). z.flow) r.2 ∙ own' in
+      let same : y ≡ e = same-entry n y e (fresh ++ stale) (in-left y fresh stale (in-take y p fresh r.1)) listed own'' own once in
+      let k : quanta_in q n 1 (take p fresh) ≡ min 1 (need q y) = in-once q n 1 y (take p fresh) r.1 own'' (omega (arith, at_most)) in
+      ap (λ (z : Entry). z.credits) (sym r.2)
+      ∙ credits-moved q y
+      ∙ ap (λ (k : ℕ). y.credits +ℤ pos (k * q)) (sym k)
+      ∙ ap (λ (z : Entry). z.credits +ℤ pos (quanta_in q n 1 (take p fresh) * q)) same)
+      (in-append x stale (map (moved q) (take p fresh)) h)
+
+  after_turn : (a : Entry) (o : Option Choice) → In a (turned q old o).stale → a.flow ≡ n → a.credits ≡ e.credits +ℤ pos ((quanta_in q n 1 over + quanta_turned q n old o) * q)
+  unfolding turned
+  after_turn a None h own' = absurd h
+  after_turn a (Some c) h own' =
+      let r = turned-credits q n old c a old_once own' h in
+      r.3
+      ∙ ap (λ (z : ℤ). z +ℤ pos (quanta_turned q n old (Some c) * q)) (old_credits r.0 r.1 r.2)
+      ∙ quanta-more e.credits (quanta_in q n 1 over) (quanta_turned q n old (Some c)) q
+
+  no_fresh : (a : Entry) (o : Option Choice) → In a ((turned q old o).fresh ++ (turned q old o).stale) → In a (turned q old o).stale
+  unfolding turned
+  no_fresh a None h = h
+  no_fresh a (Some c) h = h
+
+  after_all : (a : Entry) (rest : List Entry) → drop p fresh ≡ rest → In a ((with_rest q idle rest old).fresh ++ (with_rest q idle rest old).stale) → a.flow ≡ n
+      → a.credits ≡ e.credits +ℤ pos ((quanta_in q n 1 over + quanta_old q idle n rest old) * q)
+  unfolding with_rest quanta_old
+  after_all a [] none h own' = after_turn a (chosen q idle old) (no_fresh a (chosen q idle old) h) own'
+  after_all a (r ∷ rs) left h own' =
+      let same : e.credits +ℤ pos (quanta_in q n 1 over * q) ≡ e.credits +ℤ pos ((quanta_in q n 1 over + 0) * q) =
+      ap (λ (k : ℕ). e.credits +ℤ pos (k * q)) (let z : quanta_in q n 1 over ≡ quanta_in q n 1 over + 0 = omega arith in z) in
+      ⊎_elim
+      (λ (new : In a (r ∷ rs)).
+      let there : In a (drop p fresh) = subst (In a) (sym left) new in
+      untouched a (in-left a fresh stale (in-drop a p fresh there)) own' (omega (arith, at_most, in-times n a (drop p fresh) there own')) ∙ same)
+      (λ (before : In a old). old_credits a before own' ∙ same)
+      (in-append a (r ∷ rs) old h)
+
+pub credits_by_quanta : CreditsByQuanta
+unfolding selected arranged quanta_given passed_over old_list over old
+credits_by_quanta s n before after lawful was is =
+    let q : ℕ = s.settings.quantum in
+    let p : ℕ = first_ready q (is_idle s.flows) s.fresh in
+    let b = in-found n (s.fresh ++ s.stale) before was in
+    let a = in-found n ((selected s).fresh ++ (selected s).stale) after is in
+    sym a.3
+    ∙ after_all q n (is_idle s.flows) s.fresh s.stale p (lawful.once n) b.0 b.1 b.2 a.0 (drop p s.fresh) refl a.1 a.2
+    ∙ ap (λ (z : ℤ). z +ℤ pos (quanta_given s n * q)) b.3
+
+-- ---- by the place in the old list
+
+-- what the flow at a place needs, as the choice has it
+need-at : (q : ℕ) (idle : ℕ → Bool) (es : List Entry) (i : ℕ) (e : Entry) → slice_get es i ≡ Some e → idle e.flow ≡ false → slice_index_or (map (λ (e : Entry). cond (idle e.flow) None (Some (need q e))) es) i None ≡ Some (need q e)
+need-at q idle [] i e h busy = absurd cc
+need-at q idle (x ∷ xs) zero e h busy =
+    let same : x ≡ e = cc in
+    ap (λ (y : Entry). cond (idle y.flow) None (Some (need q y))) same ∙ cond-false (idle e.flow) None (Some (need q e)) busy
+need-at q idle (x ∷ xs) (suc i) e h busy = need-at q idle xs i e h busy
+
+chosen-least : (q : ℕ) (idle : ℕ → Bool) (es : List Entry) (c : Choice) → chosen q idle es ≡ Some c → IsChosen (map (λ (e : Entry). cond (idle e.flow) None (Some (need q e))) es) c
+unfolding chosen
+chosen-least q idle es c h = chosen_is (map (λ (e : Entry). cond (idle e.flow) None (Some (need q e))) es) c h
+
+visits-before : (c : Choice) (i : ℕ) → i < c.place → visits c i ≡ suc c.rounds
+unfolding visits
+visits-before c i h = cond-true (nat_lt i c.place) (suc c.rounds) c.rounds (lt-ltb i c.place h)
+
+visits-behind : (c : Choice) (i : ℕ) → c.place ≤ i → visits c i ≡ c.rounds
+unfolding visits
+visits-behind c i h = cond-false (nat_lt i c.place) (suc c.rounds) c.rounds (le-ltb i c.place h)
+
+pub quanta_by_place : QuantaByPlace
+quanta_by_place q idle es c place e once is there busy =
+    let least = chosen-least q idle es c is in
+    let needs = need-at q idle es place e there busy in
+    ⊎_elim
+    (λ (before : place < c.place).
+    omega (arith, visits-before c place before, least.first place (need q e) before needs, before-chosen q e.flow es c e once refl (in-before e place c.place es there before)))
+    (λ (behind : c.place ≤ place).
+    omega (arith, visits-behind c place behind, least.least place (need q e) needs, behind-chosen q e.flow es c e once refl (in-behind e place c.place es there behind)))
+    (cases_lt place c.place)

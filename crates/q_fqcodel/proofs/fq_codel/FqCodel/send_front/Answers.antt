@@ -1,0 +1,140 @@
+use Rattle.std.proofs.Common.{◌≡◌, ◌+◌, ◌<◌, pos, ◌-ℤ◌, List, [], ◌∷◌, ◌++◌, length, set, drop, IfSome, Some, is_some, slice_get, refl, sym, ap, ap₂, ◌∙◌, arith, append-nil, subst}
+use Rattle.std.proofs.lemmas.Bool.{false≢true}
+use Rattle.q_packet.specs.Totals.{count}
+use Rattle.q_packet.specs.Descriptor.{Descriptor}
+use Rattle.q_packet.specs.declared.stamped.Stamped.{Stamped}
+use Rattle.q_packet.specs.declared.cause.Cause.TheVariants.{CoDel}
+use Rattle.q_codel.specs.Losses.{losses_of}
+use Rattle.q_fqcodel.specs.Cleared.{adjust}
+use Rattle.q_fqcodel.specs.Entry.{Entry}
+use Rattle.q_fqcodel.specs.FlowsState.{state_of}
+use Rattle.q_fqcodel.specs.FqState.{Flow, FqState, FqView, queue_of, packets_of}
+use Rattle.q_fqcodel.specs.Lawful.{IsLawful}
+use Rattle.q_fqcodel.specs.Take.{front, packet_sent, packets_dropped, flow_after, paid, sent_from, dropped_from, after_sending}
+use Rattle.q_fqcodel.proofs.FlowLemmas.{packets-at}
+use Rattle.q_fqcodel.proofs.LawfulLemmas.{front_within, lawful_shrunk, lawful_written, none_waits}
+use Rattle.q_fqcodel.proofs.SentLemmas.{front-is, front-none, sent-is, sent-none, dropped-is, dropped-none, after-none, after-written, lists-written, written, count-after, paid-is}
+use Rattle.q_fqcodel.proofs.fq_codel.FqCodel.send_front.Goals as goal
+use Rattle.q_fqcodel.proofs.fq_codel.FqCodel.send_front.Goals.{In_default, After-write_front}
+
+-- ---- no flow is listed
+
+none_in_front : (g : _) (c : In_default g) → (c.args.self.now.state.fresh ≡ []) × (c.args.self.now.state.stale ≡ [])
+none_in_front g c = front-none c.args.self.now.state (sym c.front.ensures.value ∙ c.in_default.is)
+
+nothing : (g : _) (c : In_default g) → dropped_from c.args.now c.args.self.now.state ≡ []
+nothing g c = dropped-none c.args.self.now.state c.args.now (none_in_front g c).0 (none_in_front g c).1
+
+pub returns-in_default-clause-sent : goal.returns-in_default-clause-sent
+returns-in_default-clause-sent g c = sym (sent-none c.args.self.now.state c.args.now (none_in_front g c).0 (none_in_front g c).1)
+
+pub returns-in_default-clause-some : goal.returns-in_default-clause-some
+returns-in_default-clause-some g c = (
+  λ h. absurd (false≢true h),
+  λ h. absurd (omega (arith, h, none_waits c.args.self.now.state c.front.ensures.lawful (none_in_front g c).0 (none_in_front g c).1)),
+)
+
+pub returns-in_default-clause-after : goal.returns-in_default-clause-after
+returns-in_default-clause-after g c = sym (after-none c.args.self.now.state c.args.now (none_in_front g c).0 (none_in_front g c).1)
+
+pub returns-in_default-clause-lost : goal.returns-in_default-clause-lost
+returns-in_default-clause-lost g c =
+    sym (append-nil (g.S.Sink.losses c.args.sink.now))
+    ∙ ap (λ (l : List Stamped). g.S.Sink.losses c.args.sink.now ++ losses_of CoDel l) (sym (nothing g c))
+
+pub returns-in_default-clause-room : goal.returns-in_default-clause-room
+returns-in_default-clause-room g c = omega (arith, ap count (nothing g c))
+
+-- ---- the flow in front sends
+
+pub send-requires-clause-room : goal.send-requires-clause-room
+send-requires-clause-room g c =
+    omega (arith, c.requires.room, packets-at c.front-2.inside.flow c.self.inside.flows.flows, ap (λ (v : FqView). packets_of v.state.flows) c.self.view_is)
+
+-- the state as it was opened, and the flow in front
+abbrev opened : (g : _) → After-write_front g → FqState
+opened g c = state_of c.self.inside.settings c.self.inside.flows c.self.inside.fresh.items c.self.inside.stale.items
+
+abbrev sender : (g : _) → After-write_front g → Entry
+sender g c = c.in-Some.front
+
+abbrev behind : (g : _) → After-write_front g → List Entry
+behind g c = drop 1 (c.self.inside.fresh.items ++ c.self.inside.stale.items)
+
+opened_is : (g : _) (c : After-write_front g) → opened g c ≡ c.args.self.now.state
+opened_is g c = ap (λ (v : FqView). v.state) c.self.view_is
+
+in_front : (g : _) (c : After-write_front g) → front (opened g c) ≡ Some (sender g c)
+in_front g c = ap front (opened_is g c) ∙ sym c.front.ensures.value ∙ c.in-Some.is
+
+first : (g : _) (c : After-write_front g) → (opened g c).fresh ++ (opened g c).stale ≡ sender g c ∷ behind g c
+first g c = front-is (opened g c) (sender g c) (in_front g c)
+
+within : (g : _) (c : After-write_front g) → (sender g c).flow < length (opened g c).flows
+within g c = omega (arith, front_within (opened g c) (sender g c) (behind g c) c.self.invariant.0 (first g c), c.self.invariant.0.each_flow)
+
+-- what is known of the flow that sends
+of_sender : (g : _) (c : After-write_front g) (P : Flow → Type 0) → IfSome (slice_get (opened g c).flows c.front-2.inside.flow) P → IfSome (slice_get (opened g c).flows (sender g c).flow) P
+of_sender g c P h = subst (λ (e : Entry). IfSome (slice_get (opened g c).flows e.flow) P) c.front-2.view_is h
+
+sent : (g : _) (c : After-write_front g) → sent_from c.args.now (opened g c) ≡ Some c.unwrap-taken.result
+sent g c =
+    sent-is (opened g c) (sender g c) (behind g c) c.args.now c.send.result (first g c) (within g c)
+    (of_sender g c (λ f. c.send.result ≡ packet_sent c.args.now f) c.send.ensures.sent)
+    ∙ c.unwrap-taken.ensures
+
+dropped : (g : _) (c : After-write_front g) (P : List Stamped → Type 0) → IfSome (slice_get (opened g c).flows c.front-2.inside.flow) (λ f. P (packets_dropped c.args.now f)) → P (dropped_from c.args.now c.args.self.now.state)
+dropped g c P h =
+    subst (λ (s : FqState). P (dropped_from c.args.now s)) (opened_is g c)
+    (dropped-is (opened g c) (sender g c) (behind g c) c.args.now P (first g c) (within g c) (of_sender g c (λ f. P (packets_dropped c.args.now f)) h))
+
+paying : (g : _) (c : After-write_front g) → paid (sent_from c.args.now (opened g c)) (sender g c) ≡ c.charged.result
+paying g c =
+    paid-is (sent_from c.args.now (opened g c)) c.unwrap-taken.result (sender g c) (sent g c)
+    ∙ ap (λ (p : Descriptor). record (sender g c) { credits = (sender g c).credits -ℤ pos p.len }) (sym c.packet.view_is)
+    ∙ sym c.charged.ensures
+
+flows_sent : (g : _) (c : After-write_front g) → c.send.new.self.flows ≡ adjust (flow_after c.args.now) (sender g c).flow (opened g c).flows
+flows_sent g c = c.send.ensures.flows ∙ ap (λ (e : Entry). adjust (flow_after c.args.now) e.flow (opened g c).flows) c.front-2.view_is
+
+pub invariant_of-self : goal.invariant_of-self
+invariant_of-self g c =
+    let s = opened g c in
+    let e = sender g c in
+    let m : Entry = c.charged.result in
+    let shrunk = lawful_shrunk s (flow_after c.args.now) (count-after c.args.now) e.flow c.self.invariant.0 in
+    let lists : c.write_front.new.fresh.items ++ c.write_front.new.stale.items ≡ m ∷ behind g c =
+    ap₂ (λ (k l : List Entry). k ++ l) c.write_front.ensures.fresh c.write_front.ensures.stale ∙ lists-written s m e (in_front g c) in (
+      subst (λ (f : List Flow). IsLawful (record s { flows = f; fresh = c.write_front.new.fresh.items; stale = c.write_front.new.stale.items })) (sym (flows_sent g c))
+          (lawful_written (record s { flows = adjust (flow_after c.args.now) e.flow s.flows }) e m (behind g c) c.write_front.new.fresh.items c.write_front.new.stale.items shrunk (first g c)
+          (ap (λ (x : Entry). x.flow) c.charged.ensures) lists),
+      omega (arith, c.self.invariant.1, c.write_front.ensures.fresh_capacity),
+      omega (arith, c.self.invariant.2, c.write_front.ensures.stale_capacity),
+    )
+
+pub returns-clause-sent : goal.returns-clause-sent
+returns-clause-sent g c = sym (sent g c) ∙ ap (sent_from c.args.now) (opened_is g c)
+
+pub returns-clause-some : goal.returns-clause-some
+returns-clause-some g c =
+    let some : 0 < count (queue_of c.self.inside.flows.flows c.front-2.inside.flow) = c.send.ensures.some.0 (ap is_some c.unwrap-taken.ensures) in (
+      λ _. omega (arith, some, packets-at c.front-2.inside.flow c.self.inside.flows.flows, ap (λ (s : FqState). packets_of s.flows) (opened_is g c)),
+      λ _. refl,
+    )
+
+pub returns-clause-after : goal.returns-clause-after
+returns-clause-after g c =
+    let s = opened g c in
+    let after : List Flow = adjust (flow_after c.args.now) (sender g c).flow s.flows in
+    ap (λ (f : List Flow). record s { flows = f; fresh = c.write_front.new.fresh.items; stale = c.write_front.new.stale.items }) (flows_sent g c)
+    ∙ ap₂ (λ (k l : List Entry). record s { flows = after; fresh = k; stale = l }) c.write_front.ensures.fresh c.write_front.ensures.stale
+    ∙ ap (λ (m : Entry). record s { flows = after; fresh = set s.fresh 0 m; stale = written m s.fresh s.stale }) (sym (paying g c))
+    ∙ sym (after-written s (sender g c) c.args.now (in_front g c))
+    ∙ ap (after_sending c.args.now) (opened_is g c)
+
+pub returns-clause-lost : goal.returns-clause-lost
+returns-clause-lost g c =
+    dropped g c (λ l. g.S.Sink.losses c.send.new.sink ≡ g.S.Sink.losses c.args.sink.now ++ losses_of CoDel l) c.send.ensures.lost
+
+pub returns-clause-room : goal.returns-clause-room
+returns-clause-room g c = dropped g c (λ l. g.S.Sink.room c.send.new.sink + count l ≡ g.S.Sink.room c.args.sink.now) c.send.ensures.room
