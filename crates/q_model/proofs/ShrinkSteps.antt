@@ -27,7 +27,7 @@ module _ {M N : Type 0} (t : Tally M) (u : Tally N) (f : M → N) (h : StandsFor
 
   pub edited-stands : (notes : List Note) (edit : Edit) (n : Node M) → with_memory f (edited t notes edit n) ≡ edited u notes edit (with_memory f n)
   edited-stands notes (Graft path new) n = edited_at-stands notes (λ old. blank t new) (λ old. blank u new) (λ x. blank-stands t u f h new) path n
-  edited-stands notes (Remake path own below lost) n =
+  edited-stands notes (Remake path own below) n =
       edited_at-stands notes (remade t own below notes) (remade u own below notes) (remade-stands t u f h own below notes) path n
 
   pub new_tree-stands : (d : Device) → remembering f (new_tree t d) ≡ new_tree u d

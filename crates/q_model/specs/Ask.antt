@@ -1,4 +1,4 @@
--- What a node shows when it is peeked, what is left of it then, and what is left once it gives that packet.
+-- What a node shows when it is peeked, what is left of it then, and what is left once that packet is taken from it.
 -- tc-prio(8), tc-tbf(8), tc-drr(8), tc-fq_codel(8); that tbf, drr and fq_codel hold what they show is this project's choice.
 use Rattle.std.specs.Prelude.{ℕ, suc, Bool, ◌==◌, if◌then◌else◌, List, [], ◌∷◌, ◌++◌, map, take, drop, Option, Some, None, is_some, option_map, option_and_then, slice_get, set}
 use Rattle.std.specs.List.{flat_map, list_any, position_or_len, zip}
@@ -22,39 +22,59 @@ use Rattle.q_model.specs.Work.{Work, Worked, worked, losses_of, settled_class}
 use Rattle.q_model.specs.Grants.{choice_of, asked_entries, granted_notes}
 use Rattle.q_model.specs.Quanta.{flow_notes}
 
--- What asking a node comes to. `before`: it was not asked. `peeked`: it was asked for its packet, and shows it. `given`: it
--- was asked and has given that packet. `rises`: what each node above has to note once it was asked.
+-- What asking a node comes to. `before`: it was not asked. `peeked`: it was asked for its packet, and shows it. `taken`: it
+-- was asked, and the packet was taken from it. `rises`: what each node above has to note once it was asked.
 pub record Asked : Type 0 where
   pub before : Worked
   pub peeked : Worked
   pub shown : Option Descriptor
-  pub given : Worked
+  pub taken : Worked
   pub rises : List Note
 
 abbrev pub befores : List Asked → List Worked
 befores asked = map (λ (a : Asked). a.before) asked
 
--- it shows what it has at hand, and gives that
-abbrev pub showing : Own → Own → List Worked → List Worked → List Worked → List Note → Option Descriptor → Asked
-showing own own_given below peeked given notes shown = record {
-  before = worked own [] below;
-  peeked = worked own notes peeked;
-  shown = shown;
-  given = worked own_given (notes ++ map Sent (option_to_list shown)) given;
-  rises = notes;
+-- A node that shows what it has at hand: `own` is what it is until the packet is taken, and `own_taken` what it is then;
+-- `peeked` and `taken` are its children, and `notes` is what they have to tell the nodes above them.
+pub record Showing : Type 0 where
+  pub own : Own
+  pub own_taken : Own
+  pub peeked : List Worked
+  pub taken : List Worked
+  pub notes : List Note
+  pub packet : Option Descriptor
+
+-- where its children were this before they were asked
+abbrev pub showing : List Asked → Showing → Asked
+showing below s = record {
+  before = worked s.own [] (befores below);
+  peeked = worked s.own s.notes s.peeked;
+  shown = s.packet;
+  taken = worked s.own_taken (s.notes ++ map Sent (option_to_list s.packet)) s.taken;
+  rises = s.notes;
 }
 
--- a node that holds a packet gives that one, and nobody beneath it is asked
+-- a node that holds a packet shows that one, and nobody beneath it is asked
 abbrev pub holding : Own → List Asked → Descriptor → Asked
-holding own below p =
-    let same = befores below in
-    showing own (record own { held = None }) same same same [] (Some p)
+holding own below p = showing below (record {
+  own = own;
+  own_taken = record own { held = None };
+  peeked = befores below;
+  taken = befores below;
+  notes = [];
+  packet = Some p;
+})
 
 -- a fifo shows its head
 abbrev pub ask_fifo : Own → List Asked → Limit → List Stamped → Asked
-ask_fifo own below limit queue =
-    let same = befores below in
-    showing own (record own { discipline = Fifo limit (drop 1 queue) }) same same same [] (slice_get (packets_of queue) 0)
+ask_fifo own below limit queue = showing below (record {
+  own = own;
+  own_taken = record own { discipline = Fifo limit (drop 1 queue) };
+  peeked = befores below;
+  taken = befores below;
+  notes = [];
+  packet = slice_get (packets_of queue) 0;
+})
 
 -- A prio asks its bands in order, up to the first that shows a packet, and shows that one.
 abbrev pub ask_prio : Own → List Asked → Asked
@@ -64,30 +84,47 @@ ask_prio own below =
     let others = befores (drop (suc k) below) in
     let passed = map (λ (a : Asked). a.peeked) (take k below) in
     let band = drop k asked in
-    showing own own (befores below)
-    (passed ++ map (λ (a : Asked). a.peeked) band ++ others)
-    (passed ++ map (λ (a : Asked). a.given) band ++ others)
-    (flat_map (λ (a : Asked). a.rises) asked)
-    (option_and_then (λ (a : Asked). a.shown) (slice_get below k))
+    showing below (record {
+      own = own;
+      own_taken = own;
+      peeked = passed ++ map (λ (a : Asked). a.peeked) band ++ others;
+      taken = passed ++ map (λ (a : Asked). a.taken) band ++ others;
+      notes = flat_map (λ (a : Asked). a.rises) asked;
+      packet = option_and_then (λ (a : Asked). a.shown) (slice_get below k);
+    })
 
--- a node has dequeued a packet, or nothing, and holds it: `own` and `after` are what it was and is, and `notes` go on to the
--- nodes above, `mine` do not
-abbrev pub dequeued : Own → List Asked → Own → List Worked → List Note → List Note → Option Descriptor → Asked
-dequeued own below after peeked notes mine shown = record {
+-- A node that has dequeued a packet, or nothing, and holds it until it is taken: what it is then, but for the packet that it
+-- holds; its children; what they and it have to tell the nodes above; and what it notes for itself alone.
+pub record Dequeue : Type 0 where
+  pub after : Own
+  pub children : List Worked
+  pub rises : List Note
+  pub mine : List Note
+  pub packet : Option Descriptor
+
+-- where it was `own`, and its children were these
+abbrev pub dequeued : Own → List Asked → Dequeue → Asked
+dequeued own below d = record {
   before = worked own [] (befores below);
-  peeked = worked (record after { held = shown }) (notes ++ mine) peeked;
-  shown = shown;
-  given = worked (record after { held = None }) (notes ++ mine ++ map Sent (option_to_list shown)) peeked;
-  rises = notes;
+  peeked = worked (record d.after { held = d.packet }) (d.rises ++ d.mine) d.children;
+  shown = d.packet;
+  taken = worked (record d.after { held = None }) (d.rises ++ d.mine ++ map Sent (option_to_list d.packet)) d.children;
+  rises = d.rises;
 }
 
 -- A tbf asks its child; where the bucket allows the packet that is shown, it spends its length and takes the packet.
 abbrev pub spends : Own → List Asked → TokenBucket → ℕ → ℕ → Asked → Descriptor → Asked
-spends own below bucket limit now child p =
-    dequeued own below (record own { discipline = Tbf (after_spend bucket now p.len) limit }) (child.given ∷ []) child.rises (Spent p.len ∷ []) (Some p)
+spends own below bucket limit now child p = dequeued own below (record {
+  after = record own { discipline = Tbf (after_spend bucket now p.len) limit };
+  children = child.taken ∷ [];
+  rises = child.rises;
+  mine = Spent p.len ∷ [];
+  packet = Some p;
+})
 
 abbrev pub waits : Own → List Asked → Asked → Asked
-waits own below child = dequeued own below own (child.peeked ∷ []) child.rises [] None
+waits own below child =
+    dequeued own below (record { after = own; children = child.peeked ∷ []; rises = child.rises; mine = []; packet = None })
 
 abbrev pub ask_child : ℕ → Own → List Asked → TokenBucket → ℕ → Asked → Asked
 ask_child now own below bucket limit child =
@@ -96,7 +133,8 @@ ask_child now own below bucket limit child =
 
 abbrev pub ask_tbf : ℕ → Own → List Asked → TokenBucket → ℕ → Asked
 ask_tbf now own below bucket limit =
-    option_map_or (ask_child now own below bucket limit) (slice_get below 0) (dequeued own below own [] [] [] None)
+    option_map_or (ask_child now own below bucket limit) (slice_get below 0)
+    (dequeued own below (record { after = own; children = []; rises = []; mine = []; packet = None }))
 
 -- the answer of a drr's class, by its number
 abbrev pub class_answer : Schedule → List Asked → ℕ → Option Asked
@@ -141,13 +179,25 @@ abbrev pub place_met : Schedule → List Asked → Option ℕ
 place_met s below = option_and_then (λ (m : Met). class_at m.class s) (met (head_of s below) s)
 
 abbrev pub gives_nothing : Own → List Asked → Service → Asked
-gives_nothing own below v = dequeued own below (record own { discipline = Drr v.schedule }) v.below v.rises v.grants None
+gives_nothing own below v = dequeued own below (record {
+  after = record own { discipline = Drr v.schedule };
+  children = v.below;
+  rises = v.rises;
+  mine = v.grants;
+  packet = None;
+})
 
 -- the class gives its packet, and leaves the active list where its child is empty
 abbrev pub class_gives : Own → List Asked → Service → ℕ → Asked → Descriptor → Asked
 class_gives own below v i child p =
-    let schedule = settled_class i (is_empty child.given) v.schedule in
-    dequeued own below (record own { discipline = Drr schedule }) (set v.below i child.given) v.rises v.grants (Some p)
+    let schedule = settled_class i (is_empty child.taken) v.schedule in
+    dequeued own below (record {
+      after = record own { discipline = Drr schedule };
+      children = set v.below i child.taken;
+      rises = v.rises;
+      mine = v.grants;
+      packet = Some p;
+    })
 
 abbrev pub class_serves : Own → List Asked → Service → ℕ → Asked → Asked
 class_serves own below v i child = option_map_or (class_gives own below v i child) child.shown (gives_nothing own below v)
@@ -168,10 +218,14 @@ marks_of (Some t) = if t.marked then Marked t.packet ∷ [] else []
 abbrev pub ask_fq_codel : ℕ → Own → List Asked → FqState → Asked
 ask_fq_codel now own below s =
     let chosen = selected s in
-    let taken = sent_from now chosen in
-    dequeued own below (record own { discipline = FqCodel (after_sending now chosen) }) (befores below)
-    (losses_of CoDel (packets_of (dropped_from now chosen)) ++ marks_of taken) (flow_notes s chosen taken)
-    (option_map (λ (t : Taken). t.packet) taken)
+    let sent = sent_from now chosen in
+    dequeued own below (record {
+      after = record own { discipline = FqCodel (after_sending now chosen) };
+      children = befores below;
+      rises = losses_of CoDel (packets_of (dropped_from now chosen)) ++ marks_of sent;
+      mine = flow_notes s chosen sent;
+      packet = option_map (λ (t : Taken). t.packet) sent;
+    })
 
 abbrev pub ask_discipline : ℕ → Own → List Asked → Discipline → Asked
 ask_discipline now own below (Fifo limit queue) = ask_fifo own below limit queue
@@ -187,8 +241,8 @@ ask_own now own below = option_map_or (holding own below) own.held (ask_discipli
 abbrev pub ask : ℕ → Shape → Asked
 ask now s = from_below (ask_own now) s
 
--- a take is a peek, after which what is shown is given
+-- a take is a peek, after which what is shown is taken
 abbrev pub take_from : ℕ → Shape → Work
 take_from now s =
     let a = ask now s in
-    record { node = if is_some a.shown then a.given else a.peeked; rises = a.rises }
+    record { node = if is_some a.shown then a.taken else a.peeked; rises = a.rises }

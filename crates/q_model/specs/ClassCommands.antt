@@ -1,16 +1,14 @@
 -- `tc class add`, `change` and `del`: which edit of the tree each is, and when it is refused.
 -- tc-drr(8); a new class has an implicit pfifo, and a class that goes loses what is beneath it.
-use Rattle.std.specs.Prelude.{ℕ, Bool, not, ◌==◌, if◌then◌else◌, List, [], ◌∷◌, ◌++◌, Option, Some, Result, Err, is_some, unwrap_or, slice_get}
+use Rattle.std.specs.Prelude.{ℕ, Bool, not, ◌==◌, if◌then◌else◌, List, [], ◌∷◌, ◌++◌, Option, Some, Result, Err, is_some, unwrap_or}
 use Rattle.std.specs.List.{list_any, remove}
 use Rattle.std.specs.Option.{option_map_or}
-use Rattle.q_packet.specs.Descriptor.{Descriptor}
 use Rattle.q_drr.specs.Schedule.{Schedule, added, removed, with_quantum}
 use Rattle.q_model.specs.declared.class_id.ClassId.{ClassId}
 use Rattle.q_model.specs.declared.not_done.NotDone.{NotDone}
 use Rattle.q_model.specs.declared.not_done.NotDone.TheVariants.{NoParent, Exists, NoQdisc, NotClassful, NoClass, Busy, CannotChange}
 use Rattle.q_model.specs.Filters.{names_class}
-use Rattle.q_model.specs.Node.{Discipline, Fifo, Prio, Tbf, Drr, FqCodel, Shape, children}
-use Rattle.q_model.specs.Beneath.{beneath}
+use Rattle.q_model.specs.Node.{Discipline, Fifo, Prio, Tbf, Drr, FqCodel, Shape}
 use Rattle.q_model.specs.Make.{Device, implicit_pfifo}
 use Rattle.q_model.specs.Find.{path_of, class_place}
 use Rattle.q_model.specs.Edit.{New, Edit, Remake}
@@ -46,7 +44,7 @@ class_del_checks class n = refuse NoClass (not (is_there class n)) ∷ refuse Bu
 
 -- a class more at the end, with an implicit pfifo
 abbrev pub with_class : Device → List ℕ → Shape → Schedule → Edit
-with_class d path n s = Remake path (record n.own { discipline = Drr s }) (all_kept n ++ New (implicit_pfifo d) ∷ []) []
+with_class d path n s = Remake path (record n.own { discipline = Drr s }) (all_kept n ++ New (implicit_pfifo d) ∷ [])
 
 -- its quantum is the mtu where none is given
 abbrev pub class_added : Device → ClassId → Option ℕ → List ℕ → Shape → Schedule → Result Edit NotDone
@@ -67,11 +65,8 @@ abbrev pub class_change : Option ℕ → ClassId → Option ℕ → Shape → Re
 class_change parent class quantum root = at_drr parent class (class_changed class quantum) root
 
 -- the child at place i goes, with all that is beneath it
-abbrev pub lost_with : ℕ → Shape → List Descriptor
-lost_with i n = option_map_or (λ (child : Shape). beneath child) (slice_get (children n) i) []
-
 abbrev pub without_class : ℕ → List ℕ → Shape → Schedule → Edit
-without_class i path n s = Remake path (record n.own { discipline = Drr s }) (remove (all_kept n) i) (lost_with i n)
+without_class i path n s = Remake path (record n.own { discipline = Drr s }) (remove (all_kept n) i)
 
 abbrev pub class_removed : ClassId → List ℕ → Shape → Schedule → Result Edit NotDone
 class_removed class path n s =

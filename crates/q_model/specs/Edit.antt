@@ -1,7 +1,7 @@
 -- What a command does to a tree: one node is put in place of another, or one node gets other settings and children.
 -- What is removed loses its packets, and each node above notes them (tc(8), `del`; the order is this project's choice).
-use Rattle.std.specs.Prelude.{ℕ, List, [], ◌∷◌, map, slice_get, set}
-use Rattle.std.specs.List.{flat_map}
+use Rattle.std.specs.Prelude.{ℕ, Bool, false, ◌==◌, if◌then◌else◌, List, [], ◌∷◌, map, slice_get, set}
+use Rattle.std.specs.List.{enumerate_from, flat_map, list_any}
 use Rattle.std.specs.Option.{option_map_or, option_to_list}
 use Rattle.q_packet.specs.Descriptor.{Descriptor}
 use Rattle.q_packet.specs.declared.cause.Cause.TheVariants.{Purged}
@@ -19,10 +19,10 @@ pub data Child : Type 0 where
   New : Shape → Child
 
 -- Graft: this node stands at the end of the path, in place of what stood there. Remake: the node at its end gets these
--- settings and children, and loses these packets.
+-- settings and children, and the children that are not among them go.
 pub data Edit : Type 0 where
   Graft : List ℕ → Shape → Edit
-  Remake : List ℕ → Own → List Child → List Descriptor → Edit
+  Remake : List ℕ → Own → List Child → Edit
 
 abbrev pub with_own : {M : Type 0} → Own → Node M → Node M
 with_own own n = record n { own = own }
@@ -51,11 +51,25 @@ abbrev pub edited_at : {M : Type 0} → Tally M → List Note → (Node M → No
 edited_at t notes f [] n = f n
 edited_at t notes f (i ∷ path) n = option_map_or (λ child. above t notes i (edited_at t notes f path child) n) (slice_get (children n) i) n
 
--- what an edit of this tree loses
+-- whether the child that stood at place i stays
+abbrev pub keeps : ℕ → Child → Bool
+keeps i (Kept j) = i == j
+keeps i (Retuned j own) = i == j
+keeps i (New s) = false
+
+-- what was beneath the children that go, in class order
+abbrev pub beneath_removed : List Child → Shape → List Descriptor
+beneath_removed below n =
+    flat_map (λ child. if list_any (keeps child.0) below then [] else beneath child.1) (enumerate_from 0 (children n))
+
+-- What an edit of this tree loses: all that was beneath the node which another replaces, or beneath the children which go.
+abbrev pub packets_removed : Edit → Shape → List Descriptor
+packets_removed (Graft path new) root = option_map_or (λ (old : Shape). beneath old) (node_at path root) []
+packets_removed (Remake path own below) root = option_map_or (beneath_removed below) (node_at path root) []
+
 abbrev pub lost_by : Edit → Shape → List Note
-lost_by (Graft path new) root = losses_of Purged (option_map_or (λ (old : Shape). beneath old) (node_at path root) [])
-lost_by (Remake path own below lost) root = losses_of Purged lost
+lost_by edit root = losses_of Purged (packets_removed edit root)
 
 abbrev pub edited : {M : Type 0} → Tally M → List Note → Edit → Node M → Node M
 edited t notes (Graft path new) root = edited_at t notes (λ old. blank t new) path root
-edited t notes (Remake path own below lost) root = edited_at t notes (remade t own below notes) path root
+edited t notes (Remake path own below) root = edited_at t notes (remade t own below notes) path root

@@ -13,7 +13,7 @@ use Rattle.q_model.specs.Refusals.{Check, refuse, done_unless, has_filters, most
 use Rattle.q_model.specs.QdiscCommands.{at_target, all_kept}
 
 abbrev pub with_filters : List ℕ → Shape → List Filter → Edit
-with_filters path n filters = Remake path (record n.own { filters = filters }) (all_kept n) []
+with_filters path n filters = Remake path (record n.own { filters = filters }) (all_kept n)
 
 -- refusals of a new filter, where `major` is that of the class which it names
 abbrev pub filter_add_checks : ℕ → ℕ → Filter → Shape → List Check

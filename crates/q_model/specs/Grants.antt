@@ -15,8 +15,12 @@ abbrev pub asked_entries : Option Choice → List Entry → List Entry
 asked_entries None active = []
 asked_entries (Some c) active = if c.rounds == 0 then take (suc c.place) active else active
 
+-- so many grants for each of these; where they get none, nothing is noted
+abbrev pub grant_notes : ℕ → List Entry → List Note
+grant_notes k entries = if k == 0 then [] else map (λ (e : Entry). Granted e.class k) entries
+
 -- those before the class that is met get one grant more than it and those behind it
 abbrev pub granted_notes : Option Choice → List Entry → List Note
 granted_notes None active = []
 granted_notes (Some c) active =
-    map (λ (e : Entry). Granted e.class (suc c.rounds)) (take c.place active) ++ map (λ (e : Entry). Granted e.class c.rounds) (drop c.place active)
+    grant_notes (suc c.rounds) (take c.place active) ++ grant_notes c.rounds (drop c.place active)

@@ -1,9 +1,13 @@
--- What is to hold of every tree, whatever was done to it.
+-- What every step on a tree is to keep: of each node, of the whole tree, and, with the device's clock, of the moments in it.
 -- tc-prio(8), tc-tbf(8), tc-drr(8) and RFC 8290, section 4, for the lists and levels; the bounds are this project's choice.
-use Rattle.std.specs.Prelude.{◌≡◌, ℕ, ◌<◌, ◌≤◌, Bool, not, List, [], All, length, IsSome, is_some}
+use Rattle.std.specs.Prelude.{◌≡◌, ℕ, ◌<◌, ◌≤◌, ◌^◌, Bool, not, List, [], All, length, IsSome, is_some}
 use Rattle.std.specs.List.{AllZip, AllPairs}
 use Rattle.q_packet.specs.Descriptor.{Descriptor}
-use Rattle.q_fqcodel.specs.FqState.{FqState}
+use Rattle.q_packet.specs.declared.stamped.Stamped.{Stamped}
+use Rattle.q_codel.specs.Codel.{CodelState}
+use Rattle.q_codel.specs.Codel as codel
+use Rattle.q_fqcodel.specs.FqState.{FqSettings, Flow, FqState}
+use Rattle.q_fqcodel.specs.Ranges as settings
 use Rattle.q_fqcodel.specs.Lawful as flows
 use Rattle.q_bucket.specs.Level.{TokenBucket}
 use Rattle.q_bucket.specs.Level as bucket
@@ -18,6 +22,15 @@ use Rattle.q_model.specs.Find.{Address, addresses, class_place, depth, count_nod
 use Rattle.q_model.specs.Refusals.{most_levels, most_nodes, most_filters}
 use Rattle.q_model.specs.TreeState.{TreeState}
 
+-- no packet is stamped with a moment that is yet to come
+abbrev pub IsStampedBy : ℕ → List Stamped → Type 0
+IsStampedBy clock queue = All (λ (s : Stamped). s.at ≤ clock) queue
+
+-- a fifo: no class
+pub record IsLawfulFifo {M : Type 0} (clock : ℕ) (queue : List Stamped) (below : List (Node M)) : Type 0 where
+  pub stamps : IsStampedBy clock queue
+  pub none : below ≡ []
+
 -- a drr: a child for each class, and active are exactly the classes whose child has something queued; each stands once in
 -- the active list, and its deficit is below its quantum and the mtu together
 pub record IsLawfulDrr {M : Type 0} (mtu : ℕ) (s : Schedule) (below : List (Node M)) : Type 0 where
@@ -26,8 +39,9 @@ pub record IsLawfulDrr {M : Type 0} (mtu : ℕ) (s : Schedule) (below : List (No
   pub exact : AllZip (λ (c : Class) child. is_active c.name s.active ≡ not (is_empty child)) s.classes below
 
 -- a tbf: the level is at most the burst, and nothing beneath its one child is longer than that
-pub record IsLawfulTbf {M : Type 0} (b : TokenBucket) (below : List (Node M)) : Type 0 where
+pub record IsLawfulTbf {M : Type 0} (clock : ℕ) (b : TokenBucket) (below : List (Node M)) : Type 0 where
   pub level : bucket.IsInRange b
+  pub last : b.last ≤ clock
   pub one : length below ≡ 1
   pub short : All (λ child. All (λ (p : Descriptor). p.len ≤ b.burst) (beneath child)) below
 
@@ -38,17 +52,33 @@ pub record IsLawfulPrio {M : Type 0} (priomap : List ℕ) (below : List (Node M)
   pub each : length priomap ≡ 16
   pub bands : All (λ band. band < length below) priomap
 
--- each flow at most once in the two lists, and every flow with packets in one; no class
-pub record IsLawfulFqCodel {M : Type 0} (s : FqState) (below : List (Node M)) : Type 0 where
+-- the CoDel of a flow runs with the settings of its fq_codel
+pub record AgreesWith (s : FqSettings) (c : CodelState) : Type 0 where
+  pub target : c.target ≡ s.target
+  pub interval : c.interval ≡ s.interval
+  pub ecn : c.ecn ≡ s.ecn
+  pub mtu : c.mtu ≡ s.mtu
+
+pub record IsLawfulFlow (clock : ℕ) (s : FqSettings) (f : Flow) : Type 0 where
+  pub codel : codel.IsInRange f.codel
+  pub agrees : AgreesWith s f.codel
+  pub stamps : IsStampedBy clock f.queue
+
+-- an fq_codel: settings in their ranges, with the device's mtu; each flow at most once in the two lists, and every flow with
+-- packets in one; no class
+pub record IsLawfulFqCodel {M : Type 0} (mtu clock : ℕ) (s : FqState) (below : List (Node M)) : Type 0 where
+  pub settings : settings.IsInRange s.settings
+  pub longest : s.settings.mtu ≡ mtu
   pub lists : flows.IsLawful s
+  pub flows : All (IsLawfulFlow clock s.settings) s.flows
   pub none : below ≡ []
 
-abbrev pub IsLawfulDiscipline : {M : Type 0} → ℕ → List (Node M) → Discipline → Type 0
-IsLawfulDiscipline mtu below (Fifo limit queue) = below ≡ []
-IsLawfulDiscipline mtu below (Prio priomap) = IsLawfulPrio priomap below
-IsLawfulDiscipline mtu below (Tbf b limit) = IsLawfulTbf b below
-IsLawfulDiscipline mtu below (Drr s) = IsLawfulDrr mtu s below
-IsLawfulDiscipline mtu below (FqCodel s) = IsLawfulFqCodel s below
+abbrev pub IsLawfulDiscipline : {M : Type 0} → ℕ → ℕ → List (Node M) → Discipline → Type 0
+IsLawfulDiscipline mtu clock below (Fifo limit queue) = IsLawfulFifo clock queue below
+IsLawfulDiscipline mtu clock below (Prio priomap) = IsLawfulPrio priomap below
+IsLawfulDiscipline mtu clock below (Tbf b limit) = IsLawfulTbf clock b below
+IsLawfulDiscipline mtu clock below (Drr s) = IsLawfulDrr mtu s below
+IsLawfulDiscipline mtu clock below (FqCodel s) = IsLawfulFqCodel mtu clock s below
 
 -- only these hold a packet
 abbrev pub CanHold : Discipline → Type 0
@@ -58,8 +88,8 @@ CanHold (FqCodel s) = Unit {0}
 CanHold (Fifo limit queue) = ⊥
 CanHold (Prio priomap) = ⊥
 
-pub record IsLawfulNode {M : Type 0} (t : Tally M) (mtu : ℕ) (n : Node M) : Type 0 where
-  pub discipline : IsLawfulDiscipline mtu (children n) n.own.discipline
+pub record IsLawfulNode {M : Type 0} (t : Tally M) (mtu clock : ℕ) (n : Node M) : Type 0 where
+  pub discipline : IsLawfulDiscipline mtu clock (children n) n.own.discipline
   pub balanced : IsBalanced (row t n)
   pub short : All (λ (p : Descriptor). p.len ≤ mtu) (beneath n)
   pub held : IsSome n.own.held → CanHold n.own.discipline
@@ -67,10 +97,13 @@ pub record IsLawfulNode {M : Type 0} (t : Tally M) (mtu : ℕ) (n : Node M) : Ty
   pub in_order : AllPairs (λ (f g : Filter). f.prio ≤ g.prio) n.own.filters
   pub named : All (λ (f : Filter). is_some (class_place f.minor n) ≡ Bool.true) n.own.filters
 
--- the whole tree, with the device above the root
-pub record IsLawfulTree {M : Type 0} (t : Tally M) (s : TreeState M) : Type 0 where
+-- the whole tree, with the device above the root, at a clock: the latest moment that the device has seen, up to 2^62 ns
+pub record IsLawfulTree {M : Type 0} (t : Tally M) (clock : ℕ) (s : TreeState M) : Type 0 where
+  pub moment : clock ≤ 2 ^ 62
+  pub least_mtu : 1 ≤ s.device.mtu
+  pub most_mtu : s.device.mtu < 2 ^ 16
   pub device : IsBalanced (row_of (t.counts_of s.top) (beneath s.root))
-  pub nodes : All (IsLawfulNode t s.device.mtu) (every_node s.root)
+  pub nodes : All (IsLawfulNode t s.device.mtu clock) (every_node s.root)
   pub handles : AllPairs (λ (a b : Address). (a.handle ≡ b.handle) → ⊥) (addresses s.root)
   pub levels : depth s.root ≤ most_levels
   pub few : count_nodes s.root ≤ most_nodes

@@ -1,7 +1,7 @@
 -- `tc qdisc add`, `change` and `del`: which edit of the tree each is, and when it is refused.
 -- tc(8) and the pages of the disciplines; where they are silent, and in the order of refusals, this project's choice.
-use Rattle.std.specs.Prelude.{ℕ, ◌-◌, min, true, not, ◌==◌, nat_lt, if◌then◌else◌, List, [], ◌∷◌, ◌++◌, map, drop, take, length, replicate, Option, Some, None, Result, Ok, Err, is_some, is_none, option_and_then, unwrap_or}
-use Rattle.std.specs.List.{flat_map, list_any, range_with_len}
+use Rattle.std.specs.Prelude.{ℕ, ◌-◌, min, true, not, ◌==◌, nat_lt, if◌then◌else◌, List, [], ◌∷◌, ◌++◌, map, take, length, replicate, Option, Some, None, Result, Ok, Err, is_some, is_none, option_and_then, unwrap_or}
+use Rattle.std.specs.List.{list_any, range_with_len}
 use Rattle.std.specs.Option.{option_map_or}
 use Rattle.q_codel.specs.declared.limit.Limit.TheVariants.{Packets, Bytes}
 use Rattle.q_fqcodel.specs.FqState as flows
@@ -14,7 +14,6 @@ use Rattle.q_model.specs.declared.place.Place.TheVariants as place
 use Rattle.q_model.specs.declared.not_done.NotDone.{NotDone}
 use Rattle.q_model.specs.declared.not_done.NotDone.TheVariants.{NoParent, Exists, NoQdisc, HandleTaken, NotClassful, NoClass, Busy, CannotChange, SmallBurst}
 use Rattle.q_model.specs.Node.{Discipline, Fifo, Prio, Tbf, Drr, FqCodel, Shape, children}
-use Rattle.q_model.specs.Beneath.{beneath}
 use Rattle.q_model.specs.Make.{Device, implicit_pfifo, implicit_beneath, limit_bytes, with_options, made}
 use Rattle.q_model.specs.Find.{path_of, has_handle, free_handle, node_at, class_place, place_path, is_explicit}
 use Rattle.q_model.specs.Edit.{Child, Kept, Retuned, New, Edit, Graft, Remake}
@@ -79,15 +78,14 @@ all_kept n = map Kept (range_with_len 0 (length (children n)))
 
 -- a change that keeps the children and loses nothing
 abbrev pub retuned : Shape → List ℕ → Discipline → Edit
-retuned n path discipline = Remake path (record n.own { discipline = discipline }) (all_kept n) []
+retuned n path discipline = Remake path (record n.own { discipline = discipline }) (all_kept n)
 
 -- Bands more begin with an implicit pfifo; of bands fewer the highest go, in rising order, with all that is beneath them.
 abbrev pub rebanded : Device → Shape → List ℕ → ℕ → List ℕ → Edit
 rebanded d n path bands priomap =
     let old = length (children n) in
     let new_bands = map Kept (range_with_len 0 (min old bands)) ++ replicate (bands - old) (New (implicit_pfifo d)) in
-    let lost = flat_map (λ (band : Shape). beneath band) (drop bands (children n)) in
-    Remake path (record n.own { discipline = Prio priomap }) new_bands lost
+    Remake path (record n.own { discipline = Prio priomap }) new_bands
 
 -- An implicit bfifo beneath a tbf has the new limit at once; its packets stay.
 abbrev pub relimited : ℕ → Discipline → Discipline
@@ -104,7 +102,7 @@ leaf_of_tbf limit leaf =
 -- The bucket fills up to now at its old rate, and is cut to its new burst.
 abbrev pub reshaped : ℕ → Shape → List ℕ → TokenBucket → ℕ → ℕ → ℕ → Edit
 reshaped now n path bucket rate burst bytes =
-    Remake path (record n.own { discipline = Tbf (after_change bucket rate burst now) bytes }) (map (leaf_of_tbf bytes) (children n)) []
+    Remake path (record n.own { discipline = Tbf (after_change bucket rate burst now) bytes }) (map (leaf_of_tbf bytes) (children n))
 
 -- a prio may not lose a band that a filter names; the burst of a tbf may not fall below both what it was and the mtu; the
 -- number of flows stays

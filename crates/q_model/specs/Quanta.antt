@@ -1,6 +1,6 @@
 -- How many quanta each flow of an fq_codel gets at a take, and how many bytes the one that sends gives.
 -- RFC 8290, section 4.2: a flow without credits gets one quantum at a visit.
-use Rattle.std.specs.Prelude.{ℕ, ◌*◌, ◌==◌, pos, ◌+ℤ◌, int_le, List, [], ◌∷◌, ◌++◌, Option, Some, None}
+use Rattle.std.specs.Prelude.{ℕ, ◌*◌, ◌==◌, pos, ◌+ℤ◌, int_le, if◌then◌else◌, List, [], ◌∷◌, ◌++◌, Option, Some, None}
 use Rattle.std.specs.List.{find, filter_map}
 use Rattle.std.specs.Option.{option_map_or}
 use Rattle.q_packet.specs.Least.{least}
@@ -16,10 +16,14 @@ unfoldable pub quanta_between : ℕ → Entry → Entry → ℕ
 quanta_between quantum before after =
     least (λ k. int_le after.credits (before.credits +ℤ pos (k * quantum))) (need quantum before)
 
+-- so many quanta for a flow; where it gets none, nothing is noted
+abbrev pub quanta_note : ℕ → ℕ → Option Note
+quanta_note flow k = if k == 0 then None else Some (FlowGranted flow k)
+
 -- of a flow that is listed before and after the selection
 abbrev pub flow_note : ℕ → List Entry → Entry → Option Note
 flow_note quantum after e =
-    option_map_or (λ (a : Entry). Some (FlowGranted e.flow (quanta_between quantum e a))) (find (λ (a : Entry). a.flow == e.flow) after) None
+    option_map_or (λ (a : Entry). quanta_note e.flow (quanta_between quantum e a)) (find (λ (a : Entry). a.flow == e.flow) after) None
 
 abbrev pub flows_granted : FqState → FqState → List Note
 flows_granted s chosen = filter_map (flow_note s.settings.quantum (chosen.fresh ++ chosen.stale)) (s.fresh ++ s.stale)

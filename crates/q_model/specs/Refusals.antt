@@ -46,14 +46,6 @@ is_classless (Prio priomap) = false
 is_classless (Tbf bucket limit) = false
 is_classless (Drr s) = false
 
--- the classes of prio and tbf come with them
-abbrev pub has_fixed_classes : Discipline → Bool
-has_fixed_classes (Prio priomap) = true
-has_fixed_classes (Tbf bucket limit) = true
-has_fixed_classes (Fifo limit queue) = false
-has_fixed_classes (Drr s) = false
-has_fixed_classes (FqCodel s) = false
-
 -- filters choose among the classes of prio and drr
 abbrev pub has_filters : Discipline → Bool
 has_filters (Prio priomap) = true

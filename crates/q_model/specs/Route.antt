@@ -49,3 +49,8 @@ way p own below (Drr s) =
 
 abbrev pub route : {M : Type 0} → Descriptor → Node M → Route
 route p n = from_below (λ own below. way p own below own.discipline) n
+
+-- The route from the device down: none where the packet is longer than the mtu, since the device then refuses it as TooLong
+-- before the root. A root that refuses it, as a tbf does what is longer than its burst, has a route which ends there.
+abbrev pub device_route : {M : Type 0} → Descriptor → ℕ → Node M → Option Route
+device_route p mtu root = if nat_lt mtu p.len then None else Some (route p root)

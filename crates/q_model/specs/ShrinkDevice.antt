@@ -6,9 +6,6 @@ use Rattle.q_model.specs.Shrink as tree
 use Rattle.q_model.specs.Step.{DeviceState, Step}
 use Rattle.q_model.specs.Replay.{Replay}
 
-abbrev pub remembering : {M N : Type 0} → (M → N) → DeviceState M → DeviceState N
-remembering f d = record { clock = d.clock; tree = tree.remembering f d.tree }
-
 abbrev pub shrunk : DeviceState (List Note) → DeviceState Counts
 shrunk d = record { clock = d.clock; tree = tree.shrunk d.tree }
 

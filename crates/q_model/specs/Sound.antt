@@ -15,4 +15,4 @@ pub record IsConserved (d : DeviceState (List Note)) : Type 0 where
 -- what is to hold after every list of events
 pub record IsSound (d : DeviceState (List Note)) : Type 0 where
   pub conserved : IsConserved d
-  pub lawful : IsLawfulTree history d.tree
+  pub lawful : IsLawfulTree history d.clock d.tree

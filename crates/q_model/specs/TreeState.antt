@@ -1,6 +1,6 @@
 -- A device's tree: the node above the root, which is the device itself, and what arrivals, takes and commands make of both.
 -- A packet longer than the mtu is refused by the device (this project's choice); a refused command changes nothing.
-use Rattle.std.specs.Prelude.{ℕ, nat_lt, if◌then◌else◌, List, [], ◌∷◌, ◌++◌, map, Option, Some, None, Result, Ok, Err, option_and_then, option_map}
+use Rattle.std.specs.Prelude.{ℕ, if◌then◌else◌, List, [], ◌∷◌, ◌++◌, map, Option, Some, None, Result, Ok, Err, option_and_then, option_map}
 use Rattle.std.specs.Option.{option_to_list}
 use Rattle.q_packet.specs.Descriptor.{Descriptor}
 use Rattle.q_packet.specs.declared.cause.Cause.{Cause}
@@ -14,7 +14,7 @@ use Rattle.q_model.specs.declared.row.Row.{Row}
 use Rattle.q_model.specs.Tally.{Tally, Note, Arrived, Sent, Lost, no_counts, noted}
 use Rattle.q_model.specs.Node.{Node, Shape, shape, blank}
 use Rattle.q_model.specs.Beneath.{beneath, row, row_of}
-use Rattle.q_model.specs.Route.{Route, route}
+use Rattle.q_model.specs.Route.{Route, device_route}
 use Rattle.q_model.specs.Work.{Work, Worked, quiet, booked}
 use Rattle.q_model.specs.Put.{put_along, drops_itself}
 use Rattle.q_model.specs.Ask.{Asked, ask, take_from}
@@ -40,11 +40,13 @@ new_tree t d = record { device = d; top = t.none; root = blank t (implicit_pfifo
 abbrev pub with_work : {M : Type 0} → Tally M → List Note → Worked → TreeState M → TreeState M
 with_work t notes w s = record s { top = noted t s.top notes; root = booked t s.root w }
 
--- a packet that is put: the way is found, and then followed
+-- a packet that is put on its route; one without a route is refused above the root, which it never reaches
+abbrev pub put_on : ℕ → Descriptor → Option Route → Shape → Work
+put_on now p None root = record { node = quiet root; rises = Lost p TooLong ∷ [] }
+put_on now p (Some r) root = put_along now p r.refusal r.path root
+
 abbrev pub put_work : ℕ → Descriptor → Device → Shape → Work
-put_work now p d root =
-    if nat_lt d.mtu p.len then record { node = quiet root; rises = Lost p TooLong ∷ [] }
-    else (let r = route p root in put_along now p r.refusal r.path root)
+put_work now p d root = put_on now p (device_route p d.mtu root) root
 
 -- the cause where the packet that is put is itself lost: refused, or dropped at once
 abbrev pub loss_at_end : ℕ → Descriptor → Shape → Route → Option Cause
@@ -53,8 +55,12 @@ loss_at_end now p root r = elim r.refusal [
   | None ↦ option_and_then (λ (end : Shape). if drops_itself p now end.own.discipline then Some FatFlow else None) (node_at r.path root)
 ]
 
+abbrev pub loss_on : ℕ → Descriptor → Option Route → Shape → Option Cause
+loss_on now p None root = Some TooLong
+loss_on now p (Some r) root = loss_at_end now p root r
+
 abbrev pub own_loss : ℕ → Descriptor → Device → Shape → Option Cause
-own_loss now p d root = if nat_lt d.mtu p.len then Some TooLong else loss_at_end now p root (route p root)
+own_loss now p d root = loss_on now p (device_route p d.mtu root) root
 
 abbrev pub put : {M : Type 0} → Tally M → ℕ → Descriptor → TreeState M → TreeState M
 put t now p s = let w = put_work now p s.device (shape s.root) in with_work t (Arrived p ∷ w.rises) w.node s

@@ -5,7 +5,7 @@ use Rattle.q_packet.specs.Descriptor.{Descriptor}
 use Rattle.q_packet.specs.Key.{zero_key}
 use Rattle.q_packet.specs.declared.stamped.Stamped.{Stamped}
 use Rattle.q_packet.specs.declared.ecn.Ecn.TheVariants.{NotEct}
-use Rattle.q_packet.specs.declared.cause.Cause.TheVariants.{TooLong, OverLimit, Purged}
+use Rattle.q_packet.specs.declared.cause.Cause.TheVariants.{OverLimit, Purged}
 use Rattle.q_codel.specs.FifoState.{takes}
 use Rattle.q_codel.specs.declared.limit.Limit.{Limit}
 use Rattle.q_codel.specs.declared.limit.Limit.TheVariants.{Packets, Bytes}
@@ -14,16 +14,15 @@ use Rattle.q_model.specs.declared.command.Command.TheVariants as whole_command
 use Rattle.q_model.specs.declared.kind.Kind.TheVariants as whole_kind
 use Rattle.q_model.specs.declared.place.Place.TheVariants as whole_place
 use Rattle.q_model.specs.declared.not_done.NotDone.TheVariants as not_done
-use Rattle.q_model.specs.Tally.{Counts, Arrived, Lost, no_totals, noted}
+use Rattle.q_model.specs.Tally.{Counts, Arrived, no_totals, noted}
 use Rattle.q_model.specs.Tally as tree
 use Rattle.q_model.specs.Node.{Own, Fifo, none, Node, Shape, shape}
 use Rattle.q_model.specs.Beneath.{packets_of, is_empty}
 use Rattle.q_model.specs.Route.{Route, ends, refused}
-use Rattle.q_model.specs.Work.{Work, quiet, losses_of}
-use Rattle.q_model.specs.Put.{put_along}
+use Rattle.q_model.specs.Work.{Work, losses_of}
 use Rattle.q_model.specs.Make.{Device, made}
 use Rattle.q_model.specs.Edit.{Edit, Graft}
-use Rattle.q_model.specs.TreeState.{TreeState, put, with_work, take_packet, plan, with_edit}
+use Rattle.q_model.specs.TreeState.{TreeState, put, put_on, with_work, take_packet, plan, with_edit}
 use Rattle.q_model.specs.TreeState as tree_state
 use Rattle.q_model.specs.Step as whole
 use Rattle.q_model.specs.Step.{polled_of}
@@ -104,8 +103,7 @@ abbrev route_by : Bool → Route
 route_by fits = if fits then ends else refused OverLimit
 
 abbrev work_by : Bool → Bool → ℕ → Descriptor → Shape → Work
-work_by long fits now p root =
-    if long then record { node = quiet root; rises = Lost p TooLong ∷ [] } else put_along now p (route_by fits).refusal (route_by fits).path root
+work_by long fits now p root = put_on now p (if long then None else Some (route_by fits)) root
 
 abbrev reached_by : Bool → LeafState Totals → Descriptor → ℕ → LeafState Totals
 reached_by fits l p now =
