@@ -78,4 +78,4 @@ made d now handle (kind.Prio bands priomap) = node_of handle (Prio priomap) (rep
 made d now handle (kind.Tbf rate burst limit) =
     let bytes = limit_bytes rate burst limit in node_of handle (Tbf (full rate burst now) bytes) (implicit_bfifo bytes ∷ [])
 made d now handle kind.Drr = node_of handle (Drr (no_classes d.mtu)) []
-made d now handle (kind.FqCodel options) = node_of handle (FqCodel (first_state (with_options options (default_settings d)) 0)) []
+made d now handle (kind.FqCodel options) = node_of handle (FqCodel (first_state (with_options options (default_settings d)))) []
