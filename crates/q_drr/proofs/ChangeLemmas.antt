@@ -9,10 +9,10 @@ use Rattle.std.proofs.lemmas.List.Kept.{AllPairs-filter}
 use Rattle.q_drr.specs.Schedule.{Class, Entry, Schedule, has_class, is_active, quantum_of, added, removed, woken, asleep, with_quantum, cut, turned, active_after, after_grants, IsEntry, IsLawful}
 use Rattle.q_drr.specs.Changes.{EmptyIsLawful, AddedIsLawful, RemovedIsLawful, WokenIsLawful, AsleepIsLawful, RequantizedIsLawful, TurnedIsLawful}
 use Rattle.q_drr.proofs.DifferLemmas.{Differ, EntriesDiffer, ClassesDiffer, differ-from_pairs, pairs-from_differ, entries_apart}
-use Rattle.q_drr.proofs.KeyLemmas.{has_push, find_push, has_others, find_others, has_map, differ_map}
+use Rattle.q_drr.proofs.KeyLemmas.{has_push, find_push, differ_push, has_others, find_others, has_map, differ_map}
 use Rattle.q_drr.proofs.LookupLemmas.{quantum-here, quantum-behind}
 use Rattle.q_drr.proofs.NameLemmas.{eqb_swap}
-use Rattle.q_drr.proofs.StretchLemmas.{differ_push, list_differ}
+use Rattle.q_drr.proofs.StretchLemmas.{list_differ}
 
 classes_apart : (classes : List Class) → AllPairs (λ (a b : Class). a.name ≢ b.name) classes → ClassesDiffer classes
 classes_apart classes h = differ-from_pairs (λ (c : Class). c.name) classes h
@@ -37,12 +37,6 @@ empty_lawful max_len = record {
   counted_turns = omega arith;
 }
 
-class_push : (classes : List Class) (c : Class) → ClassesDiffer classes → has_class c.name classes ≡ false → ClassesDiffer (classes ++ c ∷ [])
-class_push [] c d absent = (refl, tt)
-class_push (b ∷ classes) c d absent =
-    let parts = or_parts (eqb c.name b.name) (has_class c.name classes) absent in
-    (has_push (λ (c : Class). c.name) b.name c classes ∙ or_from (has_class b.name classes) (eqb b.name c.name) d.0 (eqb_swap c.name b.name parts.0), class_push classes c d.1 parts.1)
-
 pub added_lawful : AddedIsLawful
 added_lawful s n quantum h absent positive =
     let c : Class = record { name = n; quantum = quantum } in
@@ -52,7 +46,7 @@ added_lawful s n quantum h absent positive =
     (has_push (λ (c : Class). c.name) e.class c s.classes ∙ or_known (has_class e.class s.classes) (eqb e.class n) i.there ∙ sym i.there)
     (ap (λ (o : Option Class). option_map_or (λ (c : Class). c.quantum) o 0) (find_push (λ (c : Class). c.name) e.class c s.classes i.there)) i in
     record {
-      classes_differ = pairs-from_differ (λ (c : Class). c.name) new (class_push s.classes c (classes_apart s.classes h.classes_differ) absent);
+      classes_differ = pairs-from_differ (λ (c : Class). c.name) new (differ_push (λ (c : Class). c.name) c s.classes (classes_apart s.classes h.classes_differ) absent);
       quanta = All-push (λ (c : Class). 1 ≤ c.quantum) s.classes c h.quanta positive;
       entries_differ = h.entries_differ;
       entries = All-weaker (IsEntry s.max_len s.classes) (IsEntry s.max_len new) kept s.active h.entries;
@@ -103,7 +97,7 @@ woken_if false s n e h positive there =
     record {
       classes_differ = h.classes_differ;
       quanta = h.quanta;
-      entries_differ = pairs-from_differ (λ (e : Entry). e.class) (s.active ++ x ∷ []) (differ_push x s.active (entries_apart s.active h.entries_differ) e);
+      entries_differ = pairs-from_differ (λ (e : Entry). e.class) (s.active ++ x ∷ []) (differ_push (λ (e : Entry). e.class) x s.active (entries_apart s.active h.entries_differ) e);
       entries = All-push (IsEntry s.max_len s.classes) s.active x h.entries (record { there = there; bounded = omega (arith, positive); in_range = omega arith });
       counted_turns = h.counted_turns;
     }

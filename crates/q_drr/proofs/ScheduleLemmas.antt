@@ -1,16 +1,18 @@
 -- What an active list shows, after each change of its table and its circle.
 use Rattle.std.proofs.Common.{◌≡◌, ◌≢◌, ℕ, ◌+◌, ◌-◌, ◌<◌, ◌≤◌, ◌^◌, min, Bool, true, false, eqb, ◌||◌, not, cond, List, [], ◌∷◌, ◌++◌, map, length, Some, None, refl, sym, ap, ◌∙◌, subst, inl, inr, arith, eq-eqb, take, drop}
-use Rattle.std.specs.Prelude.{if◌then◌else◌, slice_get, ◌==◌, nat_lt}
+use Rattle.std.specs.Prelude.{if◌then◌else◌, slice_get, ◌==◌, nat_lt, Option, unwrap_or}
 use Rattle.std.specs.List.{AllByRecursion, AllPairs, filter, position_or_len}
 use Rattle.std.proofs.lemmas.List.Elements.{All-from_recursion}
 use Rattle.std.proofs.lemmas.Bool.{eqb-true, false≢true, or_parts, or_from, cases_Bool}
 use Rattle.std.proofs.lemmas.List.{map-append, length-map}
 use Rattle.q_drr.specs.declared.class_state.ClassState.{ClassState}
 use Rattle.q_drr.specs.Links.{Circle, is_among, without}
-use Rattle.q_drr.specs.States.{has_state, place_of_state, state_of, with_state, without_state, class_in, entry_in}
+use Rattle.q_drr.specs.States.{no_state, has_state, place_of_state, state_of, with_state, without_state, class_in, entry_in}
 use Rattle.q_drr.specs.Schedule.{Class, Entry, Schedule, woken, asleep, removed, added, with_quantum, has_class, place_of, quantum_of, is_active, deficit_of, granted_of, cut, IsEntry, IsLawful}
 use Rattle.q_drr.specs.Kept.{shown, IsState, IsKept}
 use Rattle.q_drr.proofs.DifferLemmas.{AllDiffer, StatesDiffer, ClassesDiffer, EntriesDiffer, pairs-from_differ, numbers_apart, states_apart, numbers_differ-from, states_differ-from}
+use Rattle.q_drr.proofs.KeyLemmas.{has_push, find_push, has_others, find_others}
+use Rattle.q_drr.proofs.KeyLemmas as keys
 use Rattle.q_drr.proofs.LookupLemmas.{state-here, state-behind, quantum-here, quantum-behind, deficit-here, deficit-behind, granted-here, granted-behind}
 use Rattle.q_drr.proofs.NameLemmas.{each_at, each_push, differ_by_member, differ_push, differ_rotated, eqb_swap, without_absent}
 use Rattle.q_drr.proofs.StateLemmas.{with_absent}
@@ -83,13 +85,6 @@ state_meets P n [] each there = absurd (false≢true there)
 state_meets P n (c ∷ states) each there = elim (cases_Bool (eqb n c.name)) [
   | inl e ↦ subst P (sym (state-here n c states e)) each.0
   | inr e ↦ subst P (sym (state-behind n c states e)) (state_meets P n states each.1 (sym (ap (λ t. t || has_state n states) e) ∙ there))
-]
-
--- lists that show the same state of a class show the same with one more in front
-state_more : (n : ℕ) (c : ClassState) (cs ds : List ClassState) → state_of n cs ≡ state_of n ds → state_of n (c ∷ cs) ≡ state_of n (c ∷ ds)
-state_more n c cs ds e = elim (cases_Bool (eqb n c.name)) [
-  | inl q ↦ state-here n c cs q ∙ sym (state-here n c ds q)
-  | inr q ↦ state-behind n c cs q ∙ e ∙ sym (state-behind n c ds q)
 ]
 
 -- one state written
@@ -295,21 +290,10 @@ kept_rotated max_len states circle h =
 
 -- `remove`
 has_without : (m n : ℕ) (states : List ClassState) → eqb n m ≡ false → has_state m (without_state n states) ≡ has_state m states
-has_without m n [] apart = refl
-has_without m n (c ∷ states) apart = elim (cases_Bool (eqb n c.name)) [
-  | inl e ↦ ap (λ t. has_state m (cond (not t) (c ∷ without_state n states) (without_state n states))) e ∙ has_without m n states apart
-      ∙ ap (λ t. t || has_state m states) (sym (ap (eqb m) (sym (eqb-true n c.name e)) ∙ eqb_swap n m apart))
-  | inr e ↦ ap (λ t. has_state m (cond (not t) (c ∷ without_state n states) (without_state n states))) e ∙ ap (λ t. eqb m c.name || t) (has_without m n states apart)
-]
+has_without m n states apart = has_others (λ (c : ClassState). c.name) m n states apart
 
 state_of_without : (m n : ℕ) (states : List ClassState) → eqb n m ≡ false → state_of m (without_state n states) ≡ state_of m states
-state_of_without m n [] apart = refl
-state_of_without m n (c ∷ states) apart = elim (cases_Bool (eqb n c.name)) [
-  | inl e ↦ ap (λ t. state_of m (cond (not t) (c ∷ without_state n states) (without_state n states))) e ∙ state_of_without m n states apart
-      ∙ sym (state-behind m c states (ap (eqb m) (sym (eqb-true n c.name e)) ∙ eqb_swap n m apart))
-  | inr e ↦ ap (λ t. state_of m (cond (not t) (c ∷ without_state n states) (without_state n states))) e
-      ∙ state_more m c (without_state n states) states (state_of_without m n states apart)
-]
+state_of_without m n states apart = ap (λ (o : Option ClassState). unwrap_or o no_state) (find_others (λ (c : ClassState). c.name) m n states apart)
 
 classes_without : (n : ℕ) (states : List ClassState) → map class_in (without_state n states) ≡ filter (λ c. not (n == c.name)) (map class_in states)
 classes_without n [] = refl
@@ -371,35 +355,16 @@ kept_removed max_len states circle n h = record {
 one_class : (new c : ClassState) (q : ℕ) → new.name ≡ c.name → new.quantum ≡ q → class_in new ≡ record (class_in c) { quantum = q }
 one_class new c q name quantum = cc
 
-or_nothing : (t : Bool) → (t || false) ≡ t
-or_nothing true = refl
-or_nothing false = refl
-
-or_joined : (a b c : Bool) → (a || (b || c)) ≡ ((a || b) || c)
-or_joined true b c = refl
-or_joined false b c = refl
-
 -- `add`
 or_known : (x y : Bool) → x ≡ true → (x || y) ≡ true
 or_known true y e = refl
 or_known false y e = absurd (false≢true e)
 
 has_added : (n : ℕ) (new : ClassState) (states : List ClassState) → has_state n (states ++ new ∷ []) ≡ (has_state n states || eqb n new.name)
-has_added n new [] = or_nothing (eqb n new.name)
-has_added n new (c ∷ states) = ap (λ t. eqb n c.name || t) (has_added n new states) ∙ or_joined (eqb n c.name) (has_state n states) (eqb n new.name)
+has_added n new states = has_push (λ (c : ClassState). c.name) n new states
 
 state_of_added : (n : ℕ) (new : ClassState) (states : List ClassState) → has_state n states ≡ true → state_of n (states ++ new ∷ []) ≡ state_of n states
-state_of_added n new [] there = absurd (false≢true there)
-state_of_added n new (c ∷ states) there = elim (cases_Bool (eqb n c.name)) [
-  | inl e ↦ state-here n c (states ++ new ∷ []) e ∙ sym (state-here n c states e)
-  | inr e ↦ state_more n c (states ++ new ∷ []) states (state_of_added n new states (sym (ap (λ t. t || has_state n states) e) ∙ there))
-]
-
-differ_added : (new : ClassState) (states : List ClassState) → StatesDiffer states → has_state new.name states ≡ false → StatesDiffer (states ++ new ∷ [])
-differ_added new [] d absent = (refl, tt)
-differ_added new (c ∷ states) d absent =
-    let parts = or_parts (eqb new.name c.name) (has_state new.name states) absent in
-    (has_added c.name new states ∙ or_from (has_state c.name states) (eqb c.name new.name) d.0 (eqb_swap new.name c.name parts.0), differ_added new states d.1 parts.1)
+state_of_added n new states there = ap (λ (o : Option ClassState). unwrap_or o no_state) (find_push (λ (c : ClassState). c.name) n new states there)
 
 each_in_more_room : (max_len room more : ℕ) (states : List ClassState) → room ≤ more → AllByRecursion (IsState max_len room) states → AllByRecursion (IsState max_len more) states
 each_in_more_room max_len room more [] le h = tt
@@ -427,7 +392,7 @@ pub kept_added : (max_len : ℕ) (states : List ClassState) (circle : Circle) (n
 kept_added max_len states circle new absent p h = record {
   positive = h.positive;
   each = each_push (IsState max_len circle.room) new states h.each p;
-  states_differ = states_differ-from (states ++ new ∷ []) (differ_added new states (states_apart states h.states_differ) absent);
+  states_differ = states_differ-from (states ++ new ∷ []) (keys.differ_push (λ (c : ClassState). c.name) new states (states_apart states h.states_differ) absent);
   known = known_by states (states ++ new ∷ []) circle.order (λ n there. has_added n new states ∙ or_known (has_state n states) (eqb n new.name) (each_at (λ m. has_state m states ≡ true) n circle.order h.known there)
       ∙ sym (each_at (λ m. has_state m states ≡ true) n circle.order h.known there)) h.known;
   order_differs = h.order_differs;
