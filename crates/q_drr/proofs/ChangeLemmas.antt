@@ -7,12 +7,12 @@ use Rattle.std.proofs.lemmas.Bool.{eqb-true, ne_eqb, false≢true, or_parts, or_
 use Rattle.std.proofs.lemmas.List.Elements.{All-nil, All-push, All-filter, All-head, All-tail, All-cons, All-weaker, All-map, All-same, filter_passes, All-from_recursion, recursion_from_All}
 use Rattle.std.proofs.lemmas.List.Kept.{AllPairs-filter}
 use Rattle.q_drr.specs.Schedule.{Class, Entry, Schedule, has_class, is_active, quantum_of, added, removed, woken, asleep, with_quantum, cut, turned, active_after, after_grants, IsEntry, IsLawful}
-use Rattle.q_drr.specs.Changes.{EmptyIsLawful, AddedIsLawful, RemovedIsLawful, WokenIsLawful, AsleepIsLawful, RequantizedIsLawful, TurnedIsLawful}
+use Rattle.q_drr.specs.Changes.{EmptyIsLawful, AddedIsLawful, RemovedIsLawful, WokenIsLawful, AsleepIsLawful, WithQuantumIsLawful, TurnedIsLawful}
 use Rattle.q_drr.proofs.DifferLemmas.{Differ, EntriesDiffer, ClassesDiffer, differ-from_pairs, pairs-from_differ, entries_apart}
-use Rattle.q_drr.proofs.KeyLemmas.{has_push, find_push, has_others, find_others, has_map, differ_map}
+use Rattle.q_drr.proofs.KeyLemmas.{has_push, find_push, differ_push, has_others, find_others, has_map, differ_map}
 use Rattle.q_drr.proofs.LookupLemmas.{quantum-here, quantum-behind}
 use Rattle.q_drr.proofs.NameLemmas.{eqb_swap}
-use Rattle.q_drr.proofs.StretchLemmas.{differ_push, list_differ}
+use Rattle.q_drr.proofs.StretchLemmas.{list_differ}
 
 classes_apart : (classes : List Class) → AllPairs (λ (a b : Class). a.name ≢ b.name) classes → ClassesDiffer classes
 classes_apart classes h = differ-from_pairs (λ (c : Class). c.name) classes h
@@ -37,12 +37,6 @@ empty_lawful max_len = record {
   counted_turns = omega arith;
 }
 
-class_push : (classes : List Class) (c : Class) → ClassesDiffer classes → has_class c.name classes ≡ false → ClassesDiffer (classes ++ c ∷ [])
-class_push [] c d absent = (refl, tt)
-class_push (b ∷ classes) c d absent =
-    let parts = or_parts (eqb c.name b.name) (has_class c.name classes) absent in
-    (has_push (λ (c : Class). c.name) b.name c classes ∙ or_from (has_class b.name classes) (eqb b.name c.name) d.0 (eqb_swap c.name b.name parts.0), class_push classes c d.1 parts.1)
-
 pub added_lawful : AddedIsLawful
 added_lawful s n quantum h absent positive =
     let c : Class = record { name = n; quantum = quantum } in
@@ -52,7 +46,7 @@ added_lawful s n quantum h absent positive =
     (has_push (λ (c : Class). c.name) e.class c s.classes ∙ or_known (has_class e.class s.classes) (eqb e.class n) i.there ∙ sym i.there)
     (ap (λ (o : Option Class). option_map_or (λ (c : Class). c.quantum) o 0) (find_push (λ (c : Class). c.name) e.class c s.classes i.there)) i in
     record {
-      classes_differ = pairs-from_differ (λ (c : Class). c.name) new (class_push s.classes c (classes_apart s.classes h.classes_differ) absent);
+      classes_differ = pairs-from_differ (λ (c : Class). c.name) new (differ_push (λ (c : Class). c.name) c s.classes (classes_apart s.classes h.classes_differ) absent);
       quanta = All-push (λ (c : Class). 1 ≤ c.quantum) s.classes c h.quanta positive;
       entries_differ = h.entries_differ;
       entries = All-weaker (IsEntry s.max_len s.classes) (IsEntry s.max_len new) kept s.active h.entries;
@@ -103,7 +97,7 @@ woken_if false s n e h positive there =
     record {
       classes_differ = h.classes_differ;
       quanta = h.quanta;
-      entries_differ = pairs-from_differ (λ (e : Entry). e.class) (s.active ++ x ∷ []) (differ_push x s.active (entries_apart s.active h.entries_differ) e);
+      entries_differ = pairs-from_differ (λ (e : Entry). e.class) (s.active ++ x ∷ []) (differ_push (λ (e : Entry). e.class) x s.active (entries_apart s.active h.entries_differ) e);
       entries = All-push (IsEntry s.max_len s.classes) s.active x h.entries (record { there = there; bounded = omega (arith, positive); in_range = omega arith });
       counted_turns = h.counted_turns;
     }
@@ -114,65 +108,65 @@ woken_lawful s n h positive there = woken_if (is_active n s.active) s n refl h p
 -- ---- another quantum
 
 module _ (n q : ℕ) where
-  abbrev pub requantized : Class → Class
-  requantized c = if n == c.name then record c { quantum = q } else c
+  abbrev pub quantum_set : Class → Class
+  quantum_set c = if n == c.name then record c { quantum = q } else c
 
-  same_name : (c : Class) → (requantized c).name ≡ c.name
+  same_name : (c : Class) → (quantum_set c).name ≡ c.name
   same_name c = elim (n == c.name) as (λ (t : Bool). (if t then record c { quantum = q } else c).name ≡ c.name) [ true ↦ refl | false ↦ refl ]
 
-  new_quantum : (classes : List Class) → has_class n classes ≡ true → quantum_of n (map requantized classes) ≡ q
+  new_quantum : (classes : List Class) → has_class n classes ≡ true → quantum_of n (map quantum_set classes) ≡ q
   new_quantum [] there = absurd (false≢true there)
   new_quantum (c ∷ classes) there = elim (cases_Bool (eqb n c.name)) [
-    | inl e ↦ quantum-here n (requantized c) (map requantized classes) (ap (eqb n) (same_name c) ∙ e)
+    | inl e ↦ quantum-here n (quantum_set c) (map quantum_set classes) (ap (eqb n) (same_name c) ∙ e)
         ∙ ap (λ (t : Bool). (if t then record c { quantum = q } else c).quantum) e
-    | inr e ↦ quantum-behind n (requantized c) (map requantized classes) (ap (eqb n) (same_name c) ∙ e)
+    | inr e ↦ quantum-behind n (quantum_set c) (map quantum_set classes) (ap (eqb n) (same_name c) ∙ e)
         ∙ new_quantum classes (sym (ap (λ t. t || has_class n classes) e) ∙ there)
   ]
 
-  old_quantum : (m : ℕ) (classes : List Class) → eqb n m ≡ false → quantum_of m (map requantized classes) ≡ quantum_of m classes
+  old_quantum : (m : ℕ) (classes : List Class) → eqb n m ≡ false → quantum_of m (map quantum_set classes) ≡ quantum_of m classes
   old_quantum m [] apart = refl
   old_quantum m (c ∷ classes) apart = elim (cases_Bool (eqb m c.name)) [
-    | inl e ↦ quantum-here m (requantized c) (map requantized classes) (ap (eqb m) (same_name c) ∙ e)
+    | inl e ↦ quantum-here m (quantum_set c) (map quantum_set classes) (ap (eqb m) (same_name c) ∙ e)
         ∙ ap (λ (t : Bool). (if t then record c { quantum = q } else c).quantum) (ap (eqb n) (sym (eqb-true m c.name e)) ∙ apart)
         ∙ sym (quantum-here m c classes e)
-    | inr e ↦ quantum-behind m (requantized c) (map requantized classes) (ap (eqb m) (same_name c) ∙ e)
+    | inr e ↦ quantum-behind m (quantum_set c) (map quantum_set classes) (ap (eqb m) (same_name c) ∙ e)
         ∙ old_quantum m classes apart ∙ sym (quantum-behind m c classes e)
   ]
 
-  at_least_one : (c : Class) → 1 ≤ q → 1 ≤ c.quantum → 1 ≤ (requantized c).quantum
+  at_least_one : (c : Class) → 1 ≤ q → 1 ≤ c.quantum → 1 ≤ (quantum_set c).quantum
   at_least_one c positive h = elim (n == c.name) as (λ (t : Bool). 1 ≤ (if t then record c { quantum = q } else c).quantum) [ true ↦ positive | false ↦ h ]
 
-  cut_kept : (max_len : ℕ) (classes : List Class) (e : Entry) → 1 ≤ q → IsEntry max_len classes e → IsEntry max_len (map requantized classes) (cut n q max_len e)
+  cut_kept : (max_len : ℕ) (classes : List Class) (e : Entry) → 1 ≤ q → IsEntry max_len classes e → IsEntry max_len (map quantum_set classes) (cut n q max_len e)
   cut_kept max_len classes e positive h = elim (cases_Bool (eqb n e.class)) [
     | inl same ↦
         let name : n ≡ e.class = eqb-true n e.class same in
-        let quantum : quantum_of e.class (map requantized classes) ≡ q =
-        ap (λ m. quantum_of m (map requantized classes)) (sym name) ∙ new_quantum classes (ap (λ m. has_class m classes) name ∙ h.there) in
-        let less : IsEntry max_len (map requantized classes) (record e { deficit = min e.deficit (q + max_len - 1) }) = record {
-          there = has_map (λ (c : Class). c.name) requantized same_name e.class classes ∙ h.there;
+        let quantum : quantum_of e.class (map quantum_set classes) ≡ q =
+        ap (λ m. quantum_of m (map quantum_set classes)) (sym name) ∙ new_quantum classes (ap (λ m. has_class m classes) name ∙ h.there) in
+        let less : IsEntry max_len (map quantum_set classes) (record e { deficit = min e.deficit (q + max_len - 1) }) = record {
+          there = has_map (λ (c : Class). c.name) quantum_set same_name e.class classes ∙ h.there;
           bounded = omega (arith, quantum, positive);
           in_range = h.in_range;
         } in
-        subst (λ (t : Bool). IsEntry max_len (map requantized classes) (if t then record e { deficit = min e.deficit (q + max_len - 1) } else e)) (sym same) less
+        subst (λ (t : Bool). IsEntry max_len (map quantum_set classes) (if t then record e { deficit = min e.deficit (q + max_len - 1) } else e)) (sym same) less
     | inr apart ↦
-        let kept : IsEntry max_len (map requantized classes) e =
-        entry_kept max_len classes (map requantized classes) e (has_map (λ (c : Class). c.name) requantized same_name e.class classes) (old_quantum e.class classes apart) h in
-        subst (λ (t : Bool). IsEntry max_len (map requantized classes) (if t then record e { deficit = min e.deficit (q + max_len - 1) } else e)) (sym apart) kept
+        let kept : IsEntry max_len (map quantum_set classes) e =
+        entry_kept max_len classes (map quantum_set classes) e (has_map (λ (c : Class). c.name) quantum_set same_name e.class classes) (old_quantum e.class classes apart) h in
+        subst (λ (t : Bool). IsEntry max_len (map quantum_set classes) (if t then record e { deficit = min e.deficit (q + max_len - 1) } else e)) (sym apart) kept
   ]
 
 cut_class : (n q max_len : ℕ) (e : Entry) → (cut n q max_len e).class ≡ e.class
 cut_class n q max_len e = elim (n == e.class) as (λ (t : Bool). (if t then record e { deficit = min e.deficit (q + max_len - 1) } else e).class ≡ e.class) [ true ↦ refl | false ↦ refl ]
 
-pub requantized_lawful : RequantizedIsLawful
-requantized_lawful s n q h positive = record {
-  classes_differ = pairs-from_differ (λ (c : Class). c.name) (map (requantized n q) s.classes)
-      (differ_map (λ (c : Class). c.name) (requantized n q) (same_name n q) s.classes (classes_apart s.classes h.classes_differ));
-  quanta = All-map (λ (c : Class). 1 ≤ c.quantum) (requantized n q) s.classes
-      (All-weaker (λ (c : Class). 1 ≤ c.quantum) (λ (c : Class). 1 ≤ (requantized n q c).quantum) (λ c. at_least_one n q c positive) s.classes h.quanta);
+pub with_quantum_lawful : WithQuantumIsLawful
+with_quantum_lawful s n q h positive = record {
+  classes_differ = pairs-from_differ (λ (c : Class). c.name) (map (quantum_set n q) s.classes)
+      (differ_map (λ (c : Class). c.name) (quantum_set n q) (same_name n q) s.classes (classes_apart s.classes h.classes_differ));
+  quanta = All-map (λ (c : Class). 1 ≤ c.quantum) (quantum_set n q) s.classes
+      (All-weaker (λ (c : Class). 1 ≤ c.quantum) (λ (c : Class). 1 ≤ (quantum_set n q c).quantum) (λ c. at_least_one n q c positive) s.classes h.quanta);
   entries_differ = pairs-from_differ (λ (e : Entry). e.class) (map (cut n q s.max_len) s.active)
       (differ_map (λ (e : Entry). e.class) (cut n q s.max_len) (cut_class n q s.max_len) s.active (entries_apart s.active h.entries_differ));
-  entries = All-map (IsEntry s.max_len (map (requantized n q) s.classes)) (cut n q s.max_len) s.active
-      (All-weaker (IsEntry s.max_len s.classes) (λ e. IsEntry s.max_len (map (requantized n q) s.classes) (cut n q s.max_len e)) (λ e. cut_kept n q s.max_len s.classes e positive) s.active h.entries);
+  entries = All-map (IsEntry s.max_len (map (quantum_set n q) s.classes)) (cut n q s.max_len) s.active
+      (All-weaker (IsEntry s.max_len s.classes) (λ e. IsEntry s.max_len (map (quantum_set n q) s.classes) (cut n q s.max_len e)) (λ e. cut_kept n q s.max_len s.classes e positive) s.active h.entries);
   counted_turns = h.counted_turns;
 }
 

@@ -3,7 +3,7 @@ use Rattle.std.proofs.Common.{◌≡◌, ◌≢◌, ℕ, ◌+◌, ◌*◌, ◌<�
 use Rattle.std.specs.List.{All}
 use Rattle.std.proofs.Math.Nat.{add-mul, mul-add, mul_comm, mul_assoc, mul-le-mul_left, mul-lt-mul_of_pos_left}
 use Rattle.std.proofs.lemmas.Bool.{cases_Bool, eqb-true, false≢true}
-use Rattle.std.proofs.lemmas.List.Elements.{All-head, All-tail, recursion_from_All}
+use Rattle.std.proofs.lemmas.List.Elements.{All-head, All-tail}
 use Rattle.q_drr.specs.Schedule.{Class, Entry, Schedule, has_class, quantum_of, deficit_of, is_active, turned, IsEntry, IsLawful}
 use Rattle.q_drr.specs.Stretch.{after_turns, grants, sent, SharesAreFair}
 use Rattle.q_drr.proofs.ChangeLemmas.{turned_lawful}
@@ -45,7 +45,7 @@ active_quantum max_len classes n [] quanta h there = absurd (false≢true there)
 active_quantum max_len classes n (e ∷ es) quanta h there = elim (cases_Bool (eqb n e.class)) [
   | inl same ↦
       let i : IsEntry max_len classes e = All-head (IsEntry max_len classes) e es h in
-      has_quantum n classes (recursion_from_All (λ (c : Class). 1 ≤ c.quantum) classes quanta) (ap (λ m. has_class m classes) (eqb-true n e.class same) ∙ i.there)
+      has_quantum n classes quanta (ap (λ m. has_class m classes) (eqb-true n e.class same) ∙ i.there)
   | inr other ↦ active_quantum max_len classes n es quanta (All-tail (IsEntry max_len classes) e es h) (sym (ap (λ t. t || is_active n es) other) ∙ there)
 ]
 

@@ -3,7 +3,7 @@
 use Rattle.std.proofs.Common.{◌≡◌, ℕ, Bool, true, false, eqb, ◌||◌, not, cond, List, [], ◌∷◌, ◌++◌, map, Some, None, refl, sym, ap, ◌∙◌, inl, inr}
 use Rattle.std.specs.Prelude.{◌==◌}
 use Rattle.std.specs.List.{list_any, find, filter}
-use Rattle.std.proofs.lemmas.Bool.{eqb-true, false≢true, or_parts, cases_Bool}
+use Rattle.std.proofs.lemmas.Bool.{eqb-true, false≢true, or_parts, or_from, cases_Bool}
 use Rattle.q_drr.proofs.DifferLemmas.{Differ}
 use Rattle.q_drr.proofs.NameLemmas.{eqb_swap}
 
@@ -34,6 +34,12 @@ module _ {X : Type 0} (key : X → ℕ) where
     | inl e ↦ ap (λ (t : Bool). cond t (Some x) (find (λ x. n == key x) (xs ++ y ∷ []))) e ∙ ap (λ (t : Bool). cond t (Some x) (find (λ x. n == key x) xs)) (sym e)
     | inr e ↦ ap (λ o. cond (n == key x) (Some x) o) (find_push n y xs (sym (ap (λ t. t || has n xs) e) ∙ there))
   ]
+
+  pub differ_push : (y : X) (xs : List X) → Differ key xs → has (key y) xs ≡ false → Differ key (xs ++ y ∷ [])
+  differ_push y [] d absent = (refl, tt)
+  differ_push y (x ∷ xs) d absent =
+      let parts = or_parts (eqb (key y) (key x)) (has (key y) xs) absent in
+      (has_push (key x) y xs ∙ or_from (has (key x) xs) (eqb (key x) (key y)) d.0 (eqb_swap (key y) (key x) parts.0), differ_push y xs d.1 parts.1)
 
   -- without the members of one key
   pub has_others : (m n : ℕ) (xs : List X) → eqb n m ≡ false → has m (others n xs) ≡ has m xs

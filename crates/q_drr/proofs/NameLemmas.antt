@@ -2,7 +2,8 @@
 use Rattle.std.proofs.Common.{◌≡◌, ℕ, ◌<◌, ◌≤◌, Bool, true, false, eqb, ◌||◌, not, cond, List, [], ◌∷◌, ◌++◌, length, refl, sym, ap, ◌∙◌, subst, inl, inr, eq-eqb}
 use Rattle.std.proofs.lemmas.Bool.{eqb-true, ne_eqb, false≢true, or_parts, or_from, cases_Bool}
 use Rattle.std.proofs.lemmas.Map.Steps.{length-le_from_distinct_below}
-use Rattle.std.specs.List.{IsDistinct, AllByRecursion}
+use Rattle.std.specs.List.{IsDistinct, All, AllByRecursion}
+use Rattle.std.proofs.lemmas.List.Elements.{All-head, All-tail}
 use Rattle.q_drr.specs.Links.{is_among, without}
 use Rattle.q_drr.proofs.DifferLemmas.{AllDiffer}
 
@@ -49,16 +50,12 @@ differ_push n (m ∷ ns) d absent =
 pub differ_rotated : (n : ℕ) (ns : List ℕ) → AllDiffer (n ∷ ns) → AllDiffer (ns ++ n ∷ [])
 differ_rotated n ns d = differ_push n ns d.1 d.0
 
--- what holds of each stays so for one more, and after a rotation
-pub each_push : {X : Type 0} (P : X → Type 0) (x : X) (xs : List X) → AllByRecursion P xs → P x → AllByRecursion P (xs ++ x ∷ [])
-each_push P x [] h p = (p, tt)
-each_push P x (y ∷ xs) h p = (h.0, each_push P x xs h.1 p)
-
-pub each_at : (P : ℕ → Type 0) (n : ℕ) (ns : List ℕ) → AllByRecursion P ns → is_among n ns ≡ true → P n
+-- what holds of each holds of a member
+pub each_at : (P : ℕ → Type 0) (n : ℕ) (ns : List ℕ) → All P ns → is_among n ns ≡ true → P n
 each_at P n [] h there = absurd (false≢true there)
 each_at P n (m ∷ ns) h there = elim (cases_Bool (eqb n m)) [
-  | inl e ↦ subst P (sym (eqb-true n m e)) h.0
-  | inr e ↦ each_at P n ns h.1 (sym (ap (λ t. t || is_among n ns) e) ∙ there)
+  | inl e ↦ subst P (sym (eqb-true n m e)) (All-head P m ns h)
+  | inr e ↦ each_at P n ns (All-tail P m ns h) (sym (ap (λ t. t || is_among n ns) e) ∙ there)
 ]
 
 apart : (n : ℕ) (ns : List ℕ) → is_among n ns ≡ false → AllByRecursion (λ m. eqb n m ≡ false) ns
@@ -71,7 +68,7 @@ unfolding IsDistinct
 distinct [] d = tt
 distinct (n ∷ ns) d = (apart n ns d.0, distinct ns d.1)
 
-pub length-le_from_differ : (ns : List ℕ) (bound : ℕ) → AllDiffer ns → AllByRecursion (λ n. n < bound) ns → length ns ≤ bound
+pub length-le_from_differ : (ns : List ℕ) (bound : ℕ) → AllDiffer ns → All (λ n. n < bound) ns → length ns ≤ bound
 length-le_from_differ ns bound d below =
     length-le_from_distinct_below ns bound (distinct ns d) (λ q there. each_at (λ n. n < bound) q ns below there)
 

@@ -4,11 +4,12 @@ use Rattle.std.proofs.Math.ListN.{length-replicate}
 use Rattle.std.specs.Prelude.{if◌then◌else◌, slice_index_or}
 use Rattle.std.proofs.lemmas.Bool.{eqb-true, false≢true, or_parts, or_from, cases_Bool, cases_lt, false_from_ne_true}
 use Rattle.std.proofs.lemmas.List.{append-nil, length_push, get_or_append_left, get_or-append_right, take_all}
-use Rattle.std.specs.List.{AllByRecursion}
+use Rattle.std.specs.List.{All}
+use Rattle.std.proofs.lemmas.List.Elements.{All-head, All-tail, All-push, All-weaker, All-replicate}
 use Rattle.q_drr.specs.declared.ring.Link.{Link}
 use Rattle.q_drr.specs.Links.{Circle, no_link, without, is_among, walk, IsPath, IsClosed, IsCircle, IsJoined, IsMarked, next_of, before_of}
 use Rattle.q_drr.proofs.DifferLemmas.{AllDiffer, numbers_apart, numbers_differ-from}
-use Rattle.q_drr.proofs.NameLemmas.{differ_by_member, eqb_swap, among_itself, among_rotated, differ_push, differ_rotated, each_push, each_at, place_of, among-append}
+use Rattle.q_drr.proofs.NameLemmas.{differ_by_member, eqb_swap, among_itself, among_rotated, differ_push, differ_rotated, each_at, place_of, among-append}
 
 if_true : (t : Bool) (x y z : ℕ) → z ≡ (if t then x else y) → t ≡ true → z ≡ x
 if_true true x y z e p = e
@@ -101,7 +102,7 @@ circle_rotated : (links : List Link) (n : ℕ) (ns : List ℕ) → IsCircle link
 circle_rotated links n ns h = record {
   room = h.room;
   differ = numbers_differ-from (ns ++ n ∷ []) (differ_rotated n ns (numbers_apart (n ∷ ns) h.differ));
-  inside = each_push (λ m. m < length links) n ns h.inside.1 h.inside.0;
+  inside = All-push (λ m. m < length links) ns n (All-tail (λ m. m < length links) n ns h.inside) (All-head (λ m. m < length links) n ns h.inside);
   closed = closed_rotated (next_of links) (before_of links) n ns h.closed;
   members = λ m below. h.members m below ∙ sym (among_rotated m n ns);
 }
@@ -132,8 +133,8 @@ circle_turns links (suc (suc k)) front h some =
     (λ m ms q. cc) in
     (e, subst (λ ks. IsCircle links ks) (sym e) turned)
 
-below_same : (old new : List Link) (ns : List ℕ) → length new ≡ length old → AllByRecursion (λ n. n < length old) ns → AllByRecursion (λ n. n < length new) ns
-below_same old new ns e h = subst (λ k. AllByRecursion (λ n. n < k) ns) (sym e) h
+below_same : (old new : List Link) (ns : List ℕ) → length new ≡ length old → All (λ n. n < length old) ns → All (λ n. n < length new) ns
+below_same old new ns e h = subst (λ k. All (λ n. n < k) ns) (sym e) h
 
 if_or : (t b : Bool) → (if t then true else b) ≡ (t || b)
 if_or true b = refl
@@ -160,7 +161,7 @@ circle_grown links joined closed marked first ns n h j i k below absent =
     record {
       room = omega (arith, h.room, j.len, i.len, k.len);
       differ = numbers_differ-from ((first ∷ ns) ++ n ∷ []) (differ_push n (first ∷ ns) differ absent);
-      inside = each_push (λ m. m < length marked) n (first ∷ ns) (below_same links marked (first ∷ ns) (k.len ∙ i.len ∙ j.len) h.inside) (omega (arith, j.len, i.len, k.len));
+      inside = All-push (λ m. m < length marked) (first ∷ ns) n (below_same links marked (first ∷ ns) (k.len ∙ i.len ∙ j.len) h.inside) (omega (arith, j.len, i.len, k.len));
       closed = path-append (next_of marked) (before_of marked) first ns n [] first whole (
         k.next n ∙ if_true _ _ _ _ (i.next n) (eq-eqb n n refl),
         k.before first ∙ if_true _ _ _ _ (i.before first) (eq-eqb first first refl),
@@ -196,14 +197,14 @@ pub circle_without : (links joined marked : List Link) (n : ℕ) (ns : List ℕ)
 circle_without links joined marked n ns h j k = record {
   room = omega (arith, h.room, j.len, k.len);
   differ = numbers_differ-from ns (numbers_apart (n ∷ ns) h.differ).1;
-  inside = below_same links marked ns (k.len ∙ j.len) h.inside.1;
+  inside = below_same links marked ns (k.len ∙ j.len) (All-tail (λ m. m < length links) n ns h.inside);
   closed = closed_without links joined marked n ns h j k;
   members = λ m q. members_less m n ns _ _ (numbers_apart (n ∷ ns) h.differ).0 (k.changed m) (j.here m ∙ h.members m (omega (arith, j.len, k.len)));
 }
 
 pub front_inside : (links : List Link) (count front : ℕ) → IsCircle links (walk (next_of links) count front) → 0 < count → front < length links
 front_inside links zero front h some = absurd (omega arith)
-front_inside links (suc k) front h some = h.inside.0
+front_inside links (suc k) front h some = All-head (λ m. m < length links) front (walk (next_of links) k (next_of links front)) h.inside
 
 pub same_circle : (ns ms : List ℕ) (room next_room : ℕ) → ns ≡ ms → room ≡ next_room → ◌≡◌ {A = Circle} (record { order = ns; room = room }) (record { order = ms; room = next_room })
 same_circle ns ms room next_room e f = cc
@@ -211,9 +212,11 @@ same_circle ns ms room next_room e f = cc
 -- the neighbours of a member are within the links
 pub near : (links : List Link) (n : ℕ) (ns : List ℕ) → IsCircle links (n ∷ ns) → (next_of links n < length links) × (before_of links n < length links)
 unfolding last_of
-near links n [] h = (subst (λ m. m < length links) (sym h.closed.0) h.inside.0, subst (λ m. m < length links) (sym h.closed.1) h.inside.0)
+near links n [] h =
+    let itself : n < length links = All-head (λ m. m < length links) n [] h.inside in
+    (subst (λ m. m < length links) (sym h.closed.0) itself, subst (λ m. m < length links) (sym h.closed.1) itself)
 near links n (m ∷ ms) h = (
-  subst (λ k. k < length links) (sym h.closed.0) h.inside.1.0,
+  subst (λ k. k < length links) (sym h.closed.0) (each_at (λ k. k < length links) m (n ∷ m ∷ ms) h.inside (or_right (eqb m n) _ (among_itself m ms))),
   subst (λ k. k < length links) (sym (path_last (next_of links) (before_of links) n (m ∷ ms) n h.closed))
       (each_at (λ k. k < length links) (last_of n (m ∷ ms)) (n ∷ m ∷ ms) h.inside (last_among n (m ∷ ms))),
 )
@@ -288,14 +291,10 @@ circle_removed links new count front moved n h there taken same other =
     (removed_front links n front moved p.front p.rest count front (subst (λ ks. IsCircle links ks) p.is h) p.is same other) in
     (e ∙ sym p.others, subst (λ ks. IsCircle new ks) (sym e) left)
 
-each_weaker : (ns : List ℕ) (a b : ℕ) → a ≤ b → AllByRecursion (λ n. n < a) ns → AllByRecursion (λ n. n < b) ns
-each_weaker [] a b le h = tt
-each_weaker (n ∷ ns) a b le h = (omega (arith, le, h.0), each_weaker ns a b le h.1)
-
-blank_at : (more : List Link) (k : ℕ) → AllByRecursion (λ l. l ≡ no_link) more → slice_index_or more k no_link ≡ no_link
+blank_at : (more : List Link) (k : ℕ) → All (λ l. l ≡ no_link) more → slice_index_or more k no_link ≡ no_link
 blank_at [] k h = refl
-blank_at (l ∷ more) zero h = h.0
-blank_at (l ∷ more) (suc k) h = blank_at more k h.1
+blank_at (l ∷ more) zero h = All-head (λ l. l ≡ no_link) l more h
+blank_at (l ∷ more) (suc k) h = blank_at more k (All-tail (λ l. l ≡ no_link) l more h)
 
 closed_same : (links new : List Link) (ns : List ℕ) → ((m : ℕ) → is_among m ns ≡ true → slice_index_or new m no_link ≡ slice_index_or links m no_link)
     → IsClosed (next_of links) (before_of links) ns → IsClosed (next_of new) (before_of new) ns
@@ -305,14 +304,14 @@ closed_same links new (n ∷ ns) same h =
 
 -- `reserve`
 pub circle_roomier : (links : List Link) (more : List Link) (ns : List ℕ) → length (links ++ more) ≤ 2 ^ 16
-    → AllByRecursion (λ l. l ≡ no_link) more → IsCircle links ns → IsCircle (links ++ more) ns
+    → All (λ l. l ≡ no_link) more → IsCircle links ns → IsCircle (links ++ more) ns
 circle_roomier links more ns room blank h =
     let same : (m : ℕ) → is_among m ns ≡ true → slice_index_or (links ++ more) m no_link ≡ slice_index_or links m no_link =
     λ m there. get_or_append_left links more no_link m (each_at (λ k. k < length links) m ns h.inside there) in
     record {
       room = room;
       differ = h.differ;
-      inside = each_weaker ns (length links) (length (links ++ more)) (omega (arith, length-append links more)) h.inside;
+      inside = All-weaker (λ m. m < length links) (λ m. m < length (links ++ more)) (λ m below. omega (arith, length-append links more)) ns h.inside;
       closed = closed_same links (links ++ more) ns same h.closed;
       members = λ m below. elim (cases_lt m (length links)) [
         | inl lt ↦ ap (λ l. l.here) (get_or_append_left links more no_link m lt) ∙ h.members m lt
@@ -321,10 +320,6 @@ circle_roomier links more ns room blank h =
       ];
     }
 
-blank_replicate : (k : ℕ) → AllByRecursion (λ l. l ≡ no_link) (replicate k no_link)
-blank_replicate zero = tt
-blank_replicate (suc k) = (refl, blank_replicate k)
-
 -- links made longer, where that succeeds
 pub circle_resized : (ok : Bool) (links new : List Link) (n len : ℕ) (ns : List ℕ) → length links < n → n ≤ 2 ^ 16
     → len ≡ length links → new ≡ (if ok then take n links ++ replicate (n - len) no_link else links) → IsCircle links ns → IsCircle new ns
@@ -332,4 +327,4 @@ circle_resized false links new n len ns shorter room long e h = subst (λ ls. Is
 circle_resized true links new n len ns shorter room long e h =
     let joined : new ≡ links ++ replicate (n - len) no_link = e ∙ ap (λ ls. ls ++ replicate (n - len) no_link) (take_all n links (omega arith)) in
     subst (λ ls. IsCircle ls ns) (sym joined)
-    (circle_roomier links (replicate (n - len) no_link) ns (omega (arith, length-append links (replicate (n - len) no_link), length-replicate (n - len) no_link, long, room)) (blank_replicate (n - len)) h)
+    (circle_roomier links (replicate (n - len) no_link) ns (omega (arith, length-append links (replicate (n - len) no_link), length-replicate (n - len) no_link, long, room)) (All-replicate (λ l. l ≡ no_link) (n - len) no_link refl) h)

@@ -1,18 +1,20 @@
 -- What an active list shows, after each change of its table and its circle.
 use Rattle.std.proofs.Common.{◌≡◌, ◌≢◌, ℕ, ◌+◌, ◌-◌, ◌<◌, ◌≤◌, ◌^◌, min, Bool, true, false, eqb, ◌||◌, not, cond, List, [], ◌∷◌, ◌++◌, map, length, Some, None, refl, sym, ap, ◌∙◌, subst, inl, inr, arith, eq-eqb, take, drop}
-use Rattle.std.specs.Prelude.{if◌then◌else◌, slice_get, ◌==◌, nat_lt}
-use Rattle.std.specs.List.{AllByRecursion, AllPairs, filter, position_or_len}
-use Rattle.std.proofs.lemmas.List.Elements.{All-from_recursion}
+use Rattle.std.specs.Prelude.{if◌then◌else◌, slice_get, ◌==◌, nat_lt, Option, unwrap_or}
+use Rattle.std.specs.List.{All, AllPairs, filter, position_or_len}
+use Rattle.std.proofs.lemmas.List.Elements.{All-nil, All-cons, All-head, All-tail, All-push, All-append, All-drop, All-take, All-filter, All-map, All-weaker}
 use Rattle.std.proofs.lemmas.Bool.{eqb-true, false≢true, or_parts, or_from, cases_Bool}
 use Rattle.std.proofs.lemmas.List.{map-append, length-map}
 use Rattle.q_drr.specs.declared.class_state.ClassState.{ClassState}
 use Rattle.q_drr.specs.Links.{Circle, is_among, without}
-use Rattle.q_drr.specs.States.{has_state, place_of_state, state_of, with_state, without_state, class_in, entry_in}
+use Rattle.q_drr.specs.States.{no_state, has_state, place_of_state, state_of, with_state, without_state, class_in, entry_in}
 use Rattle.q_drr.specs.Schedule.{Class, Entry, Schedule, woken, asleep, removed, added, with_quantum, has_class, place_of, quantum_of, is_active, deficit_of, granted_of, cut, IsEntry, IsLawful}
 use Rattle.q_drr.specs.Kept.{shown, IsState, IsKept}
 use Rattle.q_drr.proofs.DifferLemmas.{AllDiffer, StatesDiffer, ClassesDiffer, EntriesDiffer, pairs-from_differ, numbers_apart, states_apart, numbers_differ-from, states_differ-from}
+use Rattle.q_drr.proofs.KeyLemmas.{has_push, find_push, has_others, find_others}
+use Rattle.q_drr.proofs.KeyLemmas as keys
 use Rattle.q_drr.proofs.LookupLemmas.{state-here, state-behind, quantum-here, quantum-behind, deficit-here, deficit-behind, granted-here, granted-behind}
-use Rattle.q_drr.proofs.NameLemmas.{each_at, each_push, differ_by_member, differ_push, differ_rotated, eqb_swap, without_absent}
+use Rattle.q_drr.proofs.NameLemmas.{each_at, differ_by_member, differ_push, differ_rotated, eqb_swap, without_absent}
 use Rattle.q_drr.proofs.StateLemmas.{with_absent}
 
 or_true : (x y : Bool) → y ≡ true → (x || y) ≡ true
@@ -78,18 +80,11 @@ name_of_state n (c ∷ states) there = elim (cases_Bool (eqb n c.name)) [
   | inr e ↦ ap (λ x. x.name) (state-behind n c states e) ∙ name_of_state n states (sym (ap (λ t. t || has_state n states) e) ∙ there)
 ]
 
-pub state_meets : (P : ClassState → Type 0) (n : ℕ) (states : List ClassState) → AllByRecursion P states → has_state n states ≡ true → P (state_of n states)
+pub state_meets : (P : ClassState → Type 0) (n : ℕ) (states : List ClassState) → All P states → has_state n states ≡ true → P (state_of n states)
 state_meets P n [] each there = absurd (false≢true there)
 state_meets P n (c ∷ states) each there = elim (cases_Bool (eqb n c.name)) [
-  | inl e ↦ subst P (sym (state-here n c states e)) each.0
-  | inr e ↦ subst P (sym (state-behind n c states e)) (state_meets P n states each.1 (sym (ap (λ t. t || has_state n states) e) ∙ there))
-]
-
--- lists that show the same state of a class show the same with one more in front
-state_more : (n : ℕ) (c : ClassState) (cs ds : List ClassState) → state_of n cs ≡ state_of n ds → state_of n (c ∷ cs) ≡ state_of n (c ∷ ds)
-state_more n c cs ds e = elim (cases_Bool (eqb n c.name)) [
-  | inl q ↦ state-here n c cs q ∙ sym (state-here n c ds q)
-  | inr q ↦ state-behind n c cs q ∙ e ∙ sym (state-behind n c ds q)
+  | inl e ↦ subst P (sym (state-here n c states e)) (All-head P c states each)
+  | inr e ↦ subst P (sym (state-behind n c states e)) (state_meets P n states (All-tail P c states each) (sym (ap (λ t. t || has_state n states) e) ∙ there))
 ]
 
 -- one state written
@@ -123,9 +118,10 @@ state_of_other n new (c ∷ states) apart =
           ∙ state_of_other n new states apart ∙ sym (state-behind n c states e)
     ]
 
-pub each_with : (P : ClassState → Type 0) (new : ClassState) (states : List ClassState) → P new → AllByRecursion P states → AllByRecursion P (with_state new states)
-each_with P new [] p each = tt
-each_with P new (c ∷ states) p each = (elim (eqb new.name c.name) as (λ (t : Bool). P (if t then new else c)) [ true ↦ p | false ↦ each.0 ], each_with P new states p each.1)
+pub each_with : (P : ClassState → Type 0) (new : ClassState) (states : List ClassState) → P new → All P states → All P (with_state new states)
+each_with P new states p each =
+    let one : ClassState → ClassState = λ c. if new.name == c.name then new else c in
+    All-map P one states (All-weaker P (λ c. P (one c)) (λ c h. elim (eqb new.name c.name) as (λ (t : Bool). P (if t then new else c)) [ true ↦ p | false ↦ h ]) states each)
 
 pub differ_with : (new : ClassState) (states : List ClassState) → StatesDiffer states → StatesDiffer (with_state new states)
 differ_with new [] d = tt
@@ -134,12 +130,15 @@ differ_with new (c ∷ states) d = (
   differ_with new states d.1,
 )
 
-known_by : (old new : List ClassState) (order : List ℕ) → ((n : ℕ) → is_among n order ≡ true → has_state n new ≡ has_state n old) → AllByRecursion (λ n. has_state n old ≡ true) order → AllByRecursion (λ n. has_state n new ≡ true) order
-known_by old new [] same known = tt
-known_by old new (n ∷ order) same known = (same n (ap (λ t. t || is_among n order) (eq-eqb n n refl)) ∙ known.0, known_by old new order (λ m h. same m (or_true (eqb m n) (is_among m order) h)) known.1)
+known_by : (old new : List ClassState) (order : List ℕ) → ((n : ℕ) → is_among n order ≡ true → has_state n new ≡ has_state n old) → All (λ n. has_state n old ≡ true) order → All (λ n. has_state n new ≡ true) order
+known_by old new [] same known = All-nil (λ n. has_state n new ≡ true)
+known_by old new (n ∷ order) same known =
+    All-cons (λ n. has_state n new ≡ true) n order
+    (same n (ap (λ t. t || is_among n order) (eq-eqb n n refl)) ∙ All-head (λ n. has_state n old ≡ true) n order known)
+    (known_by old new order (λ m h. same m (or_true (eqb m n) (is_among m order) h)) (All-tail (λ n. has_state n old ≡ true) n order known))
 
-pub known_with : (new : ClassState) (states : List ClassState) (order : List ℕ) → AllByRecursion (λ n. has_state n states ≡ true) order → AllByRecursion (λ n. has_state n (with_state new states) ≡ true) order
-known_with new states order known = known_by states (with_state new states) order (λ n _. has_with n new states) known
+pub known_with : (new : ClassState) (states : List ClassState) (order : List ℕ) → All (λ n. has_state n states ≡ true) order → All (λ n. has_state n (with_state new states) ≡ true) order
+known_with new states order known = All-weaker (λ n. has_state n states ≡ true) (λ n. has_state n (with_state new states) ≡ true) (λ n h. has_with n new states ∙ h) order known
 
 pub classes_with : (new : ClassState) (states : List ClassState) → StatesDiffer states → new.quantum ≡ (state_of new.name states).quantum → map class_in (with_state new states) ≡ map class_in states
 classes_with new [] d same = refl
@@ -187,7 +186,7 @@ kept_put max_len states circle new p h = record {
   order_differs = h.order_differs;
 }
 
-pub kept_order : (max_len : ℕ) (states : List ClassState) (circle : Circle) (order : List ℕ) → AllByRecursion (λ n. has_state n states ≡ true) order → AllDiffer order
+pub kept_order : (max_len : ℕ) (states : List ClassState) (circle : Circle) (order : List ℕ) → All (λ n. has_state n states ≡ true) order → AllDiffer order
     → IsKept max_len states circle → IsKept max_len states (record circle { order = order })
 kept_order max_len states circle order known differ h = record {
   positive = h.positive;
@@ -259,16 +258,9 @@ differ_without n (k ∷ ns) d = elim (eqb n k) as (λ t. AllDiffer (cond (not t)
   | false ↦ (among_without k n ns d.0, differ_without n ns d.1)
 ]
 
-pub each_without : (P : ℕ → Type 0) (n : ℕ) (ns : List ℕ) → AllByRecursion P ns → AllByRecursion P (without n ns)
-each_without P n [] h = tt
-each_without P n (k ∷ ns) h = elim (eqb n k) as (λ t. AllByRecursion P (cond (not t) (k ∷ without n ns) (without n ns))) [
-  | true ↦ each_without P n ns h.1
-  | false ↦ (h.0, each_without P n ns h.1)
-]
-
 pub kept_asleep : (max_len : ℕ) (states : List ClassState) (circle : Circle) (n : ℕ) → IsKept max_len states circle → IsKept max_len states (record circle { order = without n circle.order })
 kept_asleep max_len states circle n h =
-    kept_order max_len states circle (without n circle.order) (each_without (λ m. has_state m states ≡ true) n circle.order h.known) (differ_without n circle.order (numbers_apart circle.order h.order_differs)) h
+    kept_order max_len states circle (without n circle.order) (All-filter (λ m. not (n == m)) (λ m. has_state m states ≡ true) circle.order h.known) (differ_without n circle.order (numbers_apart circle.order h.order_differs)) h
 
 pub asleep_stays : (max_len turns : ℕ) (states : List ClassState) (order : List ℕ) (n : ℕ) → is_among n order ≡ false → shown max_len turns states order ≡ asleep n (shown max_len turns states order)
 asleep_stays max_len turns states order n absent = ap (shown max_len turns states) (sym (without_absent n order absent)) ∙ asleep_shown max_len turns states order n
@@ -278,11 +270,7 @@ awake_stays s n there = sym (ap (λ (t : Bool). if t then s else record s { acti
 
 pub kept_push : (max_len : ℕ) (states : List ClassState) (circle : Circle) (n : ℕ) → has_state n states ≡ true → is_among n circle.order ≡ false → IsKept max_len states circle → IsKept max_len states (record circle { order = circle.order ++ n ∷ [] })
 kept_push max_len states circle n there absent h =
-    kept_order max_len states circle (circle.order ++ n ∷ []) (each_push (λ m. has_state m states ≡ true) n circle.order h.known there) (differ_push n circle.order (numbers_apart circle.order h.order_differs) absent) h
-
-each_turned : (P : ℕ → Type 0) (ns : List ℕ) → AllByRecursion P ns → AllByRecursion P (drop 1 ns ++ take 1 ns)
-each_turned P [] h = tt
-each_turned P (n ∷ ns) h = each_push P n ns h.1 h.0
+    kept_order max_len states circle (circle.order ++ n ∷ []) (All-push (λ m. has_state m states ≡ true) circle.order n h.known there) (differ_push n circle.order (numbers_apart circle.order h.order_differs) absent) h
 
 differ_turned : (ns : List ℕ) → AllDiffer ns → AllDiffer (drop 1 ns ++ take 1 ns)
 differ_turned [] d = tt
@@ -290,26 +278,15 @@ differ_turned (n ∷ ns) d = differ_rotated n ns d
 
 pub kept_rotated : (max_len : ℕ) (states : List ClassState) (circle : Circle) → IsKept max_len states circle → IsKept max_len states (record circle { order = drop 1 circle.order ++ take 1 circle.order })
 kept_rotated max_len states circle h =
-    kept_order max_len states circle (drop 1 circle.order ++ take 1 circle.order) (each_turned (λ m. has_state m states ≡ true) circle.order h.known)
+    kept_order max_len states circle (drop 1 circle.order ++ take 1 circle.order) (All-append (λ m. has_state m states ≡ true) (drop 1 circle.order) (take 1 circle.order) (All-drop (λ m. has_state m states ≡ true) 1 circle.order h.known) (All-take (λ m. has_state m states ≡ true) 1 circle.order h.known))
     (differ_turned circle.order (numbers_apart circle.order h.order_differs)) h
 
 -- `remove`
 has_without : (m n : ℕ) (states : List ClassState) → eqb n m ≡ false → has_state m (without_state n states) ≡ has_state m states
-has_without m n [] apart = refl
-has_without m n (c ∷ states) apart = elim (cases_Bool (eqb n c.name)) [
-  | inl e ↦ ap (λ t. has_state m (cond (not t) (c ∷ without_state n states) (without_state n states))) e ∙ has_without m n states apart
-      ∙ ap (λ t. t || has_state m states) (sym (ap (eqb m) (sym (eqb-true n c.name e)) ∙ eqb_swap n m apart))
-  | inr e ↦ ap (λ t. has_state m (cond (not t) (c ∷ without_state n states) (without_state n states))) e ∙ ap (λ t. eqb m c.name || t) (has_without m n states apart)
-]
+has_without m n states apart = has_others (λ (c : ClassState). c.name) m n states apart
 
 state_of_without : (m n : ℕ) (states : List ClassState) → eqb n m ≡ false → state_of m (without_state n states) ≡ state_of m states
-state_of_without m n [] apart = refl
-state_of_without m n (c ∷ states) apart = elim (cases_Bool (eqb n c.name)) [
-  | inl e ↦ ap (λ t. state_of m (cond (not t) (c ∷ without_state n states) (without_state n states))) e ∙ state_of_without m n states apart
-      ∙ sym (state-behind m c states (ap (eqb m) (sym (eqb-true n c.name e)) ∙ eqb_swap n m apart))
-  | inr e ↦ ap (λ t. state_of m (cond (not t) (c ∷ without_state n states) (without_state n states))) e
-      ∙ state_more m c (without_state n states) states (state_of_without m n states apart)
-]
+state_of_without m n states apart = ap (λ (o : Option ClassState). unwrap_or o no_state) (find_others (λ (c : ClassState). c.name) m n states apart)
 
 classes_without : (n : ℕ) (states : List ClassState) → map class_in (without_state n states) ≡ filter (λ c. not (n == c.name)) (map class_in states)
 classes_without n [] = refl
@@ -334,13 +311,6 @@ removed_shown max_len turns states order n =
     (entries_by states (without_state n states) (without n order) (λ m there. state_of_without m n states (differ_by_member n m (without n order) there (not_among_without n order)))
     ∙ asleep_entries states order n) refl
 
-each_filtered : (P : ClassState → Type 0) (n : ℕ) (states : List ClassState) → AllByRecursion P states → AllByRecursion P (without_state n states)
-each_filtered P n [] h = tt
-each_filtered P n (c ∷ states) h = elim (eqb n c.name) as (λ t. AllByRecursion P (cond (not t) (c ∷ without_state n states) (without_state n states))) [
-  | true ↦ each_filtered P n states h.1
-  | false ↦ (h.0, each_filtered P n states h.1)
-]
-
 absent_filtered : (m n : ℕ) (states : List ClassState) → has_state m states ≡ false → has_state m (without_state n states) ≡ false
 absent_filtered m n [] absent = refl
 absent_filtered m n (c ∷ states) absent =
@@ -360,24 +330,16 @@ differ_filtered n (c ∷ states) d = elim (eqb n c.name) as (λ t. StatesDiffer 
 pub kept_removed : (max_len : ℕ) (states : List ClassState) (circle : Circle) (n : ℕ) → IsKept max_len states circle → IsKept max_len (without_state n states) (record circle { order = without n circle.order })
 kept_removed max_len states circle n h = record {
   positive = h.positive;
-  each = each_filtered (IsState max_len circle.room) n states h.each;
+  each = All-filter (λ (c : ClassState). not (n == c.name)) (IsState max_len circle.room) states h.each;
   states_differ = states_differ-from (without_state n states) (differ_filtered n states (states_apart states h.states_differ));
   known = known_by states (without_state n states) (without n circle.order)
       (λ m there. has_without m n states (differ_by_member n m (without n circle.order) there (not_among_without n circle.order)))
-      (each_without (λ m. has_state m states ≡ true) n circle.order h.known);
+      (All-filter (λ m. not (n == m)) (λ m. has_state m states ≡ true) circle.order h.known);
   order_differs = numbers_differ-from (without n circle.order) (differ_without n circle.order (numbers_apart circle.order h.order_differs));
 }
 
 one_class : (new c : ClassState) (q : ℕ) → new.name ≡ c.name → new.quantum ≡ q → class_in new ≡ record (class_in c) { quantum = q }
 one_class new c q name quantum = cc
-
-or_nothing : (t : Bool) → (t || false) ≡ t
-or_nothing true = refl
-or_nothing false = refl
-
-or_joined : (a b c : Bool) → (a || (b || c)) ≡ ((a || b) || c)
-or_joined true b c = refl
-or_joined false b c = refl
 
 -- `add`
 or_known : (x y : Bool) → x ≡ true → (x || y) ≡ true
@@ -385,39 +347,22 @@ or_known true y e = refl
 or_known false y e = absurd (false≢true e)
 
 has_added : (n : ℕ) (new : ClassState) (states : List ClassState) → has_state n (states ++ new ∷ []) ≡ (has_state n states || eqb n new.name)
-has_added n new [] = or_nothing (eqb n new.name)
-has_added n new (c ∷ states) = ap (λ t. eqb n c.name || t) (has_added n new states) ∙ or_joined (eqb n c.name) (has_state n states) (eqb n new.name)
+has_added n new states = has_push (λ (c : ClassState). c.name) n new states
 
 state_of_added : (n : ℕ) (new : ClassState) (states : List ClassState) → has_state n states ≡ true → state_of n (states ++ new ∷ []) ≡ state_of n states
-state_of_added n new [] there = absurd (false≢true there)
-state_of_added n new (c ∷ states) there = elim (cases_Bool (eqb n c.name)) [
-  | inl e ↦ state-here n c (states ++ new ∷ []) e ∙ sym (state-here n c states e)
-  | inr e ↦ state_more n c (states ++ new ∷ []) states (state_of_added n new states (sym (ap (λ t. t || has_state n states) e) ∙ there))
-]
-
-differ_added : (new : ClassState) (states : List ClassState) → StatesDiffer states → has_state new.name states ≡ false → StatesDiffer (states ++ new ∷ [])
-differ_added new [] d absent = (refl, tt)
-differ_added new (c ∷ states) d absent =
-    let parts = or_parts (eqb new.name c.name) (has_state new.name states) absent in
-    (has_added c.name new states ∙ or_from (has_state c.name states) (eqb c.name new.name) d.0 (eqb_swap new.name c.name parts.0), differ_added new states d.1 parts.1)
-
-each_in_more_room : (max_len room more : ℕ) (states : List ClassState) → room ≤ more → AllByRecursion (IsState max_len room) states → AllByRecursion (IsState max_len more) states
-each_in_more_room max_len room more [] le h = tt
-each_in_more_room max_len room more (c ∷ states) le h = (
-  record { has_room = omega (arith, le, h.0.has_room); at_least_one = h.0.at_least_one; bounded = h.0.bounded; in_range = h.0.in_range },
-  each_in_more_room max_len room more states le h.1,
-)
+state_of_added n new states there = ap (λ (o : Option ClassState). unwrap_or o no_state) (find_push (λ (c : ClassState). c.name) n new states there)
 
 pub kept_roomier : (max_len : ℕ) (states : List ClassState) (old new : Circle) → new.order ≡ old.order → old.room ≤ new.room → IsKept max_len states old → IsKept max_len states new
 kept_roomier max_len states old new e le h = record {
   positive = h.positive;
-  each = each_in_more_room max_len old.room new.room states le h.each;
+  each = All-weaker (IsState max_len old.room) (IsState max_len new.room)
+      (λ c i. record { has_room = omega (arith, le, i.has_room); at_least_one = i.at_least_one; bounded = i.bounded; in_range = i.in_range }) states h.each;
   states_differ = h.states_differ;
-  known = subst (AllByRecursion (λ m. has_state m states ≡ true)) (sym e) h.known;
+  known = subst (All (λ m. has_state m states ≡ true)) (sym e) h.known;
   order_differs = subst (AllPairs (λ m n. m ≢ n)) (sym e) h.order_differs;
 }
 
-pub added_shown : (max_len turns : ℕ) (states : List ClassState) (order : List ℕ) (new : ClassState) → AllByRecursion (λ n. has_state n states ≡ true) order
+pub added_shown : (max_len turns : ℕ) (states : List ClassState) (order : List ℕ) (new : ClassState) → All (λ n. has_state n states ≡ true) order
     → shown max_len turns (states ++ new ∷ []) order ≡ added new.name new.quantum (shown max_len turns states order)
 added_shown max_len turns states order new known =
     same_schedule max_len turns turns _ _ _ _ (map-append class_in states (new ∷ []))
@@ -426,8 +371,8 @@ added_shown max_len turns states order new known =
 pub kept_added : (max_len : ℕ) (states : List ClassState) (circle : Circle) (new : ClassState) → has_state new.name states ≡ false → IsState max_len circle.room new → IsKept max_len states circle → IsKept max_len (states ++ new ∷ []) circle
 kept_added max_len states circle new absent p h = record {
   positive = h.positive;
-  each = each_push (IsState max_len circle.room) new states h.each p;
-  states_differ = states_differ-from (states ++ new ∷ []) (differ_added new states (states_apart states h.states_differ) absent);
+  each = All-push (IsState max_len circle.room) states new h.each p;
+  states_differ = states_differ-from (states ++ new ∷ []) (keys.differ_push (λ (c : ClassState). c.name) new states (states_apart states h.states_differ) absent);
   known = known_by states (states ++ new ∷ []) circle.order (λ n there. has_added n new states ∙ or_known (has_state n states) (eqb n new.name) (each_at (λ m. has_state m states ≡ true) n circle.order h.known there)
       ∙ sym (each_at (λ m. has_state m states ≡ true) n circle.order h.known there)) h.known;
   order_differs = h.order_differs;
@@ -474,33 +419,33 @@ classes_lawful : (states : List ClassState) → StatesDiffer states → ClassesD
 classes_lawful [] d = tt
 classes_lawful (c ∷ states) d = (has_class_in c.name states ∙ d.0, classes_lawful states d.1)
 
-quanta_lawful : (max_len room : ℕ) (states : List ClassState) → AllByRecursion (IsState max_len room) states → AllByRecursion (λ (c : Class). 1 ≤ c.quantum) (map class_in states)
-quanta_lawful max_len room [] h = tt
-quanta_lawful max_len room (c ∷ states) h = (h.0.at_least_one, quanta_lawful max_len room states h.1)
+quanta_lawful : (max_len room : ℕ) (states : List ClassState) → All (IsState max_len room) states → All (λ (c : Class). 1 ≤ c.quantum) (map class_in states)
+quanta_lawful max_len room states h =
+    All-map (λ (c : Class). 1 ≤ c.quantum) class_in states (All-weaker (IsState max_len room) (λ c. 1 ≤ c.quantum) (λ c i. i.at_least_one) states h)
 
 entries_lawful : (states : List ClassState) (order : List ℕ) → AllDiffer order → EntriesDiffer (map (entry_in states) order)
 entries_lawful states [] d = tt
 entries_lawful states (n ∷ order) d = (active_in n states order ∙ d.0, entries_lawful states order d.1)
 
-each_entry_lawful : (max_len room : ℕ) (states : List ClassState) (order : List ℕ) → AllByRecursion (IsState max_len room) states → AllByRecursion (λ n. has_state n states ≡ true) order
-    → AllByRecursion (IsEntry max_len (map class_in states)) (map (entry_in states) order)
-each_entry_lawful max_len room states [] each known = tt
-each_entry_lawful max_len room states (n ∷ order) each known =
-    let s = state_meets (IsState max_len room) n states each known.0 in (
-      record {
-        there = has_class_in n states ∙ known.0;
-        bounded = omega (arith, s.bounded, quantum_in n states);
-        in_range = s.in_range;
-      },
-      each_entry_lawful max_len room states order each known.1,
-    )
+each_entry_lawful : (max_len room : ℕ) (states : List ClassState) (order : List ℕ) → All (IsState max_len room) states → All (λ n. has_state n states ≡ true) order
+    → All (IsEntry max_len (map class_in states)) (map (entry_in states) order)
+each_entry_lawful max_len room states order each known =
+    let entry : (n : ℕ) → has_state n states ≡ true → IsEntry max_len (map class_in states) (entry_in states n) = λ n there.
+    let s = state_meets (IsState max_len room) n states each there in
+    record {
+      there = has_class_in n states ∙ there;
+      bounded = omega (arith, s.bounded, quantum_in n states);
+      in_range = s.in_range;
+    } in
+    All-map (IsEntry max_len (map class_in states)) (entry_in states) order
+    (All-weaker (λ n. has_state n states ≡ true) (λ n. IsEntry max_len (map class_in states) (entry_in states n)) entry order known)
 
 shown_lawful : (max_len turns : ℕ) (states : List ClassState) (circle : Circle) → turns < 2 ^ 64 → IsKept max_len states circle → IsLawful (shown max_len turns states circle.order)
 shown_lawful max_len turns states circle range h = record {
   classes_differ = pairs-from_differ (λ (c : Class). c.name) (map class_in states) (classes_lawful states (states_apart states h.states_differ));
-  quanta = All-from_recursion (λ (c : Class). 1 ≤ c.quantum) (map class_in states) (quanta_lawful max_len circle.room states h.each);
+  quanta = quanta_lawful max_len circle.room states h.each;
   entries_differ = pairs-from_differ (λ (e : Entry). e.class) (map (entry_in states) circle.order) (entries_lawful states circle.order (numbers_apart circle.order h.order_differs));
-  entries = All-from_recursion (IsEntry max_len (map class_in states)) (map (entry_in states) circle.order) (each_entry_lawful max_len circle.room states circle.order h.each h.known);
+  entries = each_entry_lawful max_len circle.room states circle.order h.each h.known;
   counted_turns = range;
 }
 

@@ -113,9 +113,26 @@ behind_differs s n f law j d below e =
 front_shows : (heads : ℕ → Option ℕ) (s : Schedule) (n len : ℕ) (f : Front n s) → heads n ≡ Some len → option_and_then heads (front_of s) ≡ Some len
 front_shows heads s n len f head = ap (λ es. option_and_then heads (slice_get (map (λ (e : Entry). e.class) es) 0)) f.is ∙ ap heads f.class ∙ head
 
+-- the same by index
+pub record AreTurnsBy (heads : ℕ → Option ℕ) (s : Schedule) (lens : List ℕ) : Type 0 where
+  pub shown : AreShown heads lens s
+  after : after_turns lens s ≡ served heads s
+  pub granted : (i : ℕ) (d : Entry) → i < length s.active → grants (get_or s.active i d).class lens s ≡ grants_at (choice_of heads s) i
+  pub bytes : (i : ℕ) (d : Entry) → i < length s.active → sent (get_or s.active i d).class lens s ≡ bytes_at (choice_of heads s) i (heads (get_or s.active i d).class)
+
+-- an element by its index, as `slice_get` gives it
+record IsAt {X : Type 0} (xs : List X) (i : ℕ) (x : X) : Type 0 where
+  below : i < length xs
+  same : get_or xs i x ≡ x
+
+is_at : {X : Type 0} (xs : List X) (i : ℕ) (x : X) → slice_get xs i ≡ Some x → IsAt xs i x
+is_at [] i x e = cc
+is_at (y ∷ xs) zero x e = record { below = omega arith; same = cc }
+is_at (y ∷ xs) (suc i) x e = let rest = is_at xs i x e in record { below = omega (arith, rest.below); same = rest.same }
+
 -- ---- a take that ends at once
 
-ends_empty : (heads : ℕ → Option ℕ) (s : Schedule) → IsLawful s → s.active ≡ [] → AreTurnsOf heads s []
+ends_empty : (heads : ℕ → Option ℕ) (s : Schedule) → IsLawful s → s.active ≡ [] → AreTurnsBy heads s []
 ends_empty heads s law none = record {
   shown = tt;
   after = served_nobody heads s s none (prepared_empty heads s law none);
@@ -136,7 +153,7 @@ module _ (heads : ℕ → Option ℕ) (s : Schedule) (n : ℕ) (f : Front n s) (
         ∙ ap (λ es. unwrap_or (heads (get_or es 0 d).class) 0) f.is ∙ ap (λ m. unwrap_or (heads m) 0) f.class ∙ ap (λ h. unwrap_or h 0) head
   ]
 
-  ends_hidden : heads n ≡ None → AreTurnsOf heads s []
+  ends_hidden : heads n ≡ None → AreTurnsBy heads s []
   ends_hidden head =
       let ready : need (λ m. quantum_of m s.classes) heads f.first ≡ 0 = need_at heads s n f None head (λ len e. cc) in
       let choice = choice_ready heads s n f ready in
@@ -158,7 +175,7 @@ module _ (heads : ℕ → Option ℕ) (s : Schedule) (n : ℕ) (f : Front n s) (
         bytes_elsewhere len (get_or f.rest j d).class f.first f.rest (behind_differs s n f law j d (omega arith))
         ∙ sym (bytes_other (record { rounds = 0; place = 0 }) (suc j) (heads (get_or f.rest j d).class) (λ e. omega arith))
 
-    ends_sent : AreTurnsOf heads s (len ∷ [])
+    ends_sent : AreTurnsBy heads s (len ∷ [])
     ends_sent =
         let ready : need (λ m. quantum_of m s.classes) heads f.first ≡ 0 = need_at heads s n f (Some len) head (λ l e. let same : len ≡ l = cc in omega arith) in
         let choice = choice_ready heads s n f ready in
@@ -175,92 +192,92 @@ module _ (heads : ℕ → Option ℕ) (s : Schedule) (n : ℕ) (f : Front n s) (
         }
 
   -- ---- and one that goes on after a grant
-  module _ (len : ℕ) (head : heads n ≡ Some len) (short : f.first.deficit < len) (lens : List ℕ) (h : AreTurnsOf heads (turned len s) lens) where
-    abbrev pub quantum : ℕ → ℕ
-    quantum m = quantum_of m s.classes
+  module _ (len : ℕ) (head : heads n ≡ Some len) (short : f.first.deficit < len) (lens : List ℕ) (h : AreTurnsBy heads (turned len s) lens) where
+    abbrev pub grant_of : ℕ → ℕ
+    grant_of m = quantum_of m s.classes
 
     abbrev pub moved : Entry
-    moved = once quantum f.first
+    moved = once grant_of f.first
 
-    abbrev pub k : ℕ
-    k = need quantum heads moved
+    abbrev pub still_needed : ℕ
+    still_needed = need grant_of heads moved
 
     abbrev pub rest_choice : Option Choice
-    rest_choice = choose (needs quantum heads f.rest)
+    rest_choice = choose (needs grant_of heads f.rest)
 
-    abbrev pub list : List Entry
-    list = f.rest ++ moved ∷ []
+    abbrev pub rotated : List Entry
+    rotated = f.rest ++ moved ∷ []
 
-    one : 1 ≤ quantum n
+    one : 1 ≤ grant_of n
     one = front_quantum s n f law
 
-    before : choice_of heads s ≡ Some (sooner (suc k) rest_choice)
+    before : choice_of heads s ≡ Some (sooner (suc still_needed) rest_choice)
     before = choice_before heads s n len f head one short
 
-    after : choice_of heads (turned len s) ≡ Some (last_one k (length f.rest) rest_choice)
+    after : choice_of heads (turned len s) ≡ Some (last_one still_needed (length f.rest) rest_choice)
     after = choice_after heads s n len f short
 
     within : IfSome rest_choice (λ c. c.place < length f.rest)
-    within = choice_within quantum heads f.rest
+    within = choice_within grant_of heads f.rest
 
     -- what holds of the turns after this one, over the list as it is then
-    granted_then : (j : ℕ) (d : Entry) → j < length list → grants (get_or list j d).class lens (turned len s) ≡ grants_at (Some (last_one k (length f.rest) rest_choice)) j
+    granted_then : (j : ℕ) (d : Entry) → j < length rotated → grants (get_or rotated j d).class lens (turned len s) ≡ grants_at (Some (last_one still_needed (length f.rest) rest_choice)) j
     granted_then j d below =
         subst (λ es. j < length es → grants (get_or es j d).class lens (turned len s) ≡ grants_at (choice_of heads (turned len s)) j) (turned_granted s n len f short) (h.granted j d) below
         ∙ ap (λ o. grants_at o j) after
 
-    bytes_then : (j : ℕ) (d : Entry) → j < length list → sent (get_or list j d).class lens (turned len s) ≡ bytes_at (Some (last_one k (length f.rest) rest_choice)) j (heads (get_or list j d).class)
+    bytes_then : (j : ℕ) (d : Entry) → j < length rotated → sent (get_or rotated j d).class lens (turned len s) ≡ bytes_at (Some (last_one still_needed (length f.rest) rest_choice)) j (heads (get_or rotated j d).class)
     bytes_then j d below =
         subst (λ es. j < length es → sent (get_or es j d).class lens (turned len s) ≡ bytes_at (choice_of heads (turned len s)) j (heads (get_or es j d).class)) (turned_granted s n len f short) (h.bytes j d) below
-        ∙ ap (λ o. bytes_at o j (heads (get_or list j d).class)) after
+        ∙ ap (λ o. bytes_at o j (heads (get_or rotated j d).class)) after
 
-    long : length list ≡ length f.rest + 1
+    long : length rotated ≡ length f.rest + 1
     long = length_push f.rest moved
 
-    seam : (d : Entry) → get_or list (length f.rest) d ≡ moved
+    seam : (d : Entry) → get_or rotated (length f.rest) d ≡ moved
     seam d = get_or-append_seam f.rest moved [] d
 
-    same_place : (j : ℕ) (d : Entry) → j < length f.rest → get_or list j d ≡ get_or f.rest j d
+    same_place : (j : ℕ) (d : Entry) → j < length f.rest → get_or rotated j d ≡ get_or f.rest j d
     same_place j d below = get_or_append_left f.rest (moved ∷ []) d j below
 
     granted_now : (i : ℕ) (d : Entry) → i < length (f.first ∷ f.rest)
-        → grant_in (get_or (f.first ∷ f.rest) i d).class len (f.first ∷ f.rest) + grants (get_or (f.first ∷ f.rest) i d).class lens (turned len s) ≡ grants_at (Some (sooner (suc k) rest_choice)) i
+        → grant_in (get_or (f.first ∷ f.rest) i d).class len (f.first ∷ f.rest) + grants (get_or (f.first ∷ f.rest) i d).class lens (turned len s) ≡ grants_at (Some (sooner (suc still_needed) rest_choice)) i
     granted_now zero d below =
         let here = grant_here len f.first.class f.first f.rest refl short in
-        let later : grants f.first.class lens (turned len s) ≡ grants_at (Some (last_one k (length f.rest) rest_choice)) (length f.rest) =
+        let later : grants f.first.class lens (turned len s) ≡ grants_at (Some (last_one still_needed (length f.rest) rest_choice)) (length f.rest) =
         ap (λ x. grants x.class lens (turned len s)) (sym (seam d)) ∙ granted_then (length f.rest) d (omega (arith, long)) in
-        omega (arith, here, later, grants_front k (length f.rest) rest_choice within)
+        omega (arith, here, later, grants_front still_needed (length f.rest) rest_choice within)
     granted_now (suc j) d below =
         let here = grant_other len (get_or f.rest j d).class f.first f.rest (behind_differs s n f law j d (omega arith)) in
-        let later : grants (get_or f.rest j d).class lens (turned len s) ≡ grants_at (Some (last_one k (length f.rest) rest_choice)) j =
+        let later : grants (get_or f.rest j d).class lens (turned len s) ≡ grants_at (Some (last_one still_needed (length f.rest) rest_choice)) j =
         ap (λ x. grants x.class lens (turned len s)) (sym (same_place j d (omega arith))) ∙ granted_then j d (omega (arith, long)) in
-        omega (arith, here, later, grants_behind k (length f.rest) j rest_choice (omega arith))
+        omega (arith, here, later, grants_behind still_needed (length f.rest) j rest_choice (omega arith))
 
     bytes_now : (i : ℕ) (d : Entry) → i < length (f.first ∷ f.rest)
         → bytes_in (get_or (f.first ∷ f.rest) i d).class len (f.first ∷ f.rest) + sent (get_or (f.first ∷ f.rest) i d).class lens (turned len s)
-        ≡ bytes_at (Some (sooner (suc k) rest_choice)) i (heads (get_or (f.first ∷ f.rest) i d).class)
+        ≡ bytes_at (Some (sooner (suc still_needed) rest_choice)) i (heads (get_or (f.first ∷ f.rest) i d).class)
     bytes_now zero d below =
         let here = bytes_short len f.first.class f.first f.rest short in
-        let later : sent f.first.class lens (turned len s) ≡ bytes_at (Some (last_one k (length f.rest) rest_choice)) (length f.rest) (heads f.first.class) =
+        let later : sent f.first.class lens (turned len s) ≡ bytes_at (Some (last_one still_needed (length f.rest) rest_choice)) (length f.rest) (heads f.first.class) =
         ap (λ x. sent x.class lens (turned len s)) (sym (seam d)) ∙ bytes_then (length f.rest) d (omega (arith, long))
-        ∙ ap (λ x. bytes_at (Some (last_one k (length f.rest) rest_choice)) (length f.rest) (heads x.class)) (seam d) in
-        omega (arith, here, later, bytes_front k (length f.rest) rest_choice (heads f.first.class) within)
+        ∙ ap (λ x. bytes_at (Some (last_one still_needed (length f.rest) rest_choice)) (length f.rest) (heads x.class)) (seam d) in
+        omega (arith, here, later, bytes_front still_needed (length f.rest) rest_choice (heads f.first.class) within)
     bytes_now (suc j) d below =
         let here = bytes_elsewhere len (get_or f.rest j d).class f.first f.rest (behind_differs s n f law j d (omega arith)) in
-        let later : sent (get_or f.rest j d).class lens (turned len s) ≡ bytes_at (Some (last_one k (length f.rest) rest_choice)) j (heads (get_or f.rest j d).class) =
+        let later : sent (get_or f.rest j d).class lens (turned len s) ≡ bytes_at (Some (last_one still_needed (length f.rest) rest_choice)) j (heads (get_or f.rest j d).class) =
         ap (λ x. sent x.class lens (turned len s)) (sym (same_place j d (omega arith))) ∙ bytes_then j d (omega (arith, long))
-        ∙ ap (λ x. bytes_at (Some (last_one k (length f.rest) rest_choice)) j (heads x.class)) (same_place j d (omega arith)) in
-        omega (arith, here, later, bytes_behind k (length f.rest) j rest_choice (heads (get_or f.rest j d).class) (omega arith))
+        ∙ ap (λ x. bytes_at (Some (last_one still_needed (length f.rest) rest_choice)) j (heads x.class)) (same_place j d (omega arith)) in
+        omega (arith, here, later, bytes_behind still_needed (length f.rest) j rest_choice (heads (get_or f.rest j d).class) (omega arith))
 
-    goes_on : AreTurnsOf heads s (len ∷ lens)
+    goes_on : AreTurnsBy heads s (len ∷ lens)
     goes_on = record {
       shown = (front_shows heads s n len f head, h.shown);
       after = h.after ∙ ap (λ v. sent_in heads v.active v) (prepared_granted heads s n len f head one short);
       granted = λ i d below.
-          subst (λ es. i < length es → grant_in (get_or es i d).class len es + grants (get_or es i d).class lens (turned len s) ≡ grants_at (Some (sooner (suc k) rest_choice)) i) (sym f.is) (granted_now i d) below
+          subst (λ es. i < length es → grant_in (get_or es i d).class len es + grants (get_or es i d).class lens (turned len s) ≡ grants_at (Some (sooner (suc still_needed) rest_choice)) i) (sym f.is) (granted_now i d) below
           ∙ ap (λ o. grants_at o i) (sym before);
       bytes = λ i d below.
-          subst (λ es. i < length es → bytes_in (get_or es i d).class len es + sent (get_or es i d).class lens (turned len s) ≡ bytes_at (Some (sooner (suc k) rest_choice)) i (heads (get_or es i d).class)) (sym f.is) (bytes_now i d) below
+          subst (λ es. i < length es → bytes_in (get_or es i d).class len es + sent (get_or es i d).class lens (turned len s) ≡ bytes_at (Some (sooner (suc still_needed) rest_choice)) i (heads (get_or es i d).class)) (sym f.is) (bytes_now i d) below
           ∙ ap (λ o. bytes_at o i (heads (get_or s.active i d).class)) (sym before);
     }
 
@@ -278,7 +295,7 @@ head_cases heads n = cases (heads n) refl where
   cases None e = inl e
   cases (Some len) e = inr (len, e)
 
-take_turns : (bound : ℕ) (heads : ℕ → Option ℕ) (s : Schedule) → sum_by (need (λ m. quantum_of m s.classes) heads) s.active < bound → IsLawful s → HeadsFit heads s.max_len → (lens : List ℕ) × AreTurnsOf heads s lens
+take_turns : (bound : ℕ) (heads : ℕ → Option ℕ) (s : Schedule) → sum_by (need (λ m. quantum_of m s.classes) heads) s.active < bound → IsLawful s → HeadsFit heads s.max_len → (lens : List ℕ) × AreTurnsBy heads s lens
 take_turns zero heads s below law fits = absurd (omega arith)
 take_turns (suc bound) heads s below law fits = elim (front_cases s) [
   | inl none ↦ ([], ends_empty heads s law none)
@@ -295,7 +312,20 @@ take_turns (suc bound) heads s below law fits = elim (front_cases s) [
 ]
 
 pub takes_are_turns : TakesAreTurns
-takes_are_turns s heads law fits = take_turns (suc (sum_by (need (λ m. quantum_of m s.classes) heads) s.active)) heads s (omega arith) law fits
+takes_are_turns s heads law fits =
+    let t = take_turns (suc (sum_by (need (λ m. quantum_of m s.classes) heads) s.active)) heads s (omega arith) law fits in (
+      t.0,
+      record {
+        shown = t.1.shown;
+        after = t.1.after;
+        granted = λ i e there.
+            let at = is_at s.active i e there in
+            subst (λ (x : Entry). grants x.class t.0 s ≡ grants_at (choice_of heads s) i) at.same (t.1.granted i e at.below);
+        bytes = λ i e there.
+            let at = is_at s.active i e there in
+            subst (λ (x : Entry). sent x.class t.0 s ≡ bytes_at (choice_of heads s) i (heads x.class)) at.same (t.1.bytes i e at.below);
+      },
+    )
 
 -- turns whose heads fit keep a schedule lawful, and so does a take
 head_of_front : (heads : ℕ → Option ℕ) (max_len len : ℕ) (o : Option ℕ) → HeadsFit heads max_len → option_and_then heads o ≡ Some len → len ≤ max_len
@@ -377,7 +407,8 @@ needs_more quantum heads es None i k d choice below granted = absurd (omega arit
 needs_more quantum heads es (Some c) i k d choice below granted = chosen_needs quantum heads es c i k d choice below granted
 
 pub takes_grant_where_short : TakesGrantWhereShort
-takes_grant_where_short s heads i k d below granted =
-    let e : Entry = get_or s.active i d in
-    short_of_need (quantum_of e.class s.classes) e.deficit k (heads e.class)
-    (needs_more (λ n. quantum_of n s.classes) heads s.active (choice_of heads s) i k d refl below granted)
+takes_grant_where_short s heads i k e there granted =
+    let at = is_at s.active i e there in
+    let quantum : ℕ → ℕ = λ n. quantum_of n s.classes in
+    let more : k < need quantum heads (get_or s.active i e) = needs_more quantum heads s.active (choice_of heads s) i k e refl at.below granted in
+    short_of_need (quantum e.class) e.deficit k (heads e.class) (subst (λ (x : Entry). k < need quantum heads x) at.same more)

@@ -1,7 +1,8 @@
 -- States found by name, directly and by an index of their places.
 use Rattle.std.proofs.Common.{◌≡◌, ◌≢◌, ℕ, zero, suc, ◌+◌, ◌-◌, ◌<◌, ◌≤◌, ◌^◌, Some, None, Bool, true, false, eqb, ◌||◌, not, cond, List, [], ◌∷◌, ◌++◌, map, length, set, refl, sym, ap, ◌∙◌, subst, inl, inr, arith, eq-eqb, get_or}
 use Rattle.std.specs.Prelude.{if◌then◌else◌, ◌==◌, nat_lt, is_some, slice_index_or, slice_index}
-use Rattle.std.specs.List.{AllByRecursion, position_or_len, remove}
+use Rattle.std.specs.List.{All, position_or_len, remove}
+use Rattle.std.proofs.lemmas.List.Elements.{All-cons, All-map, All-from_get_or}
 use Rattle.std.proofs.lemmas.List.Sums.{position_or_len_is, fails_before_first}
 use Rattle.std.proofs.Math.ListN.{length-set}
 use Rattle.std.proofs.lemmas.Bool.{eqb-true, ne_eqb, false≢true, or_parts, cases_Bool, cases_lt, cases_eq, false_from_ne_true, cond-true, cond-false, lt-ltb, le-ltb}
@@ -110,10 +111,9 @@ names_differ places (c ∷ states) from at = (
   names_differ places states (suc from) (λ k lt. let e = at (suc k) (omega arith) in omega (arith, e)),
 )
 
-names_below : (bound : ℕ) (states : List ClassState) → ((k : ℕ) → k < length states → (slice_index_or states k no_state).name < bound) → AllByRecursion (λ n. n < bound) (names states)
+names_below : (bound : ℕ) (states : List ClassState) → ((k : ℕ) → k < length states → (slice_index_or states k no_state).name < bound) → All (λ n. n < bound) (names states)
 unfolding names
-names_below bound [] below = tt
-names_below bound (c ∷ states) below = (below zero (omega arith), names_below bound states (λ k lt. below (suc k) (omega arith)))
+names_below bound states below = All-map (λ n. n < bound) (λ (c : ClassState). c.name) states (All-from_get_or (λ (c : ClassState). c.name < bound) states no_state below)
 
 length-names : (states : List ClassState) → length (names states) ≡ length states
 unfolding names
@@ -124,7 +124,8 @@ length-names (c ∷ states) = ap suc (length-names states)
 pub place_to_spare : (places : List ℕ) (states : List ClassState) (n : ℕ) → IsIndex places states → has_state n states ≡ false → n < length places → length states < 2 ^ 16
 place_to_spare places states n h absent small =
     let differ : AllDiffer (n ∷ names states) = (at_names n states ∙ absent, names_differ places states 0 (λ k lt. omega (arith, h.found k lt))) in
-    let below : AllByRecursion (λ m. m < 2 ^ 16) (n ∷ names states) = (omega (arith, small, h.room), names_below (2 ^ 16) states (λ k lt. omega (arith, h.inside k lt, h.room))) in
+    let below : All (λ m. m < 2 ^ 16) (n ∷ names states) =
+    All-cons (λ m. m < 2 ^ 16) n (names states) (omega (arith, small, h.room)) (names_below (2 ^ 16) states (λ k lt. omega (arith, h.inside k lt, h.room))) in
     omega (arith, length-le_from_differ (n ∷ names states) (2 ^ 16) differ below, length-names states)
 
 -- the index after each step
@@ -208,5 +209,5 @@ has_place n states = elim (cases_Bool (has_state n states)) [
 pub few_states : (places : List ℕ) (states : List ClassState) → IsIndex places states → length states ≤ 2 ^ 16
 few_states places states h =
     let differ : AllDiffer (names states) = names_differ places states 0 (λ k lt. omega (arith, h.found k lt)) in
-    let below : AllByRecursion (λ m. m < 2 ^ 16) (names states) = names_below (2 ^ 16) states (λ k lt. omega (arith, h.inside k lt, h.room)) in
+    let below : All (λ m. m < 2 ^ 16) (names states) = names_below (2 ^ 16) states (λ k lt. omega (arith, h.inside k lt, h.room)) in
     omega (arith, length-le_from_differ (names states) (2 ^ 16) differ below, length-names states)

@@ -5,6 +5,7 @@ use Rattle.std.proofs.lemmas.Bool.{eqb-true, ne_eqb, false≢true, or_parts, or_
 use Rattle.q_drr.specs.Schedule.{Class, Entry, Schedule, quantum_of, after_grants, is_active, deficit_of, active_after, turned}
 use Rattle.q_drr.specs.Stretch.{after_turns, grant_in, bytes_in, grants, sent, stands_first, EachSendsItsShare, AreEven, GrantsAreEven}
 use Rattle.q_drr.proofs.DifferLemmas.{EntriesDiffer, entries_apart}
+use Rattle.q_drr.proofs.KeyLemmas.{differ_push}
 use Rattle.q_drr.proofs.LookupLemmas.{deficit-here, deficit-behind}
 use Rattle.q_drr.proofs.NameLemmas.{eqb_swap}
 
@@ -21,12 +22,6 @@ or_exchange false false c = refl
 active_push : (n : ℕ) (x : Entry) (es : List Entry) → is_active n (es ++ x ∷ []) ≡ (eqb n x.class || is_active n es)
 active_push n x [] = refl
 active_push n x (e ∷ es) = ap (λ t. eqb n e.class || t) (active_push n x es) ∙ or_exchange (eqb n e.class) (eqb n x.class) (is_active n es)
-
-pub differ_push : (x : Entry) (es : List Entry) → EntriesDiffer es → is_active x.class es ≡ false → EntriesDiffer (es ++ x ∷ [])
-differ_push x [] d absent = (refl, tt)
-differ_push x (e ∷ es) d absent =
-    let parts = or_parts (eqb x.class e.class) (is_active x.class es) absent in
-    (active_push e.class x es ∙ or_from (eqb e.class x.class) (is_active e.class es) (eqb_swap x.class e.class parts.0) d.0, differ_push x es d.1 parts.1)
 
 -- the deficit of a class once another, or it itself, has gone to the end
 deficit_kept : (n : ℕ) (x : Entry) (es : List Entry) → is_active n es ≡ true → deficit_of n (es ++ x ∷ []) ≡ deficit_of n es
@@ -58,7 +53,7 @@ module _ (len : ℕ) (classes : List Class) (e : Entry) (es : List Entry) where
 
   turn_differ : EntriesDiffer (e ∷ es) → EntriesDiffer (active_after len classes (e ∷ es))
   turn_differ d = elim (cases_lt e.deficit len) [
-    | inl short ↦ subst EntriesDiffer (sym (grants_one short)) (differ_push last es d.1 d.0)
+    | inl short ↦ subst EntriesDiffer (sym (grants_one short)) (differ_push (λ (e : Entry). e.class) last es d.1 d.0)
     | inr covers ↦ subst EntriesDiffer (sym (sends covers)) d
   ]
 

@@ -1,7 +1,7 @@
 -- A whole take: where the front's head may be sent nothing comes before it, and where it is granted the take goes on.
 use Rattle.std.proofs.Common.{◌≡◌, ℕ, zero, suc, ◌+◌, ◌-◌, ◌*◌, ◌<◌, ◌≤◌, ◌^◌, Bool, true, eqb, ◌||◌, List, [], ◌∷◌, ◌++◌, map, length, take, drop, append_assoc, Option, Some, None, IfSome, refl, sym, ap, ◌∙◌, subst, inl, inr, arith, add-one}
 use Rattle.std.specs.Prelude.{if◌then◌else◌, nat_le, slice_get, All}
-use Rattle.std.specs.List.{AllByRecursion, sum_by}
+use Rattle.std.specs.List.{sum_by}
 use Rattle.std.proofs.Math.Nat.{mul-le-mul_left}
 use Rattle.std.proofs.lemmas.Bool.{le-leb, lt-leb, cases_lt, cases_Bool, false≢true}
 use Rattle.std.proofs.lemmas.List.{append-nil, map-append, take_at, drop_at, drop-append-le, take-append-le, length-map, length_push}
@@ -14,7 +14,7 @@ use Rattle.q_drr.specs.Schedule.{Class, Entry, Schedule, has_class, quantum_of, 
 use Rattle.q_drr.specs.Take.{grants_for, need, needs, choice_of, granted, brought_up, turns_until, prepared, sent_by, sent_in, served, met_in, met}
 use Rattle.q_drr.specs.declared.met.Met.{Met}
 use Rattle.q_drr.specs.declared.turn.Turn.TheVariants.{Send, Granted}
-use Rattle.std.proofs.lemmas.List.Elements.{All-push, All-head, All-tail, recursion_from_All}
+use Rattle.std.proofs.lemmas.List.Elements.{All-push, All-head, All-tail, All-weaker}
 use Rattle.q_drr.proofs.LookupLemmas.{quantum-here, quantum-behind}
 
 -- how many grants a class needs
@@ -52,9 +52,11 @@ grants_more q k e = same_entry e.class _ _ _ _ (omega arith) (omega arith)
 grants_none : (q : ℕ) (e : Entry) → e.granted < 2 ^ 64 → after_grants q 0 e ≡ e
 grants_none q e range = same_entry e.class _ _ _ _ (omega arith) (omega arith)
 
-granted_none : (quantum : ℕ → ℕ) (es : List Entry) → AllByRecursion (λ e. e.granted < 2 ^ 64) es → granted quantum 0 es ≡ es
+granted_none : (quantum : ℕ → ℕ) (es : List Entry) → All (λ e. e.granted < 2 ^ 64) es → granted quantum 0 es ≡ es
 granted_none quantum [] range = refl
-granted_none quantum (e ∷ es) range = ap (λ x. x ∷ granted quantum 0 es) (grants_none (quantum e.class) e range.0) ∙ ap (λ xs. e ∷ xs) (granted_none quantum es range.1)
+granted_none quantum (e ∷ es) range =
+    ap (λ x. x ∷ granted quantum 0 es) (grants_none (quantum e.class) e (All-head (λ e. e.granted < 2 ^ 64) e es range))
+    ∙ ap (λ xs. e ∷ xs) (granted_none quantum es (All-tail (λ e. e.granted < 2 ^ 64) e es range))
 
 -- the front granted once and sent to the end
 abbrev pub once : (ℕ → ℕ) → Entry → Entry
@@ -117,10 +119,6 @@ pub front_is : (n : ℕ) (s : Schedule) → Some n ≡ front_of s → Front n s
 front_is n s h = let f = front_in_list n s.active (sym h) in record { first = f.0; rest = f.1; is = f.2; class = f.3 }
 
 -- where nothing stands in the front's way, the take has come to its class
-each_in_range : (max_len : ℕ) (classes : List Class) (es : List Entry) → AllByRecursion (IsEntry max_len classes) es → AllByRecursion (λ e. e.granted < 2 ^ 64) es
-each_in_range max_len classes [] h = tt
-each_in_range max_len classes (e ∷ es) h = (h.0.in_range, each_in_range max_len classes es h.1)
-
 same_list : (s : Schedule) (es : List Entry) (turns : ℕ) → es ≡ s.active → turns ≡ s.turns → record s { active = es; turns = turns } ≡ s
 same_list s es turns e f = ap (λ xs. record s { active = xs; turns = turns }) e ∙ ap (λ k. record s { turns = k }) f
 
@@ -137,7 +135,7 @@ prepared_ready heads s n f law ready =
     let choice : choice_of heads s ≡ Some (record { rounds = 0; place = 0 }) = choice_ready heads s n f ready in
     let list : brought_up quantum (choice_of heads s) s.active ≡ s.active =
     ap (λ c. brought_up quantum c s.active) choice ∙ append-nil (granted quantum 0 s.active)
-    ∙ granted_none quantum s.active (each_in_range s.max_len s.classes s.active (recursion_from_All (IsEntry s.max_len s.classes) s.active law.entries)) in
+    ∙ granted_none quantum s.active (All-weaker (IsEntry s.max_len s.classes) (λ e. e.granted < 2 ^ 64) (λ e i. i.in_range) s.active law.entries) in
     let turns : counted (s.turns + turns_until (choice_of heads s) (length s.active)) ≡ s.turns =
     ap (λ c. counted (s.turns + turns_until c (length s.active))) choice ∙ omega (arith, law.counted_turns) in
     same_list s _ _ list turns
@@ -225,18 +223,19 @@ measure_falls heads s n len f head one short =
     omega (arith, ap (sum_by g) (turned_granted s n len f short), ap (sum_by g) f.is, sum_by_push g f.rest last, sum_by-cons g f.first f.rest, need_falls heads s n len f head one short)
 
 -- a class of the list has a quantum
-pub has_quantum : (n : ℕ) (classes : List Class) → AllByRecursion (λ (c : Class). 1 ≤ c.quantum) classes → has_class n classes ≡ true → 1 ≤ quantum_of n classes
+pub has_quantum : (n : ℕ) (classes : List Class) → All (λ (c : Class). 1 ≤ c.quantum) classes → has_class n classes ≡ true → 1 ≤ quantum_of n classes
 has_quantum n [] h there = absurd (false≢true there)
 has_quantum n (c ∷ classes) h there = elim (cases_Bool (eqb n c.name)) [
-  | inl e ↦ subst (λ k. 1 ≤ k) (sym (quantum-here n c classes e)) h.0
-  | inr e ↦ subst (λ k. 1 ≤ k) (sym (quantum-behind n c classes e)) (has_quantum n classes h.1 (sym (ap (λ t. t || has_class n classes) e) ∙ there))
+  | inl e ↦ subst (λ k. 1 ≤ k) (sym (quantum-here n c classes e)) (All-head (λ (c : Class). 1 ≤ c.quantum) c classes h)
+  | inr e ↦ subst (λ k. 1 ≤ k) (sym (quantum-behind n c classes e))
+      (has_quantum n classes (All-tail (λ (c : Class). 1 ≤ c.quantum) c classes h) (sym (ap (λ t. t || has_class n classes) e) ∙ there))
 ]
 
 pub front_quantum : (s : Schedule) (n : ℕ) (f : Front n s) → IsLawful s → 1 ≤ quantum_of n s.classes
 front_quantum s n f law =
     let all : All (IsEntry s.max_len s.classes) (f.first ∷ f.rest) = subst (All (IsEntry s.max_len s.classes)) f.is law.entries in
     let first : IsEntry s.max_len s.classes f.first = All-head (IsEntry s.max_len s.classes) f.first f.rest all in
-    has_quantum n s.classes (recursion_from_All (λ (c : Class). 1 ≤ c.quantum) s.classes law.quanta) (ap (λ m. has_class m s.classes) (sym f.class) ∙ first.there)
+    has_quantum n s.classes law.quanta (ap (λ m. has_class m s.classes) (sym f.class) ∙ first.there)
 
 -- what the front's turn answers
 pub covers : (s : Schedule) (n len : ℕ) (f : Front n s) → Send ≡ turn_answer len s.active → len ≤ f.first.deficit

@@ -25,8 +25,8 @@ WokenIsLawful = (s : Schedule) (n : ℕ) → IsLawful s → 1 ≤ s.max_len → 
 abbrev pub AsleepIsLawful : Type 0
 AsleepIsLawful = (s : Schedule) (n : ℕ) → IsLawful s → IsLawful (asleep n s)
 
-abbrev pub RequantizedIsLawful : Type 0
-RequantizedIsLawful = (s : Schedule) (n quantum : ℕ) → IsLawful s → 1 ≤ quantum → IsLawful (with_quantum n quantum s)
+abbrev pub WithQuantumIsLawful : Type 0
+WithQuantumIsLawful = (s : Schedule) (n quantum : ℕ) → IsLawful s → 1 ≤ quantum → IsLawful (with_quantum n quantum s)
 
 abbrev pub TurnedIsLawful : Type 0
 TurnedIsLawful = (s : Schedule) (len : ℕ) → IsLawful s → len ≤ s.max_len → IsLawful (turned len s)

@@ -1,7 +1,7 @@
 -- What the fields of an active list show and keep of each other: a table of classes, and the circle of the active ones.
 -- The bound on deficits is that of deficit round robin (tc-drr(8)): no deficit reaches a quantum and a longest packet.
 use Rattle.std.specs.Prelude.{◌≡◌, ◌≢◌, ℕ, ◌+◌, ◌^◌, ◌<◌, ◌≤◌, true, false, List, [], ◌∷◌, map}
-use Rattle.std.specs.List.{AllByRecursion, AllPairs}
+use Rattle.std.specs.List.{All, AllPairs}
 use Rattle.q_drr.specs.Schedule.{Schedule}
 use Rattle.q_drr.specs.States.{has_state, class_in, entry_in}
 use Rattle.q_drr.specs.Links.{Circle}
@@ -24,9 +24,9 @@ pub record IsState (max_len room : ℕ) (c : ClassState) : Type 0 where
 
 pub record IsKept (max_len : ℕ) (states : List ClassState) (circle : Circle) : Type 0 where
   pub positive : 1 ≤ max_len
-  pub each : AllByRecursion (IsState max_len circle.room) states
+  pub each : All (IsState max_len circle.room) states
   pub states_differ : AllPairs (λ (a b : ClassState). a.name ≢ b.name) states
-  pub known : AllByRecursion (λ n. has_state n states ≡ true) circle.order
+  pub known : All (λ n. has_state n states ≡ true) circle.order
   pub order_differs : AllPairs (λ (m n : ℕ). m ≢ n) circle.order
 
 pub record IsSound (max_len turns : ℕ) (states : List ClassState) (circle : Circle) : Type 0 where

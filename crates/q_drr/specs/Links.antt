@@ -1,7 +1,7 @@
 -- A circular list of numbers, kept by the links of each to the next and the one before.
 -- It holds the active classes of deficit round robin (tc-drr(8)), front first.
 use Rattle.std.specs.Prelude.{◌≡◌, ◌≢◌, ℕ, zero, suc, ◌<◌, ◌≤◌, ◌^◌, Bool, false, not, ◌==◌, nat_eq, List, [], ◌∷◌, length, slice_index_or, if◌then◌else◌}
-use Rattle.std.specs.List.{list_any, filter, AllByRecursion, AllPairs}
+use Rattle.std.specs.List.{list_any, filter, All, AllPairs}
 use Rattle.q_drr.specs.declared.ring.Link.{Link}
 
 -- the members in order, and the number below which each number may be a member
@@ -46,7 +46,7 @@ IsClosed next before (n ∷ ns) = IsPath next before n ns n
 pub record IsCircle (links : List Link) (order : List ℕ) : Type 0 where
   pub room : length links ≤ 2 ^ 16
   pub differ : AllPairs (λ (m n : ℕ). m ≢ n) order
-  pub inside : AllByRecursion (λ n. n < length links) order
+  pub inside : All (λ n. n < length links) order
   pub closed : IsClosed (next_of links) (before_of links) order
   pub members : (n : ℕ) → n < length links → here_of links n ≡ is_among n order
 

@@ -1,6 +1,6 @@
 -- A whole take of deficit round robin as the turns that it is made of, and how often it grants to each class.
 -- After M. Shreedhar and G. Varghese, "Efficient Fair Queuing Using Deficit Round-Robin" (1995), and tc-drr(8).
-use Rattle.std.specs.Prelude.{◌≡◌, ℕ, suc, ◌+◌, ◌*◌, ◌<◌, ◌==◌, nat_lt, if◌then◌else◌, List, [], ◌∷◌, length, slice_get, slice_index_or, Option, Some, None, MatchOption, IsSomeAnd, option_map, option_and_then, unwrap_or}
+use Rattle.std.specs.Prelude.{◌≡◌, ℕ, suc, ◌+◌, ◌*◌, ◌<◌, ◌==◌, nat_lt, if◌then◌else◌, List, [], ◌∷◌, slice_get, Option, Some, None, MatchOption, IsSomeAnd, option_map, option_and_then, unwrap_or}
 use Rattle.q_packet.specs.Choice.{Choice, IsChosen}
 use Rattle.q_drr.specs.Changes.{HeadsFit}
 use Rattle.q_drr.specs.Schedule.{Entry, Schedule, quantum_of, deficit_of, front_of, turned, IsLawful}
@@ -26,8 +26,8 @@ bytes_at (Some c) i head = if i == c.place then unwrap_or head 0 else 0
 pub record AreTurnsOf (heads : ℕ → Option ℕ) (s : Schedule) (lens : List ℕ) : Type 0 where
   pub shown : AreShown heads lens s
   pub after : after_turns lens s ≡ served heads s
-  pub granted : (i : ℕ) (d : Entry) → i < length s.active → grants (slice_index_or s.active i d).class lens s ≡ grants_at (choice_of heads s) i
-  pub bytes : (i : ℕ) (d : Entry) → i < length s.active → sent (slice_index_or s.active i d).class lens s ≡ bytes_at (choice_of heads s) i (heads (slice_index_or s.active i d).class)
+  pub granted : (i : ℕ) (e : Entry) → slice_get s.active i ≡ Some e → grants e.class lens s ≡ grants_at (choice_of heads s) i
+  pub bytes : (i : ℕ) (e : Entry) → slice_get s.active i ≡ Some e → sent e.class lens s ≡ bytes_at (choice_of heads s) i (heads e.class)
 
 abbrev pub TakesAreTurns : Type 0
 TakesAreTurns = (s : Schedule) (heads : ℕ → Option ℕ) → IsLawful s → HeadsFit heads s.max_len → (lens : List ℕ) × AreTurnsOf heads s lens
@@ -49,5 +49,5 @@ TurnsGrantWhereShort = (s : Schedule) (len n : ℕ) → grant_in n len s.active 
 -- and a take grants to a class so often only if with one grant less its deficit is below the head that it shows
 abbrev pub TakesGrantWhereShort : Type 0
 TakesGrantWhereShort =
-    (s : Schedule) (heads : ℕ → Option ℕ) (i k : ℕ) (d : Entry) → i < length s.active → grants_at (choice_of heads s) i ≡ suc k
-    → IsSomeAnd (heads (slice_index_or s.active i d).class) (λ len. (slice_index_or s.active i d).deficit + k * quantum_of (slice_index_or s.active i d).class s.classes < len)
+    (s : Schedule) (heads : ℕ → Option ℕ) (i k : ℕ) (e : Entry) → slice_get s.active i ≡ Some e → grants_at (choice_of heads s) i ≡ suc k
+    → IsSomeAnd (heads e.class) (λ len. e.deficit + k * quantum_of e.class s.classes < len)

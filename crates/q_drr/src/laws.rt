@@ -1,5 +1,5 @@
 //! Laws of the definitions that the contracts cite. Each function does nothing: its contract is the law.
-ghost use Rattle.q_drr.specs.Changes.{EmptyIsLawful, AddedIsLawful, RemovedIsLawful, WokenIsLawful, AsleepIsLawful, RequantizedIsLawful, TurnedIsLawful, ServedIsLawful};
+ghost use Rattle.q_drr.specs.Changes.{EmptyIsLawful, AddedIsLawful, RemovedIsLawful, WokenIsLawful, AsleepIsLawful, WithQuantumIsLawful, TurnedIsLawful, ServedIsLawful};
 ghost use Rattle.q_drr.specs.Stretch.{EachSendsItsShare, GrantsAreEven, SharesAreFair};
 ghost use Rattle.q_drr.specs.Turns.{TakesAreTurns, LeastNeedIsMet, ChosenIsMet, TurnsGrantWhereShort, TakesGrantWhereShort};
 
@@ -9,8 +9,8 @@ pub fn each_sends_its_share()
     ensures { EachSendsItsShare }
 {}
 
-/// Over any stretch of turns no active class is granted more than once more often than another: once more where it stood
-/// before the other at the start and stands behind it at the end, and as often where they have kept their order.
+/// Over any stretch of turns the grants of two active classes differ by one at most: a class that stood before the other
+/// and ends behind it has one more, and classes that have kept their order have equally many.
 pub fn grants_are_even()
     ensures { GrantsAreEven }
 {}
@@ -48,7 +48,7 @@ pub fn changes_stay_lawful()
     ensures removed { RemovedIsLawful }
     ensures woken { WokenIsLawful }
     ensures asleep { AsleepIsLawful }
-    ensures requantized { RequantizedIsLawful }
+    ensures with_quantum { WithQuantumIsLawful }
     ensures turned { TurnedIsLawful }
     ensures served { ServedIsLawful }
 {}

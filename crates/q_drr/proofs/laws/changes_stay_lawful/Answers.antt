@@ -1,4 +1,4 @@
-use Rattle.q_drr.proofs.ChangeLemmas.{empty_lawful, added_lawful, removed_lawful, woken_lawful, asleep_lawful, requantized_lawful, turned_lawful}
+use Rattle.q_drr.proofs.ChangeLemmas.{empty_lawful, added_lawful, removed_lawful, woken_lawful, asleep_lawful, with_quantum_lawful, turned_lawful}
 use Rattle.q_drr.proofs.ServedLemmas.{served_lawful}
 use Rattle.q_drr.proofs.laws.changes_stay_lawful.Goals as goal
 
@@ -17,8 +17,8 @@ returns-clause-woken c = woken_lawful
 pub returns-clause-asleep : goal.returns-clause-asleep
 returns-clause-asleep c = asleep_lawful
 
-pub returns-clause-requantized : goal.returns-clause-requantized
-returns-clause-requantized c = requantized_lawful
+pub returns-clause-with_quantum : goal.returns-clause-with_quantum
+returns-clause-with_quantum c = with_quantum_lawful
 
 pub returns-clause-turned : goal.returns-clause-turned
 returns-clause-turned c = turned_lawful
