@@ -1,5 +1,5 @@
 -- Each call keeps a lawful state lawful, and the selection keeps the packets.
-use Rattle.std.proofs.Common.{◌≡◌, ◌≢◌, ℕ, zero, suc, ◌+◌, ◌%◌, ◌<◌, ◌≤◌, ◌^◌, ◌⊎◌, inl, inr, pos, ◌≤ℤ◌, ◌<ℤ◌, Bool, true, false, ℤ, negsuc, List, [], ◌∷◌, ◌++◌, All, length, get_or, set, drop, Option, Some, None, option_map, refl, sym, ap, ap₂, ◌∙◌, arith, ⊎_elim, subst, length-append}
+use Rattle.std.proofs.Common.{◌≡◌, ◌≢◌, ℕ, zero, suc, ◌+◌, ◌<◌, ◌≤◌, ◌⊎◌, inl, inr, pos, ◌≤ℤ◌, ◌<ℤ◌, true, false, ℤ, negsuc, List, [], ◌∷◌, ◌++◌, All, length, get_or, set, drop, Option, Some, None, option_map, refl, sym, ap, ◌∙◌, arith, ⊎_elim, subst, length-append}
 use Rattle.std.specs.Prelude.{slice_get}
 use Rattle.std.proofs.lemmas.Bool.{cases_Bool, cases_eq, cases_lt}
 use Rattle.std.proofs.lemmas.Int.{ints}
@@ -11,16 +11,16 @@ use Rattle.q_packet.specs.declared.stamped.Stamped.{Stamped}
 use Rattle.q_fqcodel.specs.Cleared.{adjust, clear}
 use Rattle.q_fqcodel.specs.Entry.{Entry}
 use Rattle.q_fqcodel.specs.Selection.{arranged}
-use Rattle.q_fqcodel.specs.FqState.{FqSettings, Flow, FqState, queue_of, queues, is_idle, packets_of, rested_flow}
+use Rattle.q_fqcodel.specs.FqState.{Flow, FqState, queue_of, is_idle, packets_of, rested_flow}
 use Rattle.q_fqcodel.specs.Lawful.{IsLawful}
-use Rattle.q_fqcodel.specs.Put.{flow_of, joined, shortened, appended, fattest, shed_count, cut_back, after_put}
+use Rattle.q_fqcodel.specs.Put.{flow_of, joined, shortened, appended, fattest, shed_count, after_put}
 use Rattle.q_fqcodel.specs.Quanta.{given}
 use Rattle.q_fqcodel.specs.Ranges.{IsInRange}
 use Rattle.q_fqcodel.specs.Take.{selected, flow_after, front, paid, sent_from, after_sending}
 use Rattle.q_fqcodel.specs.Turns.{GoesOn, turns}
 use Rattle.q_fqcodel.specs.Laws.{SelectionKeepsPackets, HasBytes, PutKeepsLawful, TakeKeepsLawful}
 use Rattle.q_fqcodel.proofs.FatLemmas.{fat_some, fattest_most}
-use Rattle.q_fqcodel.proofs.FlowLemmas.{length-adjust, packets-nil}
+use Rattle.q_fqcodel.proofs.FlowLemmas.{length-adjust}
 use Rattle.q_fqcodel.proofs.LawLemmas.{queues-clear, appended-packets}
 use Rattle.q_fqcodel.proofs.LawfulLemmas.{lawful_moved, lawful_turned, lawful_left, lawful_rested, lawful_shrunk, lawful_written}
 use Rattle.q_fqcodel.proofs.PutLemmas.{own_queue, other_queue, busy_put, busy_shed, cut-none, cut-some, lawful_put, packets-shortened, shed-within, shed-positive}
@@ -144,10 +144,13 @@ sent_with s now (Some e) h lawful =
     (lawful_written t e m (drop 1 (s.fresh ++ s.stale)) (set s.fresh 0 m) (written m s.fresh s.stale)
     (lawful_shrunk s (flow_after now) (count-after now) e.flow lawful) (front-is s e h) (flow-paid (sent_from now s) e) (lists-written s m e h))
 
+pub lawful_after_sending : (s : FqState) (now : ℕ) → IsLawful s → IsLawful (after_sending now s)
+lawful_after_sending s now lawful = sent_with s now (front s) refl lawful
+
 pub take_keeps_lawful : TakeKeepsLawful
 take_keeps_lawful s now lawful positive =
     let chosen = lawful_selected s lawful positive in
-    (chosen, sent_with (selected s) now (front (selected s)) refl chosen)
+    (chosen, lawful_after_sending (selected s) now chosen)
 
 -- ---- a put
 
