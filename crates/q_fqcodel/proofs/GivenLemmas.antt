@@ -1,5 +1,5 @@
 -- The quanta that a flow is given, joined with its credits, and how many that is by its place in the old list.
-use Rattle.std.proofs.Common.{◌≡◌, ℕ, zero, suc, ◌+◌, ◌*◌, ◌<◌, ◌≤◌, ◌⊎◌, inl, inr, min, nat_lt, ◌==◌, ℤ, pos, ◌+ℤ◌, Bool, true, false, cond, List, [], ◌∷◌, ◌++◌, map, take, drop, sum_by, Option, Some, None, refl, sym, ap, ◌∙◌, arith, ⊎_elim, subst, add-mul}
+use Rattle.std.proofs.Common.{◌≡◌, ℕ, zero, suc, ◌+◌, ◌*◌, ◌<◌, ◌≤◌, min, nat_lt, ◌==◌, ℤ, pos, ◌+ℤ◌, Bool, false, cond, List, [], ◌∷◌, ◌++◌, map, take, drop, Option, Some, None, refl, sym, ap, ◌∙◌, arith, ⊎_elim, subst, add-mul}
 use Rattle.std.specs.Prelude.{slice_get, slice_index_or}
 use Rattle.std.proofs.lemmas.Bool.{cases_eq, cases_lt, cond-true, cond-false, eq-eqb, ne_eqb, lt-ltb, le-ltb}
 use Rattle.std.proofs.lemmas.Int.{ints}
@@ -9,14 +9,14 @@ use Rattle.q_packet.proofs.ChoiceLemmas.{chosen_is}
 use Rattle.q_fqcodel.specs.Entry.{Entry}
 use Rattle.q_fqcodel.specs.Quanta.{need, given, stay}
 use Rattle.q_fqcodel.specs.Selection.{chosen, turned, first_ready, moved, with_rest, arranged}
-use Rattle.q_fqcodel.specs.FqState.{FqState, is_idle}
-use Rattle.q_fqcodel.specs.Lawful.{times, IsLawful}
+use Rattle.q_fqcodel.specs.FqState.{is_idle}
+use Rattle.q_fqcodel.specs.Lawful.{times}
 use Rattle.q_fqcodel.specs.QuantaGiven.{quanta_in, visits, quanta_turned, passed_over, old_list, quanta_old, quanta_given}
 use Rattle.q_fqcodel.specs.Take.{selected}
 use Rattle.q_fqcodel.specs.Laws.{CreditsByQuanta, QuantaByPlace}
 use Rattle.q_fqcodel.proofs.LawfulLemmas.{times-cons, times-append, one-same}
 use Rattle.q_fqcodel.proofs.QuantaLemmas.{flow-given}
-use Rattle.q_fqcodel.proofs.InLemmas.{In, in-append, in-left, in-right, in-take, in-drop, in-map, in-stay, in-before, in-behind, in-found, in-times, same-entry, at, sum-none, sum-once}
+use Rattle.q_fqcodel.proofs.InLemmas.{In, in-append, in-left, in-right, in-take, in-drop, in-map, in-stay, in-before, in-behind, in-found, in-times, same-entry, sum-none, sum-once}
 
 times-split : (n k : ℕ) (es : List Entry) → times n es ≡ times n (take k es) + times n (drop k es)
 times-split n k es = ap (times n) (sym (take-append-drop k es)) ∙ times-append n (take k es) (drop k es)

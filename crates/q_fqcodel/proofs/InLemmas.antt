@@ -1,5 +1,5 @@
 -- The entries of a list, one by one: where a flow stands at most once, what is summed over its entries is that of one.
-use Rattle.std.proofs.Common.{◌≡◌, ◌≢◌, ℕ, zero, suc, ◌+◌, ◌<◌, ◌≤◌, ◌⊎◌, inl, inr, ◌==◌, ℤ, Bool, true, false, cond, List, [], ◌∷◌, ◌++◌, map, take, drop, sum_by, Option, Some, None, option_map, find, refl, sym, ap, ◌∙◌, arith, ⊎_elim, subst, unwrap_or}
+use Rattle.std.proofs.Common.{◌≡◌, ◌≢◌, ℕ, zero, suc, ◌<◌, ◌≤◌, ◌⊎◌, inl, inr, ◌==◌, ℤ, true, false, cond, List, [], ◌∷◌, ◌++◌, map, take, drop, sum_by, Option, Some, option_map, find, refl, sym, ap, ◌∙◌, arith, ⊎_elim, subst, unwrap_or}
 use Rattle.std.specs.Prelude.{slice_get}
 use Rattle.std.proofs.lemmas.Bool.{cases_Bool, cases_eq, cases_lt, cond-true, cond-false, eq-eqb, ne_eqb, eqb-true}
 use Rattle.std.proofs.lemmas.List.{take-append-drop}
@@ -7,7 +7,7 @@ use Rattle.std.proofs.lemmas.List.Sums.{sum_by-cons}
 use Rattle.q_fqcodel.specs.Entry.{Entry}
 use Rattle.q_fqcodel.specs.Lawful.{times}
 use Rattle.q_fqcodel.specs.Quanta.{need, given, stay}
-use Rattle.q_fqcodel.proofs.LawfulLemmas.{one, times-cons, one-own, one-other}
+use Rattle.q_fqcodel.proofs.LawfulLemmas.{one, times-cons, one-own}
 use Rattle.q_fqcodel.proofs.QuantaLemmas.{stay-nil, stay-kept, stay-dropped}
 
 -- an entry of a list

@@ -1,5 +1,5 @@
 -- Each call keeps a lawful state lawful, and the selection keeps the packets.
-use Rattle.std.proofs.Common.{◌≡◌, ◌≢◌, ℕ, zero, suc, ◌+◌, ◌%◌, ◌<◌, ◌≤◌, ◌^◌, ◌⊎◌, inl, inr, pos, ◌≤ℤ◌, ◌<ℤ◌, Bool, true, false, ℤ, negsuc, List, [], ◌∷◌, ◌++◌, All, length, get_or, set, drop, Option, Some, None, option_map, refl, sym, ap, ap₂, ◌∙◌, arith, ⊎_elim, subst, length-append}
+use Rattle.std.proofs.Common.{◌≡◌, ◌≢◌, ℕ, zero, suc, ◌+◌, ◌<◌, ◌≤◌, ◌⊎◌, inl, inr, pos, ◌≤ℤ◌, ◌<ℤ◌, true, false, ℤ, negsuc, List, [], ◌∷◌, ◌++◌, All, length, get_or, set, drop, Option, Some, None, option_map, refl, sym, ap, ◌∙◌, arith, ⊎_elim, subst, length-append}
 use Rattle.std.specs.Prelude.{slice_get}
 use Rattle.std.proofs.lemmas.Bool.{cases_Bool, cases_eq, cases_lt}
 use Rattle.std.proofs.lemmas.Int.{ints}
@@ -11,22 +11,20 @@ use Rattle.q_packet.specs.declared.stamped.Stamped.{Stamped}
 use Rattle.q_fqcodel.specs.Cleared.{adjust, clear}
 use Rattle.q_fqcodel.specs.Entry.{Entry}
 use Rattle.q_fqcodel.specs.Selection.{arranged}
-use Rattle.q_fqcodel.specs.FqState.{FqSettings, Flow, FqState, queue_of, queues, is_idle, packets_of, rested_flow}
+use Rattle.q_fqcodel.specs.FqState.{Flow, FqState, queue_of, is_idle, packets_of, rested_flow}
 use Rattle.q_fqcodel.specs.Lawful.{IsLawful}
-use Rattle.q_fqcodel.specs.Put.{flow_of, joined, shortened, appended, fattest, shed_count, cut_back, after_put}
-use Rattle.q_fqcodel.specs.Quanta.{given}
+use Rattle.q_fqcodel.specs.Put.{flow_of, joined, shortened, appended, fattest, shed_count, after_put}
 use Rattle.q_fqcodel.specs.Ranges.{IsInRange}
 use Rattle.q_fqcodel.specs.Take.{selected, flow_after, front, paid, sent_from, after_sending}
 use Rattle.q_fqcodel.specs.Turns.{GoesOn, turns}
 use Rattle.q_fqcodel.specs.Laws.{SelectionKeepsPackets, HasBytes, PutKeepsLawful, TakeKeepsLawful}
 use Rattle.q_fqcodel.proofs.FatLemmas.{fat_some, fattest_most}
-use Rattle.q_fqcodel.proofs.FlowLemmas.{length-adjust, packets-nil}
+use Rattle.q_fqcodel.proofs.FlowLemmas.{length-adjust}
 use Rattle.q_fqcodel.proofs.LawLemmas.{queues-clear, appended-packets}
-use Rattle.q_fqcodel.proofs.LawfulLemmas.{lawful_moved, lawful_turned, lawful_left, lawful_rested, lawful_shrunk, lawful_written}
+use Rattle.q_fqcodel.proofs.LawfulLemmas.{lawful_shrunk, lawful_written}
 use Rattle.q_fqcodel.proofs.PutLemmas.{own_queue, other_queue, busy_put, busy_shed, cut-none, cut-some, lawful_put, packets-shortened, shed-within, shed-positive}
-use Rattle.q_fqcodel.proofs.QuantaLemmas.{flow-given}
 use Rattle.q_fqcodel.proofs.SentLemmas.{front-is, front-none, after-none, after-written, lists-written, written, count-after, flow-paid}
-use Rattle.q_fqcodel.proofs.TurnLemmas.{fresh_granted, fresh_moves, fresh_ready, stale_granted, stale_leaves, stale_ready, none_left}
+use Rattle.q_fqcodel.proofs.TurnLemmas.{LeadsOn, fresh_granted, fresh_moves, fresh_ready, stale_granted, stale_leaves, stale_ready, none_left}
 
 -- ---- the selection keeps the packets
 
@@ -75,8 +73,8 @@ selection_keeps_packets s n =
 abbrev Onward : FqState → Type 0
 Onward s = (t : FqState) → GoesOn s t → IsLawful t → 1 ≤ t.settings.quantum → IsLawful (selected t)
 
-led_on : (s t : FqState) → Onward s → GoesOn s t → IsLawful t → 1 ≤ t.settings.quantum → IsLawful (selected s)
-led_on s t onward on lawful positive = subst (λ (x : FqState). IsLawful x) on.same (onward t on lawful positive)
+led_on : (s t : FqState) → Onward s → LeadsOn s t → 1 ≤ t.settings.quantum → IsLawful (selected s)
+led_on s t onward led positive = subst (λ (x : FqState). IsLawful x) led.on.same (onward t led.on led.lawful positive)
 
 stops : (s : FqState) → IsLawful s → selected s ≡ s → IsLawful (selected s)
 stops s lawful chosen = subst (λ (x : FqState). IsLawful x) (sym chosen) lawful
@@ -88,34 +86,23 @@ cases_credits (negsuc n) = inl (omega (arith, ints))
 
 at_new : (s : FqState) (e : Entry) (rest : List Entry) → s.fresh ≡ e ∷ rest → IsLawful s → 1 ≤ s.settings.quantum → Onward s → IsLawful (selected s)
 at_new s e rest front lawful positive onward =
-    let m : Entry = given s.settings.quantum 1 e in
-    let moved = lawful_moved s e e rest lawful front refl in
     ⊎_elim
-    (λ (low : e.credits ≤ℤ pos 0).
-    led_on s (record s { fresh = rest; stale = s.stale ++ m ∷ [] }) onward (fresh_granted s e rest front positive low)
-    (lawful_moved s e m rest lawful front (flow-given s.settings.quantum 1 e)) positive)
+    (λ (low : e.credits ≤ℤ pos 0). led_on s _ onward (fresh_granted s lawful e rest front positive low) positive)
     (λ (high : pos 0 <ℤ e.credits).
     ⊎_elim
-    (λ (empty : is_idle s.flows e.flow ≡ true).
-    led_on s (record s { flows = adjust rested_flow e.flow s.flows; fresh = rest; stale = s.stale ++ e ∷ [] }) onward (fresh_moves s e rest front high empty)
-    (lawful_rested (record s { fresh = rest; stale = s.stale ++ e ∷ [] }) e.flow moved) positive)
-    (λ (busy : is_idle s.flows e.flow ≡ false). stops s lawful (fresh_ready s e rest front high busy))
+    (λ (empty : is_idle s.flows e.flow ≡ true). led_on s _ onward (fresh_moves s lawful e rest front high empty) positive)
+    (λ (busy : is_idle s.flows e.flow ≡ false). stops s lawful (fresh_ready s lawful e rest front high busy))
     (cases_Bool (is_idle s.flows e.flow)))
     (cases_credits e.credits)
 
 at_old : (s : FqState) (e : Entry) (rest : List Entry) → s.fresh ≡ [] → s.stale ≡ e ∷ rest → IsLawful s → 1 ≤ s.settings.quantum → Onward s → IsLawful (selected s)
 at_old s e rest none front lawful positive onward =
-    let m : Entry = given s.settings.quantum 1 e in
     ⊎_elim
-    (λ (low : e.credits ≤ℤ pos 0).
-    led_on s (record s { stale = rest ++ m ∷ [] }) onward (stale_granted s e rest none front positive low)
-    (lawful_turned s e m rest lawful front (flow-given s.settings.quantum 1 e)) positive)
+    (λ (low : e.credits ≤ℤ pos 0). led_on s _ onward (stale_granted s lawful e rest none front positive low) positive)
     (λ (high : pos 0 <ℤ e.credits).
     ⊎_elim
-    (λ (empty : is_idle s.flows e.flow ≡ true).
-    led_on s (record s { flows = adjust rested_flow e.flow s.flows; stale = rest }) onward (stale_leaves s e rest none front high empty)
-    (lawful_rested (record s { stale = rest }) e.flow (lawful_left s e rest lawful front empty)) positive)
-    (λ (busy : is_idle s.flows e.flow ≡ false). stops s lawful (stale_ready s e rest none front high busy))
+    (λ (empty : is_idle s.flows e.flow ≡ true). led_on s _ onward (stale_leaves s lawful e rest none front high empty) positive)
+    (λ (busy : is_idle s.flows e.flow ≡ false). stops s lawful (stale_ready s lawful e rest none front high busy))
     (cases_Bool (is_idle s.flows e.flow)))
     (cases_credits e.credits)
 
@@ -144,10 +131,13 @@ sent_with s now (Some e) h lawful =
     (lawful_written t e m (drop 1 (s.fresh ++ s.stale)) (set s.fresh 0 m) (written m s.fresh s.stale)
     (lawful_shrunk s (flow_after now) (count-after now) e.flow lawful) (front-is s e h) (flow-paid (sent_from now s) e) (lists-written s m e h))
 
+pub lawful_after_sending : (s : FqState) (now : ℕ) → IsLawful s → IsLawful (after_sending now s)
+lawful_after_sending s now lawful = sent_with s now (front s) refl lawful
+
 pub take_keeps_lawful : TakeKeepsLawful
 take_keeps_lawful s now lawful positive =
     let chosen = lawful_selected s lawful positive in
-    (chosen, sent_with (selected s) now (front (selected s)) refl chosen)
+    (chosen, lawful_after_sending (selected s) now chosen)
 
 -- ---- a put
 

@@ -54,7 +54,7 @@ front_within s e rest lawful front =
     absurd (omega (arith, none, some, one-own e)))
     (cases_lt e.flow s.settings.flows)
 
--- the front of the new list goes to the end of the old one
+-- a flow leaves the front of the new list, and is then the last of the old one
 pub lawful_moved : (s : FqState) (e m : Entry) (rest : List Entry) → IsLawful s → s.fresh ≡ e ∷ rest → m.flow ≡ e.flow → IsLawful (record s { fresh = rest; stale = s.stale ++ m ∷ [] })
 lawful_moved s e m rest lawful front same =
     let t : FqState = record s { fresh = rest; stale = s.stale ++ m ∷ [] } in

@@ -1,5 +1,5 @@
 -- Where the packet that was put is itself lost: by its place in its flow, and as the last of those lost.
-use Rattle.std.proofs.Common.{◌≡◌, ◌≢◌, ℕ, zero, suc, ◌+◌, ◌<◌, ◌≤◌, ◌==◌, ◌&&◌, nat_le, Bool, true, false, List, [], ◌∷◌, ◌++◌, Contains, length, take, drop, refl, sym, ap, ap₂, ◌∙◌, arith, ⊎_elim, subst, length-append}
+use Rattle.std.proofs.Common.{◌≡◌, ◌≢◌, ℕ, zero, suc, ◌+◌, ◌<◌, ◌≤◌, ◌==◌, ◌&&◌, nat_le, true, List, [], ◌∷◌, ◌++◌, Contains, length, take, drop, refl, sym, ap, ◌∙◌, arith, ⊎_elim, subst, length-append}
 use Rattle.std.proofs.lemmas.Bool.{cases_eq, cases_lt, le-leb, and_from, and_parts, eq-eqb, eqb-true, leb-true}
 use Rattle.std.proofs.lemmas.List.{length-take, take-append-drop, take-append-le, take_all}
 use Rattle.std.proofs.lemmas.List.Elements.{Contains-append_left, Contains-append_right, Contains-push}
@@ -7,7 +7,7 @@ use Rattle.q_packet.specs.Totals.{count}
 use Rattle.q_packet.specs.Descriptor.{Descriptor}
 use Rattle.q_packet.specs.declared.stamped.Stamped.{Stamped}
 use Rattle.q_fqcodel.specs.Cleared.{adjust}
-use Rattle.q_fqcodel.specs.FqState.{Flow, FqState, queue_of, packets_of, all_packets}
+use Rattle.q_fqcodel.specs.FqState.{Flow, FqState, queue_of, all_packets}
 use Rattle.q_fqcodel.specs.Put.{flow_of, joined, appended, fattest, overflow, shed, lost_by_put, is_lost_itself}
 use Rattle.q_fqcodel.specs.Laws.{LostByPlace, LostIsLast}
 use Rattle.q_fqcodel.proofs.LawLemmas.{all_packets-cons}

@@ -6,12 +6,14 @@ use Rattle.q_fqcodel.specs.Cleared.{adjust, clear}
 use Rattle.q_fqcodel.specs.Quanta.{need, given}
 use Rattle.q_fqcodel.specs.Selection.{Lists, chosen, turned, arranged}
 use Rattle.q_fqcodel.specs.FqState.{FqSettings, Flow, FqState, is_idle, rested_flow}
+use Rattle.q_fqcodel.specs.Lawful.{IsLawful}
 use Rattle.q_fqcodel.specs.Take.{selected, front}
 use Rattle.q_fqcodel.specs.Turns.{GoesOn, IsSettled, turns}
 use Rattle.q_fqcodel.specs.Entry.{Entry}
 use Rattle.q_fqcodel.proofs.ClearedLemmas.{clear-nil, clear-cons}
 use Rattle.q_fqcodel.proofs.FlowLemmas.{idle-rested, packets-rested}
-use Rattle.q_fqcodel.proofs.QuantaLemmas.{need-none, need-more}
+use Rattle.q_fqcodel.proofs.LawfulLemmas.{lawful_moved, lawful_turned, lawful_left, lawful_rested, front_within}
+use Rattle.q_fqcodel.proofs.QuantaLemmas.{need-none, need-more, flow-given}
 use Rattle.q_fqcodel.proofs.SelectionLemmas.{Agree, same_lists, turned-granted, turned-leaves, turned-ready, arranged-nil, arranged-granted, arranged-moves, arranged-ready}
 
 with_lists : FqState → List Flow → List Entry → List Entry → FqState
@@ -52,12 +54,17 @@ stale_turns-is : (q : ℕ) (e : Entry) → stale_turns q e ≡ suc (need q e)
 unfolding stale_turns
 stale_turns-is q e = refl
 
+-- a look at a front that leads from s on to t: the lists stay lawful, too
+pub record LeadsOn (s t : FqState) : Type 0 where
+  pub lawful : IsLawful t
+  pub on : GoesOn s t
+
 -- ---- the new list
 
-module _ (s : FqState) (e : Entry) (rest : List Entry) (front : s.fresh ≡ e ∷ rest) where
-  pub fresh_granted : 1 ≤ s.settings.quantum → e.credits ≤ℤ pos 0 → GoesOn s (record s { fresh = rest; stale = s.stale ++ given s.settings.quantum 1 e ∷ [] })
+module _ (s : FqState) (lawful : IsLawful s) (e : Entry) (rest : List Entry) (front : s.fresh ≡ e ∷ rest) where
+  fresh_granted_on : 1 ≤ s.settings.quantum → e.credits ≤ℤ pos 0 → GoesOn s (record s { fresh = rest; stale = s.stale ++ given s.settings.quantum 1 e ∷ [] })
   unfolding arranged_in
-  fresh_granted positive low =
+  fresh_granted_on positive low =
       let q : ℕ = s.settings.quantum in
       let t : FqState = record s { fresh = rest; stale = s.stale ++ given q 1 e ∷ [] } in
       let lists : arranged_in s ≡ arranged_in t =
@@ -71,9 +78,12 @@ module _ (s : FqState) (e : Entry) (rest : List Entry) (front : s.fresh ≡ e �
         packets = refl;
       }
 
-  pub fresh_moves : pos 0 <ℤ e.credits → is_idle s.flows e.flow ≡ true → GoesOn s (record s { flows = adjust rested_flow e.flow s.flows; fresh = rest; stale = s.stale ++ e ∷ [] })
+  pub fresh_granted : 1 ≤ s.settings.quantum → e.credits ≤ℤ pos 0 → LeadsOn s (record s { fresh = rest; stale = s.stale ++ given s.settings.quantum 1 e ∷ [] })
+  fresh_granted positive low = record { lawful = lawful_moved s e (given s.settings.quantum 1 e) rest lawful front (flow-given s.settings.quantum 1 e); on = fresh_granted_on positive low }
+
+  fresh_moves_on : pos 0 <ℤ e.credits → is_idle s.flows e.flow ≡ true → GoesOn s (record s { flows = adjust rested_flow e.flow s.flows; fresh = rest; stale = s.stale ++ e ∷ [] })
   unfolding arranged_in
-  fresh_moves high empty =
+  fresh_moves_on high empty =
       let q : ℕ = s.settings.quantum in
       let t : FqState = record s { flows = adjust rested_flow e.flow s.flows; fresh = rest; stale = s.stale ++ e ∷ [] } in
       let ready : need q e ≡ 0 = need-none q e high in
@@ -97,6 +107,9 @@ module _ (s : FqState) (e : Entry) (rest : List Entry) (front : s.fresh ≡ e �
         packets = packets-rested e.flow s.flows;
       }
 
+  pub fresh_moves : pos 0 <ℤ e.credits → is_idle s.flows e.flow ≡ true → LeadsOn s (record s { flows = adjust rested_flow e.flow s.flows; fresh = rest; stale = s.stale ++ e ∷ [] })
+  fresh_moves high empty = record { lawful = lawful_rested (record s { fresh = rest; stale = s.stale ++ e ∷ [] }) e.flow (lawful_moved s e e rest lawful front refl); on = fresh_moves_on high empty }
+
   pub fresh_ready : pos 0 <ℤ e.credits → is_idle s.flows e.flow ≡ false → selected s ≡ s
   unfolding arranged_in with_lists
   fresh_ready high busy =
@@ -111,16 +124,16 @@ module _ (s : FqState) (e : Entry) (rest : List Entry) (front : s.fresh ≡ e �
 
 -- ---- the old list
 
-module _ (s : FqState) (e : Entry) (rest : List Entry) (none : s.fresh ≡ []) (front : s.stale ≡ e ∷ rest) where
+module _ (s : FqState) (lawful : IsLawful s) (e : Entry) (rest : List Entry) (none : s.fresh ≡ []) (front : s.stale ≡ e ∷ rest) where
   old_lists : arranged_in s ≡ turned s.settings.quantum (e ∷ rest) (chosen s.settings.quantum (is_idle s.flows) (e ∷ rest))
   unfolding arranged_in
   old_lists =
       ap₂ (λ (l m : List Entry). arranged s.settings.quantum (is_idle s.flows) l m) none front
       ∙ arranged-nil s.settings.quantum (is_idle s.flows) (e ∷ rest)
 
-  pub stale_granted : 1 ≤ s.settings.quantum → e.credits ≤ℤ pos 0 → GoesOn s (record s { stale = rest ++ given s.settings.quantum 1 e ∷ [] })
+  stale_granted_on : 1 ≤ s.settings.quantum → e.credits ≤ℤ pos 0 → GoesOn s (record s { stale = rest ++ given s.settings.quantum 1 e ∷ [] })
   unfolding arranged_in
-  stale_granted positive low =
+  stale_granted_on positive low =
       let q : ℕ = s.settings.quantum in
       let last : List Entry = rest ++ given q 1 e ∷ [] in
       let t : FqState = record s { stale = last } in
@@ -138,9 +151,12 @@ module _ (s : FqState) (e : Entry) (rest : List Entry) (none : s.fresh ≡ []) (
         packets = refl;
       }
 
-  pub stale_leaves : pos 0 <ℤ e.credits → is_idle s.flows e.flow ≡ true → GoesOn s (record s { flows = adjust rested_flow e.flow s.flows; stale = rest })
+  pub stale_granted : 1 ≤ s.settings.quantum → e.credits ≤ℤ pos 0 → LeadsOn s (record s { stale = rest ++ given s.settings.quantum 1 e ∷ [] })
+  stale_granted positive low = record { lawful = lawful_turned s e (given s.settings.quantum 1 e) rest lawful front (flow-given s.settings.quantum 1 e); on = stale_granted_on positive low }
+
+  stale_leaves_on : pos 0 <ℤ e.credits → is_idle s.flows e.flow ≡ true → GoesOn s (record s { flows = adjust rested_flow e.flow s.flows; stale = rest })
   unfolding arranged_in
-  stale_leaves high empty =
+  stale_leaves_on high empty =
       let q : ℕ = s.settings.quantum in
       let flows' : List Flow = adjust rested_flow e.flow s.flows in
       let t : FqState = record s { flows = flows'; stale = rest } in
@@ -156,6 +172,9 @@ module _ (s : FqState) (e : Entry) (rest : List Entry) (none : s.fresh ≡ []) (
             omega (arith, a, turns-is s, turns-is t, stale_turns-is q e);
         packets = packets-rested e.flow s.flows;
       }
+
+  pub stale_leaves : pos 0 <ℤ e.credits → is_idle s.flows e.flow ≡ true → LeadsOn s (record s { flows = adjust rested_flow e.flow s.flows; stale = rest })
+  stale_leaves high empty = record { lawful = lawful_rested (record s { stale = rest }) e.flow (lawful_left s e rest lawful front empty); on = stale_leaves_on high empty }
 
   pub stale_ready : pos 0 <ℤ e.credits → is_idle s.flows e.flow ≡ false → selected s ≡ s
   unfolding with_lists
@@ -183,19 +202,40 @@ none_left s no_fresh no_stale =
 
 -- ---- for the code, which knows its lists by equations
 
--- the states are known by equations
-pub goes_between : (a b s t : FqState) → s ≡ a → b ≡ t → GoesOn s t → GoesOn a b
-goes_between a b s t before after on =
-    subst (λ (x : FqState). GoesOn x b) before (subst (λ (x : FqState). GoesOn s x) (sym after) on)
+-- What is known where the code looks at a front: s is the state that it opened, e the flow in front of both lists, and x the
+-- copy of e that it reads.
+pub record Looks (a s : FqState) (e x : Entry) (rest : List Entry) : Type 0 where
+  pub opened : s ≡ a
+  pub lawful : IsLawful s
+  pub read : x ≡ e
+  pub first : s.fresh ++ s.stale ≡ e ∷ rest
 
--- the flow in front sends
-pub settled_at : (s : FqState) (e : Entry) (rest : List Entry) → s.fresh ++ s.stale ≡ e ∷ rest → selected s ≡ s → pos 0 <ℤ e.credits → is_idle s.flows e.flow ≡ false → IsSettled s
-unfolding front
-settled_at s e rest first chosen high busy = record {
-  chosen = chosen;
-  credits = subst (λ (l : List Entry). IfSome (slice_get l 0) (λ (e : Entry). pos 0 <ℤ e.credits)) (sym first) high;
-  busy = subst (λ (l : List Entry). IfSome (slice_get l 0) (λ (e : Entry). is_idle s.flows e.flow ≡ false)) (sym first) busy;
-}
+module _ {a s : FqState} {e x : Entry} {rest : List Entry} (look : Looks a s e x rest) where
+  pub in_flows : x.flow < length s.flows
+  in_flows = omega (arith, front_within s e rest look.lawful look.first, look.lawful.each_flow, ap (λ (y : Entry). y.flow) look.read)
+
+  pub is_spent : x.credits ≤ℤ pos 0 → e.credits ≤ℤ pos 0
+  is_spent h = subst (λ (y : Entry). y.credits ≤ℤ pos 0) look.read h
+
+  pub has_credits : pos 0 <ℤ x.credits → pos 0 <ℤ e.credits
+  has_credits h = subst (λ (y : Entry). pos 0 <ℤ y.credits) look.read h
+
+  pub idle_is : (i b : Bool) → i ≡ is_idle s.flows x.flow → i ≡ b → is_idle s.flows e.flow ≡ b
+  idle_is i b is h = ap (λ (y : Entry). is_idle s.flows y.flow) (sym look.read) ∙ sym is ∙ h
+
+  pub rested_is : (flows : List Flow) → flows ≡ adjust rested_flow x.flow s.flows → flows ≡ adjust rested_flow e.flow s.flows
+  rested_is flows h = h ∙ ap (λ (y : Entry). adjust rested_flow y.flow s.flows) look.read
+
+  pub goes_from : (t : FqState) → LeadsOn s t → GoesOn a t
+  goes_from t led = subst (λ (y : FqState). GoesOn y t) look.opened led.on
+
+  pub settled_at : selected s ≡ s → pos 0 <ℤ e.credits → is_idle s.flows e.flow ≡ false → IsSettled a
+  unfolding front
+  settled_at chosen high busy = subst (λ (y : FqState). IsSettled y) look.opened (record {
+    chosen = chosen;
+    credits = subst (λ (l : List Entry). IfSome (slice_get l 0) (λ (e : Entry). pos 0 <ℤ e.credits)) (sym look.first) high;
+    busy = subst (λ (l : List Entry). IfSome (slice_get l 0) (λ (e : Entry). is_idle s.flows e.flow ≡ false)) (sym look.first) busy;
+  })
 
 -- no flow is listed
 pub settled_none : (s : FqState) → s.fresh ≡ [] → s.stale ≡ [] → IsSettled s

@@ -22,7 +22,8 @@ is_listed n es = list_any (λ (e : Entry). e.flow == n) es
 abbrev pub joined : Stamped → Flow → Flow
 joined packet f = record f { queue = f.queue ++ packet ∷ [] }
 
--- The packet is at the end of its flow; a flow in neither list goes to the end of the new one, with one quantum.
+-- The packet is queued behind those of its flow. A flow that was not listed is the last of the new list then, with one
+-- quantum.
 unfoldable pub appended : FqState → Descriptor → ℕ → FqState
 appended s packet now =
     let n = flow_of s packet in

@@ -140,7 +140,7 @@ impl Flows {
         )
     }
 
-    /// The flow with the most bytes, of equals the first.
+    /// The fat flow: the first of those that have the most bytes.
     pub(crate) fn fattest(&self) -> u32
         requires { 0 < length self.now.flows }
         ensures value { result ≡ fattest self.now.flows }

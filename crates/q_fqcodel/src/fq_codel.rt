@@ -22,7 +22,9 @@ use std::marker::Model;
 pub struct FqCodel {
     settings: Settings,
     flows: Flows,
+    // The list of new flows: new_flows of RFC 8290.
     fresh: VecDeque<Entry>,
+    // The list of old flows: old_flows.
     stale: VecDeque<Entry>,
 }
 
@@ -153,7 +155,7 @@ impl FqCodel {
 
     /// The packets in all flows, and their bytes.
     ///
-    /// Every fq_codel is lawful: its lists hold each flow at most once in all, and each flow that has a packet.
+    /// Every fq_codel is lawful: no flow is listed twice, in one list or over both, and every flow with a packet is listed.
     pub fn queued(&self) -> (u64, u64)
         ensures packets { result.0 ≡ packets_of self.now.state.flows }
         ensures bytes { result.1 ≡ bytes_of self.now.state.flows }
@@ -176,7 +178,7 @@ impl FqCodel {
         ensures settled { IsSettled self.new.state }
         ensures packets { packets_of self.new.state.flows ≡ packets_of self.old.state.flows }
     {
-        // A new flow goes before every old one: so a sparse flow waits for no bulk flow.
+        // New flows go before old ones, so that a sparse flow waits for no bulk flow (RFC 8290, section 4.2).
         while self.has_new() {
             if self.turn_new() {
                 return;
@@ -218,8 +220,7 @@ impl FqCodel {
                 .push_back_reserved(entry.granted(settings.quantum));
             return false;
         }
-        // Emptied, it goes to the old list too: were it forgotten, its next packet would make it new at once, and a flow
-        // that sends a packet at a time would go before the old flows for ever.
+        // Emptied: it becomes old, since a flow forgotten here would be new again with its next packet, before all old ones.
         if self.flows.is_idle(entry.flow) {
             self.flows.rest(entry.flow);
             let _ = self.fresh.pop_front();
@@ -249,7 +250,7 @@ impl FqCodel {
                 .push_back_reserved(entry.granted(settings.quantum));
             return false;
         }
-        // It has been empty for a round: its next packet may make it new again.
+        // Emptied, and met a round later: it leaves, and its next packet makes it new again.
         if self.flows.is_idle(entry.flow) {
             self.flows.rest(entry.flow);
             let _ = self.stale.pop_front();

@@ -8,14 +8,16 @@
 //! - [`FqCodel::take`] gives the next packet to send, with CoDel's drops and marks.
 //! - [`FqCodel::change`] replaces the settings, [`FqCodel::purge`] loses every packet, [`FqCodel::queued`] counts.
 //!
-//! A contract sees an fq_codel as the record `FqState` (`specs/FqState.antt`). `put` is `after_put` and `lost_by_put` of
-//! `specs/Put.antt`: the fat flow and its batch. `take` is `selected` and what is sent from it (`specs/Take.antt`): for each
-//! listed flow the least number of quanta that makes its credits positive (`specs/Quanta.antt`), and from these numbers the
-//! flow that sends and both lists (`specs/Selection.antt`). No definition goes round by round, as the code does. Each call's
-//! losses reach the lent sink in order, with their cause. `specs/Lawful.antt` has what every value of the type keeps.
+//! A contract sees an fq_codel as the record `FqView` (`specs/FqState.antt`): its state, `FqState`, and how many packets there
+//! is memory for. `put` is `after_put` and `lost_by_put` of `specs/Put.antt`: the fat flow and its batch. `take` is `selected`
+//! and what is sent from it (`specs/Take.antt`): for each listed flow the least number of quanta that makes its credits
+//! positive (`specs/Quanta.antt`), and from these numbers the flow that sends and both lists (`specs/Selection.antt`). No
+//! definition goes round by round, as the code does. Each call's losses reach the lent sink in order, with their cause.
+//! `specs/Lawful.antt` has what every value of the type keeps.
 //!
-//! [`laws`] states what follows from these definitions: nothing is made or lost, a put leaves a packet, and a flow that has
-//! just become new sends before any flow of the old list.
+//! [`laws`] states what follows from these definitions: nothing is made or lost, a put leaves a packet, each call keeps the
+//! state lawful, a flow that has just become new sends before any flow of the old list, and a flow's credits grow by the quanta
+//! that it is given (`specs/QuantaGiven.antt`).
 #![tactic(auto)]
 
 mod entry;

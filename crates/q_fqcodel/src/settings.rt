@@ -68,9 +68,9 @@ impl Model for Settings {
 }
 
 impl Settings {
-    /// The settings where none are named, for a device with this mtu. Those of tc-fq_codel(8): limit 10240, flows 1024,
-    /// quantum 1514, target 5 ms, interval 100 ms and ECN on. But drop_batch is 1, this project's choice, where
-    /// tc-fq_codel(8) has 64.
+    /// The settings where none are named, for a device with this mtu. tc-fq_codel(8) has 1024 flows, a limit of 10240
+    /// packets, a quantum of 1514 bytes, CoDel's target of 5 ms and its interval of 100 ms, and ECN. But drop_batch is 1, this
+    /// project's choice, where tc-fq_codel(8) has 64.
     pub fn defaults(mtu: u16) -> Settings
         requires { 1 ≤ mtu }
         ensures { result ≡ record {

@@ -1,4 +1,4 @@
-use Rattle.std.proofs.Common.{◌≡◌, ℕ, ◌+◌, ◌%◌, ◌<◌, ◌≤◌, ◌^◌, List, [], ◌++◌, length, take, refl, sym, ap, ap₂, ◌∙◌, arith, append-nil}
+use Rattle.std.proofs.Common.{◌≡◌, ℕ, ◌+◌, ◌%◌, ◌<◌, ◌≤◌, List, [], ◌++◌, length, take, sym, ap, ap₂, ◌∙◌, arith, append-nil, subst}
 use Rattle.std.proofs.lemmas.List.{length-take}
 use Rattle.q_packet.specs.Totals.{count}
 use Rattle.q_packet.specs.Descriptor.{Descriptor}
@@ -7,12 +7,15 @@ use Rattle.q_packet.specs.declared.cause.Cause.TheVariants.{FatFlow}
 use Rattle.q_codel.specs.Losses.{losses_of}
 use Rattle.q_fqcodel.specs.Cleared.{adjust}
 use Rattle.q_fqcodel.specs.FlowsState.{state_of}
-use Rattle.q_fqcodel.specs.FqState.{FqSettings, Flow, FqState, FqView, queue_of, is_idle, packets_of}
-use Rattle.q_fqcodel.specs.Put.{flow_of, joined, shortened, appended, fattest, shed_count, cut_back, shed, lost_by_put}
+use Rattle.q_fqcodel.specs.FqState.{FqSettings, Flow, FqState, FqView, queue_of, packets_of}
+use Rattle.q_fqcodel.specs.Lawful.{IsLawful}
+use Rattle.q_fqcodel.specs.Put.{flow_of, joined, appended, fattest, shed_count, cut_back, shed, after_put, lost_by_put}
+use Rattle.q_fqcodel.specs.Ranges.{IsInRange}
 use Rattle.q_fqcodel.proofs.FlowLemmas.{length-adjust}
-use Rattle.q_fqcodel.proofs.PutLemmas.{place_for, listed-not, packets-joined, packets-shortened, busy_put, busy_shed, appended-is, cut-none, cut-some, shed-none, shed-some, lost-none, lost-some, shed-within, shed-batch, shed-positive, lawful_put}
+use Rattle.q_fqcodel.proofs.KeptLemmas.{lawful_after_put}
+use Rattle.q_fqcodel.proofs.PutLemmas.{place_for, listed-not, packets-joined, appended-is, cut-none, cut-some, shed-none, shed-some, lost-none, lost-some, shed-within, shed-batch}
 use Rattle.q_fqcodel.proofs.fq_codel.FqCodel.put.Goals as goal
-use Rattle.q_fqcodel.proofs.fq_codel.FqCodel.put.Goals.{After-push}
+use Rattle.q_fqcodel.proofs.fq_codel.FqCodel.put.Goals.{After-push, Then-count-settings, After-lose}
 
 -- the state as it was opened
 abbrev opened : (g : _) → After-push g → FqState
@@ -47,6 +50,13 @@ fuller_is g c =
 more : (g : _) (c : After-push g) → packets_of c.push.new.self.flows ≡ packets_of c.self.inside.flows.flows + 1
 more g c = ap packets_of c.push.ensures.flows ∙ packets-joined (record { packet = c.args.packet; at = c.args.now }) (own g c) c.self.inside.flows.flows (within g c)
 
+-- what is known of the state before
+lawful : (g : _) (c : After-push g) → IsLawful c.args.self.now.state
+lawful g c = subst (λ (s : FqState). IsLawful s) (opened_is g c) c.self.invariant.0
+
+ranges : (g : _) (c : After-push g) → IsInRange c.args.self.now.state.settings
+ranges g c = subst (λ (x : FqSettings). IsInRange x) (c.settings.view_is ∙ ap (λ (s : FqState). s.settings) (opened_is g c)) c.settings.invariant
+
 pub enlist-requires : goal.enlist-requires
 enlist-requires g c =
     let s : FqState = state_of c.self.inside.settings c.self.inside.flows c.self.inside.fresh.items c.self.inside.stale.items in
@@ -59,54 +69,50 @@ enlist-requires g c =
 
 -- ---- within the limit
 
+pushed : (g : _) → Then-count-settings g → After-push g
+pushed g c = (goal.at.invariant_of-self g c).After-push
+
+in_limit : (g : _) (c : Then-count-settings g) → packets_of c.push.new.self.flows ≤ c.self.inside.settings.limit
+in_limit g c = omega (arith, c.if-count-settings.true, c.count.ensures, ap (λ (x : FqSettings). x.limit) c.settings.view_is)
+
+stays : (g : _) (c : Then-count-settings g) → fuller g (pushed g c) ≡ after_put c.args.self.now.state c.args.packet c.args.now
+unfolding pushed
+stays g c = sym (cut-none (fuller g (pushed g c)) (in_limit g c)) ∙ ap cut_back (fuller_is g (pushed g c))
+
+none_lost : (g : _) (c : Then-count-settings g) → [] ≡ lost_by_put c.args.self.now.state c.args.packet c.args.now
+unfolding pushed
+none_lost g c = sym (shed-none (fuller g (pushed g c)) (in_limit g c)) ∙ ap shed (fuller_is g (pushed g c))
+
 pub invariant_of-self : goal.invariant_of-self
+unfolding pushed
 invariant_of-self g c =
-    let at = (goal.at.invariant_of-self g c).After-push in
-    let s = opened g at in
-    let n : ℕ = own g at in
-    let p : Stamped = record { packet = c.args.packet; at = c.args.now } in
-    let t = fuller g at in
-    let limit : c.settings.inside.limit < 2 ^ 32 = c.settings.invariant.limit_high in (
-      lawful_put s t n c.self.invariant.0 refl (ap length c.push.ensures.flows ∙ length-adjust (joined p) n s.flows)
-          (omega (arith, within g at, c.self.invariant.0.each_flow))
-          (λ m h. busy_put p n m s.flows (ap (λ (f : List Flow). is_idle f m) (sym c.push.ensures.flows) ∙ h))
-          (omega (arith, c.if-count-settings.true, c.count.ensures, limit))
-          c.settings.inside.quantum c.enlist.ensures.items refl,
+    let at = pushed g c in (
+      subst (λ (s : FqState). IsLawful s) (sym (stays g c))
+          (lawful_after_put c.args.self.now.state c.args.packet c.args.now (lawful g at) (ranges g at)
+          (λ over. absurd (omega (arith, over, in_limit g c, ap (λ (x : FqState). packets_of x.flows) (fuller_is g at), ap (λ (x : FqState). x.settings.limit) (opened_is g at))))),
       omega (arith, c.self.invariant.1, c.enlist.ensures.capacity),
       c.self.invariant.2,
     )
 
 pub returns-then-count-settings-clause-answer : goal.returns-then-count-settings-clause-answer
+unfolding pushed
 returns-then-count-settings-clause-answer g c =
-    let at = (goal.at.returns-then-count-settings-clause-answer g c).After-push in
-    let limit : c.settings.inside.limit ≡ c.self.inside.settings.limit = ap (λ (x : FqSettings). x.limit) c.settings.view_is in
+    let at = pushed g c in
     sym (lost-none c.args.self.now.state (fuller g at) c.args.packet c.args.now (own g at) (record { packet = c.args.packet; at = c.args.now }) (fuller_is g at)
-    (own_is g at ∙ ap (λ (x : FqState). flow_of x c.args.packet) (opened_is g at))
-    (omega (arith, c.if-count-settings.true, c.count.ensures, limit))
+    (own_is g at ∙ ap (λ (x : FqState). flow_of x c.args.packet) (opened_is g at)) (in_limit g c)
     (c.push.ensures.flows ∙ ap (λ (x : FqState). adjust (joined (record { packet = c.args.packet; at = c.args.now })) (own g at) x.flows) (opened_is g at))
     (omega (arith, within g at, ap (λ (x : FqState). length x.flows) (opened_is g at))))
 
 pub returns-then-count-settings-clause-after : goal.returns-then-count-settings-clause-after
-returns-then-count-settings-clause-after g c =
-    let at = (goal.at.returns-then-count-settings-clause-after g c).After-push in
-    let limit : c.settings.inside.limit ≡ c.self.inside.settings.limit = ap (λ (x : FqSettings). x.limit) c.settings.view_is in
-    sym (cut-none (fuller g at) (omega (arith, c.if-count-settings.true, c.count.ensures, limit))) ∙ ap cut_back (fuller_is g at)
+unfolding pushed
+returns-then-count-settings-clause-after g c = stays g c
 
 pub returns-then-count-settings-clause-lost : goal.returns-then-count-settings-clause-lost
 returns-then-count-settings-clause-lost g c =
-    let at = (goal.at.returns-then-count-settings-clause-lost g c).After-push in
-    let limit : c.settings.inside.limit ≡ c.self.inside.settings.limit = ap (λ (x : FqSettings). x.limit) c.settings.view_is in
-    let none : [] ≡ lost_by_put c.args.self.now.state c.args.packet c.args.now =
-    sym (shed-none (fuller g at) (omega (arith, c.if-count-settings.true, c.count.ensures, limit))) ∙ ap shed (fuller_is g at) in
-    sym (append-nil (g.S.Sink.losses c.args.sink.now)) ∙ ap (λ (l : List Stamped). g.S.Sink.losses c.args.sink.now ++ losses_of FatFlow l) none
+    sym (append-nil (g.S.Sink.losses c.args.sink.now)) ∙ ap (λ (l : List Stamped). g.S.Sink.losses c.args.sink.now ++ losses_of FatFlow l) (none_lost g c)
 
 pub returns-then-count-settings-clause-room : goal.returns-then-count-settings-clause-room
-returns-then-count-settings-clause-room g c =
-    let at = (goal.at.returns-then-count-settings-clause-room g c).After-push in
-    let limit : c.settings.inside.limit ≡ c.self.inside.settings.limit = ap (λ (x : FqSettings). x.limit) c.settings.view_is in
-    let none : [] ≡ lost_by_put c.args.self.now.state c.args.packet c.args.now =
-    sym (shed-none (fuller g at) (omega (arith, c.if-count-settings.true, c.count.ensures, limit))) ∙ ap shed (fuller_is g at) in
-    omega (arith, ap count none)
+returns-then-count-settings-clause-room g c = omega (arith, ap count (none_lost g c))
 
 -- ---- past the limit
 
@@ -138,78 +144,61 @@ lose-requires-clause-room g c =
       ap (λ (x : FqSettings). x.drop_batch) c.settings.view_is,
     )
 
+shortened_from : (g : _) → After-lose g → After-push g
+shortened_from g c = (goal.at.invariant_of-self-2 g c).After-push
+
+past_limit : (g : _) (c : After-lose g) → c.self.inside.settings.limit < packets_of c.push.new.self.flows
+past_limit g c = omega (arith, c.if-count-settings.false, c.count.ensures, ap (λ (x : FqSettings). x.limit) c.settings.view_is)
+
+lost_is : (g : _) (c : After-lose g) → c.shed_count-lost.result ≡ shed_count c.push.new.self.flows c.self.inside.settings.drop_batch
+lost_is g c = c.shed_count-lost.ensures ∙ ap (shed_count c.push.new.self.flows) (ap (λ (x : FqSettings). x.drop_batch) c.settings.view_is)
+
+cut : (g : _) (c : After-lose g) → record (fuller g (shortened_from g c)) { flows = c.lose.new.self.flows } ≡ after_put c.args.self.now.state c.args.packet c.args.now
+unfolding shortened_from
+cut g c =
+    let a = fuller g (shortened_from g c) in
+    ap (λ (f : List Flow). record a { flows = f }) c.lose.ensures.flows
+    ∙ sym (cut-some a c.fattest-fat.result c.shed_count-lost.result (past_limit g c) c.fattest-fat.ensures.value (lost_is g c))
+    ∙ ap cut_back (fuller_is g (shortened_from g c))
+
+shed_is : (g : _) (c : After-lose g) → take c.shed_count-lost.result (queue_of c.push.new.self.flows c.fattest-fat.result) ≡ lost_by_put c.args.self.now.state c.args.packet c.args.now
+unfolding shortened_from
+shed_is g c =
+    sym (shed-some (fuller g (shortened_from g c)) c.fattest-fat.result c.shed_count-lost.result (past_limit g c) c.fattest-fat.ensures.value (lost_is g c))
+    ∙ ap shed (fuller_is g (shortened_from g c))
+
 pub invariant_of-self-2 : goal.invariant_of-self-2
+unfolding shortened_from
 invariant_of-self-2 g c =
-    let at = (goal.at.invariant_of-self-2 g c).After-push in
-    let s = opened g at in
-    let n : ℕ = own g at in
-    let p : Stamped = record { packet = c.args.packet; at = c.args.now } in
-    let lost : ℕ = c.shed_count-lost.result in
-    let fat : ℕ = c.fattest-fat.result in
-    let t : FqState = record (fuller g at) { flows = c.lose.new.self.flows } in
-    let held : lost ≤ count (queue_of c.push.new.self.flows fat) =
-    omega (arith, c.shed_count-lost.ensures, shed-within c.push.new.self.flows c.settings.inside.drop_batch, ap (λ (n : ℕ). count (queue_of c.push.new.self.flows n)) c.fattest-fat.ensures.value) in
-    let two : 2 ≤ packets_of c.push.new.self.flows = omega (arith, c.if-count-settings.false, c.count.ensures, c.settings.invariant.limit_low) in
-    let some : 0 < count (queue_of c.push.new.self.flows (fattest c.push.new.self.flows)) =
-    omega (arith, c.fattest-fat.ensures.some (omega (arith, two)), ap (λ (n : ℕ). count (queue_of c.push.new.self.flows n)) c.fattest-fat.ensures.value) in
-    let one : 1 ≤ lost = omega (arith, c.shed_count-lost.ensures, shed-positive c.push.new.self.flows c.settings.inside.drop_batch c.settings.invariant.batch_low two some) in
-    let left = packets-shortened lost fat c.push.new.self.flows held in
-    let flows : c.lose.new.self.flows ≡ adjust (shortened lost) fat (adjust (joined p) n s.flows) = c.lose.ensures.flows ∙ ap (adjust (shortened lost) fat) c.push.ensures.flows in (
-      lawful_put s t n c.self.invariant.0 refl
-          (ap length flows ∙ length-adjust (shortened lost) fat (adjust (joined p) n s.flows) ∙ length-adjust (joined p) n s.flows)
-          (omega (arith, within g at, c.self.invariant.0.each_flow))
-          (λ m h. busy_shed p n m lost fat s.flows (ap (λ (f : List Flow). is_idle f m) (sym flows) ∙ h))
-          (omega (arith, ap packets_of c.lose.ensures.flows, left, more g at, c.self.invariant.0.few, one))
-          c.settings.inside.quantum c.enlist.ensures.items refl,
+    let at = shortened_from g c in
+    let fat : 0 < count (queue_of c.push.new.self.flows (fattest c.push.new.self.flows)) =
+    omega (arith, c.fattest-fat.ensures.some (omega (arith, past_limit g c)), ap (λ (n : ℕ). count (queue_of c.push.new.self.flows n)) c.fattest-fat.ensures.value) in (
+      subst (λ (s : FqState). IsLawful s) (sym (cut g c))
+          (lawful_after_put c.args.self.now.state c.args.packet c.args.now (lawful g at) (ranges g at)
+          (λ _. subst (λ (x : FqState). 0 < count (queue_of x.flows (fattest x.flows))) (fuller_is g at) fat)),
       omega (arith, c.self.invariant.1, c.enlist.ensures.capacity),
       c.self.invariant.2,
     )
 
 pub returns-clause-answer : goal.returns-clause-answer
+unfolding shortened_from
 returns-clause-answer g c =
-    let at = (goal.at.returns-clause-answer g c).After-push in
-    let limit : c.settings.inside.limit ≡ c.self.inside.settings.limit = ap (λ (x : FqSettings). x.limit) c.settings.view_is in
-    let batch : c.settings.inside.drop_batch ≡ c.self.inside.settings.drop_batch = ap (λ (x : FqSettings). x.drop_batch) c.settings.view_is in
+    let at = shortened_from g c in
     c.is_last_among-is_own.ensures
     ∙ sym (lost-some c.args.self.now.state (fuller g at) c.args.packet c.args.now (own g at) c.fattest-fat.result c.shed_count-lost.result (fuller_is g at)
-    (own_is g at ∙ ap (λ (x : FqState). flow_of x c.args.packet) (opened_is g at))
-    (omega (arith, c.if-count-settings.false, c.count.ensures, limit))
-    c.fattest-fat.ensures.value
-    (c.shed_count-lost.ensures ∙ ap (shed_count c.push.new.self.flows) batch))
+    (own_is g at ∙ ap (λ (x : FqState). flow_of x c.args.packet) (opened_is g at)) (past_limit g c) c.fattest-fat.ensures.value (lost_is g c))
 
 pub returns-clause-after : goal.returns-clause-after
-returns-clause-after g c =
-    let at = (goal.at.returns-clause-after g c).After-push in
-    let a = fuller g at in
-    let limit : c.settings.inside.limit ≡ c.self.inside.settings.limit = ap (λ (x : FqSettings). x.limit) c.settings.view_is in
-    let batch : c.settings.inside.drop_batch ≡ c.self.inside.settings.drop_batch = ap (λ (x : FqSettings). x.drop_batch) c.settings.view_is in
-    ap (λ (f : List Flow). record a { flows = f }) c.lose.ensures.flows
-    ∙ sym (cut-some a c.fattest-fat.result c.shed_count-lost.result (omega (arith, c.if-count-settings.false, c.count.ensures, limit)) c.fattest-fat.ensures.value
-    (c.shed_count-lost.ensures ∙ ap (shed_count c.push.new.self.flows) batch))
-    ∙ ap cut_back (fuller_is g at)
+unfolding shortened_from
+returns-clause-after g c = cut g c
 
 pub returns-clause-lost : goal.returns-clause-lost
-returns-clause-lost g c =
-    let at = (goal.at.returns-clause-lost g c).After-push in
-    let limit : c.settings.inside.limit ≡ c.self.inside.settings.limit = ap (λ (x : FqSettings). x.limit) c.settings.view_is in
-    let batch : c.settings.inside.drop_batch ≡ c.self.inside.settings.drop_batch = ap (λ (x : FqSettings). x.drop_batch) c.settings.view_is in
-    c.lose.ensures.lost
-    ∙ ap (λ (l : List Stamped). g.S.Sink.losses c.args.sink.now ++ losses_of FatFlow l)
-    (sym (shed-some (fuller g at) c.fattest-fat.result c.shed_count-lost.result (omega (arith, c.if-count-settings.false, c.count.ensures, limit)) c.fattest-fat.ensures.value
-    (c.shed_count-lost.ensures ∙ ap (shed_count c.push.new.self.flows) batch))
-    ∙ ap shed (fuller_is g at))
+returns-clause-lost g c = c.lose.ensures.lost ∙ ap (λ (l : List Stamped). g.S.Sink.losses c.args.sink.now ++ losses_of FatFlow l) (shed_is g c)
 
 pub returns-clause-room : goal.returns-clause-room
 returns-clause-room g c =
-    let at = (goal.at.returns-clause-room g c).After-push in
-    let limit : c.settings.inside.limit ≡ c.self.inside.settings.limit = ap (λ (x : FqSettings). x.limit) c.settings.view_is in
-    let batch : c.settings.inside.drop_batch ≡ c.self.inside.settings.drop_batch = ap (λ (x : FqSettings). x.drop_batch) c.settings.view_is in
     let lost : ℕ = c.shed_count-lost.result in
     let q : List Stamped = queue_of c.push.new.self.flows c.fattest-fat.result in
-    let shed_is : take lost q ≡ lost_by_put c.args.self.now.state c.args.packet c.args.now =
-    sym (shed-some (fuller g at) c.fattest-fat.result lost (omega (arith, c.if-count-settings.false, c.count.ensures, limit)) c.fattest-fat.ensures.value
-    (c.shed_count-lost.ensures ∙ ap (shed_count c.push.new.self.flows) batch))
-    ∙ ap shed (fuller_is g at) in
     let held : lost ≤ count q =
     omega (arith, c.shed_count-lost.ensures, shed-within c.push.new.self.flows c.settings.inside.drop_batch, ap (λ (n : ℕ). count (queue_of c.push.new.self.flows n)) c.fattest-fat.ensures.value) in
-    omega (arith, c.lose.ensures.room, ap count shed_is, length-take lost q, held)
+    omega (arith, c.lose.ensures.room, ap count (shed_is g c), length-take lost q, held)

@@ -12,8 +12,9 @@ use Rattle.q_fqcodel.specs.FqState.{Flow, FqState, FqView, queue_of, packets_of}
 use Rattle.q_fqcodel.specs.Lawful.{IsLawful}
 use Rattle.q_fqcodel.specs.Take.{front, packet_sent, packets_dropped, flow_after, paid, sent_from, dropped_from, after_sending}
 use Rattle.q_fqcodel.proofs.FlowLemmas.{packets-at}
-use Rattle.q_fqcodel.proofs.LawfulLemmas.{front_within, lawful_shrunk, lawful_written, none_waits}
-use Rattle.q_fqcodel.proofs.SentLemmas.{front-is, front-none, sent-is, sent-none, dropped-is, dropped-none, after-none, after-written, lists-written, written, count-after, paid-is}
+use Rattle.q_fqcodel.proofs.KeptLemmas.{lawful_after_sending}
+use Rattle.q_fqcodel.proofs.LawfulLemmas.{front_within, none_waits}
+use Rattle.q_fqcodel.proofs.SentLemmas.{front-is, front-none, sent-is, sent-none, dropped-is, dropped-none, after-none, after-written, written, paid-is}
 use Rattle.q_fqcodel.proofs.fq_codel.FqCodel.send_front.Goals as goal
 use Rattle.q_fqcodel.proofs.fq_codel.FqCodel.send_front.Goals.{In_default, After-write_front}
 
@@ -97,20 +98,22 @@ paying g c =
 flows_sent : (g : _) (c : After-write_front g) → c.send.new.self.flows ≡ adjust (flow_after c.args.now) (sender g c).flow (opened g c).flows
 flows_sent g c = c.send.ensures.flows ∙ ap (λ (e : Entry). adjust (flow_after c.args.now) e.flow (opened g c).flows) c.front-2.view_is
 
-pub invariant_of-self : goal.invariant_of-self
-invariant_of-self g c =
+-- the state after
+after : (g : _) (c : After-write_front g) → state_of c.self.inside.settings c.send.new.self c.write_front.new.fresh.items c.write_front.new.stale.items ≡ after_sending c.args.now (opened g c)
+after g c =
     let s = opened g c in
-    let e = sender g c in
-    let m : Entry = c.charged.result in
-    let shrunk = lawful_shrunk s (flow_after c.args.now) (count-after c.args.now) e.flow c.self.invariant.0 in
-    let lists : c.write_front.new.fresh.items ++ c.write_front.new.stale.items ≡ m ∷ behind g c =
-    ap₂ (λ (k l : List Entry). k ++ l) c.write_front.ensures.fresh c.write_front.ensures.stale ∙ lists-written s m e (in_front g c) in (
-      subst (λ (f : List Flow). IsLawful (record s { flows = f; fresh = c.write_front.new.fresh.items; stale = c.write_front.new.stale.items })) (sym (flows_sent g c))
-          (lawful_written (record s { flows = adjust (flow_after c.args.now) e.flow s.flows }) e m (behind g c) c.write_front.new.fresh.items c.write_front.new.stale.items shrunk (first g c)
-          (ap (λ (x : Entry). x.flow) c.charged.ensures) lists),
-      omega (arith, c.self.invariant.1, c.write_front.ensures.fresh_capacity),
-      omega (arith, c.self.invariant.2, c.write_front.ensures.stale_capacity),
-    )
+    let flows : List Flow = adjust (flow_after c.args.now) (sender g c).flow s.flows in
+    ap (λ (f : List Flow). record s { flows = f; fresh = c.write_front.new.fresh.items; stale = c.write_front.new.stale.items }) (flows_sent g c)
+    ∙ ap₂ (λ (k l : List Entry). record s { flows = flows; fresh = k; stale = l }) c.write_front.ensures.fresh c.write_front.ensures.stale
+    ∙ ap (λ (m : Entry). record s { flows = flows; fresh = set s.fresh 0 m; stale = written m s.fresh s.stale }) (sym (paying g c))
+    ∙ sym (after-written s (sender g c) c.args.now (in_front g c))
+
+pub invariant_of-self : goal.invariant_of-self
+invariant_of-self g c = (
+  subst (λ (s : FqState). IsLawful s) (sym (after g c)) (lawful_after_sending (opened g c) c.args.now c.self.invariant.0),
+  omega (arith, c.self.invariant.1, c.write_front.ensures.fresh_capacity),
+  omega (arith, c.self.invariant.2, c.write_front.ensures.stale_capacity),
+)
 
 pub returns-clause-sent : goal.returns-clause-sent
 returns-clause-sent g c = sym (sent g c) ∙ ap (sent_from c.args.now) (opened_is g c)
@@ -123,14 +126,7 @@ returns-clause-some g c =
     )
 
 pub returns-clause-after : goal.returns-clause-after
-returns-clause-after g c =
-    let s = opened g c in
-    let after : List Flow = adjust (flow_after c.args.now) (sender g c).flow s.flows in
-    ap (λ (f : List Flow). record s { flows = f; fresh = c.write_front.new.fresh.items; stale = c.write_front.new.stale.items }) (flows_sent g c)
-    ∙ ap₂ (λ (k l : List Entry). record s { flows = after; fresh = k; stale = l }) c.write_front.ensures.fresh c.write_front.ensures.stale
-    ∙ ap (λ (m : Entry). record s { flows = after; fresh = set s.fresh 0 m; stale = written m s.fresh s.stale }) (sym (paying g c))
-    ∙ sym (after-written s (sender g c) c.args.now (in_front g c))
-    ∙ ap (after_sending c.args.now) (opened_is g c)
+returns-clause-after g c = after g c ∙ ap (after_sending c.args.now) (opened_is g c)
 
 pub returns-clause-lost : goal.returns-clause-lost
 returns-clause-lost g c =
