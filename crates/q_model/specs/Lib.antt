@@ -12,6 +12,7 @@ pub mod Lawful
 pub mod Make
 pub mod Node
 pub mod NotDone
+pub mod Numbers
 pub mod Put
 pub mod QdiscCommands
 pub mod Quanta

@@ -1,6 +1,6 @@
--- The ranges of a command's numbers and of a packet's fields.
--- tc(8), "NAMING", for handles and class ids; the pages of the disciplines; where they give no range, this project's choice.
-use Rattle.std.specs.Prelude.{◌≡◌, ℕ, ◌≤◌, ◌<◌, ◌^◌, ◌-◌, List, All, length, Option, IfSome}
+-- The ranges of a command's fields and of a packet's, as their types keep them.
+-- Those of its numbers one by one stand in specs/Numbers.antt, with their sources.
+use Rattle.std.specs.Prelude.{◌≡◌, ℕ, ◌≤◌, ◌<◌, ◌^◌, List, All, length, IfSome}
 use Rattle.q_packet.specs.Descriptor.{Descriptor}
 use Rattle.q_packet.specs.Key.{IsKey}
 use Rattle.q_model.specs.declared.class_id.ClassId.{ClassId}
@@ -16,31 +16,20 @@ use Rattle.q_model.specs.declared.place.Place.TheVariants as place
 use Rattle.q_model.specs.declared.tbf_limit.TbfLimit.{TbfLimit}
 use Rattle.q_model.specs.declared.tbf_limit.TbfLimit.TheVariants as limit
 use Rattle.q_model.specs.Filters.{bits_of}
-
--- a number from the first to the second, both included
-abbrev pub IsWithin : ℕ → ℕ → ℕ → Type 0
-IsWithin least most n = (least ≤ n) × (n ≤ most)
-
--- a handle's major number; ffff is the root's in tc(8)
-abbrev pub IsHandle : ℕ → Type 0
-IsHandle major = IsWithin 1 0xfffe major
+use Rattle.q_model.specs.Numbers.{IsWithin, most_u32, IsHandle, IsMinor, IsQuantum, IsRate, IsBurst, IsLatency, IsFilterPrio}
 
 pub record IsClassId (c : ClassId) : Type 0 where
   pub major : IsHandle c.major
-  pub minor : IsWithin 1 0xffff c.minor
+  pub minor : IsMinor c.minor
 
 abbrev pub IsPlace : Place → Type 0
 IsPlace place.Top = Unit {0}
 IsPlace place.Root = Unit {0}
 IsPlace (place.Class major minor) = IsClassId (record { major = major; minor = minor })
 
--- packets, and the bytes of a quantum, a burst or a limit, fit 32 bits
-abbrev pub most_u32 : ℕ
-most_u32 = 2 ^ 32 - 1
-
 abbrev pub IsTbfLimit : TbfLimit → Type 0
 IsTbfLimit (limit.Bytes n) = n ≤ most_u32
-IsTbfLimit (limit.Latency ns) = ns ≤ 10 ^ 12
+IsTbfLimit (limit.Latency ns) = IsLatency ns
 
 pub record IsFqCodelOptions (o : FqCodelOptions) : Type 0 where
   pub limit : IfSome o.limit (IsWithin 1 most_u32)
@@ -56,8 +45,8 @@ pub record IsPrio (bands : ℕ) (priomap : List ℕ) : Type 0 where
   pub there : All (λ band. band < bands) priomap
 
 pub record IsTbf (rate burst : ℕ) (limit : TbfLimit) : Type 0 where
-  pub bits : IsWithin 1 (10 ^ 12) rate
-  pub bytes : IsWithin 1 most_u32 burst
+  pub bits : IsRate rate
+  pub bytes : IsBurst burst
   pub most : IsTbfLimit limit
 
 abbrev pub IsKind : Kind → Type 0
@@ -73,26 +62,23 @@ pub record IsPrefix (p : IpPrefix) : Type 0 where
   pub len : p.len ≤ bits_of p.version
 
 pub record IsFilter (f : Filter) : Type 0 where
-  pub prio : IsWithin 1 0xffff f.prio
+  pub prio : IsFilterPrio f.prio
   pub ip_proto : IfSome f.keys.ip_proto (IsWithin 0 0xff)
   pub src_ip : IfSome f.keys.src_ip IsPrefix
   pub dst_ip : IfSome f.keys.dst_ip IsPrefix
   pub src_port : IfSome f.keys.src_port (IsWithin 0 0xffff)
   pub dst_port : IfSome f.keys.dst_port (IsWithin 0 0xffff)
-  pub minor : IsWithin 1 0xffff f.minor
-
-abbrev pub IsQuantum : Option ℕ → Type 0
-IsQuantum quantum = IfSome quantum (IsWithin 1 most_u32)
+  pub minor : IsMinor f.minor
 
 abbrev pub IsCommand : Command → Type 0
 IsCommand (QdiscAdd place handle kind) = IsPlace place × IfSome handle IsHandle × IsKind kind
 IsCommand (QdiscChange place handle kind) = IfSome place IsPlace × IfSome handle IsHandle × IsKind kind
 IsCommand (QdiscDel place handle) = IfSome place IsPlace × IfSome handle IsHandle
-IsCommand (ClassAdd parent class quantum) = IsHandle parent × IsClassId class × IsQuantum quantum
-IsCommand (ClassChange parent class quantum) = IfSome parent IsHandle × IsClassId class × IsQuantum quantum
+IsCommand (ClassAdd parent class quantum) = IsHandle parent × IsClassId class × IfSome quantum IsQuantum
+IsCommand (ClassChange parent class quantum) = IfSome parent IsHandle × IsClassId class × IfSome quantum IsQuantum
 IsCommand (ClassDel parent class) = IfSome parent IsHandle × IsClassId class
 IsCommand (FilterAdd parent major filter) = IsHandle parent × IsHandle major × IsFilter filter
-IsCommand (FilterDel parent prio) = IsHandle parent × IsWithin 1 0xffff prio
+IsCommand (FilterDel parent prio) = IsHandle parent × IsFilterPrio prio
 
 pub record IsPacket (p : Descriptor) : Type 0 where
   pub port : p.port ≤ most_u32

@@ -1,7 +1,7 @@
 -- What `tc qdisc show`, `tc class show` and `tc filter show` print of a tree (tc(8)), node by node from the root down.
 -- Each node stands before what is beneath it; children stand in class order.
 use Rattle.std.specs.Prelude.{ℕ, ◌==◌, List, [], ◌∷◌, ◌++◌, map, drop, length, Option, option_map, option_and_then, slice_get, unwrap_or}
-use Rattle.std.specs.List.{find, range_with_len}
+use Rattle.std.specs.List.{filter_map, find, range_with_len}
 use Rattle.std.specs.Option.{option_map_or}
 use Rattle.q_codel.specs.declared.limit.Limit.TheVariants.{Packets, Bytes}
 use Rattle.q_drr.specs.Schedule.{Class, Entry}
@@ -39,9 +39,10 @@ minors bands (Drr s) = map (λ (c : Class). c.name) s.classes
 minors bands (Fifo limit queue) = []
 minors bands (FqCodel s) = []
 
--- a node with classes has a handle
+-- their names; only a node with a handle has classes
 abbrev pub ids_of : Own → ℕ → List ClassId
-ids_of own bands = map (λ minor. record { major = unwrap_or own.handle 0; minor = minor }) (minors bands own.discipline)
+ids_of own bands =
+    filter_map (λ minor. option_map (λ major. record { major = major; minor = minor }) own.handle) (minors bands own.discipline)
 
 abbrev pub class_ids : {M : Type 0} → Node M → List ClassId
 class_ids n = ids_of n.own (length (children n))
@@ -79,8 +80,9 @@ class_kind other minor = class.Prio
 abbrev pub class_views : {M : Type 0} → Node M → List ClassView
 class_views n = map (λ (c : ClassId). record { class = c; kind = class_kind n.own.discipline c.minor }) (class_ids n)
 
+-- only a node with a handle has filters
 abbrev pub filter_views : {M : Type 0} → Node M → List FilterView
-filter_views n = map (λ (f : Filter). record { parent = unwrap_or n.own.handle 0; filter = f }) n.own.filters
+filter_views n = filter_map (λ (f : Filter). option_map (λ parent. record { parent = parent; filter = f }) n.own.handle) n.own.filters
 
 -- the i-th node, and its j-th class and filter
 abbrev pub node : {M : Type 0} → Tally M → ℕ → TreeState M → Option NodeView

@@ -1,58 +1,61 @@
 use crate::class_id::ClassId;
 use crate::filter::Filter;
+use crate::filter_prio::FilterPrio;
+use crate::handle::Handle;
 use crate::kind::Kind;
 use crate::place::Place;
+use crate::quantum::Quantum;
 
 /// A change of the tree that a `tc` line asks for.
 ///
-/// Handles are major numbers, 1 to 0xfffe. Of `place` and `handle` in a change or a removal at least one is given; where
+/// Each number is in its range, since its type keeps it. Of `place` and `handle` in a change or a removal at least one is given; where
 /// both are, they have to name the same qdisc. `parent` in a class line has to be the major number of the class.
 #[derive(Clone, Copy, PartialEq, Eq, Debug)]
 pub enum Command {
     /// `tc qdisc add`: puts a qdisc into a place.
     QdiscAdd {
         place: Place,
-        /// The major number of its handle, 1 to 0xfffe; `None` where the line leaves the choice to the device.
-        handle: Option<u16>,
+        /// `None` where the line leaves the choice to the device.
+        handle: Option<Handle>,
         kind: Kind,
     },
     /// `tc qdisc change`: gives a qdisc other options.
     QdiscChange {
         place: Option<Place>,
-        handle: Option<u16>,
+        handle: Option<Handle>,
         kind: Kind,
     },
     /// `tc qdisc del`: removes a qdisc with all that is beneath it.
     QdiscDel {
         place: Option<Place>,
-        handle: Option<u16>,
+        handle: Option<Handle>,
     },
-    /// `tc class add`: a new class of a drr, with a quantum in bytes.
+    /// `tc class add`: a new class of a drr; its quantum is the mtu where none is given.
     ClassAdd {
-        parent: u16,
+        parent: Handle,
         class: ClassId,
-        quantum: Option<u32>,
+        quantum: Option<Quantum>,
     },
     /// `tc class change`: gives a class of a drr another quantum.
     ClassChange {
-        parent: Option<u16>,
+        parent: Option<Handle>,
         class: ClassId,
-        quantum: Option<u32>,
+        quantum: Option<Quantum>,
     },
     /// `tc class del`: removes a class of a drr with all that is beneath it.
     ClassDel {
-        parent: Option<u16>,
+        parent: Option<Handle>,
         class: ClassId,
     },
     /// `tc filter add`: a filter of the qdisc with this handle; `major` is that of the class that the line names.
     FilterAdd {
-        parent: u16,
-        major: u16,
+        parent: Handle,
+        major: Handle,
         filter: Filter,
     },
     /// `tc filter del`: removes all filters of that priority.
     FilterDel {
-        parent: u16,
-        prio: u16,
+        parent: Handle,
+        prio: FilterPrio,
     },
 }

@@ -1,13 +1,15 @@
 use crate::filter_keys::FilterKeys;
+use crate::filter_prio::FilterPrio;
+use crate::minor::Minor;
 use crate::protocol::Protocol;
 
 /// A filter of a node: which packets it takes, and into which class of that node.
 #[derive(Clone, Copy, PartialEq, Eq, Debug)]
 pub struct Filter {
-    /// Its priority, 1 to 65535; a lower one is asked first.
-    pub prio: u16,
+    /// Its priority; a lower one is asked first.
+    pub prio: FilterPrio,
     pub protocol: Protocol,
     pub keys: FilterKeys,
     /// The minor number of the class.
-    pub minor: u16,
+    pub minor: Minor,
 }

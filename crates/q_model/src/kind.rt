@@ -1,4 +1,6 @@
+use crate::burst::Burst;
 use crate::fq_codel_options::FqCodelOptions;
+use crate::rate::Rate;
 use crate::tbf_limit::TbfLimit;
 
 /// A kind of qdisc with the options that a line gives.
@@ -21,10 +23,8 @@ pub enum Kind {
     },
     /// A token bucket filter (tc-tbf(8)).
     Tbf {
-        /// In bits a second, 1 to 10^12.
-        rate: u64,
-        /// In bytes, at least 1.
-        burst: u32,
+        rate: Rate,
+        burst: Burst,
         limit: TbfLimit,
     },
     /// Deficit round robin (tc-drr(8)).

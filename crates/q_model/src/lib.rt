@@ -1,7 +1,8 @@
 //! The model: the data that tc's lines, the tree and its views share, and what a device does, as definitions that compute.
 //!
 //! - [`Command`] is a change of the tree, as the `tc` lines ask for it: [`Kind`] is a qdisc with its options, [`Place`] and
-//!   [`ClassId`] say where it goes, [`FilterKeys`] which packets a filter takes.
+//!   [`ClassId`] say where it goes, [`FilterKeys`] which packets a filter takes. Each number has a type that keeps its range:
+//!   [`Handle`], [`Minor`], [`Quantum`], [`Rate`], [`Burst`], [`Latency`], [`FilterPrio`].
 //! - [`NotDone`] is why a change was not made, with the number and the name of each refusal.
 //! - [`Row`] is what a node counted: six [`Totals`] of packets and bytes.
 //! - [`NodeView`], [`ClassView`] and [`FilterView`] are what `show` prints of a node, a class and a filter.
@@ -23,6 +24,7 @@
 //! stands in `q_tree`, that of the device in `q_device`.
 #![tactic(auto)]
 
+mod burst;
 mod class_id;
 mod class_kind;
 mod class_view;
@@ -31,17 +33,23 @@ mod event;
 mod fate;
 mod filter;
 mod filter_keys;
+mod filter_prio;
 mod filter_view;
 mod fq_codel_options;
+mod handle;
 mod ip_prefix;
 mod ip_version;
 mod kind;
+mod latency;
+mod minor;
 mod node_view;
 mod not_done;
 mod place;
 mod polled;
 mod protocol;
 mod qdisc_view;
+mod quantum;
+mod rate;
 mod refusal;
 mod reply;
 mod row;
@@ -49,6 +57,7 @@ mod settings;
 mod tbf_limit;
 mod totals;
 
+pub use burst::Burst;
 pub use class_id::ClassId;
 pub use class_kind::ClassKind;
 pub use class_view::ClassView;
@@ -57,17 +66,23 @@ pub use event::Event;
 pub use fate::Fate;
 pub use filter::Filter;
 pub use filter_keys::FilterKeys;
+pub use filter_prio::FilterPrio;
 pub use filter_view::FilterView;
 pub use fq_codel_options::FqCodelOptions;
+pub use handle::Handle;
 pub use ip_prefix::IpPrefix;
 pub use ip_version::IpVersion;
 pub use kind::Kind;
+pub use latency::Latency;
+pub use minor::Minor;
 pub use node_view::NodeView;
 pub use not_done::NotDone;
 pub use place::Place;
 pub use polled::Polled;
 pub use protocol::Protocol;
 pub use qdisc_view::QdiscView;
+pub use quantum::Quantum;
+pub use rate::Rate;
 pub use refusal::Refusal;
 pub use reply::Reply;
 pub use row::Row;

@@ -1,3 +1,4 @@
+use crate::handle::Handle;
 use crate::place::Place;
 use crate::qdisc_view::QdiscView;
 use crate::row::Row;
@@ -5,8 +6,8 @@ use crate::row::Row;
 /// What `tc -s qdisc show` prints of a node.
 #[derive(Clone, Copy, PartialEq, Eq, Debug)]
 pub struct NodeView {
-    /// The major number of its handle; `None` for an implicit leaf.
-    pub handle: Option<u16>,
+    /// `None` for an implicit leaf.
+    pub handle: Option<Handle>,
     pub place: Place,
     pub qdisc: QdiscView,
     pub row: Row,

@@ -1,3 +1,6 @@
+use crate::handle::Handle;
+use crate::minor::Minor;
+
 /// Where in the tree a node stands.
 #[derive(Clone, Copy, PartialEq, Eq, Debug)]
 pub enum Place {
@@ -5,6 +8,6 @@ pub enum Place {
     Top,
     /// At the root of the device (tc(8), `root`).
     Root,
-    /// In the class of another qdisc with this major and minor number, each at least 1 (tc(8), `parent major:minor`).
-    Class(u16, u16),
+    /// In the class of another qdisc with this major and minor number (tc(8), `parent major:minor`).
+    Class(Handle, Minor),
 }
