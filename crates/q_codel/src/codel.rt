@@ -336,4 +336,49 @@ impl Codel {
 }
 
 #[cfg(test)]
-mod tests;
+mod tests {
+    use super::*;
+    use crate::fifo::Fifo;
+    use crate::limit::Limit;
+    use crate::losses::Losses;
+    use q_packet::{FlowKey, Packet};
+    use std::test::Fail;
+
+    // A count that public calls reach only after 2^32 drops.
+    #[test]
+    fn the_count_ends_at_its_ceiling(rt: HostRuntime) -> Result<(), Fail> {
+        let mut queue = Fifo::new(rt.alloc(), Limit::Packets(10));
+        for number in 1..11u64 {
+            let packet = Packet::new(0, number, 0, 1000, FlowKey::zero(), 0, 0, Ecn::NotEct);
+            let packet = packet.ok_or("a packet in range")?;
+            queue.reserve()?;
+            assert!(rt; queue.fits(packet.len));
+            let at = Moment::zero();
+            queue.put(Stamped { packet, at });
+        }
+        let mut codel = Codel {
+            target: 5_000_000,
+            interval: 100_000_000,
+            mtu: 1514,
+            ecn: false,
+            above: 1,
+            drop_next: 200_000_000,
+            count: u32::MAX,
+            lastcount: 5,
+            dropping: true,
+        };
+        let mut losses = Losses::new(rt.alloc());
+        losses.reserve(10)?;
+        assert!(rt; queue.count() <= losses.room());
+        let now = Moment::new(200_001_525).ok_or("a moment in range")?;
+        let taken = codel.take(&mut queue, now, &mut losses).ok_or("a packet")?;
+        assert_eq!(rt; (taken.packet.number, taken.marked), (3, false));
+        for number in 1..3 {
+            let loss = losses.reap().ok_or("a loss")?;
+            assert_eq!(rt; (loss.packet.number, loss.cause), (number, Cause::CoDel));
+        }
+        assert_eq!(rt; losses.reap(), None);
+        assert_eq!(rt; (codel.count(), codel.drop_next()), (u32::MAX, 200_003_050));
+        Ok(())
+    }
+}

@@ -30,6 +30,3 @@ mod settings;
 pub use entry::Entry;
 pub use fq_codel::FqCodel;
 pub use settings::Settings;
-
-#[cfg(test)]
-mod tests;
