@@ -130,6 +130,3 @@ impl Codel {
         self.state.take(&self.parameters, queue, now, sink)
     }
 }
-
-#[cfg(test)]
-mod tests;

@@ -45,28 +45,3 @@ fn is_too_long(d: u64, interval: u64, count: u32) -> bool
 {
     d as u128 * d as u128 * count as u128 > interval as u128 * interval as u128
 }
-
-#[cfg(test)]
-mod tests {
-    use super::*;
-
-    #[test]
-    fn gaps_are_exact(rt: HostRuntime) {
-        let rows = [
-            (100_000_000, 1, 100_000_000),
-            (100_000_000, 2, 70_710_678),
-            (100_000_000, 3, 57_735_026),
-            (100_000_000, 4, 50_000_000),
-            (100_000_000, 5, 44_721_359),
-            (1000, 1_000_000, 1),
-            (1000, 1_000_001, 0),
-            (1_000_000_000_000, 1, 1_000_000_000_000),
-            (1_000_000_000_000, u32::MAX, 15_258_789),
-            (0, 1, 0),
-        ];
-        for (interval, count, want) in rows {
-            assert!(rt; interval <= 1_000_000_000_000 && count >= 1);
-            assert_eq!(rt; gap(interval, count), want, "gap({interval}, {count})");
-        }
-    }
-}

@@ -40,6 +40,3 @@ pub use active::Active;
 pub use met::Met;
 pub use take::serve;
 pub use turn::Turn;
-
-#[cfg(test)]
-mod tests;

@@ -31,6 +31,3 @@ mod settings;
 
 pub use fq_codel::FqCodel;
 pub use settings::Settings;
-
-#[cfg(test)]
-mod tests;

@@ -38,6 +38,3 @@ pub use line_fault::LineFault;
 pub use place::Place;
 pub use reading::read_line;
 pub use show::Show;
-
-#[cfg(test)]
-mod tests;

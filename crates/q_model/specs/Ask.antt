@@ -12,14 +12,14 @@ use Rattle.q_fqcodel.specs.FqState.{FqState}
 use Rattle.q_fqcodel.specs.Take.{selected, sent_from, dropped_from, after_sending}
 use Rattle.q_bucket.specs.Level.{TokenBucket, allows, after_spend}
 use Rattle.q_drr.specs.Schedule.{Class, Entry, Schedule}
-use Rattle.q_drr.specs.Take.{met, served}
+use Rattle.q_drr.specs.Take.{choice_of, met, served}
 use Rattle.q_drr.specs.declared.met.Met.{Met}
 use Rattle.q_model.specs.Tally.{Note, Sent, Marked, Spent}
 use Rattle.q_model.specs.Node.{Discipline, Fifo, Prio, Tbf, Drr, FqCodel, Own, Shape, from_below}
 use Rattle.q_model.specs.Beneath.{packets_of, is_empty}
 use Rattle.q_model.specs.Route.{class_at}
 use Rattle.q_model.specs.Work.{Work, Worked, worked, losses_of, settled_class}
-use Rattle.q_model.specs.Grants.{choice_of, asked_entries, granted_notes}
+use Rattle.q_model.specs.Grants.{asked_entries, granted_notes}
 use Rattle.q_model.specs.Quanta.{flow_notes}
 
 -- What asking a node comes to. `before`: it was not asked. `peeked`: it was asked for its packet, and shows it. `taken`: it

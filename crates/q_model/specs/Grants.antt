@@ -1,14 +1,9 @@
 -- What a take asks of the classes of a drr: whose child is asked for its packet, and how many grants each class gets.
 -- tc-drr(8), and M. Shreedhar and G. Varghese, "Efficient Fair Queuing Using Deficit Round-Robin" (1995).
 use Rattle.std.specs.Prelude.{ℕ, suc, ◌==◌, if◌then◌else◌, List, [], ◌++◌, map, take, drop, Option, Some, None}
-use Rattle.q_drr.specs.Schedule.{Entry, Schedule, quantum_of}
-use Rattle.q_drr.specs.Take.{Choice, need, choose}
+use Rattle.q_packet.specs.Choice.{Choice}
+use Rattle.q_drr.specs.Schedule.{Entry}
 use Rattle.q_model.specs.Tally.{Note, Granted}
-
--- which of the active classes is met, by the lengths that their children show: the one that needs the fewest grants, and
--- of equals the first
-abbrev pub choice_of : (ℕ → Option ℕ) → Schedule → Option Choice
-choice_of heads s = choose (map (need (λ n. quantum_of n s.classes) heads) s.active)
 
 -- those whose child is asked, in order: up to the class that is met, and all of them where it needs a grant
 abbrev pub asked_entries : Option Choice → List Entry → List Entry

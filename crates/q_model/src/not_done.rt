@@ -75,30 +75,3 @@ impl NotDone {
         }
     }
 }
-
-#[cfg(test)]
-mod tests {
-    use super::*;
-
-    #[test]
-    fn refusals_have_their_numbers_and_names(rt: HostRuntime) {
-        for (refusal, number, name) in [
-            (NotDone::NoParent, 10, "NoParent"),
-            (NotDone::Exists, 11, "Exists"),
-            (NotDone::NoQdisc, 12, "NoQdisc"),
-            (NotDone::HandleTaken, 13, "HandleTaken"),
-            (NotDone::NotClassful, 14, "NotClassful"),
-            (NotDone::NoClass, 15, "NoClass"),
-            (NotDone::Busy, 16, "Busy"),
-            (NotDone::CannotChange, 17, "CannotChange"),
-            (NotDone::TooDeep, 18, "TooDeep"),
-            (NotDone::TooMany, 19, "TooMany"),
-            (NotDone::SmallBurst, 20, "SmallBurst"),
-            (NotDone::NoFilter, 21, "NoFilter"),
-            (NotDone::Memory, 90, "Memory"),
-        ] {
-            assert_eq!(rt; refusal.number(), number, "{refusal:?}");
-            assert_eq!(rt; refusal.name(), name);
-        }
-    }
-}

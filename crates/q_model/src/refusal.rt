@@ -70,23 +70,3 @@ impl Refusal {
         }
     }
 }
-
-#[cfg(test)]
-mod tests {
-    use super::*;
-    use std::test::Fail;
-
-    #[test]
-    fn refusals_are_shown_with_number_and_name(rt: HostRuntime) -> Result<(), Fail> {
-        for (refused, text) in [
-            (NotDone::NoParent, "refused 10 NoParent"),
-            (NotDone::Busy, "refused 16 Busy"),
-            (NotDone::NoFilter, "refused 21 NoFilter"),
-            (NotDone::Memory, "refused 90 Memory"),
-        ] {
-            let shown = format!(in rt.alloc(); "{}", Refusal::of(refused))?;
-            assert_eq!(rt; shown.as_str(), text);
-        }
-        Ok(())
-    }
-}

@@ -46,16 +46,3 @@ impl Settings {
         }
     }
 }
-
-#[cfg(test)]
-mod tests {
-    use super::*;
-
-    #[test]
-    fn settings_are_within_their_ranges(rt: HostRuntime) {
-        assert!(rt; Settings::new(1, 0, 0).is_some());
-        assert!(rt; Settings::new(65535, u32::MAX, 1_000_000).is_some());
-        assert_eq!(rt; Settings::new(0, 1000, 4096), None);
-        assert_eq!(rt; Settings::new(1514, 1000, 1_000_001), None);
-    }
-}

@@ -63,26 +63,3 @@ impl fmt::Display for Cause {
         f.write_str(self.name())
     }
 }
-
-#[cfg(test)]
-mod tests {
-    use super::*;
-    use std::test::Fail;
-
-    #[test]
-    fn causes_are_shown_by_name(rt: HostRuntime) -> Result<(), Fail> {
-        for (cause, name, refuses) in [
-            (Cause::TooLong, "TooLong", true),
-            (Cause::NoClass, "NoClass", true),
-            (Cause::OverLimit, "OverLimit", true),
-            (Cause::CoDel, "CoDel", false),
-            (Cause::FatFlow, "FatFlow", false),
-            (Cause::Purged, "Purged", false),
-        ] {
-            let shown = format!(in rt.alloc(); "{cause}")?;
-            assert_eq!(rt; shown.as_str(), name);
-            assert_eq!(rt; cause.is_refusal(), refuses, "{cause}");
-        }
-        Ok(())
-    }
-}

@@ -35,23 +35,3 @@ impl Ecn {
         self as u8
     }
 }
-
-#[cfg(test)]
-mod tests {
-    use super::*;
-
-    #[test]
-    fn codepoints_are_the_low_two_bits(rt: HostRuntime) {
-        for (traffic, ecn) in [
-            (0x00, Ecn::NotEct),
-            (0x01, Ecn::Ect1),
-            (0x02, Ecn::Ect0),
-            (0x03, Ecn::Ce),
-            (0xb8, Ecn::NotEct),
-            (0xff, Ecn::Ce),
-        ] {
-            assert_eq!(rt; Ecn::from_bits(traffic), ecn, "traffic byte {traffic}");
-            assert_eq!(rt; ecn.bits(), traffic % 4);
-        }
-    }
-}

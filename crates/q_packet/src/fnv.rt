@@ -43,16 +43,3 @@ fn mix(hash: u32, byte: u8) -> u32
 {
     (hash ^ byte as u32).wrapping_mul(PRIME)
 }
-
-#[cfg(test)]
-mod tests {
-    use super::*;
-
-    // The vectors are those of draft-eastlake-fnv, appendix C.
-    #[test]
-    fn hashes_published_vectors(rt: HostRuntime) {
-        assert_eq!(rt; hash_bytes(b""), 0x811c_9dc5);
-        assert_eq!(rt; hash_bytes(b"a"), 0xe40c_292c);
-        assert_eq!(rt; hash_bytes(b"foobar"), 0xbf9c_f968);
-    }
-}

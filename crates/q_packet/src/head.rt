@@ -182,6 +182,3 @@ fn prio_of_traffic(traffic: u8) -> u8
 {
     PRIO[(traffic >> 1 & 0x0f) as usize]
 }
-
-#[cfg(test)]
-mod tests;

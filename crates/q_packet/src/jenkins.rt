@@ -52,28 +52,3 @@ impl FlowHash for OneAtATime {
         one_at_a_time(self.seed, &key.bytes())
     }
 }
-
-#[cfg(test)]
-mod tests {
-    use super::*;
-    use crate::fnv::Fnv1a;
-
-    // The queue of a flow among 1024, as fq_codel finds it.
-    fn queue_of<H: FlowHash>(hash: &H, key: &FlowKey) -> u32 {
-        hash.hash(key) % 1024
-    }
-
-    #[test]
-    fn hashes_bytes_and_keys(rt: HostRuntime) {
-        assert_eq!(rt; one_at_a_time(0, b"a"), 0xca2e_9442);
-        assert_eq!(rt; one_at_a_time(1, b""), 0x48009);
-        assert_eq!(rt;
-            one_at_a_time(0, b"The quick brown fox jumps over the lazy dog"),
-            0x519e_91f5
-        );
-        let key = FlowKey::zero();
-        assert_eq!(rt; OneAtATime { seed: 0 }.hash(&key), 0);
-        assert_eq!(rt; queue_of(&OneAtATime { seed: 0 }, &key), 0);
-        assert_eq!(rt; queue_of(&Fnv1a, &key), Fnv1a.hash(&key) % 1024);
-    }
-}

@@ -51,18 +51,3 @@ impl Moment {
         self.nanoseconds
     }
 }
-
-#[cfg(test)]
-mod tests {
-    use super::*;
-    use std::test::Fail;
-
-    #[test]
-    fn moments_end_at_two_to_the_62(rt: HostRuntime) -> Result<(), Fail> {
-        assert_eq!(rt; Moment::new(0).ok_or("zero")?.ns(), 0);
-        assert_eq!(rt; Moment::new(1 << 62).ok_or("latest")?.ns(), 1 << 62);
-        assert_eq!(rt; Moment::new((1 << 62) + 1), None);
-        assert_eq!(rt; Moment::new(u64::MAX), None);
-        Ok(())
-    }
-}

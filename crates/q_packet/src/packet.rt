@@ -102,32 +102,3 @@ impl Packet {
         }
     }
 }
-
-#[cfg(test)]
-mod tests {
-    use super::*;
-    use std::test::Fail;
-
-    #[test]
-    fn lengths_and_priorities_are_in_range(rt: HostRuntime) -> Result<(), Fail> {
-        let key = FlowKey::zero();
-        for (len, prio, there) in [
-            (0, 0, false),
-            (1, 0, true),
-            (u16::MAX, 15, true),
-            (1, 16, false),
-            (1, u8::MAX, false),
-        ] {
-            let packet = Packet::new(0, 1, 2, len, key, 3, prio, Ecn::NotEct);
-            assert_eq!(rt; packet.is_some(), there, "{len} bytes of priority {prio}");
-        }
-        let packet = Packet::new(u32::MAX, u64::MAX, u32::MAX, 1, key, u32::MAX, 15, Ecn::Ce);
-        let packet = packet.ok_or("a packet in range")?;
-        assert_eq!(rt;
-            (packet.port, packet.number, packet.buf),
-            (u32::MAX, u64::MAX, u32::MAX)
-        );
-        assert_eq!(rt; (packet.len, packet.hash, packet.prio), (1, u32::MAX, 15));
-        Ok(())
-    }
-}

@@ -133,3 +133,11 @@ marked_already : (
     (drops s 20 queue ≡ 0) × (marks s 20 queue ≡ true))
 unfolding put
 marked_already = (refl, refl)
+
+-- the count stays at its end, where the gaps are 0
+ceiling : (
+    let s = record (at_first 5 10 1514 false) { above = 1; drop_next = 20; count = 4294967295; lastcount = 5; dropping = true } in
+    let queue = map (put NotEct) (1 ∷ 2 ∷ 3 ∷ 4 ∷ []) in
+    (drops s 20 queue ≡ 2) × (seen s ((20, queue) ∷ []) ≡ (4294967295 ∷ 5 ∷ 20 ∷ 0 ∷ 0 ∷ []) ∷ []))
+unfolding seen put gap_of
+ceiling = (refl, refl)

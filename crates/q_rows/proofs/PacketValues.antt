@@ -33,6 +33,15 @@ fnv_of_a : fnv1a (97 ∷ []) ≡ 0xe40c292c
 unfolding fnv1a fnv_mixed
 fnv_of_a = refl
 
+fnv_of_nothing : fnv1a [] ≡ 0x811c9dc5
+unfolding fnv1a fnv_mixed
+fnv_of_nothing = refl
+
+-- the bytes of 'foobar'
+fnv_of_foobar : fnv1a (102 ∷ 111 ∷ 111 ∷ 98 ∷ 97 ∷ 114 ∷ []) ≡ 0xbf9cf968
+unfolding fnv1a fnv_mixed
+fnv_of_foobar = refl
+
 -- a datagram of IPv4 from 10.0.0.1 port 53 to 10.0.0.2 port 54
 datagram : List ℕ
 datagram = 0x45 ∷ 0 ∷ 0 ∷ 40 ∷ 0 ∷ 0 ∷ 0 ∷ 0 ∷ 64 ∷ 17 ∷ 0 ∷ 0 ∷ 10 ∷ 0 ∷ 0 ∷ 1 ∷ 10 ∷ 0 ∷ 0 ∷ 2 ∷ 0 ∷ 53 ∷ 0 ∷ 54 ∷ []

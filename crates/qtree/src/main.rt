@@ -4,21 +4,17 @@
 //!   theorem: what was written is `report settings script starved` of `specs/Report.antt`, for some list `starved` of
 //!   lines at which memory was refused, and nothing else; the outcome is `Refused` if and only if some line was faulty or
 //!   turned down; and each `RunFault` says what was written.
-//! - [`command_line::options`] reads the command line.
+//! - [`q_options::read_options`] reads the command line.
 //!
 //! `specs/Report.antt` takes the report of `q_report`, over the model of the whole device that keeps every packet, in a
 //! language of which the words of today are spoken. What runs a script is `q_script`, which holds one root pfifo; that its
 //! report is the same stands in `proofs/FirstPath.antt`.
 #![tactic(auto)]
 
-mod command_line;
-mod options;
 mod run;
-#[cfg(test)]
-mod tests;
 
-use crate::options::Options;
 use crate::run::run;
+use q_options::Options;
 use q_script::RunSettings;
 use std::process::ExitCode;
 use std::{env, io};
@@ -40,7 +36,7 @@ fn main(rt: HostRuntime) -> ExitCode {
 fn start(rt: &HostRuntime) -> io::Result<ExitCode> {
     let words: Vec<String> = env::args(rt)?.collect(rt.alloc())?;
     let words: Vec<&str> = words.iter().map(|word| word.as_str()).collect(rt.alloc())?;
-    let options = match command_line::options(rt.alloc(), &words) {
+    let options = match q_options::read_options(rt.alloc(), &words) {
         Ok(options) => options,
         Err(e) => {
             e.print(rt)?;

@@ -1,4 +1,5 @@
-use crate::{Active, Met, Turn, serve};
+//! The active list of deficit round robin.
+use q_drr::{Active, Met, Turn, serve};
 use std::test::Fail;
 
 #[test]

@@ -1,9 +1,9 @@
-// Heads of packets that Linux 6.18 sent, as a packet socket on the sending device saw them: the bytes from the network
-// header on, those of the fragments cut after 32. Of the ICMP and SCTP packets the kernel made the IP header, and a raw
+//! Heads of packets that Linux 6.18 sent, as a packet socket on the sending device saw them: the bytes from the network
+//! header on, those of the fragments cut after 32. Of the ICMP and SCTP packets the kernel made the IP header, and a raw
 // socket gave the rest. The fields beside them are what `tshark` 4.0.17 printed of the same bytes: ip.proto or ipv6.nxt,
 // the addresses, the ports, and the ECN bits of ip.dsfield or ipv6.tclass; the priority is the table's for that byte.
 // Behind a hop-by-hop header tshark reads on and finds UDP; here the next header is the protocol.
-use super::*;
+use q_packet::{Ecn, FlowKey, Head, read_head};
 use std::test::Fail;
 
 const LOOPBACK: u128 = 0x7f00_0001;

@@ -1,6 +1,6 @@
-use crate::fq_codel::FqCodel;
-use crate::settings::Settings;
+//! fq_codel: flows that share by quanta.
 use q_codel::Losses;
+use q_fqcodel::{FqCodel, Settings};
 use q_packet::{Cause, Ecn, FlowKey, Moment, Packet};
 use std::alloc::Global;
 use std::process::Abort;

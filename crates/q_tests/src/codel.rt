@@ -1,11 +1,29 @@
-use super::*;
-use crate::fifo::Fifo;
-use crate::limit::Limit;
-use crate::losses::Losses;
-use q_packet::{Cause, Ecn, FlowKey, Packet, Stamped};
+//! CoDel's law on one queue.
+use q_codel::{Codel, Fifo, Limit, Losses, Taken, gap};
+use q_packet::{Cause, Ecn, FlowKey, Moment, Packet, Stamped};
 use std::alloc::Global;
 use std::process::Abort;
 use std::test::Fail;
+
+#[test]
+fn gaps_are_exact(rt: HostRuntime) {
+    let rows = [
+        (100_000_000, 1, 100_000_000),
+        (100_000_000, 2, 70_710_678),
+        (100_000_000, 3, 57_735_026),
+        (100_000_000, 4, 50_000_000),
+        (100_000_000, 5, 44_721_359),
+        (1000, 1_000_000, 1),
+        (1000, 1_000_001, 0),
+        (1_000_000_000_000, 1, 1_000_000_000_000),
+        (1_000_000_000_000, u32::MAX, 15_258_789),
+        (0, 1, 0),
+    ];
+    for (interval, count, want) in rows {
+        assert!(rt; interval <= 1_000_000_000_000 && count >= 1);
+        assert_eq!(rt; gap(interval, count), want, "gap({interval}, {count})");
+    }
+}
 
 const MS: u64 = 1_000_000;
 
@@ -159,64 +177,96 @@ fn a_mark_is_seen_in_the_packet(rt: HostRuntime) -> Result<(), Fail> {
     Ok(())
 }
 
-// Ten packets are late at once, after a time of dropping that ended: one is dropped, and the count goes on or begins anew.
-#[test]
-fn a_count_is_resumed_within_16_intervals(rt: HostRuntime) -> Result<(), Fail> {
-    let rows = [
-        (200 * MS, 9, 4, 1000 * MS, 1_044_721_359, 5),
-        (200 * MS, 9, 4, 1_799_999_999, 1_844_721_358, 5),
-        (200 * MS, 9, 4, 1800 * MS, 1900 * MS, 1),
-        (2000 * MS, 9, 4, 1000 * MS, 1_044_721_359, 5),
-        (200 * MS, 5, 4, 1000 * MS, 1100 * MS, 1),
-    ];
-    for (drop_next, count, lastcount, now, then, resumed) in rows {
-        assert!(rt; drop_next <= 2000 * MS && lastcount <= count);
-        let codel = Codel {
-            parameters: Parameters {
-                target: 5 * MS,
-                interval: 100 * MS,
-                mtu: 1514,
-                ecn: false,
-            },
-            state: ControlState {
-                above: 1,
-                drop_next,
-                count,
-                lastcount,
-                dropping: false,
-            },
-        };
-        let mut bench = Bench::new(rt.alloc(), codel);
-        bench.put(&rt, 1, 11, 0, Ecn::NotEct)?;
-        expect(&rt, &mut bench, &[(now, 2, false)], &[1])?;
-        assert_eq!(rt; bench.codel.drop_next(), then);
-        assert_eq!(rt; bench.codel.count(), resumed);
+/// A CoDel that dropped until it had this count and then came to rest, whose queue stands again.
+///
+/// It drops for the first time up to a count of 5, and at 510 ms for a second time, with a count that begins at 4. Takes
+/// at the two moments let it go on, the second with this interval.
+fn dropped_and_rested(
+    rt: &impl Abort,
+    alloc: Global,
+    moments: [u64; 2],
+    interval: u64,
+) -> Result<Bench, Fail> {
+    let mut bench = Bench::new(alloc, Codel::new(5 * MS, 100 * MS, 1514, false));
+    bench.put(rt, 1, 61, 0, Ecn::NotEct)?;
+    for ns in [10 * MS, 110 * MS, 400 * MS] {
+        bench.poll(rt, ns)?;
     }
-    Ok(())
+    assert_eq!(rt;
+        (bench.codel.count(), bench.codel.drop_next()),
+        (5, 433_167_063)
+    );
+    bench.codel.rest();
+    for ns in [410 * MS, 510 * MS] {
+        bench.poll(rt, ns)?;
+    }
+    assert_eq!(rt;
+        (bench.codel.count(), bench.codel.drop_next()),
+        (4, 560 * MS)
+    );
+    let [first, second] = moments;
+    bench.poll(rt, first)?;
+    assert!(rt; interval >= 1000 && interval <= 1_000_000 * MS);
+    bench.codel.set_params(5 * MS, interval, false);
+    bench.poll(rt, second)?;
+    bench.codel.set_params(5 * MS, 100 * MS, false);
+    bench.codel.rest();
+    bench.poll(rt, 750 * MS)?;
+    Ok(bench)
 }
 
+// One packet is dropped after a time of dropping that ended, and the count goes on or begins anew. The columns: the moments
+// and the interval of the last drops, what they leave, the moment of the drop, and what it leaves.
 #[test]
-fn the_count_ends_at_its_ceiling(rt: HostRuntime) -> Result<(), Fail> {
-    let codel = Codel {
-        parameters: Parameters {
-            target: 5 * MS,
-            interval: 100 * MS,
-            mtu: 1514,
-            ecn: false,
-        },
-        state: ControlState {
-            above: 1,
-            drop_next: 200 * MS,
-            count: u32::MAX,
-            lastcount: 5,
-            dropping: true,
-        },
-    };
-    let mut bench = Bench::new(rt.alloc(), codel);
-    bench.put(&rt, 1, 11, 0, Ecn::NotEct)?;
-    expect(&rt, &mut bench, &[(200_001_525, 3, false)], &[1, 2])?;
-    assert_eq!(rt; bench.codel.count(), u32::MAX);
-    assert_eq!(rt; bench.codel.drop_next(), 200_003_050);
+fn a_count_is_resumed_within_16_intervals(rt: HostRuntime) -> Result<(), Fail> {
+    let nine = [700 * MS, 740 * MS];
+    let soon = [700 * MS, 720 * MS];
+    let five = [570 * MS, 575 * MS];
+    let rows = [
+        (
+            nine,
+            100 * MS,
+            (9, 752_031_307),
+            1000 * MS,
+            (5, 1_044_721_359),
+        ),
+        (
+            nine,
+            100 * MS,
+            (9, 752_031_307),
+            2_352_031_306,
+            (5, 2_396_752_665),
+        ),
+        (
+            nine,
+            100 * MS,
+            (9, 752_031_307),
+            2_352_031_307,
+            (1, 2_452_031_307),
+        ),
+        (
+            soon,
+            10_000 * MS,
+            (9, 4_052_031_307),
+            1000 * MS,
+            (5, 1_044_721_359),
+        ),
+        (five, 100 * MS, (5, 604_721_359), 1000 * MS, (1, 1100 * MS)),
+    ];
+    for (moments, interval, left, now, resumed) in rows {
+        let mut bench = dropped_and_rested(&rt, rt.alloc(), moments, interval)?;
+        assert!(rt; !bench.codel.is_dropping());
+        assert_eq!(rt; (bench.codel.count(), bench.codel.drop_next()), left);
+        let lost = bench.losses.count();
+        bench.poll(&rt, now)?;
+        assert_eq!(rt; bench.losses.count(), lost.saturating_add(1), "at {now}");
+        assert!(rt; bench.codel.is_dropping());
+        assert_eq!(rt;
+            (bench.codel.count(), bench.codel.drop_next()),
+            resumed,
+            "at {now}"
+        );
+    }
     Ok(())
 }
 

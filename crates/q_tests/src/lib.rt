@@ -1,0 +1,30 @@
+//! Tests that need nothing private of the crates below: a module for each crate or topic.
+//!
+//! They stand here so that those crates are proved once. A crate with tests of its own is proved a second time with them.
+//! The crate exports nothing. Scripts with their reports are data and not code: `q_corpus` plays them.
+#![tactic(auto)]
+
+#[cfg(test)]
+mod bucket;
+#[cfg(test)]
+mod codel;
+#[cfg(test)]
+mod command_line;
+#[cfg(test)]
+mod device;
+#[cfg(test)]
+mod drr;
+#[cfg(test)]
+mod fifo;
+#[cfg(test)]
+mod fq_codel;
+#[cfg(test)]
+mod head;
+#[cfg(test)]
+mod line;
+#[cfg(test)]
+mod packet;
+#[cfg(test)]
+mod runs;
+#[cfg(test)]
+mod streams;
