@@ -60,7 +60,8 @@ pub record AgreesWith (s : FqSettings) (c : CodelState) : Type 0 where
   pub mtu : c.mtu ≡ s.mtu
 
 pub record IsLawfulFlow (clock : ℕ) (s : FqSettings) (f : Flow) : Type 0 where
-  pub codel : codel.IsInRange f.codel
+  pub settings : codel.IsCodelParams (codel.params_of f.codel)
+  pub state : codel.IsCodelVars (codel.vars_of f.codel)
   pub agrees : AgreesWith s f.codel
   pub stamps : IsStampedBy clock f.queue
 
