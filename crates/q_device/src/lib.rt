@@ -14,9 +14,4 @@
 pub mod laws;
 
 pub use q_codel::Loss as Lost;
-pub use q_model::Event;
-pub use q_model::Fate;
-pub use q_model::Polled;
-pub use q_model::Refusal;
-pub use q_model::Reply;
-pub use q_model::Settings;
+pub use q_model::{Event, Fate, Polled, Refusal, Reply, Settings};

@@ -7,12 +7,11 @@ use Rattle.std.specs.Str.{bytes_eq}
 use Rattle.std.specs.Str.Parse.{digits_value}
 use Rattle.q_packet.specs.Least.{least}
 use Rattle.q_model.specs.declared.class_id.ClassId.{ClassId}
-use Rattle.q_model.specs.declared.ip_prefix.IpPrefix.{IpPrefix}
 use Rattle.q_model.specs.declared.ip_version.IpVersion.{IpVersion}
 use Rattle.q_model.specs.declared.ip_version.IpVersion.TheVariants.{V4, V6}
 use Rattle.q_model.specs.declared.protocol.Protocol.{Protocol}
 use Rattle.q_model.specs.declared.protocol.Protocol.TheVariants.{All, Ip, Ipv6}
-use Rattle.q_model.specs.Filters.{bits_of}
+use Rattle.q_model.specs.Options.{Prefix, bits_of}
 use Rattle.q_language.specs.Units.{is_point}
 use Rattle.q_line.specs.Values.{is_colon, is_major, is_numeral}
 use Rattle.q_line.specs.declared.wrong.Wrong.{Wrong}
@@ -86,7 +85,7 @@ address_of word =
 abbrev pub is_slash : ℕ → Bool
 is_slash b = b == 47
 
-abbrev pub prefix_from : Address → Option (List ℕ) → Result IpPrefix Wrong
+abbrev pub prefix_from : Address → Option (List ℕ) → Result Prefix Wrong
 prefix_from a None = Ok (record { version = a.version; address = a.address; len = bits_of a.version })
 prefix_from a (Some len) =
     if is_numeral 10 len
@@ -97,7 +96,7 @@ prefix_from a (Some len) =
 abbrev pub has_bad_length : Option (List ℕ) → Bool
 has_bad_length len = option_map_or (λ digits. not (is_numeral 10 digits)) len false
 
-abbrev pub prefix_of : List ℕ → Result IpPrefix Wrong
+abbrev pub prefix_of : List ℕ → Result Prefix Wrong
 prefix_of word =
     let len = if list_any is_slash word then Some (after_first is_slash word) else None in
     elim (address_of (before_first is_slash word)) [

@@ -8,13 +8,13 @@ use Rattle.q_model.specs.declared.class_id.ClassId.{ClassId}
 use Rattle.q_model.specs.declared.command.Command.{Command}
 use Rattle.q_model.specs.declared.command.Command.TheVariants as command
 use Rattle.q_model.specs.declared.filter_keys.FilterKeys.{FilterKeys}
-use Rattle.q_model.specs.declared.fq_codel_options.FqCodelOptions.{FqCodelOptions}
 use Rattle.q_model.specs.declared.kind.Kind.{Kind}
 use Rattle.q_model.specs.declared.kind.Kind.TheVariants as kind
 use Rattle.q_model.specs.declared.place.Place.{Place}
 use Rattle.q_model.specs.declared.protocol.Protocol.{Protocol}
 use Rattle.q_model.specs.declared.protocol.Protocol.TheVariants.{All}
 use Rattle.q_model.specs.declared.tbf_limit.TbfLimit.{TbfLimit}
+use Rattle.q_model.specs.Options.{FqOptions}
 use Rattle.q_language.specs.Addresses.{Address}
 
 -- what a tc line does, and the kinds by name
@@ -48,7 +48,7 @@ pub record OptionDraft : Type 0 where
   pub priomap : Option Bands
   pub rate : Option ℕ
   pub burst : Option ℕ
-  pub fq_codel : FqCodelOptions
+  pub fq_codel : FqOptions
 
 abbrev pub no_options : OptionDraft
 no_options = record {
@@ -82,7 +82,7 @@ bad_band o = option_and_then
 abbrev pub kind_of : KindName → OptionDraft → Option Kind
 kind_of pfifo o = Some (kind.Pfifo o.limit)
 kind_of bfifo o = Some (kind.Bfifo o.limit)
-kind_of prio o = option_map (λ map. kind.Prio (bands_of o) map) (whole_priomap o)
+kind_of prio o = option_map (λ map. kind.Prio (record { bands = bands_of o; priomap = map })) (whole_priomap o)
 kind_of tbf o = option_and_then (λ rate. option_and_then (λ burst. option_map (λ limit. kind.Tbf rate burst limit) o.tbf_limit) o.burst) o.rate
 kind_of drr o = Some kind.Drr
 kind_of fq_codel o = Some (kind.FqCodel o.fq_codel)

@@ -8,7 +8,6 @@ use Rattle.q_packet.specs.Ecn.{ecn_of}
 use Rattle.q_packet.specs.Head.{head as head_in}
 use Rattle.q_packet.specs.Key.{Key}
 use Rattle.q_packet.specs.declared.ecn.Ecn.TheVariants.{NotEct}
-use Rattle.q_model.specs.declared.ip_prefix.IpPrefix.{IpPrefix}
 use Rattle.q_model.specs.declared.ip_version.IpVersion.{IpVersion}
 use Rattle.q_model.specs.declared.ip_version.IpVersion.TheVariants.{V4, V6}
 use Rattle.q_model.specs.declared.place.Place.TheVariants as place
@@ -16,6 +15,7 @@ use Rattle.q_model.specs.declared.protocol.Protocol.{Protocol}
 use Rattle.q_model.specs.declared.protocol.Protocol.TheVariants.{All, Ip, Ipv6}
 use Rattle.q_model.specs.declared.tbf_limit.TbfLimit.TheVariants as tbf_limit
 use Rattle.q_model.specs.Filters.{family_of}
+use Rattle.q_model.specs.Options.{Prefix}
 use Rattle.q_line.specs.Words.{words_in, is_blank_line}
 use Rattle.q_line.specs.Values.{is_numeral, number_in, handle_of, name_of}
 use Rattle.q_language.specs.Units.{rate_in, size_in, time_in}
@@ -44,7 +44,7 @@ longest = 10 ^ 12
 
 abbrev pub head_fits : HeadValue → Verb → HeadDraft → List ℕ → Result Position Wrong
 head_fits Positions.dev v h word = value (name_of word) (λ u. Positions.head v (record h { named = true }))
-head_fits Positions.in_class v h word = value (class_of word) (λ c. Positions.head v (record h { place = Some (place.Class c.major c.minor) }))
+head_fits Positions.in_class v h word = value (class_of word) (λ c. Positions.head v (record h { place = Some (place.Class c) }))
 head_fits Positions.handle v h word = value (handle_of word) (λ n. Positions.head v (record h { handle = Some n }))
 head_fits Positions.parent v h word = value (handle_of word) (λ n. Positions.head v (record h { parent = Some n }))
 head_fits Positions.class_id v h word = value (class_of word) (λ c. Positions.head v (record h { class = Some c }))
@@ -95,9 +95,9 @@ version_of (Some Ip) = Some V4
 version_of (Some Ipv6) = Some V6
 
 abbrev pub key_version : HeadDraft → KeyDraft → Option IpVersion
-key_version h k = option_or (version_of h.protocol) (option_map (λ (p : IpPrefix). p.version) (option_or k.keys.src_ip k.keys.dst_ip))
+key_version h k = option_or (version_of h.protocol) (option_map (λ (p : Prefix). p.version) (option_or k.keys.src_ip k.keys.dst_ip))
 
-abbrev pub key_prefix : HeadDraft → KeyDraft → List ℕ → Result IpPrefix Wrong
+abbrev pub key_prefix : HeadDraft → KeyDraft → List ℕ → Result Prefix Wrong
 key_prefix h k word = of_version (key_version h k) (λ p. p.version) (prefix_of word)
 
 abbrev pub key_fits : KeyValue → HeadDraft → KeyDraft → List ℕ → Result Position Wrong

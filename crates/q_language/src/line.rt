@@ -1,7 +1,7 @@
 use crate::arrival::Arrival;
 use crate::show::Show;
-use q_packet::{Head, Moment};
 use q_model::Command;
+use q_packet::{Head, Moment};
 
 /// What a line of a script says.
 #[derive(Clone, Copy, PartialEq, Eq, Debug)]

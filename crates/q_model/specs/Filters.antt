@@ -7,23 +7,19 @@ use Rattle.q_packet.specs.Key.{Key}
 use Rattle.q_packet.specs.Descriptor.{Descriptor}
 use Rattle.q_model.specs.declared.ip_version.IpVersion.{IpVersion}
 use Rattle.q_model.specs.declared.ip_version.IpVersion.TheVariants.{V4, V6}
-use Rattle.q_model.specs.declared.ip_prefix.IpPrefix.{IpPrefix}
 use Rattle.q_model.specs.declared.protocol.Protocol.{Protocol}
 use Rattle.q_model.specs.declared.protocol.Protocol.TheVariants as protocol
 use Rattle.q_model.specs.declared.filter_keys.FilterKeys.{FilterKeys}
 use Rattle.q_model.specs.declared.filter.Filter.{Filter}
+use Rattle.q_model.specs.Options.{Prefix, bits_of}
 
--- the family of a flow key, and the bits of an address
+-- the family of a flow key
 abbrev pub family_of : IpVersion → ℕ
 family_of V4 = 4
 family_of V6 = 6
 
-abbrev pub bits_of : IpVersion → ℕ
-bits_of V4 = 32
-bits_of V6 = 128
-
 -- an address of the same version whose first bits are the prefix's
-abbrev pub has_prefix : IpPrefix → Key → ℕ → Bool
+abbrev pub has_prefix : Prefix → Key → ℕ → Bool
 has_prefix p key address =
     let rest = 2 ^ (bits_of p.version - p.len) in key.family == family_of p.version && address / rest == p.address / rest
 

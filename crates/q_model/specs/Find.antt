@@ -61,7 +61,7 @@ class_path class n = option_and_then
 abbrev pub place_path : {M : Type 0} → Place → Node M → Option (List ℕ)
 place_path place.Top n = None
 place_path place.Root n = Some []
-place_path (place.Class major minor) n = class_path (record { major = major; minor = minor }) n
+place_path (place.Class class) n = class_path class n
 
 -- whether an explicit discipline stands at the end of the way
 abbrev pub is_explicit : {M : Type 0} → List ℕ → Node M → Bool

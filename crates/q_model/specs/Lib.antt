@@ -13,6 +13,7 @@ pub mod Make
 pub mod Node
 pub mod NotDone
 pub mod Numbers
+pub mod Options
 pub mod Put
 pub mod QdiscCommands
 pub mod Quanta

@@ -5,11 +5,11 @@ use Rattle.q_codel.specs.declared.limit.Limit.TheVariants.{Packets, Bytes}
 use Rattle.q_fqcodel.specs.FqState.{FqSettings, first_state}
 use Rattle.q_bucket.specs.Level.{units_in_byte, full}
 use Rattle.q_drr.specs.Schedule.{no_classes}
-use Rattle.q_model.specs.declared.fq_codel_options.FqCodelOptions.{FqCodelOptions}
 use Rattle.q_model.specs.declared.tbf_limit.TbfLimit.{TbfLimit}
 use Rattle.q_model.specs.declared.tbf_limit.TbfLimit.TheVariants as limit
 use Rattle.q_model.specs.declared.kind.Kind.{Kind}
 use Rattle.q_model.specs.declared.kind.Kind.TheVariants as kind
+use Rattle.q_model.specs.Options.{FqOptions}
 use Rattle.q_model.specs.Node.{Discipline, Fifo, Prio, Tbf, Drr, FqCodel, Shape, side_by_side}
 
 -- the device's mtu in bytes, and the packets of its queue (ip-link(8), `mtu` and `txqueuelen`)
@@ -58,7 +58,7 @@ default_settings d = record {
 }
 
 -- the settings with those that are given in place of theirs
-abbrev pub with_options : FqCodelOptions → FqSettings → FqSettings
+abbrev pub with_options : FqOptions → FqSettings → FqSettings
 with_options o s = record {
   limit = unwrap_or o.limit s.limit;
   flows = unwrap_or o.flows s.flows;
@@ -74,7 +74,7 @@ with_options o s = record {
 abbrev pub made : Device → ℕ → Option ℕ → Kind → Shape
 made d now handle (kind.Pfifo limit) = node_of handle (Fifo (Packets (unwrap_or limit d.txqueuelen)) []) []
 made d now handle (kind.Bfifo limit) = node_of handle (Fifo (Bytes (unwrap_or limit (d.txqueuelen * d.mtu))) []) []
-made d now handle (kind.Prio bands priomap) = node_of handle (Prio priomap) (replicate bands (implicit_pfifo d))
+made d now handle (kind.Prio s) = node_of handle (Prio s.priomap) (replicate s.bands (implicit_pfifo d))
 made d now handle (kind.Tbf rate burst limit) =
     let bytes = limit_bytes rate burst limit in node_of handle (Tbf (full rate burst now) bytes) (implicit_bfifo bytes ∷ [])
 made d now handle kind.Drr = node_of handle (Drr (no_classes d.mtu)) []

@@ -1,5 +1,5 @@
 -- The ranges of a command's numbers, one by one.
--- tc(8), "HANDLES", for handles and class ids; the pages of the disciplines; where they give no range, this project's choice.
+-- tc(8), "NAMING", for handles and class ids; the pages of the disciplines; where they give no range, this project's choice.
 use Rattle.std.specs.Prelude.{ℕ, ◌≤◌, ◌^◌, ◌-◌}
 
 -- a number from the first to the second, both included

@@ -23,17 +23,17 @@ use Rattle.q_model.specs.Refusals.{Check, refuse, done_unless, is_so, is_classle
 
 -- the qdisc whose class a place is; the root is in no class
 abbrev pub parent_of : Place → Shape → Option Shape
-parent_of (place.Class major minor) root = option_and_then (λ path. node_at path root) (path_of major root)
+parent_of (place.Class class) root = option_and_then (λ path. node_at path root) (path_of class.major root)
 parent_of place.Root root = None
 parent_of place.Top root = None
 
 -- refusals of the place: its qdisc is not there, has no classes, or has no such class
 abbrev pub place_checks : Place → Shape → List Check
-place_checks (place.Class major minor) root =
-    let parent = parent_of (place.Class major minor) root in
+place_checks (place.Class class) root =
+    let parent = parent_of (place.Class class) root in
     refuse NoParent (is_none parent)
     ∷ refuse NotClassful (is_so (λ (n : Shape). is_classless n.own.discipline) parent)
-    ∷ refuse NoClass (is_so (λ (n : Shape). is_none (class_place minor n)) parent)
+    ∷ refuse NoClass (is_so (λ (n : Shape). is_none (class_place class.minor n)) parent)
     ∷ []
 place_checks place.Root root = []
 place_checks place.Top root = refuse Exists true ∷ []
@@ -119,8 +119,7 @@ flows_check given flows = refuse CannotChange (not (unwrap_or given flows == flo
 abbrev pub change_of : Device → ℕ → Shape → List ℕ → Discipline → Kind → Result Edit NotDone
 change_of d now n path (Fifo (Packets old) queue) (kind.Pfifo limit) = Ok (retuned n path (Fifo (Packets (unwrap_or limit old)) queue))
 change_of d now n path (Fifo (Bytes old) queue) (kind.Bfifo limit) = Ok (retuned n path (Fifo (Bytes (unwrap_or limit old)) queue))
-change_of d now n path (Prio old) (kind.Prio bands priomap) =
-    done_unless (bands_check bands n) (rebanded d n path bands priomap)
+change_of d now n path (Prio old) (kind.Prio s) = done_unless (bands_check s.bands n) (rebanded d n path s.bands s.priomap)
 change_of d now n path (Tbf bucket old) (kind.Tbf rate burst limit) =
     done_unless (burst_check bucket.burst burst d.mtu) (reshaped now n path bucket rate burst (limit_bytes rate burst limit))
 change_of d now n path (Drr s) kind.Drr = Ok (retuned n path (Drr s))

@@ -1,21 +1,19 @@
 -- The ranges of a command's fields and of a packet's, as their types keep them.
 -- Those of its numbers one by one stand in specs/Numbers.antt, with their sources.
-use Rattle.std.specs.Prelude.{◌≡◌, ℕ, ◌≤◌, ◌<◌, ◌^◌, List, All, length, IfSome}
+use Rattle.std.specs.Prelude.{ℕ, ◌≤◌, ◌<◌, ◌^◌, IfSome}
 use Rattle.q_packet.specs.Descriptor.{Descriptor}
 use Rattle.q_packet.specs.Key.{IsKey}
 use Rattle.q_model.specs.declared.class_id.ClassId.{ClassId}
 use Rattle.q_model.specs.declared.command.Command.{Command}
 use Rattle.q_model.specs.declared.command.Command.TheVariants.{QdiscAdd, QdiscChange, QdiscDel, ClassAdd, ClassChange, ClassDel, FilterAdd, FilterDel}
 use Rattle.q_model.specs.declared.filter.Filter.{Filter}
-use Rattle.q_model.specs.declared.fq_codel_options.FqCodelOptions.{FqCodelOptions}
-use Rattle.q_model.specs.declared.ip_prefix.IpPrefix.{IpPrefix}
 use Rattle.q_model.specs.declared.kind.Kind.{Kind}
 use Rattle.q_model.specs.declared.kind.Kind.TheVariants as kind
 use Rattle.q_model.specs.declared.place.Place.{Place}
 use Rattle.q_model.specs.declared.place.Place.TheVariants as place
 use Rattle.q_model.specs.declared.tbf_limit.TbfLimit.{TbfLimit}
 use Rattle.q_model.specs.declared.tbf_limit.TbfLimit.TheVariants as limit
-use Rattle.q_model.specs.Filters.{bits_of}
+use Rattle.q_model.specs.Options.{IsPrio, IsFqCodelOptions, IsPrefix}
 use Rattle.q_model.specs.Numbers.{IsWithin, most_u32, IsHandle, IsMinor, IsQuantum, IsRate, IsBurst, IsLatency, IsFilterPrio}
 
 pub record IsClassId (c : ClassId) : Type 0 where
@@ -25,24 +23,11 @@ pub record IsClassId (c : ClassId) : Type 0 where
 abbrev pub IsPlace : Place → Type 0
 IsPlace place.Top = Unit {0}
 IsPlace place.Root = Unit {0}
-IsPlace (place.Class major minor) = IsClassId (record { major = major; minor = minor })
+IsPlace (place.Class class) = IsClassId class
 
 abbrev pub IsTbfLimit : TbfLimit → Type 0
 IsTbfLimit (limit.Bytes n) = n ≤ most_u32
 IsTbfLimit (limit.Latency ns) = IsLatency ns
-
-pub record IsFqCodelOptions (o : FqCodelOptions) : Type 0 where
-  pub limit : IfSome o.limit (IsWithin 1 most_u32)
-  pub flows : IfSome o.flows (IsWithin 1 65536)
-  pub quantum : IfSome o.quantum (IsWithin 1 most_u32)
-  pub target : IfSome o.target (IsWithin 0 (10 ^ 12))
-  pub interval : IfSome o.interval (IsWithin 1000 (10 ^ 12))
-  pub drop_batch : IfSome o.drop_batch (IsWithin 1 65536)
-
-pub record IsPrio (bands : ℕ) (priomap : List ℕ) : Type 0 where
-  pub few : IsWithin 2 16 bands
-  pub each : length priomap ≡ 16
-  pub there : All (λ band. band < bands) priomap
 
 pub record IsTbf (rate burst : ℕ) (limit : TbfLimit) : Type 0 where
   pub bits : IsRate rate
@@ -52,14 +37,10 @@ pub record IsTbf (rate burst : ℕ) (limit : TbfLimit) : Type 0 where
 abbrev pub IsKind : Kind → Type 0
 IsKind (kind.Pfifo limit) = IfSome limit (IsWithin 0 most_u32)
 IsKind (kind.Bfifo limit) = IfSome limit (IsWithin 0 most_u32)
-IsKind (kind.Prio bands priomap) = IsPrio bands priomap
+IsKind (kind.Prio settings) = IsPrio settings
 IsKind (kind.Tbf rate burst limit) = IsTbf rate burst limit
 IsKind kind.Drr = Unit {0}
 IsKind (kind.FqCodel options) = IsFqCodelOptions options
-
-pub record IsPrefix (p : IpPrefix) : Type 0 where
-  pub address : p.address < 2 ^ bits_of p.version
-  pub len : p.len ≤ bits_of p.version
 
 pub record IsFilter (f : Filter) : Type 0 where
   pub prio : IsFilterPrio f.prio

@@ -19,7 +19,7 @@ use Rattle.q_model.specs.Work.{Work, Worked, quiet, booked}
 use Rattle.q_model.specs.Put.{put_along, drops_itself}
 use Rattle.q_model.specs.Ask.{Asked, ask, take_from}
 use Rattle.q_model.specs.Make.{Device, implicit_pfifo}
-use Rattle.q_model.specs.Find.{node_at, place_path}
+use Rattle.q_model.specs.Find.{node_at, class_path}
 use Rattle.q_model.specs.Edit.{Edit, lost_by, edited}
 use Rattle.q_model.specs.Refusals.{size_checks, done_unless}
 use Rattle.q_model.specs.QdiscCommands.{qdisc_add, qdisc_change, qdisc_del}
@@ -120,5 +120,4 @@ with_edit t edit s =
 abbrev pub stats : {M : Type 0} → Tally M → Place → TreeState M → Option Row
 stats t place.Top s = Some (row_of (t.counts_of s.top) (beneath s.root))
 stats t place.Root s = Some (row t s.root)
-stats t (place.Class major minor) s =
-    option_map (row t) (option_and_then (λ path. node_at path s.root) (place_path (place.Class major minor) s.root))
+stats t (place.Class class) s = option_map (row t) (option_and_then (λ path. node_at path s.root) (class_path class s.root))

@@ -48,7 +48,7 @@ abbrev pub class_ids : {M : Type 0} → Node M → List ClassId
 class_ids n = ids_of n.own (length (children n))
 
 abbrev pub places_below : {M : Type 0} → Own → Forest M → List Place
-places_below own below = map (λ (c : ClassId). place.Class c.major c.minor) (ids_of own (length (nodes_in below)))
+places_below own below = map place.Class (ids_of own (length (nodes_in below)))
 
 abbrev pub node_view : {M : Type 0} → Tally M → Place → Node M → NodeView
 node_view t p n = record {

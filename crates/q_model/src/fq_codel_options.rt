@@ -1,4 +1,13 @@
+ghost use Rattle.std.specs.Prelude.{◌≡◌, ◌^◌, ◌↔◌, IfSome, IsSome, IsTrue};
+ghost use Rattle.q_model.specs.Numbers.{IsWithin};
+ghost use Rattle.q_model.specs.Options.{IsFqCodelOptions};
+
+use std::marker::Model;
+
 /// The options of an fq_codel that a line gives (tc-fq_codel(8)); what it does not give is `None`.
+///
+/// A contract sees them as the record `FqOptions` of the fields. Each is within its range: code that would leave another
+/// number there is refused.
 #[derive(Clone, Copy, PartialEq, Eq, Debug)]
 pub struct FqCodelOptions {
     /// Packets that all flows may hold together, 1 to 2^32 - 1.
@@ -15,4 +24,112 @@ pub struct FqCodelOptions {
     pub ecn: Option<bool>,
     /// Packets that the fat flow loses at once where the limit is passed, 1 to 65536.
     pub drop_batch: Option<u32>,
+}
+
+impl Model for FqCodelOptions {
+    ghost use Rattle.q_model.specs.Options.{FqOptions, IsFqCodelOptions};
+
+    ghost Value = { FqOptions };
+
+    ghost view = { λ o. record {
+      limit = o.limit;
+      flows = o.flows;
+      quantum = o.quantum;
+      target = o.target;
+      interval = o.interval;
+      ecn = o.ecn;
+      drop_batch = o.drop_batch;
+    } };
+
+    ghost invariant = { λ o. IsFqCodelOptions (record {
+      limit = o.limit;
+      flows = o.flows;
+      quantum = o.quantum;
+      target = o.target;
+      interval = o.interval;
+      ecn = o.ecn;
+      drop_batch = o.drop_batch;
+    }) };
+
+    ghost inverse = { λ s. record {
+      limit = s.limit;
+      flows = s.flows;
+      quantum = s.quantum;
+      target = s.target;
+      interval = s.interval;
+      ecn = s.ecn;
+      drop_batch = s.drop_batch;
+    } };
+}
+
+impl FqCodelOptions {
+    /// The options with these fields; `None` where one that is given is out of its range.
+    pub fn new(
+        limit: Option<u32>,
+        flows: Option<u32>,
+        quantum: Option<u32>,
+        target: Option<u64>,
+        interval: Option<u64>,
+        ecn: Option<bool>,
+        drop_batch: Option<u32>,
+    ) -> Option<FqCodelOptions>
+        ensures in_range { IsSome result ↔ IsFqCodelOptions (record {
+          limit = limit;
+          flows = flows;
+          quantum = quantum;
+          target = target;
+          interval = interval;
+          ecn = ecn;
+          drop_batch = drop_batch;
+        }) }
+        ensures value { IfSome result (λ o. o ≡ record {
+          limit = limit;
+          flows = flows;
+          quantum = quantum;
+          target = target;
+          interval = interval;
+          ecn = ecn;
+          drop_batch = drop_batch;
+        }) }
+    {
+        let counts_fit = fits(limit, 1, u32::MAX) && fits(flows, 1, 65536);
+        let sizes_fit = fits(quantum, 1, u32::MAX) && fits(drop_batch, 1, 65536);
+        let times_fit = lasts(target, 0) && lasts(interval, 1000);
+        if counts_fit && sizes_fit && times_fit {
+            Some(FqCodelOptions {
+                limit,
+                flows,
+                quantum,
+                target,
+                interval,
+                ecn,
+                drop_batch,
+            })
+        } else {
+            None
+        }
+    }
+}
+
+/// The longest target and interval: 1000 s, in nanoseconds.
+const LONGEST: u64 = 1_000_000_000_000;
+
+/// Whether a number, where there is one, is within these bounds.
+fn fits(number: Option<u32>, least: u32, most: u32) -> bool
+    ensures { IsTrue result ↔ IfSome number (IsWithin least most) }
+{
+    match number {
+        None => true,
+        Some(n) => least <= n && n <= most,
+    }
+}
+
+/// Whether a time, where there is one, has at least so many nanoseconds and at most 1000 s.
+fn lasts(time: Option<u64>, least: u64) -> bool
+    ensures { IsTrue result ↔ IfSome time (IsWithin least (10 ^ 12)) }
+{
+    match time {
+        None => true,
+        Some(n) => least <= n && n <= LONGEST,
+    }
 }

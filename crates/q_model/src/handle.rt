@@ -3,7 +3,7 @@ ghost use Rattle.q_model.specs.Numbers.{IsHandle};
 
 use std::marker::Model;
 
-/// The major number of a qdisc's handle, 1 to 0xfffe (tc(8), "HANDLES"; 0xffff is that of `root`).
+/// The major number of a qdisc's handle, 1 to 0xfffe (tc(8), "NAMING"; 0xffff is that of `root`).
 ///
 /// A contract sees it as that number.
 #[derive(Clone, Copy, PartialEq, Eq, Debug)]

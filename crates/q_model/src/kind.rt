@@ -1,5 +1,6 @@
 use crate::burst::Burst;
 use crate::fq_codel_options::FqCodelOptions;
+use crate::prio_options::PrioOptions;
 use crate::rate::Rate;
 use crate::tbf_limit::TbfLimit;
 
@@ -16,11 +17,8 @@ pub enum Kind {
     Bfifo {
         limit: Option<u32>,
     },
-    /// Bands that are served in order (tc-prio(8)): 2 to 16 of them, and the band, from 0, of each priority.
-    Prio {
-        bands: u8,
-        priomap: [u8; 16],
-    },
+    /// Bands that are served in order (tc-prio(8)).
+    Prio(PrioOptions),
     /// A token bucket filter (tc-tbf(8)).
     Tbf {
         rate: Rate,

@@ -3,7 +3,7 @@ ghost use Rattle.q_model.specs.Numbers.{IsMinor};
 
 use std::marker::Model;
 
-/// The minor number of a class, 1 to 0xffff (tc(8), "HANDLES").
+/// The minor number of a class, 1 to 0xffff (tc(8), "NAMING").
 ///
 /// A contract sees it as that number.
 #[derive(Clone, Copy, PartialEq, Eq, Debug)]

@@ -1,5 +1,4 @@
-use crate::handle::Handle;
-use crate::minor::Minor;
+use crate::class_id::ClassId;
 
 /// Where in the tree a node stands.
 #[derive(Clone, Copy, PartialEq, Eq, Debug)]
@@ -8,6 +7,6 @@ pub enum Place {
     Top,
     /// At the root of the device (tc(8), `root`).
     Root,
-    /// In the class of another qdisc with this major and minor number (tc(8), `parent major:minor`).
-    Class(Handle, Minor),
+    /// In this class of another qdisc (tc(8), `parent major:minor`).
+    Class(ClassId),
 }

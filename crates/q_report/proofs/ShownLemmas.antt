@@ -42,7 +42,7 @@ node_view-shrunk p n =
     }) (side_by_side-shrunk n.below) (beneath-shrunk n)
 
 places-shrunk : (own : Own) (below : Forest (List Note)) → places_below own below ≡ places_below own (each_memory counts_in below)
-places-shrunk own below = ap (λ bands. map (λ (c : ClassId). place.Class c.major c.minor) (ids_of own bands)) (side_by_side-shrunk below)
+places-shrunk own below = ap (λ bands. map place.Class (ids_of own bands)) (side_by_side-shrunk below)
 
 views_in-shrunk : (places : List Place) (x : Forest (List Note)) → views_in history places x ≡ views_in totals places (each_memory counts_in x)
 views_in-shrunk places none = refl

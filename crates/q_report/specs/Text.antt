@@ -15,7 +15,6 @@ use Rattle.q_model.specs.declared.class_kind.ClassKind.TheVariants as class
 use Rattle.q_model.specs.declared.class_view.ClassView.{ClassView}
 use Rattle.q_model.specs.declared.filter_keys.FilterKeys.{FilterKeys}
 use Rattle.q_model.specs.declared.filter_view.FilterView.{FilterView}
-use Rattle.q_model.specs.declared.ip_prefix.IpPrefix.{IpPrefix}
 use Rattle.q_model.specs.declared.ip_version.IpVersion.{IpVersion}
 use Rattle.q_model.specs.declared.ip_version.IpVersion.TheVariants.{V4, V6}
 use Rattle.q_model.specs.declared.node_view.NodeView.{NodeView}
@@ -29,6 +28,7 @@ use Rattle.q_model.specs.declared.qdisc_view.QdiscView.TheVariants as qdisc
 use Rattle.q_model.specs.declared.row.Row.{Row}
 use Rattle.q_model.specs.declared.totals.Totals.{Totals}
 use Rattle.q_model.specs.NotDone.{refusal_number, refusal_name}
+use Rattle.q_model.specs.Options.{Prefix}
 use Rattle.q_model.specs.declared.polled.Polled.{Polled}
 use Rattle.q_model.specs.declared.polled.Polled.TheVariants as polled
 use Rattle.q_line.specs.Script.{newline, line_text}
@@ -77,7 +77,7 @@ class_text c = hex c.major ++ codes ":" ++ hex c.minor
 abbrev pub place_text : Place → List ℕ
 place_text place.Top = []
 place_text place.Root = codes "root"
-place_text (place.Class major minor) = codes "parent " ++ class_text (record { major = major; minor = minor })
+place_text (place.Class class) = codes "parent " ++ class_text class
 
 abbrev pub kind_text : QdiscView → List ℕ
 kind_text (qdisc.Pfifo limit) = codes "pfifo"
@@ -135,7 +135,7 @@ address_text V6 a =
     hex (a / 2 ^ 112 % 65536) ++ codes ":" ++ hex (a / 2 ^ 96 % 65536) ++ codes ":" ++ hex (a / 2 ^ 80 % 65536) ++ codes ":" ++ hex (a / 2 ^ 64 % 65536)
     ++ codes ":" ++ hex (a / 2 ^ 48 % 65536) ++ codes ":" ++ hex (a / 2 ^ 32 % 65536) ++ codes ":" ++ hex (a / 2 ^ 16 % 65536) ++ codes ":" ++ hex (a % 65536)
 
-abbrev pub prefix_text : IpPrefix → List ℕ
+abbrev pub prefix_text : Prefix → List ℕ
 prefix_text p = address_text p.version p.address ++ codes "/" ++ decimal p.len
 
 abbrev pub given : {A : Type 0} → List ℕ → (A → List ℕ) → Option A → List ℕ

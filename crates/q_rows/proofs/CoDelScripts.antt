@@ -5,16 +5,16 @@ use Rattle.std.specs.Prelude.{Some, None, map}
 use Rattle.q_packet.specs.Descriptor.{Descriptor}
 use Rattle.q_packet.specs.declared.ecn.Ecn.TheVariants.{Ect0, Ce}
 use Rattle.q_packet.specs.declared.cause.Cause.TheVariants.{CoDel}
-use Rattle.q_model.specs.declared.fq_codel_options.FqCodelOptions.{FqCodelOptions}
 use Rattle.q_model.specs.declared.kind.Kind.TheVariants.{FqCodel}
 use Rattle.q_model.specs.declared.place.Place.TheVariants.{Root}
+use Rattle.q_model.specs.Options.{FqOptions}
 use Rattle.q_model.specs.Tally.{no_totals}
 use Rattle.q_model.specs.declared.event.Event.{Event}
 use Rattle.q_model.specs.declared.reply.Reply.{Reply}
 use Rattle.q_rows.proofs.SharedRules.{shared_rules}
 use Rattle.q_rows.proofs.Script.{run, seen, packet, arrives, polls, add_root, no_options, ok, kept, sent, idle, loss, pb}
 
-abbrev quick : FqCodelOptions
+abbrev quick : FqOptions
 quick = record no_options { flows = Some 2; target = Some 50; interval = Some 1000 }
 
 abbrev ten : List ℕ

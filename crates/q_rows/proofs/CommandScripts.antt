@@ -4,18 +4,18 @@ use Rattle.std.specs.Prelude.{Some, None, map, replicate}
 use Rattle.q_packet.specs.declared.cause.Cause.TheVariants.{Purged, CoDel}
 use Rattle.q_model.specs.declared.command.Command.TheVariants.{QdiscChange, QdiscDel, ClassAdd, FilterDel}
 use Rattle.q_model.specs.declared.kind.Kind.{Kind}
-use Rattle.q_model.specs.declared.kind.Kind.TheVariants.{Pfifo, Prio, Tbf, Drr, FqCodel}
+use Rattle.q_model.specs.declared.kind.Kind.TheVariants.{Pfifo, Tbf, Drr, FqCodel}
 use Rattle.q_model.specs.declared.tbf_limit.TbfLimit.TheVariants.{Bytes}
-use Rattle.q_model.specs.declared.place.Place.TheVariants.{Root, Class}
-use Rattle.q_model.specs.declared.fq_codel_options.FqCodelOptions.{FqCodelOptions}
+use Rattle.q_model.specs.declared.place.Place.TheVariants.{Root}
+use Rattle.q_model.specs.Options.{FqOptions}
 use Rattle.q_model.specs.Tally.{no_totals}
 use Rattle.q_model.specs.declared.event.Event.{Event}
 use Rattle.q_model.specs.declared.refusal.Refusal.TheVariants.{NoParent, Exists, NoQdisc, HandleTaken, NoClass, CannotChange, TooDeep, NoFilter}
 use Rattle.q_rows.proofs.SharedRules.{shared_rules}
-use Rattle.q_rows.proofs.Script.{run, seen, class, packet, arrives, polls, tc, add_root, add_in, add_class, add_filter, no_keys, no_options, ok, not_done, kept, sent, idle, later, loss, pb}
+use Rattle.q_rows.proofs.Script.{run, seen, class, packet, arrives, polls, tc, add_root, add_in, add_class, add_filter, no_keys, no_options, ok, not_done, kept, sent, idle, later, loss, pb, in_class, prio}
 
 -- a drr with one class, an fq_codel in it, and a filter that takes every packet
-abbrev drr_over_fq_codel : FqCodelOptions → List Event
+abbrev drr_over_fq_codel : FqOptions → List Event
 drr_over_fq_codel options =
     add_root (Some 1) Drr ∷ add_class 1 1 None ∷ add_in 1 1 (Some 0x10) (FqCodel options) ∷ add_filter 1 1 no_keys 1 ∷ []
 
@@ -24,9 +24,9 @@ purge : List Event
 purge =
     drr_over_fq_codel (record no_options { flows = Some 4 })
     ++ arrives 0 (packet 1 100) ∷ arrives 0 (packet 2 200) ∷ arrives 0 (packet 3 300)
-    ∷ tc (QdiscDel (Some (Class 1 1)) None) ∷ polls 0 1
+    ∷ tc (QdiscDel (Some (in_class 1 1)) None) ∷ polls 0 1
 
-purge_runs : seen (Root ∷ (Class 1 1) ∷ []) (run purge) ≡ record {
+purge_runs : seen (Root ∷ (in_class 1 1) ∷ []) (run purge) ≡ record {
   replies = ok ∷ ok ∷ ok ∷ ok ∷ kept ∷ kept ∷ kept ∷ ok ∷ idle ∷ [];
   losses = loss (packet 1 100) Purged ∷ loss (packet 2 200) Purged ∷ loss (packet 3 300) Purged ∷ [];
   rows = Some (record { arrived = pb 3 600; sent = no_totals; refused = no_totals; dropped = pb 3 600; queued = no_totals; marked = no_totals }) ∷ Some (record { arrived = no_totals; sent = no_totals; refused = no_totals; dropped = no_totals; queued = no_totals; marked = no_totals }) ∷ [];
@@ -41,7 +41,7 @@ drop_below =
     ++ map (λ n. arrives 0 (packet n 1000)) (1 ∷ 2 ∷ 3 ∷ 4 ∷ 5 ∷ 6 ∷ 7 ∷ 8 ∷ 9 ∷ 10 ∷ [])
     ++ polls 100 1 ++ polls 1100 1
 
-drop_below_runs : seen (Root ∷ (Class 1 1) ∷ []) (run drop_below) ≡ record {
+drop_below_runs : seen (Root ∷ (in_class 1 1) ∷ []) (run drop_below) ≡ record {
   replies = ok ∷ ok ∷ ok ∷ ok ∷ replicate 10 kept ++ sent (packet 1 1000) ∷ sent (packet 3 1000) ∷ [];
   losses = loss (packet 2 1000) CoDel ∷ [];
   rows = Some (record { arrived = pb 10 10000; sent = pb 2 2000; refused = no_totals; dropped = pb 1 1000; queued = pb 7 7000; marked = no_totals }) ∷ Some (record { arrived = pb 10 10000; sent = pb 2 2000; refused = no_totals; dropped = pb 1 1000; queued = pb 7 7000; marked = no_totals }) ∷ [];
@@ -57,7 +57,7 @@ held =
     ∷ arrives 0 (packet 1 1000) ∷ arrives 0 (packet 2 900) ∷ arrives 0 (packet 3 800)
     ∷ polls 0 3 ++ tc (QdiscDel None (Some 2)) ∷ polls 0 1
 
-held_runs : seen (Root ∷ Class 1 1 ∷ []) (run held) ≡ record {
+held_runs : seen (Root ∷ in_class 1 1 ∷ []) (run held) ≡ record {
   replies = ok ∷ ok ∷ kept ∷ kept ∷ kept ∷ sent (packet 1 1000) ∷ later ∷ later ∷ ok ∷ idle ∷ [];
   losses = loss (packet 2 900) Purged ∷ loss (packet 3 800) Purged ∷ [];
   rows =
@@ -70,7 +70,7 @@ held_runs = refl
 
 -- the default priomap of tc-prio(8)
 abbrev new_prio : Kind
-new_prio = Prio 3 (1 ∷ 2 ∷ 2 ∷ 2 ∷ 1 ∷ 2 ∷ 0 ∷ 0 ∷ 1 ∷ 1 ∷ 1 ∷ 1 ∷ 1 ∷ 1 ∷ 1 ∷ 1 ∷ [])
+new_prio = prio 3 (1 ∷ 2 ∷ 2 ∷ 2 ∷ 1 ∷ 2 ∷ 0 ∷ 0 ∷ 1 ∷ 1 ∷ 1 ∷ 1 ∷ 1 ∷ 1 ∷ 1 ∷ 1 ∷ [])
 
 -- A removal two levels below a drr: the prio in its class loses what its band holds, and the class, now empty, falls asleep.
 deep : List Event
@@ -80,7 +80,7 @@ deep =
     ∷ arrives 0 (packet 1 100) ∷ arrives 0 (packet 2 200)
     ∷ tc (QdiscDel None (Some 3)) ∷ arrives 0 (packet 3 300) ∷ polls 0 2
 
-deep_runs : seen (Root ∷ (Class 1 1) ∷ (Class 2 2) ∷ []) (run deep) ≡ record {
+deep_runs : seen (Root ∷ (in_class 1 1) ∷ (in_class 2 2) ∷ []) (run deep) ≡ record {
   replies = ok ∷ ok ∷ ok ∷ ok ∷ ok ∷ kept ∷ kept ∷ ok ∷ kept ∷ sent (packet 3 300) ∷ idle ∷ [];
   losses = loss (packet 1 100) Purged ∷ loss (packet 2 200) Purged ∷ [];
   rows = Some (record { arrived = pb 3 600; sent = pb 1 300; refused = no_totals; dropped = pb 2 300; queued = no_totals; marked = no_totals }) ∷ Some (record { arrived = pb 3 600; sent = pb 1 300; refused = no_totals; dropped = pb 2 300; queued = no_totals; marked = no_totals }) ∷ Some (record { arrived = pb 1 300; sent = pb 1 300; refused = no_totals; dropped = no_totals; queued = no_totals; marked = no_totals }) ∷ [];
@@ -97,7 +97,7 @@ refusals =
     ∷ add_in 1 4 None (Pfifo None)
     ∷ add_in 1 1 (Some 1) (Pfifo None)
     ∷ tc (ClassAdd 1 (class 1 9) None)
-    ∷ tc (QdiscChange (Some (Class 1 2)) None (Pfifo (Some 5)))
+    ∷ tc (QdiscChange (Some (in_class 1 2)) None (Pfifo (Some 5)))
     ∷ tc (FilterDel 1 3)
     ∷ []
 

@@ -10,13 +10,14 @@ use Rattle.q_model.specs.declared.class_id.ClassId.{ClassId}
 use Rattle.q_model.specs.declared.command.Command.{Command}
 use Rattle.q_model.specs.declared.command.Command.TheVariants.{QdiscAdd, ClassAdd, FilterAdd}
 use Rattle.q_model.specs.declared.filter_keys.FilterKeys.{FilterKeys}
-use Rattle.q_model.specs.declared.fq_codel_options.FqCodelOptions.{FqCodelOptions}
 use Rattle.q_model.specs.declared.kind.Kind.{Kind}
+use Rattle.q_model.specs.declared.kind.Kind.TheVariants as kind
 use Rattle.q_model.specs.declared.place.Place.{Place}
 use Rattle.q_model.specs.declared.place.Place.TheVariants as place
 use Rattle.q_model.specs.declared.protocol.Protocol.TheVariants as protocol
 use Rattle.q_model.specs.declared.row.Row.{Row}
 use Rattle.q_model.specs.declared.totals.Totals.{Totals}
+use Rattle.q_model.specs.Options.{FqOptions}
 use Rattle.q_model.specs.Tally.{Counts, totals}
 use Rattle.q_model.specs.TreeState.{stats}
 use Rattle.q_model.specs.Settings.{DeviceSettings}
@@ -59,17 +60,23 @@ tc c = event.Command c 0
 abbrev pub class : ℕ → ℕ → ClassId
 class major minor = record { major = major; minor = minor }
 
+abbrev pub in_class : ℕ → ℕ → Place
+in_class major minor = place.Class (class major minor)
+
 abbrev pub add_root : Option ℕ → Kind → Event
 add_root handle k = tc (QdiscAdd place.Root handle k)
 
 abbrev pub add_in : ℕ → ℕ → Option ℕ → Kind → Event
-add_in major minor handle k = tc (QdiscAdd (place.Class major minor) handle k)
+add_in major minor handle k = tc (QdiscAdd (in_class major minor) handle k)
 
 abbrev pub add_class : ℕ → ℕ → Option ℕ → Event
 add_class major minor quantum = tc (ClassAdd major (class major minor) quantum)
 
 abbrev pub no_keys : FilterKeys
 no_keys = record { ip_proto = None; src_ip = None; dst_ip = None; src_port = None; dst_port = None }
+
+abbrev pub prio : ℕ → List ℕ → Kind
+prio bands priomap = kind.Prio (record { bands = bands; priomap = priomap })
 
 -- a filter of priority `prio` for packets from this port, or for all packets
 abbrev pub add_filter : ℕ → ℕ → FilterKeys → ℕ → Event
@@ -78,7 +85,7 @@ add_filter major prio keys minor = tc (FilterAdd major major (record { prio = pr
 abbrev pub filter_port : ℕ → ℕ → ℕ → ℕ → Event
 filter_port major prio sport minor = add_filter major prio (record no_keys { src_port = Some sport }) minor
 
-abbrev pub no_options : FqCodelOptions
+abbrev pub no_options : FqOptions
 no_options = record { limit = None; flows = None; quantum = None; target = None; interval = None; ecn = None; drop_batch = None }
 
 -- answers

@@ -4,13 +4,13 @@ use Rattle.std.specs.Prelude.{Some, None, replicate}
 use Rattle.q_packet.specs.declared.cause.Cause.TheVariants.{TooLong, Purged}
 use Rattle.q_model.specs.declared.command.Command.TheVariants.{QdiscChange}
 use Rattle.q_model.specs.declared.kind.Kind.{Kind}
-use Rattle.q_model.specs.declared.kind.Kind.TheVariants.{Prio, Tbf}
+use Rattle.q_model.specs.declared.kind.Kind.TheVariants.{Tbf}
 use Rattle.q_model.specs.declared.tbf_limit.TbfLimit.TheVariants.{Bytes}
-use Rattle.q_model.specs.declared.place.Place.TheVariants.{Top, Root, Class}
+use Rattle.q_model.specs.declared.place.Place.TheVariants.{Top, Root}
 use Rattle.q_model.specs.Tally.{no_totals}
 use Rattle.q_model.specs.declared.event.Event.{Event}
 use Rattle.q_model.specs.declared.refusal.Refusal.TheVariants.{SmallBurst}
-use Rattle.q_rows.proofs.Script.{run, seen, packet, with_prio, arrives, polls, tc, add_root, add_in, ok, not_done, kept, lost, sent, idle, later, loss, pb}
+use Rattle.q_rows.proofs.Script.{run, seen, packet, with_prio, arrives, polls, tc, add_root, add_in, ok, not_done, kept, lost, sent, idle, later, loss, pb, in_class, prio}
 
 -- 8000 bits a second are a byte in 1000000 ns: the second packet of 1000 bytes goes at 500000000 ns, and not before
 tokens : List Event
@@ -49,7 +49,7 @@ bursts =
     add_root (Some 1) (new_tbf 1000) ∷ arrives 0 (packet 1 1001) ∷ arrives 0 (packet 2 2000)
     ∷ tc (QdiscChange (Some Root) None (new_tbf 900)) ∷ tc (QdiscChange (Some Root) None (new_tbf 2000)) ∷ []
 
-bursts_runs : seen (Root ∷ (Class 1 1) ∷ Top ∷ []) (run bursts) ≡ record {
+bursts_runs : seen (Root ∷ (in_class 1 1) ∷ Top ∷ []) (run bursts) ≡ record {
   replies = ok ∷ lost TooLong ∷ lost TooLong ∷ not_done SmallBurst ∷ ok ∷ [];
   losses = loss (packet 1 1001) TooLong ∷ loss (packet 2 2000) TooLong ∷ [];
   rows = Some (record { arrived = pb 1 1001; sent = no_totals; refused = pb 1 1001; dropped = no_totals; queued = no_totals; marked = no_totals }) ∷ Some (record { arrived = no_totals; sent = no_totals; refused = no_totals; dropped = no_totals; queued = no_totals; marked = no_totals }) ∷ Some (record { arrived = pb 2 3001; sent = no_totals; refused = pb 2 3001; dropped = no_totals; queued = no_totals; marked = no_totals }) ∷ [];
@@ -64,7 +64,7 @@ priomap = 1 ∷ 2 ∷ 2 ∷ 2 ∷ 1 ∷ 2 ∷ 0 ∷ 0 ∷ 1 ∷ 1 ∷ 1 ∷ 1 �
 -- a first band whose tbf waits for tokens is passed over; what it holds still waits
 bands : List Event
 bands =
-    add_root (Some 1) (Prio 3 priomap) ∷ add_in 1 1 (Some 0x10) (Tbf 8000 1000 (Bytes 5000))
+    add_root (Some 1) (prio 3 priomap) ∷ add_in 1 1 (Some 0x10) (Tbf 8000 1000 (Bytes 5000))
     ∷ arrives 0 (with_prio 6 1 1000) ∷ arrives 0 (with_prio 6 2 1000) ∷ arrives 0 (with_prio 0 3 500) ∷ polls 0 3
 
 bands_runs : seen (Root ∷ []) (run bands) ≡ record {
@@ -78,9 +78,9 @@ bands_runs = refl
 -- four bands become two: what waits in the two highest is lost, the third band before the fourth; the others keep theirs
 fewer : List Event
 fewer =
-    add_root (Some 1) (Prio 4 (0 ∷ 1 ∷ 2 ∷ 3 ∷ replicate 12 0))
+    add_root (Some 1) (prio 4 (0 ∷ 1 ∷ 2 ∷ 3 ∷ replicate 12 0))
     ∷ arrives 0 (with_prio 3 1 100) ∷ arrives 0 (with_prio 2 2 200) ∷ arrives 0 (with_prio 2 3 300) ∷ arrives 0 (with_prio 1 4 400)
-    ∷ tc (QdiscChange (Some Root) None (Prio 2 (replicate 16 1))) ∷ polls 0 2
+    ∷ tc (QdiscChange (Some Root) None (prio 2 (replicate 16 1))) ∷ polls 0 2
 
 fewer_runs : seen (Root ∷ []) (run fewer) ≡ record {
   replies = ok ∷ kept ∷ kept ∷ kept ∷ kept ∷ ok ∷ sent (with_prio 1 4 400) ∷ idle ∷ [];
