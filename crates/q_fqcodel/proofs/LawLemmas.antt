@@ -34,10 +34,6 @@ module _ (w : Stamped → ℕ) where
   unfolding total
   total-cons f fs = ap (sum_by w) (all_packets-cons f fs) ∙ sum_by-append w f.queue (all_packets fs)
 
-  total-nil : total [] ≡ 0
-  unfolding total
-  total-nil = ap (sum_by w) all_packets-none
-
   -- one flow loses some of its packets
   total-lost : (g : Flow → Flow) (lost : Flow → List Stamped) → ((f : Flow) → sum_by w (g f).queue + sum_by w (lost f) ≡ sum_by w f.queue)
       → (n : ℕ) (fs : List Flow) → total (adjust g n fs) + sum_by w (unwrap_or (option_map lost (slice_get fs n)) []) ≡ total fs

@@ -54,41 +54,31 @@ front_within s e rest lawful front =
     absurd (omega (arith, none, some, one-own e)))
     (cases_lt e.flow s.settings.flows)
 
+-- other lists of the same flows, each as often as before
+lawful_relisted : (s : FqState) (fresh stale : List Entry) → IsLawful s → ((n : ℕ) → times n (fresh ++ stale) ≡ times n (s.fresh ++ s.stale)) → length fresh + length stale ≤ length s.fresh + length s.stale → IsLawful (record s { fresh = fresh; stale = stale })
+lawful_relisted s fresh stale lawful even short =
+    IsLawful-from s (record s { fresh = fresh; stale = stale }) lawful refl refl (λ n. omega (arith, even n)) (λ n h. (h, omega (arith, even n))) short (omega arith)
+
+-- how often a flow is in two lists, of which one begins with e, or ends with m
+times-front : (n : ℕ) (e : Entry) (xs rest ys : List Entry) → xs ≡ e ∷ rest → times n (xs ++ ys) ≡ one n e + times n rest + times n ys
+times-front n e xs rest ys front = omega (arith, times-append n xs ys, ap (times n) front, times-cons n e rest)
+
+times-last : (n : ℕ) (m : Entry) (xs ys : List Entry) → times n (xs ++ (ys ++ m ∷ [])) ≡ times n xs + times n ys + one n m
+times-last n m xs ys = omega (arith, times-append n xs (ys ++ m ∷ []), times-append n ys (m ∷ []), times-cons n m [])
+
 -- a flow leaves the front of the new list, and is then the last of the old one
 pub lawful_moved : (s : FqState) (e m : Entry) (rest : List Entry) → IsLawful s → s.fresh ≡ e ∷ rest → m.flow ≡ e.flow → IsLawful (record s { fresh = rest; stale = s.stale ++ m ∷ [] })
 lawful_moved s e m rest lawful front same =
-    let t : FqState = record s { fresh = rest; stale = s.stale ++ m ∷ [] } in
-    let even : (n : ℕ) → times n (rest ++ (s.stale ++ m ∷ [])) ≡ times n (s.fresh ++ s.stale) = λ n.
-    omega (
-      arith,
-      times-append n rest (s.stale ++ m ∷ []),
-      times-append n s.stale (m ∷ []),
-      times-cons n m [],
-      times-append n s.fresh s.stale,
-      ap (times n) front,
-      times-cons n e rest,
-      one-same n e m same,
-    ) in
-    IsLawful-from s t lawful refl refl (λ n. omega (arith, even n)) (λ n h. (h, omega (arith, even n)))
-    (omega (arith, ap length front, length-append s.stale (m ∷ []))) (omega arith)
+    lawful_relisted s rest (s.stale ++ m ∷ []) lawful
+    (λ n. omega (arith, times-last n m rest s.stale, times-front n e s.fresh rest s.stale front, one-same n e m same))
+    (omega (arith, ap length front, length-append s.stale (m ∷ [])))
 
 -- the front of the old list goes to its end
 pub lawful_turned : (s : FqState) (e m : Entry) (rest : List Entry) → IsLawful s → s.stale ≡ e ∷ rest → m.flow ≡ e.flow → IsLawful (record s { stale = rest ++ m ∷ [] })
 lawful_turned s e m rest lawful front same =
-    let t : FqState = record s { stale = rest ++ m ∷ [] } in
-    let even : (n : ℕ) → times n (s.fresh ++ (rest ++ m ∷ [])) ≡ times n (s.fresh ++ s.stale) = λ n.
-    omega (
-      arith,
-      times-append n s.fresh (rest ++ m ∷ []),
-      times-append n rest (m ∷ []),
-      times-cons n m [],
-      times-append n s.fresh s.stale,
-      ap (times n) front,
-      times-cons n e rest,
-      one-same n e m same,
-    ) in
-    IsLawful-from s t lawful refl refl (λ n. omega (arith, even n)) (λ n h. (h, omega (arith, even n)))
-    (omega (arith, ap length front, length-append rest (m ∷ []))) (omega arith)
+    lawful_relisted s s.fresh (rest ++ m ∷ []) lawful
+    (λ n. omega (arith, times-last n m s.fresh rest, times-append n s.fresh s.stale, ap (times n) front, times-cons n e rest, one-same n e m same))
+    (omega (arith, ap length front, length-append rest (m ∷ [])))
 
 -- an empty flow leaves the front of the old list
 pub lawful_left : (s : FqState) (e : Entry) (rest : List Entry) → IsLawful s → s.stale ≡ e ∷ rest → is_idle s.flows e.flow ≡ true → IsLawful (record s { stale = rest })
@@ -119,10 +109,9 @@ lawful_shrunk s g fewer n lawful =
 -- the credits of the front change
 pub lawful_written : (s : FqState) (e m : Entry) (rest fresh stale : List Entry) → IsLawful s → s.fresh ++ s.stale ≡ e ∷ rest → m.flow ≡ e.flow → fresh ++ stale ≡ m ∷ rest → IsLawful (record s { fresh = fresh; stale = stale })
 lawful_written s e m rest fresh stale lawful front same written =
-    let even : (n : ℕ) → times n (fresh ++ stale) ≡ times n (s.fresh ++ s.stale) = λ n.
-    omega (arith, ap (times n) written, times-cons n m rest, ap (times n) front, times-cons n e rest, one-same n e m same) in
-    IsLawful-from s (record s { fresh = fresh; stale = stale }) lawful refl refl (λ n. omega (arith, even n)) (λ n h. (h, omega (arith, even n)))
-    (omega (arith, ap length written, ap length front, length-append fresh stale, length-append s.fresh s.stale)) (omega arith)
+    lawful_relisted s fresh stale lawful
+    (λ n. omega (arith, ap (times n) written, times-cons n m rest, ap (times n) front, times-cons n e rest, one-same n e m same))
+    (omega (arith, ap length written, ap length front, length-append fresh stale, length-append s.fresh s.stale))
 
 -- where both lists are empty no flow has a packet
 pub none_waits : (s : FqState) → IsLawful s → s.fresh ≡ [] → s.stale ≡ [] → packets_of s.flows ≡ 0

@@ -38,11 +38,6 @@ pays_not z q k h = le_test (pos 0) (z +ℤ pos (k * q)) h
 times_up : (k q : ℕ) → 1 ≤ q → k ≤ k * q
 times_up k q h = omega (arith, mul-le-mul_left k h)
 
--- so many quanta are enough for a flow whose credits are z
-pays_by : (z : ℤ) (q : ℕ) → 1 ≤ q → pays z q (suc (unsigned_abs z)) ≡ true
-pays_by (pos n) q h = pays_from (pos n) q (suc n) (let u = times_up (suc n) q h in omega (arith, ints, u))
-pays_by (negsuc n) q h = pays_from (negsuc n) q (suc (suc n)) (let u = times_up (suc (suc n)) q h in omega (arith, ints, u))
-
 -- one quantum first, and then k, are k + 1
 pub quantum_more : (z : ℤ) (q k : ℕ) → (z +ℤ pos (1 * q)) +ℤ pos (k * q) ≡ z +ℤ pos (suc k * q)
 quantum_more z q k = let m : suc k * q ≡ k * q + q = suc-mul k q in omega (arith, ints, m)

@@ -17,10 +17,6 @@ use Rattle.q_fqcodel.proofs.QuantaLemmas.{need-more, flow-given, stay-append, le
 needs : ℕ → (ℕ → Bool) → List Entry → List (Option ℕ)
 needs q idle es = map (λ (e : Entry). cond (idle e.flow) None (Some (need q e))) es
 
-chosen-nil : (q : ℕ) (idle : ℕ → Bool) → chosen q idle [] ≡ None
-unfolding chosen
-chosen-nil q idle = refl
-
 -- one flow more in front
 chosen-cons : (q : ℕ) (idle : ℕ → Bool) (e : Entry) (es : List Entry) → chosen q idle (e ∷ es) ≡ cond (idle e.flow) (later (chosen q idle es)) (Some (sooner (need q e) (chosen q idle es)))
 unfolding chosen needs
@@ -58,10 +54,6 @@ turned-some : (q : ℕ) (es : List Entry) (c : Choice) → turned q es (Some c) 
 unfolding turned
 turned-some q es c = refl
 
-turned-none : (q : ℕ) (es : List Entry) → turned q es None ≡ record { fresh = []; stale = []; gone = map (λ (e : Entry). e.flow) es }
-unfolding turned
-turned-none q es = refl
-
 -- lists that are equal as records
 pub same_lists : {F : Type 0} (r : F → F) (flows : List F) (a b : Lists) → a ≡ b → Agree r flows flows a b
 same_lists r flows a b e = record {
@@ -70,52 +62,53 @@ same_lists r flows a b e = record {
   flows = ap (λ (l : Lists). clear r l.gone flows) e;
 }
 
+-- What is made of those behind a place, and then of those before it, is the same once the front has gone to the end as m:
+-- for those who stay and for those who leave.
+module _ {X : Type 0} (f : ℕ → List Entry → List X) (e m : Entry) (es : List Entry) (nil : (n : ℕ) → f n [] ≡ [])
+    (append : (n : ℕ) (xs ys : List Entry) → f n (xs ++ ys) ≡ f n xs ++ f n ys) (shift : (n : ℕ) → f (suc n) (e ∷ []) ≡ f n (m ∷ [])) where
+  last : List Entry
+  last = m ∷ []
+
+  front_first : (k : ℕ) (xs : List Entry) → f (suc k) (e ∷ xs) ≡ f k last ++ f (suc k) xs
+  unfolding last
+  front_first k xs = append (suc k) (e ∷ []) xs ∙ ap (λ (l : List X). l ++ f (suc k) xs) (shift k)
+
+  one_behind : (k p : ℕ) → p < length es → f k (drop p es) ++ f (suc k) (e ∷ take p es) ≡ f k (drop p (es ++ last)) ++ f (suc k) (take p (es ++ last))
+  one_behind k p within =
+      ap (λ (l : List X). f k (drop p es) ++ l) (front_first k (take p es))
+      ∙ sym (append_assoc (f k (drop p es)) (f k last) (f (suc k) (take p es)))
+      ∙ ap (λ (l : List X). l ++ f (suc k) (take p es)) (sym (append k (drop p es) last))
+      ∙ ap₂ (λ (a b : List Entry). f k a ++ f (suc k) b) (sym (drop-append-le p es last (omega arith))) (sym (take-append-le p es last (omega arith)))
+
+  the_front : (k : ℕ) → f (suc k) (e ∷ es) ++ f (suc (suc k)) [] ≡ f k (drop (length es) (es ++ last)) ++ f (suc k) (take (length es) (es ++ last))
+  the_front k =
+      ap (λ (l : List X). f (suc k) (e ∷ es) ++ l) (nil (suc (suc k)))
+      ∙ append-nil (f (suc k) (e ∷ es))
+      ∙ front_first k es
+      ∙ ap₂ (λ (a b : List Entry). f k a ++ f (suc k) b) (sym (drop_at es last (length es) refl)) (sym (take_at es last (length es) refl))
+
 module _ {F : Type 0} (r : F → F) (q : ℕ) (positive : 1 ≤ q) (e : Entry) (low : e.credits ≤ℤ pos 0) (es : List Entry) where
   -- one of those behind is chosen
   granted-behind : (c : Choice) → c.place < length es → (flows : List F)
       → turned q (e ∷ es) (Some (record { rounds = c.rounds; place = suc c.place })) ≡ turned q (es ++ given q 1 e ∷ []) (Some c)
+  unfolding last
   granted-behind c within flows =
-      let k : ℕ = c.rounds in
-      let p : ℕ = c.place in
-      let last : List Entry = given q 1 e ∷ [] in
-      let d : drop p (es ++ last) ≡ drop p es ++ last = drop-append-le p es last (omega arith) in
-      let t : take p (es ++ last) ≡ take p es = take-append-le p es last (omega arith) in
-      let stays : stay q k (drop p es) ++ stay q (suc k) ((e ∷ []) ++ take p es) ≡ stay q k (drop p (es ++ last)) ++ stay q (suc k) (take p (es ++ last)) =
-      ap (λ (l : List Entry). stay q k (drop p es) ++ l) (stay-append q (suc k) (e ∷ []) (take p es) ∙ ap (λ (l : List Entry). l ++ stay q (suc k) (take p es)) (stay-shift q k e positive low))
-      ∙ sym (append_assoc (stay q k (drop p es)) (stay q k last) (stay q (suc k) (take p es)))
-      ∙ ap (λ (l : List Entry). l ++ stay q (suc k) (take p es)) (sym (ap (stay q k) d ∙ stay-append q k (drop p es) last))
-      ∙ ap (λ (l : List Entry). stay q k (drop p (es ++ last)) ++ stay q (suc k) l) (sym t) in
-      let leaves : leave q k (drop p es) ++ leave q (suc k) ((e ∷ []) ++ take p es) ≡ leave q k (drop p (es ++ last)) ++ leave q (suc k) (take p (es ++ last)) =
-      ap (λ (l : List ℕ). leave q k (drop p es) ++ l) (leave-append q (suc k) (e ∷ []) (take p es) ∙ ap (λ (l : List ℕ). l ++ leave q (suc k) (take p es)) (leave-shift q k e positive low))
-      ∙ sym (append_assoc (leave q k (drop p es)) (leave q k last) (leave q (suc k) (take p es)))
-      ∙ ap (λ (l : List ℕ). l ++ leave q (suc k) (take p es)) (sym (ap (leave q k) d ∙ leave-append q k (drop p es) last))
-      ∙ ap (λ (l : List Entry). leave q k (drop p (es ++ last)) ++ leave q (suc k) l) (sym t) in
-      turned-some q (e ∷ es) (record { rounds = k; place = suc p })
-      ∙ ap₂ (λ (s : List Entry) (g : List ℕ). record { fresh = []; stale = s; gone = g }) stays leaves
-      ∙ sym (turned-some q (es ++ last) c)
+      turned-some q (e ∷ es) (record { rounds = c.rounds; place = suc c.place })
+      ∙ ap₂ (λ (s : List Entry) (g : List ℕ). record { fresh = []; stale = s; gone = g })
+      (one_behind (stay q) e (given q 1 e) es (stay-nil q) (stay-append q) (λ n. stay-shift q n e positive low) c.rounds c.place within)
+      (one_behind (leave q) e (given q 1 e) es (leave-nil q) (leave-append q) (λ n. leave-shift q n e positive low) c.rounds c.place within)
+      ∙ sym (turned-some q (es ++ given q 1 e ∷ []) c)
 
   -- the one that got the quantum is chosen, now from the end
   granted-front : (k : ℕ)
       → turned q (e ∷ es) (Some (record { rounds = suc k; place = 0 })) ≡ turned q (es ++ given q 1 e ∷ []) (Some (record { rounds = k; place = length es }))
+  unfolding last
   granted-front k =
-      let last : List Entry = given q 1 e ∷ [] in
-      let d : drop (length es) (es ++ last) ≡ last = drop_at es last (length es) refl in
-      let t : take (length es) (es ++ last) ≡ es = take_at es last (length es) refl in
-      let stays : stay q (suc k) ((e ∷ []) ++ es) ++ stay q (suc (suc k)) [] ≡ stay q k (drop (length es) (es ++ last)) ++ stay q (suc k) (take (length es) (es ++ last)) =
-      ap (λ (l : List Entry). stay q (suc k) ((e ∷ []) ++ es) ++ l) (stay-nil q (suc (suc k)))
-      ∙ append-nil (stay q (suc k) ((e ∷ []) ++ es))
-      ∙ stay-append q (suc k) (e ∷ []) es
-      ∙ ap (λ (l : List Entry). l ++ stay q (suc k) es) (stay-shift q k e positive low)
-      ∙ ap₂ (λ (l m : List Entry). stay q k l ++ stay q (suc k) m) (sym d) (sym t) in
-      let leaves : leave q (suc k) ((e ∷ []) ++ es) ++ leave q (suc (suc k)) [] ≡ leave q k (drop (length es) (es ++ last)) ++ leave q (suc k) (take (length es) (es ++ last)) =
-      ap (λ (l : List ℕ). leave q (suc k) ((e ∷ []) ++ es) ++ l) (leave-nil q (suc (suc k)))
-      ∙ append-nil (leave q (suc k) ((e ∷ []) ++ es))
-      ∙ leave-append q (suc k) (e ∷ []) es
-      ∙ ap (λ (l : List ℕ). l ++ leave q (suc k) es) (leave-shift q k e positive low)
-      ∙ ap₂ (λ (l m : List Entry). leave q k l ++ leave q (suc k) m) (sym d) (sym t) in
       turned-some q (e ∷ es) (record { rounds = suc k; place = 0 })
-      ∙ ap₂ (λ (s : List Entry) (g : List ℕ). record { fresh = []; stale = s; gone = g }) stays leaves
-      ∙ sym (turned-some q (es ++ last) (record { rounds = k; place = length es }))
+      ∙ ap₂ (λ (s : List Entry) (g : List ℕ). record { fresh = []; stale = s; gone = g })
+      (the_front (stay q) e (given q 1 e) es (stay-nil q) (stay-append q) (λ n. stay-shift q n e positive low) k)
+      (the_front (leave q) e (given q 1 e) es (leave-nil q) (leave-append q) (λ n. leave-shift q n e positive low) k)
+      ∙ sym (turned-some q (es ++ given q 1 e ∷ []) (record { rounds = k; place = length es }))
 
   -- nobody is chosen
   granted-none : (flows : List F) → Agree r flows flows (turned q (e ∷ es) None) (turned q (es ++ given q 1 e ∷ []) None)
