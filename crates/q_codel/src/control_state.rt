@@ -221,6 +221,7 @@ impl ControlState {
         // Each moment is reckoned from the one before and not from now. So one call drops what several would have dropped,
         // where none came for a while.
         while self.drop_next <= now.ns() {
+            // By this project's choice the count stays at its ceiling, once there.
             self.count = self.count.saturating_add(1);
             if parameters.marks(&head.packet) {
                 // By this project's choice a mark ends the call, also where the next moment has come.
@@ -262,7 +263,8 @@ impl ControlState {
         self.drop_next = now.ns() + gap(parameters.interval, count);
     }
 
-    // Whether `head`, with `queue` behind it, is late. It notes since when the queue has stood, so each head is asked once.
+    // Whether `head`, with `queue` behind it, is late. In the same step, so that each head is tested once, it notes since
+    // when the queue has stood.
     fn should_drop<Q: Queue>(
         &mut self,
         parameters: &Parameters,
