@@ -1,9 +1,10 @@
 -- The quanta that a flow is given, joined with its credits, and how many that is by its place in the old list.
-use Rattle.std.proofs.Common.{◌≡◌, ℕ, zero, suc, ◌+◌, ◌*◌, ◌<◌, ◌≤◌, min, nat_lt, ◌==◌, ℤ, pos, ◌+ℤ◌, Bool, false, cond, List, [], ◌∷◌, ◌++◌, map, take, drop, Option, Some, None, refl, sym, ap, ◌∙◌, arith, ⊎_elim, subst, add-mul}
+use Rattle.std.proofs.Common.{◌≡◌, ℕ, zero, suc, ◌+◌, ◌*◌, ◌<◌, ◌≤◌, min, nat_lt, ◌==◌, ℤ, pos, ◌+ℤ◌, Bool, false, cond, List, All, [], ◌∷◌, ◌++◌, map, filter, take, drop, Option, Some, None, refl, sym, ap, ◌∙◌, arith, ⊎_elim, subst, add-mul}
 use Rattle.std.specs.Prelude.{slice_get, slice_index_or}
-use Rattle.std.proofs.lemmas.Bool.{cases_eq, cases_lt, cond-true, cond-false, eq-eqb, ne_eqb, lt-ltb, le-ltb}
+use Rattle.std.proofs.lemmas.Bool.{cases_eq, cases_lt, cond-true, cond-false, eq-eqb, ne_eqb, lt-ltb, le-ltb, ltb-true}
 use Rattle.std.proofs.lemmas.Int.{ints}
 use Rattle.std.proofs.lemmas.List.{take-append-drop}
+use Rattle.std.proofs.lemmas.List.Elements.{All-map, All-filter, filter_passes}
 use Rattle.q_packet.specs.Choice.{Choice, IsChosen}
 use Rattle.q_packet.proofs.ChoiceLemmas.{chosen_is}
 use Rattle.q_fqcodel.specs.Entry.{Entry}
@@ -11,9 +12,9 @@ use Rattle.q_fqcodel.specs.Quanta.{need, given, stay}
 use Rattle.q_fqcodel.specs.Selection.{chosen, turned, first_ready, moved, with_rest, arranged}
 use Rattle.q_fqcodel.specs.FqState.{is_idle}
 use Rattle.q_fqcodel.specs.Lawful.{times}
-use Rattle.q_fqcodel.specs.QuantaGiven.{quanta_in, visits, quanta_turned, passed_over, old_list, quanta_old, quanta_given}
+use Rattle.q_fqcodel.specs.QuantaGiven.{Grant, grants, quanta_in, visits, quanta_turned, passed_over, old_list, quanta_old, quanta_given}
 use Rattle.q_fqcodel.specs.Take.{selected}
-use Rattle.q_fqcodel.specs.Laws.{CreditsByQuanta, QuantaByPlace}
+use Rattle.q_fqcodel.specs.Laws.{CreditsByQuanta, GrantsAreSome, QuantaByPlace}
 use Rattle.q_fqcodel.proofs.LawfulLemmas.{times-cons, times-append, one-same}
 use Rattle.q_fqcodel.proofs.QuantaLemmas.{flow-given}
 use Rattle.q_fqcodel.proofs.InLemmas.{In, in-append, in-left, in-right, in-take, in-drop, in-map, in-stay, in-before, in-behind, in-found, in-times, same-entry, sum-none, sum-once}
@@ -187,6 +188,18 @@ credits_by_quanta s n before after lawful was is =
     sym a.3
     ∙ after_all q n (is_idle s.flows) s.fresh s.stale p (lawful.once n) b.0 b.1 b.2 a.0 (drop p s.fresh) refl a.1 a.2
     ∙ ap (λ (z : ℤ). z +ℤ pos (quanta_given s n * q)) b.3
+
+pub grants_are_some : GrantsAreSome
+unfolding grants
+grants_are_some s =
+    let is_some : Grant → Bool = λ g. nat_lt 0 g.quanta in
+    let grant : Entry → Grant = λ e. record { flow = e.flow; quanta = quanta_given s e.flow } in
+    let all : List Grant = map grant (s.fresh ++ s.stale) in
+    let says : All (λ (g : Grant). g.quanta ≡ quanta_given s g.flow) all = All-map (λ (g : Grant). g.quanta ≡ quanta_given s g.flow) grant (s.fresh ++ s.stale) (λ k d within. refl) in
+    λ k d within. (
+      ltb-true 0 (slice_index_or (filter is_some all) k d).quanta (filter_passes is_some all k d within),
+      All-filter is_some (λ (g : Grant). g.quanta ≡ quanta_given s g.flow) all says k d within,
+    )
 
 -- ---- by the place in the old list
 

@@ -9,7 +9,7 @@ use Rattle.q_codel.specs.Codel.{sent, leaving}
 use Rattle.q_codel.specs.declared.taken.Taken.{Taken}
 use Rattle.q_fqcodel.specs.Entry.{Entry}
 use Rattle.q_fqcodel.specs.Lawful.{times, IsLawful}
-use Rattle.q_fqcodel.specs.QuantaGiven.{visits, quanta_turned, quanta_given}
+use Rattle.q_fqcodel.specs.QuantaGiven.{Grant, visits, quanta_turned, quanta_given, grants}
 use Rattle.q_fqcodel.specs.Selection.{chosen}
 use Rattle.q_fqcodel.specs.FqState.{FqSettings, Flow, FqState, queue_of, packets_of, rested_flow, all_packets, first_state, after_change}
 use Rattle.q_fqcodel.specs.Put.{flow_of, appended, fattest, after_put, lost_by_put, is_lost_itself}
@@ -53,6 +53,10 @@ abbrev pub CreditsByQuanta : Type 0
 CreditsByQuanta =
     (s : FqState) (n : ℕ) (before after : ℤ) → IsLawful s → credits_of n (s.fresh ++ s.stale) ≡ Some before → credits_of n ((selected s).fresh ++ (selected s).stale) ≡ Some after
     → after ≡ before +ℤ pos (quanta_given s n * s.settings.quantum)
+
+-- the flows that are said to get quanta get that many, and one at least
+abbrev pub GrantsAreSome : Type 0
+GrantsAreSome = (s : FqState) → All (λ (g : Grant). (0 < g.quanta) × (g.quanta ≡ quanta_given s g.flow)) (grants s)
 
 -- As the old list turns to the chosen flow, a flow with packets is given a quantum at each visit: one more where it stands
 -- in front of the chosen one than the chosen one is, and those behind it.

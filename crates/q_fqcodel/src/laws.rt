@@ -1,7 +1,7 @@
 //! Laws of the definitions that the calls of [`FqCodel`](crate::FqCodel) equal.
 //!
 //! Each function does nothing. Its contract is a law, stated in `specs/Laws.antt` and `specs/NewFlow.antt`, for every state, packet and moment.
-ghost use Rattle.q_fqcodel.specs.Laws.{PutKeepsAll, TakeKeepsAll, GivesTheHead, PutLeavesOne, CreditsByQuanta, QuantaByPlace, LostByPlace, LostIsLast, SelectionKeepsPackets, PutKeepsLawful, TakeKeepsLawful, ChangeKeepsLawful, FirstIsLawful};
+ghost use Rattle.q_fqcodel.specs.Laws.{PutKeepsAll, TakeKeepsAll, GivesTheHead, PutLeavesOne, CreditsByQuanta, GrantsAreSome, QuantaByPlace, LostByPlace, LostIsLast, SelectionKeepsPackets, PutKeepsLawful, TakeKeepsLawful, ChangeKeepsLawful, FirstIsLawful};
 ghost use Rattle.q_fqcodel.specs.NewFlow.{BecomesNew, NewBeforeOld};
 
 /// A put makes and loses nothing: what was queued and what is put are what is queued then and what is lost.
@@ -39,6 +39,11 @@ pub fn new_before_old()
 /// A flow that is listed before the selection and after it has its credits, and a quantum for each that it was given.
 pub fn credits_by_quanta()
     ensures { CreditsByQuanta }
+{}
+
+/// The flows that are said to get quanta get that many, and one at least.
+pub fn grants_are_some()
+    ensures { GrantsAreSome }
 {}
 
 /// As the old list turns, a flow with packets that stands in front of the chosen one is given one quantum more than the chosen
