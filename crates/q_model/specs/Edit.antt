@@ -11,8 +11,8 @@ use Rattle.q_model.specs.Beneath.{beneath, is_empty}
 use Rattle.q_model.specs.Find.{node_at}
 use Rattle.q_model.specs.Work.{losses_of, settled}
 
--- a child of a node that is edited: the one that stood at this place, with all that it remembers; the same with these
--- settings; or a new one
+-- A child of a node that is edited: the one that stood at this place, with all that it remembers; the same with these
+-- settings; or a new one. An edit names children by their places, so that it keeps what they remember without saying it.
 pub data Child : Type 0 where
   Kept : ℕ → Child
   Retuned : ℕ → Own → Child

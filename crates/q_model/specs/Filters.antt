@@ -30,7 +30,7 @@ is_of protocol.Ipv6 key = key.family == 6
 
 -- a key that is not given agrees with every packet
 abbrev pub agrees : {A : Type 0} → Option A → (A → Bool) → Bool
-agrees given test = option_map_or test given true
+agrees key test = option_map_or test key true
 
 abbrev pub takes_key : FilterKeys → Key → Bool
 takes_key keys key =

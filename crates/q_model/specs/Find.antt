@@ -32,7 +32,8 @@ path_of handle n = option_map (λ (a : Address). a.path) (find (λ (a : Address)
 abbrev pub has_handle : {M : Type 0} → ℕ → Node M → Bool
 has_handle handle n = list_any (λ (a : Address). a.handle == handle) (addresses n)
 
--- a qdisc without a handle gets the least major from 8001 (hexadecimal) up that no qdisc has
+-- a qdisc without a handle gets the least major from 8001 (hexadecimal) up that no qdisc has: of one more than there are
+-- handles, one is free
 abbrev pub free_handle : {M : Type 0} → Node M → ℕ
 free_handle n = 0x8001 + least (λ k. not (has_handle (0x8001 + k) n)) (length (addresses n))
 
@@ -63,7 +64,7 @@ place_path place.Top n = None
 place_path place.Root n = Some []
 place_path (place.Class class) n = class_path class n
 
--- whether an explicit discipline stands at the end of the way
+-- whether an explicit discipline stands at the end of the way: implicit leaves are those without a handle
 abbrev pub is_explicit : {M : Type 0} → List ℕ → Node M → Bool
 is_explicit path n = option_map_or (λ at. is_some at.own.handle) (node_at path n) false
 

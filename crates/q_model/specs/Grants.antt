@@ -14,7 +14,7 @@ asked_entries (Some c) active = if c.rounds == 0 then take (suc c.place) active 
 abbrev pub grant_notes : ℕ → List Entry → List Note
 grant_notes k entries = if k == 0 then [] else map (λ (e : Entry). Granted e.class k) entries
 
--- those before the class that is met get one grant more than it and those behind it
+-- those before the class that is met get one grant more than it and those behind it: the round that meets it passes them first
 abbrev pub granted_notes : Option Choice → List Entry → List Note
 granted_notes None active = []
 granted_notes (Some c) active =

@@ -38,7 +38,7 @@ pub record IsLawfulDrr {M : Type 0} (mtu : ℕ) (s : Schedule) (below : List (No
   pub longest : s.max_len ≡ mtu
   pub exact : AllZip (λ (c : Class) child. is_active c.name s.active ≡ not (is_empty child)) s.classes below
 
--- a tbf: the level is at most the burst, and nothing beneath its one child is longer than that
+-- a tbf: the level is at most the burst, and nothing beneath its one child is longer than that, since it could never pass
 pub record IsLawfulTbf {M : Type 0} (clock : ℕ) (b : TokenBucket) (below : List (Node M)) : Type 0 where
   pub level : bucket.IsInRange b
   pub last : b.last ≤ clock
@@ -81,7 +81,7 @@ IsLawfulDiscipline mtu clock below (Tbf b limit) = IsLawfulTbf clock b below
 IsLawfulDiscipline mtu clock below (Drr s) = IsLawfulDrr mtu s below
 IsLawfulDiscipline mtu clock below (FqCodel s) = IsLawfulFqCodel mtu clock s below
 
--- only these hold a packet
+-- only these hold a packet: to show one, they have to dequeue it (the others show what stays where it is)
 abbrev pub CanHold : Discipline → Type 0
 CanHold (Tbf b limit) = Unit {0}
 CanHold (Drr s) = Unit {0}
@@ -89,6 +89,7 @@ CanHold (FqCodel s) = Unit {0}
 CanHold (Fifo limit queue) = ⊥
 CanHold (Prio priomap) = ⊥
 
+-- a node: no packet is longer than the mtu, its filters stand in rising priority, and the class that each names is there
 pub record IsLawfulNode {M : Type 0} (t : Tally M) (mtu clock : ℕ) (n : Node M) : Type 0 where
   pub discipline : IsLawfulDiscipline mtu clock (children n) n.own.discipline
   pub balanced : IsBalanced (row t n)

@@ -113,7 +113,7 @@ abbrev pub burst_check : ℕ → ℕ → ℕ → List Check
 burst_check old new mtu = refuse SmallBurst (nat_lt new (min old mtu)) ∷ []
 
 abbrev pub flows_check : Option ℕ → ℕ → List Check
-flows_check given flows = refuse CannotChange (not (unwrap_or given flows == flows)) ∷ []
+flows_check new old = refuse CannotChange (not (unwrap_or new old == old)) ∷ []
 
 -- what a change makes of a qdisc, where it is of the same kind
 abbrev pub change_of : Device → ℕ → Shape → List ℕ → Discipline → Kind → Result Edit NotDone

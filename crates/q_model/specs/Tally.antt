@@ -37,7 +37,7 @@ no_counts = record { arrived = no_totals; sent = no_totals; refused = no_totals;
 abbrev pub with_packet : Totals → Descriptor → Totals
 with_packet t p = record { packets = t.packets + 1; bytes = t.bytes + p.len }
 
--- a note more; grants and spent bytes are not counted
+-- a note more; grants and spent bytes are not counted, since tc shows no number of them
 abbrev pub counted : Counts → Note → Counts
 counted c (Arrived p) = record c { arrived = with_packet c.arrived p }
 counted c (Sent p) = record c { sent = with_packet c.sent p }

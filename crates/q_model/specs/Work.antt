@@ -12,7 +12,7 @@ use Rattle.q_model.specs.Node.{Discipline, Fifo, Prio, Tbf, Drr, FqCodel, Own, F
 abbrev pub Worked : Type 0
 Worked = Node (List Note)
 
--- the node, and what each node above it has to note as well
+-- the node, and what each node above it has to note as well, since its counters have those of its children
 pub record Work : Type 0 where
   pub node : Worked
   pub rises : List Note

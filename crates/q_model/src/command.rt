@@ -8,8 +8,8 @@ use crate::quantum::Quantum;
 
 /// A change of the tree that a `tc` line asks for.
 ///
-/// Each number is in its range, since its type keeps it. Of `place` and `handle` in a change or a removal at least one is given; where
-/// both are, they have to name the same qdisc. `parent` in a class line has to be the major number of the class.
+/// Each number is in its range, since its type keeps it. Of `place` and `handle` in a change or a removal at least one is
+/// given; where both are, they have to name the same qdisc. `parent` in a class line has to be the major number of the class.
 #[derive(Clone, Copy, PartialEq, Eq, Debug)]
 pub enum Command {
     /// `tc qdisc add`: puts a qdisc into a place.

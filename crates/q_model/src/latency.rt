@@ -3,8 +3,8 @@ ghost use Rattle.q_model.specs.Numbers.{IsLatency};
 
 use std::marker::Model;
 
-/// How long a packet may wait for the tokens of a tbf, in nanoseconds, at most 10^12 (tc-tbf(8), `latency`; the bound, 1000 s,
-/// is this project's choice).
+/// How long a packet may wait for the tokens of a tbf, in nanoseconds, at most 10^12 (tc-tbf(8), `latency`; the bound of
+/// 1000 s is this project's choice).
 ///
 /// A contract sees it as that number.
 #[derive(Clone, Copy, PartialEq, Eq, Debug)]

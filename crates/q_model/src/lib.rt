@@ -1,8 +1,9 @@
 //! The model: the data that tc's lines, the tree and its views share, and what a device does, as definitions that compute.
 //!
 //! - [`Command`] is a change of the tree, as the `tc` lines ask for it: [`Kind`] is a qdisc with its options, [`Place`] and
-//!   [`ClassId`] say where it goes, [`FilterKeys`] which packets a filter takes. Each number has a type that keeps its range:
-//!   [`Handle`], [`Minor`], [`Quantum`], [`Rate`], [`Burst`], [`Latency`], [`FilterPrio`].
+//!   [`ClassId`] say where it goes, [`FilterKeys`] which packets a filter takes. Their numbers have types that keep their
+//!   ranges: [`Handle`], [`Minor`], [`Quantum`], [`Rate`], [`Burst`], [`Latency`], [`FilterPrio`], [`PrioOptions`],
+//!   [`FqCodelOptions`] and [`IpPrefix`].
 //! - [`NotDone`] is why a change was not made, with the number and the name of each refusal.
 //! - [`Row`] is what a node counted: six [`Totals`] of packets and bytes.
 //! - [`NodeView`], [`ClassView`] and [`FilterView`] are what `show` prints of a node, a class and a filter.

@@ -1,6 +1,6 @@
 -- The texts of a report: what a poll gave, what was lost or refused, and what show prints of a tree.
 -- In the manner of `tc -s qdisc show`, `tc class show` and `tc filter show` (tc(8)); the texts are this project's own.
-use Rattle.std.specs.Prelude.{ℕ, ◌/◌, ◌%◌, ◌^◌, ◌==◌, Bool, false, List, [], ◌∷◌, ◌++◌, codes, decimal, if◌then◌else◌, Option}
+use Rattle.std.specs.Prelude.{ℕ, ◌/◌, ◌%◌, ◌^◌, ◌==◌, Bool, false, List, [], ◌++◌, codes, decimal, if◌then◌else◌, Option}
 use Rattle.std.specs.List.{flat_map}
 use Rattle.std.specs.Option.{option_map_or}
 use Rattle.std.specs.Fmt.{digits}
