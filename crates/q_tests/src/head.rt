@@ -4,8 +4,6 @@
 // the addresses, the ports, and the ECN bits of ip.dsfield or ipv6.tclass; the priority is the table's for that byte.
 // Behind a hop-by-hop header tshark reads on and finds UDP; here the next header is the protocol.
 use q_packet::{Ecn, FlowKey, Head, read_head};
-use std::alloc::Global;
-use std::process::Abort;
 use std::test::Fail;
 
 const LOOPBACK: u128 = 0x7f00_0001;
@@ -107,55 +105,38 @@ fn reads_captured_heads(rt: HostRuntime) -> Result<(), Fail> {
     Ok(())
 }
 
-// A datagram of IPv4 from 10.0.0.1 to 10.0.0.2.
-const IPV4: &[u8] = b"\x45\x00\x00\x28\x00\x00\x00\x00\x40\x11\x00\x00\
-    \x0a\x00\x00\x01\x0a\x00\x00\x02\x00\x35\x00\x36";
-
-// Its head, where the last byte is missing.
-const CUT: &[u8] = b"\x45\x00\x00\x28\x00\x00\x00\x00\x40\x06\x00\x00\x0a\x00\x00\x01\x0a\x00\x00";
-
-const IPV6: &[u8] = b"\x6b\x90\x00\x00\x00\x04\x11\x40\
-    \x00\x00\x00\x00\x00\x00\x00\x00\x00\x00\x00\x00\x00\x00\x00\x01\
-    \x00\x00\x00\x00\x00\x00\x00\x00\x00\x00\x00\x00\x00\x00\x00\x02\x00\x35\x00\x36";
-
-// The packet with another byte at this place.
-fn with_byte(alloc: Global, packet: &[u8], at: usize, byte: u8) -> Result<Vec<u8>, Fail> {
-    let mut changed = Vec::from_slice(alloc, packet)?;
-    *changed.get_mut(at).ok_or("a byte there")? = byte;
-    Ok(changed)
-}
-
-// The fronts of a packet of these lengths, from the first to the last, have this head.
-fn assert_fronts(
-    rt: &impl Abort,
-    packet: &[u8],
-    first: usize,
-    last: usize,
-    want: Head,
-) -> Result<(), Fail> {
-    for n in first..=last {
-        let front = packet.get(..n).ok_or("a front")?;
-        assert_eq!(rt; read_head(front), want, "the first {n} bytes");
-    }
-    Ok(())
-}
-
 #[test]
 fn reads_fronts_of_a_head(rt: HostRuntime) -> Result<(), Fail> {
+    // A datagram of IPv4 from 10.0.0.1 to 10.0.0.2, once whole and once as a later fragment.
+    let whole = b"\x45\x00\x00\x28\x00\x00\x00\x00\x40\x11\x00\x00\
+        \x0a\x00\x00\x01\x0a\x00\x00\x02\x00\x35\x00\x36";
+    let mut later = *whole;
+    later[7] = 1;
     let addresses = head_with((4, 17, 0x0a00_0001, 0x0a00_0002, 0, 0), 0, Ecn::NotEct)?;
     let ports = head_with((4, 17, 0x0a00_0001, 0x0a00_0002, 53, 54), 0, Ecn::NotEct)?;
-    assert_fronts(&rt, IPV4, 0, 19, Head::zero())?;
-    assert_fronts(&rt, IPV4, 20, 23, addresses)?;
-    assert_fronts(&rt, IPV4, 24, 24, ports)?;
-    assert_fronts(&rt, CUT, 19, 19, Head::zero())?;
-    let later_fragment = with_byte(rt.alloc(), IPV4, 7, 1)?;
-    assert_fronts(&rt, &later_fragment, 24, 24, addresses)?;
+    for n in 0..20 {
+        assert_eq!(rt; read_head(&whole[..n]), Head::zero(), "the first {n} bytes");
+    }
+    for n in 20..24 {
+        assert_eq!(rt; read_head(&whole[..n]), addresses, "the first {n} bytes");
+    }
+    assert_eq!(rt; read_head(whole), ports);
+    assert_eq!(rt; read_head(&later), addresses);
 
+    // A head whose last byte is missing.
+    let cut = b"\x45\x00\x00\x28\x00\x00\x00\x00\x40\x06\x00\x00\x0a\x00\x00\x01\x0a\x00\x00";
+    assert_eq!(rt; read_head(cut), Head::zero());
+
+    let mut ipv6 = *b"\x6b\x90\x00\x00\x00\x04\x11\x40\
+        \x00\x00\x00\x00\x00\x00\x00\x00\x00\x00\x00\x00\x00\x00\x00\x01\
+        \x00\x00\x00\x00\x00\x00\x00\x00\x00\x00\x00\x00\x00\x00\x00\x02\x00\x35\x00\x36";
     let six = head_with((6, 17, 1, 2, 0, 0), 4, Ecn::Ect1)?;
     let six_ports = head_with((6, 17, 1, 2, 53, 54), 4, Ecn::Ect1)?;
-    assert_fronts(&rt, IPV6, 44, 44, six_ports)?;
-    assert_fronts(&rt, IPV6, 43, 43, six)?;
-    assert_fronts(&rt, IPV6, 39, 39, Head::zero())?;
-    let neither_version = with_byte(rt.alloc(), IPV6, 0, 0x5b)?;
-    assert_fronts(&rt, &neither_version, 44, 44, Head::zero())
+    assert_eq!(rt; read_head(&ipv6), six_ports);
+    assert_eq!(rt; read_head(&ipv6[..43]), six);
+    assert_eq!(rt; read_head(&ipv6[..39]), Head::zero());
+    // Neither version 4 nor 6.
+    ipv6[0] = 0x5b;
+    assert_eq!(rt; read_head(&ipv6), Head::zero());
+    Ok(())
 }
