@@ -11,7 +11,7 @@ use Rattle.q_fqcodel.specs.Take.{front}
 use Rattle.q_fqcodel.specs.declared.entry.Entry.{Entry}
 use Rattle.q_model.specs.Tally.{Note, FlowGranted, FlowGave}
 
--- the least number of quanta that makes one credit into the other: nothing else adds to credits before the flow sends
+-- the least number of quanta that makes one credit into the other
 unfoldable pub quanta_between : ℕ → Entry → Entry → ℕ
 quanta_between quantum before after =
     least (λ k. int_le after.credits (before.credits +ℤ pos (k * quantum))) (need quantum before)
