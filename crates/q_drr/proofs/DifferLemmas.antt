@@ -1,5 +1,5 @@
 -- Lists in which no two have one name, by recursion: what the proofs by induction take in the place of `AllPairs`.
-use Rattle.std.proofs.Common.{◌≡◌, ◌≢◌, ℕ, zero, suc, ◌<◌, Bool, false, eqb, List, [], ◌∷◌, length, refl, ◌∙◌, sym, arith, eq-eqb}
+use Rattle.std.proofs.Common.{◌≡◌, ◌≢◌, ℕ, zero, suc, ◌<◌, false, eqb, List, [], ◌∷◌, length, refl, ◌∙◌, sym, arith, eq-eqb}
 use Rattle.std.specs.Prelude.{◌==◌, slice_index_or}
 use Rattle.std.specs.List.{AllPairs, list_any}
 use Rattle.std.proofs.lemmas.Bool.{ne_eqb, false≢true, or_parts, or_from}

@@ -1,5 +1,5 @@
 -- The bytes of two classes over any list of turns, by their grants and the bounds on their deficits.
-use Rattle.std.proofs.Common.{◌≡◌, ◌≢◌, ℕ, ◌+◌, ◌*◌, ◌<◌, ◌≤◌, Bool, true, eqb, ◌||◌, List, [], ◌∷◌, refl, sym, ap, ◌∙◌, subst, inl, inr, arith}
+use Rattle.std.proofs.Common.{◌≡◌, ℕ, ◌+◌, ◌*◌, ◌<◌, ◌≤◌, true, eqb, ◌||◌, List, [], ◌∷◌, refl, sym, ap, ◌∙◌, subst, inl, inr, arith}
 use Rattle.std.specs.List.{All}
 use Rattle.std.proofs.Math.Nat.{add-mul, mul-add, mul_comm, mul_assoc, mul-le-mul_left, mul-lt-mul_of_pos_left}
 use Rattle.std.proofs.lemmas.Bool.{cases_Bool, eqb-true, false≢true}
@@ -8,7 +8,6 @@ use Rattle.q_drr.specs.Schedule.{Class, Entry, Schedule, has_class, quantum_of, 
 use Rattle.q_drr.specs.Stretch.{after_turns, grants, sent, SharesAreFair}
 use Rattle.q_drr.proofs.ChangeLemmas.{turned_lawful}
 use Rattle.q_drr.proofs.LookupLemmas.{deficit-here, deficit-behind}
-use Rattle.q_drr.proofs.NameLemmas.{eqb_swap}
 use Rattle.q_drr.proofs.StretchLemmas.{each_sends_its_share, grants_are_even, list_active}
 use Rattle.q_drr.proofs.TakeLemmas.{has_quantum}
 

@@ -14,7 +14,7 @@ use Rattle.q_drr.proofs.DifferLemmas.{AllDiffer, StatesDiffer, ClassesDiffer, En
 use Rattle.q_drr.proofs.KeyLemmas.{has_push, find_push, has_others, find_others}
 use Rattle.q_drr.proofs.KeyLemmas as keys
 use Rattle.q_drr.proofs.LookupLemmas.{state-here, state-behind, quantum-here, quantum-behind, deficit-here, deficit-behind, granted-here, granted-behind}
-use Rattle.q_drr.proofs.NameLemmas.{each_at, differ_by_member, differ_push, differ_rotated, eqb_swap, without_absent}
+use Rattle.q_drr.proofs.NameLemmas.{each_at, differ_by_member, differ_push, differ_rotated, without_absent}
 use Rattle.q_drr.proofs.StateLemmas.{with_absent}
 
 or_true : (x y : Bool) → y ≡ true → (x || y) ≡ true

@@ -1,22 +1,22 @@
 -- A whole take as turns: how often each class is granted and what it sends, turn by turn and at once.
-use Rattle.std.proofs.Common.{◌≡◌, ◌≢◌, ◌⊎◌, ℕ, zero, suc, ◌+◌, ◌*◌, ◌<◌, ◌≤◌, Bool, true, false, eqb, cond, List, [], ◌∷◌, ◌++◌, map, length, get_or, take, drop, Option, Some, None, IfSome, IsSomeAnd, MatchOption, refl, sym, ap, ◌∙◌, subst, inl, inr, arith, eq-eqb}
+use Rattle.std.proofs.Common.{◌≡◌, ◌≢◌, ◌⊎◌, ℕ, zero, suc, ◌+◌, ◌*◌, ◌<◌, ◌≤◌, Bool, true, false, List, [], ◌∷◌, ◌++◌, map, length, get_or, take, drop, Option, Some, None, IfSome, IsSomeAnd, MatchOption, refl, sym, ap, ◌∙◌, subst, inl, inr, arith, eq-eqb}
 use Rattle.std.specs.Prelude.{◌==◌, if◌then◌else◌, nat_lt, nat_le, slice_get, option_map, option_and_then, unwrap_or}
-use Rattle.std.specs.List.{All, sum_by}
+use Rattle.std.specs.List.{sum_by}
 use Rattle.std.proofs.Math.Seq.{get_or-append_seam}
-use Rattle.std.proofs.lemmas.Bool.{cases_Bool, cases_lt, cases_eq, cond-true, cond-false, eqb-true, ne_eqb, false≢true, lt-ltb, le-ltb, lt-leb, le-leb, leb-false}
-use Rattle.std.proofs.lemmas.List.{get_or_append_left, get_or-map, length-map, length_push}
+use Rattle.std.proofs.lemmas.Bool.{cases_lt, cases_eq, cond-true, cond-false, ne_eqb, lt-ltb, le-ltb, lt-leb, le-leb, leb-false}
+use Rattle.std.proofs.lemmas.List.{get_or_append_left, get_or-map, length_push}
 use Rattle.q_packet.specs.Choice.{Choice, sooner, choose, IsChosen}
-use Rattle.q_packet.proofs.ChoiceLemmas.{last_one, last-le, last-gt, sooner-le, sooner-gt, IsChoiceOf, choice_is, chosen_is}
+use Rattle.q_packet.proofs.ChoiceLemmas.{last_one, last-le, last-gt, sooner-le, sooner-gt, choice_is, chosen_is}
 use Rattle.q_packet.proofs.LeastLemmas.{least_gt}
 use Rattle.q_drr.specs.Changes.{HeadsFit, ServedIsLawful}
-use Rattle.q_drr.specs.Schedule.{Class, Entry, Schedule, quantum_of, deficit_of, front_of, is_active, after_grants, active_after, turned, IsEntry, IsLawful}
+use Rattle.q_drr.specs.Schedule.{Entry, Schedule, quantum_of, deficit_of, front_of, turned, IsLawful}
 use Rattle.q_drr.specs.Stretch.{after_turns, grant_in, bytes_in, grants, sent}
-use Rattle.q_drr.specs.Take.{grants_for, need, needs, choice_of, granted, brought_up, prepared, sent_in, served, met_in}
-use Rattle.q_drr.specs.Turns.{AreShown, grants_at, bytes_at, AreTurnsOf, TakesAreTurns, LeastNeedIsMet, ChosenIsMet, TurnsGrantWhereShort, TakesGrantWhereShort}
+use Rattle.q_drr.specs.Take.{grants_for, need, needs, choice_of, granted, brought_up, sent_in, served, met_in}
+use Rattle.q_drr.specs.Turns.{AreShown, grants_at, bytes_at, TakesAreTurns, LeastNeedIsMet, ChosenIsMet, TurnsGrantWhereShort, TakesGrantWhereShort}
 use Rattle.q_drr.proofs.ChangeLemmas.{turned_lawful}
 use Rattle.q_drr.proofs.DifferLemmas.{EntriesDiffer, entries_apart, nowhere}
 use Rattle.q_drr.proofs.LookupLemmas.{deficit-here}
-use Rattle.q_drr.proofs.TakeLemmas.{Front, once, need_none, need_at, choice_ready, choice_within, choice_before, choice_after, prepared_ready, prepared_empty, prepared_granted, turned_granted, served_nothing, served_head, served_nobody, front_quantum, measure_falls}
+use Rattle.q_drr.proofs.TakeLemmas.{Front, once, need_at, choice_ready, choice_within, choice_before, choice_after, prepared_ready, prepared_empty, prepared_granted, turned_granted, served_nothing, served_head, served_nobody, front_quantum, measure_falls}
 
 -- ---- a choice at a place
 

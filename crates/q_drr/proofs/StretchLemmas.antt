@@ -1,13 +1,12 @@
 -- What one turn, and then any list of turns, does to an active class and to the order of two.
 use Rattle.std.proofs.Common.{◌≡◌, ◌≢◌, ℕ, ◌+◌, ◌-◌, ◌*◌, ◌<◌, ◌≤◌, Bool, true, false, eqb, ◌||◌, List, [], ◌∷◌, ◌++◌, refl, sym, ap, ◌∙◌, subst, inl, inr, arith}
 use Rattle.std.specs.Prelude.{if◌then◌else◌}
-use Rattle.std.proofs.lemmas.Bool.{eqb-true, ne_eqb, false≢true, or_parts, or_from, cases_Bool, le-leb, lt-leb, cases_lt}
+use Rattle.std.proofs.lemmas.Bool.{eqb-true, ne_eqb, false≢true, or_parts, cases_Bool, le-leb, lt-leb, cases_lt}
 use Rattle.q_drr.specs.Schedule.{Class, Entry, Schedule, quantum_of, after_grants, is_active, deficit_of, active_after, turned}
 use Rattle.q_drr.specs.Stretch.{after_turns, grant_in, bytes_in, grants, sent, stands_first, EachSendsItsShare, AreEven, GrantsAreEven}
 use Rattle.q_drr.proofs.DifferLemmas.{EntriesDiffer, entries_apart}
 use Rattle.q_drr.proofs.KeyLemmas.{differ_push}
 use Rattle.q_drr.proofs.LookupLemmas.{deficit-here, deficit-behind}
-use Rattle.q_drr.proofs.NameLemmas.{eqb_swap}
 
 or_true : (x y : Bool) → y ≡ true → (x || y) ≡ true
 or_true true y e = refl

@@ -1,6 +1,6 @@
 -- What the fields of an active list show and keep of each other: a table of classes, and the circle of the active ones.
 -- The bound on deficits is that of deficit round robin (tc-drr(8)): no deficit reaches a quantum and a longest packet.
-use Rattle.std.specs.Prelude.{◌≡◌, ◌≢◌, ℕ, ◌+◌, ◌^◌, ◌<◌, ◌≤◌, true, false, List, [], ◌∷◌, map}
+use Rattle.std.specs.Prelude.{◌≡◌, ◌≢◌, ℕ, ◌+◌, ◌^◌, ◌<◌, ◌≤◌, true, List, map}
 use Rattle.std.specs.List.{All, AllPairs}
 use Rattle.q_drr.specs.Schedule.{Schedule}
 use Rattle.q_drr.specs.States.{has_state, class_in, entry_in}

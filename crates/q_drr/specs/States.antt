@@ -1,6 +1,6 @@
 -- A table of classes as a list of their states in order of adding, and what the active list of deficit round robin
 -- (tc-drr(8)) shows of it.
-use Rattle.std.specs.Prelude.{◌≡◌, ℕ, ◌^◌, ◌<◌, ◌≤◌, Bool, not, ◌==◌, nat_lt, suc, if◌then◌else◌, List, [], ◌∷◌, map, length, Option, slice_index, slice_index_or, unwrap_or}
+use Rattle.std.specs.Prelude.{◌≡◌, ℕ, ◌^◌, ◌<◌, ◌≤◌, Bool, not, ◌==◌, nat_lt, suc, if◌then◌else◌, List, map, length, Option, slice_index, slice_index_or, unwrap_or}
 use Rattle.std.specs.List.{filter, find, list_any, position}
 use Rattle.q_drr.specs.Schedule.{Class, Entry}
 use Rattle.q_drr.specs.declared.class_state.ClassState.{ClassState}

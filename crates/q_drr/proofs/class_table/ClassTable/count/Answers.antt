@@ -1,4 +1,4 @@
-use Rattle.std.proofs.Common.{ap, ◌∙◌, arith}
+use Rattle.std.proofs.Common.{arith}
 use Rattle.q_drr.proofs.StateLemmas.{few_states}
 use Rattle.q_drr.proofs.class_table.ClassTable.count.Goals as goal
 
