@@ -10,10 +10,11 @@ mod FifoScripts
 mod FqCodelReports
 mod FqCodelScripts
 mod FqCodelValues
-mod GrammarValues
 mod HeadValues
 mod LargeReports
+mod LineFaults
 mod LineValues
+mod NoteScripts
 mod PacketValues
 mod RefusalReports
 mod Reports
@@ -23,3 +24,4 @@ mod ScriptValues
 pub mod SharedRules
 mod TbfPrioScripts
 mod TreeReports
+mod WordValues
