@@ -1,13 +1,16 @@
 -- Worked rows, computed from the definitions. With a quantum of 1000 bytes, two packets of 1000 bytes in flow 0 and one
 -- of 100 in flow 1: what each take sends, the lists and credits after the third and the fourth; the fat flow at a tie; a batch.
-use Rattle.std.proofs.Common.{◌≡◌, ℕ, pos, true, false, [], ◌∷◌, map, Option, Some, None, option_map, refl}
+use Rattle.std.proofs.Common.{◌≡◌, ℕ, pos, true, false, List, [], ◌∷◌, map, take, Option, Some, None, option_map, refl}
+use Rattle.std.specs.Prelude.{◌-ℤ◌, if◌then◌else◌}
 use Rattle.q_packet.specs.Key.{zero_key}
 use Rattle.q_packet.specs.Descriptor.{Descriptor}
 use Rattle.q_packet.specs.declared.ecn.Ecn.TheVariants.{NotEct}
 use Rattle.q_packet.specs.declared.stamped.Stamped.{Stamped}
 use Rattle.q_codel.specs.declared.taken.Taken.{Taken}
-use Rattle.q_fqcodel.specs.FqState.{FqSettings, FqState, first_state}
+use Rattle.q_fqcodel.specs.Cleared.{adjust}
+use Rattle.q_fqcodel.specs.FqState.{FqSettings, Flow, FqState, all_packets, first_state, after_change}
 use Rattle.q_fqcodel.specs.Put.{is_lost_itself, after_put, lost_by_put}
+use Rattle.q_fqcodel.specs.QuantaGiven.{grants}
 use Rattle.q_fqcodel.specs.Take.{selected, sent_from, after_sending}
 use Rattle.q_fqcodel.specs.Entry.{Entry}
 use Rattle.q_rows.proofs.SharedRules.{shared_rules}
@@ -75,3 +78,55 @@ batched = after_put (after_put (first_state (settings 2 1514 3)) (packet 1 50 0)
 the_newcomer_is_lost : (map (λ (x : Stamped). x.packet.number) (lost_by_put batched (packet 3 100 1) 0) ≡ 2 ∷ 3 ∷ []) × (is_lost_itself batched (packet 3 100 1) 0 ≡ true)
 unfolding shared_rules
 the_newcomer_is_lost = (refl, refl)
+
+-- Three old flows without credits, of which the first needs three quanta of 100 bytes and the others two. The second sends:
+-- the one in front of it is visited three times, it and the one behind it twice.
+abbrev owing : ℕ → ℕ → Entry
+owing flow debt = record { flow = flow; credits = pos 0 -ℤ pos debt }
+
+abbrev in_debt : FqState
+in_debt = record (after_put (after_put (after_put (first_state (settings 100 100 1)) (packet 1 40 0) 0) (packet 2 40 1) 0) (packet 3 40 2) 0) {
+  fresh = [];
+  stale = owing 0 250 ∷ owing 1 150 ∷ owing 2 150 ∷ [];
+}
+
+visited_in_rounds : (shown in_debt ≡ Some 2) × ((taken_once in_debt).stale ≡ entry 1 10 ∷ entry 2 50 ∷ entry 0 50 ∷ [])
+unfolding shared_rules
+visited_in_rounds = (refl, refl)
+
+quanta_of_a_take : grants in_debt ≡ record { flow = 0; quanta = 3 } ∷ record { flow = 1; quanta = 2 } ∷ record { flow = 2; quanta = 2 } ∷ []
+unfolding shared_rules
+quanta_of_a_take = refl
+
+-- what CoDel knows of the first two flows: the moment above the target, the count, and 1 while dropping
+known : FqState → List (List ℕ)
+known s = map (λ (f : Flow). f.codel.above ∷ f.codel.count ∷ (if f.codel.dropping then 1 else 0) ∷ []) (take 2 s.flows)
+
+-- an old flow that is empty, whose CoDel was dropping, in front of one with a packet
+abbrev emptied : Entry → FqState
+emptied e =
+    let s = after_put (first_state (settings 100 1000 1)) (packet 1 100 1) 0 in
+    record s {
+      flows = adjust (λ f. record f { codel = record f.codel { above = 7; count = 3; dropping = true } }) 0 s.flows;
+      fresh = [];
+      stale = e ∷ entry 1 500 ∷ [];
+    }
+
+-- with credits it is asked, found empty, and leaves: nothing stands any more, and the count stays
+leaves_rested : (known (taken_once (emptied (entry 0 500))) ≡ (0 ∷ 3 ∷ 0 ∷ []) ∷ (0 ∷ 0 ∷ 0 ∷ []) ∷ []) × ((taken_once (emptied (entry 0 500))).stale ≡ entry 1 400 ∷ [])
+unfolding shared_rules known
+leaves_rested = (refl, refl)
+
+-- without credits it gets a quantum, and CoDel does not look at it
+stays_unasked : (known (taken_once (emptied (entry 0 0))) ≡ (7 ∷ 3 ∷ 1 ∷ []) ∷ (0 ∷ 0 ∷ 0 ∷ []) ∷ []) × ((taken_once (emptied (entry 0 0))).stale ≡ entry 1 400 ∷ entry 0 1000 ∷ [])
+unfolding shared_rules known
+stays_unasked = (refl, refl)
+
+-- a change gives each flow's CoDel the new settings, and leaves its state, the packets and the lists
+changed : (
+    let s = emptied (entry 0 500) in
+    let t = after_change s (record s.settings { target = 1; interval = 2000; ecn = false; quantum = 9 }) in
+    (known t ≡ known s) × (map (λ (f : Flow). f.codel.target) (take 2 t.flows) ≡ 1 ∷ 1 ∷ []) × (map (λ (f : Flow). f.codel.interval) (take 2 t.flows) ≡ 2000 ∷ 2000 ∷ [])
+    × (map (λ (f : Flow). f.codel.ecn) (take 2 t.flows) ≡ false ∷ false ∷ []) × (t.stale ≡ s.stale) × (all_packets t.flows ≡ all_packets s.flows) × (t.settings.quantum ≡ 9))
+unfolding shared_rules known
+changed = (refl, refl, refl, refl, refl, refl, refl)
