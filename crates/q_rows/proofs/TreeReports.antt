@@ -266,3 +266,19 @@ least_free_handle :
     codes "qdisc pfifo 8001: parent 8002:3 limit 3p" ∷ [])
 unfolding report_rules
 least_free_handle = refl
+
+-- a prefix of no bits takes every packet of its family, and no other
+prefix_of_no_bits :
+    reports
+    (codes "tc qdisc add dev eth0 root handle 1: prio" ∷
+    codes "tc filter add dev eth0 parent 1: prio 1 flower src_ip 0.0.0.0/0 classid 1:1" ∷
+    codes "tc filter add dev eth0 parent 1: prio 2 flower src_ip ::/0 classid 1:3" ∷
+    codes "pkt 101 src_ip ::1" ∷
+    codes "pkt 102" ∷
+    codes "pkt 103 dst_ip 1.2.3.4" ∷
+    codes "poll 3" ∷ [])
+    (codes "sent 3 103" ∷
+    codes "sent 2 102" ∷
+    codes "sent 1 101" ∷ [])
+unfolding report_rules
+prefix_of_no_bits = refl
