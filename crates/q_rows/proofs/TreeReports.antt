@@ -282,3 +282,24 @@ prefix_of_no_bits :
     codes "sent 1 101" ∷ [])
 unfolding report_rules
 prefix_of_no_bits = refl
+
+-- a class more stands behind the others, and each keeps what stands in it
+class_added_behind_the_others :
+    reports
+    (codes "tc qdisc add dev eth0 root handle 1: drr" ∷
+    codes "tc class add dev eth0 parent 1: classid 1:1 drr" ∷
+    codes "tc qdisc add dev eth0 parent 1:1 handle 2: pfifo limit 5" ∷
+    codes "tc filter add dev eth0 parent 1: prio 1 flower classid 1:1" ∷
+    codes "pkt 100" ∷
+    codes "tc class add dev eth0 parent 1: classid 1:2 drr" ∷
+    codes "tc -s qdisc show" ∷
+    codes "poll" ∷ [])
+    (codes "qdisc drr 1: root" ∷
+    codes " arrived 1p 100b sent 0p 0b refused 0p 0b dropped 0p 0b queued 1p 100b" ∷
+    codes "qdisc pfifo 2: parent 1:1 limit 5p" ∷
+    codes " arrived 1p 100b sent 0p 0b refused 0p 0b dropped 0p 0b queued 1p 100b" ∷
+    codes "qdisc pfifo 0: parent 1:2 limit 1000p" ∷
+    codes " arrived 0p 0b sent 0p 0b refused 0p 0b dropped 0p 0b queued 0p 0b" ∷
+    codes "sent 1 100" ∷ [])
+unfolding report_rules
+class_added_behind_the_others = refl
