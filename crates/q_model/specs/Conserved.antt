@@ -1,13 +1,15 @@
 -- Nothing is lost or made at a node: what arrived was sent, was lost, or waits.
 -- Packets are compared without their ECN codepoint, since a mark changes it (RFC 3168, section 5).
-use Rattle.std.specs.Prelude.{◌≡◌, ◌+◌, List, [], ◌∷◌, ◌++◌, map, Option, Some, None}
-use Rattle.std.specs.List.{filter_map}
+use Rattle.std.specs.Prelude.{◌≡◌, ◌≤◌, ◌+◌, List, [], ◌∷◌, ◌++◌, map, Option, Some, None}
+use Rattle.std.specs.List.{filter_map, flat_map}
+use Rattle.std.specs.Option.{option_to_list}
 use Rattle.std.specs.List.Sorted.{IsPermutation}
 use Rattle.q_packet.specs.Descriptor.{Descriptor}
 use Rattle.q_packet.specs.declared.ecn.Ecn.TheVariants.{NotEct}
 use Rattle.q_model.specs.declared.row.Row.{Row}
-use Rattle.q_model.specs.Tally.{Note, Arrived, Sent, Lost, Marked, Granted, Spent, FlowGranted, FlowGave}
-use Rattle.q_model.specs.Node.{Forest, none, more, Node}
+use Rattle.q_model.specs.Tally.{Counts, Note, Arrived, Sent, Lost, Marked, Granted, Spent, FlowGranted, FlowGave}
+use Rattle.q_model.specs.Node.{Own, Forest, none, more, Node, from_below}
+use Rattle.q_model.specs.Beneath.{totals_in}
 
 -- a node and all nodes beneath it, each before its children
 abbrev pub nodes_of : {M : Type 0} → Forest M → List (Node M)
@@ -61,3 +63,15 @@ IsConserved notes waiting =
 pub record IsBalanced (r : Row) : Type 0 where
   pub packets : r.arrived.packets ≡ r.sent.packets + r.refused.packets + r.dropped.packets + r.queued.packets
   pub bytes : r.arrived.bytes ≡ r.sent.bytes + r.refused.bytes + r.dropped.bytes + r.queued.bytes
+
+-- the packets that are held at a node and beneath it
+abbrev pub held_own : Own → List (List Descriptor) → List Descriptor
+held_own own below = option_to_list own.held ++ flat_map (λ packets. packets) below
+
+abbrev pub held_beneath : {M : Type 0} → Node M → List Descriptor
+held_beneath n = from_below held_own n
+
+-- a packet that was marked has been sent or dropped since, or is held
+pub record AreMarksBounded (c : Counts) (held : List Descriptor) : Type 0 where
+  pub packets : c.marked.packets ≤ c.sent.packets + c.dropped.packets + (totals_in held).packets
+  pub bytes : c.marked.bytes ≤ c.sent.bytes + c.dropped.bytes + (totals_in held).bytes

@@ -1,0 +1,7 @@
+//! What every step keeps of a device's tree, proved over the model alone, for all that stands on it.
+//!
+//! `q_model` says what an arrival, a poll and a command make of a tree. `proofs/` here shows what each of them keeps: that
+//! nothing is made or lost at any node (`Weights`), that no node has marked more than it sent, dropped or holds, and that each
+//! node is lawful (`q_model`, `specs/Lawful.antt`). `Kept` puts these together; `Puts`, `Asks` and `Edits` are the three kinds
+//! of steps. The law over all lists of events is the contract of `q_device::laws::conserved`.
+#![tactic(auto)]
