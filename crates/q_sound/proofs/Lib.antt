@@ -1,5 +1,6 @@
 pub mod Answer
 pub mod AskLeaf
+pub mod AskPrio
 pub mod Forests
 pub mod Kept
 pub mod Lengths
