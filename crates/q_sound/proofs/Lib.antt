@@ -1,6 +1,7 @@
 pub mod Answer
 pub mod AskLeaf
 pub mod AskPrio
+pub mod AskTbf
 pub mod Forests
 pub mod Kept
 pub mod Lengths
