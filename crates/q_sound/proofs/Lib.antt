@@ -2,6 +2,7 @@ pub mod Answer
 pub mod AskLeaf
 pub mod AskPrio
 pub mod AskTbf
+pub mod ClassSums
 pub mod Forests
 pub mod Kept
 pub mod Lengths
