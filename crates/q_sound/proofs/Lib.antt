@@ -3,6 +3,7 @@ pub mod AskLeaf
 pub mod AskPrio
 pub mod AskTbf
 pub mod ClassSums
+pub mod Exact
 pub mod Forests
 pub mod Kept
 pub mod Lengths
