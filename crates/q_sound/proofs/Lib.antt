@@ -1,4 +1,5 @@
 pub mod Answer
+pub mod AskClasses
 pub mod AskLeaf
 pub mod AskPrio
 pub mod AskTbf
