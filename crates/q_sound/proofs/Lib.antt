@@ -1,5 +1,7 @@
 pub mod Answer
 pub mod AskClasses
+pub mod AskDrr
+pub mod DrrService
 pub mod AskLeaf
 pub mod AskPrio
 pub mod AskTbf
