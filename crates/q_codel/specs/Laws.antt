@@ -1,10 +1,10 @@
 -- What RFC 8289 promises of CoDel (sections 3 and 5), over the definition of one queue's law in specs/Codel.antt.
 -- Each law speaks of every state, every moment and every queue.
-use Rattle.std.specs.Prelude.{◌≡◌, ℕ, suc, ◌+◌, ◌-◌, ◌*◌, ◌<◌, ◌≤◌, true, false, List, [], ◌∷◌, ◌++◌, take, drop, All, option_to_list}
+use Rattle.std.specs.Prelude.{◌≡◌, ℕ, suc, ◌+◌, ◌-◌, ◌*◌, ◌^◌, ◌<◌, ◌≤◌, true, false, List, [], ◌∷◌, ◌++◌, take, drop, All, option_to_list}
 use Rattle.q_packet.specs.Totals.{count, size}
 use Rattle.q_packet.specs.declared.stamped.Stamped.{Stamped}
 use Rattle.q_codel.specs.Gap.{gap_of}
-use Rattle.q_codel.specs.Codel.{CodelState, count_max, rested, count_after, is_late, is_capable, is_markable, moment, drops, marks, sent, left, after}
+use Rattle.q_codel.specs.Codel.{CodelState, IsCodelParams, IsCodelVars, params_of, vars_of, count_max, rested, count_after, is_late, is_capable, is_markable, moment, drops, marks, sent, left, after}
 
 -- A queue whose sojourn is below the target loses and marks nothing, and its time above the target begins anew.
 abbrev pub BelowTarget : Type 0
@@ -88,4 +88,11 @@ CountIsResumed = (s : CodelState) (now : ℕ) (queue : List Stamped) → s.dropp
   hardly_grown : s.count ≤ s.lastcount + 1 → (after s now queue).count ≡ 1;
   noted : (after s now queue).lastcount ≡ (after s now queue).count;
   first_gap : (after s now queue).drop_next ≡ now + gap_of s.interval (after s now queue).count;
+}
+
+-- Whatever a take does, the state stays in its ranges, and the settings are as they were.
+abbrev pub StatesStayInRange : Type 0
+StatesStayInRange = (s : CodelState) (now : ℕ) (queue : List Stamped) → IsCodelParams (params_of s) → IsCodelVars (vars_of s) → now ≤ 2 ^ 62 → record {
+  settings : params_of (after s now queue) ≡ params_of s;
+  state : IsCodelVars (vars_of (after s now queue));
 }

@@ -1,7 +1,7 @@
 //! Laws of the definition that [`Codel::take`](crate::Codel::take) equals, in the words of RFC 8289.
 //!
 //! Each function does nothing. Its contract is a law, stated in `specs/Laws.antt`, for every state, moment and queue.
-ghost use Rattle.q_codel.specs.Laws.{BelowTarget, OneMtu, LastPacketStays, MarksInPlaceOfDrops, OnlyLateHeads, AtTheirMoments, EmptyQueueRests, QueueIsDivided, OneDropBegins, DueHeadsGo, OneMtuLeft, CountIsResumed};
+ghost use Rattle.q_codel.specs.Laws.{BelowTarget, OneMtu, LastPacketStays, MarksInPlaceOfDrops, OnlyLateHeads, AtTheirMoments, EmptyQueueRests, QueueIsDivided, OneDropBegins, DueHeadsGo, OneMtuLeft, CountIsResumed, StatesStayInRange};
 
 /// A queue whose sojourn is below the target loses and marks nothing, and its time above the target begins anew.
 pub fn below_target()
@@ -61,4 +61,9 @@ pub fn one_mtu_left()
 /// Dropping that begins again within sixteen intervals goes on from what the count grew by.
 pub fn count_is_resumed()
     ensures { CountIsResumed }
+{}
+
+/// A take leaves the settings, and a state in its ranges, for moments up to 2^62 ns.
+pub fn states_stay_in_range()
+    ensures { StatesStayInRange }
 {}
