@@ -2,11 +2,13 @@ pub mod Answer
 pub mod AskClasses
 pub mod AskDrr
 pub mod DrrService
+pub mod AskFqCodel
 pub mod AskLeaf
 pub mod AskPrio
 pub mod AskTbf
 pub mod ClassSums
 pub mod Exact
+pub mod FlowNotes
 pub mod Forests
 pub mod Kept
 pub mod Lengths
