@@ -1,6 +1,6 @@
 -- What holds of the answer of every node that is asked: what it and the nodes beneath it are before and after, what they
 -- note, and the packet that is shown.
-use Rattle.std.proofs.Common.{◌≡◌, ℕ, ◌+◌, ◌≤◌, List, [], ◌∷◌, ◌++◌, map, sym, ap, subst, Option, None, arith}
+use Rattle.std.proofs.Common.{◌≡◌, ℕ, ◌+◌, ◌≤◌, List, [], ◌∷◌, ◌++◌, map, refl, sym, ap, subst, Option, None, arith}
 use Rattle.std.specs.Option.{option_to_list}
 use Rattle.std.proofs.lemmas.List.{append-nil}
 use Rattle.q_packet.specs.Descriptor.{Descriptor}
@@ -76,6 +76,8 @@ holds own ns = held_own own (map held_beneath ns)
 
 -- a node before it is asked, while it shows a packet, and once that is taken: what each has, and what is told
 pub record IsAsked (mtu now : ℕ) (own own_peeked own_taken : Own) (below : List Asked) (peeked taken : List Worked) (rises : List Note) (shown : Option Descriptor) : Type 0 where
+  pub handle_peeked : own_peeked.handle ≡ own.handle
+  pub handle_taken : own_taken.handle ≡ own.handle
   pub lawful : IsLawfulOwn mtu now own (map beneath (befores below))
   pub lawful_peeked : IsLawfulOwn mtu now own_peeked (map beneath peeked)
   pub lawful_taken : IsLawfulOwn mtu now own_taken (map beneath taken)
@@ -121,13 +123,13 @@ is-answer mtu now own own_peeked own_taken below peeked taken rises mine shown h
       told_before = (record {
         conserved = λ w. omega (arith, arrived-nil w, sent-nil w, lost-nil w);
         marks = λ w. omega (arith, marked-nil w, sent-nil w, dropped-nil w);
-      }, told-side (befores below) (befores below) h.told_before);
+      }, refl, told-side (befores below) (befores below) h.told_before);
       told_peeked = (record {
         conserved = λ w. omega (arith, ap (weigh w) b0, ap (weigh w) b1, h.peeks w, h.quiet.no_arrival w, h.quiet.nothing_sent w,
             silent.no_arrival w, silent.nothing_sent w, silent.nothing_lost w, arrived-append w rises mine, sent-append w rises mine, lost-append w rises mine);
         marks = λ w. omega (arith, ap (weigh w) h0, ap (weigh w) h1, h.marks w, h.quiet.all_dropped w,
             silent.nothing_dropped w, silent.nothing_marked w, marked-append w rises mine, dropped-append w rises mine);
-      }, told-side (befores below) peeked h.told_peeked);
+      }, h.handle_peeked, told-side (befores below) peeked h.told_peeked);
       told_taken = (record {
         conserved = λ w. omega (arith, ap (weigh w) b0, ap (weigh w) b2, h.peeks w, h.gives w, h.quiet.no_arrival w, h.quiet.nothing_sent w,
             silent.no_arrival w, silent.nothing_sent w, silent.nothing_lost w, arrived-append w rises mine, sent-append w rises mine, lost-append w rises mine,
@@ -137,7 +139,7 @@ is-answer mtu now own own_peeked own_taken below peeked taken rises mine shown h
             silent.nothing_dropped w, silent.nothing_marked w, silent.nothing_sent w, marked-append w rises mine, dropped-append w rises mine, sent-append w rises mine,
             marked-append w (rises ++ mine) given, sent-append w (rises ++ mine) given, dropped-append w (rises ++ mine) given,
             marked-given w shown, sent-given w shown, dropped-given w shown);
-      }, told-side (befores below) taken h.told_taken);
+      }, h.handle_taken, told-side (befores below) taken h.told_taken);
       quiet = h.quiet;
       peeks = λ w. omega (arith, ap (weigh w) b0, ap (weigh w) b1, h.peeks w);
       gives = λ w. omega (arith, ap (weigh w) b1, ap (weigh w) b2, h.gives w);

@@ -129,6 +129,8 @@ module _ (mtu now : ℕ) (least_mtu : 1 ≤ mtu) (handle : Option ℕ) (filters 
           mine = service.grants;
           packet = None;
         }) (record {
+          handle_peeked = refl;
+          handle_taken = refl;
           lawful = h;
           lawful_peeked = after;
           lawful_taken = after;
@@ -178,6 +180,8 @@ module _ (mtu now : ℕ) (least_mtu : 1 ≤ mtu) (handle : Option ℕ) (filters 
           mine = service.grants;
           packet = Some p;
         }) (record {
+          handle_peeked = refl;
+          handle_taken = refl;
           lawful = h;
           lawful_peeked = drr-lawful s t (Some p) (befores below) children then exactly (λ w. omega (arith, fewer w)) h;
           lawful_taken = drr-lawful s t None (befores below) children then exactly (λ w. omega (arith, fewer w, weigh-nil w)) h;

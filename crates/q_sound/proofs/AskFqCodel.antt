@@ -133,6 +133,8 @@ module _ (mtu now : ℕ) (low : now ≤ 2 ^ 62) (handle : Option ℕ) (filters :
         mine = flow_notes s (selected s) sent;
         packet = packet;
       }) (record {
+        handle_peeked = refl;
+        handle_taken = refl;
         lawful = h;
         lawful_peeked = record {
           discipline = lawful;

@@ -30,6 +30,8 @@ holding-answers mtu now own below p e h all =
       notes = [];
       packet = Some p;
     }) (record {
+      handle_peeked = refl;
+      handle_taken = refl;
       lawful = h;
       lawful_peeked = h;
       lawful_taken = record {
@@ -75,6 +77,8 @@ fifo-answers mtu now handle filters limit queue below h all =
       notes = [];
       packet = slice_get (packets_of queue) 0;
     }) (record {
+      handle_peeked = refl;
+      handle_taken = refl;
       lawful = h;
       lawful_peeked = h;
       lawful_taken = record {

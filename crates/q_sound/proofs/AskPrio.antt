@@ -149,6 +149,8 @@ prio-answers mtu now handle filters priomap below h all =
       notes = notes_to k below;
       packet = packet_at k below;
     }) (record {
+      handle_peeked = refl;
+      handle_taken = refl;
       lawful = h;
       lawful_peeked = as-many mtu now own (befores below) (peeked_to k below) p.as_many_peeked priomap refl refl (λ w. omega (arith, peeks w)) h;
       lawful_taken = as-many mtu now own (befores below) (taken_at k below) p.as_many_taken priomap refl refl (λ w. omega (arith, peeks w, gives w)) h;

@@ -91,6 +91,8 @@ module _ (mtu now : ℕ) (handle : Option ℕ) (filters : List Filter) (limit : 
         mine = Spent p.len ∷ [];
         packet = Some p;
       }) (record {
+        handle_peeked = refl;
+        handle_taken = refl;
         lawful = h;
         lawful_peeked = tbf-lawful b after (Some p) a.before a.taken range last burst (λ w. omega (arith, all.0.peeks w, all.0.gives w, shown w)) h;
         lawful_taken = tbf-lawful b after None a.before a.taken range last burst (λ w. omega (arith, all.0.peeks w, all.0.gives w, weigh-nil w)) h;
@@ -118,6 +120,8 @@ module _ (mtu now : ℕ) (handle : Option ℕ) (filters : List Filter) (limit : 
         mine = [];
         packet = None;
       }) (record {
+        handle_peeked = refl;
+        handle_taken = refl;
         lawful = h;
         lawful_peeked = after;
         lawful_taken = after;

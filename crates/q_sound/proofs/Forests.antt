@@ -42,4 +42,4 @@ pub told-side : {A : Type 0} (ns : List (Node A)) (ws : List Worked) → AreTold
 told-side [] [] h = tt
 told-side [] (w ∷ ws) h = absurd h
 told-side (n ∷ ns) [] h = absurd h
-told-side (n ∷ ns) (w ∷ ws) h = (h.0.0, h.0.1, told-side ns ws h.1)
+told-side (n ∷ ns) (w ∷ ws) h = (h.0.0, h.0.1, h.0.2, told-side ns ws h.1)
