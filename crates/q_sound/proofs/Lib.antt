@@ -1,2 +1,3 @@
 pub mod Weights
 pub mod Kept
+pub mod EditLater
