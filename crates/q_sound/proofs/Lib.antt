@@ -1,3 +1,5 @@
 pub mod Weights
 pub mod Kept
 pub mod EditLater
+pub mod EditForests
+pub mod EditWeights
