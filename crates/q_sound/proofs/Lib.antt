@@ -3,3 +3,4 @@ pub mod Kept
 pub mod EditLater
 pub mod EditForests
 pub mod EditWeights
+pub mod EditDrr
