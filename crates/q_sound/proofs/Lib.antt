@@ -4,3 +4,4 @@ pub mod EditLater
 pub mod EditForests
 pub mod EditWeights
 pub mod EditDrr
+pub mod EditAbove
