@@ -5,3 +5,4 @@ pub mod EditForests
 pub mod EditWeights
 pub mod EditDrr
 pub mod EditAbove
+pub mod EditHandles
