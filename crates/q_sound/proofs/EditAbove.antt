@@ -25,13 +25,16 @@ use Rattle.q_sound.proofs.Kept.{IsLawfulRoot, IsCountedRoot}
 use Rattle.q_sound.proofs.EditForests.{each-set, each-at, lawful-side, lawful-nodes, counted-side, counted-nodes}
 use Rattle.q_sound.proofs.EditWeights.{joined, weigh-joined-set, weigh-beneath, weigh-held, counted_purged, failing, weightless, all_pass}
 use Rattle.q_sound.proofs.EditDrr.{settled_lawful}
+use Rattle.q_sound.proofs.EditHandles.{one, times, times-set}
 
--- a node put in place of another: it is lawful and has counted, and between them only these packets are lost
-pub record Becomes (mtu clock : ℕ) (purged : List Descriptor) (old new : Node (List Note)) : Type 0 where
+-- a node put in place of another: it is lawful and has counted, between them only these packets are lost, and it has no handle
+-- more than this one
+pub record Becomes (mtu clock : ℕ) (fresh : Option ℕ) (purged : List Descriptor) (old new : Node (List Note)) : Type 0 where
   pub conserved : (w : Descriptor → ℕ) → weigh w (beneath old) ≡ weigh w (beneath new) + weigh w purged
   pub held : (w : Descriptor → ℕ) → weigh w (held_beneath old) ≤ weigh w (held_beneath new) + weigh w purged
   pub lawful : IsLawfulRoot mtu clock new
   pub counted : IsCountedRoot new
+  pub handles : (h : ℕ) → times h new ≤ times h old + one h fresh
 
 pub All-at : {X : Type 0} (P : X → Type 0) (xs : List X) (i : ℕ) (x : X) → All P xs → slice_get xs i ≡ Some x → P x
 All-at P xs i x h e = subst P (get_or_from_slice_get xs i x x e) (h i x (slice_get_within xs i x e))
@@ -143,9 +146,9 @@ module _ (mtu clock i : ℕ) (below : List (List Descriptor)) (old new : List De
 
 -- ---- a node above an edited one
 
-module _ (mtu clock : ℕ) (purged : List Descriptor) (positive : 1 ≤ mtu) where
+module _ (mtu clock : ℕ) (fresh : Option ℕ) (purged : List Descriptor) (positive : 1 ≤ mtu) where
   pub becomes-above : (n : Node (List Note)) (i : ℕ) (old new : Node (List Note)) → IsLawfulRoot mtu clock n → IsCountedRoot n → slice_get (children n) i ≡ Some old
-      → Becomes mtu clock purged old new → Becomes mtu clock purged n (above history (losses_of Purged purged) i new n)
+      → Becomes mtu clock fresh purged old new → Becomes mtu clock fresh purged n (above history (losses_of Purged purged) i new n)
   becomes-above n i old new lawful counted there h =
       let at = each beneath_own n.below in
       let held_at = each held_own n.below in
@@ -183,20 +186,22 @@ module _ (mtu clock : ℕ) (purged : List Descriptor) (positive : 1 ≤ mtu) whe
           counted_purged n.memory (beneath n) (held_beneath n) (beneath after) (held_beneath after) purged counted.0 conserved held,
           counted-side (set (children n) i new) (All-set IsCountedRoot (children n) i new h.counted (counted-nodes n.below counted.1)),
         );
+        handles = λ k. omega (arith, times-set k n.below i old new there, h.handles k);
       }
 
   -- a path that leads nowhere changes nothing
-  pub becomes-same : (n : Node (List Note)) → IsLawfulRoot mtu clock n → IsCountedRoot n → purged ≡ [] → Becomes mtu clock purged n n
+  pub becomes-same : (n : Node (List Note)) → IsLawfulRoot mtu clock n → IsCountedRoot n → purged ≡ [] → Becomes mtu clock fresh purged n n
   becomes-same n lawful counted none = record {
     conserved = λ w. omega (arith, ap (weigh w) none, weigh-nil w);
     held = λ w. omega arith;
     lawful = lawful;
     counted = counted;
+    handles = λ h. omega arith;
   }
 
   pub becomes-edited : (f : Node (List Note) → Node (List Note)) (path : List ℕ) (n : Node (List Note)) → IsLawfulRoot mtu clock n → IsCountedRoot n
-      → ((old : Node (List Note)) → node_at path n ≡ Some old → IsLawfulRoot mtu clock old → IsCountedRoot old → Becomes mtu clock purged old (f old))
-      → (node_at path n ≡ None → purged ≡ []) → Becomes mtu clock purged n (edited_at history (losses_of Purged purged) f path n)
+      → ((old : Node (List Note)) → node_at path n ≡ Some old → IsLawfulRoot mtu clock old → IsCountedRoot old → Becomes mtu clock fresh purged old (f old))
+      → (node_at path n ≡ None → purged ≡ []) → Becomes mtu clock fresh purged n (edited_at history (losses_of Purged purged) f path n)
   becomes-edited f [] n lawful counted there nowhere = there n refl lawful counted
   becomes-edited f (i ∷ path) n lawful counted there nowhere =
       through (slice_get (children n) i) refl (λ child. becomes-edited f path child)
@@ -206,16 +211,16 @@ module _ (mtu clock : ℕ) (purged : List Descriptor) (positive : 1 ≤ mtu) whe
 
       through : (found : Option (Node (List Note))) → slice_get (children n) i ≡ found
           → ((child : Node (List Note)) → IsLawfulRoot mtu clock child → IsCountedRoot child
-          → ((old : Node (List Note)) → node_at path child ≡ Some old → IsLawfulRoot mtu clock old → IsCountedRoot old → Becomes mtu clock purged old (f old))
-          → (node_at path child ≡ None → purged ≡ []) → Becomes mtu clock purged child (edited_at history (losses_of Purged purged) f path child))
-          → Becomes mtu clock purged n (option_map_or go (slice_get (children n) i) n)
+          → ((old : Node (List Note)) → node_at path child ≡ Some old → IsLawfulRoot mtu clock old → IsCountedRoot old → Becomes mtu clock fresh purged old (f old))
+          → (node_at path child ≡ None → purged ≡ []) → Becomes mtu clock fresh purged child (edited_at history (losses_of Purged purged) f path child))
+          → Becomes mtu clock fresh purged n (option_map_or go (slice_get (children n) i) n)
       through None e rec =
-          subst (λ (o : Option (Node (List Note))). Becomes mtu clock purged n (option_map_or go o n)) (sym e)
+          subst (λ (o : Option (Node (List Note))). Becomes mtu clock fresh purged n (option_map_or go o n)) (sym e)
           (becomes-same n lawful counted (nowhere (ap (option_and_then (node_at path)) e)))
       through (Some child) e rec =
           let step : node_at (i ∷ path) n ≡ node_at path child = ap (option_and_then (node_at path)) e in
           let child_lawful : IsLawfulRoot mtu clock child = All-at (IsLawfulRoot mtu clock) (children n) i child (lawful-nodes mtu clock n.below lawful.1) e in
           let child_counted : IsCountedRoot child = All-at IsCountedRoot (children n) i child (counted-nodes n.below counted.1) e in
-          subst (λ (o : Option (Node (List Note))). Becomes mtu clock purged n (option_map_or go o n)) (sym e)
+          subst (λ (o : Option (Node (List Note))). Becomes mtu clock fresh purged n (option_map_or go o n)) (sym e)
           (becomes-above n i child (edited_at history (losses_of Purged purged) f path child) lawful counted e
           (rec child child_lawful child_counted (λ old at. there old (step ∙ at)) (λ at. nowhere (step ∙ at))))
