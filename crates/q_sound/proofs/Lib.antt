@@ -6,3 +6,4 @@ pub mod EditWeights
 pub mod EditDrr
 pub mod EditAbove
 pub mod EditHandles
+pub mod EditNew
