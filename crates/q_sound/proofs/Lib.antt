@@ -7,3 +7,4 @@ pub mod EditDrr
 pub mod EditAbove
 pub mod EditHandles
 pub mod EditNew
+pub mod EditMade
