@@ -8,3 +8,4 @@ pub mod EditAbove
 pub mod EditHandles
 pub mod EditNew
 pub mod EditMade
+pub mod EditChildren
