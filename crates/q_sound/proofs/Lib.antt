@@ -9,3 +9,4 @@ pub mod EditHandles
 pub mod EditNew
 pub mod EditMade
 pub mod EditChildren
+pub mod EditRemade
