@@ -10,3 +10,4 @@ pub mod EditNew
 pub mod EditMade
 pub mod EditChildren
 pub mod EditRemade
+pub mod EditSuits
