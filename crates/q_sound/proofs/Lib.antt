@@ -5,6 +5,7 @@ pub mod AskFqCodel
 pub mod AskLeaf
 pub mod AskPrio
 pub mod AskTbf
+pub mod Asks
 pub mod ClassSums
 pub mod DrrService
 pub mod EditAbove
