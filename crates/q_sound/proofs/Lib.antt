@@ -24,6 +24,8 @@ pub mod FlowNotes
 pub mod Forests
 pub mod Kept
 pub mod Lengths
+pub mod PutHere
+pub mod PutQueue
 pub mod Quiet
 pub mod Sums
 pub mod Told
