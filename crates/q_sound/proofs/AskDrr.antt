@@ -46,7 +46,7 @@ there-has (d ∷ classes) zero c e =
     or_left (c.name == d.name) (has_class c.name classes) (ap (λ (x : Class). c.name == x.name) (same_Some d c e) ∙ eq-eqb c.name c.name refl)
 there-has (d ∷ classes) (suc i) c e = or_right (c.name == d.name) (has_class c.name classes) (there-has classes i c e)
 
-settled-lawful : (emptied : Bool) (c : Class) (s : Schedule) → drr.IsLawful s → 1 ≤ s.max_len → has_class c.name s.classes ≡ true → drr.IsLawful (settled_schedule emptied c s)
+pub settled-lawful : (emptied : Bool) (c : Class) (s : Schedule) → drr.IsLawful s → 1 ≤ s.max_len → has_class c.name s.classes ≡ true → drr.IsLawful (settled_schedule emptied c s)
 settled-lawful true c s h least there = asleep_lawful s c.name h
 settled-lawful false c s h least there = woken_lawful s c.name h least there
 

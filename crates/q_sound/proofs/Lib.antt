@@ -24,6 +24,7 @@ pub mod FlowNotes
 pub mod Forests
 pub mod Kept
 pub mod Lengths
+pub mod PutBeneath
 pub mod PutHere
 pub mod PutQueue
 pub mod Quiet

@@ -80,7 +80,7 @@ pub record IsSetAt (mtu now : ℕ) (cs : List Shape) (i : ℕ) (c : Shape) (m : 
   pub weighs : (w : Descriptor → ℕ) → in_children w (set (map quiet cs) i m) + weigh w (beneath c) ≡ in_children w (map quiet cs) + weigh w (beneath m)
   pub holds : (w : Descriptor → ℕ) → held_in_children w (set (map quiet cs) i m) + weigh w (held_beneath c) ≡ held_in_children w (map quiet cs) + weigh w (held_beneath m)
 
-beneath-quiet : (c : Shape) → beneath (quiet c) ≡ beneath c
+pub beneath-quiet : (c : Shape) → beneath (quiet c) ≡ beneath c
 beneath-quiet c = ap (beneath_own c.own) (each-each_memory beneath_own (λ u. []) c.below)
 
 held-quiet : (c : Shape) → held_beneath (quiet c) ≡ held_beneath c
