@@ -27,6 +27,7 @@ pub mod Lengths
 pub mod PutBeneath
 pub mod PutHere
 pub mod PutQueue
+pub mod Puts
 pub mod Quiet
 pub mod Sums
 pub mod Told

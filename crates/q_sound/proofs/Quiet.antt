@@ -54,7 +54,7 @@ quiet-told none = tt
 quiet-told (more own m below others) =
     (same-told (beneath_own own (each beneath_own (each_memory (λ u. []) below))) (held_own own (each held_own (each_memory (λ u. []) below))), refl, quiet-told below, quiet-told others)
 
-one-quiet : (c : Shape) → IsRootTold (quiet c) (quiet c)
+pub one-quiet : (c : Shape) → IsRootTold (quiet c) (quiet c)
 unfolding forgotten
 one-quiet c = (same-told (beneath (quiet c)) (held_beneath (quiet c)), refl, quiet-told c.below)
 
