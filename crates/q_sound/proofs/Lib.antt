@@ -29,6 +29,7 @@ pub mod PutHere
 pub mod PutQueue
 pub mod Puts
 pub mod Quiet
+pub mod Shuffled
 pub mod Sums
 pub mod Told
 pub mod Ways
