@@ -7,6 +7,7 @@ pub mod AskPrio
 pub mod AskTbf
 pub mod Asks
 pub mod ClassSums
+pub mod Counted
 pub mod DrrService
 pub mod EditAbove
 pub mod EditChildren
