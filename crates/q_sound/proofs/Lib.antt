@@ -31,6 +31,7 @@ pub mod PutQueue
 pub mod Puts
 pub mod Quiet
 pub mod Shuffled
+pub mod Sound
 pub mod Sums
 pub mod Told
 pub mod Ways
