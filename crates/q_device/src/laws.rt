@@ -1,5 +1,5 @@
 //! What is true of every device and every replay. Each law is the contract of a function that does nothing.
-ghost use Rattle.q_device.specs.Laws.{ReplayGoesOn, ShrinkCommutes, ReplayShrinks};
+ghost use Rattle.q_device.specs.Laws.{ReplayGoesOn, ShrinkCommutes, ReplayShrinks, EveryReplayIsSound, TotalsAreLawful};
 
 /// The replay of a longer list is the step of the replay: what happens next depends on the device alone.
 pub fn replay_goes_on()
@@ -15,4 +15,16 @@ pub fn shrink_commutes()
 /// A replay with totals is the replay with histories, shrunk, with the same replies and losses.
 pub fn replay_shrinks()
     ensures { ReplayShrinks }
+{}
+
+/// Whatever happens to a device, nothing is lost without a word and every node stays lawful.
+///
+/// For all settings and every list of events whose fields are in their ranges: at every node of the tree, and at the device
+/// above its root, the packets that arrived are those that were sent, that were lost, and that wait there or beneath, in some
+/// order and but for their ECN codepoint. Every tree is lawful then (`IsLawfulTree` of q_model: active lists exact, levels
+/// within bursts, handles once, depth and number of nodes bounded), and no node has marked more than it sent, dropped or
+/// holds. With totals the same holds in sums: arrived is sent, refused, dropped and queued together, in packets and bytes.
+pub fn conserved()
+    ensures histories { EveryReplayIsSound }
+    ensures totals { TotalsAreLawful }
 {}
