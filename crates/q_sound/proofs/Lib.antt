@@ -11,3 +11,4 @@ pub mod EditMade
 pub mod EditChildren
 pub mod EditRemade
 pub mod EditSuits
+pub mod EditRetuned
