@@ -12,3 +12,4 @@ pub mod EditChildren
 pub mod EditRemade
 pub mod EditSuits
 pub mod EditRetuned
+pub mod EditFront
