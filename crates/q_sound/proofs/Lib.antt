@@ -13,3 +13,4 @@ pub mod EditRemade
 pub mod EditSuits
 pub mod EditRetuned
 pub mod EditFront
+pub mod EditBucket
