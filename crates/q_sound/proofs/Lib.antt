@@ -14,3 +14,4 @@ pub mod EditSuits
 pub mod EditRetuned
 pub mod EditFront
 pub mod EditBucket
+pub mod EditClasses
