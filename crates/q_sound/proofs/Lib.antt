@@ -15,3 +15,5 @@ pub mod EditRetuned
 pub mod EditFront
 pub mod EditBucket
 pub mod EditClasses
+pub mod EditNodes
+pub mod EditFilters
