@@ -17,3 +17,5 @@ pub mod EditBucket
 pub mod EditClasses
 pub mod EditNodes
 pub mod EditFilters
+pub mod EditClassPlans
+pub mod EditQdiscPlans
