@@ -19,3 +19,4 @@ pub mod EditNodes
 pub mod EditFilters
 pub mod EditClassPlans
 pub mod EditQdiscPlans
+pub mod Edits
