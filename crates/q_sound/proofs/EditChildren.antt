@@ -3,7 +3,7 @@ use Rattle.std.proofs.Common.{◌≡◌, ℕ, zero, suc, ◌+◌, ◌-◌, ◌<�
 use Rattle.std.specs.Prelude.{slice_get, if◌then◌else◌}
 use Rattle.std.specs.List.{enumerate_from, flat_map, list_any, range_with_len, remove}
 use Rattle.std.specs.Option.{option_to_list}
-use Rattle.std.proofs.lemmas.Bool.{eq-eqb, ne_eqb, or_left, or_right, or_from, cases_eq}
+use Rattle.std.proofs.lemmas.Bool.{eq-eqb, ne_eqb, or_left, or_right, or_from, cases_eq, cases_lt}
 use Rattle.std.proofs.lemmas.Option.{none-some, same_Some}
 use Rattle.std.proofs.lemmas.List.{length-drop, take_all}
 use Rattle.std.proofs.lemmas.List.Concat.{flat_map-append}
@@ -20,6 +20,12 @@ abbrev pub kept_from : ℕ → ℕ → List Child
 kept_from a k = map Kept (range_with_len a k)
 
 -- ---- the children
+
+-- some taken off the front
+pub drop_kept : (i a k : ℕ) → drop i (kept_from a k) ≡ kept_from (a + i) (k - i)
+drop_kept zero a k = ap₂ kept_from (omega arith) (omega arith)
+drop_kept (suc i) a zero = ap (kept_from (a + suc i)) {x = 0} {y = 0 - suc i} (omega arith)
+drop_kept (suc i) a (suc k) = drop_kept i (a + 1) k ∙ ap₂ kept_from (omega arith) (omega arith)
 
 module _ {M : Type 0} (t : Tally M) where
   abbrev pub kids : List (Node M) → List Child → List (Node M)
@@ -67,11 +73,6 @@ module _ {M : Type 0} (t : Tally M) where
       kids-append old (take i (kept_from 0 k)) (drop (suc i) (kept_from 0 k))
       ∙ ap₂ (λ (a : List (Node M)) (b : List (Node M)). a ++ b) (ap (kids old) front ∙ kids_kept old 0 i)
       (ap (kids old) back ∙ kids_kept old (suc i) (k - suc i) ∙ take_all (k - suc i) (drop (suc i) old) enough)
-    where
-      drop_kept : (i a k : ℕ) → drop i (kept_from a k) ≡ kept_from (a + i) (k - i)
-      drop_kept zero a k = ap₂ kept_from (omega arith) (omega arith)
-      drop_kept (suc i) a zero = ap (kept_from (a + suc i)) {x = 0} {y = 0 - suc i} (omega arith)
-      drop_kept (suc i) a (suc k) = drop_kept i (a + 1) k ∙ ap₂ kept_from (omega arith) (omega arith)
 
 -- ---- which stay
 
@@ -109,6 +110,26 @@ any-append test (x ∷ xs) ys = ap (λ t. test x || t) (any-append test xs ys) �
 abbrev pub gone : (ℕ → Bool) → ℕ → List (List Descriptor) → List Descriptor
 gone keep a [] = []
 gone keep a (ps ∷ below) = (if keep a then [] else ps) ++ gone keep (a + 1) below
+
+-- all but one of those in a row
+pub removed_is : (k i : ℕ) → i < k → remove (kept_from 0 k) i ≡ kept_from 0 i ++ kept_from (suc i) (k - suc i)
+removed_is k i lt =
+    let from : 0 + suc i ≡ suc i = omega arith in
+    ap₂ (λ (a : List Child) (b : List Child). a ++ b) (take-map-range_with_len Kept 0 k i (omega arith))
+    (drop_kept (suc i) 0 k ∙ ap (λ j. kept_from j (k - suc i)) from)
+
+pub removed_keeps : (k i j : ℕ) → i < k → j < k → (j ≡ i → ⊥) → list_any (keeps j) (remove (kept_from 0 k) i) ≡ true
+removed_keeps k i j lt within apart =
+    ap (list_any (keeps j)) (removed_is k i lt) ∙ any-append (keeps j) (kept_from 0 i) (kept_from (suc i) (k - suc i)) ∙ elim (cases_lt j i) [
+      | inl below ↦ or_left (list_any (keeps j) (kept_from 0 i)) (list_any (keeps j) (kept_from (suc i) (k - suc i))) (kept_there j 0 i (omega arith) (omega arith))
+      | inr above ↦ or_right (list_any (keeps j) (kept_from 0 i)) (list_any (keeps j) (kept_from (suc i) (k - suc i)))
+          (kept_there j (suc i) (k - suc i) (omega arith) (omega arith))
+    ]
+
+pub removed_goes : (k i : ℕ) → i < k → list_any (keeps i) (remove (kept_from 0 k) i) ≡ false
+removed_goes k i lt =
+    ap (list_any (keeps i)) (removed_is k i lt) ∙ any-append (keeps i) (kept_from 0 i) (kept_from (suc i) (k - suc i))
+    ∙ or_from (list_any (keeps i) (kept_from 0 i)) (list_any (keeps i) (kept_from (suc i) (k - suc i))) (kept_above i 0 i (omega arith)) (kept_below i (suc i) (k - suc i) (omega arith))
 
 pub gone_is : {M : Type 0} (keep : ℕ → Bool) (a : ℕ) (ns : List (Node M))
     → flat_map (λ (child : ℕ × Node M). if keep child.0 then [] else beneath child.1) (enumerate_from a ns) ≡ gone keep a (map beneath ns)
