@@ -9,9 +9,9 @@ use Rattle.q_device.proofs.ShrinkLemmas.{replay-shrunk}
 use Rattle.q_device.proofs.laws.conserved.Goals as goal
 
 pub returns : goal.returns
-returns c = (
-  λ settings events range all. let d = (replay history settings events).device in kept-sound d.clock d.tree (replay-kept settings events range all),
-  λ settings events range all.
+returns c = record {
+  histories = λ settings events range all. let d = (replay history settings events).device in kept-sound d.clock d.tree (replay-kept settings events range all);
+  totals = λ settings events range all.
       let d = (replay history settings events).device in
-      subst (λ (x : DeviceState Counts). IsLawfulTree totals x.clock x.tree) (replay-shrunk settings events).device (kept-totals d.clock d.tree (replay-kept settings events range all)),
-)
+      subst (λ (x : DeviceState Counts). IsLawfulTree totals x.clock x.tree) (replay-shrunk settings events).device (kept-totals d.clock d.tree (replay-kept settings events range all));
+}
