@@ -16,6 +16,7 @@ mod LineFaults
 mod LineValues
 mod NoteScripts
 mod PacketValues
+mod PeekScripts
 mod RefusalReports
 mod Reports
 mod RuleReports
