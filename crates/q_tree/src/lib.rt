@@ -1,12 +1,13 @@
-//! The tree of queueing disciplines. Its code is still to come; the types that it speaks of are those of `q_model`, offered
-//! here under the tree's name.
+//! The tree of queueing disciplines.
 //!
 //! - [`Command`] is a change of the tree, [`Kind`] a qdisc with its options, [`Place`] where it goes.
 //! - [`NotDone`] is why a change was not made, [`Row`] what a node counted, and [`NodeView`], [`ClassView`] and
 //!   [`FilterView`] are what `show` prints.
 //!
-//! What a tree does is defined in the `specs/` of `q_model`.
+//! What a tree does is defined in the `specs/` of `q_model`. Of its code the filters stand today.
 #![tactic(auto)]
+
+mod matching;
 
 pub use q_model::{
     Burst, ClassId, ClassKind, ClassView, Command, Filter, FilterKeys, FilterPrio, FilterView,
