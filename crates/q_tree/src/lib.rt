@@ -8,6 +8,8 @@
 #![tactic(auto)]
 
 mod matching;
+mod node;
+mod way;
 
 pub use q_model::{
     Burst, ClassId, ClassKind, ClassView, Command, Filter, FilterKeys, FilterPrio, FilterView,

@@ -1,0 +1,5 @@
+pub mod Ahead
+pub mod Kept
+pub mod NodeCode
+pub mod NodeFalls
+pub mod Seen

@@ -1,0 +1,50 @@
+ghost use Rattle.std.specs.Prelude.{◌≡◌, ◌<◌, [], ◌∷◌, ◌++◌, length, None, Some};
+
+use arrayvec::ArrayVec;
+use q_packet::Cause;
+use std::marker::Model;
+
+/// The way of a packet from a node down: the place among its children that it goes to at each node, and the cause where it
+/// is refused at the end.
+///
+/// A contract sees it as the record `Route`. A tree has at most eight levels, so that eight places are enough.
+#[derive(Drop)]
+pub(crate) struct Way {
+    places: ArrayVec<u16, 8>,
+    refusal: Option<Cause>,
+}
+
+impl Model for Way {
+    ghost use Rattle.q_model.specs.Route.{Route};
+
+    ghost Value = { Route };
+
+    ghost view = { λ w. record { path = w.places.items; refusal = w.refusal } };
+}
+
+impl Way {
+    /// A way that ends where it begins.
+    pub(crate) fn new() -> Way
+        ensures { result ≡ record { path = []; refusal = None } }
+    {
+        Way {
+            places: ArrayVec::new(),
+            refusal: None,
+        }
+    }
+
+    /// Goes on to the child in this place.
+    pub(crate) fn push(&mut self, place: u16)
+        requires { length self.old.path < 8 }
+        ensures { self.new ≡ record self.old { path = self.old.path ++ place ∷ [] } }
+    {
+        self.places.push(place);
+    }
+
+    /// Ends in a refusal.
+    pub(crate) fn refuse(&mut self, cause: Cause)
+        ensures { self.new ≡ record self.old { refusal = Some cause } }
+    {
+        self.refusal = Some(cause);
+    }
+}
