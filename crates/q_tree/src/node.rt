@@ -1,9 +1,11 @@
-ghost use Rattle.std.specs.Prelude.{◌≡◌, ◌≤◌, ◌+◌, [], length, None, Option, slice_get, option_copied};
+ghost use Rattle.std.specs.Prelude.{◌≡◌, ◌≤◌, ◌<◌, ◌+◌, ◌-◌, [], length, None, slice_get, slice_index, option_copied, option_and_then};
+ghost use Rattle.std.specs.Option.{option_map_or};
+ghost use Rattle.q_drr.specs.Schedule.{place_of};
 ghost use Rattle.q_model.specs.Beneath.{is_empty, beneath, totals_in};
-ghost use Rattle.q_model.specs.Find.{depth};
-ghost use Rattle.q_model.specs.Route.{route};
-ghost use Rattle.q_model.specs.Node as spec;
-ghost use Rattle.q_tree.specs.Ahead.{ahead};
+ghost use Rattle.q_model.specs.Filters.{named_class};
+ghost use Rattle.q_model.specs.Find.{depth, greatest};
+ghost use Rattle.q_model.specs.Route.{route, through};
+ghost use Rattle.q_tree.specs.Ahead.{ahead, ways, depths};
 
 use crate::matching::named_class;
 use crate::way::Way;
@@ -86,4 +88,99 @@ impl Node {
     {
         self.row.queued
     }
+
+    /// The way of a packet down from the node.
+    pub(crate) fn route(&self, packet: &Packet) -> Way
+        requires { depth self.now ≤ 8 }
+        ensures { result ≡ route packet.now self.now }
+    {
+        let mut way = Way::new();
+        self.go(packet, &mut way);
+        way
+    }
+
+    // Goes on from where the way has come to.
+    #[cycle(go)]
+    fn go(&self, packet: &Packet, way: &mut Way)
+        requires room { length way.old.path + depth self.now ≤ 8 }
+        requires open { way.old.refusal ≡ None }
+        ensures { way.new ≡ ahead way.old.path (route packet.now self.now) }
+    {
+        match &self.discipline {
+            Discipline::Fifo(fifo) => {
+                if !fifo.fits(packet.len) {
+                    way.refuse(Cause::OverLimit);
+                }
+                return;
+            }
+            Discipline::FqCodel(_) => return,
+            Discipline::Prio { priomap, bands } => {
+                let place = band(&self.filters, priomap, packet);
+                go_on(bands, place, packet, way);
+                return;
+            }
+            Discipline::Tbf { bucket, child, .. } => {
+                if u32::from(packet.len) > bucket.burst() {
+                    way.refuse(Cause::TooLong);
+                    return;
+                }
+                way.push(0);
+                child.go(packet, way);
+                return;
+            }
+            Discipline::Drr { active, classes } => {
+                let Some(place) = class_place(active, &self.filters, packet) else {
+                    way.refuse(Cause::NoClass);
+                    return;
+                };
+                go_on(classes, place, packet, way);
+                return;
+            }
+        }
+    }
+}
+
+// Goes on from the child in this place; a packet that has none is refused.
+#[cycle(go)]
+fn go_on(children: &[Node], place: usize, packet: &Packet, way: &mut Way)
+    requires room { length way.old.path + greatest (depths children.now) < 8 }
+    requires open { way.old.refusal ≡ None }
+    ensures { way.new ≡ ahead way.old.path (through (ways packet.now children.now) place) }
+{
+    match child_at(children, place) {
+        None => {
+            way.refuse(Cause::NoClass);
+            return;
+        }
+        Some(child) => {
+            way.push(place);
+            child.go(packet, way);
+            return;
+        }
+    }
+}
+
+// The child in this place.
+fn child_at(children: &[Node], place: usize) -> Option<&Node>
+    ensures { option_copied result ≡ slice_get children.now place }
+{
+    children.get(place)
+}
+
+// The band of a packet: the class that a filter names, else that of its priority (tc-prio(8)).
+fn band(filters: &[Filter], priomap: &[u8; 16], packet: &Packet) -> usize
+    ensures { result ≡ option_map_or (λ minor. minor - 1) (named_class filters.now packet.now) (slice_index priomap.now packet.now.prio) }
+{
+    match named_class(filters, packet) {
+        Some(minor) => usize::from(minor.number()) - 1,
+        None => usize::from(priomap[usize::from(packet.prio)]),
+    }
+}
+
+// The place of the class that a filter names, if there is one (tc-drr(8)).
+fn class_place(active: &Active, filters: &[Filter], packet: &Packet) -> Option<usize>
+    ensures { result ≡ option_and_then (λ minor. place_of minor active.now.classes) (named_class filters.now packet.now) }
+{
+    let minor = named_class(filters, packet)?;
+    active.place_of(minor.number())
 }

@@ -10,7 +10,7 @@ use std::marker::Model;
 /// A contract sees it as the record `Route`. A tree has at most eight levels, so that eight places are enough.
 #[derive(Drop)]
 pub(crate) struct Way {
-    places: ArrayVec<u16, 8>,
+    places: ArrayVec<usize, 8>,
     refusal: Option<Cause>,
 }
 
@@ -34,7 +34,7 @@ impl Way {
     }
 
     /// Goes on to the child in this place.
-    pub(crate) fn push(&mut self, place: u16)
+    pub(crate) fn push(&mut self, place: usize)
         requires { length self.old.path < 8 }
         ensures { self.new ≡ record self.old { path = self.old.path ++ place ∷ [] } }
     {
