@@ -1,8 +1,8 @@
 -- The route from a node, in terms of those from its children.
-use Rattle.std.proofs.Common.{◌≡◌, ℕ, zero, suc, ◌<◌, ◌≤◌, ◌+◌, ◌-◌, max, ◌∙◌, List, [], ◌∷◌, ◌++◌, map, length, refl, sym, ap, subst, Option, Some, None, option_map, option_and_then, arith}
+use Rattle.std.proofs.Common.{◌≡◌, ℕ, zero, suc, ◌<◌, ◌≤◌, ◌-◌, ◌∙◌, List, [], ◌∷◌, ◌++◌, refl, sym, ap, subst, Option, Some, None, option_map, option_and_then, arith}
 use Rattle.std.specs.Prelude.{slice_get, slice_index}
 use Rattle.std.specs.Option.{option_map_or}
-use Rattle.std.proofs.lemmas.List.{append-nil, append_assoc, length_push}
+use Rattle.std.proofs.lemmas.List.{append-nil, append_assoc}
 use Rattle.std.proofs.lemmas.Option.{slice_get-map, same_Some}
 use Rattle.q_packet.specs.Descriptor.{Descriptor}
 use Rattle.q_packet.specs.declared.cause.Cause.TheVariants.{NoClass}
@@ -11,8 +11,7 @@ use Rattle.q_drr.specs.Schedule as drr
 use Rattle.q_model.specs.declared.filter.Filter.{Filter}
 use Rattle.q_model.specs.Filters.{named_class}
 use Rattle.q_model.specs.Find.{depth, greatest}
-use Rattle.q_model.specs.Node as spec
-use Rattle.q_model.specs.Node.{Node, Own, side_by_side, each}
+use Rattle.q_model.specs.Node.{Node, side_by_side, each}
 use Rattle.q_model.specs.Route.{Route, route, way, through, refused, class_at}
 use Rattle.q_sound.proofs.Forests.{each-side}
 use Rattle.q_tree.specs.Ahead.{ahead, ways, depths}

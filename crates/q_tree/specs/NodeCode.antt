@@ -1,7 +1,7 @@
 -- How a proof tells two nodes apart, and how large a node is: a node that leads back to itself needs both.
 -- Nothing here is of a standard.
-use Rattle.std.specs.Prelude.{◌≡◌, ℕ, zero, suc, ◌+◌, List, Option, refl}
-use Rattle.std.proofs.Common.{◌∙◌, sym, ap, subst}
+use Rattle.std.specs.Prelude.{◌≡◌, ℕ, suc, ◌+◌, List, Option, refl}
+use Rattle.std.proofs.Common.{sym, ap, subst}
 use Rattle.std.specs.Coded.{Coded, code_by, coded×, coded⊎, coded_ℕ, coded_list, coded_option}
 use mathlib.Core.Logic.{◌⊎◌, inl, inr}
 use base.Stored.{Gv, gnil, gnum, gcons}

@@ -1,6 +1,6 @@
 -- Each child of a node is smaller than the node, so that what goes down a tree ends.
 -- Nothing here is of a standard.
-use Rattle.std.specs.Prelude.{ℕ, suc, ◌+◌, ◌≤◌, max, List, [], ◌∷◌}
+use Rattle.std.specs.Prelude.{suc, ◌+◌, ◌≤◌, max, List, [], ◌∷◌}
 use Rattle.std.proofs.Common.{arith}
 use denote.Param.Weighed.{most}
 use Rattle.q_tree.specs.Kept.{Kept}

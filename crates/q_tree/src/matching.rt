@@ -34,8 +34,12 @@ fn takes_key(keys: &FilterKeys, key: &FlowKey) -> bool
     ensures { result ≡ takes_key keys.now key.now }
 {
     keys.ip_proto.map_or(true, |proto| proto == key.proto)
-        && keys.src_ip.map_or(true, |prefix| has_prefix(&prefix, key, key.src))
-        && keys.dst_ip.map_or(true, |prefix| has_prefix(&prefix, key, key.dst))
+        && keys
+            .src_ip
+            .map_or(true, |prefix| has_prefix(&prefix, key, key.src))
+        && keys
+            .dst_ip
+            .map_or(true, |prefix| has_prefix(&prefix, key, key.dst))
         && keys.src_port.map_or(true, |port| port == key.sport)
         && keys.dst_port.map_or(true, |port| port == key.dport)
 }

@@ -10,11 +10,12 @@ ghost use Rattle.q_tree.specs.Ahead.{ahead, ways, depths};
 use crate::matching::named_class;
 use crate::way::Way;
 use q_bucket::Bucket;
-use q_codel::Fifo;
+use q_codel::{Fifo, Limit};
 use q_drr::Active;
 use q_fqcodel::FqCodel;
 use q_model::{Filter, Handle, Row, Totals};
 use q_packet::{Cause, Packet};
+use std::alloc::Global;
 use std::marker::Model;
 
 /// A qdisc of the tree, with those beneath it.
@@ -74,7 +75,41 @@ impl Model for Node {
     ghost size_decreases = { λ a h. child_smaller a };
 }
 
+// What a node has counted before any packet.
+const NOTHING: Totals = Totals {
+    packets: 0,
+    bytes: 0,
+};
+
+const NOTHING_COUNTED: Row = Row {
+    arrived: NOTHING,
+    sent: NOTHING,
+    refused: NOTHING,
+    dropped: NOTHING,
+    queued: NOTHING,
+    marked: NOTHING,
+};
+
 impl Node {
+    ghost use Rattle.q_model.specs.Make.{node_of};
+    ghost use Rattle.q_model.specs.Node as spec;
+    ghost use Rattle.q_model.specs.Tally.{no_counts};
+
+    /// A fifo without packets, which has counted nothing. It takes no memory yet.
+    pub(crate) fn fifo(alloc: Global, handle: Option<Handle>, limit: Limit) -> Node
+        ensures own { result.own ≡ (node_of handle (spec.Fifo limit []) []).own }
+        ensures counts { result.memory.counts ≡ no_counts }
+        ensures alone { result.below ≡ spec.none }
+    {
+        Node {
+            handle,
+            held: None,
+            filters: Vec::new(alloc),
+            row: NOTHING_COUNTED,
+            discipline: Discipline::Fifo(Fifo::new(alloc, limit)),
+        }
+    }
+
     /// Whether nothing is queued at the node or beneath it.
     pub(crate) fn is_empty(&self) -> bool
         ensures { result ≡ is_empty self.now }

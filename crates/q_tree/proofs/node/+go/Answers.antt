@@ -1,4 +1,4 @@
-use Rattle.std.proofs.Common.{arith, ap, sym, ◌∙◌, ◌∷◌, []}
+use Rattle.std.proofs.Common.{arith, ap, sym, ◌∙◌}
 use Rattle.std.proofs.lemmas.List.{length_push}
 use Rattle.std.specs.Prelude.{length, option_copied}
 use Rattle.std.specs.Option.{option_map_or}
@@ -44,10 +44,13 @@ go_on-returns-in-None t c = c.refuse.ensures ∙ through-none c.args.way.now c.a
 pub go_on-go-requires : goal.go_on-go-requires
 go_on-go-requires t c =
     let at = sym c.child_at.ensures ∙ ap option_copied c.in-Some.is in
-    let path = ap (λ (r : Route). length r.path) c.push.ensures ∙ length_push c.args.way.now.path c.args.place in
-    (omega (arith, child-size c.args.children.now c.args.place c.in-Some.child.now at, c.decreases),
-    (omega (arith, child-depth c.args.children.now c.args.place c.in-Some.child.now at, path, c.requires.room),
-    ap (λ (r : Route). r.refusal) c.push.ensures ∙ c.requires.open))
+    let path = ap (λ (r : Route). length r.path) c.push.ensures ∙ length_push c.args.way.now.path c.args.place in (
+      omega (arith, child-size c.args.children.now c.args.place c.in-Some.child.now at, c.decreases),
+      (
+        omega (arith, child-depth c.args.children.now c.args.place c.in-Some.child.now at, path, c.requires.room),
+        ap (λ (r : Route). r.refusal) c.push.ensures ∙ c.requires.open,
+      ),
+    )
 
 pub go_on-returns-in-Some : goal.go_on-returns-in-Some
 go_on-returns-in-Some t c =
