@@ -1,3 +1,4 @@
+pub mod ChainLemmas
 pub mod ClearedLemmas
 pub mod FatLemmas
 pub mod FlowLemmas

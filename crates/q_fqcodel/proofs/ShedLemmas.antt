@@ -1,5 +1,5 @@
 -- Packets leave the front of a flow one by one; a list changed from its first element to its last.
-use Rattle.std.proofs.Common.{◌≡◌, ℕ, zero, suc, ◌+◌, ◌<◌, ◌≤◌, Bool, List, [], ◌∷◌, ◌++◌, map, length, get_or, set, take, drop, replicate, Some, IsSome, refl, sym, ap, ap₂, ◌∙◌, arith, subst, append_assoc, append-nil, drop-drop, add-one}
+use Rattle.std.proofs.Common.{◌≡◌, ℕ, zero, suc, ◌+◌, ◌<◌, ◌≤◌, Bool, List, [], ◌∷◌, ◌++◌, map, length, get_or, set, take, drop, replicate, Some, IsSome, refl, sym, ap, ◌∙◌, arith, subst, append_assoc, append-nil, drop-drop, add-one}
 use Rattle.std.specs.Prelude.{slice_get}
 use Rattle.std.proofs.lemmas.List.{map-append, length-drop, drop_all}
 use Rattle.q_packet.specs.Totals.{count}
@@ -11,10 +11,8 @@ use Rattle.q_codel.specs.declared.loss.Loss.{Loss}
 use Rattle.q_fqcodel.specs.Cleared.{adjust}
 use Rattle.q_fqcodel.specs.FqState.{Flow, queue_of, packets_of, all_packets, retuned}
 use Rattle.q_fqcodel.specs.Put.{shortened}
-use Rattle.q_fqcodel.specs.Pool.{flows_from, queue_in}
-use Rattle.q_fqcodel.specs.declared.held.Held.{Held}
+use Rattle.q_fqcodel.specs.Pool.{flows_from}
 use Rattle.q_fqcodel.proofs.FlowLemmas.{packets-cons, packets-nil}
-use Rattle.q_fqcodel.proofs.PoolLemmas.{queue_in-nil}
 use Rattle.q_fqcodel.proofs.SentLemmas.{slice_there}
 
 pub adjust-adjust : {F : Type 0} (g h : F → F) (n : ℕ) (xs : List F) → adjust h n (adjust g n xs) ≡ adjust (λ x. h (g x)) n xs
@@ -129,16 +127,17 @@ changed-at g zero xs d h = refl
 changed-at g (suc n) [] d h = absurd (omega arith)
 changed-at g (suc n) (x ∷ xs) d h = changed-at g n xs d (omega arith)
 
-pub flows-retuned : (target interval : ℕ) (ecn : Bool) (k : ℕ) (held : List Held) (cs : List CodelState)
-    → flows_from k held (map (λ (c : CodelState). record c { target = target; interval = interval; ecn = ecn }) cs) ≡ map (retuned target interval ecn) (flows_from k held cs)
+pub flows-retuned : (target interval : ℕ) (ecn : Bool) (qs : List (List Stamped)) (cs : List CodelState)
+    → flows_from qs (map (λ (c : CodelState). record c { target = target; interval = interval; ecn = ecn }) cs) ≡ map (retuned target interval ecn) (flows_from qs cs)
 unfolding flows_from retuned
-flows-retuned target interval ecn k held [] = refl
-flows-retuned target interval ecn k held (c ∷ cs) = ap (λ (l : List Flow). record { queue = queue_in k held; codel = record c { target = target; interval = interval; ecn = ecn } } ∷ l) (flows-retuned target interval ecn (suc k) held cs)
+flows-retuned target interval ecn [] cs = refl
+flows-retuned target interval ecn (q ∷ qs) [] = refl
+flows-retuned target interval ecn (q ∷ qs) (c ∷ cs) = ap (λ (l : List Flow). record { queue = q; codel = record c { target = target; interval = interval; ecn = ecn } } ∷ l) (flows-retuned target interval ecn qs cs)
 
-pub flows-first : (codel : CodelState) (k n : ℕ) → flows_from k [] (replicate n codel) ≡ replicate n (record { queue = []; codel = codel })
+pub flows-first : (codel : CodelState) (n : ℕ) → flows_from (replicate n []) (replicate n codel) ≡ replicate n (record { queue = []; codel = codel })
 unfolding flows_from
-flows-first codel k zero = refl
-flows-first codel k (suc n) = ap₂ (λ (q : List Stamped) (l : List Flow). record { queue = q; codel = codel } ∷ l) (queue_in-nil k) (flows-first codel (suc k) n)
+flows-first codel zero = refl
+flows-first codel (suc n) = ap (λ (l : List Flow). record { queue = []; codel = codel } ∷ l) (flows-first codel n)
 
 pub all_packets-nil : all_packets [] ≡ []
 unfolding all_packets

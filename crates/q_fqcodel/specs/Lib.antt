@@ -1,3 +1,4 @@
+pub mod Chain
 pub mod Cleared
 pub mod Entry
 pub mod FlowsState

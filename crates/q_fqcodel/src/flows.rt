@@ -1,4 +1,4 @@
-ghost use Rattle.std.specs.Prelude.{◌≡◌, ◌+◌, ◌*◌, ◌<◌, ◌≤◌, ◌^◌, [], ◌++◌, ◌&&◌, ◌==◌, nat_le, length, map, replicate, take, slice_get, ◌↔◌, IsSome, IfSome, IsOk, IfOk, OnOk, OnErr};
+ghost use Rattle.std.specs.Prelude.{◌≡◌, ◌+◌, ◌*◌, ◌<◌, ◌≤◌, ◌^◌, [], ◌++◌, ◌&&◌, ◌==◌, nat_le, length, map, replicate, take, slice_get, get_or, ◌↔◌, IsSome, IfSome, IsOk, IfOk, OnOk, OnErr};
 ghost use Rattle.q_packet.specs.Totals.{count};
 ghost use Rattle.q_codel.specs.Codel.{CodelState, drops, taken, left, after};
 ghost use Rattle.q_codel.specs.Losses.{losses_of};
@@ -6,7 +6,7 @@ ghost use Rattle.q_fqcodel.specs.Cleared.{adjust};
 ghost use Rattle.q_fqcodel.specs.FqState.{queue_of, is_idle, packets_of, bytes_of, rested_flow, retuned, all_packets};
 ghost use Rattle.q_fqcodel.specs.Put.{joined, shortened, fattest, shed_count};
 ghost use Rattle.q_fqcodel.specs.Take.{packet_sent, packets_dropped, flow_after};
-ghost use Rattle.q_fqcodel.specs.Pool.{queue_in, SameBeside};
+ghost use Rattle.q_fqcodel.specs.Pool.{SameBeside};
 
 use crate::flow_queue::FlowQueue;
 use crate::pool::Pool;
@@ -23,17 +23,15 @@ pub(crate) struct Flows {
 }
 
 impl Model for Flows {
-    ghost use Rattle.std.specs.Prelude.{length, All, ◌<◌, ◌≤◌};
+    ghost use Rattle.std.specs.Prelude.{◌≡◌, length, ◌≤◌};
     ghost use Rattle.q_fqcodel.specs.FlowsState.{FlowsState};
     ghost use Rattle.q_fqcodel.specs.Pool.{flows_from};
-    ghost use Rattle.q_fqcodel.specs.declared.held.Held.{Held};
 
     ghost Value = { FlowsState };
 
-    ghost view = { λ f. record { flows = flows_from 0 f.pool.held f.codels.items; places = f.pool.places } };
+    ghost view = { λ f. record { flows = flows_from f.pool.queues f.codels.items; places = f.pool.places } };
 
-    ghost invariant = { λ f.
-        All (λ (h : Held). h.flow < length f.codels.items) f.pool.held × (length f.codels.items ≤ 65536) };
+    ghost invariant = { λ f. (length f.pool.queues ≡ length f.codels.items) × (length f.codels.items ≤ 65536) };
 }
 
 impl Flows {
@@ -42,11 +40,9 @@ impl Flows {
         requires { count ≤ 65536 }
         ensures { IfOk result (λ f. f.flows ≡ replicate count (record { queue = []; codel = codel })) }
     {
+        let pool = Pool::new(alloc, count)?;
         let codels = vec![in alloc; codel; count as usize]?;
-        Ok(Flows {
-            pool: Pool::new(alloc),
-            codels,
-        })
+        Ok(Flows { pool, codels })
     }
 
     /// Makes room for one packet more.
@@ -260,15 +256,15 @@ fn send_from<S: Sink>(
     now: Moment,
     sink: &mut S,
 ) -> Option<Taken>
-    requires { count (queue_in flow pool.old.held) ≤ S.room sink.old }
-    ensures sent { result ≡ taken codel.old now (queue_in flow pool.old.held) }
-    ensures left { queue_in flow pool.new.held ≡ left codel.old now (queue_in flow pool.old.held) }
-    ensures state { codel.new ≡ after codel.old now (queue_in flow pool.old.held) }
+    requires { count (get_or pool.old.queues flow []) ≤ S.room sink.old }
+    ensures sent { result ≡ taken codel.old now (get_or pool.old.queues flow []) }
+    ensures left { get_or pool.new.queues flow [] ≡ left codel.old now (get_or pool.old.queues flow []) }
+    ensures state { codel.new ≡ after codel.old now (get_or pool.old.queues flow []) }
     ensures lost { S.losses sink.new ≡ S.losses sink.old
-        ++ losses_of Cause.CoDel (take (drops codel.old now (queue_in flow pool.old.held)) (queue_in flow pool.old.held)) }
-    ensures room { S.room sink.new + drops codel.old now (queue_in flow pool.old.held) ≡ S.room sink.old }
-    ensures some { IsSome result ↔ (0 < count (queue_in flow pool.old.held)) }
-    ensures others { SameBeside flow pool.old.held pool.new.held }
+        ++ losses_of Cause.CoDel (take (drops codel.old now (get_or pool.old.queues flow [])) (get_or pool.old.queues flow [])) }
+    ensures room { S.room sink.new + drops codel.old now (get_or pool.old.queues flow []) ≡ S.room sink.old }
+    ensures some { IsSome result ↔ (0 < count (get_or pool.old.queues flow [])) }
+    ensures others { SameBeside flow pool.old.queues pool.new.queues }
     ensures places { pool.new.places ≡ pool.old.places }
     ensures kept { S.keeps sink.old sink.new }
 {

@@ -20,12 +20,14 @@
 //! that it is given (`specs/QuantaGiven.antt`).
 #![tactic(auto)]
 
+mod chain;
 mod entry;
+mod flow_list;
 mod flow_queue;
 mod flows;
 mod fq_codel;
-mod held;
 pub mod laws;
+mod node;
 mod pool;
 mod settings;
 

@@ -7,4 +7,4 @@ use Rattle.q_fqcodel.proofs.flows.Flows.count.Goals as goal
 pub returns : goal.returns
 returns c =
     let same = ap (λ (f : FlowsState). f.flows) c.self.view_is in
-    c.count.ensures ∙ sym (packets-pooled c.self.inside.pool.held c.self.inside.codels.items c.self.invariant.0) ∙ ap packets_of same
+    c.count.ensures ∙ sym (packets-pooled c.self.inside.pool.queues c.self.inside.codels.items c.self.invariant.0) ∙ ap packets_of same

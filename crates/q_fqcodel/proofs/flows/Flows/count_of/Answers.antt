@@ -9,5 +9,5 @@ pub returns : goal.returns
 returns c =
     let same = ap (λ (f : FlowsState). f.flows) c.self.view_is in
     c.count_of.ensures
-    ∙ ap count (sym (queue_there c.args.flow c.self.inside.pool.held c.self.inside.codels.items c.self.invariant.0))
+    ∙ ap count (sym (queue_there c.args.flow c.self.inside.pool.queues c.self.inside.codels.items c.self.invariant.0))
     ∙ ap (λ (fs : List Flow). count (queue_of fs c.args.flow)) same

@@ -5,7 +5,7 @@ use Rattle.q_fqcodel.specs.Cleared.{adjust}
 use Rattle.q_fqcodel.specs.FlowsState.{FlowsState}
 use Rattle.q_fqcodel.specs.FqState.{Flow, queue_of}
 use Rattle.q_fqcodel.specs.Put.{shortened}
-use Rattle.q_fqcodel.proofs.PooledLemmas.{length-flows, flow_written}
+use Rattle.q_fqcodel.proofs.PooledLemmas.{length-flows, codel_written}
 use Rattle.std.proofs.lemmas.List.{take_all}
 use Rattle.q_packet.specs.declared.cause.Cause.TheVariants.{Purged}
 use Rattle.q_codel.specs.Losses.{losses_of}
@@ -23,7 +23,7 @@ index_mut-requires g c =
       ap length same,
       ap length c.lose.ensures.flows,
       length-adjust (shortened n) c.args.flow c.args.self.now.flows,
-      length-flows 0 c.self.inside.pool.held c.self.inside.codels.items,
+      length-flows c.self.inside.pool.queues c.self.inside.codels.items c.self.invariant.0,
       c.self.inside.codels.ok.0,
     )
 
@@ -33,9 +33,8 @@ returns-clause-flows g c =
     let n : ℕ = c.count_of-count.result in
     let m : ℕ = c.args.flow in
     let k : CodelState = c.args.codel in
-    let held = c.self.inside.pool.held in
     let now : Flow → Flow = λ f. record f { codel = k } in
-    flow_written m held held c.self.inside.codels.items k k now (λ i ne. refl) refl
+    codel_written m c.self.inside.pool.queues c.self.inside.codels.items k k now refl
     ∙ ap (adjust now m) (same ∙ c.lose.ensures.flows)
     ∙ adjust-adjust (shortened n) now m c.args.self.now.flows
     ∙ emptied k m n c.args.self.now.flows c.count_of-count.ensures

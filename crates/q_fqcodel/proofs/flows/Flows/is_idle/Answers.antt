@@ -10,6 +10,6 @@ returns c =
     let same = ap (λ (f : FlowsState). f.flows) c.self.view_is in
     let n : c.count_of.result ≡ count (queue_of c.args.self.now.flows c.args.flow) =
     c.count_of.ensures
-    ∙ ap count (sym (queue_there c.args.flow c.self.inside.pool.held c.self.inside.codels.items c.self.invariant.0))
+    ∙ ap count (sym (queue_there c.args.flow c.self.inside.pool.queues c.self.inside.codels.items c.self.invariant.0))
     ∙ ap (λ (fs : List Flow). count (queue_of fs c.args.flow)) same in
     ap (λ (k : ℕ). nat_eq k 0) n

@@ -5,4 +5,4 @@ use Rattle.q_fqcodel.proofs.flows.Flows.len.Goals as goal
 
 pub returns-clause-value : goal.returns-clause-value
 returns-clause-value c =
-    c.len.ensures ∙ c.self.inside.codels.ok.0 ∙ sym (length-flows 0 c.self.inside.pool.held c.self.inside.codels.items) ∙ ap (λ (f : FlowsState). length f.flows) c.self.view_is
+    c.len.ensures ∙ c.self.inside.codels.ok.0 ∙ sym (length-flows c.self.inside.pool.queues c.self.inside.codels.items c.self.invariant.0) ∙ ap (λ (f : FlowsState). length f.flows) c.self.view_is

@@ -1,44 +1,38 @@
-use Rattle.std.proofs.Common.{ℕ, ◌<◌, List, [], ◌∷◌, ◌++◌, length, sym, ap, ◌∙◌, arith, subst, All}
+use Rattle.std.proofs.Common.{List, [], ◌∷◌, ◌++◌, length, get_or, refl, ap, ◌∙◌, arith}
 use Rattle.q_packet.specs.declared.stamped.Stamped.{Stamped}
 use Rattle.q_fqcodel.specs.Cleared.{adjust}
 use Rattle.q_fqcodel.specs.FlowsState.{FlowsState}
 use Rattle.q_fqcodel.specs.FqState.{packets_of}
 use Rattle.q_fqcodel.specs.Pool.{flows_from}
 use Rattle.q_fqcodel.specs.Put.{joined}
-use Rattle.q_fqcodel.specs.declared.held.Held.{Held}
 use Rattle.q_fqcodel.proofs.PooledLemmas.{length-flows, queue_written, packets-pooled}
-use Rattle.std.proofs.lemmas.List.Elements.{All-push}
-use Rattle.q_fqcodel.proofs.PoolLemmas.{own_push, other_push}
+use Rattle.std.proofs.lemmas.List.{length-set}
 use Rattle.q_fqcodel.proofs.flows.Flows.push.Goals as goal
 
 pub push-requires-clause-place : goal.push-requires-clause-place
 push-requires-clause-place c =
     let same = ap (λ (f : FlowsState). f.flows) c.self.view_is in
-    omega (arith, c.requires.place, ap packets_of same, ap (λ (f : FlowsState). f.places) c.self.view_is, packets-pooled c.self.inside.pool.held c.self.inside.codels.items c.self.invariant.0)
+    omega (arith, c.requires.place, ap packets_of same, ap (λ (f : FlowsState). f.places) c.self.view_is, packets-pooled c.self.inside.pool.queues c.self.inside.codels.items c.self.invariant.0)
 
 pub push-requires-clause-few : goal.push-requires-clause-few
 push-requires-clause-few c =
     let same = ap (λ (f : FlowsState). f.flows) c.self.view_is in
-    omega (arith, c.requires.few, ap packets_of same, packets-pooled c.self.inside.pool.held c.self.inside.codels.items c.self.invariant.0)
+    omega (arith, c.requires.few, ap packets_of same, packets-pooled c.self.inside.pool.queues c.self.inside.codels.items c.self.invariant.0)
+
+pub push-requires-clause-in_range : goal.push-requires-clause-in_range
+push-requires-clause-in_range c =
+    let same = ap (λ (f : FlowsState). f.flows) c.self.view_is in
+    omega (arith, c.requires.in_range, ap length same, length-flows c.self.inside.pool.queues c.self.inside.codels.items c.self.invariant.0, c.self.invariant.0)
 
 pub invariant_of-self : goal.invariant_of-self
-invariant_of-self c =
-    let same = ap (λ (f : FlowsState). f.flows) c.self.view_is in
-    let n : ℕ = length c.self.inside.codels.items in
-    let P : Held → Type 0 = λ h. h.flow < n in (
-      subst (All P) (sym c.push.ensures.held)
-          (All-push P c.self.inside.pool.held _ c.self.invariant.0 (omega (arith, c.requires.in_range, ap length same, length-flows 0 c.self.inside.pool.held c.self.inside.codels.items))),
-      c.self.invariant.1,
-    )
+invariant_of-self c = (ap length c.push.ensures.queues ∙ length-set _ _ _ ∙ c.self.invariant.0, c.self.invariant.1)
 
 pub returns-clause-flows : goal.returns-clause-flows
 returns-clause-flows c =
     let same = ap (λ (f : FlowsState). f.flows) c.self.view_is in
     let n = c.args.flow in
-    let held = c.self.inside.pool.held in
+    let qs : List (List Stamped) = c.self.inside.pool.queues in
     let s : Stamped = c.args.stamped in
-    ap (λ (l : List Held). flows_from 0 l c.self.inside.codels.items) c.push.ensures.held
-    ∙ queue_written n held (held ++ record { stamped = s; flow = n } ∷ []) c.self.inside.codels.items (joined s)
-    (λ m ne. other_push m n s held ne)
-    (λ k. ap (λ (q : List Stamped). record { queue = q; codel = k }) (sym (own_push n s held)))
+    ap (λ (l : List (List Stamped)). flows_from l c.self.inside.codels.items) c.push.ensures.queues
+    ∙ queue_written n qs (get_or qs n [] ++ s ∷ []) c.self.inside.codels.items (joined s) (λ k. refl)
     ∙ ap (adjust (joined s) n) same

@@ -1,11 +1,11 @@
-use Rattle.std.proofs.Common.{◌≡◌, ℕ, ◌+◌, ◌<◌, List, ◌++◌, length, get_or, sym, ap, ap₂, ◌∙◌, arith, subst}
+use Rattle.std.proofs.Common.{◌≡◌, ℕ, ◌+◌, ◌<◌, List, [], ◌++◌, length, get_or, set, sym, ap, ap₂, ◌∙◌, arith, subst}
 use Rattle.q_packet.specs.Totals.{count}
 use Rattle.q_packet.specs.declared.stamped.Stamped.{Stamped}
 use Rattle.q_codel.specs.Codel.{CodelState}
 use Rattle.q_fqcodel.specs.Cleared.{adjust}
 use Rattle.q_fqcodel.specs.FlowsState.{FlowsState}
 use Rattle.q_fqcodel.specs.FqState.{Flow, queue_of}
-use Rattle.q_fqcodel.specs.Pool.{queue_in}
+use Rattle.q_fqcodel.specs.Pool.{flows_from}
 use Rattle.q_fqcodel.proofs.PooledLemmas.{length-flows, flow_read, queue_there, flow_written}
 use Rattle.std.proofs.Common.{Option, IfSome, IsSome}
 use Rattle.q_packet.specs.declared.cause.Cause.TheVariants.{CoDel}
@@ -19,12 +19,12 @@ use Rattle.q_fqcodel.proofs.flows.Flows.send.Goals.{After-index_mut, After-send_
 pub index_mut-requires : goal.index_mut-requires
 index_mut-requires g c =
     let same = ap (λ (f : FlowsState). f.flows) c.self.view_is in
-    omega (arith, c.requires.in_range, ap length same, length-flows 0 c.self.inside.pool.held c.self.inside.codels.items, c.self.inside.codels.ok.0)
+    omega (arith, c.requires.in_range, ap length same, length-flows c.self.inside.pool.queues c.self.inside.codels.items c.self.invariant.0, c.self.inside.codels.ok.0)
 
 omega_within : (g : _) (c : After-index_mut g) → c.args.flow < length c.self.inside.codels.items
 omega_within g c =
     let same = ap (λ (f : FlowsState). f.flows) c.self.view_is in
-    omega (arith, c.requires.in_range, ap length same, length-flows 0 c.self.inside.pool.held c.self.inside.codels.items)
+    omega (arith, c.requires.in_range, ap length same, length-flows c.self.inside.pool.queues c.self.inside.codels.items c.self.invariant.0)
 
 pub send_from-requires : goal.send_from-requires
 send_from-requires g c =
@@ -32,7 +32,7 @@ send_from-requires g c =
     omega (
       arith,
       c.requires.room,
-      ap count (queue_there c.args.flow c.self.inside.pool.held c.self.inside.codels.items c.self.invariant.0),
+      ap count (queue_there c.args.flow c.self.inside.pool.queues c.self.inside.codels.items c.self.invariant.0),
       ap (λ (fs : List Flow). count (queue_of fs c.args.flow)) same,
     )
 
@@ -42,7 +42,7 @@ returns-clause-sent g c =
     let same = ap (λ (f : FlowsState). f.flows) c.self.view_is in
     let within = omega_within g (goal.at.returns-clause-sent g c).After-index_mut in
     subst (λ (o : Option Flow). IfSome o (λ f. c.send_from.result ≡ packet_sent c.args.now f))
-    (sym (flow_read c.args.flow c.self.inside.pool.held c.self.inside.codels.items c.index_mut.result.now c.args.self.now.flows within c.index_mut.ensures.value same))
+    (sym (flow_read c.args.flow c.self.inside.pool.queues c.self.inside.codels.items c.index_mut.result.now c.args.self.now.flows c.self.invariant.0 within c.index_mut.ensures.value same))
     c.send_from.ensures.sent
 
 pub returns-clause-flows : goal.returns-clause-flows
@@ -50,13 +50,14 @@ unfolding flow_after
 returns-clause-flows g c =
     let same = ap (λ (f : FlowsState). f.flows) c.self.view_is in
     let n = c.args.flow in
-    let held = c.self.inside.pool.held in
+    let qs : List (List Stamped) = c.self.inside.pool.queues in
     let codel = c.index_mut.result.now in
-    let q : List Stamped = queue_in n held in
-    let here : flow_after c.args.now (record { queue = q; codel = get_or c.self.inside.codels.items n codel }) ≡ record { queue = queue_in n c.send_from.new.pool.held; codel = c.send_from.new.codel } =
+    let q : List Stamped = get_or qs n [] in
+    let here : flow_after c.args.now (record { queue = q; codel = get_or c.self.inside.codels.items n codel }) ≡ record { queue = get_or c.send_from.new.pool.queues n []; codel = c.send_from.new.codel } =
     ap (λ (s : CodelState). flow_after c.args.now (record { queue = q; codel = s })) (sym c.index_mut.ensures.value)
     ∙ ap₂ (λ (l : List Stamped) (s : CodelState). record { queue = l; codel = s }) (sym c.send_from.ensures.left) (sym c.send_from.ensures.state) in
-    flow_written n held c.send_from.new.pool.held c.self.inside.codels.items c.send_from.new.codel codel (flow_after c.args.now) c.send_from.ensures.others.others here
+    ap (λ (l : List (List Stamped)). flows_from l (set c.self.inside.codels.items n c.send_from.new.codel)) c.send_from.ensures.others
+    ∙ flow_written n qs (get_or c.send_from.new.pool.queues n []) c.self.inside.codels.items c.send_from.new.codel codel (flow_after c.args.now) here
     ∙ ap (adjust (flow_after c.args.now) n) same
 
 pub returns-clause-lost : goal.returns-clause-lost
@@ -65,7 +66,7 @@ returns-clause-lost g c =
     let same = ap (λ (f : FlowsState). f.flows) c.self.view_is in
     let within = omega_within g (goal.at.returns-clause-lost g c).After-index_mut in
     subst (λ (o : Option Flow). IfSome o (λ f. g.S.Sink.losses c.send_from.new.sink ≡ g.S.Sink.losses c.args.sink.now ++ losses_of CoDel (packets_dropped c.args.now f)))
-    (sym (flow_read c.args.flow c.self.inside.pool.held c.self.inside.codels.items c.index_mut.result.now c.args.self.now.flows within c.index_mut.ensures.value same))
+    (sym (flow_read c.args.flow c.self.inside.pool.queues c.self.inside.codels.items c.index_mut.result.now c.args.self.now.flows c.self.invariant.0 within c.index_mut.ensures.value same))
     c.send_from.ensures.lost
 
 pub returns-clause-room : goal.returns-clause-room
@@ -73,16 +74,16 @@ unfolding packets_dropped
 returns-clause-room g c =
     let same = ap (λ (f : FlowsState). f.flows) c.self.view_is in
     let within = omega_within g (goal.at.returns-clause-room g c).After-index_mut in
-    let q : List Stamped = queue_in c.args.flow c.self.inside.pool.held in
+    let q : List Stamped = get_or c.self.inside.pool.queues c.args.flow [] in
     let n = count_dropped c.index_mut.result.now c.args.now q
     (λ h. subst (λ (o : Option Taken). IsSome o) c.send_from.ensures.sent (c.send_from.ensures.some.1 h)) in
     subst (λ (o : Option Flow). IfSome o (λ f. g.S.Sink.room c.send_from.new.sink + count (packets_dropped c.args.now f) ≡ g.S.Sink.room c.args.sink.now))
-    (sym (flow_read c.args.flow c.self.inside.pool.held c.self.inside.codels.items c.index_mut.result.now c.args.self.now.flows within c.index_mut.ensures.value same))
+    (sym (flow_read c.args.flow c.self.inside.pool.queues c.self.inside.codels.items c.index_mut.result.now c.args.self.now.flows c.self.invariant.0 within c.index_mut.ensures.value same))
     (ap (λ (m : ℕ). g.S.Sink.room c.send_from.new.sink + m) n ∙ c.send_from.ensures.room)
 
 pub returns-clause-some : goal.returns-clause-some
 returns-clause-some g c =
     let same = ap (λ (f : FlowsState). f.flows) c.self.view_is in
-    let q = ap count (queue_there c.args.flow c.self.inside.pool.held c.self.inside.codels.items c.self.invariant.0) in
+    let q = ap count (queue_there c.args.flow c.self.inside.pool.queues c.self.inside.codels.items c.self.invariant.0) in
     let r = ap (λ (fs : List Flow). count (queue_of fs c.args.flow)) same in
     (λ h. let s = c.send_from.ensures.some.0 h in omega (arith, s, q, r), λ h. c.send_from.ensures.some.1 (omega (arith, h, q, r)))
