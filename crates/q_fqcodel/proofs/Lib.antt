@@ -17,3 +17,4 @@ pub mod SelectionLemmas
 pub mod SentLemmas
 pub mod ShedLemmas
 pub mod TurnLemmas
+pub mod WinnerLemmas

@@ -1,15 +1,15 @@
 -- The flows as they are put together from their queues and the CoDel states: each by its index, after a change of one,
 -- and their totals.
-use Rattle.std.proofs.Common.{◌≡◌, ℕ, zero, suc, ◌<◌, List, [], ◌∷◌, length, get_or, set, Some, sum_by, refl, sym, ap, ◌∙◌, arith}
+use Rattle.std.proofs.Common.{◌≡◌, ℕ, zero, suc, ◌<◌, List, [], ◌∷◌, length, get_or, set, replicate, Some, sum_by, refl, sym, ap, ◌∙◌, arith}
 use Rattle.std.specs.Prelude.{slice_get}
-use Rattle.std.proofs.lemmas.List.{set-get_or}
+use Rattle.std.proofs.lemmas.List.{set-get_or, get_or-set_same}
 use Rattle.std.proofs.lemmas.List.Sums.{sum_by-cons}
 use Rattle.q_packet.specs.Totals.{count, size}
 use Rattle.q_packet.specs.declared.stamped.Stamped.{Stamped}
 use Rattle.q_codel.specs.Codel.{CodelState}
 use Rattle.q_fqcodel.specs.Cleared.{adjust}
 use Rattle.q_fqcodel.specs.FqState.{Flow, queue_of, packets_of, bytes_of}
-use Rattle.q_fqcodel.specs.Pool.{packets_in, bytes_in, flows_from}
+use Rattle.q_fqcodel.specs.Pool.{packets_in, bytes_in, sizes, flows_from}
 
 pub length-flows : (qs : List (List Stamped)) (cs : List CodelState) → length qs ≡ length cs → length (flows_from qs cs) ≡ length cs
 unfolding flows_from
@@ -96,3 +96,42 @@ flow_read n qs cs codel fs e within read same =
     ap (λ (l : List Flow). slice_get l n) (sym same)
     ∙ flow_there n qs cs codel e within
     ∙ ap (λ (s : CodelState). Some (record { queue = get_or qs n []; codel = s })) (sym read)
+
+-- ---- the bytes of each flow
+
+pub sizes_at : (qs : List (List Stamped)) (n : ℕ) → get_or (sizes qs) n 0 ≡ size (get_or qs n [])
+unfolding sizes
+sizes_at [] n = refl
+sizes_at (q ∷ qs) zero = refl
+sizes_at (q ∷ qs) (suc n) = sizes_at qs n
+
+pub length-sizes : (qs : List (List Stamped)) → length (sizes qs) ≡ length qs
+unfolding sizes
+length-sizes [] = refl
+length-sizes (q ∷ qs) = ap suc (length-sizes qs)
+
+pub sizes-set : (qs : List (List Stamped)) (n : ℕ) (q : List Stamped) → sizes (set qs n q) ≡ set (sizes qs) n (size q)
+unfolding sizes
+sizes-set [] n q = refl
+sizes-set (x ∷ xs) zero q = refl
+sizes-set (x ∷ xs) (suc n) q = ap (λ (l : List ℕ). size x ∷ l) (sizes-set xs n q)
+
+pub sizes-first : (n : ℕ) → sizes (replicate n []) ≡ replicate n 0
+unfolding sizes
+sizes-first zero = refl
+sizes-first (suc n) = ap (λ (l : List ℕ). 0 ∷ l) (sizes-first n)
+
+-- one queue was written, and its flow's bytes were told
+pub sizes_renewed : (qs new : List (List Stamped)) (n : ℕ) (q : List Stamped) (ws : List ℕ) (bytes : ℕ) → new ≡ set qs n q → n < length qs → ws ≡ set (sizes qs) n bytes → bytes ≡ size (get_or new n []) → ws ≡ sizes new
+sizes_renewed qs new n q ws bytes written within told is =
+    let read : get_or new n [] ≡ q = ap (λ (l : List (List Stamped)). get_or l n []) written ∙ get_or-set_same qs n q [] within in
+    told
+    ∙ ap (λ (b : ℕ). set (sizes qs) n b) (is ∙ ap size read)
+    ∙ sym (sizes-set qs n q)
+    ∙ ap sizes (sym written)
+
+-- a flow with a packet is there
+pub flow_with : (qs : List (List Stamped)) (n : ℕ) → 0 < count (get_or qs n []) → n < length qs
+flow_with [] n h = absurd (omega arith)
+flow_with (q ∷ qs) zero h = omega arith
+flow_with (q ∷ qs) (suc n) h = omega (arith, flow_with qs n h)

@@ -15,3 +15,4 @@ pub mod Ranges
 pub mod Selection
 pub mod Take
 pub mod Turns
+pub mod Winners

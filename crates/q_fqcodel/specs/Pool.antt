@@ -21,6 +21,10 @@ packets_in queues = sum_by (λ (q : List Stamped). count q) queues
 unfoldable pub bytes_in : List (List Stamped) → ℕ
 bytes_in queues = sum_by (λ (q : List Stamped). size q) queues
 
+-- the bytes of each queue
+unfoldable pub sizes : List (List Stamped) → List ℕ
+sizes queues = map (λ (q : List Stamped). size q) queues
+
 -- the list of a flow without packets
 abbrev pub no_list : FlowList
 no_list = record { head = 0; tail = 0; count = 0; bytes = 0 }

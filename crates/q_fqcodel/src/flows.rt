@@ -1,4 +1,4 @@
-ghost use Rattle.std.specs.Prelude.{◌≡◌, ◌+◌, ◌*◌, ◌<◌, ◌≤◌, ◌^◌, [], ◌++◌, ◌&&◌, ◌==◌, nat_le, length, map, replicate, take, slice_get, get_or, ◌↔◌, IsSome, IfSome, IsOk, IfOk, OnOk, OnErr};
+ghost use Rattle.std.specs.Prelude.{◌≡◌, ◌+◌, ◌*◌, ◌<◌, ◌≤◌, ◌^◌, [], ◌++◌, ◌&&◌, ◌==◌, nat_le, length, map, replicate, take, drop, set, slice_get, get_or, ◌↔◌, IsSome, IfSome, IsOk, IfOk, OnOk, OnErr};
 ghost use Rattle.q_packet.specs.Totals.{count};
 ghost use Rattle.q_codel.specs.Codel.{CodelState, drops, taken, left, after};
 ghost use Rattle.q_codel.specs.Losses.{losses_of};
@@ -10,6 +10,7 @@ ghost use Rattle.q_fqcodel.specs.Pool.{SameBeside};
 
 use crate::flow_queue::FlowQueue;
 use crate::pool::Pool;
+use crate::winners::Winners;
 use q_codel::{Codel, Sink, Taken};
 use q_packet::{Cause, Moment, Stamped};
 use std::alloc::{AllocError, Global};
@@ -20,18 +21,20 @@ use std::marker::Model;
 pub(crate) struct Flows {
     pool: Pool,
     codels: Vec<Codel>,
+    winners: Winners,
 }
 
 impl Model for Flows {
     ghost use Rattle.std.specs.Prelude.{◌≡◌, length, ◌≤◌};
     ghost use Rattle.q_fqcodel.specs.FlowsState.{FlowsState};
-    ghost use Rattle.q_fqcodel.specs.Pool.{flows_from};
+    ghost use Rattle.q_fqcodel.specs.Pool.{flows_from, sizes};
 
     ghost Value = { FlowsState };
 
     ghost view = { λ f. record { flows = flows_from f.pool.queues f.codels.items; places = f.pool.places } };
 
-    ghost invariant = { λ f. (length f.pool.queues ≡ length f.codels.items) × (length f.codels.items ≤ 65536) };
+    ghost invariant = { λ f.
+        (length f.pool.queues ≡ length f.codels.items) × (length f.codels.items ≤ 65536) × (f.winners ≡ sizes f.pool.queues) };
 }
 
 impl Flows {
@@ -42,7 +45,12 @@ impl Flows {
     {
         let pool = Pool::new(alloc, count)?;
         let codels = vec![in alloc; codel; count as usize]?;
-        Ok(Flows { pool, codels })
+        let winners = Winners::new(alloc, count)?;
+        Ok(Flows {
+            pool,
+            codels,
+            winners,
+        })
     }
 
     /// Makes room for one packet more.
@@ -93,15 +101,7 @@ impl Flows {
         ensures places { self.new.places ≡ self.old.places }
     {
         self.pool.push(stamped, flow);
-    }
-
-    /// Takes the packet in front of a flow.
-    pub(crate) fn drop_front(&mut self, flow: u32) -> Option<Stamped>
-        ensures front { result ≡ slice_get (queue_of self.old.flows flow) 0 }
-        ensures flows { self.new.flows ≡ adjust (shortened 1) flow self.old.flows }
-        ensures places { self.new.places ≡ self.old.places }
-    {
-        self.pool.take_of(flow)
+        self.winners.renew(flow, self.pool.bytes_of(flow));
     }
 
     /// Notes that a flow was met empty, with credits.
@@ -127,13 +127,10 @@ impl Flows {
         ensures some { IsSome result ↔ (0 < count (queue_of self.old.flows flow)) }
         ensures kept { S.keeps sink.old sink.new }
     {
-        send_from(
-            &mut self.pool,
-            &mut self.codels[flow as usize],
-            flow,
-            now,
-            sink,
-        )
+        let codel = &mut self.codels[flow as usize];
+        let taken = send_from(&mut self.pool, codel, flow, now, sink);
+        self.winners.renew(flow, self.pool.bytes_of(flow));
+        taken
     }
 
     /// The fat flow: the first of those that have the most bytes.
@@ -143,16 +140,8 @@ impl Flows {
         ensures within { result < length self.now.flows }
         ensures some { 0 < packets_of self.now.flows → 0 < count (queue_of self.now.flows result) }
     {
-        let mut fattest = 0;
-        let mut most = self.pool.bytes_of(0);
-        for flow in 1..self.codels.len() as u32 {
-            let bytes = self.pool.bytes_of(flow);
-            if bytes > most {
-                fattest = flow;
-                most = bytes;
-            }
-        }
-        fattest
+        self.pool.each_has_bytes();
+        self.winners.top()
     }
 
     /// Loses the first `lost` packets of a flow.
@@ -165,10 +154,12 @@ impl Flows {
         ensures room { S.room sink.new + lost ≡ S.room sink.old }
         ensures kept { S.keeps sink.old sink.new }
     {
-        for _i in 0..lost {
-            let stamped = self.drop_front(flow).unwrap();
-            sink.lost(stamped.packet, cause);
+        if lost == 0 {
+            return;
         }
+        lose_from(&mut self.pool, flow, lost, cause, sink);
+        // Once for the whole batch, and not for each packet.
+        self.winners.renew(flow, self.pool.bytes_of(flow));
     }
 
     /// How many packets the fat flow loses where the limit is passed.
@@ -246,6 +237,22 @@ fn retune(codels: &mut Vec<Codel>, target: u64, interval: u64, ecn: bool)
 {
     for i in 0..codels.len() {
         codels[i].set_params(target, interval, ecn);
+    }
+}
+
+// Loses the first `lost` packets of a flow.
+fn lose_from<S: Sink>(pool: &mut Pool, flow: u32, lost: u64, cause: Cause, sink: &mut S)
+    requires held { lost ≤ count (get_or pool.old.queues flow []) }
+    requires room { lost ≤ S.room sink.old }
+    ensures queues { pool.new.queues ≡ set pool.old.queues flow (drop lost (get_or pool.old.queues flow [])) }
+    ensures places { pool.new.places ≡ pool.old.places }
+    ensures lost { S.losses sink.new ≡ S.losses sink.old ++ losses_of cause (take lost (get_or pool.old.queues flow [])) }
+    ensures room { S.room sink.new + lost ≡ S.room sink.old }
+    ensures kept { S.keeps sink.old sink.new }
+{
+    for _i in 0..lost {
+        let stamped = pool.take_of(flow).unwrap();
+        sink.lost(stamped.packet, cause);
     }
 }
 

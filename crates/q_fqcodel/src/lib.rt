@@ -30,6 +30,7 @@ pub mod laws;
 mod node;
 mod pool;
 mod settings;
+mod winners;
 
 pub use fq_codel::FqCodel;
 pub use settings::Settings;

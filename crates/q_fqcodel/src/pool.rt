@@ -1,4 +1,4 @@
-ghost use Rattle.std.specs.Prelude.{◌≡◌, ◌+◌, ◌<◌, ◌≤◌, ◌^◌, [], ◌∷◌, ◌++◌, length, slice_get, get_or, drop, set, replicate, IsOk, IfOk, OnOk, OnErr};
+ghost use Rattle.std.specs.Prelude.{ℕ, ◌≡◌, ◌+◌, ◌<◌, ◌≤◌, ◌^◌, [], ◌∷◌, ◌++◌, length, slice_get, get_or, drop, set, replicate, IsOk, IfOk, OnOk, OnErr};
 ghost use Rattle.q_packet.specs.Totals.{count, size};
 ghost use Rattle.q_fqcodel.specs.Pool.{packets_in, bytes_in, no_list, SameBeside};
 
@@ -120,12 +120,16 @@ impl Pool {
 
     /// The bytes in a flow.
     pub(crate) fn bytes_of(&self, flow: u32) -> u64
-        ensures value { result ≡ size (get_or self.now.queues flow []) }
-        ensures bound { result < 2 ^ 49 }
-        // Every packet has a byte at least.
-        ensures counted { count (get_or self.now.queues flow []) ≤ result }
+        ensures { result ≡ size (get_or self.now.queues flow []) }
     {
         list_of(&self.lists, flow).bytes
+    }
+
+    /// Every packet has a byte at least. It does nothing.
+    pub(crate) fn each_has_bytes(&self)
+        ensures { (n : ℕ) → count (get_or self.now.queues n []) ≤ size (get_or self.now.queues n []) }
+    {
+        let _ = &self.lists;
     }
 
     /// The bytes in all flows.

@@ -1,13 +1,14 @@
-use Rattle.std.proofs.Common.{List, [], ◌∷◌, ◌++◌, length, get_or, refl, ap, ◌∙◌, arith}
+use Rattle.std.proofs.Common.{ℕ, ◌<◌, List, [], ◌∷◌, ◌++◌, length, get_or, set, refl, ap, ◌∙◌, arith}
 use Rattle.q_packet.specs.declared.stamped.Stamped.{Stamped}
 use Rattle.q_fqcodel.specs.Cleared.{adjust}
 use Rattle.q_fqcodel.specs.FlowsState.{FlowsState}
 use Rattle.q_fqcodel.specs.FqState.{packets_of}
 use Rattle.q_fqcodel.specs.Pool.{flows_from}
 use Rattle.q_fqcodel.specs.Put.{joined}
-use Rattle.q_fqcodel.proofs.PooledLemmas.{length-flows, queue_written, packets-pooled}
+use Rattle.q_fqcodel.proofs.PooledLemmas.{length-flows, queue_written, packets-pooled, length-sizes, sizes_renewed}
 use Rattle.std.proofs.lemmas.List.{length-set}
 use Rattle.q_fqcodel.proofs.flows.Flows.push.Goals as goal
+use Rattle.q_fqcodel.proofs.flows.Flows.push.Goals.{After-push}
 
 pub push-requires-clause-place : goal.push-requires-clause-place
 push-requires-clause-place c =
@@ -24,8 +25,24 @@ push-requires-clause-in_range c =
     let same = ap (λ (f : FlowsState). f.flows) c.self.view_is in
     omega (arith, c.requires.in_range, ap length same, length-flows c.self.inside.pool.queues c.self.inside.codels.items c.self.invariant.0, c.self.invariant.0)
 
+within : (c : After-push) → c.args.flow < length c.self.inside.pool.queues
+within c =
+    let same = ap (λ (f : FlowsState). f.flows) c.self.view_is in
+    omega (arith, c.requires.in_range, ap length same, length-flows c.self.inside.pool.queues c.self.inside.codels.items c.self.invariant.0, c.self.invariant.0)
+
+pub renew-requires : goal.renew-requires
+renew-requires c =
+    let qs = c.self.inside.pool.queues in
+    omega (arith, within (goal.at.renew-requires c).After-push, ap length c.self.invariant.2, length-sizes qs)
+
 pub invariant_of-self : goal.invariant_of-self
-invariant_of-self c = (ap length c.push.ensures.queues ∙ length-set _ _ _ ∙ c.self.invariant.0, c.self.invariant.1)
+invariant_of-self c =
+    let qs : List (List Stamped) = c.self.inside.pool.queues in (
+      ap length c.push.ensures.queues ∙ length-set qs _ _ ∙ c.self.invariant.0,
+      c.self.invariant.1,
+      sizes_renewed qs c.push.new.self.queues c.args.flow (get_or qs c.args.flow [] ++ c.args.stamped ∷ []) c.renew.new.self c.bytes_of.result c.push.ensures.queues (within (goal.at.invariant_of-self c).After-push)
+          (c.renew.ensures ∙ ap (λ (l : List ℕ). set l c.args.flow c.bytes_of.result) c.self.invariant.2) c.bytes_of.ensures,
+    )
 
 pub returns-clause-flows : goal.returns-clause-flows
 returns-clause-flows c =

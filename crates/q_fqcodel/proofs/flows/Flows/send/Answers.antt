@@ -6,7 +6,8 @@ use Rattle.q_fqcodel.specs.Cleared.{adjust}
 use Rattle.q_fqcodel.specs.FlowsState.{FlowsState}
 use Rattle.q_fqcodel.specs.FqState.{Flow, queue_of}
 use Rattle.q_fqcodel.specs.Pool.{flows_from}
-use Rattle.q_fqcodel.proofs.PooledLemmas.{length-flows, flow_read, queue_there, flow_written}
+use Rattle.q_fqcodel.proofs.PooledLemmas.{length-flows, flow_read, queue_there, flow_written, length-sizes, sizes_renewed}
+use Rattle.std.proofs.lemmas.List.{length-set}
 use Rattle.std.proofs.Common.{Option, IfSome, IsSome}
 use Rattle.q_packet.specs.declared.cause.Cause.TheVariants.{CoDel}
 use Rattle.q_codel.specs.Losses.{losses_of}
@@ -14,20 +15,20 @@ use Rattle.q_codel.specs.declared.taken.Taken.{Taken}
 use Rattle.q_fqcodel.proofs.SentLemmas.{count_dropped}
 use Rattle.q_fqcodel.specs.Take.{packet_sent, packets_dropped, flow_after}
 use Rattle.q_fqcodel.proofs.flows.Flows.send.Goals as goal
-use Rattle.q_fqcodel.proofs.flows.Flows.send.Goals.{After-index_mut, After-send_from}
+use Rattle.q_fqcodel.proofs.flows.Flows.send.Goals.{After-index_mut-codel, After-send_from-taken}
 
-pub index_mut-requires : goal.index_mut-requires
-index_mut-requires g c =
+pub index_mut-codel-requires : goal.index_mut-codel-requires
+index_mut-codel-requires g c =
     let same = ap (λ (f : FlowsState). f.flows) c.self.view_is in
     omega (arith, c.requires.in_range, ap length same, length-flows c.self.inside.pool.queues c.self.inside.codels.items c.self.invariant.0, c.self.inside.codels.ok.0)
 
-omega_within : (g : _) (c : After-index_mut g) → c.args.flow < length c.self.inside.codels.items
+omega_within : (g : _) (c : After-index_mut-codel g) → c.args.flow < length c.self.inside.codels.items
 omega_within g c =
     let same = ap (λ (f : FlowsState). f.flows) c.self.view_is in
     omega (arith, c.requires.in_range, ap length same, length-flows c.self.inside.pool.queues c.self.inside.codels.items c.self.invariant.0)
 
-pub send_from-requires : goal.send_from-requires
-send_from-requires g c =
+pub send_from-taken-requires : goal.send_from-taken-requires
+send_from-taken-requires g c =
     let same = ap (λ (f : FlowsState). f.flows) c.self.view_is in
     omega (
       arith,
@@ -40,10 +41,10 @@ pub returns-clause-sent : goal.returns-clause-sent
 unfolding packet_sent
 returns-clause-sent g c =
     let same = ap (λ (f : FlowsState). f.flows) c.self.view_is in
-    let within = omega_within g (goal.at.returns-clause-sent g c).After-index_mut in
-    subst (λ (o : Option Flow). IfSome o (λ f. c.send_from.result ≡ packet_sent c.args.now f))
-    (sym (flow_read c.args.flow c.self.inside.pool.queues c.self.inside.codels.items c.index_mut.result.now c.args.self.now.flows c.self.invariant.0 within c.index_mut.ensures.value same))
-    c.send_from.ensures.sent
+    let within = omega_within g (goal.at.returns-clause-sent g c).After-index_mut-codel in
+    subst (λ (o : Option Flow). IfSome o (λ f. c.send_from-taken.result ≡ packet_sent c.args.now f))
+    (sym (flow_read c.args.flow c.self.inside.pool.queues c.self.inside.codels.items c.index_mut-codel.result.now c.args.self.now.flows c.self.invariant.0 within c.index_mut-codel.ensures.value same))
+    c.send_from-taken.ensures.sent
 
 pub returns-clause-flows : goal.returns-clause-flows
 unfolding flow_after
@@ -51,39 +52,56 @@ returns-clause-flows g c =
     let same = ap (λ (f : FlowsState). f.flows) c.self.view_is in
     let n = c.args.flow in
     let qs : List (List Stamped) = c.self.inside.pool.queues in
-    let codel = c.index_mut.result.now in
+    let codel = c.index_mut-codel.result.now in
     let q : List Stamped = get_or qs n [] in
-    let here : flow_after c.args.now (record { queue = q; codel = get_or c.self.inside.codels.items n codel }) ≡ record { queue = get_or c.send_from.new.pool.queues n []; codel = c.send_from.new.codel } =
-    ap (λ (s : CodelState). flow_after c.args.now (record { queue = q; codel = s })) (sym c.index_mut.ensures.value)
-    ∙ ap₂ (λ (l : List Stamped) (s : CodelState). record { queue = l; codel = s }) (sym c.send_from.ensures.left) (sym c.send_from.ensures.state) in
-    ap (λ (l : List (List Stamped)). flows_from l (set c.self.inside.codels.items n c.send_from.new.codel)) c.send_from.ensures.others
-    ∙ flow_written n qs (get_or c.send_from.new.pool.queues n []) c.self.inside.codels.items c.send_from.new.codel codel (flow_after c.args.now) here
+    let here : flow_after c.args.now (record { queue = q; codel = get_or c.self.inside.codels.items n codel }) ≡ record { queue = get_or c.send_from-taken.new.pool.queues n []; codel = c.send_from-taken.new.codel } =
+    ap (λ (s : CodelState). flow_after c.args.now (record { queue = q; codel = s })) (sym c.index_mut-codel.ensures.value)
+    ∙ ap₂ (λ (l : List Stamped) (s : CodelState). record { queue = l; codel = s }) (sym c.send_from-taken.ensures.left) (sym c.send_from-taken.ensures.state) in
+    ap (λ (l : List (List Stamped)). flows_from l (set c.self.inside.codels.items n c.send_from-taken.new.codel)) c.send_from-taken.ensures.others
+    ∙ flow_written n qs (get_or c.send_from-taken.new.pool.queues n []) c.self.inside.codels.items c.send_from-taken.new.codel codel (flow_after c.args.now) here
     ∙ ap (adjust (flow_after c.args.now) n) same
 
 pub returns-clause-lost : goal.returns-clause-lost
 unfolding packets_dropped
 returns-clause-lost g c =
     let same = ap (λ (f : FlowsState). f.flows) c.self.view_is in
-    let within = omega_within g (goal.at.returns-clause-lost g c).After-index_mut in
-    subst (λ (o : Option Flow). IfSome o (λ f. g.S.Sink.losses c.send_from.new.sink ≡ g.S.Sink.losses c.args.sink.now ++ losses_of CoDel (packets_dropped c.args.now f)))
-    (sym (flow_read c.args.flow c.self.inside.pool.queues c.self.inside.codels.items c.index_mut.result.now c.args.self.now.flows c.self.invariant.0 within c.index_mut.ensures.value same))
-    c.send_from.ensures.lost
+    let within = omega_within g (goal.at.returns-clause-lost g c).After-index_mut-codel in
+    subst (λ (o : Option Flow). IfSome o (λ f. g.S.Sink.losses c.send_from-taken.new.sink ≡ g.S.Sink.losses c.args.sink.now ++ losses_of CoDel (packets_dropped c.args.now f)))
+    (sym (flow_read c.args.flow c.self.inside.pool.queues c.self.inside.codels.items c.index_mut-codel.result.now c.args.self.now.flows c.self.invariant.0 within c.index_mut-codel.ensures.value same))
+    c.send_from-taken.ensures.lost
 
 pub returns-clause-room : goal.returns-clause-room
 unfolding packets_dropped
 returns-clause-room g c =
     let same = ap (λ (f : FlowsState). f.flows) c.self.view_is in
-    let within = omega_within g (goal.at.returns-clause-room g c).After-index_mut in
+    let within = omega_within g (goal.at.returns-clause-room g c).After-index_mut-codel in
     let q : List Stamped = get_or c.self.inside.pool.queues c.args.flow [] in
-    let n = count_dropped c.index_mut.result.now c.args.now q
-    (λ h. subst (λ (o : Option Taken). IsSome o) c.send_from.ensures.sent (c.send_from.ensures.some.1 h)) in
-    subst (λ (o : Option Flow). IfSome o (λ f. g.S.Sink.room c.send_from.new.sink + count (packets_dropped c.args.now f) ≡ g.S.Sink.room c.args.sink.now))
-    (sym (flow_read c.args.flow c.self.inside.pool.queues c.self.inside.codels.items c.index_mut.result.now c.args.self.now.flows c.self.invariant.0 within c.index_mut.ensures.value same))
-    (ap (λ (m : ℕ). g.S.Sink.room c.send_from.new.sink + m) n ∙ c.send_from.ensures.room)
+    let n = count_dropped c.index_mut-codel.result.now c.args.now q
+    (λ h. subst (λ (o : Option Taken). IsSome o) c.send_from-taken.ensures.sent (c.send_from-taken.ensures.some.1 h)) in
+    subst (λ (o : Option Flow). IfSome o (λ f. g.S.Sink.room c.send_from-taken.new.sink + count (packets_dropped c.args.now f) ≡ g.S.Sink.room c.args.sink.now))
+    (sym (flow_read c.args.flow c.self.inside.pool.queues c.self.inside.codels.items c.index_mut-codel.result.now c.args.self.now.flows c.self.invariant.0 within c.index_mut-codel.ensures.value same))
+    (ap (λ (m : ℕ). g.S.Sink.room c.send_from-taken.new.sink + m) n ∙ c.send_from-taken.ensures.room)
 
 pub returns-clause-some : goal.returns-clause-some
 returns-clause-some g c =
     let same = ap (λ (f : FlowsState). f.flows) c.self.view_is in
     let q = ap count (queue_there c.args.flow c.self.inside.pool.queues c.self.inside.codels.items c.self.invariant.0) in
     let r = ap (λ (fs : List Flow). count (queue_of fs c.args.flow)) same in
-    (λ h. let s = c.send_from.ensures.some.0 h in omega (arith, s, q, r), λ h. c.send_from.ensures.some.1 (omega (arith, h, q, r)))
+    (λ h. let s = c.send_from-taken.ensures.some.0 h in omega (arith, s, q, r), λ h. c.send_from-taken.ensures.some.1 (omega (arith, h, q, r)))
+
+pub renew-requires : goal.renew-requires
+renew-requires g c =
+    let d = (goal.at.renew-requires g c).After-index_mut-codel in
+    omega (arith, omega_within g d, c.self.invariant.0, ap length c.self.invariant.2, length-sizes c.self.inside.pool.queues)
+
+pub invariant_of-self : goal.invariant_of-self
+invariant_of-self g c =
+    let qs : List (List Stamped) = c.self.inside.pool.queues in
+    let n : ℕ = c.args.flow in
+    let d = (goal.at.invariant_of-self g c).After-index_mut-codel in
+    let new : List (List Stamped) = c.send_from-taken.new.pool.queues in (
+      ap length c.send_from-taken.ensures.others ∙ length-set qs n (get_or new n []) ∙ c.self.invariant.0 ∙ sym (length-set c.self.inside.codels.items n c.send_from-taken.new.codel),
+      omega (arith, c.self.invariant.1, length-set c.self.inside.codels.items n c.send_from-taken.new.codel),
+      sizes_renewed qs new n (get_or new n []) c.renew.new.self c.bytes_of.result c.send_from-taken.ensures.others (omega (arith, omega_within g d, c.self.invariant.0))
+          (c.renew.ensures ∙ ap (λ (l : List ℕ). set l n c.bytes_of.result) c.self.invariant.2) c.bytes_of.ensures,
+    )
