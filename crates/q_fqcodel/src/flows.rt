@@ -101,7 +101,8 @@ impl Flows {
         ensures places { self.new.places ≡ self.old.places }
     {
         self.pool.push(stamped, flow);
-        self.winners.renew(flow, self.pool.bytes_of(flow));
+        let held = self.pool.bytes_of(flow);
+        self.winners.renew(flow, held);
     }
 
     /// Notes that a flow was met empty, with credits.
@@ -129,7 +130,8 @@ impl Flows {
     {
         let codel = &mut self.codels[flow as usize];
         let taken = send_from(&mut self.pool, codel, flow, now, sink);
-        self.winners.renew(flow, self.pool.bytes_of(flow));
+        let left = self.pool.bytes_of(flow);
+        self.winners.renew(flow, left);
         taken
     }
 
@@ -159,7 +161,8 @@ impl Flows {
         }
         lose_from(&mut self.pool, flow, lost, cause, sink);
         // Once for the whole batch, and not for each packet.
-        self.winners.renew(flow, self.pool.bytes_of(flow));
+        let rest = self.pool.bytes_of(flow);
+        self.winners.renew(flow, rest);
     }
 
     /// How many packets the fat flow loses where the limit is passed.

@@ -45,8 +45,8 @@ invariant_of-self g c =
     let rest : List Stamped = drop c.args.lost (get_or qs n []) in (
       ap length c.lose_from.ensures.queues ∙ length-set qs n rest ∙ c.self.invariant.0,
       c.self.invariant.1,
-      sizes_renewed qs c.lose_from.new.pool.queues n rest c.renew.new.self c.bytes_of.result c.lose_from.ensures.queues (within g (goal.at.invariant_of-self g c).After-lose_from c.if-lost-eq0.false)
-          (c.renew.ensures ∙ ap (λ (l : List ℕ). set l n c.bytes_of.result) c.self.invariant.2) c.bytes_of.ensures,
+      sizes_renewed qs c.lose_from.new.pool.queues n rest c.renew.new.self c.bytes_of-rest.result c.lose_from.ensures.queues (within g (goal.at.invariant_of-self g c).After-lose_from c.if-lost-eq0.false)
+          (c.renew.ensures ∙ ap (λ (l : List ℕ). set l n c.bytes_of-rest.result) c.self.invariant.2) c.bytes_of-rest.ensures,
     )
 
 pub returns-clause-flows : goal.returns-clause-flows

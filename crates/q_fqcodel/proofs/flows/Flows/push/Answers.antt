@@ -40,8 +40,8 @@ invariant_of-self c =
     let qs : List (List Stamped) = c.self.inside.pool.queues in (
       ap length c.push.ensures.queues ∙ length-set qs _ _ ∙ c.self.invariant.0,
       c.self.invariant.1,
-      sizes_renewed qs c.push.new.self.queues c.args.flow (get_or qs c.args.flow [] ++ c.args.stamped ∷ []) c.renew.new.self c.bytes_of.result c.push.ensures.queues (within (goal.at.invariant_of-self c).After-push)
-          (c.renew.ensures ∙ ap (λ (l : List ℕ). set l c.args.flow c.bytes_of.result) c.self.invariant.2) c.bytes_of.ensures,
+      sizes_renewed qs c.push.new.self.queues c.args.flow (get_or qs c.args.flow [] ++ c.args.stamped ∷ []) c.renew.new.self c.bytes_of-held.result c.push.ensures.queues (within (goal.at.invariant_of-self c).After-push)
+          (c.renew.ensures ∙ ap (λ (l : List ℕ). set l c.args.flow c.bytes_of-held.result) c.self.invariant.2) c.bytes_of-held.ensures,
     )
 
 pub returns-clause-flows : goal.returns-clause-flows

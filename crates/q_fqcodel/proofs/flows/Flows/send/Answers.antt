@@ -102,6 +102,6 @@ invariant_of-self g c =
     let new : List (List Stamped) = c.send_from-taken.new.pool.queues in (
       ap length c.send_from-taken.ensures.others ∙ length-set qs n (get_or new n []) ∙ c.self.invariant.0 ∙ sym (length-set c.self.inside.codels.items n c.send_from-taken.new.codel),
       omega (arith, c.self.invariant.1, length-set c.self.inside.codels.items n c.send_from-taken.new.codel),
-      sizes_renewed qs new n (get_or new n []) c.renew.new.self c.bytes_of.result c.send_from-taken.ensures.others (omega (arith, omega_within g d, c.self.invariant.0))
-          (c.renew.ensures ∙ ap (λ (l : List ℕ). set l n c.bytes_of.result) c.self.invariant.2) c.bytes_of.ensures,
+      sizes_renewed qs new n (get_or new n []) c.renew.new.self c.bytes_of-left.result c.send_from-taken.ensures.others (omega (arith, omega_within g d, c.self.invariant.0))
+          (c.renew.ensures ∙ ap (λ (l : List ℕ). set l n c.bytes_of-left.result) c.self.invariant.2) c.bytes_of-left.ensures,
     )
