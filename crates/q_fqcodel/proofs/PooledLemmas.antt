@@ -1,15 +1,15 @@
 -- The flows as they are put together from their queues and the CoDel states: each by its index, after a change of one,
 -- and their totals.
-use Rattle.std.proofs.Common.{◌≡◌, ℕ, zero, suc, ◌<◌, List, [], ◌∷◌, length, get_or, set, replicate, Some, sum_by, refl, sym, ap, ◌∙◌, arith}
+use Rattle.std.proofs.Common.{◌≡◌, ℕ, zero, suc, ◌<◌, Bool, List, [], ◌∷◌, length, get_or, set, map, drop, replicate, Some, sum_by, refl, sym, ap, ap₂, ◌∙◌, arith}
 use Rattle.std.specs.Prelude.{slice_get}
 use Rattle.std.proofs.lemmas.List.{set-get_or, get_or-set_same}
 use Rattle.std.proofs.lemmas.List.Sums.{sum_by-cons}
 use Rattle.q_packet.specs.Totals.{count, size}
 use Rattle.q_packet.specs.declared.stamped.Stamped.{Stamped}
-use Rattle.q_codel.specs.Codel.{CodelState}
+use Rattle.q_codel.specs.Codel.{CodelState, CodelParams, CodelVars, joined, vars_of, vars_at_first}
 use Rattle.q_fqcodel.specs.Cleared.{adjust}
 use Rattle.q_fqcodel.specs.FqState.{Flow, queue_of, packets_of, bytes_of}
-use Rattle.q_fqcodel.specs.Pool.{packets_in, bytes_in, sizes, flows_from}
+use Rattle.q_fqcodel.specs.Pool.{packets_in, bytes_in, sizes, flows_from, codels_in, cleared}
 
 pub length-flows : (qs : List (List Stamped)) (cs : List CodelState) → length qs ≡ length cs → length (flows_from qs cs) ≡ length cs
 unfolding flows_from
@@ -135,3 +135,53 @@ pub flow_with : (qs : List (List Stamped)) (n : ℕ) → 0 < count (get_or qs n 
 flow_with [] n h = absurd (omega arith)
 flow_with (q ∷ qs) zero h = omega arith
 flow_with (q ∷ qs) (suc n) h = omega (arith, flow_with qs n h)
+
+-- ---- CoDel's settings apart from each flow's state
+
+pub length-codels : (p : CodelParams) (vs : List CodelVars) → length (codels_in p vs) ≡ length vs
+unfolding codels_in
+length-codels p [] = refl
+length-codels p (v ∷ vs) = ap suc (length-codels p vs)
+
+pub codel_at : (p : CodelParams) (vs : List CodelVars) (n : ℕ) (d : CodelVars) → get_or (codels_in p vs) n (joined p d) ≡ joined p (get_or vs n d)
+unfolding codels_in
+codel_at p [] zero d = refl
+codel_at p [] (suc n) d = refl
+codel_at p (v ∷ vs) zero d = refl
+codel_at p (v ∷ vs) (suc n) d = codel_at p vs n d
+
+pub codels-set : (p : CodelParams) (vs : List CodelVars) (n : ℕ) (v : CodelVars) → codels_in p (set vs n v) ≡ set (codels_in p vs) n (joined p v)
+unfolding codels_in
+codels-set p [] n v = refl
+codels-set p (x ∷ xs) zero v = refl
+codels-set p (x ∷ xs) (suc n) v = ap (λ (l : List CodelState). joined p x ∷ l) (codels-set p xs n v)
+
+pub codels_first : (p : CodelParams) (n : ℕ) → codels_in p (replicate n vars_at_first) ≡ replicate n (joined p vars_at_first)
+unfolding codels_in
+codels_first p zero = refl
+codels_first p (suc n) = ap (λ (l : List CodelState). joined p vars_at_first ∷ l) (codels_first p n)
+
+-- other settings, but for the mtu
+pub codels_retuned : (p r : CodelParams) (target interval : ℕ) (ecn : Bool) (vs : List CodelVars) → r ≡ record p { target = target; interval = interval; ecn = ecn }
+    → codels_in r vs ≡ map (λ (c : CodelState). record c { target = target; interval = interval; ecn = ecn }) (codels_in p vs)
+unfolding codels_in
+codels_retuned p r target interval ecn [] e = refl
+codels_retuned p r target interval ecn (v ∷ vs) e =
+    ap₂ (λ (c : CodelState) (l : List CodelState). c ∷ l) (ap (λ (q : CodelParams). joined q v) e) (codels_retuned p r target interval ecn vs e)
+
+-- all flows are cleared, and get these settings
+pub cleared_retuned : (p r : CodelParams) (qs : List (List Stamped)) (vs : List CodelVars) (old : List Flow) → length qs ≡ length (codels_in p vs) → flows_from qs (codels_in p vs) ≡ map cleared old
+    → flows_from qs (codels_in r vs) ≡ replicate (length old) (record { queue = []; codel = joined r vars_at_first })
+unfolding codels_in flows_from cleared
+cleared_retuned p r [] vs [] len e = refl
+cleared_retuned p r [] vs (f ∷ fs) len e = absurd cc
+cleared_retuned p r (q ∷ qs) [] old len e = absurd (omega (arith, len))
+cleared_retuned p r (q ∷ qs) (v ∷ vs) [] len e = absurd cc
+cleared_retuned p r (q ∷ qs) (v ∷ vs) (f ∷ fs) len e =
+    let head : record { queue = q; codel = joined p v } ≡ cleared f = ap (λ (l : List Flow). get_or l 0 (cleared f)) e in
+    let tail : flows_from qs (codels_in p vs) ≡ map cleared fs = ap (drop 1) e in
+    let none : q ≡ [] = ap (λ (x : Flow). x.queue) head in
+    let first : v ≡ vars_at_first = ap (λ (x : Flow). vars_of x.codel) head in
+    ap₂ (λ (x : Flow) (l : List Flow). x ∷ l)
+    (ap₂ (λ (x : List Stamped) (y : CodelVars). record { queue = x; codel = joined r y }) none first)
+    (cleared_retuned p r qs vs fs (omega (arith, len)) tail)

@@ -3,7 +3,7 @@
 use Rattle.std.specs.Prelude.{◌≡◌, ℕ, ◌≤◌, ◌^◌, List, [], ◌∷◌, map, set, get_or, sum_by, Option}
 use Rattle.q_packet.specs.Totals.{count, size}
 use Rattle.q_packet.specs.declared.stamped.Stamped.{Stamped}
-use Rattle.q_codel.specs.Codel.{CodelState}
+use Rattle.q_codel.specs.Codel.{CodelState, CodelParams, CodelVars, joined, at_first}
 use Rattle.q_fqcodel.specs.Chain.{queue_in, IsList}
 use Rattle.q_fqcodel.specs.FqState.{Flow}
 use Rattle.q_fqcodel.specs.declared.node.Node.{Node}
@@ -49,3 +49,11 @@ unfoldable pub flows_from : List (List Stamped) → List CodelState → List Flo
 flows_from [] cs = []
 flows_from (q ∷ qs) [] = []
 flows_from (q ∷ qs) (c ∷ cs) = record { queue = q; codel = c } ∷ flows_from qs cs
+
+-- what CoDel knows of each flow: the state of each, with the settings that all have
+unfoldable pub codels_in : CodelParams → List CodelVars → List CodelState
+codels_in p vs = map (joined p) vs
+
+-- a flow without packets, with the state of CoDel at first
+unfoldable pub cleared : Flow → Flow
+cleared f = record { queue = []; codel = at_first f.codel.target f.codel.interval f.codel.mtu f.codel.ecn }

@@ -1,54 +1,64 @@
 ghost use Rattle.std.specs.Prelude.{◌≡◌, ◌+◌, ◌*◌, ◌<◌, ◌≤◌, ◌^◌, [], ◌++◌, ◌&&◌, ◌==◌, nat_le, length, map, replicate, take, drop, set, slice_get, get_or, ◌↔◌, IsSome, IfSome, IsOk, IfOk, OnOk, OnErr};
 ghost use Rattle.q_packet.specs.Totals.{count};
-ghost use Rattle.q_codel.specs.Codel.{CodelState, drops, taken, left, after};
+ghost use Rattle.q_codel.specs.Codel.{joined as together, drops, taken, left, after};
 ghost use Rattle.q_codel.specs.Losses.{losses_of};
 ghost use Rattle.q_fqcodel.specs.Cleared.{adjust};
-ghost use Rattle.q_fqcodel.specs.FqState.{queue_of, is_idle, packets_of, bytes_of, rested_flow, retuned, all_packets};
+ghost use Rattle.q_fqcodel.specs.FqState.{queue_of, is_idle, packets_of, bytes_of, rested_flow, retuned, all_packets, first_flow};
 ghost use Rattle.q_fqcodel.specs.Put.{joined, shortened, fattest, shed_count};
 ghost use Rattle.q_fqcodel.specs.Take.{packet_sent, packets_dropped, flow_after};
-ghost use Rattle.q_fqcodel.specs.Pool.{SameBeside};
+ghost use Rattle.q_fqcodel.specs.Pool.{SameBeside, cleared};
 
 use crate::flow_queue::FlowQueue;
 use crate::pool::Pool;
+use crate::settings::Settings;
 use crate::winners::Winners;
-use q_codel::{Codel, Sink, Taken};
+use q_codel::{ControlState, Parameters, Sink, Taken};
 use q_packet::{Cause, Moment, Stamped};
 use std::alloc::{AllocError, Global};
 use std::marker::Model;
 
-/// All flows, by index: their packets, and CoDel for each.
+/// All flows, by index: their packets, and CoDel for each, with the same settings.
 #[derive(Drop)]
 pub(crate) struct Flows {
     pool: Pool,
-    codels: Vec<Codel>,
+    // What CoDel knows of each flow.
+    states: Vec<ControlState>,
+    // CoDel's settings, which all flows have.
+    parameters: Parameters,
+    // The mtu among them, which they do not tell.
+    mtu: u16,
     winners: Winners,
 }
 
 impl Model for Flows {
     ghost use Rattle.std.specs.Prelude.{◌≡◌, length, ◌≤◌};
     ghost use Rattle.q_fqcodel.specs.FlowsState.{FlowsState};
-    ghost use Rattle.q_fqcodel.specs.Pool.{flows_from, sizes};
+    ghost use Rattle.q_fqcodel.specs.Pool.{flows_from, codels_in, sizes};
 
     ghost Value = { FlowsState };
 
-    ghost view = { λ f. record { flows = flows_from f.pool.queues f.codels.items; places = f.pool.places } };
+    ghost view = { λ f. record { flows = flows_from f.pool.queues (codels_in f.parameters f.states.items); places = f.pool.places } };
 
     ghost invariant = { λ f.
-        (length f.pool.queues ≡ length f.codels.items) × (length f.codels.items ≤ 65536) × (f.winners ≡ sizes f.pool.queues) };
+        (length f.pool.queues ≡ length (codels_in f.parameters f.states.items))
+        × (length f.states.items ≤ 65536)
+        × (f.winners ≡ sizes f.pool.queues)
+        × (f.parameters.mtu ≡ f.mtu) };
 }
 
 impl Flows {
-    /// So many empty flows, each with this state of CoDel.
-    pub(crate) fn new(alloc: Global, count: u32, codel: Codel) -> Result<Flows, AllocError>
-        requires { count ≤ 65536 }
-        ensures { IfOk result (λ f. f.flows ≡ replicate count (record { queue = []; codel = codel })) }
+    /// Empty flows, as many as the settings tell and with CoDel as they tell.
+    pub(crate) fn new(alloc: Global, settings: Settings) -> Result<Flows, AllocError>
+        ensures { IfOk result (λ f. f.flows ≡ replicate settings.flows (first_flow settings)) }
     {
-        let pool = Pool::new(alloc, count)?;
-        let codels = vec![in alloc; codel; count as usize]?;
-        let winners = Winners::new(alloc, count)?;
+        let pool = Pool::new(alloc, settings.flows)?;
+        let states = vec![in alloc; ControlState::new(); settings.flows as usize]?;
+        let winners = Winners::new(alloc, settings.flows)?;
         Ok(Flows {
             pool,
-            codels,
+            states,
+            parameters: parameters_of(settings),
+            mtu: settings.mtu,
             winners,
         })
     }
@@ -111,7 +121,7 @@ impl Flows {
         ensures flows { self.new.flows ≡ adjust rested_flow flow self.old.flows }
         ensures places { self.new.places ≡ self.old.places }
     {
-        self.codels[flow as usize].rest();
+        self.states[flow as usize].rest();
     }
 
     /// Lets a flow send by CoDel's law.
@@ -128,8 +138,8 @@ impl Flows {
         ensures some { IsSome result ↔ (0 < count (queue_of self.old.flows flow)) }
         ensures kept { S.keeps sink.old sink.new }
     {
-        let codel = &mut self.codels[flow as usize];
-        let taken = send_from(&mut self.pool, codel, flow, now, sink);
+        let codel = &mut self.states[flow as usize];
+        let taken = send_from(&mut self.pool, codel, &self.parameters, flow, now, sink);
         let left = self.pool.bytes_of(flow);
         self.winners.renew(flow, left);
         taken
@@ -190,14 +200,14 @@ impl Flows {
         ensures flows { self.new.flows ≡ map (retuned target interval ecn) self.old.flows }
         ensures places { self.new.places ≡ self.old.places }
     {
-        retune(&mut self.codels, target, interval, ecn);
+        self.parameters = Parameters::new(target, interval, self.mtu, ecn).unwrap();
     }
 
-    /// Loses all packets of a flow, and sets the state of its CoDel.
-    fn empty<S: Sink>(&mut self, flow: u32, codel: Codel, sink: &mut S)
+    /// Loses all packets of a flow, and forgets what CoDel knew of it.
+    fn empty<S: Sink>(&mut self, flow: u32, sink: &mut S)
         requires in_range { flow < length self.old.flows }
         requires room { count (queue_of self.old.flows flow) ≤ S.room sink.old }
-        ensures flows { self.new.flows ≡ adjust (λ _. record { queue = []; codel = codel }) flow self.old.flows }
+        ensures flows { self.new.flows ≡ adjust cleared flow self.old.flows }
         ensures places { self.new.places ≡ self.old.places }
         ensures lost { S.losses sink.new ≡ S.losses sink.old ++ losses_of Cause.Purged (queue_of self.old.flows flow) }
         ensures room { S.room sink.new + count (queue_of self.old.flows flow) ≡ S.room sink.old }
@@ -205,21 +215,23 @@ impl Flows {
     {
         let count = self.count_of(flow);
         self.lose(flow, count, Cause::Purged, sink);
-        self.codels[flow as usize] = codel;
+        self.states[flow as usize] = ControlState::new();
     }
 
-    /// Loses every packet, flow by flow, and sets the state of CoDel of each.
-    pub(crate) fn purge<S: Sink>(&mut self, codel: Codel, sink: &mut S)
+    /// Loses every packet, flow by flow. The flows are then as at first, with CoDel as these settings tell.
+    pub(crate) fn purge<S: Sink>(&mut self, settings: Settings, sink: &mut S)
         requires { packets_of self.old.flows ≤ S.room sink.old }
-        ensures flows { self.new.flows ≡ replicate (length self.old.flows) (record { queue = []; codel = codel }) }
+        ensures flows { self.new.flows ≡ replicate (length self.old.flows) (first_flow settings) }
         ensures places { self.new.places ≡ self.old.places }
         ensures lost { S.losses sink.new ≡ S.losses sink.old ++ losses_of Cause.Purged (all_packets self.old.flows) }
         ensures room { S.room sink.new + packets_of self.old.flows ≡ S.room sink.old }
         ensures kept { S.keeps sink.old sink.new }
     {
         for flow in 0..self.len() {
-            self.empty(flow, codel, sink);
+            self.empty(flow, sink);
         }
+        self.parameters = parameters_of(settings);
+        self.mtu = settings.mtu;
     }
 
     // The number of flows.
@@ -227,20 +239,21 @@ impl Flows {
         ensures value { result ≡ length self.now.flows }
         ensures small { result ≤ 65536 }
     {
-        self.codels.len() as u32
+        self.states.len() as u32
     }
 }
 
-// Sets what the settings of an fq_codel say of CoDel, for each flow.
-fn retune(codels: &mut Vec<Codel>, target: u64, interval: u64, ecn: bool)
-    requires target { target ≤ 10 ^ 12 }
-    requires interval_low { 1000 ≤ interval }
-    requires interval_high { interval ≤ 10 ^ 12 }
-    ensures { codels.new.items ≡ map (λ (c : CodelState). record c { target = target; interval = interval; ecn = ecn }) codels.old.items }
+// What the settings of an fq_codel say of CoDel.
+fn parameters_of(settings: Settings) -> Parameters
+    ensures { result ≡ record { target = settings.target; interval = settings.interval; mtu = settings.mtu; ecn = settings.ecn } }
 {
-    for i in 0..codels.len() {
-        codels[i].set_params(target, interval, ecn);
-    }
+    Parameters::new(
+        settings.target,
+        settings.interval,
+        settings.mtu,
+        settings.ecn,
+    )
+    .unwrap()
 }
 
 // Loses the first `lost` packets of a flow.
@@ -261,23 +274,24 @@ fn lose_from<S: Sink>(pool: &mut Pool, flow: u32, lost: u64, cause: Cause, sink:
 
 fn send_from<S: Sink>(
     pool: &mut Pool,
-    codel: &mut Codel,
+    codel: &mut ControlState,
+    parameters: &Parameters,
     flow: u32,
     now: Moment,
     sink: &mut S,
 ) -> Option<Taken>
     requires { count (get_or pool.old.queues flow []) ≤ S.room sink.old }
-    ensures sent { result ≡ taken codel.old now (get_or pool.old.queues flow []) }
-    ensures left { get_or pool.new.queues flow [] ≡ left codel.old now (get_or pool.old.queues flow []) }
-    ensures state { codel.new ≡ after codel.old now (get_or pool.old.queues flow []) }
+    ensures sent { result ≡ taken (together parameters.now codel.old) now (get_or pool.old.queues flow []) }
+    ensures left { get_or pool.new.queues flow [] ≡ left (together parameters.now codel.old) now (get_or pool.old.queues flow []) }
+    ensures state { together parameters.now codel.new ≡ after (together parameters.now codel.old) now (get_or pool.old.queues flow []) }
     ensures lost { S.losses sink.new ≡ S.losses sink.old
-        ++ losses_of Cause.CoDel (take (drops codel.old now (get_or pool.old.queues flow [])) (get_or pool.old.queues flow [])) }
-    ensures room { S.room sink.new + drops codel.old now (get_or pool.old.queues flow []) ≡ S.room sink.old }
+        ++ losses_of Cause.CoDel (take (drops (together parameters.now codel.old) now (get_or pool.old.queues flow [])) (get_or pool.old.queues flow [])) }
+    ensures room { S.room sink.new + drops (together parameters.now codel.old) now (get_or pool.old.queues flow []) ≡ S.room sink.old }
     ensures some { IsSome result ↔ (0 < count (get_or pool.old.queues flow [])) }
     ensures others { SameBeside flow pool.old.queues pool.new.queues }
     ensures places { pool.new.places ≡ pool.old.places }
     ensures kept { S.keeps sink.old sink.new }
 {
     let mut queue = FlowQueue { pool, flow };
-    codel.take(&mut queue, now, sink)
+    codel.take(parameters, &mut queue, now, sink)
 }

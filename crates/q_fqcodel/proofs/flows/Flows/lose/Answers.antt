@@ -6,7 +6,7 @@ use Rattle.q_codel.specs.Losses.{losses_of}
 use Rattle.q_fqcodel.specs.Cleared.{adjust}
 use Rattle.q_fqcodel.specs.FlowsState.{FlowsState}
 use Rattle.q_fqcodel.specs.FqState.{queue_of}
-use Rattle.q_fqcodel.specs.Pool.{flows_from}
+use Rattle.q_fqcodel.specs.Pool.{flows_from, codels_in}
 use Rattle.q_fqcodel.specs.Put.{shortened}
 use Rattle.q_fqcodel.proofs.PooledLemmas.{queue_there, queue_written, flow_with, length-sizes, sizes_renewed}
 use Rattle.q_fqcodel.proofs.ShedLemmas.{shortened-none}
@@ -20,7 +20,7 @@ returns-then-lost-eq0-clause-flows g c =
 -- the flow's queue, as the pool has it
 own : (g : _) (c : After-lose_from g) → queue_of c.args.self.now.flows c.args.flow ≡ get_or c.self.inside.pool.queues c.args.flow []
 own g c =
-    ap (λ (f : FlowsState). queue_of f.flows c.args.flow) (sym c.self.view_is) ∙ queue_there c.args.flow c.self.inside.pool.queues c.self.inside.codels.items c.self.invariant.0
+    ap (λ (f : FlowsState). queue_of f.flows c.args.flow) (sym c.self.view_is) ∙ queue_there c.args.flow c.self.inside.pool.queues (codels_in c.self.inside.parameters c.self.inside.states.items) c.self.invariant.0
 
 pub lose_from-requires-clause-held : goal.lose_from-requires-clause-held
 lose_from-requires-clause-held g c =
@@ -28,7 +28,7 @@ lose_from-requires-clause-held g c =
       arith,
       c.requires.held,
       ap (λ (f : FlowsState). count (queue_of f.flows c.args.flow)) c.self.view_is,
-      ap count (queue_there c.args.flow c.self.inside.pool.queues c.self.inside.codels.items c.self.invariant.0),
+      ap count (queue_there c.args.flow c.self.inside.pool.queues (codels_in c.self.inside.parameters c.self.inside.states.items) c.self.invariant.0),
     )
 
 within : (g : _) (c : After-lose_from g) → c.args.lost ≢ 0 → c.args.flow < length c.self.inside.pool.queues
@@ -47,13 +47,14 @@ invariant_of-self g c =
       c.self.invariant.1,
       sizes_renewed qs c.lose_from.new.pool.queues n rest c.renew.new.self c.bytes_of-rest.result c.lose_from.ensures.queues (within g (goal.at.invariant_of-self g c).After-lose_from c.if-lost-eq0.false)
           (c.renew.ensures ∙ ap (λ (l : List ℕ). set l n c.bytes_of-rest.result) c.self.invariant.2) c.bytes_of-rest.ensures,
+      c.self.invariant.3,
     )
 
 pub returns-clause-flows : goal.returns-clause-flows
 returns-clause-flows g c =
     let qs : List (List Stamped) = c.self.inside.pool.queues in
     let n : ℕ = c.args.flow in
-    let cs = c.self.inside.codels.items in
+    let cs = (codels_in c.self.inside.parameters c.self.inside.states.items) in
     ap (λ (l : List (List Stamped)). flows_from l cs) c.lose_from.ensures.queues
     ∙ queue_written n qs (drop c.args.lost (get_or qs n [])) cs (shortened c.args.lost) (λ k. refl)
     ∙ ap (λ (f : FlowsState). adjust (shortened c.args.lost) n f.flows) c.self.view_is
