@@ -1,3 +1,4 @@
+pub mod ChainLemmas
 pub mod ClearedLemmas
 pub mod FatLemmas
 pub mod FlowLemmas
@@ -16,3 +17,4 @@ pub mod SelectionLemmas
 pub mod SentLemmas
 pub mod ShedLemmas
 pub mod TurnLemmas
+pub mod WinnerLemmas

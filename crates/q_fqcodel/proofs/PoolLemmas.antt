@@ -1,160 +1,197 @@
--- The queues of the flows in one list of packets: after one packet more, and after the first of a flow is taken out.
-use Rattle.std.proofs.Common.{◌≡◌, ◌≢◌, ℕ, suc, ◌+◌, ◌<◌, ◌≤◌, ◌==◌, Bool, false, not, cond, List, [], ◌∷◌, ◌++◌, map, length, get_or, take, drop, remove, refl, sym, ap, ◌∙◌, arith, ⊎_elim, append-nil}
-use Rattle.std.proofs.lemmas.Bool.{eq-eqb, ne_eqb, cases_eq, cond-true, cond-false}
-use Rattle.std.proofs.lemmas.List.{map-append, take_more, take_all, length-append, length-take, length-drop}
-use Rattle.std.proofs.lemmas.List.Sums.{position_or_len_is}
-use Rattle.std.proofs.lemmas.List.Elements.{filter-append, All-append, All-take, All-drop}
+-- The queues of all flows in one slab: one of them is written, the others stay, and all are counted.
+use Rattle.std.proofs.Common.{◌≡◌, ◌≢◌, ℕ, zero, suc, ◌+◌, ◌*◌, ◌<◌, ◌≤◌, ◌^◌, List, [], ◌∷◌, length, map, get_or, set, replicate, sum_by, Option, refl, sym, ap, ap₂, ◌∙◌, arith, subst, ⊎_elim}
+use Rattle.std.proofs.lemmas.Bool.{cases_eq, cases_lt}
+use Rattle.std.proofs.lemmas.List.{get_or-set_same, get_or-set_other, get_or_past}
+use Rattle.std.proofs.lemmas.List.Sums.{sum_by-cons, sum_by-set}
+use Rattle.std.specs.Prelude.{count_by, is_some}
+use Rattle.slab.specs.Slab.{Slab, get, slab_len}
+use Rattle.q_packet.specs.Totals.{count, size}
 use Rattle.q_packet.specs.declared.stamped.Stamped.{Stamped}
-use Rattle.q_fqcodel.specs.Pool.{queue_in, place_in, SameBeside}
-use Rattle.q_fqcodel.specs.declared.held.Held.{Held}
+use Rattle.q_fqcodel.specs.Chain.{chain, queue_in, IsChain, IsList, KeepsOthers}
+use Rattle.q_fqcodel.specs.Pool.{no_list, queues_in, packets_in, bytes_in, IsPool}
+use Rattle.q_fqcodel.specs.declared.node.Node.{Node}
+use Rattle.q_fqcodel.specs.declared.flow_list.FlowList.{FlowList}
+use Rattle.q_fqcodel.proofs.ChainLemmas.{chain-none, counted, few_bytes, enough_bytes}
 
-pub queue_in-append : (n : ℕ) (xs ys : List Held) → queue_in n (xs ++ ys) ≡ queue_in n xs ++ queue_in n ys
-unfolding queue_in
-queue_in-append n xs ys =
-    ap (map (λ (h : Held). h.stamped)) (filter-append (λ (h : Held). h.flow == n) xs ys) ∙ map-append (λ (h : Held). h.stamped) _ _
+pub length-queues : (at : ℕ → Option Node) (lists : List FlowList) → length (queues_in at lists) ≡ length lists
+unfolding queues_in
+length-queues at [] = refl
+length-queues at (l ∷ ls) = ap suc (length-queues at ls)
 
-pub queue_in-nil : (n : ℕ) → queue_in n [] ≡ []
-unfolding queue_in
-queue_in-nil n = refl
+-- the queue of one flow
+pub queue_at : (at : ℕ → Option Node) (lists : List FlowList) (n : ℕ) → get_or (queues_in at lists) n [] ≡ queue_in at (get_or lists n no_list)
+unfolding queues_in
+queue_at at [] zero = sym (chain-none at 0)
+queue_at at [] (suc n) = sym (chain-none at 0)
+queue_at at (l ∷ ls) zero = refl
+queue_at at (l ∷ ls) (suc n) = queue_at at ls n
 
-pub queue_in-own : (n : ℕ) (h : Held) (xs : List Held) → h.flow ≡ n → queue_in n (h ∷ xs) ≡ h.stamped ∷ queue_in n xs
-unfolding queue_in
-queue_in-own n h xs e = ap (map (λ (h : Held). h.stamped)) (cond-true (h.flow == n) _ _ (eq-eqb h.flow n e))
+-- ---- one list is written
 
-pub queue_in-other : (n : ℕ) (h : Held) (xs : List Held) → h.flow ≢ n → queue_in n (h ∷ xs) ≡ queue_in n xs
-unfolding queue_in
-queue_in-other n h xs ne = ap (map (λ (h : Held). h.stamped)) (cond-false (h.flow == n) _ _ (ne_eqb h.flow n ne))
+queues_same : (at at2 : ℕ → Option Node) (lists : List FlowList) → ((m : ℕ) → queue_in at2 (get_or lists m no_list) ≡ queue_in at (get_or lists m no_list)) → queues_in at2 lists ≡ queues_in at lists
+unfolding queues_in
+queues_same at at2 [] same = refl
+queues_same at at2 (l ∷ ls) same = ap₂ (λ (q : List Stamped) (qs : List (List Stamped)). q ∷ qs) (same 0) (queues_same at at2 ls (λ m. same (suc m)))
 
--- one packet more of the list
-pub own_more : (n : ℕ) (xs : List Held) (i : ℕ) (d : Held) → i < length xs → (get_or xs i d).flow ≡ n → queue_in n (take (i + 1) xs) ≡ queue_in n (take i xs) ++ (get_or xs i d).stamped ∷ []
-own_more n xs i d within e =
-    ap (queue_in n) (take_more xs i d within)
-    ∙ queue_in-append n (take i xs) (get_or xs i d ∷ [])
-    ∙ ap (λ (l : List Stamped). queue_in n (take i xs) ++ l) (queue_in-own n (get_or xs i d) [] e ∙ ap (λ (l : List Stamped). (get_or xs i d).stamped ∷ l) (queue_in-nil n))
+queues_set : (at at2 : ℕ → Option Node) (lists : List FlowList) (n : ℕ) (l2 : FlowList) → ((m : ℕ) → m ≢ n → queue_in at2 (get_or lists m no_list) ≡ queue_in at (get_or lists m no_list))
+    → queues_in at2 (set lists n l2) ≡ set (queues_in at lists) n (queue_in at2 l2)
+unfolding queues_in
+queues_set at at2 [] n l2 same = refl
+queues_set at at2 (l ∷ ls) zero l2 same = ap (λ (qs : List (List Stamped)). queue_in at2 l2 ∷ qs) (queues_same at at2 ls (λ m. same (suc m) (λ e. absurd (omega (arith, e)))))
+queues_set at at2 (l ∷ ls) (suc n) l2 same =
+    ap₂ (λ (q : List Stamped) (qs : List (List Stamped)). q ∷ qs) (same 0 (λ e. absurd (omega (arith, e))))
+    (queues_set at at2 ls n l2 (λ m ne. same (suc m) (λ e. ne (omega (arith, e)))))
 
-pub other_more : (n : ℕ) (xs : List Held) (i : ℕ) (d : Held) → i < length xs → (get_or xs i d).flow ≢ n → queue_in n (take (i + 1) xs) ≡ queue_in n (take i xs)
-other_more n xs i d within ne =
-    ap (queue_in n) (take_more xs i d within)
-    ∙ queue_in-append n (take i xs) (get_or xs i d ∷ [])
-    ∙ ap (λ (l : List Stamped). queue_in n (take i xs) ++ l) (queue_in-other n (get_or xs i d) [] ne ∙ queue_in-nil n)
-    ∙ append-nil (queue_in n (take i xs))
+module _ (at at2 : ℕ → Option Node) (nodes : ℕ) (lists : List FlowList) (bytes : ℕ) (pool : IsPool at nodes lists bytes) (n : ℕ) (l2 : FlowList) (within : n < length lists)
+    (others : KeepsOthers n at at2) (linked : IsList at2 n l2) where
+  pub written : queues_in at2 (set lists n l2) ≡ set (queues_in at lists) n (queue_in at2 l2)
+  written = queues_set at at2 lists n l2 (λ m ne. others.same m (get_or lists m no_list) ne (pool.each m))
 
--- where the first packet of a flow stands
-place-own : (n : ℕ) (h : Held) (xs : List Held) → h.flow ≡ n → place_in n (h ∷ xs) ≡ 0
-unfolding place_in
-place-own n h xs e = ap (λ (b : Bool). cond (not b) (1 + place_in n xs) 0) (eq-eqb h.flow n e)
+  -- the pool with one packet more, or one fewer
+  pub pool_after : (nodes2 bytes2 : ℕ) → nodes2 + (get_or lists n no_list).count ≡ nodes + l2.count → bytes2 + (get_or lists n no_list).bytes ≡ bytes + l2.bytes → nodes2 ≤ 2 ^ 32 → IsPool at2 nodes2 (set lists n l2) bytes2
+  pool_after nodes2 bytes2 counts sums few = record {
+    each = λ m. ⊎_elim
+        (λ (e : m ≡ n). at_n m e)
+        (λ (ne : m ≢ n). other m ne)
+        (cases_eq m n);
+    counted = omega (arith, counts, pool.counted, sum_by-set (λ (l : FlowList). l.count) lists n l2 no_list within);
+    summed = omega (arith, sums, pool.summed, sum_by-set (λ (l : FlowList). l.bytes) lists n l2 no_list within);
+    few = few;
+  }
+    where
+      at_n : (m : ℕ) → m ≡ n → IsList at2 m (get_or (set lists n l2) m no_list)
+      at_n m e = rw (e, get_or-set_same lists n l2 no_list within) linked
 
-place-other : (n : ℕ) (h : Held) (xs : List Held) → h.flow ≢ n → place_in n (h ∷ xs) ≡ suc (place_in n xs)
-unfolding place_in
-place-other n h xs ne = ap (λ (b : Bool). cond (not b) (1 + place_in n xs) 0) (ne_eqb h.flow n ne) ∙ omega arith
+      other : (m : ℕ) → m ≢ n → IsList at2 m (get_or (set lists n l2) m no_list)
+      other m ne = rw (get_or-set_other lists n m l2 no_list ne) (others.linked m (get_or lists m no_list) ne (pool.each m))
 
-place-nil : (n : ℕ) → place_in n [] ≡ 0
-unfolding place_in
-place-nil n = refl
+-- ---- totals
 
-pub place_le : (n : ℕ) (xs : List Held) → place_in n xs ≤ length xs
-place_le n [] = omega (arith, place-nil n)
-place_le n (x ∷ xs) =
-    ⊎_elim (λ (e : x.flow ≡ n). omega (arith, place-own n x xs e)) (λ (ne : x.flow ≢ n). omega (arith, place-other n x xs ne, place_le n xs)) (cases_eq x.flow n)
+part_le : (f : FlowList → ℕ) (lists : List FlowList) (n : ℕ) → f no_list ≡ 0 → f (get_or lists n no_list) ≤ sum_by f lists
+part_le f [] zero none = omega (arith, none)
+part_le f [] (suc n) none = omega (arith, none)
+part_le f (l ∷ ls) zero none = omega (arith, sum_by-cons f l ls)
+part_le f (l ∷ ls) (suc n) none = omega (arith, sum_by-cons f l ls, part_le f ls n none)
 
-pub absent : (n : ℕ) (xs : List Held) → length xs ≤ place_in n xs → queue_in n xs ≡ []
-absent n [] h = queue_in-nil n
-absent n (x ∷ xs) h =
-    ⊎_elim (λ (e : x.flow ≡ n). absurd (omega (arith, place-own n x xs e)))
-    (λ (ne : x.flow ≢ n). queue_in-other n x xs ne ∙ absent n xs (omega (arith, place-other n x xs ne)))
-    (cases_eq x.flow n)
+module _ (at : ℕ → Option Node) (nodes : ℕ) (lists : List FlowList) (bytes : ℕ) (pool : IsPool at nodes lists bytes) where
+  pub count_at : (n : ℕ) → (get_or lists n no_list).count ≡ count (queue_in at (get_or lists n no_list))
+  count_at n = sym (counted at n (get_or lists n no_list).tail (get_or lists n no_list).count (get_or lists n no_list).head (pool.each n).linked)
 
-pub first_own : (n : ℕ) (xs : List Held) (d : Held) → place_in n xs < length xs → queue_in n xs ≡ (get_or xs (place_in n xs) d).stamped ∷ queue_in n (remove xs (place_in n xs))
-first_own n [] d h = absurd (omega arith)
-first_own n (x ∷ xs) d h =
-    ⊎_elim
-    (λ (e : x.flow ≡ n).
-    queue_in-own n x xs e
-    ∙ ap (λ (p : ℕ). (get_or (x ∷ xs) p d).stamped ∷ queue_in n (remove (x ∷ xs) p)) (sym (place-own n x xs e)))
-    (λ (ne : x.flow ≢ n).
-    let p : place_in n (x ∷ xs) ≡ suc (place_in n xs) = place-other n x xs ne in
-    queue_in-other n x xs ne
-    ∙ first_own n xs d (omega arith)
-    ∙ ap (λ (l : List Stamped). (get_or xs (place_in n xs) d).stamped ∷ l) (sym (queue_in-other n x (remove xs (place_in n xs)) ne))
-    ∙ ap (λ (p : ℕ). (get_or (x ∷ xs) p d).stamped ∷ queue_in n (remove (x ∷ xs) p)) (sym p))
-    (cases_eq x.flow n)
+  pub count_le : (n : ℕ) → (get_or lists n no_list).count ≤ nodes
+  count_le n = omega (arith, part_le (λ (l : FlowList). l.count) lists n refl, pool.counted)
 
-pub others_kept : (n m : ℕ) (xs : List Held) → m ≢ n → queue_in m (remove xs (place_in n xs)) ≡ queue_in m xs
-others_kept n m [] ne = ap (λ (p : ℕ). queue_in m (remove [] p)) (place-nil n)
-others_kept n m (x ∷ xs) ne =
-    ⊎_elim
-    (λ (e : x.flow ≡ n).
-    ap (λ (p : ℕ). queue_in m (remove (x ∷ xs) p)) (place-own n x xs e)
-    ∙ sym (queue_in-other m x xs (λ f. ne (sym f ∙ e))))
-    (λ (other : x.flow ≢ n).
-    ap (λ (p : ℕ). queue_in m (remove (x ∷ xs) p)) (place-other n x xs other)
-    ∙ ⊎_elim
-    (λ (own : x.flow ≡ m). queue_in-own m x (remove xs (place_in n xs)) own ∙ ap (λ (l : List Stamped). x.stamped ∷ l) (others_kept n m xs ne) ∙ sym (queue_in-own m x xs own))
-    (λ (no : x.flow ≢ m). queue_in-other m x (remove xs (place_in n xs)) no ∙ others_kept n m xs ne ∙ sym (queue_in-other m x xs no))
-    (cases_eq x.flow m))
-    (cases_eq x.flow n)
+  pub bytes_le : (n : ℕ) → (get_or lists n no_list).bytes ≤ bytes
+  bytes_le n = omega (arith, part_le (λ (l : FlowList). l.bytes) lists n refl, pool.summed)
 
-pub length-removed : (xs : List Held) (i : ℕ) → length (remove xs i) ≤ length xs
-length-removed xs i = omega (arith, length-append (take i xs) (drop (suc i) xs), length-take i xs, length-drop (suc i) xs)
+  pub bytes_few : (n : ℕ) → (get_or lists n no_list).bytes ≤ 65535 * (get_or lists n no_list).count
+  bytes_few n =
+      let l : FlowList = get_or lists n no_list in
+      omega (arith, (pool.each n).bytes, few_bytes at n l.tail l.count l.head (pool.each n).linked)
 
--- the first packet of a flow is taken out
-pub taken_out : (n : ℕ) (xs : List Held) → SameBeside n xs (remove xs (place_in n xs))
-taken_out n xs = record {
-  others = λ m ne. others_kept n m xs ne;
-  no_more = length-removed xs (place_in n xs);
-  in_range = λ k a. All-append (λ (h : Held). h.flow < k) (take (place_in n xs) xs) (drop (suc (place_in n xs)) xs) (All-take (λ (h : Held). h.flow < k) (place_in n xs) xs a) (All-drop (λ (h : Held). h.flow < k) (suc (place_in n xs)) xs a);
-}
+  pub bytes_enough : (n : ℕ) → (get_or lists n no_list).count ≤ (get_or lists n no_list).bytes
+  bytes_enough n =
+      let l : FlowList = get_or lists n no_list in
+      omega (arith, (pool.each n).bytes, enough_bytes at n l.tail l.count l.head (pool.each n).linked)
 
--- ---- a loop over the list, at its i-th packet x
+-- lists from the k-th flow on
+module _ (at : ℕ → Option Node) where
+  counts_from : (k : ℕ) (lists : List FlowList) → ((n : ℕ) → IsList at (k + n) (get_or lists n no_list)) → packets_in (queues_in at lists) ≡ sum_by (λ (l : FlowList). l.count) lists
+  unfolding packets_in queues_in
+  counts_from k [] each = refl
+  counts_from k (l ∷ ls) each =
+      let rest = counts_from (suc k) ls (λ n. shift n) in
+      let here : count (queue_in at l) ≡ l.count = counted at (k + 0) l.tail l.count l.head (each 0).linked in
+      omega (arith, here, rest, sum_by-cons (λ (x : FlowList). x.count) l ls, sum_by-cons (λ (q : List Stamped). count q) (queue_in at l) (map (queue_in at) ls))
+    where
+      shift : (n : ℕ) → IsList at (suc k + n) (get_or ls n no_list)
+      shift n = let e : k + suc n ≡ suc k + n = omega arith in rw e at (each (suc n))
 
-module _ (n : ℕ) (xs : List Held) (i : ℕ) (x : Held) (within : i < length xs) (read : x ≡ get_or xs i x) where
-  pub queue_own : x.flow ≡ n → queue_in n (take (i + 1) xs) ≡ queue_in n (take i xs) ++ x.stamped ∷ []
-  queue_own own =
-      own_more n xs i x within (ap (λ (h : Held). h.flow) (sym read) ∙ own)
-      ∙ ap (λ (h : Held). queue_in n (take i xs) ++ h.stamped ∷ []) (sym read)
+  sums_from : (k : ℕ) (lists : List FlowList) → ((n : ℕ) → IsList at (k + n) (get_or lists n no_list)) → (bytes_in (queues_in at lists) ≡ sum_by (λ (l : FlowList). l.bytes) lists) × (sum_by (λ (l : FlowList). l.bytes) lists ≤ 65535 * sum_by (λ (l : FlowList). l.count) lists)
+  unfolding bytes_in queues_in
+  sums_from k [] each = (refl, omega arith)
+  sums_from k (l ∷ ls) each =
+      let rest = sums_from (suc k) ls (λ n. shift n) in
+      let here : l.bytes ≡ size (queue_in at l) = (each 0).bytes in
+      let few : size (queue_in at l) ≤ 65535 * l.count = few_bytes at (k + 0) l.tail l.count l.head (each 0).linked in (
+        omega (arith, here, rest.0, sum_by-cons (λ (x : FlowList). x.bytes) l ls, sum_by-cons (λ (q : List Stamped). size q) (queue_in at l) (map (queue_in at) ls)),
+        omega (arith, here, few, rest.1, sum_by-cons (λ (x : FlowList). x.bytes) l ls, sum_by-cons (λ (x : FlowList). x.count) l ls),
+      )
+    where
+      shift : (n : ℕ) → IsList at (suc k + n) (get_or ls n no_list)
+      shift n = let e : k + suc n ≡ suc k + n = omega arith in rw e at (each (suc n))
 
-  pub queue_same : x.flow ≢ n → queue_in n (take (i + 1) xs) ≡ queue_in n (take i xs)
-  queue_same other = other_more n xs i x within (λ e. other (ap (λ (h : Held). h.flow) read ∙ e))
+module _ (at : ℕ → Option Node) (nodes : ℕ) (lists : List FlowList) (bytes : ℕ) (pool : IsPool at nodes lists bytes) where
+  from_first : (n : ℕ) → IsList at (0 + n) (get_or lists n no_list)
+  from_first n = let e : n ≡ 0 + n = omega arith in subst (λ (m : ℕ). IsList at m (get_or lists n no_list)) e (pool.each n)
 
--- all packets of the list
-pub queue_whole : (n : ℕ) (xs : List Held) (i : ℕ) → length xs ≤ i → queue_in n (take i xs) ≡ queue_in n xs
-queue_whole n xs i h = ap (queue_in n) (take_all i xs h)
+  pub packets_pooled : packets_in (queues_in at lists) ≡ nodes
+  packets_pooled = counts_from at 0 lists from_first ∙ sym pool.counted
 
-none_from : (n : ℕ) (xs : List Held) (d : Held) → ((k : ℕ) → k < length xs → ((get_or xs k d).flow == n) ≡ false) → place_in n xs ≡ length xs
-unfolding place_in
-none_from n xs d before =
-    position_or_len_is (λ (h : Held). h.flow == n) xs (length xs) d (omega arith) before (λ h. absurd (omega arith))
+  pub bytes_pooled : bytes_in (queues_in at lists) ≡ bytes
+  bytes_pooled = (sums_from at 0 lists from_first).0 ∙ sym pool.summed
 
--- the place of the first packet of a flow, found by a loop
-pub place_found : (n : ℕ) (xs : List Held) (i : ℕ) (x : Held) → i < length xs → x ≡ get_or xs i x → x.flow ≡ n → ((k : ℕ) → k < i → ((get_or xs k x).flow == n) ≡ false) → place_in n xs ≡ i
-unfolding place_in
-place_found n xs i x within read own before =
-    position_or_len_is (λ (h : Held). h.flow == n) xs i x (omega arith) before (λ _. eq-eqb _ _ (ap (λ (h : Held). h.flow) (sym read) ∙ own))
+  pub all_bytes_few : bytes ≤ 65535 * nodes
+  all_bytes_few = omega (arith, (sums_from at 0 lists from_first).1, pool.summed, pool.counted)
 
-pub place_none : (n : ℕ) (xs : List Held) → ((k : ℕ) (d : Held) → k < length xs → ((get_or xs k d).flow == n) ≡ false) → place_in n xs ≡ length xs
-place_none n [] before = place-nil n
-place_none n (x ∷ xs) before = none_from n (x ∷ xs) x (λ k. before k x)
+  -- what a read of one list tells of its queue, where these are the queues
+  module _ (qs : List (List Stamped)) (same : queues_in at lists ≡ qs) (n : ℕ) (l : FlowList) (read : l ≡ get_or lists n no_list) where
+    pub queue_read : queue_in at l ≡ get_or qs n []
+    queue_read = ap (queue_in at) read ∙ sym (queue_at at lists n) ∙ ap (λ (q : List (List Stamped)). get_or q n []) same
 
--- a flow whose first packet has a place, or has none
-pub present : (n p : ℕ) (xs ys : List Held) → p ≡ place_in n ys → ys ≡ xs → p ≢ length xs → p < length xs
-present n p xs ys e same ne = omega (arith, place_le n ys, ap length same)
+    pub list_read : IsList at n l
+    list_read = rw read (pool.each n)
 
-pub no_head : (n p : ℕ) (xs : List Held) → p ≡ place_in n xs → p ≡ length xs → queue_in n xs ≡ []
-no_head n p xs e all = absent n xs (omega arith)
+    pub count_read : l.count ≡ count (get_or qs n [])
+    count_read = sym (counted at n l.tail l.count l.head list_read.linked) ∙ ap count queue_read
 
-pub head_at : (n p : ℕ) (xs : List Held) (x : Held) → p ≡ place_in n xs → p < length xs → x ≡ get_or xs p x → queue_in n xs ≡ x.stamped ∷ queue_in n (remove xs p)
-head_at n p xs x e within read =
-    first_own n xs x (omega (arith, e))
-    ∙ ap (λ (i : ℕ). (get_or xs i x).stamped ∷ queue_in n (remove xs i)) (sym e)
-    ∙ ap (λ (h : Held). h.stamped ∷ queue_in n (remove xs p)) (sym read)
+    pub bytes_read : l.bytes ≡ size (get_or qs n [])
+    bytes_read = list_read.bytes ∙ ap size queue_read
 
--- a packet is appended to flow n
-pub own_push : (n : ℕ) (s : Stamped) (xs : List Held) → queue_in n (xs ++ record { stamped = s; flow = n } ∷ []) ≡ queue_in n xs ++ s ∷ []
-own_push n s xs =
-    let h : Held = record { stamped = s; flow = n } in
-    queue_in-append n xs (h ∷ []) ∙ ap (λ (l : List Stamped). queue_in n xs ++ l) (queue_in-own n h [] refl ∙ ap (λ (l : List Stamped). s ∷ l) (queue_in-nil n))
+    pub none_read : l.count ≡ 0 → get_or qs n [] ≡ []
+    none_read none = sym queue_read ∙ ap (λ (m : ℕ). chain at m l.head) none ∙ chain-none at l.head
 
-pub other_push : (m n : ℕ) (s : Stamped) (xs : List Held) → m ≢ n → queue_in m (xs ++ record { stamped = s; flow = n } ∷ []) ≡ queue_in m xs
-other_push m n s xs ne =
-    let h : Held = record { stamped = s; flow = n } in
-    queue_in-append m xs (h ∷ []) ∙ ap (λ (l : List Stamped). queue_in m xs ++ l) (queue_in-other m h [] (λ e. ne (sym e)) ∙ queue_in-nil m) ∙ append-nil (queue_in m xs)
+    pub some_read : l.count ≢ 0 → n < length lists
+    some_read some =
+        ⊎_elim (λ (within : n < length lists). within)
+        (λ (past : length lists ≤ n). absurd (some (ap (λ (m : FlowList). m.count) (read ∙ get_or_past lists n no_list past))))
+        (cases_lt n (length lists))
+
+    pub packets_read : packets_in qs ≡ nodes
+    packets_read = ap packets_in (sym same) ∙ packets_pooled
+
+    pub within_read : n < length qs → n < length lists
+    within_read h = omega (arith, h, ap length same, length-queues at lists)
+
+    pub few_read : l.count ≤ nodes
+    few_read = omega (arith, count_le at nodes lists bytes pool n, ap (λ (m : FlowList). m.count) read)
+
+-- ---- without packets
+
+pub queues_first : (at : ℕ → Option Node) (n : ℕ) → queues_in at (replicate n no_list) ≡ replicate n []
+unfolding queues_in
+queues_first at zero = refl
+queues_first at (suc n) = ap₂ (λ (q : List Stamped) (qs : List (List Stamped)). q ∷ qs) (chain-none at 0) (queues_first at n)
+
+no_list_at : (at : ℕ → Option Node) (n : ℕ) → IsList at n no_list
+unfolding IsChain
+no_list_at at n = record { linked = tt; bytes = sym (ap size (chain-none at 0)) }
+
+nothing_at : (m n : ℕ) → get_or (replicate n no_list) m no_list ≡ no_list
+nothing_at zero zero = refl
+nothing_at (suc m) zero = refl
+nothing_at zero (suc n) = refl
+nothing_at (suc m) (suc n) = nothing_at m n
+
+nothing_in : (f : FlowList → ℕ) (n : ℕ) → f no_list ≡ 0 → sum_by f (replicate n no_list) ≡ 0
+nothing_in f zero none = refl
+nothing_in f (suc n) none = omega (arith, sum_by-cons f no_list (replicate n no_list), none, nothing_in f n none)
+
+pub pool_first : (s : Slab Node) (n : ℕ) → s.slots ≡ [] → IsPool (get s) (slab_len s) (replicate n no_list) 0
+pool_first s n empty =
+    let len : slab_len s ≡ 0 = ap (λ (l : List (Option Node)). count_by is_some l) empty in
+    record {
+      each = λ m. rw (nothing_at m n) (no_list_at (get s) m);
+      counted = len ∙ sym (nothing_in (λ (l : FlowList). l.count) n refl);
+      summed = sym (nothing_in (λ (l : FlowList). l.bytes) n refl);
+      few = omega (arith, len);
+    }

@@ -1,182 +1,187 @@
--- The flows as they are read from one list of packets and the CoDel states: each by its index, after a change of one,
+-- The flows as they are put together from their queues and the CoDel states: each by its index, after a change of one,
 -- and their totals.
-use Rattle.std.proofs.Common.{◌≡◌, ◌≢◌, ℕ, zero, suc, ◌+◌, ◌<◌, ◌≤◌, List, [], ◌∷◌, length, get_or, set, Some, sum_by, All, refl, sym, ap, ap₂, ◌∙◌, arith, ⊎_elim}
+use Rattle.std.proofs.Common.{◌≡◌, ℕ, zero, suc, ◌<◌, Bool, List, [], ◌∷◌, length, get_or, set, map, drop, replicate, Some, sum_by, refl, sym, ap, ap₂, ◌∙◌, arith}
 use Rattle.std.specs.Prelude.{slice_get}
-use Rattle.std.proofs.lemmas.Bool.{cases_eq, cases_lt}
-use Rattle.std.proofs.lemmas.List.Elements.{All-head, All-tail}
+use Rattle.std.proofs.lemmas.List.{set-get_or, get_or-set_same}
 use Rattle.std.proofs.lemmas.List.Sums.{sum_by-cons}
 use Rattle.q_packet.specs.Totals.{count, size}
 use Rattle.q_packet.specs.declared.stamped.Stamped.{Stamped}
-use Rattle.q_packet.proofs.TotalsLemmas.{size-cons}
-use Rattle.q_codel.specs.Codel.{CodelState}
+use Rattle.q_codel.specs.Codel.{CodelState, CodelParams, CodelVars, joined, vars_of, vars_at_first}
 use Rattle.q_fqcodel.specs.Cleared.{adjust}
 use Rattle.q_fqcodel.specs.FqState.{Flow, queue_of, packets_of, bytes_of}
-use Rattle.q_fqcodel.specs.Pool.{queue_in, flows_from}
-use Rattle.q_fqcodel.specs.declared.held.Held.{Held}
-use Rattle.q_fqcodel.proofs.PoolLemmas.{queue_in-nil, queue_in-own, queue_in-other}
+use Rattle.q_fqcodel.specs.Pool.{packets_in, bytes_in, sizes, flows_from, codels_in, cleared}
 
-pub length-flows : (k : ℕ) (held : List Held) (cs : List CodelState) → length (flows_from k held cs) ≡ length cs
+pub length-flows : (qs : List (List Stamped)) (cs : List CodelState) → length qs ≡ length cs → length (flows_from qs cs) ≡ length cs
 unfolding flows_from
-length-flows k held [] = refl
-length-flows k held (c ∷ cs) = ap suc (length-flows (suc k) held cs)
-
-flow_at : (k p n : ℕ) (held : List Held) (cs : List CodelState) (d : CodelState) → p ≡ k + n → n < length cs → slice_get (flows_from k held cs) n ≡ Some (record { queue = queue_in p held; codel = get_or cs n d })
-unfolding flows_from
-flow_at k p n held [] d e within = absurd (omega arith)
-flow_at k p zero held (c ∷ cs) d e within =
-    let q : k ≡ p = omega arith in
-    ap (λ (m : ℕ). Some (record { queue = queue_in m held; codel = c })) q
-flow_at k p (suc n) held (c ∷ cs) d e within = flow_at (suc k) p n held cs d (omega arith) (omega arith)
+length-flows [] cs e = e
+length-flows (q ∷ qs) [] e = refl
+length-flows (q ∷ qs) (c ∷ cs) e = ap suc (length-flows qs cs (omega (arith, e)))
 
 -- the flow with this index
-pub flow_there : (n : ℕ) (held : List Held) (cs : List CodelState) (d : CodelState) → n < length cs → slice_get (flows_from 0 held cs) n ≡ Some (record { queue = queue_in n held; codel = get_or cs n d })
-flow_there n held cs d within = flow_at 0 n n held cs d (omega arith) within
-
-queue_at : (k p n : ℕ) (held : List Held) (cs : List CodelState) → p ≡ k + n → n < length cs → queue_of (flows_from k held cs) n ≡ queue_in p held
+pub flow_there : (n : ℕ) (qs : List (List Stamped)) (cs : List CodelState) (d : CodelState) → length qs ≡ length cs → n < length cs → slice_get (flows_from qs cs) n ≡ Some (record { queue = get_or qs n []; codel = get_or cs n d })
 unfolding flows_from
-queue_at k p n held [] e within = absurd (omega arith)
-queue_at k p zero held (c ∷ cs) e within = let q : k ≡ p = omega arith in ap (λ (m : ℕ). queue_in m held) q
-queue_at k p (suc n) held (c ∷ cs) e within = queue_at (suc k) p n held cs (omega arith) (omega arith)
-
-queue_beyond : (k n : ℕ) (held : List Held) (cs : List CodelState) → length cs ≤ n → queue_of (flows_from k held cs) n ≡ []
-unfolding flows_from
-queue_beyond k n held [] past = refl
-queue_beyond k zero held (c ∷ cs) past = absurd (omega arith)
-queue_beyond k (suc n) held (c ∷ cs) past = queue_beyond (suc k) n held cs (omega arith)
-
--- no packet is in a flow beyond the last
-queue_in-beyond : (n k : ℕ) (held : List Held) → All (λ (h : Held). h.flow < k) held → k ≤ n → queue_in n held ≡ []
-queue_in-beyond n k [] all past = queue_in-nil n
-queue_in-beyond n k (h ∷ hs) all past =
-    let below : h.flow < k = All-head (λ (h : Held). h.flow < k) h hs all in
-    queue_in-other n h hs (λ e. absurd (omega (arith, e, below)))
-    ∙ queue_in-beyond n k hs (All-tail (λ (h : Held). h.flow < k) h hs all) past
+flow_there n qs [] d e within = absurd (omega arith)
+flow_there n [] (c ∷ cs) d e within = absurd (omega arith)
+flow_there zero (q ∷ qs) (c ∷ cs) d e within = refl
+flow_there (suc n) (q ∷ qs) (c ∷ cs) d e within = flow_there n qs cs d (omega (arith, e)) (omega arith)
 
 -- the queue of the flow with this index
-pub queue_there : (n : ℕ) (held : List Held) (cs : List CodelState) → All (λ (h : Held). h.flow < length cs) held → queue_of (flows_from 0 held cs) n ≡ queue_in n held
-queue_there n held cs all =
-    ⊎_elim (λ (within : n < length cs). queue_at 0 n n held cs (omega arith) within)
-    (λ (past : length cs ≤ n). queue_beyond 0 n held cs past ∙ sym (queue_in-beyond n (length cs) held all past))
-    (cases_lt n (length cs))
+pub queue_there : (n : ℕ) (qs : List (List Stamped)) (cs : List CodelState) → length qs ≡ length cs → queue_of (flows_from qs cs) n ≡ get_or qs n []
+unfolding flows_from
+queue_there n [] cs e = refl
+queue_there n (q ∷ qs) [] e = absurd (omega (arith, e))
+queue_there zero (q ∷ qs) (c ∷ cs) e = refl
+queue_there (suc n) (q ∷ qs) (c ∷ cs) e = queue_there n qs cs (omega (arith, e))
 
 -- ---- one flow is written
 
-flows_same : (k : ℕ) (held held' : List Held) (cs : List CodelState) → ((m : ℕ) → k ≤ m → queue_in m held' ≡ queue_in m held) → flows_from k held' cs ≡ flows_from k held cs
-unfolding flows_from
-flows_same k held held' [] same = refl
-flows_same k held held' (c ∷ cs) same =
-    ap₂ (λ (q : List Stamped) (fs : List Flow). record { queue = q; codel = c } ∷ fs) (same k (omega arith)) (flows_same (suc k) held held' cs (λ m h. same m (omega arith)))
-
 -- its packets alone
-queue_put : (k p n : ℕ) (held held' : List Held) (cs : List CodelState) (g : Flow → Flow) → p ≡ k + n
-    → ((m : ℕ) → m ≢ p → queue_in m held' ≡ queue_in m held)
-    → ((c : CodelState) → g (record { queue = queue_in p held; codel = c }) ≡ record { queue = queue_in p held'; codel = c })
-    → flows_from k held' cs ≡ adjust g n (flows_from k held cs)
+pub queue_written : (n : ℕ) (qs : List (List Stamped)) (q' : List Stamped) (cs : List CodelState) (g : Flow → Flow)
+    → ((c : CodelState) → g (record { queue = get_or qs n []; codel = c }) ≡ record { queue = q'; codel = c })
+    → flows_from (set qs n q') cs ≡ adjust g n (flows_from qs cs)
 unfolding flows_from adjust
-queue_put k p n held held' [] g e others here = refl
-queue_put k p zero held held' (c ∷ cs) g e others here =
-    let q : p ≡ k = omega arith in
-    ap₂ (λ (f : Flow) (fs : List Flow). f ∷ fs)
-    (ap (λ (m : ℕ). record { queue = queue_in m held'; codel = c }) (sym q) ∙ sym (here c) ∙ ap (λ (m : ℕ). g (record { queue = queue_in m held; codel = c })) q)
-    (flows_same (suc k) held held' cs (λ m h. others m (λ same. absurd (omega (arith, same, h, q)))))
-queue_put k p (suc n) held held' (c ∷ cs) g e others here =
-    ap₂ (λ (q : List Stamped) (fs : List Flow). record { queue = q; codel = c } ∷ fs)
-    (others k (λ same. absurd (omega (arith, same, e))))
-    (queue_put (suc k) p n held held' cs g (omega arith) others here)
-
-pub queue_written : (n : ℕ) (held held' : List Held) (cs : List CodelState) (g : Flow → Flow)
-    → ((m : ℕ) → m ≢ n → queue_in m held' ≡ queue_in m held)
-    → ((c : CodelState) → g (record { queue = queue_in n held; codel = c }) ≡ record { queue = queue_in n held'; codel = c })
-    → flows_from 0 held' cs ≡ adjust g n (flows_from 0 held cs)
-queue_written n held held' cs g others here = queue_put 0 n n held held' cs g (omega arith) others here
+queue_written n [] q' cs g here = refl
+queue_written zero (q ∷ qs) q' [] g here = refl
+queue_written (suc n) (q ∷ qs) q' [] g here = refl
+queue_written zero (q ∷ qs) q' (c ∷ cs) g here = ap (λ (f : Flow). f ∷ flows_from qs cs) (sym (here c))
+queue_written (suc n) (q ∷ qs) q' (c ∷ cs) g here = ap (λ (fs : List Flow). record { queue = q; codel = c } ∷ fs) (queue_written n qs q' cs g here)
 
 -- its packets and its CoDel state
-flow_put : (k p n : ℕ) (held held' : List Held) (cs : List CodelState) (c' d : CodelState) (g : Flow → Flow) → p ≡ k + n
-    → ((m : ℕ) → m ≢ p → queue_in m held' ≡ queue_in m held)
-    → g (record { queue = queue_in p held; codel = get_or cs n d }) ≡ record { queue = queue_in p held'; codel = c' }
-    → flows_from k held' (set cs n c') ≡ adjust g n (flows_from k held cs)
+pub flow_written : (n : ℕ) (qs : List (List Stamped)) (q' : List Stamped) (cs : List CodelState) (c' d : CodelState) (g : Flow → Flow)
+    → g (record { queue = get_or qs n []; codel = get_or cs n d }) ≡ record { queue = q'; codel = c' }
+    → flows_from (set qs n q') (set cs n c') ≡ adjust g n (flows_from qs cs)
 unfolding flows_from adjust
-flow_put k p n held held' [] c' d g e others here = refl
-flow_put k p zero held held' (c ∷ cs) c' d g e others here =
-    let q : p ≡ k = omega arith in
-    ap₂ (λ (f : Flow) (fs : List Flow). f ∷ fs)
-    (ap (λ (m : ℕ). record { queue = queue_in m held'; codel = c' }) (sym q) ∙ sym here ∙ ap (λ (m : ℕ). g (record { queue = queue_in m held; codel = c })) q)
-    (flows_same (suc k) held held' cs (λ m h. others m (λ same. absurd (omega (arith, same, h, q)))))
-flow_put k p (suc n) held held' (c ∷ cs) c' d g e others here =
-    ap₂ (λ (q : List Stamped) (fs : List Flow). record { queue = q; codel = c } ∷ fs)
-    (others k (λ same. absurd (omega (arith, same, e))))
-    (flow_put (suc k) p n held held' cs c' d g (omega arith) others here)
+flow_written n [] q' cs c' d g here = refl
+flow_written zero (q ∷ qs) q' [] c' d g here = refl
+flow_written (suc n) (q ∷ qs) q' [] c' d g here = refl
+flow_written zero (q ∷ qs) q' (c ∷ cs) c' d g here = ap (λ (f : Flow). f ∷ flows_from qs cs) (sym here)
+flow_written (suc n) (q ∷ qs) q' (c ∷ cs) c' d g here = ap (λ (fs : List Flow). record { queue = q; codel = c } ∷ fs) (flow_written n qs q' cs c' d g here)
 
-pub flow_written : (n : ℕ) (held held' : List Held) (cs : List CodelState) (c' d : CodelState) (g : Flow → Flow)
-    → ((m : ℕ) → m ≢ n → queue_in m held' ≡ queue_in m held)
-    → g (record { queue = queue_in n held; codel = get_or cs n d }) ≡ record { queue = queue_in n held'; codel = c' }
-    → flows_from 0 held' (set cs n c') ≡ adjust g n (flows_from 0 held cs)
-flow_written n held held' cs c' d g others here = flow_put 0 n n held held' cs c' d g (omega arith) others here
+-- its CoDel state alone
+pub codel_written : (n : ℕ) (qs : List (List Stamped)) (cs : List CodelState) (c' d : CodelState) (g : Flow → Flow)
+    → g (record { queue = get_or qs n []; codel = get_or cs n d }) ≡ record { queue = get_or qs n []; codel = c' }
+    → flows_from qs (set cs n c') ≡ adjust g n (flows_from qs cs)
+codel_written n qs cs c' d g here =
+    ap (λ (l : List (List Stamped)). flows_from l (set cs n c')) (sym (set-get_or qs n []))
+    ∙ flow_written n qs (get_or qs n []) cs c' d g here
 
 -- ---- totals
 
--- a total of queues that grows by w with each packet
-module _ (total : List Stamped → ℕ) (w : Stamped → ℕ) (none : total [] ≡ 0) (more : (s : Stamped) (q : List Stamped) → total (s ∷ q) ≡ w s + total q) where
-  by_flow : List Flow → ℕ
-  by_flow fs = sum_by (λ (f : Flow). total f.queue) fs
+-- a total of the queues
+total_is : (total : List Stamped → ℕ) (qs : List (List Stamped)) (cs : List CodelState) → length qs ≡ length cs
+    → sum_by (λ (f : Flow). total f.queue) (flows_from qs cs) ≡ sum_by (λ (q : List Stamped). total q) qs
+unfolding flows_from
+total_is total [] cs e = refl
+total_is total (q ∷ qs) [] e = absurd (omega (arith, e))
+total_is total (q ∷ qs) (c ∷ cs) e =
+    omega (
+      arith,
+      sum_by-cons (λ (f : Flow). total f.queue) (record { queue = q; codel = c }) (flows_from qs cs),
+      sum_by-cons (λ (x : List Stamped). total x) q qs,
+      total_is total qs cs (omega (arith, e)),
+    )
 
-  by_flow-cons : (f : Flow) (fs : List Flow) → by_flow (f ∷ fs) ≡ total f.queue + by_flow fs
-  unfolding by_flow
-  by_flow-cons f fs = sum_by-cons (λ (f : Flow). total f.queue) f fs
+pub packets-pooled : (qs : List (List Stamped)) (cs : List CodelState) → length qs ≡ length cs → packets_of (flows_from qs cs) ≡ packets_in qs
+unfolding packets_of packets_in
+packets-pooled qs cs e = total_is (λ (q : List Stamped). count q) qs cs e
 
-  -- a packet of an earlier flow is not seen
-  total-earlier : (k : ℕ) (h : Held) (hs : List Held) (cs : List CodelState) → h.flow < k → flows_from k (h ∷ hs) cs ≡ flows_from k hs cs
-  total-earlier k h hs cs before = flows_same k hs (h ∷ hs) cs (λ m le. queue_in-other m h hs (λ e. absurd (omega (arith, e, le, before))))
-
-  total-more : (k : ℕ) (h : Held) (hs : List Held) (cs : List CodelState) → k ≤ h.flow → h.flow < k + length cs → by_flow (flows_from k (h ∷ hs) cs) ≡ w h.stamped + by_flow (flows_from k hs cs)
-  unfolding flows_from
-  total-more k h hs [] low high = absurd (omega arith)
-  total-more k h hs (c ∷ cs) low high =
-      let a = by_flow-cons (record { queue = queue_in k (h ∷ hs); codel = c }) (flows_from (suc k) (h ∷ hs) cs) in
-      let b = by_flow-cons (record { queue = queue_in k hs; codel = c }) (flows_from (suc k) hs cs) in
-      ⊎_elim
-      (λ (own : h.flow ≡ k).
-      let q : total (queue_in k (h ∷ hs)) ≡ w h.stamped + total (queue_in k hs) = ap total (queue_in-own k h hs own) ∙ more h.stamped (queue_in k hs) in
-      let r : by_flow (flows_from (suc k) (h ∷ hs) cs) ≡ by_flow (flows_from (suc k) hs cs) = ap by_flow (total-earlier (suc k) h hs cs (omega arith)) in
-      omega (arith, a, b, q, r))
-      (λ (other : h.flow ≢ k).
-      let q : total (queue_in k (h ∷ hs)) ≡ total (queue_in k hs) = ap total (queue_in-other k h hs other) in
-      let r : by_flow (flows_from (suc k) (h ∷ hs) cs) ≡ w h.stamped + by_flow (flows_from (suc k) hs cs) = total-more (suc k) h hs cs (omega (arith, other)) (omega arith) in
-      omega (arith, a, b, q, r))
-      (cases_eq h.flow k)
-
-  total-none : (k : ℕ) (cs : List CodelState) → by_flow (flows_from k [] cs) ≡ 0
-  unfolding flows_from by_flow
-  total-none k [] = refl
-  total-none k (c ∷ cs) =
-      let a = by_flow-cons (record { queue = queue_in k []; codel = c }) (flows_from (suc k) [] cs) in
-      let q : total (queue_in k []) ≡ 0 = ap total (queue_in-nil k) ∙ none in
-      omega (arith, a, q, total-none (suc k) cs)
-
-  pub total_is : (held : List Held) (cs : List CodelState) → All (λ (h : Held). h.flow < length cs) held → sum_by (λ (f : Flow). total f.queue) (flows_from 0 held cs) ≡ sum_by (λ (h : Held). w h.stamped) held
-  unfolding by_flow
-  total_is [] cs all = total-none 0 cs
-  total_is (h ∷ hs) cs all =
-      let below : h.flow < length cs = All-head (λ (h : Held). h.flow < length cs) h hs all in
-      let a = total-more 0 h hs cs (omega arith) (omega (arith, below)) in
-      let b = sum_by-cons (λ (h : Held). w h.stamped) h hs in
-      omega (arith, a, b, total_is hs cs (All-tail (λ (h : Held). h.flow < length cs) h hs all))
-
-ones : (held : List Held) → sum_by (λ (h : Held). 1) held ≡ length held
-ones [] = refl
-ones (h ∷ hs) = omega (arith, sum_by-cons (λ (h : Held). 1) h hs, ones hs)
-
-pub packets-pooled : (held : List Held) (cs : List CodelState) → All (λ (h : Held). h.flow < length cs) held → packets_of (flows_from 0 held cs) ≡ length held
-unfolding packets_of
-packets-pooled held cs all = total_is (λ (q : List Stamped). count q) (λ (s : Stamped). 1) refl (λ s q. omega arith) held cs all ∙ ones held
-
-pub bytes-pooled : (held : List Held) (cs : List CodelState) → All (λ (h : Held). h.flow < length cs) held → bytes_of (flows_from 0 held cs) ≡ sum_by (λ (h : Held). h.stamped.packet.len) held
-unfolding bytes_of
-bytes-pooled held cs all = total_is (λ (q : List Stamped). size q) (λ (s : Stamped). s.packet.len) refl (λ s q. size-cons s q) held cs all
+pub bytes-pooled : (qs : List (List Stamped)) (cs : List CodelState) → length qs ≡ length cs → bytes_of (flows_from qs cs) ≡ bytes_in qs
+unfolding bytes_of bytes_in
+bytes-pooled qs cs e = total_is (λ (q : List Stamped). size q) qs cs e
 
 -- the flow that a read of its CoDel state finds
-pub flow_read : (n : ℕ) (held : List Held) (cs : List CodelState) (codel : CodelState) (fs : List Flow) → n < length cs → codel ≡ get_or cs n codel → flows_from 0 held cs ≡ fs → slice_get fs n ≡ Some (record { queue = queue_in n held; codel = codel })
-flow_read n held cs codel fs within read same =
+pub flow_read : (n : ℕ) (qs : List (List Stamped)) (cs : List CodelState) (codel : CodelState) (fs : List Flow) → length qs ≡ length cs → n < length cs → codel ≡ get_or cs n codel → flows_from qs cs ≡ fs
+    → slice_get fs n ≡ Some (record { queue = get_or qs n []; codel = codel })
+flow_read n qs cs codel fs e within read same =
     ap (λ (l : List Flow). slice_get l n) (sym same)
-    ∙ flow_there n held cs codel within
-    ∙ ap (λ (s : CodelState). Some (record { queue = queue_in n held; codel = s })) (sym read)
+    ∙ flow_there n qs cs codel e within
+    ∙ ap (λ (s : CodelState). Some (record { queue = get_or qs n []; codel = s })) (sym read)
+
+-- ---- the bytes of each flow
+
+pub sizes_at : (qs : List (List Stamped)) (n : ℕ) → get_or (sizes qs) n 0 ≡ size (get_or qs n [])
+unfolding sizes
+sizes_at [] n = refl
+sizes_at (q ∷ qs) zero = refl
+sizes_at (q ∷ qs) (suc n) = sizes_at qs n
+
+pub length-sizes : (qs : List (List Stamped)) → length (sizes qs) ≡ length qs
+unfolding sizes
+length-sizes [] = refl
+length-sizes (q ∷ qs) = ap suc (length-sizes qs)
+
+pub sizes-set : (qs : List (List Stamped)) (n : ℕ) (q : List Stamped) → sizes (set qs n q) ≡ set (sizes qs) n (size q)
+unfolding sizes
+sizes-set [] n q = refl
+sizes-set (x ∷ xs) zero q = refl
+sizes-set (x ∷ xs) (suc n) q = ap (λ (l : List ℕ). size x ∷ l) (sizes-set xs n q)
+
+pub sizes-first : (n : ℕ) → sizes (replicate n []) ≡ replicate n 0
+unfolding sizes
+sizes-first zero = refl
+sizes-first (suc n) = ap (λ (l : List ℕ). 0 ∷ l) (sizes-first n)
+
+-- one queue was written, and its flow's bytes were told
+pub sizes_renewed : (qs new : List (List Stamped)) (n : ℕ) (q : List Stamped) (ws : List ℕ) (bytes : ℕ) → new ≡ set qs n q → n < length qs → ws ≡ set (sizes qs) n bytes → bytes ≡ size (get_or new n []) → ws ≡ sizes new
+sizes_renewed qs new n q ws bytes written within told is =
+    let read : get_or new n [] ≡ q = ap (λ (l : List (List Stamped)). get_or l n []) written ∙ get_or-set_same qs n q [] within in
+    told
+    ∙ ap (λ (b : ℕ). set (sizes qs) n b) (is ∙ ap size read)
+    ∙ sym (sizes-set qs n q)
+    ∙ ap sizes (sym written)
+
+-- a flow with a packet is there
+pub flow_with : (qs : List (List Stamped)) (n : ℕ) → 0 < count (get_or qs n []) → n < length qs
+flow_with [] n h = absurd (omega arith)
+flow_with (q ∷ qs) zero h = omega arith
+flow_with (q ∷ qs) (suc n) h = omega (arith, flow_with qs n h)
+
+-- ---- CoDel's settings apart from each flow's state
+
+pub length-codels : (p : CodelParams) (vs : List CodelVars) → length (codels_in p vs) ≡ length vs
+unfolding codels_in
+length-codels p [] = refl
+length-codels p (v ∷ vs) = ap suc (length-codels p vs)
+
+pub codel_at : (p : CodelParams) (vs : List CodelVars) (n : ℕ) (d : CodelVars) → get_or (codels_in p vs) n (joined p d) ≡ joined p (get_or vs n d)
+unfolding codels_in
+codel_at p [] zero d = refl
+codel_at p [] (suc n) d = refl
+codel_at p (v ∷ vs) zero d = refl
+codel_at p (v ∷ vs) (suc n) d = codel_at p vs n d
+
+pub codels-set : (p : CodelParams) (vs : List CodelVars) (n : ℕ) (v : CodelVars) → codels_in p (set vs n v) ≡ set (codels_in p vs) n (joined p v)
+unfolding codels_in
+codels-set p [] n v = refl
+codels-set p (x ∷ xs) zero v = refl
+codels-set p (x ∷ xs) (suc n) v = ap (λ (l : List CodelState). joined p x ∷ l) (codels-set p xs n v)
+
+pub codels_first : (p : CodelParams) (n : ℕ) → codels_in p (replicate n vars_at_first) ≡ replicate n (joined p vars_at_first)
+unfolding codels_in
+codels_first p zero = refl
+codels_first p (suc n) = ap (λ (l : List CodelState). joined p vars_at_first ∷ l) (codels_first p n)
+
+-- other settings, but for the mtu
+pub codels_retuned : (p r : CodelParams) (target interval : ℕ) (ecn : Bool) (vs : List CodelVars) → r ≡ record p { target = target; interval = interval; ecn = ecn }
+    → codels_in r vs ≡ map (λ (c : CodelState). record c { target = target; interval = interval; ecn = ecn }) (codels_in p vs)
+unfolding codels_in
+codels_retuned p r target interval ecn [] e = refl
+codels_retuned p r target interval ecn (v ∷ vs) e =
+    ap₂ (λ (c : CodelState) (l : List CodelState). c ∷ l) (ap (λ (q : CodelParams). joined q v) e) (codels_retuned p r target interval ecn vs e)
+
+-- all flows are cleared, and get these settings
+pub cleared_retuned : (p r : CodelParams) (qs : List (List Stamped)) (vs : List CodelVars) (old : List Flow) → length qs ≡ length (codels_in p vs) → flows_from qs (codels_in p vs) ≡ map cleared old
+    → flows_from qs (codels_in r vs) ≡ replicate (length old) (record { queue = []; codel = joined r vars_at_first })
+unfolding codels_in flows_from cleared
+cleared_retuned p r [] vs [] len e = refl
+cleared_retuned p r [] vs (f ∷ fs) len e = absurd cc
+cleared_retuned p r (q ∷ qs) [] old len e = absurd (omega (arith, len))
+cleared_retuned p r (q ∷ qs) (v ∷ vs) [] len e = absurd cc
+cleared_retuned p r (q ∷ qs) (v ∷ vs) (f ∷ fs) len e =
+    let head : record { queue = q; codel = joined p v } ≡ cleared f = ap (λ (l : List Flow). get_or l 0 (cleared f)) e in
+    let tail : flows_from qs (codels_in p vs) ≡ map cleared fs = ap (drop 1) e in
+    let none : q ≡ [] = ap (λ (x : Flow). x.queue) head in
+    let first : v ≡ vars_at_first = ap (λ (x : Flow). vars_of x.codel) head in
+    ap₂ (λ (x : Flow) (l : List Flow). x ∷ l)
+    (ap₂ (λ (x : List Stamped) (y : CodelVars). record { queue = x; codel = joined r y }) none first)
+    (cleared_retuned p r qs vs fs (omega (arith, len)) tail)

@@ -1,20 +1,18 @@
 -- Packets leave the front of a flow one by one; a list changed from its first element to its last.
-use Rattle.std.proofs.Common.{◌≡◌, ℕ, zero, suc, ◌+◌, ◌<◌, ◌≤◌, Bool, List, [], ◌∷◌, ◌++◌, map, length, get_or, set, take, drop, replicate, Some, IsSome, refl, sym, ap, ap₂, ◌∙◌, arith, subst, append_assoc, append-nil, drop-drop, add-one}
+use Rattle.std.proofs.Common.{◌≡◌, ℕ, zero, suc, ◌+◌, ◌<◌, ◌≤◌, Bool, List, [], ◌∷◌, ◌++◌, map, length, get_or, set, take, drop, replicate, Some, IsSome, refl, sym, ap, ◌∙◌, arith, subst, append_assoc, append-nil, drop-drop, add-one}
 use Rattle.std.specs.Prelude.{slice_get}
 use Rattle.std.proofs.lemmas.List.{map-append, length-drop, drop_all}
 use Rattle.q_packet.specs.Totals.{count}
 use Rattle.q_packet.specs.declared.stamped.Stamped.{Stamped}
 use Rattle.q_packet.specs.declared.cause.Cause.{Cause}
-use Rattle.q_codel.specs.Codel.{CodelState}
+use Rattle.q_codel.specs.Codel.{CodelState, at_first}
 use Rattle.q_codel.specs.Losses.{losses_of}
 use Rattle.q_codel.specs.declared.loss.Loss.{Loss}
 use Rattle.q_fqcodel.specs.Cleared.{adjust}
 use Rattle.q_fqcodel.specs.FqState.{Flow, queue_of, packets_of, all_packets, retuned}
 use Rattle.q_fqcodel.specs.Put.{shortened}
-use Rattle.q_fqcodel.specs.Pool.{flows_from, queue_in}
-use Rattle.q_fqcodel.specs.declared.held.Held.{Held}
+use Rattle.q_fqcodel.specs.Pool.{flows_from, cleared}
 use Rattle.q_fqcodel.proofs.FlowLemmas.{packets-cons, packets-nil}
-use Rattle.q_fqcodel.proofs.PoolLemmas.{queue_in-nil}
 use Rattle.q_fqcodel.proofs.SentLemmas.{slice_there}
 
 pub adjust-adjust : {F : Type 0} (g h : F → F) (n : ℕ) (xs : List F) → adjust h n (adjust g n xs) ≡ adjust (λ x. h (g x)) n xs
@@ -77,29 +75,33 @@ lost_one old now new cause q i x before more read =
     ∙ append_assoc old (losses_of cause (take i q)) (record { packet = x.packet; cause = cause } ∷ [])
     ∙ ap (λ (l : List Loss). old ++ l) (sym one ∙ next)
 
+-- what CoDel knew of a flow is forgotten
+abbrev pub forgotten : Flow → Flow
+forgotten f = record f { codel = at_first f.codel.target f.codel.interval f.codel.mtu f.codel.ecn }
+
 -- all packets of a flow are lost
-pub emptied : (codel : CodelState) (m n : ℕ) (flows : List Flow) → n ≡ count (queue_of flows m)
-    → adjust (λ (f : Flow). record { queue = drop n f.queue; codel = codel }) m flows ≡ adjust (λ (f : Flow). record { queue = []; codel = codel }) m flows
-unfolding adjust
-emptied codel m n [] e = refl
-emptied codel zero n (f ∷ fs) e = ap (λ (q : List Stamped). record { queue = q; codel = codel } ∷ fs) (drop_all n f.queue (omega (arith, e)))
-emptied codel (suc m) n (f ∷ fs) e = ap (λ (l : List Flow). f ∷ l) (emptied codel m n fs e)
+pub emptied : (m n : ℕ) (flows : List Flow) → n ≡ count (queue_of flows m)
+    → adjust (λ (f : Flow). forgotten (shortened n f)) m flows ≡ adjust cleared m flows
+unfolding adjust cleared
+emptied m n [] e = refl
+emptied zero n (f ∷ fs) e = ap (λ (q : List Stamped). record { queue = q; codel = at_first f.codel.target f.codel.interval f.codel.mtu f.codel.ecn } ∷ fs) (drop_all n f.queue (omega (arith, e)))
+emptied (suc m) n (f ∷ fs) e = ap (λ (l : List Flow). f ∷ l) (emptied m n fs e)
 
 -- ---- a purge, flow by flow
 
--- the first n flows are as x, the others as they were
-pub purged-next : (x : Flow) (n : ℕ) (flows : List Flow) → n < length flows → adjust (λ _. x) n (replicate n x ++ drop n flows) ≡ replicate (suc n) x ++ drop (suc n) flows
+-- the first n flows are changed, the others as they were
+pub purged-next : (g : Flow → Flow) (n : ℕ) (flows : List Flow) → n < length flows → adjust g n (map g (take n flows) ++ drop n flows) ≡ map g (take (suc n) flows) ++ drop (suc n) flows
 unfolding adjust
-purged-next x zero [] h = absurd (omega arith)
-purged-next x zero (f ∷ fs) h = refl
-purged-next x (suc n) [] h = absurd (omega arith)
-purged-next x (suc n) (f ∷ fs) h = ap (λ (l : List Flow). x ∷ l) (purged-next x n fs (omega arith))
+purged-next g zero [] h = absurd (omega arith)
+purged-next g zero (f ∷ fs) h = refl
+purged-next g (suc n) [] h = absurd (omega arith)
+purged-next g (suc n) (f ∷ fs) h = ap (λ (l : List Flow). g f ∷ l) (purged-next g n fs (omega arith))
 
 -- the next one is as it was
-pub purged-at : (x : Flow) (n : ℕ) (flows : List Flow) → n < length flows → queue_of (replicate n x ++ drop n flows) n ≡ queue_of flows n
-purged-at x zero flows h = refl
-purged-at x (suc n) [] h = absurd (omega arith)
-purged-at x (suc n) (f ∷ fs) h = purged-at x n fs (omega arith)
+pub purged-at : (g : Flow → Flow) (n : ℕ) (flows : List Flow) → n < length flows → queue_of (map g (take n flows) ++ drop n flows) n ≡ queue_of flows n
+purged-at g zero flows h = refl
+purged-at g (suc n) [] h = absurd (omega arith)
+purged-at g (suc n) (f ∷ fs) h = purged-at g n fs (omega arith)
 
 pub all_packets-more : (n : ℕ) (flows : List Flow) → n < length flows → all_packets (take n flows) ++ queue_of flows n ≡ all_packets (take (suc n) flows)
 unfolding all_packets
@@ -129,16 +131,17 @@ changed-at g zero xs d h = refl
 changed-at g (suc n) [] d h = absurd (omega arith)
 changed-at g (suc n) (x ∷ xs) d h = changed-at g n xs d (omega arith)
 
-pub flows-retuned : (target interval : ℕ) (ecn : Bool) (k : ℕ) (held : List Held) (cs : List CodelState)
-    → flows_from k held (map (λ (c : CodelState). record c { target = target; interval = interval; ecn = ecn }) cs) ≡ map (retuned target interval ecn) (flows_from k held cs)
+pub flows-retuned : (target interval : ℕ) (ecn : Bool) (qs : List (List Stamped)) (cs : List CodelState)
+    → flows_from qs (map (λ (c : CodelState). record c { target = target; interval = interval; ecn = ecn }) cs) ≡ map (retuned target interval ecn) (flows_from qs cs)
 unfolding flows_from retuned
-flows-retuned target interval ecn k held [] = refl
-flows-retuned target interval ecn k held (c ∷ cs) = ap (λ (l : List Flow). record { queue = queue_in k held; codel = record c { target = target; interval = interval; ecn = ecn } } ∷ l) (flows-retuned target interval ecn (suc k) held cs)
+flows-retuned target interval ecn [] cs = refl
+flows-retuned target interval ecn (q ∷ qs) [] = refl
+flows-retuned target interval ecn (q ∷ qs) (c ∷ cs) = ap (λ (l : List Flow). record { queue = q; codel = record c { target = target; interval = interval; ecn = ecn } } ∷ l) (flows-retuned target interval ecn qs cs)
 
-pub flows-first : (codel : CodelState) (k n : ℕ) → flows_from k [] (replicate n codel) ≡ replicate n (record { queue = []; codel = codel })
+pub flows-first : (codel : CodelState) (n : ℕ) → flows_from (replicate n []) (replicate n codel) ≡ replicate n (record { queue = []; codel = codel })
 unfolding flows_from
-flows-first codel k zero = refl
-flows-first codel k (suc n) = ap₂ (λ (q : List Stamped) (l : List Flow). record { queue = q; codel = codel } ∷ l) (queue_in-nil k) (flows-first codel (suc k) n)
+flows-first codel zero = refl
+flows-first codel (suc n) = ap (λ (l : List Flow). record { queue = []; codel = codel } ∷ l) (flows-first codel n)
 
 pub all_packets-nil : all_packets [] ≡ []
 unfolding all_packets

@@ -1,3 +1,4 @@
+pub mod Chain
 pub mod Cleared
 pub mod Entry
 pub mod FlowsState
@@ -14,3 +15,4 @@ pub mod Ranges
 pub mod Selection
 pub mod Take
 pub mod Turns
+pub mod Winners

@@ -1,6 +1,6 @@
-ghost use Rattle.std.specs.Prelude.{◌≡◌, refl};
+ghost use Rattle.std.specs.Prelude.{◌≡◌, [], get_or, refl};
 ghost use Rattle.std.proofs.Common.{◌∙◌};
-ghost use Rattle.q_fqcodel.specs.Pool.{queue_in, SameBeside};
+ghost use Rattle.q_fqcodel.specs.Pool.{SameBeside};
 ghost use Rattle.q_fqcodel.specs.PoolKept.{kept_same, kept_on};
 
 use crate::pool::Pool;
@@ -15,11 +15,11 @@ pub(crate) struct FlowQueue<'a> {
 }
 
 impl<'a> Queue for FlowQueue<'a> {
-    ghost packets = { λ q. queue_in q.flow q.pool.now.held };
+    ghost packets = { λ q. get_or q.pool.now.queues q.flow [] };
 
     // The other flows' packets stay, and so does the loan.
     ghost keeps = { λ q r.
-        SameBeside q.flow q.pool.now.held r.pool.now.held
+        SameBeside q.flow q.pool.now.queues r.pool.now.queues
         × (r.flow ≡ q.flow)
         × (r.pool.now.places ≡ q.pool.now.places)
         × (r.pool.ghost_name ≡ q.pool.ghost_name) };
@@ -40,7 +40,7 @@ impl<'a> Queue for FlowQueue<'a> {
         self.pool.count_of(self.flow)
     }
 
-    ghost keeps_same = { λ q. (kept_same q.flow q.pool.now.held, refl, refl, refl) };
+    ghost keeps_same = { λ q. (kept_same q.flow q.pool.now.queues, refl, refl, refl) };
 
-    ghost keeps_on = { λ q r s a b. (kept_on q.flow r.flow q.pool.now.held r.pool.now.held s.pool.now.held a.1 a.0 b.0, b.1 ∙ a.1, b.2 ∙ a.2, b.3 ∙ a.3) };
+    ghost keeps_on = { λ q r s a b. (kept_on q.flow r.flow q.pool.now.queues r.pool.now.queues s.pool.now.queues a.1 a.0 b.0, b.1 ∙ a.1, b.2 ∙ a.2, b.3 ∙ a.3) };
 }

@@ -1,51 +1,65 @@
-ghost use Rattle.std.specs.Prelude.{◌≡◌, ◌+◌, ◌*◌, ◌<◌, ◌≤◌, ◌^◌, [], ◌++◌, ◌&&◌, ◌==◌, nat_le, length, map, replicate, take, slice_get, ◌↔◌, IsSome, IfSome, IsOk, IfOk, OnOk, OnErr};
+ghost use Rattle.std.specs.Prelude.{◌≡◌, ◌+◌, ◌*◌, ◌<◌, ◌≤◌, ◌^◌, [], ◌++◌, ◌&&◌, ◌==◌, nat_le, length, map, replicate, take, drop, set, slice_get, get_or, ◌↔◌, IsSome, IfSome, IsOk, IfOk, OnOk, OnErr};
 ghost use Rattle.q_packet.specs.Totals.{count};
-ghost use Rattle.q_codel.specs.Codel.{CodelState, drops, taken, left, after};
+ghost use Rattle.q_codel.specs.Codel.{joined as together, drops, taken, left, after};
 ghost use Rattle.q_codel.specs.Losses.{losses_of};
 ghost use Rattle.q_fqcodel.specs.Cleared.{adjust};
-ghost use Rattle.q_fqcodel.specs.FqState.{queue_of, is_idle, packets_of, bytes_of, rested_flow, retuned, all_packets};
+ghost use Rattle.q_fqcodel.specs.FqState.{queue_of, is_idle, packets_of, bytes_of, rested_flow, retuned, all_packets, first_flow};
 ghost use Rattle.q_fqcodel.specs.Put.{joined, shortened, fattest, shed_count};
 ghost use Rattle.q_fqcodel.specs.Take.{packet_sent, packets_dropped, flow_after};
-ghost use Rattle.q_fqcodel.specs.Pool.{queue_in, SameBeside};
+ghost use Rattle.q_fqcodel.specs.Pool.{SameBeside, cleared};
 
 use crate::flow_queue::FlowQueue;
 use crate::pool::Pool;
-use q_codel::{Codel, Sink, Taken};
+use crate::settings::Settings;
+use crate::winners::Winners;
+use q_codel::{ControlState, Parameters, Sink, Taken};
 use q_packet::{Cause, Moment, Stamped};
 use std::alloc::{AllocError, Global};
 use std::marker::Model;
 
-/// All flows, by index: their packets, and CoDel for each.
+/// All flows, by index: their packets, and CoDel for each, with the same settings.
 #[derive(Drop)]
 pub(crate) struct Flows {
     pool: Pool,
-    codels: Vec<Codel>,
+    // What CoDel knows of each flow.
+    states: Vec<ControlState>,
+    // CoDel's settings, which all flows have.
+    parameters: Parameters,
+    // The mtu among them, which they do not tell.
+    mtu: u16,
+    winners: Winners,
 }
 
 impl Model for Flows {
-    ghost use Rattle.std.specs.Prelude.{length, All, ◌<◌, ◌≤◌};
+    ghost use Rattle.std.specs.Prelude.{◌≡◌, length, ◌≤◌};
     ghost use Rattle.q_fqcodel.specs.FlowsState.{FlowsState};
-    ghost use Rattle.q_fqcodel.specs.Pool.{flows_from};
-    ghost use Rattle.q_fqcodel.specs.declared.held.Held.{Held};
+    ghost use Rattle.q_fqcodel.specs.Pool.{flows_from, codels_in, sizes};
 
     ghost Value = { FlowsState };
 
-    ghost view = { λ f. record { flows = flows_from 0 f.pool.held f.codels.items; places = f.pool.places } };
+    ghost view = { λ f. record { flows = flows_from f.pool.queues (codels_in f.parameters f.states.items); places = f.pool.places } };
 
     ghost invariant = { λ f.
-        All (λ (h : Held). h.flow < length f.codels.items) f.pool.held × (length f.codels.items ≤ 65536) };
+        (length f.pool.queues ≡ length (codels_in f.parameters f.states.items))
+        × (length f.states.items ≤ 65536)
+        × (f.winners ≡ sizes f.pool.queues)
+        × (f.parameters.mtu ≡ f.mtu) };
 }
 
 impl Flows {
-    /// So many empty flows, each with this state of CoDel.
-    pub(crate) fn new(alloc: Global, count: u32, codel: Codel) -> Result<Flows, AllocError>
-        requires { count ≤ 65536 }
-        ensures { IfOk result (λ f. f.flows ≡ replicate count (record { queue = []; codel = codel })) }
+    /// Empty flows, as many as the settings tell and with CoDel as they tell.
+    pub(crate) fn new(alloc: Global, settings: Settings) -> Result<Flows, AllocError>
+        ensures { IfOk result (λ f. f.flows ≡ replicate settings.flows (first_flow settings)) }
     {
-        let codels = vec![in alloc; codel; count as usize]?;
+        let pool = Pool::new(alloc, settings.flows)?;
+        let states = vec![in alloc; ControlState::new(); settings.flows as usize]?;
+        let winners = Winners::new(alloc, settings.flows)?;
         Ok(Flows {
-            pool: Pool::new(alloc),
-            codels,
+            pool,
+            states,
+            parameters: parameters_of(settings),
+            mtu: settings.mtu,
+            winners,
         })
     }
 
@@ -97,15 +111,8 @@ impl Flows {
         ensures places { self.new.places ≡ self.old.places }
     {
         self.pool.push(stamped, flow);
-    }
-
-    /// Takes the packet in front of a flow.
-    pub(crate) fn drop_front(&mut self, flow: u32) -> Option<Stamped>
-        ensures front { result ≡ slice_get (queue_of self.old.flows flow) 0 }
-        ensures flows { self.new.flows ≡ adjust (shortened 1) flow self.old.flows }
-        ensures places { self.new.places ≡ self.old.places }
-    {
-        self.pool.take_of(flow)
+        let held = self.pool.bytes_of(flow);
+        self.winners.renew(flow, held);
     }
 
     /// Notes that a flow was met empty, with credits.
@@ -114,7 +121,7 @@ impl Flows {
         ensures flows { self.new.flows ≡ adjust rested_flow flow self.old.flows }
         ensures places { self.new.places ≡ self.old.places }
     {
-        self.codels[flow as usize].rest();
+        self.states[flow as usize].rest();
     }
 
     /// Lets a flow send by CoDel's law.
@@ -131,13 +138,11 @@ impl Flows {
         ensures some { IsSome result ↔ (0 < count (queue_of self.old.flows flow)) }
         ensures kept { S.keeps sink.old sink.new }
     {
-        send_from(
-            &mut self.pool,
-            &mut self.codels[flow as usize],
-            flow,
-            now,
-            sink,
-        )
+        let codel = &mut self.states[flow as usize];
+        let taken = send_from(&mut self.pool, codel, &self.parameters, flow, now, sink);
+        let left = self.pool.bytes_of(flow);
+        self.winners.renew(flow, left);
+        taken
     }
 
     /// The fat flow: the first of those that have the most bytes.
@@ -147,16 +152,8 @@ impl Flows {
         ensures within { result < length self.now.flows }
         ensures some { 0 < packets_of self.now.flows → 0 < count (queue_of self.now.flows result) }
     {
-        let mut fattest = 0;
-        let mut most = self.pool.bytes_of(0);
-        for flow in 1..self.codels.len() as u32 {
-            let bytes = self.pool.bytes_of(flow);
-            if bytes > most {
-                fattest = flow;
-                most = bytes;
-            }
-        }
-        fattest
+        self.pool.each_has_bytes();
+        self.winners.top()
     }
 
     /// Loses the first `lost` packets of a flow.
@@ -169,10 +166,13 @@ impl Flows {
         ensures room { S.room sink.new + lost ≡ S.room sink.old }
         ensures kept { S.keeps sink.old sink.new }
     {
-        for _i in 0..lost {
-            let stamped = self.drop_front(flow).unwrap();
-            sink.lost(stamped.packet, cause);
+        if lost == 0 {
+            return;
         }
+        lose_from(&mut self.pool, flow, lost, cause, sink);
+        // Once for the whole batch, and not for each packet.
+        let rest = self.pool.bytes_of(flow);
+        self.winners.renew(flow, rest);
     }
 
     /// How many packets the fat flow loses where the limit is passed.
@@ -200,14 +200,14 @@ impl Flows {
         ensures flows { self.new.flows ≡ map (retuned target interval ecn) self.old.flows }
         ensures places { self.new.places ≡ self.old.places }
     {
-        retune(&mut self.codels, target, interval, ecn);
+        self.parameters = Parameters::new(target, interval, self.mtu, ecn).unwrap();
     }
 
-    /// Loses all packets of a flow, and sets the state of its CoDel.
-    fn empty<S: Sink>(&mut self, flow: u32, codel: Codel, sink: &mut S)
+    /// Loses all packets of a flow, and forgets what CoDel knew of it.
+    fn empty<S: Sink>(&mut self, flow: u32, sink: &mut S)
         requires in_range { flow < length self.old.flows }
         requires room { count (queue_of self.old.flows flow) ≤ S.room sink.old }
-        ensures flows { self.new.flows ≡ adjust (λ _. record { queue = []; codel = codel }) flow self.old.flows }
+        ensures flows { self.new.flows ≡ adjust cleared flow self.old.flows }
         ensures places { self.new.places ≡ self.old.places }
         ensures lost { S.losses sink.new ≡ S.losses sink.old ++ losses_of Cause.Purged (queue_of self.old.flows flow) }
         ensures room { S.room sink.new + count (queue_of self.old.flows flow) ≡ S.room sink.old }
@@ -215,21 +215,23 @@ impl Flows {
     {
         let count = self.count_of(flow);
         self.lose(flow, count, Cause::Purged, sink);
-        self.codels[flow as usize] = codel;
+        self.states[flow as usize] = ControlState::new();
     }
 
-    /// Loses every packet, flow by flow, and sets the state of CoDel of each.
-    pub(crate) fn purge<S: Sink>(&mut self, codel: Codel, sink: &mut S)
+    /// Loses every packet, flow by flow. The flows are then as at first, with CoDel as these settings tell.
+    pub(crate) fn purge<S: Sink>(&mut self, settings: Settings, sink: &mut S)
         requires { packets_of self.old.flows ≤ S.room sink.old }
-        ensures flows { self.new.flows ≡ replicate (length self.old.flows) (record { queue = []; codel = codel }) }
+        ensures flows { self.new.flows ≡ replicate (length self.old.flows) (first_flow settings) }
         ensures places { self.new.places ≡ self.old.places }
         ensures lost { S.losses sink.new ≡ S.losses sink.old ++ losses_of Cause.Purged (all_packets self.old.flows) }
         ensures room { S.room sink.new + packets_of self.old.flows ≡ S.room sink.old }
         ensures kept { S.keeps sink.old sink.new }
     {
         for flow in 0..self.len() {
-            self.empty(flow, codel, sink);
+            self.empty(flow, sink);
         }
+        self.parameters = parameters_of(settings);
+        self.mtu = settings.mtu;
     }
 
     // The number of flows.
@@ -237,41 +239,59 @@ impl Flows {
         ensures value { result ≡ length self.now.flows }
         ensures small { result ≤ 65536 }
     {
-        self.codels.len() as u32
+        self.states.len() as u32
     }
 }
 
-// Sets what the settings of an fq_codel say of CoDel, for each flow.
-fn retune(codels: &mut Vec<Codel>, target: u64, interval: u64, ecn: bool)
-    requires target { target ≤ 10 ^ 12 }
-    requires interval_low { 1000 ≤ interval }
-    requires interval_high { interval ≤ 10 ^ 12 }
-    ensures { codels.new.items ≡ map (λ (c : CodelState). record c { target = target; interval = interval; ecn = ecn }) codels.old.items }
+// What the settings of an fq_codel say of CoDel.
+fn parameters_of(settings: Settings) -> Parameters
+    ensures { result ≡ record { target = settings.target; interval = settings.interval; mtu = settings.mtu; ecn = settings.ecn } }
 {
-    for i in 0..codels.len() {
-        codels[i].set_params(target, interval, ecn);
+    Parameters::new(
+        settings.target,
+        settings.interval,
+        settings.mtu,
+        settings.ecn,
+    )
+    .unwrap()
+}
+
+// Loses the first `lost` packets of a flow.
+fn lose_from<S: Sink>(pool: &mut Pool, flow: u32, lost: u64, cause: Cause, sink: &mut S)
+    requires held { lost ≤ count (get_or pool.old.queues flow []) }
+    requires room { lost ≤ S.room sink.old }
+    ensures queues { pool.new.queues ≡ set pool.old.queues flow (drop lost (get_or pool.old.queues flow [])) }
+    ensures places { pool.new.places ≡ pool.old.places }
+    ensures lost { S.losses sink.new ≡ S.losses sink.old ++ losses_of cause (take lost (get_or pool.old.queues flow [])) }
+    ensures room { S.room sink.new + lost ≡ S.room sink.old }
+    ensures kept { S.keeps sink.old sink.new }
+{
+    for _i in 0..lost {
+        let stamped = pool.take_of(flow).unwrap();
+        sink.lost(stamped.packet, cause);
     }
 }
 
 fn send_from<S: Sink>(
     pool: &mut Pool,
-    codel: &mut Codel,
+    codel: &mut ControlState,
+    parameters: &Parameters,
     flow: u32,
     now: Moment,
     sink: &mut S,
 ) -> Option<Taken>
-    requires { count (queue_in flow pool.old.held) ≤ S.room sink.old }
-    ensures sent { result ≡ taken codel.old now (queue_in flow pool.old.held) }
-    ensures left { queue_in flow pool.new.held ≡ left codel.old now (queue_in flow pool.old.held) }
-    ensures state { codel.new ≡ after codel.old now (queue_in flow pool.old.held) }
+    requires { count (get_or pool.old.queues flow []) ≤ S.room sink.old }
+    ensures sent { result ≡ taken (together parameters.now codel.old) now (get_or pool.old.queues flow []) }
+    ensures left { get_or pool.new.queues flow [] ≡ left (together parameters.now codel.old) now (get_or pool.old.queues flow []) }
+    ensures state { together parameters.now codel.new ≡ after (together parameters.now codel.old) now (get_or pool.old.queues flow []) }
     ensures lost { S.losses sink.new ≡ S.losses sink.old
-        ++ losses_of Cause.CoDel (take (drops codel.old now (queue_in flow pool.old.held)) (queue_in flow pool.old.held)) }
-    ensures room { S.room sink.new + drops codel.old now (queue_in flow pool.old.held) ≡ S.room sink.old }
-    ensures some { IsSome result ↔ (0 < count (queue_in flow pool.old.held)) }
-    ensures others { SameBeside flow pool.old.held pool.new.held }
+        ++ losses_of Cause.CoDel (take (drops (together parameters.now codel.old) now (get_or pool.old.queues flow [])) (get_or pool.old.queues flow [])) }
+    ensures room { S.room sink.new + drops (together parameters.now codel.old) now (get_or pool.old.queues flow []) ≡ S.room sink.old }
+    ensures some { IsSome result ↔ (0 < count (get_or pool.old.queues flow [])) }
+    ensures others { SameBeside flow pool.old.queues pool.new.queues }
     ensures places { pool.new.places ≡ pool.old.places }
     ensures kept { S.keeps sink.old sink.new }
 {
     let mut queue = FlowQueue { pool, flow };
-    codel.take(&mut queue, now, sink)
+    codel.take(parameters, &mut queue, now, sink)
 }

@@ -1,14 +1,13 @@
 ghost use Rattle.std.specs.Prelude.{◌≡◌, ◌+◌, ◌<◌, ◌≤◌, ◌↔◌, ◌==◌, [], ◌∷◌, ◌++◌, length, set, slice_get, pos, true, false, if◌then◌else◌, IsSome, IsOk, IfOk, OnOk, OnErr};
 ghost use Rattle.q_packet.specs.Totals.{count};
 ghost use Rattle.std.specs.VecDeque.{deque_len, deque_capacity};
-ghost use Rattle.q_codel.specs.Codel.{at_first};
 ghost use Rattle.q_codel.specs.Losses.{losses_of};
 ghost use Rattle.q_fqcodel.specs.Put.{is_listed};
 
 use crate::entry::Entry;
 use crate::flows::Flows;
 use crate::settings::Settings;
-use q_codel::{Codel, Sink, Taken};
+use q_codel::{Sink, Taken};
 use q_packet::{Cause, Moment, Packet, Stamped};
 use std::alloc::{AllocError, Global};
 use std::collections::VecDeque;
@@ -116,7 +115,7 @@ impl FqCodel {
     pub fn new(alloc: Global, settings: Settings) -> Result<FqCodel, AllocError>
         ensures { IfOk result (λ q. q.state ≡ first_state settings) }
     {
-        let flows = Flows::new(alloc, settings.flows, first_codel(settings))?;
+        let flows = Flows::new(alloc, settings)?;
         let fresh = VecDeque::with_capacity(alloc, settings.flows as usize)?;
         let stale = VecDeque::with_capacity(alloc, settings.flows as usize)?;
         Ok(FqCodel {
@@ -148,7 +147,7 @@ impl FqCodel {
         ensures room { S.room sink.new + packets_of self.old.state.flows ≡ S.room sink.old }
         ensures kept { S.keeps sink.old sink.new }
     {
-        self.flows.purge(first_codel(self.settings), sink);
+        self.flows.purge(self.settings, sink);
         self.fresh.clear();
         self.stale.clear();
     }
@@ -313,18 +312,6 @@ fn write_front(fresh: &mut VecDeque<Entry>, stale: &mut VecDeque<Entry>, entry: 
     } else {
         fresh[0] = entry;
     }
-}
-
-// What CoDel knows of a flow that has sent nothing yet.
-fn first_codel(settings: Settings) -> Codel
-    ensures { result ≡ at_first settings.target settings.interval settings.mtu settings.ecn }
-{
-    Codel::new(
-        settings.target,
-        settings.interval,
-        settings.mtu,
-        settings.ecn,
-    )
 }
 
 // Puts a flow that is in neither list at the end of the new one, with one quantum.

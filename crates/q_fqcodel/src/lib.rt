@@ -20,14 +20,17 @@
 //! that it is given (`specs/QuantaGiven.antt`).
 #![tactic(auto)]
 
+mod chain;
 mod entry;
+mod flow_list;
 mod flow_queue;
 mod flows;
 mod fq_codel;
-mod held;
 pub mod laws;
+mod node;
 mod pool;
 mod settings;
+mod winners;
 
 pub use fq_codel::FqCodel;
 pub use settings::Settings;

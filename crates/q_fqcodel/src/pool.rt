@@ -1,142 +1,151 @@
-ghost use Rattle.std.specs.Prelude.{◌≡◌, ◌+◌, ◌<◌, ◌≤◌, ◌^◌, [], ◌∷◌, ◌++◌, length, slice_get, drop, sum_by, IsOk, OnOk, OnErr};
+ghost use Rattle.std.specs.Prelude.{ℕ, ◌≡◌, ◌+◌, ◌<◌, ◌≤◌, ◌^◌, [], ◌∷◌, ◌++◌, length, slice_get, get_or, drop, set, replicate, IsOk, IfOk, OnOk, OnErr};
 ghost use Rattle.q_packet.specs.Totals.{count, size};
-ghost use Rattle.q_fqcodel.specs.Pool.{queue_in, place_in, SameBeside};
-ghost use Rattle.q_fqcodel.specs.declared.held.Held.{Held};
+ghost use Rattle.q_fqcodel.specs.Pool.{packets_in, bytes_in, no_list, SameBeside};
 
-use crate::held::Held;
+use crate::chain::{append, take_head};
+use crate::flow_list::FlowList;
+use crate::node::Node;
 use q_packet::Stamped;
+use slab::Slab;
 use std::alloc::{AllocError, Global};
 use std::marker::Model;
 
-/// The packets of all flows, in the order of their arrival.
+/// The packets of all flows: one slab, and for each flow a list that is linked through it.
 #[derive(Drop)]
 pub(crate) struct Pool {
-    held: Vec<Held>,
+    nodes: Slab<Node>,
+    lists: Vec<FlowList>,
+    // The bytes in all lists.
+    bytes: u64,
+    // How many packets the slab has room for, as far as `reserve` has told.
+    places: usize,
 }
 
 impl Model for Pool {
-    ghost use Rattle.std.specs.Prelude.{◌≤◌, ◌^◌, length, vec_capacity};
-    ghost use Rattle.q_fqcodel.specs.Pool.{PoolState};
+    ghost use Rattle.std.specs.Prelude.{◌≤◌};
+    ghost use Rattle.slab.specs.Slab.{get, slab_len};
+    ghost use Rattle.q_fqcodel.specs.Pool.{PoolState, queues_in, IsPool};
 
     ghost Value = { PoolState };
 
-    ghost view = { λ p. record { held = p.held.items; places = vec_capacity p.held } };
+    ghost view = { λ p. record { queues = queues_in (get p.nodes) p.lists.items; places = p.places } };
 
-    ghost invariant = { λ p. length p.held.items ≤ 2 ^ 32 };
+    ghost invariant = { λ p. IsPool (get p.nodes) (slab_len p.nodes) p.lists.items p.bytes × (p.places ≤ p.nodes.capacity) };
 }
 
 impl Pool {
-    pub(crate) fn new(alloc: Global) -> Pool
-        ensures { result.held ≡ [] }
+    /// So many flows without packets.
+    pub(crate) fn new(alloc: Global, flows: u32) -> Result<Pool, AllocError>
+        ensures { IfOk result (λ p. p.queues ≡ replicate flows []) }
     {
-        Pool {
-            held: Vec::new(alloc),
-        }
+        let lists = vec![in alloc; FlowList::new(); flows as usize]?;
+        Ok(Pool {
+            nodes: Slab::new(alloc),
+            lists,
+            bytes: 0,
+            places: 0,
+        })
     }
 
     /// Makes a place for one packet more.
     pub(crate) fn reserve(&mut self) -> Result<(), AllocError>
-        ensures held { self.new.held ≡ self.old.held }
+        ensures queues { self.new.queues ≡ self.old.queues }
         ensures grows { self.old.places ≤ self.new.places }
-        ensures ok { OnOk result (length self.new.held < self.new.places) }
+        ensures ok { OnOk result (packets_in self.new.queues < self.new.places) }
         ensures err { OnErr result (self.new ≡ self.old) }
-        ensures succeeds { length self.old.held < self.old.places → IsOk result }
+        ensures succeeds { packets_in self.old.queues < self.old.places → IsOk result }
     {
-        self.held.reserve(1)
+        if self.nodes.len() < self.places {
+            return Ok(());
+        }
+        self.nodes.reserve(1)?;
+        self.places = self.nodes.capacity();
+        Ok(())
     }
 
     pub(crate) fn count(&self) -> u64
-        ensures { result ≡ length self.now.held }
+        ensures { result ≡ packets_in self.now.queues }
     {
-        self.held.len() as u64
+        self.nodes.len() as u64
     }
 
     /// Appends a packet to a flow.
     pub(crate) fn push(&mut self, stamped: Stamped, flow: u32)
-        requires place { length self.old.held < self.old.places }
-        requires few { length self.old.held < 2 ^ 32 }
-        ensures held { self.new.held ≡ self.old.held ++ record { stamped = stamped; flow = flow } ∷ [] }
+        requires in_range { flow < length self.old.queues }
+        requires place { packets_in self.old.queues < self.old.places }
+        requires few { packets_in self.old.queues < 2 ^ 32 }
+        ensures queues { self.new.queues ≡ set self.old.queues flow (get_or self.old.queues flow [] ++ stamped ∷ []) }
         ensures places { self.new.places ≡ self.old.places }
     {
-        self.held.push_reserved(Held { stamped, flow });
-    }
-
-    // Where the first packet of a flow stands, or the length where it has none.
-    fn place_of(&self, flow: u32) -> usize
-        ensures { result ≡ place_in flow self.now.held }
-    {
-        for (i, held) in self.held.iter().enumerate() {
-            if held.flow == flow {
-                return i;
-            }
-        }
-        self.held.len()
+        let list = list_of(&self.lists, flow);
+        let packet = stamped.packet;
+        self.lists[flow as usize] = append(&mut self.nodes, list, flow, stamped);
+        self.bytes += packet.len as u64;
     }
 
     /// The packet in front of a flow.
     pub(crate) fn head_of(&self, flow: u32) -> Option<Stamped>
-        ensures { result ≡ slice_get (queue_in flow self.now.held) 0 }
+        ensures { result ≡ slice_get (get_or self.now.queues flow []) 0 }
     {
-        let place = self.place_of(flow);
-        if place == self.held.len() {
+        let list = list_of(&self.lists, flow);
+        if list.count == 0 {
             return None;
         }
-        Some(self.held[place].stamped)
+        Some(self.nodes[list.head].stamped)
     }
 
     /// Takes the packet in front of a flow.
     pub(crate) fn take_of(&mut self, flow: u32) -> Option<Stamped>
-        ensures front { result ≡ slice_get (queue_in flow self.old.held) 0 }
-        ensures rest { queue_in flow self.new.held ≡ drop 1 (queue_in flow self.old.held) }
-        ensures others { SameBeside flow self.old.held self.new.held }
+        ensures front { result ≡ slice_get (get_or self.old.queues flow []) 0 }
+        ensures queues { self.new.queues ≡ set self.old.queues flow (drop 1 (get_or self.old.queues flow [])) }
         ensures places { self.new.places ≡ self.old.places }
     {
-        let place = self.place_of(flow);
-        if place == self.held.len() {
+        let list = list_of(&self.lists, flow);
+        if list.count == 0 {
             return None;
         }
-        Some(self.held.remove(place).stamped)
+        let (stamped, rest) = take_head(&mut self.nodes, list, flow);
+        let packet = stamped.packet;
+        self.lists[flow as usize] = rest;
+        self.bytes -= packet.len as u64;
+        Some(stamped)
     }
 
     /// The number of packets in a flow.
     pub(crate) fn count_of(&self, flow: u32) -> u64
-        ensures { result ≡ count (queue_in flow self.now.held) }
+        ensures { result ≡ count (get_or self.now.queues flow []) }
     {
-        let mut count = 0u64;
-        for held in &self.held {
-            if held.flow == flow {
-                count += 1;
-            }
-        }
-        count
+        list_of(&self.lists, flow).count
     }
 
     /// The bytes in a flow.
     pub(crate) fn bytes_of(&self, flow: u32) -> u64
-        ensures value { result ≡ size (queue_in flow self.now.held) }
-        ensures bound { result < 2 ^ 49 }
-        // Every packet has a byte at least.
-        ensures counted { count (queue_in flow self.now.held) ≤ result }
+        ensures { result ≡ size (get_or self.now.queues flow []) }
     {
-        let mut bytes = 0u64;
-        for held in &self.held {
-            let packet = held.stamped.packet;
-            if held.flow == flow {
-                bytes += packet.len as u64;
-            }
-        }
-        bytes
+        list_of(&self.lists, flow).bytes
+    }
+
+    /// Every packet has a byte at least. It does nothing.
+    pub(crate) fn each_has_bytes(&self)
+        ensures { (n : ℕ) → count (get_or self.now.queues n []) ≤ size (get_or self.now.queues n []) }
+    {
+        let _ = &self.lists;
     }
 
     /// The bytes in all flows.
     pub(crate) fn bytes(&self) -> u64
-        ensures { result ≡ sum_by (λ (h : Held). h.stamped.packet.len) self.now.held }
+        ensures { result ≡ bytes_in self.now.queues }
     {
-        let mut bytes = 0u64;
-        for held in &self.held {
-            let packet = held.stamped.packet;
-            bytes += packet.len as u64;
-        }
-        bytes
+        self.bytes
+    }
+}
+
+// The list of a flow: one without packets where there is no such flow.
+fn list_of(lists: &Vec<FlowList>, flow: u32) -> FlowList
+    ensures { result ≡ get_or lists.now.items flow no_list }
+{
+    match lists.get(flow as usize) {
+        Some(list) => *list,
+        None => FlowList::new(),
     }
 }

@@ -1,4 +1,5 @@
 use Rattle.std.proofs.Common.{sym, ap, ◌∙◌}
+use Rattle.q_fqcodel.specs.Pool.{codels_in}
 use Rattle.q_fqcodel.specs.FlowsState.{FlowsState}
 use Rattle.q_fqcodel.specs.FqState.{bytes_of}
 use Rattle.q_fqcodel.proofs.PooledLemmas.{bytes-pooled}
@@ -7,4 +8,4 @@ use Rattle.q_fqcodel.proofs.flows.Flows.bytes.Goals as goal
 pub returns : goal.returns
 returns c =
     let same = ap (λ (f : FlowsState). f.flows) c.self.view_is in
-    c.bytes.ensures ∙ sym (bytes-pooled c.self.inside.pool.held c.self.inside.codels.items c.self.invariant.0) ∙ ap bytes_of same
+    c.bytes.ensures ∙ sym (bytes-pooled c.self.inside.pool.queues (codels_in c.self.inside.parameters c.self.inside.states.items) c.self.invariant.0) ∙ ap bytes_of same

@@ -1,13 +1,17 @@
-use Rattle.std.proofs.Common.{◌≡◌, ℕ, suc, ◌+◌, ◌<◌, List, [], ◌++◌, length, take, drop, replicate, refl, sym, ap, ap₂, ◌∙◌, arith, append_assoc, append-nil, add-one}
+use Rattle.std.proofs.Common.{◌≡◌, ℕ, suc, ◌+◌, ◌<◌, List, [], ◌++◌, length, take, drop, map, replicate, refl, sym, ap, ap₂, ◌∙◌, arith, append_assoc, append-nil, add-one}
 use Rattle.std.proofs.lemmas.List.{map-append, take_all, drop_all}
 use Rattle.q_packet.specs.Totals.{count}
 use Rattle.q_packet.specs.declared.stamped.Stamped.{Stamped}
 use Rattle.q_packet.specs.declared.cause.Cause.TheVariants.{Purged}
+use Rattle.q_codel.specs.Codel.{CodelParams, joined, vars_at_first}
 use Rattle.q_codel.specs.Losses.{losses_of}
 use Rattle.q_codel.specs.declared.loss.Loss.{Loss}
 use Rattle.q_fqcodel.specs.Cleared.{adjust}
-use Rattle.q_fqcodel.specs.FqState.{Flow, queue_of, packets_of, all_packets}
+use Rattle.q_fqcodel.specs.FlowsState.{FlowsState}
+use Rattle.q_fqcodel.specs.FqState.{FqSettings, Flow, queue_of, packets_of, all_packets}
+use Rattle.q_fqcodel.specs.Pool.{cleared}
 use Rattle.q_fqcodel.proofs.FlowLemmas.{packets-nil}
+use Rattle.q_fqcodel.proofs.PooledLemmas.{length-codels, cleared_retuned}
 use Rattle.q_fqcodel.proofs.ShedLemmas.{purged-next, purged-at, all_packets-more, packets_of-more, packets_of-part, all_packets-nil}
 use Rattle.q_fqcodel.proofs.flows.Flows.purge.Goals as goal
 use Rattle.q_fqcodel.proofs.flows.Flows.purge.Goals.{After-empty, After-loop-flow}
@@ -24,22 +28,19 @@ loop-flow-init g c = record {
 -- the packets of the next flow, which are as they were
 next : (g : _) (c : After-empty g) → queue_of c.loop-flow.self.flows c.loop-flow.flow ≡ queue_of c.args.self.now.flows c.loop-flow.flow
 next g c =
-    let x : Flow = record { queue = []; codel = c.args.codel } in
     ap (λ (fs : List Flow). queue_of fs c.loop-flow.flow) c.loop-flow.invariant.flows
-    ∙ purged-at x c.loop-flow.flow c.args.self.now.flows (omega (arith, c.loop-flow-test.true, c.len-flow-end.ensures.value))
+    ∙ purged-at cleared c.loop-flow.flow c.args.self.now.flows (omega (arith, c.loop-flow-test.true, c.len-flow-end.ensures.value))
 
 pub empty-requires-clause-room : goal.empty-requires-clause-room
 empty-requires-clause-room g c =
-    let x : Flow = record { queue = []; codel = c.args.codel } in
     let flows : List Flow = c.args.self.now.flows in
     let n : ℕ = c.loop-flow.flow in
     let within : n < length flows = omega (arith, c.loop-flow-test.true, c.len-flow-end.ensures.value) in
-    let q : queue_of c.loop-flow.self.flows n ≡ queue_of flows n = ap (λ (fs : List Flow). queue_of fs n) c.loop-flow.invariant.flows ∙ purged-at x n flows within in
+    let q : queue_of c.loop-flow.self.flows n ≡ queue_of flows n = ap (λ (fs : List Flow). queue_of fs n) c.loop-flow.invariant.flows ∙ purged-at cleared n flows within in
     omega (arith, ap count q, packets_of-more n flows within, packets_of-part (suc n) flows, c.loop-flow.invariant.room, c.requires)
 
 pub loop-flow-preserved : goal.loop-flow-preserved
 loop-flow-preserved g c =
-    let x : Flow = record { queue = []; codel = c.args.codel } in
     let flows : List Flow = c.args.self.now.flows in
     let n : ℕ = c.loop-flow.flow in
     let within : n < length flows = omega (arith, c.loop-flow-test.true, c.len-flow-end.ensures.value) in
@@ -49,9 +50,9 @@ loop-flow-preserved g c =
     record {
       flows =
           c.empty.ensures.flows
-          ∙ ap (adjust (λ (_ : Flow). x) n) c.loop-flow.invariant.flows
-          ∙ purged-next x n flows within
-          ∙ ap (λ (k : ℕ). replicate k x ++ drop k flows) (sym (add-one n));
+          ∙ ap (adjust cleared n) c.loop-flow.invariant.flows
+          ∙ purged-next cleared n flows within
+          ∙ ap (λ (k : ℕ). map cleared (take k flows) ++ drop k flows) (sym (add-one n));
       places = c.empty.ensures.places ∙ c.loop-flow.invariant.places;
       losses =
           c.empty.ensures.lost
@@ -72,16 +73,33 @@ done g c = omega (arith, c.loop-flow-test.false, c.len-flow-end.ensures.value, c
 whole : (g : _) (c : After-loop-flow g) → take c.loop-flow.flow c.args.self.now.flows ≡ c.args.self.now.flows
 whole g c = take_all c.loop-flow.flow c.args.self.now.flows (omega (arith, done g c))
 
-pub returns-clause-flows : goal.returns-clause-flows
-returns-clause-flows g c =
-    let x : Flow = record { queue = []; codel = c.args.codel } in
+all_cleared : (g : _) (c : After-loop-flow g) → c.loop-flow.self.flows ≡ map cleared c.args.self.now.flows
+all_cleared g c =
     c.loop-flow.invariant.flows
-    ∙ ap₂ (λ (k : ℕ) (l : List Flow). replicate k x ++ l) (done g c) (drop_all c.loop-flow.flow c.args.self.now.flows (omega (arith, done g c)))
-    ∙ append-nil (replicate (length c.args.self.now.flows) x)
+    ∙ ap₂ (λ (k l : List Flow). map cleared k ++ l) (whole g c) (drop_all c.loop-flow.flow c.args.self.now.flows (omega (arith, done g c)))
+    ∙ append-nil (map cleared c.args.self.now.flows)
 
 pub returns-clause-lost : goal.returns-clause-lost
 returns-clause-lost g c =
-    c.loop-flow.invariant.losses ∙ ap (λ (fs : List Flow). g.S.Sink.losses c.args.sink.now ++ losses_of Purged (all_packets fs)) (whole g c)
+    c.loop-flow.invariant.losses ∙ ap (λ (fs : List Flow). g.S.Sink.losses c.args.sink.now ++ losses_of Purged (all_packets fs)) (whole g (goal.at.returns-clause-lost g c).After-loop-flow)
 
 pub returns-clause-room : goal.returns-clause-room
-returns-clause-room g c = omega (arith, c.loop-flow.invariant.room, ap packets_of (whole g c))
+returns-clause-room g c = omega (arith, c.loop-flow.invariant.room, ap packets_of (whole g (goal.at.returns-clause-room g c).After-loop-flow))
+
+pub invariant_of-self : goal.invariant_of-self
+invariant_of-self g c =
+    let vs = c.self-2.inside.states.items in (
+      c.self-2.invariant.0 ∙ length-codels c.self-2.inside.parameters vs ∙ sym (length-codels c.parameters_of-self-inside.result vs),
+      c.self-2.invariant.1,
+      c.self-2.invariant.2,
+      ap (λ (p : CodelParams). p.mtu) c.parameters_of-self-inside.ensures ∙ sym (ap (λ (s : FqSettings). s.mtu) c.settings.view_is),
+    )
+
+pub returns-clause-flows : goal.returns-clause-flows
+returns-clause-flows g c =
+    let qs = c.self-2.inside.pool.queues in
+    let vs = c.self-2.inside.states.items in
+    let old : List Flow = c.args.self.now.flows in
+    cleared_retuned c.self-2.inside.parameters c.parameters_of-self-inside.result qs vs old c.self-2.invariant.0
+    (ap (λ (f : FlowsState). f.flows) c.self-2.view_is ∙ all_cleared g (goal.at.returns-clause-flows g c).After-loop-flow)
+    ∙ ap (λ (p : CodelParams). replicate (length old) (record { queue = []; codel = joined p vars_at_first })) c.parameters_of-self-inside.ensures

@@ -1,7 +1,7 @@
-use Rattle.std.proofs.Common.{◌<◌, length, sym, ap, arith, subst, All}
+use Rattle.std.proofs.Common.{◌<◌, length, ap, ◌∙◌, arith}
 use Rattle.q_fqcodel.specs.FlowsState.{FlowsState}
 use Rattle.q_fqcodel.specs.FqState.{packets_of}
-use Rattle.q_fqcodel.specs.declared.held.Held.{Held}
+use Rattle.q_fqcodel.specs.Pool.{packets_in, codels_in}
 use Rattle.q_fqcodel.proofs.PooledLemmas.{packets-pooled}
 use Rattle.std.proofs.Common.{Result, Ok, Err, OnOk}
 use Rattle.q_fqcodel.proofs.flows.Flows.reserve.Goals as goal
@@ -12,10 +12,10 @@ on_ok (Err e) P Q f p = p
 
 pub returns-clause-ok : goal.returns-clause-ok
 returns-clause-ok c =
-    let all = subst (All (λ (h : Held). h.flow < length c.self.inside.codels.items)) (sym c.reserve.ensures.held) c.self.invariant.0 in
-    on_ok c.reserve.result _ _ (λ (p : length c.reserve.new.self.held < c.reserve.new.self.places). omega (arith, p, packets-pooled c.reserve.new.self.held c.self.inside.codels.items all)) c.reserve.ensures.ok
+    let all = ap length c.reserve.ensures.queues ∙ c.self.invariant.0 in
+    on_ok c.reserve.result _ _ (λ (p : packets_in c.reserve.new.self.queues < c.reserve.new.self.places). omega (arith, p, packets-pooled c.reserve.new.self.queues (codels_in c.self.inside.parameters c.self.inside.states.items) all)) c.reserve.ensures.ok
 
 pub returns-clause-succeeds : goal.returns-clause-succeeds
 returns-clause-succeeds c h =
     let same = ap (λ (f : FlowsState). f.flows) c.self.view_is in
-    c.reserve.ensures.succeeds (omega (arith, h, ap packets_of same, ap (λ (f : FlowsState). f.places) c.self.view_is, packets-pooled c.self.inside.pool.held c.self.inside.codels.items c.self.invariant.0))
+    c.reserve.ensures.succeeds (omega (arith, h, ap packets_of same, ap (λ (f : FlowsState). f.places) c.self.view_is, packets-pooled c.self.inside.pool.queues (codels_in c.self.inside.parameters c.self.inside.states.items) c.self.invariant.0))

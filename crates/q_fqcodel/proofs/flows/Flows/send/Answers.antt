@@ -1,12 +1,13 @@
-use Rattle.std.proofs.Common.{◌≡◌, ℕ, ◌+◌, ◌<◌, List, ◌++◌, length, get_or, sym, ap, ap₂, ◌∙◌, arith, subst}
+use Rattle.std.proofs.Common.{◌≡◌, ℕ, ◌+◌, ◌<◌, List, [], ◌++◌, length, get_or, set, sym, ap, ap₂, ◌∙◌, arith, subst}
 use Rattle.q_packet.specs.Totals.{count}
 use Rattle.q_packet.specs.declared.stamped.Stamped.{Stamped}
-use Rattle.q_codel.specs.Codel.{CodelState}
+use Rattle.q_codel.specs.Codel.{CodelState, joined}
 use Rattle.q_fqcodel.specs.Cleared.{adjust}
 use Rattle.q_fqcodel.specs.FlowsState.{FlowsState}
 use Rattle.q_fqcodel.specs.FqState.{Flow, queue_of}
-use Rattle.q_fqcodel.specs.Pool.{queue_in}
-use Rattle.q_fqcodel.proofs.PooledLemmas.{length-flows, flow_read, queue_there, flow_written}
+use Rattle.q_fqcodel.specs.Pool.{flows_from, codels_in}
+use Rattle.q_fqcodel.proofs.PooledLemmas.{length-flows, flow_read, queue_there, flow_written, length-sizes, sizes_renewed, length-codels, codel_at, codels-set}
+use Rattle.std.proofs.lemmas.List.{length-set}
 use Rattle.std.proofs.Common.{Option, IfSome, IsSome}
 use Rattle.q_packet.specs.declared.cause.Cause.TheVariants.{CoDel}
 use Rattle.q_codel.specs.Losses.{losses_of}
@@ -14,25 +15,29 @@ use Rattle.q_codel.specs.declared.taken.Taken.{Taken}
 use Rattle.q_fqcodel.proofs.SentLemmas.{count_dropped}
 use Rattle.q_fqcodel.specs.Take.{packet_sent, packets_dropped, flow_after}
 use Rattle.q_fqcodel.proofs.flows.Flows.send.Goals as goal
-use Rattle.q_fqcodel.proofs.flows.Flows.send.Goals.{After-index_mut, After-send_from}
+use Rattle.q_fqcodel.proofs.flows.Flows.send.Goals.{After-index_mut-codel, After-send_from-taken}
 
-pub index_mut-requires : goal.index_mut-requires
-index_mut-requires g c =
+pub index_mut-codel-requires : goal.index_mut-codel-requires
+index_mut-codel-requires g c =
     let same = ap (λ (f : FlowsState). f.flows) c.self.view_is in
-    omega (arith, c.requires.in_range, ap length same, length-flows 0 c.self.inside.pool.held c.self.inside.codels.items, c.self.inside.codels.ok.0)
+    omega (arith, c.requires.in_range, ap length same, length-flows c.self.inside.pool.queues (codels_in c.self.inside.parameters c.self.inside.states.items) c.self.invariant.0, length-codels c.self.inside.parameters c.self.inside.states.items, c.self.inside.states.ok.0)
 
-omega_within : (g : _) (c : After-index_mut g) → c.args.flow < length c.self.inside.codels.items
+omega_within : (g : _) (c : After-index_mut-codel g) → c.args.flow < length (codels_in c.self.inside.parameters c.self.inside.states.items)
 omega_within g c =
     let same = ap (λ (f : FlowsState). f.flows) c.self.view_is in
-    omega (arith, c.requires.in_range, ap length same, length-flows 0 c.self.inside.pool.held c.self.inside.codels.items)
+    omega (arith, c.requires.in_range, ap length same, length-flows c.self.inside.pool.queues (codels_in c.self.inside.parameters c.self.inside.states.items) c.self.invariant.0)
 
-pub send_from-requires : goal.send_from-requires
-send_from-requires g c =
+-- what CoDel knows of the flow
+read : (g : _) (c : After-index_mut-codel g) → joined c.self.inside.parameters c.index_mut-codel.result.now ≡ get_or (codels_in c.self.inside.parameters c.self.inside.states.items) c.args.flow (joined c.self.inside.parameters c.index_mut-codel.result.now)
+read g c = ap (joined c.self.inside.parameters) c.index_mut-codel.ensures.value ∙ sym (codel_at c.self.inside.parameters c.self.inside.states.items c.args.flow c.index_mut-codel.result.now)
+
+pub send_from-taken-requires : goal.send_from-taken-requires
+send_from-taken-requires g c =
     let same = ap (λ (f : FlowsState). f.flows) c.self.view_is in
     omega (
       arith,
       c.requires.room,
-      ap count (queue_there c.args.flow c.self.inside.pool.held c.self.inside.codels.items c.self.invariant.0),
+      ap count (queue_there c.args.flow c.self.inside.pool.queues (codels_in c.self.inside.parameters c.self.inside.states.items) c.self.invariant.0),
       ap (λ (fs : List Flow). count (queue_of fs c.args.flow)) same,
     )
 
@@ -40,49 +45,75 @@ pub returns-clause-sent : goal.returns-clause-sent
 unfolding packet_sent
 returns-clause-sent g c =
     let same = ap (λ (f : FlowsState). f.flows) c.self.view_is in
-    let within = omega_within g (goal.at.returns-clause-sent g c).After-index_mut in
-    subst (λ (o : Option Flow). IfSome o (λ f. c.send_from.result ≡ packet_sent c.args.now f))
-    (sym (flow_read c.args.flow c.self.inside.pool.held c.self.inside.codels.items c.index_mut.result.now c.args.self.now.flows within c.index_mut.ensures.value same))
-    c.send_from.ensures.sent
+    let within = omega_within g (goal.at.returns-clause-sent g c).After-index_mut-codel in
+    subst (λ (o : Option Flow). IfSome o (λ f. c.send_from-taken.result ≡ packet_sent c.args.now f))
+    (sym (flow_read c.args.flow c.self.inside.pool.queues (codels_in c.self.inside.parameters c.self.inside.states.items) (joined c.self.inside.parameters c.index_mut-codel.result.now) c.args.self.now.flows c.self.invariant.0 within (read g (goal.at.returns-clause-sent g c).After-index_mut-codel) same))
+    c.send_from-taken.ensures.sent
 
 pub returns-clause-flows : goal.returns-clause-flows
 unfolding flow_after
 returns-clause-flows g c =
-    let same = ap (λ (f : FlowsState). f.flows) c.self.view_is in
+    let p = c.self.inside.parameters in
+    let vs = c.self.inside.states.items in
+    let cs : List CodelState = codels_in p vs in
     let n = c.args.flow in
-    let held = c.self.inside.pool.held in
-    let codel = c.index_mut.result.now in
-    let q : List Stamped = queue_in n held in
-    let here : flow_after c.args.now (record { queue = q; codel = get_or c.self.inside.codels.items n codel }) ≡ record { queue = queue_in n c.send_from.new.pool.held; codel = c.send_from.new.codel } =
-    ap (λ (s : CodelState). flow_after c.args.now (record { queue = q; codel = s })) (sym c.index_mut.ensures.value)
-    ∙ ap₂ (λ (l : List Stamped) (s : CodelState). record { queue = l; codel = s }) (sym c.send_from.ensures.left) (sym c.send_from.ensures.state) in
-    flow_written n held c.send_from.new.pool.held c.self.inside.codels.items c.send_from.new.codel codel (flow_after c.args.now) c.send_from.ensures.others.others here
-    ∙ ap (adjust (flow_after c.args.now) n) same
+    let qs : List (List Stamped) = c.self.inside.pool.queues in
+    let was : CodelState = joined p c.index_mut-codel.result.now in
+    let now : CodelState = joined p c.send_from-taken.new.codel in
+    let q : List Stamped = get_or qs n [] in
+    let left : List Stamped = get_or c.send_from-taken.new.pool.queues n [] in
+    let here : flow_after c.args.now (record { queue = q; codel = get_or cs n was }) ≡ record { queue = left; codel = now } =
+    ap (λ (s : CodelState). flow_after c.args.now (record { queue = q; codel = s })) (sym (read g (goal.at.returns-clause-flows g c).After-index_mut-codel))
+    ∙ ap₂ (λ (l : List Stamped) (s : CodelState). record { queue = l; codel = s }) (sym c.send_from-taken.ensures.left) (sym c.send_from-taken.ensures.state) in
+    ap₂ (λ (l : List (List Stamped)) (k : List CodelState). flows_from l k) c.send_from-taken.ensures.others (codels-set p vs n c.send_from-taken.new.codel)
+    ∙ flow_written n qs left cs now was (flow_after c.args.now) here
+    ∙ ap (λ (f : FlowsState). adjust (flow_after c.args.now) n f.flows) c.self.view_is
 
 pub returns-clause-lost : goal.returns-clause-lost
 unfolding packets_dropped
 returns-clause-lost g c =
     let same = ap (λ (f : FlowsState). f.flows) c.self.view_is in
-    let within = omega_within g (goal.at.returns-clause-lost g c).After-index_mut in
-    subst (λ (o : Option Flow). IfSome o (λ f. g.S.Sink.losses c.send_from.new.sink ≡ g.S.Sink.losses c.args.sink.now ++ losses_of CoDel (packets_dropped c.args.now f)))
-    (sym (flow_read c.args.flow c.self.inside.pool.held c.self.inside.codels.items c.index_mut.result.now c.args.self.now.flows within c.index_mut.ensures.value same))
-    c.send_from.ensures.lost
+    let within = omega_within g (goal.at.returns-clause-lost g c).After-index_mut-codel in
+    subst (λ (o : Option Flow). IfSome o (λ f. g.S.Sink.losses c.send_from-taken.new.sink ≡ g.S.Sink.losses c.args.sink.now ++ losses_of CoDel (packets_dropped c.args.now f)))
+    (sym (flow_read c.args.flow c.self.inside.pool.queues (codels_in c.self.inside.parameters c.self.inside.states.items) (joined c.self.inside.parameters c.index_mut-codel.result.now) c.args.self.now.flows c.self.invariant.0 within (read g (goal.at.returns-clause-lost g c).After-index_mut-codel) same))
+    c.send_from-taken.ensures.lost
 
 pub returns-clause-room : goal.returns-clause-room
 unfolding packets_dropped
 returns-clause-room g c =
     let same = ap (λ (f : FlowsState). f.flows) c.self.view_is in
-    let within = omega_within g (goal.at.returns-clause-room g c).After-index_mut in
-    let q : List Stamped = queue_in c.args.flow c.self.inside.pool.held in
-    let n = count_dropped c.index_mut.result.now c.args.now q
-    (λ h. subst (λ (o : Option Taken). IsSome o) c.send_from.ensures.sent (c.send_from.ensures.some.1 h)) in
-    subst (λ (o : Option Flow). IfSome o (λ f. g.S.Sink.room c.send_from.new.sink + count (packets_dropped c.args.now f) ≡ g.S.Sink.room c.args.sink.now))
-    (sym (flow_read c.args.flow c.self.inside.pool.held c.self.inside.codels.items c.index_mut.result.now c.args.self.now.flows within c.index_mut.ensures.value same))
-    (ap (λ (m : ℕ). g.S.Sink.room c.send_from.new.sink + m) n ∙ c.send_from.ensures.room)
+    let within = omega_within g (goal.at.returns-clause-room g c).After-index_mut-codel in
+    let q : List Stamped = get_or c.self.inside.pool.queues c.args.flow [] in
+    let n = count_dropped (joined c.self.inside.parameters c.index_mut-codel.result.now) c.args.now q
+    (λ h. subst (λ (o : Option Taken). IsSome o) c.send_from-taken.ensures.sent (c.send_from-taken.ensures.some.1 h)) in
+    subst (λ (o : Option Flow). IfSome o (λ f. g.S.Sink.room c.send_from-taken.new.sink + count (packets_dropped c.args.now f) ≡ g.S.Sink.room c.args.sink.now))
+    (sym (flow_read c.args.flow c.self.inside.pool.queues (codels_in c.self.inside.parameters c.self.inside.states.items) (joined c.self.inside.parameters c.index_mut-codel.result.now) c.args.self.now.flows c.self.invariant.0 within (read g (goal.at.returns-clause-room g c).After-index_mut-codel) same))
+    (ap (λ (m : ℕ). g.S.Sink.room c.send_from-taken.new.sink + m) n ∙ c.send_from-taken.ensures.room)
 
 pub returns-clause-some : goal.returns-clause-some
 returns-clause-some g c =
     let same = ap (λ (f : FlowsState). f.flows) c.self.view_is in
-    let q = ap count (queue_there c.args.flow c.self.inside.pool.held c.self.inside.codels.items c.self.invariant.0) in
+    let q = ap count (queue_there c.args.flow c.self.inside.pool.queues (codels_in c.self.inside.parameters c.self.inside.states.items) c.self.invariant.0) in
     let r = ap (λ (fs : List Flow). count (queue_of fs c.args.flow)) same in
-    (λ h. let s = c.send_from.ensures.some.0 h in omega (arith, s, q, r), λ h. c.send_from.ensures.some.1 (omega (arith, h, q, r)))
+    (λ h. let s = c.send_from-taken.ensures.some.0 h in omega (arith, s, q, r), λ h. c.send_from-taken.ensures.some.1 (omega (arith, h, q, r)))
+
+pub renew-requires : goal.renew-requires
+renew-requires g c =
+    let d = (goal.at.renew-requires g c).After-index_mut-codel in
+    omega (arith, omega_within g d, c.self.invariant.0, ap length c.self.invariant.2, length-sizes c.self.inside.pool.queues)
+
+pub invariant_of-self : goal.invariant_of-self
+invariant_of-self g c =
+    let p = c.self.inside.parameters in
+    let vs = c.self.inside.states.items in
+    let v = c.send_from-taken.new.codel in
+    let qs : List (List Stamped) = c.self.inside.pool.queues in
+    let n : ℕ = c.args.flow in
+    let d = (goal.at.invariant_of-self g c).After-index_mut-codel in
+    let new : List (List Stamped) = c.send_from-taken.new.pool.queues in (
+      ap length c.send_from-taken.ensures.others ∙ length-set qs n (get_or new n []) ∙ c.self.invariant.0 ∙ length-codels p vs ∙ sym (length-set vs n v) ∙ sym (length-codels p (set vs n v)),
+      omega (arith, c.self.invariant.1, length-set vs n v),
+      sizes_renewed qs new n (get_or new n []) c.renew.new.self c.bytes_of-left.result c.send_from-taken.ensures.others (omega (arith, omega_within g d, c.self.invariant.0))
+          (c.renew.ensures ∙ ap (λ (l : List ℕ). set l n c.bytes_of-left.result) c.self.invariant.2) c.bytes_of-left.ensures,
+      c.self.invariant.3,
+    )

@@ -1,5 +1,4 @@
-use Rattle.std.proofs.Common.{◌≡◌, ℕ, List, [], replicate, sym, ap, ap₂, ◌∙◌, arith, subst}
-use Rattle.q_codel.specs.Codel.{CodelState}
+use Rattle.std.proofs.Common.{◌≡◌, List, replicate, sym, ap, ap₂, ◌∙◌, arith, subst}
 use Rattle.q_fqcodel.specs.Entry.{Entry}
 use Rattle.q_fqcodel.specs.FlowsState.{state_of}
 use Rattle.q_fqcodel.specs.FqState.{FqSettings, Flow, FqState, first_flow, first_state}
@@ -12,10 +11,7 @@ use Rattle.q_fqcodel.proofs.fq_codel.FqCodel.new.Goals.{In_ok-stale}
 made : (c : In_ok-stale) → state_of c.args.settings c.in_ok-flows.flows c.in_ok-fresh.fresh.items c.in_ok-stale.stale.items ≡ first_state c.args.settings
 made c =
     let settings : FqSettings = c.args.settings in
-    let count : c.settings.inside.flows ≡ settings.flows = ap (λ (x : FqSettings). x.flows) c.settings.view_is in
-    let flows : c.in_ok-flows.flows.flows ≡ replicate settings.flows (first_flow settings) =
-    c.in_ok-flows.ensures ∙ ap₂ (λ (n : ℕ) (k : CodelState). replicate n (record { queue = []; codel = k })) count c.first_codel.ensures in
-    ap (λ (f : List Flow). record { settings = settings; flows = f; fresh = c.in_ok-fresh.fresh.items; stale = c.in_ok-stale.stale.items }) flows
+    ap (λ (f : List Flow). record { settings = settings; flows = f; fresh = c.in_ok-fresh.fresh.items; stale = c.in_ok-stale.stale.items }) c.in_ok-flows.ensures
     ∙ ap₂ (λ (l m : List Entry). record { settings = settings; flows = replicate settings.flows (first_flow settings); fresh = l; stale = m })
     c.in_ok-fresh.ensures.items c.in_ok-stale.ensures.items
 

@@ -1,5 +1,4 @@
-use Rattle.std.proofs.Common.{◌≡◌, ℕ, List, [], replicate, sym, ap, ap₂, ◌∙◌, arith, subst}
-use Rattle.q_codel.specs.Codel.{CodelState}
+use Rattle.std.proofs.Common.{◌≡◌, ℕ, List, replicate, sym, ap, ap₂, ◌∙◌, arith, subst}
 use Rattle.q_fqcodel.specs.Entry.{Entry}
 use Rattle.q_fqcodel.specs.FlowsState.{state_of}
 use Rattle.q_fqcodel.specs.FqState.{FqSettings, Flow, FqState, FqView, first_flow, first_state}
@@ -13,7 +12,7 @@ made : (g : _) (c : After-clear-2 g) → state_of c.self.inside.settings c.purge
 made g c =
     let settings : FqSettings = c.self.inside.settings in
     let flows : c.purge.new.self.flows ≡ replicate settings.flows (first_flow settings) =
-    c.purge.ensures.flows ∙ ap₂ (λ (n : ℕ) (k : CodelState). replicate n (record { queue = []; codel = k })) c.self.invariant.0.each_flow c.first_codel.ensures in
+    c.purge.ensures.flows ∙ ap (λ (n : ℕ). replicate n (first_flow settings)) c.self.invariant.0.each_flow in
     ap (λ (f : List Flow). record { settings = settings; flows = f; fresh = c.clear.new.self.items; stale = c.clear-2.new.self.items }) flows
     ∙ ap₂ (λ (l m : List Entry). record { settings = settings; flows = replicate settings.flows (first_flow settings); fresh = l; stale = m })
     c.clear.ensures.items c.clear-2.ensures.items

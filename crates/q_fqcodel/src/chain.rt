@@ -1,0 +1,74 @@
+//! The packets of one flow in the slab of all: one appended, or the first taken.
+ghost use Rattle.std.specs.Prelude.{◌≡◌, ◌+◌, ◌<◌, [], ◌∷◌, ◌++◌, ◌^◌};
+ghost use Rattle.slab.specs.Slab.{get, slab_len, HasRoomFor};
+ghost use Rattle.q_fqcodel.specs.Chain.{queue_in, IsList, KeepsOthers};
+
+use crate::flow_list::FlowList;
+use crate::node::Node;
+use q_packet::Stamped;
+use slab::Slab;
+
+/// Appends a packet to the list of a flow.
+pub(crate) fn append(
+    nodes: &mut Slab<Node>,
+    list: FlowList,
+    flow: u32,
+    stamped: Stamped,
+) -> FlowList
+    requires room { HasRoomFor nodes.old 1 }
+    requires linked { IsList (get nodes.old) flow list }
+    requires few { list.count < 2 ^ 32 }
+    ensures queue { queue_in (get nodes.new) result ≡ queue_in (get nodes.old) list ++ stamped ∷ [] }
+    ensures linked { IsList (get nodes.new) flow result }
+    ensures others { KeepsOthers flow (get nodes.old) (get nodes.new) }
+    ensures count { result.count ≡ list.count + 1 }
+    ensures bytes { result.bytes ≡ list.bytes + stamped.packet.len }
+    ensures len { slab_len nodes.new ≡ slab_len nodes.old + 1 }
+    ensures capacity { nodes.new.capacity ≡ nodes.old.capacity }
+{
+    let packet = stamped.packet;
+    let key = nodes.insert_reserved(Node {
+        stamped,
+        next: 0,
+        flow,
+    });
+    if list.count == 0 {
+        return FlowList {
+            head: key,
+            tail: key,
+            count: 1,
+            bytes: packet.len as u64,
+        };
+    }
+    nodes[list.tail].next = key;
+    FlowList {
+        head: list.head,
+        tail: key,
+        count: list.count + 1,
+        bytes: list.bytes + packet.len as u64,
+    }
+}
+
+/// Takes the first packet out of the list of a flow.
+pub(crate) fn take_head(nodes: &mut Slab<Node>, list: FlowList, flow: u32) -> (Stamped, FlowList)
+    requires some { 0 < list.count }
+    requires linked { IsList (get nodes.old) flow list }
+    ensures queue { queue_in (get nodes.old) list ≡ result.0 ∷ queue_in (get nodes.new) result.1 }
+    ensures linked { IsList (get nodes.new) flow result.1 }
+    ensures others { KeepsOthers flow (get nodes.old) (get nodes.new) }
+    ensures count { result.1.count + 1 ≡ list.count }
+    ensures bytes { result.1.bytes + result.0.packet.len ≡ list.bytes }
+    ensures len { slab_len nodes.new + 1 ≡ slab_len nodes.old }
+    ensures capacity { nodes.new.capacity ≡ nodes.old.capacity }
+{
+    let node = nodes.remove(list.head);
+    let stamped = node.stamped;
+    let packet = stamped.packet;
+    let rest = FlowList {
+        head: node.next,
+        tail: list.tail,
+        count: list.count - 1,
+        bytes: list.bytes - packet.len as u64,
+    };
+    (stamped, rest)
+}
