@@ -88,7 +88,15 @@ impl FqCodel {
     {
         let settings = self.settings;
         let flow = packet.hash % settings.flows;
-        enlist(&mut self.fresh, &self.stale, flow, settings.quantum);
+        // A flow with packets is in a list, so no list is looked through for it.
+        let is_idle = self.flows.is_idle(flow);
+        enlist(
+            &mut self.fresh,
+            &self.stale,
+            flow,
+            settings.quantum,
+            is_idle,
+        );
         self.flows.push(flow, Stamped { packet, at: now });
         if self.flows.count() <= settings.limit as u64 {
             return false;
@@ -315,13 +323,20 @@ fn write_front(fresh: &mut VecDeque<Entry>, stale: &mut VecDeque<Entry>, entry: 
 }
 
 // Puts a flow that is in neither list at the end of the new one, with one quantum.
-fn enlist(fresh: &mut VecDeque<Entry>, stale: &VecDeque<Entry>, flow: u32, quantum: u32)
-    requires { is_listed flow (fresh.old.items ++ stale.now.items) ≡ false → deque_len fresh.old < deque_capacity fresh.old }
+fn enlist(
+    fresh: &mut VecDeque<Entry>,
+    stale: &VecDeque<Entry>,
+    flow: u32,
+    quantum: u32,
+    is_idle: bool,
+)
+    requires place { is_listed flow (fresh.old.items ++ stale.now.items) ≡ false → deque_len fresh.old < deque_capacity fresh.old }
+    requires listed { is_idle ≡ false → is_listed flow (fresh.old.items ++ stale.now.items) ≡ true }
     ensures items { fresh.new.items ≡ (if is_listed flow (fresh.old.items ++ stale.now.items) then fresh.old.items
         else fresh.old.items ++ record { flow = flow; credits = pos quantum } ∷ []) }
     ensures capacity { deque_capacity fresh.new ≡ deque_capacity fresh.old }
 {
-    if stands_in(fresh, flow) || stands_in(stale, flow) {
+    if !is_idle || stands_in(fresh, flow) || stands_in(stale, flow) {
         return;
     }
     fresh.push_back_reserved(Entry::first(flow, quantum));

@@ -13,7 +13,7 @@ use Rattle.q_fqcodel.specs.Put.{flow_of, joined, appended, fattest, shed_count, 
 use Rattle.q_fqcodel.specs.Ranges.{IsInRange}
 use Rattle.q_fqcodel.proofs.FlowLemmas.{length-adjust}
 use Rattle.q_fqcodel.proofs.KeptLemmas.{lawful_after_put}
-use Rattle.q_fqcodel.proofs.PutLemmas.{place_for, listed-not, packets-joined, appended-is, cut-none, cut-some, shed-none, shed-some, lost-none, lost-some, shed-within, shed-batch}
+use Rattle.q_fqcodel.proofs.PutLemmas.{place_for, listed-some, listed-not, packets-joined, appended-is, cut-none, cut-some, shed-none, shed-some, lost-none, lost-some, shed-within, shed-batch}
 use Rattle.q_fqcodel.proofs.fq_codel.FqCodel.put.Goals as goal
 use Rattle.q_fqcodel.proofs.fq_codel.FqCodel.put.Goals.{After-push, Then-count-settings, After-lose}
 
@@ -57,8 +57,14 @@ lawful g c = subst (λ (s : FqState). IsLawful s) (opened_is g c) c.self.invaria
 ranges : (g : _) (c : After-push g) → IsInRange c.args.self.now.state.settings
 ranges g c = subst (λ (x : FqSettings). IsInRange x) (c.settings.view_is ∙ ap (λ (s : FqState). s.settings) (opened_is g c)) c.settings.invariant
 
-pub enlist-requires : goal.enlist-requires
-enlist-requires g c =
+pub enlist-requires-clause-listed : goal.enlist-requires-clause-listed
+enlist-requires-clause-listed g c h =
+    let s : FqState = state_of c.self.inside.settings c.self.inside.flows c.self.inside.fresh.items c.self.inside.stale.items in
+    let n : ℕ = c.packet.inside.hash % c.settings.inside.flows in
+    listed-some n (s.fresh ++ s.stale) (c.self.invariant.0.busy n (sym c.is_idle-is_idle.ensures ∙ h))
+
+pub enlist-requires-clause-place : goal.enlist-requires-clause-place
+enlist-requires-clause-place g c =
     let s : FqState = state_of c.self.inside.settings c.self.inside.flows c.self.inside.fresh.items c.self.inside.stale.items in
     let n : ℕ = c.packet.inside.hash % c.settings.inside.flows in
     let count : c.settings.inside.flows ≡ s.settings.flows = ap (λ (x : FqSettings). x.flows) c.settings.view_is in
