@@ -114,7 +114,7 @@ taken-at mtu now test (d ∷ classes) [] i a c same all ec ea passes = cc
 taken-at mtu now test (d ∷ classes) (b ∷ below) zero a c same all ec ea passes =
     let is_child : b ≡ a = same_Some b a ea in
     let looked : (if test d then b.peeked else b.before) ≡ a.peeked =
-        ap (λ (x : Class). if test x then b.peeked else b.before) (same_Some d c ec) ∙ ap (λ t. if t then b.peeked else b.before) passes ∙ ap (λ (x : Asked). x.peeked) is_child in
+    ap (λ (x : Class). if test x then b.peeked else b.before) (same_Some d c ec) ∙ ap (λ t. if t then b.peeked else b.before) passes ∙ ap (λ (x : Asked). x.peeked) is_child in
     let answer : IsAnswer mtu now a = subst (IsAnswer mtu now) is_child all.0 in
     let rest = are-looked mtu now test classes below (omega (arith, same)) all.1 in
     record {

@@ -164,12 +164,12 @@ module _ (mtu now : ℕ) (least_mtu : 1 ≤ mtu) (handle : Option ℕ) (filters 
         let children : List Worked = set service.below i a.taken in
         let shown : (w : Descriptor → ℕ) → weigh w (option_to_list a.shown) ≡ weigh w (option_to_list (Some p)) = λ w. ap (λ (o : Option Descriptor). weigh w (option_to_list o)) e in
         let fewer : (w : Descriptor → ℕ) → in_children w (befores below) ≡ lost w service.rises + weigh w (option_to_list (Some p)) + in_children w children =
-            λ w. omega (arith, looked.weighs w, losses w, taken.weighs w, answer.gives w, shown w) in
+        λ w. omega (arith, looked.weighs w, losses w, taken.weighs w, answer.gives w, shown w) in
         let then : IsNext mtu s t = subst (IsNext mtu s) (sym is) (next-settled mtu s service.schedule (is_empty a.taken) i m.class least_mtu next m.there) in
         let exactly : AreExact (λ n. is_active n t.active) s.classes (map beneath children) =
-            subst (λ (x : Schedule). AreExact (λ n. is_active n x.active) s.classes (map beneath children)) (sym is)
-            (subst (λ bs. AreExact (λ n. is_active n (settled_schedule (is_empty a.taken) m.class service.schedule).active) s.classes bs) (sym (map-set beneath service.below i a.taken))
-            (exact-settled service.schedule s.classes (map beneath service.below) i m.class (beneath a.taken) m.there classes_apart exact)) in
+        subst (λ (x : Schedule). AreExact (λ n. is_active n x.active) s.classes (map beneath children)) (sym is)
+        (subst (λ bs. AreExact (λ n. is_active n (settled_schedule (is_empty a.taken) m.class service.schedule).active) s.classes bs) (sym (map-set beneath service.below i a.taken))
+        (exact-settled service.schedule s.classes (map beneath service.below) i m.class (beneath a.taken) m.there classes_apart exact)) in
         let before_is = λ (w : Descriptor → ℕ). weigh-waiting w (drr_node s None) (befores below) in
         let peeked_is = λ (w : Descriptor → ℕ). weigh-waiting w (drr_node t (Some p)) children in
         let taken_is = λ (w : Descriptor → ℕ). weigh-waiting w (drr_node t None) children in
@@ -194,8 +194,18 @@ module _ (mtu now : ℕ) (least_mtu : 1 ≤ mtu) (handle : Option ℕ) (filters 
           quiet = quiet-all mtu now s.classes below entries all;
           peeks = λ w. omega (arith, fewer w, before_is w, peeked_is w, weigh-nil w);
           gives = λ w. omega (arith, peeked_is w, taken_is w, weigh-nil w);
-          marks = λ w. omega (arith, looked.holds w, losses w, marked_by w, taken.holds w, answer.marks_given w, shown w, weigh-nil w,
-              weigh-holds w (drr_node s None) (befores below), weigh-holds w (drr_node t (Some p)) children);
+          marks = λ w. omega (
+            arith,
+            looked.holds w,
+            losses w,
+            marked_by w,
+            taken.holds w,
+            answer.marks_given w,
+            shown w,
+            weigh-nil w,
+            weigh-holds w (drr_node s None) (befores below),
+            weigh-holds w (drr_node t (Some p)) children,
+          );
           marks_given = λ w. omega (arith, weigh-nil w, weigh-holds w (drr_node t (Some p)) children, weigh-holds w (drr_node t None) children);
           stays = λ none. absurd (omega (arith, none, weigh-one one p, peeked_is one));
         }) (notes-silent (choice_of heads s) s.active)

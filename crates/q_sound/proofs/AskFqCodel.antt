@@ -114,17 +114,17 @@ module _ (mtu now : ℕ) (low : now ≤ 2 ^ 62) (handle : Option ℕ) (filters :
       let packet : Option Descriptor = option_map (λ (t : Taken). t.packet) sent in
       let gone : List Descriptor = packets_of (dropped_from now (selected s)) in
       let before_is : (w : Descriptor → ℕ) → weigh w (waiting (fq_codel s None) (befores below)) ≡ weigh w [] + weigh w (packets_of (all_packets s.flows)) + in_children w (befores below) =
-          λ w. weigh-waiting w (fq_codel s None) (befores below) in
+      λ w. weigh-waiting w (fq_codel s None) (befores below) in
       let peeked_is : (w : Descriptor → ℕ) → weigh w (waiting (fq_codel after packet) (befores below)) ≡ weigh w (option_to_list packet) + weigh w (packets_of (all_packets after.flows)) + in_children w (befores below) =
-          λ w. weigh-waiting w (fq_codel after packet) (befores below) in
+      λ w. weigh-waiting w (fq_codel after packet) (befores below) in
       let taken_is : (w : Descriptor → ℕ) → weigh w (waiting (fq_codel after None) (befores below)) ≡ weigh w [] + weigh w (packets_of (all_packets after.flows)) + in_children w (befores below) =
-          λ w. weigh-waiting w (fq_codel after None) (befores below) in
+      λ w. weigh-waiting w (fq_codel after None) (befores below) in
       let losses : (w : Descriptor → ℕ) → lost w (losses_of CoDel gone ++ marks_of sent) ≡ weigh w gone =
-          λ w. omega (arith, lost-append w (losses_of CoDel gone) (marks_of sent), lost-losses w CoDel gone, lost-marks w sent) in
+      λ w. omega (arith, lost-append w (losses_of CoDel gone) (marks_of sent), lost-losses w CoDel gone, lost-marks w sent) in
       let peeks : (w : Descriptor → ℕ) → weigh w (waiting (fq_codel s None) (befores below)) ≡ lost w (losses_of CoDel gone ++ marks_of sent) + weigh w (waiting (fq_codel after packet) (befores below)) =
-          λ w. omega (arith, take-weighs w now s, before_is w, peeked_is w, losses w, weigh-nil w) in
+      λ w. omega (arith, take-weighs w now s, before_is w, peeked_is w, losses w, weigh-nil w) in
       let gives : (w : Descriptor → ℕ) → weigh w (waiting (fq_codel after packet) (befores below)) ≡ weigh w (option_to_list packet) + weigh w (waiting (fq_codel after None) (befores below)) =
-          λ w. omega (arith, peeked_is w, taken_is w, weigh-nil w) in
+      λ w. omega (arith, peeked_is w, taken_is w, weigh-nil w) in
       let lawful = take-lawful mtu now s (map beneath (befores below)) low h.discipline in
       is-dequeued mtu now (fq_codel s None) below (record {
         after = fq_codel after None;
@@ -161,8 +161,16 @@ module _ (mtu now : ℕ) (low : now ≤ 2 ^ 62) (handle : Option ℕ) (filters :
         quiet = quiet-append (losses_of CoDel gone) (marks_of sent) (quiet-losses CoDel gone refl) (quiet-marks sent);
         peeks = peeks;
         gives = gives;
-        marks = λ w. omega (arith, losses w, marked-append w (losses_of CoDel gone) (marks_of sent), marked-losses w CoDel gone, marks-weigh w sent, weigh-nil w,
-            weigh-holds w (fq_codel s None) (befores below), weigh-holds w (fq_codel after packet) (befores below));
+        marks = λ w. omega (
+          arith,
+          losses w,
+          marked-append w (losses_of CoDel gone) (marks_of sent),
+          marked-losses w CoDel gone,
+          marks-weigh w sent,
+          weigh-nil w,
+          weigh-holds w (fq_codel s None) (befores below),
+          weigh-holds w (fq_codel after packet) (befores below),
+        );
         marks_given = λ w. omega (arith, weigh-nil w, weigh-holds w (fq_codel after packet) (befores below), weigh-holds w (fq_codel after None) (befores below));
         stays = stays packet refl (losses one) (peeks one) (peeked_is one);
       }) (flow-silent s (selected s) sent)

@@ -68,7 +68,7 @@ fifo-answers mtu now handle filters limit queue below h all =
     let own : Own = record { handle = handle; discipline = Fifo limit queue; held = None; filters = filters } in
     let after : Own = record own { discipline = Fifo limit (drop 1 queue) } in
     let shorter : (w : Descriptor → ℕ) → weigh w (waiting own (befores below)) ≡ weigh w (option_to_list (slice_get (packets_of queue) 0)) + weigh w (waiting after (befores below)) =
-        λ w. omega (arith, weigh-waiting w own (befores below), weigh-waiting w after (befores below), weigh-head w queue, weigh-nil w) in
+    λ w. omega (arith, weigh-waiting w own (befores below), weigh-waiting w after (befores below), weigh-head w queue, weigh-nil w) in
     is-shown mtu now below (record {
       own = own;
       own_taken = after;

@@ -138,9 +138,9 @@ prio-answers mtu now handle filters priomap below h all =
     let k : ℕ = position_or_len (λ (a : Asked). is_some a.shown) below in
     let p = are-passed mtu now k below all in
     let peeks : (w : Descriptor → ℕ) → weigh w (waiting own (befores below)) ≡ lost w (notes_to k below) + weigh w (waiting own (peeked_to k below)) =
-        λ w. omega (arith, p.peeks w, weigh-waiting w own (befores below), weigh-waiting w own (peeked_to k below)) in
+    λ w. omega (arith, p.peeks w, weigh-waiting w own (befores below), weigh-waiting w own (peeked_to k below)) in
     let gives : (w : Descriptor → ℕ) → weigh w (waiting own (peeked_to k below)) ≡ weigh w (option_to_list (packet_at k below)) + weigh w (waiting own (taken_at k below)) =
-        λ w. omega (arith, p.gives w, weigh-waiting w own (taken_at k below), weigh-waiting w own (peeked_to k below)) in
+    λ w. omega (arith, p.gives w, weigh-waiting w own (taken_at k below), weigh-waiting w own (peeked_to k below)) in
     is-shown mtu now below (record {
       own = own;
       own_taken = own;

@@ -120,6 +120,7 @@ heads-fit mtu now s below all n len e = by (answer_in s.classes below n) (λ a. 
     shown : (a : Asked) (o : Option Descriptor) → a.shown ≡ o → IsAnswer mtu now a → option_map (λ (p : Descriptor). p.len) o ≡ Some len → len ≤ mtu
     shown a None is h e = cc
     shown a (Some p) is h e = subst (λ n. n ≤ mtu) (same_Some p.len len e) (shown-short mtu now a p h is)
+
     by : (o : Option Asked) → ((a : Asked) → o ≡ Some a → IsAnswer mtu now a) → option_and_then length_of o ≡ Some len → len ≤ mtu
     by None h e = cc
     by (Some a) h e = shown a a.shown refl (h a refl) e

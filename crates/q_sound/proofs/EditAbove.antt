@@ -22,7 +22,7 @@ use Rattle.q_model.specs.Edit.{above, edited_at}
 use Rattle.q_model.specs.Lawful.{IsLawfulDiscipline, IsLawfulOwn, CanHold}
 use Rattle.q_sound.proofs.Weights.{weigh, weigh-nil}
 use Rattle.q_sound.proofs.Kept.{IsLawfulRoot, IsCountedRoot}
-use Rattle.q_sound.proofs.EditForests.{each-set, each-at, lawful-side, lawful-nodes, counted-side, counted-nodes}
+use Rattle.q_sound.proofs.Forests.{each-set, each-at, are-lawful, lawful-side, lawful-nodes, counted-side, counted-nodes}
 use Rattle.q_sound.proofs.EditWeights.{joined, weigh-joined-set, weigh-beneath, weigh-held, counted_purged, failing, weightless, all_pass}
 use Rattle.q_sound.proofs.EditDrr.{settled_lawful}
 use Rattle.q_sound.proofs.EditHandles.{one, times, times-set}
@@ -181,7 +181,7 @@ module _ (mtu clock : ℕ) (fresh : Option ℕ) (purged : List Descriptor) (posi
       record {
         conserved = conserved;
         held = held;
-        lawful = (own_lawful, lawful-side mtu clock (set (children n) i new) (All-set (IsLawfulRoot mtu clock) (children n) i new h.lawful (lawful-nodes mtu clock n.below lawful.1)));
+        lawful = (own_lawful, lawful-side mtu clock (set (children n) i new) (are-lawful mtu clock (set (children n) i new) (All-set (IsLawfulRoot mtu clock) (children n) i new h.lawful (lawful-nodes mtu clock n.below lawful.1))));
         counted = (
           counted_purged n.memory (beneath n) (held_beneath n) (beneath after) (held_beneath after) purged counted.0 conserved held,
           counted-side (set (children n) i new) (All-set IsCountedRoot (children n) i new h.counted (counted-nodes n.below counted.1)),

@@ -17,7 +17,7 @@ use Rattle.q_model.specs.Work.{losses_of}
 use Rattle.q_model.specs.Lawful.{IsLawfulDiscipline, IsLawfulOwn, CanHold}
 use Rattle.q_sound.proofs.Weights.{weigh}
 use Rattle.q_sound.proofs.Kept.{IsLawfulRoot, IsCountedRoot}
-use Rattle.q_sound.proofs.EditForests.{each-side, each-nodes, side-nodes, lawful-side, counted-side}
+use Rattle.q_sound.proofs.Forests.{each-side, each-nodes, side-nodes, are-lawful, lawful-side, counted-side}
 use Rattle.q_sound.proofs.EditWeights.{joined, weigh-joined-cons, weigh-joined-append, weigh-beneath, weigh-held, counted_purged}
 use Rattle.q_sound.proofs.EditHandles.{one, times_below}
 use Rattle.q_sound.proofs.EditAbove.{Becomes, fewer_within}
@@ -113,7 +113,7 @@ becomes-remade mtu clock purged n own kept counted h =
     record {
       conserved = conserved;
       held = held_kept;
-      lawful = (subst (IsLawfulOwn mtu clock own) (sym below) h.lawful, lawful-side mtu clock kept h.lawful_below);
+      lawful = (subst (IsLawfulOwn mtu clock own) (sym below) h.lawful, lawful-side mtu clock kept (are-lawful mtu clock kept h.lawful_below));
       counted = (counted_purged n.memory (beneath n) (held_beneath n) (beneath new) (held_beneath new) purged counted.0 conserved held_kept, counted-side kept h.counted_below);
       handles = λ k. omega (arith, h.handles_below k, ap (times_below k) (side-nodes n.below), ap (one k) h.handle);
     }

@@ -71,6 +71,7 @@ classes-served heads s = by (prepared heads s).active
     given : (x : Entry) (es : List Entry) (o : Option ℕ) → (sent_by o x es (prepared heads s)).classes ≡ s.classes
     given x es None = refl
     given x es (Some len) = refl
+
     by : (es : List Entry) → (sent_in heads es (prepared heads s)).classes ≡ s.classes
     by [] = refl
     by (x ∷ es) = given x es (heads x.class)
@@ -81,6 +82,7 @@ longest-served heads s = by (prepared heads s).active
     given : (x : Entry) (es : List Entry) (o : Option ℕ) → (sent_by o x es (prepared heads s)).max_len ≡ s.max_len
     given x es None = refl
     given x es (Some len) = refl
+
     by : (es : List Entry) → (sent_in heads es (prepared heads s)).max_len ≡ s.max_len
     by [] = refl
     by (x ∷ es) = given x es (heads x.class)
@@ -121,6 +123,7 @@ woken-other n m s apart = by (is_active m s.active)
     last : (b : Bool) → (b || false) ≡ b
     last true = refl
     last false = refl
+
     by : (b : Bool) → is_active n (if b then s else record s { active = s.active ++ record { class = m; deficit = drr.quantum_of m s.classes; granted = 0 } ∷ [] }).active ≡ is_active n s.active
     by true = refl
     by false =
@@ -169,9 +172,10 @@ exact-set : (a b : ℕ → Bool) (classes : List Class) (below : List (List Desc
 exact-set a b [] below i c packets e differ here same h = cc
 exact-set a b (d ∷ classes) [] i c packets e differ here same h = absurd h
 exact-set a b (d ∷ classes) (x ∷ below) zero c packets e differ here same h =
-    let is : d ≡ c = same_Some d c e in
-    (subst (λ (y : Class). IsExact b y packets) (sym is) here,
-    exact-others a b c.name classes below (subst (λ (y : Class). list_any (λ (z : Class). y.name == z.name) classes ≡ false) is differ.0) same h.1)
+    let is : d ≡ c = same_Some d c e in (
+      subst (λ (y : Class). IsExact b y packets) (sym is) here,
+      exact-others a b c.name classes below (subst (λ (y : Class). list_any (λ (z : Class). y.name == z.name) classes ≡ false) is differ.0) same h.1,
+    )
 exact-set a b (d ∷ classes) (x ∷ below) (suc i) c packets e differ here same h =
     (same d.name (apart-at d.name classes i c e differ.0) ∙ h.0, exact-set a b classes below i c packets e differ.1 here same h.1)
 

@@ -16,7 +16,6 @@ pub mod EditClassPlans
 pub mod EditClasses
 pub mod EditDrr
 pub mod EditFilters
-pub mod EditForests
 pub mod EditFront
 pub mod EditHandles
 pub mod EditLater

@@ -44,7 +44,6 @@ module _ (mtu now : ℕ) (least : 1 ≤ mtu) (p : Descriptor) (fits : IsWithin 1
   module _ (i : ℕ) (before after : List Worked) (c m : List Descriptor)
       (at : slice_get (map beneath before) i ≡ Some c) (becomes : map beneath after ≡ set (map beneath before) i m)
       (more : (w : Descriptor → ℕ) → weigh w m ≤ w (plain p) + weigh w c) (all_more : (w : Descriptor → ℕ) → in_children w after ≤ w (plain p) + in_children w before) where
-
     as_many : length (map beneath after) ≡ length (map beneath before)
     as_many = ap length becomes ∙ length-set (map beneath before) i m
 
@@ -71,10 +70,10 @@ module _ (mtu now : ℕ) (least : 1 ≤ mtu) (p : Descriptor) (fits : IsWithin 1
     tbf-settled b limit passes h =
         let within = slice_get_within (map beneath before) i c at in
         let child : All (IsShort b.burst) c =
-            subst (λ (x : List Descriptor). All (IsShort b.burst) x) (get_or_from_slice_get (map beneath before) i c [] at)
-            (All-get_or (λ packets. All (IsShort b.burst) packets) (map beneath before) i [] within h.discipline.short) in
+        subst (λ (x : List Descriptor). All (IsShort b.burst) x) (get_or_from_slice_get (map beneath before) i c [] at)
+        (All-get_or (λ packets. All (IsShort b.burst) packets) (map beneath before) i [] within h.discipline.short) in
         let new_child : All (IsShort b.burst) m =
-            short-among b.burst (p ∷ c) m (λ w. omega (arith, more w, weigh-cons w p c)) (All-cons (IsShort b.burst) p c passes child) in
+        short-among b.burst (p ∷ c) m (λ w. omega (arith, more w, weigh-cons w p c)) (All-cons (IsShort b.burst) p c passes child) in
         record {
           discipline = record {
             level = h.discipline.level;
@@ -97,11 +96,11 @@ module _ (mtu now : ℕ) (least : 1 ≤ mtu) (p : Descriptor) (fits : IsWithin 1
         let class : Class = found.0 in
         let is : settled_class i emptied s ≡ settled_schedule emptied class s = settled-at i emptied s class found.1 in
         let next : IsNext mtu s (settled_class i emptied s) =
-            subst (IsNext mtu s) (sym is) (next-settled mtu s s emptied i class least (record { classes = refl; lawful = h.discipline.schedule; longest = h.discipline.longest }) found.1) in
+        subst (IsNext mtu s) (sym is) (next-settled mtu s s emptied i class least (record { classes = refl; lawful = h.discipline.schedule; longest = h.discipline.longest }) found.1) in
         let exactly : AreExact (λ n. is_active n (settled_class i emptied s).active) s.classes (map beneath after) =
-            subst (λ (x : Schedule). AreExact (λ n. is_active n x.active) s.classes (map beneath after)) (sym is)
-            (subst (λ bs. AreExact (λ n. is_active n (settled_schedule emptied class s).active) s.classes bs) (sym becomes)
-            (exact-settled s s.classes (map beneath before) i class m found.1 (differ-from_pairs (λ (c : Class). c.name) s.classes h.discipline.schedule.classes_differ) h.discipline.exact)) in
+        subst (λ (x : Schedule). AreExact (λ n. is_active n x.active) s.classes (map beneath after)) (sym is)
+        (subst (λ bs. AreExact (λ n. is_active n (settled_schedule emptied class s).active) s.classes bs) (sym becomes)
+        (exact-settled s s.classes (map beneath before) i class m found.1 (differ-from_pairs (λ (c : Class). c.name) s.classes h.discipline.schedule.classes_differ) h.discipline.exact)) in
         record {
           discipline = record {
             schedule = next.lawful;
@@ -137,7 +136,7 @@ beneath-put mtu now p s i c w least fits h can at put =
     let own : Own = settled i (is_empty w.node) s.own in
     let here = set-at mtu now (children s) i c w.node at in
     let quiet_at : slice_get (map beneath (quiets s)) i ≡ Some (beneath (quiet c)) =
-        slice_get-map beneath (quiets s) i ∙ ap (option_map beneath) (slice_get-map quiet (children s) i ∙ ap (option_map quiet) at) in
+    slice_get-map beneath (quiets s) i ∙ ap (option_map beneath) (slice_get-map quiet (children s) i ∙ ap (option_map quiet) at) in
     let quiet_is : (f : Descriptor → ℕ) → weigh f (beneath (quiet c)) ≡ weigh f (beneath c) = λ f. ap (weigh f) (beneath-quiet c) in
     let packets = settled-packets i (is_empty w.node) s.own.discipline in
     put-parts mtu now p s own w.rises after (record {

@@ -49,11 +49,25 @@ put-parts mtu now p s own rises below h =
     let h1 = λ (f : Descriptor → ℕ). ap (weigh f) (held-worked own (Arrived p ∷ rises) below) in
     record {
       lawful = lawful-worked mtu now own (Arrived p ∷ rises) below h.lawful h.all;
-      told = (record {
-        conserved = λ f. omega (arith, h.conserved f, before_is f, b0 f, b1 f, h.no_arrival f, h.nothing_sent f,
-            arrived-cons f (Arrived p) rises, sent-cons f (Arrived p) rises, lost-cons f (Arrived p) rises);
-        marks = λ f. omega (arith, h.held f, held_before f, h0 f, h1 f, h.nothing_marked f, h.nothing_sent f, marked-cons f (Arrived p) rises);
-      }, h.handle, subst (λ x. AllTold x (side_by_side below)) (side-quiet s.below) (told-side (quiets s) below h.told));
+      told = (
+        record {
+          conserved = λ f. omega (
+            arith,
+            h.conserved f,
+            before_is f,
+            b0 f,
+            b1 f,
+            h.no_arrival f,
+            h.nothing_sent f,
+            arrived-cons f (Arrived p) rises,
+            sent-cons f (Arrived p) rises,
+            lost-cons f (Arrived p) rises,
+          );
+          marks = λ f. omega (arith, h.held f, held_before f, h0 f, h1 f, h.nothing_marked f, h.nothing_sent f, marked-cons f (Arrived p) rises);
+        },
+        h.handle,
+        subst (λ x. AllTold x (side_by_side below)) (side-quiet s.below) (told-side (quiets s) below h.told),
+      );
       no_arrival = h.no_arrival;
       nothing_sent = h.nothing_sent;
       nothing_marked = h.nothing_marked;

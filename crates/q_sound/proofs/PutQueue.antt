@@ -51,7 +51,7 @@ module _ (mtu now : ℕ) (p : Descriptor) (fits : IsWithin 1 mtu p.len) (handle 
       let s : Shape = fifo_shape limit queue in
       let own : Own = record s.own { discipline = Fifo limit (queue ++ stamped ∷ []) } in
       let more : (w : Descriptor → ℕ) → w (plain p) + weigh w (waiting s.own (quiets s)) ≡ weigh w (waiting own (quiets s)) =
-          λ w. omega (arith, weigh-waiting w s.own (quiets s), weigh-waiting w own (quiets s), weigh-packets w queue, weigh-packets w (queue ++ stamped ∷ []), sum_by_push (stamped_weight w) queue stamped) in
+      λ w. omega (arith, weigh-waiting w s.own (quiets s), weigh-waiting w own (quiets s), weigh-packets w queue, weigh-packets w (queue ++ stamped ∷ []), sum_by_push (stamped_weight w) queue stamped) in
       put-parts mtu now p s own [] (quiets s) (record {
         handle = refl;
         lawful = record {
@@ -140,11 +140,18 @@ module _ (mtu now : ℕ) (p : Descriptor) (fits : IsWithin 1 mtu p.len) (handle 
       let law = h.0.discipline in
       let in_flow : flow_of q p < length q.flows = subst (λ n. flow_of q p < n) (sym law.lists.each_flow) (mod_below p.hash q.settings.flows (omega (arith, law.settings.flows_low))) in
       let more : (w : Descriptor → ℕ) → w (plain p) + weigh w (waiting s.own (quiets s)) ≡ weigh w gone + weigh w (waiting own (quiets s)) =
-          λ w. omega (arith, weigh-waiting w s.own (quiets s), weigh-waiting w own (quiets s), put_keeps_all (stamped_weight w) q p now in_flow,
-          weigh-packets w (all_packets q.flows), weigh-packets w (all_packets (after_put q p now).flows), weigh-packets w (lost_by_put q p now)) in
+      λ w. omega (
+        arith,
+        weigh-waiting w s.own (quiets s),
+        weigh-waiting w own (quiets s),
+        put_keeps_all (stamped_weight w) q p now in_flow,
+        weigh-packets w (all_packets q.flows),
+        weigh-packets w (all_packets (after_put q p now).flows),
+        weigh-packets w (lost_by_put q p now),
+      ) in
       let lengths : All (HasLength mtu) (waiting s.own (quiets s)) = subst (All (HasLength mtu)) (sym (waiting-quiet s)) h.0.lengths in
       let own_lengths : All (HasLength mtu) (packets_of (all_packets q.flows)) =
-          lengths-among mtu (waiting s.own (quiets s)) (packets_of (all_packets q.flows)) (λ w. omega (arith, weigh-waiting w s.own (quiets s))) lengths in
+      lengths-among mtu (waiting s.own (quiets s)) (packets_of (all_packets q.flows)) (λ w. omega (arith, weigh-waiting w s.own (quiets s))) lengths in
       put-parts mtu now p s own (losses_of FatFlow gone) (quiets s) (record {
         handle = refl;
         lawful = record {

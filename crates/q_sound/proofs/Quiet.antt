@@ -13,10 +13,9 @@ use Rattle.q_model.proofs.ShrinkLemmas.{each-each_memory}
 use Rattle.q_sound.proofs.Weights.{weigh, arrived-nil, sent-nil, lost-nil, dropped-nil, marked-nil}
 use Rattle.q_sound.proofs.Kept.{AllLawful, IsLawfulRoot}
 use Rattle.q_sound.proofs.Told.{IsTold, AllTold, IsRootTold}
-use Rattle.q_sound.proofs.Forests.{AreLawful, AreTold, each-nodes}
+use Rattle.q_sound.proofs.Forests.{AreLawful, AreTold, lawful-with_memory}
 use Rattle.q_sound.proofs.Answer.{waiting, holds}
 use Rattle.q_sound.proofs.Sums.{in_children, held_in_children}
-use Rattle.q_sound.proofs.Asks.{lawful-shape}
 
 -- the children of a node as they were, remembering nothing yet
 abbrev pub quiets : Shape → List Worked
@@ -66,7 +65,7 @@ quiets-told (c ∷ cs) = (one-quiet c, quiets-told cs)
 pub quiets-lawful : (mtu now : ℕ) (x : Forest (Unit {0})) → AllLawful mtu now x → AreLawful mtu now (map quiet (nodes_in x))
 quiets-lawful mtu now none h = tt
 quiets-lawful mtu now (more own m below others) h =
-    (lawful-shape mtu now (λ u. []) (record { own = own; memory = m; below = below }) (h.0, h.1), quiets-lawful mtu now others h.2)
+    (lawful-with_memory mtu now (λ u. []) (record { own = own; memory = m; below = below }) (h.0, h.1), quiets-lawful mtu now others h.2)
 
 pub child-lawful : (mtu now : ℕ) (x : Forest (Unit {0})) (i : ℕ) (c : Shape) → AllLawful mtu now x → slice_get (nodes_in x) i ≡ Some c → IsLawfulRoot mtu now c
 child-lawful mtu now none i c h e = cc

@@ -78,6 +78,7 @@ module _ (p : Descriptor) (own : Own) (below : List Route) where
       found : (o : Option ℕ) → option_map_or (through below) o (refused NoClass) ≡ ends → ⊥
       found None e = refused-ends NoClass e
       found (Some i) e = through-ends below i e
+
       by : (o : Option ℕ) → (elim o [ None ↦ refused NoClass | Some minor ↦ option_map_or (through below) (class_at minor s) (refused NoClass) ]) ≡ ends → ⊥
       by None e = refused-ends NoClass e
       by (Some minor) e = found (class_at minor s) e
@@ -102,6 +103,7 @@ module _ (p : Descriptor) (own : Own) (below : List Route) where
       found : (o : Option ℕ) → option_map_or (through below) o (refused NoClass) ≡ record { path = i ∷ path; refusal = refusal } → slice_get below i ≡ Some (record { path = path; refusal = refusal })
       found None e = refused-goes NoClass i path refusal e
       found (Some k) e = through-goes below k i path refusal e
+
       by : (o : Option ℕ) → ◌≡◌ {A = Route} (elim o [ None ↦ refused NoClass | Some minor ↦ option_map_or (through below) (class_at minor s) (refused NoClass) ]) (record { path = i ∷ path; refusal = refusal })
           → slice_get below i ≡ Some (record { path = path; refusal = refusal })
       by None e = refused-goes NoClass i path refusal e
@@ -113,7 +115,6 @@ pub record IsOn (p : Descriptor) (s : Shape) (i : ℕ) (path : List ℕ) (refusa
   pub there : slice_get (children s) i ≡ Some child
   pub way : route p child ≡ record { path = path; refusal = refusal }
   pub passes : CanPass p s.own.discipline
-
 
 pub route-goes : (p : Descriptor) (s : Shape) (i : ℕ) (path : List ℕ) (refusal : Option Cause) → route p s ≡ record { path = i ∷ path; refusal = refusal } → IsOn p s i path refusal
 route-goes p s i path refusal e =
