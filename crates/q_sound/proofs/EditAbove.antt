@@ -23,7 +23,8 @@ use Rattle.q_model.specs.Lawful.{IsLawfulDiscipline, IsLawfulOwn, CanHold}
 use Rattle.q_sound.proofs.Weights.{weigh, weigh-nil}
 use Rattle.q_sound.proofs.Kept.{IsLawfulRoot, IsCountedRoot}
 use Rattle.q_sound.proofs.Forests.{each-set, each-at, are-lawful, lawful-side, lawful-nodes, counted-side, counted-nodes}
-use Rattle.q_sound.proofs.EditWeights.{joined, weigh-joined-set, weigh-beneath, weigh-held, counted_purged, failing, weightless, all_pass}
+use Rattle.q_sound.proofs.Joined.{joined, weigh-joined-set, weigh-beneath, weigh-held, counted_purged}
+use Rattle.q_sound.proofs.Lengths.{short-among, lengths-among}
 use Rattle.q_sound.proofs.EditDrr.{settled_lawful}
 use Rattle.q_sound.proofs.EditHandles.{one, times, times-set}
 
@@ -38,28 +39,6 @@ pub record Becomes (mtu clock : ℕ) (fresh : Option ℕ) (purged : List Descrip
 
 pub All-at : {X : Type 0} (P : X → Type 0) (xs : List X) (i : ℕ) (x : X) → All P xs → slice_get xs i ≡ Some x → P x
 All-at P xs i x h e = subst P (get_or_from_slice_get xs i x x e) (h i x (slice_get_within xs i x e))
-
--- ---- lengths of fewer packets
-
-pub fewer_pass : (test : ℕ → Bool) (old new : List Descriptor) → ((w : Descriptor → ℕ) → weigh w new ≤ weigh w old) → All (λ (p : Descriptor). test p.len ≡ true) old → All (λ (p : Descriptor). test p.len ≡ true) new
-fewer_pass test old new fewer h = all_pass test new (omega (arith, fewer (failing test), weightless test old h))
-
-pub fewer_short : (most : ℕ) (old new : List Descriptor) → ((w : Descriptor → ℕ) → weigh w new ≤ weigh w old) → All (λ (p : Descriptor). p.len ≤ most) old → All (λ (p : Descriptor). p.len ≤ most) new
-fewer_short most old new fewer h =
-    All-weaker (λ (p : Descriptor). nat_le p.len most ≡ true) (λ (p : Descriptor). p.len ≤ most) (λ p. leb-true p.len most) new
-    (fewer_pass (λ k. nat_le k most) old new fewer
-    (All-weaker (λ (p : Descriptor). p.len ≤ most) (λ (p : Descriptor). nat_le p.len most ≡ true) (λ p. le-leb p.len most) old h))
-
-pub fewer_within : (least most : ℕ) (old new : List Descriptor) → ((w : Descriptor → ℕ) → weigh w new ≤ weigh w old) → All (λ (p : Descriptor). IsWithin least most p.len) old → All (λ (p : Descriptor). IsWithin least most p.len) new
-fewer_within least most old new fewer h =
-    let test : ℕ → Bool = λ k. nat_le least k && nat_le k most in
-    let opened : (p : Descriptor) → test p.len ≡ true → IsWithin least most p.len = λ p e.
-    (leb-true least p.len (and_parts (nat_le least p.len) (nat_le p.len most) e).0, leb-true p.len most (and_parts (nat_le least p.len) (nat_le p.len most) e).1) in
-    let closed : (p : Descriptor) → IsWithin least most p.len → test p.len ≡ true = λ p e.
-    and_from (nat_le least p.len) (nat_le p.len most) (le-leb least p.len e.0) (le-leb p.len most e.1) in
-    All-weaker (λ (p : Descriptor). test p.len ≡ true) (λ (p : Descriptor). IsWithin least most p.len) opened new
-    (fewer_pass test old new fewer
-    (All-weaker (λ (p : Descriptor). IsWithin least most p.len) (λ (p : Descriptor). test p.len ≡ true) closed old h))
 
 -- ---- a node that is settled
 
@@ -116,7 +95,7 @@ module _ (mtu clock i : ℕ) (below : List (List Descriptor)) (old new : List De
     last = h.last;
     one = length-set below i new ∙ h.one;
     short = All-set (λ packets. All (λ (p : Descriptor). p.len ≤ b.burst) packets) below i new
-        (fewer_short b.burst old new fewer (All-at (λ packets. All (λ (p : Descriptor). p.len ≤ b.burst) packets) below i old h.short there)) h.short;
+        (short-among b.burst old new fewer (All-at (λ packets. All (λ (p : Descriptor). p.len ≤ b.burst) packets) below i old h.short there)) h.short;
   }
   discipline_above (Drr s) h = settled_lawful mtu s below i old new h positive there
   discipline_above (FqCodel s) h = record {
@@ -136,7 +115,7 @@ module _ (mtu clock i : ℕ) (below : List (List Descriptor)) (old new : List De
       let emptied : Bool = length new == 0 in
       record {
         discipline = discipline_above own.discipline h.discipline;
-        lengths = fewer_within 1 mtu (beneath_own own below) (beneath_own (settled i emptied own) (set below i new)) (fewer_beneath own emptied) h.lengths;
+        lengths = lengths-among mtu (beneath_own own below) (beneath_own (settled i emptied own) (set below i new)) (fewer_beneath own emptied) h.lengths;
         held = λ e. settled_holds i emptied own.discipline (h.held e);
         filters = h.filters;
         in_order = h.in_order;

@@ -28,7 +28,7 @@ use Rattle.q_model.specs.ClassCommands.{with_new_quantum}
 use Rattle.q_model.specs.Lawful.{IsLawfulDiscipline, IsLawfulDrr, IsLawfulOwn}
 use Rattle.q_sound.proofs.Weights.{weigh}
 use Rattle.q_sound.proofs.Kept.{IsLawfulRoot, IsCountedRoot}
-use Rattle.q_sound.proofs.EditWeights.{weigh-joined-cons}
+use Rattle.q_sound.proofs.Joined.{weigh-joined-cons}
 use Rattle.q_sound.proofs.EditDrr.{IsExact, fails_at}
 use Rattle.q_sound.proofs.EditNew.{IsNew, new_beneath, held-le-beneath}
 use Rattle.q_sound.proofs.EditChildren.{kids, kids_removed, removed_keeps, removed_goes, gone_one}

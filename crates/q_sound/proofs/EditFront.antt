@@ -17,7 +17,7 @@ use Rattle.q_model.specs.Options.{PrioSettings, IsPrio}
 use Rattle.q_model.specs.Lawful.{IsLawfulOwn, CanHold}
 use Rattle.q_sound.proofs.Weights.{weigh, weigh-nil}
 use Rattle.q_sound.proofs.Kept.{IsLawfulRoot, IsCountedRoot}
-use Rattle.q_sound.proofs.EditWeights.{joined, weigh-joined-cons}
+use Rattle.q_sound.proofs.Joined.{joined, weigh-joined-cons}
 use Rattle.q_sound.proofs.EditDrr.{fails_at}
 use Rattle.q_sound.proofs.EditNew.{IsNew, new_beneath, new_lawful, new_counted, new_times}
 use Rattle.q_sound.proofs.EditChildren.{kept_from, kids, kids-append, kids_kept, kids_new, kept_there, kept_above, new_keeps, any-append, gone_past}

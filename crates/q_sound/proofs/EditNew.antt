@@ -11,7 +11,7 @@ use Rattle.q_model.specs.Lawful.{IsLawfulOwn}
 use Rattle.q_sound.proofs.Weights.{weigh, weigh-nil}
 use Rattle.q_sound.proofs.Kept.{AllLawful, AllCounted, AreCounted, IsLawfulRoot, IsCountedRoot}
 use Rattle.q_sound.proofs.Forests.{lawful-with_memory}
-use Rattle.q_sound.proofs.EditWeights.{joined, weigh-joined-cons, weigh-beneath, weigh-held, counted_nothing}
+use Rattle.q_sound.proofs.Joined.{joined, weigh-joined-cons, weigh-beneath, weigh-held, counted_nothing}
 use Rattle.q_sound.proofs.EditHandles.{one, times_below, times}
 use Rattle.q_sound.proofs.EditAbove.{Becomes}
 

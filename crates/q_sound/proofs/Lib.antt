@@ -26,11 +26,11 @@ pub mod EditQdiscPlans
 pub mod EditRemade
 pub mod EditRetuned
 pub mod EditSuits
-pub mod EditWeights
 pub mod Edits
 pub mod Exact
 pub mod FlowNotes
 pub mod Forests
+pub mod Joined
 pub mod Kept
 pub mod Lengths
 pub mod PutBeneath
