@@ -5,7 +5,7 @@ use Rattle.std.specs.Option.{option_to_list}
 use Rattle.std.proofs.lemmas.List.{append-nil}
 use Rattle.q_packet.specs.Descriptor.{Descriptor}
 use Rattle.q_model.specs.Tally.{Note, Sent}
-use Rattle.q_model.specs.Node.{Own, side_by_side, each}
+use Rattle.q_model.specs.Node.{Own}
 use Rattle.q_model.specs.Beneath.{beneath_own, beneath}
 use Rattle.q_model.specs.Conserved.{held_own, held_beneath}
 use Rattle.q_model.specs.Lawful.{IsLawfulOwn}
@@ -13,7 +13,7 @@ use Rattle.q_model.specs.Work.{Worked, worked}
 use Rattle.q_model.specs.Ask.{Asked, befores, Showing, showing, Dequeue, dequeued}
 use Rattle.q_sound.proofs.Weights.{weigh, arrived, sent, lost, dropped, marked, IsQuiet, arrived-nil, sent-nil, lost-nil, dropped-nil, marked-nil, arrived-append, sent-append, lost-append, dropped-append, marked-append, arrived-given, sent-given, lost-given, dropped-given, marked-given}
 use Rattle.q_sound.proofs.Kept.{IsLawfulRoot}
-use Rattle.q_sound.proofs.Told.{IsTold, AllTold, IsRootTold}
+use Rattle.q_sound.proofs.Told.{IsRootTold}
 use Rattle.q_sound.proofs.Forests.{each-side, AreLawful, AreTold, lawful-side, told-side}
 
 -- a peek leaves a packet where there was one

@@ -1,11 +1,11 @@
 -- An fq_codel: CoDel takes a packet from the flow that is chosen, and may drop others before it.
-use Rattle.std.proofs.Common.{◌≡◌, ℕ, zero, suc, ◌+◌, ◌≤◌, ◌^◌, List, [], ◌∷◌, ◌++◌, map, drop, refl, sym, ap, subst, Option, Some, None, option_map, option_to_list, ◌∙◌, arith}
-use Rattle.std.specs.Prelude.{false, All}
+use Rattle.std.proofs.Common.{◌≡◌, ℕ, zero, suc, ◌+◌, ◌≤◌, ◌^◌, List, [], ◌∷◌, ◌++◌, map, refl, sym, ap, subst, Option, Some, None, option_map, option_to_list, ◌∙◌, arith}
+use Rattle.std.specs.Prelude.{All}
 use Rattle.std.proofs.lemmas.List.Elements.{All-nil, All-cons, All-head, All-tail, All-drop}
 use Rattle.q_packet.specs.Descriptor.{Descriptor}
 use Rattle.q_packet.specs.declared.cause.Cause.TheVariants.{CoDel}
 use Rattle.q_packet.specs.declared.stamped.Stamped.{Stamped}
-use Rattle.q_codel.specs.Codel.{CodelState, CodelParams, IsCodelParams, params_of, vars_of, drops}
+use Rattle.q_codel.specs.Codel.{CodelState, CodelParams, IsCodelParams, params_of, drops}
 use Rattle.q_codel.specs.declared.taken.Taken.{Taken}
 use Rattle.q_codel.proofs.RangeLaw.{states_stay_in_range-holds}
 use Rattle.q_fqcodel.specs.Cleared.{adjust, clear}
@@ -13,7 +13,7 @@ use Rattle.q_fqcodel.specs.Entry.{Entry}
 use Rattle.q_fqcodel.specs.FqState.{FqSettings, Flow, FqState, is_idle, all_packets, rested_flow}
 use Rattle.q_fqcodel.specs.Ranges.{IsInRange}
 use Rattle.q_fqcodel.specs.Selection.{arranged}
-use Rattle.q_fqcodel.specs.Take.{selected, flow_after, sent_from, dropped_from, paid, with_sent, after_sending}
+use Rattle.q_fqcodel.specs.Take.{selected, flow_after, sent_from, dropped_from, with_sent, after_sending}
 use Rattle.q_fqcodel.proofs.KeptLemmas.{take_keeps_lawful}
 use Rattle.q_model.specs.declared.filter.Filter.{Filter}
 use Rattle.q_model.specs.Node.{FqCodel, Own}
@@ -22,7 +22,7 @@ use Rattle.q_model.specs.Lawful.{AgreesWith, IsLawfulFlow, IsLawfulFqCodel, IsLa
 use Rattle.q_model.specs.Work.{losses_of}
 use Rattle.q_model.specs.Ask.{Asked, befores, marks_of, ask_fq_codel}
 use Rattle.q_model.specs.Quanta.{flow_notes}
-use Rattle.q_sound.proofs.Weights.{weigh, weigh-nil, weigh-one, quiet-append, quiet-losses, lost, marked, lost-append, lost-losses, marked-append, marked-losses}
+use Rattle.q_sound.proofs.Weights.{weigh, weigh-nil, weigh-one, quiet-append, quiet-losses, lost, lost-append, lost-losses, marked-append, marked-losses}
 use Rattle.q_sound.proofs.Lengths.{lengths-among}
 use Rattle.q_sound.proofs.Answer.{one, IsAnswer, AreAnswers, waiting, is-dequeued}
 use Rattle.q_sound.proofs.Sums.{in_children, weigh-waiting, weigh-holds, befores-lawful, befores-told}

@@ -1,5 +1,5 @@
 -- A poll keeps a tree: every node that is asked answers as `Answer` says, and notes what becomes of it.
-use Rattle.std.proofs.Common.{◌≡◌, ℕ, ◌+◌, ◌≤◌, ◌^◌, List, [], ◌∷◌, ◌++◌, map, refl, sym, ap, ap₂, subst, Option, Some, None, suc, option_to_list, ◌∙◌, arith}
+use Rattle.std.proofs.Common.{◌≡◌, ℕ, ◌≤◌, ◌^◌, List, [], ◌∷◌, ◌++◌, map, refl, sym, ap, ap₂, subst, Option, Some, None, suc, option_to_list, ◌∙◌, arith}
 use Rattle.std.specs.Prelude.{Bool, true, false, is_some, slice_get, if◌then◌else◌}
 use Rattle.std.specs.List.{AllPairs, sum}
 use Rattle.std.specs.Option.{option_map_or}
@@ -8,14 +8,13 @@ use Rattle.q_drr.specs.Schedule.{Schedule}
 use Rattle.q_bucket.specs.Level.{TokenBucket, allows}
 use Rattle.q_model.specs.declared.filter.Filter.{Filter}
 use Rattle.q_model.specs.Tally.{Note, Sent, history, noted}
-use Rattle.q_model.specs.Node.{Discipline, Fifo, Prio, Tbf, Drr, FqCodel, Own, Forest, none, more, Node, Shape, side_by_side, each, each_memory, from_below, with_memory, shape}
+use Rattle.q_model.specs.Node.{Discipline, Fifo, Prio, Tbf, Drr, FqCodel, Own, Forest, none, more, Node, Shape, side_by_side, each, each_memory, shape}
 use Rattle.q_model.specs.Beneath.{beneath_own, beneath}
 use Rattle.q_model.specs.Conserved.{held_own, held_beneath}
-use Rattle.q_model.specs.Find.{Address, from_parent, addresses_own, addresses, greatest, depth, count_nodes}
+use Rattle.q_model.specs.Find.{Address, addresses_own, addresses, greatest, depth, count_nodes}
 use Rattle.q_model.specs.Lawful.{IsLawfulOwn}
-use Rattle.q_model.specs.Refusals.{most_levels, most_nodes}
 use Rattle.q_model.specs.Work.{Worked, worked, quiet, booked}
-use Rattle.q_model.specs.Ask.{Asked, befores, holding, dequeued, waits, spends, ask_child, ask_tbf, service_of, place_met, gives_nothing, class_gives, class_serves, ask_drr, ask_discipline, ask_own, ask, take_from}
+use Rattle.q_model.specs.Ask.{Asked, befores, holding, dequeued, waits, spends, ask_child, ask_tbf, service_of, place_met, gives_nothing, class_gives, class_serves, ask_drr, ask_discipline, ask_own, ask}
 use Rattle.q_model.specs.TreeState.{TreeState, with_work, take_packet}
 use Rattle.q_model.proofs.ShrinkLemmas.{each-each_memory}
 use Rattle.q_sound.proofs.Weights.{weigh, arrived-nil, sent-nil, lost-nil, dropped-nil, marked-nil, arrived-append, sent-append, lost-append, dropped-append, marked-append, arrived-given, sent-given, lost-given, dropped-given, marked-given}

@@ -1,12 +1,11 @@
 -- Sums over the children of a drr whose classes are asked: once over the entries that are asked, and once over the classes.
-use Rattle.std.proofs.Common.{◌≡◌, ℕ, zero, suc, ◌+◌, ◌<◌, List, [], ◌∷◌, ◌++◌, length, take, refl, sym, ap, ap₂, subst, Option, Some, None, option_map, option_and_then, eqb, arith, ◌∙◌, ⊎_elim, eq-eqb}
+use Rattle.std.proofs.Common.{◌≡◌, ℕ, suc, ◌+◌, ◌<◌, List, [], ◌∷◌, length, refl, sym, ap, subst, Option, Some, None, option_map, option_and_then, arith, ◌∙◌, ⊎_elim}
 use Rattle.std.specs.Prelude.{Bool, true, false, not, cond, ◌||◌, ◌==◌, nat_lt, slice_get, if◌then◌else◌}
 use Rattle.std.specs.List.{list_any, position, prefix_len}
 use Rattle.std.specs.Option.{option_map_or}
-use Rattle.std.proofs.lemmas.Bool.{cases_lt, cases_Bool, lt-ltb, le-ltb, eqb-true, eqb-false, ne_eqb, or_parts, or_from, or_left, or_right, false≢true}
-use Rattle.std.proofs.lemmas.Option.{same_Some}
+use Rattle.std.proofs.lemmas.Bool.{cases_lt, cases_Bool, lt-ltb, le-ltb, eqb-true, eqb-false, ne_eqb, or_parts, or_from, false≢true}
 use Rattle.q_drr.specs.Schedule.{Class, Entry}
-use Rattle.q_drr.proofs.DifferLemmas.{Differ, ClassesDiffer, EntriesDiffer}
+use Rattle.q_drr.proofs.DifferLemmas.{ClassesDiffer, EntriesDiffer}
 use Rattle.q_model.specs.Ask.{Asked, is_among}
 use Rattle.q_sound.proofs.Sums.{total}
 

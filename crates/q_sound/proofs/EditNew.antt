@@ -4,12 +4,11 @@ use Rattle.std.specs.Option.{option_to_list}
 use Rattle.q_packet.specs.Descriptor.{Descriptor}
 use Rattle.q_model.proofs.ShrinkLemmas.{each-each_memory}
 use Rattle.q_model.specs.Tally.{Note, history}
-use Rattle.q_model.specs.Node.{Own, Forest, none, more, Node, Shape, each, each_memory, with_memory, blank}
+use Rattle.q_model.specs.Node.{Own, Forest, none, more, Node, Shape, each, each_memory, blank}
 use Rattle.q_model.specs.Beneath.{packets_in, beneath_own, beneath}
 use Rattle.q_model.specs.Conserved.{held_own, held_beneath}
-use Rattle.q_model.specs.Lawful.{IsLawfulOwn}
 use Rattle.q_sound.proofs.Weights.{weigh, weigh-nil}
-use Rattle.q_sound.proofs.Kept.{AllLawful, AllCounted, AreCounted, IsLawfulRoot, IsCountedRoot}
+use Rattle.q_sound.proofs.Kept.{AllCounted, AreCounted, IsLawfulRoot, IsCountedRoot}
 use Rattle.q_sound.proofs.Forests.{lawful-with_memory}
 use Rattle.q_sound.proofs.Joined.{joined, weigh-joined-cons, weigh-beneath, weigh-held, counted_nothing}
 use Rattle.q_sound.proofs.EditHandles.{one, times_below, times}

@@ -1,11 +1,9 @@
 -- What an fq_codel notes of a take, and what the packets weigh that it dropped, sent and kept.
-use Rattle.std.proofs.Common.{◌≡◌, ℕ, zero, suc, ◌+◌, ◌≤◌, List, [], ◌∷◌, ◌++◌, map, length, take, sum_by, refl, sym, ap, Option, Some, None, option_map, option_and_then, option_to_list, unwrap_or, ◌∙◌, arith}
-use Rattle.std.specs.Prelude.{Bool, true, false, get_or, slice_get, if◌then◌else◌}
-use Rattle.std.proofs.lemmas.Bool.{cases_lt}
+use Rattle.std.proofs.Common.{◌≡◌, ℕ, zero, suc, ◌+◌, ◌≤◌, List, [], ◌∷◌, map, take, sum_by, refl, sym, Option, Some, None, option_map, option_and_then, option_to_list, unwrap_or, ◌∙◌, arith}
+use Rattle.std.specs.Prelude.{Bool, true, false, get_or, if◌then◌else◌}
 use Rattle.std.proofs.lemmas.List.Sums.{sum_by-cons}
 use Rattle.std.proofs.lemmas.Option.{slice_get-get_or, none-some}
 use Rattle.q_packet.specs.Descriptor.{Descriptor}
-use Rattle.q_packet.specs.Totals.{count}
 use Rattle.q_packet.specs.declared.stamped.Stamped.{Stamped}
 use Rattle.q_codel.specs.Codel.{CodelState, drops, sent, leaving, marks}
 use Rattle.q_codel.specs.declared.taken.Taken.{Taken}

@@ -9,12 +9,12 @@ pub mod Asks
 pub mod ClassSums
 pub mod Counted
 pub mod DrrService
+pub mod DrrSettled
 pub mod EditAbove
 pub mod EditBucket
 pub mod EditChildren
 pub mod EditClassPlans
 pub mod EditClasses
-pub mod EditDrr
 pub mod EditFilters
 pub mod EditFront
 pub mod EditHandles
@@ -33,6 +33,7 @@ pub mod Forests
 pub mod Joined
 pub mod Kept
 pub mod Lengths
+pub mod Members
 pub mod PutBeneath
 pub mod PutHere
 pub mod PutQueue

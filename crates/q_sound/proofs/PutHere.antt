@@ -1,18 +1,18 @@
 -- A packet that is put: what the node at which it ends, or which it passes, keeps.
-use Rattle.std.proofs.Common.{◌≡◌, ℕ, ◌+◌, ◌≤◌, List, [], ◌∷◌, map, refl, sym, ap, subst, Some, arith}
+use Rattle.std.proofs.Common.{◌≡◌, ℕ, ◌+◌, List, [], ◌∷◌, map, refl, sym, ap, subst, Some, arith}
 use Rattle.q_packet.specs.Descriptor.{Descriptor}
 use Rattle.q_packet.specs.declared.cause.Cause.{Cause}
 use Rattle.q_model.specs.Tally.{Note, Arrived, Lost}
-use Rattle.q_model.specs.Node.{Own, Shape, side_by_side, each, children}
+use Rattle.q_model.specs.Node.{Own, Shape, side_by_side, children}
 use Rattle.q_model.specs.Beneath.{beneath_own, beneath}
 use Rattle.q_model.specs.Conserved.{held_own, held_beneath}
 use Rattle.q_model.specs.Lawful.{IsLawfulOwn}
 use Rattle.q_model.specs.Work.{Worked, Work, worked, quiet}
 use Rattle.q_model.specs.Put.{put_here}
 use Rattle.q_model.proofs.ShrinkLemmas.{each-each_memory}
-use Rattle.q_sound.proofs.Weights.{plain, weigh, arrived, sent, lost, dropped, marked, arrived-cons, sent-cons, lost-cons, dropped-cons, marked-cons, arrived-nil, sent-nil, lost-nil, dropped-nil, marked-nil}
+use Rattle.q_sound.proofs.Weights.{plain, weigh, arrived, sent, lost, marked, arrived-cons, sent-cons, lost-cons, marked-cons, arrived-nil, sent-nil, lost-nil, marked-nil}
 use Rattle.q_sound.proofs.Kept.{IsLawfulRoot}
-use Rattle.q_sound.proofs.Told.{IsTold, AllTold, IsRootTold}
+use Rattle.q_sound.proofs.Told.{AllTold, IsRootTold}
 use Rattle.q_sound.proofs.Forests.{AreLawful, AreTold, told-side}
 use Rattle.q_sound.proofs.Answer.{waiting, holds, beneath-worked, held-worked, lawful-worked}
 use Rattle.q_sound.proofs.Quiet.{quiets, side-quiet, waiting-quiet, holds-quiet, beneath-quiets, quiets-told, quiets-lawful}

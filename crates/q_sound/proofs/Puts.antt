@@ -1,6 +1,6 @@
 -- An arrival keeps a tree.
-use Rattle.std.proofs.Common.{◌≡◌, ℕ, ◌+◌, ◌≤◌, ◌^◌, List, [], ◌∷◌, refl, sym, ap, subst, Option, Some, None, ◌∙◌, arith}
-use Rattle.std.specs.Prelude.{Bool, true, false, nat_lt, slice_get, if◌then◌else◌}
+use Rattle.std.proofs.Common.{◌≡◌, ℕ, ◌≤◌, ◌^◌, List, [], ◌∷◌, refl, sym, ap, subst, Option, Some, None, ◌∙◌, arith}
+use Rattle.std.specs.Prelude.{Bool, true, false, nat_lt, if◌then◌else◌}
 use Rattle.std.specs.Option.{option_map_or}
 use Rattle.std.proofs.lemmas.Bool.{ltb-false}
 use Rattle.q_packet.specs.Descriptor.{Descriptor}
@@ -9,17 +9,17 @@ use Rattle.q_packet.specs.declared.cause.Cause.TheVariants.{TooLong}
 use Rattle.q_model.specs.declared.filter.Filter.{Filter}
 use Rattle.q_model.specs.Numbers.{IsWithin}
 use Rattle.q_model.specs.Tally.{Note, Arrived, Lost, history}
-use Rattle.q_model.specs.Node.{Discipline, Fifo, Prio, Tbf, Drr, FqCodel, Own, Forest, Shape, children, each, shape}
+use Rattle.q_model.specs.Node.{Discipline, Fifo, Prio, Tbf, Drr, FqCodel, Forest, Shape, each, shape}
 use Rattle.q_model.specs.Beneath.{beneath_own, beneath}
 use Rattle.q_model.specs.Conserved.{held_own, held_beneath}
 use Rattle.q_model.specs.Route.{way, route}
 use Rattle.q_model.specs.Work.{Work, quiet}
 use Rattle.q_model.specs.Put.{put_here, put_beneath, put_along}
-use Rattle.q_model.specs.TreeState.{TreeState, with_work, put, put_on, put_work}
+use Rattle.q_model.specs.TreeState.{TreeState, with_work, put, put_on}
 use Rattle.q_model.proofs.ShrinkLemmas.{each-each_memory}
-use Rattle.q_sound.proofs.Weights.{weigh, arrived-cons, sent-cons, lost-cons, dropped-cons, marked-cons, arrived-nil, sent-nil, lost-nil, dropped-nil, marked-nil}
+use Rattle.q_sound.proofs.Weights.{weigh, arrived-cons, sent-cons, lost-cons, marked-cons, arrived-nil, sent-nil, lost-nil, marked-nil}
 use Rattle.q_sound.proofs.Kept.{IsLawfulRoot, IsKeptTree}
-use Rattle.q_sound.proofs.Told.{IsTold, IsRootTold, root-memory}
+use Rattle.q_sound.proofs.Told.{IsRootTold, root-memory}
 use Rattle.q_sound.proofs.EditLater.{root-later}
 use Rattle.q_sound.proofs.Forests.{lawful-with_memory}
 use Rattle.q_sound.proofs.Asks.{worked-kept}

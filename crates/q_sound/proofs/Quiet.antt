@@ -1,13 +1,12 @@
 -- Children of which nothing has happened, and one among them to which something has.
-use Rattle.std.proofs.Common.{◌≡◌, ℕ, zero, suc, ◌+◌, ◌≤◌, List, [], ◌∷◌, map, set, length, refl, sym, ap, ap₂, subst, Option, Some, None, ◌∙◌, arith}
+use Rattle.std.proofs.Common.{◌≡◌, ℕ, zero, suc, ◌+◌, List, [], ◌∷◌, map, set, refl, sym, ap, ap₂, subst, Some, arith}
 use Rattle.std.specs.Prelude.{slice_get}
 use Rattle.std.proofs.lemmas.Option.{same_Some}
 use Rattle.q_packet.specs.Descriptor.{Descriptor}
 use Rattle.q_model.specs.Tally.{Note}
-use Rattle.q_model.specs.Node.{Own, Forest, none, more, Node, Shape, nodes_in, side_by_side, children, each, each_memory, from_below, with_memory}
+use Rattle.q_model.specs.Node.{Own, Forest, none, more, Shape, nodes_in, side_by_side, children, each, each_memory, from_below}
 use Rattle.q_model.specs.Beneath.{beneath_own, beneath}
 use Rattle.q_model.specs.Conserved.{held_own, held_beneath}
-use Rattle.q_model.specs.Lawful.{IsLawfulOwn}
 use Rattle.q_model.specs.Work.{Worked, quiet}
 use Rattle.q_model.proofs.ShrinkLemmas.{each-each_memory}
 use Rattle.q_sound.proofs.Weights.{weigh, arrived-nil, sent-nil, lost-nil, dropped-nil, marked-nil}

@@ -1,6 +1,6 @@
 -- Packets that weigh the same by every weight are the same packets, in another order, but for their codepoints.
-use Rattle.std.proofs.Common.{◌≡◌, ℕ, ◌+◌, ◌<◌, List, [], ◌∷◌, ◌++◌, map, refl, sym, ap, subst, arith, ◌∙◌}
-use Rattle.std.specs.Prelude.{Bool, true, false, ◌&&◌, ◌==◌, sum_by}
+use Rattle.std.proofs.Common.{◌≡◌, ℕ, ◌<◌, List, [], ◌∷◌, ◌++◌, map, refl, sym, ap, subst, arith, ◌∙◌}
+use Rattle.std.specs.Prelude.{Bool, true, false, ◌&&◌, ◌==◌}
 use Rattle.std.specs.List.{filter_map}
 use Rattle.std.specs.List.Sorted.{IsPermutation}
 use Rattle.std.proofs.lemmas.Bool.{and_parts, eqb-true, eq-eqb, and_from}
@@ -12,7 +12,7 @@ use Rattle.q_packet.specs.declared.ecn.Ecn.TheVariants.{NotEct}
 use Rattle.q_model.specs.Tally.{Note, Arrived, Sent, Lost, Marked, Granted, Spent, FlowGranted, FlowGave}
 use Rattle.q_model.specs.Conserved.{arrival_in, sent_in, lost_in, unmarked}
 use Rattle.q_model.specs.Conserved as node
-use Rattle.q_sound.proofs.Weights.{plain, weigh, weigh-nil, weigh-cons, weigh-append, weigh-one, one_if, counting, arrived, sent, lost, arrived-nil, sent-nil, lost-nil, arrived-cons, sent-cons, lost-cons}
+use Rattle.q_sound.proofs.Weights.{plain, weigh, weigh-nil, weigh-cons, weigh-append, one_if, counting, arrived, sent, lost, arrived-nil, sent-nil, lost-nil, arrived-cons, sent-cons, lost-cons}
 use Rattle.q_sound.proofs.Kept.{AreCounted}
 
 -- the same packet, but for its codepoint

@@ -1,17 +1,16 @@
 -- Each node of a tree notes what the rules make of it, and so stays counted.
-use Rattle.std.proofs.Common.{◌≡◌, ℕ, ◌+◌, ◌≤◌, List, [], ◌∷◌, ◌++◌, map, refl, sym, ap, ap₂, subst, arith, ◌∙◌}
-use Rattle.std.specs.List.{AllZip, fold}
+use Rattle.std.proofs.Common.{◌≡◌, ℕ, ◌+◌, ◌≤◌, List, [], ◌∷◌, ◌++◌, refl, sym, ap, ap₂, subst, arith, ◌∙◌}
 use Rattle.std.proofs.lemmas.List.{append-nil, append_assoc}
 use Rattle.q_packet.specs.Descriptor.{Descriptor}
 use Rattle.q_model.specs.Tally.{Tally, Note, history, noted}
-use Rattle.q_model.specs.Node.{Own, Forest, none, more, Node, nodes_in, side_by_side, each, each_memory, from_below, with_memory}
+use Rattle.q_model.specs.Node.{Own, Forest, none, more, Node, each, each_memory, from_below, with_memory}
 use Rattle.q_model.specs.Beneath.{beneath_own, beneath}
 use Rattle.q_model.specs.Conserved.{held_own, held_beneath}
 use Rattle.q_model.specs.Lawful.{IsLawfulOwn}
 use Rattle.q_model.specs.Work.{Worked, each_booked, booked}
 use Rattle.q_model.proofs.ShrinkLemmas.{each-each_memory}
 use Rattle.q_sound.proofs.Weights.{weigh, arrived, sent, lost, dropped, marked, arrived-append, sent-append, lost-append, dropped-append, marked-append}
-use Rattle.q_sound.proofs.Kept.{AreCounted, AllCounted, AllLawful, IsLawfulRoot, IsCountedRoot}
+use Rattle.q_sound.proofs.Kept.{AreCounted, AllCounted, AllLawful}
 
 -- notes that say how packets that wait, and packets that are held, became others
 pub record IsTold (notes : List Note) (waiting waiting_after held held_after : List Descriptor) : Type 0 where

@@ -1,5 +1,5 @@
 -- What a route says of the node that it begins at: it ends there, or goes on from the child that it names.
-use Rattle.std.proofs.Common.{◌≡◌, ℕ, ◌≤◌, List, [], ◌∷◌, map, refl, sym, ap, Option, Some, None, option_map, ◌∙◌, ⊎_elim}
+use Rattle.std.proofs.Common.{◌≡◌, ℕ, ◌≤◌, List, [], ◌∷◌, refl, sym, ap, Option, Some, None, option_map, ◌∙◌}
 use Rattle.std.specs.Prelude.{Bool, true, false, nat_lt, slice_get, if◌then◌else◌}
 use Rattle.std.specs.Option.{option_map_or}
 use Rattle.std.proofs.lemmas.Bool.{ltb-false, true≢false}
@@ -9,7 +9,7 @@ use Rattle.q_packet.specs.declared.cause.Cause.{Cause}
 use Rattle.q_packet.specs.declared.cause.Cause.TheVariants.{TooLong, NoClass, OverLimit}
 use Rattle.q_codel.specs.FifoState.{takes}
 use Rattle.q_model.specs.Filters.{named_class}
-use Rattle.q_model.specs.Node.{Discipline, Fifo, Prio, Tbf, Drr, FqCodel, Own, Node, Shape, children, each}
+use Rattle.q_model.specs.Node.{Discipline, Fifo, Prio, Tbf, Drr, FqCodel, Own, Shape, children, each}
 use Rattle.q_model.specs.Route.{Route, ends, refused, through, band_of, class_at, way, route}
 use Rattle.q_sound.proofs.Forests.{each-nodes}
 
