@@ -5,7 +5,7 @@ use Rattle.std.specs.Option.{option_to_list}
 use Rattle.std.proofs.lemmas.List.{append-nil}
 use Rattle.q_packet.specs.Descriptor.{Descriptor}
 use Rattle.q_model.specs.Tally.{Note, Sent}
-use Rattle.q_model.specs.Node.{Own, side_by_side, each}
+use Rattle.q_model.specs.Node.{Own}
 use Rattle.q_model.specs.Beneath.{beneath_own, beneath}
 use Rattle.q_model.specs.Conserved.{held_own, held_beneath}
 use Rattle.q_model.specs.Lawful.{IsLawfulOwn}
@@ -13,7 +13,7 @@ use Rattle.q_model.specs.Work.{Worked, worked}
 use Rattle.q_model.specs.Ask.{Asked, befores, Showing, showing, Dequeue, dequeued}
 use Rattle.q_sound.proofs.Weights.{weigh, arrived, sent, lost, dropped, marked, IsQuiet, arrived-nil, sent-nil, lost-nil, dropped-nil, marked-nil, arrived-append, sent-append, lost-append, dropped-append, marked-append, arrived-given, sent-given, lost-given, dropped-given, marked-given}
 use Rattle.q_sound.proofs.Kept.{IsLawfulRoot}
-use Rattle.q_sound.proofs.Told.{IsTold, AllTold, IsRootTold}
+use Rattle.q_sound.proofs.Told.{IsRootTold}
 use Rattle.q_sound.proofs.Forests.{each-side, AreLawful, AreTold, lawful-side, told-side}
 
 -- a peek leaves a packet where there was one
@@ -120,26 +120,93 @@ is-answer mtu now own own_peeked own_taken below peeked taken rises mine shown h
       lawful_before = lawful-worked mtu now own [] (befores below) h.lawful h.all_before;
       lawful_peeked = lawful-worked mtu now own_peeked (rises ++ mine) peeked h.lawful_peeked h.all_peeked;
       lawful_taken = lawful-worked mtu now own_taken all taken h.lawful_taken h.all_taken;
-      told_before = (record {
-        conserved = λ w. omega (arith, arrived-nil w, sent-nil w, lost-nil w);
-        marks = λ w. omega (arith, marked-nil w, sent-nil w, dropped-nil w);
-      }, refl, told-side (befores below) (befores below) h.told_before);
-      told_peeked = (record {
-        conserved = λ w. omega (arith, ap (weigh w) b0, ap (weigh w) b1, h.peeks w, h.quiet.no_arrival w, h.quiet.nothing_sent w,
-            silent.no_arrival w, silent.nothing_sent w, silent.nothing_lost w, arrived-append w rises mine, sent-append w rises mine, lost-append w rises mine);
-        marks = λ w. omega (arith, ap (weigh w) h0, ap (weigh w) h1, h.marks w, h.quiet.all_dropped w,
-            silent.nothing_dropped w, silent.nothing_marked w, marked-append w rises mine, dropped-append w rises mine);
-      }, h.handle_peeked, told-side (befores below) peeked h.told_peeked);
-      told_taken = (record {
-        conserved = λ w. omega (arith, ap (weigh w) b0, ap (weigh w) b2, h.peeks w, h.gives w, h.quiet.no_arrival w, h.quiet.nothing_sent w,
-            silent.no_arrival w, silent.nothing_sent w, silent.nothing_lost w, arrived-append w rises mine, sent-append w rises mine, lost-append w rises mine,
-            arrived-append w (rises ++ mine) given, sent-append w (rises ++ mine) given, lost-append w (rises ++ mine) given,
-            arrived-given w shown, sent-given w shown, lost-given w shown);
-        marks = λ w. omega (arith, ap (weigh w) h0, ap (weigh w) h2, h.marks w, h.marks_given w, h.quiet.all_dropped w, h.quiet.nothing_sent w,
-            silent.nothing_dropped w, silent.nothing_marked w, silent.nothing_sent w, marked-append w rises mine, dropped-append w rises mine, sent-append w rises mine,
-            marked-append w (rises ++ mine) given, sent-append w (rises ++ mine) given, dropped-append w (rises ++ mine) given,
-            marked-given w shown, sent-given w shown, dropped-given w shown);
-      }, h.handle_taken, told-side (befores below) taken h.told_taken);
+      told_before = (
+        record {
+          conserved = λ w. omega (arith, arrived-nil w, sent-nil w, lost-nil w);
+          marks = λ w. omega (arith, marked-nil w, sent-nil w, dropped-nil w);
+        },
+        refl,
+        told-side (befores below) (befores below) h.told_before,
+      );
+      told_peeked = (
+        record {
+          conserved = λ w. omega (
+            arith,
+            ap (weigh w) b0,
+            ap (weigh w) b1,
+            h.peeks w,
+            h.quiet.no_arrival w,
+            h.quiet.nothing_sent w,
+            silent.no_arrival w,
+            silent.nothing_sent w,
+            silent.nothing_lost w,
+            arrived-append w rises mine,
+            sent-append w rises mine,
+            lost-append w rises mine,
+          );
+          marks = λ w. omega (
+            arith,
+            ap (weigh w) h0,
+            ap (weigh w) h1,
+            h.marks w,
+            h.quiet.all_dropped w,
+            silent.nothing_dropped w,
+            silent.nothing_marked w,
+            marked-append w rises mine,
+            dropped-append w rises mine,
+          );
+        },
+        h.handle_peeked,
+        told-side (befores below) peeked h.told_peeked,
+      );
+      told_taken = (
+        record {
+          conserved = λ w. omega (
+            arith,
+            ap (weigh w) b0,
+            ap (weigh w) b2,
+            h.peeks w,
+            h.gives w,
+            h.quiet.no_arrival w,
+            h.quiet.nothing_sent w,
+            silent.no_arrival w,
+            silent.nothing_sent w,
+            silent.nothing_lost w,
+            arrived-append w rises mine,
+            sent-append w rises mine,
+            lost-append w rises mine,
+            arrived-append w (rises ++ mine) given,
+            sent-append w (rises ++ mine) given,
+            lost-append w (rises ++ mine) given,
+            arrived-given w shown,
+            sent-given w shown,
+            lost-given w shown,
+          );
+          marks = λ w. omega (
+            arith,
+            ap (weigh w) h0,
+            ap (weigh w) h2,
+            h.marks w,
+            h.marks_given w,
+            h.quiet.all_dropped w,
+            h.quiet.nothing_sent w,
+            silent.nothing_dropped w,
+            silent.nothing_marked w,
+            silent.nothing_sent w,
+            marked-append w rises mine,
+            dropped-append w rises mine,
+            sent-append w rises mine,
+            marked-append w (rises ++ mine) given,
+            sent-append w (rises ++ mine) given,
+            dropped-append w (rises ++ mine) given,
+            marked-given w shown,
+            sent-given w shown,
+            dropped-given w shown,
+          );
+        },
+        h.handle_taken,
+        told-side (befores below) taken h.told_taken,
+      );
       quiet = h.quiet;
       peeks = λ w. omega (arith, ap (weigh w) b0, ap (weigh w) b1, h.peeks w);
       gives = λ w. omega (arith, ap (weigh w) b1, ap (weigh w) b2, h.gives w);

@@ -1,5 +1,5 @@
 -- The children of a drr, of which those of some classes are peeked, and from one of which a packet may be taken.
-use Rattle.std.proofs.Common.{◌≡◌, ℕ, zero, suc, ◌+◌, ◌≤◌, List, [], ◌∷◌, map, length, set, refl, sym, ap, subst, Option, Some, None, ◌∙◌, arith}
+use Rattle.std.proofs.Common.{◌≡◌, ℕ, zero, suc, ◌+◌, ◌≤◌, List, [], ◌∷◌, map, length, set, refl, sym, ap, subst, Some, ◌∙◌, arith}
 use Rattle.std.specs.Prelude.{Bool, true, false, not, ◌==◌, slice_get, if◌then◌else◌}
 use Rattle.std.specs.List.{zip}
 use Rattle.std.proofs.lemmas.Bool.{ne_eqb}
@@ -14,9 +14,9 @@ use Rattle.q_sound.proofs.Weights.{weigh, weigh-count, lost, marked}
 use Rattle.q_sound.proofs.Forests.{AreLawful, AreTold}
 use Rattle.q_sound.proofs.Told.{IsRootTold}
 use Rattle.q_sound.proofs.Answer.{one, IsAnswer, AreAnswers}
-use Rattle.q_sound.proofs.Sums.{total, in_children, held_in_children}
+use Rattle.q_sound.proofs.Sums.{in_children, held_in_children}
 use Rattle.q_sound.proofs.ClassSums.{picked}
-use Rattle.q_sound.proofs.Exact.{AreExact, IsExact}
+use Rattle.q_sound.proofs.Exact.{AreExact}
 
 abbrev pub peeked_by : (Class → Bool) → List Class → List Asked → List Worked
 peeked_by test classes below = map (λ pair. if test pair.0 then pair.1.peeked else pair.1.before) (zip classes below)
@@ -93,12 +93,6 @@ exact-looked mtu now test active (c ∷ classes) [] all h = absurd h
 exact-looked mtu now test active (c ∷ classes) (a ∷ below) all h =
     (h.0 ∙ sym (ap not (is-looked mtu now (test c) a all.0).same), exact-looked mtu now test active classes below all.1 h.1)
 
-pub same-length : (active : ℕ → Bool) (classes : List Class) (below : List Asked) → AreExact active classes (map beneath (befores below)) → length classes ≡ length below
-same-length active [] [] h = refl
-same-length active [] (a ∷ below) h = absurd h
-same-length active (c ∷ classes) [] h = absurd h
-same-length active (c ∷ classes) (a ∷ below) h = ap suc (same-length active classes below h.1)
-
 -- the child of a class that was peeked gives its packet
 pub record IsTakenAt (mtu now : ℕ) (test : Class → Bool) (classes : List Class) (below : List Asked) (i : ℕ) (a : Asked) : Type 0 where
   pub lawful : AreLawful mtu now (set (peeked_by test classes below) i a.taken)
@@ -114,7 +108,7 @@ taken-at mtu now test (d ∷ classes) [] i a c same all ec ea passes = cc
 taken-at mtu now test (d ∷ classes) (b ∷ below) zero a c same all ec ea passes =
     let is_child : b ≡ a = same_Some b a ea in
     let looked : (if test d then b.peeked else b.before) ≡ a.peeked =
-        ap (λ (x : Class). if test x then b.peeked else b.before) (same_Some d c ec) ∙ ap (λ t. if t then b.peeked else b.before) passes ∙ ap (λ (x : Asked). x.peeked) is_child in
+    ap (λ (x : Class). if test x then b.peeked else b.before) (same_Some d c ec) ∙ ap (λ t. if t then b.peeked else b.before) passes ∙ ap (λ (x : Asked). x.peeked) is_child in
     let answer : IsAnswer mtu now a = subst (IsAnswer mtu now) is_child all.0 in
     let rest = are-looked mtu now test classes below (omega (arith, same)) all.1 in
     record {

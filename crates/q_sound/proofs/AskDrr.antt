@@ -1,63 +1,33 @@
 -- A drr: it asks the classes of its active list in turn, and gives the packet of the one that is met.
-use Rattle.std.proofs.Common.{◌≡◌, ℕ, zero, suc, ◌+◌, ◌≤◌, List, [], ◌∷◌, map, length, set, refl, sym, ap, subst, Option, Some, None, option_and_then, option_to_list, eq-eqb, ◌∙◌, arith}
-use Rattle.std.specs.Prelude.{Bool, true, false, ◌==◌, All, is_some, slice_get}
+use Rattle.std.proofs.Common.{◌≡◌, ℕ, ◌+◌, ◌≤◌, List, map, length, set, refl, sym, ap, subst, Option, Some, None, option_and_then, option_to_list, ◌∙◌, arith}
+use Rattle.std.specs.Prelude.{true, ◌==◌, All, is_some, slice_get}
 use Rattle.std.specs.List.{position}
 use Rattle.std.specs.Option.{option_map_or}
-use Rattle.std.proofs.lemmas.List.{map-set}
-use Rattle.std.proofs.lemmas.Bool.{or_left, or_right}
-use Rattle.std.proofs.lemmas.Option.{same_Some}
-use Rattle.q_packet.specs.Choice.{Choice}
+use Rattle.std.proofs.lemmas.List.{map-set, length-map}
 use Rattle.q_packet.specs.Descriptor.{Descriptor}
-use Rattle.q_drr.specs.Schedule.{Class, Entry, Schedule, has_class, is_active}
-use Rattle.q_drr.specs.Schedule as drr
+use Rattle.q_drr.specs.Schedule.{Class, Entry, Schedule, is_active}
 use Rattle.q_drr.specs.Changes.{HeadsFit}
 use Rattle.q_drr.specs.declared.met.Met.{Met}
-use Rattle.q_drr.specs.Take.{choice_of, met, served}
-use Rattle.q_drr.proofs.ChangeLemmas.{asleep_lawful, woken_lawful}
+use Rattle.q_drr.specs.Take.{choice_of}
 use Rattle.q_drr.proofs.ServedLemmas.{served_lawful, chosen_is_met}
 use Rattle.q_drr.proofs.DifferLemmas.{ClassesDiffer, EntriesDiffer, entries_apart, differ-from_pairs}
 use Rattle.q_model.specs.declared.filter.Filter.{Filter}
-use Rattle.q_model.specs.Tally.{Note}
 use Rattle.q_model.specs.Node.{Drr, Own}
 use Rattle.q_model.specs.Beneath.{beneath, is_empty}
 use Rattle.q_model.specs.Route.{class_at}
-use Rattle.q_model.specs.Lawful.{IsLawfulOwn, IsLawfulDrr}
+use Rattle.q_model.specs.Lawful.{IsLawfulOwn}
 use Rattle.q_model.specs.Work.{Worked, settled_class}
-use Rattle.q_model.specs.Grants.{asked_entries, granted_notes}
+use Rattle.q_model.specs.Grants.{asked_entries}
 use Rattle.q_model.specs.Ask.{Asked, befores, dequeued, is_among, head_of, Service, service_of, place_met, gives_nothing, class_gives, class_serves, ask_drr}
 use Rattle.q_sound.proofs.Weights.{weigh, weigh-nil, weigh-one, lost, marked}
 use Rattle.q_sound.proofs.Lengths.{lengths-among}
 use Rattle.q_sound.proofs.Answer.{one, IsAnswer, AreAnswers, waiting, is-dequeued}
-use Rattle.q_sound.proofs.Sums.{in_children, held_in_children, weigh-waiting, weigh-holds, befores-lawful, befores-told}
+use Rattle.q_sound.proofs.Sums.{in_children, weigh-waiting, weigh-holds, befores-lawful, befores-told}
 use Rattle.q_sound.proofs.ClassSums.{picked, picked-entries}
-use Rattle.q_sound.proofs.Exact.{AreExact, active-served, classes-served, longest-served, settled_schedule, exact-same, exact-settled, settled-at, settled-classes, settled-longest}
-use Rattle.q_sound.proofs.AskClasses.{peeked_by, are-looked, exact-looked, same-length, taken-at}
-use Rattle.q_sound.proofs.DrrService.{notes-silent, told_of, lost-all, marked-all, answer-at, quiet-all, heads-fit, IsMetAt, met-asked, differ-asked}
-
--- a schedule after a change that leaves its classes
-pub record IsNext (mtu : ℕ) (s t : Schedule) : Type 0 where
-  pub classes : t.classes ≡ s.classes
-  pub lawful : drr.IsLawful t
-  pub longest : t.max_len ≡ mtu
-
-there-has : (classes : List Class) (i : ℕ) (c : Class) → slice_get classes i ≡ Some c → has_class c.name classes ≡ true
-there-has [] i c e = cc
-there-has (d ∷ classes) zero c e =
-    or_left (c.name == d.name) (has_class c.name classes) (ap (λ (x : Class). c.name == x.name) (same_Some d c e) ∙ eq-eqb c.name c.name refl)
-there-has (d ∷ classes) (suc i) c e = or_right (c.name == d.name) (has_class c.name classes) (there-has classes i c e)
-
-pub settled-lawful : (emptied : Bool) (c : Class) (s : Schedule) → drr.IsLawful s → 1 ≤ s.max_len → has_class c.name s.classes ≡ true → drr.IsLawful (settled_schedule emptied c s)
-settled-lawful true c s h least there = asleep_lawful s c.name h
-settled-lawful false c s h least there = woken_lawful s c.name h least there
-
-pub next-settled : (mtu : ℕ) (s t : Schedule) (emptied : Bool) (i : ℕ) (c : Class) → 1 ≤ mtu → IsNext mtu s t → slice_get s.classes i ≡ Some c → IsNext mtu s (settled_schedule emptied c t)
-next-settled mtu s t emptied i c least h there =
-    let at : slice_get t.classes i ≡ Some c = ap (λ cs. slice_get cs i) h.classes ∙ there in
-    record {
-      classes = settled-classes emptied c t ∙ h.classes;
-      lawful = settled-lawful emptied c t h.lawful (subst (λ n. 1 ≤ n) (sym h.longest) least) (there-has t.classes i c at);
-      longest = settled-longest emptied c t ∙ h.longest;
-    }
+use Rattle.q_sound.proofs.Exact.{AreExact, exact-length, active-served, classes-served, longest-served, settled_schedule, exact-same, exact-settled, settled-at}
+use Rattle.q_sound.proofs.DrrSettled.{IsNext, next-settled}
+use Rattle.q_sound.proofs.AskClasses.{are-looked, exact-looked, taken-at}
+use Rattle.q_sound.proofs.DrrService.{notes-silent, lost-all, marked-all, answer-at, quiet-all, heads-fit, IsMetAt, met-asked, differ-asked}
 
 module _ (mtu now : ℕ) (least_mtu : 1 ≤ mtu) (handle : Option ℕ) (filters : List Filter) where
   abbrev drr_node : Schedule → Option Descriptor → Own
@@ -91,7 +61,7 @@ module _ (mtu now : ℕ) (least_mtu : 1 ≤ mtu) (handle : Option ℕ) (filters 
     service = service_of s below
 
     same : length s.classes ≡ length below
-    same = same-length (λ n. is_active n s.active) s.classes below h.discipline.exact
+    same = omega (arith, exact-length (λ n. is_active n s.active) s.classes (map beneath (befores below)) h.discipline.exact, length-map (befores below) beneath, length-map below (λ (a : Asked). a.before))
 
     classes_apart : ClassesDiffer s.classes
     classes_apart = differ-from_pairs (λ (c : Class). c.name) s.classes h.discipline.schedule.classes_differ
@@ -164,12 +134,12 @@ module _ (mtu now : ℕ) (least_mtu : 1 ≤ mtu) (handle : Option ℕ) (filters 
         let children : List Worked = set service.below i a.taken in
         let shown : (w : Descriptor → ℕ) → weigh w (option_to_list a.shown) ≡ weigh w (option_to_list (Some p)) = λ w. ap (λ (o : Option Descriptor). weigh w (option_to_list o)) e in
         let fewer : (w : Descriptor → ℕ) → in_children w (befores below) ≡ lost w service.rises + weigh w (option_to_list (Some p)) + in_children w children =
-            λ w. omega (arith, looked.weighs w, losses w, taken.weighs w, answer.gives w, shown w) in
+        λ w. omega (arith, looked.weighs w, losses w, taken.weighs w, answer.gives w, shown w) in
         let then : IsNext mtu s t = subst (IsNext mtu s) (sym is) (next-settled mtu s service.schedule (is_empty a.taken) i m.class least_mtu next m.there) in
         let exactly : AreExact (λ n. is_active n t.active) s.classes (map beneath children) =
-            subst (λ (x : Schedule). AreExact (λ n. is_active n x.active) s.classes (map beneath children)) (sym is)
-            (subst (λ bs. AreExact (λ n. is_active n (settled_schedule (is_empty a.taken) m.class service.schedule).active) s.classes bs) (sym (map-set beneath service.below i a.taken))
-            (exact-settled service.schedule s.classes (map beneath service.below) i m.class (beneath a.taken) m.there classes_apart exact)) in
+        subst (λ (x : Schedule). AreExact (λ n. is_active n x.active) s.classes (map beneath children)) (sym is)
+        (subst (λ bs. AreExact (λ n. is_active n (settled_schedule (is_empty a.taken) m.class service.schedule).active) s.classes bs) (sym (map-set beneath service.below i a.taken))
+        (exact-settled service.schedule s.classes (map beneath service.below) i m.class (beneath a.taken) m.there classes_apart exact)) in
         let before_is = λ (w : Descriptor → ℕ). weigh-waiting w (drr_node s None) (befores below) in
         let peeked_is = λ (w : Descriptor → ℕ). weigh-waiting w (drr_node t (Some p)) children in
         let taken_is = λ (w : Descriptor → ℕ). weigh-waiting w (drr_node t None) children in
@@ -194,8 +164,18 @@ module _ (mtu now : ℕ) (least_mtu : 1 ≤ mtu) (handle : Option ℕ) (filters 
           quiet = quiet-all mtu now s.classes below entries all;
           peeks = λ w. omega (arith, fewer w, before_is w, peeked_is w, weigh-nil w);
           gives = λ w. omega (arith, peeked_is w, taken_is w, weigh-nil w);
-          marks = λ w. omega (arith, looked.holds w, losses w, marked_by w, taken.holds w, answer.marks_given w, shown w, weigh-nil w,
-              weigh-holds w (drr_node s None) (befores below), weigh-holds w (drr_node t (Some p)) children);
+          marks = λ w. omega (
+            arith,
+            looked.holds w,
+            losses w,
+            marked_by w,
+            taken.holds w,
+            answer.marks_given w,
+            shown w,
+            weigh-nil w,
+            weigh-holds w (drr_node s None) (befores below),
+            weigh-holds w (drr_node t (Some p)) children,
+          );
           marks_given = λ w. omega (arith, weigh-nil w, weigh-holds w (drr_node t (Some p)) children, weigh-holds w (drr_node t None) children);
           stays = λ none. absurd (omega (arith, none, weigh-one one p, peeked_is one));
         }) (notes-silent (choice_of heads s) s.active)

@@ -1,11 +1,11 @@
 -- An fq_codel: CoDel takes a packet from the flow that is chosen, and may drop others before it.
-use Rattle.std.proofs.Common.{◌≡◌, ℕ, zero, suc, ◌+◌, ◌≤◌, ◌^◌, List, [], ◌∷◌, ◌++◌, map, drop, refl, sym, ap, subst, Option, Some, None, option_map, option_to_list, ◌∙◌, arith}
-use Rattle.std.specs.Prelude.{false, All}
+use Rattle.std.proofs.Common.{◌≡◌, ℕ, zero, suc, ◌+◌, ◌≤◌, ◌^◌, List, [], ◌∷◌, ◌++◌, map, refl, sym, ap, subst, Option, Some, None, option_map, option_to_list, ◌∙◌, arith}
+use Rattle.std.specs.Prelude.{All}
 use Rattle.std.proofs.lemmas.List.Elements.{All-nil, All-cons, All-head, All-tail, All-drop}
 use Rattle.q_packet.specs.Descriptor.{Descriptor}
 use Rattle.q_packet.specs.declared.cause.Cause.TheVariants.{CoDel}
 use Rattle.q_packet.specs.declared.stamped.Stamped.{Stamped}
-use Rattle.q_codel.specs.Codel.{CodelState, CodelParams, IsCodelParams, params_of, vars_of, drops}
+use Rattle.q_codel.specs.Codel.{CodelState, CodelParams, IsCodelParams, params_of, drops}
 use Rattle.q_codel.specs.declared.taken.Taken.{Taken}
 use Rattle.q_codel.proofs.RangeLaw.{states_stay_in_range-holds}
 use Rattle.q_fqcodel.specs.Cleared.{adjust, clear}
@@ -13,7 +13,7 @@ use Rattle.q_fqcodel.specs.Entry.{Entry}
 use Rattle.q_fqcodel.specs.FqState.{FqSettings, Flow, FqState, is_idle, all_packets, rested_flow}
 use Rattle.q_fqcodel.specs.Ranges.{IsInRange}
 use Rattle.q_fqcodel.specs.Selection.{arranged}
-use Rattle.q_fqcodel.specs.Take.{selected, flow_after, sent_from, dropped_from, paid, with_sent, after_sending}
+use Rattle.q_fqcodel.specs.Take.{selected, flow_after, sent_from, dropped_from, with_sent, after_sending}
 use Rattle.q_fqcodel.proofs.KeptLemmas.{take_keeps_lawful}
 use Rattle.q_model.specs.declared.filter.Filter.{Filter}
 use Rattle.q_model.specs.Node.{FqCodel, Own}
@@ -22,7 +22,7 @@ use Rattle.q_model.specs.Lawful.{AgreesWith, IsLawfulFlow, IsLawfulFqCodel, IsLa
 use Rattle.q_model.specs.Work.{losses_of}
 use Rattle.q_model.specs.Ask.{Asked, befores, marks_of, ask_fq_codel}
 use Rattle.q_model.specs.Quanta.{flow_notes}
-use Rattle.q_sound.proofs.Weights.{weigh, weigh-nil, weigh-one, quiet-append, quiet-losses, lost, marked, lost-append, lost-losses, marked-append, marked-losses}
+use Rattle.q_sound.proofs.Weights.{weigh, weigh-nil, weigh-one, quiet-append, quiet-losses, lost, lost-append, lost-losses, marked-append, marked-losses}
 use Rattle.q_sound.proofs.Lengths.{lengths-among}
 use Rattle.q_sound.proofs.Answer.{one, IsAnswer, AreAnswers, waiting, is-dequeued}
 use Rattle.q_sound.proofs.Sums.{in_children, weigh-waiting, weigh-holds, befores-lawful, befores-told}
@@ -114,17 +114,17 @@ module _ (mtu now : ℕ) (low : now ≤ 2 ^ 62) (handle : Option ℕ) (filters :
       let packet : Option Descriptor = option_map (λ (t : Taken). t.packet) sent in
       let gone : List Descriptor = packets_of (dropped_from now (selected s)) in
       let before_is : (w : Descriptor → ℕ) → weigh w (waiting (fq_codel s None) (befores below)) ≡ weigh w [] + weigh w (packets_of (all_packets s.flows)) + in_children w (befores below) =
-          λ w. weigh-waiting w (fq_codel s None) (befores below) in
+      λ w. weigh-waiting w (fq_codel s None) (befores below) in
       let peeked_is : (w : Descriptor → ℕ) → weigh w (waiting (fq_codel after packet) (befores below)) ≡ weigh w (option_to_list packet) + weigh w (packets_of (all_packets after.flows)) + in_children w (befores below) =
-          λ w. weigh-waiting w (fq_codel after packet) (befores below) in
+      λ w. weigh-waiting w (fq_codel after packet) (befores below) in
       let taken_is : (w : Descriptor → ℕ) → weigh w (waiting (fq_codel after None) (befores below)) ≡ weigh w [] + weigh w (packets_of (all_packets after.flows)) + in_children w (befores below) =
-          λ w. weigh-waiting w (fq_codel after None) (befores below) in
+      λ w. weigh-waiting w (fq_codel after None) (befores below) in
       let losses : (w : Descriptor → ℕ) → lost w (losses_of CoDel gone ++ marks_of sent) ≡ weigh w gone =
-          λ w. omega (arith, lost-append w (losses_of CoDel gone) (marks_of sent), lost-losses w CoDel gone, lost-marks w sent) in
+      λ w. omega (arith, lost-append w (losses_of CoDel gone) (marks_of sent), lost-losses w CoDel gone, lost-marks w sent) in
       let peeks : (w : Descriptor → ℕ) → weigh w (waiting (fq_codel s None) (befores below)) ≡ lost w (losses_of CoDel gone ++ marks_of sent) + weigh w (waiting (fq_codel after packet) (befores below)) =
-          λ w. omega (arith, take-weighs w now s, before_is w, peeked_is w, losses w, weigh-nil w) in
+      λ w. omega (arith, take-weighs w now s, before_is w, peeked_is w, losses w, weigh-nil w) in
       let gives : (w : Descriptor → ℕ) → weigh w (waiting (fq_codel after packet) (befores below)) ≡ weigh w (option_to_list packet) + weigh w (waiting (fq_codel after None) (befores below)) =
-          λ w. omega (arith, peeked_is w, taken_is w, weigh-nil w) in
+      λ w. omega (arith, peeked_is w, taken_is w, weigh-nil w) in
       let lawful = take-lawful mtu now s (map beneath (befores below)) low h.discipline in
       is-dequeued mtu now (fq_codel s None) below (record {
         after = fq_codel after None;
@@ -161,8 +161,16 @@ module _ (mtu now : ℕ) (low : now ≤ 2 ^ 62) (handle : Option ℕ) (filters :
         quiet = quiet-append (losses_of CoDel gone) (marks_of sent) (quiet-losses CoDel gone refl) (quiet-marks sent);
         peeks = peeks;
         gives = gives;
-        marks = λ w. omega (arith, losses w, marked-append w (losses_of CoDel gone) (marks_of sent), marked-losses w CoDel gone, marks-weigh w sent, weigh-nil w,
-            weigh-holds w (fq_codel s None) (befores below), weigh-holds w (fq_codel after packet) (befores below));
+        marks = λ w. omega (
+          arith,
+          losses w,
+          marked-append w (losses_of CoDel gone) (marks_of sent),
+          marked-losses w CoDel gone,
+          marks-weigh w sent,
+          weigh-nil w,
+          weigh-holds w (fq_codel s None) (befores below),
+          weigh-holds w (fq_codel after packet) (befores below),
+        );
         marks_given = λ w. omega (arith, weigh-nil w, weigh-holds w (fq_codel after packet) (befores below), weigh-holds w (fq_codel after None) (befores below));
         stays = stays packet refl (losses one) (peeks one) (peeked_is one);
       }) (flow-silent s (selected s) sent)

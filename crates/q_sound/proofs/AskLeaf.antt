@@ -1,5 +1,5 @@
 -- A node that holds a packet, and a fifo: they show what they have at hand.
-use Rattle.std.proofs.Common.{◌≡◌, ℕ, ◌+◌, ◌≤◌, List, [], ◌∷◌, ◌++◌, map, drop, refl, sym, ap, subst, Option, Some, None, arith, ◌∙◌}
+use Rattle.std.proofs.Common.{◌≡◌, ℕ, ◌+◌, ◌≤◌, List, [], ◌∷◌, ◌++◌, map, drop, refl, ap, subst, Option, Some, None, arith}
 use Rattle.std.specs.Prelude.{All, slice_get}
 use Rattle.std.specs.List.{flat_map}
 use Rattle.std.specs.Option.{option_to_list}
@@ -10,8 +10,8 @@ use Rattle.q_packet.specs.declared.stamped.Stamped.{Stamped}
 use Rattle.q_codel.specs.declared.limit.Limit.{Limit}
 use Rattle.q_model.specs.declared.filter.Filter.{Filter}
 use Rattle.q_model.specs.Node.{Fifo, Own}
-use Rattle.q_model.specs.Beneath.{packets_of, packets_in, beneath, beneath_own}
-use Rattle.q_model.specs.Lawful.{IsLawfulOwn, IsLawfulFifo, IsStampedBy}
+use Rattle.q_model.specs.Beneath.{packets_of, packets_in, beneath}
+use Rattle.q_model.specs.Lawful.{IsLawfulOwn}
 use Rattle.q_model.specs.Ask.{Asked, befores, holding, ask_fifo}
 use Rattle.q_sound.proofs.Weights.{weigh, weigh-nil, weigh-cons, weigh-one, quiet-nil, lost-nil, marked-nil}
 use Rattle.q_sound.proofs.Lengths.{HasLength, lengths-among}
@@ -68,7 +68,7 @@ fifo-answers mtu now handle filters limit queue below h all =
     let own : Own = record { handle = handle; discipline = Fifo limit queue; held = None; filters = filters } in
     let after : Own = record own { discipline = Fifo limit (drop 1 queue) } in
     let shorter : (w : Descriptor → ℕ) → weigh w (waiting own (befores below)) ≡ weigh w (option_to_list (slice_get (packets_of queue) 0)) + weigh w (waiting after (befores below)) =
-        λ w. omega (arith, weigh-waiting w own (befores below), weigh-waiting w after (befores below), weigh-head w queue, weigh-nil w) in
+    λ w. omega (arith, weigh-waiting w own (befores below), weigh-waiting w after (befores below), weigh-head w queue, weigh-nil w) in
     is-shown mtu now below (record {
       own = own;
       own_taken = after;

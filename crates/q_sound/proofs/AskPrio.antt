@@ -1,8 +1,7 @@
 -- A prio: the bands in front of the one that shows a packet are peeked, that one gives it, and those behind are not asked.
-use Rattle.std.proofs.Common.{◌≡◌, ℕ, zero, suc, ◌+◌, ◌≤◌, List, [], ◌∷◌, ◌++◌, map, take, drop, length, refl, sym, ap, subst, Option, Some, None, option_and_then, option_to_list, flat_map, arith, ◌∙◌}
+use Rattle.std.proofs.Common.{◌≡◌, ℕ, zero, suc, ◌+◌, ◌≤◌, List, [], ◌∷◌, ◌++◌, map, take, drop, length, refl, sym, ap, subst, Option, None, option_and_then, option_to_list, flat_map, arith, ◌∙◌}
 use Rattle.std.specs.Prelude.{true, All, slice_get, is_some, ◌<◌}
 use Rattle.std.specs.List.{position_or_len}
-use Rattle.std.proofs.lemmas.Bool.{false≢true}
 use Rattle.std.proofs.lemmas.List.{length-map}
 use Rattle.q_packet.specs.Descriptor.{Descriptor}
 use Rattle.q_model.specs.declared.filter.Filter.{Filter}
@@ -15,7 +14,7 @@ use Rattle.q_model.specs.Work.{Worked}
 use Rattle.q_model.specs.Ask.{Asked, befores, ask_prio}
 use Rattle.q_sound.proofs.Weights.{weigh, weigh-nil, IsQuiet, quiet-nil, quiet-append, lost, marked, lost-nil, marked-nil, lost-append, marked-append}
 use Rattle.q_sound.proofs.Forests.{AreLawful, AreTold}
-use Rattle.q_sound.proofs.Lengths.{HasLength, lengths-among}
+use Rattle.q_sound.proofs.Lengths.{lengths-among}
 use Rattle.q_sound.proofs.Answer.{one, IsAnswer, AreAnswers, waiting, is-shown}
 use Rattle.q_sound.proofs.Sums.{in_children, held_in_children, weigh-waiting, weigh-holds, befores-lawful, befores-told}
 
@@ -138,9 +137,9 @@ prio-answers mtu now handle filters priomap below h all =
     let k : ℕ = position_or_len (λ (a : Asked). is_some a.shown) below in
     let p = are-passed mtu now k below all in
     let peeks : (w : Descriptor → ℕ) → weigh w (waiting own (befores below)) ≡ lost w (notes_to k below) + weigh w (waiting own (peeked_to k below)) =
-        λ w. omega (arith, p.peeks w, weigh-waiting w own (befores below), weigh-waiting w own (peeked_to k below)) in
+    λ w. omega (arith, p.peeks w, weigh-waiting w own (befores below), weigh-waiting w own (peeked_to k below)) in
     let gives : (w : Descriptor → ℕ) → weigh w (waiting own (peeked_to k below)) ≡ weigh w (option_to_list (packet_at k below)) + weigh w (waiting own (taken_at k below)) =
-        λ w. omega (arith, p.gives w, weigh-waiting w own (taken_at k below), weigh-waiting w own (peeked_to k below)) in
+    λ w. omega (arith, p.gives w, weigh-waiting w own (taken_at k below), weigh-waiting w own (peeked_to k below)) in
     is-shown mtu now below (record {
       own = own;
       own_taken = own;

@@ -1,18 +1,17 @@
 -- A tbf: it takes the packet that its child shows where the bucket allows it, and else shows nothing.
-use Rattle.std.proofs.Common.{◌≡◌, ℕ, ◌+◌, ◌*◌, ◌-◌, ◌≤◌, min, List, [], ◌∷◌, map, length, refl, sym, ap, subst, Option, Some, None, option_to_list, arith}
-use Rattle.std.specs.Prelude.{Bool, true, false, All, if◌then◌else◌, IsSome}
+use Rattle.std.proofs.Common.{◌≡◌, ℕ, ◌+◌, ◌*◌, ◌-◌, ◌≤◌, List, [], ◌∷◌, map, length, refl, sym, ap, subst, Option, Some, None, option_to_list, arith}
+use Rattle.std.specs.Prelude.{Bool, true, false, All, if◌then◌else◌}
 use Rattle.std.specs.Option.{option_map_or}
-use Rattle.std.proofs.lemmas.Bool.{false≢true}
 use Rattle.std.proofs.lemmas.List.Elements.{All-nil, All-cons, All-head}
 use Rattle.q_packet.specs.Descriptor.{Descriptor}
-use Rattle.q_bucket.specs.Level.{TokenBucket, IsInRange, units_in_byte, capacity, level_at, allows, after_spend}
+use Rattle.q_bucket.specs.Level.{TokenBucket, IsInRange, units_in_byte, level_at, allows, after_spend}
 use Rattle.q_model.specs.declared.filter.Filter.{Filter}
-use Rattle.q_model.specs.Tally.{Note, Spent}
+use Rattle.q_model.specs.Tally.{Spent}
 use Rattle.q_model.specs.Node.{Tbf, Own}
 use Rattle.q_model.specs.Beneath.{beneath}
-use Rattle.q_model.specs.Lawful.{IsLawfulOwn, IsLawfulTbf}
+use Rattle.q_model.specs.Lawful.{IsLawfulOwn}
 use Rattle.q_model.specs.Work.{Worked}
-use Rattle.q_model.specs.Ask.{Asked, befores, spends, waits, ask_child, ask_tbf}
+use Rattle.q_model.specs.Ask.{Asked, befores, spends, waits, ask_tbf}
 use Rattle.q_sound.proofs.Weights.{weigh, weigh-nil, weigh-one, arrived-nil, sent-nil, lost-nil, dropped-nil, marked-nil, arrived-cons, sent-cons, lost-cons, dropped-cons, marked-cons}
 use Rattle.q_sound.proofs.Lengths.{IsShort, lengths-among, short-among}
 use Rattle.q_sound.proofs.Answer.{one, IsAnswer, AreAnswers, IsSilent, silent-nil, waiting, is-dequeued}

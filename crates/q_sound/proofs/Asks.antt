@@ -1,5 +1,5 @@
 -- A poll keeps a tree: every node that is asked answers as `Answer` says, and notes what becomes of it.
-use Rattle.std.proofs.Common.{◌≡◌, ℕ, ◌+◌, ◌≤◌, ◌^◌, List, [], ◌∷◌, ◌++◌, map, refl, sym, ap, ap₂, subst, Option, Some, None, suc, option_to_list, ◌∙◌, arith}
+use Rattle.std.proofs.Common.{◌≡◌, ℕ, ◌≤◌, ◌^◌, List, [], ◌∷◌, ◌++◌, map, refl, sym, ap, ap₂, subst, Option, Some, None, suc, option_to_list, ◌∙◌, arith}
 use Rattle.std.specs.Prelude.{Bool, true, false, is_some, slice_get, if◌then◌else◌}
 use Rattle.std.specs.List.{AllPairs, sum}
 use Rattle.std.specs.Option.{option_map_or}
@@ -8,18 +8,18 @@ use Rattle.q_drr.specs.Schedule.{Schedule}
 use Rattle.q_bucket.specs.Level.{TokenBucket, allows}
 use Rattle.q_model.specs.declared.filter.Filter.{Filter}
 use Rattle.q_model.specs.Tally.{Note, Sent, history, noted}
-use Rattle.q_model.specs.Node.{Discipline, Fifo, Prio, Tbf, Drr, FqCodel, Own, Forest, none, more, Node, Shape, side_by_side, each, each_memory, from_below, with_memory, shape}
+use Rattle.q_model.specs.Node.{Discipline, Fifo, Prio, Tbf, Drr, FqCodel, Own, Forest, none, more, Node, Shape, side_by_side, each, each_memory, shape}
 use Rattle.q_model.specs.Beneath.{beneath_own, beneath}
 use Rattle.q_model.specs.Conserved.{held_own, held_beneath}
-use Rattle.q_model.specs.Find.{Address, from_parent, addresses_own, addresses, greatest, depth, count_nodes}
+use Rattle.q_model.specs.Find.{Address, addresses_own, addresses, greatest, depth, count_nodes}
 use Rattle.q_model.specs.Lawful.{IsLawfulOwn}
-use Rattle.q_model.specs.Refusals.{most_levels, most_nodes}
 use Rattle.q_model.specs.Work.{Worked, worked, quiet, booked}
-use Rattle.q_model.specs.Ask.{Asked, befores, holding, dequeued, waits, spends, ask_child, ask_tbf, service_of, place_met, gives_nothing, class_gives, class_serves, ask_drr, ask_discipline, ask_own, ask, take_from}
+use Rattle.q_model.specs.Ask.{Asked, befores, holding, dequeued, waits, spends, ask_child, ask_tbf, service_of, place_met, gives_nothing, class_gives, class_serves, ask_drr, ask_discipline, ask_own, ask}
 use Rattle.q_model.specs.TreeState.{TreeState, with_work, take_packet}
 use Rattle.q_model.proofs.ShrinkLemmas.{each-each_memory}
 use Rattle.q_sound.proofs.Weights.{weigh, arrived-nil, sent-nil, lost-nil, dropped-nil, marked-nil, arrived-append, sent-append, lost-append, dropped-append, marked-append, arrived-given, sent-given, lost-given, dropped-given, marked-given}
 use Rattle.q_sound.proofs.Kept.{AreCounted, AllLawful, IsLawfulRoot, IsCountedRoot, IsKeptTree}
+use Rattle.q_sound.proofs.Forests.{lawful-with_memory}
 use Rattle.q_sound.proofs.Told.{IsTold, IsRootTold, each-booked, counted-noted, booked-counted, booked-lawful, root-memory, LooksAtHandle, root-told, root-booked}
 use Rattle.q_sound.proofs.Answer.{IsAnswer, AreAnswers, beneath-worked}
 use Rattle.q_sound.proofs.AskLeaf.{holding-answers, fifo-answers}
@@ -51,9 +51,11 @@ before-drr own below s = by (place_met s below)
     serves : (i : ℕ) (a : Asked) (o : Option Descriptor) → (option_map_or (class_gives own below (service_of s below) i a) o (gives_nothing own below (service_of s below))).before ≡ worked own [] (befores below)
     serves i a None = refl
     serves i a (Some p) = refl
+
     child : (i : ℕ) (o : Option Asked) → (option_map_or (class_serves own below (service_of s below) i) o (gives_nothing own below (service_of s below))).before ≡ worked own [] (befores below)
     child i None = refl
     child i (Some a) = serves i a a.shown
+
     by : (o : Option ℕ) → (option_map_or (λ i. option_map_or (class_serves own below (service_of s below) i) (slice_get below i) (gives_nothing own below (service_of s below))) o (gives_nothing own below (service_of s below))).before ≡ worked own [] (befores below)
     by None = refl
     by (Some i) = child i (slice_get below i)
@@ -67,6 +69,7 @@ before-is now own below = by own.held own.discipline
     discipline (Tbf b limit) = before-tbf now own below b limit
     discipline (Drr s) = before-drr own below s
     discipline (FqCodel s) = refl
+
     by : (o : Option Descriptor) (d : Discipline) → (option_map_or (holding own below) o (ask_discipline now own below d)).before ≡ worked own [] (befores below)
     by None d = discipline d
     by (Some p) d = refl
@@ -103,9 +106,10 @@ module _ (mtu now : ℕ) (least : 1 ≤ mtu) (low : now ≤ 2 ^ 62) where
 
   forest-answers : (x : Forest (Unit {0})) → AllLawful mtu now x → AreAnswers mtu now (each (ask_own now) x)
   forest-answers none h = tt
-  forest-answers (more own m below others) h =
-      (own-answers own (each (ask_own now) below) (subst (IsLawfulOwn mtu now own) (sym (beneath-befores now below)) h.0) (forest-answers below h.1),
-      forest-answers others h.2)
+  forest-answers (more own m below others) h = (
+    own-answers own (each (ask_own now) below) (subst (IsLawfulOwn mtu now own) (sym (beneath-befores now below)) h.0) (forest-answers below h.1),
+    forest-answers others h.2,
+  )
 
   pub ask-answers : (s : Shape) → IsLawfulRoot mtu now s → IsAnswer mtu now (ask now s)
   ask-answers s h = own-answers s.own (each (ask_own now) s.below) (subst (IsLawfulOwn mtu now s.own) (sym (beneath-befores now s.below)) h.0) (forest-answers s.below h.1)
@@ -130,9 +134,10 @@ pub booked-kept : (mtu clock : ℕ) (n : Node (List Note)) (w : Worked) → IsCo
 booked-kept mtu clock n w c h l = record {
   counted = (
     subst (λ bs. AreCounted (noted history n.memory w.memory) (beneath_own w.own bs) (held_beneath (booked history n w))) (sym (each-booked history beneath_own n.below w.below h.2))
-    (subst (λ hs. AreCounted (noted history n.memory w.memory) (beneath w) (held_own w.own hs)) (sym (each-booked history held_own n.below w.below h.2))
-    (counted-noted n.memory w.memory (beneath n) (beneath w) (held_beneath n) (held_beneath w) c.0 h.0)),
-    booked-counted n.below w.below c.1 h.2);
+        (subst (λ hs. AreCounted (noted history n.memory w.memory) (beneath w) (held_own w.own hs)) (sym (each-booked history held_own n.below w.below h.2))
+        (counted-noted n.memory w.memory (beneath n) (beneath w) (held_beneath n) (held_beneath w) c.0 h.0)),
+    booked-counted n.below w.below c.1 h.2,
+  );
   lawful = (subst (IsLawfulOwn mtu clock w.own) (sym (each-booked history beneath_own n.below w.below h.2)) l.0, booked-lawful history mtu clock n.below w.below h.2 l.1);
   addresses = root-booked history addresses_own n w h ∙ root-told addresses_own addresses-look n w h;
   depth = root-booked history (λ own below. suc (greatest below)) n w h ∙ root-told (λ own below. suc (greatest below)) (λ a b xs e. refl) n w h;
@@ -158,22 +163,13 @@ worked-kept clock now s notes w h low told lawful top =
       few = omega (arith, h.few, root.count);
     }
 
--- the same of the shape
-lawful-memory : {A B : Type 0} (mtu clock : ℕ) (f : A → B) (x : Forest A) → AllLawful mtu clock x → AllLawful mtu clock (each_memory f x)
-lawful-memory mtu clock f none h = tt
-lawful-memory mtu clock f (more own m below others) h =
-    (subst (IsLawfulOwn mtu clock own) (sym (each-each_memory beneath_own f below)) h.0, lawful-memory mtu clock f below h.1, lawful-memory mtu clock f others h.2)
-
-pub lawful-shape : {A B : Type 0} (mtu clock : ℕ) (f : A → B) (n : Node A) → IsLawfulRoot mtu clock n → IsLawfulRoot mtu clock (with_memory f n)
-lawful-shape mtu clock f n h = (subst (IsLawfulOwn mtu clock n.own) (sym (each-each_memory beneath_own f n.below)) h.0, lawful-memory mtu clock f n.below h.1)
-
 -- a poll
 module _ (clock now : ℕ) (s : TreeState (List Note)) (h : IsKeptTree clock s) (later : clock ≤ now) (low : now ≤ 2 ^ 62) where
   abbrev asked_root : Asked
   asked_root = ask now (shape s.root)
 
   answer : IsAnswer s.device.mtu now asked_root
-  answer = ask-answers s.device.mtu now h.least_mtu low (shape s.root) (lawful-shape s.device.mtu now (λ m. tt) s.root (root-later clock now later s.device.mtu s.root h.lawful))
+  answer = ask-answers s.device.mtu now h.least_mtu low (shape s.root) (lawful-with_memory s.device.mtu now (λ m. tt) s.root (root-later clock now later s.device.mtu s.root h.lawful))
 
   told : (w : Worked) → IsRootTold asked_root.before w → IsRootTold s.root w
   told w t = root-memory (λ m. tt) s.root w (root-memory (λ u. []) (shape s.root) w (subst (λ (n : Worked). IsRootTold n w) (before-root now (shape s.root)) t))
@@ -188,19 +184,65 @@ module _ (clock now : ℕ) (s : TreeState (List Note)) (h : IsKeptTree clock s) 
   polled : (o : Option Descriptor) → asked_root.shown ≡ o
       → IsKeptTree now (with_work history (asked_root.rises ++ map Sent (option_to_list o)) (if is_some o then asked_root.taken else asked_root.peeked) s)
   polled None e = worked-kept clock now s (asked_root.rises ++ []) asked_root.peeked h low (told asked_root.peeked answer.told_peeked) answer.lawful_peeked (record {
-    conserved = λ w. omega (arith, answer.peeks w, ap (weigh w) waiting-before, answer.quiet.no_arrival w, answer.quiet.nothing_sent w,
-        arrived-append w asked_root.rises [], sent-append w asked_root.rises [], lost-append w asked_root.rises [], arrived-nil w, sent-nil w, lost-nil w);
-    marks = λ w. omega (arith, answer.marks w, ap (weigh w) holds-before, answer.quiet.all_dropped w,
-        marked-append w asked_root.rises [], sent-append w asked_root.rises [], dropped-append w asked_root.rises [], marked-nil w, sent-nil w, dropped-nil w);
+    conserved = λ w. omega (
+      arith,
+      answer.peeks w,
+      ap (weigh w) waiting-before,
+      answer.quiet.no_arrival w,
+      answer.quiet.nothing_sent w,
+      arrived-append w asked_root.rises [],
+      sent-append w asked_root.rises [],
+      lost-append w asked_root.rises [],
+      arrived-nil w,
+      sent-nil w,
+      lost-nil w,
+    );
+    marks = λ w. omega (
+      arith,
+      answer.marks w,
+      ap (weigh w) holds-before,
+      answer.quiet.all_dropped w,
+      marked-append w asked_root.rises [],
+      sent-append w asked_root.rises [],
+      dropped-append w asked_root.rises [],
+      marked-nil w,
+      sent-nil w,
+      dropped-nil w,
+    );
   })
   polled (Some p) e =
       let sent : List Note = map Sent (option_to_list (Some p)) in
       let shown : (w : Descriptor → ℕ) → weigh w (option_to_list asked_root.shown) ≡ weigh w (option_to_list (Some p)) = λ w. ap (λ (o : Option Descriptor). weigh w (option_to_list o)) e in
       worked-kept clock now s (asked_root.rises ++ sent) asked_root.taken h low (told asked_root.taken answer.told_taken) answer.lawful_taken (record {
-        conserved = λ w. omega (arith, answer.peeks w, answer.gives w, shown w, ap (weigh w) waiting-before, answer.quiet.no_arrival w, answer.quiet.nothing_sent w,
-            arrived-append w asked_root.rises sent, sent-append w asked_root.rises sent, lost-append w asked_root.rises sent, arrived-given w (Some p), sent-given w (Some p), lost-given w (Some p));
-        marks = λ w. omega (arith, answer.marks w, answer.marks_given w, shown w, ap (weigh w) holds-before, answer.quiet.all_dropped w,
-            marked-append w asked_root.rises sent, sent-append w asked_root.rises sent, dropped-append w asked_root.rises sent, marked-given w (Some p), sent-given w (Some p), dropped-given w (Some p));
+        conserved = λ w. omega (
+          arith,
+          answer.peeks w,
+          answer.gives w,
+          shown w,
+          ap (weigh w) waiting-before,
+          answer.quiet.no_arrival w,
+          answer.quiet.nothing_sent w,
+          arrived-append w asked_root.rises sent,
+          sent-append w asked_root.rises sent,
+          lost-append w asked_root.rises sent,
+          arrived-given w (Some p),
+          sent-given w (Some p),
+          lost-given w (Some p),
+        );
+        marks = λ w. omega (
+          arith,
+          answer.marks w,
+          answer.marks_given w,
+          shown w,
+          ap (weigh w) holds-before,
+          answer.quiet.all_dropped w,
+          marked-append w asked_root.rises sent,
+          sent-append w asked_root.rises sent,
+          dropped-append w asked_root.rises sent,
+          marked-given w (Some p),
+          sent-given w (Some p),
+          dropped-given w (Some p),
+        );
       })
 
   pub take-kept : IsKeptTree now (take_packet history now s)

@@ -1,12 +1,11 @@
 -- Sums over the children of a drr whose classes are asked: once over the entries that are asked, and once over the classes.
-use Rattle.std.proofs.Common.{◌≡◌, ℕ, zero, suc, ◌+◌, ◌<◌, List, [], ◌∷◌, ◌++◌, length, take, refl, sym, ap, ap₂, subst, Option, Some, None, option_map, option_and_then, eqb, arith, ◌∙◌, ⊎_elim, eq-eqb}
+use Rattle.std.proofs.Common.{◌≡◌, ℕ, suc, ◌+◌, ◌<◌, List, [], ◌∷◌, length, refl, sym, ap, subst, Option, Some, None, option_map, option_and_then, arith, ◌∙◌, ⊎_elim}
 use Rattle.std.specs.Prelude.{Bool, true, false, not, cond, ◌||◌, ◌==◌, nat_lt, slice_get, if◌then◌else◌}
 use Rattle.std.specs.List.{list_any, position, prefix_len}
 use Rattle.std.specs.Option.{option_map_or}
-use Rattle.std.proofs.lemmas.Bool.{cases_lt, cases_Bool, lt-ltb, le-ltb, eqb-true, eqb-false, ne_eqb, or_parts, or_from, or_left, or_right, false≢true}
-use Rattle.std.proofs.lemmas.Option.{same_Some}
+use Rattle.std.proofs.lemmas.Bool.{cases_lt, cases_Bool, lt-ltb, le-ltb, eqb-true, eqb-false, ne_eqb, or_parts, or_from, false≢true}
 use Rattle.q_drr.specs.Schedule.{Class, Entry}
-use Rattle.q_drr.proofs.DifferLemmas.{Differ, ClassesDiffer, EntriesDiffer}
+use Rattle.q_drr.proofs.DifferLemmas.{ClassesDiffer, EntriesDiffer}
 use Rattle.q_model.specs.Ask.{Asked, is_among}
 use Rattle.q_sound.proofs.Sums.{total}
 
@@ -22,12 +21,12 @@ position-there p x xs e =
     let m : ℕ = prefix_len (λ y. not (p y)) xs in
     ap (λ b. cond (nat_lt (cond (not b) (1 + m) 0) (suc (length xs))) (Some (cond (not b) (1 + m) 0)) None) e
     ∙ ⊎_elim (λ (lt : m < length xs).
-        ap (λ b. cond b (Some (1 + m)) None) (lt-ltb (1 + m) (suc (length xs)) (omega (arith, lt)))
-        ∙ ap Some (omega arith)
-        ∙ sym (ap (λ b. option_map suc (cond b (Some m) None)) (lt-ltb m (length xs) lt)))
+    ap (λ b. cond b (Some (1 + m)) None) (lt-ltb (1 + m) (suc (length xs)) (omega (arith, lt)))
+    ∙ ap Some (omega arith)
+    ∙ sym (ap (λ b. option_map suc (cond b (Some m) None)) (lt-ltb m (length xs) lt)))
     (λ ge.
-        ap (λ b. cond b (Some (1 + m)) None) (le-ltb (1 + m) (suc (length xs)) (omega (arith, ge)))
-        ∙ sym (ap (λ b. option_map suc (cond b (Some m) None)) (le-ltb m (length xs) ge)))
+    ap (λ b. cond b (Some (1 + m)) None) (le-ltb (1 + m) (suc (length xs)) (omega (arith, ge)))
+    ∙ sym (ap (λ b. option_map suc (cond b (Some m) None)) (le-ltb m (length xs) ge)))
     (cases_lt m (length xs))
 
 -- the answer of the class with this number
@@ -64,15 +63,15 @@ module _ (g : Asked → ℕ) where
   picked-one n (c ∷ classes) [] differ same = absurd (omega (arith, same))
   picked-one n (c ∷ classes) (a ∷ below) differ same = ⊎_elim
       (λ (here : (n == c.name) ≡ true).
-          let first : (if n == c.name then g a else 0) ≡ g a = ap (λ b. if b then g a else 0) here in
-          let rest : picked g (λ c. n == c.name) classes below ≡ 0 =
-              picked-none n classes below (subst (λ m. list_any (λ (d : Class). m == d.name) classes ≡ false) (sym (eqb-true n c.name here)) differ.0) in
-          let is : option_map_or g (answer_in (c ∷ classes) (a ∷ below) n) 0 ≡ g a = ap (λ o. option_map_or g o 0) (answer-here n c classes a below here) in
-          omega (arith, first, rest, is))
+      let first : (if n == c.name then g a else 0) ≡ g a = ap (λ b. if b then g a else 0) here in
+      let rest : picked g (λ c. n == c.name) classes below ≡ 0 =
+      picked-none n classes below (subst (λ m. list_any (λ (d : Class). m == d.name) classes ≡ false) (sym (eqb-true n c.name here)) differ.0) in
+      let is : option_map_or g (answer_in (c ∷ classes) (a ∷ below) n) 0 ≡ g a = ap (λ o. option_map_or g o 0) (answer-here n c classes a below here) in
+      omega (arith, first, rest, is))
       (λ (there : (n == c.name) ≡ false).
-          let first : (if n == c.name then g a else 0) ≡ 0 = ap (λ b. if b then g a else 0) there in
-          let is : option_map_or g (answer_in (c ∷ classes) (a ∷ below) n) 0 ≡ option_map_or g (answer_in classes below n) 0 = ap (λ o. option_map_or g o 0) (answer-there n c classes a below there) in
-          omega (arith, first, picked-one n classes below differ.1 (omega (arith, same)), is))
+      let first : (if n == c.name then g a else 0) ≡ 0 = ap (λ b. if b then g a else 0) there in
+      let is : option_map_or g (answer_in (c ∷ classes) (a ∷ below) n) 0 ≡ option_map_or g (answer_in classes below n) 0 = ap (λ o. option_map_or g o 0) (answer-there n c classes a below there) in
+      omega (arith, first, picked-one n classes below differ.1 (omega (arith, same)), is))
       (cases_Bool (n == c.name))
 
   -- one more class that passes

@@ -1,5 +1,5 @@
 -- What notes come to, in packets and bytes, is what they weigh: each packet one, and each its length.
-use Rattle.std.proofs.Common.{◌≡◌, ℕ, ◌+◌, ◌≤◌, List, [], ◌∷◌, length, refl, ap, arith}
+use Rattle.std.proofs.Common.{◌≡◌, ℕ, ◌+◌, List, [], ◌∷◌, refl, ap, arith}
 use Rattle.std.specs.Prelude.{Bool, true, false, sum_by, if◌then◌else◌}
 use Rattle.std.specs.List.{fold}
 use Rattle.std.proofs.lemmas.List.Sums.{sum_by-cons}
@@ -9,7 +9,7 @@ use Rattle.q_packet.specs.declared.cause.Cause.{Cause}
 use Rattle.q_model.specs.Tally.{Note, Arrived, Sent, Lost, Marked, Granted, Spent, FlowGranted, FlowGave, Counts, no_counts, counted, counts_in, with_packet}
 use Rattle.q_model.specs.Beneath.{totals_in, row_of}
 use Rattle.q_model.specs.Conserved.{IsBalanced, AreMarksBounded}
-use Rattle.q_sound.proofs.Weights.{plain, weigh, weigh-count, arrived, sent, lost, dropped, marked, dropping, arrived-nil, sent-nil, lost-nil, dropped-nil, marked-nil, arrived-cons, sent-cons, lost-cons, dropped-cons, marked-cons}
+use Rattle.q_sound.proofs.Weights.{plain, weigh, weigh-count, arrived, sent, lost, dropped, marked, arrived-nil, sent-nil, lost-nil, dropped-nil, marked-nil, arrived-cons, sent-cons, lost-cons, dropped-cons, marked-cons}
 use Rattle.q_sound.proofs.Kept.{AreCounted}
 use Rattle.q_sound.proofs.Answer.{one}
 

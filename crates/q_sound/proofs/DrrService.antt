@@ -1,40 +1,28 @@
 -- What a drr's asking comes to: what its children tell, which of them is met, and the heads that they show.
-use Rattle.std.proofs.Common.{◌≡◌, ℕ, zero, suc, ◌+◌, ◌<◌, ◌≤◌, List, [], ◌∷◌, ◌++◌, map, length, set, take, drop, flat_map, refl, sym, ap, subst, Option, Some, None, option_map, option_and_then, option_to_list, ◌∙◌, arith}
-use Rattle.std.specs.Prelude.{Bool, true, false, ◌||◌, ◌==◌, All, is_some, slice_get, get_or, if◌then◌else◌}
+use Rattle.std.proofs.Common.{◌≡◌, ℕ, zero, suc, ◌≤◌, List, [], ◌∷◌, map, take, drop, flat_map, refl, ap, subst, Option, Some, None, option_map, option_and_then, option_to_list, ◌∙◌, arith}
+use Rattle.std.specs.Prelude.{Bool, true, false, ◌==◌, slice_get, get_or, if◌then◌else◌}
 use Rattle.std.specs.List.{list_any, position}
 use Rattle.std.specs.Option.{option_map_or}
 use Rattle.std.proofs.lemmas.Bool.{or_left, or_right, or_parts, or_from}
-use Rattle.std.proofs.lemmas.List.{map-set}
 use Rattle.std.proofs.lemmas.List.Elements.{All-head}
 use Rattle.std.proofs.lemmas.List.Quantifiers.{position-Some}
 use Rattle.std.proofs.lemmas.Option.{same_Some, slice_get-get_or}
 use Rattle.q_packet.specs.Choice.{Choice}
 use Rattle.q_packet.specs.Descriptor.{Descriptor}
-use Rattle.q_drr.specs.Schedule.{Class, Entry, Schedule, has_class, is_active, asleep, woken}
-use Rattle.q_drr.specs.Schedule as drr
+use Rattle.q_drr.specs.Schedule.{Class, Entry, Schedule}
 use Rattle.q_drr.specs.Changes.{HeadsFit}
-use Rattle.q_drr.specs.Take.{choice_of, met, served}
 use Rattle.q_drr.specs.declared.met.Met.{Met}
-use Rattle.q_drr.proofs.ChangeLemmas.{asleep_lawful, woken_lawful}
-use Rattle.q_drr.proofs.ServedLemmas.{served_lawful, chosen_is_met}
-use Rattle.q_drr.proofs.DifferLemmas.{Differ, ClassesDiffer, EntriesDiffer, entries_apart, differ-from_pairs}
-use Rattle.q_model.specs.declared.filter.Filter.{Filter}
+use Rattle.q_drr.proofs.DifferLemmas.{EntriesDiffer}
 use Rattle.q_model.specs.Tally.{Note, Granted}
-use Rattle.q_model.specs.Node.{Drr, Own}
-use Rattle.q_model.specs.Beneath.{beneath, is_empty}
+use Rattle.q_model.specs.Beneath.{beneath}
 use Rattle.q_model.specs.Route.{class_at}
-use Rattle.q_model.specs.Lawful.{IsLawfulOwn, IsLawfulDrr}
-use Rattle.q_model.specs.Work.{Worked, settled_class}
 use Rattle.q_model.specs.Grants.{asked_entries, grant_notes, granted_notes}
-use Rattle.q_model.specs.Ask.{Asked, befores, is_among, class_answer, head_of, length_of, Service, service_of, place_met, gives_nothing, class_gives, class_serves, ask_drr}
-use Rattle.q_sound.proofs.Weights.{weigh, weigh-nil, weigh-one, IsQuiet, quiet-nil, quiet-append, arrived-nil, sent-nil, lost-nil, dropped-nil, marked-nil, arrived-cons, sent-cons, lost-cons, dropped-cons, marked-cons, lost, marked, lost-append, marked-append}
+use Rattle.q_model.specs.Ask.{Asked, is_among, head_of, length_of}
+use Rattle.q_sound.proofs.Weights.{weigh, IsQuiet, quiet-nil, quiet-append, lost-nil, marked-nil, arrived-cons, sent-cons, lost-cons, dropped-cons, marked-cons, lost, marked, lost-append, marked-append}
 use Rattle.q_sound.proofs.Lengths.{HasLength, lengths-among}
-use Rattle.q_sound.proofs.Forests.{AreLawful}
-use Rattle.q_sound.proofs.Answer.{one, IsAnswer, AreAnswers, IsSilent, silent-nil, silent-append, waiting, is-dequeued}
-use Rattle.q_sound.proofs.Sums.{total, in_children, held_in_children, weigh-waiting, weigh-holds, befores-lawful, befores-told}
-use Rattle.q_sound.proofs.ClassSums.{answer_in, picked, picked-entries}
-use Rattle.q_sound.proofs.Exact.{AreExact, active-served, classes-served, longest-served, settled_schedule, exact-same, exact-settled, settled-at, settled-classes, settled-longest}
-use Rattle.q_sound.proofs.AskClasses.{peeked_by, are-looked, exact-looked, same-length, taken-at}
+use Rattle.q_sound.proofs.Answer.{IsAnswer, AreAnswers, IsSilent, silent-nil, silent-append}
+use Rattle.q_sound.proofs.Sums.{total}
+use Rattle.q_sound.proofs.ClassSums.{answer_in}
 
 -- ---- what is noted
 
@@ -120,6 +108,7 @@ heads-fit mtu now s below all n len e = by (answer_in s.classes below n) (λ a. 
     shown : (a : Asked) (o : Option Descriptor) → a.shown ≡ o → IsAnswer mtu now a → option_map (λ (p : Descriptor). p.len) o ≡ Some len → len ≤ mtu
     shown a None is h e = cc
     shown a (Some p) is h e = subst (λ n. n ≤ mtu) (same_Some p.len len e) (shown-short mtu now a p h is)
+
     by : (o : Option Asked) → ((a : Asked) → o ≡ Some a → IsAnswer mtu now a) → option_and_then length_of o ≡ Some len → len ≤ mtu
     by None h e = cc
     by (Some a) h e = shown a a.shown refl (h a refl) e

@@ -1,30 +1,29 @@
 -- An edit at the end of a path keeps each node above it lawful and counted, and nothing is lost but what is purged.
-use Rattle.std.proofs.Common.{◌≡◌, ℕ, ◌+◌, ◌<◌, ◌≤◌, Bool, true, false, ◌&&◌, List, [], ◌∷◌, ◌++◌, length, set, refl, sym, ap, subst, ◌∙◌, Option, Some, None, arith}
-use Rattle.std.specs.Prelude.{slice_get, ◌==◌, option_and_then, nat_le, is_some, if◌then◌else◌}
+use Rattle.std.proofs.Common.{◌≡◌, ℕ, ◌+◌, ◌<◌, ◌≤◌, Bool, true, List, [], ◌∷◌, length, set, refl, sym, ap, subst, ◌∙◌, Option, Some, None, arith}
+use Rattle.std.specs.Prelude.{slice_get, ◌==◌, option_and_then, is_some}
 use Rattle.std.specs.List.{All, position}
 use Rattle.std.specs.Option.{option_map_or}
-use Rattle.std.proofs.lemmas.Bool.{leb-true, le-leb, and_parts, and_from}
-use Rattle.std.proofs.lemmas.Option.{slice_get_within, get_or_from_slice_get}
 use Rattle.std.proofs.lemmas.List.{length-set}
 use Rattle.std.proofs.lemmas.List.Elements.{All-weaker, All-set}
 use Rattle.q_packet.specs.Descriptor.{Descriptor}
 use Rattle.q_packet.specs.declared.cause.Cause.TheVariants.{Purged}
-use Rattle.q_drr.specs.Schedule.{Class, Schedule, is_active, quantum_of, asleep, woken}
+use Rattle.q_drr.specs.Schedule.{Class}
 use Rattle.q_model.specs.declared.filter.Filter.{Filter}
-use Rattle.q_model.specs.Numbers.{IsWithin}
 use Rattle.q_model.specs.Tally.{Note, history}
 use Rattle.q_model.specs.Node.{Discipline, Fifo, Prio, Tbf, Drr, FqCodel, Own, Node, children, each}
-use Rattle.q_model.specs.Beneath.{packets_in, beneath_own, beneath, is_empty}
+use Rattle.q_model.specs.Beneath.{beneath_own, beneath, is_empty}
 use Rattle.q_model.specs.Conserved.{held_own, held_beneath}
 use Rattle.q_model.specs.Find.{class_in, node_at}
-use Rattle.q_model.specs.Work.{losses_of, settled_class, settled_in, settled}
+use Rattle.q_model.specs.Work.{losses_of, settled_in, settled}
 use Rattle.q_model.specs.Edit.{above, edited_at}
 use Rattle.q_model.specs.Lawful.{IsLawfulDiscipline, IsLawfulOwn, CanHold}
 use Rattle.q_sound.proofs.Weights.{weigh, weigh-nil}
 use Rattle.q_sound.proofs.Kept.{IsLawfulRoot, IsCountedRoot}
-use Rattle.q_sound.proofs.EditForests.{each-set, each-at, lawful-side, lawful-nodes, counted-side, counted-nodes}
-use Rattle.q_sound.proofs.EditWeights.{joined, weigh-joined-set, weigh-beneath, weigh-held, counted_purged, failing, weightless, all_pass}
-use Rattle.q_sound.proofs.EditDrr.{settled_lawful}
+use Rattle.q_sound.proofs.Forests.{each-set, each-at, are-lawful, lawful-side, lawful-nodes, counted-side, counted-nodes}
+use Rattle.q_sound.proofs.Joined.{joined, weigh-joined-set, weigh-beneath, weigh-held, counted_purged}
+use Rattle.q_sound.proofs.Lengths.{short-among, lengths-among}
+use Rattle.q_sound.proofs.Members.{All-at}
+use Rattle.q_sound.proofs.DrrSettled.{class-settled, drr-settled, settled-packets}
 use Rattle.q_sound.proofs.EditHandles.{one, times, times-set}
 
 -- a node put in place of another: it is lawful and has counted, between them only these packets are lost, and it has no handle
@@ -36,60 +35,14 @@ pub record Becomes (mtu clock : ℕ) (fresh : Option ℕ) (purged : List Descrip
   pub counted : IsCountedRoot new
   pub handles : (h : ℕ) → times h new ≤ times h old + one h fresh
 
-pub All-at : {X : Type 0} (P : X → Type 0) (xs : List X) (i : ℕ) (x : X) → All P xs → slice_get xs i ≡ Some x → P x
-All-at P xs i x h e = subst P (get_or_from_slice_get xs i x x e) (h i x (slice_get_within xs i x e))
-
--- ---- lengths of fewer packets
-
-pub fewer_pass : (test : ℕ → Bool) (old new : List Descriptor) → ((w : Descriptor → ℕ) → weigh w new ≤ weigh w old) → All (λ (p : Descriptor). test p.len ≡ true) old → All (λ (p : Descriptor). test p.len ≡ true) new
-fewer_pass test old new fewer h = all_pass test new (omega (arith, fewer (failing test), weightless test old h))
-
-pub fewer_short : (most : ℕ) (old new : List Descriptor) → ((w : Descriptor → ℕ) → weigh w new ≤ weigh w old) → All (λ (p : Descriptor). p.len ≤ most) old → All (λ (p : Descriptor). p.len ≤ most) new
-fewer_short most old new fewer h =
-    All-weaker (λ (p : Descriptor). nat_le p.len most ≡ true) (λ (p : Descriptor). p.len ≤ most) (λ p. leb-true p.len most) new
-    (fewer_pass (λ k. nat_le k most) old new fewer
-    (All-weaker (λ (p : Descriptor). p.len ≤ most) (λ (p : Descriptor). nat_le p.len most ≡ true) (λ p. le-leb p.len most) old h))
-
-pub fewer_within : (least most : ℕ) (old new : List Descriptor) → ((w : Descriptor → ℕ) → weigh w new ≤ weigh w old) → All (λ (p : Descriptor). IsWithin least most p.len) old → All (λ (p : Descriptor). IsWithin least most p.len) new
-fewer_within least most old new fewer h =
-    let test : ℕ → Bool = λ k. nat_le least k && nat_le k most in
-    let opened : (p : Descriptor) → test p.len ≡ true → IsWithin least most p.len = λ p e.
-    (leb-true least p.len (and_parts (nat_le least p.len) (nat_le p.len most) e).0, leb-true p.len most (and_parts (nat_le least p.len) (nat_le p.len most) e).1) in
-    let closed : (p : Descriptor) → IsWithin least most p.len → test p.len ≡ true = λ p e.
-    and_from (nat_le least p.len) (nat_le p.len most) (le-leb least p.len e.0) (le-leb p.len most e.1) in
-    All-weaker (λ (p : Descriptor). test p.len ≡ true) (λ (p : Descriptor). IsWithin least most p.len) opened new
-    (fewer_pass test old new fewer
-    (All-weaker (λ (p : Descriptor). IsWithin least most p.len) (λ (p : Descriptor). test p.len ≡ true) closed old h))
-
 -- ---- a node that is settled
 
 module _ (i : ℕ) (emptied : Bool) where
-  settled_classes : (s : Schedule) → (settled_class i emptied s).classes ≡ s.classes
-  settled_classes s = of_class (slice_get s.classes i)
-    where
-      woken_classes : (n : ℕ) → (woken n s).classes ≡ s.classes
-      woken_classes n = elim (is_active n s.active) as (λ (t : Bool). (if t then s else record s { active = s.active ++ record { class = n; deficit = quantum_of n s.classes; granted = 0 } ∷ [] }).classes ≡ s.classes) [ true ↦ refl | false ↦ refl ]
-
-      either : (t : Bool) (c : Class) → (if t then asleep c.name s else woken c.name s).classes ≡ s.classes
-      either true c = refl
-      either false c = woken_classes c.name
-
-      of_class : (o : Option Class) → (option_map_or (λ (c : Class). if emptied then asleep c.name s else woken c.name s) o s).classes ≡ s.classes
-      of_class None = refl
-      of_class (Some c) = either emptied c
-
-  pub settled_packets : (d : Discipline) → packets_in (settled_in i emptied d) ≡ packets_in d
-  settled_packets (Fifo limit queue) = refl
-  settled_packets (Prio priomap) = refl
-  settled_packets (Tbf b limit) = refl
-  settled_packets (Drr s) = refl
-  settled_packets (FqCodel s) = refl
-
   settled_class_in : (bands minor : ℕ) (d : Discipline) → class_in bands minor (settled_in i emptied d) ≡ class_in bands minor d
   settled_class_in bands minor (Fifo limit queue) = refl
   settled_class_in bands minor (Prio priomap) = refl
   settled_class_in bands minor (Tbf b limit) = refl
-  settled_class_in bands minor (Drr s) = ap (position (λ (c : Class). minor == c.name)) (settled_classes s)
+  settled_class_in bands minor (Drr s) = ap (position (λ (c : Class). minor == c.name)) (class-settled i emptied s)
   settled_class_in bands minor (FqCodel s) = refl
 
   settled_holds : (d : Discipline) → CanHold d → CanHold (settled_in i emptied d)
@@ -116,9 +69,9 @@ module _ (mtu clock i : ℕ) (below : List (List Descriptor)) (old new : List De
     last = h.last;
     one = length-set below i new ∙ h.one;
     short = All-set (λ packets. All (λ (p : Descriptor). p.len ≤ b.burst) packets) below i new
-        (fewer_short b.burst old new fewer (All-at (λ packets. All (λ (p : Descriptor). p.len ≤ b.burst) packets) below i old h.short there)) h.short;
+        (short-among b.burst old new fewer (All-at (λ packets. All (λ (p : Descriptor). p.len ≤ b.burst) packets) below i old h.short there)) h.short;
   }
-  discipline_above (Drr s) h = settled_lawful mtu s below i old new h positive there
+  discipline_above (Drr s) h = drr-settled mtu s below i old new h positive there
   discipline_above (FqCodel s) h = record {
     settings = h.settings;
     longest = h.longest;
@@ -129,14 +82,14 @@ module _ (mtu clock i : ℕ) (below : List (List Descriptor)) (old new : List De
 
   fewer_beneath : (own : Own) (emptied : Bool) (w : Descriptor → ℕ) → weigh w (beneath_own (settled i emptied own) (set below i new)) ≤ weigh w (beneath_own own below)
   fewer_beneath own emptied w =
-      omega (arith, weigh-beneath w (settled i emptied own) (set below i new), weigh-beneath w own below, ap (weigh w) (settled_packets i emptied own.discipline), weigh-joined-set w below i old new there, fewer w)
+      omega (arith, weigh-beneath w (settled i emptied own) (set below i new), weigh-beneath w own below, ap (weigh w) (settled-packets i emptied own.discipline), weigh-joined-set w below i old new there, fewer w)
 
   own_above : (own : Own) → IsLawfulOwn mtu clock own below → IsLawfulOwn mtu clock (settled i (length new == 0) own) (set below i new)
   own_above own h =
       let emptied : Bool = length new == 0 in
       record {
         discipline = discipline_above own.discipline h.discipline;
-        lengths = fewer_within 1 mtu (beneath_own own below) (beneath_own (settled i emptied own) (set below i new)) (fewer_beneath own emptied) h.lengths;
+        lengths = lengths-among mtu (beneath_own own below) (beneath_own (settled i emptied own) (set below i new)) (fewer_beneath own emptied) h.lengths;
         held = λ e. settled_holds i emptied own.discipline (h.held e);
         filters = h.filters;
         in_order = h.in_order;
@@ -163,7 +116,7 @@ module _ (mtu clock : ℕ) (fresh : Option ℕ) (purged : List Descriptor) (posi
         weigh-beneath w n.own at,
         weigh-beneath w after.own (each beneath_own after.below),
         ap (λ b. weigh w (joined b)) below_is,
-        ap (weigh w) (settled_packets i (is_empty new) n.own.discipline),
+        ap (weigh w) (settled-packets i (is_empty new) n.own.discipline),
         weigh-joined-set w at i (beneath old) (beneath new) found,
         h.conserved w,
       ) in
@@ -181,7 +134,7 @@ module _ (mtu clock : ℕ) (fresh : Option ℕ) (purged : List Descriptor) (posi
       record {
         conserved = conserved;
         held = held;
-        lawful = (own_lawful, lawful-side mtu clock (set (children n) i new) (All-set (IsLawfulRoot mtu clock) (children n) i new h.lawful (lawful-nodes mtu clock n.below lawful.1)));
+        lawful = (own_lawful, lawful-side mtu clock (set (children n) i new) (are-lawful mtu clock (set (children n) i new) (All-set (IsLawfulRoot mtu clock) (children n) i new h.lawful (lawful-nodes mtu clock n.below lawful.1))));
         counted = (
           counted_purged n.memory (beneath n) (held_beneath n) (beneath after) (held_beneath after) purged counted.0 conserved held,
           counted-side (set (children n) i new) (All-set IsCountedRoot (children n) i new h.counted (counted-nodes n.below counted.1)),

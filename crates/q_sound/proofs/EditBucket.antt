@@ -21,8 +21,8 @@ use Rattle.q_model.specs.QdiscCommands.{relimited, leaf_of_tbf}
 use Rattle.q_model.specs.Lawful.{IsLawfulDiscipline, IsLawfulOwn, CanHold}
 use Rattle.q_sound.proofs.Weights.{weigh, weigh-nil}
 use Rattle.q_sound.proofs.Kept.{AreCounted, IsLawfulRoot, IsCountedRoot}
-use Rattle.q_sound.proofs.EditWeights.{joined, weigh-joined-set, weigh-beneath}
-use Rattle.q_sound.proofs.EditAbove.{fewer_within}
+use Rattle.q_sound.proofs.Joined.{joined, weigh-joined-set, weigh-beneath}
+use Rattle.q_sound.proofs.Lengths.{lengths-among}
 use Rattle.q_sound.proofs.EditChildren.{kids, gone}
 use Rattle.q_sound.proofs.EditRemade.{Remakes, own_changed, times_in}
 use Rattle.q_sound.proofs.EditSuits.{children-shape, gone_from}
@@ -156,7 +156,7 @@ remakes_bucket mtu now old lawful counted b was rate burst bytes limit is range 
     let short : All (λ packets. All (λ (p : Descriptor). p.len ≤ burst) packets) below = λ k d lt.
     let ps : List Descriptor = get_or below k d in
     let within : All (λ (p : Descriptor). IsWithin 1 mtu p.len) ps =
-    fewer_within 1 mtu (beneath_own old.own below) ps (λ w. omega (arith, weigh-beneath w old.own below, one_of w below k ps (slice_get-get_or below k d lt))) had.lengths in
+    lengths-among mtu (beneath_own old.own below) ps (λ w. omega (arith, weigh-beneath w old.own below, one_of w below k ps (slice_get-get_or below k d lt))) had.lengths in
     let less : All (λ (p : Descriptor). p.len ≤ b.burst) ps = bucket.short k d lt in
     λ j e below_it. omega (arith, (within j e below_it).1, less j e below_it) in
     let done : Remakes mtu now (gone (λ j. list_any (keeps j) (map (leaf_of_tbf bytes) (map shape cs))) 0 below) old own (kids history cs (map (leaf_of_tbf bytes) (map shape cs))) = record {

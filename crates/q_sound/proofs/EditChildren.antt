@@ -14,7 +14,7 @@ use Rattle.q_model.specs.Node.{Node, Shape, blank}
 use Rattle.q_model.specs.Beneath.{beneath}
 use Rattle.q_model.specs.Edit.{Child, Kept, New, child_of, keeps}
 use Rattle.q_sound.proofs.Weights.{weigh, weigh-nil, weigh-append}
-use Rattle.q_sound.proofs.EditWeights.{joined}
+use Rattle.q_sound.proofs.Joined.{joined}
 
 abbrev pub kept_from : ℕ → ℕ → List Child
 kept_from a k = map Kept (range_with_len a k)

@@ -28,8 +28,9 @@ use Rattle.q_model.specs.ClassCommands.{with_new_quantum}
 use Rattle.q_model.specs.Lawful.{IsLawfulDiscipline, IsLawfulDrr, IsLawfulOwn}
 use Rattle.q_sound.proofs.Weights.{weigh}
 use Rattle.q_sound.proofs.Kept.{IsLawfulRoot, IsCountedRoot}
-use Rattle.q_sound.proofs.EditWeights.{weigh-joined-cons}
-use Rattle.q_sound.proofs.EditDrr.{IsExact, fails_at}
+use Rattle.q_sound.proofs.Joined.{weigh-joined-cons}
+use Rattle.q_sound.proofs.Members.{fails-at}
+use Rattle.q_sound.proofs.Exact.{AreExact, exact-length, exact-others}
 use Rattle.q_sound.proofs.EditNew.{IsNew, new_beneath, held-le-beneath}
 use Rattle.q_sound.proofs.EditChildren.{kids, kids_removed, removed_keeps, removed_goes, gone_one}
 use Rattle.q_sound.proofs.EditRemade.{waits, holds, times_in, own_changed, Remakes}
@@ -72,8 +73,8 @@ class_known bands minor s = position_there (λ (c : Class). minor == c.name) s.c
 
 -- ---- one more
 
-exact_push : (active : ℕ → Bool) (classes : List Class) (below : List (List Descriptor)) (c : Class) (ps : List Descriptor) → IsExact active classes below
-    → active c.name ≡ not (length ps == 0) → IsExact active (classes ++ c ∷ []) (below ++ ps ∷ [])
+exact_push : (active : ℕ → Bool) (classes : List Class) (below : List (List Descriptor)) (c : Class) (ps : List Descriptor) → AreExact active classes below
+    → active c.name ≡ not (length ps == 0) → AreExact active (classes ++ c ∷ []) (below ++ ps ∷ [])
 exact_push active [] [] c ps h e = (e, tt)
 exact_push active [] (qs ∷ below) c ps h e = absurd h
 exact_push active (x ∷ classes) [] c ps h e = absurd h
@@ -134,7 +135,7 @@ module _ (n q : ℕ) where
   same_class max_len e =
       elim (n == e.class) as (λ (t : Bool). (if t then record e { deficit = min e.deficit (q + max_len - 1) } else e).class ≡ e.class) [ true ↦ refl | false ↦ refl ]
 
-  exact_mapped : (old new : ℕ → Bool) → ((m : ℕ) → new m ≡ old m) → (classes : List Class) (below : List (List Descriptor)) → IsExact old classes below → IsExact new (map (quantum_set n q) classes) below
+  exact_mapped : (old new : ℕ → Bool) → ((m : ℕ) → new m ≡ old m) → (classes : List Class) (below : List (List Descriptor)) → AreExact old classes below → AreExact new (map (quantum_set n q) classes) below
   exact_mapped old new same [] [] h = tt
   exact_mapped old new same [] (ps ∷ below) h = absurd h
   exact_mapped old new same (c ∷ classes) [] h = absurd h
@@ -183,17 +184,9 @@ without_absent n (c ∷ classes) e =
     ap (λ (t : Bool). if not t then c ∷ others (λ (c : Class). c.name) n classes else others (λ (c : Class). c.name) n classes) parts.0
     ∙ ap (λ (cs : List Class). c ∷ cs) (without_absent n classes parts.1)
 
-module _ (old new : ℕ → Bool) (n : ℕ) (same : (m : ℕ) → eqb n m ≡ false → new m ≡ old m) where
-  exact_same : (classes : List Class) (below : List (List Descriptor)) → has_class n classes ≡ false → IsExact old classes below → IsExact new classes below
-  exact_same [] [] apart h = tt
-  exact_same [] (ps ∷ below) apart h = absurd h
-  exact_same (c ∷ classes) [] apart h = absurd h
-  exact_same (c ∷ classes) (ps ∷ below) apart h =
-      let parts = or_parts (eqb n c.name) (has_class n classes) apart in
-      (same c.name parts.0 ∙ h.0, exact_same classes below parts.1 h.1)
-
+module _ (old new : ℕ → Bool) (n : ℕ) (same : (m : ℕ) → (m == n) ≡ false → new m ≡ old m) where
   exact_removed : (classes : List Class) (below : List (List Descriptor)) (i : ℕ) (c : Class) → ClassesDiffer classes → slice_get classes i ≡ Some c → c.name ≡ n
-      → IsExact old classes below → IsExact new (others (λ (c : Class). c.name) n classes) (remove below i)
+      → AreExact old classes below → AreExact new (others (λ (c : Class). c.name) n classes) (remove below i)
   exact_removed [] below i c differ e name h = absurd (none-some c e)
   exact_removed (x ∷ classes) [] i c differ e name h = absurd h
   exact_removed (x ∷ classes) (ps ∷ below) zero c differ e name h =
@@ -201,19 +194,19 @@ module _ (old new : ℕ → Bool) (n : ℕ) (same : (m : ℕ) → eqb n m ≡ fa
       let absent : has_class n classes ≡ false = ap (λ m. has_class m classes) (sym is) ∙ differ.0 in
       let left : others (λ (c : Class). c.name) n (x ∷ classes) ≡ classes =
       ap (λ (t : Bool). if not t then x ∷ others (λ (c : Class). c.name) n classes else others (λ (c : Class). c.name) n classes) (eq-eqb n x.name (sym is)) ∙ without_absent n classes absent in
-      subst (λ (cs : List Class). IsExact new cs below) (sym left) (exact_same classes below absent h.1)
+      subst (λ (cs : List Class). AreExact new cs below) (sym left) (exact-others old new n classes below absent same h.1)
   exact_removed (x ∷ classes) (ps ∷ below) (suc i) c differ e name h =
-      let apart : eqb n x.name ≡ false = eqb_swap x.name n (ap (eqb x.name) (sym name) ∙ fails_at (λ (k : Class). x.name == k.name) classes i c differ.0 e) in
+      let apart : eqb x.name n ≡ false = ap (eqb x.name) (sym name) ∙ fails-at (λ (k : Class). x.name == k.name) classes i c differ.0 e in
       let left : others (λ (c : Class). c.name) n (x ∷ classes) ≡ x ∷ others (λ (c : Class). c.name) n classes =
-      ap (λ (t : Bool). if not t then x ∷ others (λ (c : Class). c.name) n classes else others (λ (c : Class). c.name) n classes) apart in
-      subst (λ (cs : List Class). IsExact new cs (ps ∷ remove below i)) (sym left) (same x.name apart ∙ h.0, exact_removed classes below i c differ.1 e name h.1)
+      ap (λ (t : Bool). if not t then x ∷ others (λ (c : Class). c.name) n classes else others (λ (c : Class). c.name) n classes) (eqb_swap x.name n apart) in
+      subst (λ (cs : List Class). AreExact new cs (ps ∷ remove below i)) (sym left) (same x.name apart ∙ h.0, exact_removed classes below i c differ.1 e name h.1)
 
 pub removed_drr : (mtu : ℕ) (s : Schedule) (below : List (List Descriptor)) (n i : ℕ) (c : Class) → IsLawfulDrr mtu s below → slice_get s.classes i ≡ Some c → c.name ≡ n
     → IsLawfulDrr mtu (removed n s) (remove below i)
 removed_drr mtu s below n i c h e name = record {
   schedule = removed_lawful s n h.schedule;
   longest = h.longest;
-  exact = exact_removed (λ m. is_active m s.active) (λ m. is_active m (removed n s).active) n (λ m apart. has_others (λ (e : Entry). e.class) m n s.active apart)
+  exact = exact_removed (λ m. is_active m s.active) (λ m. is_active m (removed n s).active) n (λ m apart. has_others (λ (e : Entry). e.class) m n s.active (eqb_swap m n apart))
       s.classes below i c (differ-from_pairs (λ (c : Class). c.name) s.classes h.schedule.classes_differ) e name h.exact;
 }
 
@@ -248,12 +241,6 @@ member_at [] i lt = absurd (omega arith)
 member_at (x ∷ xs) zero lt = (x, refl)
 member_at (x ∷ xs) (suc i) lt = member_at xs i (omega arith)
 
-exact_length : (active : ℕ → Bool) (classes : List Class) (below : List (List Descriptor)) → IsExact active classes below → length classes ≡ length below
-exact_length active [] [] h = refl
-exact_length active [] (ps ∷ below) h = absurd h
-exact_length active (c ∷ classes) [] h = absurd h
-exact_length active (c ∷ classes) (ps ∷ below) h = ap suc (exact_length active classes below h.1)
-
 pub remakes_class_removed : (mtu now : ℕ) (old : Node (List Note)) (lawful : IsLawfulRoot mtu now old) (counted : IsCountedRoot old) (s : Schedule) (n i : ℕ)
     → old.own.discipline ≡ Drr s → position (λ (c : Class). n == c.name) s.classes ≡ Some i → list_any (names_class n) old.own.filters ≡ false
     → Remakes mtu now (gone_from (remove (all_kept (shape old)) i) old) old (record old.own { discipline = Drr (removed n s) }) (kids history (children old) (remove (all_kept (shape old)) i))
@@ -268,7 +255,7 @@ remakes_class_removed mtu now old lawful counted s n i is found busy =
     let at = position-Some (λ (c : Class). n == c.name) s.classes i none found in
     let class : slice_get s.classes i ≡ Some (get_or s.classes i none) = slice_get-get_or s.classes i none at.0 in
     let name : (get_or s.classes i none).name ≡ n = sym (eqb-true n (get_or s.classes i none).name at.1) in
-    let size : length s.classes ≡ length below = exact_length (λ m. is_active m s.active) s.classes below schedule.exact in
+    let size : length s.classes ≡ length below = exact-length (λ m. is_active m s.active) s.classes below schedule.exact in
     let within : i < length cs = omega (arith, at.0, size, length-map cs beneath) in
     let child = member_at cs i within in
     let there : slice_get below i ≡ Some (beneath child.0) =
@@ -288,7 +275,7 @@ remakes_class_removed mtu now old lawful counted s n i is found busy =
           (λ c. tt) was.filters was.in_order
           (λ j d lt.
           let f : Filter = get_or old.own.filters j d in
-          let apart : eqb n f.minor ≡ false = eqb_swap f.minor n (fails_at (names_class n) old.own.filters j f busy (slice_get-get_or old.own.filters j d lt)) in
+          let apart : eqb n f.minor ≡ false = eqb_swap f.minor n (fails-at (names_class n) old.own.filters j f busy (slice_get-get_or old.own.filters j d lt)) in
           class_known (length (map beneath (remove cs i))) f.minor (removed n s) ∙ has_others (λ (c : Class). c.name) f.minor n s.classes apart
           ∙ sym (class_known (length below) f.minor s) ∙ ap (λ (x : Discipline). is_some (class_in (length below) f.minor x)) (sym is) ∙ was.named j d lt);
       lawful_below = All-append (IsLawfulRoot mtu now) (take i cs) (drop (suc i) cs) (All-take (IsLawfulRoot mtu now) i cs (children_lawful mtu now old lawful counted))

@@ -17,8 +17,8 @@ use Rattle.q_model.specs.Options.{PrioSettings, IsPrio}
 use Rattle.q_model.specs.Lawful.{IsLawfulOwn, CanHold}
 use Rattle.q_sound.proofs.Weights.{weigh, weigh-nil}
 use Rattle.q_sound.proofs.Kept.{IsLawfulRoot, IsCountedRoot}
-use Rattle.q_sound.proofs.EditWeights.{joined, weigh-joined-cons}
-use Rattle.q_sound.proofs.EditDrr.{fails_at}
+use Rattle.q_sound.proofs.Joined.{joined, weigh-joined-cons}
+use Rattle.q_sound.proofs.Members.{fails-at}
 use Rattle.q_sound.proofs.EditNew.{IsNew, new_beneath, new_lawful, new_counted, new_times}
 use Rattle.q_sound.proofs.EditChildren.{kept_from, kids, kids-append, kids_kept, kids_new, kept_there, kept_above, new_keeps, any-append, gone_past}
 use Rattle.q_sound.proofs.EditRemade.{waits, holds, times_in, waits-append, holds-append, times-append, holds-le-waits, own_changed, Remakes}
@@ -137,5 +137,5 @@ remakes_bands mtu now leaf new old lawful counted priomap s is range busy =
     let named : is_some (class_in (length (map beneath (children old))) f.minor (Prio priomap)) ≡ true =
     ap (λ (x : Discipline). is_some (class_in (length (map beneath (children old))) f.minor x)) (sym is) ∙ was.named k d lt in
     let low : 1 ≤ f.minor = class_within (length (map beneath (children old))) f.minor priomap named in
-    let high : f.minor ≤ s.bands = ltb-false s.bands f.minor (fails_at (λ (g : Filter). nat_lt s.bands g.minor) old.own.filters k f busy (slice_get-get_or old.own.filters k d lt)) in
+    let high : f.minor ≤ s.bands = ltb-false s.bands f.minor (fails-at (λ (g : Filter). nat_lt s.bands g.minor) old.own.filters k f busy (slice_get-get_or old.own.filters k d lt)) in
     class_there (length left) f.minor s.priomap low (omega (arith, bands, high))))

@@ -4,13 +4,13 @@ use Rattle.std.specs.Option.{option_to_list}
 use Rattle.q_packet.specs.Descriptor.{Descriptor}
 use Rattle.q_model.proofs.ShrinkLemmas.{each-each_memory}
 use Rattle.q_model.specs.Tally.{Note, history}
-use Rattle.q_model.specs.Node.{Own, Forest, none, more, Node, Shape, each, each_memory, with_memory, blank}
+use Rattle.q_model.specs.Node.{Own, Forest, none, more, Node, Shape, each, each_memory, blank}
 use Rattle.q_model.specs.Beneath.{packets_in, beneath_own, beneath}
 use Rattle.q_model.specs.Conserved.{held_own, held_beneath}
-use Rattle.q_model.specs.Lawful.{IsLawfulOwn}
 use Rattle.q_sound.proofs.Weights.{weigh, weigh-nil}
-use Rattle.q_sound.proofs.Kept.{AllLawful, AllCounted, AreCounted, IsLawfulRoot, IsCountedRoot}
-use Rattle.q_sound.proofs.EditWeights.{joined, weigh-joined-cons, weigh-beneath, weigh-held, counted_nothing}
+use Rattle.q_sound.proofs.Kept.{AllCounted, AreCounted, IsLawfulRoot, IsCountedRoot}
+use Rattle.q_sound.proofs.Forests.{lawful-with_memory}
+use Rattle.q_sound.proofs.Joined.{joined, weigh-joined-cons, weigh-beneath, weigh-held, counted_nothing}
 use Rattle.q_sound.proofs.EditHandles.{one, times_below, times}
 use Rattle.q_sound.proofs.EditAbove.{Becomes}
 
@@ -64,19 +64,6 @@ idle_counted (more own m below others) h = (
   idle_counted others h.2,
 )
 
--- what a node remembers is not looked at
-pub lawful-memory : {M N : Type 0} (mtu clock : ℕ) (f : M → N) (x : Forest M) → AllLawful mtu clock x → AllLawful mtu clock (each_memory f x)
-lawful-memory mtu clock f none h = tt
-lawful-memory mtu clock f (more own m below others) h = (
-  subst (IsLawfulOwn mtu clock own) (sym (each-each_memory beneath_own f below)) h.0,
-  lawful-memory mtu clock f below h.1,
-  lawful-memory mtu clock f others h.2,
-)
-
-pub root-memory : {M N : Type 0} (mtu clock : ℕ) (f : M → N) (n : Node M) → IsLawfulRoot mtu clock n → IsLawfulRoot mtu clock (with_memory f n)
-root-memory mtu clock f n h =
-    (subst (IsLawfulOwn mtu clock n.own) (sym (each-each_memory beneath_own f n.below)) h.0, lawful-memory mtu clock f n.below h.1)
-
 pub times-memory : {M N : Type 0} (h : ℕ) (f : M → N) (x : Forest M) → times_below h (each_memory f x) ≡ times_below h x
 times-memory h f none = refl
 times-memory h f (more own m below others) = ap₂ (λ a b. one h own.handle + a + b) (times-memory h f below) (times-memory h f others)
@@ -112,7 +99,7 @@ module _ (mtu clock : ℕ) (fresh : Option ℕ) (s : Shape) (new : IsNew mtu clo
   new_held = ap (held_own s.own) (each-each_memory held_own (λ u. []) s.below) ∙ idle_held s.own (each held_own s.below) new.idle (idle_held_beneath s.below new.idle_below)
 
   pub new_lawful : IsLawfulRoot mtu clock (blank history s)
-  new_lawful = root-memory mtu clock (λ u. []) s new.lawful
+  new_lawful = lawful-with_memory mtu clock (λ u. []) s new.lawful
 
   pub new_counted : IsCountedRoot (blank history s)
   new_counted = (counted_empty (beneath (blank history s)) (held_beneath (blank history s)) new_beneath new_held, idle_counted s.below new.idle_below)

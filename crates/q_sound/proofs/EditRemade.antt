@@ -17,10 +17,11 @@ use Rattle.q_model.specs.Work.{losses_of}
 use Rattle.q_model.specs.Lawful.{IsLawfulDiscipline, IsLawfulOwn, CanHold}
 use Rattle.q_sound.proofs.Weights.{weigh}
 use Rattle.q_sound.proofs.Kept.{IsLawfulRoot, IsCountedRoot}
-use Rattle.q_sound.proofs.EditForests.{each-side, each-nodes, side-nodes, lawful-side, counted-side}
-use Rattle.q_sound.proofs.EditWeights.{joined, weigh-joined-cons, weigh-joined-append, weigh-beneath, weigh-held, counted_purged}
+use Rattle.q_sound.proofs.Forests.{each-side, each-nodes, side-nodes, are-lawful, lawful-side, counted-side}
+use Rattle.q_sound.proofs.Joined.{joined, weigh-joined-cons, weigh-joined-append, weigh-beneath, weigh-held, counted_purged}
 use Rattle.q_sound.proofs.EditHandles.{one, times_below}
-use Rattle.q_sound.proofs.EditAbove.{Becomes, fewer_within}
+use Rattle.q_sound.proofs.Lengths.{lengths-among}
+use Rattle.q_sound.proofs.EditAbove.{Becomes}
 use Rattle.q_sound.proofs.EditNew.{held-le-beneath}
 
 -- ---- nodes side by side
@@ -60,7 +61,7 @@ pub own_changed : (mtu clock : ℕ) (old new : Own) (below left : List (List Des
     → All (λ (f : Filter). is_some (class_in (length left) f.minor new.discipline) ≡ true) new.filters → IsLawfulOwn mtu clock new left
 own_changed mtu clock old new below left h held packets fewer lawful can filters order named = record {
   discipline = lawful;
-  lengths = fewer_within 1 mtu (beneath_own old below) (beneath_own new left)
+  lengths = lengths-among mtu (beneath_own old below) (beneath_own new left)
       (λ w. omega (arith, weigh-beneath w old below, weigh-beneath w new left, ap (weigh w) packets, ap (λ k. weigh w (option_to_list k)) held, fewer w)) h.lengths;
   held = λ e. can (h.held (ap is_some (sym held) ∙ e));
   filters = filters;
@@ -113,7 +114,7 @@ becomes-remade mtu clock purged n own kept counted h =
     record {
       conserved = conserved;
       held = held_kept;
-      lawful = (subst (IsLawfulOwn mtu clock own) (sym below) h.lawful, lawful-side mtu clock kept h.lawful_below);
+      lawful = (subst (IsLawfulOwn mtu clock own) (sym below) h.lawful, lawful-side mtu clock kept (are-lawful mtu clock kept h.lawful_below));
       counted = (counted_purged n.memory (beneath n) (held_beneath n) (beneath new) (held_beneath new) purged counted.0 conserved held_kept, counted-side kept h.counted_below);
       handles = λ k. omega (arith, h.handles_below k, ap (times_below k) (side-nodes n.below), ap (one k) h.handle);
     }

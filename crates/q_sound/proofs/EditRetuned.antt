@@ -20,7 +20,7 @@ use Rattle.q_model.specs.QdiscCommands.{all_kept}
 use Rattle.q_model.specs.Lawful.{IsLawfulDiscipline, IsLawfulFlow, IsLawfulOwn, CanHold}
 use Rattle.q_sound.proofs.Weights.{weigh, weigh-nil}
 use Rattle.q_sound.proofs.Kept.{IsLawfulRoot, IsCountedRoot}
-use Rattle.q_sound.proofs.EditForests.{each-nodes, lawful-nodes, counted-nodes}
+use Rattle.q_sound.proofs.Forests.{each-nodes, lawful-nodes, counted-nodes}
 use Rattle.q_sound.proofs.EditHandles.{one, times}
 use Rattle.q_sound.proofs.EditChildren.{kids, kids_all, kept_there, gone_none}
 use Rattle.q_sound.proofs.EditRemade.{Remakes, own_changed}

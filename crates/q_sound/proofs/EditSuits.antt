@@ -16,7 +16,7 @@ use Rattle.q_model.specs.Edit.{Child, Edit, Graft, Remake, keeps, beneath_remove
 use Rattle.q_model.specs.Refusals.{Check, first_refusal, done_unless}
 use Rattle.q_model.specs.QdiscCommands.{at_target}
 use Rattle.q_sound.proofs.Kept.{IsLawfulRoot, IsCountedRoot}
-use Rattle.q_sound.proofs.EditForests.{each-nodes}
+use Rattle.q_sound.proofs.Forests.{each-nodes}
 use Rattle.q_sound.proofs.EditAbove.{Becomes, becomes-edited}
 use Rattle.q_sound.proofs.EditNew.{IsNew, becomes-new}
 use Rattle.q_sound.proofs.EditChildren.{kids, gone, gone_is}

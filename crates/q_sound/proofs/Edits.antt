@@ -25,7 +25,7 @@ use Rattle.q_model.specs.Refusals.{Check, refuse, most_levels, most_nodes, size_
 use Rattle.q_model.specs.TreeState.{TreeState, new_tree, edit_of, nothing, checked, plan, with_edit}
 use Rattle.q_sound.proofs.Kept.{IsLawfulRoot, IsCountedRoot, IsKeptTree}
 use Rattle.q_sound.proofs.EditLater.{root-later}
-use Rattle.q_sound.proofs.EditWeights.{counted_purged}
+use Rattle.q_sound.proofs.Joined.{counted_purged}
 use Rattle.q_sound.proofs.EditHandles.{times, once-apart, apart-once}
 use Rattle.q_sound.proofs.EditAbove.{Becomes}
 use Rattle.q_sound.proofs.EditNew.{IsNew, new_lawful, new_counted, new_times}

@@ -1,8 +1,8 @@
 -- The active list of a drr holds exactly the classes whose child has something queued, over every change of a child.
-use Rattle.std.proofs.Common.{◌≡◌, ℕ, zero, suc, List, [], ◌∷◌, ◌++◌, length, set, take, drop, refl, sym, ap, ap₂, subst, Option, Some, None, eqb, ◌∙◌, ⊎_elim, eq-eqb}
-use Rattle.std.specs.Prelude.{Bool, true, false, not, cond, ◌||◌, ◌&&◌, ◌==◌, slice_get, if◌then◌else◌}
+use Rattle.std.proofs.Common.{◌≡◌, ℕ, zero, suc, List, [], ◌∷◌, ◌++◌, length, set, take, drop, refl, sym, ap, ap₂, subst, Option, Some, None, ◌∙◌, eq-eqb}
+use Rattle.std.specs.Prelude.{Bool, true, false, not, cond, ◌||◌, ◌==◌, slice_get, if◌then◌else◌}
 use Rattle.std.specs.List.{AllZip, list_any, filter}
-use Rattle.std.proofs.lemmas.Bool.{cases_Bool, eqb-true, eqb-false, ne_eqb, or_parts, false≢true, and_left}
+use Rattle.std.proofs.lemmas.Bool.{eqb-true, eqb-false, ne_eqb, or_parts}
 use Rattle.std.proofs.lemmas.List.Folds.{list_any-append}
 use Rattle.std.proofs.lemmas.Option.{same_Some}
 use Rattle.std.specs.Option.{option_map_or}
@@ -13,6 +13,7 @@ use Rattle.q_drr.specs.Take.{granted, brought_up, prepared, sent_by, sent_in, se
 use Rattle.q_drr.specs.Schedule as drr
 use Rattle.q_drr.proofs.DifferLemmas.{ClassesDiffer}
 use Rattle.q_model.specs.Work.{settled_class}
+use Rattle.q_sound.proofs.Members.{fails-at}
 
 -- a class is active exactly where something is queued
 abbrev pub IsExact : (ℕ → Bool) → Class → List Descriptor → Type 0
@@ -20,6 +21,20 @@ IsExact active c packets = active c.name ≡ not (length packets == 0)
 
 abbrev pub AreExact : (ℕ → Bool) → List Class → List (List Descriptor) → Type 0
 AreExact active classes below = AllZip (IsExact active) classes below
+
+-- a child for each class, and the class of each child
+pub exact-length : (active : ℕ → Bool) (classes : List Class) (below : List (List Descriptor)) → AreExact active classes below → length classes ≡ length below
+exact-length active [] [] h = refl
+exact-length active [] (ps ∷ below) h = absurd h
+exact-length active (c ∷ classes) [] h = absurd h
+exact-length active (c ∷ classes) (ps ∷ below) h = ap suc (exact-length active classes below h.1)
+
+pub class-there : (active : ℕ → Bool) (classes : List Class) (below : List (List Descriptor)) (i : ℕ) (x : List Descriptor) → AreExact active classes below → slice_get below i ≡ Some x → (c : Class) × (slice_get classes i ≡ Some c)
+class-there active [] [] i x h e = cc
+class-there active [] (y ∷ below) i x h e = absurd h
+class-there active (c ∷ classes) [] i x h e = cc
+class-there active (c ∷ classes) (y ∷ below) zero x h e = (c, refl)
+class-there active (c ∷ classes) (y ∷ below) (suc i) x h e = class-there active classes below i x h.1 e
 
 -- which classes are active after each change of a schedule
 active-append : (n : ℕ) (xs ys : List Entry) → is_active n (xs ++ ys) ≡ (is_active n xs || is_active n ys)
@@ -71,6 +86,7 @@ classes-served heads s = by (prepared heads s).active
     given : (x : Entry) (es : List Entry) (o : Option ℕ) → (sent_by o x es (prepared heads s)).classes ≡ s.classes
     given x es None = refl
     given x es (Some len) = refl
+
     by : (es : List Entry) → (sent_in heads es (prepared heads s)).classes ≡ s.classes
     by [] = refl
     by (x ∷ es) = given x es (heads x.class)
@@ -81,6 +97,7 @@ longest-served heads s = by (prepared heads s).active
     given : (x : Entry) (es : List Entry) (o : Option ℕ) → (sent_by o x es (prepared heads s)).max_len ≡ s.max_len
     given x es None = refl
     given x es (Some len) = refl
+
     by : (es : List Entry) → (sent_in heads es (prepared heads s)).max_len ≡ s.max_len
     by [] = refl
     by (x ∷ es) = given x es (heads x.class)
@@ -121,6 +138,7 @@ woken-other n m s apart = by (is_active m s.active)
     last : (b : Bool) → (b || false) ≡ b
     last true = refl
     last false = refl
+
     by : (b : Bool) → is_active n (if b then s else record s { active = s.active ++ record { class = m; deficit = drr.quantum_of m s.classes; granted = 0 } ∷ [] }).active ≡ is_active n s.active
     by true = refl
     by false =
@@ -147,7 +165,7 @@ exact-same a b (c ∷ classes) [] same h = absurd h
 exact-same a b (c ∷ classes) (x ∷ below) same h = (same c.name ∙ h.0, exact-same a b classes below same h.1)
 
 -- the classes that do not have this number
-exact-others : (a b : ℕ → Bool) (m : ℕ) (classes : List Class) (below : List (List Descriptor)) → list_any (λ (c : Class). m == c.name) classes ≡ false
+pub exact-others : (a b : ℕ → Bool) (m : ℕ) (classes : List Class) (below : List (List Descriptor)) → list_any (λ (c : Class). m == c.name) classes ≡ false
     → ((n : ℕ) → (n == m) ≡ false → b n ≡ a n) → AreExact a classes below → AreExact b classes below
 exact-others a b m [] [] none same h = tt
 exact-others a b m [] (x ∷ below) none same h = absurd h
@@ -156,24 +174,18 @@ exact-others a b m (c ∷ classes) (x ∷ below) none same h =
     let parts = or_parts (m == c.name) (list_any (λ (c : Class). m == c.name) classes) none in
     (same c.name (ne_eqb c.name m (λ e. eqb-false m c.name parts.0 (sym e))) ∙ h.0, exact-others a b m classes below parts.1 same h.1)
 
--- a class that stands at a place has none of the names before it
-apart-at : (m : ℕ) (classes : List Class) (i : ℕ) (c : Class) → slice_get classes i ≡ Some c → list_any (λ (d : Class). m == d.name) classes ≡ false → (m == c.name) ≡ false
-apart-at m [] i c e none = cc
-apart-at m (d ∷ classes) zero c e none =
-    subst (λ (x : Class). (m == x.name) ≡ false) (same_Some d c e) (or_parts (m == d.name) (list_any (λ (d : Class). m == d.name) classes) none).0
-apart-at m (d ∷ classes) (suc i) c e none = apart-at m classes i c e (or_parts (m == d.name) (list_any (λ (d : Class). m == d.name) classes) none).1
-
 -- one child has other packets, and its class is active accordingly
 exact-set : (a b : ℕ → Bool) (classes : List Class) (below : List (List Descriptor)) (i : ℕ) (c : Class) (packets : List Descriptor) → slice_get classes i ≡ Some c
     → ClassesDiffer classes → IsExact b c packets → ((n : ℕ) → (n == c.name) ≡ false → b n ≡ a n) → AreExact a classes below → AreExact b classes (set below i packets)
 exact-set a b [] below i c packets e differ here same h = cc
 exact-set a b (d ∷ classes) [] i c packets e differ here same h = absurd h
 exact-set a b (d ∷ classes) (x ∷ below) zero c packets e differ here same h =
-    let is : d ≡ c = same_Some d c e in
-    (subst (λ (y : Class). IsExact b y packets) (sym is) here,
-    exact-others a b c.name classes below (subst (λ (y : Class). list_any (λ (z : Class). y.name == z.name) classes ≡ false) is differ.0) same h.1)
+    let is : d ≡ c = same_Some d c e in (
+      subst (λ (y : Class). IsExact b y packets) (sym is) here,
+      exact-others a b c.name classes below (subst (λ (y : Class). list_any (λ (z : Class). y.name == z.name) classes ≡ false) is differ.0) same h.1,
+    )
 exact-set a b (d ∷ classes) (x ∷ below) (suc i) c packets e differ here same h =
-    (same d.name (apart-at d.name classes i c e differ.0) ∙ h.0, exact-set a b classes below i c packets e differ.1 here same h.1)
+    (same d.name (fails-at (λ (z : Class). d.name == z.name) classes i c differ.0 e) ∙ h.0, exact-set a b classes below i c packets e differ.1 here same h.1)
 
 pub exact-settled : (s : Schedule) (classes : List Class) (below : List (List Descriptor)) (i : ℕ) (c : Class) (packets : List Descriptor) → slice_get classes i ≡ Some c → ClassesDiffer classes
     → AreExact (λ n. is_active n s.active) classes below → AreExact (λ n. is_active n (settled_schedule (length packets == 0) c s).active) classes (set below i packets)

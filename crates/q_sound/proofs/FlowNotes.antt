@@ -1,11 +1,9 @@
 -- What an fq_codel notes of a take, and what the packets weigh that it dropped, sent and kept.
-use Rattle.std.proofs.Common.{◌≡◌, ℕ, zero, suc, ◌+◌, ◌≤◌, List, [], ◌∷◌, ◌++◌, map, length, take, sum_by, refl, sym, ap, Option, Some, None, option_map, option_and_then, option_to_list, unwrap_or, ◌∙◌, arith}
-use Rattle.std.specs.Prelude.{Bool, true, false, get_or, slice_get, if◌then◌else◌}
-use Rattle.std.proofs.lemmas.Bool.{cases_lt}
+use Rattle.std.proofs.Common.{◌≡◌, ℕ, zero, suc, ◌+◌, ◌≤◌, List, [], ◌∷◌, map, take, sum_by, refl, sym, Option, Some, None, option_map, option_and_then, option_to_list, unwrap_or, ◌∙◌, arith}
+use Rattle.std.specs.Prelude.{Bool, true, false, get_or, if◌then◌else◌}
 use Rattle.std.proofs.lemmas.List.Sums.{sum_by-cons}
 use Rattle.std.proofs.lemmas.Option.{slice_get-get_or, none-some}
 use Rattle.q_packet.specs.Descriptor.{Descriptor}
-use Rattle.q_packet.specs.Totals.{count}
 use Rattle.q_packet.specs.declared.stamped.Stamped.{Stamped}
 use Rattle.q_codel.specs.Codel.{CodelState, drops, sent, leaving, marks}
 use Rattle.q_codel.specs.declared.taken.Taken.{Taken}
@@ -57,8 +55,14 @@ given-weighs w now s = by (sender s)
 pub take-weighs : (w : Descriptor → ℕ) (now : ℕ) (s : FqState) → weigh w (packets_of (all_packets s.flows))
     ≡ weigh w (packets_of (dropped_from now (selected s))) + weigh w (option_to_list (given (sent_from now (selected s)))) + weigh w (packets_of (all_packets (after_sending now (selected s)).flows))
 take-weighs w now s =
-    omega (arith, take_keeps_all (stamped_weight w) s now, weigh-packets w (all_packets s.flows), weigh-packets w (dropped_from now (selected s)),
-    given-weighs w now (selected s), weigh-packets w (all_packets (after_sending now (selected s)).flows))
+    omega (
+      arith,
+      take_keeps_all (stamped_weight w) s now,
+      weigh-packets w (all_packets s.flows),
+      weigh-packets w (dropped_from now (selected s)),
+      given-weighs w now (selected s),
+      weigh-packets w (all_packets (after_sending now (selected s)).flows),
+    )
 
 -- where nothing is sent, nothing is dropped
 none-dropped : (c : CodelState) (now : ℕ) (queue : List Stamped) → sent c now queue ≡ None → take (drops c now queue) queue ≡ []
@@ -78,6 +82,7 @@ nothing-dropped now s e = by (sender s) e
     one : (m : Bool) (o : Option Stamped) → given (as_taken m o) ≡ None → o ≡ None
     one m None h = refl
     one m (Some h) e = cc
+
     by : (o : Option Flow) → given (option_and_then (λ (f : Flow). as_taken (marks f.codel now f.queue) (sent f.codel now f.queue)) o) ≡ None
         → unwrap_or (option_map (λ (f : Flow). take (drops f.codel now f.queue) f.queue) o) [] ≡ []
     by None h = refl

@@ -1,6 +1,6 @@
 -- Lengths of packets that weigh no more than others do: they are in the same bounds.
-use Rattle.std.proofs.Common.{◌≡◌, ℕ, ◌≤◌, List, arith}
-use Rattle.std.specs.Prelude.{Bool, true, false, not, ◌&&◌, nat_le, All}
+use Rattle.std.proofs.Common.{ℕ, ◌≤◌, List, arith}
+use Rattle.std.specs.Prelude.{Bool, not, ◌&&◌, nat_le, All}
 use Rattle.std.proofs.lemmas.Bool.{le-leb, leb-true, and_from, and_parts, not_from_true, not-false}
 use Rattle.std.proofs.lemmas.List.Elements.{All-weaker}
 use Rattle.q_packet.specs.Descriptor.{Descriptor}

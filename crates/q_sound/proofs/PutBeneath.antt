@@ -1,14 +1,13 @@
 -- A node beneath which a packet is put: it stays lawful, and a class of a drr wakes or stays awake.
-use Rattle.std.proofs.Common.{◌≡◌, ℕ, zero, suc, ◌+◌, ◌≤◌, List, [], ◌∷◌, map, set, length, refl, sym, ap, subst, Option, Some, None, option_map, ◌∙◌, arith}
-use Rattle.std.specs.Prelude.{Bool, true, All, ◌<◌, ◌==◌, get_or, slice_get, is_some}
+use Rattle.std.proofs.Common.{◌≡◌, ℕ, ◌+◌, ◌≤◌, List, ◌∷◌, map, set, length, refl, sym, ap, subst, Option, Some, option_map, ◌∙◌, arith}
+use Rattle.std.specs.Prelude.{Bool, true, All, ◌<◌, ◌==◌, slice_get, is_some}
 use Rattle.std.specs.List.{position}
-use Rattle.std.proofs.lemmas.List.{map-set, length-set, length-map}
-use Rattle.std.proofs.lemmas.List.Elements.{All-cons, All-set, All-get_or}
-use Rattle.std.proofs.lemmas.Option.{slice_get-map, same_Some, slice_get_within, get_or_from_slice_get}
+use Rattle.std.proofs.lemmas.List.{map-set, length-set}
+use Rattle.std.proofs.lemmas.List.Elements.{All-cons, All-set}
+use Rattle.std.proofs.lemmas.Option.{slice_get-map}
 use Rattle.q_packet.specs.Descriptor.{Descriptor}
 use Rattle.q_bucket.specs.Level.{TokenBucket}
-use Rattle.q_drr.specs.Schedule.{Class, Schedule, has_class, is_active}
-use Rattle.q_drr.proofs.DifferLemmas.{differ-from_pairs}
+use Rattle.q_drr.specs.Schedule.{Class, Schedule}
 use Rattle.q_model.specs.declared.filter.Filter.{Filter}
 use Rattle.q_model.specs.Find.{class_in}
 use Rattle.q_model.specs.Numbers.{IsWithin}
@@ -16,26 +15,18 @@ use Rattle.q_model.specs.Node.{Discipline, Fifo, Prio, Tbf, Drr, FqCodel, Own, S
 use Rattle.q_model.specs.Beneath.{beneath, is_empty, packets_in}
 use Rattle.q_model.specs.Lawful.{IsLawfulOwn, IsLawfulDrr}
 use Rattle.q_model.specs.Put.{put_beneath}
-use Rattle.q_model.specs.Work.{Worked, Work, quiet, settled_class, settled_in, settled}
+use Rattle.q_model.specs.Work.{Worked, Work, quiet, settled_class, settled}
 use Rattle.q_sound.proofs.Weights.{plain, weigh, weigh-cons}
 use Rattle.q_sound.proofs.Lengths.{HasLength, IsShort, short-among}
 use Rattle.q_sound.proofs.Kept.{IsLawfulRoot}
-use Rattle.q_sound.proofs.Answer.{waiting, holds}
+use Rattle.q_sound.proofs.Answer.{waiting}
 use Rattle.q_sound.proofs.Sums.{in_children, weigh-waiting, weigh-holds}
-use Rattle.q_sound.proofs.Exact.{AreExact, settled_schedule, exact-settled, settled-at, settled-classes, settled-longest}
-use Rattle.q_sound.proofs.AskDrr.{IsNext, settled-lawful, next-settled}
+use Rattle.q_sound.proofs.DrrSettled.{class-settled, drr-settled, settled-packets}
+use Rattle.q_sound.proofs.Members.{All-at}
 use Rattle.q_sound.proofs.Ways.{CanPass}
-use Rattle.q_sound.proofs.Quiet.{quiets, beneath-quiet, waiting-quiet, beneath-quiets, quiets-lawful, IsSetAt, set-at}
+use Rattle.q_sound.proofs.Quiet.{quiets, beneath-quiet, beneath-quiets, quiets-lawful, set-at}
 use Rattle.q_sound.proofs.PutHere.{IsPut, put-parts}
 use Rattle.q_sound.proofs.PutQueue.{longer-lengths}
-
--- the class of a child
-class-there : (active : ℕ → Bool) (classes : List Class) (below : List (List Descriptor)) (i : ℕ) (x : List Descriptor) → AreExact active classes below → slice_get below i ≡ Some x → (c : Class) × (slice_get classes i ≡ Some c)
-class-there active [] [] i x h e = cc
-class-there active [] (y ∷ below) i x h e = absurd h
-class-there active (c ∷ classes) [] i x h e = cc
-class-there active (c ∷ classes) (y ∷ below) zero x h e = (c, refl)
-class-there active (c ∷ classes) (y ∷ below) (suc i) x h e = class-there active classes below i x h.1 e
 
 module _ (mtu now : ℕ) (least : 1 ≤ mtu) (p : Descriptor) (fits : IsWithin 1 mtu p.len) (handle : Option ℕ) (held : Option Descriptor) (filters : List Filter) where
   abbrev own_of : Discipline → Own
@@ -44,7 +35,6 @@ module _ (mtu now : ℕ) (least : 1 ≤ mtu) (p : Descriptor) (fits : IsWithin 1
   module _ (i : ℕ) (before after : List Worked) (c m : List Descriptor)
       (at : slice_get (map beneath before) i ≡ Some c) (becomes : map beneath after ≡ set (map beneath before) i m)
       (more : (w : Descriptor → ℕ) → weigh w m ≤ w (plain p) + weigh w c) (all_more : (w : Descriptor → ℕ) → in_children w after ≤ w (plain p) + in_children w before) where
-
     as_many : length (map beneath after) ≡ length (map beneath before)
     as_many = ap length becomes ∙ length-set (map beneath before) i m
 
@@ -69,12 +59,9 @@ module _ (mtu now : ℕ) (least : 1 ≤ mtu) (p : Descriptor) (fits : IsWithin 1
 
     tbf-settled : (b : TokenBucket) (limit : ℕ) → p.len ≤ b.burst → IsLawfulOwn mtu now (own_of (Tbf b limit)) (map beneath before) → IsLawfulOwn mtu now (own_of (Tbf b limit)) (map beneath after)
     tbf-settled b limit passes h =
-        let within = slice_get_within (map beneath before) i c at in
-        let child : All (IsShort b.burst) c =
-            subst (λ (x : List Descriptor). All (IsShort b.burst) x) (get_or_from_slice_get (map beneath before) i c [] at)
-            (All-get_or (λ packets. All (IsShort b.burst) packets) (map beneath before) i [] within h.discipline.short) in
+        let child : All (IsShort b.burst) c = All-at (λ packets. All (IsShort b.burst) packets) (map beneath before) i c h.discipline.short at in
         let new_child : All (IsShort b.burst) m =
-            short-among b.burst (p ∷ c) m (λ w. omega (arith, more w, weigh-cons w p c)) (All-cons (IsShort b.burst) p c passes child) in
+        short-among b.burst (p ∷ c) m (λ w. omega (arith, more w, weigh-cons w p c)) (All-cons (IsShort b.burst) p c passes child) in
         record {
           discipline = record {
             level = h.discipline.level;
@@ -90,29 +77,16 @@ module _ (mtu now : ℕ) (least : 1 ≤ mtu) (p : Descriptor) (fits : IsWithin 1
           named = h.named;
         }
 
-    drr-settled : (s : Schedule) → IsLawfulOwn mtu now (own_of (Drr s)) (map beneath before) → IsLawfulOwn mtu now (own_of (Drr (settled_class i (length m == 0) s))) (map beneath after)
-    drr-settled s h =
+    drr-put : (s : Schedule) → IsLawfulOwn mtu now (own_of (Drr s)) (map beneath before) → IsLawfulOwn mtu now (own_of (Drr (settled_class i (length m == 0) s))) (map beneath after)
+    drr-put s h =
         let emptied : Bool = length m == 0 in
-        let found = class-there (λ n. is_active n s.active) s.classes (map beneath before) i c h.discipline.exact at in
-        let class : Class = found.0 in
-        let is : settled_class i emptied s ≡ settled_schedule emptied class s = settled-at i emptied s class found.1 in
-        let next : IsNext mtu s (settled_class i emptied s) =
-            subst (IsNext mtu s) (sym is) (next-settled mtu s s emptied i class least (record { classes = refl; lawful = h.discipline.schedule; longest = h.discipline.longest }) found.1) in
-        let exactly : AreExact (λ n. is_active n (settled_class i emptied s).active) s.classes (map beneath after) =
-            subst (λ (x : Schedule). AreExact (λ n. is_active n x.active) s.classes (map beneath after)) (sym is)
-            (subst (λ bs. AreExact (λ n. is_active n (settled_schedule emptied class s).active) s.classes bs) (sym becomes)
-            (exact-settled s s.classes (map beneath before) i class m found.1 (differ-from_pairs (λ (c : Class). c.name) s.classes h.discipline.schedule.classes_differ) h.discipline.exact)) in
         record {
-          discipline = record {
-            schedule = next.lawful;
-            longest = next.longest;
-            exact = subst (λ cs. AreExact (λ n. is_active n (settled_class i emptied s).active) cs (map beneath after)) (sym next.classes) exactly;
-          };
+          discipline = subst (IsLawfulDrr mtu (settled_class i emptied s)) (sym becomes) (drr-settled mtu s (map beneath before) i c m h.discipline least at);
           lengths = lengths (Drr s) (Drr (settled_class i emptied s)) refl h;
           held = λ some. tt;
           filters = h.filters;
           in_order = h.in_order;
-          named = subst (λ (cs : List Class). All (λ (f : Filter). is_some (position (λ (c : Class). f.minor == c.name) cs) ≡ true) filters) (sym next.classes) h.named;
+          named = subst (λ (cs : List Class). All (λ (f : Filter). is_some (position (λ (c : Class). f.minor == c.name) cs) ≡ true) filters) (sym (class-settled i emptied s)) h.named;
         }
 
     pub own-settled : (d : Discipline) → CanPass p d → IsLawfulOwn mtu now (own_of d) (map beneath before) → IsLawfulOwn mtu now (settled i (length m == 0) (own_of d)) (map beneath after)
@@ -120,14 +94,7 @@ module _ (mtu now : ℕ) (least : 1 ≤ mtu) (p : Descriptor) (fits : IsWithin 1
     own-settled (FqCodel s) can h = absurd can
     own-settled (Prio priomap) can h = prio-settled priomap h
     own-settled (Tbf b limit) can h = tbf-settled b limit can h
-    own-settled (Drr s) can h = drr-settled s h
-
-settled-packets : (i : ℕ) (emptied : Bool) (d : Discipline) → packets_in (settled_in i emptied d) ≡ packets_in d
-settled-packets i emptied (Fifo limit queue) = refl
-settled-packets i emptied (Prio priomap) = refl
-settled-packets i emptied (Tbf b limit) = refl
-settled-packets i emptied (Drr s) = refl
-settled-packets i emptied (FqCodel s) = refl
+    own-settled (Drr s) can h = drr-put s h
 
 -- a node on the way
 pub beneath-put : (mtu now : ℕ) (p : Descriptor) (s : Shape) (i : ℕ) (c : Shape) (w : Work) → 1 ≤ mtu → IsWithin 1 mtu p.len → IsLawfulRoot mtu now s → CanPass p s.own.discipline → slice_get (children s) i ≡ Some c → IsPut mtu now p c w
@@ -137,7 +104,7 @@ beneath-put mtu now p s i c w least fits h can at put =
     let own : Own = settled i (is_empty w.node) s.own in
     let here = set-at mtu now (children s) i c w.node at in
     let quiet_at : slice_get (map beneath (quiets s)) i ≡ Some (beneath (quiet c)) =
-        slice_get-map beneath (quiets s) i ∙ ap (option_map beneath) (slice_get-map quiet (children s) i ∙ ap (option_map quiet) at) in
+    slice_get-map beneath (quiets s) i ∙ ap (option_map beneath) (slice_get-map quiet (children s) i ∙ ap (option_map quiet) at) in
     let quiet_is : (f : Descriptor → ℕ) → weigh f (beneath (quiet c)) ≡ weigh f (beneath c) = λ f. ap (weigh f) (beneath-quiet c) in
     let packets = settled-packets i (is_empty w.node) s.own.discipline in
     put-parts mtu now p s own w.rises after (record {

@@ -1,18 +1,18 @@
 -- A packet that is put: what the node at which it ends, or which it passes, keeps.
-use Rattle.std.proofs.Common.{◌≡◌, ℕ, ◌+◌, ◌≤◌, List, [], ◌∷◌, map, refl, sym, ap, subst, Some, arith}
+use Rattle.std.proofs.Common.{◌≡◌, ℕ, ◌+◌, List, [], ◌∷◌, map, refl, sym, ap, subst, Some, arith}
 use Rattle.q_packet.specs.Descriptor.{Descriptor}
 use Rattle.q_packet.specs.declared.cause.Cause.{Cause}
 use Rattle.q_model.specs.Tally.{Note, Arrived, Lost}
-use Rattle.q_model.specs.Node.{Own, Shape, side_by_side, each, children}
+use Rattle.q_model.specs.Node.{Own, Shape, side_by_side, children}
 use Rattle.q_model.specs.Beneath.{beneath_own, beneath}
 use Rattle.q_model.specs.Conserved.{held_own, held_beneath}
 use Rattle.q_model.specs.Lawful.{IsLawfulOwn}
 use Rattle.q_model.specs.Work.{Worked, Work, worked, quiet}
 use Rattle.q_model.specs.Put.{put_here}
 use Rattle.q_model.proofs.ShrinkLemmas.{each-each_memory}
-use Rattle.q_sound.proofs.Weights.{plain, weigh, arrived, sent, lost, dropped, marked, arrived-cons, sent-cons, lost-cons, dropped-cons, marked-cons, arrived-nil, sent-nil, lost-nil, dropped-nil, marked-nil}
+use Rattle.q_sound.proofs.Weights.{plain, weigh, arrived, sent, lost, marked, arrived-cons, sent-cons, lost-cons, marked-cons, arrived-nil, sent-nil, lost-nil, marked-nil}
 use Rattle.q_sound.proofs.Kept.{IsLawfulRoot}
-use Rattle.q_sound.proofs.Told.{IsTold, AllTold, IsRootTold}
+use Rattle.q_sound.proofs.Told.{AllTold, IsRootTold}
 use Rattle.q_sound.proofs.Forests.{AreLawful, AreTold, told-side}
 use Rattle.q_sound.proofs.Answer.{waiting, holds, beneath-worked, held-worked, lawful-worked}
 use Rattle.q_sound.proofs.Quiet.{quiets, side-quiet, waiting-quiet, holds-quiet, beneath-quiets, quiets-told, quiets-lawful}
@@ -49,11 +49,25 @@ put-parts mtu now p s own rises below h =
     let h1 = λ (f : Descriptor → ℕ). ap (weigh f) (held-worked own (Arrived p ∷ rises) below) in
     record {
       lawful = lawful-worked mtu now own (Arrived p ∷ rises) below h.lawful h.all;
-      told = (record {
-        conserved = λ f. omega (arith, h.conserved f, before_is f, b0 f, b1 f, h.no_arrival f, h.nothing_sent f,
-            arrived-cons f (Arrived p) rises, sent-cons f (Arrived p) rises, lost-cons f (Arrived p) rises);
-        marks = λ f. omega (arith, h.held f, held_before f, h0 f, h1 f, h.nothing_marked f, h.nothing_sent f, marked-cons f (Arrived p) rises);
-      }, h.handle, subst (λ x. AllTold x (side_by_side below)) (side-quiet s.below) (told-side (quiets s) below h.told));
+      told = (
+        record {
+          conserved = λ f. omega (
+            arith,
+            h.conserved f,
+            before_is f,
+            b0 f,
+            b1 f,
+            h.no_arrival f,
+            h.nothing_sent f,
+            arrived-cons f (Arrived p) rises,
+            sent-cons f (Arrived p) rises,
+            lost-cons f (Arrived p) rises,
+          );
+          marks = λ f. omega (arith, h.held f, held_before f, h0 f, h1 f, h.nothing_marked f, h.nothing_sent f, marked-cons f (Arrived p) rises);
+        },
+        h.handle,
+        subst (λ x. AllTold x (side_by_side below)) (side-quiet s.below) (told-side (quiets s) below h.told),
+      );
       no_arrival = h.no_arrival;
       nothing_sent = h.nothing_sent;
       nothing_marked = h.nothing_marked;

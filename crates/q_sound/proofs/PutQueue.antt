@@ -1,5 +1,5 @@
 -- A packet that is queued where its way ends: at the end of a fifo, or in a flow of an fq_codel, which may lose packets for it.
-use Rattle.std.proofs.Common.{◌≡◌, ℕ, ◌+◌, ◌≤◌, List, [], ◌∷◌, ◌++◌, map, sum_by, refl, sym, ap, subst, Option, None, option_to_list, flat_map, arith, ◌∙◌, zero, suc}
+use Rattle.std.proofs.Common.{◌≡◌, ℕ, ◌+◌, ◌≤◌, List, [], ◌∷◌, ◌++◌, map, refl, sym, ap, subst, Option, None, arith, ◌∙◌}
 use Rattle.std.specs.Prelude.{true, All, length, is_some, ◌<◌}
 use Rattle.std.proofs.lemmas.Nat.{mod_below}
 use Rattle.std.proofs.lemmas.List.Elements.{All-nil, All-cons, All-head, All-tail, All-drop, All-push}
@@ -8,7 +8,6 @@ use Rattle.q_packet.specs.Descriptor.{Descriptor}
 use Rattle.q_packet.specs.declared.cause.Cause.TheVariants.{FatFlow}
 use Rattle.q_packet.specs.declared.stamped.Stamped.{Stamped}
 use Rattle.q_codel.specs.declared.limit.Limit.{Limit}
-use Rattle.q_fqcodel.specs.Cleared.{adjust}
 use Rattle.q_fqcodel.specs.FqState.{FqSettings, Flow, FqState, all_packets}
 use Rattle.q_fqcodel.specs.Laws.{HasBytes}
 use Rattle.q_fqcodel.specs.Put.{flow_of, joined, appended, fattest, overflow, shortened, cut_back, after_put, lost_by_put}
@@ -18,13 +17,12 @@ use Rattle.q_fqcodel.proofs.LawLemmas.{all_packets-cons, put_keeps_all}
 use Rattle.q_model.specs.declared.filter.Filter.{Filter}
 use Rattle.q_model.specs.Find.{class_in}
 use Rattle.q_model.specs.Numbers.{IsWithin}
-use Rattle.q_model.specs.Tally.{Note}
-use Rattle.q_model.specs.Node.{Fifo, FqCodel, Own, Forest, Node, Shape, each, children}
-use Rattle.q_model.specs.Beneath.{packets_of, packets_in, beneath_own, beneath}
-use Rattle.q_model.specs.Lawful.{IsLawfulFlow, IsLawfulFqCodel, IsLawfulOwn}
+use Rattle.q_model.specs.Node.{Fifo, FqCodel, Own, Forest, Shape, children}
+use Rattle.q_model.specs.Beneath.{packets_of, beneath}
+use Rattle.q_model.specs.Lawful.{IsLawfulFlow, IsLawfulFqCodel}
 use Rattle.q_model.specs.Work.{losses_of}
 use Rattle.q_model.specs.Put.{put_here}
-use Rattle.q_sound.proofs.Weights.{plain, weigh, weigh-nil, weigh-cons, arrived-nil, sent-nil, marked-nil, lost-nil, arrived-losses, sent-losses, lost-losses, marked-losses, lost}
+use Rattle.q_sound.proofs.Weights.{plain, weigh, weigh-cons, arrived-nil, sent-nil, marked-nil, lost-nil, arrived-losses, sent-losses, lost-losses, marked-losses}
 use Rattle.q_sound.proofs.Lengths.{HasLength, lengths-among}
 use Rattle.q_sound.proofs.Kept.{IsLawfulRoot}
 use Rattle.q_sound.proofs.Answer.{waiting}
@@ -51,7 +49,7 @@ module _ (mtu now : ℕ) (p : Descriptor) (fits : IsWithin 1 mtu p.len) (handle 
       let s : Shape = fifo_shape limit queue in
       let own : Own = record s.own { discipline = Fifo limit (queue ++ stamped ∷ []) } in
       let more : (w : Descriptor → ℕ) → w (plain p) + weigh w (waiting s.own (quiets s)) ≡ weigh w (waiting own (quiets s)) =
-          λ w. omega (arith, weigh-waiting w s.own (quiets s), weigh-waiting w own (quiets s), weigh-packets w queue, weigh-packets w (queue ++ stamped ∷ []), sum_by_push (stamped_weight w) queue stamped) in
+      λ w. omega (arith, weigh-waiting w s.own (quiets s), weigh-waiting w own (quiets s), weigh-packets w queue, weigh-packets w (queue ++ stamped ∷ []), sum_by_push (stamped_weight w) queue stamped) in
       put-parts mtu now p s own [] (quiets s) (record {
         handle = refl;
         lawful = record {
@@ -140,11 +138,18 @@ module _ (mtu now : ℕ) (p : Descriptor) (fits : IsWithin 1 mtu p.len) (handle 
       let law = h.0.discipline in
       let in_flow : flow_of q p < length q.flows = subst (λ n. flow_of q p < n) (sym law.lists.each_flow) (mod_below p.hash q.settings.flows (omega (arith, law.settings.flows_low))) in
       let more : (w : Descriptor → ℕ) → w (plain p) + weigh w (waiting s.own (quiets s)) ≡ weigh w gone + weigh w (waiting own (quiets s)) =
-          λ w. omega (arith, weigh-waiting w s.own (quiets s), weigh-waiting w own (quiets s), put_keeps_all (stamped_weight w) q p now in_flow,
-          weigh-packets w (all_packets q.flows), weigh-packets w (all_packets (after_put q p now).flows), weigh-packets w (lost_by_put q p now)) in
+      λ w. omega (
+        arith,
+        weigh-waiting w s.own (quiets s),
+        weigh-waiting w own (quiets s),
+        put_keeps_all (stamped_weight w) q p now in_flow,
+        weigh-packets w (all_packets q.flows),
+        weigh-packets w (all_packets (after_put q p now).flows),
+        weigh-packets w (lost_by_put q p now),
+      ) in
       let lengths : All (HasLength mtu) (waiting s.own (quiets s)) = subst (All (HasLength mtu)) (sym (waiting-quiet s)) h.0.lengths in
       let own_lengths : All (HasLength mtu) (packets_of (all_packets q.flows)) =
-          lengths-among mtu (waiting s.own (quiets s)) (packets_of (all_packets q.flows)) (λ w. omega (arith, weigh-waiting w s.own (quiets s))) lengths in
+      lengths-among mtu (waiting s.own (quiets s)) (packets_of (all_packets q.flows)) (λ w. omega (arith, weigh-waiting w s.own (quiets s))) lengths in
       put-parts mtu now p s own (losses_of FatFlow gone) (quiets s) (record {
         handle = refl;
         lawful = record {

@@ -1,6 +1,6 @@
 -- An arrival keeps a tree.
-use Rattle.std.proofs.Common.{◌≡◌, ℕ, ◌+◌, ◌≤◌, ◌^◌, List, [], ◌∷◌, refl, sym, ap, subst, Option, Some, None, ◌∙◌, arith}
-use Rattle.std.specs.Prelude.{Bool, true, false, nat_lt, slice_get, if◌then◌else◌}
+use Rattle.std.proofs.Common.{◌≡◌, ℕ, ◌≤◌, ◌^◌, List, [], ◌∷◌, refl, sym, ap, subst, Option, Some, None, ◌∙◌, arith}
+use Rattle.std.specs.Prelude.{Bool, true, false, nat_lt, if◌then◌else◌}
 use Rattle.std.specs.Option.{option_map_or}
 use Rattle.std.proofs.lemmas.Bool.{ltb-false}
 use Rattle.q_packet.specs.Descriptor.{Descriptor}
@@ -9,19 +9,20 @@ use Rattle.q_packet.specs.declared.cause.Cause.TheVariants.{TooLong}
 use Rattle.q_model.specs.declared.filter.Filter.{Filter}
 use Rattle.q_model.specs.Numbers.{IsWithin}
 use Rattle.q_model.specs.Tally.{Note, Arrived, Lost, history}
-use Rattle.q_model.specs.Node.{Discipline, Fifo, Prio, Tbf, Drr, FqCodel, Own, Forest, Shape, children, each, shape}
+use Rattle.q_model.specs.Node.{Discipline, Fifo, Prio, Tbf, Drr, FqCodel, Forest, Shape, each, shape}
 use Rattle.q_model.specs.Beneath.{beneath_own, beneath}
 use Rattle.q_model.specs.Conserved.{held_own, held_beneath}
 use Rattle.q_model.specs.Route.{way, route}
 use Rattle.q_model.specs.Work.{Work, quiet}
 use Rattle.q_model.specs.Put.{put_here, put_beneath, put_along}
-use Rattle.q_model.specs.TreeState.{TreeState, with_work, put, put_on, put_work}
+use Rattle.q_model.specs.TreeState.{TreeState, with_work, put, put_on}
 use Rattle.q_model.proofs.ShrinkLemmas.{each-each_memory}
-use Rattle.q_sound.proofs.Weights.{weigh, arrived-cons, sent-cons, lost-cons, dropped-cons, marked-cons, arrived-nil, sent-nil, lost-nil, dropped-nil, marked-nil}
+use Rattle.q_sound.proofs.Weights.{weigh, arrived-cons, sent-cons, lost-cons, marked-cons, arrived-nil, sent-nil, lost-nil, marked-nil}
 use Rattle.q_sound.proofs.Kept.{IsLawfulRoot, IsKeptTree}
-use Rattle.q_sound.proofs.Told.{IsTold, IsRootTold, root-memory}
+use Rattle.q_sound.proofs.Told.{IsRootTold, root-memory}
 use Rattle.q_sound.proofs.EditLater.{root-later}
-use Rattle.q_sound.proofs.Asks.{lawful-shape, worked-kept}
+use Rattle.q_sound.proofs.Forests.{lawful-with_memory}
+use Rattle.q_sound.proofs.Asks.{worked-kept}
 use Rattle.q_sound.proofs.Ways.{CanQueue, way-ends, route-goes}
 use Rattle.q_sound.proofs.Quiet.{child-lawful, one-quiet}
 use Rattle.q_sound.proofs.PutHere.{IsPut, refused-put}
@@ -44,7 +45,7 @@ module _ (mtu now : ℕ) (least : 1 ≤ mtu) (p : Descriptor) (fits : IsWithin 1
   along-put (i ∷ path) refusal s e h =
       let on = route-goes p s i path refusal e in
       let put = beneath-put mtu now p s i on.child (put_along now p refusal path on.child) least fits h on.passes on.there
-          (along-put path refusal on.child on.way (child-lawful mtu now s.below i on.child h.1 on.there)) in
+      (along-put path refusal on.child on.way (child-lawful mtu now s.below i on.child h.1 on.there)) in
       subst (λ (o : Option Shape). IsPut mtu now p s (option_map_or (λ (child : Shape). put_beneath p i s (put_along now p refusal path child)) o (put_here now p refusal s))) (sym on.there) put
 
 module _ (clock now : ℕ) (s : TreeState (List Note)) (p : Descriptor) (h : IsKeptTree clock s) (later : clock ≤ now) (low : now ≤ 2 ^ 62) (byte : 1 ≤ p.len) where
@@ -52,7 +53,7 @@ module _ (clock now : ℕ) (s : TreeState (List Note)) (p : Descriptor) (h : IsK
   here = root-later clock now later s.device.mtu s.root h.lawful
 
   bare : IsLawfulRoot s.device.mtu now (shape s.root)
-  bare = lawful-shape s.device.mtu now (λ m. tt) s.root here
+  bare = lawful-with_memory s.device.mtu now (λ m. tt) s.root here
 
   waiting-bare : beneath (shape s.root) ≡ beneath s.root
   waiting-bare = ap (beneath_own s.root.own) (each-each_memory beneath_own (λ m. tt) s.root.below)
@@ -80,9 +81,20 @@ module _ (clock now : ℕ) (s : TreeState (List Note)) (p : Descriptor) (h : IsK
   refused-told =
       let notes : List Note = Lost p TooLong ∷ [] in
       worked-kept clock now s (Arrived p ∷ notes) (quiet (shape s.root)) h low (told-root (record { node = quiet (shape s.root); rises = notes }) (one-quiet (shape s.root)))
-      (lawful-shape s.device.mtu now (λ u. []) (shape s.root) bare) (record {
-        conserved = λ f. omega (arith, ap (weigh f) waiting-quiet-root, arrived-cons f (Arrived p) notes, sent-cons f (Arrived p) notes, lost-cons f (Arrived p) notes,
-            arrived-cons f (Lost p TooLong) [], sent-cons f (Lost p TooLong) [], lost-cons f (Lost p TooLong) [], arrived-nil f, sent-nil f, lost-nil f);
+      (lawful-with_memory s.device.mtu now (λ u. []) (shape s.root) bare) (record {
+        conserved = λ f. omega (
+          arith,
+          ap (weigh f) waiting-quiet-root,
+          arrived-cons f (Arrived p) notes,
+          sent-cons f (Arrived p) notes,
+          lost-cons f (Arrived p) notes,
+          arrived-cons f (Lost p TooLong) [],
+          sent-cons f (Lost p TooLong) [],
+          lost-cons f (Lost p TooLong) [],
+          arrived-nil f,
+          sent-nil f,
+          lost-nil f,
+        );
         marks = λ f. omega (arith, ap (weigh f) held-quiet-root, marked-cons f (Arrived p) notes, marked-cons f (Lost p TooLong) [], marked-nil f);
       })
 

@@ -1,22 +1,20 @@
 -- Children of which nothing has happened, and one among them to which something has.
-use Rattle.std.proofs.Common.{◌≡◌, ℕ, zero, suc, ◌+◌, ◌≤◌, List, [], ◌∷◌, map, set, length, refl, sym, ap, ap₂, subst, Option, Some, None, ◌∙◌, arith}
+use Rattle.std.proofs.Common.{◌≡◌, ℕ, zero, suc, ◌+◌, List, [], ◌∷◌, map, set, refl, sym, ap, ap₂, subst, Some, arith}
 use Rattle.std.specs.Prelude.{slice_get}
 use Rattle.std.proofs.lemmas.Option.{same_Some}
 use Rattle.q_packet.specs.Descriptor.{Descriptor}
 use Rattle.q_model.specs.Tally.{Note}
-use Rattle.q_model.specs.Node.{Own, Forest, none, more, Node, Shape, nodes_in, side_by_side, children, each, each_memory, from_below, with_memory}
+use Rattle.q_model.specs.Node.{Own, Forest, none, more, Shape, nodes_in, side_by_side, children, each, each_memory, from_below}
 use Rattle.q_model.specs.Beneath.{beneath_own, beneath}
 use Rattle.q_model.specs.Conserved.{held_own, held_beneath}
-use Rattle.q_model.specs.Lawful.{IsLawfulOwn}
 use Rattle.q_model.specs.Work.{Worked, quiet}
 use Rattle.q_model.proofs.ShrinkLemmas.{each-each_memory}
 use Rattle.q_sound.proofs.Weights.{weigh, arrived-nil, sent-nil, lost-nil, dropped-nil, marked-nil}
 use Rattle.q_sound.proofs.Kept.{AllLawful, IsLawfulRoot}
 use Rattle.q_sound.proofs.Told.{IsTold, AllTold, IsRootTold}
-use Rattle.q_sound.proofs.Forests.{AreLawful, AreTold, each-nodes}
+use Rattle.q_sound.proofs.Forests.{AreLawful, AreTold, lawful-with_memory}
 use Rattle.q_sound.proofs.Answer.{waiting, holds}
 use Rattle.q_sound.proofs.Sums.{in_children, held_in_children}
-use Rattle.q_sound.proofs.Asks.{lawful-shape}
 
 -- the children of a node as they were, remembering nothing yet
 abbrev pub quiets : Shape → List Worked
@@ -66,7 +64,7 @@ quiets-told (c ∷ cs) = (one-quiet c, quiets-told cs)
 pub quiets-lawful : (mtu now : ℕ) (x : Forest (Unit {0})) → AllLawful mtu now x → AreLawful mtu now (map quiet (nodes_in x))
 quiets-lawful mtu now none h = tt
 quiets-lawful mtu now (more own m below others) h =
-    (lawful-shape mtu now (λ u. []) (record { own = own; memory = m; below = below }) (h.0, h.1), quiets-lawful mtu now others h.2)
+    (lawful-with_memory mtu now (λ u. []) (record { own = own; memory = m; below = below }) (h.0, h.1), quiets-lawful mtu now others h.2)
 
 pub child-lawful : (mtu now : ℕ) (x : Forest (Unit {0})) (i : ℕ) (c : Shape) → AllLawful mtu now x → slice_get (nodes_in x) i ≡ Some c → IsLawfulRoot mtu now c
 child-lawful mtu now none i c h e = cc

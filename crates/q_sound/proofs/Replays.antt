@@ -1,20 +1,18 @@
 -- Every step keeps a device's tree, and so does every replay.
-use Rattle.std.proofs.Common.{◌≡◌, ℕ, ◌+◌, ◌≤◌, ◌<◌, ◌^◌, max, List, [], ◌∷◌, refl, Result, Ok, Err, arith}
+use Rattle.std.proofs.Common.{◌≡◌, ℕ, ◌≤◌, ◌^◌, max, List, [], ◌∷◌, refl, Result, Ok, Err, arith}
 use Rattle.std.specs.Prelude.{All}
 use Rattle.std.proofs.lemmas.List.Elements.{All-head, All-tail}
-use Rattle.q_model.specs.declared.command.Command.{Command}
 use Rattle.q_model.specs.declared.not_done.NotDone.{NotDone}
 use Rattle.q_model.specs.declared.event.Event.{Event}
 use Rattle.q_model.specs.declared.event.Event.TheVariants as event
 use Rattle.q_model.specs.Edit.{Edit}
 use Rattle.q_model.specs.Events.{IsEvent}
 use Rattle.q_model.specs.Node.{shape}
-use Rattle.q_model.specs.Ranges.{IsCommand}
 use Rattle.q_model.specs.Replay.{Replay, with_step, replay_from, replay, nothing_yet}
 use Rattle.q_model.specs.Settings.{DeviceSettings, IsInRange}
 use Rattle.q_model.specs.Step.{DeviceState, answered, step}
 use Rattle.q_model.specs.Tally.{Note, history}
-use Rattle.q_model.specs.TreeState.{TreeState, plan, with_edit}
+use Rattle.q_model.specs.TreeState.{plan}
 use Rattle.q_sound.proofs.Kept.{IsKeptTree}
 use Rattle.q_sound.proofs.Asks.{take-kept}
 use Rattle.q_sound.proofs.Puts.{put-kept}

@@ -1,6 +1,6 @@
 -- Packets that weigh the same by every weight are the same packets, in another order, but for their codepoints.
-use Rattle.std.proofs.Common.{◌≡◌, ℕ, ◌+◌, ◌<◌, List, [], ◌∷◌, ◌++◌, map, refl, sym, ap, subst, arith, ◌∙◌}
-use Rattle.std.specs.Prelude.{Bool, true, false, ◌&&◌, ◌==◌, sum_by}
+use Rattle.std.proofs.Common.{◌≡◌, ℕ, ◌<◌, List, [], ◌∷◌, ◌++◌, map, refl, sym, ap, subst, arith, ◌∙◌}
+use Rattle.std.specs.Prelude.{Bool, true, false, ◌&&◌, ◌==◌}
 use Rattle.std.specs.List.{filter_map}
 use Rattle.std.specs.List.Sorted.{IsPermutation}
 use Rattle.std.proofs.lemmas.Bool.{and_parts, eqb-true, eq-eqb, and_from}
@@ -12,7 +12,7 @@ use Rattle.q_packet.specs.declared.ecn.Ecn.TheVariants.{NotEct}
 use Rattle.q_model.specs.Tally.{Note, Arrived, Sent, Lost, Marked, Granted, Spent, FlowGranted, FlowGave}
 use Rattle.q_model.specs.Conserved.{arrival_in, sent_in, lost_in, unmarked}
 use Rattle.q_model.specs.Conserved as node
-use Rattle.q_sound.proofs.Weights.{plain, weigh, weigh-nil, weigh-cons, weigh-append, weigh-one, one_if, counting, arrived, sent, lost, arrived-nil, sent-nil, lost-nil, arrived-cons, sent-cons, lost-cons}
+use Rattle.q_sound.proofs.Weights.{plain, weigh, weigh-nil, weigh-cons, weigh-append, one_if, counting, arrived, sent, lost, arrived-nil, sent-nil, lost-nil, arrived-cons, sent-cons, lost-cons}
 use Rattle.q_sound.proofs.Kept.{AreCounted}
 
 -- the same packet, but for its codepoint
@@ -112,13 +112,21 @@ shuffled (x ∷ xs) ys h =
     let one : one_if (same x x) ≡ 1 = ap one_if (same-itself x) in
     let found = find-it x ys (omega (arith, h (counting (same x)), weigh-cons (counting (same x)) x xs, one)) in
     let rest : List Descriptor = found.front ++ found.rest in
-    let fewer : (w : Descriptor → ℕ) → weigh w xs ≡ weigh w rest = λ w. omega (arith, h w, weigh-cons w x xs, ap (weigh w) found.is, weigh-append w found.front (found.it ∷ found.rest),
-        weigh-cons w found.it found.rest, ap w found.alike, weigh-append w found.front found.rest) in
+    let fewer : (w : Descriptor → ℕ) → weigh w xs ≡ weigh w rest = λ w. omega (
+      arith,
+      h w,
+      weigh-cons w x xs,
+      ap (weigh w) found.is,
+      weigh-append w found.front (found.it ∷ found.rest),
+      weigh-cons w found.it found.rest,
+      ap w found.alike,
+      weigh-append w found.front found.rest,
+    ) in
     let moved : IsPermutation (plain x ∷ map plain rest) (map plain ys) =
-        subst (λ zs. IsPermutation (plain x ∷ map plain rest) zs) (sym (ap (map plain) found.is ∙ map-append plain found.front (found.it ∷ found.rest)))
-        (subst (λ zs. IsPermutation (plain x ∷ zs) (map plain found.front ++ plain found.it ∷ map plain found.rest)) (sym (map-append plain found.front found.rest))
-        (subst (λ z. IsPermutation (z ∷ (map plain found.front ++ map plain found.rest)) (map plain found.front ++ plain found.it ∷ map plain found.rest)) (sym found.alike)
-        (IsPermutation-sym (map plain found.front ++ plain found.it ∷ map plain found.rest) (plain found.it ∷ (map plain found.front ++ map plain found.rest)) (IsPermutation-middle (map plain found.front) (plain found.it) (map plain found.rest))))) in
+    subst (λ zs. IsPermutation (plain x ∷ map plain rest) zs) (sym (ap (map plain) found.is ∙ map-append plain found.front (found.it ∷ found.rest)))
+    (subst (λ zs. IsPermutation (plain x ∷ zs) (map plain found.front ++ plain found.it ∷ map plain found.rest)) (sym (map-append plain found.front found.rest))
+    (subst (λ z. IsPermutation (z ∷ (map plain found.front ++ map plain found.rest)) (map plain found.front ++ plain found.it ∷ map plain found.rest)) (sym found.alike)
+    (IsPermutation-sym (map plain found.front ++ plain found.it ∷ map plain found.rest) (plain found.it ∷ (map plain found.front ++ map plain found.rest)) (IsPermutation-middle (map plain found.front) (plain found.it) (map plain found.rest))))) in
     IsPermutation-trans (plain x ∷ map plain xs) (plain x ∷ map plain rest) (map plain ys)
     (IsPermutation-cons (plain x) (map plain xs) (map plain rest) (shuffled xs rest fewer)) moved
 
@@ -158,5 +166,12 @@ weigh-lost w (FlowGave f b ∷ notes) = omega (arith, lost-cons w (FlowGave f b)
 
 pub is-conserved : (notes : List Note) (waiting held : List Descriptor) → AreCounted notes waiting held → node.IsConserved notes waiting
 is-conserved notes waiting held c = shuffled (filter_map arrival_in notes) (filter_map sent_in notes ++ filter_map lost_in notes ++ waiting)
-    (λ w. omega (arith, c.conserved w, weigh-arrivals w notes, weigh-sent w notes, weigh-lost w notes,
-    weigh-append w (filter_map sent_in notes ++ filter_map lost_in notes) waiting, weigh-append w (filter_map sent_in notes) (filter_map lost_in notes)))
+    (λ w. omega (
+      arith,
+      c.conserved w,
+      weigh-arrivals w notes,
+      weigh-sent w notes,
+      weigh-lost w notes,
+      weigh-append w (filter_map sent_in notes ++ filter_map lost_in notes) waiting,
+      weigh-append w (filter_map sent_in notes) (filter_map lost_in notes),
+    ))

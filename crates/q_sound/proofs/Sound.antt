@@ -1,18 +1,18 @@
 -- A tree that is kept is sound, with whole histories and with totals.
-use Rattle.std.proofs.Common.{◌≡◌, ℕ, ◌≤◌, List, [], ◌∷◌, ◌++◌, refl, sym, ap, subst, suc, arith}
+use Rattle.std.proofs.Common.{◌≡◌, ℕ, List, ◌++◌, sym, ap, subst, suc, arith}
 use Rattle.std.specs.Prelude.{All}
 use Rattle.std.specs.List.{AllPairs, sum}
 use Rattle.std.proofs.lemmas.List.Elements.{All-nil, All-cons, All-append}
-use Rattle.q_model.specs.Tally.{Note, Counts, counts_in, history, totals}
-use Rattle.q_model.specs.Node.{Own, Forest, none, more, Node, each, each_memory, with_memory}
+use Rattle.q_model.specs.Tally.{Note, counts_in, history, totals}
+use Rattle.q_model.specs.Node.{Own, Forest, none, more, Node, each_memory, with_memory}
 use Rattle.q_model.specs.Beneath.{beneath_own, beneath, row_of}
 use Rattle.q_model.specs.Conserved.{nodes_of, every_node, held_own, held_beneath, IsBalanced, AreMarksBounded}
 use Rattle.q_model.specs.Conserved as node
-use Rattle.q_model.specs.Find.{Address, addresses_own, addresses, greatest, depth, count_nodes}
+use Rattle.q_model.specs.Find.{Address, addresses_own, greatest}
 use Rattle.q_model.specs.Lawful.{IsLawfulOwn, IsLawfulNode, IsLawfulTree}
 use Rattle.q_model.specs.TreeState.{TreeState}
 use Rattle.q_model.specs.Shrink.{shrunk}
-use Rattle.q_model.specs.Sound.{IsConserved, IsSound}
+use Rattle.q_model.specs.Sound.{IsSound}
 use Rattle.q_model.proofs.ShrinkLemmas.{each-each_memory}
 use Rattle.q_sound.proofs.Kept.{AllCounted, AllLawful, IsKeptTree}
 use Rattle.q_sound.proofs.Shuffled.{is-conserved}

@@ -1,5 +1,5 @@
 -- The packets of a node and its children, weighed part by part.
-use Rattle.std.proofs.Common.{◌≡◌, ℕ, ◌+◌, ◌≤◌, List, [], ◌∷◌, ◌++◌, map, refl, ap, arith}
+use Rattle.std.proofs.Common.{◌≡◌, ℕ, ◌+◌, List, [], ◌∷◌, ◌++◌, map, refl, ap, arith}
 use Rattle.std.specs.List.{flat_map}
 use Rattle.std.specs.Option.{option_to_list}
 use Rattle.q_packet.specs.Descriptor.{Descriptor}
@@ -37,8 +37,12 @@ held_in_children w ns = total (λ (n : Worked). weigh w (held_beneath n)) ns
 
 pub weigh-waiting : (w : Descriptor → ℕ) (own : Own) (ns : List Worked) → weigh w (waiting own ns) ≡ weigh w (option_to_list own.held) + weigh w (packets_in own.discipline) + in_children w ns
 weigh-waiting w own ns =
-    omega (arith, weigh-append w (option_to_list own.held ++ packets_in own.discipline) (flat_map (λ packets. packets) (map beneath ns)),
-    weigh-append w (option_to_list own.held) (packets_in own.discipline), weigh-flat w beneath ns)
+    omega (
+      arith,
+      weigh-append w (option_to_list own.held ++ packets_in own.discipline) (flat_map (λ packets. packets) (map beneath ns)),
+      weigh-append w (option_to_list own.held) (packets_in own.discipline),
+      weigh-flat w beneath ns,
+    )
 
 pub weigh-holds : (w : Descriptor → ℕ) (own : Own) (ns : List Worked) → weigh w (holds own ns) ≡ weigh w (option_to_list own.held) + held_in_children w ns
 weigh-holds w own ns = omega (arith, weigh-append w (option_to_list own.held) (flat_map (λ packets. packets) (map held_beneath ns)), weigh-flat w held_beneath ns)

@@ -1,17 +1,16 @@
 -- Each node of a tree notes what the rules make of it, and so stays counted.
-use Rattle.std.proofs.Common.{◌≡◌, ℕ, ◌+◌, ◌≤◌, List, [], ◌∷◌, ◌++◌, map, refl, sym, ap, ap₂, subst, arith, ◌∙◌}
-use Rattle.std.specs.List.{AllZip, fold}
+use Rattle.std.proofs.Common.{◌≡◌, ℕ, ◌+◌, ◌≤◌, List, [], ◌∷◌, ◌++◌, refl, sym, ap, ap₂, subst, arith, ◌∙◌}
 use Rattle.std.proofs.lemmas.List.{append-nil, append_assoc}
 use Rattle.q_packet.specs.Descriptor.{Descriptor}
 use Rattle.q_model.specs.Tally.{Tally, Note, history, noted}
-use Rattle.q_model.specs.Node.{Own, Forest, none, more, Node, nodes_in, side_by_side, each, each_memory, from_below, with_memory}
+use Rattle.q_model.specs.Node.{Own, Forest, none, more, Node, each, each_memory, from_below, with_memory}
 use Rattle.q_model.specs.Beneath.{beneath_own, beneath}
 use Rattle.q_model.specs.Conserved.{held_own, held_beneath}
 use Rattle.q_model.specs.Lawful.{IsLawfulOwn}
 use Rattle.q_model.specs.Work.{Worked, each_booked, booked}
 use Rattle.q_model.proofs.ShrinkLemmas.{each-each_memory}
 use Rattle.q_sound.proofs.Weights.{weigh, arrived, sent, lost, dropped, marked, arrived-append, sent-append, lost-append, dropped-append, marked-append}
-use Rattle.q_sound.proofs.Kept.{AreCounted, AllCounted, AllLawful, IsLawfulRoot, IsCountedRoot}
+use Rattle.q_sound.proofs.Kept.{AreCounted, AllCounted, AllLawful}
 
 -- notes that say how packets that wait, and packets that are held, became others
 pub record IsTold (notes : List Note) (waiting waiting_after held held_after : List Descriptor) : Type 0 where
@@ -56,40 +55,44 @@ booked-counted none (more own notes below others) c h = absurd h
 booked-counted (more own m below others) none c h = absurd h
 booked-counted (more own m below others) (more own_after notes below_after others_after) c h =
     let below_is : (A : Type 0) (f : Own → List A → A) → each f (each_booked history below below_after) ≡ each f below_after = λ A f. each-booked history f below below_after h.2 in
-    let here = counted-noted m notes (beneath_own own (each beneath_own below)) (beneath_own own_after (each beneath_own below_after)) (held_own own (each held_own below)) (held_own own_after (each held_own below_after)) c.0 h.0 in
-    (subst (λ bs. AreCounted (noted history m notes) (beneath_own own_after bs) (held_own own_after (each held_own (each_booked history below below_after)))) (sym (below_is (List Descriptor) beneath_own))
-        (subst (λ hs. AreCounted (noted history m notes) (beneath_own own_after (each beneath_own below_after)) (held_own own_after hs)) (sym (below_is (List Descriptor) held_own)) here),
-    booked-counted below below_after c.1 h.2,
-    booked-counted others others_after c.2 h.3)
+    let here = counted-noted m notes (beneath_own own (each beneath_own below)) (beneath_own own_after (each beneath_own below_after)) (held_own own (each held_own below)) (held_own own_after (each held_own below_after)) c.0 h.0 in (
+      subst (λ bs. AreCounted (noted history m notes) (beneath_own own_after bs) (held_own own_after (each held_own (each_booked history below below_after)))) (sym (below_is (List Descriptor) beneath_own))
+          (subst (λ hs. AreCounted (noted history m notes) (beneath_own own_after (each beneath_own below_after)) (held_own own_after hs)) (sym (below_is (List Descriptor) held_own)) here),
+      booked-counted below below_after c.1 h.2,
+      booked-counted others others_after c.2 h.3,
+    )
 
 -- and as lawful as the rules left it
 pub booked-lawful : {M : Type 0} (t : Tally M) (mtu clock : ℕ) (x : Forest M) (y : Forest (List Note)) → AllTold x y → AllLawful mtu clock y → AllLawful mtu clock (each_booked t x y)
 booked-lawful t mtu clock none none h l = tt
 booked-lawful t mtu clock none (more own notes below others) h l = absurd h
 booked-lawful t mtu clock (more own m below others) none h l = absurd h
-booked-lawful t mtu clock (more own m below others) (more own_after notes below_after others_after) h l =
-    (subst (IsLawfulOwn mtu clock own_after) (sym (each-booked t beneath_own below below_after h.2)) l.0,
-    booked-lawful t mtu clock below below_after h.2 l.1,
-    booked-lawful t mtu clock others others_after h.3 l.2)
+booked-lawful t mtu clock (more own m below others) (more own_after notes below_after others_after) h l = (
+  subst (IsLawfulOwn mtu clock own_after) (sym (each-booked t beneath_own below below_after h.2)) l.0,
+  booked-lawful t mtu clock below below_after h.2 l.1,
+  booked-lawful t mtu clock others others_after h.3 l.2,
+)
 
 -- what is told does not rest on what the nodes remembered
 pub told-memory : {A B : Type 0} (f : A → B) (x : Forest A) (y : Forest (List Note)) → AllTold (each_memory f x) y → AllTold x y
 told-memory f none none h = tt
 told-memory f none (more own notes below others) h = absurd h
 told-memory f (more own m below others) none h = absurd h
-told-memory f (more own m below others) (more own_after notes below_after others_after) h =
-    (subst (λ bs. IsTold notes (beneath_own own bs) (beneath_own own_after (each beneath_own below_after)) (held_own own (each held_own below)) (held_own own_after (each held_own below_after))) (each-each_memory beneath_own f below)
-        (subst (λ hs. IsTold notes (beneath_own own (each beneath_own (each_memory f below))) (beneath_own own_after (each beneath_own below_after)) (held_own own hs) (held_own own_after (each held_own below_after))) (each-each_memory held_own f below) h.0),
-    h.1,
-    told-memory f below below_after h.2,
-    told-memory f others others_after h.3)
+told-memory f (more own m below others) (more own_after notes below_after others_after) h = (
+  subst (λ bs. IsTold notes (beneath_own own bs) (beneath_own own_after (each beneath_own below_after)) (held_own own (each held_own below)) (held_own own_after (each held_own below_after))) (each-each_memory beneath_own f below)
+      (subst (λ hs. IsTold notes (beneath_own own (each beneath_own (each_memory f below))) (beneath_own own_after (each beneath_own below_after)) (held_own own hs) (held_own own_after (each held_own below_after))) (each-each_memory held_own f below) h.0),
+  h.1,
+  told-memory f below below_after h.2,
+  told-memory f others others_after h.3,
+)
 
 pub root-memory : {A B : Type 0} (f : A → B) (n : Node A) (w : Worked) → IsRootTold (with_memory f n) w → IsRootTold n w
-root-memory f n w h =
-    (subst (λ bs. IsTold w.memory (beneath_own n.own bs) (beneath w) (held_beneath n) (held_beneath w)) (each-each_memory beneath_own f n.below)
-        (subst (λ hs. IsTold w.memory (beneath_own n.own (each beneath_own (each_memory f n.below))) (beneath w) (held_own n.own hs) (held_beneath w)) (each-each_memory held_own f n.below) h.0),
-    h.1,
-    told-memory f n.below w.below h.2)
+root-memory f n w h = (
+  subst (λ bs. IsTold w.memory (beneath_own n.own bs) (beneath w) (held_beneath n) (held_beneath w)) (each-each_memory beneath_own f n.below)
+      (subst (λ hs. IsTold w.memory (beneath_own n.own (each beneath_own (each_memory f n.below))) (beneath w) (held_own n.own hs) (held_beneath w)) (each-each_memory held_own f n.below) h.0),
+  h.1,
+  told-memory f n.below w.below h.2,
+)
 
 -- the same nodes, with the same handles
 abbrev pub LooksAtHandle : {A : Type 0} → (Own → List A → A) → Type 0

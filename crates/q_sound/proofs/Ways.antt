@@ -1,5 +1,5 @@
 -- What a route says of the node that it begins at: it ends there, or goes on from the child that it names.
-use Rattle.std.proofs.Common.{◌≡◌, ℕ, ◌≤◌, List, [], ◌∷◌, map, refl, sym, ap, Option, Some, None, option_map, ◌∙◌, ⊎_elim}
+use Rattle.std.proofs.Common.{◌≡◌, ℕ, ◌≤◌, List, [], ◌∷◌, refl, sym, ap, Option, Some, None, option_map, ◌∙◌}
 use Rattle.std.specs.Prelude.{Bool, true, false, nat_lt, slice_get, if◌then◌else◌}
 use Rattle.std.specs.Option.{option_map_or}
 use Rattle.std.proofs.lemmas.Bool.{ltb-false, true≢false}
@@ -9,7 +9,7 @@ use Rattle.q_packet.specs.declared.cause.Cause.{Cause}
 use Rattle.q_packet.specs.declared.cause.Cause.TheVariants.{TooLong, NoClass, OverLimit}
 use Rattle.q_codel.specs.FifoState.{takes}
 use Rattle.q_model.specs.Filters.{named_class}
-use Rattle.q_model.specs.Node.{Discipline, Fifo, Prio, Tbf, Drr, FqCodel, Own, Node, Shape, children, each}
+use Rattle.q_model.specs.Node.{Discipline, Fifo, Prio, Tbf, Drr, FqCodel, Own, Shape, children, each}
 use Rattle.q_model.specs.Route.{Route, ends, refused, through, band_of, class_at, way, route}
 use Rattle.q_sound.proofs.Forests.{each-nodes}
 
@@ -78,6 +78,7 @@ module _ (p : Descriptor) (own : Own) (below : List Route) where
       found : (o : Option ℕ) → option_map_or (through below) o (refused NoClass) ≡ ends → ⊥
       found None e = refused-ends NoClass e
       found (Some i) e = through-ends below i e
+
       by : (o : Option ℕ) → (elim o [ None ↦ refused NoClass | Some minor ↦ option_map_or (through below) (class_at minor s) (refused NoClass) ]) ≡ ends → ⊥
       by None e = refused-ends NoClass e
       by (Some minor) e = found (class_at minor s) e
@@ -102,6 +103,7 @@ module _ (p : Descriptor) (own : Own) (below : List Route) where
       found : (o : Option ℕ) → option_map_or (through below) o (refused NoClass) ≡ record { path = i ∷ path; refusal = refusal } → slice_get below i ≡ Some (record { path = path; refusal = refusal })
       found None e = refused-goes NoClass i path refusal e
       found (Some k) e = through-goes below k i path refusal e
+
       by : (o : Option ℕ) → ◌≡◌ {A = Route} (elim o [ None ↦ refused NoClass | Some minor ↦ option_map_or (through below) (class_at minor s) (refused NoClass) ]) (record { path = i ∷ path; refusal = refusal })
           → slice_get below i ≡ Some (record { path = path; refusal = refusal })
       by None e = refused-goes NoClass i path refusal e
@@ -113,7 +115,6 @@ pub record IsOn (p : Descriptor) (s : Shape) (i : ℕ) (path : List ℕ) (refusa
   pub there : slice_get (children s) i ≡ Some child
   pub way : route p child ≡ record { path = path; refusal = refusal }
   pub passes : CanPass p s.own.discipline
-
 
 pub route-goes : (p : Descriptor) (s : Shape) (i : ℕ) (path : List ℕ) (refusal : Option Cause) → route p s ≡ record { path = i ∷ path; refusal = refusal } → IsOn p s i path refusal
 route-goes p s i path refusal e =
