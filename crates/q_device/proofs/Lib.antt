@@ -1,2 +1,3 @@
 pub mod ReplayLemmas
 pub mod ShrinkLemmas
+pub mod ToldLemmas

@@ -1,14 +1,21 @@
 -- What is true of every replay, over the definitions in specs/Step.antt and specs/Replay.antt.
 -- Each law speaks of all settings and all lists of events, with whole histories and with totals.
-use Rattle.std.specs.Prelude.{◌≡◌, List, [], ◌∷◌, ◌++◌, All}
+use Rattle.std.specs.Prelude.{◌≡◌, List, [], ◌∷◌, ◌++◌, All, Option, Some, None}
+use Rattle.std.specs.List.{filter_map}
+use Rattle.q_packet.specs.Descriptor.{Descriptor}
 use Rattle.q_model.specs.Tally.{Tally, Note, history, totals}
 use Rattle.q_model.specs.declared.event.Event.{Event}
+use Rattle.q_model.specs.declared.event.Event.TheVariants as event
+use Rattle.q_model.specs.declared.polled.Polled.TheVariants as polled
+use Rattle.q_model.specs.declared.reply.Reply.{Reply}
+use Rattle.q_model.specs.declared.reply.Reply.TheVariants as reply
+use Rattle.q_model.specs.Conserved.{arrival_in, sent_in}
 use Rattle.q_model.specs.Events.{IsEvent}
 use Rattle.q_model.specs.Lawful.{IsLawfulTree}
 use Rattle.q_model.specs.Settings.{DeviceSettings, IsInRange}
 use Rattle.q_model.specs.Sound.{IsSound}
-use Rattle.q_model.specs.Step.{DeviceState, step}
-use Rattle.q_model.specs.Replay.{replay, with_step}
+use Rattle.q_model.specs.Step.{DeviceState, losses_in, step}
+use Rattle.q_model.specs.Replay.{Replay, replay, with_step}
 use Rattle.q_model.specs.ShrinkDevice.{shrunk, IsShrunkStep, IsShrunkReplay}
 
 -- the replay of a list with an event more is the step of its replay
@@ -38,3 +45,26 @@ abbrev pub TotalsAreLawful : Type 0
 TotalsAreLawful =
     (settings : DeviceSettings) (events : List Event) → IsInRange settings → All IsEvent events
     → (let d = (replay totals settings events).device in IsLawfulTree totals d.clock d.tree)
+
+-- the packets that events bring, and those that replies give
+abbrev pub brought : Event → Option Descriptor
+brought (event.Arrive p moment) = Some p
+brought (event.Poll moment) = None
+brought (event.Command c moment) = None
+
+abbrev pub given_in : Reply → Option Descriptor
+given_in (reply.Polled (polled.Packet p)) = Some p
+given_in (reply.Polled polled.Idle) = None
+given_in (reply.Polled polled.Later) = None
+given_in (reply.Fate fate) = None
+given_in (reply.Done result) = None
+
+-- What the device has noted of packets is what the caller sees: those that the events brought, those that its replies gave,
+-- and those that it handed back as lost, each in order.
+pub record TellsAll (events : List Event) (r : Replay (List Note)) : Type 0 where
+  pub arrived : filter_map arrival_in r.device.tree.top ≡ filter_map brought events
+  pub sent : filter_map sent_in r.device.tree.top ≡ filter_map given_in r.replies
+  pub lost : losses_in r.device.tree.top ≡ r.losses
+
+abbrev pub EveryReplayTellsAll : Type 0
+EveryReplayTellsAll = (settings : DeviceSettings) (events : List Event) → IsInRange settings → All IsEvent events → TellsAll events (replay history settings events)

@@ -1,5 +1,5 @@
 //! What is true of every device and every replay. Each law is the contract of a function that does nothing.
-ghost use Rattle.q_device.specs.Laws.{ReplayGoesOn, ShrinkCommutes, ReplayShrinks, EveryReplayIsSound, TotalsAreLawful};
+ghost use Rattle.q_device.specs.Laws.{ReplayGoesOn, ShrinkCommutes, ReplayShrinks, EveryReplayIsSound, TotalsAreLawful, EveryReplayTellsAll};
 
 /// The replay of a longer list is the step of the replay: what happens next depends on the device alone.
 pub fn replay_goes_on()
@@ -23,8 +23,10 @@ pub fn replay_shrinks()
 /// above its root, the packets that arrived are those that were sent, that were lost, and that wait there or beneath, in some
 /// order and but for their ECN codepoint. Every tree is lawful then (`IsLawfulTree` of q_model: active lists exact, levels
 /// within bursts, handles once, depth and number of nodes bounded), and no node has marked more than it sent, dropped or
-/// holds. With totals the same holds in sums: arrived is sent, refused, dropped and queued together, in packets and bytes.
+/// holds. What the device has noted is what its caller sees: the packets that the events bring, those that the replies give and
+/// those handed back as lost, each in order. With totals the same holds in sums: arrived is sent, refused, dropped and queued together, in packets and bytes.
 pub fn conserved()
     ensures histories { EveryReplayIsSound }
     ensures totals { TotalsAreLawful }
+    ensures answers { EveryReplayTellsAll }
 {}

@@ -24,7 +24,7 @@ IsKept d = IsKeptTree d.clock d.tree
 not-before : (clock moment : ℕ) → clock ≤ max clock moment
 not-before clock moment = omega arith
 
-not-after : (clock moment most : ℕ) → clock ≤ most → moment ≤ most → max clock moment ≤ most
+pub not-after : (clock moment most : ℕ) → clock ≤ most → moment ≤ most → max clock moment ≤ most
 not-after clock moment most a b = omega (arith, a, b)
 
 pub step-kept : (d : DeviceState (List Note)) (e : Event) → IsKept d → IsEvent e → IsKept (step history d e).device
@@ -42,5 +42,8 @@ replay_from-kept r [] h all = h
 replay_from-kept r (e ∷ events) h all =
     replay_from-kept (with_step r (step history r.device e)) events (step-kept r.device e h (All-head IsEvent e events all)) (All-tail IsEvent e events all)
 
+pub new-kept-device : (settings : DeviceSettings) → IsInRange settings → IsKept (nothing_yet history settings).device
+new-kept-device settings range = new-kept (record { mtu = settings.mtu; txqueuelen = settings.txqueuelen }) range.mtu range.most_mtu
+
 pub replay-kept : (settings : DeviceSettings) (events : List Event) → IsInRange settings → All IsEvent events → IsKept (replay history settings events).device
-replay-kept settings events range all = replay_from-kept (nothing_yet history settings) events (new-kept (record { mtu = settings.mtu; txqueuelen = settings.txqueuelen }) range.mtu range.most_mtu) all
+replay-kept settings events range all = replay_from-kept (nothing_yet history settings) events (new-kept-device settings range) all

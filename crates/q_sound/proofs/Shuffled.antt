@@ -131,7 +131,7 @@ shuffled (x ∷ xs) ys h =
     (IsPermutation-cons (plain x) (map plain xs) (map plain rest) (shuffled xs rest fewer)) moved
 
 -- the packets among notes, weighed
-weigh-arrivals : (w : Descriptor → ℕ) (notes : List Note) → weigh w (filter_map arrival_in notes) ≡ arrived w notes
+pub weigh-arrivals : (w : Descriptor → ℕ) (notes : List Note) → weigh w (filter_map arrival_in notes) ≡ arrived w notes
 weigh-arrivals w [] = omega (arith, weigh-nil w, arrived-nil w)
 weigh-arrivals w (Arrived p ∷ notes) = omega (arith, weigh-cons w p (filter_map arrival_in notes), arrived-cons w (Arrived p) notes, weigh-arrivals w notes)
 weigh-arrivals w (Sent p ∷ notes) = omega (arith, arrived-cons w (Sent p) notes, weigh-arrivals w notes)
@@ -142,7 +142,7 @@ weigh-arrivals w (Spent b ∷ notes) = omega (arith, arrived-cons w (Spent b) no
 weigh-arrivals w (FlowGranted f k ∷ notes) = omega (arith, arrived-cons w (FlowGranted f k) notes, weigh-arrivals w notes)
 weigh-arrivals w (FlowGave f b ∷ notes) = omega (arith, arrived-cons w (FlowGave f b) notes, weigh-arrivals w notes)
 
-weigh-sent : (w : Descriptor → ℕ) (notes : List Note) → weigh w (filter_map sent_in notes) ≡ sent w notes
+pub weigh-sent : (w : Descriptor → ℕ) (notes : List Note) → weigh w (filter_map sent_in notes) ≡ sent w notes
 weigh-sent w [] = omega (arith, weigh-nil w, sent-nil w)
 weigh-sent w (Arrived p ∷ notes) = omega (arith, sent-cons w (Arrived p) notes, weigh-sent w notes)
 weigh-sent w (Sent p ∷ notes) = omega (arith, weigh-cons w p (filter_map sent_in notes), sent-cons w (Sent p) notes, weigh-sent w notes)
