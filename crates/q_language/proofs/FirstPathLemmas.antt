@@ -4,21 +4,24 @@ use Rattle.std.proofs.Common.{◌≡◌, ◌∙◌, ℕ, suc, Bool, true, false,
 use Rattle.std.specs.List.{list_any, list_all}
 use Rattle.std.specs.Str.{bytes_eq, is_utf8}
 use Rattle.std.proofs.lemmas.Slice.Eq.{bytes_eq-Decides}
-use Rattle.q_line.specs.Words.{words_in, is_blank_line}
-use Rattle.q_line.specs.Values.{number_in, handle_of, name_of}
+use Rattle.q_words.specs.Words.{words_in, is_blank_line}
+use Rattle.q_words.specs.Values.{number_in, handle_of, name_of}
 use Rattle.q_line.specs.Grammar as part
 use Rattle.q_line.specs.declared.head.Head.{Head}
 use Rattle.q_line.specs.declared.line.Line.{Line}
 use Rattle.q_line.specs.declared.line.Line.TheVariants as line
-use Rattle.q_line.specs.declared.line_fault.LineFault.{LineFault}
+use Rattle.q_words.specs.declared.line_fault.LineFault.{LineFault}
 use Rattle.q_line.specs.declared.place.Place.{Place}
 use Rattle.q_line.specs.declared.place.Place.TheVariants as place
-use Rattle.q_line.specs.declared.wrong.Wrong.{Wrong}
-use Rattle.q_line.specs.declared.wrong.Wrong.TheVariants as wrong
+use Rattle.q_words.specs.declared.wrong.Wrong.{Wrong}
+use Rattle.q_words.specs.declared.wrong.Wrong.TheVariants as wrong
 use Rattle.q_language.specs.declared.line.Line.{Line as WholeLine}
 use Rattle.q_language.specs.declared.line.Line.TheVariants as in_whole_line
 use Rattle.q_language.specs.declared.object.Object.TheVariants as object
-use Rattle.q_language.specs.Drafts.{HeadDraft, no_head, OptionDraft, no_options, no_fields, qdisc_add, pfifo}
+use Rattle.q_language.specs.Drafts.{of_qdisc, no_head, OptionDraft, no_options, no_fields}
+use Rattle.q_language.specs.declared.kind_name.KindName.TheVariants as kind_name
+use Rattle.q_language.specs.declared.head_draft.HeadDraft.{HeadDraft}
+use Rattle.q_language.specs.declared.qdisc_verb.QdiscVerb.TheVariants as qdisc_verb
 use Rattle.q_language.specs.Positions
 use Rattle.q_language.specs.Grammar as all
 use Rattle.q_language.specs.FirstPath.{first_words, is_first_word, whole_place, whole_line, whole_answer, FirstPathIsPart}
@@ -43,11 +46,11 @@ whole_position part.poll = Positions.poll
 whole_position part.tc = Positions.tc false
 whole_position (part.object counters) = Positions.tc true
 whole_position (part.verb counters) = Positions.qdisc counters
-whole_position (part.add h) = Positions.head qdisc_add (whole_head h)
-whole_position (part.add_dev h) = Positions.head_value Positions.dev qdisc_add (whole_head h)
-whole_position (part.add_handle h) = Positions.head_value Positions.handle qdisc_add (whole_head h)
-whole_position (part.pfifo h limit) = Positions.options qdisc_add (whole_head h) pfifo (whole_options limit)
-whole_position (part.pfifo_limit h) = Positions.option_value Positions.limit qdisc_add (whole_head h) pfifo no_options
+whole_position (part.add h) = Positions.head (of_qdisc qdisc_verb.Add) (whole_head h)
+whole_position (part.add_dev h) = Positions.head_value Positions.dev (of_qdisc qdisc_verb.Add) (whole_head h)
+whole_position (part.add_handle h) = Positions.head_value Positions.handle (of_qdisc qdisc_verb.Add) (whole_head h)
+whole_position (part.pfifo h limit) = Positions.options qdisc_verb.Add (whole_head h) kind_name.Pfifo (whole_options limit)
+whole_position (part.pfifo_limit h) = Positions.option_value Positions.limit qdisc_verb.Add (whole_head h) kind_name.Pfifo no_options
 whole_position (part.show counters named) = Positions.show_line (record { object = object.Qdisc; counters = counters }) named
 whole_position (part.show_dev counters) = Positions.show_dev (record { object = object.Qdisc; counters = counters })
 whole_position (part.whole l) = whole_end l
@@ -132,7 +135,7 @@ place_same (Some at) p h = refl
 
 -- behind `limit` no limit is kept from before: it is read only where none was given
 limit_same : (limit : Option ℕ) (h : Head) → Same (part.once (is_some limit) (part.pfifo_limit h))
-    (Positions.once (is_some limit) (Positions.option_value Positions.limit qdisc_add (whole_head h) pfifo (whole_options limit)))
+    (Positions.once (is_some limit) (Positions.option_value Positions.limit qdisc_verb.Add (whole_head h) kind_name.Pfifo (whole_options limit)))
 limit_same None h = (refl, tt)
 limit_same (Some n) h = refl
 
@@ -177,7 +180,7 @@ fits_same (part.pfifo head limit) h index word = keyword_same (part.pfifo head l
 fits_same (part.pfifo_limit head) h index word = by_value (number_in 0 4294967295 word)
   where
     by_value : (r : Result ℕ Wrong) → Same (part.value r (λ n. part.pfifo head (Some n)))
-        (all.value (elim r as (λ _. Result OptionDraft Wrong) [ Ok n ↦ Ok (record no_options { limit = Some n }) | Err e ↦ Err e ]) (λ d. Positions.options qdisc_add (whole_head head) pfifo d))
+        (all.value (elim r as (λ _. Result OptionDraft Wrong) [ Ok n ↦ Ok (record no_options { limit = Some n }) | Err e ↦ Err e ]) (λ d. Positions.options qdisc_verb.Add (whole_head head) kind_name.Pfifo d))
     by_value (Ok n) = (refl, tt)
     by_value (Err e) = refl
 fits_same (part.show counters named) h index word = keyword_same (part.show counters named) word refl

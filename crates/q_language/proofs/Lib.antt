@@ -1,1 +1,4 @@
 pub mod FirstPathLemmas
+pub mod Steps
+pub mod PacketLemmas
+pub mod BandLemmas

@@ -15,7 +15,7 @@ use Rattle.q_language.specs.declared.object.Object.TheVariants as object
 use Rattle.q_language.specs.Drafts.{no_fields}
 use Rattle.q_language.specs.Grammar.{arrival, line_in}
 use Rattle.q_line.specs.Grammar.{line_of}
-use Rattle.q_line.specs.declared.line_fault.LineFault.{LineFault}
+use Rattle.q_words.specs.declared.line_fault.LineFault.{LineFault}
 use Rattle.q_line.specs.declared.line.Line.{Line}
 use Rattle.q_line.specs.declared.line.Line.TheVariants as line
 use Rattle.q_line.specs.declared.command.Command.{Command}

@@ -3,7 +3,6 @@
 use Rattle.std.specs.Prelude.{ℕ, suc, ◌^◌, ◌-◌, Bool, true, ◌==◌, List, [], ◌∷◌, ◌++◌, length, if◌then◌else◌, Option, Some, None, Result, Ok, Err, option_and_then, option_map, unwrap_or}
 use Rattle.std.specs.Option.{option_map_or, option_or}
 use Rattle.std.specs.Str.{bytes_eq, is_utf8}
-use Rattle.std.specs.Str.Parse.{digits_value}
 use Rattle.q_packet.specs.Ecn.{ecn_of}
 use Rattle.q_packet.specs.Head.{head as head_in}
 use Rattle.q_packet.specs.Key.{Key}
@@ -16,19 +15,28 @@ use Rattle.q_model.specs.declared.protocol.Protocol.TheVariants.{All, Ip, Ipv6}
 use Rattle.q_model.specs.declared.tbf_limit.TbfLimit.TheVariants as tbf_limit
 use Rattle.q_model.specs.Filters.{family_of}
 use Rattle.q_model.specs.Options.{Prefix}
-use Rattle.q_line.specs.Words.{words_in, is_blank_line}
-use Rattle.q_line.specs.Values.{is_numeral, number_in, handle_of, name_of}
-use Rattle.q_language.specs.Units.{rate_in, size_in, time_in}
-use Rattle.q_language.specs.Addresses.{Address, class_of, address_of, prefix_of, protocol_number, protocol_of, frame_of}
-use Rattle.q_language.specs.Drafts.{Verb, qdisc_del, class_del, filter_del, KindName, pfifo, bfifo, prio, tbf, fq_codel, HeadDraft, OptionDraft, KeyDraft, PacketDraft, no_fields, bad_band, kind_of, qdisc_line, qdisc_del_line, class_line, filter_line, filter_del_line}
+use Rattle.q_words.specs.Words.{words_in, is_blank_line}
+use Rattle.q_words.specs.Values.{is_numeral, number_in, handle_of, name_of}
+use Rattle.q_words.specs.Units.{rate_in, size_in, time_in}
+use Rattle.q_words.specs.Addresses.{Address, class_of, address_of, prefix_of, protocol_number, protocol_of, frame_of}
+use Rattle.q_language.specs.Drafts.{Verb, of_qdisc, of_class, of_filter, OptionDraft, no_fields, band_number, bad_band, kind_of, qdisc_line, qdisc_del_line, class_line, filter_line, filter_del_line}
+use Rattle.q_language.specs.declared.class_verb.ClassVerb.TheVariants as class_verb
+use Rattle.q_language.specs.declared.filter_verb.FilterVerb.TheVariants as filter_verb
+use Rattle.q_language.specs.declared.head_draft.HeadDraft.{HeadDraft}
+use Rattle.q_language.specs.declared.key_draft.KeyDraft.{KeyDraft}
+use Rattle.q_language.specs.declared.kind_name.KindName.{KindName}
+use Rattle.q_language.specs.declared.kind_name.KindName.TheVariants as kind_name
+use Rattle.q_language.specs.declared.packet_draft.PacketDraft.{PacketDraft}
+use Rattle.q_language.specs.declared.qdisc_verb.QdiscVerb.{QdiscVerb}
+use Rattle.q_language.specs.declared.qdisc_verb.QdiscVerb.TheVariants as qdisc_verb
 use Rattle.q_language.specs.Positions
 use Rattle.q_language.specs.Positions.{HeadValue, OptionValue, KeyValue, PacketValue, Position, Row, table}
 use Rattle.q_language.specs.declared.line.Line.{Line}
 use Rattle.q_language.specs.declared.line.Line.TheVariants as line
-use Rattle.q_line.specs.declared.line_fault.LineFault.{LineFault}
-use Rattle.q_line.specs.declared.line_fault.LineFault.TheVariants as fault
-use Rattle.q_line.specs.declared.wrong.Wrong.{Wrong}
-use Rattle.q_line.specs.declared.wrong.Wrong.TheVariants as wrong
+use Rattle.q_words.specs.declared.line_fault.LineFault.{LineFault}
+use Rattle.q_words.specs.declared.line_fault.LineFault.TheVariants as fault
+use Rattle.q_words.specs.declared.wrong.Wrong.{Wrong}
+use Rattle.q_words.specs.declared.wrong.Wrong.TheVariants as wrong
 
 -- a value, and the position after it
 abbrev pub value : {A : Type 0} → Result A Wrong → (A → Position) → Result Position Wrong
@@ -53,13 +61,13 @@ head_fits Positions.protocol v h word = value (protocol_of word) (λ p. Position
 
 -- the limit of each kind: packets of a pfifo and an fq_codel, bytes of a bfifo and a tbf
 abbrev pub limit_fits : KindName → OptionDraft → List ℕ → Result OptionDraft Wrong
-limit_fits pfifo o word = elim (number_in 0 most word) [ Ok n ↦ Ok (record o { limit = Some n }) | Err e ↦ Err e ]
-limit_fits bfifo o word = elim (size_in 0 most word) [ Ok n ↦ Ok (record o { limit = Some n }) | Err e ↦ Err e ]
-limit_fits tbf o word = elim (size_in 0 most word) [ Ok n ↦ Ok (record o { tbf_limit = Some (tbf_limit.Bytes n) }) | Err e ↦ Err e ]
-limit_fits fq_codel o word = elim (number_in 1 most word) [ Ok n ↦ Ok (record o { fq_codel = record o.fq_codel { limit = Some n } }) | Err e ↦ Err e ]
+limit_fits kind_name.Pfifo o word = elim (number_in 0 most word) [ Ok n ↦ Ok (record o { limit = Some n }) | Err e ↦ Err e ]
+limit_fits kind_name.Bfifo o word = elim (size_in 0 most word) [ Ok n ↦ Ok (record o { limit = Some n }) | Err e ↦ Err e ]
+limit_fits kind_name.Tbf o word = elim (size_in 0 most word) [ Ok n ↦ Ok (record o { tbf_limit = Some (tbf_limit.Bytes n) }) | Err e ↦ Err e ]
+limit_fits kind_name.FqCodel o word = elim (number_in 1 most word) [ Ok n ↦ Ok (record o { fq_codel = record o.fq_codel { limit = Some n } }) | Err e ↦ Err e ]
 limit_fits other o word = Err wrong.UnknownWord
 
-abbrev pub option_fits : OptionValue → Verb → HeadDraft → KindName → OptionDraft → List ℕ → Result Position Wrong
+abbrev pub option_fits : OptionValue → QdiscVerb → HeadDraft → KindName → OptionDraft → List ℕ → Result Position Wrong
 option_fits Positions.limit v h k o word = value (limit_fits k o word) (λ d. Positions.options v h k d)
 option_fits Positions.latency v h k o word = value (time_in 0 longest word) (λ n. Positions.options v h k (record o { tbf_limit = Some (tbf_limit.Latency n) }))
 option_fits Positions.bands v h k o word = value (number_in 2 16 word) (λ n. Positions.options v h k (record o { bands = Some n }))
@@ -72,10 +80,10 @@ option_fits Positions.interval v h k o word = value (time_in 1000 longest word) 
 option_fits Positions.drop_batch v h k o word = value (number_in 1 65536 word) (λ n. Positions.options v h k (record o { fq_codel = record o.fq_codel { drop_batch = Some n } }))
 
 -- 16 numbers; whether each names a band is looked at when the line ends
-abbrev pub priomap_fits : ℕ → Verb → HeadDraft → KindName → OptionDraft → List ℕ → Result Position Wrong
+abbrev pub priomap_fits : ℕ → QdiscVerb → HeadDraft → KindName → OptionDraft → List ℕ → Result Position Wrong
 priomap_fits index v h k o word =
     let so_far = unwrap_or o.priomap (record { from = index; numbers = [] }) in
-    let more = record so_far { numbers = so_far.numbers ++ digits_value 10 word ∷ [] } in
+    let more = record so_far { numbers = so_far.numbers ++ band_number word ∷ [] } in
     if is_numeral 10 word
     then Ok (if length more.numbers == 16 then Positions.options v h k (record o { priomap = Some more }) else Positions.priomap v h k (record o { priomap = Some more }))
     else Err wrong.BadNumber
@@ -169,9 +177,9 @@ fits spoken index position word = keyword spoken position word
 
 -- a line that only removes
 abbrev pub removal : Verb → HeadDraft → Option Line
-removal qdisc_del h = option_map line.Tc (qdisc_del_line h)
-removal class_del h = option_map line.Tc (class_line class_del h None)
-removal filter_del h = option_map line.Tc (filter_del_line h)
+removal (of_qdisc qdisc_verb.Del) h = option_map line.Tc (qdisc_del_line h)
+removal (of_class class_verb.Del) h = option_map line.Tc (class_line class_verb.Del h None)
+removal (of_filter filter_verb.Del) h = option_map line.Tc (filter_del_line h)
 removal other h = None
 
 -- what a line says that ends here; None where it needs another word
@@ -189,16 +197,18 @@ ends _ = None
 
 -- the first number of a priomap that names no band: looked for before a missing word
 abbrev pub late_fault : Position → Option ℕ
-late_fault (Positions.options v h prio o) = bad_band o
-late_fault (Positions.option_value x v h prio o) = bad_band o
+late_fault (Positions.options v h kind_name.Prio o) = bad_band o
+late_fault (Positions.option_value x v h kind_name.Prio o) = bad_band o
 late_fault (Positions.priomap v h k o) = bad_band o
 late_fault _ = None
 
+-- a line that was read to its end, or the fault that a word is missing
+abbrev pub said : Option Line → ℕ → Result Line LineFault
+said (Some l) index = Ok l
+said None index = Err (fault.Missing index)
+
 abbrev pub ended : Position → ℕ → Result Line LineFault
-ended position index = elim (late_fault position) [
-  | Some word ↦ Err (fault.OutOfRange word)
-  | None ↦ elim (ends position) [ Some l ↦ Ok l | None ↦ Err (fault.Missing index) ]
-]
+ended position index = elim (late_fault position) [ Some word ↦ Err (fault.OutOfRange word) | None ↦ said (ends position) index ]
 
 abbrev pub numbered : Wrong → ℕ → LineFault
 numbered wrong.UnknownWord index = fault.UnknownWord index

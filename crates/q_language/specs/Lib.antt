@@ -1,6 +1,5 @@
-pub mod Addresses
 pub mod Drafts
 pub mod FirstPath
 pub mod Grammar
 pub mod Positions
-pub mod Units
+pub mod Reading

@@ -6,9 +6,20 @@ use Rattle.q_language.specs.declared.line.Line.{Line}
 use Rattle.q_language.specs.declared.line.Line.TheVariants as line
 use Rattle.q_language.specs.declared.show.Show.{Show}
 use Rattle.q_language.specs.declared.object.Object.TheVariants as object
-use Rattle.q_line.specs.declared.wrong.Wrong.{Wrong}
-use Rattle.q_line.specs.declared.wrong.Wrong.TheVariants as wrong
-use Rattle.q_language.specs.Drafts.{Verb, qdisc_add, qdisc_change, qdisc_del, class_add, class_change, class_del, filter_add, filter_del, KindName, pfifo, bfifo, prio, tbf, drr, fq_codel, HeadDraft, no_head, OptionDraft, no_options, KeyDraft, no_keys, PacketDraft}
+use Rattle.q_words.specs.declared.wrong.Wrong.{Wrong}
+use Rattle.q_words.specs.declared.wrong.Wrong.TheVariants as wrong
+use Rattle.q_language.specs.declared.class_verb.ClassVerb.{ClassVerb}
+use Rattle.q_language.specs.declared.class_verb.ClassVerb.TheVariants as class_verb
+use Rattle.q_language.specs.declared.filter_verb.FilterVerb.{FilterVerb}
+use Rattle.q_language.specs.declared.filter_verb.FilterVerb.TheVariants as filter_verb
+use Rattle.q_language.specs.declared.head_draft.HeadDraft.{HeadDraft}
+use Rattle.q_language.specs.declared.key_draft.KeyDraft.{KeyDraft}
+use Rattle.q_language.specs.declared.kind_name.KindName.{KindName}
+use Rattle.q_language.specs.declared.kind_name.KindName.TheVariants as kind_name
+use Rattle.q_language.specs.declared.packet_draft.PacketDraft.{PacketDraft}
+use Rattle.q_language.specs.declared.qdisc_verb.QdiscVerb.{QdiscVerb}
+use Rattle.q_language.specs.declared.qdisc_verb.QdiscVerb.TheVariants as qdisc_verb
+use Rattle.q_language.specs.Drafts.{Verb, of_qdisc, of_class, of_filter, no_head, OptionDraft, no_options, no_keys}
 
 -- the values that a head, a kind, a filter and a packet can have
 pub data HeadValue : Type 0 where
@@ -33,11 +44,11 @@ pub data Position : Type 0 where
   qdisc class filter : Bool → Position
   head : Verb → HeadDraft → Position
   head_value : HeadValue → Verb → HeadDraft → Position
-  options : Verb → HeadDraft → KindName → OptionDraft → Position
-  option_value : OptionValue → Verb → HeadDraft → KindName → OptionDraft → Position
-  priomap : Verb → HeadDraft → KindName → OptionDraft → Position
-  quantum_of : Verb → HeadDraft → Option ℕ → Position
-  quantum_value : Verb → HeadDraft → Position
+  options : QdiscVerb → HeadDraft → KindName → OptionDraft → Position
+  option_value : OptionValue → QdiscVerb → HeadDraft → KindName → OptionDraft → Position
+  priomap : QdiscVerb → HeadDraft → KindName → OptionDraft → Position
+  quantum_of : ClassVerb → HeadDraft → Option ℕ → Position
+  quantum_value : ClassVerb → HeadDraft → Position
   keys : HeadDraft → KeyDraft → Position
   key_value : KeyValue → HeadDraft → KeyDraft → Position
   done : Verb → HeadDraft → Position
@@ -75,43 +86,55 @@ filter_rows v h =
 -- the word that ends a head
 abbrev pub kind_rows : (KindName → Position) → List Row
 kind_rows f =
-    (codes "pfifo", Ok (f pfifo)) ∷ (codes "bfifo", Ok (f bfifo)) ∷ (codes "prio", Ok (f prio)) ∷ (codes "tbf", Ok (f tbf))
-    ∷ (codes "drr", Ok (f drr)) ∷ (codes "fq_codel", Ok (f fq_codel)) ∷ []
+    (codes "pfifo", Ok (f kind_name.Pfifo)) ∷ (codes "bfifo", Ok (f kind_name.Bfifo)) ∷ (codes "prio", Ok (f kind_name.Prio)) ∷ (codes "tbf", Ok (f kind_name.Tbf))
+    ∷ (codes "drr", Ok (f kind_name.Drr)) ∷ (codes "fq_codel", Ok (f kind_name.FqCodel)) ∷ []
+
+-- behind a kind: its options, or nothing where the line removes a qdisc
+abbrev pub behind_kind : QdiscVerb → HeadDraft → KindName → Position
+behind_kind qdisc_verb.Add h k = options qdisc_verb.Add h k no_options
+behind_kind qdisc_verb.Change h k = options qdisc_verb.Change h k no_options
+behind_kind qdisc_verb.Del h k = done (of_qdisc qdisc_verb.Del) h
+
+-- behind the kind of a class, which a line that removes one does not name
+abbrev pub behind_drr : ClassVerb → HeadDraft → Result Position Wrong
+behind_drr class_verb.Add h = Ok (quantum_of class_verb.Add h None)
+behind_drr class_verb.Change h = Ok (quantum_of class_verb.Change h None)
+behind_drr class_verb.Del h = Err wrong.UnknownWord
+
+-- behind `flower`: its keys, or nothing where the line removes filters
+abbrev pub behind_flower : FilterVerb → HeadDraft → Position
+behind_flower filter_verb.Add h = keys h no_keys
+behind_flower filter_verb.Del h = done (of_filter filter_verb.Del) h
 
 abbrev pub head_rows : Verb → HeadDraft → List Row
-head_rows qdisc_add h = place_rows qdisc_add h ++ kind_rows (λ k. options qdisc_add h k no_options)
-head_rows qdisc_change h = place_rows qdisc_change h ++ kind_rows (λ k. options qdisc_change h k no_options)
-head_rows qdisc_del h = place_rows qdisc_del h ++ kind_rows (λ k. done qdisc_del h)
-head_rows class_add h = class_rows class_add h ++ (codes "drr", Ok (quantum_of class_add h None)) ∷ []
-head_rows class_change h = class_rows class_change h ++ (codes "drr", Ok (quantum_of class_change h None)) ∷ []
-head_rows class_del h = class_rows class_del h
-head_rows filter_add h = filter_rows filter_add h ++ (codes "flower", Ok (keys h no_keys)) ∷ []
-head_rows filter_del h = filter_rows filter_del h ++ (codes "flower", Ok (done filter_del h)) ∷ []
+head_rows (of_qdisc v) h = place_rows (of_qdisc v) h ++ kind_rows (λ k. behind_kind v h k)
+head_rows (of_class v) h = class_rows (of_class v) h ++ (codes "drr", behind_drr v h) ∷ []
+head_rows (of_filter v) h = filter_rows (of_filter v) h ++ (codes "flower", Ok (behind_flower v h)) ∷ []
 
 -- the options of each kind; limit and latency are one, and so are the three names of the burst, and ecn and noecn
-abbrev pub option_rows : Verb → HeadDraft → KindName → OptionDraft → List Row
-option_rows v h pfifo o = (codes "limit", once (is_some o.limit) (option_value limit v h pfifo o)) ∷ []
-option_rows v h bfifo o = (codes "limit", once (is_some o.limit) (option_value limit v h bfifo o)) ∷ []
-option_rows v h prio o =
-    (codes "bands", once (is_some o.bands) (option_value bands v h prio o))
-    ∷ (codes "priomap", once (is_some o.priomap) (priomap v h prio o)) ∷ []
-option_rows v h tbf o =
-    (codes "rate", once (is_some o.rate) (option_value rate v h tbf o))
-    ∷ (codes "burst", once (is_some o.burst) (option_value burst v h tbf o))
-    ∷ (codes "buffer", once (is_some o.burst) (option_value burst v h tbf o))
-    ∷ (codes "maxburst", once (is_some o.burst) (option_value burst v h tbf o))
-    ∷ (codes "limit", once (is_some o.tbf_limit) (option_value limit v h tbf o))
-    ∷ (codes "latency", once (is_some o.tbf_limit) (option_value latency v h tbf o)) ∷ []
-option_rows v h drr o = []
-option_rows v h fq_codel o =
-    (codes "limit", once (is_some o.fq_codel.limit) (option_value limit v h fq_codel o))
-    ∷ (codes "flows", once (is_some o.fq_codel.flows) (option_value flows v h fq_codel o))
-    ∷ (codes "quantum", once (is_some o.fq_codel.quantum) (option_value quantum v h fq_codel o))
-    ∷ (codes "target", once (is_some o.fq_codel.target) (option_value target v h fq_codel o))
-    ∷ (codes "interval", once (is_some o.fq_codel.interval) (option_value interval v h fq_codel o))
-    ∷ (codes "drop_batch", once (is_some o.fq_codel.drop_batch) (option_value drop_batch v h fq_codel o))
-    ∷ (codes "ecn", once (is_some o.fq_codel.ecn) (options v h fq_codel (record o { fq_codel = record o.fq_codel { ecn = Some true } })))
-    ∷ (codes "noecn", once (is_some o.fq_codel.ecn) (options v h fq_codel (record o { fq_codel = record o.fq_codel { ecn = Some false } }))) ∷ []
+abbrev pub option_rows : QdiscVerb → HeadDraft → KindName → OptionDraft → List Row
+option_rows v h kind_name.Pfifo o = (codes "limit", once (is_some o.limit) (option_value limit v h kind_name.Pfifo o)) ∷ []
+option_rows v h kind_name.Bfifo o = (codes "limit", once (is_some o.limit) (option_value limit v h kind_name.Bfifo o)) ∷ []
+option_rows v h kind_name.Prio o =
+    (codes "bands", once (is_some o.bands) (option_value bands v h kind_name.Prio o))
+    ∷ (codes "priomap", once (is_some o.priomap) (priomap v h kind_name.Prio o)) ∷ []
+option_rows v h kind_name.Tbf o =
+    (codes "rate", once (is_some o.rate) (option_value rate v h kind_name.Tbf o))
+    ∷ (codes "burst", once (is_some o.burst) (option_value burst v h kind_name.Tbf o))
+    ∷ (codes "buffer", once (is_some o.burst) (option_value burst v h kind_name.Tbf o))
+    ∷ (codes "maxburst", once (is_some o.burst) (option_value burst v h kind_name.Tbf o))
+    ∷ (codes "limit", once (is_some o.tbf_limit) (option_value limit v h kind_name.Tbf o))
+    ∷ (codes "latency", once (is_some o.tbf_limit) (option_value latency v h kind_name.Tbf o)) ∷ []
+option_rows v h kind_name.Drr o = []
+option_rows v h kind_name.FqCodel o =
+    (codes "limit", once (is_some o.fq_codel.limit) (option_value limit v h kind_name.FqCodel o))
+    ∷ (codes "flows", once (is_some o.fq_codel.flows) (option_value flows v h kind_name.FqCodel o))
+    ∷ (codes "quantum", once (is_some o.fq_codel.quantum) (option_value quantum v h kind_name.FqCodel o))
+    ∷ (codes "target", once (is_some o.fq_codel.target) (option_value target v h kind_name.FqCodel o))
+    ∷ (codes "interval", once (is_some o.fq_codel.interval) (option_value interval v h kind_name.FqCodel o))
+    ∷ (codes "drop_batch", once (is_some o.fq_codel.drop_batch) (option_value drop_batch v h kind_name.FqCodel o))
+    ∷ (codes "ecn", once (is_some o.fq_codel.ecn) (options v h kind_name.FqCodel (record o { fq_codel = record o.fq_codel { ecn = Some true } })))
+    ∷ (codes "noecn", once (is_some o.fq_codel.ecn) (options v h kind_name.FqCodel (record o { fq_codel = record o.fq_codel { ecn = Some false } }))) ∷ []
 
 abbrev pub key_rows : HeadDraft → KeyDraft → List Row
 key_rows h k =
@@ -152,10 +175,10 @@ table first =
     ∷ (codes "reap", Ok (whole line.Reap)) ∷ (codes "totals", Ok (whole line.Totals)) ∷ (codes "tc", Ok (tc false)) ∷ []
 table (tc false) = (codes "-s", Ok (tc true)) ∷ object_rows false
 table (tc true) = object_rows true
-table (qdisc counters) = verb_rows qdisc_add qdisc_change qdisc_del ++ show_rows (record { object = object.Qdisc; counters = counters })
-table (class counters) = verb_rows class_add class_change class_del ++ show_rows (record { object = object.Class; counters = counters })
+table (qdisc counters) = verb_rows (of_qdisc qdisc_verb.Add) (of_qdisc qdisc_verb.Change) (of_qdisc qdisc_verb.Del) ++ show_rows (record { object = object.Qdisc; counters = counters })
+table (class counters) = verb_rows (of_class class_verb.Add) (of_class class_verb.Change) (of_class class_verb.Del) ++ show_rows (record { object = object.Class; counters = counters })
 table (filter counters) =
-    (codes "add", Ok (head filter_add no_head)) ∷ (codes "del", Ok (head filter_del no_head)) ∷ (codes "delete", Ok (head filter_del no_head)) ∷ show_rows (record { object = object.Filter; counters = counters })
+    (codes "add", Ok (head (of_filter filter_verb.Add) no_head)) ∷ (codes "del", Ok (head (of_filter filter_verb.Del) no_head)) ∷ (codes "delete", Ok (head (of_filter filter_verb.Del) no_head)) ∷ show_rows (record { object = object.Filter; counters = counters })
 table (head v h) = dev_row v h ++ head_rows v h
 table (options v h k o) = option_rows v h k o
 table (quantum_of v h given) = (codes "quantum", once (is_some given) (quantum_value v h)) ∷ []

@@ -1,21 +1,49 @@
-//! The whole script language as definitions, ahead of its reader.
+//! The lines of the whole script language, as definitions and their reader.
 //!
-//! - `specs/Grammar.antt` says of every line's bytes which [`Line`] they are, or which `LineFault` of `q_line` is the leftmost; its
-//!   tables of words stand in `specs/Positions.antt`, values in `specs/Units.antt`, `Addresses.antt` and `q_line`.
+//! - `specs/Grammar.antt` says of every line's bytes which [`Line`] they are, or which `LineFault` of `q_words` is the leftmost;
+//!   its tables of words stand in `specs/Positions.antt`, what the words have said so far in `specs/Drafts.antt`, and the words
+//!   and values in `q_words`.
+//! - [`read_line`] reads a line as the grammar says, and allocates nothing. It has one reader for the head of each object and
+//!   one for each kind. A `frame` line is not read yet.
 //! - `line_in` is generic in which words are spoken: any other is unknown. `specs/FirstPath.antt` has the words that `q_line`
-//!   speaks today, and [`laws`] says that its grammar is this one with those words alone.
-//! - The types are those that `q_line` will hand out once it reads all of these lines.
+//!   speaks, and [`laws`] says that its grammar is this one with those words alone.
 //!
-//! No function reads yet. `q_report` computes worked scripts from these definitions, from their bytes to their reports.
+//! The program reads by `q_line`, whose types these will take the place of. `q_report` computes worked scripts from these
+//! definitions, from their bytes to their reports.
 #![tactic(auto)]
 
 mod arrival;
+mod bfifo;
+mod class_head;
+mod class_verb;
+mod drr;
+mod filter_head;
+mod filter_verb;
+mod flower;
+mod fq_codel;
+mod head_draft;
+mod key_draft;
+mod kind_name;
 pub mod laws;
 mod line;
 mod object;
+mod packet;
+mod packet_draft;
+mod pfifo;
+mod prio;
+mod prio_made;
+mod priomap;
+mod qdisc_head;
+mod qdisc_made;
+mod qdisc_verb;
+mod reading;
 mod show;
+mod tbf;
+mod tc;
+mod words;
 
 pub use arrival::Arrival;
 pub use line::Line;
 pub use object::Object;
+pub use reading::read_line;
 pub use show::Show;

@@ -2,15 +2,15 @@
 use Rattle.std.proofs.Common.{◌≡◌, ◌∙◌, ℕ, zero, suc, ◌+◌, ◌<◌, ◌≤◌, ◌↔◌, Bool, true, false, List, [], ◌∷◌, ◌++◌, length, take, Result, Ok, Err, Option, Some, None, refl, sym, ap, subst, arith, if◌then◌else◌}
 use Rattle.std.specs.Result.{MatchResult}
 use Rattle.std.proofs.lemmas.List.{length-take-le}
-use Rattle.q_line.specs.Words.{is_blank_line}
+use Rattle.q_words.specs.Words.{is_blank_line}
 use Rattle.q_line.specs.Grammar.{Position, first, after, rest_of, numbered, ends, ended, line_of_words}
 use Rattle.q_line.specs.Laws.{index_of, IsMissing, FitSoFar, IsLeftmost, FaultsAreLeftmost}
 use Rattle.q_line.specs.declared.line.Line.{Line}
 use Rattle.q_line.specs.declared.line.Line.TheVariants.{Blank}
-use Rattle.q_line.specs.declared.line_fault.LineFault.{LineFault}
-use Rattle.q_line.specs.declared.line_fault.LineFault.TheVariants as fault
-use Rattle.q_line.specs.declared.wrong.Wrong.{Wrong}
-use Rattle.q_line.specs.declared.wrong.Wrong.TheVariants as wrong
+use Rattle.q_words.specs.declared.line_fault.LineFault.{LineFault}
+use Rattle.q_words.specs.declared.line_fault.LineFault.TheVariants as fault
+use Rattle.q_words.specs.declared.wrong.Wrong.{Wrong}
+use Rattle.q_words.specs.declared.wrong.Wrong.TheVariants as wrong
 use Rattle.q_line.proofs.Steps.{word_fits, word_faults}
 
 -- nothing is wrong so far, where the next word has this index

@@ -1,5 +1,3 @@
-pub mod Cutting
-pub mod Numbers
 pub mod Ranges
 pub mod Steps
 pub mod Leftmost

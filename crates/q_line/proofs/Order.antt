@@ -3,14 +3,14 @@ use Rattle.std.proofs.Common.{◌≡◌, ◌∙◌, ℕ, suc, Bool, true, false,
 use Rattle.std.specs.Option.{is_some}
 use Rattle.std.specs.List.{flat_map, list_all}
 use Rattle.std.specs.Str.{is_utf8}
-use Rattle.q_line.specs.Values.{name_of, handle_of}
+use Rattle.q_words.specs.Values.{name_of, handle_of}
 use Rattle.q_line.specs.Grammar.{Position, first, tc, verb, add, add_dev, add_handle, no_head, fits, after, once, value, rest_of, numbered, line_of_words}
 use Rattle.q_line.specs.Settings.{Setting, device, root, handle, setting_words, OrderIsFree}
 use Rattle.q_line.specs.declared.head.Head.{Head}
 use Rattle.q_line.specs.declared.line.Line.{Line}
 use Rattle.q_line.specs.declared.place.Place.TheVariants.{Root}
-use Rattle.q_line.specs.declared.wrong.Wrong.{Wrong}
-use Rattle.q_line.specs.declared.wrong.Wrong.TheVariants as wrong
+use Rattle.q_words.specs.declared.wrong.Wrong.{Wrong}
+use Rattle.q_words.specs.declared.wrong.Wrong.TheVariants as wrong
 use Rattle.q_line.proofs.Steps.{word_fits, word_faults, after_utf8}
 use Rattle.q_line.proofs.SpelledWords.{utf8_from_ascii}
 use Rattle.q_line.proofs.SpelledLines.{keyword}

@@ -6,18 +6,18 @@ use Rattle.std.specs.Str.{bytes_eq, is_utf8}
 use Rattle.std.specs.Str.Parse.{digits_value}
 use Rattle.std.specs.List.{before_first, after_first}
 use Rattle.std.proofs.lemmas.Bool.{leb-true}
-use Rattle.q_line.specs.Words.{words_in, is_blank_line}
-use Rattle.q_line.specs.Values.{number_in, is_numeral, is_digits, handle_of, is_no_minor, is_colon, name_of}
+use Rattle.q_words.specs.Words.{words_in, is_blank_line}
+use Rattle.q_words.specs.Values.{number_in, is_numeral, is_digits, handle_of, is_no_minor, is_colon, name_of}
 use Rattle.q_line.specs.Grammar.{Position, first, at, pkt, poll, tc, object, verb, add, add_dev, add_handle, pfifo, pfifo_limit, show, show_dev, whole, fits, table, row_of, once, value, rest_of, ended, ends, added, line_of, numbered}
 use Rattle.q_line.specs.Ranges.{IsLine, IsMajor, IsKind}
 use Rattle.q_line.specs.declared.line.Line.{Line}
 use Rattle.q_line.specs.declared.line.Line.TheVariants.{Blank}
-use Rattle.q_line.specs.declared.line_fault.LineFault.{LineFault}
+use Rattle.q_words.specs.declared.line_fault.LineFault.{LineFault}
 use Rattle.q_line.specs.declared.place.Place.{Place}
 use Rattle.q_line.specs.declared.kind.Kind.{Kind}
 use Rattle.q_line.specs.declared.kind.Kind.TheVariants.{Pfifo}
-use Rattle.q_line.specs.declared.wrong.Wrong.{Wrong}
-use Rattle.q_line.specs.declared.wrong.Wrong.TheVariants as wrong
+use Rattle.q_words.specs.declared.wrong.Wrong.{Wrong}
+use Rattle.q_words.specs.declared.wrong.Wrong.TheVariants as wrong
 
 number_within : (low high : ℕ) (word : List ℕ) → IfOk (number_in low high word) (λ n. (low ≤ n) × (n ≤ high))
 number_within low high word = by_tests (is_numeral 10 word) (leb low (digits_value 10 word)) (leb (digits_value 10 word) high) refl refl

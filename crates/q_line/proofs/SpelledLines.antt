@@ -9,8 +9,8 @@ use Rattle.std.proofs.lemmas.Bool.Decides.{nat_tests}
 use Rattle.std.proofs.lemmas.Fmt.{decimal_is_IsNumeral, digits_is_IsNumeral}
 use Rattle.std.proofs.lemmas.List.Folds.{list_all-append}
 use Rattle.std.proofs.lemmas.Str.{is_utf8-from_IsUtf8}
-use Rattle.q_line.specs.Words.{is_blank, is_filled}
-use Rattle.q_line.specs.Values.{is_digits, number_in, name_of}
+use Rattle.q_words.specs.Words.{is_blank, is_filled}
+use Rattle.q_words.specs.Values.{is_digits, number_in, name_of}
 use Rattle.q_line.specs.Grammar.{Position, first, at, pkt, poll, tc, object, verb, add, add_dev, add_handle, pfifo, pfifo_limit, show, whole, no_head, fits, value, rest_of, line_of_words}
 use Rattle.q_line.specs.Ranges.{IsLine, IsMajor, IsKind, IsCommand}
 use Rattle.q_line.specs.Spelling.{is_word, handle_words, limit_words, kind_words, command_words, show_words, line_words}
@@ -24,7 +24,7 @@ use Rattle.q_line.specs.declared.place.Place.TheVariants.{Root}
 use Rattle.q_line.specs.declared.head.Head.{Head}
 use Rattle.q_line.specs.declared.kind.Kind.{Kind}
 use Rattle.q_line.specs.declared.kind.Kind.TheVariants.{Pfifo}
-use Rattle.q_line.specs.declared.wrong.Wrong.TheVariants as wrong
+use Rattle.q_words.specs.declared.wrong.Wrong.TheVariants as wrong
 use Rattle.q_line.proofs.Steps.{word_fits, after_utf8}
 use Rattle.q_line.proofs.SpelledWords.{both, handle_read, number_read, words_of_spelling, utf8_from_ascii, digits_from_numeral, every_digit, digit_small, digit_not_blank}
 

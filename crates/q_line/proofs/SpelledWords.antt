@@ -12,10 +12,10 @@ use Rattle.std.proofs.lemmas.List.Splits.{slice_split-cons_no}
 use Rattle.std.proofs.lemmas.Str.{IsUtf8-from_ascii, is_utf8-from_IsUtf8}
 use Rattle.std.proofs.Math.Nat.{pow-succ'}
 use Rattle.std.proofs.lemmas.List.{take_at, drop_all}
-use Rattle.q_line.specs.Words.{words_in, is_blank, is_filled}
-use Rattle.q_line.specs.Values.{is_digits, is_numeral, number_in, handle_of, handle_from, is_colon}
+use Rattle.q_words.specs.Words.{words_in, is_blank, is_filled}
+use Rattle.q_words.specs.Values.{is_digits, is_numeral, number_in, handle_of, handle_from, is_colon}
 use Rattle.q_line.specs.Spelling.{is_word}
-use Rattle.q_line.specs.declared.wrong.Wrong.TheVariants as wrong
+use Rattle.q_words.specs.declared.wrong.Wrong.TheVariants as wrong
 
 pub both : {a b : Bool} → a ≡ true → b ≡ true → (a && b) ≡ true
 both p q = rw (p, q) refl

@@ -4,10 +4,10 @@ use Rattle.std.specs.Str.{is_utf8, IsUtf8}
 use Rattle.std.proofs.lemmas.Str.{IsUtf8-from_is_utf8}
 use Rattle.q_line.specs.Grammar.{Position, fits, after, rest_of, numbered}
 use Rattle.q_line.specs.declared.line.Line.{Line}
-use Rattle.q_line.specs.declared.line_fault.LineFault.{LineFault}
-use Rattle.q_line.specs.declared.line_fault.LineFault.TheVariants as fault
-use Rattle.q_line.specs.declared.wrong.Wrong.{Wrong}
-use Rattle.q_line.specs.declared.wrong.Wrong.TheVariants as wrong
+use Rattle.q_words.specs.declared.line_fault.LineFault.{LineFault}
+use Rattle.q_words.specs.declared.line_fault.LineFault.TheVariants as fault
+use Rattle.q_words.specs.declared.wrong.Wrong.{Wrong}
+use Rattle.q_words.specs.declared.wrong.Wrong.TheVariants as wrong
 
 -- what the words from an answer of a position on say
 abbrev pub continued : Result Position Wrong → ℕ → List (List ℕ) → Result Line LineFault

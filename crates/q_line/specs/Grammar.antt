@@ -11,12 +11,12 @@
 use Rattle.std.specs.Prelude.{ℕ, suc, ◌^◌, Bool, true, false, List, [], ◌∷◌, codes, if◌then◌else◌, Option, Some, None, Result, Ok, Err}
 use Rattle.std.specs.Option.{is_some}
 use Rattle.std.specs.Str.{bytes_eq, is_utf8}
-use Rattle.q_line.specs.Words.{words_in, is_blank_line}
-use Rattle.q_line.specs.Values.{number_in, handle_of, name_of}
-use Rattle.q_line.specs.declared.wrong.Wrong.{Wrong}
-use Rattle.q_line.specs.declared.wrong.Wrong.TheVariants as wrong
-use Rattle.q_line.specs.declared.line_fault.LineFault.{LineFault}
-use Rattle.q_line.specs.declared.line_fault.LineFault.TheVariants as fault
+use Rattle.q_words.specs.Words.{words_in, is_blank_line}
+use Rattle.q_words.specs.Values.{number_in, handle_of, name_of}
+use Rattle.q_words.specs.declared.wrong.Wrong.{Wrong}
+use Rattle.q_words.specs.declared.wrong.Wrong.TheVariants as wrong
+use Rattle.q_words.specs.declared.line_fault.LineFault.{LineFault}
+use Rattle.q_words.specs.declared.line_fault.LineFault.TheVariants as fault
 use Rattle.q_line.specs.declared.line.Line.{Line}
 use Rattle.q_line.specs.declared.line.Line.TheVariants.{Blank, Tc, Show, At, Pkt, Poll}
 use Rattle.q_line.specs.declared.command.Command.TheVariants.{QdiscAdd}

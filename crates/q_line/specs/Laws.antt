@@ -7,8 +7,8 @@ use Rattle.q_line.specs.Grammar.{line_of, line_of_words}
 use Rattle.q_line.specs.Ranges.{IsLine}
 use Rattle.q_line.specs.Spelling.{is_word, spelling}
 use Rattle.q_line.specs.declared.line.Line.{Line}
-use Rattle.q_line.specs.declared.line_fault.LineFault.{LineFault}
-use Rattle.q_line.specs.declared.line_fault.LineFault.TheVariants.{UnknownWord, Missing, BadNumber, OutOfRange, Twice, BadUtf8}
+use Rattle.q_words.specs.declared.line_fault.LineFault.{LineFault}
+use Rattle.q_words.specs.declared.line_fault.LineFault.TheVariants.{UnknownWord, Missing, BadNumber, OutOfRange, Twice, BadUtf8}
 
 -- the index of a fault's word
 abbrev pub index_of : LineFault → ℕ

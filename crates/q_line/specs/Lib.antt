@@ -1,9 +1,6 @@
-pub mod FaultText
 pub mod Grammar
 pub mod Laws
 pub mod Ranges
 pub mod Script
 pub mod Settings
 pub mod Spelling
-pub mod Values
-pub mod Words

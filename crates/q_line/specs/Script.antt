@@ -2,8 +2,8 @@
 -- The texts are those of this project's script language.
 use Rattle.std.specs.Prelude.{ℕ, Bool, ◌==◌, List, [], ◌∷◌, ◌++◌, if◌then◌else◌, codes, decimal}
 use Rattle.std.specs.List.{list_any}
-use Rattle.q_line.specs.FaultText.{fault_text}
-use Rattle.q_line.specs.declared.line_fault.LineFault.{LineFault}
+use Rattle.q_words.specs.FaultText.{fault_text}
+use Rattle.q_words.specs.declared.line_fault.LineFault.{LineFault}
 
 abbrev pub newline : List ℕ
 newline = 10 ∷ []

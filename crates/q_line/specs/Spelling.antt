@@ -3,7 +3,7 @@
 use Rattle.std.specs.Prelude.{ℕ, Bool, true, false, ◌&&◌, not, List, [], ◌∷◌, ◌++◌, codes, Option, Some, None}
 use Rattle.std.specs.List.{join_with_byte, list_all}
 use Rattle.std.specs.Fmt.{decimal, digits}
-use Rattle.q_line.specs.Words.{is_blank, is_filled}
+use Rattle.q_words.specs.Words.{is_blank, is_filled}
 use Rattle.q_line.specs.declared.line.Line.{Line}
 use Rattle.q_line.specs.declared.line.Line.TheVariants.{Blank, Tc, Show, At, Pkt, Poll}
 use Rattle.q_line.specs.declared.command.Command.{Command}

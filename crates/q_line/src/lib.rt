@@ -6,9 +6,9 @@
 //! - [`LineFault`] says why a line is none of the language, with the index of the word; its text is
 //!   `fault 3 BadNumber word 9` and the like.
 //!
-//! `specs/Grammar.antt` has the lines of the language, as tables of the words that stand at each position of a line;
-//! `specs/Values.antt` numbers, handles and names, `specs/Words.antt` how a line is cut into words, and `specs/Script.antt` how
-//! a script is cut into lines and a report speaks of one. The contract of
+//! `specs/Grammar.antt` has the lines of the language, as tables of the words that stand at each position of a line, and
+//! `specs/Script.antt` how a script is cut into lines and a report speaks of one; the words and their values are those of
+//! `q_words`. The contract of
 //! `read_line` says that it gives exactly what they say (`exact`), and that every number is in range (`in_range`, after
 //! `specs/Ranges.antt`). Above the grammar stand the laws of the module [`laws`]: a fault is the leftmost one, `Missing`
 //! comes only where nothing is wrong with any word, each line can be written and is read as itself, and the settings of a
@@ -21,20 +21,17 @@ mod head;
 mod kind;
 pub mod laws;
 mod line;
-mod line_fault;
 mod place;
 mod reading;
 mod show;
 mod tc;
-mod values;
 mod words;
-mod wrong;
 
 pub use arrival::Arrival;
 pub use command::Command;
 pub use kind::Kind;
 pub use line::Line;
-pub use line_fault::LineFault;
 pub use place::Place;
+pub use q_words::LineFault;
 pub use reading::read_line;
 pub use show::Show;

@@ -1,15 +1,14 @@
 ghost use Rattle.std.specs.Prelude.{◌≡◌, suc, IfOk};
 ghost use Rattle.q_line.specs.Ranges.{IsLine};
-ghost use Rattle.q_line.specs.Words.{words_in};
+ghost use Rattle.q_words.specs.Words.{words_in};
 ghost use Rattle.q_line.specs.Grammar.{line_of, rest_of, at, pkt, poll};
 
 use crate::arrival::Arrival;
 use crate::line::Line;
-use crate::line_fault::LineFault;
 use crate::tc::tc_line;
-use crate::values::number;
 use crate::words::Words;
 use q_packet::Moment;
+use q_words::{LineFault, number};
 
 /// The most polls that one line may ask for.
 const MAX_POLLS: u64 = 100_000;

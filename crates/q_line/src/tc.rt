@@ -1,16 +1,15 @@
 ghost use Rattle.std.specs.Prelude.{◌≡◌, suc, true, false, None};
-ghost use Rattle.q_line.specs.Words.{words_in};
+ghost use Rattle.q_words.specs.Words.{words_in};
 ghost use Rattle.q_line.specs.Grammar.{rest_of, tc, object, verb, add, pfifo, show, no_head};
 
 use crate::command::Command;
 use crate::head::Head;
 use crate::kind::Kind;
 use crate::line::Line;
-use crate::line_fault::LineFault;
 use crate::place::Place;
 use crate::show::Show;
-use crate::values::{handle, name, number};
 use crate::words::Words;
+use q_words::{LineFault, handle, name, number};
 
 /// Behind `tc`: an option, or the object.
 pub fn tc_line(mut words: Words) -> Result<Line, LineFault>
@@ -68,7 +67,7 @@ fn add_line(mut words: Words) -> Result<Line, LineFault>
             "handle" => {
                 words.once(head.handle.is_some())?;
                 let word = words.needed()?;
-                head.handle = Some(words.placed(handle(word.as_bytes()))?);
+                head.handle = Some(words.placed(handle(word.as_bytes()))?.major());
             }
             "pfifo" => return pfifo_line(words, head),
             _ => return Err(words.unknown()),

@@ -1,12 +1,11 @@
 ghost use Rattle.std.specs.Prelude.{◌≡◌, ◌+◌, ◌^◌, ◌<◌, ◌≤◌, ℕ, suc, true, false, not, IsTrue, List, [], ◌∷◌, length, slice_index, Result, Option, Ok, Err, Some, None, IfOk, IfErr, MatchOption, if◌then◌else◌};
 ghost use Rattle.std.specs.List.{position};
 ghost use Rattle.std.specs.Str.{is_utf8};
-ghost use Rattle.q_line.specs.Words.{words_in, is_blank, is_blank_line};
+ghost use Rattle.q_words.specs.Words.{words_in, is_blank, is_blank_line};
 ghost use Rattle.q_line.specs.Grammar.{Position, rest_of, ends, whole, placed};
 
 use crate::line::Line;
-use crate::line_fault::LineFault;
-use crate::wrong::Wrong;
+use q_words::{LineFault, Wrong, cut_word, skip_blanks};
 use std::str::from_utf8;
 
 /// The words of a line that are still to be read, from the left.
@@ -121,46 +120,4 @@ impl<'a> Words<'a> {
             Some(_) => Err(self.unknown()),
         }
     }
-}
-
-/// Whether a byte parts words: a space, a tab or a carriage return.
-fn is_blank(byte: u8) -> bool
-    ensures { result ≡ is_blank byte }
-{
-    byte == b' ' || byte == b'\t' || byte == b'\r'
-}
-
-/// The place of the first byte of a word.
-fn first_filled(bytes: &[u8]) -> Option<usize>
-    ensures { result ≡ position (λ byte. not (is_blank byte)) bytes.now }
-{
-    bytes.iter().position(|byte| !is_blank(*byte))
-}
-
-/// The place of the first blank.
-fn first_blank(bytes: &[u8]) -> Option<usize>
-    ensures { result ≡ position is_blank bytes.now }
-{
-    bytes.iter().position(|byte| is_blank(*byte))
-}
-
-/// The bytes from the first word on.
-fn skip_blanks(bytes: &[u8]) -> &[u8]
-    ensures words { words_in result.now ≡ words_in bytes.now }
-    ensures first { 0 < length result.now → is_blank (slice_index result.now 0) ≡ false }
-    ensures shorter { length result.now ≤ length bytes.now }
-{
-    let start = first_filled(bytes).unwrap_or(bytes.len());
-    bytes.split_at(start).1
-}
-
-/// The word that the bytes begin with, and the bytes after it.
-fn cut_word(bytes: &[u8]) -> (&[u8], &[u8])
-    requires some { 0 < length bytes.now }
-    requires first { is_blank (slice_index bytes.now 0) ≡ false }
-    ensures words { words_in bytes.now ≡ result.0.now ∷ words_in result.1.now }
-    ensures shorter { length result.1.now < length bytes.now }
-{
-    let end = first_blank(bytes).unwrap_or(bytes.len());
-    bytes.split_at(end)
 }

@@ -24,7 +24,7 @@ use Rattle.q_language.specs.declared.arrival.Arrival.{Arrival}
 use Rattle.q_language.specs.declared.line.Line.{Line}
 use Rattle.q_language.specs.declared.line.Line.TheVariants as line
 use Rattle.q_line.specs.Script.{lines_of, is_starved, fault_line}
-use Rattle.q_line.specs.declared.line_fault.LineFault.{LineFault}
+use Rattle.q_words.specs.declared.line_fault.LineFault.{LineFault}
 use Rattle.q_language.specs.declared.show.Show.{Show}
 use Rattle.q_language.specs.declared.object.Object.TheVariants as object
 use Rattle.q_report.specs.Text.{refused_line, poll_line, lost_line, device_line, qdisc_text, class_line, filter_line}

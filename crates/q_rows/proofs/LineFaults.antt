@@ -2,8 +2,8 @@
 -- The rules are those of docs/LANGUAGE.md; ranges are those of docs/DISCIPLINES.md.
 use Rattle.std.proofs.Common.{◌≡◌, ℕ, List, [], ◌∷◌, map, Option, Some, None, refl}
 use Rattle.std.specs.Prelude.{codes, Ok, Err}
-use Rattle.q_line.specs.declared.line_fault.LineFault.{LineFault}
-use Rattle.q_line.specs.declared.line_fault.LineFault.TheVariants as fault
+use Rattle.q_words.specs.declared.line_fault.LineFault.{LineFault}
+use Rattle.q_words.specs.declared.line_fault.LineFault.TheVariants as fault
 use Rattle.q_language.specs.Grammar.{line_of}
 use Rattle.q_rows.proofs.SharedRules.{line_rules}
 

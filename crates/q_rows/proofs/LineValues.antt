@@ -4,11 +4,11 @@ use Rattle.std.proofs.Common.{◌≡◌, [], ◌∷◌, ◌++◌, refl}
 use Rattle.std.specs.Prelude.{codes, Some, Ok, Err}
 use Rattle.std.specs.Str.{is_utf8, chars}
 use Rattle.q_line.specs.Grammar.{line_of}
-use Rattle.q_line.specs.Words.{words_in}
-use Rattle.q_line.specs.Values.{handle_of, number_in}
+use Rattle.q_words.specs.Words.{words_in}
+use Rattle.q_words.specs.Values.{handle_of, number_in}
 use Rattle.q_line.specs.declared.line.Line.TheVariants as line
-use Rattle.q_line.specs.declared.line_fault.LineFault.TheVariants as fault
-use Rattle.q_line.specs.declared.wrong.Wrong.TheVariants as wrong
+use Rattle.q_words.specs.declared.line_fault.LineFault.TheVariants as fault
+use Rattle.q_words.specs.declared.wrong.Wrong.TheVariants as wrong
 use Rattle.q_line.specs.declared.command.Command.TheVariants.{QdiscAdd}
 use Rattle.q_line.specs.declared.place.Place.TheVariants.{Root}
 use Rattle.q_line.specs.declared.kind.Kind.TheVariants.{Pfifo}

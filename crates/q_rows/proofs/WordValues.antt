@@ -4,10 +4,10 @@ use Rattle.std.proofs.Common.{◌≡◌, ℕ, ◌-◌, ◌^◌, [], ◌∷◌, m
 use Rattle.std.specs.Prelude.{codes, Ok, Err}
 use Rattle.q_model.specs.declared.ip_version.IpVersion.TheVariants.{V4, V6}
 use Rattle.q_model.specs.declared.protocol.Protocol.TheVariants.{All, Ip, Ipv6}
-use Rattle.q_line.specs.Values.{handle_of}
-use Rattle.q_line.specs.declared.wrong.Wrong.TheVariants.{UnknownWord, BadNumber, OutOfRange}
-use Rattle.q_language.specs.Units.{rate_in, size_in, time_in}
-use Rattle.q_language.specs.Addresses.{class_of, address_of, prefix_of, protocol_number, protocol_of, frame_of}
+use Rattle.q_words.specs.Values.{handle_of}
+use Rattle.q_words.specs.declared.wrong.Wrong.TheVariants.{UnknownWord, BadNumber, OutOfRange}
+use Rattle.q_words.specs.Units.{rate_in, size_in, time_in}
+use Rattle.q_words.specs.Addresses.{class_of, address_of, prefix_of, protocol_number, protocol_of, frame_of}
 use Rattle.q_rows.proofs.SharedRules.{value_rules}
 
 -- rates, in bits a second: every unit, both ends of the range, and what is rounded down

@@ -7,7 +7,7 @@ use Rattle.q_codel.specs.FifoState.{takes}
 use Rattle.q_line.specs.Grammar.{line_of}
 use Rattle.q_line.specs.declared.line.Line.{Line}
 use Rattle.q_line.specs.declared.line.Line.TheVariants.{Blank, Tc, Show, At, Pkt, Poll}
-use Rattle.q_line.specs.declared.line_fault.LineFault.{LineFault}
+use Rattle.q_words.specs.declared.line_fault.LineFault.{LineFault}
 use Rattle.q_line.specs.declared.command.Command.{Command}
 use Rattle.q_line.specs.declared.command.Command.TheVariants.{QdiscAdd}
 use Rattle.q_line.specs.declared.kind.Kind.TheVariants.{Pfifo}

@@ -1,7 +1,7 @@
 //! The report's texts, each put into the output whole.
 ghost use Rattle.std.specs.Prelude.{◌≡◌, ◌+◌, ◌<◌, ◌≤◌, ◌++◌, length, decimal, false};
 ghost use Rattle.std.specs.Fmt.{digits, digit_glyph};
-ghost use Rattle.q_line.specs.FaultText.{fault_text};
+ghost use Rattle.q_words.specs.FaultText.{fault_text};
 ghost use Rattle.q_script.specs.Tally.{totals};
 ghost use Rattle.q_script.specs.Insides.{counted_of, leaf_of};
 ghost use Rattle.q_line.specs.Script.{line_text, fault_line};

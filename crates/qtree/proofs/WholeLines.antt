@@ -9,7 +9,7 @@ use Rattle.q_model.specs.Node.{shape}
 use Rattle.q_model.specs.Edit.{lost_by}
 use Rattle.q_model.specs.TreeState.{TreeState, noted_by_put, noted_by_take}
 use Rattle.q_model.specs.Step.{losses_in, poll}
-use Rattle.q_line.specs.declared.line_fault.LineFault.{LineFault}
+use Rattle.q_words.specs.declared.line_fault.LineFault.{LineFault}
 use Rattle.q_line.specs.declared.line.Line.{Line}
 use Rattle.q_line.specs.declared.line.Line.TheVariants.{Blank, Tc, Show, At, Pkt, Poll}
 use Rattle.q_line.specs.declared.command.Command.{Command}

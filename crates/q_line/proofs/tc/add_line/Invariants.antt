@@ -1,5 +1,5 @@
 use Rattle.std.proofs.Common.{◌≡◌, suc, length}
-use Rattle.q_line.specs.Words.{words_in}
+use Rattle.q_words.specs.Words.{words_in}
 use Rattle.q_line.specs.Grammar.{rest_of, add, no_head}
 use Rattle.q_line.proofs.tc.add_line.Given as goal
 

@@ -1,5 +1,5 @@
 use Rattle.std.proofs.Common.{◌≡◌, suc, length, None}
-use Rattle.q_line.specs.Words.{words_in}
+use Rattle.q_words.specs.Words.{words_in}
 use Rattle.q_line.specs.Grammar.{rest_of, pfifo}
 use Rattle.q_line.proofs.tc.pfifo_line.Given as goal
 

@@ -1,7 +1,7 @@
 use Rattle.std.proofs.Common.{◌∙◌, ◌∷◌, ap, sym, add-one}
 use Rattle.std.proofs.lemmas.Str.{is_utf8-from_IsUtf8}
 use Rattle.q_line.proofs.Steps.{bad_utf8}
-use Rattle.q_line.specs.Words.{words_in}
+use Rattle.q_words.specs.Words.{words_in}
 use Rattle.q_line.proofs.words.Words.next.Goals as goal
 
 pub returns-in-Ok-clause-ok : goal.returns-in-Ok-clause-ok

@@ -1,0 +1,34 @@
+-- One word of a line that is not UTF-8 is that fault, at every position.
+use Rattle.std.proofs.Common.{◌≡◌, ◌∙◌, ℕ, suc, Bool, true, false, List, ◌∷◌, Result, Ok, Err, refl, ap, if◌then◌else◌}
+use Rattle.std.specs.Str.{is_utf8, IsUtf8}
+use Rattle.std.proofs.lemmas.Str.{IsUtf8-from_is_utf8}
+use Rattle.q_words.specs.declared.line_fault.LineFault.{LineFault}
+use Rattle.q_words.specs.declared.line_fault.LineFault.TheVariants as fault
+use Rattle.q_words.specs.declared.wrong.Wrong.{Wrong}
+use Rattle.q_words.specs.declared.wrong.Wrong.TheVariants as wrong
+use Rattle.q_language.specs.Grammar.{fits, after, rest_of, numbered, every_word}
+use Rattle.q_language.specs.Positions.{Position}
+use Rattle.q_language.specs.declared.line.Line.{Line}
+
+-- what the words from an answer of a position on say
+abbrev pub continued : Result Position Wrong → ℕ → List (List ℕ) → Result Line LineFault
+continued (Ok next) index words = rest_of every_word next (suc index) words
+continued (Err e) index words = Err (numbered e index)
+
+pub rest_of-cons : (p : Position) (i : ℕ) (w : List ℕ) (ws : List (List ℕ)) → rest_of every_word p i (w ∷ ws) ≡ continued (after every_word i p w) i ws
+rest_of-cons p i w ws = by_answer (after every_word i p w)
+  where
+    by_answer : (r : Result Position Wrong) → (elim r as (λ _. Result Line LineFault) [ Ok next ↦ rest_of every_word next (suc i) ws | Err e ↦ Err (numbered e i) ]) ≡ continued r i ws
+    by_answer (Ok next) = refl
+    by_answer (Err e) = refl
+
+not_utf8 : (w : List ℕ) → ¬ (IsUtf8 w) → is_utf8 w ≡ false
+not_utf8 w h = by_test (is_utf8 w) refl
+  where
+    by_test : (b : Bool) → is_utf8 w ≡ b → is_utf8 w ≡ false
+    by_test true e = absurd (h (IsUtf8-from_is_utf8 w e))
+    by_test false e = e
+
+pub bad_utf8 : (p : Position) (i : ℕ) (w : List ℕ) (ws : List (List ℕ)) → ¬ (IsUtf8 w) → rest_of every_word p i (w ∷ ws) ≡ Err (fault.BadUtf8 i)
+bad_utf8 p i w ws h =
+    rest_of-cons p i w ws ∙ ap (λ r. continued r i ws) (ap (λ (b : Bool). if b then fits every_word i p w else Err wrong.BadUtf8) (not_utf8 w h))

@@ -1,0 +1,7 @@
+/// What a line does with a class (tc(8)).
+#[derive(Clone, Copy, PartialEq, Eq, Debug)]
+pub enum ClassVerb {
+    Add,
+    Change,
+    Del,
+}

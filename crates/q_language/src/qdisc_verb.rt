@@ -1,0 +1,7 @@
+/// What a line does with a qdisc (tc(8)).
+#[derive(Clone, Copy, PartialEq, Eq, Debug)]
+pub enum QdiscVerb {
+    Add,
+    Change,
+    Del,
+}

@@ -1,0 +1,57 @@
+ghost use Rattle.std.specs.Prelude.{◌≡◌, false, suc};
+ghost use Rattle.q_words.specs.Words.{words_in};
+ghost use Rattle.q_language.specs.Grammar.{every_word, line_of, rest_of};
+ghost use Rattle.q_language.specs.Positions.{at, poll};
+ghost use Rattle.q_language.specs.Reading.{is_frame_line};
+
+use crate::line::Line;
+use crate::packet::pkt_line;
+use crate::tc::tc_line;
+use crate::words::Words;
+use q_packet::Moment;
+use q_words::{LineFault, number};
+
+/// The most polls that one line may ask for.
+const MAX_POLLS: u64 = 100_000;
+
+/// What a line of a script says, given its bytes without the newline; else its leftmost fault.
+///
+/// A `frame` line is not read yet: its first word is unknown here.
+pub fn read_line(line: &[u8]) -> Result<Line, LineFault>
+    ensures { is_frame_line (words_in line.now) ≡ false → result ≡ line_of line.now }
+{
+    let mut words = Words::new(line);
+    if words.is_blank_line() {
+        return Ok(Line::Blank);
+    }
+    match words.needed()? {
+        "pkt" => pkt_line(words),
+        "poll" => poll_line(words),
+        "at" => at_line(words),
+        "tc" => tc_line(words),
+        "reap" => words.ended(Line::Reap),
+        "totals" => words.ended(Line::Totals),
+        _ => Err(words.unknown()),
+    }
+}
+
+/// Behind `at`: N, nanoseconds.
+fn at_line(mut words: Words) -> Result<Line, LineFault>
+    ensures { result ≡ rest_of every_word at (suc words.entry.taken) (words_in words.entry.rest.now) }
+{
+    let word = words.needed()?;
+    let ns = words.placed(number(word.as_bytes(), 0, Moment::MAX))?;
+    let moment = Moment::new(ns).unwrap();
+    words.ended(Line::At(moment))
+}
+
+/// Behind `poll`: N, which is 1 where it is not there.
+fn poll_line(mut words: Words) -> Result<Line, LineFault>
+    ensures { result ≡ rest_of every_word poll (suc words.entry.taken) (words_in words.entry.rest.now) }
+{
+    let Some(word) = words.next()? else {
+        return Ok(Line::Poll(1));
+    };
+    let polls = words.placed(number(word.as_bytes(), 1, MAX_POLLS))? as u32;
+    words.ended(Line::Poll(polls))
+}

@@ -1,0 +1,100 @@
+ghost use Rattle.std.specs.Prelude.{◌≡◌, suc, true, false};
+ghost use Rattle.q_words.specs.Words.{words_in};
+ghost use Rattle.q_language.specs.Drafts.{no_head, of_class, of_filter, of_qdisc};
+ghost use Rattle.q_language.specs.Grammar.{every_word, rest_of};
+ghost use Rattle.q_language.specs.Positions.{class, filter, qdisc, show_line, tc};
+
+use crate::class_head::class_head;
+use crate::class_verb::ClassVerb;
+use crate::filter_head::filter_head;
+use crate::filter_verb::FilterVerb;
+use crate::line::Line;
+use crate::object::Object;
+use crate::qdisc_head::qdisc_head;
+use crate::qdisc_verb::QdiscVerb;
+use crate::show::Show;
+use crate::words::Words;
+use q_words::{LineFault, name};
+
+/// Behind `tc`: an option, or the object.
+pub fn tc_line(mut words: Words) -> Result<Line, LineFault>
+    ensures { result ≡ rest_of every_word (tc false) (suc words.entry.taken) (words_in words.entry.rest.now) }
+{
+    match words.needed()? {
+        "-s" => object_line(words),
+        "qdisc" => qdisc_line(words, false),
+        "class" => class_line(words, false),
+        "filter" => filter_line(words, false),
+        _ => Err(words.unknown()),
+    }
+}
+
+/// Behind `tc -s`: the object.
+fn object_line(mut words: Words) -> Result<Line, LineFault>
+    ensures { result ≡ rest_of every_word (tc true) (suc words.entry.taken) (words_in words.entry.rest.now) }
+{
+    match words.needed()? {
+        "qdisc" => qdisc_line(words, true),
+        "class" => class_line(words, true),
+        "filter" => filter_line(words, true),
+        _ => Err(words.unknown()),
+    }
+}
+
+/// Behind `qdisc`: what is done.
+fn qdisc_line(mut words: Words, counters: bool) -> Result<Line, LineFault>
+    ensures { result ≡ rest_of every_word (qdisc counters) (suc words.entry.taken) (words_in words.entry.rest.now) }
+{
+    let object = Object::Qdisc;
+    match words.needed()? {
+        "add" => qdisc_head(words, QdiscVerb::Add),
+        "change" => qdisc_head(words, QdiscVerb::Change),
+        "del" | "delete" => qdisc_head(words, QdiscVerb::Del),
+        "show" | "list" | "ls" => shown(words, Show { object, counters }),
+        _ => Err(words.unknown()),
+    }
+}
+
+/// Behind `class`: what is done.
+fn class_line(mut words: Words, counters: bool) -> Result<Line, LineFault>
+    ensures { result ≡ rest_of every_word (class counters) (suc words.entry.taken) (words_in words.entry.rest.now) }
+{
+    let object = Object::Class;
+    match words.needed()? {
+        "add" => class_head(words, ClassVerb::Add),
+        "change" => class_head(words, ClassVerb::Change),
+        "del" | "delete" => class_head(words, ClassVerb::Del),
+        "show" | "list" | "ls" => shown(words, Show { object, counters }),
+        _ => Err(words.unknown()),
+    }
+}
+
+/// Behind `filter`: what is done.
+fn filter_line(mut words: Words, counters: bool) -> Result<Line, LineFault>
+    ensures { result ≡ rest_of every_word (filter counters) (suc words.entry.taken) (words_in words.entry.rest.now) }
+{
+    let object = Object::Filter;
+    match words.needed()? {
+        "add" => filter_head(words, FilterVerb::Add),
+        "del" | "delete" => filter_head(words, FilterVerb::Del),
+        "show" | "list" | "ls" => shown(words, Show { object, counters }),
+        _ => Err(words.unknown()),
+    }
+}
+
+/// Behind `show`: `dev NAME`, or nothing.
+fn shown(mut words: Words, show: Show) -> Result<Line, LineFault>
+    ensures { result ≡ rest_of every_word (show_line show false) (suc words.entry.taken) (words_in words.entry.rest.now) }
+{
+    let mut named = false;
+    while let Some(word) = words.next()? {
+        if word != "dev" {
+            return Err(words.unknown());
+        }
+        words.once(named)?;
+        let word = words.needed()?;
+        words.placed(name(word.as_bytes()))?;
+        named = true;
+    }
+    Ok(Line::Show(show))
+}

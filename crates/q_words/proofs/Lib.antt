@@ -1,0 +1,5 @@
+pub mod Cuts
+pub mod Numbers
+pub mod Splits
+pub mod GroupLemmas
+pub mod DecimalLemmas
