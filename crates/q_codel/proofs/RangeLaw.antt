@@ -1,11 +1,10 @@
 -- A take keeps the ranges of the state.
-use Rattle.std.proofs.Common.{◌≡◌, ℕ, zero, suc, ◌+◌, ◌*◌, ◌-◌, ◌^◌, ◌<◌, ◌≤◌, min, List, drop, refl, sym, ap, subst, arith, ◌∙◌}
-use Rattle.std.specs.Prelude.{Bool, true, false, ◌&&◌, ◌==◌, nat_lt, nat_le, if◌then◌else◌}
+use Rattle.std.proofs.Common.{◌≡◌, ℕ, zero, suc, ◌+◌, ◌*◌, ◌-◌, ◌^◌, ◌<◌, ◌≤◌, List, drop, refl, subst, arith}
+use Rattle.std.specs.Prelude.{Bool, true, false, ◌&&◌, ◌==◌, nat_lt, if◌then◌else◌}
 use Rattle.q_packet.specs.declared.stamped.Stamped.{Stamped}
-use Rattle.q_packet.specs.Least.{least}
 use Rattle.q_packet.proofs.LeastLemmas.{least_le}
 use Rattle.q_codel.specs.Gap.{gap_of}
-use Rattle.q_codel.specs.Codel.{CodelState, IsCodelParams, IsCodelVars, params_of, vars_of, count_max, count_after, count_begun, is_standing, is_late, moment, drops, marks, begun, gone_on, control_after, above_after, after}
+use Rattle.q_codel.specs.Codel.{CodelState, IsCodelParams, IsCodelVars, params_of, vars_of, count_after, count_begun, is_standing, is_late, moment, drops, marks, begun, gone_on, after}
 use Rattle.q_codel.specs.Laws.{StatesStayInRange}
 use Rattle.q_codel.proofs.Promises.{at_their_moments-holds}
 

@@ -1,18 +1,15 @@
 -- What a device notes of packets is what its caller sees of them.
-use Rattle.std.proofs.Common.{◌≡◌, ℕ, ◌^◌, max, List, [], ◌∷◌, ◌++◌, map, length, refl, sym, ap, ap₂, subst, Option, Some, None, Result, Ok, Err, option_to_list, arith, ◌∙◌}
-use Rattle.std.specs.Prelude.{Bool, true, false, All, nat_lt, slice_get, if◌then◌else◌}
+use Rattle.std.proofs.Common.{◌≡◌, ℕ, ◌^◌, max, List, [], ◌∷◌, ◌++◌, map, refl, sym, ap, ap₂, subst, Option, Some, None, Result, Ok, Err, option_to_list, arith, ◌∙◌}
+use Rattle.std.specs.Prelude.{Bool, true, false, All, slice_get}
 use Rattle.std.specs.List.{filter_map}
 use Rattle.std.specs.Option.{option_map_or}
 use Rattle.std.proofs.lemmas.List.{append-nil, append_assoc, nil_from_length}
 use Rattle.std.proofs.lemmas.List.Elements.{All-head, All-tail, filter_map-append}
 use Rattle.q_packet.specs.Descriptor.{Descriptor}
 use Rattle.q_packet.specs.declared.cause.Cause.{Cause}
-use Rattle.q_codel.specs.declared.loss.Loss.{Loss}
-use Rattle.q_model.specs.declared.command.Command.{Command}
 use Rattle.q_model.specs.declared.event.Event.{Event}
 use Rattle.q_model.specs.declared.event.Event.TheVariants as event
 use Rattle.q_model.specs.declared.not_done.NotDone.{NotDone}
-use Rattle.q_model.specs.declared.polled.Polled.TheVariants as polled
 use Rattle.q_model.specs.declared.reply.Reply.TheVariants as reply
 use Rattle.q_packet.specs.declared.cause.Cause.TheVariants.{FatFlow, Purged}
 use Rattle.q_fqcodel.specs.Put.{lost_by_put}
@@ -23,12 +20,12 @@ use Rattle.q_model.specs.Events.{IsEvent}
 use Rattle.q_model.specs.Node.{Discipline, Fifo, Prio, Tbf, Drr, FqCodel, Shape, children, shape}
 use Rattle.q_model.specs.Put.{put_here, put_beneath, put_along, lost_in}
 use Rattle.q_model.specs.Replay.{Replay, with_step, replay_from, replay, nothing_yet}
-use Rattle.q_model.specs.Route.{Route, device_route, route}
+use Rattle.q_model.specs.Route.{Route, device_route}
 use Rattle.q_model.specs.Settings.{DeviceSettings, IsInRange}
 use Rattle.q_model.specs.Step.{DeviceState, Step, loss_in, losses_in, polled_of, answered, step}
-use Rattle.q_model.specs.Tally.{Note, Arrived, Sent, Lost, history}
+use Rattle.q_model.specs.Tally.{Note, Arrived, Sent, history}
 use Rattle.q_model.specs.TreeState.{put_on, put_work, asked, take_packet, plan}
-use Rattle.q_model.specs.Work.{Work, losses_of}
+use Rattle.q_model.specs.Work.{losses_of}
 use Rattle.q_sound.proofs.Weights.{IsQuiet, weigh-count}
 use Rattle.q_sound.proofs.Shuffled.{weigh-arrivals, weigh-sent}
 use Rattle.q_sound.proofs.Told.{noted-history}
@@ -129,8 +126,10 @@ step-tells events r (event.Command c moment) kept range h = by (plan d.tree.devi
   where
     d : DeviceState (List Note)
     d = r.device
+
     now : ℕ
     now = max r.device.clock moment
+
     by : (answer : Result Edit NotDone) → TellsAll (events ++ event.Command c moment ∷ []) (with_step r (answered history answer (max r.device.clock moment) r.device))
     by (Ok edit) =
         let none = losses-are Purged (packets_removed edit (shape r.device.tree.root)) in
