@@ -12,7 +12,7 @@ use Rattle.q_model.specs.declared.reply.Reply.TheVariants as reply
 use Rattle.q_model.specs.Conserved.{arrival_in, sent_in}
 use Rattle.q_model.specs.Events.{IsEvent}
 use Rattle.q_model.specs.Lawful.{IsLawfulTree}
-use Rattle.q_model.specs.Settings.{DeviceSettings, IsInRange}
+use Rattle.q_model.specs.Settings.{DeviceSettings}
 use Rattle.q_model.specs.Sound.{IsSound}
 use Rattle.q_model.specs.Step.{DeviceState, losses_in, step}
 use Rattle.q_model.specs.Replay.{Replay, replay, with_step}
@@ -36,15 +36,13 @@ ShrinkCommutes = (d : DeviceState (List Note)) (e : Event) → IsShrunkStep (ste
 abbrev pub ReplayShrinks : Type 0
 ReplayShrinks = (settings : DeviceSettings) (events : List Event) → IsShrunkReplay (replay history settings events) (replay totals settings events)
 
--- After every list of events whose fields are in their ranges no packet is made or lost at any node, the device's own included,
+-- With settings in their ranges, as the type keeps them: after every list of events whose fields are in theirs no packet is made or lost at any node, the device's own included,
 -- and the tree is lawful: over histories packet by packet, and over totals in sums.
-abbrev pub EveryReplayIsSound : Type 0
-EveryReplayIsSound = (settings : DeviceSettings) (events : List Event) → IsInRange settings → All IsEvent events → IsSound (replay history settings events).device
+abbrev pub EveryReplayIsSound : DeviceSettings → Type 0
+EveryReplayIsSound settings = (events : List Event) → All IsEvent events → IsSound (replay history settings events).device
 
-abbrev pub TotalsAreLawful : Type 0
-TotalsAreLawful =
-    (settings : DeviceSettings) (events : List Event) → IsInRange settings → All IsEvent events
-    → (let d = (replay totals settings events).device in IsLawfulTree totals d.clock d.tree)
+abbrev pub TotalsAreLawful : DeviceSettings → Type 0
+TotalsAreLawful settings = (events : List Event) → All IsEvent events → (let d = (replay totals settings events).device in IsLawfulTree totals d.clock d.tree)
 
 -- the packets that events bring, and those that replies give
 abbrev pub brought : Event → Option Descriptor
@@ -66,5 +64,5 @@ pub record TellsAll (events : List Event) (r : Replay (List Note)) : Type 0 wher
   pub sent : filter_map sent_in r.device.tree.top ≡ filter_map given_in r.replies
   pub lost : losses_in r.device.tree.top ≡ r.losses
 
-abbrev pub EveryReplayTellsAll : Type 0
-EveryReplayTellsAll = (settings : DeviceSettings) (events : List Event) → IsInRange settings → All IsEvent events → TellsAll events (replay history settings events)
+abbrev pub EveryReplayTellsAll : DeviceSettings → Type 0
+EveryReplayTellsAll settings = (events : List Event) → All IsEvent events → TellsAll events (replay history settings events)

@@ -1,6 +1,8 @@
 //! What is true of every device and every replay. Each law is the contract of a function that does nothing.
 ghost use Rattle.q_device.specs.Laws.{ReplayGoesOn, ShrinkCommutes, ReplayShrinks, EveryReplayIsSound, TotalsAreLawful, EveryReplayTellsAll};
 
+use q_model::Settings;
+
 /// The replay of a longer list is the step of the replay: what happens next depends on the device alone.
 pub fn replay_goes_on()
     ensures { ReplayGoesOn }
@@ -25,8 +27,10 @@ pub fn replay_shrinks()
 /// within bursts, handles once, depth and number of nodes bounded), and no node has marked more than it sent, dropped or
 /// holds. What the device has noted is what its caller sees: the packets that the events bring, those that the replies give and
 /// those handed back as lost, each in order. With totals the same holds in sums: arrived is sent, refused, dropped and queued together, in packets and bytes.
-pub fn conserved()
-    ensures histories { EveryReplayIsSound }
-    ensures totals { TotalsAreLawful }
-    ensures answers { EveryReplayTellsAll }
-{}
+pub fn conserved(settings: Settings)
+    ensures histories { EveryReplayIsSound settings }
+    ensures totals { TotalsAreLawful settings }
+    ensures answers { EveryReplayTellsAll settings }
+{
+    settings.ranges();
+}

@@ -45,4 +45,11 @@ impl Settings {
             None
         }
     }
+
+    /// Each field is within its range, which the type keeps. It does nothing: its clause is for the laws of other crates.
+    pub fn ranges(&self)
+        ensures { IsInRange self.now }
+    {
+        let _ = &self.mtu;
+    }
 }

@@ -9,11 +9,16 @@ use Rattle.q_device.proofs.ShrinkLemmas.{replay-shrunk}
 use Rattle.q_device.proofs.ToldLemmas.{replay-tells}
 use Rattle.q_device.proofs.laws.conserved.Goals as goal
 
-pub returns : goal.returns
-returns c = record {
-  answers = replay-tells;
-  histories = λ settings events range all. let d = (replay history settings events).device in kept-sound d.clock d.tree (replay-kept settings events range all);
-  totals = λ settings events range all.
-      let d = (replay history settings events).device in
-      subst (λ (x : DeviceState Counts). IsLawfulTree totals x.clock x.tree) (replay-shrunk settings events).device (kept-totals d.clock d.tree (replay-kept settings events range all));
-}
+pub returns-clause-histories : goal.returns-clause-histories
+returns-clause-histories c = λ events all.
+    let d = (replay history c.args.settings events).device in
+    kept-sound d.clock d.tree (replay-kept c.args.settings events c.ranges-2.ensures all)
+
+pub returns-clause-totals : goal.returns-clause-totals
+returns-clause-totals c = λ events all.
+    let d = (replay history c.args.settings events).device in
+    subst (λ (x : DeviceState Counts). IsLawfulTree totals x.clock x.tree) (replay-shrunk c.args.settings events).device
+    (kept-totals d.clock d.tree (replay-kept c.args.settings events c.ranges-2.ensures all))
+
+pub returns-clause-answers : goal.returns-clause-answers
+returns-clause-answers c = λ events all. replay-tells c.args.settings events c.ranges-2.ensures all
