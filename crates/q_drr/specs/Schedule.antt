@@ -1,6 +1,6 @@
 -- The active list of deficit round robin: classes with their quanta and, for those active, place, deficit and grants.
 -- After M. Shreedhar and G. Varghese, "Efficient Fair Queuing Using Deficit Round-Robin" (1995), and tc-drr(8).
-use Rattle.std.specs.Prelude.{◌≡◌, ◌≢◌, ℕ, true, ◌+◌, ◌-◌, ◌*◌, ◌^◌, ◌<◌, ◌≤◌, min, Bool, not, ◌==◌, nat_le, if◌then◌else◌, List, [], ◌∷◌, ◌++◌, map, Option, slice_get}
+use Rattle.std.specs.Prelude.{◌≡◌, ◌≢◌, ℕ, true, ◌+◌, ◌-◌, ◌*◌, ◌^◌, ◌<◌, ◌≤◌, min, Bool, not, ◌==◌, nat_le, if◌then◌else◌, List, [], ◌∷◌, ◌++◌, map, Option, option_map, slice_get}
 use Rattle.std.specs.List.{filter, find, list_any, position, All, AllPairs}
 use Rattle.std.specs.Option.{option_map_or}
 use Rattle.q_drr.specs.declared.turn.Turn.{Turn}
@@ -30,6 +30,10 @@ has_class n classes = list_any (λ c. n == c.name) classes
 -- where a class stands in order of adding
 abbrev pub place_of : ℕ → List Class → Option ℕ
 place_of n classes = position (λ c. n == c.name) classes
+
+-- the class in this place
+abbrev pub name_at : ℕ → List Class → Option ℕ
+name_at place classes = option_map (λ (c : Class). c.name) (slice_get classes place)
 
 -- the quantum of a class that is there
 abbrev pub quantum_of : ℕ → List Class → ℕ

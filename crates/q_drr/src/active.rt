@@ -1,5 +1,5 @@
 ghost use Rattle.std.specs.Prelude.{◌≡◌, ◌<◌, ◌≤◌, ◌+◌, IsTrue, OnOk, OnErr, false, length, ◌^◌};
-ghost use Rattle.q_drr.specs.Schedule.{Schedule, no_classes, has_class, place_of, quantum_of, is_active, deficit_of, granted_of, added, woken, asleep, removed, with_quantum, front_of, turn_answer, turned, IsLawful};
+ghost use Rattle.q_drr.specs.Schedule.{Schedule, no_classes, has_class, place_of, name_at, quantum_of, is_active, deficit_of, granted_of, added, woken, asleep, removed, with_quantum, front_of, turn_answer, turned, IsLawful};
 
 use crate::class_state::ClassState;
 use crate::class_table::ClassTable;
@@ -73,6 +73,14 @@ impl Active {
         ensures lawful { IsLawful self.now }
     {
         self.table.place_of(class)
+    }
+
+    /// The name of the class in this place in order of adding; `None` past the last.
+    pub fn class_at(&self, place: usize) -> Option<u16>
+        ensures value { result ≡ name_at place self.now.classes }
+        ensures lawful { IsLawful self.now }
+    {
+        self.table.name_at(place)
     }
 
     /// Adds a class, asleep. `quantum` is the bytes of one grant, at least 1.

@@ -1,4 +1,4 @@
-ghost use Rattle.std.specs.Prelude.{◌≡◌, ◌<◌, ◌≤◌, ◌^◌, length, List, [], ◌∷◌, ◌++◌, IsTrue, OnOk, OnErr, false};
+ghost use Rattle.std.specs.Prelude.{◌≡◌, ◌<◌, ◌≤◌, ◌^◌, length, List, [], ◌∷◌, ◌++◌, slice_get, option_map, IsTrue, OnOk, OnErr, false};
 ghost use Rattle.q_drr.specs.declared.class_state.ClassState.{ClassState};
 ghost use Rattle.q_drr.specs.States.{has_state, place_of_state, state_of, with_state, without_state, IsIndex, IsIndexUpTo};
 
@@ -55,6 +55,12 @@ impl ClassTable {
         } else {
             None
         }
+    }
+
+    pub(crate) fn name_at(&self, place: usize) -> Option<u16>
+        ensures { result ≡ option_map (λ state. state.name) (slice_get self.now place) }
+    {
+        Some(self.states.get(place)?.name)
     }
 
     pub(crate) fn has(&self, name: u16) -> bool

@@ -27,7 +27,7 @@ refusing w (Spent bytes) = 0
 refusing w (FlowGranted flow times) = 0
 refusing w (FlowGave flow bytes) = 0
 
-unfoldable refused : (Descriptor → ℕ) → List Note → ℕ
+unfoldable pub refused : (Descriptor → ℕ) → List Note → ℕ
 refused w notes = sum_by (refusing w) notes
 
 refused-nil : (w : Descriptor → ℕ) → refused w [] ≡ 0
@@ -42,7 +42,7 @@ one_loss : (w : Descriptor → ℕ) (p : Descriptor) (b : Bool) → w (plain p) 
 one_loss w p true = omega arith
 one_loss w p false = omega arith
 
-lost-parts : (w : Descriptor → ℕ) (notes : List Note) → lost w notes ≡ refused w notes + dropped w notes
+pub lost-parts : (w : Descriptor → ℕ) (notes : List Note) → lost w notes ≡ refused w notes + dropped w notes
 lost-parts w [] = omega (arith, lost-nil w, refused-nil w, dropped-nil w)
 lost-parts w (Arrived p ∷ notes) = omega (arith, lost-cons w (Arrived p) notes, refused-cons w (Arrived p) notes, dropped-cons w (Arrived p) notes, lost-parts w notes)
 lost-parts w (Sent p ∷ notes) = omega (arith, lost-cons w (Sent p) notes, refused-cons w (Sent p) notes, dropped-cons w (Sent p) notes, lost-parts w notes)
@@ -54,17 +54,17 @@ lost-parts w (FlowGranted f k ∷ notes) = omega (arith, lost-cons w (FlowGrante
 lost-parts w (FlowGave f b ∷ notes) = omega (arith, lost-cons w (FlowGave f b) notes, refused-cons w (FlowGave f b) notes, dropped-cons w (FlowGave f b) notes, lost-parts w notes)
 
 -- counts that are others and what notes weigh
-record IsMore (c d : Counts) (notes : List Note) : Type 0 where
-  arrived_packets : d.arrived.packets ≡ c.arrived.packets + arrived one notes
-  arrived_bytes : d.arrived.bytes ≡ c.arrived.bytes + arrived bytes notes
-  sent_packets : d.sent.packets ≡ c.sent.packets + sent one notes
-  sent_bytes : d.sent.bytes ≡ c.sent.bytes + sent bytes notes
-  refused_packets : d.refused.packets ≡ c.refused.packets + refused one notes
-  refused_bytes : d.refused.bytes ≡ c.refused.bytes + refused bytes notes
-  dropped_packets : d.dropped.packets ≡ c.dropped.packets + dropped one notes
-  dropped_bytes : d.dropped.bytes ≡ c.dropped.bytes + dropped bytes notes
-  marked_packets : d.marked.packets ≡ c.marked.packets + marked one notes
-  marked_bytes : d.marked.bytes ≡ c.marked.bytes + marked bytes notes
+pub record IsMore (c d : Counts) (notes : List Note) : Type 0 where
+  pub arrived_packets : d.arrived.packets ≡ c.arrived.packets + arrived one notes
+  pub arrived_bytes : d.arrived.bytes ≡ c.arrived.bytes + arrived bytes notes
+  pub sent_packets : d.sent.packets ≡ c.sent.packets + sent one notes
+  pub sent_bytes : d.sent.bytes ≡ c.sent.bytes + sent bytes notes
+  pub refused_packets : d.refused.packets ≡ c.refused.packets + refused one notes
+  pub refused_bytes : d.refused.bytes ≡ c.refused.bytes + refused bytes notes
+  pub dropped_packets : d.dropped.packets ≡ c.dropped.packets + dropped one notes
+  pub dropped_bytes : d.dropped.bytes ≡ c.dropped.bytes + dropped bytes notes
+  pub marked_packets : d.marked.packets ≡ c.marked.packets + marked one notes
+  pub marked_bytes : d.marked.bytes ≡ c.marked.bytes + marked bytes notes
 
 none-more : (c : Counts) → IsMore c c []
 none-more c = record {
@@ -209,7 +209,7 @@ module _ (c d : Counts) (notes : List Note) where
     marked_bytes = omega (arith, h.marked_bytes, marked-cons bytes (Lost p cause) notes);
   }
 
-all-more : (c : Counts) (notes : List Note) → IsMore c (fold counted c notes) notes
+pub all-more : (c : Counts) (notes : List Note) → IsMore c (fold counted c notes) notes
 all-more c [] = none-more c
 all-more c (Arrived p ∷ notes) = more-arrived c (fold counted c (Arrived p ∷ notes)) notes p (all-more (counted c (Arrived p)) notes)
 all-more c (Sent p ∷ notes) = more-sent c (fold counted c (Sent p ∷ notes)) notes p (all-more (counted c (Sent p)) notes)

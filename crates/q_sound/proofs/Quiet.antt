@@ -4,7 +4,7 @@ use Rattle.std.specs.Prelude.{slice_get}
 use Rattle.std.proofs.lemmas.Option.{same_Some}
 use Rattle.q_packet.specs.Descriptor.{Descriptor}
 use Rattle.q_model.specs.Tally.{Note}
-use Rattle.q_model.specs.Node.{Own, Forest, none, more, Shape, nodes_in, side_by_side, children, each, each_memory, from_below}
+use Rattle.q_model.specs.Node.{Own, Forest, none, more, Node, Shape, nodes_in, side_by_side, children, each, each_memory, from_below}
 use Rattle.q_model.specs.Beneath.{beneath_own, beneath}
 use Rattle.q_model.specs.Conserved.{held_own, held_beneath}
 use Rattle.q_model.specs.Work.{Worked, quiet}
@@ -66,7 +66,7 @@ quiets-lawful mtu now none h = tt
 quiets-lawful mtu now (more own m below others) h =
     (lawful-with_memory mtu now (λ u. []) (record { own = own; memory = m; below = below }) (h.0, h.1), quiets-lawful mtu now others h.2)
 
-pub child-lawful : (mtu now : ℕ) (x : Forest (Unit {0})) (i : ℕ) (c : Shape) → AllLawful mtu now x → slice_get (nodes_in x) i ≡ Some c → IsLawfulRoot mtu now c
+pub child-lawful : {M : Type 0} (mtu now : ℕ) (x : Forest M) (i : ℕ) (c : Node M) → AllLawful mtu now x → slice_get (nodes_in x) i ≡ Some c → IsLawfulRoot mtu now c
 child-lawful mtu now none i c h e = cc
 child-lawful mtu now (more own m below others) zero c h e = subst (IsLawfulRoot mtu now) (same_Some (record { own = own; memory = m; below = below }) c e) (h.0, h.1)
 child-lawful mtu now (more own m below others) (suc i) c h e = child-lawful mtu now others i c h.2 e

@@ -9,7 +9,7 @@ use Rattle.q_packet.specs.declared.cause.Cause.{Cause}
 use Rattle.q_packet.specs.declared.cause.Cause.TheVariants.{TooLong, NoClass, OverLimit}
 use Rattle.q_codel.specs.FifoState.{takes}
 use Rattle.q_model.specs.Filters.{named_class}
-use Rattle.q_model.specs.Node.{Discipline, Fifo, Prio, Tbf, Drr, FqCodel, Own, Shape, children, each}
+use Rattle.q_model.specs.Node.{Discipline, Fifo, Prio, Tbf, Drr, FqCodel, Own, Node, children, each}
 use Rattle.q_model.specs.Route.{Route, ends, refused, through, band_of, class_at, way, route}
 use Rattle.q_sound.proofs.Forests.{each-nodes}
 
@@ -33,7 +33,7 @@ is_empty_way : List ℕ → Bool
 is_empty_way [] = true
 is_empty_way (i ∷ path) = false
 
-nil-cons : (i : ℕ) (path : List ℕ) → ◌≡◌ {A = List ℕ} [] (i ∷ path) → ⊥
+pub nil-cons : (i : ℕ) (path : List ℕ) → ◌≡◌ {A = List ℕ} [] (i ∷ path) → ⊥
 unfolding is_empty_way
 nil-cons i path e = true≢false (ap is_empty_way e)
 
@@ -110,19 +110,19 @@ module _ (p : Descriptor) (own : Own) (below : List Route) where
       by (Some minor) e = found (class_at minor s) e
 
 -- the child that a route goes on from, and its own route
-pub record IsOn (p : Descriptor) (s : Shape) (i : ℕ) (path : List ℕ) (refusal : Option Cause) : Type 0 where
-  pub child : Shape
+pub record IsOn {M : Type 0} (p : Descriptor) (s : Node M) (i : ℕ) (path : List ℕ) (refusal : Option Cause) : Type 0 where
+  pub child : Node M
   pub there : slice_get (children s) i ≡ Some child
   pub way : route p child ≡ record { path = path; refusal = refusal }
   pub passes : CanPass p s.own.discipline
 
-pub route-goes : (p : Descriptor) (s : Shape) (i : ℕ) (path : List ℕ) (refusal : Option Cause) → route p s ≡ record { path = i ∷ path; refusal = refusal } → IsOn p s i path refusal
-route-goes p s i path refusal e =
+pub route-goes : {M : Type 0} (p : Descriptor) (s : Node M) (i : ℕ) (path : List ℕ) (refusal : Option Cause) → route p s ≡ record { path = i ∷ path; refusal = refusal } → IsOn p s i path refusal
+route-goes {M} p s i path refusal e =
     let below : List Route = each (λ own below. way p own below own.discipline) s.below in
     let goes = way-goes p s.own below s.own.discipline i path refusal e in
     by (slice_get (children s) i) refl goes.0
     (sym (slice_get-map (route p) (children s) i) ∙ ap (λ (xs : List Route). slice_get xs i) (sym (each-nodes (λ own below. way p own below own.discipline) s.below)) ∙ goes.1)
   where
-    by : (o : Option Shape) → slice_get (children s) i ≡ o → CanPass p s.own.discipline → option_map (route p) o ≡ Some (record { path = path; refusal = refusal }) → IsOn p s i path refusal
+    by : (o : Option (Node M)) → slice_get (children s) i ≡ o → CanPass p s.own.discipline → option_map (route p) o ≡ Some (record { path = path; refusal = refusal }) → IsOn p s i path refusal
     by None h can e = cc
     by (Some c) h can e = record { child = c; there = h; way = same_Some (route p c) (record { path = path; refusal = refusal }) e; passes = can }

@@ -1,1 +1,7 @@
+pub mod FlowCounts
+pub mod Forms
+pub mod HereLemmas
+pub mod Puts
 pub mod RouteLemmas
+pub mod Rows
+pub mod SettleLemmas

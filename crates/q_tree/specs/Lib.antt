@@ -1,5 +1,7 @@
 pub mod Ahead
+pub mod Arrivals
 pub mod Kept
 pub mod NodeCode
 pub mod NodeFalls
+pub mod PutSteps
 pub mod Seen

@@ -1,8 +1,6 @@
 -- What a contract sees of a node of the code: the model's node, which remembers what it counted and its places.
 -- The counters are those of `tc -s qdisc show` (tc(8)).
-use Rattle.std.specs.Prelude.{◌≡◌, ℕ, ◌≤◌, not, ◌==◌, List, [], ◌∷◌, length, All}
-use Rattle.std.specs.List.{AllZip}
-use Rattle.q_drr.specs.Schedule.{Class, Schedule, is_active}
+use Rattle.std.specs.Prelude.{◌≡◌, ℕ, ◌≤◌, List, [], ◌∷◌, All}
 use Rattle.q_model.specs.declared.totals.Totals.{Totals}
 use Rattle.q_model.specs.Beneath.{beneath, totals_in}
 use Rattle.q_model.specs.Conserved.{IsBalanced}
@@ -43,17 +41,6 @@ seen a = record {
   below = spec.side_by_side (children_seen a.discipline);
 }
 
--- a drr has a child for each class, and active are exactly the classes whose child has something queued
-abbrev pub IsExact : Schedule → List (spec.Node Kept) → Type 0
-IsExact s below = AllZip (λ (c : Class) child. is_active c.name s.active ≡ not (length (beneath child) == 0)) s.classes below
-
-abbrev pub IsKeptBelow : Discipline → Type 0
-IsKeptBelow (Drr active classes) = IsExact active classes.items
-IsKeptBelow (Fifo f) = Unit {0}
-IsKeptBelow (Prio priomap bands) = Unit {0}
-IsKeptBelow (Tbf bucket limit child) = Unit {0}
-IsKeptBelow (FqCodel q) = Unit {0}
-
 -- no child has counted more arrivals than its parent
 pub record IsCountedWithin (child parent : Totals) : Type 0 where
   pub packets : child.packets ≤ parent.packets
@@ -64,4 +51,3 @@ pub record IsKept (a : Inside) : Type 0 where
   pub queued : a.row.queued ≡ totals_in (beneath (seen a))
   pub balanced : IsBalanced a.row
   pub within : All (λ (child : spec.Node Kept). IsCountedWithin child.memory.counts.arrived a.row.arrived) (children_seen a.discipline)
-  pub below : IsKeptBelow a.discipline

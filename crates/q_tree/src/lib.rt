@@ -7,8 +7,11 @@
 //! What a tree does is defined in the `specs/` of `q_model`. Of its code the filters stand today.
 #![tactic(auto)]
 
+mod booking;
 mod matching;
 mod node;
+mod outcome;
+mod put;
 mod way;
 
 pub use q_model::{

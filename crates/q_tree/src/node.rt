@@ -25,17 +25,17 @@ use std::marker::Model;
 #[cycle(node)]
 #[derive(Drop)]
 pub(crate) struct Node {
-    handle: Option<Handle>,
-    held: Option<Packet>,
-    filters: Vec<Filter>,
-    row: Row,
-    discipline: Discipline,
+    pub(crate) handle: Option<Handle>,
+    pub(crate) held: Option<Packet>,
+    pub(crate) filters: Vec<Filter>,
+    pub(crate) row: Row,
+    pub(crate) discipline: Discipline,
 }
 
 /// What a qdisc does, with its own queue and its children in class order.
 #[cycle(node)]
 #[derive(Drop)]
-enum Discipline {
+pub(crate) enum Discipline {
     Fifo(Fifo),
     Prio {
         priomap: [u8; 16],

@@ -1,0 +1,48 @@
+ghost use Rattle.std.specs.Prelude.{◌≡◌, ◌<◌, ◌≤◌, ◌+◌, ◌^◌};
+ghost use Rattle.q_model.specs.Conserved.{IsBalanced};
+ghost use Rattle.q_tree.specs.Arrivals.{CanCount, IsLostOf, plus, minus, with_arrival};
+
+use crate::outcome::Outcome;
+use q_model::{Row, Totals};
+use q_packet::Packet;
+
+/// Books a packet that has arrived, with all that was lost for it at the node or beneath.
+pub(crate) fn book_arrival(row: &mut Row, packet: &Packet, outcome: &Outcome)
+    requires balanced { IsBalanced row.old }
+    requires room { CanCount row.old.arrived packet.now }
+    requires lost { IsLostOf packet.now outcome.now row.old.queued }
+    ensures { row.new ≡ with_arrival packet.now outcome.now row.old }
+{
+    let one = Totals {
+        packets: 1,
+        bytes: u64::from(packet.len),
+    };
+    row.arrived = sum(row.arrived, one);
+    row.refused = sum(row.refused, outcome.refused);
+    row.dropped = sum(row.dropped, outcome.dropped);
+    row.queued = difference(sum(row.queued, one), sum(outcome.refused, outcome.dropped));
+}
+
+// Packets and bytes of both together.
+fn sum(a: Totals, b: Totals) -> Totals
+    requires packets { a.packets + b.packets < 2 ^ 64 }
+    requires bytes { a.bytes + b.bytes < 2 ^ 64 }
+    ensures { result ≡ plus a b }
+{
+    Totals {
+        packets: a.packets + b.packets,
+        bytes: a.bytes + b.bytes,
+    }
+}
+
+// Packets and bytes of the first without the second.
+fn difference(a: Totals, b: Totals) -> Totals
+    requires packets { b.packets ≤ a.packets }
+    requires bytes { b.bytes ≤ a.bytes }
+    ensures { result ≡ minus a b }
+{
+    Totals {
+        packets: a.packets - b.packets,
+        bytes: a.bytes - b.bytes,
+    }
+}

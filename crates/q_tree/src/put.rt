@@ -1,0 +1,194 @@
+ghost use Rattle.std.specs.Prelude.{◌≡◌, ◌<◌, ◌≤◌, ◌+◌, ◌++◌, ◌^◌, length, slice_get, Some, None, IsTrue, if◌then◌else◌};
+ghost use Rattle.q_fqcodel.specs.FqState.{packets_of, bytes_of};
+ghost use Rattle.q_fqcodel.specs.Put.{is_lost_itself, after_put, lost_by_put};
+ghost use Rattle.q_model.specs.Beneath as beneath;
+ghost use Rattle.q_model.specs.Node as spec;
+ghost use Rattle.q_model.specs.Node.{shape};
+ghost use Rattle.q_model.specs.Put.{put_along};
+ghost use Rattle.q_model.specs.Step.{losses_in};
+ghost use Rattle.q_model.specs.Tally.{with_packet, no_totals};
+ghost use Rattle.q_model.specs.TreeState.{loss_at_end};
+ghost use Rattle.q_model.specs.Work.{booked, settled_class};
+ghost use Rattle.q_tree.specs.Arrivals.{CanPut, IsOutcome};
+ghost use Rattle.q_tree.specs.Kept.{Kept, kept};
+ghost use Rattle.q_tree.specs.PutSteps.{CanFlow, CanQueue, IsQueued, CanPutInto, IsPutInto, rises_here, packets_beneath};
+ghost use Rattle.q_codel.specs.Losses.{losses_of};
+ghost use Rattle.q_tree.specs.Seen.{discipline_seen, children_seen, places_seen};
+
+use crate::booking::book_arrival;
+use crate::node::{Discipline, Node};
+use crate::outcome::Outcome;
+use q_codel::{Fifo, Sink};
+use q_drr::Active;
+use q_fqcodel::FqCodel;
+use q_model::Totals;
+use q_packet::{Cause, Moment, Packet, Stamped};
+
+const NOTHING: Totals = Totals {
+    packets: 0,
+    bytes: 0,
+};
+
+impl Node {
+    /// Puts a packet along its way, or refuses it where that ends, and books it at each node on the way.
+    ///
+    /// It takes no memory. `path` and `refusal` are what [`Node::route`] says of the packet, and the queue at the end has a
+    /// place for it. `sink` needs room for what is queued and one packet more.
+    #[cycle(put)]
+    pub(crate) fn put<S: Sink>(
+        &mut self,
+        path: &[usize],
+        refusal: Option<Cause>,
+        packet: Packet,
+        now: Moment,
+        sink: &mut S,
+    ) -> Outcome
+        requires ready { CanPut now packet path.now refusal self.old }
+        requires sink { length (beneath.beneath self.old) + 1 ≤ S.room sink.old }
+        ensures after { self.new ≡ booked kept self.old (put_along now packet refusal path.now (shape self.old)).node }
+        ensures arrived { self.new.memory.counts.arrived ≡ with_packet self.old.memory.counts.arrived packet }
+        ensures outcome { IsOutcome (loss_at_end now packet (shape self.old) (record { path = path.now; refusal = refusal }))
+            (put_along now packet refusal path.now (shape self.old)).rises result }
+        ensures lost { S.losses sink.new ≡ S.losses sink.old ++ losses_in (put_along now packet refusal path.now (shape self.old)).rises }
+        ensures room { S.room sink.new + length (losses_in (put_along now packet refusal path.now (shape self.old)).rises) ≡ S.room sink.old }
+        ensures kept { S.keeps sink.old sink.new }
+    {
+        let Some((&place, rest)) = path.split_first() else {
+            let outcome = self.discipline.put_here(refusal, packet, now, sink);
+            book_arrival(&mut self.row, &packet, &outcome);
+            return outcome;
+        };
+        let outcome = self
+            .discipline
+            .put_beneath(place, rest, refusal, packet, now, sink);
+        book_arrival(&mut self.row, &packet, &outcome);
+        outcome
+    }
+}
+
+impl Discipline {
+    // Queues a packet in its own list, or refuses it.
+    fn put_here<S: Sink>(
+        &mut self,
+        refusal: Option<Cause>,
+        packet: Packet,
+        now: Moment,
+        sink: &mut S,
+    ) -> Outcome
+        requires can { CanQueue packet refusal (places_seen self.old) (discipline_seen self.old) }
+        requires sink { length (beneath.packets_in (discipline_seen self.old)) + 1 ≤ S.room sink.old }
+        ensures after { IsQueued now packet refusal self.old self.new result }
+        ensures lost { S.losses sink.new ≡ S.losses sink.old ++ losses_in (rises_here now packet refusal (discipline_seen self.old)) }
+        ensures room { S.room sink.new + length (losses_in (rises_here now packet refusal (discipline_seen self.old))) ≡ S.room sink.old }
+        ensures kept { S.keeps sink.old sink.new }
+    {
+        if let Some(cause) = refusal {
+            sink.lost(packet, cause);
+            return Outcome {
+                loss: refusal,
+                refused: only(&packet),
+                dropped: NOTHING,
+            };
+        }
+        match self {
+            Discipline::Fifo(fifo) => {
+                fifo.put(Stamped { packet, at: now });
+                return Outcome {
+                    loss: None,
+                    refused: NOTHING,
+                    dropped: NOTHING,
+                };
+            }
+            Discipline::FqCodel(queue) => return put_in_flow(queue, packet, now, sink),
+            Discipline::Prio { .. } | Discipline::Tbf { .. } | Discipline::Drr { .. } => {
+                unreachable!()
+            }
+        }
+    }
+
+    // Puts a packet into the child at this place. A class of a drr with something queued is active then.
+    #[cycle(put)]
+    fn put_beneath<S: Sink>(
+        &mut self,
+        place: usize,
+        rest: &[usize],
+        refusal: Option<Cause>,
+        packet: Packet,
+        now: Moment,
+        sink: &mut S,
+    ) -> Outcome
+        requires child { CanPutInto now packet refusal rest.now place (discipline_seen self.old) (children_seen self.old) }
+        requires sink { length (packets_beneath (children_seen self.old)) + 1 ≤ S.room sink.old }
+        ensures after { (c : spec.Node Kept) → slice_get (children_seen self.old) place ≡ Some c
+            → IsPutInto now packet refusal rest.now place self.old self.new c result }
+        ensures lost { (c : spec.Node Kept) → slice_get (children_seen self.old) place ≡ Some c
+            → S.losses sink.new ≡ S.losses sink.old ++ losses_in (put_along now packet refusal rest.now (shape c)).rises }
+        ensures room { (c : spec.Node Kept) → slice_get (children_seen self.old) place ≡ Some c
+            → S.room sink.new + length (losses_in (put_along now packet refusal rest.now (shape c)).rises) ≡ S.room sink.old }
+        ensures kept { S.keeps sink.old sink.new }
+    {
+        match self {
+            Discipline::Prio { bands, .. } => {
+                return bands[place].put(rest, refusal, packet, now, sink);
+            }
+            Discipline::Tbf { child, .. } => return child.put(rest, refusal, packet, now, sink),
+            Discipline::Drr { active, classes } => {
+                let outcome = classes[place].put(rest, refusal, packet, now, sink);
+                settle(active, place, classes[place].is_empty());
+                return outcome;
+            }
+            Discipline::Fifo(_) | Discipline::FqCodel(_) => unreachable!(),
+        }
+    }
+}
+
+// Puts a packet into its flow, and counts what the fattest flow loses.
+fn put_in_flow<S: Sink>(queue: &mut FqCodel, packet: Packet, now: Moment, sink: &mut S) -> Outcome
+    requires place { packets_of queue.old.state.flows < queue.old.places }
+    requires flow { CanFlow packet queue.old.state }
+    requires sink { packets_of queue.old.state.flows + 1 ≤ S.room sink.old }
+    ensures after { queue.new.state ≡ after_put queue.old.state packet now }
+    ensures places { queue.new.places ≡ queue.old.places }
+    ensures loss { result.loss ≡ (if is_lost_itself queue.old.state packet now then Some Cause.FatFlow else None) }
+    ensures refused { result.refused ≡ no_totals }
+    ensures dropped { result.dropped ≡ beneath.totals_in (beneath.packets_of (lost_by_put queue.old.state packet now)) }
+    ensures lost { S.losses sink.new ≡ S.losses sink.old ++ losses_of Cause.FatFlow (lost_by_put queue.old.state packet now) }
+    ensures room { S.room sink.new + length (lost_by_put queue.old.state packet now) ≡ S.room sink.old }
+    ensures kept { S.keeps sink.old sink.new }
+{
+    let (packets, bytes) = queue.queued();
+    let is_lost = queue.put(packet, now, sink);
+    let (packets_after, bytes_after) = queue.queued();
+    Outcome {
+        loss: is_lost.then_some(Cause::FatFlow),
+        refused: NOTHING,
+        dropped: Totals {
+            packets: packets + 1 - packets_after,
+            bytes: bytes + u64::from(packet.len) - bytes_after,
+        },
+    }
+}
+
+// A class with something queued is active, and another is not (tc-drr(8)).
+fn settle(active: &mut Active, place: usize, is_empty: bool)
+    ensures { active.new ≡ settled_class place is_empty active.old }
+{
+    let Some(class) = active.class_at(place) else {
+        return;
+    };
+    if is_empty {
+        active.sleep(class);
+    } else {
+        active.wake(class);
+    }
+}
+
+// One packet.
+fn only(packet: &Packet) -> Totals
+    ensures { result ≡ with_packet no_totals packet.now }
+{
+    Totals {
+        packets: 1,
+        bytes: u64::from(packet.len),
+    }
+}
