@@ -11,6 +11,7 @@ mod booking;
 mod matching;
 mod node;
 mod outcome;
+mod prepare;
 mod put;
 mod way;
 

@@ -1,0 +1,114 @@
+-- A tree in which one queue has more places is the same tree but for its memory.
+use Rattle.std.proofs.Common.{◌≡◌, ℕ, zero, suc, ◌<◌, ◌∙◌, List, [], ◌∷◌, map, set, length, refl, sym, ap, ap₂, subst, arith, Option, Some, None, Result, Ok, Err, option_and_then}
+use Rattle.std.specs.Prelude.{All, IfSome, IsSome, OnOk, slice_get, slice_index_or}
+use Rattle.std.proofs.lemmas.List.Elements.{All-nil, All-cons, All-head, All-tail}
+use Rattle.std.proofs.lemmas.Option.{slice_get_within}
+use Rattle.std.proofs.lemmas.Bool.{false≢true}
+use Rattle.q_model.specs.declared.totals.Totals.{Totals}
+use Rattle.q_model.specs.Beneath.{beneath, beneath_own, totals_in}
+use Rattle.q_model.specs.Find.{node_at}
+use Rattle.q_model.specs.Node as spec
+use Rattle.q_model.specs.Node.{Node, Forest, children, side_by_side, each, each_memory}
+use Rattle.q_model.specs.Tally.{Counts}
+use Rattle.q_model.proofs.ShrinkLemmas.{each-each_memory}
+use Rattle.q_sound.proofs.Forests.{each-side}
+use Rattle.q_tree.specs.Arrivals.{HasPlace, HasPlaceIn}
+use Rattle.q_tree.specs.Kept.{Kept}
+use Rattle.q_tree.specs.Places.{unplaced, Leads, HasPlaceAt}
+use Rattle.q_tree.specs.Seen.{seen, discipline_seen, children_seen, IsKept, IsCountedWithin}
+use Rattle.q_tree.specs.declared.node.Discipline.{Discipline}
+use Rattle.q_tree.specs.declared.node.Node.TheInside.{Inside}
+use Rattle.q_tree.proofs.Forms.{nodes-side}
+use Rattle.q_tree.proofs.Puts.{same-child}
+
+pub on-ok : {A B : Type 0} {P Q : Type 0} (r : Result A B) → (P → Q) → OnOk r P → OnOk r Q
+on-ok (Ok x) f h = f h
+on-ok (Err e) f h = h
+
+-- one child changed
+pub set-unplaced : (ns : List (Node Kept)) (i : ℕ) (x x2 : Node Kept) → x ≡ slice_index_or ns i x → unplaced x2 ≡ unplaced x → map unplaced (set ns i x2) ≡ map unplaced ns
+set-unplaced [] i x x2 is e = refl
+set-unplaced (n ∷ ns) zero x x2 is e = ap (λ (y : Node Counts). y ∷ map unplaced ns) (e ∙ ap unplaced is)
+set-unplaced (n ∷ ns) (suc i) x x2 is e = ap (λ (ys : List (Node Counts)). unplaced n ∷ ys) (set-unplaced ns i x x2 is e)
+
+set-there : (ns : List (Node Kept)) (i : ℕ) (x : Node Kept) → i < length ns → slice_get (set ns i x) i ≡ Some x
+set-there [] i x e = absurd (omega (arith, e))
+set-there (n ∷ ns) zero x e = refl
+set-there (n ∷ ns) (suc i) x e = set-there ns i x (omega (arith, e))
+
+-- the child that a way leads on from
+pub record IsLed (rest : List ℕ) (i : ℕ) (ns : List (Node Kept)) : Type 0 where
+  pub child : Node Kept
+  pub there : slice_get ns i ≡ Some child
+  pub on : IsSome (node_at rest child)
+
+pub led : (rest : List ℕ) (i : ℕ) (ns : List (Node Kept)) → Leads rest i ns → IsLed rest i ns
+led rest i ns h = by (slice_get ns i) refl h
+  where
+    by : (o : Option (Node Kept)) → slice_get ns i ≡ o → IsSome (option_and_then (node_at rest) o) → IsLed rest i ns
+    by None e h = absurd (false≢true h)
+    by (Some c) e h = record { child = c; there = e; on = h }
+
+pub within-led : (rest : List ℕ) (i : ℕ) (before ns : List (Node Kept)) → Leads rest i before → before ≡ ns → i < length ns
+within-led rest i before ns h e = let l = led rest i before h in slice_get_within ns i l.child (ap (λ xs. slice_get xs i) (sym e) ∙ l.there)
+
+pub leads-on : (rest : List ℕ) (i : ℕ) (before ns : List (Node Kept)) (x : Node Kept) → Leads rest i before → before ≡ ns → x ≡ slice_index_or ns i x → IsSome (node_at rest x)
+leads-on rest i before ns x h e is =
+    let l = led rest i before h in
+    subst (λ (n : Node Kept). IsSome (node_at rest n)) (sym (same-child ns i x l.child is (ap (λ xs. slice_get xs i) (sym e) ∙ l.there))) l.on
+
+pub has-place : {A B : Type 0} (r : Result A B) (rest : List ℕ) (i : ℕ) (ns : List (Node Kept)) (x : Node Kept) → i < length ns → OnOk r (HasPlace rest x) → OnOk r (HasPlaceAt rest i (set ns i x))
+has-place r rest i ns x inside h =
+    on-ok r (λ p. subst (λ (o : Option (Node Kept)). IfSome (option_and_then (node_at rest) o) (λ (end : Node Kept). HasPlaceIn end.memory.places end.own.discipline)) (sym (set-there ns i x inside)) p) h
+
+-- a node whose children have other places
+side-unplaced : (ns : List (Node Kept)) → each_memory (λ (k : Kept). k.counts) (side_by_side ns) ≡ side_by_side (map unplaced ns)
+side-unplaced [] = refl
+side-unplaced (n ∷ ns) = ap (λ (x : Forest Counts). spec.more n.own n.memory.counts (each_memory (λ (k : Kept). k.counts) n.below) x) (side-unplaced ns)
+
+beneath-unplaced : (ns : List (Node Kept)) → map beneath (map unplaced ns) ≡ map beneath ns
+beneath-unplaced [] = refl
+beneath-unplaced (n ∷ ns) = ap₂ (λ x xs. x ∷ xs) (ap (beneath_own n.own) (each-each_memory beneath_own (λ (k : Kept). k.counts) n.below)) (beneath-unplaced ns)
+
+module _ (t : Totals) where
+  to-unplaced : (ns : List (Node Kept)) → All (λ (child : Node Kept). IsCountedWithin child.memory.counts.arrived t) ns → All (λ (child : Node Counts). IsCountedWithin child.memory.arrived t) (map unplaced ns)
+  to-unplaced [] h = All-nil (λ (child : Node Counts). IsCountedWithin child.memory.arrived t)
+  to-unplaced (n ∷ ns) h =
+      All-cons (λ (child : Node Counts). IsCountedWithin child.memory.arrived t) (unplaced n) (map unplaced ns) (All-head (λ (child : Node Kept). IsCountedWithin child.memory.counts.arrived t) n ns h)
+      (to-unplaced ns (All-tail (λ (child : Node Kept). IsCountedWithin child.memory.counts.arrived t) n ns h))
+
+  from-unplaced : (ns : List (Node Kept)) → All (λ (child : Node Counts). IsCountedWithin child.memory.arrived t) (map unplaced ns) → All (λ (child : Node Kept). IsCountedWithin child.memory.counts.arrived t) ns
+  from-unplaced [] h = All-nil (λ (child : Node Kept). IsCountedWithin child.memory.counts.arrived t)
+  from-unplaced (n ∷ ns) h =
+      All-cons (λ (child : Node Kept). IsCountedWithin child.memory.counts.arrived t) n ns (All-head (λ (child : Node Counts). IsCountedWithin child.memory.arrived t) (unplaced n) (map unplaced ns) h)
+      (from-unplaced ns (All-tail (λ (child : Node Counts). IsCountedWithin child.memory.arrived t) (unplaced n) (map unplaced ns) h))
+
+module _ (a : Inside) (d : Discipline) (same : discipline_seen d ≡ discipline_seen a.discipline) (kids : map unplaced (children_seen d) ≡ map unplaced (children_seen a.discipline)) where
+  same-beneath : beneath (seen (record a { discipline = d })) ≡ beneath (seen a)
+  same-beneath =
+      ap (λ x. beneath_own (record { handle = a.handle; discipline = x; held = a.held; filters = a.filters.items }) (each beneath_own (side_by_side (children_seen d)))) same
+      ∙ ap (beneath_own (seen a).own) (each-side beneath_own (children_seen d) ∙ sym (beneath-unplaced (children_seen d)) ∙ ap (map beneath) kids ∙ beneath-unplaced (children_seen a.discipline) ∙ sym (each-side beneath_own (children_seen a.discipline)))
+
+  pub kept-places : IsKept a → IsKept (record a { discipline = d })
+  kept-places k = record {
+    queued = k.queued ∙ ap totals_in (sym same-beneath);
+    balanced = k.balanced;
+    within = from-unplaced a.row.arrived (children_seen d) (subst (All (λ (child : Node Counts). IsCountedWithin child.memory.arrived a.row.arrived)) (sym kids) (to-unplaced a.row.arrived (children_seen a.discipline) k.within));
+  }
+
+  pub same-places : (n : Node Kept) → seen a ≡ n → unplaced (seen (record a { discipline = d })) ≡ unplaced n
+  same-places n view =
+      let below : each_memory (λ (k : Kept). k.counts) (side_by_side (children_seen d)) ≡ each_memory (λ (k : Kept). k.counts) (side_by_side (children_seen a.discipline)) =
+      side-unplaced (children_seen d) ∙ ap side_by_side kids ∙ sym (side-unplaced (children_seen a.discipline)) in
+      (λ j. record { own = record { handle = a.handle; discipline = same j; held = a.held; filters = a.filters.items }; memory = (seen a).memory.counts; below = below j }) ∙ ap unplaced view
+
+-- the way of a node goes on in its children
+pub way-on : (i : ℕ) (rest path : List ℕ) (a : Inside) (n : Node Kept) → seen a ≡ n → path ≡ i ∷ rest → IsSome (node_at path n) → Leads rest i (children_seen a.discipline)
+way-on i rest path a n view e h =
+    subst (λ xs. IsSome (option_and_then (node_at rest) (slice_get xs i))) (nodes-side (children_seen a.discipline))
+    (subst (λ (m : Node Kept). IsSome (node_at (i ∷ rest) m)) (sym view) (subst (λ xs. IsSome (node_at xs n)) e h))
+
+pub place-on : {A B : Type 0} (r : Result A B) (i : ℕ) (rest path : List ℕ) (a : Inside) → path ≡ i ∷ rest → OnOk r (HasPlaceAt rest i (children_seen a.discipline)) → OnOk r (HasPlace path (seen a))
+place-on r i rest path a e h =
+    on-ok r (λ p. subst (λ xs. HasPlace xs (seen a)) (sym e)
+    (subst (λ xs. IfSome (option_and_then (node_at rest) (slice_get xs i)) (λ (end : Node Kept). HasPlaceIn end.memory.places end.own.discipline)) (sym (nodes-side (children_seen a.discipline))) p)) h

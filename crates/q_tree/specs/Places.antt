@@ -1,0 +1,19 @@
+-- A node without the places of its queues, which are memory and mean nothing to the rules, and the place that a way leads to.
+-- Nothing here is of a standard.
+use Rattle.std.specs.Prelude.{ℕ, List, IfSome, IsSome, option_and_then, slice_get}
+use Rattle.q_model.specs.Find.{node_at}
+use Rattle.q_model.specs.Node.{Node, with_memory}
+use Rattle.q_model.specs.Tally.{Counts}
+use Rattle.q_tree.specs.Arrivals.{HasPlaceIn}
+use Rattle.q_tree.specs.Kept.{Kept}
+
+abbrev pub unplaced : Node Kept → Node Counts
+unplaced n = with_memory (λ (k : Kept). k.counts) n
+
+-- the way leads on to a node, from the child in this place
+abbrev pub Leads : List ℕ → ℕ → List (Node Kept) → Type 0
+Leads rest place children = IsSome (option_and_then (node_at rest) (slice_get children place))
+
+-- and the queue there has a place for one packet more
+abbrev pub HasPlaceAt : List ℕ → ℕ → List (Node Kept) → Type 0
+HasPlaceAt rest place children = IfSome (option_and_then (node_at rest) (slice_get children place)) (λ (end : Node Kept). HasPlaceIn end.memory.places end.own.discipline)

@@ -1,0 +1,58 @@
+ghost use Rattle.std.specs.Prelude.{◌≡◌, ◌∷◌, map, IsSome, OnOk};
+ghost use Rattle.q_model.specs.Find.{node_at};
+ghost use Rattle.q_tree.specs.Arrivals.{HasPlace, HasPlaceIn};
+ghost use Rattle.q_tree.specs.Places.{unplaced, Leads, HasPlaceAt};
+ghost use Rattle.q_tree.specs.Seen.{discipline_seen, children_seen, places_seen};
+
+use crate::node::{Discipline, Node};
+use std::alloc::AllocError;
+
+impl Node {
+    /// Makes a place for one packet more in the queue where this way ends, if it ends in one. The places are all that
+    /// changes, also where memory is refused.
+    #[cycle(prepare)]
+    pub(crate) fn prepare(&mut self, path: &[usize]) -> Result<(), AllocError>
+        requires { IsSome (node_at path.now self.old) }
+        ensures same { unplaced self.new ≡ unplaced self.old }
+        ensures ok { OnOk result (HasPlace path.now self.new) }
+    {
+        let Some((&place, rest)) = path.split_first() else {
+            return self.discipline.reserve();
+        };
+        self.discipline.prepare_beneath(place, rest)
+    }
+}
+
+impl Discipline {
+    // Makes a place in its own queue, if it has one.
+    fn reserve(&mut self) -> Result<(), AllocError>
+        ensures discipline { discipline_seen self.new ≡ discipline_seen self.old }
+        ensures children { children_seen self.new ≡ children_seen self.old }
+        ensures ok { OnOk result (HasPlaceIn (places_seen self.new) (discipline_seen self.new)) }
+    {
+        match self {
+            Discipline::Fifo(fifo) => return fifo.reserve(),
+            Discipline::FqCodel(queue) => return queue.reserve(),
+            Discipline::Prio { .. } | Discipline::Tbf { .. } | Discipline::Drr { .. } => {
+                return Ok(());
+            }
+        }
+    }
+
+    // Makes a place beneath the child in this place.
+    #[cycle(prepare)]
+    fn prepare_beneath(&mut self, place: usize, rest: &[usize]) -> Result<(), AllocError>
+        requires { Leads rest.now place (children_seen self.old) }
+        ensures discipline { discipline_seen self.new ≡ discipline_seen self.old }
+        ensures places { places_seen self.new ≡ places_seen self.old }
+        ensures children { map unplaced (children_seen self.new) ≡ map unplaced (children_seen self.old) }
+        ensures ok { OnOk result (HasPlaceAt rest.now place (children_seen self.new)) }
+    {
+        match self {
+            Discipline::Prio { bands, .. } => return bands[place].prepare(rest),
+            Discipline::Tbf { child, .. } => return child.prepare(rest),
+            Discipline::Drr { classes, .. } => return classes[place].prepare(rest),
+            Discipline::Fifo(_) | Discipline::FqCodel(_) => return Ok(()),
+        }
+    }
+}
