@@ -14,6 +14,7 @@ pub mod Node
 pub mod NotDone
 pub mod Numbers
 pub mod Options
+pub mod Pop
 pub mod Put
 pub mod QdiscCommands
 pub mod Quanta
