@@ -1,3 +1,4 @@
+pub mod AtHandLemmas
 pub mod FlowCounts
 pub mod Forms
 pub mod HereLemmas

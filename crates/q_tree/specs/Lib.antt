@@ -1,5 +1,6 @@
 pub mod Ahead
 pub mod Arrivals
+pub mod AtHand
 pub mod Kept
 pub mod NodeCode
 pub mod NodeFalls

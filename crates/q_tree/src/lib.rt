@@ -7,6 +7,7 @@
 //! What a tree does is defined in the `specs/` of `q_model`. Of its code the filters stand today.
 #![tactic(auto)]
 
+mod at_hand;
 mod booking;
 mod matching;
 mod node;

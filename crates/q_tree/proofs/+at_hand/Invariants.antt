@@ -1,0 +1,16 @@
+use Rattle.std.proofs.Common.{◌≡◌, map, drop}
+use Rattle.q_model.specs.Node.{side_by_side}
+use Rattle.q_model.specs.Pop.{pop}
+use Rattle.q_tree.specs.AtHand.{first_shown}
+use Rattle.q_tree.specs.NodeCode.{node_size, forest_size}
+use Rattle.q_tree.proofs.+at_hand.Given as goal
+
+abbrev pub invariant-at_hand::first_at_hand-loop-band :
+    goal.invariant-at_hand::first_at_hand-loop-band
+invariant-at_hand::first_at_hand-loop-band l = first_shown (map pop (drop l.band-index l.fn.bands)) ≡ first_shown (map pop l.fn.bands)
+
+abbrev pub decreases-node::Node::at_hand : goal.decreases-node::Node::at_hand
+decreases-node::Node::at_hand l = node_size l.self.now
+
+abbrev pub decreases-at_hand::first_at_hand : goal.decreases-at_hand::first_at_hand
+decreases-at_hand::first_at_hand l = forest_size (side_by_side l.bands.now)
