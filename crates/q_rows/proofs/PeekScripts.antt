@@ -20,12 +20,12 @@ tree = (run (add_root (Some 1) Drr ∷ add_class 1 1 (Some 1000) ∷ filter_port
 rows_of : TreeState Counts → List (Option Row)
 rows_of s = map (λ p. stats totals p s) (Top ∷ Root ∷ in_class 1 1 ∷ [])
 
-row : ℕ → ℕ → Option Row
-row sent queued = Some (record { arrived = pb 1 600; sent = pb sent (600 * sent); refused = no_totals; dropped = no_totals; queued = pb queued (600 * queued); marked = no_totals })
+with_sent_and_queued : ℕ → ℕ → Option Row
+with_sent_and_queued sent queued = Some (record { arrived = pb 1 600; sent = pb sent (600 * sent); refused = no_totals; dropped = no_totals; queued = pb queued (600 * queued); marked = no_totals })
 
 -- the drr dequeues the packet that it shows and holds it: it has left the class, and waits at the drr
-peek_holds : rows_of (peek_packet totals 0 tree) ≡ row 0 1 ∷ row 0 1 ∷ row 1 0 ∷ []
-unfolding tree rows_of row shared_rules
+peek_holds : rows_of (peek_packet totals 0 tree) ≡ with_sent_and_queued 0 1 ∷ with_sent_and_queued 0 1 ∷ with_sent_and_queued 1 0 ∷ []
+unfolding tree rows_of with_sent_and_queued shared_rules
 peek_holds = refl
 
 -- a second peek shows the same packet and changes nothing
@@ -38,8 +38,8 @@ unfolding tree shared_rules
 shown_twice = refl
 
 -- a take after it gives the packet, once
-take_after_peek : rows_of (take_packet totals 5 (peek_packet totals 0 tree)) ≡ row 1 0 ∷ row 1 0 ∷ row 1 0 ∷ []
-unfolding tree rows_of row shared_rules
+take_after_peek : rows_of (take_packet totals 5 (peek_packet totals 0 tree)) ≡ with_sent_and_queued 1 0 ∷ with_sent_and_queued 1 0 ∷ with_sent_and_queued 1 0 ∷ []
+unfolding tree rows_of with_sent_and_queued shared_rules
 take_after_peek = refl
 
 -- node by node, class by class, filter by filter; none past the last
