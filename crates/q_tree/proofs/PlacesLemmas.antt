@@ -6,6 +6,7 @@ use Rattle.std.proofs.lemmas.Option.{slice_get_within}
 use Rattle.std.proofs.lemmas.Bool.{false≢true}
 use Rattle.q_model.specs.declared.totals.Totals.{Totals}
 use Rattle.q_model.specs.Beneath.{beneath, beneath_own, totals_in}
+use Rattle.q_model.specs.Conserved.{held_own, held_beneath, AreMarksBounded}
 use Rattle.q_model.specs.Find.{node_at}
 use Rattle.q_model.specs.Node as spec
 use Rattle.q_model.specs.Node.{Node, Forest, children, side_by_side, each, each_memory}
@@ -66,6 +67,10 @@ side-unplaced : (ns : List (Node Kept)) → each_memory (λ (k : Kept). k.counts
 side-unplaced [] = refl
 side-unplaced (n ∷ ns) = ap (λ (x : Forest Counts). spec.more n.own n.memory.counts (each_memory (λ (k : Kept). k.counts) n.below) x) (side-unplaced ns)
 
+held-unplaced : (ns : List (Node Kept)) → map held_beneath (map unplaced ns) ≡ map held_beneath ns
+held-unplaced [] = refl
+held-unplaced (n ∷ ns) = ap₂ (λ x xs. x ∷ xs) (ap (held_own n.own) (each-each_memory held_own (λ (k : Kept). k.counts) n.below)) (held-unplaced ns)
+
 beneath-unplaced : (ns : List (Node Kept)) → map beneath (map unplaced ns) ≡ map beneath ns
 beneath-unplaced [] = refl
 beneath-unplaced (n ∷ ns) = ap₂ (λ x xs. x ∷ xs) (ap (beneath_own n.own) (each-each_memory beneath_own (λ (k : Kept). k.counts) n.below)) (beneath-unplaced ns)
@@ -89,10 +94,14 @@ module _ (a : Inside) (d : Discipline) (same : discipline_seen d ≡ discipline_
       ap (λ x. beneath_own (record { handle = a.handle; discipline = x; held = a.held; filters = a.filters.items }) (each beneath_own (side_by_side (children_seen d)))) same
       ∙ ap (beneath_own (seen a).own) (each-side beneath_own (children_seen d) ∙ sym (beneath-unplaced (children_seen d)) ∙ ap (map beneath) kids ∙ beneath-unplaced (children_seen a.discipline) ∙ sym (each-side beneath_own (children_seen a.discipline)))
 
+  same-held : held_beneath (seen (record a { discipline = d })) ≡ held_beneath (seen a)
+  same-held = ap (held_own (seen a).own) (each-side held_own (children_seen d) ∙ sym (held-unplaced (children_seen d)) ∙ ap (map held_beneath) kids ∙ held-unplaced (children_seen a.discipline) ∙ sym (each-side held_own (children_seen a.discipline)))
+
   pub kept-places : IsKept a → IsKept (record a { discipline = d })
   kept-places k = record {
     queued = k.queued ∙ ap totals_in (sym same-beneath);
     balanced = k.balanced;
+    marks = subst (AreMarksBounded (seen a).memory.counts) (sym same-held) k.marks;
     within = from-unplaced a.row.arrived (children_seen d) (subst (All (λ (child : Node Counts). IsCountedWithin child.memory.arrived a.row.arrived)) (sym kids) (to-unplaced a.row.arrived (children_seen a.discipline) k.within));
   }
 

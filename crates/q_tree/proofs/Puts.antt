@@ -18,7 +18,7 @@ use Rattle.q_fqcodel.specs.Put.{flow_of}
 use Rattle.q_model.specs.declared.row.Row.{Row}
 use Rattle.q_model.specs.declared.totals.Totals.{Totals}
 use Rattle.q_model.specs.Beneath.{beneath, beneath_own, packets_in, is_empty, totals_in}
-use Rattle.q_model.specs.Conserved.{IsBalanced}
+use Rattle.q_model.specs.Conserved.{held_own, held_beneath, IsBalanced, AreMarksBounded}
 use Rattle.q_model.specs.Find.{node_at}
 use Rattle.q_model.specs.Lawful.{IsLawfulOwn}
 use Rattle.q_model.specs.Node as spec
@@ -79,6 +79,17 @@ module _ (now : ℕ) (p : Descriptor) (path : List ℕ) (refusal : Option Cause)
       record {
         packets = omega (arith, is-put.conserved one, ap (weigh one) (same-beneath n), ap (weigh one) same, weigh-count (beneath n), weigh-count after);
         bytes = omega (arith, is-put.conserved bytes, ap (weigh bytes) (same-beneath n), ap (weigh bytes) same, weigh-bytes (beneath n), weigh-bytes after);
+      }
+
+  -- no packet is marked, and those held stay
+  pub marks-after : (r : Row) (o : Outcome) → AreMarksBounded (counts_in_row r) (held_beneath n) → AreMarksBounded (counts_in_row (with_arrival p o r)) (held_beneath (booked kept n (put_along now p refusal path (shape n)).node))
+  marks-after r o h =
+      let after : List Descriptor = held_beneath (booked kept n (put_along now p refusal path (shape n)).node) in
+      let same = root-booked kept held_own n (put_along now p refusal path (shape n)).node told in
+      let bare : held_beneath (shape n) ≡ held_beneath n = ap (held_own n.own) (each-each_memory held_own (λ m. tt) n.below) in
+      record {
+        packets = omega (arith, h.packets, is-put.held one, ap (weigh one) bare, ap (weigh one) same, weigh-count (held_beneath n), weigh-count after);
+        bytes = omega (arith, h.bytes, is-put.held bytes, ap (weigh bytes) bare, ap (weigh bytes) same, weigh-bytes (held_beneath n), weigh-bytes after);
       }
 
 -- a way that goes on: through a child that is there, into which the packet can be put
@@ -233,6 +244,8 @@ module _ (now : ℕ) (p : Descriptor) (path : List ℕ) (refusal : Option Cause)
           ∙ queued-after p (put_along now p refusal path (shape (seen a))).rises o (beneath (seen a)) (beneath (booked kept (seen a) (put_along now p refusal path (shape (seen a))).node)) a.row
           (outcome-weighs (loss_at_end now p (shape (seen a)) (record { path = path; refusal = refusal })) (put_along now p refusal path (shape (seen a))).rises o out) (shifted now p path refusal (seen a) h) k.queued
           ∙ ap (λ (n : Node Kept). totals_in (beneath n)) (sym value);
+      marks = subst (λ (m : Node Kept). AreMarksBounded (counts_in_row r) (held_beneath m)) (sym value)
+          (subst (λ (x : Row). AreMarksBounded (counts_in_row x) (held_beneath (booked kept (seen a) (put_along now p refusal path (shape (seen a))).node))) (sym row) (marks-after now p path refusal (seen a) h a.row o k.marks));
       balanced = subst IsBalanced (sym row) (balanced-after p o a.row k.balanced lost-at);
       within = subst (λ (x : Row). All (λ (child : Node Kept). IsCountedWithin child.memory.counts.arrived x.arrived) (children_seen d)) (sym row) within;
     };

@@ -3,7 +3,7 @@
 use Rattle.std.specs.Prelude.{◌≡◌, ℕ, ◌≤◌, List, [], ◌∷◌, All}
 use Rattle.q_model.specs.declared.totals.Totals.{Totals}
 use Rattle.q_model.specs.Beneath.{beneath, totals_in}
-use Rattle.q_model.specs.Conserved.{IsBalanced}
+use Rattle.q_model.specs.Conserved.{held_beneath, IsBalanced, AreMarksBounded}
 use Rattle.q_model.specs.Node as spec
 use Rattle.q_tree.specs.Kept.{Kept}
 use Rattle.q_tree.specs.declared.node.Discipline.{Discipline}
@@ -50,4 +50,5 @@ pub record IsCountedWithin (child parent : Totals) : Type 0 where
 pub record IsKept (a : Inside) : Type 0 where
   pub queued : a.row.queued ≡ totals_in (beneath (seen a))
   pub balanced : IsBalanced a.row
+  pub marks : AreMarksBounded (seen a).memory.counts (held_beneath (seen a))
   pub within : All (λ (child : spec.Node Kept). IsCountedWithin child.memory.counts.arrived a.row.arrived) (children_seen a.discipline)

@@ -21,7 +21,8 @@ use std::marker::Model;
 /// A qdisc of the tree, with those beneath it.
 ///
 /// A contract sees it as the model's node, which remembers what it counted, and how many packets its own queue has places
-/// for. It keeps its counters: what is queued is what is beneath it, the row is balanced, and no child has more arrivals.
+/// for. It keeps its counters: what is queued is what is beneath it, the row is balanced, marks are bounded, and no child has more
+/// arrivals.
 #[cycle(node)]
 #[derive(Drop)]
 pub(crate) struct Node {
