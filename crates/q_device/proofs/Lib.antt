@@ -1,3 +1,4 @@
+mod BucketStretches
 pub mod ReplayLemmas
 pub mod ShrinkLemmas
 pub mod ToldLemmas

@@ -1,5 +1,6 @@
 //! What is true of every device and every replay. Each law is the contract of a function that does nothing.
 ghost use Rattle.q_device.specs.Laws.{ReplayGoesOn, ShrinkCommutes, ReplayShrinks, EveryReplayIsSound, TotalsAreLawful, EveryReplayTellsAll};
+ghost use Rattle.q_device.specs.Sharing.{BucketsAreBounded};
 
 use q_model::Settings;
 
@@ -31,6 +32,17 @@ pub fn conserved(settings: Settings)
     ensures histories { EveryReplayIsSound settings }
     ensures totals { TotalsAreLawful settings }
     ensures answers { EveryReplayTellsAll settings }
+{
+    settings.ranges();
+}
+
+/// A tbf that keeps its rate and its burst over a stretch of events spends, in bytes, at most its burst and what its rate
+/// brings in the time between; its node sends at most that and the length of the packet that it held at the start.
+///
+/// For all settings and every list of events whose fields are in their ranges: polls, arrivals and commands anywhere in the
+/// tree. Bytes are counted in units of 1/(8*10^9), so that nothing is rounded.
+pub fn bucket_stretch(settings: Settings)
+    ensures bounded { BucketsAreBounded settings }
 {
     settings.ranges();
 }
