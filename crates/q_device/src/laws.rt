@@ -1,6 +1,6 @@
 //! What is true of every device and every replay. Each law is the contract of a function that does nothing.
 ghost use Rattle.q_device.specs.Laws.{ReplayGoesOn, ShrinkCommutes, ReplayShrinks, EveryReplayIsSound, TotalsAreLawful, EveryReplayTellsAll};
-ghost use Rattle.q_device.specs.Sharing.{BucketsAreBounded};
+ghost use Rattle.q_device.specs.Sharing.{ClassesSendTheirShares, DeficitsAreBounded, ClassesShareByQuanta, BucketsAreBounded};
 
 use q_model::Settings;
 
@@ -32,6 +32,28 @@ pub fn conserved(settings: Settings)
     ensures histories { EveryReplayIsSound settings }
     ensures totals { TotalsAreLawful settings }
     ensures answers { EveryReplayTellsAll settings }
+{
+    settings.ranges();
+}
+
+/// A class of a drr that stays backlogged with one quantum over a stretch of events sends, in bytes that its child gives to the
+/// drr, its grants times its quantum and its first deficit less its last. Every deficit is below its quantum and the mtu together.
+///
+/// For all settings and every list of events whose fields are in their ranges: polls, arrivals and commands anywhere in the
+/// tree.
+pub fn class_stretch(settings: Settings)
+    ensures share { ClassesSendTheirShares settings }
+    ensures bounded { DeficitsAreBounded settings }
+{
+    settings.ranges();
+}
+
+/// Two classes of one drr that stay backlogged over a stretch of events get equally many grants where they stand in the same
+/// order in the active list at both ends, else the one that stood first gets one more. The bytes that they send are to each
+/// other as their quanta: they differ, each times the other's quantum, by less than three products of the quanta and a longest
+/// packet times their sum.
+pub fn pair_stretch(settings: Settings)
+    ensures classes { ClassesShareByQuanta settings }
 {
     settings.ranges();
 }

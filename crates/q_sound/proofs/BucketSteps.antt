@@ -66,7 +66,7 @@ module _ (now : ℕ) (b : TokenBucket) (w : Worked) where
     pub moved : ((bucket ≡ b) × (paid ≡ 0)) ⊎ ((allows b now paid ≡ true) × (bucket ≡ after_spend b now paid))
     pub held_is : sent + length_held w.own.held ≡ paid + length_held held
 
-given-bytes : (o : Option Descriptor) → (bytes_sent (map Sent (option_to_list o)) ≡ length_held o) × (bytes_spent (map Sent (option_to_list o)) ≡ 0)
+pub given-bytes : (o : Option Descriptor) → (bytes_sent (map Sent (option_to_list o)) ≡ length_held o) × (bytes_spent (map Sent (option_to_list o)) ≡ 0)
 given-bytes None = (refl, refl)
 given-bytes (Some p) = (omega arith, omega arith)
 

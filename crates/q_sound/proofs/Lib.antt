@@ -10,7 +10,13 @@ pub mod AskTbf
 pub mod Asks
 pub mod BucketMoves
 pub mod BucketSteps
+pub mod ClassAsks
+pub mod ClassChildren
+pub mod ClassLooks
+pub mod ClassMoves
+pub mod ClassSteps
 pub mod ClassSums
+pub mod ClassTakes
 pub mod Counted
 pub mod DrrService
 pub mod DrrSettled
@@ -52,10 +58,13 @@ pub mod Quiet
 pub mod Related
 pub mod Replays
 pub mod Risen
+pub mod SameTurns
+pub mod SentStages
 pub mod Shuffled
 pub mod Sound
 pub mod StepNodes
 pub mod Sums
+pub mod TakeTurns
 pub mod Told
 pub mod Ways
 pub mod Weights

@@ -26,7 +26,7 @@ pub record Comes (R : Shape → Worked → Type 0) (P : Node (List Note) → Typ
   pub handle : worked.own.handle ≡ before.own.handle
   pub is : booked history before worked ≡ n
 
-abbrev forget : Forest (List Note) → Forest (Unit {0})
+abbrev pub forget : Forest (List Note) → Forest (Unit {0})
 forget x = each_memory (λ m. tt) x
 
 module _ (R : Shape → Worked → Type 0) where

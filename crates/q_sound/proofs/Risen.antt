@@ -85,20 +85,21 @@ rise-drr own below s h = by (place_met s below)
     by None = rise-service s below h
     by (Some i) = child i (slice_get below i)
 
+module _ (now : ℕ) (own : Own) (below : List Asked) (h : AllRise below) where
+  pub discipline-rises : (d : Discipline) → AreRisen (ask_discipline now own below d).rises
+  discipline-rises (Fifo limit queue) = tt
+  discipline-rises (Prio priomap) = rise-taken (suc (position_or_len (λ (a : Asked). is_some a.shown) below)) below h
+  discipline-rises (Tbf b limit) = rise-tbf now own below b limit h
+  discipline-rises (Drr s) = rise-drr own below s h
+  discipline-rises (FqCodel s) =
+      risen-append (losses_of CoDel (packets_of (dropped_from now (selected s)))) (marks_of (sent_from now (selected s)))
+      (risen-losses CoDel (packets_of (dropped_from now (selected s)))) (rise-marks (sent_from now (selected s)))
+
 pub own-rises : (now : ℕ) (own : Own) (below : List Asked) → AllRise below → AreRisen (ask_own now own below).rises
 own-rises now own below h = by own.held own.discipline
   where
-    discipline : (d : Discipline) → AreRisen (ask_discipline now own below d).rises
-    discipline (Fifo limit queue) = tt
-    discipline (Prio priomap) = rise-taken (suc (position_or_len (λ (a : Asked). is_some a.shown) below)) below h
-    discipline (Tbf b limit) = rise-tbf now own below b limit h
-    discipline (Drr s) = rise-drr own below s h
-    discipline (FqCodel s) =
-        risen-append (losses_of CoDel (packets_of (dropped_from now (selected s)))) (marks_of (sent_from now (selected s)))
-        (risen-losses CoDel (packets_of (dropped_from now (selected s)))) (rise-marks (sent_from now (selected s)))
-
     by : (o : Option Descriptor) (d : Discipline) → AreRisen (option_map_or (holding own below) o (ask_discipline now own below d)).rises
-    by None d = discipline d
+    by None d = discipline-rises now own below h d
     by (Some p) d = tt
 
 pub all-rise : (now : ℕ) (x : Forest (Unit {0})) → AllRise (each (ask_own now) x)
