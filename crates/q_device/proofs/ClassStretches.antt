@@ -54,7 +54,7 @@ deficits-bounded settings range events major minor class all is =
 -- ---- one class
 
 -- the state at the start is one of the stretch
-at-start : (P : DeviceState (List Note) → Type 0) (settings : DeviceSettings) (before during : List Event) → Throughout P settings before during → P (device_after settings before)
+pub at-start : (P : DeviceState (List Note) → Type 0) (settings : DeviceSettings) (before during : List Event) → Throughout P settings before during → P (device_after settings before)
 at-start P settings before during stays = subst (λ (es : List Event). P (device_after settings es)) (append-nil before) (stays [] during refl)
 
 at-end : (P : DeviceState (List Note) → Type 0) (settings : DeviceSettings) (before during : List Event) → Throughout P settings before during → P (device_after settings (before ++ during))

@@ -1,16 +1,17 @@
 -- What is true of sharing over every stretch of every replay, for a tbf, for the classes of a drr and for the flows of an fq_codel.
 -- What a stretch is and what is counted in it stands in q_model's specs/Stretches.antt. RFC 2211 has the bound of a token bucket.
-use Rattle.std.specs.Prelude.{◌≡◌, ◌≢◌, ℕ, ◌+◌, ◌-◌, ◌*◌, ◌<◌, ◌≤◌, true, false, List, ◌++◌, All, Some}
+use Rattle.std.specs.Prelude.{◌≡◌, ◌≢◌, ℕ, ◌+◌, ◌-◌, ◌*◌, ◌<◌, ◌≤◌, ℤ, pos, ◌+ℤ◌, true, false, List, ◌++◌, All, Some}
 use Rattle.q_bucket.specs.Level.{units_in_byte}
 use Rattle.q_drr.specs.Schedule.{quantum_of, deficit_of}
 use Rattle.q_drr.specs.Stretch.{stands_first}
+use Rattle.q_fqcodel.specs.Laws.{credits_of}
 use Rattle.q_model.specs.declared.event.Event.{Event}
 use Rattle.q_model.specs.Tally.{Note, history}
 use Rattle.q_model.specs.Events.{IsEvent}
 use Rattle.q_model.specs.Replay.{replay}
 use Rattle.q_model.specs.Settings.{DeviceSettings}
 use Rattle.q_model.specs.Step.{DeviceState}
-use Rattle.q_model.specs.Stretches.{bytes_sent, bytes_spent, grants_to, length_held, ClassAt, class_in, TbfAt, tbf_in, IsBackloggedClass, IsTbf, Throughout}
+use Rattle.q_model.specs.Stretches.{bytes_sent, bytes_spent, grants_to, flow_grants_to, bytes_given, length_held, ClassAt, class_in, TbfAt, tbf_in, FqAt, fq_in, IsBackloggedClass, IsTbf, IsBackloggedFlow, Throughout}
 
 -- the device after a list of events
 abbrev pub device_after : DeviceSettings → List Event → DeviceState (List Note)
@@ -83,3 +84,23 @@ BucketsAreBounded settings =
     → Throughout (IsTbf major rate burst) settings before during
     → tbf_in major (device_after settings before) ≡ Some first → tbf_in major (device_after settings (before ++ during)) ≡ Some last
     → IsBounded rate burst (device_after settings before).clock (device_after settings (before ++ during)).clock first last
+
+-- ---- a flow of an fq_codel
+
+-- Over a stretch the fq_codel noted these. The flow is listed at both ends, and gave its node, in bytes, its grants times the
+-- quantum and its first credits less its last; what CoDel or the fat flow loses is not among them, since nothing pays for it.
+pub record GivesItsShare (flow quantum : ℕ) (first last : FqAt) : Type 0 where
+  pub notes : List Note
+  pub goes_on : last.noted ≡ first.noted ++ notes
+  pub first_credits : ℤ
+  pub last_credits : ℤ
+  pub at_first : credits_of flow (first.state.fresh ++ first.state.stale) ≡ Some first_credits
+  pub at_last : credits_of flow (last.state.fresh ++ last.state.stale) ≡ Some last_credits
+  pub share : pos (bytes_given flow notes) +ℤ last_credits ≡ pos (flow_grants_to flow notes * quantum) +ℤ first_credits
+
+abbrev pub FlowsGiveTheirShares : DeviceSettings → Type 0
+FlowsGiveTheirShares settings =
+    (before during : List Event) (major flow quantum : ℕ) (first last : FqAt) → All IsEvent before → All IsEvent during
+    → Throughout (IsBackloggedFlow major flow quantum) settings before during
+    → fq_in major (device_after settings before) ≡ Some first → fq_in major (device_after settings (before ++ during)) ≡ Some last
+    → GivesItsShare flow quantum first last

@@ -1,6 +1,6 @@
 //! What is true of every device and every replay. Each law is the contract of a function that does nothing.
 ghost use Rattle.q_device.specs.Laws.{ReplayGoesOn, ShrinkCommutes, ReplayShrinks, EveryReplayIsSound, TotalsAreLawful, EveryReplayTellsAll};
-ghost use Rattle.q_device.specs.Sharing.{ClassesSendTheirShares, DeficitsAreBounded, ClassesShareByQuanta, BucketsAreBounded};
+ghost use Rattle.q_device.specs.Sharing.{ClassesSendTheirShares, DeficitsAreBounded, ClassesShareByQuanta, BucketsAreBounded, FlowsGiveTheirShares};
 
 use q_model::Settings;
 
@@ -65,6 +65,14 @@ pub fn pair_stretch(settings: Settings)
 /// tree. Bytes are counted in units of 1/(8*10^9), so that nothing is rounded.
 pub fn bucket_stretch(settings: Settings)
     ensures bounded { BucketsAreBounded settings }
+{
+    settings.ranges();
+}
+
+/// A flow of an fq_codel that stays backlogged with one quantum over a stretch of events gives its node, in bytes, its grants
+/// times the quantum and its first credits less its last; packets that CoDel or the fat flow loses are not among them.
+pub fn flow_stretch(settings: Settings)
+    ensures share { FlowsGiveTheirShares settings }
 {
     settings.ranges();
 }

@@ -41,6 +41,8 @@ pub mod EditRetuned
 pub mod EditSuits
 pub mod Edits
 pub mod Exact
+pub mod FlowLists
+pub mod FlowMoves
 pub mod FlowNotes
 pub mod Forests
 pub mod Joined
