@@ -1,6 +1,6 @@
 -- The classes of a drr over a stretch, one and two of them, from what each event comes to there.
 use Rattle.std.proofs.Common.{◌≡◌, ◌≢◌, ℕ, ◌+◌, ◌*◌, ◌<◌, ◌≤◌, true, false, Bool, List, [], ◌∷◌, ◌++◌, max, refl, sym, ap, subst, ◌∙◌, Some, Ok, Err, Result, arith}
-use Rattle.std.specs.Prelude.{All, drop}
+use Rattle.std.specs.Prelude.{All, drop, IsSomeAnd}
 use Rattle.std.proofs.lemmas.List.Elements.{All-append}
 use Rattle.std.proofs.Math.Nat.{add-mul, mul-add, mul_comm, mul_assoc, mul-le-mul_left, mul-lt-mul_of_pos_left}
 use Rattle.std.proofs.lemmas.List.{append-nil}
@@ -25,8 +25,9 @@ use Rattle.q_sound.proofs.Replays.{IsKept, replay-kept}
 use Rattle.q_sound.proofs.Along.{moves}
 use Rattle.q_sound.proofs.TakeTurns.{one_if}
 use Rattle.q_sound.proofs.ClassChildren.{child-has}
-use Rattle.q_sound.proofs.ClassMoves.{class-node, drr-lawful, ClassMoves, class-moves, more-class-moves, no-class-moves, PairMoves, same-noted, pair-moves, more-pair-moves, no-pair-moves, deficit-bounded}
-use Rattle.q_device.specs.Sharing.{device_after, ClassesSendTheirShares, DeficitsAreBounded, ClassesShareByQuanta}
+use Rattle.q_sound.proofs.ClassMoves.{class-node, drr-lawful, ClassMoves, class-moves, more-class-moves, no-class-moves, PairMoves, same-noted, pair-moves, more-pair-moves, no-pair-moves, deficit-bounded, class-short}
+use Rattle.q_device.proofs.ReplayLemmas.{replay_from-append}
+use Rattle.q_device.specs.Sharing.{device_after, length_shown, GrantsComeWhereShort, ClassesSendTheirShares, DeficitsAreBounded, ClassesShareByQuanta}
 
 -- ---- the mtu of the device stays
 
@@ -50,6 +51,13 @@ pub deficits-bounded : (settings : DeviceSettings) → IsInRange settings → De
 deficits-bounded settings range events major minor class all is =
     subst (λ m. deficit_of minor class.schedule.active < quantum_of minor class.schedule.classes + m) (mtu-stays settings events)
     (deficit-bounded major minor (device_after settings events) class (replay-kept settings events range all) is)
+
+pub grants-short : (settings : DeviceSettings) → IsInRange settings → GrantsComeWhereShort settings
+grants-short settings range events e major minor k class next all event is at more =
+    let on : device_after settings (events ++ e ∷ []) ≡ (step history (device_after settings events) e).device =
+    ap (λ (r : Replay (List Note)). r.device) (replay_from-append history (nothing_yet history settings) events e) in
+    let short = class-short major minor k (device_after settings events) e class next (replay-kept settings events range all) event is (ap (class_in major minor) (sym on) ∙ at) more in
+    subst (λ (d : DeviceState (List Note)). IsSomeAnd (length_shown d.clock class.child) (λ len. deficit_of minor class.schedule.active + k * quantum_of minor class.schedule.classes < len)) (sym on) short
 
 -- ---- one class
 

@@ -1,12 +1,15 @@
 -- What is true of sharing over every stretch of every replay, for a tbf, for the classes of a drr and for the flows of an fq_codel.
 -- What a stretch is and what is counted in it stands in q_model's specs/Stretches.antt. RFC 2211 has the bound of a token bucket.
-use Rattle.std.specs.Prelude.{◌≡◌, ◌≢◌, ℕ, ◌+◌, ◌-◌, ◌*◌, ◌<◌, ◌≤◌, ℤ, pos, ◌+ℤ◌, true, false, List, ◌++◌, All, Some}
+use Rattle.std.specs.Prelude.{◌≡◌, ◌≢◌, ℕ, suc, ◌+◌, ◌-◌, ◌*◌, ◌<◌, ◌≤◌, ℤ, pos, ◌+ℤ◌, true, false, List, [], ◌∷◌, ◌++◌, All, Option, Some, IsSomeAnd, option_map}
+use Rattle.q_packet.specs.Descriptor.{Descriptor}
 use Rattle.q_bucket.specs.Level.{units_in_byte}
 use Rattle.q_drr.specs.Schedule.{quantum_of, deficit_of}
 use Rattle.q_drr.specs.Stretch.{stands_first}
 use Rattle.q_fqcodel.specs.Laws.{credits_of}
 use Rattle.q_model.specs.declared.event.Event.{Event}
 use Rattle.q_model.specs.Tally.{Note, history}
+use Rattle.q_model.specs.Node.{Node, shape}
+use Rattle.q_model.specs.Ask.{ask}
 use Rattle.q_model.specs.Events.{IsEvent}
 use Rattle.q_model.specs.Replay.{replay}
 use Rattle.q_model.specs.Settings.{DeviceSettings}
@@ -40,6 +43,19 @@ abbrev pub DeficitsAreBounded : DeviceSettings → Type 0
 DeficitsAreBounded settings =
     (events : List Event) (major minor : ℕ) (class : ClassAt) → All IsEvent events → class_in major minor (device_after settings events) ≡ Some class
     → deficit_of minor class.schedule.active < quantum_of minor class.schedule.classes + settings.mtu
+
+-- the length of the packet that a node shows where it is asked for one at this moment
+abbrev pub length_shown : ℕ → Node (List Note) → Option ℕ
+length_shown now n = option_map (λ (p : Descriptor). p.len) (ask now (shape n)).shown
+
+-- After every list of events: where the next one grants k + 1 quanta to a class, its child shows a packet then, and with k of
+-- them the deficit is still below the length of that.
+abbrev pub GrantsComeWhereShort : DeviceSettings → Type 0
+GrantsComeWhereShort settings =
+    (events : List Event) (e : Event) (major minor k : ℕ) (class next : ClassAt) → All IsEvent events → IsEvent e
+    → class_in major minor (device_after settings events) ≡ Some class → class_in major minor (device_after settings (events ++ e ∷ [])) ≡ Some next
+    → grants_to minor next.noted ≡ grants_to minor class.noted + suc k
+    → IsSomeAnd (length_shown (device_after settings (events ++ e ∷ [])).clock class.child) (λ len. deficit_of minor class.schedule.active + k * quantum_of minor class.schedule.classes < len)
 
 -- ---- two classes of one drr
 

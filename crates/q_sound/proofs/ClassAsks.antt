@@ -1,6 +1,6 @@
 -- What a poll changes of a drr and of each of its classes that stays.
-use Rattle.std.proofs.Common.{◌≡◌, ◌≢◌, ℕ, ◌+◌, ◌*◌, ◌≤◌, ◌^◌, ◌⊎◌, inl, inr, List, ◌++◌, map, set, refl, sym, ap, subst, ◌∙◌, Option, Some, None, option_and_then, option_map, option_to_list, arith}
-use Rattle.std.specs.Prelude.{slice_get}
+use Rattle.std.proofs.Common.{◌≡◌, ◌≢◌, ℕ, ◌+◌, ◌*◌, ◌≤◌, ◌^◌, ◌⊎◌, inl, inr, List, ◌++◌, map, set, refl, sym, ap, subst, ◌∙◌, Option, Some, None, option_and_then, option_map, option_to_list, arith, suc, ◌<◌}
+use Rattle.std.specs.Prelude.{slice_get, IsSomeAnd}
 use Rattle.std.specs.Option.{option_map_or}
 use Rattle.std.proofs.lemmas.List.Sums.{sum_by-append}
 use Rattle.std.proofs.lemmas.Option.{same_Some}
@@ -11,12 +11,14 @@ use Rattle.q_drr.specs.Stretch.{stands_first}
 use Rattle.q_drr.specs.Take.{choice_of, served}
 use Rattle.q_drr.specs.Turns.{grants_at, bytes_at}
 use Rattle.q_drr.proofs.DifferLemmas.{EntriesDiffer, entries_apart}
+use Rattle.q_drr.proofs.ServedLemmas.{takes_grant_where_short}
+use Rattle.std.proofs.lemmas.Bool.{cases_Bool}
 use Rattle.q_model.specs.Tally.{Note, Sent, history}
 use Rattle.q_model.specs.Node.{Discipline, Drr, Own, Forest, Node, children, each, shape, side_by_side, nodes_in}
 use Rattle.q_model.specs.Beneath.{is_empty}
 use Rattle.q_model.specs.Grants.{granted_notes}
 use Rattle.q_model.specs.Work.{Worked, booked, settled_class}
-use Rattle.q_model.specs.Ask.{Asked, befores, holding, Dequeue, dequeued, length_of, service_of, place_met, gives_nothing, class_gives, class_serves, ask_drr, ask_discipline, ask_own}
+use Rattle.q_model.specs.Ask.{Asked, befores, holding, Dequeue, dequeued, length_of, service_of, place_met, gives_nothing, class_gives, class_serves, ask_drr, ask_discipline, ask_own, ask}
 use Rattle.q_model.specs.Stretches.{bytes_sent, granted_by, grants_to}
 use Rattle.q_sound.proofs.Kept.{IsLawfulRoot}
 use Rattle.q_sound.proofs.Told.{noted-history}
@@ -29,9 +31,9 @@ use Rattle.q_sound.proofs.Risen.{rise-service, all-rise}
 use Rattle.q_sound.proofs.AskStages.{IsStageOf, IsAskOf, asked-related}
 use Rattle.q_sound.proofs.SentStages.{sum-each}
 use Rattle.q_sound.proofs.SameTurns.{same-all, same-settled}
-use Rattle.q_sound.proofs.TakeTurns.{one_if, Stands, stands, take-books, take-even, grants-noted}
-use Rattle.q_sound.proofs.ClassChildren.{child_for}
-use Rattle.q_sound.proofs.ClassLooks.{nodes-side, before-at, booked-child}
+use Rattle.q_sound.proofs.TakeTurns.{one_if, Stands, stands, take-books, take-even, grants-noted, absent-noted, deficit-at}
+use Rattle.q_sound.proofs.ClassChildren.{child_for, child-at}
+use Rattle.q_sound.proofs.ClassLooks.{answer-for, nodes-side, before-at, booked-child}
 use Rattle.q_sound.proofs.ClassTakes.{heads, none-sends, looked-gives, service-gives, met-sends}
 use Rattle.q_sound.proofs.ClassSteps.{DrrStep, Stays, quiet-step}
 use Rattle.q_sound.proofs.StepNodes.{IsAsked}
@@ -232,6 +234,23 @@ module _ (mtu now : ℕ) (least : 1 ≤ mtu) (low : now ≤ 2 ^ 62) (n : Node (L
           ∙ (same-settled gave.place (is_empty gave.answer.taken) (served shows s)).order i j (active-served i shows s ∙ a.before) (active-served j shows s ∙ b.before)
           (ap (λ (y : Schedule). is_active i y.active) (sym gave.schedule) ∙ a.after) (ap (λ (y : Schedule). is_active j y.active) (sym gave.schedule) ∙ b.after)
 
+  -- just before a grant the deficit is below the packet that the child shows
+  served-short : (t : Schedule) (w : Worked) (ws : List Worked) (h : Served now (shape n).below s apart t w ws) (c k : ℕ) (kid : Node (List Note)) → child_for c s.classes (children n) ≡ Some kid
+      → grants_to c w.memory ≡ suc k → IsSomeAnd (length_of (ask now (shape kid))) (λ len. deficit_of c s.active + k * quantum_of c s.classes < len)
+  served-short t w ws h c k kid there some = elim (cases_Bool (is_active c s.active)) [
+    | inr asleep ↦ absurd (omega (arith, h.granted c, absent-noted c s.active (choice_of shows s) asleep, some))
+    | inl active ↦
+        let at : Stands c s.active = stands c s.active active in
+        let g : grants_at (choice_of shows s) at.place ≡ suc k = sym (h.granted c ∙ grants-noted c s.active (choice_of shows s) at apart) ∙ some in
+        let took = takes_grant_where_short s shows at.place k at.entry at.there g in
+        let deficit : at.entry.deficit ≡ deficit_of c s.active = sym (deficit-at s.active at.place at.entry apart at.there) ∙ ap (λ m. deficit_of m s.active) at.name in
+        let head : shows at.entry.class ≡ length_of (ask now (shape kid)) =
+        ap shows at.name ∙ ap (option_and_then length_of) (child-at c s.classes (each (ask_own now) (shape n).below) ∙ answer-for now n.below s.classes c kid there) in
+        subst (λ (o : Option ℕ). IsSomeAnd o (λ len. deficit_of c s.active + k * quantum_of c s.classes < len)) head
+        (subst (λ d. IsSomeAnd (shows at.entry.class) (λ len. d + k * quantum_of c s.classes < len)) deficit
+        (subst (λ m. IsSomeAnd (shows at.entry.class) (λ len. at.entry.deficit + k * quantum_of m s.classes < len)) at.name took))
+  ]
+
   same-classes : (t : Schedule) (w : Worked) (ws : List Worked) → AsWas now (shape n).below s apart t w ws ⊎ Served now (shape n).below s apart t w ws → t.classes ≡ s.classes
   same-classes t w ws (inl h) = ap (λ (y : Schedule). y.classes) h.same
   same-classes t w ws (inr h) = by h.how
@@ -243,12 +262,12 @@ module _ (mtu now : ℕ) (least : 1 ≤ mtu) (low : now ≤ 2 ^ 62) (n : Node (L
   same-schedule : (t u : Schedule) → ◌≡◌ {A = Discipline} (Drr t) (Drr u) → t ≡ u
   same-schedule t u e = cc
 
-  pub asked-step : (after : Node (List Note)) (t : Schedule) → after.own.discipline ≡ Drr t → IsAsked now n after → DrrStep s t n after
+  pub asked-step : (after : Node (List Note)) (t : Schedule) → after.own.discipline ≡ Drr t → IsAsked now n after → DrrStep now s t n after
   asked-step after t now_is asked =
       let w : Worked = asked.worked in
       let st = own-stage now (shape n).below s apart n.own is w asked.stage in
       let schedule : st.schedule ≡ t = same-schedule st.schedule t (sym st.is ∙ ap (λ (k : Node (List Note)). k.own.discipline) asked.is ∙ now_is) in
-      subst (λ (y : Schedule). DrrStep s y n after) schedule (by st.schedule st.children st.below_is st.how)
+      subst (λ (y : Schedule). DrrStep now s y n after) schedule (by st.schedule st.children st.below_is st.how)
     where
       child-of : (ws : List Worked) (t : Schedule) → side_by_side ws ≡ asked.worked.below → t.classes ≡ s.classes → (c : ℕ) (k m : Node (List Note)) → child_for c s.classes (children n) ≡ Some k → child_for c t.classes (children after) ≡ Some m
           → (v : Worked) × (child_for c s.classes ws ≡ Some v) × (m.memory ≡ k.memory ++ v.memory)
@@ -264,9 +283,9 @@ module _ (mtu now : ℕ) (least : 1 ≤ mtu) (low : now ≤ 2 ^ 62) (n : Node (L
       memory : after.memory ≡ n.memory ++ asked.worked.memory
       memory = ap (λ (k : Node (List Note)). k.memory) (sym asked.is) ∙ noted-history n.memory asked.worked.memory
 
-      by : (t : Schedule) (ws : List Worked) → side_by_side ws ≡ asked.worked.below → AsWas now (shape n).below s apart t asked.worked ws ⊎ Served now (shape n).below s apart t asked.worked ws → DrrStep s t n after
+      by : (t : Schedule) (ws : List Worked) → side_by_side ws ≡ asked.worked.below → AsWas now (shape n).below s apart t asked.worked ws ⊎ Served now (shape n).below s apart t asked.worked ws → DrrStep now s t n after
       by t ws below_is (inl h) =
-          quiet-step s t n after asked.worked.memory memory h.granted (same-all s t (ap (λ (y : Schedule). y.active) h.same))
+          quiet-step now s t n after asked.worked.memory memory h.granted (same-all s t (ap (λ (y : Schedule). y.active) h.same))
           (λ c k m before later queued.
           let g = child-of ws t below_is (ap (λ (y : Schedule). y.classes) h.same) c k m before later in
           (g.0.memory, g.2, looked-gives now (shape n).below s apart c g.0 (before-at s.classes (each (ask_own now) (shape n).below) c g.0 (sym (ap (child_for c s.classes) h.children) ∙ g.1))))
@@ -277,4 +296,5 @@ module _ (mtu now : ℕ) (least : 1 ≤ mtu) (low : now ≤ 2 ^ 62) (n : Node (L
             let g = child-of ws t below_is (same-classes t asked.worked ws (inr h)) c k m before later in
             record { given = g.0.memory; gives = g.2; books = served-class t asked.worked ws h c g.0 g.1 stays quantum };
         even = λ i j differ a b. served-even t asked.worked ws h i j differ a b;
+        short = λ c k kid there some. served-short t asked.worked ws h c k kid there some;
       }

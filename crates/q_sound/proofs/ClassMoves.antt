@@ -1,6 +1,6 @@
 -- What one event, and then a stretch of events, comes to at a class of a drr, and at two classes of one.
-use Rattle.std.proofs.Common.{◌≡◌, ◌≢◌, ℕ, ◌+◌, ◌*◌, ◌<◌, ◌≤◌, true, false, eqb, not, inl, inr, List, [], ◌∷◌, ◌++◌, map, length, refl, sym, ap, subst, ◌∙◌, Option, Some, None, option_map, option_and_then, arith}
-use Rattle.std.specs.Prelude.{All, slice_get}
+use Rattle.std.proofs.Common.{◌≡◌, ◌≢◌, ℕ, ◌+◌, ◌*◌, ◌<◌, ◌≤◌, true, false, eqb, not, inl, inr, List, [], ◌∷◌, ◌++◌, map, length, refl, sym, ap, subst, ◌∙◌, Option, Some, None, option_map, option_and_then, arith, suc}
+use Rattle.std.specs.Prelude.{All, slice_get, IsSomeAnd}
 use Rattle.std.proofs.Math.Nat.{add-mul}
 use Rattle.std.proofs.lemmas.Bool.{cases_Bool, eqb-true}
 use Rattle.std.proofs.lemmas.List.{append-nil, append_assoc, length-map}
@@ -19,6 +19,7 @@ use Rattle.q_model.specs.Tally.{Note, history}
 use Rattle.q_model.specs.Node.{Discipline, Fifo, Prio, Tbf, Drr, FqCodel, Node, children, shape, each}
 use Rattle.q_model.specs.Beneath.{beneath_own, beneath, is_empty}
 use Rattle.q_model.specs.Route.{class_at}
+use Rattle.q_model.specs.Ask.{length_of, ask}
 use Rattle.q_model.specs.Lawful.{IsLawfulDiscipline, IsLawfulDrr}
 use Rattle.q_model.specs.Step.{DeviceState, step}
 use Rattle.q_model.specs.Stretches.{sent_by, bytes_sent, granted_by, grants_to, qdisc, ClassAt, class_of, class_in}
@@ -77,7 +78,7 @@ backlogged-active major minor d x kept at queued =
 -- ---- one event
 
 pub drr-step : (major : ℕ) (d : DeviceState (List Note)) (e : Event) (n after : Node (List Note)) (s t : Schedule) → IsKept d → IsEvent e → qdisc major d ≡ Some n → qdisc major (step history d e).device ≡ Some after
-    → n.own.discipline ≡ Drr s → after.own.discipline ≡ Drr t → DrrStep s t n after
+    → n.own.discipline ≡ Drr s → after.own.discipline ≡ Drr t → DrrStep (step history d e).device.clock s t n after
 drr-step major d e n after s t kept range there later is now_is = by e kept_after (clock-rises d e) now_is (becomes major d e n after kept range there later)
   where
     mtu : ℕ
@@ -97,7 +98,7 @@ drr-step major d e n after s t kept range there later is now_is = by e kept_afte
         let f = found major d n there in
         lawful-with_memory d.tree.device.mtu now (λ m. tt) n (lawful-of d.tree.device.mtu now n d.tree.root (root-later d.clock now rises d.tree.device.mtu d.tree.root kept.lawful) f.there)
 
-    by : (e : Event) → IsKept (step history d e).device → d.clock ≤ (step history d e).device.clock → after.own.discipline ≡ Drr t → Becomes (step history d e).device.clock e n after → DrrStep s t n after
+    by : (e : Event) → IsKept (step history d e).device → d.clock ≤ (step history d e).device.clock → after.own.discipline ≡ Drr t → Becomes (step history d e).device.clock e n after → DrrStep (step history d e).device.clock s t n after
     by (event.Arrive p moment) kept_then rises now_is h = put-step (step history d (event.Arrive p moment)).device.clock n s is p after t now_is h
     by (event.Poll moment) kept_then rises now_is h =
         asked-step d.tree.device.mtu (step history d (event.Poll moment)).device.clock kept.least_mtu kept_then.moment n s is law.schedule law.longest (here (step history d (event.Poll moment)).device.clock rises) after t now_is h
@@ -217,3 +218,16 @@ pub same-noted : (major i j : ℕ) (d : DeviceState (List Note)) (x z : ClassAt)
 same-noted major i j d x z a b =
     let node : b.node ≡ a.node = same_Some b.node a.node (sym b.there ∙ a.there) in
     sym b.noted ∙ ap (λ (n : Node (List Note)). n.memory) node ∙ a.noted
+
+-- ---- just before a grant
+
+pub class-short : (major minor k : ℕ) (d : DeviceState (List Note)) (e : Event) (x y : ClassAt) → IsKept d → IsEvent e → class_in major minor d ≡ Some x → class_in major minor (step history d e).device ≡ Some y
+    → grants_to minor y.noted ≡ grants_to minor x.noted + suc k
+    → IsSomeAnd (length_of (ask (step history d e).device.clock (shape x.child))) (λ len. deficit_of minor x.schedule.active + k * quantum_of minor x.schedule.classes < len)
+class-short major minor k d e x y kept range is at more =
+    let a = class-node major minor d x is in
+    let b = class-node major minor (step history d e).device y at in
+    let s = drr-step major d e a.node b.node x.schedule y.schedule kept range a.there b.there a.discipline b.discipline in
+    let whole : grants_to minor y.noted ≡ grants_to minor x.noted + grants_to minor s.notes =
+    ap (grants_to minor) (sym b.noted ∙ s.is ∙ ap (λ ns. ns ++ s.notes) a.noted) ∙ sum_by-append (granted_by minor) x.noted s.notes in
+    s.short minor k x.child a.child (omega (arith, whole, more))

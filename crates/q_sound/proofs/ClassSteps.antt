@@ -1,6 +1,6 @@
 -- What one event changes of a drr and of each of its classes that stays: what it is granted, and what its child gives.
-use Rattle.std.proofs.Common.{◌≡◌, ◌≢◌, ℕ, ◌+◌, ◌*◌, Bool, true, false, ◌⊎◌, inl, inr, List, [], ◌∷◌, ◌++◌, set, length, refl, sym, ap, subst, ◌∙◌, Option, Some, None, option_and_then, arith}
-use Rattle.std.specs.Prelude.{slice_get}
+use Rattle.std.proofs.Common.{◌≡◌, ◌≢◌, ℕ, ◌+◌, ◌*◌, Bool, true, false, ◌⊎◌, inl, inr, List, [], ◌∷◌, ◌++◌, set, length, refl, sym, ap, subst, ◌∙◌, Option, Some, None, option_and_then, arith, suc, ◌<◌}
+use Rattle.std.specs.Prelude.{slice_get, IsSomeAnd}
 use Rattle.std.specs.Option.{option_map_or}
 use Rattle.std.proofs.lemmas.Bool.{false≢true}
 use Rattle.std.proofs.lemmas.List.{append-nil}
@@ -16,6 +16,7 @@ use Rattle.q_model.specs.Node.{Discipline, Drr, Node, children, shape}
 use Rattle.q_model.specs.Beneath.{is_empty}
 use Rattle.q_model.specs.Work.{Worked, booked, losses_of, settled_class, settled_in}
 use Rattle.q_model.specs.Put.{queued_in}
+use Rattle.q_model.specs.Ask.{length_of, ask}
 use Rattle.q_model.specs.Edit.{above, edited_at}
 use Rattle.q_model.specs.Stretches.{sent_by, bytes_sent, granted_by, grants_to}
 use Rattle.q_sound.proofs.NoteSums.{sum-risen, risen-losses, past-sent, past-granted}
@@ -43,13 +44,15 @@ pub record Stays (c : ℕ) (s t : Schedule) : Type 0 where
   pub before : is_active c s.active ≡ true
   pub after : is_active c t.active ≡ true
 
-pub record DrrStep (s t : Schedule) (n after : Node (List Note)) : Type 0 where
+pub record DrrStep (now : ℕ) (s t : Schedule) (n after : Node (List Note)) : Type 0 where
   pub notes : List Note
   pub is : after.memory ≡ n.memory ++ notes
   pub class : (c : ℕ) (k m : Node (List Note)) → child_for c s.classes (children n) ≡ Some k → child_for c t.classes (children after) ≡ Some m
       → Stays c s t → quantum_of c t.classes ≡ quantum_of c s.classes → is_empty m ≡ false → ClassStep c notes s t k m
   pub even : (i j : ℕ) → i ≢ j → Stays i s t → Stays j s t
       → grants_to i notes + one_if (stands_first i j t.active) ≡ grants_to j notes + one_if (stands_first i j s.active)
+  pub short : (c k : ℕ) (kid : Node (List Note)) → child_for c s.classes (children n) ≡ Some kid → grants_to c notes ≡ suc k
+      → IsSomeAnd (length_of (ask now (shape kid))) (λ len. deficit_of c s.active + k * quantum_of c s.classes < len)
 
 -- a child that gave nothing
 abbrev GaveNothing : Node (List Note) → Node (List Note) → Type 0
@@ -59,10 +62,10 @@ pub same-gave : (k m : Node (List Note)) → m ≡ k → GaveNothing k m
 same-gave k m e = ([], ap (λ (x : Node (List Note)). x.memory) e ∙ sym (append-nil k.memory), refl)
 
 -- without a grant
-pub quiet-step : (s t : Schedule) (n after : Node (List Note)) (notes : List Note) → after.memory ≡ n.memory ++ notes → ((c : ℕ) → grants_to c notes ≡ 0) → SameTurns s t
+pub quiet-step : (now : ℕ) (s t : Schedule) (n after : Node (List Note)) (notes : List Note) → after.memory ≡ n.memory ++ notes → ((c : ℕ) → grants_to c notes ≡ 0) → SameTurns s t
     → ((c : ℕ) (k m : Node (List Note)) → child_for c s.classes (children n) ≡ Some k → child_for c t.classes (children after) ≡ Some m → is_empty m ≡ false → GaveNothing k m)
-    → DrrStep s t n after
-quiet-step s t n after notes memory grants same gave = record {
+    → DrrStep now s t n after
+quiet-step now s t n after notes memory grants same gave = record {
   notes = notes;
   is = memory;
   class = λ c k m before later stays quantum queued.
@@ -70,6 +73,7 @@ quiet-step s t n after notes memory grants same gave = record {
       let zero : grants_to c notes * quantum_of c s.classes ≡ 0 = ap (λ x. x * quantum_of c s.classes) (grants c) ∙ omega arith in
       record { given = g.0; gives = g.1; books = let sent = g.2 in omega (arith, zero, sent, same.deficit c stays.before stays.after quantum) };
   even = λ i j apart a b. omega (arith, grants i, grants j, ap one_if (same.order i j a.before b.before a.after b.after));
+  short = λ c k kid there some. absurd (omega (arith, grants c, some));
 }
 
 same-schedule : (s t : Schedule) → ◌≡◌ {A = Discipline} (Drr s) (Drr t) → t ≡ s
@@ -78,14 +82,14 @@ same-schedule s t e = cc
 module _ (now : ℕ) (n : Node (List Note)) (s : Schedule) (is : n.own.discipline ≡ Drr s) where
   -- ---- an arrival
 
-  pub put-step : (p : Descriptor) (after : Node (List Note)) (t : Schedule) → after.own.discipline ≡ Drr t → IsPut now p n after → DrrStep s t n after
+  pub put-step : (p : Descriptor) (after : Node (List Note)) (t : Schedule) → after.own.discipline ≡ Drr t → IsPut now p n after → DrrStep now s t n after
   put-step p after t now_is put =
       let w : Worked = put.worked in
       let st = put-stage now p put.refusal (shape n) w put.way in
       let own = ap (λ (k : Node (List Note)). k.own.discipline) put.is in
       let turned = by st.discipline own in
       let memory : after.memory ≡ n.memory ++ w.memory = ap (λ (k : Node (List Note)). k.memory) (sym put.is) ∙ noted-history n.memory w.memory in
-      quiet-step s t n after w.memory memory (λ c. st.notes (granted_by c) (past-granted c) (λ q. refl)) turned.0
+      quiet-step now s t n after w.memory memory (λ c. st.notes (granted_by c) (past-granted c) (λ q. refl)) turned.0
       (λ c k m before later queued. gave c k m (turned.1) before (subst (λ (x : Node (List Note)). child_for c t.classes (children x) ≡ Some m) (sym put.is) later))
     where
       -- the schedule, with the same classes
@@ -115,10 +119,10 @@ module _ (now : ℕ) (n : Node (List Note)) (s : Schedule) (is : n.own.disciplin
 
   -- ---- a command
 
-  pub same-step : (after : Node (List Note)) (t : Schedule) → after.own.discipline ≡ Drr t → after ≡ n → DrrStep s t n after
+  pub same-step : (after : Node (List Note)) (t : Schedule) → after.own.discipline ≡ Drr t → after ≡ n → DrrStep now s t n after
   same-step after t now_is same =
       let turned : t ≡ s = same-schedule s t (sym is ∙ ap (λ (k : Node (List Note)). k.own.discipline) (sym same) ∙ now_is) in
-      quiet-step s t n after [] (ap (λ (k : Node (List Note)). k.memory) same ∙ sym (append-nil n.memory)) (λ c. refl) (same-all s t (ap (λ (x : Schedule). x.active) turned))
+      quiet-step now s t n after [] (ap (λ (k : Node (List Note)). k.memory) same ∙ sym (append-nil n.memory)) (λ c. refl) (same-all s t (ap (λ (x : Schedule). x.active) turned))
       (λ c k m before later queued.
       same-gave k m (same_Some m k (sym later ∙ ap (λ (x : Schedule). child_for c x.classes (children after)) turned ∙ ap (λ (x : Node (List Note)). child_for c s.classes (children x)) same ∙ before)))
 
@@ -160,7 +164,7 @@ module _ (now : ℕ) (n : Node (List Note)) (s : Schedule) (is : n.own.disciplin
         by None is = same-gave k m is
         by (Some c) is = (notes, ap (λ (x : Node (List Note)). x.memory) is ∙ noted-history k.memory notes, sent)
 
-    pub edited-step : (after : Node (List Note)) (t : Schedule) → after.own.discipline ≡ Drr t → IsEdited now n after → DrrStep s t n after
+    pub edited-step : (after : Node (List Note)) (t : Schedule) → after.own.discipline ≡ Drr t → IsEdited now n after → DrrStep now s t n after
     edited-step after t now_is edit = by edit.by
       where
         granted : (c : ℕ) → grants_to c (losses_of Purged edit.purged) ≡ 0
@@ -169,15 +173,15 @@ module _ (now : ℕ) (n : Node (List Note)) (s : Schedule) (is : n.own.disciplin
         sent : bytes_sent (losses_of Purged edit.purged) ≡ 0
         sent = sum-risen sent_by past-sent (losses_of Purged edit.purged) (risen-losses Purged edit.purged)
 
-        remade : (r : IsRemadeSo now (losses_of Purged edit.purged) n after) → IsForm now (Drr s) (children n) (Drr t) r.below → DrrStep s t n after
+        remade : (r : IsRemadeSo now (losses_of Purged edit.purged) n after) → IsForm now (Drr s) (children n) (Drr t) r.below → DrrStep now s t n after
         remade r form =
-            quiet-step s t n after (losses_of Purged edit.purged) (ap (λ (k : Node (List Note)). k.memory) r.is ∙ noted-history n.memory (losses_of Purged edit.purged)) granted
+            quiet-step now s t n after (losses_of Purged edit.purged) (ap (λ (k : Node (List Note)). k.memory) r.is ∙ noted-history n.memory (losses_of Purged edit.purged)) granted
             (form-same form.0 t r.below form.1)
             (λ c k m before later queued.
             same-gave k m (form-gave form.0 t r.below form.1 c k m before
             (sym (ap (λ (x : Node (List Note)). child_for c t.classes (children x)) r.is ∙ ap (child_for c t.classes) (nodes-side r.below)) ∙ later) queued))
 
-        by : (after ≡ n) ⊎ IsRemadeSo now (losses_of Purged edit.purged) n after ⊎ IsAbove (losses_of Purged edit.purged) edit.f n after → DrrStep s t n after
+        by : (after ≡ n) ⊎ IsRemadeSo now (losses_of Purged edit.purged) n after ⊎ IsAbove (losses_of Purged edit.purged) edit.f n after → DrrStep now s t n after
         by (inl same) = same-step after t now_is same
         by (inr (inl r)) =
             let d : r.own.discipline ≡ Drr t = ap (λ (k : Node (List Note)). k.own.discipline) (sym r.is) ∙ now_is in
@@ -188,7 +192,7 @@ module _ (now : ℕ) (n : Node (List Note)) (s : Schedule) (is : n.own.disciplin
             let u : Schedule = settled_class a.place emptied s in
             let same : t ≡ u = same-schedule u t (sym (ap (λ (k : Node (List Note)). k.own.discipline) a.is ∙ ap (settled_in a.place emptied) is) ∙ now_is) in
             let classes : t.classes ≡ s.classes = ap (λ (x : Schedule). x.classes) same ∙ class-settled a.place emptied s in
-            quiet-step s t n after (losses_of Purged edit.purged) (ap (λ (k : Node (List Note)). k.memory) a.is ∙ noted-history n.memory (losses_of Purged edit.purged)) granted
+            quiet-step now s t n after (losses_of Purged edit.purged) (ap (λ (k : Node (List Note)). k.memory) a.is ∙ noted-history n.memory (losses_of Purged edit.purged)) granted
             (subst (SameTurns s) (sym same) (same-settled a.place emptied s))
             (λ c k m before later queued.
             at-child c k m before queued

@@ -15,6 +15,7 @@ use Rattle.q_drr.specs.Turns.{grants_at, bytes_at}
 use Rattle.q_drr.proofs.ServedLemmas.{takes_are_turns}
 use Rattle.q_drr.proofs.StretchLemmas.{each_sends_its_share, grants_are_even}
 use Rattle.q_drr.proofs.DifferLemmas.{EntriesDiffer}
+use Rattle.q_drr.proofs.LookupLemmas.{deficit-here, deficit-behind}
 use Rattle.q_model.specs.Tally.{Granted}
 use Rattle.q_model.specs.Grants.{grant_notes, granted_notes}
 use Rattle.q_model.specs.Stretches.{granted_by, grants_to}
@@ -207,3 +208,31 @@ grants-noted c es (Some ch) at d =
         let a : suc ch.rounds * stands_in c (take ch.place es) ≡ 0 = ap (λ m. suc ch.rounds * m) not_yet ∙ omega arith in
         let b : ch.rounds * stands_in c (drop ch.place es) ≡ ch.rounds = ap (λ m. ch.rounds * m) yes ∙ omega arith in
         omega (arith, split, noted-each c (suc ch.rounds) (take ch.place es), noted-each c ch.rounds (drop ch.place es), a, b) ∙ sym (ap (λ (t : Bool). if t then suc ch.rounds else ch.rounds) e)
+
+-- a class that is asleep gets none
+pub absent-noted : (c : ℕ) (es : List Entry) (o : Option Choice) → is_active c es ≡ false → grants_to c (granted_notes o es) ≡ 0
+absent-noted c es None none_there = refl
+absent-noted c es (Some ch) none_there =
+    let whole : stands_in c es ≡ stands_in c (take ch.place es) + stands_in c (drop ch.place es) =
+    ap (stands_in c) (sym (take-append-drop ch.place es)) ∙ sum_by-append (λ (e : Entry). if c == e.class then 1 else 0) (take ch.place es) (drop ch.place es) in
+    let zero_in = absent-none c es none_there in
+    let first : suc ch.rounds * stands_in c (take ch.place es) ≡ 0 = ap (λ m. suc ch.rounds * m) (let z : stands_in c (take ch.place es) ≡ 0 = omega (arith, whole, zero_in) in z) ∙ omega arith in
+    let second : ch.rounds * stands_in c (drop ch.place es) ≡ 0 = ap (λ m. ch.rounds * m) (let z : stands_in c (drop ch.place es) ≡ 0 = omega (arith, whole, zero_in) in z) ∙ omega arith in
+    omega (
+      arith,
+      sum_by-append (granted_by c) (grant_notes (suc ch.rounds) (take ch.place es)) (grant_notes ch.rounds (drop ch.place es)),
+      noted-each c (suc ch.rounds) (take ch.place es),
+      noted-each c ch.rounds (drop ch.place es),
+      first,
+      second,
+    )
+
+-- the deficit of the class that stands at a place
+pub deficit-at : (es : List Entry) (i : ℕ) (e : Entry) → EntriesDiffer es → slice_get es i ≡ Some e → deficit_of e.class es ≡ e.deficit
+deficit-at [] i e d at = absurd (none-some e at)
+deficit-at (x ∷ es) zero e d at =
+    let same : x ≡ e = same_Some x e at in
+    deficit-here e.class x es (eq-eqb e.class x.class (sym (ap (λ (y : Entry). y.class) same))) ∙ ap (λ (y : Entry). y.deficit) same
+deficit-at (x ∷ es) (suc i) e d at =
+    let far : eqb e.class x.class ≡ false = ne_eqb e.class x.class (λ same. false≢true (sym d.0 ∙ passes-at (λ (y : Entry). x.class == y.class) es i e at (eq-eqb x.class e.class (sym same)))) in
+    deficit-behind e.class x es far ∙ deficit-at es i e d.1 at
