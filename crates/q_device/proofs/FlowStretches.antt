@@ -1,6 +1,5 @@
 -- A flow of an fq_codel over a stretch, from what each event comes to there.
-use Rattle.std.proofs.Common.{◌≡◌, ℕ, ◌*◌, ℤ, pos, ◌+ℤ◌, false, List, [], ◌++◌, refl, sym, ap, subst, ◌∙◌, Some, arith}
-use Rattle.std.specs.Prelude.{All}
+use Rattle.std.proofs.Common.{◌≡◌, ℕ, ◌*◌, false, List, sym, ap, subst, ◌∙◌, Some, arith}
 use Rattle.std.proofs.lemmas.Int.{ints}
 use Rattle.std.proofs.lemmas.Option.{same_Some}
 use Rattle.q_fqcodel.specs.FqState.{is_idle}

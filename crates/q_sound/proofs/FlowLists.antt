@@ -1,7 +1,6 @@
 -- The credits of a flow in the lists of an fq_codel, over a put, a selection and a packet that is sent.
-use Rattle.std.proofs.Common.{◌≡◌, ℕ, zero, suc, ◌+◌, ◌*◌, ◌≤◌, ◌<◌, ℤ, pos, ◌+ℤ◌, Bool, true, false, cond, List, [], ◌∷◌, ◌++◌, map, filter, find, drop, refl, sym, ap, ap₂, subst, ◌∙◌, Option, Some, None, option_map, inl, inr, eq-eqb, arith}
-use Rattle.std.specs.Prelude.{◌==◌, sum_by, nat_lt, if◌then◌else◌}
-use Rattle.std.specs.List.{list_any}
+use Rattle.std.proofs.Common.{◌≡◌, ℕ, ◌+◌, ◌*◌, ◌≤◌, ℤ, pos, ◌+ℤ◌, Bool, true, false, List, [], ◌∷◌, ◌++◌, map, filter, find, drop, refl, sym, ap, ap₂, ◌∙◌, Option, Some, None, option_map, inl, inr, eq-eqb, arith}
+use Rattle.std.specs.Prelude.{◌==◌, nat_lt, if◌then◌else◌}
 use Rattle.std.proofs.Math.Nat.{add-mul}
 use Rattle.std.proofs.lemmas.Bool.{cases_Bool, cond-true, cond-false, eqb-true, eqb-false, ne_eqb, false≢true, ltb-false, or_left, or_right}
 use Rattle.std.proofs.lemmas.Int.{ints}
@@ -10,17 +9,15 @@ use Rattle.std.proofs.lemmas.List.Sums.{sum_by-cons}
 use Rattle.q_packet.specs.Descriptor.{Descriptor}
 use Rattle.q_codel.specs.declared.taken.Taken.{Taken}
 use Rattle.q_fqcodel.specs.Entry.{Entry}
-use Rattle.q_fqcodel.specs.FqState.{FqState, is_idle}
+use Rattle.q_fqcodel.specs.FqState.{FqState}
 use Rattle.q_fqcodel.specs.Lawful.{times, IsLawful}
 use Rattle.q_fqcodel.specs.Laws.{credits_of}
 use Rattle.q_fqcodel.specs.Put.{flow_of, is_listed, appended, cut_back, after_put}
 use Rattle.q_fqcodel.specs.QuantaGiven.{Grant, quanta_given, grants}
-use Rattle.q_fqcodel.specs.Take.{selected, front, paid, sent_from, after_sending}
-use Rattle.q_fqcodel.proofs.GivenLemmas.{credits_by_quanta}
-use Rattle.q_fqcodel.proofs.KeptLemmas.{selection_keeps_packets, take_keeps_lawful}
-use Rattle.q_fqcodel.proofs.LawfulLemmas.{times-cons, one, one-own, one-other}
-use Rattle.q_fqcodel.proofs.SentLemmas.{after-none, flow-paid, paid-is, front-is, front-none, after-written, lists-written}
-use Rattle.q_model.specs.Tally.{Note, FlowGranted, FlowGave}
+use Rattle.q_fqcodel.specs.Take.{front, paid, sent_from, after_sending}
+use Rattle.q_fqcodel.proofs.LawfulLemmas.{times-cons, one, one-other}
+use Rattle.q_fqcodel.proofs.SentLemmas.{flow-paid, paid-is, front-is, front-none, after-written, lists-written}
+use Rattle.q_model.specs.Tally.{FlowGranted}
 use Rattle.q_model.specs.Quanta.{flows_granted, flow_gave}
 use Rattle.q_model.specs.Stretches.{flow_granted_by, flow_grants_to, bytes_given}
 

@@ -1,6 +1,6 @@
 -- What one event, and then a stretch of events, comes to at a flow of an fq_codel.
-use Rattle.std.proofs.Common.{◌≡◌, ℕ, ◌+◌, ◌*◌, ◌≤◌, ℤ, pos, ◌+ℤ◌, Bool, true, false, ◌⊎◌, inl, inr, List, [], ◌∷◌, ◌++◌, map, refl, sym, ap, subst, ◌∙◌, Option, Some, None, option_to_list, arith}
-use Rattle.std.specs.Prelude.{sum_by, nat_eq}
+use Rattle.std.proofs.Common.{◌≡◌, ℕ, ◌+◌, ◌*◌, ◌≤◌, ℤ, pos, ◌+ℤ◌, Bool, false, ◌⊎◌, inl, inr, List, [], ◌++◌, map, refl, sym, ap, subst, ◌∙◌, Option, Some, None, option_to_list, arith}
+use Rattle.std.specs.Prelude.{nat_eq}
 use Rattle.std.specs.Option.{option_map_or}
 use Rattle.std.proofs.Math.Nat.{add-mul}
 use Rattle.std.proofs.lemmas.Int.{ints}
@@ -15,7 +15,7 @@ use Rattle.q_codel.specs.declared.taken.Taken.{Taken}
 use Rattle.q_fqcodel.specs.Entry.{Entry}
 use Rattle.q_fqcodel.specs.FqState.{FqSettings, FqState, is_idle}
 use Rattle.q_fqcodel.specs.FqState as flows
-use Rattle.q_fqcodel.specs.Lawful.{times, IsLawful}
+use Rattle.q_fqcodel.specs.Lawful.{IsLawful}
 use Rattle.q_fqcodel.specs.Laws.{credits_of}
 use Rattle.q_fqcodel.specs.Put.{after_put}
 use Rattle.q_fqcodel.specs.QuantaGiven.{Grant, quanta_given, grants}
@@ -30,9 +30,9 @@ use Rattle.q_model.specs.Node.{Discipline, Fifo, Prio, Tbf, Drr, FqCodel, Own, N
 use Rattle.q_model.specs.Beneath.{beneath_own, is_empty}
 use Rattle.q_model.specs.Quanta.{flows_granted, flow_gave, flow_notes}
 use Rattle.q_model.specs.Lawful.{IsLawfulDiscipline, IsLawfulFqCodel}
-use Rattle.q_model.specs.Work.{Worked, booked, losses_of, settled_in}
+use Rattle.q_model.specs.Work.{Worked, losses_of, settled_in}
 use Rattle.q_model.specs.Put.{queued_in}
-use Rattle.q_model.specs.Ask.{Asked, holding, Dequeue, dequeued, ask_fq_codel, ask_discipline, ask_own}
+use Rattle.q_model.specs.Ask.{Asked, holding, ask_fq_codel, ask_discipline, ask_own}
 use Rattle.q_model.specs.Edit.{edited_at}
 use Rattle.q_model.specs.Step.{DeviceState, step}
 use Rattle.q_model.specs.Stretches.{flow_granted_by, given_by, flow_grants_to, bytes_given, qdisc, FqAt, fq_of, fq_in}
@@ -46,8 +46,8 @@ use Rattle.q_sound.proofs.EditForms.{IsForm}
 use Rattle.q_sound.proofs.EditComes.{IsAbove}
 use Rattle.q_sound.proofs.StepNodes.{IsAsked, IsPut, IsRemadeSo, IsEdited, Becomes, becomes}
 use Rattle.q_sound.proofs.Replays.{IsKept}
-use Rattle.q_sound.proofs.Within.{Found, found, lawful-of}
-use Rattle.q_sound.proofs.FlowLists.{listed-credits, credits-put, Sends, credits-sent, quanta-noted}
+use Rattle.q_sound.proofs.Within.{found, lawful-of}
+use Rattle.q_sound.proofs.FlowLists.{listed-credits, credits-put, credits-sent, quanta-noted}
 
 abbrev pub lists_of : FqState → List Entry
 lists_of s = s.fresh ++ s.stale
