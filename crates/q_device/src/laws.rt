@@ -1,5 +1,6 @@
 //! What is true of every device and every replay. Each law is the contract of a function that does nothing.
 ghost use Rattle.q_device.specs.Laws.{ReplayGoesOn, ShrinkCommutes, ReplayShrinks, EveryReplayIsSound, TotalsAreLawful, EveryReplayTellsAll};
+ghost use Rattle.q_device.specs.Sharing.{ClassesSendTheirShares, DeficitsAreBounded, GrantsComeWhereShort, ClassesShareByQuanta, BucketsAreBounded, FlowsGiveTheirShares};
 
 use q_model::Settings;
 
@@ -31,6 +32,49 @@ pub fn conserved(settings: Settings)
     ensures histories { EveryReplayIsSound settings }
     ensures totals { TotalsAreLawful settings }
     ensures answers { EveryReplayTellsAll settings }
+{
+    settings.ranges();
+}
+
+/// A class of a drr that stays backlogged with one quantum over a stretch of events sends, in bytes that its child gives to the
+/// drr, its grants times its quantum and its first deficit less its last. Every deficit is below its quantum and the mtu together,
+/// and just before a grant it is below the length of the packet that the child shows.
+///
+/// For all settings and every list of events whose fields are in their ranges: polls, arrivals and commands anywhere in the
+/// tree.
+pub fn class_stretch(settings: Settings)
+    ensures share { ClassesSendTheirShares settings }
+    ensures bounded { DeficitsAreBounded settings }
+    ensures granted { GrantsComeWhereShort settings }
+{
+    settings.ranges();
+}
+
+/// Two classes of one drr that stay backlogged over a stretch of events get equally many grants where they stand in the same
+/// order in the active list at both ends, else the one that stood first gets one more. The bytes that they send are to each
+/// other as their quanta: they differ, each times the other's quantum, by less than three products of the quanta and a longest
+/// packet times their sum.
+pub fn pair_stretch(settings: Settings)
+    ensures classes { ClassesShareByQuanta settings }
+{
+    settings.ranges();
+}
+
+/// A tbf that keeps its rate and its burst over a stretch of events spends, in bytes, at most its burst and what its rate
+/// brings in the time between; its node sends at most that and the length of the packet that it held at the start.
+///
+/// For all settings and every list of events whose fields are in their ranges: polls, arrivals and commands anywhere in the
+/// tree. Bytes are counted in units of 1/(8*10^9), so that nothing is rounded.
+pub fn bucket_stretch(settings: Settings)
+    ensures bounded { BucketsAreBounded settings }
+{
+    settings.ranges();
+}
+
+/// A flow of an fq_codel that stays backlogged with one quantum over a stretch of events gives its node, in bytes, its grants
+/// times the quantum and its first credits less its last; packets that CoDel or the fat flow loses are not among them.
+pub fn flow_stretch(settings: Settings)
+    ensures share { FlowsGiveTheirShares settings }
 {
     settings.ranges();
 }

@@ -28,6 +28,7 @@ pub mod Shrink
 pub mod ShrinkDevice
 pub mod Sound
 pub mod Step
+pub mod Stretches
 pub mod Tally
 pub mod TreeState
 pub mod Views

@@ -104,7 +104,7 @@ module _ (mtu now : ℕ) (least : 1 ≤ mtu) (low : now ≤ 2 ^ 62) where
   own-answers : (own : Own) (below : List Asked) → IsLawfulOwn mtu now own (map beneath (befores below)) → AreAnswers mtu now below → IsAnswer mtu now (ask_own now own below)
   own-answers own below h all = node-answers own.handle own.filters own.held own.discipline below h all
 
-  forest-answers : (x : Forest (Unit {0})) → AllLawful mtu now x → AreAnswers mtu now (each (ask_own now) x)
+  pub forest-answers : (x : Forest (Unit {0})) → AllLawful mtu now x → AreAnswers mtu now (each (ask_own now) x)
   forest-answers none h = tt
   forest-answers (more own m below others) h = (
     own-answers own (each (ask_own now) below) (subst (IsLawfulOwn mtu now own) (sym (beneath-befores now below)) h.0) (forest-answers below h.1),

@@ -33,7 +33,7 @@ given_quantum (Some q) mtu h positive = h.0
 place_known : (minor : ℕ) (n : Node (List Note)) (s : Schedule) → n.own.discipline ≡ Drr s → is_some (class_place minor (shape n)) ≡ has_class minor s.classes
 place_known minor n s is = ap (λ (d : Discipline). is_some (class_in (length (children (shape n))) minor d)) is ∙ class_known (length (children (shape n))) minor s
 
-position_of : (o : Option ℕ) → is_some o ≡ true → o ≡ Some (unwrap_or o 0)
+pub position_of : (o : Option ℕ) → is_some o ≡ true → o ≡ Some (unwrap_or o 0)
 position_of None e = absurd (false≢true e)
 position_of (Some i) e = refl
 

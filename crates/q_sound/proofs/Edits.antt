@@ -73,12 +73,12 @@ found_in_shape f n = ap (f n.own) (each-each_memory f (λ m. tt) n.below)
 
 -- ---- what a plan says
 
-record Checked (d : Device) (now : ℕ) (c : Command) (root : Shape) (edit : Edit) : Type 0 where
-  asked : edit_of d now c root ≡ Ok edit
+pub record Checked (d : Device) (now : ℕ) (c : Command) (root : Shape) (edit : Edit) : Type 0 where
+  pub asked : edit_of d now c root ≡ Ok edit
   deep : depth (edited nothing [] edit root) ≤ most_levels
   many : count_nodes (edited nothing [] edit root) ≤ most_nodes
 
-plan_checked : (d : Device) (now : ℕ) (c : Command) (root : Shape) (edit : Edit) → plan d now c root ≡ Ok edit → Checked d now c root edit
+pub plan_checked : (d : Device) (now : ℕ) (c : Command) (root : Shape) (edit : Edit) → plan d now c root ≡ Ok edit → Checked d now c root edit
 plan_checked d now c root edit e = go (edit_of d now c root) refl e
   where
     then_checked : Result Edit NotDone → Result Edit NotDone
@@ -99,7 +99,7 @@ plan_checked d now c root edit e = go (edit_of d now c root) refl e
         (record { asked = is; deep = ltb-false most_levels (depth after) first.0; many = ltb-false most_nodes (count_nodes after) second.0 })
 
 module _ (d : Device) (now : ℕ) (root : Node (List Note)) (once : (h : ℕ) → times h root ≤ 1) (positive : 1 ≤ d.mtu) (small : d.mtu < 2 ^ 16) where
-  planned : (c : Command) (edit : Edit) → IsCommand c → edit_of d now c (shape root) ≡ Ok edit → Planned d.mtu now root edit
+  pub planned : (c : Command) (edit : Edit) → IsCommand c → edit_of d now c (shape root) ≡ Ok edit → Planned d.mtu now root edit
   planned (QdiscAdd place handle kind) edit range e = planned_qdisc_add d now root once positive small place handle kind edit range.2 e
   planned (QdiscChange place handle kind) edit range e = planned_qdisc_change d now root once positive small place handle kind edit range.2 e
   planned (QdiscDel place handle) edit range e = planned_qdisc_del d now root once positive small place handle edit e

@@ -21,7 +21,7 @@ use Rattle.q_sound.proofs.Edits.{edit-keeps, new-kept}
 abbrev pub IsKept : DeviceState (List Note) → Type 0
 IsKept d = IsKeptTree d.clock d.tree
 
-not-before : (clock moment : ℕ) → clock ≤ max clock moment
+pub not-before : (clock moment : ℕ) → clock ≤ max clock moment
 not-before clock moment = omega arith
 
 pub not-after : (clock moment most : ℕ) → clock ≤ most → moment ≤ most → max clock moment ≤ most

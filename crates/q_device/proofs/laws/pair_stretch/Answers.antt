@@ -1,0 +1,5 @@
+use Rattle.q_device.proofs.ClassStretches.{pairs-share}
+use Rattle.q_device.proofs.laws.pair_stretch.Goals as goal
+
+pub returns : goal.returns
+returns c = record { classes = pairs-share c.args.settings c.ranges-2.ensures }
