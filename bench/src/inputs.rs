@@ -66,6 +66,12 @@ pub fn lens(count: usize) -> Vec<u16> {
         .collect()
 }
 
+/// Hashes of packets.
+pub fn hashes(count: usize) -> Vec<u32> {
+    let mut random = Xorshift::new();
+    (0..count).map(|_| (random.next() >> 20) as u32).collect()
+}
+
 /// Moments 10 us apart, in nanoseconds.
 pub fn even_moments(count: usize) -> Vec<u64> {
     (1..=count as u64).map(|step| step * 10_000).collect()

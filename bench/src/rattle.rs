@@ -1,5 +1,7 @@
 //! The workloads of `crates/q_bench`, which `rt lib` builds as a static library.
 
+use crate::plain::work::FlowLoad;
+
 // A slice crosses as a pointer and a length, and an allocator takes no room among the parameters. Nothing compares these
 // declarations with those in `crates/q_bench/src`.
 unsafe extern "C" {
@@ -15,6 +17,16 @@ unsafe extern "C" {
         waits_len: usize,
         lens: *const u16,
         lens_len: usize,
+        passes: u32,
+    ) -> u64;
+    fn q_bench_flows(
+        flows: u32,
+        limit: u32,
+        drop_batch: u32,
+        queued: u32,
+        takes: bool,
+        hashes: *const u32,
+        len: usize,
         passes: u32,
     ) -> u64;
     fn q_bench_turn(
@@ -65,6 +77,21 @@ pub fn spend(rate: u64, burst: u32, waits: &[u32], lens: &[u16], passes: u32) ->
             waits.len(),
             lens.as_ptr(),
             lens.len(),
+            passes,
+        )
+    }
+}
+
+pub fn flows(load: &FlowLoad, hashes: &[u32], passes: u32) -> u64 {
+    unsafe {
+        q_bench_flows(
+            load.flows,
+            load.limit,
+            load.drop_batch,
+            load.queued,
+            load.takes,
+            hashes.as_ptr(),
+            hashes.len(),
             passes,
         )
     }

@@ -1,6 +1,6 @@
 //! The rows of the table: each is one workload, in Rattle and in plain Rust.
 
-use crate::plain::work;
+use crate::plain::work::{self, FlowLoad};
 use crate::{inputs, rattle};
 
 /// A workload, run so many times over; answers its checksum.
@@ -36,6 +36,11 @@ pub fn all() -> Vec<Row> {
     rows.push(spend("Bucket::spend, 100 gbit", 100_000_000_000, 45));
     rows.push(spend("Bucket::spend, 100 gbit, never short", 100_000_000_000, 150));
     rows.extend([2, 64, 1000].map(turn));
+    for count in [1, 64, 1024, 65536] {
+        rows.push(flows(count, "put and take", 1 << 20, 1, true));
+        rows.push(flows(count, "put at the limit", FULL, 1, false));
+        rows.push(flows(count, "put at the limit, batches of 64", FULL, 64, false));
+    }
     rows.push(read_line("read_line, pkt", |random| {
         format!("pkt {}", 60 + random.below(1454))
     }));
@@ -137,6 +142,29 @@ fn turn(classes: u16) -> Row {
         passes: 10,
         rattle: Box::new(move |passes| rattle::turn(classes, 1514, &lens, passes)),
         plain: Box::new(move |passes| work::turn(classes, 1514, &same, passes)),
+    }
+}
+
+/// The packets that an fq_codel holds before the work begins: at the limit, where that is as many.
+const FULL: u32 = 10_240;
+
+fn flows(count: u32, name: &str, limit: u32, drop_batch: u32, takes: bool) -> Row {
+    let hashes = inputs::hashes(1 << 15);
+    let same = hashes.clone();
+    let load = FlowLoad {
+        flows: count,
+        limit,
+        drop_batch,
+        queued: FULL,
+        takes,
+    };
+    Row {
+        name: format!("FqCodel {name}, {count} flows"),
+        unit: if takes { "pair" } else { "put" },
+        ops: 1 << 15,
+        passes: 20,
+        rattle: Box::new(move |passes| rattle::flows(&load, &hashes, passes)),
+        plain: Box::new(move |passes| work::flows(&load, &same, passes)),
     }
 }
 

@@ -3,6 +3,24 @@ use super::gap::gap;
 use super::head::Ecn;
 use std::collections::VecDeque;
 
+/// What CoDel asks of a queue.
+pub trait Queue {
+    fn take(&mut self) -> Option<Stamped>;
+    fn bytes(&self) -> u64;
+}
+
+impl Queue for Fifo {
+    #[inline(always)]
+    fn take(&mut self) -> Option<Stamped> {
+        Fifo::take(self)
+    }
+
+    #[inline(always)]
+    fn bytes(&self) -> u64 {
+        Fifo::bytes(self)
+    }
+}
+
 pub struct Taken {
     pub packet: Packet,
     #[allow(dead_code, reason = "the checksum does not have it")]
@@ -37,7 +55,7 @@ impl Codel {
         }
     }
 
-    pub fn take(&mut self, queue: &mut Fifo, now: u64, lost: &mut VecDeque<Packet>) -> Option<Taken> {
+    pub fn take(&mut self, queue: &mut impl Queue, now: u64, lost: &mut VecDeque<Packet>) -> Option<Taken> {
         let Some(first) = queue.take() else {
             self.above = 0;
             self.dropping = false;
@@ -56,10 +74,16 @@ impl Codel {
         Some(Taken { packet, marked })
     }
 
+    /// What a take from an empty queue leaves.
+    pub fn rest(&mut self) {
+        self.above = 0;
+        self.dropping = false;
+    }
+
     fn choose(
         &mut self,
         first: Stamped,
-        queue: &mut Fifo,
+        queue: &mut impl Queue,
         now: u64,
         lost: &mut VecDeque<Packet>,
     ) -> (Stamped, bool) {
@@ -86,7 +110,7 @@ impl Codel {
     fn go_on(
         &mut self,
         mut head: Stamped,
-        queue: &mut Fifo,
+        queue: &mut impl Queue,
         now: u64,
         lost: &mut VecDeque<Packet>,
     ) -> (Stamped, bool) {
@@ -107,11 +131,11 @@ impl Codel {
         (head, false)
     }
 
-    fn is_standing(&self, head: &Stamped, queue: &Fifo, now: u64) -> bool {
+    fn is_standing(&self, head: &Stamped, queue: &impl Queue, now: u64) -> bool {
         now.saturating_sub(head.at) >= self.target && queue.bytes() > self.mtu
     }
 
-    fn is_late(&self, head: &Stamped, queue: &Fifo, now: u64) -> bool {
+    fn is_late(&self, head: &Stamped, queue: &impl Queue, now: u64) -> bool {
         self.is_standing(head, queue, now) && self.above > 0 && self.above <= now
     }
 

@@ -4,6 +4,7 @@ pub mod active;
 pub mod bucket;
 pub mod codel;
 pub mod fifo;
+pub mod fq_codel;
 pub mod gap;
 pub mod head;
 pub mod line;

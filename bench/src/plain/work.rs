@@ -4,6 +4,7 @@ use super::active::{Active, Turn};
 use super::bucket::Bucket;
 use super::codel::Codel;
 use super::fifo::{Fifo, Limit, Packet, Stamped};
+use super::fq_codel::{FqCodel, Settings};
 use super::gap;
 use super::head::{Ecn, FlowKey, Head, one_at_a_time, read_head as read};
 use super::line::{Command, Line, read_line as read_words};
@@ -13,6 +14,16 @@ use std::collections::VecDeque;
 const LATEST: u64 = 1 << 62;
 
 const MTU: u16 = 1514;
+
+/// How an fq_codel is loaded.
+#[derive(Clone, Copy)]
+pub struct FlowLoad {
+    pub flows: u32,
+    pub limit: u32,
+    pub drop_batch: u32,
+    pub queued: u32,
+    pub takes: bool,
+}
 
 fn with(sum: u64, value: u64) -> u64 {
     sum.rotate_left(5).wrapping_add(value)
@@ -214,4 +225,64 @@ fn said(line: &[u8]) -> u64 {
         Ok(Line::Blank) => 5 << 60,
         Err(_) => 6 << 60,
     }
+}
+
+/// Packets into an fq_codel that holds `queued` before, and one taken after each with `takes`.
+#[inline(never)]
+pub fn flows(load: &FlowLoad, hashes: &[u32], passes: u32) -> u64 {
+    let mut fq = FqCodel::new(Settings {
+        limit: load.limit,
+        flows: load.flows,
+        quantum: 1514,
+        target: 5_000_000,
+        interval: 100_000_000,
+        ecn: false,
+        drop_batch: load.drop_batch,
+        mtu: MTU,
+    });
+    let mut lost = VecDeque::new();
+    for number in 0..load.queued {
+        if put_flow(&mut fq, &mut lost, number.into(), number, load.drop_batch).is_none() {
+            return 0;
+        }
+    }
+    pass_flows(&mut fq, &mut lost, load, hashes, passes).unwrap_or(0)
+}
+
+fn pass_flows(
+    fq: &mut FqCodel,
+    lost: &mut VecDeque<Packet>,
+    load: &FlowLoad,
+    hashes: &[u32],
+    passes: u32,
+) -> Option<u64> {
+    let mut sum = 1;
+    for _ in 0..passes {
+        for (number, hash) in hashes.iter().enumerate() {
+            sum = with(sum, put_flow(fq, lost, number as u64, *hash, load.drop_batch)?);
+            if load.takes {
+                lost.try_reserve(fq.queued().0 as usize).ok()?;
+                sum = with(sum, fq.take(0, lost)?.packet.number);
+            }
+            while let Some(packet) = lost.pop_front() {
+                sum = with(sum, packet.number);
+            }
+        }
+    }
+    let (packets, bytes) = fq.queued();
+    Some(with(with(sum, packets), bytes))
+}
+
+fn put_flow(
+    fq: &mut FqCodel,
+    lost: &mut VecDeque<Packet>,
+    number: u64,
+    hash: u32,
+    drop_batch: u32,
+) -> Option<u64> {
+    let mut packet = packet_of(number, (60 + hash % 1400) as u16, 0)?.packet;
+    packet.hash = hash;
+    fq.reserve()?;
+    lost.try_reserve(drop_batch as usize).ok()?;
+    Some(fq.put(packet, 0, lost).into())
 }

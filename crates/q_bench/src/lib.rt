@@ -6,6 +6,7 @@
 //!
 //! - [`heads`]: reading heads and hashing their keys.
 //! - [`queues`]: a fifo, and CoDel on one.
+//! - [`flows`]: fq_codel, below its limit and at it.
 //! - [`gaps`]: CoDel's control law.
 //! - [`spends`]: a token bucket.
 //! - [`turns`]: deficit round robin.
@@ -16,6 +17,7 @@
 #![tactic(auto)]
 
 mod checksum;
+mod flows;
 mod gaps;
 mod heads;
 mod lines;

@@ -5,8 +5,11 @@ pub mod FlowLemmas
 pub mod GivenLemmas
 pub mod InLemmas
 pub mod KeptLemmas
+pub mod LinkLemmas
+pub mod LinkedLemmas
 pub mod LawLemmas
 pub mod LawfulLemmas
+pub mod ListsLemmas
 pub mod LostLemmas
 pub mod NewFlowLemmas
 pub mod PoolLemmas

@@ -1,17 +1,19 @@
 -- The queues of all flows in one slab: one of them is written, the others stay, and all are counted.
 use Rattle.std.proofs.Common.{◌≡◌, ◌≢◌, ℕ, zero, suc, ◌+◌, ◌*◌, ◌<◌, ◌≤◌, ◌^◌, List, [], ◌∷◌, length, map, get_or, set, replicate, sum_by, Option, refl, sym, ap, ap₂, ◌∙◌, arith, subst, ⊎_elim}
 use Rattle.std.proofs.lemmas.Bool.{cases_eq, cases_lt}
-use Rattle.std.proofs.lemmas.List.{get_or-set_same, get_or-set_other, get_or_past}
+use Rattle.std.proofs.lemmas.List.{length-set, get_or-set_same, get_or-set_other, get_or_past}
 use Rattle.std.proofs.lemmas.List.Sums.{sum_by-cons, sum_by-set}
 use Rattle.std.specs.Prelude.{count_by, is_some}
 use Rattle.slab.specs.Slab.{Slab, get, slab_len}
 use Rattle.q_packet.specs.Totals.{count, size}
 use Rattle.q_packet.specs.declared.stamped.Stamped.{Stamped}
-use Rattle.q_fqcodel.specs.Chain.{chain, queue_in, IsChain, IsList, KeepsOthers}
+use Rattle.q_fqcodel.specs.Chain.{packets, queue_in, IsList, KeepsOthers}
+use Rattle.q_fqcodel.specs.Linked.{chain, IsChain}
 use Rattle.q_fqcodel.specs.Pool.{no_list, queues_in, packets_in, bytes_in, IsPool}
 use Rattle.q_fqcodel.specs.declared.node.Node.{Node}
 use Rattle.q_fqcodel.specs.declared.flow_list.FlowList.{FlowList}
-use Rattle.q_fqcodel.proofs.ChainLemmas.{chain-none, counted, few_bytes, enough_bytes}
+use Rattle.q_fqcodel.proofs.ChainLemmas.{counted, few_bytes, enough_bytes}
+use Rattle.q_fqcodel.proofs.LinkedLemmas.{chain-none}
 
 pub length-queues : (at : ℕ → Option Node) (lists : List FlowList) → length (queues_in at lists) ≡ length lists
 unfolding queues_in
@@ -21,8 +23,8 @@ length-queues at (l ∷ ls) = ap suc (length-queues at ls)
 -- the queue of one flow
 pub queue_at : (at : ℕ → Option Node) (lists : List FlowList) (n : ℕ) → get_or (queues_in at lists) n [] ≡ queue_in at (get_or lists n no_list)
 unfolding queues_in
-queue_at at [] zero = sym (chain-none at 0)
-queue_at at [] (suc n) = sym (chain-none at 0)
+queue_at at [] zero = sym (chain-none packets at 0)
+queue_at at [] (suc n) = sym (chain-none packets at 0)
 queue_at at (l ∷ ls) zero = refl
 queue_at at (l ∷ ls) (suc n) = queue_at at ls n
 
@@ -43,7 +45,7 @@ queues_set at at2 (l ∷ ls) (suc n) l2 same =
     (queues_set at at2 ls n l2 (λ m ne. same (suc m) (λ e. ne (omega (arith, e)))))
 
 module _ (at at2 : ℕ → Option Node) (nodes : ℕ) (lists : List FlowList) (bytes : ℕ) (pool : IsPool at nodes lists bytes) (n : ℕ) (l2 : FlowList) (within : n < length lists)
-    (others : KeepsOthers n at at2) (linked : IsList at2 n l2) where
+    (others : KeepsOthers (length lists) n at at2) (linked : IsList at2 (length lists) n l2) where
   pub written : queues_in at2 (set lists n l2) ≡ set (queues_in at lists) n (queue_in at2 l2)
   written = queues_set at at2 lists n l2 (λ m ne. others.same m (get_or lists m no_list) ne (pool.each m))
 
@@ -59,11 +61,11 @@ module _ (at at2 : ℕ → Option Node) (nodes : ℕ) (lists : List FlowList) (b
     few = few;
   }
     where
-      at_n : (m : ℕ) → m ≡ n → IsList at2 m (get_or (set lists n l2) m no_list)
-      at_n m e = rw (e, get_or-set_same lists n l2 no_list within) linked
+      at_n : (m : ℕ) → m ≡ n → IsList at2 (length (set lists n l2)) m (get_or (set lists n l2) m no_list)
+      at_n m e = rw (e, length-set lists n l2, get_or-set_same lists n l2 no_list within) linked
 
-      other : (m : ℕ) → m ≢ n → IsList at2 m (get_or (set lists n l2) m no_list)
-      other m ne = rw (get_or-set_other lists n m l2 no_list ne) (others.linked m (get_or lists m no_list) ne (pool.each m))
+      other : (m : ℕ) → m ≢ n → IsList at2 (length (set lists n l2)) m (get_or (set lists n l2) m no_list)
+      other m ne = rw (length-set lists n l2, get_or-set_other lists n m l2 no_list ne) (others.linked m (get_or lists m no_list) ne (pool.each m))
 
 -- ---- totals
 
@@ -75,7 +77,7 @@ part_le f (l ∷ ls) (suc n) none = omega (arith, sum_by-cons f l ls, part_le f 
 
 module _ (at : ℕ → Option Node) (nodes : ℕ) (lists : List FlowList) (bytes : ℕ) (pool : IsPool at nodes lists bytes) where
   pub count_at : (n : ℕ) → (get_or lists n no_list).count ≡ count (queue_in at (get_or lists n no_list))
-  count_at n = sym (counted at n (get_or lists n no_list).tail (get_or lists n no_list).count (get_or lists n no_list).head (pool.each n).linked)
+  count_at n = sym (counted at (length lists) n (get_or lists n no_list).tail (get_or lists n no_list).count (get_or lists n no_list).head (pool.each n).linked)
 
   pub count_le : (n : ℕ) → (get_or lists n no_list).count ≤ nodes
   count_le n = omega (arith, part_le (λ (l : FlowList). l.count) lists n refl, pool.counted)
@@ -86,69 +88,69 @@ module _ (at : ℕ → Option Node) (nodes : ℕ) (lists : List FlowList) (bytes
   pub bytes_few : (n : ℕ) → (get_or lists n no_list).bytes ≤ 65535 * (get_or lists n no_list).count
   bytes_few n =
       let l : FlowList = get_or lists n no_list in
-      omega (arith, (pool.each n).bytes, few_bytes at n l.tail l.count l.head (pool.each n).linked)
+      omega (arith, (pool.each n).bytes, few_bytes at (length lists) n l.tail l.count l.head (pool.each n).linked)
 
   pub bytes_enough : (n : ℕ) → (get_or lists n no_list).count ≤ (get_or lists n no_list).bytes
   bytes_enough n =
       let l : FlowList = get_or lists n no_list in
-      omega (arith, (pool.each n).bytes, enough_bytes at n l.tail l.count l.head (pool.each n).linked)
+      omega (arith, (pool.each n).bytes, enough_bytes at (length lists) n l.tail l.count l.head (pool.each n).linked)
 
 -- lists from the k-th flow on
-module _ (at : ℕ → Option Node) where
-  counts_from : (k : ℕ) (lists : List FlowList) → ((n : ℕ) → IsList at (k + n) (get_or lists n no_list)) → packets_in (queues_in at lists) ≡ sum_by (λ (l : FlowList). l.count) lists
+module _ (at : ℕ → Option Node) (w : ℕ) where
+  counts_from : (k : ℕ) (lists : List FlowList) → ((n : ℕ) → IsList at w (k + n) (get_or lists n no_list)) → packets_in (queues_in at lists) ≡ sum_by (λ (l : FlowList). l.count) lists
   unfolding packets_in queues_in
   counts_from k [] each = refl
   counts_from k (l ∷ ls) each =
       let rest = counts_from (suc k) ls (λ n. shift n) in
-      let here : count (queue_in at l) ≡ l.count = counted at (k + 0) l.tail l.count l.head (each 0).linked in
+      let here : count (queue_in at l) ≡ l.count = counted at w (k + 0) l.tail l.count l.head (each 0).linked in
       omega (arith, here, rest, sum_by-cons (λ (x : FlowList). x.count) l ls, sum_by-cons (λ (q : List Stamped). count q) (queue_in at l) (map (queue_in at) ls))
     where
-      shift : (n : ℕ) → IsList at (suc k + n) (get_or ls n no_list)
+      shift : (n : ℕ) → IsList at w (suc k + n) (get_or ls n no_list)
       shift n = let e : k + suc n ≡ suc k + n = omega arith in rw e at (each (suc n))
 
-  sums_from : (k : ℕ) (lists : List FlowList) → ((n : ℕ) → IsList at (k + n) (get_or lists n no_list)) → (bytes_in (queues_in at lists) ≡ sum_by (λ (l : FlowList). l.bytes) lists) × (sum_by (λ (l : FlowList). l.bytes) lists ≤ 65535 * sum_by (λ (l : FlowList). l.count) lists)
+  sums_from : (k : ℕ) (lists : List FlowList) → ((n : ℕ) → IsList at w (k + n) (get_or lists n no_list)) → (bytes_in (queues_in at lists) ≡ sum_by (λ (l : FlowList). l.bytes) lists) × (sum_by (λ (l : FlowList). l.bytes) lists ≤ 65535 * sum_by (λ (l : FlowList). l.count) lists)
   unfolding bytes_in queues_in
   sums_from k [] each = (refl, omega arith)
   sums_from k (l ∷ ls) each =
       let rest = sums_from (suc k) ls (λ n. shift n) in
       let here : l.bytes ≡ size (queue_in at l) = (each 0).bytes in
-      let few : size (queue_in at l) ≤ 65535 * l.count = few_bytes at (k + 0) l.tail l.count l.head (each 0).linked in (
+      let few : size (queue_in at l) ≤ 65535 * l.count = few_bytes at w (k + 0) l.tail l.count l.head (each 0).linked in (
         omega (arith, here, rest.0, sum_by-cons (λ (x : FlowList). x.bytes) l ls, sum_by-cons (λ (q : List Stamped). size q) (queue_in at l) (map (queue_in at) ls)),
         omega (arith, here, few, rest.1, sum_by-cons (λ (x : FlowList). x.bytes) l ls, sum_by-cons (λ (x : FlowList). x.count) l ls),
       )
     where
-      shift : (n : ℕ) → IsList at (suc k + n) (get_or ls n no_list)
+      shift : (n : ℕ) → IsList at w (suc k + n) (get_or ls n no_list)
       shift n = let e : k + suc n ≡ suc k + n = omega arith in rw e at (each (suc n))
 
 module _ (at : ℕ → Option Node) (nodes : ℕ) (lists : List FlowList) (bytes : ℕ) (pool : IsPool at nodes lists bytes) where
-  from_first : (n : ℕ) → IsList at (0 + n) (get_or lists n no_list)
-  from_first n = let e : n ≡ 0 + n = omega arith in subst (λ (m : ℕ). IsList at m (get_or lists n no_list)) e (pool.each n)
+  from_first : (n : ℕ) → IsList at (length lists) (0 + n) (get_or lists n no_list)
+  from_first n = let e : n ≡ 0 + n = omega arith in subst (λ (m : ℕ). IsList at (length lists) m (get_or lists n no_list)) e (pool.each n)
 
   pub packets_pooled : packets_in (queues_in at lists) ≡ nodes
-  packets_pooled = counts_from at 0 lists from_first ∙ sym pool.counted
+  packets_pooled = counts_from at (length lists) 0 lists from_first ∙ sym pool.counted
 
   pub bytes_pooled : bytes_in (queues_in at lists) ≡ bytes
-  bytes_pooled = (sums_from at 0 lists from_first).0 ∙ sym pool.summed
+  bytes_pooled = (sums_from at (length lists) 0 lists from_first).0 ∙ sym pool.summed
 
   pub all_bytes_few : bytes ≤ 65535 * nodes
-  all_bytes_few = omega (arith, (sums_from at 0 lists from_first).1, pool.summed, pool.counted)
+  all_bytes_few = omega (arith, (sums_from at (length lists) 0 lists from_first).1, pool.summed, pool.counted)
 
   -- what a read of one list tells of its queue, where these are the queues
   module _ (qs : List (List Stamped)) (same : queues_in at lists ≡ qs) (n : ℕ) (l : FlowList) (read : l ≡ get_or lists n no_list) where
     pub queue_read : queue_in at l ≡ get_or qs n []
     queue_read = ap (queue_in at) read ∙ sym (queue_at at lists n) ∙ ap (λ (q : List (List Stamped)). get_or q n []) same
 
-    pub list_read : IsList at n l
+    pub list_read : IsList at (length lists) n l
     list_read = rw read (pool.each n)
 
     pub count_read : l.count ≡ count (get_or qs n [])
-    count_read = sym (counted at n l.tail l.count l.head list_read.linked) ∙ ap count queue_read
+    count_read = sym (counted at (length lists) n l.tail l.count l.head list_read.linked) ∙ ap count queue_read
 
     pub bytes_read : l.bytes ≡ size (get_or qs n [])
     bytes_read = list_read.bytes ∙ ap size queue_read
 
     pub none_read : l.count ≡ 0 → get_or qs n [] ≡ []
-    none_read none = sym queue_read ∙ ap (λ (m : ℕ). chain at m l.head) none ∙ chain-none at l.head
+    none_read none = sym queue_read ∙ ap (λ (m : ℕ). chain packets at m l.head) none ∙ chain-none packets at l.head
 
     pub some_read : l.count ≢ 0 → n < length lists
     some_read some =
@@ -170,11 +172,11 @@ module _ (at : ℕ → Option Node) (nodes : ℕ) (lists : List FlowList) (bytes
 pub queues_first : (at : ℕ → Option Node) (n : ℕ) → queues_in at (replicate n no_list) ≡ replicate n []
 unfolding queues_in
 queues_first at zero = refl
-queues_first at (suc n) = ap₂ (λ (q : List Stamped) (qs : List (List Stamped)). q ∷ qs) (chain-none at 0) (queues_first at n)
+queues_first at (suc n) = ap₂ (λ (q : List Stamped) (qs : List (List Stamped)). q ∷ qs) (chain-none packets at 0) (queues_first at n)
 
-no_list_at : (at : ℕ → Option Node) (n : ℕ) → IsList at n no_list
+no_list_at : (at : ℕ → Option Node) (w n : ℕ) → IsList at w n no_list
 unfolding IsChain
-no_list_at at n = record { linked = tt; bytes = sym (ap size (chain-none at 0)) }
+no_list_at at w n = record { linked = tt; bytes = sym (ap size (chain-none packets at 0)) }
 
 nothing_at : (m n : ℕ) → get_or (replicate n no_list) m no_list ≡ no_list
 nothing_at zero zero = refl
@@ -190,7 +192,7 @@ pub pool_first : (s : Slab Node) (n : ℕ) → s.slots ≡ [] → IsPool (get s)
 pool_first s n empty =
     let len : slab_len s ≡ 0 = ap (λ (l : List (Option Node)). count_by is_some l) empty in
     record {
-      each = λ m. rw (nothing_at m n) (no_list_at (get s) m);
+      each = λ m. rw (nothing_at m n) (no_list_at (get s) (length (replicate n no_list)) m);
       counted = len ∙ sym (nothing_in (λ (l : FlowList). l.count) n refl);
       summed = sym (nothing_in (λ (l : FlowList). l.bytes) n refl);
       few = omega (arith, len);

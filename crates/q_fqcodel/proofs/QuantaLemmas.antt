@@ -80,6 +80,10 @@ pub given-more : (q n : ℕ) (e : Entry) → given q n (given q 1 e) ≡ given q
 unfolding given
 given-more q n e = ap (λ z. record e { credits = z }) (quantum_more e.credits q n)
 
+pub given-flow : (q n : ℕ) (e : Entry) → (given q n e).flow ≡ e.flow
+unfolding given
+given-flow q n e = refl
+
 pub given-none : (q : ℕ) (e : Entry) → given q 0 e ≡ e
 unfolding given
 given-none q e =

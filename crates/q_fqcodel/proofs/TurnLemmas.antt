@@ -1,5 +1,5 @@
 -- One turn of the scheduler: what it does to the state, and that the selection stays the same.
-use Rattle.std.proofs.Common.{◌≡◌, ℕ, suc, ◌+◌, ◌<◌, ◌≤◌, pos, ◌≤ℤ◌, ◌<ℤ◌, Bool, true, false, List, [], ◌∷◌, ◌++◌, length, drop, sum_by, refl, sym, ap, ap₂, ◌∙◌, subst, arith, get_or, IfSome}
+use Rattle.std.proofs.Common.{◌≡◌, ℕ, suc, ◌+◌, ◌<◌, ◌≤◌, pos, ◌≤ℤ◌, ◌<ℤ◌, Bool, true, false, List, [], ◌∷◌, ◌++◌, length, drop, sum_by, refl, sym, ap, ap₂, ◌∙◌, subst, arith, IfSome, Some, IsSome}
 use Rattle.std.specs.Prelude.{slice_get}
 use Rattle.std.proofs.lemmas.List.Sums.{sum_by-cons, sum_by_push}
 use Rattle.q_fqcodel.specs.Cleared.{adjust, clear}
@@ -248,6 +248,10 @@ settled_none s no_fresh no_stale =
       busy = subst (λ (l : List Entry). IfSome (slice_get l 0) (λ (e : Entry). is_idle s.flows e.flow ≡ false)) (sym none) tt;
     }
 
-pub front_is : {X : Type 0} (xs : List X) (e : X) → 0 < length xs → e ≡ get_or xs 0 e → xs ≡ e ∷ drop 1 xs
-front_is [] e some read = absurd (omega arith)
-front_is (x ∷ xs) e some read = ap (λ (y : _). y ∷ xs) (sym read)
+pub front_at : {X : Type 0} (xs : List X) (e : X) → slice_get xs 0 ≡ Some e → xs ≡ e ∷ drop 1 xs
+front_at [] e read = absurd cc
+front_at (x ∷ xs) e read = let p : x ≡ e = cc in ap (λ (y : _). y ∷ xs) p
+
+pub front_some : {X : Type 0} (xs : List X) → 0 < length xs → IsSome (slice_get xs 0)
+front_some [] some = absurd (omega arith)
+front_some (x ∷ xs) some = refl

@@ -5,6 +5,8 @@ pub mod FlowsState
 pub mod FqState
 pub mod Lawful
 pub mod Laws
+pub mod Links
+pub mod Linked
 pub mod NewFlow
 pub mod Pool
 pub mod PoolKept

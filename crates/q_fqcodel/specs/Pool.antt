@@ -1,6 +1,6 @@
 -- The packets of all flows in one slab of nodes, and the queue of each flow as a list that is linked through it.
 -- This is how the crate keeps them; nothing public names it.
-use Rattle.std.specs.Prelude.{◌≡◌, ℕ, ◌≤◌, ◌^◌, List, [], ◌∷◌, map, set, get_or, sum_by, Option}
+use Rattle.std.specs.Prelude.{◌≡◌, ℕ, ◌≤◌, ◌^◌, List, [], ◌∷◌, length, map, set, get_or, sum_by, Option}
 use Rattle.q_packet.specs.Totals.{count, size}
 use Rattle.q_packet.specs.declared.stamped.Stamped.{Stamped}
 use Rattle.q_codel.specs.Codel.{CodelState, CodelParams, CodelVars, joined, at_first}
@@ -35,7 +35,7 @@ queues_in at lists = map (queue_in at) lists
 
 -- each flow has its list, every node is in one of them, and there are so many bytes
 pub record IsPool (at : ℕ → Option Node) (nodes : ℕ) (lists : List FlowList) (bytes : ℕ) : Type 0 where
-  pub each : (n : ℕ) → IsList at n (get_or lists n no_list)
+  pub each : (n : ℕ) → IsList at (length lists) n (get_or lists n no_list)
   pub counted : nodes ≡ sum_by (λ (l : FlowList). l.count) lists
   pub summed : bytes ≡ sum_by (λ (l : FlowList). l.bytes) lists
   pub few : nodes ≤ 2 ^ 32

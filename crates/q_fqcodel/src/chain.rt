@@ -1,5 +1,5 @@
 //! The packets of one flow in the slab of all: one appended, or the first taken.
-ghost use Rattle.std.specs.Prelude.{◌≡◌, ◌+◌, ◌<◌, [], ◌∷◌, ◌++◌, ◌^◌};
+ghost use Rattle.std.specs.Prelude.{ℕ, ◌≡◌, ◌+◌, ◌<◌, ◌%◌, [], ◌∷◌, ◌++◌, ◌^◌};
 ghost use Rattle.slab.specs.Slab.{get, slab_len, HasRoomFor};
 ghost use Rattle.q_fqcodel.specs.Chain.{queue_in, IsList, KeepsOthers};
 
@@ -8,30 +8,23 @@ use crate::node::Node;
 use q_packet::Stamped;
 use slab::Slab;
 
-/// Appends a packet to the list of a flow.
-pub(crate) fn append(
-    nodes: &mut Slab<Node>,
-    list: FlowList,
-    flow: u32,
-    stamped: Stamped,
-) -> FlowList
+/// Appends a packet to the list of its flow, however many flows there are.
+pub(crate) fn append(nodes: &mut Slab<Node>, list: FlowList, stamped: Stamped) -> FlowList
     requires room { HasRoomFor nodes.old 1 }
-    requires linked { IsList (get nodes.old) flow list }
+    requires linked { (flows : ℕ) × IsList (get nodes.old) flows (stamped.packet.hash % flows) list }
     requires few { list.count < 2 ^ 32 }
     ensures queue { queue_in (get nodes.new) result ≡ queue_in (get nodes.old) list ++ stamped ∷ [] }
-    ensures linked { IsList (get nodes.new) flow result }
-    ensures others { KeepsOthers flow (get nodes.old) (get nodes.new) }
+    ensures linked { (flows : ℕ) → IsList (get nodes.old) flows (stamped.packet.hash % flows) list
+        → IsList (get nodes.new) flows (stamped.packet.hash % flows) result }
+    ensures others { (flows : ℕ) → IsList (get nodes.old) flows (stamped.packet.hash % flows) list
+        → KeepsOthers flows (stamped.packet.hash % flows) (get nodes.old) (get nodes.new) }
     ensures count { result.count ≡ list.count + 1 }
     ensures bytes { result.bytes ≡ list.bytes + stamped.packet.len }
     ensures len { slab_len nodes.new ≡ slab_len nodes.old + 1 }
     ensures capacity { nodes.new.capacity ≡ nodes.old.capacity }
 {
     let packet = stamped.packet;
-    let key = nodes.insert_reserved(Node {
-        stamped,
-        next: 0,
-        flow,
-    });
+    let key = nodes.insert_reserved(Node::last(stamped));
     if list.count == 0 {
         return FlowList {
             head: key,
@@ -50,25 +43,25 @@ pub(crate) fn append(
 }
 
 /// Takes the first packet out of the list of a flow.
-pub(crate) fn take_head(nodes: &mut Slab<Node>, list: FlowList, flow: u32) -> (Stamped, FlowList)
+pub(crate) fn take_head(nodes: &mut Slab<Node>, list: FlowList) -> (Stamped, FlowList)
     requires some { 0 < list.count }
-    requires linked { IsList (get nodes.old) flow list }
+    requires linked { (flows : ℕ) × (flow : ℕ) × IsList (get nodes.old) flows flow list }
     ensures queue { queue_in (get nodes.old) list ≡ result.0 ∷ queue_in (get nodes.new) result.1 }
-    ensures linked { IsList (get nodes.new) flow result.1 }
-    ensures others { KeepsOthers flow (get nodes.old) (get nodes.new) }
+    ensures linked { (flows flow : ℕ) → IsList (get nodes.old) flows flow list → IsList (get nodes.new) flows flow result.1 }
+    ensures others { (flows flow : ℕ) → IsList (get nodes.old) flows flow list
+        → KeepsOthers flows flow (get nodes.old) (get nodes.new) }
     ensures count { result.1.count + 1 ≡ list.count }
     ensures bytes { result.1.bytes + result.0.packet.len ≡ list.bytes }
     ensures len { slab_len nodes.new + 1 ≡ slab_len nodes.old }
     ensures capacity { nodes.new.capacity ≡ nodes.old.capacity }
 {
     let node = nodes.remove(list.head);
-    let stamped = node.stamped;
-    let packet = stamped.packet;
+    let packet = node.packet;
     let rest = FlowList {
         head: node.next,
         tail: list.tail,
         count: list.count - 1,
         bytes: list.bytes - packet.len as u64,
     };
-    (stamped, rest)
+    (node.stamped(), rest)
 }

@@ -1,4 +1,4 @@
-ghost use Rattle.std.specs.Prelude.{◌≡◌, ◌+◌, ◌*◌, ◌<◌, ◌≤◌, ◌^◌, [], ◌++◌, ◌&&◌, ◌==◌, nat_le, length, map, replicate, take, drop, set, slice_get, get_or, ◌↔◌, IsSome, IfSome, IsOk, IfOk, OnOk, OnErr};
+ghost use Rattle.std.specs.Prelude.{◌≡◌, ◌+◌, ◌*◌, ◌<◌, ◌≤◌, ◌%◌, ◌^◌, [], ◌++◌, ◌&&◌, ◌==◌, nat_le, length, map, replicate, take, drop, set, slice_get, get_or, ◌↔◌, IsSome, IfSome, IsOk, IfOk, OnOk, OnErr};
 ghost use Rattle.q_packet.specs.Totals.{count};
 ghost use Rattle.q_codel.specs.Codel.{joined as together, drops, taken, left, after};
 ghost use Rattle.q_codel.specs.Losses.{losses_of};
@@ -105,6 +105,7 @@ impl Flows {
     /// Appends a packet to a flow.
     pub(crate) fn push(&mut self, flow: u32, stamped: Stamped)
         requires in_range { flow < length self.old.flows }
+        requires own { stamped.packet.hash % length self.old.flows ≡ flow }
         requires place { packets_of self.old.flows < self.old.places }
         requires few { packets_of self.old.flows < 2 ^ 32 }
         ensures flows { self.new.flows ≡ adjust (joined stamped) flow self.old.flows }

@@ -1,16 +1,16 @@
 ghost use Rattle.std.specs.Prelude.{◌≡◌, ◌+◌, ◌<◌, ◌≤◌, ◌↔◌, ◌==◌, [], ◌∷◌, ◌++◌, length, set, slice_get, pos, true, false, if◌then◌else◌, IsSome, IsOk, IfOk, OnOk, OnErr};
 ghost use Rattle.q_packet.specs.Totals.{count};
-ghost use Rattle.std.specs.VecDeque.{deque_len, deque_capacity};
 ghost use Rattle.q_codel.specs.Losses.{losses_of};
-ghost use Rattle.q_fqcodel.specs.Put.{is_listed};
 
+use crate::active_lists::ActiveLists;
 use crate::entry::Entry;
+use crate::flow_list::FlowList;
 use crate::flows::Flows;
+use crate::link::Link;
 use crate::settings::Settings;
-use q_codel::{Sink, Taken};
+use q_codel::{ControlState, Sink, Taken};
 use q_packet::{Cause, Moment, Packet, Stamped};
 use std::alloc::{AllocError, Global};
-use std::collections::VecDeque;
 use std::marker::Model;
 
 /// FQ-CoDel (RFC 8290): flows that share a link by quanta, each managed by CoDel.
@@ -21,27 +21,33 @@ use std::marker::Model;
 pub struct FqCodel {
     settings: Settings,
     flows: Flows,
-    // The list of new flows: new_flows of RFC 8290.
-    fresh: VecDeque<Entry>,
-    // The list of old flows: old_flows.
-    stale: VecDeque<Entry>,
+    // The lists of new and old flows: new_flows and old_flows of RFC 8290.
+    lists: ActiveLists,
 }
 
+// What a flow takes: the list of its packets, what CoDel knows of it, its link, and its bytes and inner node among the winners.
+const _: () = prove!(
+    size_of::<FlowList>()
+        + size_of::<ControlState>()
+        + size_of::<Link>()
+        + size_of::<u64>()
+        + size_of::<u32>()
+        <= 96
+);
+
 impl Model for FqCodel {
-    ghost use Rattle.std.specs.Prelude.{◌≤◌};
-    ghost use Rattle.std.specs.VecDeque.{deque_capacity};
+    ghost use Rattle.std.specs.Prelude.{◌≡◌};
     ghost use Rattle.q_fqcodel.specs.FqState.{FqView};
     ghost use Rattle.q_fqcodel.specs.FlowsState.{state_of};
     ghost use Rattle.q_fqcodel.specs.Lawful.{IsLawful};
 
     ghost Value = { FqView };
 
-    ghost view = { λ q. record { state = state_of q.settings q.flows q.fresh.items q.stale.items; places = q.flows.places } };
+    ghost view = { λ q. record { state = state_of q.settings q.flows q.lists.fresh q.lists.stale; places = q.flows.places } };
 
     ghost invariant = { λ q.
-        IsLawful (state_of q.settings q.flows q.fresh.items q.stale.items)
-        × (q.settings.flows ≤ deque_capacity q.fresh)
-        × (q.settings.flows ≤ deque_capacity q.stale) };
+        IsLawful (state_of q.settings q.flows q.lists.fresh q.lists.stale)
+        × (q.lists.room ≡ q.settings.flows) };
 }
 
 impl FqCodel {
@@ -88,15 +94,7 @@ impl FqCodel {
     {
         let settings = self.settings;
         let flow = packet.hash % settings.flows;
-        // A flow with packets is in a list, so no list is looked through for it.
-        let is_idle = self.flows.is_idle(flow);
-        enlist(
-            &mut self.fresh,
-            &self.stale,
-            flow,
-            settings.quantum,
-            is_idle,
-        );
+        self.lists.enlist(flow, settings.quantum);
         self.flows.push(flow, Stamped { packet, at: now });
         if self.flows.count() <= settings.limit as u64 {
             return false;
@@ -124,13 +122,11 @@ impl FqCodel {
         ensures { IfOk result (λ q. q.state ≡ first_state settings) }
     {
         let flows = Flows::new(alloc, settings)?;
-        let fresh = VecDeque::with_capacity(alloc, settings.flows as usize)?;
-        let stale = VecDeque::with_capacity(alloc, settings.flows as usize)?;
+        let lists = ActiveLists::new(alloc, settings.flows)?;
         Ok(FqCodel {
             settings,
             flows,
-            fresh,
-            stale,
+            lists,
         })
     }
 
@@ -156,8 +152,7 @@ impl FqCodel {
         ensures kept { S.keeps sink.old sink.new }
     {
         self.flows.purge(self.settings, sink);
-        self.fresh.clear();
-        self.stale.clear();
+        self.lists.clear();
     }
 
     /// The packets in all flows, and their bytes.
@@ -201,13 +196,13 @@ impl FqCodel {
     fn has_new(&self) -> bool
         ensures { result ≡ not (length self.now.state.fresh == 0) }
     {
-        !self.fresh.is_empty()
+        self.lists.has_new()
     }
 
     fn has_old(&self) -> bool
         ensures { result ≡ not (length self.now.state.stale == 0) }
     {
-        !self.stale.is_empty()
+        self.lists.has_old()
     }
 
     // Whether the flow in front of the new list sends; where it does not, it goes to the end of the old list.
@@ -219,19 +214,16 @@ impl FqCodel {
         ensures places { self.new.places ≡ self.old.places }
     {
         let settings = self.settings;
-        let entry = self.fresh[0];
+        let entry = self.lists.first_new().unwrap();
         // Its quantum is spent: it is given the next, and is new no longer.
         if entry.credits <= 0 {
-            let _ = self.fresh.pop_front();
-            self.stale
-                .push_back_reserved(entry.granted(settings.quantum));
+            self.lists.age(entry.granted(settings.quantum));
             return false;
         }
         // Emptied: it becomes old, since a flow forgotten here would be new again with its next packet, before all old ones.
         if self.flows.is_idle(entry.flow) {
             self.flows.rest(entry.flow);
-            let _ = self.fresh.pop_front();
-            self.stale.push_back_reserved(entry);
+            self.lists.age(entry);
             return false;
         }
         true
@@ -249,18 +241,16 @@ impl FqCodel {
         ensures places { self.new.places ≡ self.old.places }
     {
         let settings = self.settings;
-        let entry = self.stale[0];
+        let entry = self.lists.first_old().unwrap();
         // Its quantum is spent: it is given the next, and the others have their turn before it.
         if entry.credits <= 0 {
-            let _ = self.stale.pop_front();
-            self.stale
-                .push_back_reserved(entry.granted(settings.quantum));
+            self.lists.rotate(entry.granted(settings.quantum));
             return false;
         }
         // Emptied, and met a round later: it leaves, and its next packet makes it new again.
         if self.flows.is_idle(entry.flow) {
             self.flows.rest(entry.flow);
-            let _ = self.stale.pop_front();
+            self.lists.retire();
             return false;
         }
         true
@@ -284,7 +274,7 @@ impl FqCodel {
         let taken = self.flows.send(front.flow, now, sink).unwrap();
         // CoDel's drops cost the flow nothing: only what is sent does.
         let packet = taken.packet;
-        write_front(&mut self.fresh, &mut self.stale, front.charged(packet.len));
+        self.lists.write_front(front.charged(packet.len));
         Some(taken)
     }
 
@@ -294,57 +284,8 @@ impl FqCodel {
         ensures lawful { IsLawful self.now.state }
     {
         if self.has_new() {
-            return first(&self.fresh);
+            return self.lists.first_new();
         }
-        first(&self.stale)
+        self.lists.first_old()
     }
-}
-
-// The flow in front of a list.
-fn first(list: &VecDeque<Entry>) -> Option<Entry>
-    ensures { result ≡ slice_get list.now.items 0 }
-{
-    list.front().copied()
-}
-
-// Writes the flow in front: of the new list, or of the old one where the new one is empty.
-fn write_front(fresh: &mut VecDeque<Entry>, stale: &mut VecDeque<Entry>, entry: Entry)
-    requires { 0 < deque_len fresh.old + deque_len stale.old }
-    ensures fresh { fresh.new.items ≡ set fresh.old.items 0 entry }
-    ensures stale { stale.new.items ≡ (if length fresh.old.items == 0 then set stale.old.items 0 entry else stale.old.items) }
-    ensures fresh_capacity { deque_capacity fresh.new ≡ deque_capacity fresh.old }
-    ensures stale_capacity { deque_capacity stale.new ≡ deque_capacity stale.old }
-{
-    if fresh.is_empty() {
-        stale[0] = entry;
-    } else {
-        fresh[0] = entry;
-    }
-}
-
-// Puts a flow that is in neither list at the end of the new one, with one quantum.
-fn enlist(
-    fresh: &mut VecDeque<Entry>,
-    stale: &VecDeque<Entry>,
-    flow: u32,
-    quantum: u32,
-    is_idle: bool,
-)
-    requires place { is_listed flow (fresh.old.items ++ stale.now.items) ≡ false → deque_len fresh.old < deque_capacity fresh.old }
-    requires listed { is_idle ≡ false → is_listed flow (fresh.old.items ++ stale.now.items) ≡ true }
-    ensures items { fresh.new.items ≡ (if is_listed flow (fresh.old.items ++ stale.now.items) then fresh.old.items
-        else fresh.old.items ++ record { flow = flow; credits = pos quantum } ∷ []) }
-    ensures capacity { deque_capacity fresh.new ≡ deque_capacity fresh.old }
-{
-    if !is_idle || stands_in(fresh, flow) || stands_in(stale, flow) {
-        return;
-    }
-    fresh.push_back_reserved(Entry::first(flow, quantum));
-}
-
-// Whether a flow is in this list.
-fn stands_in(list: &VecDeque<Entry>, flow: u32) -> bool
-    ensures { result ≡ is_listed flow list.now.items }
-{
-    list.iter().any(|entry| entry.flow == flow)
 }

@@ -1,10 +1,41 @@
-use q_packet::Stamped;
+ghost use Rattle.std.specs.Prelude.{◌≡◌};
+ghost use Rattle.q_fqcodel.specs.Chain.{stamped_of};
 
-/// A queued packet, the flow that it is in, and the key of the packet behind it in that flow.
+use q_packet::{Moment, Packet, Stamped};
+
+/// A queued packet with the moment at which it was queued, and the key of the packet behind it in its flow.
+///
+/// It has the fields of a `Stamped` and not one whole, whose end would be padding.
 #[derive(Clone, Copy, Debug)]
 pub(crate) struct Node {
-    pub stamped: Stamped,
+    pub packet: Packet,
+    pub at: Moment,
     /// No key where the packet is the flow's last: it is not read then.
     pub next: usize,
-    pub flow: u32,
+}
+
+// A slab keeps each as a value that is there or not.
+const _: () = prove!(size_of::<Option<Node>>() <= 112);
+
+impl Node {
+    /// A packet with none behind it.
+    pub(crate) fn last(stamped: Stamped) -> Node
+        ensures { result ≡ record { packet = stamped.packet; at = stamped.at; next = 0 } }
+    {
+        Node {
+            packet: stamped.packet,
+            at: stamped.at,
+            next: 0,
+        }
+    }
+
+    /// The packet, as it was queued.
+    pub(crate) fn stamped(self) -> Stamped
+        ensures { result ≡ stamped_of self }
+    {
+        Stamped {
+            packet: self.packet,
+            at: self.at,
+        }
+    }
 }

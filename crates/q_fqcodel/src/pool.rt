@@ -1,4 +1,4 @@
-ghost use Rattle.std.specs.Prelude.{ℕ, ◌≡◌, ◌+◌, ◌<◌, ◌≤◌, ◌^◌, [], ◌∷◌, ◌++◌, length, slice_get, get_or, drop, set, replicate, IsOk, IfOk, OnOk, OnErr};
+ghost use Rattle.std.specs.Prelude.{ℕ, ◌≡◌, ◌+◌, ◌<◌, ◌≤◌, ◌%◌, ◌^◌, [], ◌∷◌, ◌++◌, length, slice_get, get_or, drop, set, replicate, IsOk, IfOk, OnOk, OnErr};
 ghost use Rattle.q_packet.specs.Totals.{count, size};
 ghost use Rattle.q_fqcodel.specs.Pool.{packets_in, bytes_in, no_list, SameBeside};
 
@@ -72,6 +72,7 @@ impl Pool {
     /// Appends a packet to a flow.
     pub(crate) fn push(&mut self, stamped: Stamped, flow: u32)
         requires in_range { flow < length self.old.queues }
+        requires own { stamped.packet.hash % length self.old.queues ≡ flow }
         requires place { packets_in self.old.queues < self.old.places }
         requires few { packets_in self.old.queues < 2 ^ 32 }
         ensures queues { self.new.queues ≡ set self.old.queues flow (get_or self.old.queues flow [] ++ stamped ∷ []) }
@@ -79,7 +80,7 @@ impl Pool {
     {
         let list = list_of(&self.lists, flow);
         let packet = stamped.packet;
-        self.lists[flow as usize] = append(&mut self.nodes, list, flow, stamped);
+        self.lists[flow as usize] = append(&mut self.nodes, list, stamped);
         self.bytes += packet.len as u64;
     }
 
@@ -91,7 +92,7 @@ impl Pool {
         if list.count == 0 {
             return None;
         }
-        Some(self.nodes[list.head].stamped)
+        Some(self.nodes[list.head].stamped())
     }
 
     /// Takes the packet in front of a flow.
@@ -104,7 +105,7 @@ impl Pool {
         if list.count == 0 {
             return None;
         }
-        let (stamped, rest) = take_head(&mut self.nodes, list, flow);
+        let (stamped, rest) = take_head(&mut self.nodes, list);
         let packet = stamped.packet;
         self.lists[flow as usize] = rest;
         self.bytes -= packet.len as u64;

@@ -1,4 +1,4 @@
-use Rattle.std.proofs.Common.{ℕ, ◌<◌, List, [], ◌∷◌, ◌++◌, length, get_or, set, refl, ap, ◌∙◌, arith}
+use Rattle.std.proofs.Common.{◌≡◌, ℕ, ◌%◌, ◌<◌, List, [], ◌∷◌, ◌++◌, length, get_or, set, refl, ap, ◌∙◌, arith}
 use Rattle.q_packet.specs.declared.stamped.Stamped.{Stamped}
 use Rattle.q_fqcodel.specs.Cleared.{adjust}
 use Rattle.q_fqcodel.specs.FlowsState.{FlowsState}
@@ -24,6 +24,12 @@ pub push-requires-clause-in_range : goal.push-requires-clause-in_range
 push-requires-clause-in_range c =
     let same = ap (λ (f : FlowsState). f.flows) c.self.view_is in
     omega (arith, c.requires.in_range, ap length same, length-flows c.self.inside.pool.queues (codels_in c.self.inside.parameters c.self.inside.states.items) c.self.invariant.0, c.self.invariant.0)
+
+pub push-requires-clause-own : goal.push-requires-clause-own
+push-requires-clause-own c =
+    let count : length c.self.inside.pool.queues ≡ length c.args.self.now.flows =
+    omega (arith, ap (λ (f : FlowsState). length f.flows) c.self.view_is, length-flows c.self.inside.pool.queues (codels_in c.self.inside.parameters c.self.inside.states.items) c.self.invariant.0, c.self.invariant.0) in
+    ap (λ (n : ℕ). c.args.stamped.packet.hash % n) count ∙ c.requires.own
 
 within : (c : After-push) → c.args.flow < length c.self.inside.pool.queues
 within c =

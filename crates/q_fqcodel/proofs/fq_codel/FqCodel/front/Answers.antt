@@ -5,10 +5,10 @@ use Rattle.q_fqcodel.proofs.fq_codel.FqCodel.front.Goals as goal
 
 pub returns-then-has_new-clause-value : goal.returns-then-has_new-clause-value
 returns-then-has_new-clause-value c =
-    c.first.ensures
-    ∙ first_if c.self.inside.fresh.items c.args.self.now.state (ap (λ (v : FqView). v.state.fresh) c.self.view_is) (sym c.has_new.ensures ∙ c.if-has_new.true)
+    c.first_new.ensures
+    ∙ first_if c.self.inside.lists.fresh c.args.self.now.state (ap (λ (v : FqView). v.state.fresh) c.self.view_is) (sym c.has_new.ensures ∙ c.if-has_new.true)
 
 pub returns-clause-value : goal.returns-clause-value
 returns-clause-value c =
-    c.first-2.ensures
-    ∙ first_else c.self.inside.stale.items c.args.self.now.state (ap (λ (v : FqView). v.state.stale) c.self.view_is) (sym c.has_new.ensures ∙ c.if-has_new.false)
+    c.first_old.ensures
+    ∙ first_else c.self.inside.lists.stale c.args.self.now.state (ap (λ (v : FqView). v.state.stale) c.self.view_is) (sym c.has_new.ensures ∙ c.if-has_new.false)

@@ -9,24 +9,25 @@ use Rattle.q_fqcodel.specs.Cleared.{adjust}
 use Rattle.q_fqcodel.specs.FlowsState.{state_of}
 use Rattle.q_fqcodel.specs.FqState.{FqSettings, Flow, FqState, FqView, queue_of, packets_of}
 use Rattle.q_fqcodel.specs.Lawful.{IsLawful}
+use Rattle.q_fqcodel.specs.Links.{ListsState}
 use Rattle.q_fqcodel.specs.Put.{flow_of, joined, appended, fattest, shed_count, cut_back, shed, after_put, lost_by_put}
 use Rattle.q_fqcodel.specs.Ranges.{IsInRange}
 use Rattle.q_fqcodel.proofs.FlowLemmas.{length-adjust}
 use Rattle.q_fqcodel.proofs.KeptLemmas.{lawful_after_put}
-use Rattle.q_fqcodel.proofs.PutLemmas.{place_for, listed-some, listed-not, packets-joined, appended-is, cut-none, cut-some, shed-none, shed-some, lost-none, lost-some, shed-within, shed-batch}
+use Rattle.q_fqcodel.proofs.PutLemmas.{place_for, listed-not, packets-joined, appended-is, cut-none, cut-some, shed-none, shed-some, lost-none, lost-some, shed-within, shed-batch}
 use Rattle.q_fqcodel.proofs.fq_codel.FqCodel.put.Goals as goal
 use Rattle.q_fqcodel.proofs.fq_codel.FqCodel.put.Goals.{After-push, Then-count-settings, After-lose}
 
 -- the state as it was opened
 abbrev opened : (g : _) → After-push g → FqState
-opened g c = state_of c.self.inside.settings c.self.inside.flows c.self.inside.fresh.items c.self.inside.stale.items
+opened g c = state_of c.self.inside.settings c.self.inside.flows c.self.inside.lists.fresh c.self.inside.lists.stale
 
 opened_is : (g : _) (c : After-push g) → opened g c ≡ c.args.self.now.state
 opened_is g c = ap (λ (v : FqView). v.state) c.self.view_is
 
 -- the state once the packet has joined its flow
 abbrev fuller : (g : _) → After-push g → FqState
-fuller g c = record (opened g c) { flows = c.push.new.self.flows; fresh = c.enlist.new.fresh.items }
+fuller g c = state_of c.self.inside.settings c.push.new.self c.enlist.new.self.fresh c.enlist.new.self.stale
 
 abbrev own : (g : _) → After-push g → ℕ
 own g c = c.packet.inside.hash % c.settings.inside.flows
@@ -42,8 +43,9 @@ within g c =
 fuller_is : (g : _) (c : After-push g) → fuller g c ≡ appended c.args.self.now.state c.args.packet c.args.now
 fuller_is g c =
     let s = opened g c in
-    appended-is s c.args.packet c.args.now (own g c) c.settings.inside.quantum c.push.new.self.flows c.enlist.new.fresh.items (own_is g c)
-    (ap (λ (x : FqSettings). x.quantum) c.settings.view_is) c.push.ensures.flows c.enlist.ensures.items
+    ap (λ (v : ListsState). record s { flows = c.push.new.self.flows; fresh = c.enlist.new.self.fresh; stale = v.stale }) c.enlist.ensures
+    ∙ appended-is s c.args.packet c.args.now (own g c) c.settings.inside.quantum c.push.new.self.flows c.enlist.new.self.fresh (own_is g c)
+    (ap (λ (x : FqSettings). x.quantum) c.settings.view_is) c.push.ensures.flows (ap (λ (v : ListsState). v.fresh) c.enlist.ensures)
     ∙ ap (λ (x : FqState). appended x c.args.packet c.args.now) (opened_is g c)
 
 -- one packet more than before
@@ -57,21 +59,25 @@ lawful g c = subst (λ (s : FqState). IsLawful s) (opened_is g c) c.self.invaria
 ranges : (g : _) (c : After-push g) → IsInRange c.args.self.now.state.settings
 ranges g c = subst (λ (x : FqSettings). IsInRange x) (c.settings.view_is ∙ ap (λ (s : FqState). s.settings) (opened_is g c)) c.settings.invariant
 
-pub enlist-requires-clause-listed : goal.enlist-requires-clause-listed
-enlist-requires-clause-listed g c h =
-    let s : FqState = state_of c.self.inside.settings c.self.inside.flows c.self.inside.fresh.items c.self.inside.stale.items in
-    let n : ℕ = c.packet.inside.hash % c.settings.inside.flows in
-    listed-some n (s.fresh ++ s.stale) (c.self.invariant.0.busy n (sym c.is_idle-is_idle.ensures ∙ h))
+pub enlist-requires-clause-within : goal.enlist-requires-clause-within
+enlist-requires-clause-within g c =
+    let count : c.settings.inside.flows ≡ c.self.inside.settings.flows = ap (λ (x : FqSettings). x.flows) c.settings.view_is in
+    omega (arith, count, c.settings.invariant.flows_low, c.self.invariant.1)
 
-pub enlist-requires-clause-place : goal.enlist-requires-clause-place
-enlist-requires-clause-place g c =
-    let s : FqState = state_of c.self.inside.settings c.self.inside.flows c.self.inside.fresh.items c.self.inside.stale.items in
+pub enlist-requires-clause-few : goal.enlist-requires-clause-few
+enlist-requires-clause-few g c =
+    let s : FqState = state_of c.self.inside.settings c.self.inside.flows c.self.inside.lists.fresh c.self.inside.lists.stale in
     let n : ℕ = c.packet.inside.hash % c.settings.inside.flows in
     let count : c.settings.inside.flows ≡ s.settings.flows = ap (λ (x : FqSettings). x.flows) c.settings.view_is in
     let low : n < s.settings.flows = omega (arith, count, c.settings.invariant.flows_low) in
     λ h.
     let place = place_for s n c.self.invariant.0 low (listed-not n (s.fresh ++ s.stale) h) in
-    omega (arith, place, c.self.invariant.1, c.self.inside.fresh.ok.0)
+    omega (arith, place, count, c.settings.invariant.flows_high)
+
+pub push-requires-clause-own : goal.push-requires-clause-own
+push-requires-clause-own g c =
+    let count : c.settings.inside.flows ≡ length c.self.inside.flows.flows = ap (λ (x : FqSettings). x.flows) c.settings.view_is ∙ sym c.self.invariant.0.each_flow in
+    ap₂ (λ (m n : ℕ). m % n) (ap (λ (p : Descriptor). p.hash) (sym c.packet.view_is)) (sym count)
 
 -- ---- within the limit
 
@@ -96,8 +102,7 @@ invariant_of-self g c =
       subst (λ (s : FqState). IsLawful s) (sym (stays g c))
           (lawful_after_put c.args.self.now.state c.args.packet c.args.now (lawful g at) (ranges g at)
           (λ over. absurd (omega (arith, over, in_limit g c, ap (λ (x : FqState). packets_of x.flows) (fuller_is g at), ap (λ (x : FqState). x.settings.limit) (opened_is g at))))),
-      omega (arith, c.self.invariant.1, c.enlist.ensures.capacity),
-      c.self.invariant.2,
+      ap (λ (v : ListsState). v.room) c.enlist.ensures ∙ c.self.invariant.1,
     )
 
 pub returns-then-count-settings-clause-answer : goal.returns-then-count-settings-clause-answer
@@ -182,8 +187,7 @@ invariant_of-self-2 g c =
       subst (λ (s : FqState). IsLawful s) (sym (cut g c))
           (lawful_after_put c.args.self.now.state c.args.packet c.args.now (lawful g at) (ranges g at)
           (λ _. subst (λ (x : FqState). 0 < count (queue_of x.flows (fattest x.flows))) (fuller_is g at) fat)),
-      omega (arith, c.self.invariant.1, c.enlist.ensures.capacity),
-      c.self.invariant.2,
+      ap (λ (v : ListsState). v.room) c.enlist.ensures ∙ c.self.invariant.1,
     )
 
 pub returns-clause-answer : goal.returns-clause-answer

@@ -1,4 +1,4 @@
-use Rattle.std.proofs.Common.{◌≡◌, ◌+◌, ◌<◌, pos, ◌-ℤ◌, List, [], ◌∷◌, ◌++◌, length, set, drop, IfSome, Some, is_some, slice_get, refl, sym, ap, ap₂, ◌∙◌, arith, append-nil, subst}
+use Rattle.std.proofs.Common.{◌≡◌, ◌+◌, ◌<◌, pos, ◌-ℤ◌, List, [], ◌∷◌, ◌++◌, length, set, drop, IfSome, Some, is_some, slice_get, refl, sym, ap, ◌∙◌, arith, append-nil, subst}
 use Rattle.std.proofs.lemmas.Bool.{false≢true}
 use Rattle.q_packet.specs.Totals.{count}
 use Rattle.q_packet.specs.Descriptor.{Descriptor}
@@ -10,6 +10,7 @@ use Rattle.q_fqcodel.specs.Entry.{Entry}
 use Rattle.q_fqcodel.specs.FlowsState.{state_of}
 use Rattle.q_fqcodel.specs.FqState.{Flow, FqState, FqView, queue_of, packets_of}
 use Rattle.q_fqcodel.specs.Lawful.{IsLawful}
+use Rattle.q_fqcodel.specs.Links.{ListsState}
 use Rattle.q_fqcodel.specs.Take.{front, packet_sent, packets_dropped, flow_after, paid, sent_from, dropped_from, after_sending}
 use Rattle.q_fqcodel.proofs.FlowLemmas.{packets-at}
 use Rattle.q_fqcodel.proofs.KeptLemmas.{lawful_after_sending}
@@ -54,13 +55,13 @@ send-requires-clause-room g c =
 
 -- the state as it was opened, and the flow in front
 abbrev opened : (g : _) → After-write_front g → FqState
-opened g c = state_of c.self.inside.settings c.self.inside.flows c.self.inside.fresh.items c.self.inside.stale.items
+opened g c = state_of c.self.inside.settings c.self.inside.flows c.self.inside.lists.fresh c.self.inside.lists.stale
 
 abbrev sender : (g : _) → After-write_front g → Entry
 sender g c = c.in-Some.front
 
 abbrev behind : (g : _) → After-write_front g → List Entry
-behind g c = drop 1 (c.self.inside.fresh.items ++ c.self.inside.stale.items)
+behind g c = drop 1 (c.self.inside.lists.fresh ++ c.self.inside.lists.stale)
 
 opened_is : (g : _) (c : After-write_front g) → opened g c ≡ c.args.self.now.state
 opened_is g c = ap (λ (v : FqView). v.state) c.self.view_is
@@ -98,21 +99,27 @@ paying g c =
 flows_sent : (g : _) (c : After-write_front g) → c.send.new.self.flows ≡ adjust (flow_after c.args.now) (sender g c).flow (opened g c).flows
 flows_sent g c = c.send.ensures.flows ∙ ap (λ (e : Entry). adjust (flow_after c.args.now) e.flow (opened g c).flows) c.front-2.view_is
 
+pub write_front-requires-clause-own : goal.write_front-requires-clause-own
+write_front-requires-clause-own g c =
+    let split = front-is c.args.self.now.state c.in-Some.front (sym c.front.ensures.value ∙ c.in-Some.is) in
+    subst (λ (l : List Entry). IfSome (slice_get l 0) (λ e. e.flow ≡ c.charged.result.flow))
+    (sym (ap (λ (v : FqView). v.state.fresh ++ v.state.stale) c.self.view_is ∙ split))
+    (sym (ap (λ (e : Entry). e.flow) c.charged.ensures))
+
 -- the state after
-after : (g : _) (c : After-write_front g) → state_of c.self.inside.settings c.send.new.self c.write_front.new.fresh.items c.write_front.new.stale.items ≡ after_sending c.args.now (opened g c)
+after : (g : _) (c : After-write_front g) → state_of c.self.inside.settings c.send.new.self c.write_front.new.self.fresh c.write_front.new.self.stale ≡ after_sending c.args.now (opened g c)
 after g c =
     let s = opened g c in
     let flows : List Flow = adjust (flow_after c.args.now) (sender g c).flow s.flows in
-    ap (λ (f : List Flow). record s { flows = f; fresh = c.write_front.new.fresh.items; stale = c.write_front.new.stale.items }) (flows_sent g c)
-    ∙ ap₂ (λ (k l : List Entry). record s { flows = flows; fresh = k; stale = l }) c.write_front.ensures.fresh c.write_front.ensures.stale
+    ap (λ (f : List Flow). record s { flows = f; fresh = c.write_front.new.self.fresh; stale = c.write_front.new.self.stale }) (flows_sent g c)
+    ∙ ap (λ (v : ListsState). record s { flows = flows; fresh = v.fresh; stale = v.stale }) c.write_front.ensures
     ∙ ap (λ (m : Entry). record s { flows = flows; fresh = set s.fresh 0 m; stale = written m s.fresh s.stale }) (sym (paying g c))
     ∙ sym (after-written s (sender g c) c.args.now (in_front g c))
 
 pub invariant_of-self : goal.invariant_of-self
 invariant_of-self g c = (
   subst (λ (s : FqState). IsLawful s) (sym (after g c)) (lawful_after_sending (opened g c) c.args.now c.self.invariant.0),
-  omega (arith, c.self.invariant.1, c.write_front.ensures.fresh_capacity),
-  omega (arith, c.self.invariant.2, c.write_front.ensures.stale_capacity),
+  ap (λ (v : ListsState). v.room) c.write_front.ensures ∙ c.self.invariant.1,
 )
 
 pub returns-clause-sent : goal.returns-clause-sent

@@ -1,83 +1,122 @@
-use Rattle.std.proofs.Common.{◌≡◌, ℕ, ◌≤◌, pos, ◌≤ℤ◌, ◌<ℤ◌, true, false, List, [], ◌∷◌, ◌++◌, length, drop, sym, ap, ap₂, ◌∙◌, arith, subst, subst₂}
+use Rattle.std.proofs.Common.{◌≡◌, ℕ, ◌≤◌, pos, ◌≤ℤ◌, ◌<ℤ◌, true, false, List, [], ◌∷◌, ◌++◌, length, drop, Option, IsSome, IfSome, sym, ap, ap₂, ◌∙◌, arith, subst, subst₂}
 use Rattle.std.proofs.lemmas.Int.{ints}
+use Rattle.q_fqcodel.specs.Cleared.{adjust}
 use Rattle.q_fqcodel.specs.Entry.{Entry}
 use Rattle.q_fqcodel.specs.FlowsState.{state_of}
-use Rattle.q_fqcodel.specs.FqState.{FqSettings, Flow, FqState, FqView}
+use Rattle.q_fqcodel.specs.FqState.{FqSettings, Flow, FqState, FqView, rested_flow}
+use Rattle.q_fqcodel.specs.Links.{ListsState}
 use Rattle.q_fqcodel.specs.Quanta.{given}
-use Rattle.q_fqcodel.proofs.TurnLemmas.{Looks, LeadsOn, front_is, in_flows, is_spent, has_credits, idle_is, rested_is, goes_from, settled_at, stale_granted, stale_leaves, stale_ready}
+use Rattle.q_fqcodel.proofs.QuantaLemmas.{given-flow}
+use Rattle.q_fqcodel.proofs.TurnLemmas.{Looks, LeadsOn, front_at, front_some, in_flows, is_spent, has_credits, idle_is, rested_is, goes_from, settled_at, stale_granted, stale_leaves, stale_ready}
 use Rattle.q_fqcodel.proofs.fq_codel.FqCodel.turn_old.Goals as goal
-use Rattle.q_fqcodel.proofs.fq_codel.FqCodel.turn_old.Goals.{After-index-entry, After-push_back_reserved, After-pop_front-then-is_idle}
+use Rattle.q_fqcodel.proofs.fq_codel.FqCodel.turn_old.Goals.{After-unwrap-entry, After-granted, After-rotate, After-retire}
 
 -- the state as it was opened, and the flows behind the front
-abbrev opened : After-index-entry → FqState
-opened c = state_of c.self.inside.settings c.self.inside.flows c.self.inside.fresh.items c.self.inside.stale.items
+abbrev opened : After-unwrap-entry → FqState
+opened c = state_of c.self.inside.settings c.self.inside.flows c.self.inside.lists.fresh c.self.inside.lists.stale
 
-abbrev behind : After-index-entry → List Entry
-behind c = drop 1 c.self.inside.stale.items
+abbrev behind : After-unwrap-entry → List Entry
+behind c = drop 1 c.self.inside.lists.stale
 
-opened_is : (c : After-index-entry) → opened c ≡ c.args.self.now.state
+opened_is : (c : After-unwrap-entry) → opened c ≡ c.args.self.now.state
 opened_is c = ap (λ (v : FqView). v.state) c.self.view_is
 
-at_front : (c : After-index-entry) → c.self.inside.stale.items ≡ c.index-entry.result.now ∷ behind c
-at_front c =
-    front_is c.self.inside.stale.items c.index-entry.result.now
-    (omega (arith, c.requires.waiting, ap (λ (s : FqState). length s.stale) (opened_is c))) c.index-entry.ensures
+at_front : (c : After-unwrap-entry) → c.self.inside.lists.stale ≡ c.unwrap-entry.result ∷ behind c
+at_front c = front_at c.self.inside.lists.stale c.unwrap-entry.result (sym c.first_old.ensures ∙ c.unwrap-entry.ensures)
 
-none_new : (c : After-index-entry) → c.self.inside.fresh.items ≡ []
+none_new : (c : After-unwrap-entry) → c.self.inside.lists.fresh ≡ []
 none_new c = ap (λ (s : FqState). s.fresh) (opened_is c) ∙ c.requires.no_new
 
-looks : (c : After-index-entry) (x : Entry) → x ≡ c.index-entry.result.now → Looks c.args.self.now.state (opened c) c.index-entry.result.now x (behind c)
+looks : (c : After-unwrap-entry) (x : Entry) → x ≡ c.unwrap-entry.result → Looks c.args.self.now.state (opened c) c.unwrap-entry.result x (behind c)
 looks c x read = record { opened = opened_is c; lawful = c.self.invariant.0; read = read; first = ap₂ (λ (l m : List Entry). l ++ m) (none_new c) (at_front c) }
 
 pub rest-requires : goal.rest-requires
-rest-requires c = in_flows (looks (goal.at.rest-requires c).After-index-entry _ c.entry.view_is)
+rest-requires c = in_flows (looks (goal.at.rest-requires c).After-unwrap-entry _ c.entry.view_is)
+
+pub unwrap-entry-requires : goal.unwrap-entry-requires
+unwrap-entry-requires c =
+    subst (λ (o : Option Entry). IsSome o) (sym c.first_old.ensures)
+    (front_some c.self.inside.lists.stale (omega (arith, c.requires.waiting, ap (λ (v : FqView). length v.state.stale) c.self.view_is)))
 
 -- it has no credits, and gets one quantum
-spent : (c : After-push_back_reserved) → LeadsOn (opened (goal.at.invariant_of-self c).After-index-entry) (state_of c.self.inside.settings c.self.inside.flows c.self.inside.fresh.items c.push_back_reserved.new.self.items)
+granted : (c : After-granted) → c.granted.result ≡ given c.self.inside.settings.quantum 1 c.unwrap-entry.result
+granted c =
+    let quantum : c.settings.inside.quantum ≡ c.self.inside.settings.quantum = ap (λ (x : FqSettings). x.quantum) c.settings.view_is in
+    c.granted.ensures ∙ ap (λ (q : ℕ). given q 1 c.unwrap-entry.result) quantum
+
+pub rotate-requires-clause-own : goal.rotate-requires-clause-own
+rotate-requires-clause-own c =
+    let d = (goal.at.rotate-requires-clause-own c).After-granted in
+    subst (λ (o : Option Entry). IfSome o (λ e. e.flow ≡ c.granted.result.flow)) (sym c.unwrap-entry.ensures ∙ c.first_old.ensures)
+    (sym (ap (λ (e : Entry). e.flow) (granted d) ∙ given-flow c.self.inside.settings.quantum 1 c.unwrap-entry.result))
+
+pub rotate-requires-clause-some : goal.rotate-requires-clause-some
+rotate-requires-clause-some c = omega (arith, c.requires.waiting, ap (λ (v : FqView). length v.state.stale) c.self.view_is)
+
+pub rotate-requires-clause-few : goal.rotate-requires-clause-few
+rotate-requires-clause-few c =
+    omega (
+      arith,
+      c.self.invariant.0.within,
+      c.settings.invariant.flows_high,
+      ap (λ (x : FqSettings). x.flows) c.settings.view_is,
+    )
+
+spent : (c : After-rotate) → LeadsOn (opened (goal.at.invariant_of-self c).After-unwrap-entry) (state_of c.self.inside.settings c.self.inside.flows c.rotate.new.self.fresh c.rotate.new.self.stale)
 spent c =
-    let at = (goal.at.invariant_of-self c).After-index-entry in
+    let at = (goal.at.invariant_of-self c).After-unwrap-entry in
     let s = opened at in
-    let e = c.index-entry.result.now in
+    let e = c.unwrap-entry.result in
     let quantum : c.settings.inside.quantum ≡ s.settings.quantum = ap (λ (x : FqSettings). x.quantum) c.settings.view_is in
     let positive : 1 ≤ s.settings.quantum = omega (arith, quantum, c.settings.invariant.quantum_low) in
     let low : e.credits ≤ℤ pos 0 = is_spent (looks at _ c.entry.view_is) (grind (arith, ints, c.if-entry-le0.true)) in
-    let granted : c.granted.result ≡ given s.settings.quantum 1 e = c.granted.ensures ∙ ap (λ (q : ℕ). given q 1 e) quantum in
-    subst (λ (k : List Entry). LeadsOn s (record s { stale = k }))
-    (sym (c.push_back_reserved.ensures.items ∙ ap₂ (λ (l : List Entry) (m : Entry). l ++ m ∷ []) c.pop_front.ensures.rest granted))
+    subst₂ (λ (l k : List Entry). LeadsOn s (record s { fresh = l; stale = k })) (sym (ap (λ (v : ListsState). v.fresh) c.rotate.ensures))
+    (sym (ap (λ (v : ListsState). v.stale) c.rotate.ensures ∙ ap (λ (m : Entry). behind at ++ m ∷ []) (granted (goal.at.invariant_of-self c).After-granted)))
     (stale_granted s c.self.invariant.0 e (behind at) (none_new at) (at_front at) positive low)
 
 pub invariant_of-self : goal.invariant_of-self
-invariant_of-self c = ((spent c).lawful, c.self.invariant.1, omega (arith, c.self.invariant.2, c.pop_front.ensures.capacity, c.push_back_reserved.ensures.capacity))
+invariant_of-self c = ((spent c).lawful, ap (λ (v : ListsState). v.room) c.rotate.ensures ∙ c.self.invariant.1)
 
 pub returns-then-entry-le0-clause-on : goal.returns-then-entry-le0-clause-on
-returns-then-entry-le0-clause-on c = λ _. goes_from (looks (goal.at.invariant_of-self c).After-index-entry _ c.entry.view_is) _ (spent c)
+returns-then-entry-le0-clause-on c = λ _. goes_from (looks (goal.at.invariant_of-self c).After-unwrap-entry _ c.entry.view_is) _ (spent c)
+
+pub returns-then-entry-le0-clause-no_new : goal.returns-then-entry-le0-clause-no_new
+returns-then-entry-le0-clause-no_new c = ap (λ (v : ListsState). v.fresh) c.rotate.ensures ∙ none_new (goal.at.invariant_of-self c).After-unwrap-entry
 
 -- it has credits and no packet
-emptied : (c : After-pop_front-then-is_idle) → LeadsOn (opened (goal.at.invariant_of-self-then-is_idle c).After-index-entry) (state_of c.self.inside.settings c.rest.new.self c.self.inside.fresh.items c.pop_front-then-is_idle.new.self.items)
+pub retire-requires : goal.retire-requires
+retire-requires c = omega (arith, c.requires.waiting, ap (λ (v : FqView). length v.state.stale) c.self.view_is)
+
+emptied : (c : After-retire) → LeadsOn (opened (goal.at.invariant_of-self-then-is_idle c).After-unwrap-entry) (state_of c.self.inside.settings c.rest.new.self c.retire.new.self.fresh c.retire.new.self.stale)
 emptied c =
     let positive : pos 0 <ℤ c.entry.inside.credits = grind (arith, ints, c.if-entry-le0.false) in
-    let at = (goal.at.invariant_of-self-then-is_idle c).After-index-entry in
+    let at = (goal.at.invariant_of-self-then-is_idle c).After-unwrap-entry in
     let s = opened at in
-    let e = c.index-entry.result.now in
+    let e = c.unwrap-entry.result in
     let look = looks at _ c.entry.view_is in
     let high : pos 0 <ℤ e.credits = has_credits look positive in
     let empty = idle_is look _ true c.is_idle.ensures c.if-is_idle.true in
-    subst₂ (λ (f : List Flow) (l : List Entry). LeadsOn s (record s { flows = f; stale = l })) (sym (rested_is look _ c.rest.ensures.flows)) (sym c.pop_front-then-is_idle.ensures.rest)
-    (stale_leaves s c.self.invariant.0 e (behind at) (none_new at) (at_front at) high empty)
+    subst (λ (f : List Flow). LeadsOn s (record s { flows = f; fresh = c.retire.new.self.fresh; stale = c.retire.new.self.stale })) (sym (rested_is look _ c.rest.ensures.flows))
+    (subst₂ (λ (k l : List Entry). LeadsOn s (record s { flows = adjust rested_flow e.flow s.flows; fresh = k; stale = l }))
+    (sym (ap (λ (v : ListsState). v.fresh) c.retire.ensures)) (sym (ap (λ (v : ListsState). v.stale) c.retire.ensures))
+    (stale_leaves s c.self.invariant.0 e (behind at) (none_new at) (at_front at) high empty))
 
 pub invariant_of-self-then-is_idle : goal.invariant_of-self-then-is_idle
-invariant_of-self-then-is_idle c = ((emptied c).lawful, c.self.invariant.1, omega (arith, c.self.invariant.2, c.pop_front-then-is_idle.ensures.capacity))
+invariant_of-self-then-is_idle c = ((emptied c).lawful, ap (λ (v : ListsState). v.room) c.retire.ensures ∙ c.self.invariant.1)
 
 pub returns-then-is_idle-clause-on : goal.returns-then-is_idle-clause-on
-returns-then-is_idle-clause-on c = λ _. goes_from (looks (goal.at.invariant_of-self-then-is_idle c).After-index-entry _ c.entry.view_is) _ (emptied c)
+returns-then-is_idle-clause-on c = λ _. goes_from (looks (goal.at.invariant_of-self-then-is_idle c).After-unwrap-entry _ c.entry.view_is) _ (emptied c)
+
+pub returns-then-is_idle-clause-no_new : goal.returns-then-is_idle-clause-no_new
+returns-then-is_idle-clause-no_new c = ap (λ (v : ListsState). v.fresh) c.retire.ensures ∙ none_new (goal.at.invariant_of-self-then-is_idle c).After-unwrap-entry
 
 -- it has credits and a packet
 pub returns-clause-settled : goal.returns-clause-settled
 returns-clause-settled c = λ _.
     let positive : pos 0 <ℤ c.entry.inside.credits = grind (arith, ints, c.if-entry-le0.false) in
-    let at = (goal.at.returns-clause-settled c).After-index-entry in
+    let at = (goal.at.returns-clause-settled c).After-unwrap-entry in
     let s = opened at in
-    let e = c.index-entry.result.now in
+    let e = c.unwrap-entry.result in
     let look = looks at _ c.entry.view_is in
     let high : pos 0 <ℤ e.credits = has_credits look positive in
     let busy = idle_is look _ false c.is_idle.ensures c.if-is_idle.false in

@@ -1,4 +1,4 @@
-use Rattle.std.proofs.Common.{◌<◌, List, Option, IsSome, refl, sym, ap, ◌∙◌, arith, subst}
+use Rattle.std.proofs.Common.{◌<◌, List, length, Option, Some, IsSome, refl, sym, ap, ◌∙◌, arith, subst}
 use Rattle.std.specs.Prelude.{slice_get}
 use Rattle.slab.specs.Slab.{get, slab_len}
 use Rattle.q_packet.specs.declared.stamped.Stamped.{Stamped}
@@ -17,7 +17,7 @@ returns-then-list-eq0 c =
 pub index-requires : goal.index-requires
 index-requires c =
     let p = c.self.inside in
-    let x = head_there (get p.nodes) c.args.flow c.list_of-list.result
+    let x = head_there (get p.nodes) (length p.lists.items) c.args.flow c.list_of-list.result
     (list_read (get p.nodes) (slab_len p.nodes) p.lists.items p.bytes c.self.invariant.0 c.args.self.now.queues (ap (λ (s : PoolState). s.queues) c.self.view_is) c.args.flow c.list_of-list.result c.list_of-list.ensures)
     (omega (arith, c.if-list-eq0.false)) in
     subst (λ (o : Option Node). IsSome o) (sym x.1) refl
@@ -26,6 +26,7 @@ pub returns : goal.returns
 returns c =
     let p = c.self.inside in
     let some : 0 < c.list_of-list.result.count = omega (arith, c.if-list-eq0.false) in
-    ap (λ (l : List Stamped). slice_get l 0)
+    ap (λ (s : Stamped). Some s) c.stamped.ensures
+    ∙ ap (λ (l : List Stamped). slice_get l 0)
     (sym (first_packet (get p.nodes) c.list_of-list.result c.index.result.now some c.index.ensures)
     ∙ queue_read (get p.nodes) (slab_len p.nodes) p.lists.items p.bytes c.self.invariant.0 c.args.self.now.queues (ap (λ (s : PoolState). s.queues) c.self.view_is) c.args.flow c.list_of-list.result c.list_of-list.ensures)

@@ -4,10 +4,10 @@ use Rattle.std.proofs.lemmas.List.{set-get_or}
 use Rattle.slab.specs.Slab.{get, slab_len}
 use Rattle.q_packet.specs.Descriptor.{Descriptor}
 use Rattle.q_packet.specs.declared.stamped.Stamped.{Stamped}
-use Rattle.q_fqcodel.specs.Chain.{queue_in}
+use Rattle.q_fqcodel.specs.Chain.{queue_in, IsList, KeepsOthers}
 use Rattle.q_fqcodel.specs.Pool.{PoolState, queues_in}
 use Rattle.q_fqcodel.specs.declared.flow_list.FlowList.{FlowList}
-use Rattle.q_fqcodel.proofs.PoolLemmas.{none_read, some_read, queue_read, written, pool_after, bytes_le}
+use Rattle.q_fqcodel.proofs.PoolLemmas.{none_read, list_read, some_read, queue_read, written, pool_after, bytes_le}
 use Rattle.q_fqcodel.proofs.pool.Pool.take_of.Goals as goal
 use Rattle.q_fqcodel.proofs.pool.Pool.take_of.Goals.{Then-list-eq0, After-take_head}
 
@@ -39,6 +39,18 @@ split c =
     sym (queue_read (get p.nodes) (slab_len p.nodes) p.lists.items p.bytes c.self.invariant.0 c.args.self.now.queues (same c) c.args.flow c.list_of-list.result c.list_of-list.ensures)
     ∙ c.take_head.ensures.queue
 
+-- the list that is read is that of the flow
+list_there : (c : After-take_head) → IsList (get c.self.inside.nodes) (length c.self.inside.lists.items) c.args.flow c.list_of-list.result
+list_there c =
+    let p = c.self.inside in
+    list_read (get p.nodes) (slab_len p.nodes) p.lists.items p.bytes c.self.invariant.0 c.args.self.now.queues (same c) c.args.flow c.list_of-list.result c.list_of-list.ensures
+
+linked : (c : After-take_head) → IsList (get c.take_head.new.nodes) (length c.self.inside.lists.items) c.args.flow c.take_head.result.1
+linked c = c.take_head.ensures.linked _ _ (list_there c)
+
+others : (c : After-take_head) → KeepsOthers (length c.self.inside.lists.items) c.args.flow (get c.self.inside.nodes) (get c.take_head.new.nodes)
+others c = c.take_head.ensures.others _ _ (list_there c)
+
 pub invariant_of-self : goal.invariant_of-self
 invariant_of-self c =
     let p = c.self.inside in
@@ -46,7 +58,7 @@ invariant_of-self c =
     let count = ap (λ (l : FlowList). l.count) c.list_of-list.ensures in
     let bytes = ap (λ (l : FlowList). l.bytes) c.list_of-list.ensures in
     let enough = bytes_le (get p.nodes) (slab_len p.nodes) p.lists.items p.bytes c.self.invariant.0 c.args.flow in (
-      pool_after (get p.nodes) (get c.take_head.new.nodes) (slab_len p.nodes) p.lists.items p.bytes c.self.invariant.0 c.args.flow c.take_head.result.1 (within d) c.take_head.ensures.others c.take_head.ensures.linked
+      pool_after (get p.nodes) (get c.take_head.new.nodes) (slab_len p.nodes) p.lists.items p.bytes c.self.invariant.0 c.args.flow c.take_head.result.1 (within d) (others d) (linked d)
           _ _
           (omega (arith, count, c.take_head.ensures.len, c.take_head.ensures.count))
           (omega (arith, bytes, c.take_head.ensures.bytes, ap (λ (x : Descriptor). x.len) c.packet.view_is, enough))
@@ -62,5 +74,5 @@ returns-clause-queues c =
     let p = c.self.inside in
     let d = (goal.at.returns-clause-queues c).After-take_head in
     let n = c.args.flow in
-    written (get p.nodes) (get c.take_head.new.nodes) (slab_len p.nodes) p.lists.items p.bytes c.self.invariant.0 n c.take_head.result.1 (within d) c.take_head.ensures.others c.take_head.ensures.linked
+    written (get p.nodes) (get c.take_head.new.nodes) (slab_len p.nodes) p.lists.items p.bytes c.self.invariant.0 n c.take_head.result.1 (within d) (others d) (linked d)
     ∙ ap₂ (λ (l : List (List Stamped)) (q : List Stamped). set l n q) (same d) (ap (drop 1) (sym (split d)))

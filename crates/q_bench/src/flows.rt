@@ -1,0 +1,89 @@
+use crate::checksum;
+use q_codel::Losses;
+use q_fqcodel::{FqCodel, Settings};
+use q_packet::{Ecn, FlowKey, Moment, Packet};
+use std::alloc::Global;
+
+/// Puts a packet of each of these hashes into an fq_codel of so many flows, so many times over; with `takes` it takes one
+/// after each. At first it holds `queued` packets.
+#[unsafe(no_mangle)]
+pub extern "C" fn q_bench_flows(
+    alloc: Global,
+    flows: u32,
+    limit: u32,
+    drop_batch: u32,
+    queued: u32,
+    takes: bool,
+    hashes: &[u32],
+    passes: u32,
+) -> u64 {
+    let Some(settings) = Settings::new(
+        limit,
+        flows,
+        1514,
+        5_000_000,
+        100_000_000,
+        false,
+        drop_batch,
+        1514,
+    ) else {
+        return 0;
+    };
+    let Ok(mut fq) = FqCodel::new(alloc, settings) else {
+        return 0;
+    };
+    let mut losses = Losses::new(alloc);
+    for number in 0..queued {
+        if put(&mut fq, &mut losses, u64::from(number), number).is_none() {
+            return 0;
+        }
+    }
+    pass_through(&mut fq, &mut losses, takes, hashes, passes).unwrap_or(0)
+}
+
+fn pass_through(
+    fq: &mut FqCodel,
+    losses: &mut Losses,
+    takes: bool,
+    hashes: &[u32],
+    passes: u32,
+) -> Option<u64> {
+    let mut sum = 1;
+    for _ in 0..passes {
+        for (number, hash) in hashes.iter().enumerate() {
+            sum = checksum::with(sum, put(fq, losses, number as u64, *hash)?);
+            if takes {
+                sum = checksum::with(sum, take(fq, losses)?);
+            }
+            for _ in 0..losses.count() {
+                let loss = losses.reap()?;
+                let packet = loss.packet;
+                sum = checksum::with(sum, packet.number);
+            }
+        }
+    }
+    let (packets, bytes) = fq.queued();
+    Some(checksum::with(checksum::with(sum, packets), bytes))
+}
+
+/// 1 where the packet that is put is itself lost, else 0.
+fn put(fq: &mut FqCodel, losses: &mut Losses, number: u64, hash: u32) -> Option<u64> {
+    let len = (60 + hash % 1400) as u16;
+    let packet = Packet::new(1, number, 2, len, FlowKey::zero(), hash, 4, Ecn::NotEct)?;
+    let settings = fq.settings();
+    if fq.reserve().is_err() || losses.reserve(settings.drop_batch as usize).is_err() {
+        return None;
+    }
+    Some(u64::from(fq.put(packet, Moment::zero(), losses)))
+}
+
+/// The number of the packet that is taken.
+fn take(fq: &mut FqCodel, losses: &mut Losses) -> Option<u64> {
+    let (packets, _) = fq.queued();
+    if losses.reserve(packets as usize).is_err() {
+        return None;
+    }
+    let taken = fq.take(Moment::zero(), losses)?;
+    let packet = taken.packet;
+    Some(packet.number)
+}

@@ -1,0 +1,127 @@
+-- Both lists of flows at once: what one of them is after a change of it, and the other one.
+use Rattle.std.proofs.Common.{◌≡◌, ◌≢◌, ℕ, zero, suc, ◌<◌, ◌≤◌, Bool, true, false, not, ◌==◌, ◌||◌, List, [], ◌∷◌, ◌++◌, length, set, replicate, slice_get, if◌then◌else◌, Some, None, IfSome, refl, sym, ap, ◌∙◌, arith, subst, ⊎_elim, ◌⊎◌, inl, inr}
+use Rattle.std.proofs.Math.ListN.{length-replicate}
+use Rattle.std.proofs.lemmas.Bool.{false≢true, cond-true, cond-false, eqb-true, eqb-false, not-true, not-false}
+use Rattle.std.proofs.lemmas.List.{nil_from_length}
+use Rattle.q_fqcodel.specs.Entry.{Entry}
+use Rattle.q_fqcodel.specs.Linked.{IsChain}
+use Rattle.q_fqcodel.specs.Links.{ListsState, no_link, no_ends, link_of, where_listed, link_at, listing, IsAt, entries_in, IsLine, IsLists}
+use Rattle.q_fqcodel.specs.Put.{is_listed}
+use Rattle.q_fqcodel.specs.declared.ends.Ends.{Ends}
+use Rattle.q_fqcodel.specs.declared.link.Link.{Link}
+use Rattle.q_fqcodel.specs.declared.place.Place.{Place}
+use Rattle.q_fqcodel.specs.declared.place.Place.TheVariants.{Unlisted, Fresh, Stale}
+use Rattle.q_fqcodel.proofs.LinkedLemmas.{length-chain}
+use Rattle.q_fqcodel.proofs.LinkLemmas.{no_entries, front_entry, listed_there, free_at}
+
+pub counted : (links : List Link) (place : Place) (ends : Ends) → IsLine links place ends → length (entries_in links ends) ≡ ends.count
+counted links place ends line = length-chain listing (IsAt place) (link_at links) ends.tail ends.count ends.head line.linked
+
+-- the flow in front is the one that the list begins with
+pub front_flow : (links : List Link) (place : Place) (ends : Ends) (n : ℕ) → IsLine links place ends → 0 < ends.count → IfSome (slice_get (entries_in links ends) 0) (λ e. e.flow ≡ n) → ends.head ≡ n
+front_flow links place ends n line some own =
+    subst (λ (l : List Entry). IfSome (slice_get l 0) (λ e. e.flow ≡ n)) (front_entry links place ends some line) own
+
+pub front_flow_all : (links : List Link) (place : Place) (ends : Ends) (behind : List Entry) (n : ℕ) → IsLine links place ends → 0 < ends.count
+    → IfSome (slice_get (entries_in links ends ++ behind) 0) (λ e. e.flow ≡ n) → ends.head ≡ n
+front_flow_all links place ends behind n line some own =
+    subst (λ (l : List Entry). IfSome (slice_get (l ++ behind) 0) (λ e. e.flow ≡ n)) (front_entry links place ends some line) own
+
+-- ---- the front is written: in the old list where the new one is empty
+
+pub some_new : (n : ℕ) → not (n == 0) ≡ true → 0 < n
+some_new n h = omega (arith, eqb-false n 0 (not-true (n == 0) h))
+
+pub none_new : (n : ℕ) → not (n == 0) ≡ false → n ≡ 0
+none_new n h = eqb-true n 0 (not-false (n == 0) h)
+
+pub written_new : (fresh stale : List Entry) (e : Entry) → not (length fresh == 0) ≡ true → stale ≡ (if length fresh == 0 then set stale 0 e else stale)
+written_new fresh stale e h = sym (cond-false (length fresh == 0) (set stale 0 e) stale (not-true (length fresh == 0) h))
+
+pub written_old : (fresh stale : List Entry) (e : Entry) → not (length fresh == 0) ≡ false → (fresh ≡ set fresh 0 e) × (set stale 0 e ≡ (if length fresh == 0 then set stale 0 e else stale))
+written_old fresh stale e h =
+    let none : fresh ≡ [] = nil_from_length fresh (none_new (length fresh) h) in (
+      none ∙ sym (ap (λ (l : List Entry). set l 0 e) none),
+      sym (cond-true (length fresh == 0) (set stale 0 e) stale (not-false (length fresh == 0) h)),
+    )
+
+pub fresh_or_stale : Fresh ≢ Stale
+fresh_or_stale e = absurd cc
+
+-- ---- whether a flow is listed
+
+listed-append : (n : ℕ) (es fs : List Entry) → is_listed n (es ++ fs) ≡ true → (is_listed n es ≡ true) ⊎ (is_listed n fs ≡ true)
+listed-append n [] fs h = inr h
+listed-append n (e ∷ es) fs h = wider (e.flow == n) (is_listed n es) (is_listed n (es ++ fs)) h (listed-append n es fs)
+  where
+    wider : (a b c : Bool) → (a || c) ≡ true → (c ≡ true → (b ≡ true) ⊎ (is_listed n fs ≡ true)) → ((a || b) ≡ true) ⊎ (is_listed n fs ≡ true)
+    wider true b c h on = inl refl
+    wider false b c h on = on h
+
+listed_left : (n : ℕ) (es fs : List Entry) → is_listed n es ≡ true → is_listed n (es ++ fs) ≡ true
+listed_left n [] fs h = absurd (false≢true h)
+listed_left n (e ∷ es) fs h = wider (e.flow == n) (is_listed n es) (is_listed n (es ++ fs)) h (listed_left n es fs)
+  where
+    wider : (a b c : Bool) → (a || b) ≡ true → (b ≡ true → c ≡ true) → (a || c) ≡ true
+    wider true b c h on = refl
+    wider false b c h on = on h
+
+listed_right : (n : ℕ) (es fs : List Entry) → is_listed n fs ≡ true → is_listed n (es ++ fs) ≡ true
+listed_right n [] fs h = h
+listed_right n (e ∷ es) fs h = or_yes (e.flow == n) (is_listed n (es ++ fs)) (listed_right n es fs h)
+  where
+    or_yes : (a b : Bool) → b ≡ true → (a || b) ≡ true
+    or_yes true b e = refl
+    or_yes false b e = e
+
+module _ (links : List Link) (fresh stale : Ends) (lists : IsLists links fresh stale) (n : ℕ) where
+  abbrev all : List Entry
+  all = entries_in links fresh ++ entries_in links stale
+
+  pub not_listed : (link_of links n).place ≡ Unlisted → false ≡ is_listed n all
+  not_listed free = sym (unless (is_listed n all) (λ h. ⊎_elim
+      (λ (a : is_listed n (entries_in links fresh) ≡ true). nowhere (listed_there (link_at links) Fresh fresh.tail fresh.count fresh.head n lists.new.linked a))
+      (λ (b : is_listed n (entries_in links stale) ≡ true). nowhere (listed_there (link_at links) Stale stale.tail stale.count stale.head n lists.old.linked b))
+      (listed-append n (entries_in links fresh) (entries_in links stale) h)))
+    where
+      unless : (b : Bool) → (b ≡ true → false ≡ true) → b ≡ false
+      unless true h = absurd (false≢true (h refl))
+      unless false h = refl
+
+      nowhere : {P : Link → Type 0} → (x : Link) × (link_at links n ≡ Some x) × P x → false ≡ true
+      nowhere x = let p : None ≡ Some x.0 = sym (free_at links n free) ∙ x.1 in absurd cc
+
+  pub listed_new : (link_of links n).place ≡ Fresh → true ≡ is_listed n all
+  listed_new at = sym (listed_left n (entries_in links fresh) (entries_in links stale) (lists.new.whole n (link_of links n) (ap (where_listed (link_of links n)) at) at))
+
+  pub listed_old : (link_of links n).place ≡ Stale → true ≡ is_listed n all
+  listed_old at = sym (listed_right n (entries_in links fresh) (entries_in links stale) (lists.old.whole n (link_of links n) (ap (where_listed (link_of links n)) at) at))
+
+-- ---- no flow is listed
+
+nothing_of : (n k : ℕ) → link_of (replicate n no_link) k ≡ no_link
+nothing_of zero k = refl
+nothing_of (suc n) zero = refl
+nothing_of (suc n) (suc k) = nothing_of n k
+
+nothing_at : (n k : ℕ) → link_at (replicate n no_link) k ≡ None
+nothing_at n k = free_at (replicate n no_link) k (ap (λ (x : Link). x.place) (nothing_of n k))
+
+empty_line : (n : ℕ) (place : Place) → IsLine (replicate n no_link) place no_ends
+unfolding IsChain
+empty_line n place = record {
+  linked = tt;
+  whole = λ k x there own. let p : None ≡ Some x = sym (nothing_at n k) ∙ there in absurd cc;
+}
+
+pub empty_lists : (n : ℕ) (links : List Link) (fresh stale : Ends) → links ≡ replicate n no_link → fresh ≡ no_ends → stale ≡ no_ends → n ≤ 65536 → IsLists links fresh stale
+empty_lists n links fresh stale all new old few =
+    rw (all, new, old) (record { room = omega (arith, few, length-replicate n no_link); new = empty_line n Fresh; old = empty_line n Stale })
+
+pub empty_state : (n : ℕ) (links : List Link) (fresh stale : Ends) → links ≡ replicate n no_link → fresh ≡ no_ends → stale ≡ no_ends
+    → ◌≡◌ {A = ListsState} (record { fresh = entries_in links fresh; stale = entries_in links stale; room = length links }) (record { fresh = []; stale = []; room = n })
+empty_state n links fresh stale all new old =
+    let a : entries_in links fresh ≡ [] = no_entries links fresh (ap (λ (e : Ends). e.count) new) in
+    let b : entries_in links stale ≡ [] = no_entries links stale (ap (λ (e : Ends). e.count) old) in
+    let c : length links ≡ n = ap length all ∙ length-replicate n no_link in
+    cc

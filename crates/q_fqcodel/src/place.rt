@@ -1,0 +1,10 @@
+/// In which list a flow stands (RFC 8290, section 4.2): in at most one.
+#[derive(Clone, Copy, PartialEq, Eq, Debug)]
+pub(crate) enum Place {
+    /// In none.
+    Unlisted,
+    /// In the list of new flows.
+    Fresh,
+    /// In the list of old flows.
+    Stale,
+}
