@@ -1,6 +1,5 @@
 -- What is read of a word, with the word's index where something is wrong with it.
-use Rattle.std.specs.Prelude.{◌≡◌, ℕ, Bool, false, IfSome, List, [], ◌∷◌, codes, if◌then◌else◌, Option, Result, Ok, Err}
-use Rattle.std.specs.Str.{bytes_eq}
+use Rattle.std.specs.Prelude.{◌≡◌, ℕ, IfSome, List, if◌then◌else◌, Option, Result, Ok, Err}
 use Rattle.q_words.specs.declared.line_fault.LineFault.{LineFault}
 use Rattle.q_words.specs.declared.wrong.Wrong.{Wrong}
 use Rattle.q_words.specs.declared.wrong.Wrong.TheVariants.{BadNumber}
@@ -25,8 +24,3 @@ band_of word = if is_numeral 10 word then Ok (band_number word) else Err BadNumb
 -- the two addresses of a packet are of one version
 abbrev pub IsAgreed : PacketDraft → Type 0
 IsAgreed p = IfSome p.src_ip (λ (a : Address). IfSome p.dst_ip (λ (b : Address). a.version ≡ b.version))
-
--- the one line that is not read yet
-abbrev pub is_frame_line : List (List ℕ) → Bool
-is_frame_line [] = false
-is_frame_line (word ∷ words) = bytes_eq word (codes "frame")
