@@ -1,4 +1,3 @@
 pub mod FirstPathLemmas
 pub mod Steps
-pub mod PacketLemmas
 pub mod BandLemmas

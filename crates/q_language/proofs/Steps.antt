@@ -1,14 +1,16 @@
--- One word of a line that is not UTF-8 is that fault, at every position.
-use Rattle.std.proofs.Common.{◌≡◌, ◌∙◌, ℕ, suc, Bool, true, false, List, ◌∷◌, Result, Ok, Err, refl, ap, if◌then◌else◌}
+-- One word of a line that is not UTF-8 is that fault, at every position; and a line from its first word on.
+use Rattle.std.proofs.Common.{◌≡◌, ◌∙◌, ℕ, suc, Bool, true, false, List, ◌∷◌, sym, Result, Ok, Err, refl, ap, if◌then◌else◌}
 use Rattle.std.specs.Str.{is_utf8, IsUtf8}
 use Rattle.std.proofs.lemmas.Str.{IsUtf8-from_is_utf8}
+use Rattle.q_words.specs.Words.{words_in, is_blank_line}
 use Rattle.q_words.specs.declared.line_fault.LineFault.{LineFault}
 use Rattle.q_words.specs.declared.line_fault.LineFault.TheVariants as fault
 use Rattle.q_words.specs.declared.wrong.Wrong.{Wrong}
 use Rattle.q_words.specs.declared.wrong.Wrong.TheVariants as wrong
-use Rattle.q_language.specs.Grammar.{fits, after, rest_of, numbered, every_word}
-use Rattle.q_language.specs.Positions.{Position}
+use Rattle.q_language.specs.Grammar.{fits, after, rest_of, numbered, every_word, line_of}
+use Rattle.q_language.specs.Positions.{Position, first}
 use Rattle.q_language.specs.declared.line.Line.{Line}
+use Rattle.q_language.specs.declared.line.Line.TheVariants.{Blank}
 
 -- what the words from an answer of a position on say
 abbrev pub continued : Result Position Wrong → ℕ → List (List ℕ) → Result Line LineFault
@@ -32,3 +34,9 @@ not_utf8 w h = by_test (is_utf8 w) refl
 pub bad_utf8 : (p : Position) (i : ℕ) (w : List ℕ) (ws : List (List ℕ)) → ¬ (IsUtf8 w) → rest_of every_word p i (w ∷ ws) ≡ Err (fault.BadUtf8 i)
 bad_utf8 p i w ws h =
     rest_of-cons p i w ws ∙ ap (λ r. continued r i ws) (ap (λ (b : Bool). if b then fits every_word i p w else Err wrong.BadUtf8) (not_utf8 w h))
+
+pub whole_line : (bytes : List ℕ) (words : List (List ℕ)) (taken : ℕ) → words ≡ words_in bytes → taken ≡ 0 → is_blank_line (words_in bytes) ≡ false
+    → rest_of every_word first (suc taken) words ≡ line_of bytes
+whole_line bytes words taken all none says =
+    ap (λ i. rest_of every_word first (suc i) words) none ∙ ap (rest_of every_word first 1) all
+    ∙ sym (ap (λ (b : Bool). if b then Ok Blank else rest_of every_word first 1 (words_in bytes)) says)

@@ -24,13 +24,17 @@ use Rattle.q_language.specs.declared.class_verb.ClassVerb.TheVariants as class_v
 use Rattle.q_language.specs.declared.filter_verb.FilterVerb.TheVariants as filter_verb
 use Rattle.q_language.specs.declared.head_draft.HeadDraft.{HeadDraft}
 use Rattle.q_language.specs.declared.key_draft.KeyDraft.{KeyDraft}
+use Rattle.q_language.specs.declared.key_name.KeyName.{KeyName}
+use Rattle.q_language.specs.declared.key_name.KeyName.TheVariants as key
 use Rattle.q_language.specs.declared.kind_name.KindName.{KindName}
 use Rattle.q_language.specs.declared.kind_name.KindName.TheVariants as kind_name
 use Rattle.q_language.specs.declared.packet_draft.PacketDraft.{PacketDraft}
+use Rattle.q_language.specs.declared.packet_field.PacketField.{PacketField}
+use Rattle.q_language.specs.declared.packet_field.PacketField.TheVariants as field
 use Rattle.q_language.specs.declared.qdisc_verb.QdiscVerb.{QdiscVerb}
 use Rattle.q_language.specs.declared.qdisc_verb.QdiscVerb.TheVariants as qdisc_verb
 use Rattle.q_language.specs.Positions
-use Rattle.q_language.specs.Positions.{HeadValue, OptionValue, KeyValue, PacketValue, Position, Row, table}
+use Rattle.q_language.specs.Positions.{HeadValue, OptionValue, Position, Row, table}
 use Rattle.q_language.specs.declared.line.Line.{Line}
 use Rattle.q_language.specs.declared.line.Line.TheVariants as line
 use Rattle.q_words.specs.declared.line_fault.LineFault.{LineFault}
@@ -38,8 +42,8 @@ use Rattle.q_words.specs.declared.line_fault.LineFault.TheVariants as fault
 use Rattle.q_words.specs.declared.wrong.Wrong.{Wrong}
 use Rattle.q_words.specs.declared.wrong.Wrong.TheVariants as wrong
 
--- a value, and the position after it
-abbrev pub value : {A : Type 0} → Result A Wrong → (A → Position) → Result Position Wrong
+-- a value, and what it makes: the position after it, or what the words so far have said
+abbrev pub value : {A B : Type 0} → Result A Wrong → (A → B) → Result B Wrong
 value (Ok a) next = Ok (next a)
 value (Err e) next = Err e
 
@@ -108,13 +112,14 @@ key_version h k = option_or (version_of h.protocol) (option_map (λ (p : Prefix)
 abbrev pub key_prefix : HeadDraft → KeyDraft → List ℕ → Result Prefix Wrong
 key_prefix h k word = of_version (key_version h k) (λ p. p.version) (prefix_of word)
 
-abbrev pub key_fits : KeyValue → HeadDraft → KeyDraft → List ℕ → Result Position Wrong
-key_fits Positions.ip_proto h k word = value (protocol_number word) (λ n. Positions.keys h (record k { keys = record k.keys { ip_proto = Some n } }))
-key_fits Positions.src_ip h k word = value (key_prefix h k word) (λ p. Positions.keys h (record k { keys = record k.keys { src_ip = Some p } }))
-key_fits Positions.dst_ip h k word = value (key_prefix h k word) (λ p. Positions.keys h (record k { keys = record k.keys { dst_ip = Some p } }))
-key_fits Positions.src_port h k word = value (number_in 0 65535 word) (λ n. Positions.keys h (record k { keys = record k.keys { src_port = Some n } }))
-key_fits Positions.dst_port h k word = value (number_in 0 65535 word) (λ n. Positions.keys h (record k { keys = record k.keys { dst_port = Some n } }))
-key_fits Positions.key_class h k word = value (class_of word) (λ c. Positions.keys h (record k { class = Some c }))
+-- a filter with one key more, or with its class
+abbrev pub key_with : KeyName → HeadDraft → KeyDraft → List ℕ → Result KeyDraft Wrong
+key_with key.IpProto h k word = value (protocol_number word) (λ n. record k { keys = record k.keys { ip_proto = Some n } })
+key_with key.SrcIp h k word = value (key_prefix h k word) (λ p. record k { keys = record k.keys { src_ip = Some p } })
+key_with key.DstIp h k word = value (key_prefix h k word) (λ p. record k { keys = record k.keys { dst_ip = Some p } })
+key_with key.SrcPort h k word = value (number_in 0 65535 word) (λ n. record k { keys = record k.keys { src_port = Some n } })
+key_with key.DstPort h k word = value (number_in 0 65535 word) (λ n. record k { keys = record k.keys { dst_port = Some n } })
+key_with key.Class h k word = value (class_of word) (λ c. record k { class = Some c })
 
 abbrev pub packet_version : PacketDraft → Option IpVersion
 packet_version p = option_map (λ (a : Address). a.version) (option_or p.src_ip p.dst_ip)
@@ -122,15 +127,16 @@ packet_version p = option_map (λ (a : Address). a.version) (option_or p.src_ip 
 abbrev pub packet_address : PacketDraft → List ℕ → Result Address Wrong
 packet_address p word = of_version (packet_version p) (λ a. a.version) (address_of word)
 
-abbrev pub packet_fits : PacketValue → PacketDraft → List ℕ → Result Position Wrong
-packet_fits Positions.hash p word = value (number_in 0 most word) (λ n. Positions.packet (record p { hash = Some n }))
-packet_fits Positions.packet_prio p word = value (number_in 0 15 word) (λ n. Positions.packet (record p { prio = Some n }))
-packet_fits Positions.packet_proto p word = value (protocol_number word) (λ n. Positions.packet (record p { ip_proto = Some n }))
-packet_fits Positions.packet_src p word = value (packet_address p word) (λ a. Positions.packet (record p { src_ip = Some a }))
-packet_fits Positions.packet_dst p word = value (packet_address p word) (λ a. Positions.packet (record p { dst_ip = Some a }))
-packet_fits Positions.packet_sport p word = value (number_in 0 65535 word) (λ n. Positions.packet (record p { src_port = Some n }))
-packet_fits Positions.packet_dport p word = value (number_in 0 65535 word) (λ n. Positions.packet (record p { dst_port = Some n }))
-packet_fits Positions.ecn p word = value (number_in 0 3 word) (λ n. Positions.packet (record p { ecn = Some (ecn_of n) }))
+-- a packet with one field more
+abbrev pub packet_with : PacketField → PacketDraft → List ℕ → Result PacketDraft Wrong
+packet_with field.Hash p word = value (number_in 0 most word) (λ n. record p { hash = Some n })
+packet_with field.Prio p word = value (number_in 0 15 word) (λ n. record p { prio = Some n })
+packet_with field.IpProto p word = value (protocol_number word) (λ n. record p { ip_proto = Some n })
+packet_with field.SrcIp p word = value (packet_address p word) (λ a. record p { src_ip = Some a })
+packet_with field.DstIp p word = value (packet_address p word) (λ a. record p { dst_ip = Some a })
+packet_with field.SrcPort p word = value (number_in 0 65535 word) (λ n. record p { src_port = Some n })
+packet_with field.DstPort p word = value (number_in 0 65535 word) (λ n. record p { dst_port = Some n })
+packet_with field.Ecn p word = value (number_in 0 3 word) (λ n. record p { ecn = Some (ecn_of n) })
 
 -- the arrival that a `pkt` line says: what is not given is 0, and the family is that of an address
 abbrev pub key_of : PacketDraft → Key
@@ -166,12 +172,12 @@ fits spoken index Positions.pkt word = value (number_in 1 65535 word) (λ n. Pos
 fits spoken index Positions.frame word = value (number_in 1 65535 word) (λ n. Positions.frame_bytes n)
 fits spoken index (Positions.frame_bytes len) word = value (frame_of word) (λ bytes. Positions.whole (framed len bytes))
 fits spoken index Positions.poll word = value (number_in 1 100000 word) (λ n. Positions.whole (line.Poll n))
-fits spoken index (Positions.packet_value v p) word = packet_fits v p word
+fits spoken index (Positions.packet_value f p) word = value (packet_with f p word) Positions.packet
 fits spoken index (Positions.head_value v verb h) word = head_fits v verb h word
 fits spoken index (Positions.option_value v verb h k o) word = option_fits v verb h k o word
 fits spoken index (Positions.priomap v h k o) word = priomap_fits index v h k o word
 fits spoken index (Positions.quantum_value v h) word = value (size_in 1 most word) (λ n. Positions.quantum_of v h (Some n))
-fits spoken index (Positions.key_value v h k) word = key_fits v h k word
+fits spoken index (Positions.key_value f h k) word = value (key_with f h k word) (λ d. Positions.keys h d)
 fits spoken index (Positions.show_dev s) word = value (name_of word) (λ u. Positions.show_line s true)
 fits spoken index position word = keyword spoken position word
 

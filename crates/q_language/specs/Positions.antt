@@ -14,32 +14,30 @@ use Rattle.q_language.specs.declared.filter_verb.FilterVerb.{FilterVerb}
 use Rattle.q_language.specs.declared.filter_verb.FilterVerb.TheVariants as filter_verb
 use Rattle.q_language.specs.declared.head_draft.HeadDraft.{HeadDraft}
 use Rattle.q_language.specs.declared.key_draft.KeyDraft.{KeyDraft}
+use Rattle.q_language.specs.declared.key_name.KeyName.{KeyName}
+use Rattle.q_language.specs.declared.key_name.KeyName.TheVariants as key
 use Rattle.q_language.specs.declared.kind_name.KindName.{KindName}
 use Rattle.q_language.specs.declared.kind_name.KindName.TheVariants as kind_name
 use Rattle.q_language.specs.declared.packet_draft.PacketDraft.{PacketDraft}
+use Rattle.q_language.specs.declared.packet_field.PacketField.{PacketField}
+use Rattle.q_language.specs.declared.packet_field.PacketField.TheVariants as field
 use Rattle.q_language.specs.declared.qdisc_verb.QdiscVerb.{QdiscVerb}
 use Rattle.q_language.specs.declared.qdisc_verb.QdiscVerb.TheVariants as qdisc_verb
 use Rattle.q_language.specs.Drafts.{Verb, of_qdisc, of_class, of_filter, no_head, OptionDraft, no_options, no_keys}
 
--- the values that a head, a kind, a filter and a packet can have
+-- the values that a head and a kind can have
 pub data HeadValue : Type 0 where
   dev in_class handle parent class_id filter_prio protocol : HeadValue
 
 pub data OptionValue : Type 0 where
   limit latency bands rate burst flows quantum target interval drop_batch : OptionValue
 
-pub data KeyValue : Type 0 where
-  ip_proto src_ip dst_ip src_port dst_port key_class : KeyValue
-
-pub data PacketValue : Type 0 where
-  hash packet_prio packet_proto packet_src packet_dst packet_sport packet_dport ecn : PacketValue
-
 -- An object is what a tc line is about. Behind `value` a word is read as that value.
 pub data Position : Type 0 where
   first at pkt frame poll : Position
   frame_bytes : ℕ → Position
   packet : PacketDraft → Position
-  packet_value : PacketValue → PacketDraft → Position
+  packet_value : PacketField → PacketDraft → Position
   tc : Bool → Position
   qdisc class filter : Bool → Position
   head : Verb → HeadDraft → Position
@@ -50,7 +48,7 @@ pub data Position : Type 0 where
   quantum_of : ClassVerb → HeadDraft → Option ℕ → Position
   quantum_value : ClassVerb → HeadDraft → Position
   keys : HeadDraft → KeyDraft → Position
-  key_value : KeyValue → HeadDraft → KeyDraft → Position
+  key_value : KeyName → HeadDraft → KeyDraft → Position
   done : Verb → HeadDraft → Position
   show_line : Show → Bool → Position
   show_dev : Show → Position
@@ -138,24 +136,24 @@ option_rows v h kind_name.FqCodel o =
 
 abbrev pub key_rows : HeadDraft → KeyDraft → List Row
 key_rows h k =
-    (codes "ip_proto", once (is_some k.keys.ip_proto) (key_value ip_proto h k))
-    ∷ (codes "src_ip", once (is_some k.keys.src_ip) (key_value src_ip h k))
-    ∷ (codes "dst_ip", once (is_some k.keys.dst_ip) (key_value dst_ip h k))
-    ∷ (codes "src_port", once (is_some k.keys.src_port) (key_value src_port h k))
-    ∷ (codes "dst_port", once (is_some k.keys.dst_port) (key_value dst_port h k))
-    ∷ (codes "classid", once (is_some k.class) (key_value key_class h k))
-    ∷ (codes "flowid", once (is_some k.class) (key_value key_class h k)) ∷ []
+    (codes "ip_proto", once (is_some k.keys.ip_proto) (key_value key.IpProto h k))
+    ∷ (codes "src_ip", once (is_some k.keys.src_ip) (key_value key.SrcIp h k))
+    ∷ (codes "dst_ip", once (is_some k.keys.dst_ip) (key_value key.DstIp h k))
+    ∷ (codes "src_port", once (is_some k.keys.src_port) (key_value key.SrcPort h k))
+    ∷ (codes "dst_port", once (is_some k.keys.dst_port) (key_value key.DstPort h k))
+    ∷ (codes "classid", once (is_some k.class) (key_value key.Class h k))
+    ∷ (codes "flowid", once (is_some k.class) (key_value key.Class h k)) ∷ []
 
 abbrev pub packet_rows : PacketDraft → List Row
 packet_rows p =
-    (codes "hash", once (is_some p.hash) (packet_value hash p))
-    ∷ (codes "prio", once (is_some p.prio) (packet_value packet_prio p))
-    ∷ (codes "ip_proto", once (is_some p.ip_proto) (packet_value packet_proto p))
-    ∷ (codes "src_ip", once (is_some p.src_ip) (packet_value packet_src p))
-    ∷ (codes "dst_ip", once (is_some p.dst_ip) (packet_value packet_dst p))
-    ∷ (codes "src_port", once (is_some p.src_port) (packet_value packet_sport p))
-    ∷ (codes "dst_port", once (is_some p.dst_port) (packet_value packet_dport p))
-    ∷ (codes "ecn", once (is_some p.ecn) (packet_value ecn p)) ∷ []
+    (codes "hash", once (is_some p.hash) (packet_value field.Hash p))
+    ∷ (codes "prio", once (is_some p.prio) (packet_value field.Prio p))
+    ∷ (codes "ip_proto", once (is_some p.ip_proto) (packet_value field.IpProto p))
+    ∷ (codes "src_ip", once (is_some p.src_ip) (packet_value field.SrcIp p))
+    ∷ (codes "dst_ip", once (is_some p.dst_ip) (packet_value field.DstIp p))
+    ∷ (codes "src_port", once (is_some p.src_port) (packet_value field.SrcPort p))
+    ∷ (codes "dst_port", once (is_some p.dst_port) (packet_value field.DstPort p))
+    ∷ (codes "ecn", once (is_some p.ecn) (packet_value field.Ecn p)) ∷ []
 
 abbrev pub show_rows : Show → List Row
 show_rows s = (codes "show", Ok (show_line s false)) ∷ (codes "list", Ok (show_line s false)) ∷ (codes "ls", Ok (show_line s false)) ∷ []

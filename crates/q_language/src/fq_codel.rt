@@ -5,19 +5,14 @@ ghost use Rattle.q_language.specs.Grammar.{every_word, rest_of};
 ghost use Rattle.q_language.specs.Positions.{options};
 ghost use Rattle.q_language.specs.declared.kind_name.KindName.TheVariants.{FqCodel};
 
+use crate::fq_codel_word::FqCodelWord;
 use crate::head_draft::HeadDraft;
 use crate::line::Line;
 use crate::qdisc_made::qdisc_made;
 use crate::qdisc_verb::QdiscVerb;
 use crate::words::Words;
 use q_model::{FqCodelOptions, Kind};
-use q_words::{LineFault, number, size, time};
-
-/// The longest target and interval: 1000 s, in nanoseconds.
-const LONGEST: u64 = 1_000_000_000_000;
-
-/// The greatest limit and quantum.
-const MOST: u64 = 0xffff_ffff;
+use q_words::LineFault;
 
 /// Behind `fq_codel`: its options.
 pub fn fq_codel_line(mut words: Words, verb: QdiscVerb, head: HeadDraft) -> Result<Line, LineFault>
@@ -25,36 +20,18 @@ pub fn fq_codel_line(mut words: Words, verb: QdiscVerb, head: HeadDraft) -> Resu
 {
     let mut options = no_fq_codel_options();
     while let Some(word) = words.next()? {
-        match word {
-            "limit" => {
-                let word = words.option(options.limit.is_some())?;
-                options.limit = Some(words.placed(number(word.as_bytes(), 1, MOST))? as u32);
+        match words.placed(FqCodelWord::named(word))? {
+            FqCodelWord::Option(option) => {
+                if option.is_given(&options) {
+                    return Err(words.twice());
+                }
+                let word = words.needed()?;
+                words.placed(option.set(&mut options, word.as_bytes()))?;
             }
-            "flows" => {
-                let word = words.option(options.flows.is_some())?;
-                options.flows = Some(words.placed(number(word.as_bytes(), 1, 65_536))? as u32);
-            }
-            "quantum" => {
-                let word = words.option(options.quantum.is_some())?;
-                options.quantum = Some(words.placed(size(word.as_bytes(), 1, MOST))? as u32);
-            }
-            "target" => {
-                let word = words.option(options.target.is_some())?;
-                options.target = Some(words.placed(time(word.as_bytes(), 0, LONGEST))?);
-            }
-            "interval" => {
-                let word = words.option(options.interval.is_some())?;
-                options.interval = Some(words.placed(time(word.as_bytes(), 1000, LONGEST))?);
-            }
-            "drop_batch" => {
-                let word = words.option(options.drop_batch.is_some())?;
-                options.drop_batch = Some(words.placed(number(word.as_bytes(), 1, 65_536))? as u32);
-            }
-            "ecn" | "noecn" => {
+            FqCodelWord::Ecn(ecn) => {
                 words.once(options.ecn.is_some())?;
-                options.ecn = Some(word == "ecn");
+                options.ecn = Some(ecn);
             }
-            _ => return Err(words.unknown()),
         }
     }
     qdisc_made(&words, verb, head, Kind::FqCodel(options))

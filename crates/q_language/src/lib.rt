@@ -4,7 +4,7 @@
 //!   its tables of words stand in `specs/Positions.antt`, what the words have said so far in `specs/Drafts.antt`, and the words
 //!   and values in `q_words`.
 //! - [`read_line`] reads a line as the grammar says, and allocates nothing. It has one reader for the head of each object and
-//!   one for each kind. A `frame` line is not read yet.
+//!   one for each kind.
 //! - `line_in` is generic in which words are spoken: any other is unknown. `specs/FirstPath.antt` has the words that `q_line`
 //!   speaks, and [`laws`] says that its grammar is this one with those words alone.
 //!
@@ -21,14 +21,19 @@ mod filter_head;
 mod filter_verb;
 mod flower;
 mod fq_codel;
+mod fq_codel_option;
+mod fq_codel_word;
+mod frame;
 mod head_draft;
 mod key_draft;
+mod key_name;
 mod kind_name;
 pub mod laws;
 mod line;
 mod object;
 mod packet;
 mod packet_draft;
+mod packet_field;
 mod pfifo;
 mod prio;
 mod prio_made;

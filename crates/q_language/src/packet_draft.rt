@@ -1,17 +1,18 @@
-ghost use Rattle.std.specs.Prelude.{◌≡◌, ◌<◌, ◌^◌, IfSome, IsTrue, option_map};
+ghost use Rattle.std.specs.Prelude.{◌≡◌, ◌<◌, ◌^◌, Ok, Err, IfOk, IfErr, OnOk, IfSome, IsTrue, option_map};
 ghost use Rattle.std.specs.Option.{option_map_or, option_or};
 ghost use Rattle.q_packet.specs.Key.{address_bits, is_family};
 ghost use Rattle.q_model.specs.Filters.{family_of};
 ghost use Rattle.q_model.specs.Options.{bits_of};
 ghost use Rattle.q_language.specs.Drafts.{no_fields};
-ghost use Rattle.q_language.specs.Grammar.{arrival};
-ghost use Rattle.q_language.specs.Reading.{IsAgreed};
+ghost use Rattle.q_language.specs.Grammar.{arrival, packet_address, packet_version, packet_with};
+ghost use Rattle.q_language.specs.Reading.{IsAgreed, packet_has};
 
 use crate::arrival::Arrival;
 use crate::line::Line;
+use crate::packet_field::PacketField;
 use q_model::IpVersion;
 use q_packet::{Ecn, FlowKey};
-use q_words::IpAddress;
+use q_words::{IpAddress, Wrong, address, ip_proto, number};
 
 /// What has been given of a packet so far.
 #[derive(Clone, Copy, PartialEq, Eq, Debug)]
@@ -44,6 +45,55 @@ impl PacketDraft {
             src_port: None,
             dst_port: None,
             ecn: None,
+        }
+    }
+
+    /// Whether the field has been given.
+    pub fn has(&self, field: PacketField) -> bool
+        ensures { result ≡ packet_has field self.now }
+    {
+        match field {
+            PacketField::Hash => self.hash.is_some(),
+            PacketField::Prio => self.prio.is_some(),
+            PacketField::IpProto => self.ip_proto.is_some(),
+            PacketField::SrcIp => self.src_ip.is_some(),
+            PacketField::DstIp => self.dst_ip.is_some(),
+            PacketField::SrcPort => self.src_port.is_some(),
+            PacketField::DstPort => self.dst_port.is_some(),
+            PacketField::Ecn => self.ecn.is_some(),
+        }
+    }
+
+    /// Gives a field the value that a word is.
+    pub fn set(&mut self, field: PacketField, word: &str) -> Result<(), Wrong>
+        requires { IsAgreed self.old }
+        ensures ok { OnOk result (packet_with field self.old word.now ≡ Ok self.new) }
+        ensures agreed { OnOk result (IsAgreed self.new) }
+        ensures err { IfErr result (λ e. packet_with field self.old word.now ≡ Err e) }
+    {
+        let bytes = word.as_bytes();
+        match field {
+            PacketField::Hash => self.hash = Some(number(bytes, 0, 0xffff_ffff)? as u32),
+            PacketField::Prio => self.prio = Some(number(bytes, 0, 15)? as u8),
+            PacketField::IpProto => self.ip_proto = Some(ip_proto(word)?),
+            PacketField::SrcIp => self.src_ip = Some(self.own_address(bytes)?),
+            PacketField::DstIp => self.dst_ip = Some(self.own_address(bytes)?),
+            PacketField::SrcPort => self.src_port = Some(number(bytes, 0, 0xffff)? as u16),
+            PacketField::DstPort => self.dst_port = Some(number(bytes, 0, 0xffff)? as u16),
+            PacketField::Ecn => self.ecn = Some(Ecn::from_bits(number(bytes, 0, 3)? as u8)),
+        }
+        Ok(())
+    }
+
+    /// An address of the packet, of the version of its other address.
+    fn own_address(&self, word: &[u8]) -> Result<IpAddress, Wrong>
+        ensures value { result ≡ packet_address self.now word.now }
+        ensures version { IfOk result (λ a. IfSome (packet_version self.now) (λ v. a.version ≡ v)) }
+    {
+        let found = address(word)?;
+        match version_of(self.src_ip, self.dst_ip) {
+            Some(version) if version != found.version => Err(Wrong::OutOfRange),
+            _ => Ok(found),
         }
     }
 
@@ -83,7 +133,7 @@ impl PacketDraft {
 }
 
 /// The version of two addresses, where one of them is there.
-pub fn version_of(src: Option<IpAddress>, dst: Option<IpAddress>) -> Option<IpVersion>
+fn version_of(src: Option<IpAddress>, dst: Option<IpAddress>) -> Option<IpVersion>
     ensures { result ≡ option_map (λ a. a.version) (option_or src dst) }
 {
     match (src, dst) {

@@ -1,9 +1,9 @@
-ghost use Rattle.std.specs.Prelude.{◌≡◌, false, suc};
+ghost use Rattle.std.specs.Prelude.{◌≡◌, suc};
 ghost use Rattle.q_words.specs.Words.{words_in};
 ghost use Rattle.q_language.specs.Grammar.{every_word, line_of, rest_of};
-ghost use Rattle.q_language.specs.Positions.{at, poll};
-ghost use Rattle.q_language.specs.Reading.{is_frame_line};
+ghost use Rattle.q_language.specs.Positions.{at, first, poll};
 
+use crate::frame::frame_line;
 use crate::line::Line;
 use crate::packet::pkt_line;
 use crate::tc::tc_line;
@@ -15,17 +15,23 @@ use q_words::{LineFault, number};
 const MAX_POLLS: u64 = 100_000;
 
 /// What a line of a script says, given its bytes without the newline; else its leftmost fault.
-///
-/// A `frame` line is not read yet: its first word is unknown here.
 pub fn read_line(line: &[u8]) -> Result<Line, LineFault>
-    ensures { is_frame_line (words_in line.now) ≡ false → result ≡ line_of line.now }
+    ensures { result ≡ line_of line.now }
 {
-    let mut words = Words::new(line);
+    let words = Words::new(line);
     if words.is_blank_line() {
         return Ok(Line::Blank);
     }
+    first_word(words)
+}
+
+/// The first word of a line that says something.
+fn first_word(mut words: Words) -> Result<Line, LineFault>
+    ensures { result ≡ rest_of every_word first (suc words.entry.taken) (words_in words.entry.rest.now) }
+{
     match words.needed()? {
         "pkt" => pkt_line(words),
+        "frame" => frame_line(words),
         "poll" => poll_line(words),
         "at" => at_line(words),
         "tc" => tc_line(words),

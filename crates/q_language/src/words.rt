@@ -110,15 +110,18 @@ impl<'a> Words<'a> {
         LineFault::UnknownWord(self.taken)
     }
 
+    /// The fault of the word taken last, where it is that of an option that was given before.
+    pub fn twice(&self) -> LineFault
+        ensures { result ≡ LineFault.Twice self.now.taken }
+    {
+        LineFault::Twice(self.taken)
+    }
+
     /// The word taken last is that of an option, which may be given once.
     pub fn once(&self, given: bool) -> Result<(), LineFault>
         ensures { result ≡ (if given then Err (LineFault.Twice self.now.taken) else Ok tt) }
     {
-        if given {
-            Err(LineFault::Twice(self.taken))
-        } else {
-            Ok(())
-        }
+        if given { Err(self.twice()) } else { Ok(()) }
     }
 
     /// The word behind an option, which may be given once.

@@ -1,40 +1,17 @@
--- The texts of a report: what a poll gave, what was lost or refused, and what show prints of a tree.
--- In the manner of `tc -s qdisc show`, `tc class show` and `tc filter show` (tc(8)); the texts are this project's own.
-use Rattle.std.specs.Prelude.{ℕ, ◌/◌, ◌%◌, ◌^◌, ◌==◌, Bool, false, List, [], ◌++◌, codes, decimal, if◌then◌else◌, Option}
-use Rattle.std.specs.List.{flat_map}
-use Rattle.std.specs.Option.{option_map_or}
-use Rattle.std.specs.Fmt.{digits}
+-- The texts of a report: what a poll gave, what was lost or refused, and the device's counters.
+-- What show prints of a tree has its texts in q_show.
+use Rattle.std.specs.Prelude.{ℕ, ◌==◌, List, [], ◌++◌, codes, decimal, if◌then◌else◌}
 use Rattle.q_packet.specs.Descriptor.{Descriptor}
 use Rattle.q_packet.specs.Cause.{cause_name}
 use Rattle.q_packet.specs.Ecn.{codepoint}
 use Rattle.q_codel.specs.declared.loss.Loss.{Loss}
-use Rattle.q_fqcodel.specs.FqState.{FqSettings}
-use Rattle.q_model.specs.declared.class_id.ClassId.{ClassId}
-use Rattle.q_model.specs.declared.class_kind.ClassKind.{ClassKind}
-use Rattle.q_model.specs.declared.class_kind.ClassKind.TheVariants as class
-use Rattle.q_model.specs.declared.class_view.ClassView.{ClassView}
-use Rattle.q_model.specs.declared.filter_keys.FilterKeys.{FilterKeys}
-use Rattle.q_model.specs.declared.filter_view.FilterView.{FilterView}
-use Rattle.q_model.specs.declared.ip_version.IpVersion.{IpVersion}
-use Rattle.q_model.specs.declared.ip_version.IpVersion.TheVariants.{V4, V6}
-use Rattle.q_model.specs.declared.node_view.NodeView.{NodeView}
 use Rattle.q_model.specs.declared.not_done.NotDone.{NotDone}
-use Rattle.q_model.specs.declared.place.Place.{Place}
-use Rattle.q_model.specs.declared.place.Place.TheVariants as place
-use Rattle.q_model.specs.declared.protocol.Protocol.{Protocol}
-use Rattle.q_model.specs.declared.protocol.Protocol.TheVariants.{All, Ip, Ipv6}
-use Rattle.q_model.specs.declared.qdisc_view.QdiscView.{QdiscView}
-use Rattle.q_model.specs.declared.qdisc_view.QdiscView.TheVariants as qdisc
 use Rattle.q_model.specs.declared.row.Row.{Row}
-use Rattle.q_model.specs.declared.totals.Totals.{Totals}
 use Rattle.q_model.specs.NotDone.{refusal_number, refusal_name}
-use Rattle.q_model.specs.Options.{Prefix}
 use Rattle.q_model.specs.declared.polled.Polled.{Polled}
 use Rattle.q_model.specs.declared.polled.Polled.TheVariants as polled
 use Rattle.q_line.specs.Script.{newline, line_text}
-
-abbrev pub hex : ℕ → List ℕ
-hex n = digits 16 false n
+pub use Rattle.q_show.specs.ShowText.{counters_text, handle_text, qdisc_text, class_line, filter_line}
 
 abbrev pub refused_line : ℕ → NotDone → List ℕ
 refused_line k refusal = line_text k ++ codes "refused " ++ decimal (refusal_number refusal) ++ codes " " ++ refusal_name refusal ++ newline
@@ -51,102 +28,5 @@ poll_line polled.Later = codes "later" ++ newline
 abbrev pub lost_line : Loss → List ℕ
 lost_line l = codes "lost " ++ packet_text l.packet ++ codes " " ++ cause_name l.cause ++ newline
 
-abbrev pub totals_text : List ℕ → Totals → List ℕ
-totals_text name t = codes " " ++ name ++ codes " " ++ decimal t.packets ++ codes "p " ++ decimal t.bytes ++ codes "b"
-
-abbrev pub counters_text : Row → List ℕ
-counters_text r =
-    totals_text (codes "arrived") r.arrived ++ totals_text (codes "sent") r.sent ++ totals_text (codes "refused") r.refused
-    ++ totals_text (codes "dropped") r.dropped ++ totals_text (codes "queued") r.queued
-
--- marks are shown of an fq_codel alone
-abbrev pub marked_text : QdiscView → Row → List ℕ
-marked_text (qdisc.FqCodel s) r = totals_text (codes "marked") r.marked
-marked_text other r = []
-
 abbrev pub device_line : Row → List ℕ
 device_line r = codes "device" ++ counters_text r ++ newline
-
--- names and settings
-abbrev pub handle_text : Option ℕ → List ℕ
-handle_text handle = option_map_or hex handle (codes "0")
-
-abbrev pub class_text : ClassId → List ℕ
-class_text c = hex c.major ++ codes ":" ++ hex c.minor
-
-abbrev pub place_text : Place → List ℕ
-place_text place.Top = []
-place_text place.Root = codes "root"
-place_text (place.Class class) = codes "parent " ++ class_text class
-
-abbrev pub kind_text : QdiscView → List ℕ
-kind_text (qdisc.Pfifo limit) = codes "pfifo"
-kind_text (qdisc.Bfifo limit) = codes "bfifo"
-kind_text (qdisc.Prio bands priomap) = codes "prio"
-kind_text (qdisc.Tbf rate burst limit) = codes "tbf"
-kind_text qdisc.Drr = codes "drr"
-kind_text (qdisc.FqCodel s) = codes "fq_codel"
-
-abbrev pub setting : List ℕ → ℕ → List ℕ → List ℕ
-setting name n unit = codes " " ++ name ++ codes " " ++ decimal n ++ unit
-
-abbrev pub fq_codel_text : FqSettings → List ℕ
-fq_codel_text s =
-    setting (codes "limit") s.limit (codes "p") ++ setting (codes "flows") s.flows [] ++ setting (codes "quantum") s.quantum []
-    ++ setting (codes "target") s.target (codes "ns") ++ setting (codes "interval") s.interval (codes "ns")
-    ++ (if s.ecn then codes " ecn" else codes " noecn") ++ setting (codes "drop_batch") s.drop_batch []
-
-abbrev pub options_text : QdiscView → List ℕ
-options_text (qdisc.Pfifo limit) = setting (codes "limit") limit (codes "p")
-options_text (qdisc.Bfifo limit) = setting (codes "limit") limit (codes "b")
-options_text (qdisc.Prio bands priomap) =
-    setting (codes "bands") bands [] ++ codes " priomap" ++ flat_map (λ band. codes " " ++ decimal band) priomap
-options_text (qdisc.Tbf rate burst limit) =
-    setting (codes "rate") rate (codes "bit") ++ setting (codes "burst") burst (codes "b") ++ setting (codes "limit") limit (codes "b")
-options_text qdisc.Drr = []
-options_text (qdisc.FqCodel s) = fq_codel_text s
-
--- a qdisc, with its counters on a line of their own where they are asked for
-abbrev pub qdisc_text : Bool → NodeView → List ℕ
-qdisc_text counters n =
-    codes "qdisc " ++ kind_text n.qdisc ++ codes " " ++ handle_text n.handle ++ codes ": " ++ place_text n.place ++ options_text n.qdisc ++ newline
-    ++ (if counters then counters_text n.row ++ marked_text n.qdisc n.row ++ newline else [])
-
-abbrev pub kind_of_class : ClassKind → ClassId → List ℕ
-kind_of_class class.Prio c = codes "prio " ++ class_text c
-kind_of_class class.Tbf c = codes "tbf " ++ class_text c
-kind_of_class (class.Drr quantum deficit) c =
-    codes "drr " ++ class_text c ++ setting (codes "quantum") quantum []
-    ++ option_map_or (λ n. codes " active" ++ setting (codes "deficit") n []) deficit (codes " asleep")
-
-abbrev pub class_line : ClassView → List ℕ
-class_line c = codes "class " ++ kind_of_class c.kind c.class ++ newline
-
-abbrev pub protocol_text : Protocol → List ℕ
-protocol_text All = codes "all"
-protocol_text Ip = codes "ip"
-protocol_text Ipv6 = codes "ipv6"
-
--- four numbers joined by points, or eight groups joined by colons
-abbrev pub address_text : IpVersion → ℕ → List ℕ
-address_text V4 a =
-    decimal (a / 2 ^ 24 % 256) ++ codes "." ++ decimal (a / 2 ^ 16 % 256) ++ codes "." ++ decimal (a / 2 ^ 8 % 256) ++ codes "." ++ decimal (a % 256)
-address_text V6 a =
-    hex (a / 2 ^ 112 % 65536) ++ codes ":" ++ hex (a / 2 ^ 96 % 65536) ++ codes ":" ++ hex (a / 2 ^ 80 % 65536) ++ codes ":" ++ hex (a / 2 ^ 64 % 65536)
-    ++ codes ":" ++ hex (a / 2 ^ 48 % 65536) ++ codes ":" ++ hex (a / 2 ^ 32 % 65536) ++ codes ":" ++ hex (a / 2 ^ 16 % 65536) ++ codes ":" ++ hex (a % 65536)
-
-abbrev pub prefix_text : Prefix → List ℕ
-prefix_text p = address_text p.version p.address ++ codes "/" ++ decimal p.len
-
-abbrev pub given : {A : Type 0} → List ℕ → (A → List ℕ) → Option A → List ℕ
-given name text o = option_map_or (λ a. codes " " ++ name ++ codes " " ++ text a) o []
-
-abbrev pub keys_text : FilterKeys → List ℕ
-keys_text k =
-    given (codes "ip_proto") hex k.ip_proto ++ given (codes "src_ip") prefix_text k.src_ip ++ given (codes "dst_ip") prefix_text k.dst_ip
-    ++ given (codes "src_port") decimal k.src_port ++ given (codes "dst_port") decimal k.dst_port
-
-abbrev pub filter_line : FilterView → List ℕ
-filter_line f =
-    codes "filter parent " ++ hex f.parent ++ codes ": prio " ++ decimal f.filter.prio ++ codes " protocol " ++ protocol_text f.filter.protocol
-    ++ keys_text f.filter.keys ++ codes " classid " ++ hex f.parent ++ codes ":" ++ hex f.filter.minor ++ newline

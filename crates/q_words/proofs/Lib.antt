@@ -3,3 +3,4 @@ pub mod Numbers
 pub mod Splits
 pub mod GroupLemmas
 pub mod DecimalLemmas
+pub mod FrameLemmas

@@ -4,7 +4,9 @@ use Rattle.std.specs.List.{slice_split}
 use Rattle.std.specs.Str.Parse.{digits_value}
 use Rattle.q_model.specs.declared.ip_version.IpVersion.TheVariants.{V6}
 use Rattle.q_model.specs.Options.{Prefix}
-use Rattle.q_words.specs.Addresses.{Address, is_group, prefix_from, has_bad_length}
+use Rattle.q_packet.specs.Head.{head}
+use Rattle.q_packet.specs.declared.head.Head.{Head}
+use Rattle.q_words.specs.Addresses.{Address, is_group, prefix_from, has_bad_length, frame_of}
 use Rattle.q_words.specs.declared.wrong.Wrong.{Wrong}
 use Rattle.q_words.specs.declared.wrong.Wrong.TheVariants.{BadNumber, OutOfRange}
 use Rattle.q_words.specs.Values.{is_numeral}
@@ -44,3 +46,7 @@ byte_of word = if is_numeral 16 word then (if nat_le (digits_value 16 word) 255 
 abbrev pub prefix_with : Result Address Wrong → Option (List ℕ) → Result Prefix Wrong
 prefix_with (Ok a) len = prefix_from a len
 prefix_with (Err e) len = if has_bad_length len then Err BadNumber else Err e
+
+-- the head of the packet whose first bytes a word is
+abbrev pub head_of_frame : List ℕ → Result Head Wrong
+head_of_frame word = elim (frame_of word) [ Ok bytes ↦ Ok (head bytes) | Err e ↦ Err e ]

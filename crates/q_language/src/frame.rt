@@ -1,0 +1,19 @@
+ghost use Rattle.std.specs.Prelude.{◌≡◌, suc};
+ghost use Rattle.q_words.specs.Words.{words_in};
+ghost use Rattle.q_language.specs.Grammar.{every_word, rest_of};
+ghost use Rattle.q_language.specs.Positions.{frame};
+
+use crate::line::Line;
+use crate::words::Words;
+use q_words::{LineFault, frame_head, number};
+
+/// Behind `frame`: LEN, bytes, and HEX, the first of them.
+pub fn frame_line(mut words: Words) -> Result<Line, LineFault>
+    ensures { result ≡ rest_of every_word frame (suc words.entry.taken) (words_in words.entry.rest.now) }
+{
+    let word = words.needed()?;
+    let len = words.placed(number(word.as_bytes(), 1, u64::from(u16::MAX)))? as u16;
+    let word = words.needed()?;
+    let head = words.placed(frame_head(word.as_bytes()))?;
+    words.ended(Line::Frame { len, head })
+}

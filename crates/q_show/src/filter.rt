@@ -1,0 +1,173 @@
+//! The text of a filter.
+ghost use Rattle.std.specs.Prelude.{◌≡◌, ◌+◌, ◌≤◌, ◌%◌, ◌++◌, codes, length, decimal};
+ghost use Rattle.q_show.specs.ShowText.{address_text, filter_line, given, hex, into_text, keys_text, matches_text, prefix_text, protocol_text};
+ghost use Rattle.q_model.specs.declared.ip_version.IpVersion.TheVariants.{V4, V6};
+
+use crate::text::Text;
+use q_model::{FilterKeys, FilterView, IpPrefix, IpVersion, Protocol};
+
+/// A filter on its line.
+pub fn put_filter(text: &mut Text, filter: &FilterView)
+    requires { length text.old + 600 ≤ 1024 }
+    ensures { text.new ≡ text.old ++ filter_line filter.now }
+{
+    put_matches(text, filter);
+    put_keys(text, &filter.filter.keys);
+    put_into(text, filter);
+    text.put(b"\n");
+}
+
+/// The node that has the filter, its priority, and the protocol of the packets that it looks at.
+fn put_matches(text: &mut Text, filter: &FilterView)
+    requires { length text.old + 64 ≤ 1024 }
+    ensures text { text.new ≡ text.old ++ matches_text filter.now }
+    ensures short { length text.new ≤ length text.old + 64 }
+{
+    text.put(b"filter parent ");
+    text.put_hexadecimal(filter.parent.major());
+    text.put(b": prio ");
+    text.put_number(u64::from(filter.filter.prio.number()));
+    text.put(b" protocol ");
+    put_protocol(text, filter.filter.protocol);
+}
+
+/// The class that it gives its packets to.
+fn put_into(text: &mut Text, filter: &FilterView)
+    requires { length text.old + 32 ≤ 1024 }
+    ensures text { text.new ≡ text.old ++ into_text filter.now }
+    ensures short { length text.new ≤ length text.old + 32 }
+{
+    text.put(b" classid ");
+    text.put_hexadecimal(filter.parent.major());
+    text.put(b":");
+    text.put_hexadecimal(filter.filter.minor.number());
+}
+
+/// The name of a protocol.
+fn put_protocol(text: &mut Text, protocol: Protocol)
+    requires { length text.old + 4 ≤ 1024 }
+    ensures text { text.new ≡ text.old ++ protocol_text protocol }
+    ensures short { length text.new ≤ length text.old + 4 }
+{
+    match protocol {
+        Protocol::All => text.put(b"all"),
+        Protocol::Ip => text.put(b"ip"),
+        Protocol::Ipv6 => text.put(b"ipv6"),
+    }
+}
+
+/// The keys that were given.
+fn put_keys(text: &mut Text, keys: &FilterKeys)
+    requires { length text.old + 400 ≤ 1024 }
+    ensures text { text.new ≡ text.old ++ keys_text keys.now }
+    ensures short { length text.new ≤ length text.old + 400 }
+{
+    put_ip_proto(text, keys.ip_proto);
+    put_prefix(text, b"src_ip", keys.src_ip);
+    put_prefix(text, b"dst_ip", keys.dst_ip);
+    put_port(text, b"src_port", keys.src_port);
+    put_port(text, b"dst_port", keys.dst_port);
+}
+
+/// The protocol above IP, in hexadecimal, where it was given.
+fn put_ip_proto(text: &mut Text, proto: Option<u8>)
+    requires { length text.old + 32 ≤ 1024 }
+    ensures text { text.new ≡ text.old ++ given (codes "ip_proto") hex proto }
+    ensures short { length text.new ≤ length text.old + 32 }
+{
+    if let Some(proto) = proto {
+        text.put(b" ip_proto ");
+        text.put_hexadecimal(u16::from(proto));
+    }
+}
+
+/// A port, where it was given.
+fn put_port(text: &mut Text, name: &[u8], port: Option<u16>)
+    requires room { length text.old + 32 ≤ 1024 }
+    requires name { length name.now ≤ 8 }
+    ensures text { text.new ≡ text.old ++ given name.now decimal port }
+    ensures short { length text.new ≤ length text.old + 32 }
+{
+    if let Some(port) = port {
+        text.put(b" ");
+        text.put(name);
+        text.put(b" ");
+        text.put_number(u64::from(port));
+    }
+}
+
+/// A prefix, where it was given.
+fn put_prefix(text: &mut Text, name: &[u8], prefix: Option<IpPrefix>)
+    requires room { length text.old + 128 ≤ 1024 }
+    requires name { length name.now ≤ 8 }
+    ensures text { text.new ≡ text.old ++ given name.now prefix_text prefix }
+    ensures short { length text.new ≤ length text.old + 128 }
+{
+    if let Some(prefix) = prefix {
+        text.put(b" ");
+        text.put(name);
+        text.put(b" ");
+        match prefix.version {
+            IpVersion::V4 => put_ipv4(text, prefix.address),
+            IpVersion::V6 => put_ipv6(text, prefix.address),
+        }
+        text.put(b"/");
+        text.put_number(u64::from(prefix.len));
+    }
+}
+
+/// Four numbers joined by points.
+fn put_ipv4(text: &mut Text, address: u128)
+    requires { length text.old + 83 ≤ 1024 }
+    ensures text { text.new ≡ text.old ++ address_text V4 address }
+    ensures short { length text.new ≤ length text.old + 83 }
+{
+    put_octet(text, address >> 24);
+    text.put(b".");
+    put_octet(text, address >> 16);
+    text.put(b".");
+    put_octet(text, address >> 8);
+    text.put(b".");
+    put_octet(text, address);
+}
+
+/// The last eight bits of a number, in decimal.
+fn put_octet(text: &mut Text, bits: u128)
+    requires { length text.old + 20 ≤ 1024 }
+    ensures text { text.new ≡ text.old ++ decimal (bits % 256) }
+    ensures short { length text.new ≤ length text.old + 20 }
+{
+    text.put_number((bits % 256) as u64);
+}
+
+/// Eight groups joined by colons.
+fn put_ipv6(text: &mut Text, address: u128)
+    requires { length text.old + 39 ≤ 1024 }
+    ensures text { text.new ≡ text.old ++ address_text V6 address }
+    ensures short { length text.new ≤ length text.old + 39 }
+{
+    put_group(text, address >> 112);
+    text.put(b":");
+    put_group(text, address >> 96);
+    text.put(b":");
+    put_group(text, address >> 80);
+    text.put(b":");
+    put_group(text, address >> 64);
+    text.put(b":");
+    put_group(text, address >> 48);
+    text.put(b":");
+    put_group(text, address >> 32);
+    text.put(b":");
+    put_group(text, address >> 16);
+    text.put(b":");
+    put_group(text, address);
+}
+
+/// The last sixteen bits of a number, in hexadecimal.
+fn put_group(text: &mut Text, bits: u128)
+    requires { length text.old + 4 ≤ 1024 }
+    ensures text { text.new ≡ text.old ++ hex (bits % 65536) }
+    ensures short { length text.new ≤ length text.old + 4 }
+{
+    text.put_hexadecimal((bits % 65536) as u16);
+}

@@ -1,0 +1,236 @@
+//! The text of a qdisc.
+ghost use Rattle.std.specs.Prelude.{◌≡◌, ◌+◌, ◌≤◌, ◌++◌, length};
+ghost use Rattle.std.specs.List.{flat_map};
+ghost use Rattle.q_show.specs.ShowText.{counters_line, counters_text, ecn_text, fq_codel_text, handle_text, kind_text, losses_text, marked_text, options_text, place_text, priomap_text, qdisc_text, qdisc_line, setting, sizes_text, times_text, totals_text};
+
+use crate::class::put_class_id;
+use crate::text::Text;
+use q_fqcodel::Settings;
+use q_model::{Handle, NodeView, Place, QdiscView, Row, Totals};
+
+/// A qdisc, with its counters on a line of their own where they are asked for.
+pub fn put_qdisc(text: &mut Text, node: &NodeView, counters: bool)
+    requires { length text.old + 900 ≤ 1024 }
+    ensures { text.new ≡ text.old ++ qdisc_text counters node.now }
+{
+    put_qdisc_line(text, node);
+    if counters {
+        put_counters_line(text, node);
+    }
+}
+
+/// The line of its counters.
+fn put_counters_line(text: &mut Text, node: &NodeView)
+    requires { length text.old + 388 ≤ 1024 }
+    ensures { text.new ≡ text.old ++ counters_line node.now }
+{
+    put_counters(text, &node.row);
+    put_marked(text, &node.qdisc, &node.row);
+    text.put(b"\n");
+}
+
+/// A qdisc's line: its kind, its handle, its place and its options.
+fn put_qdisc_line(text: &mut Text, node: &NodeView)
+    requires { length text.old + 512 ≤ 1024 }
+    ensures text { text.new ≡ text.old ++ qdisc_line node.now }
+    ensures short { length text.new ≤ length text.old + 512 }
+{
+    text.put(b"qdisc ");
+    put_kind(text, &node.qdisc);
+    text.put(b" ");
+    put_handle(text, node.handle);
+    text.put(b": ");
+    put_place(text, node.place);
+    put_options(text, &node.qdisc);
+    text.put(b"\n");
+}
+
+/// A counter's name, packets and bytes.
+fn put_totals(text: &mut Text, name: &[u8], counted: Totals)
+    requires room { length text.old + 64 ≤ 1024 }
+    requires name { length name.now ≤ 8 }
+    ensures text { text.new ≡ text.old ++ totals_text name.now counted }
+    ensures short { length text.new ≤ length text.old + 64 }
+{
+    text.put(b" ");
+    text.put(name);
+    text.put(b" ");
+    text.put_number(counted.packets);
+    text.put(b"p ");
+    text.put_number(counted.bytes);
+    text.put(b"b");
+}
+
+/// What a node has counted.
+fn put_counters(text: &mut Text, row: &Row)
+    requires { length text.old + 320 ≤ 1024 }
+    ensures text { text.new ≡ text.old ++ counters_text row.now }
+    ensures short { length text.new ≤ length text.old + 320 }
+{
+    put_totals(text, b"arrived", row.arrived);
+    put_totals(text, b"sent", row.sent);
+    put_totals(text, b"refused", row.refused);
+    put_totals(text, b"dropped", row.dropped);
+    put_totals(text, b"queued", row.queued);
+}
+
+/// The marks, which are shown of an fq_codel alone.
+fn put_marked(text: &mut Text, qdisc: &QdiscView, row: &Row)
+    requires { length text.old + 64 ≤ 1024 }
+    ensures text { text.new ≡ text.old ++ marked_text qdisc.now row.now }
+    ensures short { length text.new ≤ length text.old + 64 }
+{
+    if let QdiscView::FqCodel(_) = qdisc {
+        put_totals(text, b"marked", row.marked);
+    }
+}
+
+/// A major number in hexadecimal; an implicit leaf is shown as 0.
+fn put_handle(text: &mut Text, handle: Option<Handle>)
+    requires { length text.old + 4 ≤ 1024 }
+    ensures text { text.new ≡ text.old ++ handle_text handle }
+    ensures short { length text.new ≤ length text.old + 4 }
+{
+    match handle {
+        Some(handle) => text.put_hexadecimal(handle.major()),
+        None => text.put(b"0"),
+    }
+}
+
+/// Where a node stands.
+fn put_place(text: &mut Text, place: Place)
+    requires { length text.old + 16 ≤ 1024 }
+    ensures text { text.new ≡ text.old ++ place_text place }
+    ensures short { length text.new ≤ length text.old + 16 }
+{
+    match place {
+        Place::Top => {}
+        Place::Root => text.put(b"root"),
+        Place::Class(class) => {
+            text.put(b"parent ");
+            put_class_id(text, class);
+        }
+    }
+}
+
+/// The name of a kind.
+fn put_kind(text: &mut Text, qdisc: &QdiscView)
+    requires { length text.old + 8 ≤ 1024 }
+    ensures text { text.new ≡ text.old ++ kind_text qdisc.now }
+    ensures short { length text.new ≤ length text.old + 8 }
+{
+    match qdisc {
+        QdiscView::Pfifo { .. } => text.put(b"pfifo"),
+        QdiscView::Bfifo { .. } => text.put(b"bfifo"),
+        QdiscView::Prio { .. } => text.put(b"prio"),
+        QdiscView::Tbf { .. } => text.put(b"tbf"),
+        QdiscView::Drr => text.put(b"drr"),
+        QdiscView::FqCodel(_) => text.put(b"fq_codel"),
+    }
+}
+
+/// An option's name, its number and its unit.
+pub fn put_setting(text: &mut Text, name: &[u8], n: u64, unit: &[u8])
+    requires room { length text.old + 48 ≤ 1024 }
+    requires name { length name.now ≤ 16 }
+    requires unit { length unit.now ≤ 4 }
+    ensures text { text.new ≡ text.old ++ setting name.now n unit.now }
+    ensures short { length text.new ≤ length text.old + 48 }
+{
+    text.put(b" ");
+    text.put(name);
+    text.put(b" ");
+    text.put_number(n);
+    text.put(unit);
+}
+
+/// The options of a qdisc.
+fn put_options(text: &mut Text, qdisc: &QdiscView)
+    requires { length text.old + 460 ≤ 1024 }
+    ensures text { text.new ≡ text.old ++ options_text qdisc.now }
+    ensures short { length text.new ≤ length text.old + 460 }
+{
+    match *qdisc {
+        QdiscView::Pfifo { limit } => put_setting(text, b"limit", limit, b"p"),
+        QdiscView::Bfifo { limit } => put_setting(text, b"limit", limit, b"b"),
+        QdiscView::Prio { bands, priomap } => {
+            put_setting(text, b"bands", u64::from(bands), b"");
+            put_priomap(text, &priomap);
+        }
+        QdiscView::Tbf { rate, burst, limit } => {
+            put_setting(text, b"rate", rate, b"bit");
+            put_setting(text, b"burst", u64::from(burst), b"b");
+            put_setting(text, b"limit", limit, b"b");
+        }
+        QdiscView::Drr => {}
+        QdiscView::FqCodel(settings) => put_fq_codel(text, &settings),
+    }
+}
+
+/// The bands of the priorities.
+fn put_priomap(text: &mut Text, priomap: &[u8; 16])
+    requires { length text.old + 400 ≤ 1024 }
+    ensures text { text.new ≡ text.old ++ priomap_text priomap.now }
+    ensures short { length text.new ≤ length text.old + 400 }
+{
+    text.put(b" priomap");
+    for band in priomap {
+        text.put(b" ");
+        text.put_number(u64::from(*band));
+    }
+}
+
+/// The settings of an fq_codel.
+fn put_fq_codel(text: &mut Text, settings: &Settings)
+    requires { length text.old + 300 ≤ 1024 }
+    ensures text { text.new ≡ text.old ++ fq_codel_text settings.now }
+    ensures short { length text.new ≤ length text.old + 300 }
+{
+    put_sizes(text, settings);
+    put_times(text, settings);
+    put_losses(text, settings.ecn, settings.drop_batch);
+}
+
+/// How much an fq_codel holds and sends.
+fn put_sizes(text: &mut Text, settings: &Settings)
+    requires { length text.old + 144 ≤ 1024 }
+    ensures text { text.new ≡ text.old ++ sizes_text settings.now }
+    ensures short { length text.new ≤ length text.old + 144 }
+{
+    put_setting(text, b"limit", u64::from(settings.limit), b"p");
+    put_setting(text, b"flows", u64::from(settings.flows), b"");
+    put_setting(text, b"quantum", u64::from(settings.quantum), b"");
+}
+
+/// The times of its CoDel.
+fn put_times(text: &mut Text, settings: &Settings)
+    requires { length text.old + 96 ≤ 1024 }
+    ensures text { text.new ≡ text.old ++ times_text settings.now }
+    ensures short { length text.new ≤ length text.old + 96 }
+{
+    put_setting(text, b"target", settings.target, b"ns");
+    put_setting(text, b"interval", settings.interval, b"ns");
+}
+
+/// Whether it marks packets in place of a drop, and how many the fat flow loses at once.
+fn put_losses(text: &mut Text, ecn: bool, drop_batch: u32)
+    requires { length text.old + 60 ≤ 1024 }
+    ensures text { text.new ≡ text.old ++ losses_text ecn drop_batch }
+    ensures short { length text.new ≤ length text.old + 60 }
+{
+    put_ecn(text, ecn);
+    put_setting(text, b"drop_batch", u64::from(drop_batch), b"");
+}
+
+/// Whether it marks packets.
+fn put_ecn(text: &mut Text, ecn: bool)
+    requires { length text.old + 6 ≤ 1024 }
+    ensures text { text.new ≡ text.old ++ ecn_text ecn }
+    ensures short { length text.new ≤ length text.old + 6 }
+{
+    if ecn {
+        text.put(b" ecn");
+    } else {
+        text.put(b" noecn");
+    }
+}

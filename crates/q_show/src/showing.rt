@@ -1,0 +1,48 @@
+ghost use Rattle.std.specs.Prelude.{OnOk, OnErr};
+ghost use Rattle.std.specs.Io.KnownBytes.{Appends};
+ghost use Rattle.q_show.specs.ShowText.{qdisc_text, class_line, filter_line};
+ghost use Rattle.q_show.specs.Written.{AppendsFront};
+
+use crate::class::put_class;
+use crate::filter::put_filter;
+use crate::qdisc::put_qdisc;
+use crate::text::Text;
+use crate::write_fault::{WriteFault, write_whole};
+use q_model::{ClassView, FilterView, NodeView};
+use std::io::Write;
+
+/// Writes what `tc qdisc show` prints of a node, and its counters, as `tc -s qdisc show` does, where they are asked for.
+///
+/// After an error the writer holds a front of the text, and not all.
+pub fn show_qdisc<W: Write>(
+    writer: &mut W,
+    node: &NodeView,
+    counters: bool,
+) -> Result<(), WriteFault>
+    ensures ok { OnOk result (Appends (W.contents writer.old) (W.contents writer.new) (qdisc_text counters node.now)) }
+    ensures err { OnErr result (AppendsFront (W.contents writer.old) (W.contents writer.new) (qdisc_text counters node.now)) }
+{
+    let mut text = Text::new();
+    put_qdisc(&mut text, node, counters);
+    write_whole(writer, text.as_bytes())
+}
+
+/// Writes what `tc class show` prints of a class. After an error the writer holds a front of the text, and not all.
+pub fn show_class<W: Write>(writer: &mut W, class: &ClassView) -> Result<(), WriteFault>
+    ensures ok { OnOk result (Appends (W.contents writer.old) (W.contents writer.new) (class_line class.now)) }
+    ensures err { OnErr result (AppendsFront (W.contents writer.old) (W.contents writer.new) (class_line class.now)) }
+{
+    let mut text = Text::new();
+    put_class(&mut text, class);
+    write_whole(writer, text.as_bytes())
+}
+
+/// Writes what `tc filter show` prints of a filter. After an error the writer holds a front of the text, and not all.
+pub fn show_filter<W: Write>(writer: &mut W, filter: &FilterView) -> Result<(), WriteFault>
+    ensures ok { OnOk result (Appends (W.contents writer.old) (W.contents writer.new) (filter_line filter.now)) }
+    ensures err { OnErr result (AppendsFront (W.contents writer.old) (W.contents writer.new) (filter_line filter.now)) }
+{
+    let mut text = Text::new();
+    put_filter(&mut text, filter);
+    write_whole(writer, text.as_bytes())
+}
