@@ -23,6 +23,7 @@ mod RuleReports
 pub mod Script
 mod ScriptValues
 pub mod SharedRules
+mod SharingScripts
 mod TbfPrioScripts
 mod TreeReports
 mod WordValues

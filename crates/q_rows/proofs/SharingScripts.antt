@@ -1,0 +1,87 @@
+-- What is counted of classes and flows over a part of a replay, for worked scripts: grants, bytes, deficits and credits.
+-- Both counts are those of whole histories; a stretch has the difference of what they are at its ends.
+use Rattle.std.proofs.Common.{◌≡◌, ℕ, ℤ, pos, List, [], ◌∷◌, ◌++◌, refl}
+use Rattle.std.specs.Prelude.{Option, Some, None, map, option_map}
+use Rattle.q_drr.specs.Schedule.{quantum_of, deficit_of}
+use Rattle.q_fqcodel.specs.Laws.{credits_of}
+use Rattle.q_model.specs.declared.command.Command.TheVariants.{ClassChange}
+use Rattle.q_model.specs.declared.event.Event.{Event}
+use Rattle.q_model.specs.declared.kind.Kind.TheVariants.{FqCodel, Drr}
+use Rattle.q_model.specs.Replay.{replay}
+use Rattle.q_model.specs.Stretches.{bytes_sent, grants_to, flow_grants_to, bytes_given, ClassAt, class_in, FqAt, fq_in}
+use Rattle.q_model.specs.Tally.{history}
+use Rattle.q_rows.proofs.SharedRules.{shared_rules}
+use Rattle.q_rows.proofs.Script.{settings, from_port, hashed, arrives, polls, tc, class, add_root, add_class, filter_port, no_options}
+
+pub record ClassCount : Type 0 where
+  pub quantum : ℕ
+  pub grants : ℕ
+  pub bytes : ℕ
+  pub deficit : ℕ
+
+counted : ℕ → List Event → Option ClassCount
+counted minor events =
+    option_map (λ (c : ClassAt). record {
+      quantum = quantum_of minor c.schedule.classes;
+      grants = grants_to minor c.noted;
+      bytes = bytes_sent c.child.memory;
+      deficit = deficit_of minor c.schedule.active;
+    }) (class_in 1 minor (replay history settings events).device)
+
+-- two classes with quanta of 1000 and 500, and ten packets of 500 bytes for each
+filled : List Event
+filled =
+    add_root (Some 1) Drr ∷ add_class 1 1 (Some 1000) ∷ add_class 1 2 (Some 500)
+    ∷ filter_port 1 1 1 1 ∷ filter_port 1 2 2 2
+    ∷ map (λ n. arrives 0 (from_port 1 n 500)) (1 ∷ 2 ∷ 3 ∷ 4 ∷ 5 ∷ 6 ∷ 7 ∷ 8 ∷ 9 ∷ 10 ∷ [])
+    ++ map (λ n. arrives 0 (from_port 2 n 500)) (11 ∷ 12 ∷ 13 ∷ 14 ∷ 15 ∷ 16 ∷ 17 ∷ 18 ∷ 19 ∷ 20 ∷ [])
+
+first_before : counted 1 filled ≡ Some (record { quantum = 1000; grants = 0; bytes = 0; deficit = 1000 })
+unfolding counted filled shared_rules
+first_before = refl
+
+second_before : counted 2 filled ≡ Some (record { quantum = 500; grants = 0; bytes = 0; deficit = 500 })
+unfolding counted filled shared_rules
+second_before = refl
+
+-- over six polls the first class has 2 grants and sends 2000 bytes, and the second 1 grant and 1000 bytes
+first_after : counted 1 (filled ++ polls 0 6) ≡ Some (record { quantum = 1000; grants = 2; bytes = 2000; deficit = 1000 })
+unfolding counted filled shared_rules
+first_after = refl
+
+second_after : counted 2 (filled ++ polls 0 6) ≡ Some (record { quantum = 500; grants = 1; bytes = 1000; deficit = 0 })
+unfolding counted filled shared_rules
+second_after = refl
+
+-- another quantum ends the stretch: the class is then there with that
+requantumed : counted 1 (filled ++ polls 0 6 ++ tc (ClassChange None (class 1 1) (Some 100)) ∷ []) ≡ Some (record { quantum = 100; grants = 2; bytes = 2000; deficit = 1000 })
+unfolding counted filled shared_rules
+requantumed = refl
+
+pub record FlowCount : Type 0 where
+  pub grants : ℕ
+  pub bytes : ℕ
+  pub credits : Option ℤ
+
+flow_counted : ℕ → List Event → Option FlowCount
+flow_counted flow events =
+    option_map (λ (f : FqAt). record {
+      grants = flow_grants_to flow f.noted;
+      bytes = bytes_given flow f.noted;
+      credits = credits_of flow (f.state.fresh ++ f.state.stale);
+    }) (fq_in 1 (replay history settings events).device)
+
+-- A flow with 1514 credits gives two packets of 1000 bytes, and has one grant as it passes to the old list: 1028 credits are
+-- left, and 1514 + 1514 - 1028 are the 2000 bytes that it gave.
+three_and_one : List Event
+three_and_one =
+    add_root (Some 1) (FqCodel (record no_options { flows = Some 4 }))
+    ∷ arrives 0 (hashed 0 1 1000) ∷ arrives 0 (hashed 0 2 1000) ∷ arrives 0 (hashed 0 3 1000) ∷ arrives 0 (hashed 1 4 100) ∷ []
+
+flow_before : flow_counted 0 three_and_one ≡ Some (record { grants = 0; bytes = 0; credits = Some (pos 1514) })
+unfolding flow_counted three_and_one shared_rules
+flow_before = refl
+
+flow_after : flow_counted 0 (three_and_one ++ polls 0 3) ≡ Some (record { grants = 1; bytes = 2000; credits = Some (pos 1028) })
+unfolding flow_counted three_and_one shared_rules
+flow_after = refl
