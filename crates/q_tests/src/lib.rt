@@ -19,11 +19,15 @@ mod fifo;
 #[cfg(test)]
 mod fq_codel;
 #[cfg(test)]
+mod fq_codel_twins;
+#[cfg(test)]
 mod head;
 #[cfg(test)]
 mod line;
 #[cfg(test)]
 mod packet;
+#[cfg(test)]
+mod plain_fq_codel;
 #[cfg(test)]
 mod runs;
 #[cfg(test)]

@@ -1,0 +1,206 @@
+//! fq_codel beside plain lists: the same calls give the same packets, losses, marks and counts.
+use crate::plain_fq_codel::PlainFqCodel;
+use q_codel::Losses;
+use q_fqcodel::{FqCodel, Settings};
+use q_packet::{Cause, Ecn, FlowKey, Moment, Packet};
+use std::alloc::Global;
+use std::process::Abort;
+use std::test::Fail;
+
+const CALLS: u64 = 10_000;
+
+/// Marsaglia's xorshift, with 64 bits of state.
+#[derive(Drop)]
+struct Words {
+    state: u64,
+}
+
+impl Words {
+    fn new() -> Words {
+        Words {
+            state: 0x9e37_79b9_7f4a_7c15,
+        }
+    }
+
+    fn next(&mut self) -> u64 {
+        self.state ^= self.state << 13;
+        self.state ^= self.state >> 7;
+        self.state ^= self.state << 17;
+        self.state
+    }
+}
+
+/// Both bodies, with what each has lost, and how much of each kind was seen.
+#[derive(Drop)]
+struct Twins {
+    fast: FqCodel,
+    plain: PlainFqCodel,
+    lost: Losses,
+    plain_lost: Losses,
+    sent: u64,
+    marked: u64,
+    dropped: u64,
+    shed: u64,
+    purged: u64,
+}
+
+impl Twins {
+    fn new(alloc: Global, settings: Settings) -> Result<Twins, Fail> {
+        Ok(Twins {
+            fast: FqCodel::new(alloc, settings)?,
+            plain: PlainFqCodel::new(alloc, settings)?,
+            lost: Losses::new(alloc),
+            plain_lost: Losses::new(alloc),
+            sent: 0,
+            marked: 0,
+            dropped: 0,
+            shed: 0,
+            purged: 0,
+        })
+    }
+
+    fn put(&mut self, rt: &impl Abort, packet: Packet, now: Moment) -> Result<(), Fail> {
+        self.fast.reserve()?;
+        let settings = self.fast.settings();
+        self.lost.reserve(settings.drop_batch as usize)?;
+        let is_lost = self.fast.put(packet, now, &mut self.lost);
+        assert_eq!(rt; self.plain.put(packet, now, &mut self.plain_lost)?, is_lost);
+        Ok(())
+    }
+
+    fn take(&mut self, rt: &impl Abort, now: Moment) -> Result<(), Fail> {
+        let (packets, _) = self.fast.queued();
+        self.lost.reserve(packets as usize)?;
+        let taken = self.fast.take(now, &mut self.lost);
+        assert!(rt; self.plain.take(now, &mut self.plain_lost)? == taken);
+        if let Some(taken) = taken {
+            self.sent = self.sent.saturating_add(1);
+            self.marked = self.marked.saturating_add(u64::from(taken.marked));
+        }
+        Ok(())
+    }
+
+    // Other settings, by a word.
+    fn change(&mut self, word: u64) -> Result<(), Fail> {
+        let now = self.fast.settings();
+        let settings = Settings::new(
+            20 + (word % 300) as u32,
+            now.flows,
+            300 + ((word >> 9) % 2000) as u32,
+            now.target,
+            now.interval,
+            (word >> 20) % 2 == 0,
+            now.drop_batch,
+            now.mtu,
+        )
+        .ok_or("settings")?;
+        if settings.flows != now.flows || settings.mtu != now.mtu {
+            return Err("other flows".into());
+        }
+        self.fast.change(settings);
+        self.plain.change(settings);
+        Ok(())
+    }
+
+    fn purge(&mut self) -> Result<(), Fail> {
+        let (packets, _) = self.fast.queued();
+        self.lost.reserve(packets as usize)?;
+        self.fast.purge(&mut self.lost);
+        self.plain.purge(&mut self.plain_lost)
+    }
+
+    // Both have as many packets and bytes, and have lost the same packets in the same order.
+    fn compare(&mut self, rt: &impl Abort) {
+        let (packets, bytes) = self.fast.queued();
+        let (plain_packets, plain_bytes) = self.plain.queued();
+        assert_eq!(rt; plain_packets, packets);
+        assert_eq!(rt; plain_bytes, bytes);
+        assert_eq!(rt; self.plain_lost.count(), self.lost.count());
+        for _ in 0..self.lost.count() {
+            let loss = self.lost.reap();
+            assert!(rt; self.plain_lost.reap() == loss);
+            if let Some(loss) = loss {
+                match loss.cause {
+                    Cause::CoDel => self.dropped = self.dropped.saturating_add(1),
+                    Cause::FatFlow => self.shed = self.shed.saturating_add(1),
+                    _ => self.purged = self.purged.saturating_add(1),
+                }
+            }
+        }
+    }
+}
+
+/// The packet that a word says: most are of few flows.
+fn packet_of(number: u64, word: u64) -> Result<Packet, Fail> {
+    let len = 60 + ((word >> 10) % 1454) as u16;
+    let flows = 1u64 << ((word >> 24) % 17);
+    let hash = ((word >> 30) % flows) as u32;
+    let ecn = if (word >> 29) % 2 == 0 {
+        Ecn::Ect0
+    } else {
+        Ecn::NotEct
+    };
+    Ok(Packet::new(0, number, 0, len, FlowKey::zero(), hash, 0, ecn).ok_or("packet")?)
+}
+
+/// Makes the calls of the word sequence: 609 of 1024 put a packet, 407 take one, 7 change the settings and one purges.
+fn play(rt: &impl Abort, alloc: Global, flows: u32, drop_batch: u32) -> Result<(), Fail> {
+    let settings = Settings::new(
+        200,
+        flows,
+        1514,
+        5_000_000,
+        100_000_000,
+        true,
+        drop_batch,
+        1514,
+    )
+    .ok_or("settings")?;
+    let mut twins = Twins::new(alloc, settings)?;
+    let mut words = Words::new();
+    let mut ns = 0u64;
+    for number in 0..CALLS {
+        let word = words.next();
+        ns = ns.saturating_add((word >> 40) % 2_000_000);
+        let now = Moment::new(ns).ok_or("moment")?;
+        match word % 1024 {
+            0 => twins.purge()?,
+            1..=7 => twins.change(word >> 10)?,
+            8..=616 => twins.put(rt, packet_of(number, word)?, now)?,
+            _ => twins.take(rt, now)?,
+        }
+        twins.compare(rt);
+    }
+    // What the calls are to try has come about.
+    assert!(rt; twins.sent > 1000 && twins.shed > 0 && twins.purged > 0);
+    assert!(rt; flows > 3 || (twins.marked > 0 && twins.dropped > 0));
+    Ok(())
+}
+
+// With batches of 1, 3 and 64.
+fn play_all(rt: &impl Abort, alloc: Global, flows: u32) -> Result<(), Fail> {
+    for drop_batch in [1, 3, 64] {
+        play(rt, alloc, flows, drop_batch)?;
+    }
+    Ok(())
+}
+
+#[test]
+fn one_flow(rt: HostRuntime) -> Result<(), Fail> {
+    play_all(&rt, rt.alloc(), 1)
+}
+
+#[test]
+fn three_flows(rt: HostRuntime) -> Result<(), Fail> {
+    play_all(&rt, rt.alloc(), 3)
+}
+
+#[test]
+fn a_thousand_flows(rt: HostRuntime) -> Result<(), Fail> {
+    play_all(&rt, rt.alloc(), 1000)
+}
+
+#[test]
+fn as_many_flows_as_may_be(rt: HostRuntime) -> Result<(), Fail> {
+    play_all(&rt, rt.alloc(), 65536)
+}

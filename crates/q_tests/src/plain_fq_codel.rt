@@ -1,0 +1,212 @@
+//! FQ-CoDel by plain lists, for the comparison in `fq_codel_twins`: a queue and a CoDel for each flow, and each list of flows
+//! is looked through at each put.
+use q_codel::{Codel, Fifo, Limit, Losses, Sink, Taken};
+use q_fqcodel::Settings;
+use q_packet::{Cause, Moment, Packet, Stamped};
+use std::alloc::Global;
+use std::collections::VecDeque;
+use std::test::Fail;
+
+/// A listed flow, and the bytes that it may still send.
+#[derive(Clone, Copy, Debug)]
+struct Entry {
+    flow: u32,
+    credits: i64,
+}
+
+/// The packets of a flow, and what CoDel knows of it.
+#[derive(Drop)]
+struct Flow {
+    queue: Fifo,
+    codel: Codel,
+}
+
+/// What `FqCodel` is, without its speed.
+#[derive(Drop)]
+pub struct PlainFqCodel {
+    settings: Settings,
+    flows: Vec<Flow>,
+    fresh: VecDeque<Entry>,
+    stale: VecDeque<Entry>,
+}
+
+impl PlainFqCodel {
+    pub fn new(alloc: Global, settings: Settings) -> Result<PlainFqCodel, Fail> {
+        let mut flows = Vec::new(alloc);
+        for _ in 0..settings.flows {
+            let flow = Flow {
+                queue: Fifo::new(alloc, Limit::Packets(u64::MAX)),
+                codel: codel_of(settings),
+            };
+            if flows.push(flow).is_err() {
+                return Err("memory".into());
+            }
+        }
+        Ok(PlainFqCodel {
+            settings,
+            flows,
+            fresh: VecDeque::new(alloc),
+            stale: VecDeque::new(alloc),
+        })
+    }
+
+    /// Whether the packet that is put is itself lost.
+    pub fn put(&mut self, packet: Packet, at: Moment, losses: &mut Losses) -> Result<bool, Fail> {
+        let settings = self.settings;
+        let index = packet.hash.checked_rem(settings.flows).ok_or("no flows")?;
+        if !is_listed(&self.fresh, index) && !is_listed(&self.stale, index) {
+            let credits = i64::from(settings.quantum);
+            self.fresh.push_back(Entry {
+                flow: index,
+                credits,
+            })?;
+        }
+        self.flow(index)?.push(Stamped { packet, at })?;
+        let (packets, _) = self.queued();
+        if packets <= u64::from(settings.limit) {
+            return Ok(false);
+        }
+        let fat = self.fattest();
+        let batch = u64::from(settings.drop_batch);
+        let held = self.flow(fat)?.queue.count();
+        let lost = held.min(packets.saturating_sub(1)).min(batch);
+        self.flow(fat)?.lose(lost, losses)?;
+        Ok(fat == index && held == lost)
+    }
+
+    /// The next packet to send.
+    pub fn take(&mut self, now: Moment, losses: &mut Losses) -> Result<Option<Taken>, Fail> {
+        let settings = self.settings;
+        for _ in 0..u64::MAX {
+            let is_new = !self.fresh.is_empty();
+            let front = if is_new {
+                self.fresh.pop_front()
+            } else {
+                self.stale.pop_front()
+            };
+            let Some(mut entry) = front else {
+                return Ok(None);
+            };
+            if entry.credits <= 0 {
+                entry.credits = entry.credits.saturating_add(i64::from(settings.quantum));
+                self.stale.push_back(entry)?;
+                continue;
+            }
+            let flow = self.flow(entry.flow)?;
+            let Some(taken) = flow.send(now, losses)? else {
+                flow.codel.rest();
+                if is_new {
+                    self.stale.push_back(entry)?;
+                }
+                continue;
+            };
+            let packet = taken.packet;
+            entry.credits = entry.credits.saturating_sub(i64::from(packet.len));
+            if is_new {
+                self.fresh.push_front(entry)?;
+            } else {
+                self.stale.push_front(entry)?;
+            }
+            return Ok(Some(taken));
+        }
+        Err("no end of turns".into())
+    }
+
+    pub fn change(&mut self, settings: Settings) {
+        self.settings = settings;
+        for flow in self.flows.iter_mut() {
+            flow.codel
+                .set_params(settings.target, settings.interval, settings.ecn);
+        }
+    }
+
+    pub fn purge(&mut self, losses: &mut Losses) -> Result<(), Fail> {
+        let settings = self.settings;
+        for flow in self.flows.iter_mut() {
+            let held = flow.queue.count();
+            losses.reserve(held as usize)?;
+            flow.queue.purge(losses);
+            flow.codel = codel_of(settings);
+        }
+        self.fresh.clear();
+        self.stale.clear();
+        Ok(())
+    }
+
+    /// The packets in all flows, and their bytes. Only listed flows have any.
+    pub fn queued(&self) -> (u64, u64) {
+        let mut packets = 0u64;
+        let mut bytes = 0u64;
+        for entry in self.fresh.iter().chain(self.stale.iter()) {
+            if let Some(flow) = self.flows.get(entry.flow as usize) {
+                packets = packets.saturating_add(flow.queue.count());
+                bytes = bytes.saturating_add(flow.queue.bytes());
+            }
+        }
+        (packets, bytes)
+    }
+
+    // The flow with the most bytes, of equals that with the lower index.
+    fn fattest(&self) -> u32 {
+        let mut fat = 0u32;
+        let mut most = 0u64;
+        for entry in self.fresh.iter().chain(self.stale.iter()) {
+            if let Some(flow) = self.flows.get(entry.flow as usize) {
+                let bytes = flow.queue.bytes();
+                if bytes > most || (bytes == most && entry.flow < fat) {
+                    fat = entry.flow;
+                    most = bytes;
+                }
+            }
+        }
+        fat
+    }
+
+    fn flow(&mut self, index: u32) -> Result<&mut Flow, Fail> {
+        Ok(self.flows.get_mut(index as usize).ok_or("a flow")?)
+    }
+}
+
+impl Flow {
+    fn push(&mut self, stamped: Stamped) -> Result<(), Fail> {
+        self.queue.reserve()?;
+        let packet = stamped.packet;
+        if !self.queue.fits(packet.len) {
+            return Err("a full queue".into());
+        }
+        self.queue.put(stamped);
+        Ok(())
+    }
+
+    // Loses so many packets from the front.
+    fn lose(&mut self, lost: u64, losses: &mut Losses) -> Result<(), Fail> {
+        for _ in 0..lost {
+            let stamped = self.queue.take().ok_or("a packet")?;
+            losses.reserve(1)?;
+            losses.lost(stamped.packet, Cause::FatFlow);
+        }
+        Ok(())
+    }
+
+    // The next packet by CoDel's law.
+    fn send(&mut self, now: Moment, losses: &mut Losses) -> Result<Option<Taken>, Fail> {
+        if self.queue.count() == 0 {
+            return Ok(None);
+        }
+        losses.reserve(self.queue.count() as usize)?;
+        Ok(self.codel.take(&mut self.queue, now, losses))
+    }
+}
+
+fn codel_of(settings: Settings) -> Codel {
+    Codel::new(
+        settings.target,
+        settings.interval,
+        settings.mtu,
+        settings.ecn,
+    )
+}
+
+fn is_listed(list: &VecDeque<Entry>, flow: u32) -> bool {
+    list.iter().any(|entry| entry.flow == flow)
+}
