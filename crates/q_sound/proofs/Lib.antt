@@ -34,6 +34,7 @@ pub mod Joined
 pub mod Kept
 pub mod Lengths
 pub mod Members
+pub mod PopGives
 pub mod Pops
 pub mod PutBeneath
 pub mod PutHere
