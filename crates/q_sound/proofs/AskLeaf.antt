@@ -57,7 +57,7 @@ holding-answers mtu now own below p e h all =
     })
 
 -- the head and the rest of a queue
-weigh-head : (w : Descriptor → ℕ) (queue : List Stamped) → weigh w (packets_of queue) ≡ weigh w (option_to_list (slice_get (packets_of queue) 0)) + weigh w (packets_of (drop 1 queue))
+pub weigh-head : (w : Descriptor → ℕ) (queue : List Stamped) → weigh w (packets_of queue) ≡ weigh w (option_to_list (slice_get (packets_of queue) 0)) + weigh w (packets_of (drop 1 queue))
 weigh-head w [] = omega (arith, weigh-nil w)
 weigh-head w (s ∷ queue) = omega (arith, weigh-cons w s.packet (packets_of queue), weigh-one w s.packet)
 

@@ -50,6 +50,7 @@ pub mod Kept
 pub mod Lengths
 pub mod Members
 pub mod NoteSums
+pub mod PopGives
 pub mod Pops
 pub mod PutBeneath
 pub mod PutHere

@@ -75,8 +75,8 @@ booked-then t n a b c h =
     λ i. record { own = own i; memory = memory i; below = below i }
 
 -- work after which nothing happens
-abbrev pub still : Worked → Worked
-still w = with_memory (λ u. []) w
+abbrev pub still : {M : Type 0} → Node M → Worked
+still n = with_memory (λ u. []) n
 
 still-each : (x : Forest (List Note)) → AreThen x (each_memory (λ u. []) x) x
 still-each none = tt
@@ -97,13 +97,13 @@ before-own own below = by own.held own.discipline
     by None d = discipline d
     by (Some p) d = refl
 
-before-each : (x : Forest (List Note)) → side_by_side (as_they_are (each pop_own x)) ≡ each_memory (λ u. []) x
+before-each : {M : Type 0} (x : Forest M) → side_by_side (as_they_are (each pop_own x)) ≡ each_memory (λ u. []) x
 before-each none = refl
 before-each (more own m below others) =
     ap (λ (n : Worked). more n.own n.memory n.below (side_by_side (as_they_are (each pop_own others)))) (before-own own (each pop_own below))
     ∙ ap₂ (λ b o. more own [] b o) (before-each below) (before-each others)
 
-pub pop-before : (w : Worked) → (pop w).before ≡ still w
+pub pop-before : {M : Type 0} (w : Node M) → (pop w).before ≡ still w
 pop-before w = before-own w.own (each pop_own w.below) ∙ ap (λ b. record { own = w.own; memory = []; below = b }) (before-each w.below)
 
 -- A node that was asked has at hand what it shows; where that is a packet, popping it leaves what the take leaves.

@@ -3,6 +3,7 @@ pub mod FlowCounts
 pub mod Forms
 pub mod HereLemmas
 pub mod PlacesLemmas
+pub mod PopLemmas
 pub mod Puts
 pub mod RouteLemmas
 pub mod Rows

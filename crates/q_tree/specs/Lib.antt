@@ -5,5 +5,6 @@ pub mod Kept
 pub mod NodeCode
 pub mod NodeFalls
 pub mod Places
+pub mod PopSteps
 pub mod PutSteps
 pub mod Seen

@@ -1,6 +1,7 @@
 ghost use Rattle.std.specs.Prelude.{◌≡◌, ◌<◌, ◌≤◌, ◌+◌, ◌^◌};
 ghost use Rattle.q_model.specs.Conserved.{IsBalanced};
 ghost use Rattle.q_tree.specs.Arrivals.{CanCount, IsLostOf, plus, minus, with_arrival};
+ghost use Rattle.q_tree.specs.PopSteps.{IsAmong, with_sent};
 
 use crate::outcome::Outcome;
 use q_model::{Row, Totals};
@@ -21,6 +22,21 @@ pub(crate) fn book_arrival(row: &mut Row, packet: &Packet, outcome: &Outcome)
     row.refused = sum(row.refused, outcome.refused);
     row.dropped = sum(row.dropped, outcome.dropped);
     row.queued = difference(sum(row.queued, one), sum(outcome.refused, outcome.dropped));
+}
+
+/// Books a packet that was queued and is given to the node above.
+pub(crate) fn book_sent(row: &mut Row, packet: &Packet)
+    requires balanced { IsBalanced row.old }
+    requires among { IsAmong packet.now row.old.queued }
+    requires room { CanCount row.old.sent packet.now }
+    ensures { row.new ≡ with_sent packet.now row.old }
+{
+    let one = Totals {
+        packets: 1,
+        bytes: u64::from(packet.len),
+    };
+    row.sent = sum(row.sent, one);
+    row.queued = difference(row.queued, one);
 }
 
 // Packets and bytes of both together.

@@ -12,6 +12,7 @@ mod booking;
 mod matching;
 mod node;
 mod outcome;
+mod pop;
 mod prepare;
 mod put;
 mod way;

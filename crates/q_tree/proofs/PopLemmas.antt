@@ -1,0 +1,345 @@
+-- Which band of a prio gives, and what popping leaves of a node.
+use Rattle.std.proofs.Common.{◌≡◌, ℕ, zero, suc, ◌+◌, ◌≤◌, ◌<◌, ◌∙◌, List, [], ◌∷◌, map, drop, set, length, refl, sym, ap, ap₂, subst, arith, Option, Some, None, option_map, option_and_then, option_to_list}
+use Rattle.std.specs.Prelude.{Bool, true, false, not, cond, is_some, slice_get, slice_index_or}
+use Rattle.std.specs.List.{All}
+use Rattle.std.proofs.lemmas.List.{drop_more, drop_all, length-map}
+use Rattle.std.proofs.lemmas.List.Elements.{All-set}
+use Rattle.std.proofs.lemmas.Option.{slice_get-map, same_Some}
+use Rattle.q_packet.specs.Descriptor.{Descriptor}
+use Rattle.q_model.specs.declared.row.Row.{Row}
+use Rattle.q_model.specs.declared.totals.Totals.{Totals}
+use Rattle.q_model.specs.declared.filter.Filter.{Filter}
+use Rattle.q_model.specs.Beneath.{beneath, beneath_own, totals_in}
+use Rattle.q_model.specs.Conserved.{held_own, held_beneath, IsBalanced, AreMarksBounded}
+use Rattle.q_model.specs.Lawful.{CanHold}
+use Rattle.q_model.specs.Node as spec
+use Rattle.q_model.specs.Node.{Own, Node, Forest, more, none, side_by_side, each, each_memory, with_memory}
+use Rattle.q_model.specs.Pop.{Popping, as_they_are, pop_discipline, pop_own, pop}
+use Rattle.q_model.specs.Tally.{Tally, Note, Sent, noted, totals}
+use Rattle.q_model.specs.Work.{Worked, worked, booked, each_booked}
+use Rattle.q_model.proofs.ShrinkLemmas.{each-each_memory}
+use Rattle.q_sound.proofs.Answer.{one}
+use Rattle.q_sound.proofs.Counted.{bytes}
+use Rattle.q_sound.proofs.Forests.{each-side}
+use Rattle.q_sound.proofs.Members.{All-at}
+use Rattle.q_sound.proofs.PopGives.{pop-gives, pop-told}
+use Rattle.q_sound.proofs.Pops.{pop-before}
+use Rattle.q_sound.proofs.Told.{root-booked}
+use Rattle.q_sound.proofs.Weights.{weigh, weigh-count, weigh-nil, weigh-one}
+use Rattle.q_tree.specs.Kept.{Kept, kept}
+use Rattle.q_tree.specs.PopSteps.{first_ready, IsAmong, IsPoppedIn, shown_in, popped_in, popped_at, popped_children, with_sent}
+use Rattle.q_tree.specs.Seen.{seen, discipline_seen, children_seen, places_seen, IsKept, IsCountedWithin}
+use Rattle.q_tree.specs.declared.node.Discipline.{Discipline}
+use Rattle.q_tree.specs.declared.node.Node.TheInside.{Inside}
+use Rattle.q_tree.proofs.Forms.{noted-kept}
+use Rattle.q_tree.proofs.Rows.{counts_in_row, weigh-bytes}
+
+abbrev ready : Popping → Bool
+ready b = is_some b.shown
+
+front-of : (ns : List (Node Kept)) (i : ℕ) (x : Node Kept) → i < length ns → x ≡ slice_index_or ns i x → map pop (drop i ns) ≡ pop x ∷ map pop (drop (i + 1) ns)
+front-of ns i x inside is = ap (map pop) (drop_more ns i x inside) ∙ ap (λ (y : Node Kept). pop y ∷ map pop (drop (i + 1) ns)) (sym is)
+
+-- the bands before this place have nothing at hand
+abbrev pub NoneBefore : ℕ → List (Node Kept) → Type 0
+NoneBefore i ns = first_ready (map pop ns) ≡ i + first_ready (map pop (drop i ns))
+
+pub ready-here : (ns : List (Node Kept)) (i : ℕ) (x : Node Kept) → i < length ns → x ≡ slice_index_or ns i x → is_some (pop x).shown ≡ true → NoneBefore i ns → i ≡ first_ready (map pop ns)
+ready-here ns i x inside is some before =
+    let front : first_ready (map pop (drop i ns)) ≡ 0 =
+    ap first_ready (front-of ns i x inside is) ∙ ap (λ (b : Bool). cond (not b) (1 + first_ready (map pop (drop (i + 1) ns))) 0) some in
+    omega (arith, before, front)
+
+pub ready-next : (ns : List (Node Kept)) (i : ℕ) (x : Node Kept) → i < length ns → x ≡ slice_index_or ns i x → is_some (pop x).shown ≡ false → NoneBefore i ns → NoneBefore (i + 1) ns
+ready-next ns i x inside is nothing before =
+    let front : first_ready (map pop (drop i ns)) ≡ 1 + first_ready (map pop (drop (i + 1) ns)) =
+    ap first_ready (front-of ns i x inside is) ∙ ap (λ (b : Bool). cond (not b) (1 + first_ready (map pop (drop (i + 1) ns))) 0) nothing in
+    omega (arith, before, front)
+
+pub ready-none : (ns : List (Node Kept)) (i : ℕ) → length ns ≤ i → i ≤ length ns → NoneBefore i ns → first_ready (map pop ns) ≡ length (map pop ns)
+ready-none ns i past inside before =
+    let rest : first_ready (map pop (drop i ns)) ≡ 0 = ap (λ (xs : List (Node Kept)). first_ready (map pop xs)) (drop_all i ns past) in
+    omega (arith, before, rest, past, inside, length-map ns pop)
+
+-- children of which nothing is popped stay as they are
+still-booked : {M : Type 0} (t : Tally M) (x : Forest M) → each_booked t x (each_memory (λ u. []) x) ≡ x
+still-booked t none = refl
+still-booked t (more own m below others) = ap₂ (λ b o. more own m b o) (still-booked t below) (still-booked t others)
+
+pub side-still : (ns : List (Node Kept)) → each_booked kept (side_by_side ns) (side_by_side (as_they_are (map pop ns))) ≡ side_by_side ns
+side-still [] = refl
+side-still (n ∷ ns) =
+    ap (λ (w : Worked). each_booked kept (side_by_side (n ∷ ns)) (side_by_side (w ∷ as_they_are (map pop ns)))) (pop-before n)
+    ∙ ap₂ (λ b o. more n.own n.memory b o) (still-booked kept n.below) (side-still ns)
+
+-- and one of them gives
+pub side-popped : (ns : List (Node Kept)) (k : ℕ) (c : Node Kept) → slice_get ns k ≡ Some c
+    → each_booked kept (side_by_side ns) (side_by_side (popped_at k (map pop ns))) ≡ side_by_side (set ns k (booked kept c (pop c).after))
+side-popped [] k c e = cc
+side-popped (n ∷ ns) zero c e =
+    ap (λ (o : Forest Kept). more (pop n).after.own (noted kept n.memory (pop n).after.memory) (each_booked kept n.below (pop n).after.below) o) (side-still ns)
+    ∙ ap (λ (x : Node Kept). side_by_side (booked kept x (pop x).after ∷ ns)) (same_Some n c e)
+side-popped (n ∷ ns) (suc k) c e =
+    ap (λ (w : Worked). each_booked kept (side_by_side (n ∷ ns)) (side_by_side (w ∷ popped_at k (map pop ns)))) (pop-before n)
+    ∙ ap₂ (λ b o. more n.own n.memory b o) (still-booked kept n.below) (side-popped ns k c e)
+
+-- a prio whose first ready band gives
+pub prio-gave : (ns : List (Node Kept)) (k : ℕ) (c : Node Kept) → slice_get ns k ≡ Some c → k ≡ first_ready (map pop ns) → (pop c).shown ≡ option_and_then (λ (b : Popping). b.shown) (slice_get (map pop ns) (first_ready (map pop ns)))
+prio-gave ns k c at is =
+    sym (ap (option_and_then (λ (b : Popping). b.shown)) (slice_get-map pop ns k ∙ ap (option_map pop) at)) ∙ ap (λ n. option_and_then (λ (b : Popping). b.shown) (slice_get (map pop ns) n)) is
+
+pub prio-children : (ns : List (Node Kept)) (k : ℕ) (c c2 : Node Kept) → slice_get ns k ≡ Some c → k ≡ first_ready (map pop ns) → c2 ≡ booked kept c (pop c).after
+    → side_by_side (set ns k c2) ≡ each_booked kept (side_by_side ns) (side_by_side (popped_at (first_ready (map pop ns)) (map pop ns)))
+prio-children ns k c c2 at is new =
+    ap (λ (x : Node Kept). side_by_side (set ns k x)) new ∙ sym (side-popped ns k c at) ∙ ap (λ n. each_booked kept (side_by_side ns) (side_by_side (popped_at n (map pop ns)))) is
+
+-- and one of which none is ready
+past-all : (bs : List Popping) → popped_at (length bs) bs ≡ as_they_are bs
+past-all [] = refl
+past-all (b ∷ bs) = ap (λ (ws : List Worked). b.before ∷ ws) (past-all bs)
+
+none-there : {A : Type 0} (xs : List A) → slice_get xs (length xs) ≡ None
+none-there [] = refl
+none-there (x ∷ xs) = none-there xs
+
+pub prio-kept : (ns : List (Node Kept)) → first_ready (map pop ns) ≡ length (map pop ns) → side_by_side ns ≡ each_booked kept (side_by_side ns) (side_by_side (popped_at (first_ready (map pop ns)) (map pop ns)))
+prio-kept ns is = sym (side-still ns) ∙ ap (λ (ws : List Worked). each_booked kept (side_by_side ns) (side_by_side ws)) (sym (past-all (map pop ns))) ∙ ap (λ n. each_booked kept (side_by_side ns) (side_by_side (popped_at n (map pop ns)))) (sym is)
+
+pub nothing-shown : (ns : List (Node Kept)) → first_ready (map pop ns) ≡ length (map pop ns) → None ≡ option_and_then (λ (b : Popping). b.shown) (slice_get (map pop ns) (first_ready (map pop ns)))
+nothing-shown ns is = sym (ap (option_and_then (λ (b : Popping). b.shown)) (none-there (map pop ns))) ∙ ap (λ n. option_and_then (λ (b : Popping). b.shown) (slice_get (map pop ns) n)) (sym is)
+
+-- a node that pops
+abbrev bands_of : Inside → List Popping
+bands_of a = map pop (children_seen a.discipline)
+
+pop-is : (a : Inside) → pop (seen a) ≡ pop_own (seen a).own (bands_of a)
+pop-is a = ap (pop_own (seen a).own) (each-side pop_own (children_seen a.discipline))
+
+pub record IsPoppedAs (n : Node Kept) (inside : Inside) (packet : Option Descriptor) : Type 0 where
+  pub shown : packet ≡ (pop n).shown
+  pub stays : IsKept inside
+  pub after : seen inside ≡ booked kept n (pop n).after
+
+-- what waits there before it and after it
+same-before : (n : Node Kept) → beneath (pop n).before ≡ beneath n
+same-before n = ap (λ (w : Worked). beneath w) (pop-before n) ∙ ap (beneath_own n.own) (each-each_memory beneath_own (λ u. []) n.below)
+
+held-before : (n : Node Kept) → held_beneath (pop n).before ≡ held_beneath n
+held-before n = ap (λ (w : Worked). held_beneath w) (pop-before n) ∙ ap (held_own n.own) (each-each_memory held_own (λ u. []) n.below)
+
+record IsLessBy (p : Descriptor) (n m : Node Kept) : Type 0 where
+  packets : (totals_in (beneath n)).packets ≡ 1 + (totals_in (beneath m)).packets
+  bytes : (totals_in (beneath n)).bytes ≡ p.len + (totals_in (beneath m)).bytes
+  held_packets : (totals_in (held_beneath n)).packets ≤ 1 + (totals_in (held_beneath m)).packets
+  held_bytes : (totals_in (held_beneath n)).bytes ≤ p.len + (totals_in (held_beneath m)).bytes
+
+one-less : (n : Node Kept) (p : Descriptor) → (pop n).shown ≡ Some p → IsLessBy p n (booked kept n (pop n).after)
+one-less n p e =
+    let m : Node Kept = booked kept n (pop n).after in
+    let given = pop-gives n in
+    let same : beneath m ≡ beneath (pop n).after = root-booked kept beneath_own n (pop n).after (pop-told n) in
+    let held : held_beneath m ≡ held_beneath (pop n).after = root-booked kept held_own n (pop n).after (pop-told n) in
+    record {
+      packets = omega (arith, given.gives one, ap (λ (o : Option Descriptor). weigh one (option_to_list o)) e, weigh-one one p, ap (weigh one) (same-before n), ap (weigh one) same, weigh-count (beneath n), weigh-count (beneath m));
+      bytes = omega (arith, given.gives bytes, ap (λ (o : Option Descriptor). weigh bytes (option_to_list o)) e, weigh-one bytes p, ap (weigh bytes) (same-before n), ap (weigh bytes) same, weigh-bytes (beneath n), weigh-bytes (beneath m));
+      held_packets = omega (arith, given.holds one, ap (λ (o : Option Descriptor). weigh one (option_to_list o)) e, weigh-one one p, ap (weigh one) (held-before n), ap (weigh one) held, weigh-count (held_beneath n), weigh-count (held_beneath m));
+      held_bytes = omega (arith, given.holds bytes, ap (λ (o : Option Descriptor). weigh bytes (option_to_list o)) e, weigh-one bytes p, ap (weigh bytes) (held-before n), ap (weigh bytes) held, weigh-bytes (held_beneath n), weigh-bytes (held_beneath m));
+    }
+
+module _ (a : Inside) (k : IsKept a) (p : Descriptor) (e : (pop (seen a)).shown ≡ Some p) where
+  pub among : IsAmong p a.row.queued
+  among = let less = one-less (seen a) p e in record { packets = omega (arith, less.packets, ap (λ (t : Totals). t.packets) k.queued); bytes = omega (arith, less.bytes, ap (λ (t : Totals). t.bytes) k.queued) }
+
+  pub popped : (held : Option Descriptor) (d : Discipline) (r : Row) → r ≡ with_sent p a.row → seen (record a { held = held; row = r; discipline = d }) ≡ booked kept (seen a) (pop (seen a)).after
+      → All (λ (child : Node Kept). IsCountedWithin child.memory.counts.arrived a.row.arrived) (children_seen d) → IsPoppedAs (seen a) (record a { held = held; row = r; discipline = d }) (Some p)
+  popped held d r row value within =
+      let less = one-less (seen a) p e in
+      let b : Inside = record a { held = held; row = r; discipline = d } in
+      let queued_packets : r.queued.packets ≡ (totals_in (beneath (seen b))).packets =
+      omega (arith, less.packets, among.packets, ap (λ (t : Totals). t.packets) k.queued, ap (λ (x : Row). x.queued.packets) row, ap (λ (m : Node Kept). (totals_in (beneath m)).packets) value) in
+      let queued_bytes : r.queued.bytes ≡ (totals_in (beneath (seen b))).bytes =
+      omega (arith, less.bytes, among.bytes, ap (λ (t : Totals). t.bytes) k.queued, ap (λ (x : Row). x.queued.bytes) row, ap (λ (m : Node Kept). (totals_in (beneath m)).bytes) value) in
+      record {
+        shown = sym e;
+        stays = record {
+          queued = λ i. record { packets = queued_packets i; bytes = queued_bytes i };
+          balanced = subst IsBalanced (sym row) (record { packets = omega (arith, k.balanced.packets, among.packets); bytes = omega (arith, k.balanced.bytes, among.bytes) });
+          marks = subst (λ (x : Row). AreMarksBounded (counts_in_row x) (held_beneath (seen b))) (sym row) (record {
+            packets = omega (arith, k.marks.packets, less.held_packets, ap (λ (m : Node Kept). (totals_in (held_beneath m)).packets) value);
+            bytes = omega (arith, k.marks.bytes, less.held_bytes, ap (λ (m : Node Kept). (totals_in (held_beneath m)).bytes) value);
+          });
+          within = subst (λ (x : Row). All (λ (child : Node Kept). IsCountedWithin child.memory.counts.arrived x.arrived) (children_seen d)) (sym row) within;
+        };
+        after = value;
+      }
+
+-- a node that held its packet
+module _ (a : Inside) (p : Descriptor) (e : a.held ≡ Some p) where
+  abbrev own_with : Option Descriptor → Own
+  own_with o = record { handle = a.handle; discipline = discipline_seen a.discipline; held = o; filters = a.filters.items }
+
+  pub held-shown : (pop (seen a)).shown ≡ Some p
+  held-shown = ap (λ (b : Popping). b.shown) (pop-is a) ∙ ap (λ (o : Option Descriptor). (pop_own (own_with o) (bands_of a)).shown) e
+
+  pub held-after : (r : Row) → r ≡ with_sent p a.row → seen (record a { held = None; row = r }) ≡ booked kept (seen a) (pop (seen a)).after
+  held-after r row =
+      let after : (pop (seen a)).after ≡ worked (own_with None) (Sent p ∷ []) (as_they_are (bands_of a)) =
+      ap (λ (b : Popping). b.after) (pop-is a) ∙ ap (λ (o : Option Descriptor). (pop_own (own_with o) (bands_of a)).after) e in
+      let below : side_by_side (children_seen a.discipline) ≡ each_booked kept (side_by_side (children_seen a.discipline)) (side_by_side (as_they_are (bands_of a))) = sym (side-still (children_seen a.discipline)) in
+      let counts : counts_in_row r ≡ counts_in_row (with_sent p a.row) = ap counts_in_row row in
+      (λ i. record { own = own_with None; memory = record { counts = counts i; places = places_seen a.discipline }; below = below i })
+      ∙ ap (λ (w : Worked). booked kept (seen a) w) (sym after)
+
+-- one that had it in its own queue, or beneath
+shown-is : (handle : Option ℕ) (filters : List Filter) (d : spec.Discipline) (bs : List Popping) → (pop_discipline (record { handle = handle; discipline = d; held = None; filters = filters }) bs d).shown ≡ shown_in d bs
+shown-is handle filters (spec.Fifo limit queue) bs = refl
+shown-is handle filters (spec.Prio priomap) bs = refl
+shown-is handle filters (spec.Tbf b limit) bs = refl
+shown-is handle filters (spec.Drr s) bs = refl
+shown-is handle filters (spec.FqCodel s) bs = refl
+
+after-is : (handle : Option ℕ) (filters : List Filter) (d : spec.Discipline) (bs : List Popping) → (pop_discipline (record { handle = handle; discipline = d; held = None; filters = filters }) bs d).after
+    ≡ worked (record { handle = handle; discipline = popped_in d; held = None; filters = filters }) (map Sent (option_to_list (shown_in d bs))) (popped_children d bs)
+after-is handle filters (spec.Fifo limit queue) bs = refl
+after-is handle filters (spec.Prio priomap) bs = refl
+after-is handle filters (spec.Tbf b limit) bs = refl
+after-is handle filters (spec.Drr s) bs = refl
+after-is handle filters (spec.FqCodel s) bs = refl
+
+module _ (a : Inside) (none : a.held ≡ None) (d : Discipline) (packet : Option Descriptor) (shown : packet ≡ shown_in (discipline_seen a.discipline) (map pop (children_seen a.discipline))) (q : IsPoppedIn a.discipline d) where
+  abbrev here : Option Descriptor → Own
+  here o = record { handle = a.handle; discipline = discipline_seen a.discipline; held = o; filters = a.filters.items }
+
+  pub own-shown : (pop (seen a)).shown ≡ packet
+  own-shown = ap (λ (b : Popping). b.shown) (pop-is a) ∙ ap (λ (o : Option Descriptor). (pop_own (here o) (bands_of a)).shown) none ∙ shown-is a.handle a.filters.items (discipline_seen a.discipline) (bands_of a) ∙ sym shown
+
+  pub own-after : (r : Row) → counts_in_row r ≡ noted totals (counts_in_row a.row) (map Sent (option_to_list packet)) → seen (record a { row = r; discipline = d }) ≡ booked kept (seen a) (pop (seen a)).after
+  own-after r row =
+      let notes : List Note = map Sent (option_to_list packet) in
+      let after : (pop (seen a)).after ≡ worked (record { handle = a.handle; discipline = popped_in (discipline_seen a.discipline); held = None; filters = a.filters.items }) notes (popped_children (discipline_seen a.discipline) (bands_of a)) =
+      ap (λ (b : Popping). b.after) (pop-is a) ∙ ap (λ (o : Option Descriptor). (pop_own (here o) (bands_of a)).after) none ∙ after-is a.handle a.filters.items (discipline_seen a.discipline) (bands_of a)
+      ∙ ap (λ (o : Option Descriptor). worked (record { handle = a.handle; discipline = popped_in (discipline_seen a.discipline); held = None; filters = a.filters.items }) (map Sent (option_to_list o)) (popped_children (discipline_seen a.discipline) (bands_of a))) (sym shown) in
+      let memory : record { counts = counts_in_row r; places = places_seen d } ≡ noted kept (seen a).memory notes = (λ i. record { counts = row i; places = q.places i }) ∙ sym (noted-kept (seen a).memory notes) in
+      (λ i. record { own = record { handle = a.handle; discipline = q.discipline i; held = none i; filters = a.filters.items }; memory = memory i; below = q.children i })
+      ∙ ap (λ (w : Worked). booked kept (seen a) w) (sym after)
+
+  -- where there is none, all stays
+  pub still-kept : IsKept a → packet ≡ None → IsPoppedAs (seen a) (record a { discipline = d }) None
+  still-kept k e =
+      let n : Node Kept = seen a in
+      let given = pop-gives n in
+      let nothing : (pop n).shown ≡ None = own-shown ∙ e in
+      let value : seen (record a { discipline = d }) ≡ booked kept n (pop n).after = own-after a.row (ap (λ (o : Option Descriptor). noted totals (counts_in_row a.row) (map Sent (option_to_list o))) (sym e)) in
+      let m : Node Kept = booked kept n (pop n).after in
+      let same : beneath m ≡ beneath (pop n).after = root-booked kept beneath_own n (pop n).after (pop-told n) in
+      let held : held_beneath m ≡ held_beneath (pop n).after = root-booked kept held_own n (pop n).after (pop-told n) in
+      let packets : a.row.queued.packets ≡ (totals_in (beneath (seen (record a { discipline = d })))).packets = omega (
+        arith,
+        given.gives one,
+        ap (λ (o : Option Descriptor). weigh one (option_to_list o)) nothing,
+        weigh-nil one,
+        ap (weigh one) (same-before n),
+        ap (weigh one) same,
+        weigh-count (beneath n),
+        weigh-count (beneath m),
+        ap (λ (t : Totals). t.packets) k.queued,
+        ap (λ (x : Node Kept). (totals_in (beneath x)).packets) value,
+      ) in
+      let bytes_same : a.row.queued.bytes ≡ (totals_in (beneath (seen (record a { discipline = d })))).bytes = omega (
+        arith,
+        given.gives bytes,
+        ap (λ (o : Option Descriptor). weigh bytes (option_to_list o)) nothing,
+        weigh-nil bytes,
+        ap (weigh bytes) (same-before n),
+        ap (weigh bytes) same,
+        weigh-bytes (beneath n),
+        weigh-bytes (beneath m),
+        ap (λ (t : Totals). t.bytes) k.queued,
+        ap (λ (x : Node Kept). (totals_in (beneath x)).bytes) value,
+      ) in
+      record {
+        shown = sym nothing;
+        stays = record {
+          queued = λ i. record { packets = packets i; bytes = bytes_same i };
+          balanced = k.balanced;
+          marks = record {
+            packets = omega (
+              arith,
+              k.marks.packets,
+              given.holds one,
+              ap (λ (o : Option Descriptor). weigh one (option_to_list o)) nothing,
+              weigh-nil one,
+              ap (weigh one) (held-before n),
+              ap (weigh one) held,
+              weigh-count (held_beneath n),
+              weigh-count (held_beneath m),
+              ap (λ (x : Node Kept). (totals_in (held_beneath x)).packets) value,
+            );
+            bytes = omega (
+              arith,
+              k.marks.bytes,
+              given.holds bytes,
+              ap (λ (o : Option Descriptor). weigh bytes (option_to_list o)) nothing,
+              weigh-nil bytes,
+              ap (weigh bytes) (held-before n),
+              ap (weigh bytes) held,
+              weigh-bytes (held_beneath n),
+              weigh-bytes (held_beneath m),
+              ap (λ (x : Node Kept). (totals_in (held_beneath x)).bytes) value,
+            );
+          };
+          within = q.within a.row.arrived k.within;
+        };
+        after = value;
+      }
+
+  pub gave : IsKept a → (p : Descriptor) → packet ≡ Some p → (r : Row) → r ≡ with_sent p a.row → IsPoppedAs (seen a) (record a { row = r; discipline = d }) (Some p)
+  gave k p e r row = popped a k p (own-shown ∙ e) a.held d r row
+      (own-after r (ap counts_in_row row ∙ ap (λ (o : Option Descriptor). noted totals (counts_in_row a.row) (map Sent (option_to_list o))) (sym e))) (q.within a.row.arrived k.within)
+
+-- a discipline of which nothing is popped
+pub none-popped : (d : Discipline) → CanHold (discipline_seen d) → IsPoppedIn d d
+none-popped d can = record {
+  discipline = by (discipline_seen d) can;
+  children = sym (side-still (children_seen d)) ∙ ap (λ (ws : List Worked). each_booked kept (side_by_side (children_seen d)) (side_by_side ws)) (kids (discipline_seen d) can);
+  within = λ t h. h;
+  places = refl;
+}
+  where
+    by : (x : spec.Discipline) → CanHold x → x ≡ popped_in x
+    by (spec.Fifo limit queue) can = absurd can
+    by (spec.Prio priomap) can = absurd can
+    by (spec.Tbf b limit) can = refl
+    by (spec.Drr s) can = refl
+    by (spec.FqCodel s) can = refl
+
+    kids : (x : spec.Discipline) → CanHold x → as_they_are (map pop (children_seen d)) ≡ popped_children x (map pop (children_seen d))
+    kids (spec.Fifo limit queue) can = absurd can
+    kids (spec.Prio priomap) can = absurd can
+    kids (spec.Tbf b limit) can = refl
+    kids (spec.Drr s) can = refl
+    kids (spec.FqCodel s) can = refl
+
+-- a prio, before and after
+pub prio-popped : (before after : Discipline) (ns ns2 : List (Node Kept)) (priomap : List ℕ) → discipline_seen before ≡ spec.Prio priomap → discipline_seen after ≡ spec.Prio priomap → children_seen before ≡ ns → children_seen after ≡ ns2 → places_seen after ≡ places_seen before
+    → side_by_side ns2 ≡ each_booked kept (side_by_side ns) (side_by_side (popped_at (first_ready (map pop ns)) (map pop ns)))
+    → ((t : Totals) → All (λ (child : Node Kept). IsCountedWithin child.memory.counts.arrived t) ns → All (λ (child : Node Kept). IsCountedWithin child.memory.counts.arrived t) ns2)
+    → IsPoppedIn before after
+prio-popped before after ns ns2 priomap is is2 kids kids2 places gave within = record {
+  discipline = is2 ∙ sym (ap popped_in is);
+  children = ap side_by_side kids2 ∙ gave ∙ sym (
+      ap (λ xs. each_booked kept (side_by_side xs) (side_by_side (popped_children (discipline_seen before) (map pop xs)))) kids
+      ∙ ap (λ x. each_booked kept (side_by_side ns) (side_by_side (popped_children x (map pop ns)))) is
+      );
+  within = λ t h. subst (All (λ (child : Node Kept). IsCountedWithin child.memory.counts.arrived t)) (sym kids2) (within t (subst (All (λ (child : Node Kept). IsCountedWithin child.memory.counts.arrived t)) kids h));
+  places = places;
+}
+
+pub set-within : (ns : List (Node Kept)) (k : ℕ) (c c2 : Node Kept) → slice_get ns k ≡ Some c → c2.memory.counts.arrived ≡ c.memory.counts.arrived → (t : Totals)
+    → All (λ (child : Node Kept). IsCountedWithin child.memory.counts.arrived t) ns → All (λ (child : Node Kept). IsCountedWithin child.memory.counts.arrived t) (set ns k c2)
+set-within ns k c c2 at same t h =
+    All-set (λ (child : Node Kept). IsCountedWithin child.memory.counts.arrived t) ns k c2 (subst (λ (x : Totals). IsCountedWithin x t) (sym same) (All-at (λ (child : Node Kept). IsCountedWithin child.memory.counts.arrived t) ns k c h at)) h
+
+-- the same, for a node as the code has it
+pub at-node : (a b : Inside) (n : Node Kept) (packet : Option Descriptor) → seen a ≡ n → IsPoppedAs (seen a) b packet → IsPoppedAs n b packet
+at-node a b n packet view h = subst (λ (m : Node Kept). IsPoppedAs m b packet) view h

@@ -1,0 +1,66 @@
+ghost use Rattle.std.specs.Prelude.{◌≡◌, map};
+ghost use Rattle.q_model.specs.Pop.{pop};
+ghost use Rattle.q_model.specs.Work.{booked};
+ghost use Rattle.q_tree.specs.Kept.{kept};
+ghost use Rattle.q_tree.specs.PopSteps.{IsFirstReady, IsPoppedIn, shown_in};
+ghost use Rattle.q_tree.specs.Seen.{discipline_seen, children_seen};
+
+use crate::booking::book_sent;
+use crate::node::{Discipline, Node};
+use q_packet::Packet;
+
+impl Node {
+    /// Takes the packet that the node has at hand, and counts it as sent here, and in the bands that it comes from. Nobody is
+    /// asked: after a peek it is the packet that was shown. `None`, and nothing changes, where there is none.
+    #[cycle(pop)]
+    pub(crate) fn pop(&mut self) -> Option<Packet>
+        ensures packet { result ≡ (pop self.old).shown }
+        ensures after { self.new ≡ booked kept self.old (pop self.old).after }
+        ensures arrived { self.new.memory.counts.arrived ≡ self.old.memory.counts.arrived }
+    {
+        if let Some(packet) = self.held {
+            self.held = None;
+            book_sent(&mut self.row, &packet);
+            return Some(packet);
+        }
+        let Some(packet) = self.discipline.pop() else {
+            return None;
+        };
+        book_sent(&mut self.row, &packet);
+        Some(packet)
+    }
+}
+
+impl Discipline {
+    // Takes a fifo's head, or the packet of a prio's first band that has one.
+    #[cycle(pop)]
+    fn pop(&mut self) -> Option<Packet>
+        ensures packet { result ≡ shown_in (discipline_seen self.old) (map pop (children_seen self.old)) }
+        ensures after { IsPoppedIn self.old self.new }
+    {
+        match self {
+            Discipline::Fifo(fifo) => return Some(fifo.take()?.packet),
+            Discipline::Prio { bands, .. } => {
+                let Some(place) = ready_band(bands) else {
+                    return None;
+                };
+                return bands[place].pop();
+            }
+            Discipline::Tbf { .. } => return None,
+            Discipline::Drr { .. } => return None,
+            Discipline::FqCodel(_) => return None,
+        }
+    }
+}
+
+// The first band that has a packet at hand.
+fn ready_band(bands: &[Node]) -> Option<usize>
+    ensures { IsFirstReady (map pop bands.now) result }
+{
+    for place in 0..bands.len() {
+        if bands[place].at_hand().is_some() {
+            return Some(place);
+        }
+    }
+    None
+}
