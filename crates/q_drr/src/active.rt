@@ -150,6 +150,13 @@ impl Active {
         self.ring.front()
     }
 
+    /// The number of active classes.
+    pub fn active_count(&self) -> usize
+        ensures { result ≡ length self.now.active }
+    {
+        self.ring.len()
+    }
+
     /// Gives the class in front its turn, where the packet at the head of its queue has `head_len` bytes, at most the
     /// `max_len` of `new`.
     ///

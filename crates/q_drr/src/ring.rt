@@ -65,6 +65,12 @@ impl Ring {
         Ok(())
     }
 
+    pub(crate) fn len(&self) -> usize
+        ensures { result ≡ length self.now.order }
+    {
+        self.count as usize
+    }
+
     pub(crate) fn contains(&self, name: u16) -> bool
         requires { name < self.now.room }
         ensures { result ≡ is_among name self.now.order }
