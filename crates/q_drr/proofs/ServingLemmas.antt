@@ -4,7 +4,7 @@ use Rattle.std.proofs.Common.{◌≡◌, ◌≢◌, ℕ, zero, suc, ◌+◌, ◌
 use Rattle.std.specs.Prelude.{slice_get}
 use Rattle.std.specs.List.{AllPairs}
 use Rattle.std.proofs.lemmas.Bool.{cases_lt}
-use Rattle.std.proofs.lemmas.List.{append-nil, length-map, length_push, map_push, drop_more, take_more}
+use Rattle.std.proofs.lemmas.List.{append-nil, length-map, length_push, map_push, drop_more, take_more, nil_from_length}
 use Rattle.std.proofs.lemmas.Option.{same_Some, slice_get-map, slice_get_within, get_or_from_slice_get}
 use Rattle.q_packet.specs.Choice.{Choice, sooner, choose}
 use Rattle.q_packet.proofs.ChoiceLemmas.{last_one}
@@ -144,6 +144,14 @@ serving-ends heads first s turns n v f h e covered =
       early = in_first_round c.rounds c.place (length first.active) turns count;
       late = in_later_round c.rounds c.place (length first.active) turns count within;
     }
+
+-- where no class is active there was none to begin with, and no turn was given
+pub serving-nobody : (heads : ℕ → Option ℕ) (first s : Schedule) (turns : ℕ) → IsServing heads first s turns → s.active ≡ [] → (first.active ≡ []) × (choice_of heads first ≡ None) × (turns ≡ 0)
+serving-nobody heads first s turns v empty =
+    let none : first.active ≡ [] = nil_from_length first.active (sym v.long ∙ ap length empty) in
+    let choice : choice_of heads first ≡ None = ap (λ es. choose (needs (λ m. quantum_of m first.classes) heads es)) none in
+    let nothing : turns_until (choice_of heads first) (length first.active) ≡ 0 = ap (λ o. turns_until o (length first.active)) choice in
+    (none, choice, omega (arith, nothing, v.until))
 
 -- ---- nobody twice
 
