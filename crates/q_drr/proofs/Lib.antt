@@ -7,6 +7,7 @@ pub mod NameLemmas
 pub mod RingLemmas
 pub mod ScheduleLemmas
 pub mod ServedLemmas
+pub mod ServingLemmas
 pub mod StateLemmas
 pub mod StretchLemmas
 pub mod TakeLemmas

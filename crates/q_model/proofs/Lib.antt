@@ -1,2 +1,3 @@
+pub mod ClassesAsked
 pub mod ShrinkLemmas
 pub mod ShrinkSteps
