@@ -80,7 +80,7 @@ befores-forest now (more own m below others) =
     ap (λ (n : Worked). more n.own n.memory n.below (side_by_side (befores (each (ask_own now) others)))) (before-is now own (each (ask_own now) below))
     ∙ ap₂ (λ b o. more own [] b o) (befores-forest now below) (befores-forest now others)
 
-before-root : (now : ℕ) (s : Shape) → (ask now s).before ≡ quiet s
+pub before-root : (now : ℕ) (s : Shape) → (ask now s).before ≡ quiet s
 before-root now s = before-is now s.own (each (ask_own now) s.below) ∙ ap (λ b. record { own = s.own; memory = []; below = b }) (befores-forest now s.below)
 
 beneath-befores : (now : ℕ) (x : Forest (Unit {0})) → map beneath (befores (each (ask_own now) x)) ≡ each beneath_own x

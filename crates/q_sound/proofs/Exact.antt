@@ -59,7 +59,7 @@ active-split n (suc k) (e ∷ es) = or_grouped (n == e.class) (is_active n (take
     or_grouped true b c = refl
     or_grouped false b c = refl
 
-active-brought_up : (n : ℕ) (quantum : ℕ → ℕ) (o : Option Choice) (es : List Entry) → is_active n (brought_up quantum o es) ≡ is_active n es
+pub active-brought_up : (n : ℕ) (quantum : ℕ → ℕ) (o : Option Choice) (es : List Entry) → is_active n (brought_up quantum o es) ≡ is_active n es
 active-brought_up n quantum None es = refl
 active-brought_up n quantum (Some c) es =
     active-append n (granted quantum c.rounds (drop c.place es)) (granted quantum (suc c.rounds) (take c.place es))

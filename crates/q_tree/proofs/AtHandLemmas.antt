@@ -1,6 +1,6 @@
 -- What a prio has at hand, band by band.
 use Rattle.std.proofs.Common.{◌≡◌, ℕ, zero, suc, ◌+◌, ◌≤◌, ◌<◌, ◌∙◌, List, [], ◌∷◌, map, drop, length, refl, sym, ap, arith, Option, Some, None, option_and_then}
-use Rattle.std.specs.Prelude.{Bool, false, not, cond, is_some, slice_get, slice_index_or}
+use Rattle.std.specs.Prelude.{Bool, true, false, not, cond, is_some, slice_get, slice_index_or}
 use Rattle.std.specs.List.{position_or_len}
 use Rattle.std.proofs.lemmas.List.{drop_more, drop_all}
 use Rattle.std.proofs.lemmas.Bool.{false≢true}
@@ -53,6 +53,10 @@ prio-shown a n ns priomap view none is kids =
 pub none-held : (o : Option Descriptor) → false ≡ is_some o → o ≡ None
 none-held None e = refl
 none-held (Some p) e = absurd (false≢true e)
+
+pub some-held : (o : Option Descriptor) → true ≡ is_some o → (p : Descriptor) × (o ≡ Some p)
+some-held None e = absurd (false≢true (sym e))
+some-held (Some p) e = (p, refl)
 
 pub there-at : (ns : List (Node Kept)) (i : ℕ) (x : Node Kept) → i < length ns → x ≡ slice_index_or ns i x → slice_get ns i ≡ Some x
 there-at [] i x inside is = absurd (omega (arith, inside))

@@ -98,7 +98,7 @@ past-all : (bs : List Popping) → popped_at (length bs) bs ≡ as_they_are bs
 past-all [] = refl
 past-all (b ∷ bs) = ap (λ (ws : List Worked). b.before ∷ ws) (past-all bs)
 
-none-there : {A : Type 0} (xs : List A) → slice_get xs (length xs) ≡ None
+pub none-there : {A : Type 0} (xs : List A) → slice_get xs (length xs) ≡ None
 none-there [] = refl
 none-there (x ∷ xs) = none-there xs
 

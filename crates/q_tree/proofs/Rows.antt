@@ -25,10 +25,10 @@ pub record AreLosses (notes : List Note) : Type 0 where
   pub nothing_sent : (w : Descriptor → ℕ) → sent w notes ≡ 0
   pub nothing_marked : (w : Descriptor → ℕ) → marked w notes ≡ 0
 
-same-totals : (t u : Totals) → t.packets ≡ u.packets → t.bytes ≡ u.bytes → t ≡ u
+pub same-totals : (t u : Totals) → t.packets ≡ u.packets → t.bytes ≡ u.bytes → t ≡ u
 same-totals t u p b = λ i. record { packets = p i; bytes = b i }
 
-same-counts : (c d : Counts) → c.arrived ≡ d.arrived → c.sent ≡ d.sent → c.refused ≡ d.refused → c.dropped ≡ d.dropped → c.marked ≡ d.marked → c ≡ d
+pub same-counts : (c d : Counts) → c.arrived ≡ d.arrived → c.sent ≡ d.sent → c.refused ≡ d.refused → c.dropped ≡ d.dropped → c.marked ≡ d.marked → c ≡ d
 same-counts c d a s r l m = λ i. record { arrived = a i; sent = s i; refused = r i; dropped = l i; marked = m i }
 
 pub counted-arrival : (p : Descriptor) (cause : Option Cause) (rises : List Note) (o : Outcome) (r : Row) → AreLosses rises → IsOutcome cause rises o

@@ -1,8 +1,10 @@
-ghost use Rattle.std.specs.Prelude.{◌≡◌, map};
+ghost use Rattle.std.specs.Prelude.{◌≡◌, map, slice_get};
+ghost use Rattle.q_model.specs.Beneath.{packets_of};
 ghost use Rattle.q_model.specs.Pop.{pop};
 ghost use Rattle.q_tree.specs.AtHand.{first_shown};
 
 use crate::node::{Discipline, Node};
+use q_codel::Fifo;
 use q_packet::Packet;
 
 impl Node {
@@ -16,13 +18,20 @@ impl Node {
             return self.held;
         }
         match &self.discipline {
-            Discipline::Fifo(fifo) => return Some(fifo.head()?.packet),
+            Discipline::Fifo(fifo) => return first_packet(fifo),
             Discipline::Prio { bands, .. } => return first_at_hand(bands),
             Discipline::Tbf { .. } | Discipline::Drr { .. } | Discipline::FqCodel(_) => {
                 return None;
             }
         }
     }
+}
+
+/// The packet at the head of a fifo.
+pub(crate) fn first_packet(fifo: &Fifo) -> Option<Packet>
+    ensures { result ≡ slice_get (packets_of fifo.now.packets) 0 }
+{
+    Some(fifo.head()?.packet)
 }
 
 // That of the first band which has one.

@@ -1,11 +1,30 @@
 ghost use Rattle.std.specs.Prelude.{◌≡◌, ◌<◌, ◌≤◌, ◌+◌, ◌^◌};
 ghost use Rattle.q_model.specs.Conserved.{IsBalanced};
+ghost use Rattle.q_model.specs.Tally.{with_packet, no_totals};
 ghost use Rattle.q_tree.specs.Arrivals.{CanCount, IsLostOf, plus, minus, with_arrival};
+ghost use Rattle.q_tree.specs.AskSteps.{CanShow, with_shown};
 ghost use Rattle.q_tree.specs.PopSteps.{IsAmong, with_sent};
 
 use crate::outcome::Outcome;
+use crate::shown::Shown;
 use q_model::{Row, Totals};
 use q_packet::Packet;
+
+/// No packet.
+pub(crate) const NOTHING: Totals = Totals {
+    packets: 0,
+    bytes: 0,
+};
+
+/// One packet.
+pub(crate) fn one_packet(packet: &Packet) -> Totals
+    ensures { result ≡ with_packet no_totals packet.now }
+{
+    Totals {
+        packets: 1,
+        bytes: u64::from(packet.len),
+    }
+}
 
 /// Books a packet that has arrived, with all that was lost for it at the node or beneath.
 pub(crate) fn book_arrival(row: &mut Row, packet: &Packet, outcome: &Outcome)
@@ -14,10 +33,7 @@ pub(crate) fn book_arrival(row: &mut Row, packet: &Packet, outcome: &Outcome)
     requires lost { IsLostOf packet.now outcome.now row.old.queued }
     ensures { row.new ≡ with_arrival packet.now outcome.now row.old }
 {
-    let one = Totals {
-        packets: 1,
-        bytes: u64::from(packet.len),
-    };
+    let one = one_packet(packet);
     row.arrived = sum(row.arrived, one);
     row.refused = sum(row.refused, outcome.refused);
     row.dropped = sum(row.dropped, outcome.dropped);
@@ -31,16 +47,24 @@ pub(crate) fn book_sent(row: &mut Row, packet: &Packet)
     requires room { CanCount row.old.sent packet.now }
     ensures { row.new ≡ with_sent packet.now row.old }
 {
-    let one = Totals {
-        packets: 1,
-        bytes: u64::from(packet.len),
-    };
+    let one = one_packet(packet);
     row.sent = sum(row.sent, one);
     row.queued = difference(row.queued, one);
 }
 
-// Packets and bytes of both together.
-fn sum(a: Totals, b: Totals) -> Totals
+/// Books what asking the node came to: what CoDel dropped was queued.
+pub(crate) fn book_shown(row: &mut Row, shown: &Shown)
+    requires balanced { IsBalanced row.old }
+    requires room { CanShow shown.now row.old }
+    ensures { row.new ≡ with_shown shown.now row.old }
+{
+    row.dropped = sum(row.dropped, shown.dropped);
+    row.marked = sum(row.marked, shown.marked);
+    row.queued = difference(row.queued, shown.dropped);
+}
+
+/// Packets and bytes of both together.
+pub(crate) fn sum(a: Totals, b: Totals) -> Totals
     requires packets { a.packets + b.packets < 2 ^ 64 }
     requires bytes { a.bytes + b.bytes < 2 ^ 64 }
     ensures { result ≡ plus a b }
@@ -51,8 +75,8 @@ fn sum(a: Totals, b: Totals) -> Totals
     }
 }
 
-// Packets and bytes of the first without the second.
-fn difference(a: Totals, b: Totals) -> Totals
+/// Packets and bytes of the first without the second.
+pub(crate) fn difference(a: Totals, b: Totals) -> Totals
     requires packets { b.packets ≤ a.packets }
     requires bytes { b.bytes ≤ a.bytes }
     ensures { result ≡ minus a b }

@@ -9,12 +9,18 @@
 
 mod at_hand;
 mod booking;
+mod drr;
+mod fq_codel;
 mod matching;
 mod node;
 mod outcome;
+mod peek;
 mod pop;
 mod prepare;
+mod prio;
 mod put;
+mod shown;
+mod tbf;
 mod way;
 
 pub use q_model::{

@@ -7,6 +7,7 @@ ghost use Rattle.q_model.specs.Find.{depth, greatest};
 ghost use Rattle.q_model.specs.Route.{route, through};
 ghost use Rattle.q_tree.specs.Ahead.{ahead, ways, depths};
 
+use crate::booking::NOTHING;
 use crate::matching::named_class;
 use crate::way::Way;
 use q_bucket::Bucket;
@@ -77,11 +78,6 @@ impl Model for Node {
 }
 
 // What a node has counted before any packet.
-const NOTHING: Totals = Totals {
-    packets: 0,
-    bytes: 0,
-};
-
 const NOTHING_COUNTED: Row = Row {
     arrived: NOTHING,
     sent: NOTHING,

@@ -15,7 +15,9 @@ ghost use Rattle.q_tree.specs.PutSteps.{CanFlow, CanQueue, IsQueued, CanPutInto,
 ghost use Rattle.q_codel.specs.Losses.{losses_of};
 ghost use Rattle.q_tree.specs.Seen.{discipline_seen, children_seen, places_seen};
 
-use crate::booking::book_arrival;
+use crate::booking::{NOTHING, book_arrival, one_packet};
+use crate::drr::settle;
+use crate::fq_codel::put_in_flow;
 use crate::node::{Discipline, Node};
 use crate::outcome::Outcome;
 use q_codel::{Fifo, Sink};
@@ -23,11 +25,6 @@ use q_drr::Active;
 use q_fqcodel::FqCodel;
 use q_model::Totals;
 use q_packet::{Cause, Moment, Packet, Stamped};
-
-const NOTHING: Totals = Totals {
-    packets: 0,
-    bytes: 0,
-};
 
 impl Node {
     /// Puts a packet along its way, or refuses it where that ends, and books it at each node on the way.
@@ -86,7 +83,7 @@ impl Discipline {
             sink.lost(packet, cause);
             return Outcome {
                 loss: refusal,
-                refused: only(&packet),
+                refused: one_packet(&packet),
                 dropped: NOTHING,
             };
         }
@@ -139,56 +136,5 @@ impl Discipline {
             }
             Discipline::Fifo(_) | Discipline::FqCodel(_) => unreachable!(),
         }
-    }
-}
-
-// Puts a packet into its flow, and counts what the fattest flow loses.
-fn put_in_flow<S: Sink>(queue: &mut FqCodel, packet: Packet, now: Moment, sink: &mut S) -> Outcome
-    requires place { packets_of queue.old.state.flows < queue.old.places }
-    requires flow { CanFlow packet queue.old.state }
-    requires sink { packets_of queue.old.state.flows + 1 ≤ S.room sink.old }
-    ensures after { queue.new.state ≡ after_put queue.old.state packet now }
-    ensures places { queue.new.places ≡ queue.old.places }
-    ensures loss { result.loss ≡ (if is_lost_itself queue.old.state packet now then Some Cause.FatFlow else None) }
-    ensures refused { result.refused ≡ no_totals }
-    ensures dropped { result.dropped ≡ beneath.totals_in (beneath.packets_of (lost_by_put queue.old.state packet now)) }
-    ensures lost { S.losses sink.new ≡ S.losses sink.old ++ losses_of Cause.FatFlow (lost_by_put queue.old.state packet now) }
-    ensures room { S.room sink.new + length (lost_by_put queue.old.state packet now) ≡ S.room sink.old }
-    ensures kept { S.keeps sink.old sink.new }
-{
-    let (packets, bytes) = queue.queued();
-    let is_lost = queue.put(packet, now, sink);
-    let (packets_after, bytes_after) = queue.queued();
-    Outcome {
-        loss: is_lost.then_some(Cause::FatFlow),
-        refused: NOTHING,
-        dropped: Totals {
-            packets: packets + 1 - packets_after,
-            bytes: bytes + u64::from(packet.len) - bytes_after,
-        },
-    }
-}
-
-// A class with something queued is active, and another is not (tc-drr(8)).
-fn settle(active: &mut Active, place: usize, is_empty: bool)
-    ensures { active.new ≡ settled_class place is_empty active.old }
-{
-    let Some(class) = active.class_at(place) else {
-        return;
-    };
-    if is_empty {
-        active.sleep(class);
-    } else {
-        active.wake(class);
-    }
-}
-
-// One packet.
-fn only(packet: &Packet) -> Totals
-    ensures { result ≡ with_packet no_totals packet.now }
-{
-    Totals {
-        packets: 1,
-        bytes: u64::from(packet.len),
     }
 }

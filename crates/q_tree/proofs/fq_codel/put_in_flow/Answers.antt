@@ -5,7 +5,7 @@ use Rattle.q_fqcodel.specs.Put.{lost_by_put}
 use Rattle.q_model.specs.Beneath as beneath
 use Rattle.q_model.specs.Beneath.{totals_in}
 use Rattle.q_tree.proofs.FlowCounts.{counted-put}
-use Rattle.q_tree.proofs.put.put_in_flow.Goals as goal
+use Rattle.q_tree.proofs.fq_codel.put_in_flow.Goals as goal
 
 pub overflow_sub-result : goal.overflow_sub-result
 overflow_sub-result g c =

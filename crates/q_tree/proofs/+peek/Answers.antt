@@ -1,0 +1,342 @@
+use Rattle.std.proofs.Common.{ℕ, ◌∙◌, ◌<◌, ◌≤◌, [], ◌∷◌, set, length, add-one, refl, sym, ap, subst, arith}
+use Rattle.std.specs.Prelude.{slice_index_or}
+use Rattle.std.specs.List.{sum_by}
+use Rattle.std.proofs.lemmas.List.{length-set}
+use Rattle.std.specs.Box.{with_value}
+use Rattle.std.specs.Vec.{with_items}
+use Rattle.q_packet.specs.Descriptor.{Descriptor}
+use Rattle.q_bucket.specs.Level.{allows}
+use Rattle.q_drr.specs.Schedule.{turned, quantum_of}
+use Rattle.q_drr.specs.Take.{need}
+use Rattle.q_drr.proofs.TakeLemmas.{front_is, front_quantum, covers, falls_short, empty_front, measure_falls}
+use Rattle.q_model.specs.Ask.{ask}
+use Rattle.q_model.specs.Node as spec
+use Rattle.q_model.specs.Node.{Node, shape, side_by_side}
+use Rattle.q_tree.specs.AskSteps.{IsGivenBy, IsToldOf, answers, own_of}
+use Rattle.q_tree.specs.NodeCode.{forest_size}
+use Rattle.q_tree.specs.Seen.{children_seen, discipline_seen, places_seen}
+use Rattle.q_tree.specs.declared.node.Discipline.TheVariants as code
+use Rattle.q_tree.specs.declared.shown.Shown.{Shown}
+use Rattle.q_tree.proofs.AskBands.{AreBandsAsked, told_to, band-at, band-once, band-shown, band-rises, band-passed, band-told, bands-start, bands-end, bands-rises}
+use Rattle.q_tree.proofs.AskOnce.{fits-beside, told-nothing, told-then}
+use Rattle.q_tree.proofs.AtHandLemmas.{none-held, some-held}
+use Rattle.q_tree.proofs.HereLemmas.{flow-packets}
+use Rattle.q_tree.proofs.Peeks.{IsPeekedAs, asked-in, told-in, each-of, room-of, own-room, items-are, serve-of, holding-after, can-in, enough, can-book, peeked-done, shown-here, told-here, tbf-gave}
+use Rattle.q_tree.proofs.ServeLemmas.{AreClassesAsked, heads_of, classes-start, class-there, class-in-front, place-within, class-size, class-once, class-shown, short-enough, nothing-schedule, nothing-asked, nothing-told, offered-head, given-schedule, given-asked, given-told, classes-go-on, idle-schedule, idle-asked, idle-told}
+use Rattle.q_tree.proofs.RouteLemmas.{child-size, children-size}
+use Rattle.q_tree.proofs.TakeCounts.{flow-told}
+use Rattle.q_tree.proofs.+peek.Given.{Over}
+use Rattle.q_tree.proofs.+peek.Goals as goal
+
+-- a node that asked its discipline
+asked : (g : Over) (t : ℕ) (c : goal.the-here-node::Node::peek-After-self-1 g.row.S g.S.laws g.S.Sink g.S.Sink-dict g.world g.met.S.Sink t)
+    → IsPeekedAs c.args.now c.args.self.now (record c.self.inside { held = c.dequeued-self-inside.result; row = c.book_shown.new.row; discipline = c.ask-shown.new.self })
+asked g t c =
+    let q = c.ask-shown.ensures.after c.self.inside.handle c.self.inside.filters.items in
+    peeked-done c.args.now c.self.inside c.args.self.now c.self.invariant c.self.view_is c.requires.ready (none-held c.self.inside.held c.if-is_some.ensures) c.ask-shown.new.self c.ask-shown.result q c.book_shown.new.row c.dequeued-self-inside.result
+    (can-book c.args.now c.self.inside c.args.self.now c.self.invariant c.self.view_is c.requires.ready (none-held c.self.inside.held c.if-is_some.ensures) c.ask-shown.new.self c.ask-shown.result q (omega (arith, c.self.ranges)) (omega (arith, c.self.ranges)))
+    c.book_shown.ensures c.dequeued-self-inside.ensures
+
+pub drr::ask_class-then-requires-clause-dropped_packets :
+    goal.drr::ask_class-then-requires-clause-dropped_packets
+drr::ask_class-then-requires-clause-dropped_packets g t c = (fits-beside c.args.now c.args.class.now c.args.so_far c.peek.result (g.S.Sink.room c.args.sink.now) (c.requires.ready c.if-is_unasked.true) c.peek.ensures.shown).dropped_packets
+
+pub drr::ask_class-then-requires-clause-dropped_bytes :
+    goal.drr::ask_class-then-requires-clause-dropped_bytes
+drr::ask_class-then-requires-clause-dropped_bytes g t c = (fits-beside c.args.now c.args.class.now c.args.so_far c.peek.result (g.S.Sink.room c.args.sink.now) (c.requires.ready c.if-is_unasked.true) c.peek.ensures.shown).dropped_bytes
+
+pub drr::ask_class-then-requires-clause-marked_packets :
+    goal.drr::ask_class-then-requires-clause-marked_packets
+drr::ask_class-then-requires-clause-marked_packets g t c = (fits-beside c.args.now c.args.class.now c.args.so_far c.peek.result (g.S.Sink.room c.args.sink.now) (c.requires.ready c.if-is_unasked.true) c.peek.ensures.shown).marked_packets
+
+pub drr::ask_class-then-requires-clause-marked_bytes :
+    goal.drr::ask_class-then-requires-clause-marked_bytes
+drr::ask_class-then-requires-clause-marked_bytes g t c = (fits-beside c.args.now c.args.class.now c.args.so_far c.peek.result (g.S.Sink.room c.args.sink.now) (c.requires.ready c.if-is_unasked.true) c.peek.ensures.shown).marked_bytes
+
+pub drr::serve-loop-class-init : goal.drr::serve-loop-class-init
+drr::serve-loop-class-init g t c = (
+  classes-start c.args.now c.args.active.now c.args.classes.now c.active_count-unasked.result c.at_hand-shown.result (g.S.Sink.losses c.args.sink.now) (g.S.Sink.room c.args.sink.now) c.requires.ready c.active_count-unasked.ensures
+      (record { dropped = ap (λ (s : Shown). s.dropped) c.at_hand-shown.ensures; marked = ap (λ (s : Shown). s.marked) c.at_hand-shown.ensures }),
+  g.met.S.Sink.keeps_same c.args.sink.now,
+)
+
+pub drr::serve-unreachable-requires : goal.drr::serve-unreachable-requires
+drr::serve-unreachable-requires g t c = class-there c.args.now c.args.active.now c.loop-class.active c.args.classes.now c.loop-class.classes c.loop-class.unasked c.loop-class.shown (record { losses = g.S.Sink.losses c.args.sink.now; losses_now = g.S.Sink.losses c.loop-class.sink; room = g.S.Sink.room c.args.sink.now; room_now = g.S.Sink.room c.loop-class.sink }) c.requires.ready c.loop-class.invariant.0 c.in-Some.class c.front.ensures.lawful (front_is c.in-Some.class c.loop-class.active (sym c.in-Some.is ∙ c.front.ensures.front)) (sym c.in_default-place_of.is ∙ c.place_of.ensures.value)
+
+pub drr::serve-offset_bounds-classes-place : goal.drr::serve-offset_bounds-classes-place
+drr::serve-offset_bounds-classes-place g t c = omega (arith, place-within c.args.now c.args.active.now c.loop-class.active c.args.classes.now c.loop-class.classes c.loop-class.unasked c.loop-class.shown (record { losses = g.S.Sink.losses c.args.sink.now; losses_now = g.S.Sink.losses c.loop-class.sink; room = g.S.Sink.room c.args.sink.now; room_now = g.S.Sink.room c.loop-class.sink }) c.requires.ready c.loop-class.invariant.0 c.in-Some.class c.front.ensures.lawful (front_is c.in-Some.class c.loop-class.active (sym c.in-Some.is ∙ c.front.ensures.front)) c.in-Some-place_of.place (class-in-front c.args.now c.args.active.now c.loop-class.active c.args.classes.now c.loop-class.classes c.loop-class.unasked c.loop-class.shown (record { losses = g.S.Sink.losses c.args.sink.now; losses_now = g.S.Sink.losses c.loop-class.sink; room = g.S.Sink.room c.args.sink.now; room_now = g.S.Sink.room c.loop-class.sink }) c.requires.ready c.loop-class.invariant.0 c.in-Some.class c.front.ensures.lawful (front_is c.in-Some.class c.loop-class.active (sym c.in-Some.is ∙ c.front.ensures.front)) c.in-Some-place_of.place (sym c.in-Some-place_of.is ∙ c.place_of.ensures.value)), c.loop-class.auto.classes)
+
+pub drr::serve-bounds-classes-place : goal.drr::serve-bounds-classes-place
+drr::serve-bounds-classes-place g t c = place-within c.args.now c.args.active.now c.loop-class.active c.args.classes.now c.loop-class.classes c.loop-class.unasked c.loop-class.shown (record { losses = g.S.Sink.losses c.args.sink.now; losses_now = g.S.Sink.losses c.loop-class.sink; room = g.S.Sink.room c.args.sink.now; room_now = g.S.Sink.room c.loop-class.sink }) c.requires.ready c.loop-class.invariant.0 c.in-Some.class c.front.ensures.lawful (front_is c.in-Some.class c.loop-class.active (sym c.in-Some.is ∙ c.front.ensures.front)) c.in-Some-place_of.place (class-in-front c.args.now c.args.active.now c.loop-class.active c.args.classes.now c.loop-class.classes c.loop-class.unasked c.loop-class.shown (record { losses = g.S.Sink.losses c.args.sink.now; losses_now = g.S.Sink.losses c.loop-class.sink; room = g.S.Sink.room c.args.sink.now; room_now = g.S.Sink.room c.loop-class.sink }) c.requires.ready c.loop-class.invariant.0 c.in-Some.class c.front.ensures.lawful (front_is c.in-Some.class c.loop-class.active (sym c.in-Some.is ∙ c.front.ensures.front)) c.in-Some-place_of.place (sym c.in-Some-place_of.is ∙ c.place_of.ensures.value))
+
+pub drr::serve-ask_class-shown-requires : goal.drr::serve-ask_class-shown-requires
+drr::serve-ask_class-shown-requires g t c κs within = (
+  omega (arith, class-size c.args.now c.args.active.now c.loop-class.active c.args.classes.now c.loop-class.classes c.loop-class.unasked c.loop-class.shown (record { losses = g.S.Sink.losses c.args.sink.now; losses_now = g.S.Sink.losses c.loop-class.sink; room = g.S.Sink.room c.args.sink.now; room_now = g.S.Sink.room c.loop-class.sink }) c.requires.ready c.loop-class.invariant.0 c.in-Some.class c.front.ensures.lawful (front_is c.in-Some.class c.loop-class.active (sym c.in-Some.is ∙ c.front.ensures.front)) c.in-Some-place_of.place c.index-classes-place.result (place-within c.args.now c.args.active.now c.loop-class.active c.args.classes.now c.loop-class.classes c.loop-class.unasked c.loop-class.shown (record { losses = g.S.Sink.losses c.args.sink.now; losses_now = g.S.Sink.losses c.loop-class.sink; room = g.S.Sink.room c.args.sink.now; room_now = g.S.Sink.room c.loop-class.sink }) c.requires.ready c.loop-class.invariant.0 c.in-Some.class c.front.ensures.lawful (front_is c.in-Some.class c.loop-class.active (sym c.in-Some.is ∙ c.front.ensures.front)) c.in-Some-place_of.place (class-in-front c.args.now c.args.active.now c.loop-class.active c.args.classes.now c.loop-class.classes c.loop-class.unasked c.loop-class.shown (record { losses = g.S.Sink.losses c.args.sink.now; losses_now = g.S.Sink.losses c.loop-class.sink; room = g.S.Sink.room c.args.sink.now; room_now = g.S.Sink.room c.loop-class.sink }) c.requires.ready c.loop-class.invariant.0 c.in-Some.class c.front.ensures.lawful (front_is c.in-Some.class c.loop-class.active (sym c.in-Some.is ∙ c.front.ensures.front)) c.in-Some-place_of.place (sym c.in-Some-place_of.is ∙ c.place_of.ensures.value))), c.decreases),
+  (within, λ some. class-once c.args.now c.args.active.now c.loop-class.active c.args.classes.now c.loop-class.classes c.loop-class.unasked c.loop-class.shown (record { losses = g.S.Sink.losses c.args.sink.now; losses_now = g.S.Sink.losses c.loop-class.sink; room = g.S.Sink.room c.args.sink.now; room_now = g.S.Sink.room c.loop-class.sink }) c.requires.ready c.loop-class.invariant.0 c.in-Some.class c.front.ensures.lawful (front_is c.in-Some.class c.loop-class.active (sym c.in-Some.is ∙ c.front.ensures.front)) c.in-Some-place_of.place (class-in-front c.args.now c.args.active.now c.loop-class.active c.args.classes.now c.loop-class.classes c.loop-class.unasked c.loop-class.shown (record { losses = g.S.Sink.losses c.args.sink.now; losses_now = g.S.Sink.losses c.loop-class.sink; room = g.S.Sink.room c.args.sink.now; room_now = g.S.Sink.room c.loop-class.sink }) c.requires.ready c.loop-class.invariant.0 c.in-Some.class c.front.ensures.lawful (front_is c.in-Some.class c.loop-class.active (sym c.in-Some.is ∙ c.front.ensures.front)) c.in-Some-place_of.place (sym c.in-Some-place_of.is ∙ c.place_of.ensures.value)) c.index-classes-place.result some c.requires.sink),
+)
+
+pub drr::serve-returns-in_default-packet-clause-active :
+    goal.drr::serve-returns-in_default-packet-clause-active
+drr::serve-returns-in_default-packet-clause-active g t c = λ own. nothing-schedule c.args.now c.args.active.now c.loop-class.active c.args.classes.now c.loop-class.classes c.loop-class.unasked c.loop-class.shown (record { losses = g.S.Sink.losses c.args.sink.now; losses_now = g.S.Sink.losses c.loop-class.sink; room = g.S.Sink.room c.args.sink.now; room_now = g.S.Sink.room c.loop-class.sink }) c.requires.ready c.loop-class.invariant.0 c.in-Some.class c.front.ensures.lawful (front_is c.in-Some.class c.loop-class.active (sym c.in-Some.is ∙ c.front.ensures.front)) c.in-Some-place_of.place (class-in-front c.args.now c.args.active.now c.loop-class.active c.args.classes.now c.loop-class.classes c.loop-class.unasked c.loop-class.shown (record { losses = g.S.Sink.losses c.args.sink.now; losses_now = g.S.Sink.losses c.loop-class.sink; room = g.S.Sink.room c.args.sink.now; room_now = g.S.Sink.room c.loop-class.sink }) c.requires.ready c.loop-class.invariant.0 c.in-Some.class c.front.ensures.lawful (front_is c.in-Some.class c.loop-class.active (sym c.in-Some.is ∙ c.front.ensures.front)) c.in-Some-place_of.place (sym c.in-Some-place_of.is ∙ c.place_of.ensures.value)) c.ask_class-shown.new.class c.ask_class-shown.result (g.S.Sink.losses c.ask_class-shown.new.sink) (g.S.Sink.room c.ask_class-shown.new.sink) (class-shown c.args.now c.args.active.now c.loop-class.active c.args.classes.now c.loop-class.classes c.loop-class.unasked c.loop-class.shown (record { losses = g.S.Sink.losses c.args.sink.now; losses_now = g.S.Sink.losses c.loop-class.sink; room = g.S.Sink.room c.args.sink.now; room_now = g.S.Sink.room c.loop-class.sink }) c.requires.ready c.loop-class.invariant.0 c.in-Some.class c.front.ensures.lawful (front_is c.in-Some.class c.loop-class.active (sym c.in-Some.is ∙ c.front.ensures.front)) c.in-Some-place_of.place (class-in-front c.args.now c.args.active.now c.loop-class.active c.args.classes.now c.loop-class.classes c.loop-class.unasked c.loop-class.shown (record { losses = g.S.Sink.losses c.args.sink.now; losses_now = g.S.Sink.losses c.loop-class.sink; room = g.S.Sink.room c.args.sink.now; room_now = g.S.Sink.room c.loop-class.sink }) c.requires.ready c.loop-class.invariant.0 c.in-Some.class c.front.ensures.lawful (front_is c.in-Some.class c.loop-class.active (sym c.in-Some.is ∙ c.front.ensures.front)) c.in-Some-place_of.place (sym c.in-Some-place_of.is ∙ c.place_of.ensures.value)) c.index-classes-place.result c.ask_class-shown.new.class c.ask_class-shown.result (g.S.Sink.losses c.ask_class-shown.new.sink) (g.S.Sink.room c.ask_class-shown.new.sink) c.ask_class-shown.ensures.asked c.ask_class-shown.ensures.told c.ask_class-shown.ensures.at_hand c.ask_class-shown.ensures.not_lost) c.in_default-packet.is own
+
+pub drr::serve-returns-in_default-packet-clause-after :
+    goal.drr::serve-returns-in_default-packet-clause-after
+drr::serve-returns-in_default-packet-clause-after g t c = λ own. nothing-asked c.args.now c.args.active.now c.loop-class.active c.args.classes.now c.loop-class.classes c.loop-class.unasked c.loop-class.shown (record { losses = g.S.Sink.losses c.args.sink.now; losses_now = g.S.Sink.losses c.loop-class.sink; room = g.S.Sink.room c.args.sink.now; room_now = g.S.Sink.room c.loop-class.sink }) c.requires.ready c.loop-class.invariant.0 c.in-Some.class c.front.ensures.lawful (front_is c.in-Some.class c.loop-class.active (sym c.in-Some.is ∙ c.front.ensures.front)) c.in-Some-place_of.place (class-in-front c.args.now c.args.active.now c.loop-class.active c.args.classes.now c.loop-class.classes c.loop-class.unasked c.loop-class.shown (record { losses = g.S.Sink.losses c.args.sink.now; losses_now = g.S.Sink.losses c.loop-class.sink; room = g.S.Sink.room c.args.sink.now; room_now = g.S.Sink.room c.loop-class.sink }) c.requires.ready c.loop-class.invariant.0 c.in-Some.class c.front.ensures.lawful (front_is c.in-Some.class c.loop-class.active (sym c.in-Some.is ∙ c.front.ensures.front)) c.in-Some-place_of.place (sym c.in-Some-place_of.is ∙ c.place_of.ensures.value)) c.ask_class-shown.new.class c.ask_class-shown.result (g.S.Sink.losses c.ask_class-shown.new.sink) (g.S.Sink.room c.ask_class-shown.new.sink) (class-shown c.args.now c.args.active.now c.loop-class.active c.args.classes.now c.loop-class.classes c.loop-class.unasked c.loop-class.shown (record { losses = g.S.Sink.losses c.args.sink.now; losses_now = g.S.Sink.losses c.loop-class.sink; room = g.S.Sink.room c.args.sink.now; room_now = g.S.Sink.room c.loop-class.sink }) c.requires.ready c.loop-class.invariant.0 c.in-Some.class c.front.ensures.lawful (front_is c.in-Some.class c.loop-class.active (sym c.in-Some.is ∙ c.front.ensures.front)) c.in-Some-place_of.place (class-in-front c.args.now c.args.active.now c.loop-class.active c.args.classes.now c.loop-class.classes c.loop-class.unasked c.loop-class.shown (record { losses = g.S.Sink.losses c.args.sink.now; losses_now = g.S.Sink.losses c.loop-class.sink; room = g.S.Sink.room c.args.sink.now; room_now = g.S.Sink.room c.loop-class.sink }) c.requires.ready c.loop-class.invariant.0 c.in-Some.class c.front.ensures.lawful (front_is c.in-Some.class c.loop-class.active (sym c.in-Some.is ∙ c.front.ensures.front)) c.in-Some-place_of.place (sym c.in-Some-place_of.is ∙ c.place_of.ensures.value)) c.index-classes-place.result c.ask_class-shown.new.class c.ask_class-shown.result (g.S.Sink.losses c.ask_class-shown.new.sink) (g.S.Sink.room c.ask_class-shown.new.sink) c.ask_class-shown.ensures.asked c.ask_class-shown.ensures.told c.ask_class-shown.ensures.at_hand c.ask_class-shown.ensures.not_lost) c.in_default-packet.is own
+
+pub drr::serve-returns-in_default-packet-clause-told :
+    goal.drr::serve-returns-in_default-packet-clause-told
+drr::serve-returns-in_default-packet-clause-told g t c = λ own. nothing-told c.args.now c.args.active.now c.loop-class.active c.args.classes.now c.loop-class.classes c.loop-class.unasked c.loop-class.shown (record { losses = g.S.Sink.losses c.args.sink.now; losses_now = g.S.Sink.losses c.loop-class.sink; room = g.S.Sink.room c.args.sink.now; room_now = g.S.Sink.room c.loop-class.sink }) c.requires.ready c.loop-class.invariant.0 c.in-Some.class c.front.ensures.lawful (front_is c.in-Some.class c.loop-class.active (sym c.in-Some.is ∙ c.front.ensures.front)) c.in-Some-place_of.place (class-in-front c.args.now c.args.active.now c.loop-class.active c.args.classes.now c.loop-class.classes c.loop-class.unasked c.loop-class.shown (record { losses = g.S.Sink.losses c.args.sink.now; losses_now = g.S.Sink.losses c.loop-class.sink; room = g.S.Sink.room c.args.sink.now; room_now = g.S.Sink.room c.loop-class.sink }) c.requires.ready c.loop-class.invariant.0 c.in-Some.class c.front.ensures.lawful (front_is c.in-Some.class c.loop-class.active (sym c.in-Some.is ∙ c.front.ensures.front)) c.in-Some-place_of.place (sym c.in-Some-place_of.is ∙ c.place_of.ensures.value)) c.ask_class-shown.new.class c.ask_class-shown.result (g.S.Sink.losses c.ask_class-shown.new.sink) (g.S.Sink.room c.ask_class-shown.new.sink) (class-shown c.args.now c.args.active.now c.loop-class.active c.args.classes.now c.loop-class.classes c.loop-class.unasked c.loop-class.shown (record { losses = g.S.Sink.losses c.args.sink.now; losses_now = g.S.Sink.losses c.loop-class.sink; room = g.S.Sink.room c.args.sink.now; room_now = g.S.Sink.room c.loop-class.sink }) c.requires.ready c.loop-class.invariant.0 c.in-Some.class c.front.ensures.lawful (front_is c.in-Some.class c.loop-class.active (sym c.in-Some.is ∙ c.front.ensures.front)) c.in-Some-place_of.place (class-in-front c.args.now c.args.active.now c.loop-class.active c.args.classes.now c.loop-class.classes c.loop-class.unasked c.loop-class.shown (record { losses = g.S.Sink.losses c.args.sink.now; losses_now = g.S.Sink.losses c.loop-class.sink; room = g.S.Sink.room c.args.sink.now; room_now = g.S.Sink.room c.loop-class.sink }) c.requires.ready c.loop-class.invariant.0 c.in-Some.class c.front.ensures.lawful (front_is c.in-Some.class c.loop-class.active (sym c.in-Some.is ∙ c.front.ensures.front)) c.in-Some-place_of.place (sym c.in-Some-place_of.is ∙ c.place_of.ensures.value)) c.index-classes-place.result c.ask_class-shown.new.class c.ask_class-shown.result (g.S.Sink.losses c.ask_class-shown.new.sink) (g.S.Sink.room c.ask_class-shown.new.sink) c.ask_class-shown.ensures.asked c.ask_class-shown.ensures.told c.ask_class-shown.ensures.at_hand c.ask_class-shown.ensures.not_lost) c.in_default-packet.is own
+
+pub drr::serve-returns-in_default-packet-clause-kept :
+    goal.drr::serve-returns-in_default-packet-clause-kept
+drr::serve-returns-in_default-packet-clause-kept g t c = g.met.S.Sink.keeps_on c.args.sink.now c.loop-class.sink c.ask_class-shown.new.sink c.loop-class.invariant.1 c.ask_class-shown.ensures.kept
+
+pub drr::serve-turn-requires-clause-in_range : goal.drr::serve-turn-requires-clause-in_range
+drr::serve-turn-requires-clause-in_range g t c = omega (arith, short-enough c.args.now c.args.active.now c.loop-class.active c.args.classes.now c.loop-class.classes c.loop-class.unasked c.loop-class.shown (record { losses = g.S.Sink.losses c.args.sink.now; losses_now = g.S.Sink.losses c.loop-class.sink; room = g.S.Sink.room c.args.sink.now; room_now = g.S.Sink.room c.loop-class.sink }) c.requires.ready c.loop-class.invariant.0 c.in-Some.class c.front.ensures.lawful (front_is c.in-Some.class c.loop-class.active (sym c.in-Some.is ∙ c.front.ensures.front)) c.in-Some-place_of.place (class-in-front c.args.now c.args.active.now c.loop-class.active c.args.classes.now c.loop-class.classes c.loop-class.unasked c.loop-class.shown (record { losses = g.S.Sink.losses c.args.sink.now; losses_now = g.S.Sink.losses c.loop-class.sink; room = g.S.Sink.room c.args.sink.now; room_now = g.S.Sink.room c.loop-class.sink }) c.requires.ready c.loop-class.invariant.0 c.in-Some.class c.front.ensures.lawful (front_is c.in-Some.class c.loop-class.active (sym c.in-Some.is ∙ c.front.ensures.front)) c.in-Some-place_of.place (sym c.in-Some-place_of.is ∙ c.place_of.ensures.value)) c.in-Some-packet.packet (sym (class-shown c.args.now c.args.active.now c.loop-class.active c.args.classes.now c.loop-class.classes c.loop-class.unasked c.loop-class.shown (record { losses = g.S.Sink.losses c.args.sink.now; losses_now = g.S.Sink.losses c.loop-class.sink; room = g.S.Sink.room c.args.sink.now; room_now = g.S.Sink.room c.loop-class.sink }) c.requires.ready c.loop-class.invariant.0 c.in-Some.class c.front.ensures.lawful (front_is c.in-Some.class c.loop-class.active (sym c.in-Some.is ∙ c.front.ensures.front)) c.in-Some-place_of.place (class-in-front c.args.now c.args.active.now c.loop-class.active c.args.classes.now c.loop-class.classes c.loop-class.unasked c.loop-class.shown (record { losses = g.S.Sink.losses c.args.sink.now; losses_now = g.S.Sink.losses c.loop-class.sink; room = g.S.Sink.room c.args.sink.now; room_now = g.S.Sink.room c.loop-class.sink }) c.requires.ready c.loop-class.invariant.0 c.in-Some.class c.front.ensures.lawful (front_is c.in-Some.class c.loop-class.active (sym c.in-Some.is ∙ c.front.ensures.front)) c.in-Some-place_of.place (sym c.in-Some-place_of.is ∙ c.place_of.ensures.value)) c.index-classes-place.result c.ask_class-shown.new.class c.ask_class-shown.result (g.S.Sink.losses c.ask_class-shown.new.sink) (g.S.Sink.room c.ask_class-shown.new.sink) c.ask_class-shown.ensures.asked c.ask_class-shown.ensures.told c.ask_class-shown.ensures.at_hand c.ask_class-shown.ensures.not_lost).shown ∙ c.in-Some-packet.is), (ap (λ (p : Descriptor). p.len) c.packet.view_is))
+
+pub drr::serve-give-requires : goal.drr::serve-give-requires
+drr::serve-give-requires g t c = omega (arith, (place-within c.args.now c.args.active.now c.loop-class.active c.args.classes.now c.loop-class.classes c.loop-class.unasked c.loop-class.shown (record { losses = g.S.Sink.losses c.args.sink.now; losses_now = g.S.Sink.losses c.loop-class.sink; room = g.S.Sink.room c.args.sink.now; room_now = g.S.Sink.room c.loop-class.sink }) c.requires.ready c.loop-class.invariant.0 c.in-Some.class c.front.ensures.lawful (front_is c.in-Some.class c.loop-class.active (sym c.in-Some.is ∙ c.front.ensures.front)) c.in-Some-place_of.place (class-in-front c.args.now c.args.active.now c.loop-class.active c.args.classes.now c.loop-class.classes c.loop-class.unasked c.loop-class.shown (record { losses = g.S.Sink.losses c.args.sink.now; losses_now = g.S.Sink.losses c.loop-class.sink; room = g.S.Sink.room c.args.sink.now; room_now = g.S.Sink.room c.loop-class.sink }) c.requires.ready c.loop-class.invariant.0 c.in-Some.class c.front.ensures.lawful (front_is c.in-Some.class c.loop-class.active (sym c.in-Some.is ∙ c.front.ensures.front)) c.in-Some-place_of.place (sym c.in-Some-place_of.is ∙ c.place_of.ensures.value))), length-set c.loop-class.classes c.in-Some-place_of.place c.ask_class-shown.new.class)
+
+pub drr::serve-returns-in-Send-clause-active : goal.drr::serve-returns-in-Send-clause-active
+drr::serve-returns-in-Send-clause-active g t c = λ own. given-schedule c.args.now c.args.active.now c.loop-class.active c.args.classes.now c.loop-class.classes c.loop-class.unasked c.loop-class.shown (record { losses = g.S.Sink.losses c.args.sink.now; losses_now = g.S.Sink.losses c.loop-class.sink; room = g.S.Sink.room c.args.sink.now; room_now = g.S.Sink.room c.loop-class.sink }) c.requires.ready c.loop-class.invariant.0 c.in-Some.class c.front.ensures.lawful (front_is c.in-Some.class c.loop-class.active (sym c.in-Some.is ∙ c.front.ensures.front)) c.in-Some-place_of.place (class-in-front c.args.now c.args.active.now c.loop-class.active c.args.classes.now c.loop-class.classes c.loop-class.unasked c.loop-class.shown (record { losses = g.S.Sink.losses c.args.sink.now; losses_now = g.S.Sink.losses c.loop-class.sink; room = g.S.Sink.room c.args.sink.now; room_now = g.S.Sink.room c.loop-class.sink }) c.requires.ready c.loop-class.invariant.0 c.in-Some.class c.front.ensures.lawful (front_is c.in-Some.class c.loop-class.active (sym c.in-Some.is ∙ c.front.ensures.front)) c.in-Some-place_of.place (sym c.in-Some-place_of.is ∙ c.place_of.ensures.value)) c.ask_class-shown.new.class c.ask_class-shown.result (g.S.Sink.losses c.ask_class-shown.new.sink) (g.S.Sink.room c.ask_class-shown.new.sink) (class-shown c.args.now c.args.active.now c.loop-class.active c.args.classes.now c.loop-class.classes c.loop-class.unasked c.loop-class.shown (record { losses = g.S.Sink.losses c.args.sink.now; losses_now = g.S.Sink.losses c.loop-class.sink; room = g.S.Sink.room c.args.sink.now; room_now = g.S.Sink.room c.loop-class.sink }) c.requires.ready c.loop-class.invariant.0 c.in-Some.class c.front.ensures.lawful (front_is c.in-Some.class c.loop-class.active (sym c.in-Some.is ∙ c.front.ensures.front)) c.in-Some-place_of.place (class-in-front c.args.now c.args.active.now c.loop-class.active c.args.classes.now c.loop-class.classes c.loop-class.unasked c.loop-class.shown (record { losses = g.S.Sink.losses c.args.sink.now; losses_now = g.S.Sink.losses c.loop-class.sink; room = g.S.Sink.room c.args.sink.now; room_now = g.S.Sink.room c.loop-class.sink }) c.requires.ready c.loop-class.invariant.0 c.in-Some.class c.front.ensures.lawful (front_is c.in-Some.class c.loop-class.active (sym c.in-Some.is ∙ c.front.ensures.front)) c.in-Some-place_of.place (sym c.in-Some-place_of.is ∙ c.place_of.ensures.value)) c.index-classes-place.result c.ask_class-shown.new.class c.ask_class-shown.result (g.S.Sink.losses c.ask_class-shown.new.sink) (g.S.Sink.room c.ask_class-shown.new.sink) c.ask_class-shown.ensures.asked c.ask_class-shown.ensures.told c.ask_class-shown.ensures.at_hand c.ask_class-shown.ensures.not_lost) c.in-Some-packet.packet c.in-Some-packet.is (subst (λ m. m ≤ (front_is c.in-Some.class c.loop-class.active (sym c.in-Some.is ∙ c.front.ensures.front)).first.deficit) (ap (λ (p : Descriptor). p.len) c.packet.view_is) (covers c.loop-class.active c.in-Some.class c.packet.inside.len (front_is c.in-Some.class c.loop-class.active (sym c.in-Some.is ∙ c.front.ensures.front)) (sym c.in-Send.is ∙ c.turn.ensures.answer))) c.give.new.active c.give.new.classes (λ class at. subst (λ s. IsGivenBy c.in-Some-place_of.place class s c.give.new.active (set c.loop-class.classes c.in-Some-place_of.place c.ask_class-shown.new.class) c.give.new.classes) (c.turn.ensures.after ∙ ap (λ m. turned m c.loop-class.active) (ap (λ (p : Descriptor). p.len) c.packet.view_is)) (c.give.ensures class at)) own
+
+pub drr::serve-returns-in-Send-clause-after : goal.drr::serve-returns-in-Send-clause-after
+drr::serve-returns-in-Send-clause-after g t c = λ own. given-asked c.args.now c.args.active.now c.loop-class.active c.args.classes.now c.loop-class.classes c.loop-class.unasked c.loop-class.shown (record { losses = g.S.Sink.losses c.args.sink.now; losses_now = g.S.Sink.losses c.loop-class.sink; room = g.S.Sink.room c.args.sink.now; room_now = g.S.Sink.room c.loop-class.sink }) c.requires.ready c.loop-class.invariant.0 c.in-Some.class c.front.ensures.lawful (front_is c.in-Some.class c.loop-class.active (sym c.in-Some.is ∙ c.front.ensures.front)) c.in-Some-place_of.place (class-in-front c.args.now c.args.active.now c.loop-class.active c.args.classes.now c.loop-class.classes c.loop-class.unasked c.loop-class.shown (record { losses = g.S.Sink.losses c.args.sink.now; losses_now = g.S.Sink.losses c.loop-class.sink; room = g.S.Sink.room c.args.sink.now; room_now = g.S.Sink.room c.loop-class.sink }) c.requires.ready c.loop-class.invariant.0 c.in-Some.class c.front.ensures.lawful (front_is c.in-Some.class c.loop-class.active (sym c.in-Some.is ∙ c.front.ensures.front)) c.in-Some-place_of.place (sym c.in-Some-place_of.is ∙ c.place_of.ensures.value)) c.ask_class-shown.new.class c.ask_class-shown.result (g.S.Sink.losses c.ask_class-shown.new.sink) (g.S.Sink.room c.ask_class-shown.new.sink) (class-shown c.args.now c.args.active.now c.loop-class.active c.args.classes.now c.loop-class.classes c.loop-class.unasked c.loop-class.shown (record { losses = g.S.Sink.losses c.args.sink.now; losses_now = g.S.Sink.losses c.loop-class.sink; room = g.S.Sink.room c.args.sink.now; room_now = g.S.Sink.room c.loop-class.sink }) c.requires.ready c.loop-class.invariant.0 c.in-Some.class c.front.ensures.lawful (front_is c.in-Some.class c.loop-class.active (sym c.in-Some.is ∙ c.front.ensures.front)) c.in-Some-place_of.place (class-in-front c.args.now c.args.active.now c.loop-class.active c.args.classes.now c.loop-class.classes c.loop-class.unasked c.loop-class.shown (record { losses = g.S.Sink.losses c.args.sink.now; losses_now = g.S.Sink.losses c.loop-class.sink; room = g.S.Sink.room c.args.sink.now; room_now = g.S.Sink.room c.loop-class.sink }) c.requires.ready c.loop-class.invariant.0 c.in-Some.class c.front.ensures.lawful (front_is c.in-Some.class c.loop-class.active (sym c.in-Some.is ∙ c.front.ensures.front)) c.in-Some-place_of.place (sym c.in-Some-place_of.is ∙ c.place_of.ensures.value)) c.index-classes-place.result c.ask_class-shown.new.class c.ask_class-shown.result (g.S.Sink.losses c.ask_class-shown.new.sink) (g.S.Sink.room c.ask_class-shown.new.sink) c.ask_class-shown.ensures.asked c.ask_class-shown.ensures.told c.ask_class-shown.ensures.at_hand c.ask_class-shown.ensures.not_lost) c.in-Some-packet.packet c.in-Some-packet.is (subst (λ m. m ≤ (front_is c.in-Some.class c.loop-class.active (sym c.in-Some.is ∙ c.front.ensures.front)).first.deficit) (ap (λ (p : Descriptor). p.len) c.packet.view_is) (covers c.loop-class.active c.in-Some.class c.packet.inside.len (front_is c.in-Some.class c.loop-class.active (sym c.in-Some.is ∙ c.front.ensures.front)) (sym c.in-Send.is ∙ c.turn.ensures.answer))) c.give.new.active c.give.new.classes (λ class at. subst (λ s. IsGivenBy c.in-Some-place_of.place class s c.give.new.active (set c.loop-class.classes c.in-Some-place_of.place c.ask_class-shown.new.class) c.give.new.classes) (c.turn.ensures.after ∙ ap (λ m. turned m c.loop-class.active) (ap (λ (p : Descriptor). p.len) c.packet.view_is)) (c.give.ensures class at)) own
+
+pub drr::serve-returns-in-Send-clause-told : goal.drr::serve-returns-in-Send-clause-told
+drr::serve-returns-in-Send-clause-told g t c = λ own. given-told c.args.now c.args.active.now c.loop-class.active c.args.classes.now c.loop-class.classes c.loop-class.unasked c.loop-class.shown (record { losses = g.S.Sink.losses c.args.sink.now; losses_now = g.S.Sink.losses c.loop-class.sink; room = g.S.Sink.room c.args.sink.now; room_now = g.S.Sink.room c.loop-class.sink }) c.requires.ready c.loop-class.invariant.0 c.in-Some.class c.front.ensures.lawful (front_is c.in-Some.class c.loop-class.active (sym c.in-Some.is ∙ c.front.ensures.front)) c.in-Some-place_of.place (class-in-front c.args.now c.args.active.now c.loop-class.active c.args.classes.now c.loop-class.classes c.loop-class.unasked c.loop-class.shown (record { losses = g.S.Sink.losses c.args.sink.now; losses_now = g.S.Sink.losses c.loop-class.sink; room = g.S.Sink.room c.args.sink.now; room_now = g.S.Sink.room c.loop-class.sink }) c.requires.ready c.loop-class.invariant.0 c.in-Some.class c.front.ensures.lawful (front_is c.in-Some.class c.loop-class.active (sym c.in-Some.is ∙ c.front.ensures.front)) c.in-Some-place_of.place (sym c.in-Some-place_of.is ∙ c.place_of.ensures.value)) c.ask_class-shown.new.class c.ask_class-shown.result (g.S.Sink.losses c.ask_class-shown.new.sink) (g.S.Sink.room c.ask_class-shown.new.sink) (class-shown c.args.now c.args.active.now c.loop-class.active c.args.classes.now c.loop-class.classes c.loop-class.unasked c.loop-class.shown (record { losses = g.S.Sink.losses c.args.sink.now; losses_now = g.S.Sink.losses c.loop-class.sink; room = g.S.Sink.room c.args.sink.now; room_now = g.S.Sink.room c.loop-class.sink }) c.requires.ready c.loop-class.invariant.0 c.in-Some.class c.front.ensures.lawful (front_is c.in-Some.class c.loop-class.active (sym c.in-Some.is ∙ c.front.ensures.front)) c.in-Some-place_of.place (class-in-front c.args.now c.args.active.now c.loop-class.active c.args.classes.now c.loop-class.classes c.loop-class.unasked c.loop-class.shown (record { losses = g.S.Sink.losses c.args.sink.now; losses_now = g.S.Sink.losses c.loop-class.sink; room = g.S.Sink.room c.args.sink.now; room_now = g.S.Sink.room c.loop-class.sink }) c.requires.ready c.loop-class.invariant.0 c.in-Some.class c.front.ensures.lawful (front_is c.in-Some.class c.loop-class.active (sym c.in-Some.is ∙ c.front.ensures.front)) c.in-Some-place_of.place (sym c.in-Some-place_of.is ∙ c.place_of.ensures.value)) c.index-classes-place.result c.ask_class-shown.new.class c.ask_class-shown.result (g.S.Sink.losses c.ask_class-shown.new.sink) (g.S.Sink.room c.ask_class-shown.new.sink) c.ask_class-shown.ensures.asked c.ask_class-shown.ensures.told c.ask_class-shown.ensures.at_hand c.ask_class-shown.ensures.not_lost) c.in-Some-packet.packet c.in-Some-packet.is (subst (λ m. m ≤ (front_is c.in-Some.class c.loop-class.active (sym c.in-Some.is ∙ c.front.ensures.front)).first.deficit) (ap (λ (p : Descriptor). p.len) c.packet.view_is) (covers c.loop-class.active c.in-Some.class c.packet.inside.len (front_is c.in-Some.class c.loop-class.active (sym c.in-Some.is ∙ c.front.ensures.front)) (sym c.in-Send.is ∙ c.turn.ensures.answer))) c.give.new.active c.give.new.classes (λ class at. subst (λ s. IsGivenBy c.in-Some-place_of.place class s c.give.new.active (set c.loop-class.classes c.in-Some-place_of.place c.ask_class-shown.new.class) c.give.new.classes) (c.turn.ensures.after ∙ ap (λ m. turned m c.loop-class.active) (ap (λ (p : Descriptor). p.len) c.packet.view_is)) (c.give.ensures class at)) own
+
+pub drr::serve-returns-in-Send-clause-kept : goal.drr::serve-returns-in-Send-clause-kept
+drr::serve-returns-in-Send-clause-kept g t c = g.met.S.Sink.keeps_on c.args.sink.now c.loop-class.sink c.ask_class-shown.new.sink c.loop-class.invariant.1 c.ask_class-shown.ensures.kept
+
+pub drr::serve-loop-class-smaller : goal.drr::serve-loop-class-smaller
+drr::serve-loop-class-smaller g t c =
+    subst (λ s. sum_by (need (λ m. quantum_of m s.classes) (heads_of c.args.now c.args.active.now c.args.classes.now)) s.active < sum_by (need (λ m. quantum_of m c.loop-class.active.classes) (heads_of c.args.now c.args.active.now c.args.classes.now)) c.loop-class.active.active)
+    (sym (c.turn.ensures.after ∙ ap (λ m. turned m c.loop-class.active) (ap (λ (p : Descriptor). p.len) c.packet.view_is)))
+    (measure_falls (heads_of c.args.now c.args.active.now c.args.classes.now) c.loop-class.active c.in-Some.class c.in-Some-packet.packet.len (front_is c.in-Some.class c.loop-class.active (sym c.in-Some.is ∙ c.front.ensures.front)) (offered-head c.args.now c.args.active.now c.loop-class.active c.args.classes.now c.loop-class.classes c.loop-class.unasked c.loop-class.shown (record { losses = g.S.Sink.losses c.args.sink.now; losses_now = g.S.Sink.losses c.loop-class.sink; room = g.S.Sink.room c.args.sink.now; room_now = g.S.Sink.room c.loop-class.sink }) c.requires.ready c.loop-class.invariant.0 c.in-Some.class c.front.ensures.lawful (front_is c.in-Some.class c.loop-class.active (sym c.in-Some.is ∙ c.front.ensures.front)) c.in-Some-place_of.place (class-in-front c.args.now c.args.active.now c.loop-class.active c.args.classes.now c.loop-class.classes c.loop-class.unasked c.loop-class.shown (record { losses = g.S.Sink.losses c.args.sink.now; losses_now = g.S.Sink.losses c.loop-class.sink; room = g.S.Sink.room c.args.sink.now; room_now = g.S.Sink.room c.loop-class.sink }) c.requires.ready c.loop-class.invariant.0 c.in-Some.class c.front.ensures.lawful (front_is c.in-Some.class c.loop-class.active (sym c.in-Some.is ∙ c.front.ensures.front)) c.in-Some-place_of.place (sym c.in-Some-place_of.is ∙ c.place_of.ensures.value)) c.ask_class-shown.new.class c.ask_class-shown.result (g.S.Sink.losses c.ask_class-shown.new.sink) (g.S.Sink.room c.ask_class-shown.new.sink) (class-shown c.args.now c.args.active.now c.loop-class.active c.args.classes.now c.loop-class.classes c.loop-class.unasked c.loop-class.shown (record { losses = g.S.Sink.losses c.args.sink.now; losses_now = g.S.Sink.losses c.loop-class.sink; room = g.S.Sink.room c.args.sink.now; room_now = g.S.Sink.room c.loop-class.sink }) c.requires.ready c.loop-class.invariant.0 c.in-Some.class c.front.ensures.lawful (front_is c.in-Some.class c.loop-class.active (sym c.in-Some.is ∙ c.front.ensures.front)) c.in-Some-place_of.place (class-in-front c.args.now c.args.active.now c.loop-class.active c.args.classes.now c.loop-class.classes c.loop-class.unasked c.loop-class.shown (record { losses = g.S.Sink.losses c.args.sink.now; losses_now = g.S.Sink.losses c.loop-class.sink; room = g.S.Sink.room c.args.sink.now; room_now = g.S.Sink.room c.loop-class.sink }) c.requires.ready c.loop-class.invariant.0 c.in-Some.class c.front.ensures.lawful (front_is c.in-Some.class c.loop-class.active (sym c.in-Some.is ∙ c.front.ensures.front)) c.in-Some-place_of.place (sym c.in-Some-place_of.is ∙ c.place_of.ensures.value)) c.index-classes-place.result c.ask_class-shown.new.class c.ask_class-shown.result (g.S.Sink.losses c.ask_class-shown.new.sink) (g.S.Sink.room c.ask_class-shown.new.sink) c.ask_class-shown.ensures.asked c.ask_class-shown.ensures.told c.ask_class-shown.ensures.at_hand c.ask_class-shown.ensures.not_lost) c.in-Some-packet.packet c.in-Some-packet.is) (front_quantum c.loop-class.active c.in-Some.class (front_is c.in-Some.class c.loop-class.active (sym c.in-Some.is ∙ c.front.ensures.front)) c.front.ensures.lawful) (subst (λ m. (front_is c.in-Some.class c.loop-class.active (sym c.in-Some.is ∙ c.front.ensures.front)).first.deficit < m) (ap (λ (p : Descriptor). p.len) c.packet.view_is) (falls_short c.loop-class.active c.in-Some.class c.packet.inside.len (front_is c.in-Some.class c.loop-class.active (sym c.in-Some.is ∙ c.front.ensures.front)) (sym c.in-Granted.is ∙ c.turn.ensures.answer))))
+
+pub drr::serve-loop-class-preserved : goal.drr::serve-loop-class-preserved
+drr::serve-loop-class-preserved g t c = (
+  subst (λ s. AreClassesAsked c.args.now c.args.active.now s c.args.classes.now (set c.loop-class.classes c.in-Some-place_of.place c.ask_class-shown.new.class) c.saturating_sub-unasked.result c.ask_class-shown.result
+      (record { losses = g.S.Sink.losses c.args.sink.now; losses_now = g.S.Sink.losses c.ask_class-shown.new.sink; room = g.S.Sink.room c.args.sink.now; room_now = g.S.Sink.room c.ask_class-shown.new.sink }))
+      (sym (c.turn.ensures.after ∙ ap (λ m. turned m c.loop-class.active) (ap (λ (p : Descriptor). p.len) c.packet.view_is)))
+      (classes-go-on c.args.now c.args.active.now c.loop-class.active c.args.classes.now c.loop-class.classes c.loop-class.unasked c.loop-class.shown (record { losses = g.S.Sink.losses c.args.sink.now; losses_now = g.S.Sink.losses c.loop-class.sink; room = g.S.Sink.room c.args.sink.now; room_now = g.S.Sink.room c.loop-class.sink }) c.requires.ready c.loop-class.invariant.0 c.in-Some.class c.front.ensures.lawful (front_is c.in-Some.class c.loop-class.active (sym c.in-Some.is ∙ c.front.ensures.front)) c.in-Some-place_of.place (class-in-front c.args.now c.args.active.now c.loop-class.active c.args.classes.now c.loop-class.classes c.loop-class.unasked c.loop-class.shown (record { losses = g.S.Sink.losses c.args.sink.now; losses_now = g.S.Sink.losses c.loop-class.sink; room = g.S.Sink.room c.args.sink.now; room_now = g.S.Sink.room c.loop-class.sink }) c.requires.ready c.loop-class.invariant.0 c.in-Some.class c.front.ensures.lawful (front_is c.in-Some.class c.loop-class.active (sym c.in-Some.is ∙ c.front.ensures.front)) c.in-Some-place_of.place (sym c.in-Some-place_of.is ∙ c.place_of.ensures.value)) c.ask_class-shown.new.class c.ask_class-shown.result (g.S.Sink.losses c.ask_class-shown.new.sink) (g.S.Sink.room c.ask_class-shown.new.sink) (class-shown c.args.now c.args.active.now c.loop-class.active c.args.classes.now c.loop-class.classes c.loop-class.unasked c.loop-class.shown (record { losses = g.S.Sink.losses c.args.sink.now; losses_now = g.S.Sink.losses c.loop-class.sink; room = g.S.Sink.room c.args.sink.now; room_now = g.S.Sink.room c.loop-class.sink }) c.requires.ready c.loop-class.invariant.0 c.in-Some.class c.front.ensures.lawful (front_is c.in-Some.class c.loop-class.active (sym c.in-Some.is ∙ c.front.ensures.front)) c.in-Some-place_of.place (class-in-front c.args.now c.args.active.now c.loop-class.active c.args.classes.now c.loop-class.classes c.loop-class.unasked c.loop-class.shown (record { losses = g.S.Sink.losses c.args.sink.now; losses_now = g.S.Sink.losses c.loop-class.sink; room = g.S.Sink.room c.args.sink.now; room_now = g.S.Sink.room c.loop-class.sink }) c.requires.ready c.loop-class.invariant.0 c.in-Some.class c.front.ensures.lawful (front_is c.in-Some.class c.loop-class.active (sym c.in-Some.is ∙ c.front.ensures.front)) c.in-Some-place_of.place (sym c.in-Some-place_of.is ∙ c.place_of.ensures.value)) c.index-classes-place.result c.ask_class-shown.new.class c.ask_class-shown.result (g.S.Sink.losses c.ask_class-shown.new.sink) (g.S.Sink.room c.ask_class-shown.new.sink) c.ask_class-shown.ensures.asked c.ask_class-shown.ensures.told c.ask_class-shown.ensures.at_hand c.ask_class-shown.ensures.not_lost) c.in-Some-packet.packet c.in-Some-packet.is (subst (λ m. (front_is c.in-Some.class c.loop-class.active (sym c.in-Some.is ∙ c.front.ensures.front)).first.deficit < m) (ap (λ (p : Descriptor). p.len) c.packet.view_is) (falls_short c.loop-class.active c.in-Some.class c.packet.inside.len (front_is c.in-Some.class c.loop-class.active (sym c.in-Some.is ∙ c.front.ensures.front)) (sym c.in-Granted.is ∙ c.turn.ensures.answer))) c.saturating_sub-unasked.result c.saturating_sub-unasked.ensures),
+  g.met.S.Sink.keeps_on c.args.sink.now c.loop-class.sink c.ask_class-shown.new.sink c.loop-class.invariant.1 c.ask_class-shown.ensures.kept,
+)
+
+pub drr::serve-returns-clause-active : goal.drr::serve-returns-clause-active
+drr::serve-returns-clause-active g t c = λ own. idle-schedule c.args.now c.args.active.now c.loop-class.active c.args.classes.now c.loop-class.classes c.loop-class.unasked c.loop-class.shown (record { losses = g.S.Sink.losses c.args.sink.now; losses_now = g.S.Sink.losses c.loop-class.sink; room = g.S.Sink.room c.args.sink.now; room_now = g.S.Sink.room c.loop-class.sink }) c.requires.ready c.loop-class.invariant.0 c.front.ensures.lawful (empty_front c.loop-class.active (sym c.in_default.is ∙ c.front.ensures.front)) own
+
+pub drr::serve-returns-clause-after : goal.drr::serve-returns-clause-after
+drr::serve-returns-clause-after g t c = λ own. idle-asked c.args.now c.args.active.now c.loop-class.active c.args.classes.now c.loop-class.classes c.loop-class.unasked c.loop-class.shown (record { losses = g.S.Sink.losses c.args.sink.now; losses_now = g.S.Sink.losses c.loop-class.sink; room = g.S.Sink.room c.args.sink.now; room_now = g.S.Sink.room c.loop-class.sink }) c.requires.ready c.loop-class.invariant.0 c.front.ensures.lawful (empty_front c.loop-class.active (sym c.in_default.is ∙ c.front.ensures.front)) c.at_hand.result (ap (λ (s : Shown). s.packet) c.at_hand.ensures)
+    (record { dropped = ap (λ (s : Shown). s.dropped) c.at_hand.ensures; marked = ap (λ (s : Shown). s.marked) c.at_hand.ensures }) own
+
+pub drr::serve-returns-clause-told : goal.drr::serve-returns-clause-told
+drr::serve-returns-clause-told g t c = λ own. idle-told c.args.now c.args.active.now c.loop-class.active c.args.classes.now c.loop-class.classes c.loop-class.unasked c.loop-class.shown (record { losses = g.S.Sink.losses c.args.sink.now; losses_now = g.S.Sink.losses c.loop-class.sink; room = g.S.Sink.room c.args.sink.now; room_now = g.S.Sink.room c.loop-class.sink }) c.requires.ready c.loop-class.invariant.0 c.front.ensures.lawful (empty_front c.loop-class.active (sym c.in_default.is ∙ c.front.ensures.front)) own
+
+pub drr::serve-returns-clause-kept : goal.drr::serve-returns-clause-kept
+drr::serve-returns-clause-kept g t c = c.loop-class.invariant.1
+
+pub node::Discipline::ask-ask_bands-requires : goal.node::Discipline::ask-ask_bands-requires
+node::Discipline::ask-ask_bands-requires g t c κs within =
+    let kids = c.deref_mut.ensures.value ∙ sym (ap children_seen c.in-Prio.is) in
+    (omega (arith, ap (λ xs. forest_size (side_by_side xs)) kids, c.decreases), (within, (each-of c.args.now c.args.self.now c.deref_mut.result.now c.requires.ready kids, omega (arith, c.requires.sink, room-of c.args.self.now c.deref_mut.result.now kids))))
+
+pub node::Discipline::ask-returns-in-Prio-clause-after :
+    goal.node::Discipline::ask-returns-in-Prio-clause-after
+node::Discipline::ask-returns-in-Prio-clause-after g t c = λ handle filters.
+    let kids = sym (c.deref_mut.ensures.value ∙ sym (ap children_seen c.in-Prio.is)) in
+    let asked_bands = c.ask_bands.ensures.after (own_of handle filters (spec.Prio c.in-Prio.priomap)) in
+    asked-in c.args.now handle filters c.args.self.now (code.Prio c.in-Prio.priomap (with_items c.in-Prio.bands c.ask_bands.new.bands)) (spec.Prio c.in-Prio.priomap) (spec.Prio c.in-Prio.priomap) c.deref_mut.result.now c.ask_bands.new.bands c.ask_bands.result
+    (ap discipline_seen c.in-Prio.is) kids refl (items-are c.in-Prio.bands.items c.ask_bands.new.bands c.in-Prio.bands.len (sym c.in-Prio.bands.ok.0) (asked_bands.long ∙ ap (λ xs. length xs) c.deref_mut.ensures.value))
+    (sym (ap places_seen c.in-Prio.is)) refl asked_bands
+
+pub node::Discipline::ask-returns-in-Prio-clause-told :
+    goal.node::Discipline::ask-returns-in-Prio-clause-told
+node::Discipline::ask-returns-in-Prio-clause-told g t c = λ handle filters.
+    let kids = sym (c.deref_mut.ensures.value ∙ sym (ap children_seen c.in-Prio.is)) in
+    told-in c.args.now handle filters c.args.self.now (spec.Prio c.in-Prio.priomap) c.deref_mut.result.now (g.S.Sink.losses c.args.sink.now) (g.S.Sink.losses c.ask_bands.new.sink) (g.S.Sink.room c.args.sink.now) (g.S.Sink.room c.ask_bands.new.sink)
+    (ap discipline_seen c.in-Prio.is) kids (c.ask_bands.ensures.told (own_of handle filters (spec.Prio c.in-Prio.priomap)))
+
+pub node::Discipline::ask-returns-in-Tbf-clause-after :
+    goal.node::Discipline::ask-returns-in-Tbf-clause-after
+node::Discipline::ask-returns-in-Tbf-clause-after g t c = λ handle filters.
+    let own = own_of handle filters (spec.Tbf c.in-Tbf.bucket c.in-Tbf.limit) in
+    let kids = ap children_seen c.in-Tbf.is ∙ ap (λ x. x ∷ []) (sym c.deref_mut-in-Tbf.ensures.value) in
+    asked-in c.args.now handle filters c.args.self.now (code.Tbf c.ask_child.new.bucket c.in-Tbf.limit (with_value c.in-Tbf.child c.ask_child.new.child)) (spec.Tbf c.in-Tbf.bucket c.in-Tbf.limit) (spec.Tbf c.ask_child.new.bucket c.in-Tbf.limit) (c.deref_mut-in-Tbf.result.now ∷ []) (c.ask_child.new.child ∷ []) c.ask_child.result
+    (ap discipline_seen c.in-Tbf.is) kids refl refl (sym (ap places_seen c.in-Tbf.is)) (c.ask_child.ensures.bucket own c.in-Tbf.limit refl) (c.ask_child.ensures.after own c.in-Tbf.limit)
+
+pub node::Discipline::ask-returns-in-Tbf-clause-told :
+    goal.node::Discipline::ask-returns-in-Tbf-clause-told
+node::Discipline::ask-returns-in-Tbf-clause-told g t c = λ handle filters.
+    let own = own_of handle filters (spec.Tbf c.in-Tbf.bucket c.in-Tbf.limit) in
+    let kids = ap children_seen c.in-Tbf.is ∙ ap (λ x. x ∷ []) (sym c.deref_mut-in-Tbf.ensures.value) in
+    told-in c.args.now handle filters c.args.self.now (spec.Tbf c.in-Tbf.bucket c.in-Tbf.limit) (c.deref_mut-in-Tbf.result.now ∷ []) (g.S.Sink.losses c.args.sink.now) (g.S.Sink.losses c.ask_child.new.sink) (g.S.Sink.room c.args.sink.now) (g.S.Sink.room c.ask_child.new.sink)
+    (ap discipline_seen c.in-Tbf.is) kids (c.ask_child.ensures.told own c.in-Tbf.limit)
+
+pub node::Discipline::ask-serve-requires : goal.node::Discipline::ask-serve-requires
+node::Discipline::ask-serve-requires g t c κs within =
+    let kids = c.deref_mut-in-Drr.ensures.value ∙ sym (ap children_seen c.in-Drr.is) in
+    (omega (arith, ap (λ xs. forest_size (side_by_side xs)) kids, c.decreases), (within, (serve-of c.args.now c.args.self.now c.in-Drr.active c.deref_mut-in-Drr.result.now c.requires.ready (ap discipline_seen c.in-Drr.is) kids, omega (arith, c.requires.sink, room-of c.args.self.now c.deref_mut-in-Drr.result.now kids))))
+
+pub node::Discipline::ask-returns-in-Drr-clause-after :
+    goal.node::Discipline::ask-returns-in-Drr-clause-after
+node::Discipline::ask-returns-in-Drr-clause-after g t c = λ handle filters.
+    let own = own_of handle filters (spec.Drr c.in-Drr.active) in
+    let kids = sym (c.deref_mut-in-Drr.ensures.value ∙ sym (ap children_seen c.in-Drr.is)) in
+    asked-in c.args.now handle filters c.args.self.now (code.Drr c.serve.new.active (with_items c.in-Drr.classes c.serve.new.classes)) (spec.Drr c.in-Drr.active) (spec.Drr c.serve.new.active) c.deref_mut-in-Drr.result.now c.serve.new.classes c.serve.result
+    (ap discipline_seen c.in-Drr.is) kids refl (items-are c.in-Drr.classes.items c.serve.new.classes c.in-Drr.classes.len (sym c.in-Drr.classes.ok.0) ((c.serve.ensures.after own).long ∙ ap (λ xs. length xs) c.deref_mut-in-Drr.ensures.value))
+    (sym (ap places_seen c.in-Drr.is)) (c.serve.ensures.active own) (c.serve.ensures.after own)
+
+pub node::Discipline::ask-returns-in-Drr-clause-told :
+    goal.node::Discipline::ask-returns-in-Drr-clause-told
+node::Discipline::ask-returns-in-Drr-clause-told g t c = λ handle filters.
+    let kids = sym (c.deref_mut-in-Drr.ensures.value ∙ sym (ap children_seen c.in-Drr.is)) in
+    told-in c.args.now handle filters c.args.self.now (spec.Drr c.in-Drr.active) c.deref_mut-in-Drr.result.now (g.S.Sink.losses c.args.sink.now) (g.S.Sink.losses c.serve.new.sink) (g.S.Sink.room c.args.sink.now) (g.S.Sink.room c.serve.new.sink)
+    (ap discipline_seen c.in-Drr.is) kids (c.serve.ensures.told (own_of handle filters (spec.Drr c.in-Drr.active)))
+
+pub node::Discipline::ask-take_from_flows-requires :
+    goal.node::Discipline::ask-take_from_flows-requires
+node::Discipline::ask-take_from_flows-requires g t c = record { sink = omega (arith, c.requires.sink, own-room c.args.self.now, flow-packets c.args.self.now c.in-FqCodel.queue c.in-FqCodel.is) }
+
+pub node::Discipline::ask-returns-in-FqCodel-clause-after :
+    goal.node::Discipline::ask-returns-in-FqCodel-clause-after
+node::Discipline::ask-returns-in-FqCodel-clause-after g t c = λ handle filters.
+    let e = c.take_from_flows.ensures in
+    let own = own_of handle filters (spec.FqCodel c.in-FqCodel.queue.state) in
+    asked-in c.args.now handle filters c.args.self.now (code.FqCodel c.take_from_flows.new.queue) (spec.FqCodel c.in-FqCodel.queue.state) (spec.FqCodel c.take_from_flows.new.queue.state) [] [] c.take_from_flows.result
+    (ap discipline_seen c.in-FqCodel.is) (ap children_seen c.in-FqCodel.is) refl refl (e.places ∙ sym (ap places_seen c.in-FqCodel.is)) (ap spec.FqCodel e.after)
+    (record { long = refl; nodes = refl; within = λ t h. h; shown = e.shown own [] })
+
+pub node::Discipline::ask-returns-in-FqCodel-clause-told :
+    goal.node::Discipline::ask-returns-in-FqCodel-clause-told
+node::Discipline::ask-returns-in-FqCodel-clause-told g t c = λ handle filters.
+    let e = c.take_from_flows.ensures in
+    let own = own_of handle filters (spec.FqCodel c.in-FqCodel.queue.state) in
+    told-in c.args.now handle filters c.args.self.now (spec.FqCodel c.in-FqCodel.queue.state) [] (g.S.Sink.losses c.args.sink.now) (g.S.Sink.losses c.take_from_flows.new.sink) (g.S.Sink.room c.args.sink.now) (g.S.Sink.room c.take_from_flows.new.sink)
+    (ap discipline_seen c.in-FqCodel.is) (ap children_seen c.in-FqCodel.is)
+    (flow-told c.args.now c.in-FqCodel.queue.state own [] (g.S.Sink.losses c.args.sink.now) (g.S.Sink.losses c.take_from_flows.new.sink) (g.S.Sink.room c.args.sink.now) (g.S.Sink.room c.take_from_flows.new.sink) e.lost e.room)
+
+pub node::Node::peek-returns-then-is_some-clause-after :
+    goal.node::Node::peek-returns-then-is_some-clause-after
+node::Node::peek-returns-then-is_some-clause-after g t c =
+    let held = some-held c.self.inside.held (c.if-is_some.ensures) in
+    holding-after c.args.now c.self.inside c.args.self.now held.0 c.self.view_is held.1
+
+pub node::Node::peek-ask-shown-requires : goal.node::Node::peek-ask-shown-requires
+node::Node::peek-ask-shown-requires g t c κs within = (
+  omega (arith, children-size c.self.inside c.args.self.now (children_seen c.self.inside.discipline) c.self.view_is refl, c.decreases),
+  (
+    within,
+    (
+      can-in c.args.now c.self.inside c.args.self.now c.self.invariant c.self.view_is c.requires.ready (omega (arith, c.self.ranges)) (omega (arith, c.self.ranges)),
+      enough c.args.now c.self.inside c.args.self.now c.self.invariant c.self.view_is c.requires.ready (g.S.Sink.room c.args.sink.now) c.requires.sink,
+    ),
+  ),
+)
+
+pub node::Node::peek-book_shown-requires-clause-room :
+    goal.node::Node::peek-book_shown-requires-clause-room
+node::Node::peek-book_shown-requires-clause-room g t c =
+    can-book c.args.now c.self.inside c.args.self.now c.self.invariant c.self.view_is c.requires.ready (none-held c.self.inside.held c.if-is_some.ensures) c.ask-shown.new.self c.ask-shown.result (c.ask-shown.ensures.after c.self.inside.handle c.self.inside.filters.items) (omega (arith, c.self.ranges)) (omega (arith, c.self.ranges))
+
+pub node::Node::peek-invariant_of-self : goal.node::Node::peek-invariant_of-self
+node::Node::peek-invariant_of-self g t c = (asked g t c).stays
+
+pub node::Node::peek-returns-clause-after : goal.node::Node::peek-returns-clause-after
+node::Node::peek-returns-clause-after g t c = (asked g t c).after
+
+pub node::Node::peek-returns-clause-shown : goal.node::Node::peek-returns-clause-shown
+node::Node::peek-returns-clause-shown g t c =
+    shown-here c.args.now c.self.inside c.args.self.now c.self.invariant c.self.view_is c.requires.ready (none-held c.self.inside.held c.if-is_some.ensures) c.ask-shown.new.self c.ask-shown.result (c.ask-shown.ensures.after c.self.inside.handle c.self.inside.filters.items)
+
+pub node::Node::peek-returns-clause-lost : goal.node::Node::peek-returns-clause-lost
+node::Node::peek-returns-clause-lost g t c = (told-here c.args.now c.self.inside c.args.self.now c.self.invariant c.self.view_is c.requires.ready (none-held c.self.inside.held c.if-is_some.ensures) (g.S.Sink.losses c.args.sink.now) (g.S.Sink.losses c.ask-shown.new.sink) (g.S.Sink.room c.args.sink.now) (g.S.Sink.room c.ask-shown.new.sink) (c.ask-shown.ensures.told c.self.inside.handle c.self.inside.filters.items)).lost
+
+pub node::Node::peek-returns-clause-room : goal.node::Node::peek-returns-clause-room
+node::Node::peek-returns-clause-room g t c = (told-here c.args.now c.self.inside c.args.self.now c.self.invariant c.self.view_is c.requires.ready (none-held c.self.inside.held c.if-is_some.ensures) (g.S.Sink.losses c.args.sink.now) (g.S.Sink.losses c.ask-shown.new.sink) (g.S.Sink.room c.args.sink.now) (g.S.Sink.room c.ask-shown.new.sink) (c.ask-shown.ensures.told c.self.inside.handle c.self.inside.filters.items)).room_taken
+
+pub prio::ask_bands-loop-place-init : goal.prio::ask_bands-loop-place-init
+prio::ask_bands-loop-place-init g t c = (
+  bands-start c.args.now c.args.bands.now c.at_hand-shown.result (record { dropped = ap (λ (s : Shown). s.dropped) c.at_hand-shown.ensures; marked = ap (λ (s : Shown). s.marked) c.at_hand-shown.ensures }) (ap (λ (s : Shown). s.packet) c.at_hand-shown.ensures),
+  told-nothing (g.S.Sink.losses c.args.sink.now) (g.S.Sink.room c.args.sink.now),
+  g.met.S.Sink.keeps_same c.args.sink.now,
+)
+
+pub prio::ask_bands-peek-requires : goal.prio::ask_bands-peek-requires
+prio::ask_bands-peek-requires g t c κs within =
+    let at = band-at c.args.now c.args.bands.now c.loop-place.bands c.loop-place.place c.loop-place.shown c.loop-place.invariant.0 c.index-bands-place.result c.loop-place-test.true in
+    let once = (band-once c.args.now c.args.bands.now c.loop-place.bands c.loop-place.place c.loop-place.shown c.requires.ready c.loop-place.invariant.0 (slice_index_or c.loop-place.bands c.loop-place.place c.index-bands-place.result) (band-at c.args.now c.args.bands.now c.loop-place.bands c.loop-place.place c.loop-place.shown c.loop-place.invariant.0 c.index-bands-place.result c.loop-place-test.true) (g.S.Sink.losses c.args.sink.now) (g.S.Sink.losses c.loop-place.sink) (g.S.Sink.room c.args.sink.now) (g.S.Sink.room c.loop-place.sink) c.loop-place.invariant.1 c.requires.sink) in
+    (omega (arith, child-size c.args.bands.now c.loop-place.place (slice_index_or c.loop-place.bands c.loop-place.place c.index-bands-place.result) at, c.decreases), (within, (once.ready, once.sink)))
+
+pub prio::ask_bands-then-shown-requires-clause-dropped_packets :
+    goal.prio::ask_bands-then-shown-requires-clause-dropped_packets
+prio::ask_bands-then-shown-requires-clause-dropped_packets g t c =
+    (fits-beside c.args.now (slice_index_or c.loop-place.bands c.loop-place.place c.index-bands-place.result) c.loop-place.shown c.peek.result (g.S.Sink.room c.loop-place.sink)
+    (band-once c.args.now c.args.bands.now c.loop-place.bands c.loop-place.place c.loop-place.shown c.requires.ready c.loop-place.invariant.0 (slice_index_or c.loop-place.bands c.loop-place.place c.index-bands-place.result) (band-at c.args.now c.args.bands.now c.loop-place.bands c.loop-place.place c.loop-place.shown c.loop-place.invariant.0 c.index-bands-place.result c.loop-place-test.true) (g.S.Sink.losses c.args.sink.now) (g.S.Sink.losses c.loop-place.sink) (g.S.Sink.room c.args.sink.now) (g.S.Sink.room c.loop-place.sink) c.loop-place.invariant.1 c.requires.sink) c.peek.ensures.shown).dropped_packets
+
+pub prio::ask_bands-then-shown-requires-clause-dropped_bytes :
+    goal.prio::ask_bands-then-shown-requires-clause-dropped_bytes
+prio::ask_bands-then-shown-requires-clause-dropped_bytes g t c =
+    (fits-beside c.args.now (slice_index_or c.loop-place.bands c.loop-place.place c.index-bands-place.result) c.loop-place.shown c.peek.result (g.S.Sink.room c.loop-place.sink)
+    (band-once c.args.now c.args.bands.now c.loop-place.bands c.loop-place.place c.loop-place.shown c.requires.ready c.loop-place.invariant.0 (slice_index_or c.loop-place.bands c.loop-place.place c.index-bands-place.result) (band-at c.args.now c.args.bands.now c.loop-place.bands c.loop-place.place c.loop-place.shown c.loop-place.invariant.0 c.index-bands-place.result c.loop-place-test.true) (g.S.Sink.losses c.args.sink.now) (g.S.Sink.losses c.loop-place.sink) (g.S.Sink.room c.args.sink.now) (g.S.Sink.room c.loop-place.sink) c.loop-place.invariant.1 c.requires.sink) c.peek.ensures.shown).dropped_bytes
+
+pub prio::ask_bands-then-shown-requires-clause-marked_packets :
+    goal.prio::ask_bands-then-shown-requires-clause-marked_packets
+prio::ask_bands-then-shown-requires-clause-marked_packets g t c =
+    (fits-beside c.args.now (slice_index_or c.loop-place.bands c.loop-place.place c.index-bands-place.result) c.loop-place.shown c.peek.result (g.S.Sink.room c.loop-place.sink)
+    (band-once c.args.now c.args.bands.now c.loop-place.bands c.loop-place.place c.loop-place.shown c.requires.ready c.loop-place.invariant.0 (slice_index_or c.loop-place.bands c.loop-place.place c.index-bands-place.result) (band-at c.args.now c.args.bands.now c.loop-place.bands c.loop-place.place c.loop-place.shown c.loop-place.invariant.0 c.index-bands-place.result c.loop-place-test.true) (g.S.Sink.losses c.args.sink.now) (g.S.Sink.losses c.loop-place.sink) (g.S.Sink.room c.args.sink.now) (g.S.Sink.room c.loop-place.sink) c.loop-place.invariant.1 c.requires.sink) c.peek.ensures.shown).marked_packets
+
+pub prio::ask_bands-then-shown-requires-clause-marked_bytes :
+    goal.prio::ask_bands-then-shown-requires-clause-marked_bytes
+prio::ask_bands-then-shown-requires-clause-marked_bytes g t c =
+    (fits-beside c.args.now (slice_index_or c.loop-place.bands c.loop-place.place c.index-bands-place.result) c.loop-place.shown c.peek.result (g.S.Sink.room c.loop-place.sink)
+    (band-once c.args.now c.args.bands.now c.loop-place.bands c.loop-place.place c.loop-place.shown c.requires.ready c.loop-place.invariant.0 (slice_index_or c.loop-place.bands c.loop-place.place c.index-bands-place.result) (band-at c.args.now c.args.bands.now c.loop-place.bands c.loop-place.place c.loop-place.shown c.loop-place.invariant.0 c.index-bands-place.result c.loop-place-test.true) (g.S.Sink.losses c.args.sink.now) (g.S.Sink.losses c.loop-place.sink) (g.S.Sink.room c.args.sink.now) (g.S.Sink.room c.loop-place.sink) c.loop-place.invariant.1 c.requires.sink) c.peek.ensures.shown).marked_bytes
+
+pub prio::ask_bands-returns-then-is_some-clause-after :
+    goal.prio::ask_bands-returns-then-is_some-clause-after
+prio::ask_bands-returns-then-is_some-clause-after g t c = λ own.
+    band-shown c.args.now c.args.bands.now c.loop-place.bands c.loop-place.place c.loop-place.shown c.requires.ready c.loop-place.invariant.0 (slice_index_or c.loop-place.bands c.loop-place.place c.index-bands-place.result) (band-at c.args.now c.args.bands.now c.loop-place.bands c.loop-place.place c.loop-place.shown c.loop-place.invariant.0 c.index-bands-place.result c.loop-place-test.true) c.peek.new.self c.peek.result c.then-shown.result c.peek.ensures.after c.peek.ensures.arrived c.peek.ensures.shown
+    (ap (λ (s : Shown). s.dropped) c.then-shown.ensures) (ap (λ (s : Shown). s.marked) c.then-shown.ensures) (ap (λ (s : Shown). s.packet) c.then-shown.ensures) (sym c.if-is_some.ensures) own
+
+pub prio::ask_bands-returns-then-is_some-clause-told :
+    goal.prio::ask_bands-returns-then-is_some-clause-told
+prio::ask_bands-returns-then-is_some-clause-told g t c = λ own.
+    subst (λ notes. IsToldOf notes (g.S.Sink.losses c.args.sink.now) (g.S.Sink.losses c.peek.new.sink) (g.S.Sink.room c.args.sink.now) (g.S.Sink.room c.peek.new.sink))
+    (band-rises c.args.now c.args.bands.now c.loop-place.bands c.loop-place.place c.loop-place.shown c.requires.ready c.loop-place.invariant.0 (slice_index_or c.loop-place.bands c.loop-place.place c.index-bands-place.result) (band-at c.args.now c.args.bands.now c.loop-place.bands c.loop-place.place c.loop-place.shown c.loop-place.invariant.0 c.index-bands-place.result c.loop-place-test.true) c.peek.new.self c.peek.result c.then-shown.result c.peek.ensures.after c.peek.ensures.arrived c.peek.ensures.shown
+    (ap (λ (s : Shown). s.dropped) c.then-shown.ensures) (ap (λ (s : Shown). s.marked) c.then-shown.ensures) (ap (λ (s : Shown). s.packet) c.then-shown.ensures) (sym c.if-is_some.ensures) own)
+    (told-then (told_to c.loop-place.place (answers c.args.now c.args.bands.now)) (ask c.args.now (shape (slice_index_or c.loop-place.bands c.loop-place.place c.index-bands-place.result))).rises (g.S.Sink.losses c.args.sink.now) (g.S.Sink.losses c.loop-place.sink) (g.S.Sink.losses c.peek.new.sink)
+    (g.S.Sink.room c.args.sink.now) (g.S.Sink.room c.loop-place.sink) (g.S.Sink.room c.peek.new.sink) c.loop-place.invariant.1 (record { lost = c.peek.ensures.lost; room_taken = c.peek.ensures.room }))
+
+pub prio::ask_bands-returns-then-is_some-clause-kept :
+    goal.prio::ask_bands-returns-then-is_some-clause-kept
+prio::ask_bands-returns-then-is_some-clause-kept g t c = g.met.S.Sink.keeps_on c.args.sink.now c.loop-place.sink c.peek.new.sink c.loop-place.invariant.2 c.peek.ensures.kept
+
+pub prio::ask_bands-loop-place-preserved : goal.prio::ask_bands-loop-place-preserved
+prio::ask_bands-loop-place-preserved g t c = (
+  subst (λ n. AreBandsAsked c.args.now c.args.bands.now (set c.loop-place.bands c.loop-place.place c.peek.new.self) n c.then-shown.result) (sym (add-one c.loop-place.place))
+      (band-passed c.args.now c.args.bands.now c.loop-place.bands c.loop-place.place c.loop-place.shown c.requires.ready c.loop-place.invariant.0 (slice_index_or c.loop-place.bands c.loop-place.place c.index-bands-place.result) (band-at c.args.now c.args.bands.now c.loop-place.bands c.loop-place.place c.loop-place.shown c.loop-place.invariant.0 c.index-bands-place.result c.loop-place-test.true) c.peek.new.self c.peek.result c.then-shown.result c.peek.ensures.after c.peek.ensures.arrived c.peek.ensures.shown
+      (ap (λ (s : Shown). s.dropped) c.then-shown.ensures) (ap (λ (s : Shown). s.marked) c.then-shown.ensures) (ap (λ (s : Shown). s.packet) c.then-shown.ensures) (sym c.if-is_some.ensures)),
+  subst (λ n. IsToldOf (told_to n (answers c.args.now c.args.bands.now)) (g.S.Sink.losses c.args.sink.now) (g.S.Sink.losses c.peek.new.sink) (g.S.Sink.room c.args.sink.now) (g.S.Sink.room c.peek.new.sink)) (sym (add-one c.loop-place.place))
+      (subst (λ notes. IsToldOf notes (g.S.Sink.losses c.args.sink.now) (g.S.Sink.losses c.peek.new.sink) (g.S.Sink.room c.args.sink.now) (g.S.Sink.room c.peek.new.sink))
+      (band-told c.args.now c.args.bands.now c.loop-place.bands c.loop-place.place c.loop-place.shown c.requires.ready c.loop-place.invariant.0 (slice_index_or c.loop-place.bands c.loop-place.place c.index-bands-place.result) (band-at c.args.now c.args.bands.now c.loop-place.bands c.loop-place.place c.loop-place.shown c.loop-place.invariant.0 c.index-bands-place.result c.loop-place-test.true))
+      (told-then (told_to c.loop-place.place (answers c.args.now c.args.bands.now)) (ask c.args.now (shape (slice_index_or c.loop-place.bands c.loop-place.place c.index-bands-place.result))).rises (g.S.Sink.losses c.args.sink.now) (g.S.Sink.losses c.loop-place.sink) (g.S.Sink.losses c.peek.new.sink)
+      (g.S.Sink.room c.args.sink.now) (g.S.Sink.room c.loop-place.sink) (g.S.Sink.room c.peek.new.sink) c.loop-place.invariant.1 (record { lost = c.peek.ensures.lost; room_taken = c.peek.ensures.room }))),
+  g.met.S.Sink.keeps_on c.args.sink.now c.loop-place.sink c.peek.new.sink c.loop-place.invariant.2 c.peek.ensures.kept,
+)
+
+pub prio::ask_bands-returns-clause-after : goal.prio::ask_bands-returns-clause-after
+prio::ask_bands-returns-clause-after g t c = λ own. bands-end c.args.now c.args.bands.now c.loop-place.bands c.loop-place.place c.loop-place.shown c.loop-place.invariant.0 c.loop-place-test.false c.loop-place.auto.place-end own
+
+pub prio::ask_bands-returns-clause-told : goal.prio::ask_bands-returns-clause-told
+prio::ask_bands-returns-clause-told g t c = λ own.
+    subst (λ notes. IsToldOf notes (g.S.Sink.losses c.args.sink.now) (g.S.Sink.losses c.loop-place.sink) (g.S.Sink.room c.args.sink.now) (g.S.Sink.room c.loop-place.sink)) (bands-rises c.args.now c.args.bands.now c.loop-place.bands c.loop-place.place c.loop-place.shown c.loop-place.invariant.0 c.loop-place-test.false c.loop-place.auto.place-end own) c.loop-place.invariant.1
+
+pub prio::ask_bands-returns-clause-kept : goal.prio::ask_bands-returns-clause-kept
+prio::ask_bands-returns-clause-kept g t c = c.loop-place.invariant.2
+
+pub tbf::ask_child-returns-clause-after : goal.tbf::ask_child-returns-clause-after
+tbf::ask_child-returns-clause-after g t c = λ own limit.
+    let shown = sym c.peek-shown.ensures.shown.packet ∙ c.in-Some.is in
+    tbf-gave c.args.now own c.args.bucket.now limit c.args.child.now c.peek-shown.new.self c.pop.new.self c.in-Some.packet (record { packet = c.pop.result; dropped = c.peek-shown.result.dropped; marked = c.peek-shown.result.marked })
+    c.requires.ready c.peek-shown.ensures.after shown (sym (ap (λ (p : Descriptor). allows c.args.bucket.now c.args.now p.len) c.packet.view_is) ∙ sym c.spend.ensures.answer ∙ c.if-not-spend.false) c.pop.ensures.after (c.pop.ensures.arrived ∙ c.peek-shown.ensures.arrived) c.pop.ensures.packet c.peek-shown.ensures.shown.dropped c.peek-shown.ensures.shown.marked

@@ -1,0 +1,46 @@
+use Rattle.std.proofs.Common.{◌+◌, ◌*◌}
+use Rattle.std.specs.List.{sum_by}
+use Rattle.q_drr.specs.Schedule.{quantum_of}
+use Rattle.q_drr.specs.Take.{need}
+use Rattle.q_model.specs.Node.{side_by_side}
+use Rattle.q_tree.specs.AskSteps.{IsToldOf, answers}
+use Rattle.q_tree.specs.NodeCode.{node_size, forest_size}
+use Rattle.q_tree.specs.Seen.{children_seen}
+use Rattle.q_tree.proofs.AskBands.{AreBandsAsked, told_to}
+use Rattle.q_tree.proofs.ServeLemmas.{AreClassesAsked, heads_of}
+use Rattle.q_tree.proofs.+peek.Given as goal
+
+abbrev pub invariant-drr::serve-loop-class : goal.invariant-drr::serve-loop-class
+invariant-drr::serve-loop-class g l =
+    AreClassesAsked l.fn.now l.fn.active l.active l.fn.classes l.classes l.unasked l.shown
+    (record { losses = g.S.Sink.losses l.fn.sink; losses_now = g.S.Sink.losses l.sink; room = g.S.Sink.room l.fn.sink; room_now = g.S.Sink.room l.sink })
+    × g.S.Sink.keeps l.fn.sink l.sink
+
+-- each grant lowers one class's need of grants by one
+abbrev pub decreases-drr::serve-loop-class : goal.decreases-drr::serve-loop-class
+decreases-drr::serve-loop-class g l = sum_by (need (λ m. quantum_of m l.active.classes) (heads_of l.fn.now l.fn.active l.fn.classes)) l.active.active
+
+abbrev pub invariant-prio::ask_bands-loop-place : goal.invariant-prio::ask_bands-loop-place
+invariant-prio::ask_bands-loop-place g l =
+    AreBandsAsked l.fn.now l.fn.bands l.bands l.place l.shown
+    × IsToldOf (told_to l.place (answers l.fn.now l.fn.bands)) (g.S.Sink.losses l.fn.sink) (g.S.Sink.losses l.sink) (g.S.Sink.room l.fn.sink) (g.S.Sink.room l.sink)
+    × g.S.Sink.keeps l.fn.sink l.sink
+
+-- each call goes further down the tree
+abbrev pub decreases-node::Node::peek : goal.decreases-node::Node::peek
+decreases-node::Node::peek g l = 3 * node_size l.self.now
+
+abbrev pub decreases-node::Discipline::ask : goal.decreases-node::Discipline::ask
+decreases-node::Discipline::ask g l = 3 * forest_size (side_by_side (children_seen l.self.now)) + 2
+
+abbrev pub decreases-prio::ask_bands : goal.decreases-prio::ask_bands
+decreases-prio::ask_bands g l = 3 * forest_size (side_by_side l.bands.now) + 1
+
+abbrev pub decreases-tbf::ask_child : goal.decreases-tbf::ask_child
+decreases-tbf::ask_child g l = 3 * node_size l.child.now + 1
+
+abbrev pub decreases-drr::serve : goal.decreases-drr::serve
+decreases-drr::serve g l = 3 * forest_size (side_by_side l.classes.now) + 1
+
+abbrev pub decreases-drr::ask_class : goal.decreases-drr::ask_class
+decreases-drr::ask_class g l = 3 * node_size l.class.now + 1

@@ -1,0 +1,180 @@
+-- A row in which it is booked what asking a node came to has what the model counts of it.
+use Rattle.std.proofs.Common.{◌≡◌, ◌<◌, ◌^◌, List, ◌++◌, length, sym, ap, subst, arith}
+use Rattle.std.specs.List.{All, fold}
+use Rattle.q_model.specs.declared.row.Row.{Row}
+use Rattle.q_model.specs.declared.totals.Totals.{Totals}
+use Rattle.q_model.specs.Beneath.{beneath, totals_in}
+use Rattle.q_model.specs.Conserved.{held_beneath, IsBalanced, AreMarksBounded}
+use Rattle.q_model.specs.Node.{Node}
+use Rattle.q_model.specs.Tally.{Note, Counts, counted, no_counts, counts_in, noted, totals}
+use Rattle.q_sound.proofs.Answer.{one, IsSilent}
+use Rattle.q_sound.proofs.Counted.{bytes, lost-parts, all-more}
+use Rattle.q_sound.proofs.EditNew.{held-le-beneath}
+use Rattle.q_sound.proofs.Weights.{weigh-count, dropped, marked, dropped-append, marked-append, lost-append, arrived-append, sent-append, IsQuiet}
+use Rattle.q_tree.specs.Arrivals.{plus}
+use Rattle.q_tree.specs.AskSteps.{CanShow, with_shown}
+use Rattle.q_tree.specs.Kept.{Kept}
+use Rattle.q_tree.specs.Seen.{seen, children_seen, IsKept, IsCountedWithin}
+use Rattle.q_tree.specs.declared.node.Node.TheInside.{Inside}
+use Rattle.q_tree.specs.declared.shown.Shown.{Shown}
+use Rattle.q_tree.proofs.Asking.{IsWeighed}
+use Rattle.q_tree.proofs.Rows.{counts_in_row, same-totals, same-counts, weigh-bytes}
+
+-- what is counted of notes, packet by packet
+pub record IsCountOf (notes : List Note) (s : Shown) : Type 0 where
+  pub dropped_packets : s.dropped.packets ≡ dropped one notes
+  pub dropped_bytes : s.dropped.bytes ≡ dropped bytes notes
+  pub marked_packets : s.marked.packets ≡ marked one notes
+  pub marked_bytes : s.marked.bytes ≡ marked bytes notes
+
+pub counts-of : (notes : List Note) (s : Shown) → s.dropped ≡ (counts_in notes).dropped → s.marked ≡ (counts_in notes).marked → IsCountOf notes s
+counts-of notes s d m =
+    let z = all-more no_counts notes in
+    record {
+      dropped_packets = omega (arith, z.dropped_packets, ap (λ (t : Totals). t.packets) d);
+      dropped_bytes = omega (arith, z.dropped_bytes, ap (λ (t : Totals). t.bytes) d);
+      marked_packets = omega (arith, z.marked_packets, ap (λ (t : Totals). t.packets) m);
+      marked_bytes = omega (arith, z.marked_bytes, ap (λ (t : Totals). t.bytes) m);
+    }
+
+-- counts of notes and of more notes
+pub dropped-both : (ms ns : List Note) → plus (counts_in ms).dropped (counts_in ns).dropped ≡ (counts_in (ms ++ ns)).dropped
+dropped-both ms ns =
+    let a = all-more no_counts ms in
+    let b = all-more no_counts ns in
+    let c = all-more no_counts (ms ++ ns) in
+    same-totals (plus (counts_in ms).dropped (counts_in ns).dropped) (counts_in (ms ++ ns)).dropped
+    (omega (arith, a.dropped_packets, b.dropped_packets, c.dropped_packets, dropped-append one ms ns))
+    (omega (arith, a.dropped_bytes, b.dropped_bytes, c.dropped_bytes, dropped-append bytes ms ns))
+
+pub marked-both : (ms ns : List Note) → plus (counts_in ms).marked (counts_in ns).marked ≡ (counts_in (ms ++ ns)).marked
+marked-both ms ns =
+    let a = all-more no_counts ms in
+    let b = all-more no_counts ns in
+    let c = all-more no_counts (ms ++ ns) in
+    same-totals (plus (counts_in ms).marked (counts_in ns).marked) (counts_in (ms ++ ns)).marked
+    (omega (arith, a.marked_packets, b.marked_packets, c.marked_packets, marked-append one ms ns))
+    (omega (arith, a.marked_bytes, b.marked_bytes, c.marked_bytes, marked-append bytes ms ns))
+
+-- the row of a node that was asked, where it noted `mine` for itself besides
+pub counted-shown : (rises mine : List Note) (s : Shown) (r : Row) → IsQuiet rises → IsSilent mine → s.dropped ≡ (counts_in rises).dropped → s.marked ≡ (counts_in rises).marked
+    → counts_in_row (with_shown s r) ≡ noted totals (counts_in_row r) (rises ++ mine)
+counted-shown rises mine s r quiet silent d k =
+    let c : Counts = counts_in_row r in
+    let m = all-more c (rises ++ mine) in
+    let z = counts-of rises s d k in
+    let e : Counts = fold counted c (rises ++ mine) in
+    let lost_one = lost-parts one (rises ++ mine) in
+    let lost_bytes = lost-parts bytes (rises ++ mine) in
+    same-counts (counts_in_row (with_shown s r)) e
+    (same-totals r.arrived e.arrived
+    (omega (arith, m.arrived_packets, arrived-append one rises mine, quiet.no_arrival one, silent.no_arrival one))
+    (omega (arith, m.arrived_bytes, arrived-append bytes rises mine, quiet.no_arrival bytes, silent.no_arrival bytes)))
+    (same-totals r.sent e.sent
+    (omega (arith, m.sent_packets, sent-append one rises mine, quiet.nothing_sent one, silent.nothing_sent one))
+    (omega (arith, m.sent_bytes, sent-append bytes rises mine, quiet.nothing_sent bytes, silent.nothing_sent bytes)))
+    (same-totals r.refused e.refused
+    (omega (arith, m.refused_packets, lost_one, lost-append one rises mine, dropped-append one rises mine, quiet.all_dropped one, silent.nothing_lost one, silent.nothing_dropped one))
+    (omega (arith, m.refused_bytes, lost_bytes, lost-append bytes rises mine, dropped-append bytes rises mine, quiet.all_dropped bytes, silent.nothing_lost bytes, silent.nothing_dropped bytes)))
+    (same-totals (plus r.dropped s.dropped) e.dropped
+    (omega (arith, m.dropped_packets, z.dropped_packets, dropped-append one rises mine, silent.nothing_dropped one))
+    (omega (arith, m.dropped_bytes, z.dropped_bytes, dropped-append bytes rises mine, silent.nothing_dropped bytes)))
+    (same-totals (plus r.marked s.marked) e.marked
+    (omega (arith, m.marked_packets, z.marked_packets, marked-append one rises mine, silent.nothing_marked one))
+    (omega (arith, m.marked_bytes, z.marked_bytes, marked-append bytes rises mine, silent.nothing_marked bytes)))
+
+-- a node before and after it was asked: what it stores is right again
+module _ (a : Inside) (k : IsKept a) (rises : List Note) (s : Shown) (m : Node Kept) (is : IsWeighed rises (seen a) m) (d : s.dropped ≡ (counts_in rises).dropped) (e : s.marked ≡ (counts_in rises).marked) where
+  pub can-show : a.row.arrived.packets < 2 ^ 64 → a.row.arrived.bytes < 2 ^ 64 → CanShow s a.row
+  can-show packets_fit bytes_fit =
+      let z = counts-of rises s d e in
+      record {
+        arrived_packets = packets_fit;
+        arrived_bytes = bytes_fit;
+        packets = omega (arith, z.dropped_packets, is.quiet.all_dropped one, is.waits one, weigh-count (beneath (seen a)), ap (λ (t : Totals). t.packets) k.queued);
+        bytes = omega (arith, z.dropped_bytes, is.quiet.all_dropped bytes, is.waits bytes, weigh-bytes (beneath (seen a)), ap (λ (t : Totals). t.bytes) k.queued);
+        marked_packets = omega (
+          arith,
+          packets_fit,
+          z.marked_packets,
+          k.marks.packets,
+          k.balanced.packets,
+          is.marks one,
+          is.waits one,
+          held-le-beneath one m,
+          weigh-count (held_beneath (seen a)),
+          weigh-count (beneath (seen a)),
+          ap (λ (t : Totals). t.packets) k.queued,
+        );
+        marked_bytes = omega (
+          arith,
+          bytes_fit,
+          z.marked_bytes,
+          k.marks.bytes,
+          k.balanced.bytes,
+          is.marks bytes,
+          is.waits bytes,
+          held-le-beneath bytes m,
+          weigh-bytes (held_beneath (seen a)),
+          weigh-bytes (beneath (seen a)),
+          ap (λ (t : Totals). t.bytes) k.queued,
+        );
+      }
+
+  pub kept-shown : (b : Inside) → b.row ≡ with_shown s a.row → seen b ≡ m → CanShow s a.row
+      → All (λ (child : Node Kept). IsCountedWithin child.memory.counts.arrived a.row.arrived) (children_seen b.discipline) → IsKept b
+  kept-shown b row value can within =
+      let z = counts-of rises s d e in
+      record {
+        queued = same-totals b.row.queued (totals_in (beneath (seen b)))
+            (omega (
+              arith,
+              ap (λ (x : Row). x.queued.packets) row,
+              can.packets,
+              z.dropped_packets,
+              is.quiet.all_dropped one,
+              is.waits one,
+              weigh-count (beneath (seen a)),
+              weigh-count (beneath m),
+              ap (λ (x : Node Kept). length (beneath x)) value,
+              ap (λ (t : Totals). t.packets) k.queued,
+            ))
+            (omega (
+              arith,
+              ap (λ (x : Row). x.queued.bytes) row,
+              can.bytes,
+              z.dropped_bytes,
+              is.quiet.all_dropped bytes,
+              is.waits bytes,
+              weigh-bytes (beneath (seen a)),
+              weigh-bytes (beneath m),
+              ap (λ (x : Node Kept). (totals_in (beneath x)).bytes) value,
+              ap (λ (t : Totals). t.bytes) k.queued,
+            ));
+        balanced = subst IsBalanced (sym row) (record { packets = omega (arith, k.balanced.packets, can.packets); bytes = omega (arith, k.balanced.bytes, can.bytes) });
+        marks = subst (λ (x : Row). AreMarksBounded (counts_in_row x) (held_beneath (seen b))) (sym row) (record {
+          packets = omega (
+            arith,
+            k.marks.packets,
+            z.dropped_packets,
+            z.marked_packets,
+            is.quiet.all_dropped one,
+            is.marks one,
+            weigh-count (held_beneath (seen a)),
+            weigh-count (held_beneath m),
+            ap (λ (x : Node Kept). length (held_beneath x)) value,
+          );
+          bytes = omega (
+            arith,
+            k.marks.bytes,
+            z.dropped_bytes,
+            z.marked_bytes,
+            is.quiet.all_dropped bytes,
+            is.marks bytes,
+            weigh-bytes (held_beneath (seen a)),
+            weigh-bytes (held_beneath m),
+            ap (λ (x : Node Kept). (totals_in (held_beneath x)).bytes) value,
+          );
+        });
+        within = subst (λ (x : Row). All (λ (child : Node Kept). IsCountedWithin child.memory.counts.arrived x.arrived) (children_seen b.discipline)) (sym row) within;
+      }

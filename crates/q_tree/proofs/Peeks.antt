@@ -1,0 +1,215 @@
+-- A node that is asked: what its discipline can rely on, what is booked, and what the node is then.
+use Rattle.std.proofs.Common.{◌≡◌, ℕ, ◌≤◌, ◌<◌, ◌^◌, ◌∙◌, List, [], ◌∷◌, ◌++◌, map, take, drop, length, refl, sym, ap, ap₂, subst, Option, Some, None, option_to_list, flat_map, arith}
+use Rattle.std.specs.Prelude.{Bool, true, is_some, if◌then◌else◌}
+use Rattle.std.specs.Option.{option_map_or}
+use Rattle.std.proofs.lemmas.List.{append-nil, drop_all, take_all, length-append, length-map}
+use Rattle.std.proofs.lemmas.List.Sums.{sum_by-append}
+use Rattle.q_packet.specs.Descriptor.{Descriptor}
+use Rattle.q_codel.specs.declared.loss.Loss.{Loss}
+use Rattle.q_bucket.specs.Level.{TokenBucket, allows}
+use Rattle.q_drr.specs.Schedule.{Schedule, is_active}
+use Rattle.q_model.specs.declared.filter.Filter.{Filter}
+use Rattle.q_model.specs.declared.row.Row.{Row}
+use Rattle.q_model.specs.declared.totals.Totals.{Totals}
+use Rattle.q_model.specs.Ask.{Asked, befores, ask, ask_discipline, holding, waits, spends, ask_child}
+use Rattle.q_model.specs.Beneath.{beneath, beneath_own, packets_in, totals_in}
+use Rattle.q_model.specs.Lawful.{IsLawfulDiscipline}
+use Rattle.q_model.specs.Node as spec
+use Rattle.q_model.specs.Node.{Node, Own, shape, side_by_side, each}
+use Rattle.q_model.specs.Pop.{Popping, pop, pop_own}
+use Rattle.q_model.specs.Tally.{counts_in}
+use Rattle.q_model.specs.Work.{booked, each_booked}
+use Rattle.q_sound.proofs.Exact.{exact-length}
+use Rattle.q_sound.proofs.Forests.{each-side, AreLawful}
+use Rattle.q_sound.proofs.Kept.{AllLawful}
+use Rattle.q_sound.proofs.Pops.{ask-popped, booked-then}
+use Rattle.q_sound.proofs.Told.{root-booked}
+use Rattle.q_tree.specs.AskSteps.{CanAsk, CanAskEach, CanServe, CanAskIn, CanShow, IsShown, AreAsked, IsToldOf, IsAskedIn, answers, answer_of, own_of, held_in, packets_within, with_shown}
+use Rattle.q_tree.specs.Kept.{Kept, kept}
+use Rattle.q_tree.specs.PutSteps.{packets_beneath}
+use Rattle.q_tree.specs.Seen.{seen, discipline_seen, children_seen, places_seen, IsKept}
+use Rattle.q_tree.specs.declared.node.Discipline.{Discipline}
+use Rattle.q_tree.specs.declared.node.Node.TheInside.{Inside}
+use Rattle.q_tree.specs.declared.shown.Shown.{Shown}
+use Rattle.q_tree.proofs.AskForms.{ask-holding, ask-none, peeked-is}
+use Rattle.q_tree.proofs.AskRows.{can-show, kept-shown}
+use Rattle.q_sound.proofs.Weights.{IsQuiet}
+use Rattle.q_tree.proofs.PopLemmas.{set-within}
+use Rattle.q_tree.proofs.Asking.{asked-told, asked-weighs, all-before, side-all}
+
+-- one that was asked has at hand what it showed
+pub hand-asked : (now : ℕ) (n m : Node Kept) → CanAsk now n → m ≡ booked kept n (ask now (shape n)).peeked → (pop m).shown ≡ (ask now (shape n)).shown
+hand-asked now n m can new =
+    let a : Asked = ask now (shape n) in
+    ap (λ (x : Node Kept). (pop x).shown) new ∙ ap (λ (b : Popping). b.shown) (root-booked kept pop_own n a.peeked (asked-told now n can)) ∙ (ask-popped now (shape n)).shown
+
+-- one that was asked, and then gives the packet that it showed
+pub record IsGivenAsked (now : ℕ) (n m : Node Kept) (p : Descriptor) : Type 0 where
+  pub at_hand : (pop m).shown ≡ Some p
+  pub left : booked kept m (pop m).after ≡ booked kept n (ask now (shape n)).taken
+
+pub popped-asked : (now : ℕ) (n m : Node Kept) (p : Descriptor) → CanAsk now n → m ≡ booked kept n (ask now (shape n)).peeked → (ask now (shape n)).shown ≡ Some p → IsGivenAsked now n m p
+popped-asked now n m p can new shown =
+    let a : Asked = ask now (shape n) in
+    let same : pop m ≡ pop a.peeked = ap pop new ∙ root-booked kept pop_own n a.peeked (asked-told now n can) in
+    let h = ask-popped now (shape n) in
+    record {
+      at_hand = ap (λ (b : Popping). b.shown) same ∙ h.shown ∙ shown;
+      left = ap₂ (λ (x : Node Kept) (b : Popping). booked kept x b.after) new same
+          ∙ booked-then kept n a.peeked (pop a.peeked).after a.taken (h.taken (ap is_some shown));
+    }
+
+-- a tbf whose bucket allows the packet of its child
+pub tbf-gave : (now : ℕ) (own : Own) (b : TokenBucket) (limit : ℕ) (n m c : Node Kept) (p : Descriptor) (s : Shown) → CanAsk now n → m ≡ booked kept n (ask now (shape n)).peeked → (ask now (shape n)).shown ≡ Some p
+    → allows b now p.len ≡ true → c ≡ booked kept m (pop m).after → c.memory.counts.arrived ≡ n.memory.counts.arrived → s.packet ≡ (pop m).shown
+    → s.dropped ≡ (counts_in (ask now (shape n)).rises).dropped → s.marked ≡ (counts_in (ask now (shape n)).rises).marked
+    → AreAsked (ask_child now own (ask now (shape n) ∷ []) b limit (ask now (shape n))) (n ∷ []) (c ∷ []) s
+tbf-gave now own b limit n m c p s can new shown may given arrived packet dropped marked =
+    let a : Asked = ask now (shape n) in
+    let below : List Asked = a ∷ [] in
+    let g = popped-asked now n m p can new shown in
+    let is : ask_child now own below b limit a ≡ spends own below b limit now a p =
+    ap (λ (o : Option Descriptor). option_map_or (λ (p : Descriptor). if allows b now p.len then spends own below b limit now a p else waits own below a) o (waits own below a)) shown
+    ∙ ap (λ (t : Bool). if t then spends own below b limit now a p else waits own below a) may in
+    subst (λ (x : Asked). AreAsked x (n ∷ []) (c ∷ []) s) (sym is) (record {
+      long = refl;
+      nodes = ap (λ (x : Node Kept). side_by_side (x ∷ [])) (given ∙ g.left);
+      within = λ t all. set-within (n ∷ []) 0 n c refl arrived t all;
+      shown = record { packet = packet ∙ g.at_hand; dropped = dropped; marked = marked };
+    })
+
+-- children of a discipline that can be asked
+abbrev each-here : (now : ℕ) (d : Discipline) → CanAskIn now d → CanAskEach now (children_seen d)
+each-here now d can =
+    let own : List Descriptor = packets_in (discipline_seen d) in
+    record {
+      mtu = can.mtu;
+      least = can.least;
+      moment = can.moment;
+      lawful = can.lawful;
+      packets = omega (arith, can.packets, length-append own (packets_beneath (children_seen d)));
+      bytes = omega (arith, can.bytes, sum_by-append (λ (p : Descriptor). p.len) own (packets_beneath (children_seen d)));
+    }
+
+pub each-of : (now : ℕ) (d : Discipline) (ns : List (Node Kept)) → CanAskIn now d → ns ≡ children_seen d → CanAskEach now ns
+each-of now d ns can is = subst (CanAskEach now) (sym is) (each-here now d can)
+
+pub room-of : (d : Discipline) (ns : List (Node Kept)) → ns ≡ children_seen d → length (packets_beneath ns) ≤ length (packets_within d)
+room-of d ns is = omega (arith, length-append (packets_in (discipline_seen d)) (packets_beneath (children_seen d)), ap (λ xs. length (packets_beneath xs)) is)
+
+pub own-room : (d : Discipline) → length (packets_in (discipline_seen d)) ≤ length (packets_within d)
+own-room d = omega (arith, length-append (packets_in (discipline_seen d)) (packets_beneath (children_seen d)))
+
+pub serve-of : (now : ℕ) (d : Discipline) (s : Schedule) (ns : List (Node Kept)) → CanAskIn now d → discipline_seen d ≡ spec.Drr s → ns ≡ children_seen d → CanServe now s ns
+serve-of now d s ns can is kids =
+    let law = subst (IsLawfulDiscipline can.mtu now (map beneath (children_seen d))) is can.own in
+    subst (CanServe now s) (sym kids) (record {
+      each = each-here now d can;
+      schedule = law.schedule;
+      longest = law.longest;
+      same = sym (length-map (children_seen d) beneath) ∙ sym (exact-length (λ m. is_active m s.active) s.classes (map beneath (children_seen d)) law.exact);
+    })
+
+-- the items of a list of children that were changed in place
+pub items-are : (items new : List (Node Kept)) (len : ℕ) → length items ≡ len → length new ≡ length items → take len (new ++ drop (length new) items) ≡ new
+items-are items new len is same =
+    ap (λ xs. take len (new ++ xs)) (drop_all (length new) items (omega (arith, same))) ∙ ap (take len) (append-nil new) ∙ take_all len new (omega (arith, is, same))
+
+-- what a discipline answers, by what it is
+pub answer-is : (now : ℕ) (handle : Option ℕ) (filters : List Filter) (d : Discipline) (k : spec.Discipline) (ns : List (Node Kept)) → discipline_seen d ≡ k → children_seen d ≡ ns → answer_of now handle filters d ≡ ask_discipline now (own_of handle filters k) (answers now ns) k
+answer-is now handle filters d k ns is kids = ap₂ (λ x xs. ask_discipline now (own_of handle filters x) (answers now xs) x) is kids
+
+pub asked-in : (now : ℕ) (handle : Option ℕ) (filters : List Filter) (before after : Discipline) (k k2 : spec.Discipline) (ns ns2 : List (Node Kept)) (s : Shown) → discipline_seen before ≡ k → children_seen before ≡ ns
+    → discipline_seen after ≡ k2 → children_seen after ≡ ns2 → places_seen after ≡ places_seen before → k2 ≡ (ask_discipline now (own_of handle filters k) (answers now ns) k).peeked.own.discipline
+    → AreAsked (ask_discipline now (own_of handle filters k) (answers now ns) k) ns ns2 s → IsAskedIn (answer_of now handle filters before) before after s
+asked-in now handle filters before after k k2 ns ns2 s is kids is2 kids2 places discipline asked =
+    let e = answer-is now handle filters before k ns is kids in
+    subst (λ (a : Asked). IsAskedIn a before after s) (sym e) (record {
+      discipline = is2 ∙ discipline;
+      children = subst (λ xs. AreAsked (ask_discipline now (own_of handle filters k) (answers now ns) k) xs (children_seen after) s) (sym kids)
+          (subst (λ xs. AreAsked (ask_discipline now (own_of handle filters k) (answers now ns) k) ns xs s) (sym kids2) asked);
+      places = places;
+    })
+
+pub told-in : (now : ℕ) (handle : Option ℕ) (filters : List Filter) (d : Discipline) (k : spec.Discipline) (ns : List (Node Kept)) (l l2 : List Loss) (r r2 : ℕ) → discipline_seen d ≡ k → children_seen d ≡ ns
+    → IsToldOf (ask_discipline now (own_of handle filters k) (answers now ns) k).rises l l2 r r2 → IsToldOf (answer_of now handle filters d).rises l l2 r r2
+told-in now handle filters d k ns l l2 r r2 is kids h = subst (λ (a : Asked). IsToldOf a.rises l l2 r r2) (sym (answer-is now handle filters d k ns is kids)) h
+
+-- a node that holds a packet stays as it is
+pub holding-after : (now : ℕ) (a : Inside) (n : Node Kept) (p : Descriptor) → seen a ≡ n → a.held ≡ Some p → n ≡ booked kept n (ask now (shape n)).peeked
+holding-after now a n p view e =
+    let ns : List (Node Kept) = children_seen a.discipline in
+    let below : each_booked kept (side_by_side ns) (side_by_side (befores (answers now ns))) ≡ side_by_side ns = sym (side-all ns (befores (answers now ns))) ∙ ap side_by_side (all-before now ns) in
+    let still : booked kept (seen a) (holding (seen a).own (answers now ns) p).peeked ≡ seen a = ap (λ b. record { own = (seen a).own; memory = (seen a).memory; below = b }) below in
+    subst (λ (m : Node Kept). m ≡ booked kept m (ask now (shape m)).peeked) view (sym still ∙ ap (λ (x : Asked). booked kept (seen a) x.peeked) (sym (ask-holding now a p e)))
+
+-- one that holds none asks its discipline
+pub record IsPeekedAs (now : ℕ) (n : Node Kept) (inside : Inside) : Type 0 where
+  pub stays : IsKept inside
+  pub after : seen inside ≡ booked kept n (ask now (shape n)).peeked
+
+module _ (now : ℕ) (a : Inside) (n : Node Kept) (k : IsKept a) (view : seen a ≡ n) (can : CanAsk now n) where
+  can-here : CanAsk now (seen a)
+  can-here = subst (CanAsk now) (sym view) can
+
+  same-waiting : beneath (seen a) ≡ option_to_list a.held ++ packets_in (discipline_seen a.discipline) ++ packets_beneath (children_seen a.discipline)
+  same-waiting = ap (λ (bs : List (List Descriptor)). option_to_list a.held ++ packets_in (discipline_seen a.discipline) ++ flat_map (λ packets. packets) bs) (each-side beneath_own (children_seen a.discipline))
+
+  within-packets : length (packets_within a.discipline) ≤ length (beneath (seen a))
+  within-packets =
+      let own : List Descriptor = packets_in (discipline_seen a.discipline) in
+      let deep : List Descriptor = packets_beneath (children_seen a.discipline) in
+      omega (arith, ap (λ (xs : List Descriptor). length xs) same-waiting, length-append (option_to_list a.held ++ own) deep, length-append (option_to_list a.held) own, length-append own deep)
+
+  within-bytes : (totals_in (packets_within a.discipline)).bytes ≤ (totals_in (beneath (seen a))).bytes
+  within-bytes =
+      let own : List Descriptor = packets_in (discipline_seen a.discipline) in
+      let deep : List Descriptor = packets_beneath (children_seen a.discipline) in
+      let len : Descriptor → ℕ = λ p. p.len in
+      omega (arith, ap (λ (xs : List Descriptor). (totals_in xs).bytes) same-waiting, sum_by-append len (option_to_list a.held ++ own) deep, sum_by-append len (option_to_list a.held) own, sum_by-append len own deep)
+
+  pub can-in : a.row.queued.packets < 2 ^ 64 → a.row.queued.bytes < 2 ^ 64 → CanAskIn now a.discipline
+  can-in packets_fit bytes_fit =
+      let h = can-here in
+      record {
+        mtu = h.mtu;
+        least = h.least;
+        moment = h.moment;
+        own = subst (λ bs. IsLawfulDiscipline h.mtu now bs (discipline_seen a.discipline)) (each-side beneath_own (children_seen a.discipline)) h.lawful.0.discipline;
+        lawful = from h.mtu (children_seen a.discipline) h.lawful.1;
+        packets = omega (arith, within-packets, packets_fit, ap (λ (t : Totals). t.packets) k.queued);
+        bytes = omega (arith, within-bytes, bytes_fit, ap (λ (t : Totals). t.bytes) k.queued);
+      }
+    where
+      from : (mtu : ℕ) (ns : List (Node Kept)) → AllLawful mtu now (side_by_side ns) → AreLawful mtu now ns
+      from mtu [] h = tt
+      from mtu (m ∷ ns) h = ((h.0, h.1), from mtu ns h.2)
+
+  pub enough : (room : ℕ) → length (beneath n) ≤ room → length (packets_within a.discipline) ≤ room
+  enough room h = omega (arith, h, within-packets, ap (λ (m : Node Kept). length (beneath m)) view)
+
+  module _ (none : a.held ≡ None) where
+    pub told-here : (l l2 : List Loss) (r r2 : ℕ) → IsToldOf (answer_of now a.handle a.filters.items a.discipline).rises l l2 r r2 → IsToldOf (ask now (shape n)).rises l l2 r r2
+    told-here l l2 r r2 h = subst (λ (m : Node Kept). IsToldOf (ask now (shape m)).rises l l2 r r2) view (subst (λ (x : Asked). IsToldOf x.rises l l2 r r2) (sym (ask-none now a none)) h)
+
+    module _ (d : Discipline) (s : Shown) (q : IsAskedIn (answer_of now a.handle a.filters.items a.discipline) a.discipline d s) where
+      shown-inside : IsShown (ask now (shape (seen a))) s
+      shown-inside = subst (λ (x : Asked). IsShown x s) (sym (ask-none now a none)) q.children.shown
+
+      pub shown-here : IsShown (ask now (shape n)) s
+      shown-here = subst (λ (m : Node Kept). IsShown (ask now (shape m)) s) view shown-inside
+
+      pub can-book : a.row.arrived.packets < 2 ^ 64 → a.row.arrived.bytes < 2 ^ 64 → CanShow s a.row
+      can-book packets_fit bytes_fit =
+          let x : Asked = ask now (shape (seen a)) in
+          can-show a k x.rises s (booked kept (seen a) x.peeked) (asked-weighs now (seen a) can-here) shown-inside.dropped shown-inside.marked packets_fit bytes_fit
+
+      pub peeked-done : (r : Row) (held : Option Descriptor) → CanShow s a.row → r ≡ with_shown s a.row → held ≡ held_in (discipline_seen d) s.packet → IsPeekedAs now n (record a { held = held; row = r; discipline = d })
+      peeked-done r held fit row holds =
+          let x : Asked = ask now (shape (seen a)) in
+          let w = asked-weighs now (seen a) can-here in
+          let value = peeked-is now a d r s held none q (subst (λ (y : Asked). IsQuiet y.rises) (ask-none now a none) w.quiet) row holds in
+          record {
+            stays = kept-shown a k x.rises s (booked kept (seen a) x.peeked) w shown-inside.dropped shown-inside.marked (record a { held = held; row = r; discipline = d }) row value fit (q.children.within a.row.arrived k.within);
+            after = value ∙ ap (λ (m : Node Kept). booked kept m (ask now (shape m)).peeked) view;
+          }

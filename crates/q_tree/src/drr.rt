@@ -1,0 +1,102 @@
+ghost use Rattle.std.specs.Prelude.{◌≡◌, ◌<◌, ◌≤◌, length, true, false, slice_get, Some};
+ghost use Rattle.q_model.specs.Ask.{ask, ask_drr};
+ghost use Rattle.q_model.specs.Node as spec;
+ghost use Rattle.q_model.specs.Node.{Own, shape};
+ghost use Rattle.q_model.specs.Pop.{pop};
+ghost use Rattle.q_model.specs.Work.{settled_class};
+ghost use Rattle.q_tree.specs.AskSteps.{CanAskOnce, CanServe, AreAsked, IsAskedOnce, IsGivenBy, IsToldOf, answers};
+ghost use Rattle.q_tree.specs.Kept.{Kept};
+ghost use Rattle.q_tree.specs.PutSteps.{packets_beneath};
+
+use crate::node::Node;
+use crate::shown::Shown;
+use q_codel::Sink;
+use q_drr::{Active, Turn};
+use q_packet::Moment;
+
+/// Asks the classes of the active list in turn, and grants to each whose packet is longer than its deficit, until one is met
+/// that can send its packet, which is then taken, or that shows none (tc-drr(8)).
+#[cycle(peek)]
+pub(crate) fn serve<S: Sink>(
+    active: &mut Active,
+    classes: &mut [Node],
+    now: Moment,
+    sink: &mut S,
+) -> Shown
+    requires ready { CanServe now active.old classes.old }
+    requires sink { length (packets_beneath classes.old) ≤ S.room sink.old }
+    ensures active { (own : Own) → spec.Drr active.new ≡ (ask_drr own (answers now classes.old) active.old).peeked.own.discipline }
+    ensures after { (own : Own) → AreAsked (ask_drr own (answers now classes.old) active.old) classes.old classes.new result }
+    ensures told { (own : Own) → IsToldOf (ask_drr own (answers now classes.old) active.old).rises (S.losses sink.old) (S.losses sink.new) (S.room sink.old) (S.room sink.new) }
+    ensures kept { S.keeps sink.old sink.new }
+{
+    let mut shown = Shown::at_hand(None);
+    // In the first round each class is asked once; in a later one it has at hand what it showed.
+    let mut unasked = active.active_count();
+    while let Some(class) = active.front() {
+        let Some(place) = active.place_of(class) else {
+            unreachable!()
+        };
+        shown = ask_class(&mut classes[place], unasked > 0, shown, now, sink);
+        unasked = unasked.saturating_sub(1);
+        let Some(packet) = shown.packet else {
+            return shown;
+        };
+        match active.turn(packet.len) {
+            Turn::Send => {
+                give(active, classes, place);
+                return shown;
+            }
+            Turn::Granted => {}
+        }
+    }
+    Shown::at_hand(None)
+}
+
+// What a class shows: it is asked, or has its packet at hand. What was counted so far is counted on.
+#[cycle(peek)]
+fn ask_class<S: Sink>(
+    class: &mut Node,
+    is_unasked: bool,
+    so_far: Shown,
+    now: Moment,
+    sink: &mut S,
+) -> Shown
+    requires ready { is_unasked ≡ true → CanAskOnce now class.old so_far (S.room sink.old) }
+    ensures asked { is_unasked ≡ true → IsAskedOnce now class.old class.new so_far result }
+    ensures told { is_unasked ≡ true → IsToldOf (ask now (shape class.old)).rises (S.losses sink.old) (S.losses sink.new) (S.room sink.old) (S.room sink.new) }
+    ensures at_hand { is_unasked ≡ false → (class.new ≡ class.old) × (result ≡ record so_far { packet = (pop class.old).shown }) }
+    ensures not_lost { is_unasked ≡ false → (S.losses sink.new ≡ S.losses sink.old) × (S.room sink.new ≡ S.room sink.old) }
+    ensures kept { S.keeps sink.old sink.new }
+{
+    if is_unasked {
+        return so_far.then(class.peek(now, sink));
+    }
+    Shown {
+        packet: class.at_hand(),
+        ..so_far
+    }
+}
+
+// The class in this place gives its packet, and sleeps where that was its last.
+fn give(active: &mut Active, classes: &mut [Node], place: usize)
+    requires { place < length classes.old }
+    ensures { (c : spec.Node Kept) → slice_get classes.old place ≡ Some c → IsGivenBy place c active.old active.new classes.old classes.new }
+{
+    let packet = classes[place].pop();
+    settle(active, place, classes[place].is_empty());
+}
+
+/// A class with something queued is active, and another is not (tc-drr(8)).
+pub(crate) fn settle(active: &mut Active, place: usize, is_empty: bool)
+    ensures { active.new ≡ settled_class place is_empty active.old }
+{
+    let Some(class) = active.class_at(place) else {
+        return;
+    };
+    if is_empty {
+        active.sleep(class);
+    } else {
+        active.wake(class);
+    }
+}

@@ -1,0 +1,89 @@
+ghost use Rattle.std.specs.Prelude.{◌≡◌, ◌<◌, ◌≤◌, ◌+◌, ◌++◌, length, List, Some, None, if◌then◌else◌};
+ghost use Rattle.q_codel.specs.Losses.{losses_of};
+ghost use Rattle.q_fqcodel.specs.FqState.{packets_of};
+ghost use Rattle.q_fqcodel.specs.Put.{is_lost_itself, after_put, lost_by_put};
+ghost use Rattle.q_fqcodel.specs.Take.{selected, after_sending, dropped_from};
+ghost use Rattle.q_model.specs.Ask.{Asked, ask_fq_codel};
+ghost use Rattle.q_model.specs.Beneath as beneath;
+ghost use Rattle.q_model.specs.Node.{Own};
+ghost use Rattle.q_model.specs.Tally.{no_totals, with_packet};
+ghost use Rattle.q_tree.specs.AskSteps.{IsShown};
+ghost use Rattle.q_tree.specs.PutSteps.{CanFlow};
+
+use crate::booking::{NOTHING, difference, one_packet};
+use crate::outcome::Outcome;
+use crate::shown::Shown;
+use q_codel::{Sink, Taken};
+use q_fqcodel::FqCodel;
+use q_model::Totals;
+use q_packet::{Cause, Moment, Packet};
+
+/// Puts a packet into its flow, and counts what the fattest flow loses.
+pub(crate) fn put_in_flow<S: Sink>(
+    queue: &mut FqCodel,
+    packet: Packet,
+    now: Moment,
+    sink: &mut S,
+) -> Outcome
+    requires place { packets_of queue.old.state.flows < queue.old.places }
+    requires flow { CanFlow packet queue.old.state }
+    requires sink { packets_of queue.old.state.flows + 1 ≤ S.room sink.old }
+    ensures after { queue.new.state ≡ after_put queue.old.state packet now }
+    ensures places { queue.new.places ≡ queue.old.places }
+    ensures loss { result.loss ≡ (if is_lost_itself queue.old.state packet now then Some Cause.FatFlow else None) }
+    ensures refused { result.refused ≡ no_totals }
+    ensures dropped { result.dropped ≡ beneath.totals_in (beneath.packets_of (lost_by_put queue.old.state packet now)) }
+    ensures lost { S.losses sink.new ≡ S.losses sink.old ++ losses_of Cause.FatFlow (lost_by_put queue.old.state packet now) }
+    ensures room { S.room sink.new + length (lost_by_put queue.old.state packet now) ≡ S.room sink.old }
+    ensures kept { S.keeps sink.old sink.new }
+{
+    let (packets, bytes) = queue.queued();
+    let is_lost = queue.put(packet, now, sink);
+    let (packets_after, bytes_after) = queue.queued();
+    Outcome {
+        loss: is_lost.then_some(Cause::FatFlow),
+        refused: NOTHING,
+        dropped: Totals {
+            packets: packets + 1 - packets_after,
+            bytes: bytes + u64::from(packet.len) - bytes_after,
+        },
+    }
+}
+
+/// Takes the packet that the flow in front sends (RFC 8290, section 4.2), and counts what CoDel drops and marks.
+pub(crate) fn take_from_flows<S: Sink>(queue: &mut FqCodel, now: Moment, sink: &mut S) -> Shown
+    requires sink { packets_of queue.old.state.flows ≤ S.room sink.old }
+    ensures after { queue.new.state ≡ after_sending now (selected queue.old.state) }
+    ensures places { queue.new.places ≡ queue.old.places }
+    ensures shown { (own : Own) (below : List Asked) → IsShown (ask_fq_codel now own below queue.old.state) result }
+    ensures lost { S.losses sink.new ≡ S.losses sink.old ++ losses_of Cause.CoDel (dropped_from now (selected queue.old.state)) }
+    ensures room { S.room sink.new + length (dropped_from now (selected queue.old.state)) ≡ S.room sink.old }
+    ensures kept { S.keeps sink.old sink.new }
+{
+    let (packets, bytes) = queue.queued();
+    let taken = queue.take(now, sink);
+    let (packets_after, bytes_after) = queue.queued();
+    let gone = Totals {
+        packets: packets - packets_after,
+        bytes: bytes - bytes_after,
+    };
+    let Some(taken) = taken else {
+        return Shown::at_hand(None);
+    };
+    let one = one_packet(&taken.packet);
+    Shown {
+        packet: Some(taken.packet),
+        dropped: difference(gone, one),
+        marked: marked_by(&taken),
+    }
+}
+
+// The packet, where CoDel marked it.
+fn marked_by(taken: &Taken) -> Totals
+    ensures { result ≡ (if taken.now.marked then with_packet no_totals taken.now.packet else no_totals) }
+{
+    if taken.marked {
+        return one_packet(&taken.packet);
+    }
+    NOTHING
+}

@@ -1,0 +1,78 @@
+ghost use Rattle.std.specs.Prelude.{◌≡◌, ◌≤◌, ◌+◌, ◌++◌, length, ℕ, List, Option};
+ghost use Rattle.q_model.specs.Ask.{ask};
+ghost use Rattle.q_model.specs.Beneath.{beneath};
+ghost use Rattle.q_model.specs.declared.filter.Filter.{Filter};
+ghost use Rattle.q_model.specs.Node.{shape};
+ghost use Rattle.q_model.specs.Step.{losses_in};
+ghost use Rattle.q_model.specs.Work.{booked};
+ghost use Rattle.q_tree.specs.AskSteps.{CanAsk, CanAskIn, IsShown, IsAskedIn, IsToldOf, answer_of, held_in, packets_within};
+ghost use Rattle.q_tree.specs.Kept.{kept};
+ghost use Rattle.q_tree.specs.Seen.{discipline_seen};
+
+use crate::at_hand::first_packet;
+use crate::booking::book_shown;
+use crate::drr::serve;
+use crate::fq_codel::take_from_flows;
+use crate::node::{Discipline, Node};
+use crate::prio::ask_bands;
+use crate::shown::Shown;
+use crate::tbf::ask_child;
+use q_codel::Sink;
+use q_packet::{Moment, Packet};
+
+impl Node {
+    /// Asks the node for its packet, which is at hand then, and books what CoDel dropped and marked for it, here and beneath.
+    ///
+    /// A tbf, a drr and an fq_codel dequeue the packet that they show, and hold it until it is popped; one that holds a packet
+    /// shows that one, and nobody beneath it is asked. It takes no memory. `sink` needs room for what is queued.
+    #[cycle(peek)]
+    pub(crate) fn peek<S: Sink>(&mut self, now: Moment, sink: &mut S) -> Shown
+        requires ready { CanAsk now self.old }
+        requires sink { length (beneath self.old) ≤ S.room sink.old }
+        ensures after { self.new ≡ booked kept self.old (ask now (shape self.old)).peeked }
+        ensures arrived { self.new.memory.counts.arrived ≡ self.old.memory.counts.arrived }
+        ensures shown { IsShown (ask now (shape self.old)) result }
+        ensures lost { S.losses sink.new ≡ S.losses sink.old ++ losses_in (ask now (shape self.old)).rises }
+        ensures room { S.room sink.new + length (losses_in (ask now (shape self.old)).rises) ≡ S.room sink.old }
+        ensures kept { S.keeps sink.old sink.new }
+    {
+        if self.held.is_some() {
+            return Shown::at_hand(self.held);
+        }
+        let shown = self.discipline.ask(now, sink);
+        book_shown(&mut self.row, &shown);
+        self.held = self.discipline.dequeued(shown.packet);
+        shown
+    }
+}
+
+impl Discipline {
+    // What a node with this discipline shows that holds no packet.
+    #[cycle(peek)]
+    fn ask<S: Sink>(&mut self, now: Moment, sink: &mut S) -> Shown
+        requires ready { CanAskIn now self.old }
+        requires sink { length (packets_within self.old) ≤ S.room sink.old }
+        ensures after { (handle : Option ℕ) (filters : List Filter) → IsAskedIn (answer_of now handle filters self.old) self.old self.new result }
+        ensures told { (handle : Option ℕ) (filters : List Filter) → IsToldOf (answer_of now handle filters self.old).rises (S.losses sink.old) (S.losses sink.new) (S.room sink.old) (S.room sink.new) }
+        ensures kept { S.keeps sink.old sink.new }
+    {
+        match self {
+            Discipline::Fifo(fifo) => return Shown::at_hand(first_packet(fifo)),
+            Discipline::Prio { bands, .. } => return ask_bands(bands, now, sink),
+            Discipline::Tbf { bucket, child, .. } => return ask_child(bucket, child, now, sink),
+            Discipline::Drr { active, classes } => return serve(active, classes, now, sink),
+            Discipline::FqCodel(queue) => return take_from_flows(queue, now, sink),
+        }
+    }
+
+    // The packet that the node holds where it shows this one: a tbf, a drr and an fq_codel have dequeued it.
+    fn dequeued(&self, shown: Option<Packet>) -> Option<Packet>
+        ensures { result ≡ held_in (discipline_seen self.now) shown }
+    {
+        match self {
+            Discipline::Fifo(_) | Discipline::Prio { .. } => return None,
+            Discipline::Tbf { .. } | Discipline::Drr { .. } | Discipline::FqCodel(_) =>
+                return shown,
+        }
+    }
+}

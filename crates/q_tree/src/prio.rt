@@ -1,0 +1,29 @@
+ghost use Rattle.std.specs.Prelude.{◌≤◌, length};
+ghost use Rattle.q_model.specs.Ask.{ask_prio};
+ghost use Rattle.q_model.specs.Node.{Own};
+ghost use Rattle.q_tree.specs.AskSteps.{CanAskEach, AreAsked, IsToldOf, answers};
+ghost use Rattle.q_tree.specs.PutSteps.{packets_beneath};
+
+use crate::node::Node;
+use crate::shown::Shown;
+use q_codel::Sink;
+use q_packet::Moment;
+
+/// Asks the bands in order, up to the first that shows a packet, and shows that one (tc-prio(8)).
+#[cycle(peek)]
+pub(crate) fn ask_bands<S: Sink>(bands: &mut [Node], now: Moment, sink: &mut S) -> Shown
+    requires ready { CanAskEach now bands.old }
+    requires sink { length (packets_beneath bands.old) ≤ S.room sink.old }
+    ensures after { (own : Own) → AreAsked (ask_prio own (answers now bands.old)) bands.old bands.new result }
+    ensures told { (own : Own) → IsToldOf (ask_prio own (answers now bands.old)).rises (S.losses sink.old) (S.losses sink.new) (S.room sink.old) (S.room sink.new) }
+    ensures kept { S.keeps sink.old sink.new }
+{
+    let mut shown = Shown::at_hand(None);
+    for place in 0..bands.len() {
+        shown = shown.then(bands[place].peek(now, sink));
+        if shown.packet.is_some() {
+            return shown;
+        }
+    }
+    shown
+}
