@@ -121,3 +121,9 @@ pub place-on : {A B : Type 0} (r : Result A B) (i : ℕ) (rest path : List ℕ) 
 place-on r i rest path a e h =
     on-ok r (λ p. subst (λ xs. HasPlace xs (seen a)) (sym e)
     (subst (λ xs. IfSome (option_and_then (node_at rest) (slice_get xs i)) (λ (end : Node Kept). HasPlaceIn end.memory.places end.own.discipline)) (sym (nodes-side (children_seen a.discipline))) p)) h
+
+-- the place at the end of a way, seen from the node that the way goes through
+pub place-off : (i : ℕ) (rest path : List ℕ) (a : Inside) (n : Node Kept) → seen a ≡ n → path ≡ i ∷ rest → HasPlace path n → HasPlaceAt rest i (children_seen a.discipline)
+place-off i rest path a n view e h =
+    subst (λ xs. IfSome (option_and_then (node_at rest) (slice_get xs i)) (λ (end : Node Kept). HasPlaceIn end.memory.places end.own.discipline)) (nodes-side (children_seen a.discipline))
+    (subst (λ (m : Node Kept). HasPlace (i ∷ rest) m) (sym view) (subst (λ p. HasPlace p n) e h))

@@ -1,4 +1,4 @@
-ghost use Rattle.std.specs.Prelude.{◌≡◌, ◌∷◌, map, IsSome, OnOk};
+ghost use Rattle.std.specs.Prelude.{◌≡◌, ◌∷◌, map, IsSome, IsOk, OnOk};
 ghost use Rattle.q_model.specs.Find.{node_at};
 ghost use Rattle.q_tree.specs.Arrivals.{HasPlace, HasPlaceIn};
 ghost use Rattle.q_tree.specs.Places.{unplaced, Leads, HasPlaceAt};
@@ -9,12 +9,13 @@ use std::alloc::AllocError;
 
 impl Node {
     /// Makes a place for one packet more in the queue where this way ends, if it ends in one. The places are all that
-    /// changes, also where memory is refused.
+    /// changes, also where memory is refused; it succeeds where there is a place already.
     #[cycle(prepare)]
     pub(crate) fn prepare(&mut self, path: &[usize]) -> Result<(), AllocError>
         requires { IsSome (node_at path.now self.old) }
         ensures same { unplaced self.new ≡ unplaced self.old }
         ensures ok { OnOk result (HasPlace path.now self.new) }
+        ensures succeeds { HasPlace path.now self.old → IsOk result }
     {
         let Some((&place, rest)) = path.split_first() else {
             return self.discipline.reserve();
@@ -29,6 +30,7 @@ impl Discipline {
         ensures discipline { discipline_seen self.new ≡ discipline_seen self.old }
         ensures children { children_seen self.new ≡ children_seen self.old }
         ensures ok { OnOk result (HasPlaceIn (places_seen self.new) (discipline_seen self.new)) }
+        ensures succeeds { HasPlaceIn (places_seen self.old) (discipline_seen self.old) → IsOk result }
     {
         match self {
             Discipline::Fifo(fifo) => return fifo.reserve(),
@@ -47,6 +49,7 @@ impl Discipline {
         ensures places { places_seen self.new ≡ places_seen self.old }
         ensures children { map unplaced (children_seen self.new) ≡ map unplaced (children_seen self.old) }
         ensures ok { OnOk result (HasPlaceAt rest.now place (children_seen self.new)) }
+        ensures succeeds { HasPlaceAt rest.now place (children_seen self.old) → IsOk result }
     {
         match self {
             Discipline::Prio { bands, .. } => return bands[place].prepare(rest),

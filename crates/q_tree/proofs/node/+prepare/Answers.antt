@@ -1,7 +1,7 @@
 use Rattle.std.proofs.Common.{◌∙◌, map, sym, ap, arith}
 use Rattle.q_tree.specs.Places.{unplaced}
 use Rattle.q_tree.specs.Seen.{children_seen}
-use Rattle.q_tree.proofs.PlacesLemmas.{set-unplaced, within-led, leads-on, has-place, kept-places, same-places, way-on, place-on}
+use Rattle.q_tree.proofs.PlacesLemmas.{set-unplaced, within-led, leads-on, has-place, kept-places, same-places, way-on, place-on, place-off}
 use Rattle.q_tree.proofs.node.+prepare.Goals as goal
 
 pub Discipline::prepare_beneath-returns-in-Prio-clause-children :
@@ -53,3 +53,7 @@ Node::prepare-returns-clause-same t c = same-places c.self.inside c.prepare_bene
 pub Node::prepare-returns-clause-ok : goal.Node::prepare-returns-clause-ok
 Node::prepare-returns-clause-ok t c =
     place-on c.prepare_beneath.result c.in-Some.field-0-0.now c.in-Some.rest.now c.args.path.now (record c.self.inside { discipline = c.prepare_beneath.new.self }) c.in-Some.ensures.cases.0 c.prepare_beneath.ensures.ok
+
+pub Node::prepare-returns-clause-succeeds : goal.Node::prepare-returns-clause-succeeds
+Node::prepare-returns-clause-succeeds t c = λ there.
+    c.prepare_beneath.ensures.succeeds (place-off c.in-Some.field-0-0.now c.in-Some.rest.now c.args.path.now c.self.inside c.args.self.now c.self.view_is c.in-Some.ensures.cases.0 there)
