@@ -1,6 +1,6 @@
 -- Popping: a node that was asked and shows a packet gives it, and no node is asked again.
 -- tc-prio(8); a tbf, a drr and an fq_codel hold what they have shown, which is this project's choice.
-use Rattle.std.specs.Prelude.{suc, List, [], ◌++◌, map, take, drop, Option, Some, None, is_some, option_and_then, slice_get}
+use Rattle.std.specs.Prelude.{ℕ, suc, List, [], ◌++◌, map, take, drop, Option, Some, None, is_some, option_and_then, slice_get}
 use Rattle.std.specs.List.{position_or_len}
 use Rattle.std.specs.Option.{option_map_or, option_to_list}
 use Rattle.q_packet.specs.Descriptor.{Descriptor}
@@ -25,13 +25,21 @@ giving own below after children packet = record {
   after = worked after (map Sent (option_to_list packet)) children;
 }
 
--- a prio gives that of its first band which has one at hand
+-- the first of these that has a packet at hand, else their number; and the packet that it has
+abbrev pub first_ready : List Popping → ℕ
+first_ready below = position_or_len (λ (b : Popping). is_some b.shown) below
+
+abbrev pub first_shown : List Popping → Option Descriptor
+first_shown below = option_and_then (λ (b : Popping). b.shown) (slice_get below (first_ready below))
+
+-- these, where the one in this place gives its packet
+abbrev pub popped_at : ℕ → List Popping → List Worked
+popped_at k below =
+    as_they_are (take k below) ++ map (λ (b : Popping). b.after) (drop k (take (suc k) below)) ++ as_they_are (drop (suc k) below)
+
+-- a prio gives the packet of its first band that has one
 abbrev pub pop_prio : Own → List Popping → Popping
-pop_prio own below =
-    let k = position_or_len (λ (b : Popping). is_some b.shown) below in
-    giving own below own
-    (as_they_are (take k below) ++ map (λ (b : Popping). b.after) (drop k (take (suc k) below)) ++ as_they_are (drop (suc k) below))
-    (option_and_then (λ (b : Popping). b.shown) (slice_get below k))
+pop_prio own below = giving own below own (popped_at (first_ready below) below) (first_shown below)
 
 abbrev pub pop_discipline : Own → List Popping → Discipline → Popping
 pop_discipline own below (Fifo limit queue) = giving own below (record own { discipline = Fifo limit (drop 1 queue) }) (as_they_are below) (slice_get (packets_of queue) 0)

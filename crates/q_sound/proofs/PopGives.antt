@@ -1,8 +1,6 @@
 -- Popping keeps every packet: what a node and those beneath it have is what it gives and what they have then.
-use Rattle.std.proofs.Common.{◌≡◌, ℕ, zero, suc, ◌+◌, ◌≤◌, List, [], ◌∷◌, ◌++◌, map, take, drop, refl, sym, ap, subst, Option, Some, None, option_and_then, option_to_list, ◌∙◌, arith}
-use Rattle.std.specs.Prelude.{slice_get, is_some}
-use Rattle.std.specs.List.{position_or_len}
-use Rattle.std.specs.Option.{option_map_or}
+use Rattle.std.proofs.Common.{◌≡◌, ℕ, zero, suc, ◌+◌, ◌≤◌, List, [], ◌∷◌, map, drop, refl, ap, subst, Option, Some, None, option_and_then, option_to_list, arith}
+use Rattle.std.specs.Prelude.{slice_get}
 use Rattle.q_packet.specs.Descriptor.{Descriptor}
 use Rattle.q_packet.specs.declared.stamped.Stamped.{Stamped}
 use Rattle.q_codel.specs.declared.limit.Limit.{Limit}
@@ -11,9 +9,9 @@ use Rattle.q_model.specs.Tally.{Note, Sent}
 use Rattle.q_model.specs.Node.{Discipline, Fifo, Prio, Tbf, Drr, FqCodel, Own, Forest, none, more, Node, each}
 use Rattle.q_model.specs.Beneath.{beneath, packets_of}
 use Rattle.q_model.specs.Conserved.{held_beneath}
-use Rattle.q_model.specs.Pop.{Popping, as_they_are, giving, pop_prio, pop_discipline, pop_own, pop}
+use Rattle.q_model.specs.Pop.{Popping, as_they_are, first_ready, popped_at, giving, pop_discipline, pop_own, pop}
 use Rattle.q_model.specs.Work.{Worked, worked}
-use Rattle.q_sound.proofs.Weights.{weigh, weigh-nil, weigh-one, arrived-nil, sent-nil, lost-nil, dropped-nil, marked-nil, arrived-given, sent-given, lost-given, dropped-given, marked-given}
+use Rattle.q_sound.proofs.Weights.{weigh, weigh-nil, arrived-nil, sent-nil, lost-nil, dropped-nil, marked-nil, arrived-given, sent-given, lost-given, dropped-given, marked-given}
 use Rattle.q_sound.proofs.Told.{IsRootTold, root-memory}
 use Rattle.q_sound.proofs.Forests.{AreTold, told-side}
 use Rattle.q_sound.proofs.Answer.{waiting, holds, beneath-worked, held-worked}
@@ -43,9 +41,6 @@ record AreGoing (below : List Popping) (children : List Worked) (packet : Option
 
 staying : (below : List Popping) → AreGiven below → AreGoing below (as_they_are below) None
 staying below all = record { told = still-told below all; gives = λ w. omega (arith, weigh-nil w); holds = λ w. omega (arith, weigh-nil w) }
-
-abbrev popped_at : ℕ → List Popping → List Worked
-popped_at k bs = as_they_are (take k bs) ++ map (λ (b : Popping). b.after) (drop k (take (suc k) bs)) ++ as_they_are (drop (suc k) bs)
 
 abbrev packet_at : ℕ → List Popping → Option Descriptor
 packet_at k bs = option_and_then (λ (b : Popping). b.shown) (slice_get bs k)
@@ -118,7 +113,7 @@ module _ (handle : Option ℕ) (filters : List Filter) (below : List Popping) (a
   prio-gives : (priomap : List ℕ) → IsGiven (pop_discipline (bare (Prio priomap)) below (Prio priomap))
   prio-gives priomap =
       let own : Own = bare (Prio priomap) in
-      let k : ℕ = position_or_len (λ (b : Popping). is_some b.shown) below in
+      let k : ℕ = first_ready below in
       let g = going k below all in
       is-given own own below (popped_at k below) (packet_at k below) refl all g.told
       (λ w. omega (arith, g.gives w, weigh-waiting w own (as_they_are below), weigh-waiting w own (popped_at k below)))

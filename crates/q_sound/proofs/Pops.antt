@@ -21,7 +21,7 @@ use Rattle.q_model.specs.Quanta.{flow_notes}
 use Rattle.q_model.specs.Lawful.{CanHold}
 use Rattle.q_model.specs.Work.{Worked, worked, each_booked, booked, losses_of, settled_class}
 use Rattle.q_model.specs.Ask.{Asked, befores, dequeued, waits, spends, ask_fifo, ask_prio, ask_child, ask_tbf, service_of, place_met, gives_nothing, class_gives, class_serves, ask_drr, marks_of, ask_own, ask}
-use Rattle.q_model.specs.Pop.{Popping, as_they_are, giving, pop_prio, pop_discipline, pop_own, pop}
+use Rattle.q_model.specs.Pop.{Popping, as_they_are, first_ready, popped_at, giving, pop_prio, pop_discipline, pop_own, pop}
 use Rattle.q_sound.proofs.Forests.{each-side}
 
 -- one piece of work after another, as one
@@ -160,20 +160,14 @@ fifo-popped handle filters limit queue below = record { shown = refl; taken = λ
 abbrev shows : Asked → Bool
 shows a = is_some a.shown
 
-abbrev ready : Popping → Bool
-ready b = is_some b.shown
-
 abbrev peeked_to : ℕ → List Asked → List Worked
 peeked_to k below = map (λ (a : Asked). a.peeked) (take k below) ++ map (λ (a : Asked). a.peeked) (drop k (take (suc k) below)) ++ befores (drop (suc k) below)
 
 abbrev taken_at : ℕ → List Asked → List Worked
 taken_at k below = map (λ (a : Asked). a.peeked) (take k below) ++ map (λ (a : Asked). a.taken) (drop k (take (suc k) below)) ++ befores (drop (suc k) below)
 
-abbrev popped_at : ℕ → List Popping → List Worked
-popped_at k bs = as_they_are (take k bs) ++ map (λ (b : Popping). b.after) (drop k (take (suc k) bs)) ++ as_they_are (drop (suc k) bs)
-
 record ArePopped (k : ℕ) (below : List Asked) : Type 0 where
-  found : position_or_len ready (map pop (peeked_to k below)) ≡ k
+  found : first_ready (map pop (peeked_to k below)) ≡ k
   shown : option_and_then (λ (b : Popping). b.shown) (slice_get (map pop (peeked_to k below)) k) ≡ option_and_then (λ (a : Asked). a.shown) (slice_get below k)
   taken : is_some (option_and_then (λ (a : Asked). a.shown) (slice_get below k)) ≡ true → AreThen (side_by_side (peeked_to k below)) (side_by_side (popped_at k (map pop (peeked_to k below)))) (side_by_side (taken_at k below))
 
@@ -183,14 +177,14 @@ AllPopped (a ∷ below) = IsPopped a × AllPopped below
 
 one-popped : (a : Asked) (below : List Asked) → IsPopped a → is_some a.shown ≡ true → ArePopped 0 (a ∷ below)
 one-popped a below h e = record {
-  found = ap (λ (b : Bool). cond (not b) (1 + position_or_len ready (map pop (befores below))) 0) (ap is_some h.shown ∙ e);
+  found = ap (λ (b : Bool). cond (not b) (1 + first_ready (map pop (befores below))) 0) (ap is_some h.shown ∙ e);
   shown = h.shown;
   taken = λ some. let t = h.taken some in (t.own, t.memory, t.below, still-side (befores below));
 }
 
 one-passed : (a : Asked) (below : List Asked) (k : ℕ) → IsPopped a → is_some a.shown ≡ false → ArePopped k below → ArePopped (suc k) (a ∷ below)
 one-passed a below k h e rest = record {
-  found = ap (λ (b : Bool). cond (not b) (1 + position_or_len ready (map pop (peeked_to k below))) 0) (ap is_some h.shown ∙ e) ∙ ap (λ n. 1 + n) rest.found ∙ next k;
+  found = ap (λ (b : Bool). cond (not b) (1 + first_ready (map pop (peeked_to k below))) 0) (ap is_some h.shown ∙ e) ∙ ap (λ n. 1 + n) rest.found ∙ next k;
   shown = rest.shown;
   taken = λ some. let t = still-then a.peeked in (t.own, t.memory, t.below, rest.taken some);
 }
@@ -224,7 +218,7 @@ prio-popped handle filters priomap below all =
       taken = λ some. record {
         own = refl;
         memory = sym (ap (λ (o : Option Descriptor). flat_map (λ (a : Asked). a.rises) (take (suc k) below) ++ map Sent (option_to_list o)) (ap (λ (bs : List Popping). (pop_prio own bs).shown) same ∙ shown));
-        below = subst (λ (bs : List Popping). AreThen (side_by_side (peeked_to k below)) (side_by_side (popped_at (position_or_len ready bs) bs)) (side_by_side (taken_at k below))) (sym same)
+        below = subst (λ (bs : List Popping). AreThen (side_by_side (peeked_to k below)) (side_by_side (popped_at (first_ready bs) bs)) (side_by_side (taken_at k below))) (sym same)
             (subst (λ n. AreThen (side_by_side (peeked_to k below)) (side_by_side (popped_at n bands)) (side_by_side (taken_at k below))) (sym at.found) (at.taken some));
       };
     }

@@ -7,29 +7,26 @@ use Rattle.std.proofs.lemmas.Bool.{false≢true}
 use Rattle.q_packet.specs.Descriptor.{Descriptor}
 use Rattle.q_model.specs.Node.{Node, side_by_side, each}
 use Rattle.q_model.specs.Node as spec
-use Rattle.q_model.specs.Pop.{Popping, pop, pop_own}
+use Rattle.q_model.specs.Pop.{Popping, first_ready, pop, pop_own}
 use Rattle.q_sound.proofs.Forests.{each-side}
-use Rattle.q_tree.specs.AtHand.{first_shown}
+use Rattle.q_model.specs.Pop.{first_shown}
 use Rattle.q_tree.specs.Kept.{Kept}
 use Rattle.q_tree.specs.Seen.{seen, discipline_seen, children_seen}
 use Rattle.q_tree.specs.declared.node.Node.TheInside.{Inside}
-
-abbrev ready : Popping → Bool
-ready b = is_some b.shown
 
 next : (n : ℕ) → 1 + n ≡ suc n
 next n = omega arith
 
 first-some : (b : Popping) (bs : List Popping) (p : Descriptor) → b.shown ≡ Some p → first_shown (b ∷ bs) ≡ Some p
-first-some b bs p e = ap (λ (o : Option Descriptor). option_and_then (λ (x : Popping). x.shown) (slice_get (b ∷ bs) (cond (not (is_some o)) (1 + position_or_len ready bs) 0))) e ∙ e
+first-some b bs p e = ap (λ (o : Option Descriptor). option_and_then (λ (x : Popping). x.shown) (slice_get (b ∷ bs) (cond (not (is_some o)) (1 + first_ready bs) 0))) e ∙ e
 
 first-none : (b : Popping) (bs : List Popping) → b.shown ≡ None → first_shown (b ∷ bs) ≡ first_shown bs
 first-none b bs e =
-    ap (λ (o : Option Descriptor). option_and_then (λ (x : Popping). x.shown) (slice_get (b ∷ bs) (cond (not (is_some o)) (1 + position_or_len ready bs) 0))) e
-    ∙ ap (λ n. option_and_then (λ (x : Popping). x.shown) (slice_get (b ∷ bs) n)) (next (position_or_len ready bs))
+    ap (λ (o : Option Descriptor). option_and_then (λ (x : Popping). x.shown) (slice_get (b ∷ bs) (cond (not (is_some o)) (1 + first_ready bs) 0))) e
+    ∙ ap (λ n. option_and_then (λ (x : Popping). x.shown) (slice_get (b ∷ bs) n)) (next (first_ready bs))
 
 -- the bands from this place on
-front-of : (ns : List (Node Kept)) (i : ℕ) (x : Node Kept) → i < length ns → x ≡ slice_index_or ns i x → map pop (drop i ns) ≡ pop x ∷ map pop (drop (i + 1) ns)
+pub front-of : (ns : List (Node Kept)) (i : ℕ) (x : Node Kept) → i < length ns → x ≡ slice_index_or ns i x → map pop (drop i ns) ≡ pop x ∷ map pop (drop (i + 1) ns)
 front-of ns i x inside is = ap (map pop) (drop_more ns i x inside) ∙ ap (λ (y : Node Kept). pop y ∷ map pop (drop (i + 1) ns)) (sym is)
 
 pub found : (ns : List (Node Kept)) (i : ℕ) (x : Node Kept) (p : Descriptor) → i < length ns → x ≡ slice_index_or ns i x → first_shown (map pop (drop i ns)) ≡ first_shown (map pop ns) → (pop x).shown ≡ Some p → Some p ≡ first_shown (map pop ns)

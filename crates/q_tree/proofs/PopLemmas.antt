@@ -14,7 +14,7 @@ use Rattle.q_model.specs.Conserved.{held_own, held_beneath, IsBalanced, AreMarks
 use Rattle.q_model.specs.Lawful.{CanHold}
 use Rattle.q_model.specs.Node as spec
 use Rattle.q_model.specs.Node.{Own, Node, Forest, more, none, side_by_side, each, each_memory, with_memory}
-use Rattle.q_model.specs.Pop.{Popping, as_they_are, pop_discipline, pop_own, pop}
+use Rattle.q_model.specs.Pop.{Popping, as_they_are, first_ready, first_shown, popped_at, pop_discipline, pop_own, pop}
 use Rattle.q_model.specs.Tally.{Tally, Note, Sent, noted, totals}
 use Rattle.q_model.specs.Work.{Worked, worked, booked, each_booked}
 use Rattle.q_model.proofs.ShrinkLemmas.{each-each_memory}
@@ -26,19 +26,15 @@ use Rattle.q_sound.proofs.PopGives.{pop-gives, pop-told}
 use Rattle.q_sound.proofs.Pops.{pop-before}
 use Rattle.q_sound.proofs.Told.{root-booked}
 use Rattle.q_sound.proofs.Weights.{weigh, weigh-count, weigh-nil, weigh-one}
+use Rattle.q_tree.specs.AskSteps.{own_of}
 use Rattle.q_tree.specs.Kept.{Kept, kept}
-use Rattle.q_tree.specs.PopSteps.{first_ready, IsAmong, IsPoppedIn, shown_in, popped_in, popped_at, popped_children, with_sent}
+use Rattle.q_tree.specs.PopSteps.{IsAmong, IsPoppedIn, popping_of, with_sent}
 use Rattle.q_tree.specs.Seen.{seen, discipline_seen, children_seen, places_seen, IsKept, IsCountedWithin}
 use Rattle.q_tree.specs.declared.node.Discipline.{Discipline}
 use Rattle.q_tree.specs.declared.node.Node.TheInside.{Inside}
+use Rattle.q_tree.proofs.AtHandLemmas.{front-of}
 use Rattle.q_tree.proofs.Forms.{noted-kept}
 use Rattle.q_tree.proofs.Rows.{counts_in_row, weigh-bytes}
-
-abbrev ready : Popping → Bool
-ready b = is_some b.shown
-
-front-of : (ns : List (Node Kept)) (i : ℕ) (x : Node Kept) → i < length ns → x ≡ slice_index_or ns i x → map pop (drop i ns) ≡ pop x ∷ map pop (drop (i + 1) ns)
-front-of ns i x inside is = ap (map pop) (drop_more ns i x inside) ∙ ap (λ (y : Node Kept). pop y ∷ map pop (drop (i + 1) ns)) (sym is)
 
 -- the bands before this place have nothing at hand
 abbrev pub NoneBefore : ℕ → List (Node Kept) → Type 0
@@ -84,7 +80,7 @@ side-popped (n ∷ ns) (suc k) c e =
     ∙ ap₂ (λ b o. more n.own n.memory b o) (still-booked kept n.below) (side-popped ns k c e)
 
 -- a prio whose first ready band gives
-pub prio-gave : (ns : List (Node Kept)) (k : ℕ) (c : Node Kept) → slice_get ns k ≡ Some c → k ≡ first_ready (map pop ns) → (pop c).shown ≡ option_and_then (λ (b : Popping). b.shown) (slice_get (map pop ns) (first_ready (map pop ns)))
+pub prio-gave : (ns : List (Node Kept)) (k : ℕ) (c : Node Kept) → slice_get ns k ≡ Some c → k ≡ first_ready (map pop ns) → (pop c).shown ≡ first_shown (map pop ns)
 prio-gave ns k c at is =
     sym (ap (option_and_then (λ (b : Popping). b.shown)) (slice_get-map pop ns k ∙ ap (option_map pop) at)) ∙ ap (λ n. option_and_then (λ (b : Popping). b.shown) (slice_get (map pop ns) n)) is
 
@@ -105,7 +101,7 @@ none-there (x ∷ xs) = none-there xs
 pub prio-kept : (ns : List (Node Kept)) → first_ready (map pop ns) ≡ length (map pop ns) → side_by_side ns ≡ each_booked kept (side_by_side ns) (side_by_side (popped_at (first_ready (map pop ns)) (map pop ns)))
 prio-kept ns is = sym (side-still ns) ∙ ap (λ (ws : List Worked). each_booked kept (side_by_side ns) (side_by_side ws)) (sym (past-all (map pop ns))) ∙ ap (λ n. each_booked kept (side_by_side ns) (side_by_side (popped_at n (map pop ns)))) (sym is)
 
-pub nothing-shown : (ns : List (Node Kept)) → first_ready (map pop ns) ≡ length (map pop ns) → None ≡ option_and_then (λ (b : Popping). b.shown) (slice_get (map pop ns) (first_ready (map pop ns)))
+pub nothing-shown : (ns : List (Node Kept)) → first_ready (map pop ns) ≡ length (map pop ns) → None ≡ first_shown (map pop ns)
 nothing-shown ns is = sym (ap (option_and_then (λ (b : Popping). b.shown)) (none-there (map pop ns))) ∙ ap (λ n. option_and_then (λ (b : Popping). b.shown) (slice_get (map pop ns) n)) (sym is)
 
 -- a node that pops
@@ -191,22 +187,22 @@ module _ (a : Inside) (p : Descriptor) (e : a.held ≡ Some p) where
       ∙ ap (λ (w : Worked). booked kept (seen a) w) (sym after)
 
 -- one that had it in its own queue, or beneath
-shown-is : (handle : Option ℕ) (filters : List Filter) (d : spec.Discipline) (bs : List Popping) → (pop_discipline (record { handle = handle; discipline = d; held = None; filters = filters }) bs d).shown ≡ shown_in d bs
+shown-is : (handle : Option ℕ) (filters : List Filter) (d : spec.Discipline) (bs : List Popping) → (pop_discipline (own_of handle filters d) bs d).shown ≡ (pop_discipline (own_of None [] d) bs d).shown
 shown-is handle filters (spec.Fifo limit queue) bs = refl
 shown-is handle filters (spec.Prio priomap) bs = refl
 shown-is handle filters (spec.Tbf b limit) bs = refl
 shown-is handle filters (spec.Drr s) bs = refl
 shown-is handle filters (spec.FqCodel s) bs = refl
 
-after-is : (handle : Option ℕ) (filters : List Filter) (d : spec.Discipline) (bs : List Popping) → (pop_discipline (record { handle = handle; discipline = d; held = None; filters = filters }) bs d).after
-    ≡ worked (record { handle = handle; discipline = popped_in d; held = None; filters = filters }) (map Sent (option_to_list (shown_in d bs))) (popped_children d bs)
+after-is : (handle : Option ℕ) (filters : List Filter) (d : spec.Discipline) (bs : List Popping) → (let b = pop_discipline (own_of None [] d) bs d in
+    (pop_discipline (own_of handle filters d) bs d).after ≡ record { own = own_of handle filters b.after.own.discipline; memory = map Sent (option_to_list b.shown); below = b.after.below })
 after-is handle filters (spec.Fifo limit queue) bs = refl
 after-is handle filters (spec.Prio priomap) bs = refl
 after-is handle filters (spec.Tbf b limit) bs = refl
 after-is handle filters (spec.Drr s) bs = refl
 after-is handle filters (spec.FqCodel s) bs = refl
 
-module _ (a : Inside) (none : a.held ≡ None) (d : Discipline) (packet : Option Descriptor) (shown : packet ≡ shown_in (discipline_seen a.discipline) (map pop (children_seen a.discipline))) (q : IsPoppedIn a.discipline d) where
+module _ (a : Inside) (none : a.held ≡ None) (d : Discipline) (packet : Option Descriptor) (shown : packet ≡ (popping_of a.discipline).shown) (q : IsPoppedIn a.discipline d) where
   abbrev here : Option Descriptor → Own
   here o = record { handle = a.handle; discipline = discipline_seen a.discipline; held = o; filters = a.filters.items }
 
@@ -216,9 +212,11 @@ module _ (a : Inside) (none : a.held ≡ None) (d : Discipline) (packet : Option
   pub own-after : (r : Row) → counts_in_row r ≡ noted totals (counts_in_row a.row) (map Sent (option_to_list packet)) → seen (record a { row = r; discipline = d }) ≡ booked kept (seen a) (pop (seen a)).after
   own-after r row =
       let notes : List Note = map Sent (option_to_list packet) in
-      let after : (pop (seen a)).after ≡ worked (record { handle = a.handle; discipline = popped_in (discipline_seen a.discipline); held = None; filters = a.filters.items }) notes (popped_children (discipline_seen a.discipline) (bands_of a)) =
+      let b : Popping = popping_of a.discipline in
+      let left : Own = own_of a.handle a.filters.items b.after.own.discipline in
+      let after : (pop (seen a)).after ≡ record { own = left; memory = notes; below = b.after.below } =
       ap (λ (b : Popping). b.after) (pop-is a) ∙ ap (λ (o : Option Descriptor). (pop_own (here o) (bands_of a)).after) none ∙ after-is a.handle a.filters.items (discipline_seen a.discipline) (bands_of a)
-      ∙ ap (λ (o : Option Descriptor). worked (record { handle = a.handle; discipline = popped_in (discipline_seen a.discipline); held = None; filters = a.filters.items }) (map Sent (option_to_list o)) (popped_children (discipline_seen a.discipline) (bands_of a))) (sym shown) in
+      ∙ ap (λ (o : Option Descriptor). record { own = left; memory = map Sent (option_to_list o); below = b.after.below }) (sym shown) in
       let memory : record { counts = counts_in_row r; places = places_seen d } ≡ noted kept (seen a).memory notes = (λ i. record { counts = row i; places = q.places i }) ∙ sym (noted-kept (seen a).memory notes) in
       (λ i. record { own = record { handle = a.handle; discipline = q.discipline i; held = none i; filters = a.filters.items }; memory = memory i; below = q.children i })
       ∙ ap (λ (w : Worked). booked kept (seen a) w) (sym after)
@@ -301,19 +299,19 @@ module _ (a : Inside) (none : a.held ≡ None) (d : Discipline) (packet : Option
 pub none-popped : (d : Discipline) → CanHold (discipline_seen d) → IsPoppedIn d d
 none-popped d can = record {
   discipline = by (discipline_seen d) can;
-  children = sym (side-still (children_seen d)) ∙ ap (λ (ws : List Worked). each_booked kept (side_by_side (children_seen d)) (side_by_side ws)) (kids (discipline_seen d) can);
+  children = sym (side-still (children_seen d)) ∙ ap (each_booked kept (side_by_side (children_seen d))) (kids (discipline_seen d) can);
   within = λ t h. h;
   places = refl;
 }
   where
-    by : (x : spec.Discipline) → CanHold x → x ≡ popped_in x
+    by : (x : spec.Discipline) → CanHold x → x ≡ (pop_discipline (own_of None [] x) (map pop (children_seen d)) x).after.own.discipline
     by (spec.Fifo limit queue) can = absurd can
     by (spec.Prio priomap) can = absurd can
     by (spec.Tbf b limit) can = refl
     by (spec.Drr s) can = refl
     by (spec.FqCodel s) can = refl
 
-    kids : (x : spec.Discipline) → CanHold x → as_they_are (map pop (children_seen d)) ≡ popped_children x (map pop (children_seen d))
+    kids : (x : spec.Discipline) → CanHold x → side_by_side (as_they_are (map pop (children_seen d))) ≡ (pop_discipline (own_of None [] x) (map pop (children_seen d)) x).after.below
     kids (spec.Fifo limit queue) can = absurd can
     kids (spec.Prio priomap) can = absurd can
     kids (spec.Tbf b limit) can = refl
@@ -325,15 +323,15 @@ pub prio-popped : (before after : Discipline) (ns ns2 : List (Node Kept)) (priom
     → side_by_side ns2 ≡ each_booked kept (side_by_side ns) (side_by_side (popped_at (first_ready (map pop ns)) (map pop ns)))
     → ((t : Totals) → All (λ (child : Node Kept). IsCountedWithin child.memory.counts.arrived t) ns → All (λ (child : Node Kept). IsCountedWithin child.memory.counts.arrived t) ns2)
     → IsPoppedIn before after
-prio-popped before after ns ns2 priomap is is2 kids kids2 places gave within = record {
-  discipline = is2 ∙ sym (ap popped_in is);
-  children = ap side_by_side kids2 ∙ gave ∙ sym (
-      ap (λ xs. each_booked kept (side_by_side xs) (side_by_side (popped_children (discipline_seen before) (map pop xs)))) kids
-      ∙ ap (λ x. each_booked kept (side_by_side ns) (side_by_side (popped_children x (map pop ns)))) is
-      );
-  within = λ t h. subst (All (λ (child : Node Kept). IsCountedWithin child.memory.counts.arrived t)) (sym kids2) (within t (subst (All (λ (child : Node Kept). IsCountedWithin child.memory.counts.arrived t)) kids h));
-  places = places;
-}
+prio-popped before after ns ns2 priomap is is2 kids kids2 places gave within =
+    let b : Popping = pop_discipline (own_of None [] (spec.Prio priomap)) (map pop ns) (spec.Prio priomap) in
+    let same : popping_of before ≡ b = ap₂ (λ d xs. pop_discipline (own_of None [] d) (map pop xs) d) is kids in
+    record {
+      discipline = is2 ∙ ap (λ (x : Popping). x.after.own.discipline) (sym same);
+      children = ap side_by_side kids2 ∙ gave ∙ sym (ap₂ (λ xs (x : Popping). each_booked kept (side_by_side xs) x.after.below) kids same);
+      within = λ t h. subst (All (λ (child : Node Kept). IsCountedWithin child.memory.counts.arrived t)) (sym kids2) (within t (subst (All (λ (child : Node Kept). IsCountedWithin child.memory.counts.arrived t)) kids h));
+      places = places;
+    }
 
 pub set-within : (ns : List (Node Kept)) (k : ℕ) (c c2 : Node Kept) → slice_get ns k ≡ Some c → c2.memory.counts.arrived ≡ c.memory.counts.arrived → (t : Totals)
     → All (λ (child : Node Kept). IsCountedWithin child.memory.counts.arrived t) ns → All (λ (child : Node Kept). IsCountedWithin child.memory.counts.arrived t) (set ns k c2)

@@ -1,7 +1,6 @@
 pub mod Ahead
 pub mod Arrivals
 pub mod AskSteps
-pub mod AtHand
 pub mod Kept
 pub mod NodeCode
 pub mod NodeFalls

@@ -1,7 +1,6 @@
 ghost use Rattle.std.specs.Prelude.{◌≡◌, map, slice_get};
 ghost use Rattle.q_model.specs.Beneath.{packets_of};
-ghost use Rattle.q_model.specs.Pop.{pop};
-ghost use Rattle.q_tree.specs.AtHand.{first_shown};
+ghost use Rattle.q_model.specs.Pop.{first_shown, pop};
 
 use crate::node::{Discipline, Node};
 use q_codel::Fifo;

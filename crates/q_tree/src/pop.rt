@@ -2,8 +2,7 @@ ghost use Rattle.std.specs.Prelude.{◌≡◌, map};
 ghost use Rattle.q_model.specs.Pop.{pop};
 ghost use Rattle.q_model.specs.Work.{booked};
 ghost use Rattle.q_tree.specs.Kept.{kept};
-ghost use Rattle.q_tree.specs.PopSteps.{IsFirstReady, IsPoppedIn, shown_in};
-ghost use Rattle.q_tree.specs.Seen.{discipline_seen, children_seen};
+ghost use Rattle.q_tree.specs.PopSteps.{IsFirstReady, IsPoppedIn, popping_of};
 
 use crate::booking::book_sent;
 use crate::node::{Discipline, Node};
@@ -35,7 +34,7 @@ impl Discipline {
     // Takes a fifo's head, or the packet of a prio's first band that has one.
     #[cycle(pop)]
     fn pop(&mut self) -> Option<Packet>
-        ensures packet { result ≡ shown_in (discipline_seen self.old) (map pop (children_seen self.old)) }
+        ensures packet { result ≡ (popping_of self.old).shown }
         ensures after { IsPoppedIn self.old self.new }
     {
         match self {

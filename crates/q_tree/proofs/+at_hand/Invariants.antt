@@ -1,7 +1,7 @@
 use Rattle.std.proofs.Common.{◌≡◌, map, drop}
 use Rattle.q_model.specs.Node.{side_by_side}
 use Rattle.q_model.specs.Pop.{pop}
-use Rattle.q_tree.specs.AtHand.{first_shown}
+use Rattle.q_model.specs.Pop.{first_shown}
 use Rattle.q_tree.specs.NodeCode.{node_size, forest_size}
 use Rattle.q_tree.proofs.+at_hand.Given as goal
 

@@ -1,10 +1,10 @@
 use Rattle.std.proofs.Common.{◌≡◌, ◌<◌, ◌∙◌, map, set, length, refl, sym, ap, subst, arith}
 use Rattle.std.specs.Vec.{with_item}
 use Rattle.std.proofs.lemmas.List.{length-map}
-use Rattle.q_model.specs.Pop.{pop}
+use Rattle.q_model.specs.Pop.{first_ready, pop}
 use Rattle.q_model.specs.Work.{booked}
 use Rattle.q_tree.specs.Kept.{kept}
-use Rattle.q_tree.specs.PopSteps.{IsPoppedIn, first_ready, shown_in}
+use Rattle.q_tree.specs.PopSteps.{IsPoppedIn, popping_of}
 use Rattle.q_tree.specs.Seen.{children_seen, discipline_seen, places_seen}
 use Rattle.q_tree.specs.declared.node.Discipline.TheVariants as code
 use Rattle.q_tree.proofs.AtHandLemmas.{there-at}
@@ -24,7 +24,7 @@ Discipline::pop-returns-in-Prio-clause-packet t c =
     let first = subst (λ xs. c.in-Some.place ≡ first_ready (map pop xs)) c.deref.ensures.value c.in-Some.ensures.0 in
     let inside : c.in-Some.place < length c.in-Prio.bands.items = omega (arith, c.in-Some.ensures.1, length-map c.deref.result.now pop, ap (λ xs. length xs) c.deref.ensures.value) in
     let there = there-at c.in-Prio.bands.items c.in-Some.place c.index_mut.result.now inside c.index_mut.ensures.value in
-    c.pop.ensures.packet ∙ prio-gave c.in-Prio.bands.items c.in-Some.place c.index_mut.result.now there first ∙ sym (ap (λ d. shown_in (discipline_seen d) (map pop (children_seen d))) c.in-Prio.is)
+    c.pop.ensures.packet ∙ prio-gave c.in-Prio.bands.items c.in-Some.place c.index_mut.result.now there first ∙ sym (ap (λ d. (popping_of d).shown) c.in-Prio.is)
 
 pub Discipline::pop-returns-in-Prio-clause-after :
     goal.Discipline::pop-returns-in-Prio-clause-after
