@@ -1,7 +1,6 @@
 -- What a prio has at hand, band by band.
 use Rattle.std.proofs.Common.{◌≡◌, ℕ, zero, suc, ◌+◌, ◌≤◌, ◌<◌, ◌∙◌, List, [], ◌∷◌, map, drop, length, refl, sym, ap, arith, Option, Some, None, option_and_then}
-use Rattle.std.specs.Prelude.{Bool, true, false, not, cond, is_some, slice_get, slice_index_or}
-use Rattle.std.specs.List.{position_or_len}
+use Rattle.std.specs.Prelude.{true, false, not, cond, is_some, slice_get, slice_index_or}
 use Rattle.std.proofs.lemmas.List.{drop_more, drop_all}
 use Rattle.std.proofs.lemmas.Bool.{false≢true}
 use Rattle.q_packet.specs.Descriptor.{Descriptor}

@@ -1,19 +1,19 @@
 -- What putting a packet comes to at one node of its way: in its own queue where the way ends, else in one of its children.
 -- tc-pfifo(8), tc-drr(8), tc-fq_codel(8).
-use Rattle.std.specs.Prelude.{◌≡◌, ℕ, ◌<◌, length, true, if◌then◌else◌, List, [], ◌∷◌, map, set, slice_get, Option, Some, None}
+use Rattle.std.specs.Prelude.{◌≡◌, ℕ, ◌<◌, length, true, List, [], map, set, slice_get, Option, Some, None}
 use Rattle.std.specs.List.{flat_map}
 use Rattle.q_packet.specs.Cause.{is_refusal}
 use Rattle.q_packet.specs.Descriptor.{Descriptor}
 use Rattle.q_packet.specs.declared.cause.Cause.{Cause}
-use Rattle.q_packet.specs.declared.cause.Cause.TheVariants.{FatFlow}
 use Rattle.q_codel.specs.FifoState.{takes}
 use Rattle.q_fqcodel.specs.FqState.{FqState, packets_of, bytes_of}
 use Rattle.q_fqcodel.specs.Put.{flow_of}
 use Rattle.q_model.specs.Beneath.{beneath, is_empty}
+use Rattle.q_model.specs.Make.{node_of}
 use Rattle.q_model.specs.Node as spec
 use Rattle.q_model.specs.Node.{shape}
-use Rattle.q_model.specs.Put.{put_along, queued_in, lost_in, drops_itself}
-use Rattle.q_model.specs.Tally.{Note, Lost, with_packet}
+use Rattle.q_model.specs.Put.{put_here, put_along}
+use Rattle.q_model.specs.Tally.{Note, with_packet}
 use Rattle.q_model.specs.TreeState.{loss_at_end}
 use Rattle.q_model.specs.Work.{booked, settled_in}
 use Rattle.q_sound.proofs.Ways.{CanPass}
@@ -41,17 +41,15 @@ abbrev pub CanQueue : Descriptor → Option Cause → ℕ → spec.Discipline �
 CanQueue p (Some cause) places d = is_refusal cause ≡ true
 CanQueue p None places d = Queues p d × HasPlaceIn places d
 
+-- what putting it comes to at a node with this discipline where the way ends: what is told, what is left, and the packet's own loss
 abbrev pub rises_here : ℕ → Descriptor → Option Cause → spec.Discipline → List Note
-rises_here now p (Some cause) d = Lost p cause ∷ []
-rises_here now p None d = lost_in p now d
+rises_here now p refusal d = (put_here now p refusal (node_of None d [])).rises
 
 abbrev pub after_here : ℕ → Descriptor → Option Cause → spec.Discipline → spec.Discipline
-after_here now p (Some cause) d = d
-after_here now p None d = queued_in p now d
+after_here now p refusal d = (put_here now p refusal (node_of None d [])).node.own.discipline
 
 abbrev pub loss_here : ℕ → Descriptor → Option Cause → spec.Discipline → Option Cause
-loss_here now p (Some cause) d = Some cause
-loss_here now p None d = if drops_itself p now d then Some FatFlow else None
+loss_here now p refusal d = loss_at_end now p (node_of None d []) (record { path = []; refusal = refusal })
 
 pub record IsQueued (now : ℕ) (p : Descriptor) (refusal : Option Cause) (before after : Discipline) (o : Outcome) : Type 0 where
   pub discipline : discipline_seen after ≡ after_here now p refusal (discipline_seen before)

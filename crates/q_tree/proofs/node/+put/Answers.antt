@@ -125,6 +125,11 @@ Node::put-returns-in_default-clause-after g t c = (ended g t c).after
 pub Node::put-returns-in_default-clause-outcome : goal.Node::put-returns-in_default-clause-outcome
 Node::put-returns-in_default-clause-outcome g t c = (ended g t c).outcome
 
+pub Node::put-returns-in_default-clause-lost : goal.Node::put-returns-in_default-clause-lost
+Node::put-returns-in_default-clause-lost g t c =
+    c.put_here-outcome.ensures.lost
+    ∙ ap (λ notes. g.S.Sink.losses c.args.sink.now ++ losses_in notes) (sym (here-rises c.args.now c.args.packet c.args.refusal c.self.inside c.args.self.now c.args.path.now c.self.invariant c.self.view_is c.requires.ready (nil_from_length c.args.path.now c.in_default.ensures.cases)))
+
 pub Node::put-returns-in_default-clause-room : goal.Node::put-returns-in_default-clause-room
 Node::put-returns-in_default-clause-room g t c = omega (arith, c.put_here-outcome.ensures.room, ap (λ notes. length (losses_in notes)) (here-rises c.args.now c.args.packet c.args.refusal c.self.inside c.args.self.now c.args.path.now c.self.invariant c.self.view_is c.requires.ready (nil_from_length c.args.path.now c.in_default.ensures.cases)))
 
