@@ -13,6 +13,7 @@ pub mod PopLemmas
 pub mod Puts
 pub mod RouteLemmas
 pub mod Rows
+pub mod RowsOf
 pub mod ServeLemmas
 pub mod SettleLemmas
 pub mod TakeCounts

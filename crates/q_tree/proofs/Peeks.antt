@@ -2,6 +2,7 @@
 use Rattle.std.proofs.Common.{◌≡◌, ℕ, ◌≤◌, ◌<◌, ◌^◌, ◌∙◌, List, [], ◌∷◌, ◌++◌, map, take, drop, length, refl, sym, ap, ap₂, subst, Option, Some, None, option_to_list, flat_map, arith}
 use Rattle.std.specs.Prelude.{Bool, true, is_some, if◌then◌else◌}
 use Rattle.std.specs.Option.{option_map_or}
+use Rattle.std.specs.List.{All}
 use Rattle.std.proofs.lemmas.List.{append-nil, drop_all, take_all, length-append, length-map}
 use Rattle.std.proofs.lemmas.List.Sums.{sum_by-append}
 use Rattle.q_packet.specs.Descriptor.{Descriptor}
@@ -27,12 +28,12 @@ use Rattle.q_sound.proofs.Told.{root-booked}
 use Rattle.q_tree.specs.AskSteps.{CanAsk, CanAskEach, CanServe, CanAskIn, CanShow, IsShown, AreAsked, IsToldOf, IsAskedIn, answers, answer_of, own_of, held_in, packets_within, with_shown}
 use Rattle.q_tree.specs.Kept.{Kept, kept}
 use Rattle.q_tree.specs.PutSteps.{packets_beneath}
-use Rattle.q_tree.specs.Seen.{seen, discipline_seen, children_seen, places_seen, IsKept}
+use Rattle.q_tree.specs.Seen.{seen, discipline_seen, children_seen, places_seen, IsKept, IsCountedWithin}
 use Rattle.q_tree.specs.declared.node.Discipline.{Discipline}
 use Rattle.q_tree.specs.declared.node.Node.TheInside.{Inside}
 use Rattle.q_tree.specs.declared.shown.Shown.{Shown}
 use Rattle.q_tree.proofs.AskForms.{ask-holding, ask-none, peeked-is}
-use Rattle.q_tree.proofs.AskRows.{can-show, kept-shown}
+use Rattle.q_tree.proofs.RowsOf.{IsRowOf, row-of, kept-of, can-show, row-shown}
 use Rattle.q_sound.proofs.Weights.{IsQuiet}
 use Rattle.q_tree.proofs.PopLemmas.{set-within}
 use Rattle.q_tree.proofs.Asking.{asked-told, asked-weighs, all-before, side-all}
@@ -202,14 +203,17 @@ module _ (now : ℕ) (a : Inside) (n : Node Kept) (k : IsKept a) (view : seen a 
       pub can-book : a.row.arrived.packets < 2 ^ 64 → a.row.arrived.bytes < 2 ^ 64 → CanShow s a.row
       can-book packets_fit bytes_fit =
           let x : Asked = ask now (shape (seen a)) in
-          can-show a k x.rises s (booked kept (seen a) x.peeked) (asked-weighs now (seen a) can-here) shown-inside.dropped shown-inside.marked packets_fit bytes_fit
+          can-show (seen a) a.row (row-of a k) (booked kept (seen a) x.peeked) x.rises s (asked-weighs now (seen a) can-here) shown-inside.dropped shown-inside.marked packets_fit bytes_fit
 
       pub peeked-done : (r : Row) (held : Option Descriptor) → CanShow s a.row → r ≡ with_shown s a.row → held ≡ held_in (discipline_seen d) s.packet → IsPeekedAs now n (record a { held = held; row = r; discipline = d })
       peeked-done r held fit row holds =
           let x : Asked = ask now (shape (seen a)) in
           let w = asked-weighs now (seen a) can-here in
+          let m : Node Kept = booked kept (seen a) x.peeked in
           let value = peeked-is now a d r s held none q (subst (λ (y : Asked). IsQuiet y.rises) (ask-none now a none) w.quiet) row holds in
           record {
-            stays = kept-shown a k x.rises s (booked kept (seen a) x.peeked) w shown-inside.dropped shown-inside.marked (record a { held = held; row = r; discipline = d }) row value fit (q.children.within a.row.arrived k.within);
+            stays = kept-of (record a { held = held; row = r; discipline = d })
+                (subst (IsRowOf r) (sym value) (subst (λ (y : Row). IsRowOf y m) (sym row) (row-shown (seen a) a.row (row-of a k) m x.rises s w shown-inside.dropped shown-inside.marked fit)))
+                (subst (λ (y : Row). All (λ (child : Node Kept). IsCountedWithin child.memory.counts.arrived y.arrived) (children_seen d)) (sym row) (q.children.within a.row.arrived k.within));
             after = value ∙ ap (λ (m : Node Kept). booked kept m (ask now (shape m)).peeked) view;
           }

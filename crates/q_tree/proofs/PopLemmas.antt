@@ -34,7 +34,8 @@ use Rattle.q_tree.specs.declared.node.Discipline.{Discipline}
 use Rattle.q_tree.specs.declared.node.Node.TheInside.{Inside}
 use Rattle.q_tree.proofs.AtHandLemmas.{front-of}
 use Rattle.q_tree.proofs.Forms.{noted-kept}
-use Rattle.q_tree.proofs.Rows.{counts_in_row, weigh-bytes}
+use Rattle.q_tree.proofs.Rows.{counts_in_row}
+use Rattle.q_tree.proofs.RowsOf.{IsRowOf, row-of, kept-of, row-popped, row-still}
 
 -- the bands before this place have nothing at hand
 abbrev pub NoneBefore : ℕ → List (Node Kept) → Type 0
@@ -116,58 +117,17 @@ pub record IsPoppedAs (n : Node Kept) (inside : Inside) (packet : Option Descrip
   pub stays : IsKept inside
   pub after : seen inside ≡ booked kept n (pop n).after
 
--- what waits there before it and after it
-same-before : (n : Node Kept) → beneath (pop n).before ≡ beneath n
-same-before n = ap (λ (w : Worked). beneath w) (pop-before n) ∙ ap (beneath_own n.own) (each-each_memory beneath_own (λ u. []) n.below)
-
-held-before : (n : Node Kept) → held_beneath (pop n).before ≡ held_beneath n
-held-before n = ap (λ (w : Worked). held_beneath w) (pop-before n) ∙ ap (held_own n.own) (each-each_memory held_own (λ u. []) n.below)
-
-record IsLessBy (p : Descriptor) (n m : Node Kept) : Type 0 where
-  packets : (totals_in (beneath n)).packets ≡ 1 + (totals_in (beneath m)).packets
-  bytes : (totals_in (beneath n)).bytes ≡ p.len + (totals_in (beneath m)).bytes
-  held_packets : (totals_in (held_beneath n)).packets ≤ 1 + (totals_in (held_beneath m)).packets
-  held_bytes : (totals_in (held_beneath n)).bytes ≤ p.len + (totals_in (held_beneath m)).bytes
-
-one-less : (n : Node Kept) (p : Descriptor) → (pop n).shown ≡ Some p → IsLessBy p n (booked kept n (pop n).after)
-one-less n p e =
-    let m : Node Kept = booked kept n (pop n).after in
-    let given = pop-gives n in
-    let same : beneath m ≡ beneath (pop n).after = root-booked kept beneath_own n (pop n).after (pop-told n) in
-    let held : held_beneath m ≡ held_beneath (pop n).after = root-booked kept held_own n (pop n).after (pop-told n) in
+pub popped : (a : Inside) (k : IsKept a) (p : Descriptor) → (pop (seen a)).shown ≡ Some p → (held : Option Descriptor) (d : Discipline) (r : Row) → r ≡ with_sent p a.row
+    → seen (record a { held = held; row = r; discipline = d }) ≡ booked kept (seen a) (pop (seen a)).after
+    → All (λ (child : Node Kept). IsCountedWithin child.memory.counts.arrived a.row.arrived) (children_seen d) → IsPoppedAs (seen a) (record a { held = held; row = r; discipline = d }) (Some p)
+popped a k p e held d r row value within =
+    let m : Node Kept = booked kept (seen a) (pop (seen a)).after in
     record {
-      packets = omega (arith, given.gives one, ap (λ (o : Option Descriptor). weigh one (option_to_list o)) e, weigh-one one p, ap (weigh one) (same-before n), ap (weigh one) same, weigh-count (beneath n), weigh-count (beneath m));
-      bytes = omega (arith, given.gives bytes, ap (λ (o : Option Descriptor). weigh bytes (option_to_list o)) e, weigh-one bytes p, ap (weigh bytes) (same-before n), ap (weigh bytes) same, weigh-bytes (beneath n), weigh-bytes (beneath m));
-      held_packets = omega (arith, given.holds one, ap (λ (o : Option Descriptor). weigh one (option_to_list o)) e, weigh-one one p, ap (weigh one) (held-before n), ap (weigh one) held, weigh-count (held_beneath n), weigh-count (held_beneath m));
-      held_bytes = omega (arith, given.holds bytes, ap (λ (o : Option Descriptor). weigh bytes (option_to_list o)) e, weigh-one bytes p, ap (weigh bytes) (held-before n), ap (weigh bytes) held, weigh-bytes (held_beneath n), weigh-bytes (held_beneath m));
+      shown = sym e;
+      stays = kept-of (record a { held = held; row = r; discipline = d }) (subst (IsRowOf r) (sym value) (subst (λ (x : Row). IsRowOf x m) (sym row) (row-popped (seen a) a.row (row-of a k) p e)))
+          (subst (λ (x : Row). All (λ (child : Node Kept). IsCountedWithin child.memory.counts.arrived x.arrived) (children_seen d)) (sym row) within);
+      after = value;
     }
-
-module _ (a : Inside) (k : IsKept a) (p : Descriptor) (e : (pop (seen a)).shown ≡ Some p) where
-  pub among : IsAmong p a.row.queued
-  among = let less = one-less (seen a) p e in record { packets = omega (arith, less.packets, ap (λ (t : Totals). t.packets) k.queued); bytes = omega (arith, less.bytes, ap (λ (t : Totals). t.bytes) k.queued) }
-
-  pub popped : (held : Option Descriptor) (d : Discipline) (r : Row) → r ≡ with_sent p a.row → seen (record a { held = held; row = r; discipline = d }) ≡ booked kept (seen a) (pop (seen a)).after
-      → All (λ (child : Node Kept). IsCountedWithin child.memory.counts.arrived a.row.arrived) (children_seen d) → IsPoppedAs (seen a) (record a { held = held; row = r; discipline = d }) (Some p)
-  popped held d r row value within =
-      let less = one-less (seen a) p e in
-      let b : Inside = record a { held = held; row = r; discipline = d } in
-      let queued_packets : r.queued.packets ≡ (totals_in (beneath (seen b))).packets =
-      omega (arith, less.packets, among.packets, ap (λ (t : Totals). t.packets) k.queued, ap (λ (x : Row). x.queued.packets) row, ap (λ (m : Node Kept). (totals_in (beneath m)).packets) value) in
-      let queued_bytes : r.queued.bytes ≡ (totals_in (beneath (seen b))).bytes =
-      omega (arith, less.bytes, among.bytes, ap (λ (t : Totals). t.bytes) k.queued, ap (λ (x : Row). x.queued.bytes) row, ap (λ (m : Node Kept). (totals_in (beneath m)).bytes) value) in
-      record {
-        shown = sym e;
-        stays = record {
-          queued = λ i. record { packets = queued_packets i; bytes = queued_bytes i };
-          balanced = subst IsBalanced (sym row) (record { packets = omega (arith, k.balanced.packets, among.packets); bytes = omega (arith, k.balanced.bytes, among.bytes) });
-          marks = subst (λ (x : Row). AreMarksBounded (counts_in_row x) (held_beneath (seen b))) (sym row) (record {
-            packets = omega (arith, k.marks.packets, less.held_packets, ap (λ (m : Node Kept). (totals_in (held_beneath m)).packets) value);
-            bytes = omega (arith, k.marks.bytes, less.held_bytes, ap (λ (m : Node Kept). (totals_in (held_beneath m)).bytes) value);
-          });
-          within = subst (λ (x : Row). All (λ (child : Node Kept). IsCountedWithin child.memory.counts.arrived x.arrived) (children_seen d)) (sym row) within;
-        };
-        after = value;
-      }
 
 -- a node that held its packet
 module _ (a : Inside) (p : Descriptor) (e : a.held ≡ Some p) where
@@ -224,70 +184,11 @@ module _ (a : Inside) (none : a.held ≡ None) (d : Discipline) (packet : Option
   -- where there is none, all stays
   pub still-kept : IsKept a → packet ≡ None → IsPoppedAs (seen a) (record a { discipline = d }) None
   still-kept k e =
-      let n : Node Kept = seen a in
-      let given = pop-gives n in
-      let nothing : (pop n).shown ≡ None = own-shown ∙ e in
-      let value : seen (record a { discipline = d }) ≡ booked kept n (pop n).after = own-after a.row (ap (λ (o : Option Descriptor). noted totals (counts_in_row a.row) (map Sent (option_to_list o))) (sym e)) in
-      let m : Node Kept = booked kept n (pop n).after in
-      let same : beneath m ≡ beneath (pop n).after = root-booked kept beneath_own n (pop n).after (pop-told n) in
-      let held : held_beneath m ≡ held_beneath (pop n).after = root-booked kept held_own n (pop n).after (pop-told n) in
-      let packets : a.row.queued.packets ≡ (totals_in (beneath (seen (record a { discipline = d })))).packets = omega (
-        arith,
-        given.gives one,
-        ap (λ (o : Option Descriptor). weigh one (option_to_list o)) nothing,
-        weigh-nil one,
-        ap (weigh one) (same-before n),
-        ap (weigh one) same,
-        weigh-count (beneath n),
-        weigh-count (beneath m),
-        ap (λ (t : Totals). t.packets) k.queued,
-        ap (λ (x : Node Kept). (totals_in (beneath x)).packets) value,
-      ) in
-      let bytes_same : a.row.queued.bytes ≡ (totals_in (beneath (seen (record a { discipline = d })))).bytes = omega (
-        arith,
-        given.gives bytes,
-        ap (λ (o : Option Descriptor). weigh bytes (option_to_list o)) nothing,
-        weigh-nil bytes,
-        ap (weigh bytes) (same-before n),
-        ap (weigh bytes) same,
-        weigh-bytes (beneath n),
-        weigh-bytes (beneath m),
-        ap (λ (t : Totals). t.bytes) k.queued,
-        ap (λ (x : Node Kept). (totals_in (beneath x)).bytes) value,
-      ) in
+      let nothing : (pop (seen a)).shown ≡ None = own-shown ∙ e in
+      let value : seen (record a { discipline = d }) ≡ booked kept (seen a) (pop (seen a)).after = own-after a.row (ap (λ (o : Option Descriptor). noted totals (counts_in_row a.row) (map Sent (option_to_list o))) (sym e)) in
       record {
         shown = sym nothing;
-        stays = record {
-          queued = λ i. record { packets = packets i; bytes = bytes_same i };
-          balanced = k.balanced;
-          marks = record {
-            packets = omega (
-              arith,
-              k.marks.packets,
-              given.holds one,
-              ap (λ (o : Option Descriptor). weigh one (option_to_list o)) nothing,
-              weigh-nil one,
-              ap (weigh one) (held-before n),
-              ap (weigh one) held,
-              weigh-count (held_beneath n),
-              weigh-count (held_beneath m),
-              ap (λ (x : Node Kept). (totals_in (held_beneath x)).packets) value,
-            );
-            bytes = omega (
-              arith,
-              k.marks.bytes,
-              given.holds bytes,
-              ap (λ (o : Option Descriptor). weigh bytes (option_to_list o)) nothing,
-              weigh-nil bytes,
-              ap (weigh bytes) (held-before n),
-              ap (weigh bytes) held,
-              weigh-bytes (held_beneath n),
-              weigh-bytes (held_beneath m),
-              ap (λ (x : Node Kept). (totals_in (held_beneath x)).bytes) value,
-            );
-          };
-          within = q.within a.row.arrived k.within;
-        };
+        stays = kept-of (record a { discipline = d }) (subst (IsRowOf a.row) (sym value) (row-still (seen a) a.row (row-of a k) nothing)) (q.within a.row.arrived k.within);
         after = value;
       }
 

@@ -5,10 +5,11 @@ use Rattle.q_model.specs.Pop.{first_ready, pop}
 use Rattle.q_model.specs.Work.{booked}
 use Rattle.q_tree.specs.Kept.{kept}
 use Rattle.q_tree.specs.PopSteps.{IsPoppedIn, popping_of}
-use Rattle.q_tree.specs.Seen.{children_seen, discipline_seen, places_seen}
+use Rattle.q_tree.specs.Seen.{seen, children_seen, discipline_seen, places_seen}
 use Rattle.q_tree.specs.declared.node.Discipline.TheVariants as code
 use Rattle.q_tree.proofs.AtHandLemmas.{there-at}
-use Rattle.q_tree.proofs.PopLemmas.{prio-gave, prio-children, prio-kept, none-popped, prio-popped, set-within, held-after, own-shown, still-kept, gave, among}
+use Rattle.q_tree.proofs.PopLemmas.{prio-gave, prio-children, prio-kept, none-popped, prio-popped, set-within, held-after, own-shown, still-kept, gave}
+use Rattle.q_tree.proofs.RowsOf.{row-of, among}
 use Rattle.q_tree.proofs.node.+pop.Goals as goal
 
 pub Discipline::pop-returns-in_default-clause-after :
@@ -62,7 +63,7 @@ Node::pop-returns-in_default-pop-clause-after t c =
 
 pub Node::pop-book_sent-requires-2-clause-among : goal.Node::pop-book_sent-requires-2-clause-among
 Node::pop-book_sent-requires-2-clause-among t c =
-    among c.self.inside c.self.invariant c.in-Some-pop.packet (own-shown c.self.inside c.in_default.is c.pop.new.self c.pop.result c.pop.ensures.packet c.pop.ensures.after ∙ c.in-Some-pop.is)
+    among (seen c.self.inside) c.self.inside.row (row-of c.self.inside c.self.invariant) c.in-Some-pop.packet (own-shown c.self.inside c.in_default.is c.pop.new.self c.pop.result c.pop.ensures.packet c.pop.ensures.after ∙ c.in-Some-pop.is)
 
 pub Node::pop-invariant_of-self-2 : goal.Node::pop-invariant_of-self-2
 Node::pop-invariant_of-self-2 t c =
@@ -80,5 +81,5 @@ Node::pop-returns-clause-after t c =
 
 pub Node::pop-book_sent-requires-2-clause-room : goal.Node::pop-book_sent-requires-2-clause-room
 Node::pop-book_sent-requires-2-clause-room t c =
-    let had = among c.self.inside c.self.invariant c.in-Some-pop.packet (own-shown c.self.inside c.in_default.is c.pop.new.self c.pop.result c.pop.ensures.packet c.pop.ensures.after ∙ c.in-Some-pop.is) in
+    let had = among (seen c.self.inside) c.self.inside.row (row-of c.self.inside c.self.invariant) c.in-Some-pop.packet (own-shown c.self.inside c.in_default.is c.pop.new.self c.pop.result c.pop.ensures.packet c.pop.ensures.after ∙ c.in-Some-pop.is) in
     record { packets = omega (arith, c.self.invariant.balanced.packets, had.packets, c.self.ranges); bytes = omega (arith, c.self.invariant.balanced.bytes, had.bytes, c.self.ranges) }
