@@ -1,24 +1,16 @@
 -- A row in which it is booked what asking a node came to has what the model counts of it.
-use Rattle.std.proofs.Common.{◌≡◌, ◌<◌, ◌^◌, List, ◌++◌, length, sym, ap, subst, arith}
-use Rattle.std.specs.List.{All, fold}
+use Rattle.std.proofs.Common.{◌≡◌, List, ◌++◌, ap, arith}
+use Rattle.std.specs.List.{fold}
 use Rattle.q_model.specs.declared.row.Row.{Row}
 use Rattle.q_model.specs.declared.totals.Totals.{Totals}
-use Rattle.q_model.specs.Beneath.{beneath, totals_in}
-use Rattle.q_model.specs.Conserved.{held_beneath, IsBalanced, AreMarksBounded}
-use Rattle.q_model.specs.Node.{Node}
 use Rattle.q_model.specs.Tally.{Note, Counts, counted, no_counts, counts_in, noted, totals}
 use Rattle.q_sound.proofs.Answer.{one, IsSilent}
 use Rattle.q_sound.proofs.Counted.{bytes, lost-parts, all-more}
-use Rattle.q_sound.proofs.EditNew.{held-le-beneath}
-use Rattle.q_sound.proofs.Weights.{weigh-count, dropped, marked, dropped-append, marked-append, lost-append, arrived-append, sent-append, IsQuiet}
+use Rattle.q_sound.proofs.Weights.{dropped, marked, dropped-append, marked-append, lost-append, arrived-append, sent-append, IsQuiet}
 use Rattle.q_tree.specs.Arrivals.{plus}
-use Rattle.q_tree.specs.AskSteps.{CanShow, with_shown}
-use Rattle.q_tree.specs.Kept.{Kept}
-use Rattle.q_tree.specs.Seen.{seen, children_seen, IsKept, IsCountedWithin}
-use Rattle.q_tree.specs.declared.node.Node.TheInside.{Inside}
+use Rattle.q_tree.specs.AskSteps.{with_shown}
 use Rattle.q_tree.specs.declared.shown.Shown.{Shown}
-use Rattle.q_tree.proofs.Asking.{IsWeighed}
-use Rattle.q_tree.proofs.Rows.{counts_in_row, same-totals, same-counts, weigh-bytes}
+use Rattle.q_tree.proofs.Rows.{counts_in_row, same-totals, same-counts}
 
 -- what is counted of notes, packet by packet
 pub record IsCountOf (notes : List Note) (s : Shown) : Type 0 where

@@ -17,3 +17,4 @@ pub mod RowsOf
 pub mod ServeLemmas
 pub mod SettleLemmas
 pub mod TakeCounts
+pub mod TreeLemmas

@@ -9,26 +9,18 @@ use Rattle.q_packet.specs.Descriptor.{Descriptor}
 use Rattle.q_model.specs.declared.row.Row.{Row}
 use Rattle.q_model.specs.declared.totals.Totals.{Totals}
 use Rattle.q_model.specs.declared.filter.Filter.{Filter}
-use Rattle.q_model.specs.Beneath.{beneath, beneath_own, totals_in}
-use Rattle.q_model.specs.Conserved.{held_own, held_beneath, IsBalanced, AreMarksBounded}
 use Rattle.q_model.specs.Lawful.{CanHold}
 use Rattle.q_model.specs.Node as spec
 use Rattle.q_model.specs.Node.{Own, Node, Forest, more, none, side_by_side, each, each_memory, with_memory}
 use Rattle.q_model.specs.Pop.{Popping, as_they_are, first_ready, first_shown, popped_at, pop_discipline, pop_own, pop}
 use Rattle.q_model.specs.Tally.{Tally, Note, Sent, noted, totals}
 use Rattle.q_model.specs.Work.{Worked, worked, booked, each_booked}
-use Rattle.q_model.proofs.ShrinkLemmas.{each-each_memory}
-use Rattle.q_sound.proofs.Answer.{one}
-use Rattle.q_sound.proofs.Counted.{bytes}
 use Rattle.q_sound.proofs.Forests.{each-side}
 use Rattle.q_sound.proofs.Members.{All-at}
-use Rattle.q_sound.proofs.PopGives.{pop-gives, pop-told}
 use Rattle.q_sound.proofs.Pops.{pop-before}
-use Rattle.q_sound.proofs.Told.{root-booked}
-use Rattle.q_sound.proofs.Weights.{weigh, weigh-count, weigh-nil, weigh-one}
 use Rattle.q_tree.specs.AskSteps.{own_of}
 use Rattle.q_tree.specs.Kept.{Kept, kept}
-use Rattle.q_tree.specs.PopSteps.{IsAmong, IsPoppedIn, popping_of, with_sent}
+use Rattle.q_tree.specs.PopSteps.{IsPoppedIn, popping_of, with_sent}
 use Rattle.q_tree.specs.Seen.{seen, discipline_seen, children_seen, places_seen, IsKept, IsCountedWithin}
 use Rattle.q_tree.specs.declared.node.Discipline.{Discipline}
 use Rattle.q_tree.specs.declared.node.Node.TheInside.{Inside}

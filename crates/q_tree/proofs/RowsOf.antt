@@ -1,5 +1,5 @@
 -- A row that is right for its node stays so where the node is asked, or gives a packet, and that is booked.
-use Rattle.std.proofs.Common.{◌≡◌, ℕ, ◌+◌, ◌≤◌, ◌<◌, ◌^◌, ◌∙◌, List, [], length, refl, sym, ap, subst, Option, Some, None, option_to_list, arith}
+use Rattle.std.proofs.Common.{◌≡◌, ℕ, ◌+◌, ◌≤◌, ◌<◌, ◌^◌, ◌∙◌, List, [], length, ap, Option, Some, None, option_to_list, arith}
 use Rattle.std.specs.List.{All}
 use Rattle.q_packet.specs.Descriptor.{Descriptor}
 use Rattle.q_model.specs.declared.row.Row.{Row}

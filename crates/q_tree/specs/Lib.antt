@@ -8,3 +8,4 @@ pub mod Places
 pub mod PopSteps
 pub mod PutSteps
 pub mod Seen
+pub mod TreeSeen

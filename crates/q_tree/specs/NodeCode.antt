@@ -13,6 +13,8 @@ use Rattle.q_bucket.specs.Level.{TokenBucket}
 use Rattle.q_drr.specs.Schedule.{Schedule}
 use Rattle.q_model.specs.declared.filter.Filter.{Filter}
 use Rattle.q_model.specs.declared.totals.Totals.{Totals}
+use Rattle.q_model.specs.Make.{Device}
+use Rattle.q_model.specs.Step.{DeviceState}
 use Rattle.q_model.specs.Tally.{Counts}
 use Rattle.q_tree.specs.Kept.{Kept}
 use Rattle.q_model.specs.Node.{Discipline, Fifo, Prio, Tbf, Drr, FqCodel, Own, Forest, none, more, Node}
@@ -123,6 +125,15 @@ kept_code = code_by (Counts × ℕ) (coded× counts_code coded_ℕ) (λ k. (k.co
 
 abbrev pub node_code : Coded (Node Kept)
 node_code = node_code_by own_code kept_code
+
+-- a device with its tree
+abbrev pub device_code : Coded (DeviceState Kept)
+device_code =
+    code_by (ℕ × (Device × (Kept × Node Kept)))
+    (coded× coded_ℕ (coded× (code_by (ℕ × ℕ) (coded× coded_ℕ coded_ℕ) (λ d. (d.mtu, d.txqueuelen)) (λ p. record { mtu = p.0; txqueuelen = p.1 }) (λ _. refl)) (coded× kept_code node_code)))
+    (λ d. (d.clock, (d.tree.device, (d.tree.top, d.tree.root))))
+    (λ p. record { clock = p.0; tree = record { device = p.1.0; top = p.1.1.0; root = p.1.1.1 } })
+    (λ _. refl)
 
 -- how large a node is: more than each of its children, and more than the list of them
 abbrev pub forest_size : {M : Type 0} → Forest M → ℕ

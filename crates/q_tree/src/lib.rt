@@ -21,8 +21,10 @@ mod prio;
 mod put;
 mod shown;
 mod tbf;
+mod tree;
 mod way;
 
+pub use crate::tree::Tree;
 pub use q_model::{
     Burst, ClassId, ClassKind, ClassView, Command, Filter, FilterKeys, FilterPrio, FilterView,
     FqCodelOptions, Handle, IpPrefix, IpVersion, Kind, Latency, Minor, NodeView, NotDone, Place,

@@ -77,8 +77,8 @@ impl Model for Node {
     ghost size_decreases = { λ a h. child_smaller a };
 }
 
-// What a node has counted before any packet.
-const NOTHING_COUNTED: Row = Row {
+/// What a node has counted before any packet.
+pub(crate) const NOTHING_COUNTED: Row = Row {
     arrived: NOTHING,
     sent: NOTHING,
     refused: NOTHING,

@@ -1,0 +1,22 @@
+use Rattle.std.proofs.Common.{◌≡◌, ◌∙◌, ◌<◌, ◌^◌, [], sym, ap, ap₂, arith}
+use Rattle.std.specs.Prelude.{None}
+use Rattle.q_codel.specs.declared.limit.Limit.TheVariants.{Packets}
+use Rattle.q_model.specs.Beneath.{beneath, beneath_own, totals_in}
+use Rattle.q_model.specs.Make.{Device}
+use Rattle.q_model.specs.Node as spec
+use Rattle.q_model.specs.Node.{Own, Forest, each, each_memory}
+use Rattle.q_model.specs.Tally.{no_totals}
+use Rattle.q_tree.specs.Kept.{Kept}
+use Rattle.q_tree.proofs.TreeLemmas.{new-device}
+use Rattle.q_tree.proofs.tree.Tree.new.Goals as goal
+
+pub invariant_of-result : goal.invariant_of-result
+invariant_of-result c =
+    let d : Device = record { mtu = c.args.mtu; txqueuelen = c.args.txqueuelen } in
+    let own : c.fifo.result.own ≡ record { handle = None; discipline = spec.Fifo (Packets c.args.txqueuelen) []; held = None; filters = [] } =
+    c.fifo.ensures.own ∙ ap (λ n. record { handle = None; discipline = spec.Fifo (Packets n) []; held = None; filters = [] }) c.from.ensures in
+    let empty : beneath c.fifo.result ≡ [] = ap₂ (λ (o : Own) (x : Forest Kept). beneath_own o (each beneath_own x)) own c.fifo.ensures.alone in
+    let most : c.args.mtu < 2 ^ 16 = omega (arith, c.ranges) in
+    new-device d _ c.requires most c.zero.ensures
+    (λ i. record { device = d; top = record { arrived = no_totals; sent = no_totals; refused = no_totals; dropped = no_totals; marked = no_totals }; root = record { own = own i; memory = c.fifo.ensures.counts i; below = each_memory (λ (k : Kept). k.counts) (c.fifo.ensures.alone i) } })
+    (sym (ap totals_in empty))

@@ -1,0 +1,89 @@
+use Rattle.std.proofs.Common.{◌∙◌, ◌≤◌, ◌^◌, refl, ap, arith}
+use Rattle.q_model.specs.declared.row.Row.{Row}
+use Rattle.q_model.specs.declared.totals.Totals.{Totals}
+use Rattle.q_model.specs.Step.{DeviceState}
+use Rattle.q_model.specs.TreeState.{take_packet}
+use Rattle.q_tree.specs.Kept.{Kept, kept}
+use Rattle.q_tree.proofs.RowsOf.{among}
+use Rattle.q_tree.proofs.TreeLemmas.{top-row, can-ask-root, can-book-top, shown-row, none-taken, none-kept, at-hand, one-taken, one-kept}
+use Rattle.q_tree.proofs.tree.Tree.take.Goals as goal
+
+pub peek-shown-requires-clause-ready : goal.peek-shown-requires-clause-ready
+peek-shown-requires-clause-ready g c =
+    let e = ap (λ (d : DeviceState Kept). d.clock) c.self.view_is in
+    can-ask-root c.self.inside c.self.invariant c.args.now (omega (arith, e, c.requires.order)) (omega (arith, c.ns.ensures.in_range, c.ns.ensures.value))
+
+pub book_shown-requires-clause-balanced : goal.book_shown-requires-clause-balanced
+book_shown-requires-clause-balanced g c = (top-row c.self.inside c.self.invariant).balanced
+
+pub book_shown-requires-clause-room : goal.book_shown-requires-clause-room
+book_shown-requires-clause-room g c =
+    let e = ap (λ (d : DeviceState Kept). d.clock) c.self.view_is in
+    let later : c.self.inside.clock ≤ c.args.now = omega (arith, e, c.requires.order) in
+    let low : c.args.now ≤ 2 ^ 62 = omega (arith, c.ns.ensures.in_range, c.ns.ensures.value) in
+    let shown = c.peek-shown.ensures.shown in
+    can-book-top c.self.inside c.self.invariant c.args.now later low c.peek-shown.result shown c.peek-shown.new.self c.peek-shown.ensures.after (omega (arith, c.self.ranges)) (omega (arith, c.self.ranges))
+
+pub invariant_of-self : goal.invariant_of-self
+invariant_of-self g c =
+    let e = ap (λ (d : DeviceState Kept). d.clock) c.self.view_is in
+    let later : c.self.inside.clock ≤ c.args.now = omega (arith, e, c.requires.order) in
+    let low : c.args.now ≤ 2 ^ 62 = omega (arith, c.ns.ensures.in_range, c.ns.ensures.value) in
+    let shown = c.peek-shown.ensures.shown in
+    none-kept c.self.inside c.self.invariant c.args.now later low c.peek-shown.result shown c.peek-shown.new.self c.peek-shown.ensures.after (can-book-top c.self.inside c.self.invariant c.args.now later low c.peek-shown.result shown c.peek-shown.new.self c.peek-shown.ensures.after (omega (arith, c.self.ranges)) (omega (arith, c.self.ranges))) c.book_shown.new.row c.book_shown.ensures c.in_default.is (record c.self.inside { clock = c.args.now; top = c.book_shown.new.row; root = c.peek-shown.new.self }) refl
+
+pub returns-in_default-clause-after : goal.returns-in_default-clause-after
+returns-in_default-clause-after g c =
+    let e = ap (λ (d : DeviceState Kept). d.clock) c.self.view_is in
+    let later : c.self.inside.clock ≤ c.args.now = omega (arith, e, c.requires.order) in
+    let low : c.args.now ≤ 2 ^ 62 = omega (arith, c.ns.ensures.in_range, c.ns.ensures.value) in
+    let shown = c.peek-shown.ensures.shown in
+    none-taken c.self.inside c.self.invariant c.args.now later low c.peek-shown.result shown c.peek-shown.new.self c.peek-shown.ensures.after (can-book-top c.self.inside c.self.invariant c.args.now later low c.peek-shown.result shown c.peek-shown.new.self c.peek-shown.ensures.after (omega (arith, c.self.ranges)) (omega (arith, c.self.ranges))) c.book_shown.new.row c.book_shown.ensures c.in_default.is (record c.self.inside { clock = c.args.now; top = c.book_shown.new.row; root = c.peek-shown.new.self }) refl
+    ∙ ap (λ (d : DeviceState Kept). record { clock = c.args.now; tree = take_packet kept c.args.now d.tree }) c.self.view_is
+
+pub book_sent-requires-clause-balanced : goal.book_sent-requires-clause-balanced
+book_sent-requires-clause-balanced g c =
+    let e = ap (λ (d : DeviceState Kept). d.clock) c.self.view_is in
+    let later : c.self.inside.clock ≤ c.args.now = omega (arith, e, c.requires.order) in
+    let low : c.args.now ≤ 2 ^ 62 = omega (arith, c.ns.ensures.in_range, c.ns.ensures.value) in
+    let shown = c.peek-shown.ensures.shown in
+    (shown-row c.self.inside c.self.invariant c.args.now later low c.peek-shown.result shown c.peek-shown.new.self c.peek-shown.ensures.after (can-book-top c.self.inside c.self.invariant c.args.now later low c.peek-shown.result shown c.peek-shown.new.self c.peek-shown.ensures.after (omega (arith, c.self.ranges)) (omega (arith, c.self.ranges))) c.book_shown.new.row c.book_shown.ensures).balanced
+
+pub book_sent-requires-clause-among : goal.book_sent-requires-clause-among
+book_sent-requires-clause-among g c =
+    let e = ap (λ (d : DeviceState Kept). d.clock) c.self.view_is in
+    let later : c.self.inside.clock ≤ c.args.now = omega (arith, e, c.requires.order) in
+    let low : c.args.now ≤ 2 ^ 62 = omega (arith, c.ns.ensures.in_range, c.ns.ensures.value) in
+    let shown = c.peek-shown.ensures.shown in
+    among c.peek-shown.new.self c.book_shown.new.row (shown-row c.self.inside c.self.invariant c.args.now later low c.peek-shown.result shown c.peek-shown.new.self c.peek-shown.ensures.after (can-book-top c.self.inside c.self.invariant c.args.now later low c.peek-shown.result shown c.peek-shown.new.self c.peek-shown.ensures.after (omega (arith, c.self.ranges)) (omega (arith, c.self.ranges))) c.book_shown.new.row c.book_shown.ensures) c.in-Some.packet (at-hand c.self.inside c.self.invariant c.args.now later low c.peek-shown.result shown c.peek-shown.new.self c.peek-shown.ensures.after (can-book-top c.self.inside c.self.invariant c.args.now later low c.peek-shown.result shown c.peek-shown.new.self c.peek-shown.ensures.after (omega (arith, c.self.ranges)) (omega (arith, c.self.ranges))) c.book_shown.new.row c.book_shown.ensures c.in-Some.packet c.in-Some.is)
+
+pub book_sent-requires-clause-room : goal.book_sent-requires-clause-room
+book_sent-requires-clause-room g c =
+    let e = ap (λ (d : DeviceState Kept). d.clock) c.self.view_is in
+    let later : c.self.inside.clock ≤ c.args.now = omega (arith, e, c.requires.order) in
+    let low : c.args.now ≤ 2 ^ 62 = omega (arith, c.ns.ensures.in_range, c.ns.ensures.value) in
+    let shown = c.peek-shown.ensures.shown in
+    let row = shown-row c.self.inside c.self.invariant c.args.now later low c.peek-shown.result shown c.peek-shown.new.self c.peek-shown.ensures.after (can-book-top c.self.inside c.self.invariant c.args.now later low c.peek-shown.result shown c.peek-shown.new.self c.peek-shown.ensures.after (omega (arith, c.self.ranges)) (omega (arith, c.self.ranges))) c.book_shown.new.row c.book_shown.ensures in
+    let had = among c.peek-shown.new.self c.book_shown.new.row row c.in-Some.packet (at-hand c.self.inside c.self.invariant c.args.now later low c.peek-shown.result shown c.peek-shown.new.self c.peek-shown.ensures.after (can-book-top c.self.inside c.self.invariant c.args.now later low c.peek-shown.result shown c.peek-shown.new.self c.peek-shown.ensures.after (omega (arith, c.self.ranges)) (omega (arith, c.self.ranges))) c.book_shown.new.row c.book_shown.ensures c.in-Some.packet c.in-Some.is) in
+    let same = ap (λ (r : Row). r.arrived) c.book_shown.ensures in
+    record {
+      packets = omega (arith, row.balanced.packets, had.packets, ap (λ (t : Totals). t.packets) same, c.self.ranges);
+      bytes = omega (arith, row.balanced.bytes, had.bytes, ap (λ (t : Totals). t.bytes) same, c.self.ranges);
+    }
+
+pub invariant_of-self-2 : goal.invariant_of-self-2
+invariant_of-self-2 g c =
+    let e = ap (λ (d : DeviceState Kept). d.clock) c.self.view_is in
+    let later : c.self.inside.clock ≤ c.args.now = omega (arith, e, c.requires.order) in
+    let low : c.args.now ≤ 2 ^ 62 = omega (arith, c.ns.ensures.in_range, c.ns.ensures.value) in
+    let shown = c.peek-shown.ensures.shown in
+    one-kept c.self.inside c.self.invariant c.args.now later low c.peek-shown.result shown c.peek-shown.new.self c.peek-shown.ensures.after (can-book-top c.self.inside c.self.invariant c.args.now later low c.peek-shown.result shown c.peek-shown.new.self c.peek-shown.ensures.after (omega (arith, c.self.ranges)) (omega (arith, c.self.ranges))) c.book_shown.new.row c.book_shown.ensures c.in-Some.packet c.in-Some.is c.book_sent.new.row c.book_sent.ensures c.pop.new.self c.pop.ensures.after (record c.self.inside { clock = c.args.now; top = c.book_sent.new.row; root = c.pop.new.self }) refl
+
+pub returns-clause-after : goal.returns-clause-after
+returns-clause-after g c =
+    let e = ap (λ (d : DeviceState Kept). d.clock) c.self.view_is in
+    let later : c.self.inside.clock ≤ c.args.now = omega (arith, e, c.requires.order) in
+    let low : c.args.now ≤ 2 ^ 62 = omega (arith, c.ns.ensures.in_range, c.ns.ensures.value) in
+    let shown = c.peek-shown.ensures.shown in
+    one-taken c.self.inside c.self.invariant c.args.now later low c.peek-shown.result shown c.peek-shown.new.self c.peek-shown.ensures.after (can-book-top c.self.inside c.self.invariant c.args.now later low c.peek-shown.result shown c.peek-shown.new.self c.peek-shown.ensures.after (omega (arith, c.self.ranges)) (omega (arith, c.self.ranges))) c.book_shown.new.row c.book_shown.ensures c.in-Some.packet c.in-Some.is c.book_sent.new.row c.book_sent.ensures c.pop.new.self c.pop.ensures.after (record c.self.inside { clock = c.args.now; top = c.book_sent.new.row; root = c.pop.new.self }) refl
+    ∙ ap (λ (d : DeviceState Kept). record { clock = c.args.now; tree = take_packet kept c.args.now d.tree }) c.self.view_is

@@ -1,0 +1,39 @@
+-- What a contract sees of a tree of the code: the model's device, whose nodes remember what they counted and their places.
+-- The counters are those of `tc -s qdisc show` (tc(8)).
+use Rattle.std.specs.Prelude.{◌≡◌, List}
+use Rattle.q_model.specs.Beneath.{beneath, totals_in}
+use Rattle.q_model.specs.Shrink.{remembering, shrunk}
+use Rattle.q_model.specs.Step.{DeviceState}
+use Rattle.q_model.specs.Tally.{Note, Counts}
+use Rattle.q_model.specs.TreeState.{TreeState}
+use Rattle.q_sound.proofs.Kept.{IsKeptTree}
+use Rattle.q_tree.specs.Kept.{Kept}
+use Rattle.q_tree.specs.declared.tree.Tree.TheInside.{Inside}
+
+abbrev pub tree_seen : Inside → DeviceState Kept
+tree_seen a = record {
+  clock = a.clock;
+  tree = record {
+    device = record { mtu = a.mtu; txqueuelen = a.txqueuelen };
+    top = record {
+      counts = record { arrived = a.top.arrived; sent = a.top.sent; refused = a.top.refused; dropped = a.top.dropped; marked = a.top.marked };
+      places = 0;
+    };
+    root = a.root;
+  };
+}
+
+-- without the places, which are memory and mean nothing to the rules
+abbrev pub tree_numbers : TreeState Kept → TreeState Counts
+tree_numbers s = remembering (λ (k : Kept). k.counts) s
+
+abbrev pub numbers : DeviceState Kept → DeviceState Counts
+numbers d = record { clock = d.clock; tree = tree_numbers d.tree }
+
+-- what is stored beside the view: what the device has queued; and its numbers are those of some tree with whole histories, of
+-- which all holds that every event keeps
+pub record IsKeptDevice (a : Inside) : Type 0 where
+  pub history : TreeState (List Note)
+  pub keeps : IsKeptTree a.clock history
+  pub same : tree_numbers (tree_seen a).tree ≡ shrunk history
+  pub queued : a.top.queued ≡ totals_in (beneath a.root)
