@@ -18,3 +18,4 @@ pub mod ServeLemmas
 pub mod SettleLemmas
 pub mod TakeCounts
 pub mod TreeLemmas
+pub mod TreePuts

@@ -53,7 +53,7 @@ use Rattle.q_tree.proofs.Forms.{nodes-side, children-shape, child-shape, side-qu
 use Rattle.q_tree.proofs.Rows.{counts_in_row, AreLosses, counted-arrival, outcome-weighs, IsShifted, lost-of, queued-after, balanced-after, weigh-bytes}
 
 -- what a node remembers is not looked at
-same-way : (p : Descriptor) (n : Node Kept) → route p (shape n) ≡ route p n
+pub same-way : (p : Descriptor) (n : Node Kept) → route p (shape n) ≡ route p n
 same-way p n = ap (λ (below : List Route). way p n.own below n.own.discipline) (each-each_memory (λ own below. way p own below own.discipline) (λ m. tt) n.below)
 
 same-beneath : (n : Node Kept) → beneath (shape n) ≡ beneath n

@@ -4,6 +4,7 @@ use Rattle.std.specs.Prelude.{is_some, if◌then◌else◌}
 use Rattle.std.proofs.lemmas.List.{append-nil}
 use Rattle.q_packet.specs.Descriptor.{Descriptor}
 use Rattle.q_model.specs.declared.row.Row.{Row}
+use Rattle.q_model.specs.declared.totals.Totals.{Totals}
 use Rattle.q_model.specs.Ask.{Asked, ask}
 use Rattle.q_model.specs.Beneath.{beneath, beneath_own, row_of, totals_in}
 use Rattle.q_model.specs.Conserved.{held_own, held_beneath, IsBalanced, AreMarksBounded}
@@ -28,6 +29,7 @@ use Rattle.q_sound.proofs.Sound.{kept-totals}
 use Rattle.q_tree.specs.AskSteps.{CanAsk, CanShow, IsShown, with_shown}
 use Rattle.q_tree.specs.Kept.{Kept, kept}
 use Rattle.q_tree.specs.PopSteps.{with_sent}
+use Rattle.q_tree.specs.Seen.{IsCountedWithin}
 use Rattle.q_tree.specs.TreeSeen.{tree_seen, tree_numbers, IsKeptDevice}
 use Rattle.q_tree.specs.declared.shown.Shown.{Shown}
 use Rattle.q_tree.specs.declared.tree.Tree.TheInside.{Inside}
@@ -38,7 +40,7 @@ use Rattle.q_tree.proofs.Peeks.{popped-asked}
 use Rattle.q_tree.proofs.Rows.{counts_in_row}
 use Rattle.q_tree.proofs.RowsOf.{IsRowOf, can-show, row-shown, row-popped}
 
-stands : StandsFor kept totals (λ (k : Kept). k.counts)
+pub stands : StandsFor kept totals (λ (k : Kept). k.counts)
 stands = record { nothing = refl; one_more = λ m n. refl }
 
 noted-push : {M : Type 0} (t : Tally M) (m : M) (notes : List Note) (n : Note) → noted t m (notes ++ n ∷ []) ≡ t.more (noted t m notes) n
@@ -54,12 +56,14 @@ root-back : {A B : Type 0} (mtu clock : ℕ) (f : A → B) (n : Node A) → IsLa
 root-back mtu clock f n h = (subst (IsLawfulOwn mtu clock n.own) (each-each_memory beneath_own f n.below) h.0, lawful-back mtu clock f n.below h.1)
 
 -- a new tree
-pub new-device : (d : Device) (a : Inside) → 1 ≤ d.mtu → d.mtu < 2 ^ 16 → a.clock ≡ 0 → tree_numbers (tree_seen a).tree ≡ new_tree totals d → a.top.queued ≡ totals_in (beneath a.root) → IsKeptDevice a
-new-device d a least most clock same queued = record {
+pub new-device : (d : Device) (a : Inside) → 1 ≤ d.mtu → d.mtu < 2 ^ 16 → a.clock ≡ 0 → tree_numbers (tree_seen a).tree ≡ new_tree totals d → a.top.queued ≡ totals_in (beneath a.root)
+    → IsCountedWithin a.root.memory.counts.arrived a.top.arrived → IsKeptDevice a
+new-device d a least most clock same queued within = record {
   history = new_tree history d;
   keeps = subst (λ n. IsKeptTree n (new_tree history d)) (sym clock) (new-kept d least most);
   same = same ∙ sym (new_tree-stands history totals counts_in totals_for_history d);
   queued = queued;
+  within = within;
 }
 
 module _ (a : Inside) (k : IsKeptDevice a) where
@@ -81,24 +85,24 @@ module _ (a : Inside) (k : IsKeptDevice a) where
       }
 
   module _ (now : ℕ) (later : a.clock ≤ now) (low : now ≤ 2 ^ 62) where
+    pub lawful-root : IsLawfulRoot a.mtu now a.root
+    lawful-root =
+        let mtu : ℕ = k.history.device.mtu in
+        subst (λ m. IsLawfulRoot m now a.root) (ap (λ (s : TreeState Counts). s.device.mtu) (sym k.same))
+        (root-back mtu now (λ m. tt) a.root (subst (IsLawfulRoot mtu now) (sym same-shape) (lawful-with_memory mtu now (λ m. tt) k.history.root (root-later a.clock now later mtu k.history.root k.keeps.lawful))))
+
     pub can-ask-root : CanAsk now a.root
-    can-ask-root =
-        let mtu = k.history.device.mtu in
-        record {
-          mtu = mtu;
-          least = k.keeps.least_mtu;
-          moment = low;
-          lawful = root-back mtu now (λ m. tt) a.root (subst (IsLawfulRoot mtu now) (sym same-shape) (lawful-with_memory mtu now (λ m. tt) k.history.root (root-later a.clock now later mtu k.history.root k.keeps.lawful)));
-        }
+    can-ask-root = record { mtu = a.mtu; least = subst (λ m. 1 ≤ m) (ap (λ (s : TreeState Counts). s.device.mtu) (sym k.same)) k.keeps.least_mtu; moment = low; lawful = lawful-root }
 
     -- what a take leaves is kept
-    taken-kept : (b : Inside) → b.clock ≡ now → (tree_seen b).tree ≡ take_packet kept now (tree_seen a).tree → b.top.queued ≡ totals_in (beneath b.root) → IsKeptDevice b
-    taken-kept b clock tree queued = record {
+    taken-kept : (b : Inside) → b.clock ≡ now → (tree_seen b).tree ≡ take_packet kept now (tree_seen a).tree → b.top.queued ≡ totals_in (beneath b.root) → IsCountedWithin b.root.memory.counts.arrived b.top.arrived → IsKeptDevice b
+    taken-kept b clock tree queued within = record {
       history = take_packet history now k.history;
       keeps = subst (λ n. IsKeptTree n (take_packet history now k.history)) (sym clock) (take-kept a.clock now k.history k.keeps later low);
       same = ap tree_numbers tree ∙ take-stands kept totals (λ (m : Kept). m.counts) stands now (tree_seen a).tree ∙ ap (take_packet totals now) k.same
           ∙ sym (take-stands history totals counts_in totals_for_history now k.history);
       queued = queued;
+      within = within;
     }
 
     module _ (s : Shown) (shown : IsShown (ask now (shape a.root)) s) (root : Node Kept) (new : root ≡ booked kept a.root (ask now (shape a.root)).peeked) where
@@ -113,6 +117,10 @@ module _ (a : Inside) (k : IsKeptDevice a) where
             let x : Asked = ask now (shape a.root) in
             subst (λ (y : Row). IsRowOf y root) (sym row) (subst (IsRowOf (with_shown s a.top)) (sym new)
             (row-shown a.root a.top top-row (booked kept a.root x.peeked) x.rises s (asked-weighs now a.root can-ask-root) shown.dropped shown.marked fit))
+
+        shown-within : root.memory.counts.arrived ≡ a.root.memory.counts.arrived → IsCountedWithin root.memory.counts.arrived r.arrived
+        shown-within arrived =
+            subst (λ (t : Totals). IsCountedWithin t r.arrived) (sym arrived) (subst (λ (t : Totals). IsCountedWithin a.root.memory.counts.arrived t) (sym (ap (λ (y : Row). y.arrived) row)) k.within)
 
         counts-shown : counts_in_row r ≡ noted totals (counts_in_row a.top) (ask now (shape a.root)).rises
         counts-shown =
@@ -136,9 +144,10 @@ module _ (a : Inside) (k : IsKeptDevice a) where
               ∙ (λ i. record { clock = now; tree = record { device = (tree_seen a).tree.device; top = top i; root = new i } })
               ∙ ap (λ t. record { clock = now; tree = t }) (sym tree)
 
-          pub none-kept : IsKeptDevice b
-          none-kept = taken-kept b (ap (λ (y : Inside). y.clock) is) (ap (λ (d : DeviceState Kept). d.tree) none-taken)
+          pub none-kept : root.memory.counts.arrived ≡ a.root.memory.counts.arrived → IsKeptDevice b
+          none-kept arrived = taken-kept b (ap (λ (y : Inside). y.clock) is) (ap (λ (d : DeviceState Kept). d.tree) none-taken)
               (subst (λ (y : Inside). y.top.queued ≡ totals_in (beneath y.root)) (sym is) shown-row.queued)
+              (subst (λ (y : Inside). IsCountedWithin y.root.memory.counts.arrived y.top.arrived) (sym is) (shown-within arrived))
 
         -- where one goes
         module _ (p : Descriptor) (some : s.packet ≡ Some p) where
@@ -163,7 +172,9 @@ module _ (a : Inside) (k : IsKeptDevice a) where
                 ∙ (λ i. record { clock = now; tree = record { device = (tree_seen a).tree.device; top = top i; root = gone i } })
                 ∙ ap (λ t. record { clock = now; tree = t }) (sym tree)
 
-            pub one-kept : IsKeptDevice b
-            one-kept =
+            pub one-kept : root.memory.counts.arrived ≡ a.root.memory.counts.arrived → root2.memory.counts.arrived ≡ root.memory.counts.arrived → IsKeptDevice b
+            one-kept arrived arrived2 =
                 let popped : IsRowOf r2 root2 = subst (λ (y : Row). IsRowOf y root2) (sym row2) (subst (IsRowOf (with_sent p r)) (sym left) (row-popped root r shown-row p at-hand)) in
                 taken-kept b (ap (λ (y : Inside). y.clock) is) (ap (λ (d : DeviceState Kept). d.tree) one-taken) (subst (λ (y : Inside). y.top.queued ≡ totals_in (beneath y.root)) (sym is) popped.queued)
+                (subst (λ (y : Inside). IsCountedWithin y.root.memory.counts.arrived y.top.arrived) (sym is)
+                (subst (λ (t : Totals). IsCountedWithin t r2.arrived) (sym arrived2) (subst (λ (t : Totals). IsCountedWithin root.memory.counts.arrived t) (sym (ap (λ (y : Row). y.arrived) row2)) (shown-within arrived))))

@@ -1,13 +1,19 @@
 -- What a contract sees of a tree of the code: the model's device, whose nodes remember what they counted and their places.
 -- The counters are those of `tc -s qdisc show` (tc(8)).
-use Rattle.std.specs.Prelude.{◌≡◌, List}
+use Rattle.std.specs.Prelude.{◌≡◌, ◌<◌, ◌≤◌, ◌+◌, ◌^◌, List, Option, None, IfSome}
+use mathlib.Core.Logic.{◌⊎◌}
+use Rattle.q_packet.specs.Descriptor.{Descriptor}
 use Rattle.q_model.specs.Beneath.{beneath, totals_in}
+use Rattle.q_model.specs.Node.{Node}
+use Rattle.q_model.specs.Route.{Route, device_route}
 use Rattle.q_model.specs.Shrink.{remembering, shrunk}
 use Rattle.q_model.specs.Step.{DeviceState}
-use Rattle.q_model.specs.Tally.{Note, Counts}
+use Rattle.q_model.specs.Tally.{Note, Counts, with_packet}
 use Rattle.q_model.specs.TreeState.{TreeState}
 use Rattle.q_sound.proofs.Kept.{IsKeptTree}
+use Rattle.q_tree.specs.Arrivals.{HasPlace}
 use Rattle.q_tree.specs.Kept.{Kept}
+use Rattle.q_tree.specs.Seen.{IsCountedWithin}
 use Rattle.q_tree.specs.declared.tree.Tree.TheInside.{Inside}
 
 abbrev pub tree_seen : Inside → DeviceState Kept
@@ -37,3 +43,21 @@ pub record IsKeptDevice (a : Inside) : Type 0 where
   pub keeps : IsKeptTree a.clock history
   pub same : tree_numbers (tree_seen a).tree ≡ shrunk history
   pub queued : a.top.queued ≡ totals_in (beneath a.root)
+  pub within : IsCountedWithin a.root.memory.counts.arrived a.top.arrived
+
+-- the route of some packet in this tree
+pub record IsRouteIn (route : Option Route) (d : DeviceState Kept) : Type 0 where
+  pub packet : Descriptor
+  pub is : route ≡ device_route packet d.tree.device.mtu d.tree.root
+
+-- A packet may arrive on this route: the queue at its end has a place where it is not refused, and however long the packet
+-- is, the device can count it.
+pub record CanArrive (route : Option Route) (d : DeviceState Kept) : Type 0 where
+  pub place : IfSome route (λ (r : Route). r.refusal ≡ None → HasPlace r.path d.tree.root)
+  pub packets : d.tree.top.counts.arrived.packets + 1 < 2 ^ 64
+  pub bytes : d.tree.top.counts.arrived.bytes + 2 ^ 16 ≤ 2 ^ 64
+
+-- the root has counted the packet, or it never came there
+abbrev pub IsArrived : Descriptor → Node Kept → Node Kept → Type 0
+IsArrived p before after =
+    (after.memory.counts.arrived ≡ with_packet before.memory.counts.arrived p) ⊎ (after.memory.counts.arrived ≡ before.memory.counts.arrived)

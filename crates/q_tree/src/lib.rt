@@ -19,11 +19,13 @@ mod pop;
 mod prepare;
 mod prio;
 mod put;
+mod route;
 mod shown;
 mod tbf;
 mod tree;
 mod way;
 
+pub use crate::route::Route;
 pub use crate::tree::Tree;
 pub use q_model::{
     Burst, ClassId, ClassKind, ClassView, Command, Filter, FilterKeys, FilterPrio, FilterView,

@@ -19,7 +19,7 @@ use crate::booking::{NOTHING, book_arrival, one_packet};
 use crate::drr::settle;
 use crate::fq_codel::put_in_flow;
 use crate::node::{Discipline, Node};
-use crate::outcome::Outcome;
+use crate::outcome::{Outcome, refuse};
 use q_codel::{Fifo, Sink};
 use q_drr::Active;
 use q_fqcodel::FqCodel;
@@ -80,12 +80,7 @@ impl Discipline {
         ensures kept { S.keeps sink.old sink.new }
     {
         if let Some(cause) = refusal {
-            sink.lost(packet, cause);
-            return Outcome {
-                loss: refusal,
-                refused: one_packet(&packet),
-                dropped: NOTHING,
-            };
+            return refuse(packet, cause, sink);
         }
         match self {
             Discipline::Fifo(fifo) => {

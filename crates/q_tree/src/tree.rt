@@ -1,18 +1,23 @@
-ghost use Rattle.std.specs.Prelude.{◌≡◌, ◌≤◌, ◌+◌, ◌++◌, length};
+ghost use Rattle.std.specs.Prelude.{◌≡◌, ◌≤◌, ◌+◌, ◌++◌, length, IfSome, IsOk, OnOk};
 ghost use Rattle.q_model.specs.Beneath.{beneath};
-ghost use Rattle.q_model.specs.Make.{Device};
-ghost use Rattle.q_model.specs.Step.{losses_in};
-ghost use Rattle.q_model.specs.TreeState.{new_tree, given, noted_by_take, take_packet};
+ghost use Rattle.q_model.specs.Node.{shape};
+ghost use Rattle.q_model.specs.Route.{device_route};
+ghost use Rattle.q_model.specs.Step.{losses_in, fate_of};
 ghost use Rattle.q_model.specs.Tally.{totals};
+ghost use Rattle.q_model.specs.TreeState.{new_tree, put_on, loss_on, put, own_loss, noted_by_put, given, noted_by_take, take_packet};
+ghost use Rattle.q_model.specs.Work.{booked};
+ghost use Rattle.q_tree.specs.Arrivals.{CanPut, IsOutcome};
 ghost use Rattle.q_tree.specs.Kept.{kept};
-ghost use Rattle.q_tree.specs.TreeSeen.{numbers};
+ghost use Rattle.q_tree.specs.TreeSeen.{CanArrive, IsArrived, IsRouteIn, numbers};
 
-use crate::booking::{book_sent, book_shown};
+use crate::booking::{book_arrival, book_sent, book_shown};
 use crate::node::{NOTHING_COUNTED, Node};
+use crate::outcome::{Outcome, refuse};
+use crate::route::Route;
 use q_codel::{Limit, Sink};
-use q_model::Row;
-use q_packet::{Moment, Packet};
-use std::alloc::Global;
+use q_model::{Fate, Row};
+use q_packet::{Cause, Moment, Packet};
+use std::alloc::{AllocError, Global};
 use std::marker::Model;
 
 /// The qdiscs of a device, and what the device itself counts above their root.
@@ -61,6 +66,67 @@ impl Tree {
         }
     }
 
+    /// The route of a packet: at most eight children, each the one that a filter, a band or a class names. It takes no memory.
+    pub fn route(&self, packet: &Packet) -> Route
+        ensures { result ≡ device_route packet.now self.now.tree.device.mtu self.now.tree.root }
+    {
+        if packet.len > self.mtu {
+            return Route { way: None };
+        }
+        Route {
+            way: Some(self.root.route(packet)),
+        }
+    }
+
+    /// Makes the place that a packet on this route needs. Of the calls for a packet it alone takes memory, and none for one that
+    /// is refused.
+    ///
+    /// # Errors
+    ///
+    /// `AllocError` where memory is refused, or one packet more could overflow what the device counts of arrivals. The tree is
+    /// as it was.
+    pub fn prepare(&mut self, route: &Route) -> Result<(), AllocError>
+        requires { IsRouteIn route.now self.old }
+        ensures same { numbers self.new ≡ numbers self.old }
+        ensures ok { OnOk result (CanArrive route.now self.new) }
+        ensures succeeds { CanArrive route.now self.old → IsOk result }
+    {
+        let arrived = self.top.arrived;
+        if arrived.packets == u64::MAX || arrived.bytes > u64::MAX - u64::from(u16::MAX) {
+            return Err(AllocError);
+        }
+        let Some(way) = &route.way else {
+            return Ok(());
+        };
+        if way.refusal().is_some() {
+            return Ok(());
+        }
+        self.root.prepare(way.places())
+    }
+
+    /// Puts a packet on its route, for which [`Tree::prepare`] has made the place, and says what became of it. `now` is at or
+    /// after the latest moment that the tree was given.
+    ///
+    /// It takes no memory. What is lost for it goes to `sink`, which needs room for what is queued and one packet more.
+    pub fn put<S: Sink>(&mut self, route: &Route, packet: Packet, now: Moment, sink: &mut S) -> Fate
+        requires order { self.old.clock ≤ now }
+        requires route { route.now ≡ device_route packet self.old.tree.device.mtu self.old.tree.root }
+        requires ready { CanArrive route.now self.old }
+        requires sink { length (beneath self.old.tree.root) + 1 ≤ S.room sink.old }
+        ensures fate { result ≡ fate_of (own_loss now packet self.old.tree.device (shape self.old.tree.root)) }
+        ensures after { self.new ≡ record { clock = now; tree = put kept now packet self.old.tree } }
+        ensures lost { S.losses sink.new ≡ S.losses sink.old ++ losses_in (noted_by_put now packet self.old.tree) }
+        ensures room { S.room sink.new + length (losses_in (noted_by_put now packet self.old.tree)) ≡ S.room sink.old }
+        ensures kept { S.keeps sink.old sink.new }
+    {
+        // A moment is at most 2^62 nanoseconds, and a packet has a byte at least.
+        let _ = (now.ns(), packet.len);
+        let outcome = put_on(&mut self.root, route, packet, now, sink);
+        book_arrival(&mut self.top, &packet, &outcome);
+        self.clock = now;
+        fate_of(outcome.loss)
+    }
+
     /// Takes the packet whose turn it is; `None` where none may go now. `now` is at or after the latest moment that the tree
     /// was given.
     ///
@@ -86,4 +152,37 @@ impl Tree {
         book_sent(&mut self.top, &packet);
         Some(packet)
     }
+}
+
+// What became of a packet that was lost for this cause, or was not lost.
+fn fate_of(loss: Option<Cause>) -> Fate
+    ensures { result ≡ fate_of loss }
+{
+    match loss {
+        None => return Fate::Kept,
+        Some(cause) => return Fate::Lost(cause),
+    }
+}
+
+// Puts the packet on its way from the root, or refuses it above where it has none.
+fn put_on<S: Sink>(
+    root: &mut Node,
+    route: &Route,
+    packet: Packet,
+    now: Moment,
+    sink: &mut S,
+) -> Outcome
+    requires ready { IfSome route.now (λ r. CanPut now packet r.path r.refusal root.old) }
+    requires sink { length (beneath root.old) + 1 ≤ S.room sink.old }
+    ensures after { root.new ≡ booked kept root.old (put_on now packet route.now (shape root.old)).node }
+    ensures arrived { IsArrived packet root.old root.new }
+    ensures outcome { IsOutcome (loss_on now packet route.now (shape root.old)) (put_on now packet route.now (shape root.old)).rises result }
+    ensures lost { S.losses sink.new ≡ S.losses sink.old ++ losses_in (put_on now packet route.now (shape root.old)).rises }
+    ensures room { S.room sink.new + length (losses_in (put_on now packet route.now (shape root.old)).rises) ≡ S.room sink.old }
+    ensures kept { S.keeps sink.old sink.new }
+{
+    let Some(way) = &route.way else {
+        return refuse(packet, Cause::TooLong, sink);
+    };
+    root.put(way.places(), way.refusal(), packet, now, sink)
 }

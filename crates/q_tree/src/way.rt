@@ -47,4 +47,18 @@ impl Way {
     {
         self.refusal = Some(cause);
     }
+
+    /// The place of the child at each node.
+    pub(crate) fn places(&self) -> &[usize]
+        ensures { result.now ≡ self.now.path }
+    {
+        &self.places
+    }
+
+    /// The cause where it ends in a refusal.
+    pub(crate) fn refusal(&self) -> Option<Cause>
+        ensures { result ≡ self.now.refusal }
+    {
+        self.refusal
+    }
 }

@@ -1,12 +1,13 @@
-use Rattle.std.proofs.Common.{◌≡◌, ◌∙◌, ◌<◌, ◌^◌, [], sym, ap, ap₂, arith}
+use Rattle.std.proofs.Common.{◌≡◌, ◌∙◌, ◌<◌, ◌^◌, [], sym, ap, ap₂, subst, arith}
 use Rattle.std.specs.Prelude.{None}
 use Rattle.q_codel.specs.declared.limit.Limit.TheVariants.{Packets}
 use Rattle.q_model.specs.Beneath.{beneath, beneath_own, totals_in}
 use Rattle.q_model.specs.Make.{Device}
 use Rattle.q_model.specs.Node as spec
 use Rattle.q_model.specs.Node.{Own, Forest, each, each_memory}
-use Rattle.q_model.specs.Tally.{no_totals}
+use Rattle.q_model.specs.Tally.{Counts, no_totals}
 use Rattle.q_tree.specs.Kept.{Kept}
+use Rattle.q_tree.specs.Seen.{IsCountedWithin}
 use Rattle.q_tree.proofs.TreeLemmas.{new-device}
 use Rattle.q_tree.proofs.tree.Tree.new.Goals as goal
 
@@ -20,3 +21,4 @@ invariant_of-result c =
     new-device d _ c.requires most c.zero.ensures
     (λ i. record { device = d; top = record { arrived = no_totals; sent = no_totals; refused = no_totals; dropped = no_totals; marked = no_totals }; root = record { own = own i; memory = c.fifo.ensures.counts i; below = each_memory (λ (k : Kept). k.counts) (c.fifo.ensures.alone i) } })
     (sym (ap totals_in empty))
+    (subst (λ (k : Counts). IsCountedWithin k.arrived no_totals) (sym c.fifo.ensures.counts) (record { packets = omega arith; bytes = omega arith }))

@@ -30,7 +30,7 @@ invariant_of-self g c =
     let later : c.self.inside.clock ≤ c.args.now = omega (arith, e, c.requires.order) in
     let low : c.args.now ≤ 2 ^ 62 = omega (arith, c.ns.ensures.in_range, c.ns.ensures.value) in
     let shown = c.peek-shown.ensures.shown in
-    none-kept c.self.inside c.self.invariant c.args.now later low c.peek-shown.result shown c.peek-shown.new.self c.peek-shown.ensures.after (can-book-top c.self.inside c.self.invariant c.args.now later low c.peek-shown.result shown c.peek-shown.new.self c.peek-shown.ensures.after (omega (arith, c.self.ranges)) (omega (arith, c.self.ranges))) c.book_shown.new.row c.book_shown.ensures c.in_default.is (record c.self.inside { clock = c.args.now; top = c.book_shown.new.row; root = c.peek-shown.new.self }) refl
+    none-kept c.self.inside c.self.invariant c.args.now later low c.peek-shown.result shown c.peek-shown.new.self c.peek-shown.ensures.after (can-book-top c.self.inside c.self.invariant c.args.now later low c.peek-shown.result shown c.peek-shown.new.self c.peek-shown.ensures.after (omega (arith, c.self.ranges)) (omega (arith, c.self.ranges))) c.book_shown.new.row c.book_shown.ensures c.in_default.is (record c.self.inside { clock = c.args.now; top = c.book_shown.new.row; root = c.peek-shown.new.self }) refl c.peek-shown.ensures.arrived
 
 pub returns-in_default-clause-after : goal.returns-in_default-clause-after
 returns-in_default-clause-after g c =
@@ -77,7 +77,7 @@ invariant_of-self-2 g c =
     let later : c.self.inside.clock ≤ c.args.now = omega (arith, e, c.requires.order) in
     let low : c.args.now ≤ 2 ^ 62 = omega (arith, c.ns.ensures.in_range, c.ns.ensures.value) in
     let shown = c.peek-shown.ensures.shown in
-    one-kept c.self.inside c.self.invariant c.args.now later low c.peek-shown.result shown c.peek-shown.new.self c.peek-shown.ensures.after (can-book-top c.self.inside c.self.invariant c.args.now later low c.peek-shown.result shown c.peek-shown.new.self c.peek-shown.ensures.after (omega (arith, c.self.ranges)) (omega (arith, c.self.ranges))) c.book_shown.new.row c.book_shown.ensures c.in-Some.packet c.in-Some.is c.book_sent.new.row c.book_sent.ensures c.pop.new.self c.pop.ensures.after (record c.self.inside { clock = c.args.now; top = c.book_sent.new.row; root = c.pop.new.self }) refl
+    one-kept c.self.inside c.self.invariant c.args.now later low c.peek-shown.result shown c.peek-shown.new.self c.peek-shown.ensures.after (can-book-top c.self.inside c.self.invariant c.args.now later low c.peek-shown.result shown c.peek-shown.new.self c.peek-shown.ensures.after (omega (arith, c.self.ranges)) (omega (arith, c.self.ranges))) c.book_shown.new.row c.book_shown.ensures c.in-Some.packet c.in-Some.is c.book_sent.new.row c.book_sent.ensures c.pop.new.self c.pop.ensures.after (record c.self.inside { clock = c.args.now; top = c.book_sent.new.row; root = c.pop.new.self }) refl c.peek-shown.ensures.arrived c.pop.ensures.arrived
 
 pub returns-clause-after : goal.returns-clause-after
 returns-clause-after g c =

@@ -1,0 +1,16 @@
+use Rattle.std.proofs.Common.{◌∙◌, List, ℕ, sym, subst}
+use Rattle.std.specs.Prelude.{IsSome}
+use Rattle.q_model.specs.Find.{node_at}
+use Rattle.q_model.specs.Step.{DeviceState}
+use Rattle.q_tree.specs.Kept.{Kept}
+use Rattle.q_tree.specs.TreeSeen.{IsRouteIn, tree_seen}
+use Rattle.q_tree.proofs.TreePuts.{route-leads, prepared-kept}
+use Rattle.q_tree.proofs.tree.Tree.prepare.Goals as goal
+
+pub prepare-requires : goal.prepare-requires
+prepare-requires c =
+    let way = route-leads c.args.route.now c.in-Some.way (tree_seen c.self.inside) (sym c.route.view_is ∙ c.in-Some.is) (subst (λ (d : DeviceState Kept). IsRouteIn c.args.route.now d) (sym c.self.view_is) c.requires) in
+    subst (λ (path : List ℕ). IsSome (node_at path c.self.inside.root)) (sym c.places.ensures) way
+
+pub invariant_of-self : goal.invariant_of-self
+invariant_of-self c = prepared-kept c.self.inside c.self.invariant c.prepare.new.self c.prepare.ensures.same
