@@ -12,6 +12,7 @@ pub mod LawfulLemmas
 pub mod ListsLemmas
 pub mod LostLemmas
 pub mod NewFlowLemmas
+pub mod OrderLemmas
 pub mod PoolLemmas
 pub mod PooledLemmas
 pub mod PutLemmas
