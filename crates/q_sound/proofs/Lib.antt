@@ -44,6 +44,8 @@ pub mod Exact
 pub mod FlowLists
 pub mod FlowMoves
 pub mod FlowNotes
+pub mod FlowPairs
+pub mod FlowSteps
 pub mod Forests
 pub mod Joined
 pub mod Kept
