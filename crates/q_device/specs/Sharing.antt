@@ -1,11 +1,13 @@
 -- What is true of sharing over every stretch of every replay, for a tbf, for the classes of a drr and for the flows of an fq_codel.
 -- What a stretch is and what is counted in it stands in q_model's specs/Stretches.antt. RFC 2211 has the bound of a token bucket.
-use Rattle.std.specs.Prelude.{◌≡◌, ◌≢◌, ℕ, suc, ◌+◌, ◌-◌, ◌*◌, ◌<◌, ◌≤◌, ℤ, pos, ◌+ℤ◌, true, false, List, [], ◌∷◌, ◌++◌, All, Option, Some, IsSomeAnd, option_map}
+use Rattle.std.specs.Prelude.{◌≡◌, ◌≢◌, ℕ, suc, ◌+◌, ◌-◌, ◌*◌, ◌<◌, ◌≤◌, ℤ, pos, ◌+ℤ◌, Bool, true, false, List, [], ◌∷◌, ◌++◌, All, Option, Some, IsSomeAnd, option_map}
 use Rattle.q_packet.specs.Descriptor.{Descriptor}
 use Rattle.q_bucket.specs.Level.{units_in_byte}
 use Rattle.q_drr.specs.Schedule.{quantum_of, deficit_of}
 use Rattle.q_drr.specs.Stretch.{stands_first}
+use Rattle.q_fqcodel.specs.FqState.{FqState}
 use Rattle.q_fqcodel.specs.Laws.{credits_of}
+use Rattle.q_fqcodel.specs.Order as order
 use Rattle.q_model.specs.declared.event.Event.{Event}
 use Rattle.q_model.specs.Tally.{Note, history}
 use Rattle.q_model.specs.Node.{Node, shape}
@@ -120,3 +122,25 @@ FlowsGiveTheirShares settings =
     → Throughout (IsBackloggedFlow major flow quantum) settings before during
     → fq_in major (device_after settings before) ≡ Some first → fq_in major (device_after settings (before ++ during)) ≡ Some last
     → GivesItsShare flow quantum first last
+
+-- ---- two flows of one fq_codel
+
+-- whether flow i stands before flow j in the new list followed by the old one
+abbrev pub flow_stands_first : ℕ → ℕ → FqState → Bool
+flow_stands_first i j s = order.stands_first i j (s.fresh ++ s.stale)
+
+-- Over a stretch the fq_codel noted these. Where both flows stand in the order that they had, they got equally many grants,
+-- else the one that had stood first got one more.
+pub record AreGrantedEvenly (i j : ℕ) (first last : FqAt) : Type 0 where
+  pub notes : List Note
+  pub goes_on : last.noted ≡ first.noted ++ notes
+  pub same_order : flow_stands_first i j last.state ≡ flow_stands_first i j first.state → flow_grants_to i notes ≡ flow_grants_to j notes
+  pub overtaken : flow_stands_first i j first.state ≡ true → flow_stands_first i j last.state ≡ false → flow_grants_to i notes ≡ flow_grants_to j notes + 1
+  pub overtakes : flow_stands_first i j first.state ≡ false → flow_stands_first i j last.state ≡ true → flow_grants_to j notes ≡ flow_grants_to i notes + 1
+
+abbrev pub FlowsAreGrantedEvenly : DeviceSettings → Type 0
+FlowsAreGrantedEvenly settings =
+    (before during : List Event) (major i j quantum : ℕ) (first last : FqAt) → All IsEvent before → All IsEvent during
+    → Throughout (IsBackloggedFlow major i quantum) settings before during → Throughout (IsBackloggedFlow major j quantum) settings before during
+    → fq_in major (device_after settings before) ≡ Some first → fq_in major (device_after settings (before ++ during)) ≡ Some last
+    → AreGrantedEvenly i j first last

@@ -1,6 +1,6 @@
 //! What is true of every device and every replay. Each law is the contract of a function that does nothing.
 ghost use Rattle.q_device.specs.Laws.{ReplayGoesOn, ShrinkCommutes, ReplayShrinks, EveryReplayIsSound, TotalsAreLawful, EveryReplayTellsAll};
-ghost use Rattle.q_device.specs.Sharing.{ClassesSendTheirShares, DeficitsAreBounded, GrantsComeWhereShort, ClassesShareByQuanta, BucketsAreBounded, FlowsGiveTheirShares};
+ghost use Rattle.q_device.specs.Sharing.{ClassesSendTheirShares, DeficitsAreBounded, GrantsComeWhereShort, ClassesShareByQuanta, BucketsAreBounded, FlowsGiveTheirShares, FlowsAreGrantedEvenly};
 
 use q_model::Settings;
 
@@ -54,8 +54,12 @@ pub fn class_stretch(settings: Settings)
 /// order in the active list at both ends, else the one that stood first gets one more. The bytes that they send are to each
 /// other as their quanta: they differ, each times the other's quantum, by less than three products of the quanta and a longest
 /// packet times their sum.
+///
+/// Two flows of one fq_codel that stay backlogged are granted equally often where they stand in the same order at both ends, in
+/// the new list followed by the old one, else the one that stood first once more.
 pub fn pair_stretch(settings: Settings)
     ensures classes { ClassesShareByQuanta settings }
+    ensures flows { FlowsAreGrantedEvenly settings }
 {
     settings.ranges();
 }
