@@ -1,8 +1,7 @@
 -- Popping keeps every packet: what a node and those beneath it have is what it gives and what they have then.
-use Rattle.std.proofs.Common.{◌≡◌, ℕ, zero, suc, ◌+◌, ◌≤◌, List, [], ◌∷◌, ◌++◌, map, take, drop, refl, sym, ap, subst, Option, Some, None, option_and_then, option_to_list, ◌∙◌, arith}
+use Rattle.std.proofs.Common.{◌≡◌, ℕ, zero, suc, ◌+◌, ◌≤◌, List, [], ◌∷◌, ◌++◌, map, take, drop, refl, ap, subst, Option, Some, None, option_and_then, option_to_list, arith}
 use Rattle.std.specs.Prelude.{slice_get, is_some}
 use Rattle.std.specs.List.{position_or_len}
-use Rattle.std.specs.Option.{option_map_or}
 use Rattle.q_packet.specs.Descriptor.{Descriptor}
 use Rattle.q_packet.specs.declared.stamped.Stamped.{Stamped}
 use Rattle.q_codel.specs.declared.limit.Limit.{Limit}
@@ -11,9 +10,9 @@ use Rattle.q_model.specs.Tally.{Note, Sent}
 use Rattle.q_model.specs.Node.{Discipline, Fifo, Prio, Tbf, Drr, FqCodel, Own, Forest, none, more, Node, each}
 use Rattle.q_model.specs.Beneath.{beneath, packets_of}
 use Rattle.q_model.specs.Conserved.{held_beneath}
-use Rattle.q_model.specs.Pop.{Popping, as_they_are, giving, pop_prio, pop_discipline, pop_own, pop}
+use Rattle.q_model.specs.Pop.{Popping, as_they_are, giving, pop_discipline, pop_own, pop}
 use Rattle.q_model.specs.Work.{Worked, worked}
-use Rattle.q_sound.proofs.Weights.{weigh, weigh-nil, weigh-one, arrived-nil, sent-nil, lost-nil, dropped-nil, marked-nil, arrived-given, sent-given, lost-given, dropped-given, marked-given}
+use Rattle.q_sound.proofs.Weights.{weigh, weigh-nil, arrived-nil, sent-nil, lost-nil, dropped-nil, marked-nil, arrived-given, sent-given, lost-given, dropped-given, marked-given}
 use Rattle.q_sound.proofs.Told.{IsRootTold, root-memory}
 use Rattle.q_sound.proofs.Forests.{AreTold, told-side}
 use Rattle.q_sound.proofs.Answer.{waiting, holds, beneath-worked, held-worked}
