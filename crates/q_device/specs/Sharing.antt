@@ -11,6 +11,7 @@ use Rattle.q_fqcodel.specs.Order as order
 use Rattle.q_model.specs.declared.event.Event.{Event}
 use Rattle.q_model.specs.Tally.{Note, history}
 use Rattle.q_model.specs.Node.{Node, shape}
+use Rattle.q_model.specs.Beneath.{is_empty}
 use Rattle.q_model.specs.Ask.{ask}
 use Rattle.q_model.specs.Events.{IsEvent}
 use Rattle.q_model.specs.Replay.{replay}
@@ -58,6 +59,14 @@ GrantsComeWhereShort settings =
     → class_in major minor (device_after settings events) ≡ Some class → class_in major minor (device_after settings (events ++ e ∷ [])) ≡ Some next
     → grants_to minor next.noted ≡ grants_to minor class.noted + suc k
     → IsSomeAnd (length_shown (device_after settings (events ++ e ∷ [])).clock class.child) (λ len. deficit_of minor class.schedule.active + k * quantum_of minor class.schedule.classes < len)
+
+-- After every list of events: where a class was empty and something is queued at its child after the next one, it begins with a
+-- deficit of one quantum, whatever it had before.
+abbrev pub ClassesWakeWithAQuantum : DeviceSettings → Type 0
+ClassesWakeWithAQuantum settings =
+    (events : List Event) (e : Event) (major minor : ℕ) (class next : ClassAt) → All IsEvent events → IsEvent e
+    → class_in major minor (device_after settings events) ≡ Some class → class_in major minor (device_after settings (events ++ e ∷ [])) ≡ Some next
+    → is_empty class.child ≡ true → is_empty next.child ≡ false → deficit_of minor next.schedule.active ≡ quantum_of minor next.schedule.classes
 
 -- ---- two classes of one drr
 

@@ -1,6 +1,6 @@
 //! What is true of every device and every replay. Each law is the contract of a function that does nothing.
 ghost use Rattle.q_device.specs.Laws.{ReplayGoesOn, ShrinkCommutes, ReplayShrinks, EveryReplayIsSound, TotalsAreLawful, EveryReplayTellsAll};
-ghost use Rattle.q_device.specs.Sharing.{ClassesSendTheirShares, DeficitsAreBounded, GrantsComeWhereShort, ClassesShareByQuanta, BucketsAreBounded, FlowsGiveTheirShares, FlowsAreGrantedEvenly};
+ghost use Rattle.q_device.specs.Sharing.{ClassesSendTheirShares, DeficitsAreBounded, GrantsComeWhereShort, ClassesWakeWithAQuantum, ClassesShareByQuanta, BucketsAreBounded, FlowsGiveTheirShares, FlowsAreGrantedEvenly};
 
 use q_model::Settings;
 
@@ -38,7 +38,8 @@ pub fn conserved(settings: Settings)
 
 /// A class of a drr that stays backlogged with one quantum over a stretch of events sends, in bytes that its child gives to the
 /// drr, its grants times its quantum and its first deficit less its last. Every deficit is below its quantum and the mtu together,
-/// and just before a grant it is below the length of the packet that the child shows.
+/// and just before a grant it is below the length of the packet that the child shows. A class that was empty begins with one
+/// quantum, whatever deficit it had before.
 ///
 /// For all settings and every list of events whose fields are in their ranges: polls, arrivals and commands anywhere in the
 /// tree.
@@ -46,6 +47,7 @@ pub fn class_stretch(settings: Settings)
     ensures share { ClassesSendTheirShares settings }
     ensures bounded { DeficitsAreBounded settings }
     ensures granted { GrantsComeWhereShort settings }
+    ensures woken { ClassesWakeWithAQuantum settings }
 {
     settings.ranges();
 }

@@ -59,6 +59,18 @@ requantumed : counted 1 (filled ++ polls 0 6 ++ tc (ClassChange None (class 1 1)
 unfolding counted filled shared_rules
 requantumed = refl
 
+-- a class that is emptied with 600 of its quantum left begins with a whole one
+wakes : List Event
+wakes = add_root (Some 1) Drr ∷ add_class 1 1 (Some 1000) ∷ filter_port 1 1 1 1 ∷ arrives 0 (from_port 1 1 400) ∷ polls 0 1
+
+emptied : counted 1 wakes ≡ Some (record { quantum = 1000; grants = 0; bytes = 400; deficit = 0 })
+unfolding counted wakes shared_rules
+emptied = refl
+
+woken_again : counted 1 (wakes ++ arrives 0 (from_port 1 2 400) ∷ []) ≡ Some (record { quantum = 1000; grants = 0; bytes = 400; deficit = 1000 })
+unfolding counted wakes shared_rules
+woken_again = refl
+
 pub record FlowCount : Type 0 where
   pub grants : ℕ
   pub bytes : ℕ
