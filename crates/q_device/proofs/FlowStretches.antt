@@ -1,21 +1,24 @@
 -- The flows of an fq_codel over a stretch, one and two of them, from what each event comes to there.
-use Rattle.std.proofs.Common.{◌≡◌, ℕ, ◌*◌, false, List, sym, ap, subst, ◌∙◌, Some, arith}
+use Rattle.std.proofs.Common.{◌≡◌, ℕ, ◌*◌, false, List, [], ◌∷◌, ◌++◌, sym, ap, subst, ◌∙◌, Some, arith}
 use Rattle.std.proofs.lemmas.Int.{ints}
 use Rattle.std.proofs.lemmas.Option.{same_Some}
 use Rattle.q_fqcodel.specs.FqState.{is_idle}
 use Rattle.q_model.specs.declared.event.Event.{Event}
 use Rattle.q_model.specs.Events.{IsEvent}
 use Rattle.q_model.specs.Tally.{Note, history}
+use Rattle.q_model.specs.Replay.{Replay, nothing_yet}
 use Rattle.q_model.specs.Settings.{DeviceSettings, IsInRange}
 use Rattle.q_model.specs.Step.{DeviceState, step}
 use Rattle.q_model.specs.Stretches.{flow_grants_to, FqAt, fq_in, IsBackloggedFlow}
 use Rattle.q_sound.proofs.Replays.{IsKept, replay-kept}
 use Rattle.q_sound.proofs.Along.{moves}
 use Rattle.q_sound.proofs.FlowMoves.{FlowMoves, flow-moves, more-flow-moves, no-flow-moves, backlogged-credits}
+use Rattle.q_sound.proofs.FlowBegins.{flow-begins}
 use Rattle.q_sound.proofs.FlowPairs.{FlowPairMoves, flow-pair-moves, more-flow-pair-moves, no-flow-pair-moves}
 use Rattle.q_device.proofs.ClassStretches.{at-start}
+use Rattle.q_device.proofs.ReplayLemmas.{replay_from-append}
 use Rattle.q_fqcodel.proofs.OrderLemmas.{one_if}
-use Rattle.q_device.specs.Sharing.{device_after, FlowsGiveTheirShares, FlowsAreGrantedEvenly}
+use Rattle.q_device.specs.Sharing.{device_after, FlowsGiveTheirShares, FlowsBeginWithAQuantum, FlowsAreGrantedEvenly}
 
 module _ (major flow quantum : ℕ) where
   abbrev Stays : DeviceState (List Note) → Type 0
@@ -60,6 +63,12 @@ flows-share settings range before during major flow quantum first last all_befor
       at_last = b.is;
       share = let books = b.books in omega (arith, ints, books, ap (λ k. flow_grants_to flow m.notes * k) q);
     }
+
+pub flows-begin : (settings : DeviceSettings) → IsInRange settings → FlowsBeginWithAQuantum settings
+flows-begin settings range events e major flow fq next all event is at apart listed =
+    let on : device_after settings (events ++ e ∷ []) ≡ (step history (device_after settings events) e).device =
+    ap (λ (r : Replay (List Note)). r.device) (replay_from-append history (nothing_yet history settings) events e) in
+    flow-begins major flow (device_after settings events) e fq next (replay-kept settings events range all) event is (ap (fq_in major) (sym on) ∙ at) apart listed
 
 -- ---- two flows
 

@@ -8,6 +8,7 @@ use Rattle.q_drr.specs.Stretch.{stands_first}
 use Rattle.q_fqcodel.specs.FqState.{FqState}
 use Rattle.q_fqcodel.specs.Laws.{credits_of}
 use Rattle.q_fqcodel.specs.Order as order
+use Rattle.q_fqcodel.specs.Put.{is_listed}
 use Rattle.q_model.specs.declared.event.Event.{Event}
 use Rattle.q_model.specs.Tally.{Note, history}
 use Rattle.q_model.specs.Node.{Node, shape}
@@ -131,6 +132,15 @@ FlowsGiveTheirShares settings =
     → Throughout (IsBackloggedFlow major flow quantum) settings before during
     → fq_in major (device_after settings before) ≡ Some first → fq_in major (device_after settings (before ++ during)) ≡ Some last
     → GivesItsShare flow quantum first last
+
+-- After every list of events: a flow that stood in neither list and stands in one after the next event begins with credits of one
+-- quantum.
+abbrev pub FlowsBeginWithAQuantum : DeviceSettings → Type 0
+FlowsBeginWithAQuantum settings =
+    (events : List Event) (e : Event) (major flow : ℕ) (fq next : FqAt) → All IsEvent events → IsEvent e
+    → fq_in major (device_after settings events) ≡ Some fq → fq_in major (device_after settings (events ++ e ∷ [])) ≡ Some next
+    → is_listed flow (fq.state.fresh ++ fq.state.stale) ≡ false → is_listed flow (next.state.fresh ++ next.state.stale) ≡ true
+    → credits_of flow (next.state.fresh ++ next.state.stale) ≡ Some (pos next.state.settings.quantum)
 
 -- ---- two flows of one fq_codel
 

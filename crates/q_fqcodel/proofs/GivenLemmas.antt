@@ -19,7 +19,7 @@ use Rattle.q_fqcodel.proofs.LawfulLemmas.{times-cons, times-append, one-same}
 use Rattle.q_fqcodel.proofs.QuantaLemmas.{flow-given}
 use Rattle.q_fqcodel.proofs.InLemmas.{In, in-append, in-left, in-right, in-take, in-drop, in-map, in-stay, in-before, in-behind, in-found, in-times, same-entry, sum-none, sum-once}
 
-times-split : (n k : ℕ) (es : List Entry) → times n es ≡ times n (take k es) + times n (drop k es)
+pub times-split : (n k : ℕ) (es : List Entry) → times n es ≡ times n (take k es) + times n (drop k es)
 times-split n k es = ap (times n) (sym (take-append-drop k es)) ∙ times-append n (take k es) (drop k es)
 
 -- ---- one flow, visited so often

@@ -7,6 +7,7 @@ pub mod InLemmas
 pub mod KeptLemmas
 pub mod LinkLemmas
 pub mod LinkedLemmas
+pub mod ListedLemmas
 pub mod LawLemmas
 pub mod LawfulLemmas
 pub mod ListsLemmas

@@ -41,6 +41,7 @@ pub mod EditRetuned
 pub mod EditSuits
 pub mod Edits
 pub mod Exact
+pub mod FlowBegins
 pub mod FlowLists
 pub mod FlowMoves
 pub mod FlowNotes
