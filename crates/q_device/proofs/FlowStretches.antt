@@ -18,7 +18,7 @@ use Rattle.q_sound.proofs.FlowPairs.{FlowPairMoves, flow-pair-moves, more-flow-p
 use Rattle.q_device.proofs.ClassStretches.{at-start}
 use Rattle.q_device.proofs.ReplayLemmas.{replay_from-append}
 use Rattle.q_fqcodel.proofs.OrderLemmas.{one_if}
-use Rattle.q_device.specs.Sharing.{device_after, FlowsGiveTheirShares, FlowsBeginWithAQuantum, FlowsAreGrantedEvenly}
+use Rattle.q_device.specs.Sharing.{device_after, FlowsGiveTheirShares, FlowsBeginNew, FlowsAreGrantedEvenly}
 
 module _ (major flow quantum : ℕ) where
   abbrev Stays : DeviceState (List Note) → Type 0
@@ -64,7 +64,7 @@ flows-share settings range before during major flow quantum first last all_befor
       share = let books = b.books in omega (arith, ints, books, ap (λ k. flow_grants_to flow m.notes * k) q);
     }
 
-pub flows-begin : (settings : DeviceSettings) → IsInRange settings → FlowsBeginWithAQuantum settings
+pub flows-begin : (settings : DeviceSettings) → IsInRange settings → FlowsBeginNew settings
 flows-begin settings range events e major flow fq next all event is at apart listed =
     let on : device_after settings (events ++ e ∷ []) ≡ (step history (device_after settings events) e).device =
     ap (λ (r : Replay (List Note)). r.device) (replay_from-append history (nothing_yet history settings) events e) in

@@ -133,14 +133,14 @@ FlowsGiveTheirShares settings =
     → fq_in major (device_after settings before) ≡ Some first → fq_in major (device_after settings (before ++ during)) ≡ Some last
     → GivesItsShare flow quantum first last
 
--- After every list of events: a flow that stood in neither list and stands in one after the next event begins with credits of one
--- quantum.
-abbrev pub FlowsBeginWithAQuantum : DeviceSettings → Type 0
-FlowsBeginWithAQuantum settings =
+-- After every list of events: a flow that stood in neither list and stands in one after the next event begins in the new one, with
+-- credits of one quantum.
+abbrev pub FlowsBeginNew : DeviceSettings → Type 0
+FlowsBeginNew settings =
     (events : List Event) (e : Event) (major flow : ℕ) (fq next : FqAt) → All IsEvent events → IsEvent e
     → fq_in major (device_after settings events) ≡ Some fq → fq_in major (device_after settings (events ++ e ∷ [])) ≡ Some next
     → is_listed flow (fq.state.fresh ++ fq.state.stale) ≡ false → is_listed flow (next.state.fresh ++ next.state.stale) ≡ true
-    → credits_of flow (next.state.fresh ++ next.state.stale) ≡ Some (pos next.state.settings.quantum)
+    → credits_of flow next.state.fresh ≡ Some (pos next.state.settings.quantum)
 
 -- ---- two flows of one fq_codel
 

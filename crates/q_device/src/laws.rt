@@ -1,6 +1,6 @@
 //! What is true of every device and every replay. Each law is the contract of a function that does nothing.
 ghost use Rattle.q_device.specs.Laws.{ReplayGoesOn, ShrinkCommutes, ReplayShrinks, EveryReplayIsSound, TotalsAreLawful, EveryReplayTellsAll};
-ghost use Rattle.q_device.specs.Sharing.{ClassesSendTheirShares, DeficitsAreBounded, GrantsComeWhereShort, ClassesWakeWithAQuantum, ClassesShareByQuanta, BucketsAreBounded, FlowsGiveTheirShares, FlowsBeginWithAQuantum, FlowsAreGrantedEvenly};
+ghost use Rattle.q_device.specs.Sharing.{ClassesSendTheirShares, DeficitsAreBounded, GrantsComeWhereShort, ClassesWakeWithAQuantum, ClassesShareByQuanta, BucketsAreBounded, FlowsGiveTheirShares, FlowsBeginNew, FlowsAreGrantedEvenly};
 
 use q_model::Settings;
 
@@ -79,10 +79,10 @@ pub fn bucket_stretch(settings: Settings)
 
 /// A flow of an fq_codel that stays backlogged with one quantum over a stretch of events gives its node, in bytes, its grants
 /// times the quantum and its first credits less its last; packets that CoDel or the fat flow loses are not among them. A flow
-/// that an event puts into a list begins with credits of one quantum.
+/// that was in neither list begins in the new one, with credits of one quantum.
 pub fn flow_stretch(settings: Settings)
     ensures share { FlowsGiveTheirShares settings }
-    ensures begins { FlowsBeginWithAQuantum settings }
+    ensures begins { FlowsBeginNew settings }
 {
     settings.ranges();
 }

@@ -1,4 +1,4 @@
--- Where one event lists a flow of an fq_codel, it is an arrival, and the flow begins with one quantum.
+-- Where one event lists a flow of an fq_codel, it is an arrival, and the flow begins in the new list with one quantum.
 use Rattle.std.proofs.Common.{◌≡◌, ℕ, ◌≤◌, Bool, true, false, ◌⊎◌, inl, inr, List, [], ◌∷◌, ◌++◌, refl, sym, ap, ◌∙◌, Some, pos, arith}
 use Rattle.std.specs.Prelude.{◌==◌, if◌then◌else◌}
 use Rattle.std.proofs.lemmas.Bool.{cases_Bool, eqb-true, eqb-false}
@@ -23,12 +23,12 @@ use Rattle.q_sound.proofs.FlowSteps.{lists_of, Changes}
 use Rattle.q_sound.proofs.FlowMoves.{fq-step}
 use Rattle.q_sound.proofs.FlowLists.{credits-here, credits-behind}
 
--- the first entry of a flow, behind entries of others
-credits-new : (n : ℕ) (x : Entry) (xs ys : List Entry) → times n xs ≡ 0 → (x.flow == n) ≡ true → credits_of n ((xs ++ x ∷ []) ++ ys) ≡ Some x.credits
-credits-new n x [] ys none own = credits-here n x ys own
-credits-new n x (e ∷ xs) ys none own = elim (cases_Bool (e.flow == n)) [
-  | inl here ↦ absurd (omega (arith, none, times-cons n e xs, one-at n e (eqb-true e.flow n here)))
-  | inr other ↦ credits-behind n e ((xs ++ x ∷ []) ++ ys) other ∙ credits-new n x xs ys (omega (arith, none, times-cons n e xs)) own
+-- the entry of a flow behind those of others
+credits-last : (n : ℕ) (x : Entry) (es : List Entry) → times n es ≡ 0 → (x.flow == n) ≡ true → credits_of n (es ++ x ∷ []) ≡ Some x.credits
+credits-last n x [] none own = credits-here n x [] own
+credits-last n x (e ∷ es) none own = elim (cases_Bool (e.flow == n)) [
+  | inl here ↦ absurd (omega (arith, none, times-cons n e es, one-at n e (eqb-true e.flow n here)))
+  | inr other ↦ credits-behind n e (es ++ x ∷ []) other ∙ credits-last n x es (omega (arith, none, times-cons n e es)) own
 ]
 
 put-settings : (s : FqState) (p : Descriptor) (now : ℕ) → (after_put s p now).settings ≡ s.settings
@@ -36,17 +36,17 @@ unfolding appended cut_back
 put-settings s p now = refl
 
 put-begins : (n : ℕ) (s : FqState) (p : Descriptor) (now : ℕ) → times n (lists_of s) ≡ 0 → 1 ≤ times n (lists_of (after_put s p now))
-    → credits_of n (lists_of (after_put s p now)) ≡ Some (pos s.settings.quantum)
+    → credits_of n (after_put s p now).fresh ≡ Some (pos s.settings.quantum)
 unfolding appended cut_back
 put-begins n s p now none some = by (is_listed (flow_of s p) (lists_of s)) some
   where
     new : Entry
     new = record { flow = flow_of s p; credits = pos s.settings.quantum }
 
-    by : (t : Bool) → 1 ≤ times n ((if t then s.fresh else s.fresh ++ new ∷ []) ++ s.stale) → credits_of n ((if t then s.fresh else s.fresh ++ new ∷ []) ++ s.stale) ≡ Some (pos s.settings.quantum)
+    by : (t : Bool) → 1 ≤ times n ((if t then s.fresh else s.fresh ++ new ∷ []) ++ s.stale) → credits_of n (if t then s.fresh else s.fresh ++ new ∷ []) ≡ Some (pos s.settings.quantum)
     by true listed = absurd (omega (arith, none, listed))
     by false listed = elim (cases_Bool (new.flow == n)) [
-      | inl own ↦ credits-new n new s.fresh s.stale (omega (arith, none, times-append n s.fresh s.stale)) own
+      | inl own ↦ credits-last n new s.fresh (omega (arith, none, times-append n s.fresh s.stale)) own
       | inr other ↦
           absurd (omega (
             arith,
@@ -60,20 +60,20 @@ put-begins n s p now none some = by (is_listed (flow_of s p) (lists_of s)) some
           ))
     ]
 
-step-begins : (n now : ℕ) (s t : FqState) (notes : List Note) → Changes now s t notes → times n (lists_of s) ≡ 0 → 1 ≤ times n (lists_of t) → credits_of n (lists_of t) ≡ Some (pos t.settings.quantum)
+step-begins : (n now : ℕ) (s t : FqState) (notes : List Note) → Changes now s t notes → times n (lists_of s) ≡ 0 → 1 ≤ times n (lists_of t) → credits_of n t.fresh ≡ Some (pos t.settings.quantum)
 step-begins n now s t notes (inl quiet) none some = by quiet.lists
   where
-    by : (lists_of t ≡ lists_of s) ⊎ ((p : Descriptor) × (at : ℕ) × (t ≡ after_put s p at)) → credits_of n (lists_of t) ≡ Some (pos t.settings.quantum)
+    by : (lists_of t ≡ lists_of s) ⊎ ((p : Descriptor) × (at : ℕ) × (t ≡ after_put s p at)) → credits_of n t.fresh ≡ Some (pos t.settings.quantum)
     by (inl same) = absurd (omega (arith, none, some, ap (times n) same))
     by (inr put) =
-        ap (λ (x : FqState). credits_of n (lists_of x)) put.2
+        ap (λ (x : FqState). credits_of n x.fresh) put.2
         ∙ put-begins n s put.0 put.1 none (omega (arith, some, ap (λ (x : FqState). times n (lists_of x)) put.2))
         ∙ sym (ap (λ (x : FqState). Some (pos x.settings.quantum)) put.2 ∙ ap (λ (settings : FqSettings). Some (pos settings.quantum)) (put-settings s put.0 put.1))
 step-begins n now s t notes (inr take) none some =
     absurd (omega (arith, none, some, ap (λ (x : FqState). times n (lists_of x)) take.is, times-sent n now (selected s), times-selected n s))
 
 pub flow-begins : (major n : ℕ) (d : DeviceState (List Note)) (e : Event) (x y : FqAt) → IsKept d → IsEvent e → fq_in major d ≡ Some x → fq_in major (step history d e).device ≡ Some y
-    → is_listed n (lists_of x.state) ≡ false → is_listed n (lists_of y.state) ≡ true → credits_of n (lists_of y.state) ≡ Some (pos y.state.settings.quantum)
+    → is_listed n (lists_of x.state) ≡ false → is_listed n (lists_of y.state) ≡ true → credits_of n y.state.fresh ≡ Some (pos y.state.settings.quantum)
 flow-begins major n d e x y kept range is at apart listed =
     let s = fq-step major d e x y kept range is at in
     step-begins n (step history d e).device.clock x.state y.state s.notes s.by (listed-not n (lists_of x.state) apart) (listed-yes n (lists_of y.state) listed)
