@@ -25,9 +25,9 @@ use Rattle.q_sound.proofs.Replays.{IsKept, replay-kept}
 use Rattle.q_sound.proofs.Along.{moves}
 use Rattle.q_sound.proofs.TakeTurns.{one_if}
 use Rattle.q_sound.proofs.ClassChildren.{child-has}
-use Rattle.q_sound.proofs.ClassMoves.{class-node, drr-lawful, ClassMoves, class-moves, more-class-moves, no-class-moves, PairMoves, same-noted, pair-moves, more-pair-moves, no-pair-moves, deficit-bounded, class-short}
+use Rattle.q_sound.proofs.ClassMoves.{class-node, drr-lawful, ClassMoves, class-moves, more-class-moves, no-class-moves, PairMoves, same-noted, pair-moves, more-pair-moves, no-pair-moves, deficit-bounded, class-short, class-wakes}
 use Rattle.q_device.proofs.ReplayLemmas.{replay_from-append}
-use Rattle.q_device.specs.Sharing.{device_after, length_shown, GrantsComeWhereShort, ClassesSendTheirShares, DeficitsAreBounded, ClassesShareByQuanta}
+use Rattle.q_device.specs.Sharing.{device_after, length_shown, GrantsComeWhereShort, ClassesSendTheirShares, ClassesWakeWithAQuantum, DeficitsAreBounded, ClassesShareByQuanta}
 
 -- ---- the mtu of the device stays
 
@@ -58,6 +58,12 @@ grants-short settings range events e major minor k class next all event is at mo
     ap (λ (r : Replay (List Note)). r.device) (replay_from-append history (nothing_yet history settings) events e) in
     let short = class-short major minor k (device_after settings events) e class next (replay-kept settings events range all) event is (ap (class_in major minor) (sym on) ∙ at) more in
     subst (λ (d : DeviceState (List Note)). IsSomeAnd (length_shown d.clock class.child) (λ len. deficit_of minor class.schedule.active + k * quantum_of minor class.schedule.classes < len)) (sym on) short
+
+pub classes-wake : (settings : DeviceSettings) → IsInRange settings → ClassesWakeWithAQuantum settings
+classes-wake settings range events e major minor class next all event is at empty queued =
+    let on : device_after settings (events ++ e ∷ []) ≡ (step history (device_after settings events) e).device =
+    ap (λ (r : Replay (List Note)). r.device) (replay_from-append history (nothing_yet history settings) events e) in
+    class-wakes major minor (device_after settings events) e class next (replay-kept settings events range all) event is (ap (class_in major minor) (sym on) ∙ at) empty queued
 
 -- ---- one class
 

@@ -1,14 +1,18 @@
 -- What is true of sharing over every stretch of every replay, for a tbf, for the classes of a drr and for the flows of an fq_codel.
 -- What a stretch is and what is counted in it stands in q_model's specs/Stretches.antt. RFC 2211 has the bound of a token bucket.
-use Rattle.std.specs.Prelude.{◌≡◌, ◌≢◌, ℕ, suc, ◌+◌, ◌-◌, ◌*◌, ◌<◌, ◌≤◌, ℤ, pos, ◌+ℤ◌, true, false, List, [], ◌∷◌, ◌++◌, All, Option, Some, IsSomeAnd, option_map}
+use Rattle.std.specs.Prelude.{◌≡◌, ◌≢◌, ℕ, suc, ◌+◌, ◌-◌, ◌*◌, ◌<◌, ◌≤◌, ℤ, pos, ◌+ℤ◌, Bool, true, false, List, [], ◌∷◌, ◌++◌, All, Option, Some, IsSomeAnd, option_map}
 use Rattle.q_packet.specs.Descriptor.{Descriptor}
 use Rattle.q_bucket.specs.Level.{units_in_byte}
 use Rattle.q_drr.specs.Schedule.{quantum_of, deficit_of}
 use Rattle.q_drr.specs.Stretch.{stands_first}
+use Rattle.q_fqcodel.specs.FqState.{FqState}
 use Rattle.q_fqcodel.specs.Laws.{credits_of}
+use Rattle.q_fqcodel.specs.Order as order
+use Rattle.q_fqcodel.specs.Put.{is_listed}
 use Rattle.q_model.specs.declared.event.Event.{Event}
 use Rattle.q_model.specs.Tally.{Note, history}
 use Rattle.q_model.specs.Node.{Node, shape}
+use Rattle.q_model.specs.Beneath.{is_empty}
 use Rattle.q_model.specs.Ask.{ask}
 use Rattle.q_model.specs.Events.{IsEvent}
 use Rattle.q_model.specs.Replay.{replay}
@@ -56,6 +60,14 @@ GrantsComeWhereShort settings =
     → class_in major minor (device_after settings events) ≡ Some class → class_in major minor (device_after settings (events ++ e ∷ [])) ≡ Some next
     → grants_to minor next.noted ≡ grants_to minor class.noted + suc k
     → IsSomeAnd (length_shown (device_after settings (events ++ e ∷ [])).clock class.child) (λ len. deficit_of minor class.schedule.active + k * quantum_of minor class.schedule.classes < len)
+
+-- After every list of events: where a class was empty and something is queued at its child after the next one, it begins with a
+-- deficit of one quantum, whatever it had before.
+abbrev pub ClassesWakeWithAQuantum : DeviceSettings → Type 0
+ClassesWakeWithAQuantum settings =
+    (events : List Event) (e : Event) (major minor : ℕ) (class next : ClassAt) → All IsEvent events → IsEvent e
+    → class_in major minor (device_after settings events) ≡ Some class → class_in major minor (device_after settings (events ++ e ∷ [])) ≡ Some next
+    → is_empty class.child ≡ true → is_empty next.child ≡ false → deficit_of minor next.schedule.active ≡ quantum_of minor next.schedule.classes
 
 -- ---- two classes of one drr
 
@@ -120,3 +132,34 @@ FlowsGiveTheirShares settings =
     → Throughout (IsBackloggedFlow major flow quantum) settings before during
     → fq_in major (device_after settings before) ≡ Some first → fq_in major (device_after settings (before ++ during)) ≡ Some last
     → GivesItsShare flow quantum first last
+
+-- After every list of events: a flow that stood in neither list and stands in one after the next event begins in the new one, with
+-- credits of one quantum.
+abbrev pub FlowsBeginNew : DeviceSettings → Type 0
+FlowsBeginNew settings =
+    (events : List Event) (e : Event) (major flow : ℕ) (fq next : FqAt) → All IsEvent events → IsEvent e
+    → fq_in major (device_after settings events) ≡ Some fq → fq_in major (device_after settings (events ++ e ∷ [])) ≡ Some next
+    → is_listed flow (fq.state.fresh ++ fq.state.stale) ≡ false → is_listed flow (next.state.fresh ++ next.state.stale) ≡ true
+    → credits_of flow next.state.fresh ≡ Some (pos next.state.settings.quantum)
+
+-- ---- two flows of one fq_codel
+
+-- whether flow i stands before flow j in the new list followed by the old one
+abbrev pub flow_stands_first : ℕ → ℕ → FqState → Bool
+flow_stands_first i j s = order.stands_first i j (s.fresh ++ s.stale)
+
+-- Over a stretch the fq_codel noted these. Where both flows stand in the order that they had, they got equally many grants,
+-- else the one that had stood first got one more.
+pub record AreGrantedEvenly (i j : ℕ) (first last : FqAt) : Type 0 where
+  pub notes : List Note
+  pub goes_on : last.noted ≡ first.noted ++ notes
+  pub same_order : flow_stands_first i j last.state ≡ flow_stands_first i j first.state → flow_grants_to i notes ≡ flow_grants_to j notes
+  pub overtaken : flow_stands_first i j first.state ≡ true → flow_stands_first i j last.state ≡ false → flow_grants_to i notes ≡ flow_grants_to j notes + 1
+  pub overtakes : flow_stands_first i j first.state ≡ false → flow_stands_first i j last.state ≡ true → flow_grants_to j notes ≡ flow_grants_to i notes + 1
+
+abbrev pub FlowsAreGrantedEvenly : DeviceSettings → Type 0
+FlowsAreGrantedEvenly settings =
+    (before during : List Event) (major i j quantum : ℕ) (first last : FqAt) → All IsEvent before → All IsEvent during
+    → Throughout (IsBackloggedFlow major i quantum) settings before during → Throughout (IsBackloggedFlow major j quantum) settings before during
+    → fq_in major (device_after settings before) ≡ Some first → fq_in major (device_after settings (before ++ during)) ≡ Some last
+    → AreGrantedEvenly i j first last

@@ -1,6 +1,6 @@
 //! What is true of every device and every replay. Each law is the contract of a function that does nothing.
 ghost use Rattle.q_device.specs.Laws.{ReplayGoesOn, ShrinkCommutes, ReplayShrinks, EveryReplayIsSound, TotalsAreLawful, EveryReplayTellsAll};
-ghost use Rattle.q_device.specs.Sharing.{ClassesSendTheirShares, DeficitsAreBounded, GrantsComeWhereShort, ClassesShareByQuanta, BucketsAreBounded, FlowsGiveTheirShares};
+ghost use Rattle.q_device.specs.Sharing.{ClassesSendTheirShares, DeficitsAreBounded, GrantsComeWhereShort, ClassesWakeWithAQuantum, ClassesShareByQuanta, BucketsAreBounded, FlowsGiveTheirShares, FlowsBeginNew, FlowsAreGrantedEvenly};
 
 use q_model::Settings;
 
@@ -38,7 +38,8 @@ pub fn conserved(settings: Settings)
 
 /// A class of a drr that stays backlogged with one quantum over a stretch of events sends, in bytes that its child gives to the
 /// drr, its grants times its quantum and its first deficit less its last. Every deficit is below its quantum and the mtu together,
-/// and just before a grant it is below the length of the packet that the child shows.
+/// and just before a grant it is below the length of the packet that the child shows. A class that was empty begins with one
+/// quantum, whatever deficit it had before.
 ///
 /// For all settings and every list of events whose fields are in their ranges: polls, arrivals and commands anywhere in the
 /// tree.
@@ -46,6 +47,7 @@ pub fn class_stretch(settings: Settings)
     ensures share { ClassesSendTheirShares settings }
     ensures bounded { DeficitsAreBounded settings }
     ensures granted { GrantsComeWhereShort settings }
+    ensures woken { ClassesWakeWithAQuantum settings }
 {
     settings.ranges();
 }
@@ -54,8 +56,12 @@ pub fn class_stretch(settings: Settings)
 /// order in the active list at both ends, else the one that stood first gets one more. The bytes that they send are to each
 /// other as their quanta: they differ, each times the other's quantum, by less than three products of the quanta and a longest
 /// packet times their sum.
+///
+/// Two flows of one fq_codel that stay backlogged are granted equally often where they stand in the same order at both ends, in
+/// the new list followed by the old one, else the one that stood first once more.
 pub fn pair_stretch(settings: Settings)
     ensures classes { ClassesShareByQuanta settings }
+    ensures flows { FlowsAreGrantedEvenly settings }
 {
     settings.ranges();
 }
@@ -72,9 +78,11 @@ pub fn bucket_stretch(settings: Settings)
 }
 
 /// A flow of an fq_codel that stays backlogged with one quantum over a stretch of events gives its node, in bytes, its grants
-/// times the quantum and its first credits less its last; packets that CoDel or the fat flow loses are not among them.
+/// times the quantum and its first credits less its last; packets that CoDel or the fat flow loses are not among them. A flow
+/// that was in neither list begins in the new one, with credits of one quantum.
 pub fn flow_stretch(settings: Settings)
     ensures share { FlowsGiveTheirShares settings }
+    ensures begins { FlowsBeginNew settings }
 {
     settings.ranges();
 }

@@ -19,7 +19,7 @@ use Rattle.q_fqcodel.proofs.LawfulLemmas.{times-cons, times-append, one-same}
 use Rattle.q_fqcodel.proofs.QuantaLemmas.{flow-given}
 use Rattle.q_fqcodel.proofs.InLemmas.{In, in-append, in-left, in-right, in-take, in-drop, in-map, in-stay, in-before, in-behind, in-found, in-times, same-entry, sum-none, sum-once}
 
-times-split : (n k : ℕ) (es : List Entry) → times n es ≡ times n (take k es) + times n (drop k es)
+pub times-split : (n k : ℕ) (es : List Entry) → times n es ≡ times n (take k es) + times n (drop k es)
 times-split n k es = ap (times n) (sym (take-append-drop k es)) ∙ times-append n (take k es) (drop k es)
 
 -- ---- one flow, visited so often
@@ -36,7 +36,7 @@ credits-given : (q k : ℕ) (e : Entry) → (given q k e).credits ≡ e.credits 
 unfolding given
 credits-given q k e = refl
 
-flow-moved : (q : ℕ) (e : Entry) → (moved q e).flow ≡ e.flow
+pub flow-moved : (q : ℕ) (e : Entry) → (moved q e).flow ≡ e.flow
 unfolding moved
 flow-moved q e =
     ⊎_elim
@@ -58,12 +58,12 @@ credits-moved q e =
     ∙ ap (λ (k : ℕ). e.credits +ℤ pos (k * q)) (let m : 1 ≡ min 1 (need q e) = omega (arith, some) in m))
     (cases_eq (need q e) 0)
 
-times-moved : (q n : ℕ) (es : List Entry) → times n (map (moved q) es) ≡ times n es
+pub times-moved : (q n : ℕ) (es : List Entry) → times n (map (moved q) es) ≡ times n es
 times-moved q n [] = refl
 times-moved q n (x ∷ xs) = omega (arith, times-cons n (moved q x) (map (moved q) xs), times-cons n x xs, one-same n x (moved q x) (flow-moved q x), times-moved q n xs)
 
 -- what a flow of the old list is given in the turn
-turned-some : (q n : ℕ) (es : List Entry) (c : Choice) → quanta_turned q n es (Some c) ≡ quanta_in q n c.rounds (drop c.place es) + quanta_in q n (suc c.rounds) (take c.place es)
+pub turned-some : (q n : ℕ) (es : List Entry) (c : Choice) → quanta_turned q n es (Some c) ≡ quanta_in q n c.rounds (drop c.place es) + quanta_in q n (suc c.rounds) (take c.place es)
 unfolding quanta_turned
 turned-some q n es c = refl
 
@@ -204,14 +204,14 @@ grants_are_some s =
 -- ---- by the place in the old list
 
 -- what the flow at a place needs, as the choice has it
-need-at : (q : ℕ) (idle : ℕ → Bool) (es : List Entry) (i : ℕ) (e : Entry) → slice_get es i ≡ Some e → idle e.flow ≡ false → slice_index_or (map (λ (e : Entry). cond (idle e.flow) None (Some (need q e))) es) i None ≡ Some (need q e)
+pub need-at : (q : ℕ) (idle : ℕ → Bool) (es : List Entry) (i : ℕ) (e : Entry) → slice_get es i ≡ Some e → idle e.flow ≡ false → slice_index_or (map (λ (e : Entry). cond (idle e.flow) None (Some (need q e))) es) i None ≡ Some (need q e)
 need-at q idle [] i e h busy = absurd cc
 need-at q idle (x ∷ xs) zero e h busy =
     let same : x ≡ e = cc in
     ap (λ (y : Entry). cond (idle y.flow) None (Some (need q y))) same ∙ cond-false (idle e.flow) None (Some (need q e)) busy
 need-at q idle (x ∷ xs) (suc i) e h busy = need-at q idle xs i e h busy
 
-chosen-least : (q : ℕ) (idle : ℕ → Bool) (es : List Entry) (c : Choice) → chosen q idle es ≡ Some c → IsChosen (map (λ (e : Entry). cond (idle e.flow) None (Some (need q e))) es) c
+pub chosen-least : (q : ℕ) (idle : ℕ → Bool) (es : List Entry) (c : Choice) → chosen q idle es ≡ Some c → IsChosen (map (λ (e : Entry). cond (idle e.flow) None (Some (need q e))) es) c
 unfolding chosen
 chosen-least q idle es c h = chosen_is (map (λ (e : Entry). cond (idle e.flow) None (Some (need q e))) es) c h
 

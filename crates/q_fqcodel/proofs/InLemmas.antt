@@ -109,10 +109,10 @@ same-entry n e x (y ∷ ys) h k own own' once =
 abbrev pub at : ℕ → (Entry → ℕ) → Entry → ℕ
 at n f e = cond (e.flow == n) (f e) 0
 
-at-own : (n : ℕ) (f : Entry → ℕ) (e : Entry) → e.flow ≡ n → at n f e ≡ f e
+pub at-own : (n : ℕ) (f : Entry → ℕ) (e : Entry) → e.flow ≡ n → at n f e ≡ f e
 at-own n f e own = cond-true (e.flow == n) (f e) 0 (eq-eqb e.flow n own)
 
-at-other : (n : ℕ) (f : Entry → ℕ) (e : Entry) → e.flow ≢ n → at n f e ≡ 0
+pub at-other : (n : ℕ) (f : Entry → ℕ) (e : Entry) → e.flow ≢ n → at n f e ≡ 0
 at-other n f e other = cond-false (e.flow == n) (f e) 0 (ne_eqb e.flow n other)
 
 pub sum-none : (n : ℕ) (f : Entry → ℕ) (es : List Entry) → times n es ≡ 0 → sum_by (at n f) es ≡ 0

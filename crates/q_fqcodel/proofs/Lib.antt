@@ -7,11 +7,13 @@ pub mod InLemmas
 pub mod KeptLemmas
 pub mod LinkLemmas
 pub mod LinkedLemmas
+pub mod ListedLemmas
 pub mod LawLemmas
 pub mod LawfulLemmas
 pub mod ListsLemmas
 pub mod LostLemmas
 pub mod NewFlowLemmas
+pub mod OrderLemmas
 pub mod PoolLemmas
 pub mod PooledLemmas
 pub mod PutLemmas

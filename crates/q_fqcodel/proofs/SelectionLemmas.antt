@@ -18,7 +18,7 @@ needs : ℕ → (ℕ → Bool) → List Entry → List (Option ℕ)
 needs q idle es = map (λ (e : Entry). cond (idle e.flow) None (Some (need q e))) es
 
 -- one flow more in front
-chosen-cons : (q : ℕ) (idle : ℕ → Bool) (e : Entry) (es : List Entry) → chosen q idle (e ∷ es) ≡ cond (idle e.flow) (later (chosen q idle es)) (Some (sooner (need q e) (chosen q idle es)))
+pub chosen-cons : (q : ℕ) (idle : ℕ → Bool) (e : Entry) (es : List Entry) → chosen q idle (e ∷ es) ≡ cond (idle e.flow) (later (chosen q idle es)) (Some (sooner (need q e) (chosen q idle es)))
 unfolding chosen needs
 chosen-cons q idle e es = choose-if (idle e.flow) (need q e) (needs q idle es)
 

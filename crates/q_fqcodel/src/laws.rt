@@ -1,8 +1,9 @@
 //! Laws of the definitions that the calls of [`FqCodel`](crate::FqCodel) equal.
 //!
-//! Each function does nothing. Its contract is a law, stated in `specs/Laws.antt` and `specs/NewFlow.antt`, for every state, packet and moment.
+//! Each function does nothing. Its contract is a law, stated in `specs/Laws.antt`, `specs/NewFlow.antt` and `specs/Order.antt`, for every state, packet and moment.
 ghost use Rattle.q_fqcodel.specs.Laws.{PutKeepsAll, TakeKeepsAll, GivesTheHead, PutLeavesOne, CreditsByQuanta, GrantsAreSome, QuantaByPlace, LostByPlace, LostIsLast, SelectionKeepsPackets, PutKeepsLawful, TakeKeepsLawful, ChangeKeepsLawful, FirstIsLawful};
 ghost use Rattle.q_fqcodel.specs.NewFlow.{BecomesNew, NewBeforeOld};
+ghost use Rattle.q_fqcodel.specs.Order.{QuantaAreEven};
 
 /// A put makes and loses nothing: what was queued and what is put are what is queued then and what is lost.
 pub fn put_keeps_all()
@@ -50,6 +51,12 @@ pub fn grants_are_some()
 /// one, and a flow behind it as many.
 pub fn quanta_by_place()
     ensures { QuantaByPlace }
+{}
+
+/// Two flows with packets are given equally many quanta where the selection leaves them in the order that they had; else the
+/// one that stood first is given one more.
+pub fn quanta_are_even()
+    ensures { QuantaAreEven }
 {}
 
 /// A packet that was put is lost itself exactly where its own flow is the fat one, and loses as many as reach its place.

@@ -1,9 +1,10 @@
 -- What is counted of classes and flows over a part of a replay, for worked scripts: grants, bytes, deficits and credits.
 -- Both counts are those of whole histories; a stretch has the difference of what they are at its ends.
 use Rattle.std.proofs.Common.{◌≡◌, ℕ, ℤ, pos, List, [], ◌∷◌, ◌++◌, refl}
-use Rattle.std.specs.Prelude.{Option, Some, None, map, option_map}
+use Rattle.std.specs.Prelude.{Bool, true, false, Option, Some, None, map, option_map}
 use Rattle.q_drr.specs.Schedule.{quantum_of, deficit_of}
 use Rattle.q_fqcodel.specs.Laws.{credits_of}
+use Rattle.q_fqcodel.specs.Order.{stands_first}
 use Rattle.q_model.specs.declared.command.Command.TheVariants.{ClassChange}
 use Rattle.q_model.specs.declared.event.Event.{Event}
 use Rattle.q_model.specs.declared.kind.Kind.TheVariants.{FqCodel, Drr}
@@ -58,6 +59,18 @@ requantumed : counted 1 (filled ++ polls 0 6 ++ tc (ClassChange None (class 1 1)
 unfolding counted filled shared_rules
 requantumed = refl
 
+-- a class that is emptied with 600 of its quantum left begins with a whole one
+wakes : List Event
+wakes = add_root (Some 1) Drr ∷ add_class 1 1 (Some 1000) ∷ filter_port 1 1 1 1 ∷ arrives 0 (from_port 1 1 400) ∷ polls 0 1
+
+emptied : counted 1 wakes ≡ Some (record { quantum = 1000; grants = 0; bytes = 400; deficit = 0 })
+unfolding counted wakes shared_rules
+emptied = refl
+
+woken_again : counted 1 (wakes ++ arrives 0 (from_port 1 2 400) ∷ []) ≡ Some (record { quantum = 1000; grants = 0; bytes = 400; deficit = 1000 })
+unfolding counted wakes shared_rules
+woken_again = refl
+
 pub record FlowCount : Type 0 where
   pub grants : ℕ
   pub bytes : ℕ
@@ -85,3 +98,42 @@ flow_before = refl
 flow_after : flow_counted 0 (three_and_one ++ polls 0 3) ≡ Some (record { grants = 1; bytes = 2000; credits = Some (pos 1028) })
 unfolding flow_counted three_and_one shared_rules
 flow_after = refl
+
+-- two flows of one fq_codel: how often each was granted, and whether flow 0 stands first
+pub record PairCount : Type 0 where
+  pub first : ℕ
+  pub second : ℕ
+  pub in_order : Bool
+
+pair_counted : List Event → Option PairCount
+pair_counted events =
+    option_map (λ (f : FqAt). record {
+      first = flow_grants_to 0 f.noted;
+      second = flow_grants_to 1 f.noted;
+      in_order = stands_first 0 1 (f.state.fresh ++ f.state.stale);
+    }) (fq_in 1 (replay history settings events).device)
+
+-- five packets of 600 bytes for each flow, with a quantum of 1000: each sends two and has then no credits
+two_flows : List Event
+two_flows =
+    add_root (Some 1) (FqCodel (record no_options { flows = Some 4; quantum = Some 1000 }))
+    ∷ map (λ n. arrives 0 (hashed 0 n 600)) (1 ∷ 2 ∷ 3 ∷ 4 ∷ 5 ∷ []) ++ map (λ n. arrives 0 (hashed 1 n 600)) (6 ∷ 7 ∷ 8 ∷ 9 ∷ 10 ∷ [])
+
+pair_before : pair_counted two_flows ≡ Some (record { first = 0; second = 0; in_order = true })
+unfolding pair_counted two_flows shared_rules
+pair_before = refl
+
+-- the first is granted as it passes to the old list, behind the other
+pair_turned : pair_counted (two_flows ++ polls 0 3) ≡ Some (record { first = 1; second = 0; in_order = false })
+unfolding pair_counted two_flows shared_rules
+pair_turned = refl
+
+-- once the other has passed too, both were granted once, and stand as they did
+pair_after : pair_counted (two_flows ++ polls 0 5) ≡ Some (record { first = 1; second = 1; in_order = true })
+unfolding pair_counted two_flows shared_rules
+pair_after = refl
+
+-- in the old list they go on so
+pair_later : pair_counted (two_flows ++ polls 0 7) ≡ Some (record { first = 2; second = 1; in_order = false })
+unfolding pair_counted two_flows shared_rules
+pair_later = refl

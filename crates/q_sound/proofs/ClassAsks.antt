@@ -1,5 +1,5 @@
 -- What a poll changes of a drr and of each of its classes that stays.
-use Rattle.std.proofs.Common.{◌≡◌, ◌≢◌, ℕ, ◌+◌, ◌*◌, ◌≤◌, ◌^◌, ◌⊎◌, inl, inr, List, ◌++◌, map, set, refl, sym, ap, subst, ◌∙◌, Option, Some, None, option_and_then, option_map, option_to_list, arith, suc, ◌<◌}
+use Rattle.std.proofs.Common.{◌≡◌, ◌≢◌, ℕ, ◌+◌, ◌*◌, ◌≤◌, ◌^◌, ◌⊎◌, inl, inr, List, ◌++◌, map, set, refl, sym, ap, subst, ◌∙◌, Option, Some, None, option_and_then, option_map, option_to_list, arith, suc, ◌<◌, true, false}
 use Rattle.std.specs.Prelude.{slice_get, IsSomeAnd}
 use Rattle.std.specs.Option.{option_map_or}
 use Rattle.std.proofs.lemmas.List.Sums.{sum_by-append}
@@ -30,7 +30,7 @@ use Rattle.q_sound.proofs.DrrService.{heads-fit}
 use Rattle.q_sound.proofs.Risen.{rise-service, all-rise}
 use Rattle.q_sound.proofs.AskStages.{IsStageOf, IsAskOf, asked-related}
 use Rattle.q_sound.proofs.SentStages.{sum-each}
-use Rattle.q_sound.proofs.SameTurns.{same-all, same-settled}
+use Rattle.q_sound.proofs.SameTurns.{SameTurns, same-all, same-settled}
 use Rattle.q_sound.proofs.TakeTurns.{one_if, Stands, stands, take-books, take-even, grants-noted, absent-noted, deficit-at}
 use Rattle.q_sound.proofs.ClassChildren.{child_for, child-at}
 use Rattle.q_sound.proofs.ClassLooks.{answer-for, nodes-side, before-at, booked-child}
@@ -234,6 +234,20 @@ module _ (mtu now : ℕ) (least : 1 ≤ mtu) (low : now ≤ 2 ^ 62) (n : Node (L
           ∙ (same-settled gave.place (is_empty gave.answer.taken) (served shows s)).order i j (active-served i shows s ∙ a.before) (active-served j shows s ∙ b.before)
           (ap (λ (y : Schedule). is_active i y.active) (sym gave.schedule) ∙ a.after) (ap (λ (y : Schedule). is_active j y.active) (sym gave.schedule) ∙ b.after)
 
+  -- a poll wakes no class
+  served-wakes : (t : Schedule) (w : Worked) (ws : List Worked) (h : Served now (shape n).below s apart t w ws) (c : ℕ) → is_active c s.active ≡ false → is_active c t.active ≡ true
+      → deficit_of c t.active ≡ quantum_of c t.classes
+  served-wakes t w ws h c before after = by h.how
+    where
+      asleep : is_active c (served shows s).active ≡ false
+      asleep = active-served c shows s ∙ before
+
+      by : Nothing now (shape n).below s apart t ws ⊎ Gave now (shape n).below s apart t ws → deficit_of c t.active ≡ quantum_of c t.classes
+      by (inl nothing) = (same-all (served shows s) t (ap (λ (y : Schedule). y.active) nothing.schedule)).wakes c asleep after
+      by (inr gave) =
+          let turns : SameTurns (served shows s) t = subst (SameTurns (served shows s)) (sym gave.schedule) (same-settled gave.place (is_empty gave.answer.taken) (served shows s)) in
+          turns.wakes c asleep after
+
   -- just before a grant the deficit is below the packet that the child shows
   served-short : (t : Schedule) (w : Worked) (ws : List Worked) (h : Served now (shape n).below s apart t w ws) (c k : ℕ) (kid : Node (List Note)) → child_for c s.classes (children n) ≡ Some kid
       → grants_to c w.memory ≡ suc k → IsSomeAnd (length_of (ask now (shape kid))) (λ len. deficit_of c s.active + k * quantum_of c s.classes < len)
@@ -297,4 +311,5 @@ module _ (mtu now : ℕ) (least : 1 ≤ mtu) (low : now ≤ 2 ^ 62) (n : Node (L
             record { given = g.0.memory; gives = g.2; books = served-class t asked.worked ws h c g.0 g.1 stays quantum };
         even = λ i j differ a b. served-even t asked.worked ws h i j differ a b;
         short = λ c k kid there some. served-short t asked.worked ws h c k kid there some;
+        wakes = λ c before after. served-wakes t asked.worked ws h c before after;
       }

@@ -231,3 +231,16 @@ class-short major minor k d e x y kept range is at more =
     let whole : grants_to minor y.noted ≡ grants_to minor x.noted + grants_to minor s.notes =
     ap (grants_to minor) (sym b.noted ∙ s.is ∙ ap (λ ns. ns ++ s.notes) a.noted) ∙ sum_by-append (granted_by minor) x.noted s.notes in
     s.short minor k x.child a.child (omega (arith, whole, more))
+
+-- ---- where a class wakes
+
+pub class-wakes : (major minor : ℕ) (d : DeviceState (List Note)) (e : Event) (x y : ClassAt) → IsKept d → IsEvent e → class_in major minor d ≡ Some x → class_in major minor (step history d e).device ≡ Some y
+    → is_empty x.child ≡ true → is_empty y.child ≡ false → deficit_of minor y.schedule.active ≡ quantum_of minor y.schedule.classes
+class-wakes major minor d e x y kept range is at empty queued =
+    let next : DeviceState (List Note) = (step history d e).device in
+    let a = class-node major minor d x is in
+    let b = class-node major minor next y at in
+    let s = drr-step major d e a.node b.node x.schedule y.schedule kept range a.there b.there a.discipline b.discipline in
+    let law = drr-lawful major d a.node x.schedule kept a.there a.discipline in
+    let asleep : is_active minor x.schedule.active ≡ false = active-of (λ c. is_active c x.schedule.active) x.schedule.classes (children a.node) minor x.child law.exact a.child ∙ ap not empty in
+    s.wakes minor asleep (backlogged-active major minor next y (step-kept d e kept range) b queued)

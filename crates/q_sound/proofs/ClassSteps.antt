@@ -53,6 +53,7 @@ pub record DrrStep (now : ℕ) (s t : Schedule) (n after : Node (List Note)) : T
       → grants_to i notes + one_if (stands_first i j t.active) ≡ grants_to j notes + one_if (stands_first i j s.active)
   pub short : (c k : ℕ) (kid : Node (List Note)) → child_for c s.classes (children n) ≡ Some kid → grants_to c notes ≡ suc k
       → IsSomeAnd (length_of (ask now (shape kid))) (λ len. deficit_of c s.active + k * quantum_of c s.classes < len)
+  pub wakes : (c : ℕ) → is_active c s.active ≡ false → is_active c t.active ≡ true → deficit_of c t.active ≡ quantum_of c t.classes
 
 -- a child that gave nothing
 abbrev GaveNothing : Node (List Note) → Node (List Note) → Type 0
@@ -74,6 +75,7 @@ quiet-step now s t n after notes memory grants same gave = record {
       record { given = g.0; gives = g.1; books = let sent = g.2 in omega (arith, zero, sent, same.deficit c stays.before stays.after quantum) };
   even = λ i j apart a b. omega (arith, grants i, grants j, ap one_if (same.order i j a.before b.before a.after b.after));
   short = λ c k kid there some. absurd (omega (arith, grants c, some));
+  wakes = same.wakes;
 }
 
 same-schedule : (s t : Schedule) → ◌≡◌ {A = Discipline} (Drr s) (Drr t) → t ≡ s

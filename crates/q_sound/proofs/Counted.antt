@@ -1,15 +1,16 @@
 -- What notes come to, in packets and bytes, is what they weigh: each packet one, and each its length.
-use Rattle.std.proofs.Common.{◌≡◌, ℕ, ◌+◌, List, [], ◌∷◌, refl, ap, arith}
+use Rattle.std.proofs.Common.{◌≡◌, ℕ, ◌+◌, List, [], ◌∷◌, refl, ap, ◌∙◌, arith}
 use Rattle.std.specs.Prelude.{Bool, true, false, sum_by, if◌then◌else◌}
 use Rattle.std.specs.List.{fold}
 use Rattle.std.proofs.lemmas.List.Sums.{sum_by-cons}
 use Rattle.q_packet.specs.Cause.{is_refusal}
 use Rattle.q_packet.specs.Descriptor.{Descriptor}
 use Rattle.q_packet.specs.declared.cause.Cause.{Cause}
+use Rattle.q_model.specs.declared.totals.Totals.{Totals}
 use Rattle.q_model.specs.Tally.{Note, Arrived, Sent, Lost, Marked, Granted, Spent, FlowGranted, FlowGave, Counts, no_counts, counted, counts_in, with_packet}
 use Rattle.q_model.specs.Beneath.{totals_in, row_of}
 use Rattle.q_model.specs.Conserved.{IsBalanced, AreMarksBounded}
-use Rattle.q_sound.proofs.Weights.{plain, weigh, weigh-count, arrived, sent, lost, dropped, marked, arrived-nil, sent-nil, lost-nil, dropped-nil, marked-nil, arrived-cons, sent-cons, lost-cons, dropped-cons, marked-cons}
+use Rattle.q_sound.proofs.Weights.{plain, weigh, weigh-count, arrival, sending, loss, dropping, mark, arrived, sent, lost, dropped, marked, lost-nil, dropped-nil, lost-cons, dropped-cons}
 use Rattle.q_sound.proofs.Kept.{AreCounted}
 use Rattle.q_sound.proofs.Answer.{one}
 
@@ -38,20 +39,24 @@ refused-cons : (w : Descriptor → ℕ) (n : Note) (ns : List Note) → refused 
 unfolding refused
 refused-cons w n ns = sum_by-cons (refusing w) n ns
 
-one_loss : (w : Descriptor → ℕ) (p : Descriptor) (b : Bool) → w (plain p) ≡ (if b then w (plain p) else 0) + (if b then 0 else w (plain p))
-one_loss w p true = omega arith
-one_loss w p false = omega arith
+-- one note
+loss-parts : (w : Descriptor → ℕ) (n : Note) → loss w n ≡ refusing w n + dropping w n
+loss-parts w (Lost p cause) = by (is_refusal cause)
+  where
+    by : (b : Bool) → w (plain p) ≡ (if b then w (plain p) else 0) + (if b then 0 else w (plain p))
+    by true = omega arith
+    by false = omega arith
+loss-parts w (Arrived p) = refl
+loss-parts w (Sent p) = refl
+loss-parts w (Marked p) = refl
+loss-parts w (Granted class times) = refl
+loss-parts w (Spent bytes) = refl
+loss-parts w (FlowGranted flow times) = refl
+loss-parts w (FlowGave flow bytes) = refl
 
 pub lost-parts : (w : Descriptor → ℕ) (notes : List Note) → lost w notes ≡ refused w notes + dropped w notes
 lost-parts w [] = omega (arith, lost-nil w, refused-nil w, dropped-nil w)
-lost-parts w (Arrived p ∷ notes) = omega (arith, lost-cons w (Arrived p) notes, refused-cons w (Arrived p) notes, dropped-cons w (Arrived p) notes, lost-parts w notes)
-lost-parts w (Sent p ∷ notes) = omega (arith, lost-cons w (Sent p) notes, refused-cons w (Sent p) notes, dropped-cons w (Sent p) notes, lost-parts w notes)
-lost-parts w (Lost p cause ∷ notes) = omega (arith, lost-cons w (Lost p cause) notes, refused-cons w (Lost p cause) notes, dropped-cons w (Lost p cause) notes, lost-parts w notes, one_loss w p (is_refusal cause))
-lost-parts w (Marked p ∷ notes) = omega (arith, lost-cons w (Marked p) notes, refused-cons w (Marked p) notes, dropped-cons w (Marked p) notes, lost-parts w notes)
-lost-parts w (Granted c k ∷ notes) = omega (arith, lost-cons w (Granted c k) notes, refused-cons w (Granted c k) notes, dropped-cons w (Granted c k) notes, lost-parts w notes)
-lost-parts w (Spent b ∷ notes) = omega (arith, lost-cons w (Spent b) notes, refused-cons w (Spent b) notes, dropped-cons w (Spent b) notes, lost-parts w notes)
-lost-parts w (FlowGranted f k ∷ notes) = omega (arith, lost-cons w (FlowGranted f k) notes, refused-cons w (FlowGranted f k) notes, dropped-cons w (FlowGranted f k) notes, lost-parts w notes)
-lost-parts w (FlowGave f b ∷ notes) = omega (arith, lost-cons w (FlowGave f b) notes, refused-cons w (FlowGave f b) notes, dropped-cons w (FlowGave f b) notes, lost-parts w notes)
+lost-parts w (n ∷ notes) = omega (arith, lost-cons w n notes, refused-cons w n notes, dropped-cons w n notes, loss-parts w n, lost-parts w notes)
 
 -- counts that are others and what notes weigh
 pub record IsMore (c d : Counts) (notes : List Note) : Type 0 where
@@ -66,159 +71,98 @@ pub record IsMore (c d : Counts) (notes : List Note) : Type 0 where
   pub marked_packets : d.marked.packets ≡ c.marked.packets + marked one notes
   pub marked_bytes : d.marked.bytes ≡ c.marked.bytes + marked bytes notes
 
-none-more : (c : Counts) → IsMore c c []
-none-more c = record {
-  arrived_packets = omega (arith, arrived-nil one);
-  arrived_bytes = omega (arith, arrived-nil bytes);
-  sent_packets = omega (arith, sent-nil one);
-  sent_bytes = omega (arith, sent-nil bytes);
-  refused_packets = omega (arith, refused-nil one);
-  refused_bytes = omega (arith, refused-nil bytes);
-  dropped_packets = omega (arith, dropped-nil one);
-  dropped_bytes = omega (arith, dropped-nil bytes);
-  marked_packets = omega (arith, marked-nil one);
-  marked_bytes = omega (arith, marked-nil bytes);
-}
+-- ---- a number that is kept of notes, and what each note adds to it
 
--- one note more in front
-module _ (c d : Counts) (notes : List Note) where
-  more-arrived : (p : Descriptor) → IsMore (counted c (Arrived p)) d notes → IsMore c d (Arrived p ∷ notes)
-  more-arrived p h = record {
-    arrived_packets = omega (arith, h.arrived_packets, arrived-cons one (Arrived p) notes);
-    arrived_bytes = omega (arith, h.arrived_bytes, arrived-cons bytes (Arrived p) notes);
-    sent_packets = omega (arith, h.sent_packets, sent-cons one (Arrived p) notes);
-    sent_bytes = omega (arith, h.sent_bytes, sent-cons bytes (Arrived p) notes);
-    refused_packets = omega (arith, h.refused_packets, refused-cons one (Arrived p) notes);
-    refused_bytes = omega (arith, h.refused_bytes, refused-cons bytes (Arrived p) notes);
-    dropped_packets = omega (arith, h.dropped_packets, dropped-cons one (Arrived p) notes);
-    dropped_bytes = omega (arith, h.dropped_bytes, dropped-cons bytes (Arrived p) notes);
-    marked_packets = omega (arith, h.marked_packets, marked-cons one (Arrived p) notes);
-    marked_bytes = omega (arith, h.marked_bytes, marked-cons bytes (Arrived p) notes);
-  }
+record Measure : Type 0 where
+  pub number : Counts → ℕ
+  pub adds : Note → ℕ
+  pub step : (c : Counts) (n : Note) → number (counted c n) ≡ number c + adds n
 
-  more-sent : (p : Descriptor) → IsMore (counted c (Sent p)) d notes → IsMore c d (Sent p ∷ notes)
-  more-sent p h = record {
-    arrived_packets = omega (arith, h.arrived_packets, arrived-cons one (Sent p) notes);
-    arrived_bytes = omega (arith, h.arrived_bytes, arrived-cons bytes (Sent p) notes);
-    sent_packets = omega (arith, h.sent_packets, sent-cons one (Sent p) notes);
-    sent_bytes = omega (arith, h.sent_bytes, sent-cons bytes (Sent p) notes);
-    refused_packets = omega (arith, h.refused_packets, refused-cons one (Sent p) notes);
-    refused_bytes = omega (arith, h.refused_bytes, refused-cons bytes (Sent p) notes);
-    dropped_packets = omega (arith, h.dropped_packets, dropped-cons one (Sent p) notes);
-    dropped_bytes = omega (arith, h.dropped_bytes, dropped-cons bytes (Sent p) notes);
-    marked_packets = omega (arith, h.marked_packets, marked-cons one (Sent p) notes);
-    marked_bytes = omega (arith, h.marked_bytes, marked-cons bytes (Sent p) notes);
-  }
+measured : (m : Measure) (c : Counts) (notes : List Note) → m.number (fold counted c notes) ≡ m.number c + sum_by m.adds notes
+measured m c [] = omega arith
+measured m c (n ∷ notes) = omega (arith, measured m (counted c n) notes, m.step c n, sum_by-cons m.adds n notes)
 
-  more-marked : (p : Descriptor) → IsMore (counted c (Marked p)) d notes → IsMore c d (Marked p ∷ notes)
-  more-marked p h = record {
-    arrived_packets = omega (arith, h.arrived_packets, arrived-cons one (Marked p) notes);
-    arrived_bytes = omega (arith, h.arrived_bytes, arrived-cons bytes (Marked p) notes);
-    sent_packets = omega (arith, h.sent_packets, sent-cons one (Marked p) notes);
-    sent_bytes = omega (arith, h.sent_bytes, sent-cons bytes (Marked p) notes);
-    refused_packets = omega (arith, h.refused_packets, refused-cons one (Marked p) notes);
-    refused_bytes = omega (arith, h.refused_bytes, refused-cons bytes (Marked p) notes);
-    dropped_packets = omega (arith, h.dropped_packets, dropped-cons one (Marked p) notes);
-    dropped_bytes = omega (arith, h.dropped_bytes, dropped-cons bytes (Marked p) notes);
-    marked_packets = omega (arith, h.marked_packets, marked-cons one (Marked p) notes);
-    marked_bytes = omega (arith, h.marked_bytes, marked-cons bytes (Marked p) notes);
-  }
+-- The packets or the bytes of a counter, and what a packet adds to them.
+module _ (part : Totals → ℕ) (w : Descriptor → ℕ) (more : (t : Totals) (p : Descriptor) → part (with_packet t p) ≡ part t + w (plain p)) where
+  -- a counter that grants, spent bytes and gifts leave
+  measure : (f : Counts → Totals) (g : Note → ℕ)
+      → ((c : Counts) (p : Descriptor) → part (f (counted c (Arrived p))) ≡ part (f c) + g (Arrived p))
+      → ((c : Counts) (p : Descriptor) → part (f (counted c (Sent p))) ≡ part (f c) + g (Sent p))
+      → ((c : Counts) (p : Descriptor) (cause : Cause) → part (f (counted c (Lost p cause))) ≡ part (f c) + g (Lost p cause))
+      → ((c : Counts) (p : Descriptor) → part (f (counted c (Marked p))) ≡ part (f c) + g (Marked p))
+      → ((n k : ℕ) → g (Granted n k) ≡ 0) → ((k : ℕ) → g (Spent k) ≡ 0) → ((n k : ℕ) → g (FlowGranted n k) ≡ 0) → ((n k : ℕ) → g (FlowGave n k) ≡ 0) → Measure
+  measure f g arrives sends loses marks grants spends flow_grants gives = record { number = λ c. part (f c); adds = g; step = by }
+    where
+      by : (c : Counts) (n : Note) → part (f (counted c n)) ≡ part (f c) + g n
+      by c (Arrived p) = arrives c p
+      by c (Sent p) = sends c p
+      by c (Lost p cause) = loses c p cause
+      by c (Marked p) = marks c p
+      by c (Granted n k) = omega (arith, grants n k)
+      by c (Spent k) = omega (arith, spends k)
+      by c (FlowGranted n k) = omega (arith, flow_grants n k)
+      by c (FlowGave n k) = omega (arith, gives n k)
 
-  more-granted : (cl k : ℕ) → IsMore (counted c (Granted cl k)) d notes → IsMore c d (Granted cl k ∷ notes)
-  more-granted cl k h = record {
-    arrived_packets = omega (arith, h.arrived_packets, arrived-cons one (Granted cl k) notes);
-    arrived_bytes = omega (arith, h.arrived_bytes, arrived-cons bytes (Granted cl k) notes);
-    sent_packets = omega (arith, h.sent_packets, sent-cons one (Granted cl k) notes);
-    sent_bytes = omega (arith, h.sent_bytes, sent-cons bytes (Granted cl k) notes);
-    refused_packets = omega (arith, h.refused_packets, refused-cons one (Granted cl k) notes);
-    refused_bytes = omega (arith, h.refused_bytes, refused-cons bytes (Granted cl k) notes);
-    dropped_packets = omega (arith, h.dropped_packets, dropped-cons one (Granted cl k) notes);
-    dropped_bytes = omega (arith, h.dropped_bytes, dropped-cons bytes (Granted cl k) notes);
-    marked_packets = omega (arith, h.marked_packets, marked-cons one (Granted cl k) notes);
-    marked_bytes = omega (arith, h.marked_bytes, marked-cons bytes (Granted cl k) notes);
-  }
+  same : (k : ℕ) → k ≡ k + 0
+  same k = omega arith
 
-  more-spent : (b : ℕ) → IsMore (counted c (Spent b)) d notes → IsMore c d (Spent b ∷ notes)
-  more-spent b h = record {
-    arrived_packets = omega (arith, h.arrived_packets, arrived-cons one (Spent b) notes);
-    arrived_bytes = omega (arith, h.arrived_bytes, arrived-cons bytes (Spent b) notes);
-    sent_packets = omega (arith, h.sent_packets, sent-cons one (Spent b) notes);
-    sent_bytes = omega (arith, h.sent_bytes, sent-cons bytes (Spent b) notes);
-    refused_packets = omega (arith, h.refused_packets, refused-cons one (Spent b) notes);
-    refused_bytes = omega (arith, h.refused_bytes, refused-cons bytes (Spent b) notes);
-    dropped_packets = omega (arith, h.dropped_packets, dropped-cons one (Spent b) notes);
-    dropped_bytes = omega (arith, h.dropped_bytes, dropped-cons bytes (Spent b) notes);
-    marked_packets = omega (arith, h.marked_packets, marked-cons one (Spent b) notes);
-    marked_bytes = omega (arith, h.marked_bytes, marked-cons bytes (Spent b) notes);
-  }
+  -- a loss is refused or dropped
+  abbrev lost_to : Counts → Descriptor → Bool → Counts
+  lost_to c p b = if b then record c { refused = with_packet c.refused p } else record c { dropped = with_packet c.dropped p }
 
-  more-flowgranted : (f k : ℕ) → IsMore (counted c (FlowGranted f k)) d notes → IsMore c d (FlowGranted f k ∷ notes)
-  more-flowgranted f k h = record {
-    arrived_packets = omega (arith, h.arrived_packets, arrived-cons one (FlowGranted f k) notes);
-    arrived_bytes = omega (arith, h.arrived_bytes, arrived-cons bytes (FlowGranted f k) notes);
-    sent_packets = omega (arith, h.sent_packets, sent-cons one (FlowGranted f k) notes);
-    sent_bytes = omega (arith, h.sent_bytes, sent-cons bytes (FlowGranted f k) notes);
-    refused_packets = omega (arith, h.refused_packets, refused-cons one (FlowGranted f k) notes);
-    refused_bytes = omega (arith, h.refused_bytes, refused-cons bytes (FlowGranted f k) notes);
-    dropped_packets = omega (arith, h.dropped_packets, dropped-cons one (FlowGranted f k) notes);
-    dropped_bytes = omega (arith, h.dropped_bytes, dropped-cons bytes (FlowGranted f k) notes);
-    marked_packets = omega (arith, h.marked_packets, marked-cons one (FlowGranted f k) notes);
-    marked_bytes = omega (arith, h.marked_bytes, marked-cons bytes (FlowGranted f k) notes);
-  }
+  unlost : (f : Counts → Totals) → ((c : Counts) (t : Totals) → f (record c { refused = t }) ≡ f c) → ((c : Counts) (t : Totals) → f (record c { dropped = t }) ≡ f c)
+      → (c : Counts) (p : Descriptor) (b : Bool) → part (f (lost_to c p b)) ≡ part (f c) + 0
+  unlost f refused dropped c p true = ap part (refused c (with_packet c.refused p)) ∙ same (part (f c))
+  unlost f refused dropped c p false = ap part (dropped c (with_packet c.dropped p)) ∙ same (part (f c))
 
-  more-flowgave : (f b : ℕ) → IsMore (counted c (FlowGave f b)) d notes → IsMore c d (FlowGave f b ∷ notes)
-  more-flowgave f b h = record {
-    arrived_packets = omega (arith, h.arrived_packets, arrived-cons one (FlowGave f b) notes);
-    arrived_bytes = omega (arith, h.arrived_bytes, arrived-cons bytes (FlowGave f b) notes);
-    sent_packets = omega (arith, h.sent_packets, sent-cons one (FlowGave f b) notes);
-    sent_bytes = omega (arith, h.sent_bytes, sent-cons bytes (FlowGave f b) notes);
-    refused_packets = omega (arith, h.refused_packets, refused-cons one (FlowGave f b) notes);
-    refused_bytes = omega (arith, h.refused_bytes, refused-cons bytes (FlowGave f b) notes);
-    dropped_packets = omega (arith, h.dropped_packets, dropped-cons one (FlowGave f b) notes);
-    dropped_bytes = omega (arith, h.dropped_bytes, dropped-cons bytes (FlowGave f b) notes);
-    marked_packets = omega (arith, h.marked_packets, marked-cons one (FlowGave f b) notes);
-    marked_bytes = omega (arith, h.marked_bytes, marked-cons bytes (FlowGave f b) notes);
-  }
+  refused_by : (c : Counts) (p : Descriptor) (b : Bool) → part (lost_to c p b).refused ≡ part c.refused + (if b then w (plain p) else 0)
+  refused_by c p true = more c.refused p
+  refused_by c p false = same (part c.refused)
 
-  abbrev lost_to : Descriptor → Bool → Counts
-  lost_to p b = if b then record c { refused = with_packet c.refused p } else record c { dropped = with_packet c.dropped p }
+  dropped_by : (c : Counts) (p : Descriptor) (b : Bool) → part (lost_to c p b).dropped ≡ part c.dropped + (if b then 0 else w (plain p))
+  dropped_by c p true = same (part c.dropped)
+  dropped_by c p false = more c.dropped p
 
-  more-lost : (p : Descriptor) (cause : Cause) (b : Bool) → is_refusal cause ≡ b → IsMore (lost_to p b) d notes → IsMore c d (Lost p cause ∷ notes)
-  more-lost p cause true e h = record {
-    arrived_packets = omega (arith, h.arrived_packets, arrived-cons one (Lost p cause) notes);
-    arrived_bytes = omega (arith, h.arrived_bytes, arrived-cons bytes (Lost p cause) notes);
-    sent_packets = omega (arith, h.sent_packets, sent-cons one (Lost p cause) notes);
-    sent_bytes = omega (arith, h.sent_bytes, sent-cons bytes (Lost p cause) notes);
-    refused_packets = omega (arith, h.refused_packets, refused-cons one (Lost p cause) notes, ap (λ b. if b then one (plain p) else 0) e);
-    refused_bytes = omega (arith, h.refused_bytes, refused-cons bytes (Lost p cause) notes, ap (λ b. if b then bytes (plain p) else 0) e);
-    dropped_packets = omega (arith, h.dropped_packets, dropped-cons one (Lost p cause) notes, ap (λ b. if b then 0 else one (plain p)) e);
-    dropped_bytes = omega (arith, h.dropped_bytes, dropped-cons bytes (Lost p cause) notes, ap (λ b. if b then 0 else bytes (plain p)) e);
-    marked_packets = omega (arith, h.marked_packets, marked-cons one (Lost p cause) notes);
-    marked_bytes = omega (arith, h.marked_bytes, marked-cons bytes (Lost p cause) notes);
-  }
-  more-lost p cause false e h = record {
-    arrived_packets = omega (arith, h.arrived_packets, arrived-cons one (Lost p cause) notes);
-    arrived_bytes = omega (arith, h.arrived_bytes, arrived-cons bytes (Lost p cause) notes);
-    sent_packets = omega (arith, h.sent_packets, sent-cons one (Lost p cause) notes);
-    sent_bytes = omega (arith, h.sent_bytes, sent-cons bytes (Lost p cause) notes);
-    refused_packets = omega (arith, h.refused_packets, refused-cons one (Lost p cause) notes, ap (λ b. if b then one (plain p) else 0) e);
-    refused_bytes = omega (arith, h.refused_bytes, refused-cons bytes (Lost p cause) notes, ap (λ b. if b then bytes (plain p) else 0) e);
-    dropped_packets = omega (arith, h.dropped_packets, dropped-cons one (Lost p cause) notes, ap (λ b. if b then 0 else one (plain p)) e);
-    dropped_bytes = omega (arith, h.dropped_bytes, dropped-cons bytes (Lost p cause) notes, ap (λ b. if b then 0 else bytes (plain p)) e);
-    marked_packets = omega (arith, h.marked_packets, marked-cons one (Lost p cause) notes);
-    marked_bytes = omega (arith, h.marked_bytes, marked-cons bytes (Lost p cause) notes);
-  }
+  -- each counter, by what an arrival, a packet sent, a loss and a mark add to it
+  abbrev arrivals : Measure
+  arrivals =
+      measure (λ c. c.arrived) (arrival w) (λ c p. more c.arrived p) (λ c p. same (part c.arrived)) (λ c p cause. unlost (λ x. x.arrived) (λ x t. refl) (λ x t. refl) c p (is_refusal cause)) (λ c p. same (part c.arrived))
+      (λ n k. refl) (λ k. refl) (λ n k. refl) (λ n k. refl)
+
+  abbrev sendings : Measure
+  sendings =
+      measure (λ c. c.sent) (sending w) (λ c p. same (part c.sent)) (λ c p. more c.sent p) (λ c p cause. unlost (λ x. x.sent) (λ x t. refl) (λ x t. refl) c p (is_refusal cause)) (λ c p. same (part c.sent))
+      (λ n k. refl) (λ k. refl) (λ n k. refl) (λ n k. refl)
+
+  abbrev refusals : Measure
+  refusals =
+      measure (λ c. c.refused) (refusing w) (λ c p. same (part c.refused)) (λ c p. same (part c.refused)) (λ c p cause. refused_by c p (is_refusal cause)) (λ c p. same (part c.refused))
+      (λ n k. refl) (λ k. refl) (λ n k. refl) (λ n k. refl)
+
+  abbrev drops : Measure
+  drops =
+      measure (λ c. c.dropped) (dropping w) (λ c p. same (part c.dropped)) (λ c p. same (part c.dropped)) (λ c p cause. dropped_by c p (is_refusal cause)) (λ c p. same (part c.dropped))
+      (λ n k. refl) (λ k. refl) (λ n k. refl) (λ n k. refl)
+
+  abbrev marks : Measure
+  marks =
+      measure (λ c. c.marked) (mark w) (λ c p. same (part c.marked)) (λ c p. same (part c.marked)) (λ c p cause. unlost (λ x. x.marked) (λ x t. refl) (λ x t. refl) c p (is_refusal cause)) (λ c p. more c.marked p)
+      (λ n k. refl) (λ k. refl) (λ n k. refl) (λ n k. refl)
 
 pub all-more : (c : Counts) (notes : List Note) → IsMore c (fold counted c notes) notes
-all-more c [] = none-more c
-all-more c (Arrived p ∷ notes) = more-arrived c (fold counted c (Arrived p ∷ notes)) notes p (all-more (counted c (Arrived p)) notes)
-all-more c (Sent p ∷ notes) = more-sent c (fold counted c (Sent p ∷ notes)) notes p (all-more (counted c (Sent p)) notes)
-all-more c (Lost p cause ∷ notes) = more-lost c (fold counted c (Lost p cause ∷ notes)) notes p cause (is_refusal cause) refl (all-more (counted c (Lost p cause)) notes)
-all-more c (Marked p ∷ notes) = more-marked c (fold counted c (Marked p ∷ notes)) notes p (all-more (counted c (Marked p)) notes)
-all-more c (Granted cl k ∷ notes) = more-granted c (fold counted c (Granted cl k ∷ notes)) notes cl k (all-more (counted c (Granted cl k)) notes)
-all-more c (Spent b ∷ notes) = more-spent c (fold counted c (Spent b ∷ notes)) notes b (all-more (counted c (Spent b)) notes)
-all-more c (FlowGranted f k ∷ notes) = more-flowgranted c (fold counted c (FlowGranted f k ∷ notes)) notes f k (all-more (counted c (FlowGranted f k)) notes)
-all-more c (FlowGave f b ∷ notes) = more-flowgave c (fold counted c (FlowGave f b ∷ notes)) notes f b (all-more (counted c (FlowGave f b)) notes)
+unfolding measure arrived sent refused dropped marked
+all-more c notes = record {
+  arrived_packets = measured (arrivals (λ t. t.packets) one (λ t p. refl)) c notes;
+  arrived_bytes = measured (arrivals (λ t. t.bytes) bytes (λ t p. refl)) c notes;
+  sent_packets = measured (sendings (λ t. t.packets) one (λ t p. refl)) c notes;
+  sent_bytes = measured (sendings (λ t. t.bytes) bytes (λ t p. refl)) c notes;
+  refused_packets = measured (refusals (λ t. t.packets) one (λ t p. refl)) c notes;
+  refused_bytes = measured (refusals (λ t. t.bytes) bytes (λ t p. refl)) c notes;
+  dropped_packets = measured (drops (λ t. t.packets) one (λ t p. refl)) c notes;
+  dropped_bytes = measured (drops (λ t. t.bytes) bytes (λ t p. refl)) c notes;
+  marked_packets = measured (marks (λ t. t.packets) one (λ t p. refl)) c notes;
+  marked_bytes = measured (marks (λ t. t.bytes) bytes (λ t p. refl)) c notes;
+}
 
 -- what a node counts of its history is balanced, and its marks are bounded
 pub is-balanced : (notes : List Note) (waiting held : List Descriptor) → AreCounted notes waiting held → IsBalanced (row_of (counts_in notes) waiting)

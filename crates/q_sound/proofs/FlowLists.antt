@@ -26,10 +26,10 @@ unfolding paid
 paid-none e = refl
 
 module _ (n : ℕ) where
-  credits-here : (e : Entry) (es : List Entry) → (e.flow == n) ≡ true → credits_of n (e ∷ es) ≡ Some e.credits
+  pub credits-here : (e : Entry) (es : List Entry) → (e.flow == n) ≡ true → credits_of n (e ∷ es) ≡ Some e.credits
   credits-here e es h = ap (option_map (λ (e : Entry). e.credits)) (cond-true (e.flow == n) (Some e) (find (λ (e : Entry). e.flow == n) es) h)
 
-  credits-behind : (e : Entry) (es : List Entry) → (e.flow == n) ≡ false → credits_of n (e ∷ es) ≡ credits_of n es
+  pub credits-behind : (e : Entry) (es : List Entry) → (e.flow == n) ≡ false → credits_of n (e ∷ es) ≡ credits_of n es
   credits-behind e es h = ap (option_map (λ (e : Entry). e.credits)) (cond-false (e.flow == n) (Some e) (find (λ (e : Entry). e.flow == n) es) h)
 
   -- a flow that is listed has credits

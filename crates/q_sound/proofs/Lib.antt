@@ -41,9 +41,12 @@ pub mod EditRetuned
 pub mod EditSuits
 pub mod Edits
 pub mod Exact
+pub mod FlowBegins
 pub mod FlowLists
 pub mod FlowMoves
 pub mod FlowNotes
+pub mod FlowPairs
+pub mod FlowSteps
 pub mod Forests
 pub mod Joined
 pub mod Kept

@@ -44,52 +44,28 @@ sum-risen f past (n ∷ notes) h = omega (arith, sum_by-cons f n notes, past n h
 pub sum-noted : (f : Note → ℕ) (m notes : List Note) → sum_by f (noted history m notes) ≡ sum_by f m + sum_by f notes
 sum-noted f m notes = ap (sum_by f) (noted-history m notes) ∙ sum_by-append f m notes
 
+-- a count that finds 0 at every loss and every mark
+past : (f : Note → ℕ) → ((p : Descriptor) (cause : Cause) → f (Lost p cause) ≡ 0) → ((p : Descriptor) → f (Marked p) ≡ 0) → LooksPast f
+past f lost marked (Lost p cause) h = lost p cause
+past f lost marked (Marked p) h = marked p
+past f lost marked (Arrived p) h = absurd h
+past f lost marked (Sent p) h = absurd h
+past f lost marked (Granted class times) h = absurd h
+past f lost marked (Spent bytes) h = absurd h
+past f lost marked (FlowGranted flow times) h = absurd h
+past f lost marked (FlowGave flow bytes) h = absurd h
+
 pub past-sent : LooksPast sent_by
-past-sent (Lost p cause) h = refl
-past-sent (Marked p) h = refl
-past-sent (Arrived p) h = absurd h
-past-sent (Sent p) h = absurd h
-past-sent (Granted class times) h = absurd h
-past-sent (Spent bytes) h = absurd h
-past-sent (FlowGranted flow times) h = absurd h
-past-sent (FlowGave flow bytes) h = absurd h
+past-sent = past sent_by (λ p cause. refl) (λ p. refl)
 
 pub past-spent : LooksPast spent_by
-past-spent (Lost p cause) h = refl
-past-spent (Marked p) h = refl
-past-spent (Arrived p) h = absurd h
-past-spent (Sent p) h = absurd h
-past-spent (Granted class times) h = absurd h
-past-spent (Spent bytes) h = absurd h
-past-spent (FlowGranted flow times) h = absurd h
-past-spent (FlowGave flow bytes) h = absurd h
+past-spent = past spent_by (λ p cause. refl) (λ p. refl)
 
 pub past-granted : (class : ℕ) → LooksPast (granted_by class)
-past-granted class (Lost p cause) h = refl
-past-granted class (Marked p) h = refl
-past-granted class (Arrived p) h = absurd h
-past-granted class (Sent p) h = absurd h
-past-granted class (Granted n times) h = absurd h
-past-granted class (Spent bytes) h = absurd h
-past-granted class (FlowGranted flow times) h = absurd h
-past-granted class (FlowGave flow bytes) h = absurd h
+past-granted class = past (granted_by class) (λ p cause. refl) (λ p. refl)
 
 pub past-flow_granted : (flow : ℕ) → LooksPast (flow_granted_by flow)
-past-flow_granted flow (Lost p cause) h = refl
-past-flow_granted flow (Marked p) h = refl
-past-flow_granted flow (Arrived p) h = absurd h
-past-flow_granted flow (Sent p) h = absurd h
-past-flow_granted flow (Granted class times) h = absurd h
-past-flow_granted flow (Spent bytes) h = absurd h
-past-flow_granted flow (FlowGranted n times) h = absurd h
-past-flow_granted flow (FlowGave n bytes) h = absurd h
+past-flow_granted flow = past (flow_granted_by flow) (λ p cause. refl) (λ p. refl)
 
 pub past-given : (flow : ℕ) → LooksPast (given_by flow)
-past-given flow (Lost p cause) h = refl
-past-given flow (Marked p) h = refl
-past-given flow (Arrived p) h = absurd h
-past-given flow (Sent p) h = absurd h
-past-given flow (Granted class times) h = absurd h
-past-given flow (Spent bytes) h = absurd h
-past-given flow (FlowGranted n times) h = absurd h
-past-given flow (FlowGave n bytes) h = absurd h
+past-given flow = past (given_by flow) (λ p cause. refl) (λ p. refl)

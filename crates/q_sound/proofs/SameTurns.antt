@@ -3,27 +3,38 @@ use Rattle.std.proofs.Common.{◌≡◌, ℕ, ◌+◌, ◌-◌, min, Bool, true,
 use Rattle.std.specs.Prelude.{◌==◌, slice_get, if◌then◌else◌}
 use Rattle.std.specs.List.{All}
 use Rattle.std.specs.Option.{option_map_or}
-use Rattle.std.proofs.lemmas.Bool.{cases_Bool, eqb-true, false≢true, or_from, cond-true, cond-false}
+use Rattle.std.proofs.lemmas.Bool.{cases_Bool, eqb-true, false≢true, or_from, or_parts, cond-true, cond-false}
 use Rattle.std.proofs.lemmas.List.Elements.{All-head, All-tail}
 use Rattle.q_drr.specs.Schedule.{Class, Entry, Schedule, has_class, is_active, quantum_of, deficit_of, asleep, woken, cut, with_quantum, IsEntry, IsLawful}
 use Rattle.q_drr.specs.Stretch.{stands_first}
 use Rattle.q_drr.proofs.LookupLemmas.{quantum-here, quantum-behind, deficit-here, deficit-behind}
 use Rattle.q_drr.proofs.NameLemmas.{eqb_swap}
-use Rattle.q_drr.proofs.KeyLemmas.{others, find_push, find_others}
+use Rattle.q_drr.proofs.KeyLemmas.{others, find_push, find_others, has_others}
 use Rattle.q_drr.proofs.ChangeLemmas.{quantum_set}
 use Rattle.q_model.specs.Work.{settled_class}
 
 abbrev name_of : Entry → ℕ
 name_of e = e.class
 
--- classes that are active before and after, with one quantum, keep their deficits and their order
+-- classes that are active before and after, with one quantum, keep their deficits and their order, and one that wakes gets a
+-- quantum
 pub record SameTurns (s t : Schedule) : Type 0 where
   pub deficit : (c : ℕ) → is_active c s.active ≡ true → is_active c t.active ≡ true → quantum_of c t.classes ≡ quantum_of c s.classes → deficit_of c t.active ≡ deficit_of c s.active
   pub order : (i j : ℕ) → is_active i s.active ≡ true → is_active j s.active ≡ true → is_active i t.active ≡ true → is_active j t.active ≡ true
       → stands_first i j t.active ≡ stands_first i j s.active
+  pub wakes : (c : ℕ) → is_active c s.active ≡ false → is_active c t.active ≡ true → deficit_of c t.active ≡ quantum_of c t.classes
+
+-- where no class wakes
+none-wakes : (s t : Schedule) → ((c : ℕ) → is_active c t.active ≡ true → is_active c s.active ≡ true) → (c : ℕ) → is_active c s.active ≡ false → is_active c t.active ≡ true
+    → deficit_of c t.active ≡ quantum_of c t.classes
+none-wakes s t were c before after = absurd (false≢true (sym before ∙ were c after))
 
 pub same-all : (s t : Schedule) → t.active ≡ s.active → SameTurns s t
-same-all s t e = record { deficit = λ c a b q. ap (deficit_of c) e; order = λ i j a b c d. ap (stands_first i j) e }
+same-all s t e = record {
+  deficit = λ c a b q. ap (deficit_of c) e;
+  order = λ i j a b c d. ap (stands_first i j) e;
+  wakes = none-wakes s t (λ c after. ap (is_active c) (sym e) ∙ after);
+}
 
 -- ---- one that falls asleep
 
@@ -63,6 +74,9 @@ module _ (m : ℕ) where
     deficit = λ c before after q. ap (deficit_of c) e ∙ deficit-others c s.active (other-name c s.active (ap (is_active c) (sym e) ∙ after));
     order = λ i j a b c d. ap (stands_first i j) e
         ∙ order-others i j s.active (other-name i s.active (ap (is_active i) (sym e) ∙ c)) (other-name j s.active (ap (is_active j) (sym e) ∙ d));
+    wakes = none-wakes s t (λ c after.
+        let there : is_active c (others name_of m s.active) ≡ true = ap (is_active c) (sym e) ∙ after in
+        sym (has_others name_of c m s.active (other-name c s.active there)) ∙ there);
   }
 
 -- ---- one that wakes
@@ -80,10 +94,26 @@ order-push i j x (e ∷ es) a b = elim (cases_Bool (eqb i e.class)) [
   ]
 ]
 
-pub same-more : (x : Entry) (s t : Schedule) → t.active ≡ s.active ++ x ∷ [] → SameTurns s t
-same-more x s t e = record {
+deficit-last : (c : ℕ) (x : Entry) (es : List Entry) → is_active c es ≡ false → eqb c x.class ≡ true → deficit_of c (es ++ x ∷ []) ≡ x.deficit
+deficit-last c x [] absent same = deficit-here c x [] same
+deficit-last c x (e ∷ es) absent same =
+    let parts = or_parts (eqb c e.class) (is_active c es) absent in
+    deficit-behind c e (es ++ x ∷ []) parts.0 ∙ deficit-last c x es parts.1 same
+
+absent-push : (c : ℕ) (x : Entry) (es : List Entry) → is_active c es ≡ false → eqb c x.class ≡ false → is_active c (es ++ x ∷ []) ≡ false
+absent-push c x [] absent apart = or_from (eqb c x.class) false apart refl
+absent-push c x (e ∷ es) absent apart =
+    let parts = or_parts (eqb c e.class) (is_active c es) absent in
+    or_from (eqb c e.class) (is_active c (es ++ x ∷ [])) parts.0 (absent-push c x es parts.1 apart)
+
+same-more : (x : Entry) (s t : Schedule) → t.active ≡ s.active ++ x ∷ [] → x.deficit ≡ quantum_of x.class t.classes → SameTurns s t
+same-more x s t e quantum = record {
   deficit = λ c before after q. ap (deficit_of c) e ∙ ap (λ (o : Option Entry). option_map_or (λ (e : Entry). e.deficit) o 0) (find_push name_of c x s.active before);
   order = λ i j a b c d. ap (stands_first i j) e ∙ order-push i j x s.active a b;
+  wakes = λ c before after. elim (cases_Bool (eqb c x.class)) [
+    | inl same ↦ ap (deficit_of c) e ∙ deficit-last c x s.active before same ∙ quantum ∙ ap (λ k. quantum_of k t.classes) (sym (eqb-true c x.class same))
+    | inr apart ↦ absurd (false≢true (sym (absent-push c x s.active before apart) ∙ ap (is_active c) (sym e) ∙ after))
+  ];
 }
 
 same-woken : (m : ℕ) (s : Schedule) → SameTurns s (woken m s)
@@ -91,7 +121,7 @@ same-woken m s = by (is_active m s.active)
   where
     by : (t : Bool) → SameTurns s (if t then s else record s { active = s.active ++ record { class = m; deficit = quantum_of m s.classes; granted = 0 } ∷ [] })
     by true = same-all s s refl
-    by false = same-more (record { class = m; deficit = quantum_of m s.classes; granted = 0 }) s (record s { active = s.active ++ record { class = m; deficit = quantum_of m s.classes; granted = 0 } ∷ [] }) refl
+    by false = same-more (record { class = m; deficit = quantum_of m s.classes; granted = 0 }) s (record s { active = s.active ++ record { class = m; deficit = quantum_of m s.classes; granted = 0 } ∷ [] }) refl refl
 
 pub same-settled : (i : ℕ) (emptied : Bool) (s : Schedule) → SameTurns s (settled_class i emptied s)
 same-settled i emptied s = by (slice_get s.classes i)
@@ -115,6 +145,10 @@ module _ (n q max_len : ℕ) where
   order-cut i j (e ∷ es) =
       ap (λ k. if eqb i k then true else (if eqb j k then false else stands_first i j (map (cut n q max_len) es))) (cut-name e)
       ∙ ap (λ t. if eqb i e.class then true else (if eqb j e.class then false else t)) (order-cut i j es)
+
+  active-cut : (c : ℕ) (es : List Entry) → is_active c (map (cut n q max_len) es) ≡ is_active c es
+  active-cut c [] = refl
+  active-cut c (e ∷ es) = ap (λ k. eqb c k || is_active c (map (cut n q max_len) es)) (cut-name e) ∙ ap (λ t. eqb c e.class || t) (active-cut c es)
 
   -- the new quantum of the class itself
   set-here : (cs : List Class) → has_class n cs ≡ true → quantum_of n (map (quantum_set n q) cs) ≡ q
@@ -156,4 +190,5 @@ same-quantum n q s law = record {
       deficit-cut n q s.max_len s.classes c s.active law.entries
       (λ equal there. sym (set-here n q s.max_len s.classes there) ∙ ap (λ k. quantum_of k (with_quantum n q s).classes) (eqb-true n c equal) ∙ quantum ∙ ap (λ k. quantum_of k s.classes) (sym (eqb-true n c equal)));
   order = λ i j a b c d. order-cut n q s.max_len i j s.active;
+  wakes = none-wakes s (with_quantum n q s) (λ c after. sym (active-cut n q s.max_len c s.active) ∙ after);
 }

@@ -1,0 +1,74 @@
+-- A selection and a packet that is sent list no flow that was not listed.
+use Rattle.std.proofs.Common.{◌≡◌, ℕ, suc, ◌<◌, ◌≤◌, Bool, List, [], ◌∷◌, ◌++◌, map, take, drop, Option, Some, None, refl, ap, ◌∙◌, arith, ⊎_elim}
+use Rattle.std.proofs.lemmas.Bool.{cases_lt}
+use Rattle.q_packet.specs.Choice.{Choice}
+use Rattle.q_fqcodel.specs.Entry.{Entry}
+use Rattle.q_fqcodel.specs.Quanta.{need, given, stay}
+use Rattle.q_fqcodel.specs.Selection.{chosen, turned, first_ready, moved, with_rest, arranged}
+use Rattle.q_fqcodel.specs.FqState.{FqState, is_idle}
+use Rattle.q_fqcodel.specs.Lawful.{times}
+use Rattle.q_fqcodel.specs.Take.{front, paid, sent_from, selected, after_sending}
+use Rattle.q_fqcodel.proofs.LawfulLemmas.{times-cons, times-append, one-same}
+use Rattle.q_fqcodel.proofs.QuantaLemmas.{flow-given, stay-nil, stay-kept, stay-dropped}
+use Rattle.q_fqcodel.proofs.SentLemmas.{flow-paid, front-is, front-none, after-none, after-written, lists-written}
+use Rattle.q_fqcodel.proofs.GivenLemmas.{times-split, times-moved}
+
+times-stay : (n q k : ℕ) (es : List Entry) → times n (stay q k es) ≤ times n es
+times-stay n q k [] = omega (arith, ap (times n) (stay-nil q k))
+times-stay n q k (e ∷ es) =
+    ⊎_elim
+    (λ (few : need q e < k). omega (arith, ap (times n) (stay-dropped q k e es few), times-stay n q k es, times-cons n e es))
+    (λ (more : k ≤ need q e).
+    omega (
+      arith,
+      ap (times n) (stay-kept q k e es more),
+      times-cons n (given q k e) (stay q k es),
+      one-same n e (given q k e) (flow-given q k e),
+      times-stay n q k es,
+      times-cons n e es,
+    ))
+    (cases_lt (need q e) k)
+
+times-turned : (n q : ℕ) (es : List Entry) (o : Option Choice) → times n ((turned q es o).fresh ++ (turned q es o).stale) ≤ times n es
+unfolding turned
+times-turned n q es None = omega arith
+times-turned n q es (Some c) =
+    omega (
+      arith,
+      times-append n (stay q c.rounds (drop c.place es)) (stay q (suc c.rounds) (take c.place es)),
+      times-stay n q c.rounds (drop c.place es),
+      times-stay n q (suc c.rounds) (take c.place es),
+      times-split n c.place es,
+    )
+
+times-rest : (n q : ℕ) (idle : ℕ → Bool) (rest old : List Entry) → times n ((with_rest q idle rest old).fresh ++ (with_rest q idle rest old).stale) ≤ times n (rest ++ old)
+unfolding with_rest
+times-rest n q idle [] old = times-turned n q old (chosen q idle old)
+times-rest n q idle (r ∷ rs) old = omega arith
+
+pub times-selected : (n : ℕ) (s : FqState) → times n ((selected s).fresh ++ (selected s).stale) ≤ times n (s.fresh ++ s.stale)
+unfolding selected arranged
+times-selected n s =
+    let q : ℕ = s.settings.quantum in
+    let p : ℕ = first_ready q (is_idle s.flows) s.fresh in
+    let old : List Entry = s.stale ++ map (moved q) (take p s.fresh) in
+    omega (
+      arith,
+      times-rest n q (is_idle s.flows) (drop p s.fresh) old,
+      times-append n (drop p s.fresh) old,
+      times-append n s.stale (map (moved q) (take p s.fresh)),
+      times-moved q n (take p s.fresh),
+      times-append n s.fresh s.stale,
+      times-split n p s.fresh,
+    )
+
+pub times-sent : (n now : ℕ) (s : FqState) → times n ((after_sending now s).fresh ++ (after_sending now s).stale) ≡ times n (s.fresh ++ s.stale)
+times-sent n now s = by (front s) refl
+  where
+    by : (o : Option Entry) → front s ≡ o → times n ((after_sending now s).fresh ++ (after_sending now s).stale) ≡ times n (s.fresh ++ s.stale)
+    by None f = let none = front-none s f in ap (λ (t : FqState). times n (t.fresh ++ t.stale)) (after-none s now none.0 none.1)
+    by (Some e) f =
+        let m : Entry = paid (sent_from now s) e in
+        let rest : List Entry = drop 1 (s.fresh ++ s.stale) in
+        let written : (after_sending now s).fresh ++ (after_sending now s).stale ≡ m ∷ rest = ap (λ (t : FqState). t.fresh ++ t.stale) (after-written s e now f) ∙ lists-written s m e f in
+        omega (arith, ap (times n) written, times-cons n m rest, one-same n e m (flow-paid (sent_from now s) e), ap (times n) (front-is s e f), times-cons n e rest)
