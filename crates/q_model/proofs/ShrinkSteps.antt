@@ -8,7 +8,7 @@ use Rattle.q_model.specs.Node.{Node, Shape, children, with_memory, shape, blank}
 use Rattle.q_model.specs.Work.{Worked}
 use Rattle.q_model.specs.Edit.{Edit, Graft, Remake, remade, above, edited_at, edited, lost_by}
 use Rattle.q_model.specs.Make.{Device}
-use Rattle.q_model.specs.TreeState.{TreeState, new_tree, with_work, put, put_work, take_packet, with_edit}
+use Rattle.q_model.specs.TreeState.{TreeState, peek_packet, new_tree, with_work, put, put_work, take_packet, with_edit}
 use Rattle.q_model.specs.Ask.{ask, take_from}
 use Rattle.q_model.specs.Shrink.{StandsFor, remembering}
 use Rattle.q_model.proofs.ShrinkLemmas.{noted-stands, shape-with_memory, blank-stands, booked-stands, child-with_memory, remade-stands, above-stands}
@@ -46,6 +46,11 @@ module _ {M N : Type 0} (t : Tally M) (u : Tally N) (f : M → N) (h : StandsFor
   take-stands now s =
       with_work-stands ((take_from now (shape s.root)).rises ++ map Sent (option_to_list (ask now (shape s.root)).shown)) (take_from now (shape s.root)).node s
       ∙ sym (ap (λ (r : Shape). with_work u ((take_from now r).rises ++ map Sent (option_to_list (ask now r).shown)) (take_from now r).node (remembering f s)) (shape-with_memory f s.root))
+
+  pub peek-stands : (now : ℕ) (s : TreeState M) → remembering f (peek_packet t now s) ≡ peek_packet u now (remembering f s)
+  peek-stands now s =
+      with_work-stands (ask now (shape s.root)).rises (ask now (shape s.root)).peeked s
+      ∙ sym (ap (λ (r : Shape). with_work u (ask now r).rises (ask now r).peeked (remembering f s)) (shape-with_memory f s.root))
 
   pub with_edit-stands : (edit : Edit) (s : TreeState M) → remembering f (with_edit t edit s) ≡ with_edit u edit (remembering f s)
   with_edit-stands edit s =

@@ -3,6 +3,7 @@ use Rattle.std.proofs.Common.{◌≡◌, ℕ, ◌≤◌, ◌^◌, List, [], ◌�
 use Rattle.std.specs.Prelude.{Bool, true, false, is_some, slice_get, if◌then◌else◌}
 use Rattle.std.specs.List.{AllPairs, sum}
 use Rattle.std.specs.Option.{option_map_or}
+use Rattle.std.proofs.lemmas.List.{append-nil}
 use Rattle.q_packet.specs.Descriptor.{Descriptor}
 use Rattle.q_drr.specs.Schedule.{Schedule}
 use Rattle.q_bucket.specs.Level.{TokenBucket, allows}
@@ -15,7 +16,7 @@ use Rattle.q_model.specs.Find.{Address, addresses_own, addresses, greatest, dept
 use Rattle.q_model.specs.Lawful.{IsLawfulOwn}
 use Rattle.q_model.specs.Work.{Worked, worked, quiet, booked}
 use Rattle.q_model.specs.Ask.{Asked, befores, holding, dequeued, waits, spends, ask_child, ask_tbf, service_of, place_met, gives_nothing, class_gives, class_serves, ask_drr, ask_discipline, ask_own, ask}
-use Rattle.q_model.specs.TreeState.{TreeState, with_work, take_packet}
+use Rattle.q_model.specs.TreeState.{TreeState, peek_packet, with_work, take_packet}
 use Rattle.q_model.proofs.ShrinkLemmas.{each-each_memory}
 use Rattle.q_sound.proofs.Weights.{IsQuiet, weigh, arrived-nil, sent-nil, lost-nil, dropped-nil, marked-nil, arrived-append, sent-append, lost-append, dropped-append, marked-append, arrived-given, sent-given, lost-given, dropped-given, marked-given}
 use Rattle.q_sound.proofs.Kept.{AreCounted, AllLawful, IsLawfulRoot, IsCountedRoot, IsKeptTree}
@@ -180,36 +181,17 @@ module _ (clock now : ℕ) (s : TreeState (List Note)) (h : IsKeptTree clock s) 
   holds-before : held_beneath asked_root.before ≡ held_beneath s.root
   holds-before = ap held_beneath (before-root now (shape s.root)) ∙ ap (held_own s.root.own) (each-each_memory held_own (λ u. []) (each_memory (λ m. tt) s.root.below) ∙ each-each_memory held_own (λ m. tt) s.root.below)
 
-  -- with a packet that is given, or with none
+  -- what a peek leaves
+  pub peek-kept : IsKeptTree now (peek_packet history now s)
+  peek-kept = worked-kept clock now s asked_root.rises asked_root.peeked h low (told asked_root.peeked answer.told_peeked) answer.lawful_peeked (record {
+    conserved = λ w. omega (arith, answer.peeks w, ap (weigh w) waiting-before, answer.quiet.no_arrival w, answer.quiet.nothing_sent w);
+    marks = λ w. omega (arith, answer.marks w, ap (weigh w) holds-before, answer.quiet.all_dropped w);
+  })
+
+  -- what a take leaves, with a packet that is given, or with none
   polled : (o : Option Descriptor) → asked_root.shown ≡ o
       → IsKeptTree now (with_work history (asked_root.rises ++ map Sent (option_to_list o)) (if is_some o then asked_root.taken else asked_root.peeked) s)
-  polled None e = worked-kept clock now s (asked_root.rises ++ []) asked_root.peeked h low (told asked_root.peeked answer.told_peeked) answer.lawful_peeked (record {
-    conserved = λ w. omega (
-      arith,
-      answer.peeks w,
-      ap (weigh w) waiting-before,
-      answer.quiet.no_arrival w,
-      answer.quiet.nothing_sent w,
-      arrived-append w asked_root.rises [],
-      sent-append w asked_root.rises [],
-      lost-append w asked_root.rises [],
-      arrived-nil w,
-      sent-nil w,
-      lost-nil w,
-    );
-    marks = λ w. omega (
-      arith,
-      answer.marks w,
-      ap (weigh w) holds-before,
-      answer.quiet.all_dropped w,
-      marked-append w asked_root.rises [],
-      sent-append w asked_root.rises [],
-      dropped-append w asked_root.rises [],
-      marked-nil w,
-      sent-nil w,
-      dropped-nil w,
-    );
-  })
+  polled None e = subst (λ (notes : List Note). IsKeptTree now (with_work history notes asked_root.peeked s)) (sym (append-nil asked_root.rises)) peek-kept
   polled (Some p) e =
       let sent : List Note = map Sent (option_to_list (Some p)) in
       let shown : (w : Descriptor → ℕ) → weigh w (option_to_list asked_root.shown) ≡ weigh w (option_to_list (Some p)) = λ w. ap (λ (o : Option Descriptor). weigh w (option_to_list o)) e in

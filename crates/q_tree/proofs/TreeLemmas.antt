@@ -15,12 +15,12 @@ use Rattle.q_model.specs.Pop.{pop}
 use Rattle.q_model.specs.Shrink.{StandsFor}
 use Rattle.q_model.specs.Step.{DeviceState}
 use Rattle.q_model.specs.Tally.{Tally, Note, Sent, Counts, counted, counts_in, history, noted, totals}
-use Rattle.q_model.specs.TreeState.{TreeState, new_tree, take_packet, with_work}
+use Rattle.q_model.specs.TreeState.{TreeState, new_tree, peek_packet, take_packet, with_work}
 use Rattle.q_model.specs.Work.{booked}
 use Rattle.q_model.proofs.ShrinkLemmas.{totals_for_history, shape-with_memory, each-each_memory}
-use Rattle.q_model.proofs.ShrinkSteps.{take-stands, new_tree-stands}
+use Rattle.q_model.proofs.ShrinkSteps.{peek-stands, take-stands, new_tree-stands}
 use Rattle.q_sound.proofs.Answer.{silent-nil}
-use Rattle.q_sound.proofs.Asks.{take-kept}
+use Rattle.q_sound.proofs.Asks.{peek-kept, take-kept}
 use Rattle.q_sound.proofs.EditLater.{root-later}
 use Rattle.q_sound.proofs.Edits.{new-kept}
 use Rattle.q_sound.proofs.Forests.{lawful-with_memory}
@@ -127,6 +127,24 @@ module _ (a : Inside) (k : IsKeptDevice a) where
             let x : Asked = ask now (shape a.root) in
             ap counts_in_row row ∙ counted-shown x.rises [] s a.top (asked-weighs now a.root can-ask-root).quiet silent-nil shown.dropped shown.marked
             ∙ ap (noted totals (counts_in_row a.top)) (append-nil x.rises)
+
+        -- once the root was asked
+        module _ (b : Inside) (is : b ≡ record a { clock = now; top = r; root = root }) where
+          pub peeked-tree : tree_seen b ≡ record { clock = now; tree = peek_packet kept now (tree_seen a).tree }
+          peeked-tree =
+              let x : Asked = ask now (shape a.root) in
+              let top : record { counts = counts_in_row r; places = 0 } ≡ noted kept (tree_seen a).tree.top x.rises = ap (λ c. record { counts = c; places = 0 }) counts-shown ∙ sym (noted-kept (tree_seen a).tree.top x.rises) in
+              ap tree_seen is ∙ (λ i. record { clock = now; tree = record { device = (tree_seen a).tree.device; top = top i; root = new i } })
+
+          pub peeked-device : root.memory.counts.arrived ≡ a.root.memory.counts.arrived → IsKeptDevice b
+          peeked-device arrived = record {
+            history = peek_packet history now k.history;
+            keeps = subst (λ n. IsKeptTree n (peek_packet history now k.history)) (sym (ap (λ (y : Inside). y.clock) is)) (peek-kept a.clock now k.history k.keeps later low);
+            same = ap (λ (d : DeviceState Kept). tree_numbers d.tree) peeked-tree ∙ peek-stands kept totals (λ (m : Kept). m.counts) stands now (tree_seen a).tree ∙ ap (peek_packet totals now) k.same
+                ∙ sym (peek-stands history totals counts_in totals_for_history now k.history);
+            queued = subst (λ (y : Inside). y.top.queued ≡ totals_in (beneath y.root)) (sym is) shown-row.queued;
+            within = subst (λ (y : Inside). IsCountedWithin y.root.memory.counts.arrived y.top.arrived) (sym is) (shown-within arrived);
+          }
 
         -- where no packet may go now
         module _ (empty : s.packet ≡ None) (b : Inside) (is : b ≡ record a { clock = now; top = r; root = root }) where

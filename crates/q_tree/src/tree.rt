@@ -4,7 +4,7 @@ ghost use Rattle.q_model.specs.Node.{shape};
 ghost use Rattle.q_model.specs.Route.{device_route};
 ghost use Rattle.q_model.specs.Step.{losses_in, fate_of};
 ghost use Rattle.q_model.specs.Tally.{totals};
-ghost use Rattle.q_model.specs.TreeState.{new_tree, put_on, loss_on, put, own_loss, noted_by_put, given, noted_by_take, take_packet};
+ghost use Rattle.q_model.specs.TreeState.{new_tree, put_on, loss_on, put, own_loss, noted_by_put, given, noted_by_take, peek_packet, take_packet};
 ghost use Rattle.q_model.specs.Work.{booked};
 ghost use Rattle.q_tree.specs.Arrivals.{CanPut, IsOutcome};
 ghost use Rattle.q_tree.specs.Kept.{kept};
@@ -125,6 +125,28 @@ impl Tree {
         book_arrival(&mut self.top, &packet, &outcome);
         self.clock = now;
         fate_of(outcome.loss)
+    }
+
+    /// The packet whose turn it is, which a take at this moment gives; `None` where none may go now. `now` is at or after the
+    /// latest moment that the tree was given.
+    ///
+    /// To show it, a tbf, a drr and an fq_codel dequeue it and hold it, which counts as queued at them alone. What CoDel drops
+    /// for it goes to `sink`, which needs room for what is queued. It takes no memory.
+    pub fn peek<S: Sink>(&mut self, now: Moment, sink: &mut S) -> Option<Packet>
+        requires order { self.old.clock ≤ now }
+        requires sink { length (beneath self.old.tree.root) ≤ S.room sink.old }
+        ensures packet { result ≡ given now self.old.tree }
+        ensures after { self.new ≡ record { clock = now; tree = peek_packet kept now self.old.tree } }
+        ensures lost { S.losses sink.new ≡ S.losses sink.old ++ losses_in (noted_by_take now self.old.tree) }
+        ensures room { S.room sink.new + length (losses_in (noted_by_take now self.old.tree)) ≡ S.room sink.old }
+        ensures kept { S.keeps sink.old sink.new }
+    {
+        // A moment is at most 2^62 nanoseconds.
+        let _ = now.ns();
+        let shown = self.root.peek(now, sink);
+        book_shown(&mut self.top, &shown);
+        self.clock = now;
+        shown.packet
     }
 
     /// Takes the packet whose turn it is; `None` where none may go now. `now` is at or after the latest moment that the tree
