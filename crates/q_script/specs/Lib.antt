@@ -7,4 +7,3 @@ pub mod Settings
 pub mod Step
 pub mod Tally
 pub mod Text
-pub mod Written

@@ -1,14 +1,11 @@
 ghost use Rattle.std.specs.Prelude.{◌≡◌, ◌+◌, ◌≤◌, ◌++◌, List, [], ℕ, OnOk, OnErr, IfOk, length, decimal};
 ghost use Rattle.std.specs.Io.KnownBytes.{Appends};
-ghost use Rattle.q_script.specs.Written.{AppendsFront, IsBuffered};
+ghost use Rattle.q_show.specs.Written.{AppendsFront, IsBuffered};
 
+use q_show::{WriteFault, write_whole};
 use std::alloc::{AllocError, Global};
 use std::io::Write;
 use std::marker::Model;
-
-/// The writer took no byte, or failed.
-#[derive(Clone, Copy, PartialEq, Eq, Debug)]
-pub struct WriteFault;
 
 /// The report's text on its way to the writer, in a buffer that is taken once. A contract sees the buffered bytes.
 #[derive(Drop)]
@@ -84,19 +81,4 @@ impl Output {
         self.buffer.clear();
         Ok(())
     }
-}
-
-/// Writes all the bytes. After an error the writer holds a front of them, and not all.
-fn write_whole<W: Write>(writer: &mut W, bytes: &[u8]) -> Result<(), WriteFault>
-    ensures ok { OnOk result (Appends (W.contents writer.old) (W.contents writer.new) bytes.now) }
-    ensures err { OnErr result (AppendsFront (W.contents writer.old) (W.contents writer.new) bytes.now) }
-{
-    let mut rest = bytes;
-    while !rest.is_empty() {
-        match writer.write(rest) {
-            Ok(0) | Err(_) => return Err(WriteFault),
-            Ok(n) => rest = &rest[n..],
-        }
-    }
-    Ok(())
 }

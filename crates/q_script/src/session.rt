@@ -3,12 +3,13 @@ ghost use Rattle.q_line.specs.Ranges.{IsLine};
 ghost use Rattle.q_script.specs.Tally.{totals};
 
 use crate::device::Device;
-use crate::output::{Output, WriteFault};
+use crate::output::Output;
 use crate::refusal::Refusal;
 use crate::settings::RunSettings;
 use crate::text;
 use q_line::{Arrival, Command, Kind, Line, LineFault, Place, Show, read_line};
 use q_packet::{Ecn, FlowKey, Moment, Packet};
+use q_show::WriteFault;
 use std::alloc::Global;
 use std::io::Write;
 use std::marker::Model;
@@ -43,7 +44,7 @@ impl Session {
     ghost use Rattle.q_line.specs.Script.{fault_line};
     ghost use Rattle.q_script.specs.Text.{show_text};
     ghost use Rattle.q_script.specs.Step.{HasEffect, FailsWithin, IsNoPoll};
-    ghost use Rattle.q_script.specs.Written.{IsBuffered, AppendsFront};
+    ghost use Rattle.q_show.specs.Written.{IsBuffered, AppendsFront};
 
     /// A session on a new device. It takes no memory.
     pub fn new(alloc: Global, settings: &RunSettings) -> Session

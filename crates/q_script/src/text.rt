@@ -1,6 +1,6 @@
 //! The report's texts, each put into the output whole.
-ghost use Rattle.std.specs.Prelude.{◌≡◌, ◌+◌, ◌<◌, ◌≤◌, ◌++◌, length, decimal, false};
-ghost use Rattle.std.specs.Fmt.{digits, digit_glyph};
+ghost use Rattle.std.specs.Prelude.{◌≡◌, ◌+◌, ◌≤◌, ◌++◌, length, decimal, false};
+ghost use Rattle.std.specs.Fmt.{digits};
 ghost use Rattle.q_words.specs.FaultText.{fault_text};
 ghost use Rattle.q_script.specs.Tally.{totals};
 ghost use Rattle.q_script.specs.Insides.{counted_of, leaf_of};
@@ -14,6 +14,7 @@ use crate::totals::Totals;
 use q_codel::Limit;
 use q_line::LineFault;
 use q_packet::Packet;
+use q_show::Hexadecimal;
 
 /// `line K: `, with the line's number.
 fn put_line_number(output: &mut Output, number: u64)
@@ -127,40 +128,13 @@ pub fn put_counters(output: &mut Output, leaf: &Leaf)
     output.put(b"\n");
 }
 
-/// The ASCII digit of a number below 16.
-fn hexadecimal_digit(n: u16) -> u8
-    requires { n < 16 }
-    ensures { result ≡ digit_glyph false n }
-{
-    if n < 10 {
-        b'0' + n as u8
-    } else {
-        b'a' + (n as u8 - 10)
-    }
-}
-
 /// A number in hexadecimal digits.
 fn put_hexadecimal(output: &mut Output, n: u16)
     requires { length output.old + 4 ≤ 65536 }
     ensures text { output.new ≡ output.old ++ digits 16 false n }
     ensures short { length output.new ≤ length output.old + 4 }
 {
-    let low = hexadecimal_digit(n % 16);
-    if n < 16 {
-        output.put(&[low]);
-        return;
-    }
-    let second = hexadecimal_digit(n / 16 % 16);
-    if n < 256 {
-        output.put(&[second, low]);
-        return;
-    }
-    let third = hexadecimal_digit(n / 256 % 16);
-    if n < 4096 {
-        output.put(&[third, second, low]);
-        return;
-    }
-    output.put(&[hexadecimal_digit(n / 4096), third, second, low]);
+    output.put(Hexadecimal::new(n).as_bytes());
 }
 
 /// A major number in hexadecimal; an implicit leaf is shown as 0.
