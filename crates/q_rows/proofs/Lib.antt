@@ -24,6 +24,7 @@ pub mod Script
 mod ScriptValues
 pub mod SharedRules
 mod SharingScripts
+mod ShowValues
 mod TbfPrioScripts
 mod TreeReports
 mod WordValues
