@@ -1,3 +1,4 @@
 pub mod FirstPathLemmas
+pub mod Leftmost
 pub mod Steps
 pub mod BandLemmas

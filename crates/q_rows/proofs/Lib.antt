@@ -12,6 +12,7 @@ mod FqCodelScripts
 mod FqCodelValues
 mod HeadValues
 mod LargeReports
+mod LeftmostValues
 mod LineFaults
 mod LineValues
 mod NoteScripts
