@@ -1,2 +1,4 @@
+pub mod ReadBack
+pub mod ReadBackValues
 pub mod ReportLemmas
 mod ShownLemmas

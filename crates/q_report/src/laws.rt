@@ -1,8 +1,15 @@
-//! What holds of every report. A law is the contract of a function that does nothing.
+//! What holds of every report and of what it shows. A law is the contract of a function that does nothing.
 
 ghost use Rattle.q_report.specs.Laws.{TotalsAreEnough};
+ghost use Rattle.q_report.specs.ReadBack.{ClassesAreReadBack};
 
 /// A session whose nodes keep totals writes, for every script, what one whose nodes keep whole histories writes.
 pub fn totals_are_enough()
     ensures { TotalsAreEnough }
+{}
+
+/// The class of a drr that `tc class show` prints is read back: the command with the same texts makes a class of that name,
+/// with that quantum.
+pub fn classes_are_read_back()
+    ensures { ClassesAreReadBack }
 {}

@@ -18,6 +18,7 @@ mod LineValues
 mod NoteScripts
 mod PacketValues
 mod PeekScripts
+mod ReadBackRows
 mod RefusalReports
 mod Reports
 mod RuleReports

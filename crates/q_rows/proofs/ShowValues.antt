@@ -166,21 +166,21 @@ unfolding with_keys no_keys digits
 ports = refl
 
 least_keys : with_keys 1 1 All (record {
-    ip_proto = Some 0;
-    src_ip = Some (record { version = V4; address = 0; len = 0 });
-    dst_ip = Some (record { version = V4; address = 2 ^ 32 - 1; len = 32 });
-    src_port = Some 0;
-    dst_port = Some 0;
-  }) ≡ codes "filter parent 1: prio 1 protocol all ip_proto 0 src_ip 0.0.0.0/0 dst_ip 255.255.255.255/32 src_port 0 dst_port 0 classid 1:2\n"
+  ip_proto = Some 0;
+  src_ip = Some (record { version = V4; address = 0; len = 0 });
+  dst_ip = Some (record { version = V4; address = 2 ^ 32 - 1; len = 32 });
+  src_port = Some 0;
+  dst_port = Some 0;
+}) ≡ codes "filter parent 1: prio 1 protocol all ip_proto 0 src_ip 0.0.0.0/0 dst_ip 255.255.255.255/32 src_port 0 dst_port 0 classid 1:2\n"
 unfolding with_keys digits
 least_keys = refl
 
 greatest_keys : with_keys 0xfffe 65535 Ipv6 (record {
-    ip_proto = Some 255;
-    src_ip = Some (record { version = V6; address = 0; len = 0 });
-    dst_ip = Some (record { version = V6; address = 2 ^ 128 - 1; len = 128 });
-    src_port = Some 65535;
-    dst_port = Some 65535;
-  }) ≡ codes "filter parent fffe: prio 65535 protocol ipv6 ip_proto ff src_ip 0:0:0:0:0:0:0:0/0 dst_ip ffff:ffff:ffff:ffff:ffff:ffff:ffff:ffff/128 src_port 65535 dst_port 65535 classid fffe:2\n"
+  ip_proto = Some 255;
+  src_ip = Some (record { version = V6; address = 0; len = 0 });
+  dst_ip = Some (record { version = V6; address = 2 ^ 128 - 1; len = 128 });
+  src_port = Some 65535;
+  dst_port = Some 65535;
+}) ≡ codes "filter parent fffe: prio 65535 protocol ipv6 ip_proto ff src_ip 0:0:0:0:0:0:0:0/0 dst_ip ffff:ffff:ffff:ffff:ffff:ffff:ffff:ffff/128 src_port 65535 dst_port 65535 classid fffe:2\n"
 unfolding with_keys digits
 greatest_keys = refl

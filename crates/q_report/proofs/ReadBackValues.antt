@@ -1,0 +1,101 @@
+-- A class id and a size are read as what was written.
+use Rattle.std.proofs.Common.{◌≡◌, ◌∙◌, ℕ, suc, ◌+◌, ◌*◌, ◌/◌, ◌^◌, ◌<◌, ◌≤◌, ◌&&◌, ◌||◌, not, Bool, true, false, cond, List, [], ◌∷◌, ◌++◌, length, map, drop, leb, ltb, Ok, Err, refl, sym, ap, arith, if◌then◌else◌, codes, append-nil, append_assoc, lit≤}
+use Rattle.std.specs.List.{list_all, list_any, prefix_len, position_or_len, before_first, after_first}
+use Rattle.std.specs.Option.{option_map_or}
+use Rattle.std.specs.Char.{is_digit}
+use Rattle.std.specs.Fmt.{decimal, digits}
+use Rattle.std.specs.Str.Parse.{digits_value}
+use Rattle.std.proofs.lemmas.Bool.{le-leb, lt-ltb}
+use Rattle.std.proofs.lemmas.Bool.Decides.{nat_tests}
+use Rattle.std.proofs.lemmas.Fmt.{decimal_is_IsNumeral, digits_is_IsNumeral}
+use Rattle.std.proofs.lemmas.List.{take_at, take_all, drop_all}
+use Rattle.q_words.specs.Addresses.{class_of, class_from}
+use Rattle.q_words.specs.Units.{is_of_decimal, is_point, is_decimal, whole_part, decimals, number_part, suffix_of, small, size_in, size_units, factor_of, in_range, times_factor}
+use Rattle.q_words.specs.Values.{is_colon, is_digits, is_numeral}
+use Rattle.q_words.specs.declared.wrong.Wrong.TheVariants.{BadNumber, OutOfRange}
+use Rattle.q_line.proofs.SpelledWords.{both, colon_at, digit_not_colon, digits_from_numeral, every_digit, hex_short, left_of, right_of}
+
+record Hex (n : ℕ) (ds : List ℕ) : Type 0 where
+  form : is_numeral 16 ds ≡ true
+  value : digits_value 16 ds ≡ n
+  short : length ds ≤ 4
+
+hex_of : (n : ℕ) → n < 2 ^ 16 → Hex n (digits 16 false n)
+hex_of n high =
+    let small : n < 16 ^ 64 = omega arith in
+    let d = digits_is_IsNumeral 16 false (lit≤ tt) (lit≤ tt) n small in
+    record { form = both (lt-ltb _ _ d.0.0) (digits_from_numeral 16 (digits 16 false n) d.0.1); value = d.1; short = hex_short n high }
+
+drop_past : (ds : List ℕ) (x : ℕ) (es : List ℕ) → drop (length ds + 1) (ds ++ x ∷ es) ≡ es
+drop_past [] x es = refl
+drop_past (d ∷ ds) x es = let e : length (d ∷ ds) + 1 ≡ suc (length ds + 1) = omega arith in ap (λ k. drop k (d ∷ ds ++ x ∷ es)) e ∙ drop_past ds x es
+
+class_gives : (major minor : ℕ) (ds es : List ℕ) → Hex major ds → Hex minor es → 1 ≤ major → major ≤ 65534 → 1 ≤ minor
+    → class_of (ds ++ 58 ∷ es) ≡ Ok (record { major = major; minor = minor })
+class_gives major minor ds es d e low high some =
+    let value = d.value in
+    let minor_value = e.value in
+    let least : 1 ≤ digits_value 16 ds = omega (arith, value) in
+    let most : digits_value 16 ds ≤ 65534 = omega (arith, value) in
+    let least_minor : 1 ≤ digits_value 16 es = omega (arith, minor_value) in
+    let colon : position_or_len is_colon (ds ++ 58 ∷ es) ≡ length ds = colon_at ds es (every_digit 16 (λ c. not (is_colon c)) digit_not_colon ds (right_of _ _ d.form)) in
+    let before : before_first is_colon (ds ++ 58 ∷ es) ≡ ds = take_at ds (58 ∷ es) _ (sym colon) in
+    let behind : after_first is_colon (ds ++ 58 ∷ es) ≡ es = ap (λ i. drop (i + 1) (ds ++ 58 ∷ es)) colon ∙ drop_past ds 58 es in
+    ap (λ w. class_from w (after_first is_colon (ds ++ 58 ∷ es))) before ∙ ap (class_from ds) behind
+    ∙ ap (λ (b : Bool). if b then (if (leb (length ds) 4 && (leb 1 (digits_value 16 ds) && leb (digits_value 16 ds) 65534)) && (leb (length es) 4 && leb 1 (digits_value 16 es)) then Ok (record { major = digits_value 16 ds; minor = digits_value 16 es }) else Err OutOfRange) else Err BadNumber) (both d.form e.form)
+    ∙ ap (λ (b : Bool). if b then Ok (record { major = digits_value 16 ds; minor = digits_value 16 es }) else Err OutOfRange)
+    (both (both (le-leb _ _ d.short) (both (le-leb 1 _ least) (le-leb _ 65534 most))) (both (le-leb _ _ e.short) (le-leb 1 _ least_minor)))
+    ∙ ap (λ (k : ℕ). Ok (record { major = k; minor = digits_value 16 es })) value ∙ ap (λ (k : ℕ). Ok (record { major = major; minor = k })) minor_value
+
+-- a class id is read as itself
+pub class_read : (major minor : ℕ) → 1 ≤ major → major ≤ 65534 → 1 ≤ minor → minor ≤ 65535
+    → class_of (digits 16 false major ++ codes ":" ++ digits 16 false minor) ≡ Ok (record { major = major; minor = minor })
+class_read major minor low high some few =
+    ap class_of (append_assoc (digits 16 false major) (codes ":") (digits 16 false minor))
+    ∙ class_gives major minor (digits 16 false major) (digits 16 false minor) (hex_of major (omega arith)) (hex_of minor (omega arith)) low high some
+
+-- digits and nothing else are the whole number part, without a point and without a suffix
+
+digit_of_decimal : (c : ℕ) → is_digit c 10 ≡ true → is_of_decimal c ≡ true
+digit_of_decimal c h = grind (arith, nat_tests)
+
+digit_no_point : (c : ℕ) → is_digit c 10 ≡ true → not (is_point c) ≡ true
+digit_no_point c h = grind (arith, nat_tests)
+
+prefix_all : (p : ℕ → Bool) (ds : List ℕ) → list_all p ds ≡ true → prefix_len p ds ≡ length ds
+prefix_all p [] h = refl
+prefix_all p (d ∷ ds) h = ap (λ (b : Bool). cond b (1 + prefix_len p ds) 0) (left_of (p d) _ h) ∙ ap (λ n. 1 + n) (prefix_all p ds (right_of (p d) _ h)) ∙ omega arith
+
+none_of : (p : ℕ → Bool) (ds : List ℕ) → list_all (λ c. not (p c)) ds ≡ true → list_any p ds ≡ false
+none_of p [] h = refl
+none_of p (d ∷ ds) h = by_test (none_of p ds) (p d) refl
+  where
+    by_test : (list_all (λ c. not (p c)) ds ≡ true → list_any p ds ≡ false) → (b : Bool) → p d ≡ b → list_any p (d ∷ ds) ≡ false
+    by_test more true e = let k : not (p d) ≡ true = left_of (not (p d)) _ h in let f : not (p d) ≡ false = ap not e in cc
+    by_test more false e = rw e (more (right_of (not (p d)) _ h))
+
+size_gives : (low high n : ℕ) (ds : List ℕ) → is_numeral 10 ds ≡ true → digits_value 10 ds ≡ n → low ≤ n → n ≤ high → size_in low high ds ≡ Ok n
+size_gives low high n ds form value above below =
+    let each : is_digits 10 ds ≡ true = right_of (ltb 0 (length ds)) _ form in
+    let long : prefix_len is_of_decimal ds ≡ length ds = prefix_all is_of_decimal ds (every_digit 10 is_of_decimal digit_of_decimal ds each) in
+    let all : number_part ds ≡ ds = take_all _ ds (omega arith) in
+    let plain : list_all (λ c. not (is_point c)) ds ≡ true = every_digit 10 (λ c. not (is_point c)) digit_no_point ds each in
+    let point : position_or_len is_point ds ≡ length ds = prefix_all (λ c. not (is_point c)) ds plain in
+    let whole : whole_part ds ≡ ds = take_all _ ds (omega arith) in
+    let behind : decimals ds ≡ [] = drop_all _ ds (omega arith) in
+    let bare : suffix_of ds ≡ [] = ap (λ w. map small (drop (length w) ds)) all ∙ ap (map small) (drop_all (length ds) ds (omega arith)) in
+    let decimal_form : is_decimal ds ≡ true = ap (λ w. is_numeral 10 w && (not (list_any is_point ds) || is_numeral 10 (decimals ds) && leb (length (decimals ds)) 9)) whole
+    ∙ both form (ap (λ b. not b || is_numeral 10 (decimals ds) && leb (length (decimals ds)) 9) (none_of is_point ds plain)) in
+    let read : digits_value 10 (whole_part ds ++ decimals ds) ≡ n = ap (λ w. digits_value 10 (w ++ decimals ds)) whole ∙ ap (λ w. digits_value 10 (ds ++ w)) behind ∙ ap (digits_value 10) (append-nil ds) ∙ value in
+    let times : times_factor ds 1 ≡ n = ap (λ k. k * 1 / 10 ^ length (decimals ds)) read ∙ ap (λ w. n * 1 / 10 ^ length w) behind ∙ omega arith in
+    ap (λ w. if is_decimal w then option_map_or (λ factor. in_range low high (times_factor w factor)) (factor_of size_units (suffix_of ds)) (Err BadNumber) else Err BadNumber) all
+    ∙ ap (λ (b : Bool). if b then option_map_or (λ factor. in_range low high (times_factor ds factor)) (factor_of size_units (suffix_of ds)) (Err BadNumber) else Err BadNumber) decimal_form
+    ∙ ap (λ s. option_map_or (λ factor. in_range low high (times_factor ds factor)) (factor_of size_units s) (Err BadNumber)) bare
+    ∙ ap (in_range low high) times
+    ∙ ap (λ (b : Bool). if b then Ok n else Err OutOfRange) (both (le-leb low n above) (le-leb n high below))
+
+-- a size without a unit is read as itself
+pub size_read : (low high n : ℕ) → low ≤ n → n ≤ high → high < 2 ^ 64 → size_in low high (decimal n) ≡ Ok n
+size_read low high n above below few =
+    let d = decimal_is_IsNumeral n (omega arith) in
+    size_gives low high n (decimal n) (both (lt-ltb _ _ d.0.0) (digits_from_numeral 10 (decimal n) d.0.1)) d.1 above below

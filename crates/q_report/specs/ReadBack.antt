@@ -1,0 +1,56 @@
+-- What show prints, as the command that makes it: the texts of its parts, in the order in which a command has them.
+-- A shown line is no command itself: there the kind stands before the handle and the place, a class has no parent's name and
+-- a filter no `flower`. Nor is a limit in packets a number, or `ns` a unit of time. The texts and the commands are this
+-- project's, in the manner of tc(8).
+use Rattle.std.specs.Prelude.{◌≡◌, ℕ, List, [], ◌∷◌, ◌++◌, codes, decimal, Option, Some, None, Ok}
+use Rattle.std.specs.List.{join_with_byte}
+use Rattle.q_line.specs.Laws.{IsName}
+use Rattle.q_model.specs.Numbers.{IsHandle, IsMinor, IsQuantum}
+use Rattle.q_model.specs.declared.class_id.ClassId.{ClassId}
+use Rattle.q_model.specs.declared.command.Command.{Command}
+use Rattle.q_model.specs.declared.command.Command.TheVariants as command
+use Rattle.q_model.specs.declared.filter_view.FilterView.{FilterView}
+use Rattle.q_model.specs.declared.kind.Kind.{Kind}
+use Rattle.q_model.specs.declared.kind.Kind.TheVariants as kind
+use Rattle.q_model.specs.declared.node_view.NodeView.{NodeView}
+use Rattle.q_model.specs.declared.qdisc_view.QdiscView.{QdiscView}
+use Rattle.q_model.specs.declared.qdisc_view.QdiscView.TheVariants as qdisc
+use Rattle.q_model.specs.declared.tbf_limit.TbfLimit.TheVariants.{Bytes}
+use Rattle.q_language.specs.Grammar.{line_of}
+use Rattle.q_language.specs.declared.line.Line.TheVariants.{Tc}
+use Rattle.q_show.specs.ShowText.{class_text, handle_text, hex, into_text, keys_text, kind_text, options_text, place_text, protocol_text, setting}
+
+-- what a `tc` line adds, with a blank between each two parts
+abbrev pub adding : List ℕ → List ℕ → List (List ℕ) → List ℕ
+adding object name parts = join_with_byte 32 (codes "tc" ∷ object ∷ codes "add" ∷ codes "dev" ∷ name ∷ parts)
+
+abbrev pub qdisc_command : List ℕ → NodeView → List ℕ
+qdisc_command name n = adding (codes "qdisc") name (place_text n.place ∷ codes "handle" ∷ (handle_text n.handle ++ codes ":") ∷ (kind_text n.qdisc ++ options_text n.qdisc) ∷ [])
+
+-- the kind that the command names; None where a shown option is not read: a limit in packets, and times in `ns`
+abbrev pub kind_shown : QdiscView → Option Kind
+kind_shown (qdisc.Pfifo limit) = None
+kind_shown (qdisc.Bfifo limit) = Some (kind.Bfifo (Some limit))
+kind_shown (qdisc.Prio bands priomap) = Some (kind.Prio (record { bands = bands; priomap = priomap }))
+kind_shown (qdisc.Tbf rate burst limit) = Some (kind.Tbf rate burst (Bytes limit))
+kind_shown qdisc.Drr = Some kind.Drr
+kind_shown (qdisc.FqCodel s) = None
+
+-- a class of a drr with this quantum; what it may send, show alone tells
+abbrev pub class_command : List ℕ → ClassId → ℕ → List ℕ
+class_command name c quantum =
+    adding (codes "class") name (codes "parent" ∷ (hex c.major ++ codes ":") ∷ codes "classid" ∷ class_text c ∷ (codes "drr" ++ setting (codes "quantum") quantum []) ∷ [])
+
+abbrev pub filter_command : List ℕ → FilterView → List ℕ
+filter_command name f =
+    adding (codes "filter") name
+    (codes "parent" ∷ (hex f.parent ++ codes ":") ∷ codes "prio" ∷ decimal f.filter.prio ∷ codes "protocol" ∷ protocol_text f.filter.protocol
+    ∷ (codes "flower" ++ keys_text f.filter.keys ++ into_text f) ∷ [])
+
+abbrev pub filter_added : FilterView → Command
+filter_added f = command.FilterAdd f.parent f.parent f.filter
+
+-- a shown class of a drr is read back: the command with its texts makes a class of its name, with its quantum
+abbrev pub ClassesAreReadBack : Type 0
+ClassesAreReadBack = (name : List ℕ) (c : ClassId) (quantum : ℕ) → IsName name → IsHandle c.major → IsMinor c.minor → IsQuantum quantum
+    → line_of (class_command name c quantum) ≡ Ok (Tc (command.ClassAdd c.major c (Some quantum)))
