@@ -1,6 +1,7 @@
 pub mod Conserved
 pub mod Device
 pub mod Insides
+pub mod Lengths
 pub mod RunFault
 pub mod Session
 pub mod Settings

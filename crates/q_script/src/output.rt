@@ -1,6 +1,8 @@
 ghost use Rattle.std.specs.Prelude.{◌≡◌, ◌+◌, ◌≤◌, ◌++◌, List, [], ℕ, OnOk, OnErr, IfOk, length, decimal};
 ghost use Rattle.std.specs.Io.KnownBytes.{Appends};
 ghost use Rattle.q_show.specs.Written.{AppendsFront, IsBuffered};
+ghost use Rattle.q_script.specs.Lengths.{HasRoom, most_step};
+ghost use Rattle.q_show.specs.Lengths.{GrowsBy, most_decimal};
 
 use q_show::{WriteFault, write_whole};
 use std::alloc::{AllocError, Global};
@@ -21,12 +23,13 @@ const STEP: usize = 1024;
 
 impl Model for Output {
     ghost use Rattle.std.specs.Prelude.{List, ℕ, ◌≤◌, vec_capacity};
+    ghost use Rattle.q_script.specs.Lengths.{capacity};
 
     ghost Value = { List ℕ };
 
     ghost view = { λ o. o.buffer.items };
 
-    ghost invariant = { λ o. 65536 ≤ vec_capacity o.buffer };
+    ghost invariant = { λ o. capacity ≤ vec_capacity o.buffer };
 }
 
 impl Output {
@@ -41,7 +44,7 @@ impl Output {
 
     /// Adds bytes for which there is room.
     pub fn put(&mut self, bytes: &[u8])
-        requires { length self.old + length bytes.now ≤ 65536 }
+        requires { HasRoom self.old (length bytes.now) }
         ensures text { self.new ≡ self.old ++ bytes.now }
         ensures len { length self.new ≡ length self.old + length bytes.now }
     {
@@ -52,16 +55,16 @@ impl Output {
 
     /// Adds a number in decimal digits.
     pub fn put_number(&mut self, n: u64)
-        requires { length self.old + 20 ≤ 65536 }
+        requires { HasRoom self.old most_decimal }
         ensures text { self.new ≡ self.old ++ decimal n }
-        ensures short { length self.new ≤ length self.old + 20 }
+        ensures short { GrowsBy self.old self.new most_decimal }
     {
         self.put(itoa::Buffer::new().format(n).as_bytes());
     }
 
     /// Makes room for one step of the report, by writing out what is buffered where there is none.
     pub fn make_room<W: Write>(&mut self, writer: &mut W) -> Result<(), WriteFault>
-        ensures room { OnOk result (length self.new + 1024 ≤ 65536) }
+        ensures room { OnOk result (HasRoom self.new most_step) }
         ensures ok { OnOk result (IsBuffered (W.contents writer.old) (W.contents writer.new) self.new self.old) }
         ensures err { OnErr result (AppendsFront (W.contents writer.old) (W.contents writer.new) self.old) }
     {
