@@ -1,4 +1,7 @@
+pub mod PrioReadBack
+pub mod QdiscReadBack
 pub mod ReadBack
+pub mod ReadBackSteps
 pub mod ReadBackValues
 pub mod ReportLemmas
 mod ShownLemmas

@@ -1,58 +1,36 @@
 -- A shown class of a drr is read back, word by word.
-use Rattle.std.proofs.Common.{◌≡◌, ◌∙◌, ℕ, suc, ◌≤◌, ◌^◌, ◌-◌, Bool, true, false, List, [], ◌∷◌, ◌++◌, length, ltb, not, Ok, Err, Some, None, refl, ap, arith, if◌then◌else◌, codes, append-nil, lit<}
+use Rattle.std.proofs.Common.{◌≡◌, ◌∙◌, ℕ, ◌≤◌, ◌^◌, ◌-◌, true, false, List, [], ◌∷◌, ◌++◌, Ok, Some, None, refl, ap, arith, codes, lit<}
 use Rattle.std.specs.List.{join_with_byte, list_all}
-use Rattle.std.specs.Fmt.{decimal, digits}
-use Rattle.std.specs.Str.{is_utf8}
-use Rattle.std.proofs.lemmas.Bool.{le-leb}
-use Rattle.std.proofs.lemmas.List.Folds.{list_all-append}
+use Rattle.std.specs.Fmt.{decimal}
 use Rattle.std.proofs.lemmas.Str.{is_utf8-from_IsUtf8}
-use Rattle.q_words.specs.Values.{name_of}
-use Rattle.q_words.specs.Words.{is_blank, is_filled}
-use Rattle.q_words.specs.declared.wrong.Wrong.TheVariants as wrong
 use Rattle.q_line.specs.Laws.{IsName}
 use Rattle.q_line.specs.Spelling.{is_word}
-use Rattle.q_line.proofs.SpelledWords.{both, handle_read, right_of, utf8_from_ascii, words_of_spelling}
-use Rattle.q_line.proofs.SpelledLines.{decimal_digits, digits_ascii, digits_word, handle_ascii, handle_word, hex_digits}
+use Rattle.q_line.proofs.SpelledWords.{both, handle_read, words_of_spelling}
+use Rattle.q_line.proofs.SpelledLines.{handle_ascii, handle_word, hex_digits}
 use Rattle.q_model.specs.declared.command.Command.TheVariants.{ClassAdd}
 use Rattle.q_language.specs.Drafts.{Verb, of_class, no_head}
-use Rattle.q_language.specs.Grammar.{every_word, fits, line_of, line_of_words, rest_of, value}
-use Rattle.q_language.specs.Positions.{Position, first, tc, class, head, head_value, dev, parent, class_id, quantum_of, quantum_value}
+use Rattle.q_language.specs.Grammar.{every_word, line_of, line_of_words, rest_of, value}
+use Rattle.q_language.specs.Positions.{first, tc, class, head, head_value, dev, parent, class_id, quantum_of, quantum_value}
 use Rattle.q_language.specs.declared.class_verb.ClassVerb.TheVariants.{Add}
 use Rattle.q_language.specs.declared.head_draft.HeadDraft.{HeadDraft}
 use Rattle.q_language.specs.declared.line.Line.TheVariants.{Tc}
-use Rattle.q_language.proofs.Steps.{continued, rest_of-cons}
 use Rattle.q_report.specs.ReadBack.{class_command, ClassesAreReadBack}
+use Rattle.q_report.proofs.ReadBackSteps.{class_ascii, class_good, class_word, hex, keyword, name_read, unit_ascii, unit_good, word_read}
 use Rattle.q_report.proofs.ReadBackValues.{class_read, size_read}
-
-abbrev hex : ℕ → List ℕ
-hex n = digits 16 false n
 
 abbrev verb : Verb
 verb = of_class Add
 
--- a word that fits, of UTF-8
-word_read : (p q : Position) (w : List ℕ) (i : ℕ) (ws : List (List ℕ)) → is_utf8 w ≡ true → fits every_word i p w ≡ Ok q → rest_of every_word p i (w ∷ ws) ≡ rest_of every_word q (suc i) ws
-word_read p q w i ws u f =
-    rest_of-cons p i w ws ∙ ap (λ (b : Bool). continued (if b then fits every_word i p w else Err wrong.BadUtf8) i ws) u ∙ ap (λ r. continued r i ws) f
-
-keyword : (p q : Position) (w : List ℕ) (i : ℕ) (ws : List (List ℕ)) → list_all (λ b. ltb b 128) w ≡ true → fits every_word i p w ≡ Ok q → rest_of every_word p i (w ∷ ws) ≡ rest_of every_word q (suc i) ws
-keyword p q w i ws a f = word_read p q w i ws (utf8_from_ascii w a) f
-
 -- the words of the command
-abbrev class_word : ℕ → ℕ → List ℕ
-class_word major minor = hex major ++ codes ":" ++ hex minor
-
 abbrev behind_name : ℕ → ℕ → ℕ → List (List ℕ)
 behind_name major minor quantum =
-    codes "parent" ∷ (hex major ++ codes ":") ∷ codes "classid" ∷ class_word major minor ∷ codes "drr" ∷ codes "quantum" ∷ decimal quantum ∷ []
+    codes "parent" ∷ (hex major ++ codes ":") ∷ codes "classid" ∷ class_word major minor ∷ codes "drr" ∷ codes "quantum" ∷ (decimal quantum ++ []) ∷ []
 
 abbrev class_words : List ℕ → ℕ → ℕ → ℕ → List (List ℕ)
 class_words name major minor quantum = codes "tc" ∷ codes "class" ∷ codes "add" ∷ codes "dev" ∷ name ∷ behind_name major minor quantum
 
 spelled : (name : List ℕ) (major minor quantum : ℕ) → class_command name (record { major = major; minor = minor }) quantum ≡ join_with_byte 32 (class_words name major minor quantum)
-spelled name major minor quantum =
-    ap (λ d. join_with_byte 32 (codes "tc" ∷ codes "class" ∷ codes "add" ∷ codes "dev" ∷ name ∷ codes "parent" ∷ (hex major ++ codes ":") ∷ codes "classid" ∷ class_word major minor ∷ codes "drr" ∷ codes "quantum" ∷ d ∷ []))
-    (append-nil (decimal quantum))
+spelled name major minor quantum = refl
 
 record Numbers (major minor quantum : ℕ) : Type 0 where
   low : 1 ≤ major
@@ -62,26 +40,11 @@ record Numbers (major minor quantum : ℕ) : Type 0 where
   bytes : 1 ≤ quantum
   most : quantum ≤ 2 ^ 32 - 1
 
-class_ascii : (major minor : ℕ) → major ≤ 65534 → minor ≤ 65535 → list_all (λ b. ltb b 128) (class_word major minor) ≡ true
-class_ascii major minor high few =
-    list_all-append (λ b. ltb b 128) (hex major ++ codes ":") (hex minor)
-    ∙ both (handle_ascii (hex major) (hex_digits major (omega arith))) (digits_ascii (hex minor) (hex_digits minor (omega arith)))
-
-class_good : (major minor : ℕ) → major ≤ 65534 → minor ≤ 65535 → is_word (class_word major minor) ≡ true
-class_good major minor high few =
-    let front : is_word (hex major ++ codes ":") ≡ true = handle_word (hex major) (hex_digits major (omega arith)) in
-    let behind : is_word (hex minor) ≡ true = digits_word (hex minor) (hex_digits minor (omega arith)) in
-    both (filled_more (hex major) (codes ":") (hex minor)) (list_all-append (λ b. not (is_blank b)) (hex major ++ codes ":") (hex minor) ∙ both (right_of (is_filled (hex major ++ codes ":")) _ front) (right_of (is_filled (hex minor)) _ behind))
-  where
-    filled_more : (xs : List ℕ) (ys zs : List ℕ) → is_filled (xs ++ codes ":" ++ zs) ≡ true
-    filled_more [] ys zs = refl
-    filled_more (x ∷ xs) ys zs = refl
-
 good : (name : List ℕ) (major minor quantum : ℕ) → IsName name → Numbers major minor quantum → list_all is_word (class_words name major minor quantum) ≡ true
 good name major minor quantum is_name h =
     let high = h.high in
     let most = h.most in
-    both is_name.word (both (handle_word (hex major) (hex_digits major (omega arith))) (both (class_good major minor high h.few) (both (digits_word (decimal quantum) (decimal_digits quantum (omega arith))) refl)))
+    both is_name.word (both (handle_word (hex major) (hex_digits major (omega arith))) (both (class_good major minor high h.few) (both (unit_good quantum [] (omega arith) refl) refl)))
 
 -- what the words to the left have said
 abbrev named : HeadDraft
@@ -93,23 +56,20 @@ owned major = record named { parent = Some major }
 abbrev whole_head : ℕ → ℕ → HeadDraft
 whole_head major minor = record (owned major) { class = Some (record { major = major; minor = minor }) }
 
-name_read : (name : List ℕ) → length name ≤ 15 → name_of name ≡ Ok tt
-name_read name short = ap (λ (b : Bool). if b then Ok tt else Err wrong.OutOfRange) (le-leb _ _ short)
-
 quantum_read : (major minor quantum : ℕ) → Numbers major minor quantum
-    → rest_of every_word (head verb (whole_head major minor)) 10 (codes "drr" ∷ codes "quantum" ∷ decimal quantum ∷ []) ≡ Ok (Tc (ClassAdd major (record { major = major; minor = minor }) (Some quantum)))
+    → rest_of every_word (head verb (whole_head major minor)) 10 (codes "drr" ∷ codes "quantum" ∷ (decimal quantum ++ []) ∷ []) ≡ Ok (Tc (ClassAdd major (record { major = major; minor = minor }) (Some quantum)))
 quantum_read major minor quantum h =
     let most = h.most in
-    keyword (head verb (whole_head major minor)) (quantum_of Add (whole_head major minor) None) (codes "drr") 10 (codes "quantum" ∷ decimal quantum ∷ []) refl refl
-    ∙ keyword (quantum_of Add (whole_head major minor) None) (quantum_value Add (whole_head major minor)) (codes "quantum") 11 (decimal quantum ∷ []) refl refl
-    ∙ keyword (quantum_value Add (whole_head major minor)) (quantum_of Add (whole_head major minor) (Some quantum)) (decimal quantum) 12 [] (digits_ascii (decimal quantum) (decimal_digits quantum (omega arith)))
+    keyword (head verb (whole_head major minor)) (quantum_of Add (whole_head major minor) None) (codes "drr") 10 (codes "quantum" ∷ (decimal quantum ++ []) ∷ []) refl refl
+    ∙ keyword (quantum_of Add (whole_head major minor) None) (quantum_value Add (whole_head major minor)) (codes "quantum") 11 ((decimal quantum ++ []) ∷ []) refl refl
+    ∙ keyword (quantum_value Add (whole_head major minor)) (quantum_of Add (whole_head major minor) (Some quantum)) (decimal quantum ++ []) 12 [] (unit_ascii quantum [] (omega arith) refl)
     (ap (λ r. value r (λ n. quantum_of Add (whole_head major minor) (Some n))) (size_read 1 (2 ^ 32 - 1) quantum h.bytes most (lit< tt)))
 
 head_read : (major minor quantum : ℕ) → Numbers major minor quantum
     → rest_of every_word (head verb named) 6 (behind_name major minor quantum) ≡ Ok (Tc (ClassAdd major (record { major = major; minor = minor }) (Some quantum)))
 head_read major minor quantum h =
     let high = h.high in
-    let last = codes "drr" ∷ codes "quantum" ∷ decimal quantum ∷ [] in
+    let last = codes "drr" ∷ codes "quantum" ∷ (decimal quantum ++ []) ∷ [] in
     keyword (head verb named) (head_value parent verb named) (codes "parent") 6 ((hex major ++ codes ":") ∷ codes "classid" ∷ class_word major minor ∷ last) refl refl
     ∙ keyword (head_value parent verb named) (head verb (owned major)) (hex major ++ codes ":") 7 (codes "classid" ∷ class_word major minor ∷ last) (handle_ascii (hex major) (hex_digits major (omega arith)))
     (ap (λ r. value r (λ n. head verb (record named { parent = Some n }))) (handle_read major h.low high))

@@ -2,10 +2,11 @@
 -- A shown line is no command itself: there the kind stands before the handle and the place, a class has no parent's name and
 -- a filter no `flower`. Nor is a limit in packets a number, or `ns` a unit of time. The texts and the commands are this
 -- project's, in the manner of tc(8).
-use Rattle.std.specs.Prelude.{◌≡◌, ℕ, List, [], ◌∷◌, ◌++◌, codes, decimal, Option, Some, None, Ok}
+use Rattle.std.specs.Prelude.{◌≡◌, ℕ, ◌≤◌, List, [], ◌∷◌, ◌++◌, codes, decimal, Option, Some, None, IfSome, Ok, ⊤}
 use Rattle.std.specs.List.{join_with_byte}
 use Rattle.q_line.specs.Laws.{IsName}
-use Rattle.q_model.specs.Numbers.{IsHandle, IsMinor, IsQuantum}
+use Rattle.q_model.specs.Numbers.{IsBurst, IsHandle, IsMinor, IsQuantum, IsRate, most_u32}
+use Rattle.q_model.specs.Options.{IsPrio}
 use Rattle.q_model.specs.declared.class_id.ClassId.{ClassId}
 use Rattle.q_model.specs.declared.command.Command.{Command}
 use Rattle.q_model.specs.declared.command.Command.TheVariants as command
@@ -13,6 +14,9 @@ use Rattle.q_model.specs.declared.filter_view.FilterView.{FilterView}
 use Rattle.q_model.specs.declared.kind.Kind.{Kind}
 use Rattle.q_model.specs.declared.kind.Kind.TheVariants as kind
 use Rattle.q_model.specs.declared.node_view.NodeView.{NodeView}
+use Rattle.q_model.specs.declared.place.Place.{Place}
+use Rattle.q_model.specs.declared.place.Place.TheVariants as place
+use Rattle.q_model.specs.declared.row.Row.{Row}
 use Rattle.q_model.specs.declared.qdisc_view.QdiscView.{QdiscView}
 use Rattle.q_model.specs.declared.qdisc_view.QdiscView.TheVariants as qdisc
 use Rattle.q_model.specs.declared.tbf_limit.TbfLimit.TheVariants.{Bytes}
@@ -54,3 +58,23 @@ filter_added f = command.FilterAdd f.parent f.parent f.filter
 abbrev pub ClassesAreReadBack : Type 0
 ClassesAreReadBack = (name : List ℕ) (c : ClassId) (quantum : ℕ) → IsName name → IsHandle c.major → IsMinor c.minor → IsQuantum quantum
     → line_of (class_command name c quantum) ≡ Ok (Tc (command.ClassAdd c.major c (Some quantum)))
+
+-- where a command can put a qdisc
+abbrev pub IsPlace : Place → Type 0
+IsPlace place.Top = ⊥
+IsPlace place.Root = ⊤
+IsPlace (place.Class class) = IsHandle class.major × IsMinor class.minor
+
+-- each option that show prints is read, and is in the range of a command
+abbrev pub IsReadable : QdiscView → Type 0
+IsReadable (qdisc.Pfifo limit) = ⊥
+IsReadable (qdisc.Bfifo limit) = limit ≤ most_u32
+IsReadable (qdisc.Prio bands priomap) = IsPrio (record { bands = bands; priomap = priomap })
+IsReadable (qdisc.Tbf rate burst limit) = IsRate rate × IsBurst burst × (limit ≤ most_u32)
+IsReadable qdisc.Drr = ⊤
+IsReadable (qdisc.FqCodel s) = ⊥
+
+-- a shown bfifo, prio, tbf or drr is read back: the command with its texts makes it, in its place and with its handle
+abbrev pub QdiscsAreReadBack : Type 0
+QdiscsAreReadBack = (name : List ℕ) (handle : ℕ) (place : Place) (view : QdiscView) (row : Row) → IsName name → IsHandle handle → IsPlace place → IsReadable view
+    → IfSome (kind_shown view) (λ kind. line_of (qdisc_command name (record { handle = Some handle; place = place; qdisc = view; row = row })) ≡ Ok (Tc (command.QdiscAdd place (Some handle) kind)))

@@ -1,7 +1,7 @@
 //! What holds of every report and of what it shows. A law is the contract of a function that does nothing.
 
 ghost use Rattle.q_report.specs.Laws.{TotalsAreEnough};
-ghost use Rattle.q_report.specs.ReadBack.{ClassesAreReadBack};
+ghost use Rattle.q_report.specs.ReadBack.{ClassesAreReadBack, QdiscsAreReadBack};
 
 /// A session whose nodes keep totals writes, for every script, what one whose nodes keep whole histories writes.
 pub fn totals_are_enough()
@@ -12,4 +12,10 @@ pub fn totals_are_enough()
 /// with that quantum.
 pub fn classes_are_read_back()
     ensures { ClassesAreReadBack }
+{}
+
+/// The bfifo, prio, tbf or drr that `tc qdisc show` prints is read back: the command with the same texts puts such a qdisc
+/// into the same place. A pfifo and an fq_codel are not, as no command reads a limit in packets or times in `ns`.
+pub fn qdiscs_are_read_back()
+    ensures { QdiscsAreReadBack }
 {}
