@@ -1,3 +1,5 @@
+pub mod Prefix6ReadBack
+pub mod PrefixReadBack
 pub mod PrioReadBack
 pub mod QdiscReadBack
 pub mod ReadBack

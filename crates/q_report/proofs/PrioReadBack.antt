@@ -28,7 +28,7 @@ use Rattle.q_language.specs.declared.line.Line.{Line}
 use Rattle.q_language.specs.declared.line.Line.TheVariants.{Tc}
 use Rattle.q_language.specs.declared.qdisc_verb.QdiscVerb.TheVariants.{Add}
 use Rattle.q_report.proofs.ReadBackSteps.{keyword, unit_ascii, unit_good}
-use Rattle.q_report.proofs.ReadBackValues.{prefix_all}
+use Rattle.q_report.proofs.ReadBackValues.{not_below_itself, prefix_all}
 
 -- the numbers, each with a blank before it, are words behind another
 pub bands_spelled : (w : List ℕ) (xs : List ℕ) → join_with_byte 32 (w ∷ map decimal xs) ≡ w ++ flat_map (λ band. codes " " ++ decimal band) xs
@@ -117,9 +117,6 @@ below_passes bands (x ∷ xs) h = both (passes x h.0) (below_passes bands xs h.1
   where
     passes : (n : ℕ) → n < bands → not (leb bands n) ≡ true
     passes n h = grind (arith, nat_tests)
-
-not_below_itself : (n : ℕ) → ltb n n ≡ false
-not_below_itself n = grind (arith, nat_tests)
 
 no_bad_band : (bands : ℕ) (xs : List ℕ) → Below bands xs → position (λ n. leb bands n) xs ≡ None
 no_bad_band bands xs h =

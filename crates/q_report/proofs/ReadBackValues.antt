@@ -16,18 +16,18 @@ use Rattle.q_words.specs.declared.wrong.Wrong.{Wrong}
 use Rattle.q_words.specs.declared.wrong.Wrong.TheVariants.{BadNumber, OutOfRange}
 use Rattle.q_line.proofs.SpelledWords.{both, colon_at, digit_not_colon, digits_from_numeral, every_digit, hex_short, left_of, right_of}
 
-record Hex (n : ℕ) (ds : List ℕ) : Type 0 where
-  form : is_numeral 16 ds ≡ true
-  value : digits_value 16 ds ≡ n
-  short : length ds ≤ 4
+pub record Hex (n : ℕ) (ds : List ℕ) : Type 0 where
+  pub form : is_numeral 16 ds ≡ true
+  pub value : digits_value 16 ds ≡ n
+  pub short : length ds ≤ 4
 
-hex_of : (n : ℕ) → n < 2 ^ 16 → Hex n (digits 16 false n)
+pub hex_of : (n : ℕ) → n < 2 ^ 16 → Hex n (digits 16 false n)
 hex_of n high =
     let small : n < 16 ^ 64 = omega arith in
     let d = digits_is_IsNumeral 16 false (lit≤ tt) (lit≤ tt) n small in
     record { form = both (lt-ltb _ _ d.0.0) (digits_from_numeral 16 (digits 16 false n) d.0.1); value = d.1; short = hex_short n high }
 
-drop_past : (ds : List ℕ) (x : ℕ) (es : List ℕ) → drop (length ds + 1) (ds ++ x ∷ es) ≡ es
+pub drop_past : (ds : List ℕ) (x : ℕ) (es : List ℕ) → drop (length ds + 1) (ds ++ x ∷ es) ≡ es
 drop_past [] x es = refl
 drop_past (d ∷ ds) x es = let e : length (d ∷ ds) + 1 ≡ suc (length ds + 1) = omega arith in ap (λ k. drop k (d ∷ ds ++ x ∷ es)) e ∙ drop_past ds x es
 
@@ -63,8 +63,11 @@ digit_of_decimal c h = grind (arith, nat_tests)
 digit_no_point : (c : ℕ) → is_digit c 10 ≡ true → not (is_point c) ≡ true
 digit_no_point c h = grind (arith, nat_tests)
 
+pub not_below_itself : (n : ℕ) → ltb n n ≡ false
+not_below_itself n = grind (arith, nat_tests)
+
 -- what begins with none of them behind elements that pass
-prefix_to : (p : ℕ → Bool) (ds rest : List ℕ) → list_all p ds ≡ true → prefix_len p rest ≡ 0 → prefix_len p (ds ++ rest) ≡ length ds
+pub prefix_to : (p : ℕ → Bool) (ds rest : List ℕ) → list_all p ds ≡ true → prefix_len p rest ≡ 0 → prefix_len p (ds ++ rest) ≡ length ds
 prefix_to p [] rest h e = e
 prefix_to p (d ∷ ds) rest h e = ap (λ (b : Bool). cond b (1 + prefix_len p (ds ++ rest)) 0) (left_of (p d) _ h) ∙ ap (λ n. 1 + n) (prefix_to p ds rest (right_of (p d) _ h) e) ∙ omega arith
 
@@ -75,7 +78,7 @@ drop_front : (ds rest : List ℕ) → drop (length ds) (ds ++ rest) ≡ rest
 drop_front [] rest = refl
 drop_front (d ∷ ds) rest = drop_front ds rest
 
-none_of : (p : ℕ → Bool) (ds : List ℕ) → list_all (λ c. not (p c)) ds ≡ true → list_any p ds ≡ false
+pub none_of : (p : ℕ → Bool) (ds : List ℕ) → list_all (λ c. not (p c)) ds ≡ true → list_any p ds ≡ false
 none_of p [] h = refl
 none_of p (d ∷ ds) h = by_test (none_of p ds) (p d) refl
   where

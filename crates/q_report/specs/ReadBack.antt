@@ -6,7 +6,7 @@ use Rattle.std.specs.Prelude.{◌≡◌, ℕ, ◌≤◌, List, [], ◌∷◌, �
 use Rattle.std.specs.List.{join_with_byte}
 use Rattle.q_line.specs.Laws.{IsName}
 use Rattle.q_model.specs.Numbers.{IsBurst, IsHandle, IsMinor, IsQuantum, IsRate, most_u32}
-use Rattle.q_model.specs.Options.{IsPrio}
+use Rattle.q_model.specs.Options.{IsPrefix, IsPrio, Prefix}
 use Rattle.q_model.specs.declared.class_id.ClassId.{ClassId}
 use Rattle.q_model.specs.declared.command.Command.{Command}
 use Rattle.q_model.specs.declared.command.Command.TheVariants as command
@@ -20,9 +20,10 @@ use Rattle.q_model.specs.declared.row.Row.{Row}
 use Rattle.q_model.specs.declared.qdisc_view.QdiscView.{QdiscView}
 use Rattle.q_model.specs.declared.qdisc_view.QdiscView.TheVariants as qdisc
 use Rattle.q_model.specs.declared.tbf_limit.TbfLimit.TheVariants.{Bytes}
+use Rattle.q_words.specs.Addresses.{prefix_of}
 use Rattle.q_language.specs.Grammar.{line_of}
 use Rattle.q_language.specs.declared.line.Line.TheVariants.{Tc}
-use Rattle.q_show.specs.ShowText.{class_text, handle_text, hex, into_text, keys_text, kind_text, options_text, place_text, protocol_text, setting}
+use Rattle.q_show.specs.ShowText.{class_text, handle_text, hex, into_text, keys_text, kind_text, options_text, place_text, prefix_text, protocol_text, setting}
 
 -- what a `tc` line adds, with a blank between each two parts
 abbrev pub adding : List ℕ → List ℕ → List (List ℕ) → List ℕ
@@ -78,3 +79,7 @@ IsReadable (qdisc.FqCodel s) = ⊥
 abbrev pub QdiscsAreReadBack : Type 0
 QdiscsAreReadBack = (name : List ℕ) (handle : ℕ) (place : Place) (view : QdiscView) (row : Row) → IsName name → IsHandle handle → IsPlace place → IsReadable view
     → IfSome (kind_shown view) (λ kind. line_of (qdisc_command name (record { handle = Some handle; place = place; qdisc = view; row = row })) ≡ Ok (Tc (command.QdiscAdd place (Some handle) kind)))
+
+-- a shown prefix of a filter is read as itself
+abbrev pub PrefixesAreReadBack : Type 0
+PrefixesAreReadBack = (p : Prefix) → IsPrefix p → prefix_of (prefix_text p) ≡ Ok p

@@ -1,7 +1,7 @@
 //! What holds of every report and of what it shows. A law is the contract of a function that does nothing.
 
 ghost use Rattle.q_report.specs.Laws.{TotalsAreEnough};
-ghost use Rattle.q_report.specs.ReadBack.{ClassesAreReadBack, QdiscsAreReadBack};
+ghost use Rattle.q_report.specs.ReadBack.{ClassesAreReadBack, PrefixesAreReadBack, QdiscsAreReadBack};
 
 /// A session whose nodes keep totals writes, for every script, what one whose nodes keep whole histories writes.
 pub fn totals_are_enough()
@@ -18,4 +18,9 @@ pub fn classes_are_read_back()
 /// into the same place. A pfifo and an fq_codel are not, as no command reads a limit in packets or times in `ns`.
 pub fn qdiscs_are_read_back()
     ensures { QdiscsAreReadBack }
+{}
+
+/// The prefix that `tc filter show` prints is read as itself, with the bits behind its length.
+pub fn prefixes_are_read_back()
+    ensures { PrefixesAreReadBack }
 {}
