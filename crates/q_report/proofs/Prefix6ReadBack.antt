@@ -1,6 +1,7 @@
 -- An address of version 6 is read as what was written of it, eight groups; and so is a prefix of either version.
 use Rattle.std.proofs.Common.{◌≡◌, ◌∙◌, ℕ, zero, suc, ◌+◌, ◌*◌, ◌/◌, ◌%◌, ◌-◌, ◌<◌, ◌≤◌, ◌^◌, ◌&&◌, Bool, true, false, not, List, [], ◌∷◌, ◌++◌, length, drop, take, ltb, Ok, refl, ap, arith, if◌then◌else◌, codes, append_assoc}
-use Rattle.std.specs.List.{AllByRecursion, fold, join_with_byte, slice_split}
+use Rattle.std.specs.List.{AllByRecursion, fold, join_with_byte, list_all, slice_split}
+use Rattle.std.specs.Char.{is_digit}
 use Rattle.std.specs.Fmt.{decimal}
 use Rattle.std.proofs.lemmas.Bool.{le-leb}
 use Rattle.std.proofs.lemmas.List.{drop_all, take_all}
@@ -12,9 +13,9 @@ use Rattle.q_words.specs.Addresses.{address_of, begins_with_two, gap_at, groups_
 use Rattle.q_words.specs.Units.{is_point}
 use Rattle.q_words.specs.Values.{is_colon}
 use Rattle.q_show.specs.ShowText.{address_text, prefix_text}
-use Rattle.q_line.proofs.SpelledWords.{digit_not_colon, left_of, right_of}
+use Rattle.q_line.proofs.SpelledWords.{digit_not_colon, every_digit, left_of, right_of}
 use Rattle.q_report.specs.ReadBack.{PrefixesAreReadBack}
-use Rattle.q_report.proofs.PrefixReadBack.{Plain, address4_read, address4_spelled, all_joined, any_at, digit_plain, no_slash, no_slash_10, not_true, octets, octets_plain, prefix_gives, split_joined}
+use Rattle.q_report.proofs.PrefixReadBack.{Plain, address4_read, address4_spelled, all_joined, any_at, digit_plain, no_slash, no_slash_10, not_true, octets, octets_all, prefix_gives, split_joined}
 use Rattle.q_report.proofs.ReadBackSteps.{hex}
 use Rattle.q_report.proofs.ReadBackValues.{Hex, hex_of, not_below_itself}
 
@@ -77,7 +78,7 @@ parts_read x y parts h =
 
 -- eight groups
 
-abbrev groups : ℕ → List (List ℕ)
+abbrev pub groups : ℕ → List (List ℕ)
 groups a =
     hex (a / 2 ^ 112 % 65536) ∷ hex (a / 2 ^ 96 % 65536) ∷ hex (a / 2 ^ 80 % 65536) ∷ hex (a / 2 ^ 64 % 65536)
     ∷ hex (a / 2 ^ 48 % 65536) ∷ hex (a / 2 ^ 32 % 65536) ∷ hex (a / 2 ^ 16 % 65536) ∷ hex (a % 65536) ∷ []
@@ -96,12 +97,13 @@ are_groups : (a : ℕ) → AllByRecursion IsGroup (groups a)
 are_groups a =
     (is_group (a / 2 ^ 112), (is_group (a / 2 ^ 96), (is_group (a / 2 ^ 80), (is_group (a / 2 ^ 64), (is_group (a / 2 ^ 48), (is_group (a / 2 ^ 32), (is_group (a / 2 ^ 16), (is_group a, tt))))))))
 
-no_slashes : (n : ℕ) → Plain is_slash (hex (n % 65536))
-no_slashes n = digit_plain is_slash 16 no_slash (hex (n % 65536)) (group n).form
-
-groups_plain : (a : ℕ) → AllByRecursion (Plain is_slash) (groups a)
-groups_plain a =
-    (no_slashes (a / 2 ^ 112), (no_slashes (a / 2 ^ 96), (no_slashes (a / 2 ^ 80), (no_slashes (a / 2 ^ 64), (no_slashes (a / 2 ^ 48), (no_slashes (a / 2 ^ 32), (no_slashes (a / 2 ^ 16), (no_slashes a, tt))))))))
+-- a test that each digit passes, by the eight groups
+pub groups_all : (t : ℕ → Bool) → ((c : ℕ) → is_digit c 16 ≡ true → t c ≡ true) → (a : ℕ) → AllByRecursion (λ part. list_all t part ≡ true) (groups a)
+groups_all t each a =
+    (all (a / 2 ^ 112), (all (a / 2 ^ 96), (all (a / 2 ^ 80), (all (a / 2 ^ 64), (all (a / 2 ^ 48), (all (a / 2 ^ 32), (all (a / 2 ^ 16), (all a, tt))))))))
+  where
+    all : (n : ℕ) → list_all t (hex (n % 65536)) ≡ true
+    all n = every_digit 16 t each (hex (n % 65536)) (right_of (ltb 0 (length (hex (n % 65536)))) _ (group n).form)
 
 abbrev onto : ℕ → List ℕ → ℕ
 onto n parts = fold (λ n part. n * 65536 + part) n parts
@@ -145,20 +147,20 @@ address6_read a h =
     ∙ eight_read _ _ _ _ _ _ _ _ _ _ _ _ _ _ _ _ (group (a / 2 ^ 112)) (group (a / 2 ^ 96)) (group (a / 2 ^ 80)) (group (a / 2 ^ 64)) (group (a / 2 ^ 48)) (group (a / 2 ^ 32)) (group (a / 2 ^ 16)) (group a)
     ∙ ap (λ n. Ok (record { version = V6; address = n * 65536 ^ (8 - 8) + 0 })) value ∙ ap (λ n. Ok (record { version = V6; address = n })) (omega arith)
 
-address6_spelled : (a : ℕ) → address_text V6 a ≡ join_with_byte 58 (groups a)
+pub address6_spelled : (a : ℕ) → address_text V6 a ≡ join_with_byte 58 (groups a)
 address6_spelled a = simp append_assoc
 
 prefix4 : (a len : ℕ) → a < 2 ^ 32 → len ≤ 32 → prefix_of (prefix_text (record { version = V4; address = a; len = len })) ≡ Ok (record { version = V4; address = a; len = len })
 prefix4 a len h few =
     ap (λ t. prefix_of (t ++ codes "/" ++ decimal len)) (address4_spelled a)
     ∙ ap prefix_of (append_assoc (join_with_byte 46 (octets a)) (codes "/") (decimal len))
-    ∙ prefix_gives (record { version = V4; address = a }) (join_with_byte 46 (octets a)) len (all_joined (λ c. not (is_slash c)) 46 (octets a) refl (octets_plain is_slash no_slash_10 a)) (address4_read a h) few (omega arith)
+    ∙ prefix_gives (record { version = V4; address = a }) (join_with_byte 46 (octets a)) len (all_joined (λ c. not (is_slash c)) 46 (octets a) refl (octets_all (λ c. not (is_slash c)) no_slash_10 a)) (address4_read a h) few (omega arith)
 
 prefix6 : (a len : ℕ) → a < 2 ^ 128 → len ≤ 128 → prefix_of (prefix_text (record { version = V6; address = a; len = len })) ≡ Ok (record { version = V6; address = a; len = len })
 prefix6 a len h few =
     ap (λ t. prefix_of (t ++ codes "/" ++ decimal len)) (address6_spelled a)
     ∙ ap prefix_of (append_assoc (join_with_byte 58 (groups a)) (codes "/") (decimal len))
-    ∙ prefix_gives (record { version = V6; address = a }) (join_with_byte 58 (groups a)) len (all_joined (λ c. not (is_slash c)) 58 (groups a) refl (groups_plain a)) (address6_read a h) few (omega arith)
+    ∙ prefix_gives (record { version = V6; address = a }) (join_with_byte 58 (groups a)) len (all_joined (λ c. not (is_slash c)) 58 (groups a) refl (groups_all (λ c. not (is_slash c)) no_slash a)) (address6_read a h) few (omega arith)
 
 by_version : (v : IpVersion) (a len : ℕ) → IsPrefix (record { version = v; address = a; len = len }) → prefix_of (prefix_text (record { version = v; address = a; len = len })) ≡ Ok (record { version = v; address = a; len = len })
 by_version V4 a len h = prefix4 a len h.address h.len

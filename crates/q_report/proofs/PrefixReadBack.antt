@@ -95,12 +95,13 @@ ipv4_read w x y z a b c d =
 abbrev pub octets : ℕ → List (List ℕ)
 octets a = decimal (a / 2 ^ 24 % 256) ∷ decimal (a / 2 ^ 16 % 256) ∷ decimal (a / 2 ^ 8 % 256) ∷ decimal (a % 256) ∷ []
 
--- a test that no digit passes, by the four numbers
-pub octets_plain : (p : ℕ → Bool) → ((c : ℕ) → is_digit c 10 ≡ true → not (p c) ≡ true) → (a : ℕ) → AllByRecursion (Plain p) (octets a)
-octets_plain p other a = (plain (a / 2 ^ 24 % 256) (omega arith), (plain (a / 2 ^ 16 % 256) (omega arith), (plain (a / 2 ^ 8 % 256) (omega arith), (plain (a % 256) (omega arith), tt))))
+-- a test that each digit passes, by the four numbers
+pub octets_all : (t : ℕ → Bool) → ((c : ℕ) → is_digit c 10 ≡ true → t c ≡ true) → (a : ℕ) → AllByRecursion (λ part. list_all t part ≡ true) (octets a)
+octets_all t each a =
+    (all (a / 2 ^ 24 % 256) (omega arith), (all (a / 2 ^ 16 % 256) (omega arith), (all (a / 2 ^ 8 % 256) (omega arith), (all (a % 256) (omega arith), tt))))
   where
-    plain : (n : ℕ) → n < 256 → Plain p (decimal n)
-    plain n h = digit_plain p 10 other (decimal n) (octet n h).form
+    all : (n : ℕ) → n < 256 → list_all t (decimal n) ≡ true
+    all n h = every_digit 10 t each (decimal n) (right_of (ltb 0 (length (decimal n))) _ (octet n h).form)
 
 octets_value : (a : ℕ) → a < 2 ^ 32 → joined 256 (a / 2 ^ 24 % 256 ∷ a / 2 ^ 16 % 256 ∷ a / 2 ^ 8 % 256 ∷ a % 256 ∷ []) ≡ a
 octets_value a h =
@@ -115,9 +116,9 @@ address4_spelled a = simp append_assoc
 pub address4_read : (a : ℕ) → a < 2 ^ 32 → address_of (join_with_byte 46 (octets a)) ≡ Ok (record { version = V4; address = a })
 address4_read a h =
     let word = join_with_byte 46 (octets a) in
-    let colons : list_any is_colon word ≡ false = none_of is_colon word (all_joined (λ c. not (is_colon c)) 46 (octets a) refl (octets_plain is_colon no_colon a)) in
+    let colons : list_any is_colon word ≡ false = none_of is_colon word (all_joined (λ c. not (is_colon c)) 46 (octets a) refl (octets_all (λ c. not (is_colon c)) no_colon a)) in
     ap (λ (b : Bool). if b then ipv6_of (groups_in (take (gap_at word) word)) (groups_in (drop (suc (suc (gap_at word))) word)) (ltb (gap_at word) (length word)) else ipv4_of (slice_split is_point word)) colons
-    ∙ ap ipv4_of (split_joined is_point 46 (decimal (a / 2 ^ 24 % 256)) (decimal (a / 2 ^ 16 % 256) ∷ decimal (a / 2 ^ 8 % 256) ∷ decimal (a % 256) ∷ []) refl (octets_plain is_point no_point a))
+    ∙ ap ipv4_of (split_joined is_point 46 (decimal (a / 2 ^ 24 % 256)) (decimal (a / 2 ^ 16 % 256) ∷ decimal (a / 2 ^ 8 % 256) ∷ decimal (a % 256) ∷ []) refl (octets_all (λ c. not (is_point c)) no_point a))
     ∙ ipv4_read _ _ _ _ (octet (a / 2 ^ 24 % 256) (omega arith)) (octet (a / 2 ^ 16 % 256) (omega arith)) (octet (a / 2 ^ 8 % 256) (omega arith)) (octet (a % 256) (omega arith))
     ∙ ap (λ n. Ok (record { version = V4; address = n })) (octets_value a h)
 

@@ -1,7 +1,7 @@
 //! What holds of every report and of what it shows. A law is the contract of a function that does nothing.
 
 ghost use Rattle.q_report.specs.Laws.{TotalsAreEnough};
-ghost use Rattle.q_report.specs.ReadBack.{ClassesAreReadBack, PrefixesAreReadBack, QdiscsAreReadBack};
+ghost use Rattle.q_report.specs.ReadBack.{ClassesAreReadBack, FiltersAreReadBack, PrefixesAreReadBack, QdiscsAreReadBack};
 
 /// A session whose nodes keep totals writes, for every script, what one whose nodes keep whole histories writes.
 pub fn totals_are_enough()
@@ -23,4 +23,10 @@ pub fn qdiscs_are_read_back()
 /// The prefix that `tc filter show` prints is read as itself, with the bits behind its length.
 pub fn prefixes_are_read_back()
     ensures { PrefixesAreReadBack }
+{}
+
+/// The filter that `tc filter show` prints is read back: the command with the same texts, and `flower` before its keys, makes
+/// it, where its addresses are of one version and that of its protocol.
+pub fn filters_are_read_back()
+    ensures { FiltersAreReadBack }
 {}
