@@ -13,6 +13,7 @@ use Rattle.q_words.specs.declared.line_fault.LineFault.{LineFault}
 use Rattle.q_words.specs.declared.line_fault.LineFault.TheVariants as fault
 use Rattle.q_words.specs.declared.wrong.Wrong.{Wrong}
 use Rattle.q_words.specs.declared.wrong.Wrong.TheVariants as wrong
+use Rattle.q_language.proofs.LateBands.{Stands, late_within, reached_stands}
 use Rattle.q_language.proofs.Steps.{continued, rest_of-cons}
 
 abbrev read : Position → ℕ → List (List ℕ) → Result Line LineFault
@@ -155,6 +156,14 @@ not_blank (b ∷ bytes) ws e others = ap (λ (t : Bool). if t then Ok Blank else
 nothing_fits : FitSoFar []
 nothing_fits = not_blank (255 ∷ []) [] refl [] ∙ bad_word first 1
 
+by_judged : (p : Position) {next : ℕ} {f : LineFault} → Stands p next → IsJudged p next f → 1 ≤ next → (1 ≤ index_of f) × (index_of f ≤ next)
+by_judged p {next} {f} s (inl h) some =
+    let place = late_within p next h.0 s h.1 in
+    let low = place.0 in
+    let high = place.1 in
+    let is : index_of f ≡ h.0 = ap index_of h.2 in (omega arith, omega arith)
+by_judged p {next} {f} s (inr h) some = let is : index_of f ≡ next = ap index_of h.2 in (omega arith, omega arith)
+
 pub leftmost : FaultsAreLeftmost
 leftmost [] f e = absurd (let k : Ok Blank ≡ Err f = e in cc)
 leftmost (w ∷ ws) f e = by_blank (is_blank_line (w ∷ ws)) refl
@@ -183,6 +192,9 @@ leftmost (w ∷ ws) f e = by_blank (is_blank_line (w ∷ ws)) refl
         judged : (here : AtEnd first 1 (w ∷ ws) f) → IsJudged here.judged.0 (suc (length (w ∷ ws))) f
         judged here = let next : 1 + length (w ∷ ws) ≡ suc (length (w ∷ ws)) = omega arith in subst (λ n. IsJudged here.judged.0 n f) next here.judged.2
 
+        within : AtEnd first 1 (w ∷ ws) f → (1 ≤ index_of f) × (index_of f ≤ suc (length (w ∷ ws)))
+        within here = by_judged here.judged.0 (reached_stands (w ∷ ws) first here.judged.0 1 (suc (length (w ∷ ws))) (omega arith) (omega arith) tt here.judged.1) (judged here) (omega arith)
+
         by_place : From first 1 (w ∷ ws) f → IsAtWord (w ∷ ws) f ⊎ IsAtEnd (w ∷ ws) f
         by_place (inl here) = let low = here.low in let high = here.high in inl (record {
           from_one = low;
@@ -190,4 +202,4 @@ leftmost (w ∷ ws) f e = by_blank (is_blank_line (w ∷ ws)) refl
           before = λ n h. before here n h;
           behind = λ n others h k. behind here n others h k;
         })
-        by_place (inr here) = inr (record { fit = λ n h. fit here n h; judged = (here.judged.0, here.judged.1, judged here) })
+        by_place (inr here) = let place = within here in inr (record { from_one = place.0; to_one_past = place.1; fit = λ n h. fit here n h; judged = (here.judged.0, here.judged.1, judged here) })

@@ -33,6 +33,9 @@ IsJudged position index fault =
 
 -- all of the words fit, and what they say together is judged
 pub record IsAtEnd (words : List (List ℕ)) (fault : LineFault) : Type 0 where
+  -- it is at one of the words, or one past the last
+  pub from_one : 1 ≤ index_of fault
+  pub to_one_past : index_of fault ≤ suc (length words)
   pub fit : (n : ℕ) → n ≤ length words → FitSoFar (take n words)
   pub judged : (position : Position) × (reached first 1 words ≡ Ok position) × IsJudged position (suc (length words)) fault
 
