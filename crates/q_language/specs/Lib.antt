@@ -1,5 +1,6 @@
 pub mod Drafts
 pub mod FirstPath
 pub mod Grammar
+pub mod Laws
 pub mod Positions
 pub mod Reading

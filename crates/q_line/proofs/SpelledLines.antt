@@ -37,33 +37,33 @@ filled : (bytes : List ℕ) → 0 < length bytes → is_filled bytes ≡ true
 filled [] h = absurd (omega arith)
 filled (b ∷ bytes) h = refl
 
-record Digits (w : List ℕ) : Type 0 where
-  some : 0 < length w
-  each : is_digits 16 w ≡ true
+pub record Digits (w : List ℕ) : Type 0 where
+  pub some : 0 < length w
+  pub each : is_digits 16 w ≡ true
 
-decimal_digits : (n : ℕ) → n < 2 ^ 64 → Digits (decimal n)
+pub decimal_digits : (n : ℕ) → n < 2 ^ 64 → Digits (decimal n)
 decimal_digits n small = let d = decimal_is_IsNumeral n small in
     record { some = d.0.0; each = every_digit 10 (λ c. is_digit c 16) wider (decimal n) (digits_from_numeral 10 (decimal n) d.0.1) }
 
-hex_digits : (n : ℕ) → n ≤ 65534 → Digits (digits 16 false n)
+pub hex_digits : (n : ℕ) → n < 2 ^ 16 → Digits (digits 16 false n)
 hex_digits n high =
     let small : n < 16 ^ 64 = omega arith in
     let d = digits_is_IsNumeral 16 false (lit≤ tt) (lit≤ tt) n small in
     record { some = d.0.0; each = digits_from_numeral 16 (digits 16 false n) d.0.1 }
 
-digits_word : (w : List ℕ) → Digits w → is_word w ≡ true
+pub digits_word : (w : List ℕ) → Digits w → is_word w ≡ true
 digits_word w d = both (filled w d.some) (every_digit 16 (λ c. not (is_blank c)) digit_not_blank w d.each)
 
-digits_ascii : (w : List ℕ) → Digits w → list_all (λ b. ltb b 128) w ≡ true
+pub digits_ascii : (w : List ℕ) → Digits w → list_all (λ b. ltb b 128) w ≡ true
 digits_ascii w d = every_digit 16 (λ c. ltb c 128) digit_small w d.each
 
-handle_word : (w : List ℕ) → Digits w → is_word (w ++ codes ":") ≡ true
+pub handle_word : (w : List ℕ) → Digits w → is_word (w ++ codes ":") ≡ true
 handle_word w d =
     let some = d.some in
     both (filled (w ++ 58 ∷ []) (simp length-append (omega arith)))
     (list_all-append (λ c. not (is_blank c)) w (58 ∷ []) ∙ both (every_digit 16 (λ c. not (is_blank c)) digit_not_blank w d.each) refl)
 
-handle_ascii : (w : List ℕ) → Digits w → list_all (λ b. ltb b 128) (w ++ codes ":") ≡ true
+pub handle_ascii : (w : List ℕ) → Digits w → list_all (λ b. ltb b 128) (w ++ codes ":") ≡ true
 handle_ascii w d = list_all-append (λ b. ltb b 128) w (58 ∷ []) ∙ both (digits_ascii w d) refl
 
 -- one word read
@@ -97,7 +97,7 @@ handled_read place None kind i h k = kind_read place None kind i k
 handled_read place (Some major) kind i h k =
     let word = digits 16 false major ++ codes ":" in
     keyword (add (full place None)) (add_handle (full place None)) (codes "handle") i (word ∷ kind_words kind) refl refl
-    ∙ keyword (add_handle (full place None)) (add (full place (Some major))) word (suc i) (kind_words kind) (handle_ascii (digits 16 false major) (hex_digits major h.1))
+    ∙ keyword (add_handle (full place None)) (add (full place (Some major))) word (suc i) (kind_words kind) (handle_ascii (digits 16 false major) (hex_digits major (omega (arith, h.1))))
     (ap (λ r. value r (λ major. add (full place (Some major)))) (handle_read major h.0 h.1))
     ∙ kind_read place (Some major) kind (suc (suc i)) k
 
@@ -149,7 +149,7 @@ kind_good (Pfifo limit) h = limit_good limit h
 
 handle_good : (handle : Option ℕ) (kind : Kind) → IfSome handle IsMajor → IsKind kind → list_all is_word (handle_words handle ++ kind_words kind) ≡ true
 handle_good None kind h k = kind_good kind k
-handle_good (Some major) kind h k = both (handle_word (digits 16 false major) (hex_digits major h.1)) (kind_good kind k)
+handle_good (Some major) kind h k = both (handle_word (digits 16 false major) (hex_digits major (omega (arith, h.1)))) (kind_good kind k)
 
 show_good : (counters : Bool) → list_all is_word (show_words counters) ≡ true
 show_good true = refl

@@ -89,7 +89,7 @@ digit_small c h = grind (arith, nat_tests)
 pub digit_not_blank : (c : ℕ) → is_digit c 16 ≡ true → not (is_blank c) ≡ true
 digit_not_blank c h = grind (arith, nat_tests)
 
-digit_not_colon : (c : ℕ) → is_digit c 16 ≡ true → not (is_colon c) ≡ true
+pub digit_not_colon : (c : ℕ) → is_digit c 16 ≡ true → not (is_colon c) ≡ true
 digit_not_colon c h = grind (arith, nat_tests)
 
 -- a numeral is read as its value
@@ -124,7 +124,7 @@ short_hex (suc k) m n acc h = by_last (short_hex k) m h (eqb (n / 16) 0) refl
         let g : length (digits_onto k 16 false (n / 16) (digit_glyph false (n % 16) ∷ acc)) ≤ suc m + suc (length acc) = more m (n / 16) (digit_glyph false (n % 16) ∷ acc) within in omega arith
 
 -- the first colon is behind the digits
-colon_at : (ds rest : List ℕ) → list_all (λ c. not (is_colon c)) ds ≡ true → position_or_len is_colon (ds ++ 58 ∷ rest) ≡ length ds
+pub colon_at : (ds rest : List ℕ) → list_all (λ c. not (is_colon c)) ds ≡ true → position_or_len is_colon (ds ++ 58 ∷ rest) ≡ length ds
 colon_at [] rest h = refl
 colon_at (d ∷ ds) rest h = ap (λ (b : Bool). cond b (1 + position_or_len is_colon (ds ++ 58 ∷ rest)) 0) (left_of (not (is_colon d)) _ h)
     ∙ ap (λ n. 1 + n) (colon_at ds rest (right_of (not (is_colon d)) _ h)) ∙ omega arith
@@ -143,7 +143,7 @@ hex_onto : (n : ℕ) → (k : ℕ) × (digits 16 false n ≡ digits_onto k 16 fa
 unfolding digits
 hex_onto n = (64, refl)
 
-hex_short : (n : ℕ) → n ≤ 65534 → length (digits 16 false n) ≤ 4
+pub hex_short : (n : ℕ) → n < 2 ^ 16 → length (digits 16 false n) ≤ 4
 hex_short n high =
     let onto = hex_onto n in
     let h : length (digits_onto onto.0 16 false n []) ≤ 4 = short_hex onto.0 3 n [] (omega arith) in
@@ -154,4 +154,4 @@ pub handle_read : (n : ℕ) → 1 ≤ n → n ≤ 65534 → handle_of (digits 16
 handle_read n low high =
     let small : n < 16 ^ 64 = omega arith in
     let d = digits_is_IsNumeral 16 false (lit≤ tt) (lit≤ tt) n small in
-    handle_gives n (digits 16 false n) (both (lt-ltb _ _ d.0.0) (digits_from_numeral 16 (digits 16 false n) d.0.1)) d.1 (hex_short n high) low high
+    handle_gives n (digits 16 false n) (both (lt-ltb _ _ d.0.0) (digits_from_numeral 16 (digits 16 false n) d.0.1)) d.1 (hex_short n (omega arith)) low high

@@ -1,3 +1,4 @@
 pub mod Laws
+pub mod ReadBack
 pub mod Report
 pub mod Text

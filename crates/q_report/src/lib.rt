@@ -5,7 +5,8 @@
 //! - `proofs/*Rows.antt` compute the reports of 51 worked scripts, from their bytes to the bytes that are written. Where whole
 //!   settings would take too long to compute, flows are few and times small.
 //!
-//! - [`laws`] says that a session whose nodes keep totals writes what one whose nodes keep whole histories writes.
+//! - [`laws`] says that a session whose nodes keep totals writes what one whose nodes keep whole histories writes, and that what
+//!   show prints is read back as the command that makes it (`specs/ReadBack.antt`).
 //!
 //! No function writes a report here. The contract of `run` in `qtree` is stated over this one, of which the words of today
 //! are spoken.

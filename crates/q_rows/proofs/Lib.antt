@@ -12,11 +12,13 @@ mod FqCodelScripts
 mod FqCodelValues
 mod HeadValues
 mod LargeReports
+mod LeftmostValues
 mod LineFaults
 mod LineValues
 mod NoteScripts
 mod PacketValues
 mod PeekScripts
+mod ReadBackRows
 mod RefusalReports
 mod Reports
 mod RuleReports
@@ -24,6 +26,7 @@ pub mod Script
 mod ScriptValues
 pub mod SharedRules
 mod SharingScripts
+mod ShowValues
 mod TbfPrioScripts
 mod TreeReports
 mod WordValues

@@ -1,6 +1,6 @@
 -- Words of the language, and the values that they are read as: every unit, the ends of every range, forms before ranges.
 -- The rules are those of docs/LANGUAGE.md; ranges are those of docs/DISCIPLINES.md.
-use Rattle.std.proofs.Common.{◌≡◌, ℕ, ◌-◌, ◌^◌, [], ◌∷◌, map, Some, None, refl}
+use Rattle.std.proofs.Common.{◌≡◌, ◌-◌, ◌^◌, [], ◌∷◌, map, refl}
 use Rattle.std.specs.Prelude.{codes, Ok, Err}
 use Rattle.q_model.specs.declared.ip_version.IpVersion.TheVariants.{V4, V6}
 use Rattle.q_model.specs.declared.protocol.Protocol.TheVariants.{All, Ip, Ipv6}

@@ -1,5 +1,4 @@
 pub mod Arrivals
-pub mod Hexadecimal
 pub mod LinesLemmas
 pub mod OnErr
 pub mod Playing

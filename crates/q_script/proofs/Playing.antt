@@ -6,7 +6,7 @@ use Rattle.q_script.specs.declared.totals.Totals.{Totals}
 use Rattle.q_line.specs.Script.{is_starved}
 use Rattle.q_script.specs.Session.{SessionState, Effect}
 use Rattle.q_script.specs.Step.{effect_of, HasEffect, FailsWithin, run_of, IsPartOfRun, IsWholeRun}
-use Rattle.q_script.specs.Written.{AppendsFront, IsBuffered}
+use Rattle.q_show.specs.Written.{AppendsFront, IsBuffered}
 use Rattle.q_script.proofs.Polling.{preceded}
 use Rattle.q_script.proofs.StarvedLines.{AllBelow, AllFrom, below-later, below-push, from-earlier, starved-here, starved-not}
 use Rattle.q_script.proofs.WrittenLemmas.{buffered-all, buffered-trans, buffered-more, front-of, front-longer}

@@ -7,7 +7,7 @@ use Rattle.q_packet.specs.Descriptor.{Descriptor}
 use Rattle.q_script.specs.Device.{DeviceState, given, polled}
 use Rattle.q_script.specs.Text.{poll_line}
 use Rattle.q_script.specs.Session.{SessionState, Effect, polls}
-use Rattle.q_script.specs.Written.{AppendsFront, IsBuffered}
+use Rattle.q_show.specs.Written.{AppendsFront, IsBuffered}
 use Rattle.q_script.proofs.WrittenLemmas.{buffered-trans, buffered-more, front-of, front-longer}
 
 -- an effect with a text in front

@@ -9,7 +9,7 @@ use Rattle.q_script.specs.Tally.{totals}
 use Rattle.q_line.specs.Script.{lines_of}
 use Rattle.q_script.specs.Session.{SessionState, new_session, pfifo_replay, IsPfifoReported, IsPartlyPfifoReported}
 use Rattle.q_script.specs.Step.{run_of, IsWholeRun, IsPartOfRun}
-use Rattle.q_script.specs.Written.{AppendsFront}
+use Rattle.q_show.specs.Written.{AppendsFront}
 use Rattle.q_script.proofs.Shrink.{shrink_effect, run-is}
 
 reported : (held holds : Option (List ℕ)) (settings : Settings) (script : List ℕ) (first last : SessionState Totals) (told : Outcome)

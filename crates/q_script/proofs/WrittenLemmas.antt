@@ -1,17 +1,8 @@
 -- Lemmas on texts that are written bit by bit.
-use Rattle.std.proofs.Common.{◌≡◌, ℕ, ◌-◌, List, ◌++◌, Option, sym, ap, ◌∙◌, subst, append_assoc, take, drop, length, take-append-drop, arith, length-append, length-drop}
-use Rattle.std.proofs.lemmas.List.{take_all}
+use Rattle.std.proofs.Common.{ℕ, List, ◌++◌, Option, sym, ap, ◌∙◌, subst, append_assoc, arith, length-append}
 use Rattle.std.specs.Io.KnownBytes.{Appends}
 use Rattle.std.proofs.KnownBytes.{Appends-trans}
-use Rattle.q_script.specs.Written.{AppendsFront, IsBuffered}
-
--- a write takes the front of what is buffered
-pub buffered-write : (a b c : Option (List ℕ)) (n : ℕ) (rest text : List ℕ) → IsBuffered a b rest text → Appends b c (take n rest) → IsBuffered a c (take (length rest - n) (drop n rest)) text
-buffered-write a b c n rest text h w =
-    let whole : take (length rest - n) (drop n rest) ≡ drop n rest = take_all (length rest - n) (drop n rest) (omega (arith, length-drop n rest)) in
-    let after : IsBuffered a c (drop n rest) text =
-    (h.0 ++ take n rest, Appends-trans a b c h.0 (take n rest) h.1 w, h.2 ∙ (ap (λ l. h.0 ++ l) (sym (take-append-drop n rest)) ∙ sym (append_assoc h.0 (take n rest) (drop n rest)))) in
-    subst (λ l. IsBuffered a c l text) (sym whole) after
+use Rattle.q_show.specs.Written.{AppendsFront, IsBuffered}
 
 -- what is buffered is written in part, and the rest of it stays buffered
 pub buffered-trans : (a b c : Option (List ℕ)) (left mid text : List ℕ) → IsBuffered a b mid text → IsBuffered b c left mid → IsBuffered a c left text

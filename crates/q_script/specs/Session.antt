@@ -21,7 +21,7 @@ use Rattle.q_script.specs.Tally.{Tally, history}
 use Rattle.q_script.specs.Device.{DeviceState, new_device, is_accepted, arrived, given, polled, has_explicit_root, with_root}
 use Rattle.q_line.specs.Script.{fault_line}
 use Rattle.std.specs.Io.KnownBytes.{Appends}
-use Rattle.q_script.specs.Written.{AppendsFront}
+use Rattle.q_show.specs.Written.{AppendsFront}
 use Rattle.q_script.specs.Text.{refused_line, poll_line, show_text}
 
 -- What a script's lines have made so far: the device, the moment of the lines that follow, how many packets were

@@ -9,7 +9,7 @@ use Rattle.q_script.specs.Tally.{totals}
 use Rattle.std.specs.Io.KnownBytes.{Appends}
 use Rattle.q_line.specs.Script.{is_starved}
 use Rattle.q_script.specs.Session.{SessionState, Effect, effect, replayed}
-use Rattle.q_script.specs.Written.{AppendsFront, IsBuffered}
+use Rattle.q_show.specs.Written.{AppendsFront, IsBuffered}
 
 -- any line but polls
 abbrev pub IsNoPoll : Line → Type 0

@@ -1,14 +1,13 @@
 ghost use Rattle.std.specs.Prelude.{◌≡◌, ◌+◌, ◌≤◌, ◌++◌, List, [], ℕ, OnOk, OnErr, IfOk, length, decimal};
 ghost use Rattle.std.specs.Io.KnownBytes.{Appends};
-ghost use Rattle.q_script.specs.Written.{AppendsFront, IsBuffered};
+ghost use Rattle.q_show.specs.Written.{AppendsFront, IsBuffered};
+ghost use Rattle.q_script.specs.Lengths.{HasRoom, most_step};
+ghost use Rattle.q_show.specs.Lengths.{GrowsBy, most_decimal};
 
+use q_show::{WriteFault, write_whole};
 use std::alloc::{AllocError, Global};
 use std::io::Write;
 use std::marker::Model;
-
-/// The writer took no byte, or failed.
-#[derive(Clone, Copy, PartialEq, Eq, Debug)]
-pub struct WriteFault;
 
 /// The report's text on its way to the writer, in a buffer that is taken once. A contract sees the buffered bytes.
 #[derive(Drop)]
@@ -24,12 +23,13 @@ const STEP: usize = 1024;
 
 impl Model for Output {
     ghost use Rattle.std.specs.Prelude.{List, ℕ, ◌≤◌, vec_capacity};
+    ghost use Rattle.q_script.specs.Lengths.{capacity};
 
     ghost Value = { List ℕ };
 
     ghost view = { λ o. o.buffer.items };
 
-    ghost invariant = { λ o. 65536 ≤ vec_capacity o.buffer };
+    ghost invariant = { λ o. capacity ≤ vec_capacity o.buffer };
 }
 
 impl Output {
@@ -44,7 +44,7 @@ impl Output {
 
     /// Adds bytes for which there is room.
     pub fn put(&mut self, bytes: &[u8])
-        requires { length self.old + length bytes.now ≤ 65536 }
+        requires { HasRoom self.old (length bytes.now) }
         ensures text { self.new ≡ self.old ++ bytes.now }
         ensures len { length self.new ≡ length self.old + length bytes.now }
     {
@@ -55,16 +55,16 @@ impl Output {
 
     /// Adds a number in decimal digits.
     pub fn put_number(&mut self, n: u64)
-        requires { length self.old + 20 ≤ 65536 }
+        requires { HasRoom self.old most_decimal }
         ensures text { self.new ≡ self.old ++ decimal n }
-        ensures short { length self.new ≤ length self.old + 20 }
+        ensures short { GrowsBy self.old self.new most_decimal }
     {
         self.put(itoa::Buffer::new().format(n).as_bytes());
     }
 
     /// Makes room for one step of the report, by writing out what is buffered where there is none.
     pub fn make_room<W: Write>(&mut self, writer: &mut W) -> Result<(), WriteFault>
-        ensures room { OnOk result (length self.new + 1024 ≤ 65536) }
+        ensures room { OnOk result (HasRoom self.new most_step) }
         ensures ok { OnOk result (IsBuffered (W.contents writer.old) (W.contents writer.new) self.new self.old) }
         ensures err { OnErr result (AppendsFront (W.contents writer.old) (W.contents writer.new) self.old) }
     {
@@ -84,19 +84,4 @@ impl Output {
         self.buffer.clear();
         Ok(())
     }
-}
-
-/// Writes all the bytes. After an error the writer holds a front of them, and not all.
-fn write_whole<W: Write>(writer: &mut W, bytes: &[u8]) -> Result<(), WriteFault>
-    ensures ok { OnOk result (Appends (W.contents writer.old) (W.contents writer.new) bytes.now) }
-    ensures err { OnErr result (AppendsFront (W.contents writer.old) (W.contents writer.new) bytes.now) }
-{
-    let mut rest = bytes;
-    while !rest.is_empty() {
-        match writer.write(rest) {
-            Ok(0) | Err(_) => return Err(WriteFault),
-            Ok(n) => rest = &rest[n..],
-        }
-    }
-    Ok(())
 }

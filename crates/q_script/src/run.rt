@@ -7,11 +7,12 @@ ghost use Rattle.q_script.specs.Step.{IsWholeRun, IsPartOfRun};
 use crate::failed_read::FailedRead;
 use crate::lines::split_line;
 use crate::outcome::Outcome;
-use crate::output::{Output, WriteFault};
+use crate::output::Output;
 use crate::run_fault::RunFault;
 use crate::script::read_script;
 use crate::session::Session;
 use crate::settings::RunSettings;
+use q_show::WriteFault;
 use std::alloc::Global;
 use std::io::{Read, Write};
 

@@ -1,14 +1,16 @@
 ghost use Rattle.std.specs.Prelude.{◌≡◌, ◌<◌, ◌≤◌, ◌+◌, ◌++◌, ◌^◌, Bool, true, length, OnOk, OnErr};
 ghost use Rattle.q_line.specs.Ranges.{IsLine};
 ghost use Rattle.q_script.specs.Tally.{totals};
+ghost use Rattle.q_script.specs.Lengths.{HasRoom, most_fault, most_refusal, most_shown, most_step};
 
 use crate::device::Device;
-use crate::output::{Output, WriteFault};
+use crate::output::Output;
 use crate::refusal::Refusal;
 use crate::settings::RunSettings;
 use crate::text;
 use q_line::{Arrival, Command, Kind, Line, LineFault, Place, Show, read_line};
 use q_packet::{Ecn, FlowKey, Moment, Packet};
+use q_show::WriteFault;
 use std::alloc::Global;
 use std::io::Write;
 use std::marker::Model;
@@ -43,7 +45,7 @@ impl Session {
     ghost use Rattle.q_line.specs.Script.{fault_line};
     ghost use Rattle.q_script.specs.Text.{show_text};
     ghost use Rattle.q_script.specs.Step.{HasEffect, FailsWithin, IsNoPoll};
-    ghost use Rattle.q_script.specs.Written.{IsBuffered, AppendsFront};
+    ghost use Rattle.q_show.specs.Written.{IsBuffered, AppendsFront};
 
     /// A session on a new device. It takes no memory.
     pub fn new(alloc: Global, settings: &RunSettings) -> Session
@@ -75,7 +77,7 @@ impl Session {
     /// A packet arrives. Where memory for it is refused, its line says so.
     fn arrive(&mut self, number: u64, packet: Arrival, output: &mut Output)
         requires few { self.old.packets + 1 < 2 ^ 32 }
-        requires room { length output.old + 128 ≤ 65536 }
+        requires room { HasRoom output.old most_refusal }
         requires len { 1 ≤ packet.len }
         ensures { (starved : Bool)
             × (self.new ≡ (arrival totals starved number packet.len self.old).session)
@@ -121,7 +123,7 @@ impl Session {
 
     /// A command: a new root, which an explicit one refuses.
     fn command(&mut self, number: u64, command: Command, output: &mut Output)
-        requires { length output.old + 128 ≤ 65536 }
+        requires { HasRoom output.old most_refusal }
         ensures after { self.new ≡ (commanded totals number command self.old).session }
         ensures text { output.new ≡ output.old ++ (commanded totals number command self.old).text }
     {
@@ -140,7 +142,7 @@ impl Session {
 
     /// The qdiscs, with their counters where they are asked for.
     fn show(&self, show: Show, output: &mut Output)
-        requires { length output.old + 512 ≤ 65536 }
+        requires { HasRoom output.old most_shown }
         ensures { output.new ≡ output.old ++ show_text totals show.counters self.now.device }
     {
         text::put_qdisc(output, self.device.root());
@@ -151,7 +153,7 @@ impl Session {
 
     /// A line with a fault.
     fn fault(&mut self, number: u64, fault: LineFault, output: &mut Output)
-        requires { length output.old + 1024 ≤ 65536 }
+        requires { HasRoom output.old most_fault }
         ensures after { self.new ≡ record self.old { refused = true } }
         ensures text { output.new ≡ output.old ++ fault_line number fault }
     {
@@ -162,7 +164,7 @@ impl Session {
     /// A line that is no poll.
     fn answer(&mut self, number: u64, line: Line, output: &mut Output)
         requires few { self.old.packets + 1 < 2 ^ 32 }
-        requires room { length output.old + 1024 ≤ 65536 }
+        requires room { HasRoom output.old most_step }
         requires in_range { IsLine line }
         requires no_poll { IsNoPoll line }
         ensures { (starved : Bool)

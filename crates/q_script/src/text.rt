@@ -1,11 +1,13 @@
 //! The report's texts, each put into the output whole.
-ghost use Rattle.std.specs.Prelude.{◌≡◌, ◌+◌, ◌<◌, ◌≤◌, ◌++◌, length, decimal, false};
-ghost use Rattle.std.specs.Fmt.{digits, digit_glyph};
+ghost use Rattle.std.specs.Prelude.{◌≡◌, ◌+◌, ◌≤◌, ◌++◌, length, decimal, false};
+ghost use Rattle.std.specs.Fmt.{digits};
 ghost use Rattle.q_words.specs.FaultText.{fault_text};
 ghost use Rattle.q_script.specs.Tally.{totals};
 ghost use Rattle.q_script.specs.Insides.{counted_of, leaf_of};
 ghost use Rattle.q_line.specs.Script.{line_text, fault_line};
 ghost use Rattle.q_script.specs.Text.{refused_line, poll_line, totals_text, counters_line, handle_text, limit_text, kind_text, qdisc_line};
+ghost use Rattle.q_script.specs.Lengths.{HasRoom, most_counters, most_fault, most_fault_name, most_fault_text, most_kind, most_limit, most_line_number, most_poll, most_qdisc, most_refusal};
+ghost use Rattle.q_show.specs.Lengths.{GrowsBy, most_hex, most_name, most_totals};
 
 use crate::leaf::Leaf;
 use crate::output::Output;
@@ -14,12 +16,13 @@ use crate::totals::Totals;
 use q_codel::Limit;
 use q_line::LineFault;
 use q_packet::Packet;
+use q_show::Hexadecimal;
 
 /// `line K: `, with the line's number.
 fn put_line_number(output: &mut Output, number: u64)
-    requires { length output.old + 32 ≤ 65536 }
+    requires { HasRoom output.old most_line_number }
     ensures text { output.new ≡ output.old ++ line_text number }
-    ensures short { length output.new ≤ length output.old + 32 }
+    ensures short { GrowsBy output.old output.new most_line_number }
 {
     output.put(b"line ");
     output.put_number(number);
@@ -28,7 +31,7 @@ fn put_line_number(output: &mut Output, number: u64)
 
 /// The line on a refusal.
 pub fn put_refusal(output: &mut Output, number: u64, refusal: Refusal)
-    requires { length output.old + 64 ≤ 65536 }
+    requires { HasRoom output.old most_refusal }
     ensures { output.new ≡ output.old ++ refused_line number refusal }
 {
     put_line_number(output, number);
@@ -41,10 +44,10 @@ pub fn put_refusal(output: &mut Output, number: u64, refusal: Refusal)
 
 /// A fault's number and name, and the index of the word that has it.
 fn put_named_fault(output: &mut Output, name: &[u8], word: usize)
-    requires room { length output.old + 64 ≤ 65536 }
-    requires name { length name.now ≤ 32 }
+    requires room { HasRoom output.old most_fault_text }
+    requires name { length name.now ≤ most_fault_name }
     ensures text { output.new ≡ output.old ++ (name.now ++ decimal word) }
-    ensures short { length output.new ≤ length output.old + 64 }
+    ensures short { GrowsBy output.old output.new most_fault_text }
 {
     output.put(name);
     output.put_number(word as u64);
@@ -52,9 +55,9 @@ fn put_named_fault(output: &mut Output, name: &[u8], word: usize)
 
 /// A fault and the word that has it.
 fn put_fault_text(output: &mut Output, fault: LineFault)
-    requires { length output.old + 64 ≤ 65536 }
+    requires { HasRoom output.old most_fault_text }
     ensures text { output.new ≡ output.old ++ fault_text fault }
-    ensures short { length output.new ≤ length output.old + 64 }
+    ensures short { GrowsBy output.old output.new most_fault_text }
 {
     match fault {
         LineFault::UnknownWord(word) => {
@@ -70,7 +73,7 @@ fn put_fault_text(output: &mut Output, fault: LineFault)
 
 /// The line on a fault.
 pub fn put_fault(output: &mut Output, number: u64, fault: LineFault)
-    requires { length output.old + 128 ≤ 65536 }
+    requires { HasRoom output.old most_fault }
     ensures { output.new ≡ output.old ++ fault_line number fault }
 {
     put_line_number(output, number);
@@ -80,7 +83,7 @@ pub fn put_fault(output: &mut Output, number: u64, fault: LineFault)
 
 /// What a poll gave.
 pub fn put_poll(output: &mut Output, given: Option<Packet>)
-    requires { length output.old + 64 ≤ 65536 }
+    requires { HasRoom output.old most_poll }
     ensures { output.new ≡ output.old ++ poll_line given }
 {
     let Some(packet) = given else {
@@ -96,10 +99,10 @@ pub fn put_poll(output: &mut Output, given: Option<Packet>)
 
 /// A counter's name, packets and bytes.
 fn put_totals(output: &mut Output, name: &[u8], counted: Totals)
-    requires room { length output.old + 64 ≤ 65536 }
-    requires name { length name.now ≤ 8 }
+    requires room { HasRoom output.old most_totals }
+    requires name { length name.now ≤ most_name }
     ensures text { output.new ≡ output.old ++ totals_text name.now counted }
-    ensures short { length output.new ≤ length output.old + 64 }
+    ensures short { GrowsBy output.old output.new most_totals }
 {
     output.put(b" ");
     output.put(name);
@@ -112,7 +115,7 @@ fn put_totals(output: &mut Output, name: &[u8], counted: Totals)
 
 /// The counters of a node, on a line.
 pub fn put_counters(output: &mut Output, leaf: &Leaf)
-    requires { length output.old + 400 ≤ 65536 }
+    requires { HasRoom output.old most_counters }
     ensures { output.new ≡ output.old ++ counters_line totals (leaf_of leaf.now) }
 {
     put_totals(output, b"arrived", leaf.counters.arrived);
@@ -127,47 +130,20 @@ pub fn put_counters(output: &mut Output, leaf: &Leaf)
     output.put(b"\n");
 }
 
-/// The ASCII digit of a number below 16.
-fn hexadecimal_digit(n: u16) -> u8
-    requires { n < 16 }
-    ensures { result ≡ digit_glyph false n }
-{
-    if n < 10 {
-        b'0' + n as u8
-    } else {
-        b'a' + (n as u8 - 10)
-    }
-}
-
 /// A number in hexadecimal digits.
 fn put_hexadecimal(output: &mut Output, n: u16)
-    requires { length output.old + 4 ≤ 65536 }
+    requires { HasRoom output.old most_hex }
     ensures text { output.new ≡ output.old ++ digits 16 false n }
-    ensures short { length output.new ≤ length output.old + 4 }
+    ensures short { GrowsBy output.old output.new most_hex }
 {
-    let low = hexadecimal_digit(n % 16);
-    if n < 16 {
-        output.put(&[low]);
-        return;
-    }
-    let second = hexadecimal_digit(n / 16 % 16);
-    if n < 256 {
-        output.put(&[second, low]);
-        return;
-    }
-    let third = hexadecimal_digit(n / 256 % 16);
-    if n < 4096 {
-        output.put(&[third, second, low]);
-        return;
-    }
-    output.put(&[hexadecimal_digit(n / 4096), third, second, low]);
+    output.put(Hexadecimal::new(n).as_bytes());
 }
 
 /// A major number in hexadecimal; an implicit leaf is shown as 0.
 fn put_handle(output: &mut Output, handle: Option<u16>)
-    requires { length output.old + 4 ≤ 65536 }
+    requires { HasRoom output.old most_hex }
     ensures text { output.new ≡ output.old ++ handle_text handle }
-    ensures short { length output.new ≤ length output.old + 4 }
+    ensures short { GrowsBy output.old output.new most_hex }
 {
     match handle {
         Some(major) => put_hexadecimal(output, major),
@@ -177,9 +153,9 @@ fn put_handle(output: &mut Output, handle: Option<u16>)
 
 /// The kind of a queue with this limit.
 fn put_kind(output: &mut Output, limit: Limit)
-    requires { length output.old + 5 ≤ 65536 }
+    requires { HasRoom output.old most_kind }
     ensures text { output.new ≡ output.old ++ kind_text limit }
-    ensures short { length output.new ≤ length output.old + 5 }
+    ensures short { GrowsBy output.old output.new most_kind }
 {
     match limit {
         Limit::Packets(_) => output.put(b"pfifo"),
@@ -189,9 +165,9 @@ fn put_kind(output: &mut Output, limit: Limit)
 
 /// A limit in packets or in bytes.
 fn put_limit(output: &mut Output, limit: Limit)
-    requires { length output.old + 32 ≤ 65536 }
+    requires { HasRoom output.old most_limit }
     ensures text { output.new ≡ output.old ++ limit_text limit }
-    ensures short { length output.new ≤ length output.old + 32 }
+    ensures short { GrowsBy output.old output.new most_limit }
 {
     output.put(b"limit ");
     match limit {
@@ -208,9 +184,9 @@ fn put_limit(output: &mut Output, limit: Limit)
 
 /// A qdisc's line: its kind, its handle, its place and its limit.
 pub fn put_qdisc(output: &mut Output, leaf: &Leaf)
-    requires { length output.old + 100 ≤ 65536 }
+    requires { HasRoom output.old most_qdisc }
     ensures text { output.new ≡ output.old ++ qdisc_line (leaf_of leaf.now) }
-    ensures short { length output.new ≤ length output.old + 100 }
+    ensures short { GrowsBy output.old output.new most_qdisc }
 {
     let limit = leaf.queue.limit();
     output.put(b"qdisc ");

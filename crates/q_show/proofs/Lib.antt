@@ -1,3 +1,3 @@
 pub mod Chains
-pub mod Hexadecimal
+pub mod Digits
 pub mod Written

@@ -1,2 +1,3 @@
+pub mod Lengths
 pub mod ShowText
 pub mod Written

@@ -1,5 +1,6 @@
 //! The text of a class.
 ghost use Rattle.std.specs.Prelude.{◌≡◌, ◌+◌, ◌≤◌, ◌++◌, length};
+ghost use Rattle.q_show.specs.Lengths.{GrowsBy, HasRoom, most_class, most_class_kind, most_class_line, most_turn};
 ghost use Rattle.q_show.specs.ShowText.{class_line, class_text, kind_of_class, turn_text};
 
 use crate::qdisc::put_setting;
@@ -8,9 +9,9 @@ use q_model::{ClassId, ClassKind, ClassView};
 
 /// The name of a class.
 pub fn put_class_id(text: &mut Text, class: ClassId)
-    requires { length text.old + 9 ≤ 1024 }
+    requires { HasRoom text.old most_class }
     ensures text { text.new ≡ text.old ++ class_text class }
-    ensures short { length text.new ≤ length text.old + 9 }
+    ensures short { GrowsBy text.old text.new most_class }
 {
     text.put_hexadecimal(class.major.major());
     text.put(b":");
@@ -19,7 +20,7 @@ pub fn put_class_id(text: &mut Text, class: ClassId)
 
 /// A class on its line.
 pub fn put_class(text: &mut Text, class: &ClassView)
-    requires { length text.old + 256 ≤ 1024 }
+    requires { HasRoom text.old most_class_line }
     ensures { text.new ≡ text.old ++ class_line class.now }
 {
     text.put(b"class ");
@@ -29,9 +30,9 @@ pub fn put_class(text: &mut Text, class: &ClassView)
 
 /// The kind of a class, its name, and what a drr keeps of it.
 fn put_class_kind(text: &mut Text, kind: ClassKind, class: ClassId)
-    requires { length text.old + 200 ≤ 1024 }
+    requires { HasRoom text.old most_class_kind }
     ensures text { text.new ≡ text.old ++ kind_of_class kind class }
-    ensures short { length text.new ≤ length text.old + 200 }
+    ensures short { GrowsBy text.old text.new most_class_kind }
 {
     match kind {
         ClassKind::Prio => {
@@ -53,9 +54,9 @@ fn put_class_kind(text: &mut Text, kind: ClassKind, class: ClassId)
 
 /// Whether a class of a drr is active, and what it may send.
 fn put_turn(text: &mut Text, deficit: Option<u64>)
-    requires { length text.old + 60 ≤ 1024 }
+    requires { HasRoom text.old most_turn }
     ensures text { text.new ≡ text.old ++ turn_text deficit }
-    ensures short { length text.new ≤ length text.old + 60 }
+    ensures short { GrowsBy text.old text.new most_turn }
 {
     match deficit {
         Some(deficit) => {

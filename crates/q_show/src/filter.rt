@@ -1,14 +1,16 @@
 //! The text of a filter.
 ghost use Rattle.std.specs.Prelude.{◌≡◌, ◌+◌, ◌≤◌, ◌%◌, ◌++◌, codes, length, decimal};
+ghost use Rattle.q_show.specs.Lengths.{GrowsBy, HasRoom, most_decimal, most_filter, most_hex, most_into, most_ip_proto, most_ipv4, most_ipv6, most_keys, most_matches, most_name, most_port, most_prefix, most_protocol};
 ghost use Rattle.q_show.specs.ShowText.{address_text, filter_line, given, hex, into_text, keys_text, matches_text, prefix_text, protocol_text};
 ghost use Rattle.q_model.specs.declared.ip_version.IpVersion.TheVariants.{V4, V6};
 
+use crate::class::put_class_id;
 use crate::text::Text;
-use q_model::{FilterKeys, FilterView, IpPrefix, IpVersion, Protocol};
+use q_model::{ClassId, FilterKeys, FilterView, IpPrefix, IpVersion, Protocol};
 
 /// A filter on its line.
 pub fn put_filter(text: &mut Text, filter: &FilterView)
-    requires { length text.old + 600 ≤ 1024 }
+    requires { HasRoom text.old most_filter }
     ensures { text.new ≡ text.old ++ filter_line filter.now }
 {
     put_matches(text, filter);
@@ -19,9 +21,9 @@ pub fn put_filter(text: &mut Text, filter: &FilterView)
 
 /// The node that has the filter, its priority, and the protocol of the packets that it looks at.
 fn put_matches(text: &mut Text, filter: &FilterView)
-    requires { length text.old + 64 ≤ 1024 }
+    requires { HasRoom text.old most_matches }
     ensures text { text.new ≡ text.old ++ matches_text filter.now }
-    ensures short { length text.new ≤ length text.old + 64 }
+    ensures short { GrowsBy text.old text.new most_matches }
 {
     text.put(b"filter parent ");
     text.put_hexadecimal(filter.parent.major());
@@ -33,21 +35,23 @@ fn put_matches(text: &mut Text, filter: &FilterView)
 
 /// The class that it gives its packets to.
 fn put_into(text: &mut Text, filter: &FilterView)
-    requires { length text.old + 32 ≤ 1024 }
+    requires { HasRoom text.old most_into }
     ensures text { text.new ≡ text.old ++ into_text filter.now }
-    ensures short { length text.new ≤ length text.old + 32 }
+    ensures short { GrowsBy text.old text.new most_into }
 {
     text.put(b" classid ");
-    text.put_hexadecimal(filter.parent.major());
-    text.put(b":");
-    text.put_hexadecimal(filter.filter.minor.number());
+    let class = ClassId {
+        major: filter.parent,
+        minor: filter.filter.minor,
+    };
+    put_class_id(text, class);
 }
 
 /// The name of a protocol.
 fn put_protocol(text: &mut Text, protocol: Protocol)
-    requires { length text.old + 4 ≤ 1024 }
+    requires { HasRoom text.old most_protocol }
     ensures text { text.new ≡ text.old ++ protocol_text protocol }
-    ensures short { length text.new ≤ length text.old + 4 }
+    ensures short { GrowsBy text.old text.new most_protocol }
 {
     match protocol {
         Protocol::All => text.put(b"all"),
@@ -58,9 +62,9 @@ fn put_protocol(text: &mut Text, protocol: Protocol)
 
 /// The keys that were given.
 fn put_keys(text: &mut Text, keys: &FilterKeys)
-    requires { length text.old + 400 ≤ 1024 }
+    requires { HasRoom text.old most_keys }
     ensures text { text.new ≡ text.old ++ keys_text keys.now }
-    ensures short { length text.new ≤ length text.old + 400 }
+    ensures short { GrowsBy text.old text.new most_keys }
 {
     put_ip_proto(text, keys.ip_proto);
     put_prefix(text, b"src_ip", keys.src_ip);
@@ -71,42 +75,38 @@ fn put_keys(text: &mut Text, keys: &FilterKeys)
 
 /// The protocol above IP, in hexadecimal, where it was given.
 fn put_ip_proto(text: &mut Text, proto: Option<u8>)
-    requires { length text.old + 32 ≤ 1024 }
+    requires { HasRoom text.old most_ip_proto }
     ensures text { text.new ≡ text.old ++ given (codes "ip_proto") hex proto }
-    ensures short { length text.new ≤ length text.old + 32 }
+    ensures short { GrowsBy text.old text.new most_ip_proto }
 {
     if let Some(proto) = proto {
-        text.put(b" ip_proto ");
+        text.put_name(b"ip_proto");
         text.put_hexadecimal(u16::from(proto));
     }
 }
 
 /// A port, where it was given.
 fn put_port(text: &mut Text, name: &[u8], port: Option<u16>)
-    requires room { length text.old + 32 ≤ 1024 }
-    requires name { length name.now ≤ 8 }
+    requires room { HasRoom text.old most_port }
+    requires name { length name.now ≤ most_name }
     ensures text { text.new ≡ text.old ++ given name.now decimal port }
-    ensures short { length text.new ≤ length text.old + 32 }
+    ensures short { GrowsBy text.old text.new most_port }
 {
     if let Some(port) = port {
-        text.put(b" ");
-        text.put(name);
-        text.put(b" ");
+        text.put_name(name);
         text.put_number(u64::from(port));
     }
 }
 
 /// A prefix, where it was given.
 fn put_prefix(text: &mut Text, name: &[u8], prefix: Option<IpPrefix>)
-    requires room { length text.old + 128 ≤ 1024 }
-    requires name { length name.now ≤ 8 }
+    requires room { HasRoom text.old most_prefix }
+    requires name { length name.now ≤ most_name }
     ensures text { text.new ≡ text.old ++ given name.now prefix_text prefix }
-    ensures short { length text.new ≤ length text.old + 128 }
+    ensures short { GrowsBy text.old text.new most_prefix }
 {
     if let Some(prefix) = prefix {
-        text.put(b" ");
-        text.put(name);
-        text.put(b" ");
+        text.put_name(name);
         match prefix.version {
             IpVersion::V4 => put_ipv4(text, prefix.address),
             IpVersion::V6 => put_ipv6(text, prefix.address),
@@ -118,9 +118,9 @@ fn put_prefix(text: &mut Text, name: &[u8], prefix: Option<IpPrefix>)
 
 /// Four numbers joined by points.
 fn put_ipv4(text: &mut Text, address: u128)
-    requires { length text.old + 83 ≤ 1024 }
+    requires { HasRoom text.old most_ipv4 }
     ensures text { text.new ≡ text.old ++ address_text V4 address }
-    ensures short { length text.new ≤ length text.old + 83 }
+    ensures short { GrowsBy text.old text.new most_ipv4 }
 {
     put_octet(text, address >> 24);
     text.put(b".");
@@ -133,18 +133,18 @@ fn put_ipv4(text: &mut Text, address: u128)
 
 /// The last eight bits of a number, in decimal.
 fn put_octet(text: &mut Text, bits: u128)
-    requires { length text.old + 20 ≤ 1024 }
+    requires { HasRoom text.old most_decimal }
     ensures text { text.new ≡ text.old ++ decimal (bits % 256) }
-    ensures short { length text.new ≤ length text.old + 20 }
+    ensures short { GrowsBy text.old text.new most_decimal }
 {
     text.put_number((bits % 256) as u64);
 }
 
 /// Eight groups joined by colons.
 fn put_ipv6(text: &mut Text, address: u128)
-    requires { length text.old + 39 ≤ 1024 }
+    requires { HasRoom text.old most_ipv6 }
     ensures text { text.new ≡ text.old ++ address_text V6 address }
-    ensures short { length text.new ≤ length text.old + 39 }
+    ensures short { GrowsBy text.old text.new most_ipv6 }
 {
     put_group(text, address >> 112);
     text.put(b":");
@@ -165,9 +165,9 @@ fn put_ipv6(text: &mut Text, address: u128)
 
 /// The last sixteen bits of a number, in hexadecimal.
 fn put_group(text: &mut Text, bits: u128)
-    requires { length text.old + 4 ≤ 1024 }
+    requires { HasRoom text.old most_hex }
     ensures text { text.new ≡ text.old ++ hex (bits % 65536) }
-    ensures short { length text.new ≤ length text.old + 4 }
+    ensures short { GrowsBy text.old text.new most_hex }
 {
     text.put_hexadecimal((bits % 65536) as u16);
 }

@@ -1,6 +1,7 @@
 //! The text of a qdisc.
 ghost use Rattle.std.specs.Prelude.{◌≡◌, ◌+◌, ◌≤◌, ◌++◌, length};
 ghost use Rattle.std.specs.List.{flat_map};
+ghost use Rattle.q_show.specs.Lengths.{GrowsBy, HasRoom, most_counters, most_counters_line, most_ecn, most_fq_codel, most_hex, most_kind, most_losses, most_name, most_options, most_place, most_priomap, most_qdisc, most_qdisc_line, most_setting, most_sizes, most_times, most_totals, most_unit};
 ghost use Rattle.q_show.specs.ShowText.{counters_line, counters_text, ecn_text, fq_codel_text, handle_text, kind_text, losses_text, marked_text, options_text, place_text, priomap_text, qdisc_text, qdisc_line, setting, sizes_text, times_text, totals_text};
 
 use crate::class::put_class_id;
@@ -10,7 +11,7 @@ use q_model::{Handle, NodeView, Place, QdiscView, Row, Totals};
 
 /// A qdisc, with its counters on a line of their own where they are asked for.
 pub fn put_qdisc(text: &mut Text, node: &NodeView, counters: bool)
-    requires { length text.old + 900 ≤ 1024 }
+    requires { HasRoom text.old most_qdisc }
     ensures { text.new ≡ text.old ++ qdisc_text counters node.now }
 {
     put_qdisc_line(text, node);
@@ -21,7 +22,7 @@ pub fn put_qdisc(text: &mut Text, node: &NodeView, counters: bool)
 
 /// The line of its counters.
 fn put_counters_line(text: &mut Text, node: &NodeView)
-    requires { length text.old + 388 ≤ 1024 }
+    requires { HasRoom text.old most_counters_line }
     ensures { text.new ≡ text.old ++ counters_line node.now }
 {
     put_counters(text, &node.row);
@@ -31,9 +32,9 @@ fn put_counters_line(text: &mut Text, node: &NodeView)
 
 /// A qdisc's line: its kind, its handle, its place and its options.
 fn put_qdisc_line(text: &mut Text, node: &NodeView)
-    requires { length text.old + 512 ≤ 1024 }
+    requires { HasRoom text.old most_qdisc_line }
     ensures text { text.new ≡ text.old ++ qdisc_line node.now }
-    ensures short { length text.new ≤ length text.old + 512 }
+    ensures short { GrowsBy text.old text.new most_qdisc_line }
 {
     text.put(b"qdisc ");
     put_kind(text, &node.qdisc);
@@ -47,14 +48,12 @@ fn put_qdisc_line(text: &mut Text, node: &NodeView)
 
 /// A counter's name, packets and bytes.
 fn put_totals(text: &mut Text, name: &[u8], counted: Totals)
-    requires room { length text.old + 64 ≤ 1024 }
-    requires name { length name.now ≤ 8 }
+    requires room { HasRoom text.old most_totals }
+    requires name { length name.now ≤ most_name }
     ensures text { text.new ≡ text.old ++ totals_text name.now counted }
-    ensures short { length text.new ≤ length text.old + 64 }
+    ensures short { GrowsBy text.old text.new most_totals }
 {
-    text.put(b" ");
-    text.put(name);
-    text.put(b" ");
+    text.put_name(name);
     text.put_number(counted.packets);
     text.put(b"p ");
     text.put_number(counted.bytes);
@@ -63,9 +62,9 @@ fn put_totals(text: &mut Text, name: &[u8], counted: Totals)
 
 /// What a node has counted.
 fn put_counters(text: &mut Text, row: &Row)
-    requires { length text.old + 320 ≤ 1024 }
+    requires { HasRoom text.old most_counters }
     ensures text { text.new ≡ text.old ++ counters_text row.now }
-    ensures short { length text.new ≤ length text.old + 320 }
+    ensures short { GrowsBy text.old text.new most_counters }
 {
     put_totals(text, b"arrived", row.arrived);
     put_totals(text, b"sent", row.sent);
@@ -76,9 +75,9 @@ fn put_counters(text: &mut Text, row: &Row)
 
 /// The marks, which are shown of an fq_codel alone.
 fn put_marked(text: &mut Text, qdisc: &QdiscView, row: &Row)
-    requires { length text.old + 64 ≤ 1024 }
+    requires { HasRoom text.old most_totals }
     ensures text { text.new ≡ text.old ++ marked_text qdisc.now row.now }
-    ensures short { length text.new ≤ length text.old + 64 }
+    ensures short { GrowsBy text.old text.new most_totals }
 {
     if let QdiscView::FqCodel(_) = qdisc {
         put_totals(text, b"marked", row.marked);
@@ -87,9 +86,9 @@ fn put_marked(text: &mut Text, qdisc: &QdiscView, row: &Row)
 
 /// A major number in hexadecimal; an implicit leaf is shown as 0.
 fn put_handle(text: &mut Text, handle: Option<Handle>)
-    requires { length text.old + 4 ≤ 1024 }
+    requires { HasRoom text.old most_hex }
     ensures text { text.new ≡ text.old ++ handle_text handle }
-    ensures short { length text.new ≤ length text.old + 4 }
+    ensures short { GrowsBy text.old text.new most_hex }
 {
     match handle {
         Some(handle) => text.put_hexadecimal(handle.major()),
@@ -99,9 +98,9 @@ fn put_handle(text: &mut Text, handle: Option<Handle>)
 
 /// Where a node stands.
 fn put_place(text: &mut Text, place: Place)
-    requires { length text.old + 16 ≤ 1024 }
+    requires { HasRoom text.old most_place }
     ensures text { text.new ≡ text.old ++ place_text place }
-    ensures short { length text.new ≤ length text.old + 16 }
+    ensures short { GrowsBy text.old text.new most_place }
 {
     match place {
         Place::Top => {}
@@ -115,9 +114,9 @@ fn put_place(text: &mut Text, place: Place)
 
 /// The name of a kind.
 fn put_kind(text: &mut Text, qdisc: &QdiscView)
-    requires { length text.old + 8 ≤ 1024 }
+    requires { HasRoom text.old most_kind }
     ensures text { text.new ≡ text.old ++ kind_text qdisc.now }
-    ensures short { length text.new ≤ length text.old + 8 }
+    ensures short { GrowsBy text.old text.new most_kind }
 {
     match qdisc {
         QdiscView::Pfifo { .. } => text.put(b"pfifo"),
@@ -131,24 +130,22 @@ fn put_kind(text: &mut Text, qdisc: &QdiscView)
 
 /// An option's name, its number and its unit.
 pub fn put_setting(text: &mut Text, name: &[u8], n: u64, unit: &[u8])
-    requires room { length text.old + 48 ≤ 1024 }
-    requires name { length name.now ≤ 16 }
-    requires unit { length unit.now ≤ 4 }
+    requires room { HasRoom text.old most_setting }
+    requires name { length name.now ≤ most_name }
+    requires unit { length unit.now ≤ most_unit }
     ensures text { text.new ≡ text.old ++ setting name.now n unit.now }
-    ensures short { length text.new ≤ length text.old + 48 }
+    ensures short { GrowsBy text.old text.new most_setting }
 {
-    text.put(b" ");
-    text.put(name);
-    text.put(b" ");
+    text.put_name(name);
     text.put_number(n);
     text.put(unit);
 }
 
 /// The options of a qdisc.
 fn put_options(text: &mut Text, qdisc: &QdiscView)
-    requires { length text.old + 460 ≤ 1024 }
+    requires { HasRoom text.old most_options }
     ensures text { text.new ≡ text.old ++ options_text qdisc.now }
-    ensures short { length text.new ≤ length text.old + 460 }
+    ensures short { GrowsBy text.old text.new most_options }
 {
     match *qdisc {
         QdiscView::Pfifo { limit } => put_setting(text, b"limit", limit, b"p"),
@@ -169,9 +166,9 @@ fn put_options(text: &mut Text, qdisc: &QdiscView)
 
 /// The bands of the priorities.
 fn put_priomap(text: &mut Text, priomap: &[u8; 16])
-    requires { length text.old + 400 ≤ 1024 }
+    requires { HasRoom text.old most_priomap }
     ensures text { text.new ≡ text.old ++ priomap_text priomap.now }
-    ensures short { length text.new ≤ length text.old + 400 }
+    ensures short { GrowsBy text.old text.new most_priomap }
 {
     text.put(b" priomap");
     for band in priomap {
@@ -182,9 +179,9 @@ fn put_priomap(text: &mut Text, priomap: &[u8; 16])
 
 /// The settings of an fq_codel.
 fn put_fq_codel(text: &mut Text, settings: &Settings)
-    requires { length text.old + 300 ≤ 1024 }
+    requires { HasRoom text.old most_fq_codel }
     ensures text { text.new ≡ text.old ++ fq_codel_text settings.now }
-    ensures short { length text.new ≤ length text.old + 300 }
+    ensures short { GrowsBy text.old text.new most_fq_codel }
 {
     put_sizes(text, settings);
     put_times(text, settings);
@@ -193,9 +190,9 @@ fn put_fq_codel(text: &mut Text, settings: &Settings)
 
 /// How much an fq_codel holds and sends.
 fn put_sizes(text: &mut Text, settings: &Settings)
-    requires { length text.old + 144 ≤ 1024 }
+    requires { HasRoom text.old most_sizes }
     ensures text { text.new ≡ text.old ++ sizes_text settings.now }
-    ensures short { length text.new ≤ length text.old + 144 }
+    ensures short { GrowsBy text.old text.new most_sizes }
 {
     put_setting(text, b"limit", u64::from(settings.limit), b"p");
     put_setting(text, b"flows", u64::from(settings.flows), b"");
@@ -204,9 +201,9 @@ fn put_sizes(text: &mut Text, settings: &Settings)
 
 /// The times of its CoDel.
 fn put_times(text: &mut Text, settings: &Settings)
-    requires { length text.old + 96 ≤ 1024 }
+    requires { HasRoom text.old most_times }
     ensures text { text.new ≡ text.old ++ times_text settings.now }
-    ensures short { length text.new ≤ length text.old + 96 }
+    ensures short { GrowsBy text.old text.new most_times }
 {
     put_setting(text, b"target", settings.target, b"ns");
     put_setting(text, b"interval", settings.interval, b"ns");
@@ -214,9 +211,9 @@ fn put_times(text: &mut Text, settings: &Settings)
 
 /// Whether it marks packets in place of a drop, and how many the fat flow loses at once.
 fn put_losses(text: &mut Text, ecn: bool, drop_batch: u32)
-    requires { length text.old + 60 ≤ 1024 }
+    requires { HasRoom text.old most_losses }
     ensures text { text.new ≡ text.old ++ losses_text ecn drop_batch }
-    ensures short { length text.new ≤ length text.old + 60 }
+    ensures short { GrowsBy text.old text.new most_losses }
 {
     put_ecn(text, ecn);
     put_setting(text, b"drop_batch", u64::from(drop_batch), b"");
@@ -224,9 +221,9 @@ fn put_losses(text: &mut Text, ecn: bool, drop_batch: u32)
 
 /// Whether it marks packets.
 fn put_ecn(text: &mut Text, ecn: bool)
-    requires { length text.old + 6 ≤ 1024 }
+    requires { HasRoom text.old most_ecn }
     ensures text { text.new ≡ text.old ++ ecn_text ecn }
-    ensures short { length text.new ≤ length text.old + 6 }
+    ensures short { GrowsBy text.old text.new most_ecn }
 {
     if ecn {
         text.put(b" ecn");

@@ -1,6 +1,8 @@
-ghost use Rattle.std.specs.Prelude.{◌≡◌, ◌+◌, ◌<◌, ◌≤◌, ◌++◌, [], length, decimal, false};
-ghost use Rattle.std.specs.Fmt.{digits, digit_glyph};
+ghost use Rattle.std.specs.Prelude.{◌≡◌, ◌+◌, ◌≤◌, ◌++◌, [], codes, length, decimal};
+ghost use Rattle.q_show.specs.Lengths.{HasRoom, GrowsBy, most_decimal, most_hex, most_name, most_named};
+ghost use Rattle.q_show.specs.ShowText.{hex};
 
+use crate::hexadecimal::Hexadecimal;
 use arrayvec::ArrayVec;
 use std::marker::Model;
 
@@ -40,7 +42,7 @@ impl Text {
 
     /// Adds bytes for which there is room.
     pub fn put(&mut self, bytes: &[u8])
-        requires { length self.old + length bytes.now ≤ 1024 }
+        requires { HasRoom self.old (length bytes.now) }
         ensures text { self.new ≡ self.old ++ bytes.now }
         ensures len { length self.new ≡ length self.old + length bytes.now }
     {
@@ -49,48 +51,33 @@ impl Text {
         };
     }
 
+    /// Adds a name, with a blank on either side.
+    pub fn put_name(&mut self, name: &[u8])
+        requires room { HasRoom self.old most_named }
+        requires name { length name.now ≤ most_name }
+        ensures text { self.new ≡ self.old ++ (codes " " ++ name.now ++ codes " ") }
+        ensures len { length self.new ≡ length self.old + (length name.now + 2) }
+    {
+        self.put(b" ");
+        self.put(name);
+        self.put(b" ");
+    }
+
     /// Adds a number in decimal digits.
     pub fn put_number(&mut self, n: u64)
-        requires { length self.old + 20 ≤ 1024 }
+        requires { HasRoom self.old most_decimal }
         ensures text { self.new ≡ self.old ++ decimal n }
-        ensures short { length self.new ≤ length self.old + 20 }
+        ensures short { GrowsBy self.old self.new most_decimal }
     {
         self.put(itoa::Buffer::new().format(n).as_bytes());
     }
 
     /// Adds a number in hexadecimal digits.
     pub fn put_hexadecimal(&mut self, n: u16)
-        requires { length self.old + 4 ≤ 1024 }
-        ensures text { self.new ≡ self.old ++ digits 16 false n }
-        ensures short { length self.new ≤ length self.old + 4 }
+        requires { HasRoom self.old most_hex }
+        ensures text { self.new ≡ self.old ++ hex n }
+        ensures short { GrowsBy self.old self.new most_hex }
     {
-        let low = hexadecimal_digit(n % 16);
-        if n < 16 {
-            self.put(&[low]);
-            return;
-        }
-        let second = hexadecimal_digit(n / 16 % 16);
-        if n < 256 {
-            self.put(&[second, low]);
-            return;
-        }
-        let third = hexadecimal_digit(n / 256 % 16);
-        if n < 4096 {
-            self.put(&[third, second, low]);
-            return;
-        }
-        self.put(&[hexadecimal_digit(n / 4096), third, second, low]);
-    }
-}
-
-/// The ASCII digit of a number below 16.
-fn hexadecimal_digit(n: u16) -> u8
-    requires { n < 16 }
-    ensures { result ≡ digit_glyph false n }
-{
-    if n < 10 {
-        b'0' + n as u8
-    } else {
-        b'a' + (n as u8 - 10)
+        self.put(Hexadecimal::new(n).as_bytes());
     }
 }

@@ -21,6 +21,8 @@ mod fq_codel;
 #[cfg(test)]
 mod fq_codel_twins;
 #[cfg(test)]
+mod frame_lines;
+#[cfg(test)]
 mod head;
 #[cfg(test)]
 mod line;
@@ -30,5 +32,7 @@ mod packet;
 mod plain_fq_codel;
 #[cfg(test)]
 mod runs;
+#[cfg(test)]
+mod show;
 #[cfg(test)]
 mod streams;

@@ -7,7 +7,7 @@ use Rattle.q_script.specs.declared.outcome.Outcome.{Outcome}
 use Rattle.q_script.specs.declared.run_fault.RunFault.{RunFault}
 use Rattle.q_script.specs.Settings.{Settings}
 use Rattle.q_script.specs.Session.{IsPfifoReported, IsPartlyPfifoReported}
-use Rattle.q_script.specs.Written.{AppendsFront}
+use Rattle.q_show.specs.Written.{AppendsFront}
 use Rattle.qtree.specs.Report.{IsReported, IsPartlyReported}
 use Rattle.qtree.proofs.FirstPath.{pfifo-is-whole}
 

@@ -9,7 +9,7 @@ use Rattle.q_report.specs.Report.{Effect, replay_in}
 use Rattle.q_script.specs.declared.outcome.Outcome.{Outcome}
 use Rattle.q_script.specs.declared.outcome.Outcome.TheVariants.{Clean, Refused}
 use Rattle.q_script.specs.Settings.{Settings}
-use Rattle.q_script.specs.Written.{AppendsFront}
+use Rattle.q_show.specs.Written.{AppendsFront}
 
 abbrev pub device_settings : Settings → DeviceSettings
 device_settings s = record { mtu = s.mtu; txqueuelen = s.txqueuelen; recorder = s.recorder }

@@ -1,4 +1,4 @@
-use Rattle.std.proofs.Common.{length}
+use Rattle.std.proofs.Common.{length, ◌+◌}
 use Rattle.q_show.specs.Written.{IsBuffered}
 use Rattle.q_show.proofs.write_fault.write_whole.Given as goal
 
@@ -6,5 +6,6 @@ use Rattle.q_show.proofs.write_fault.write_whole.Given as goal
 abbrev pub invariant-loop-rest : goal.invariant-loop-rest
 invariant-loop-rest g l = IsBuffered (g.W.Write.contents l.fn.writer) (g.W.Write.contents l.writer) l.rest l.bytes
 
+-- each turn writes a byte or more, or is one interrupted write fewer to come
 abbrev pub decreases-loop-rest : goal.decreases-loop-rest
-decreases-loop-rest g l = length l.rest
+decreases-loop-rest g l = length l.rest + l.tries

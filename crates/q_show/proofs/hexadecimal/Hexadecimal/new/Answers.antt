@@ -1,6 +1,6 @@
 use Rattle.std.proofs.Common.{arith}
-use Rattle.q_script.proofs.Hexadecimal.{digits-one, digits-two, digits-three, digits-four}
-use Rattle.q_script.proofs.text.put_hexadecimal.Goals as goal
+use Rattle.q_show.proofs.Digits.{digits-one, digits-two, digits-three, digits-four}
+use Rattle.q_show.proofs.hexadecimal.Hexadecimal.new.Goals as goal
 
 pub returns-then-n-lt16-clause-text : goal.returns-then-n-lt16-clause-text
 returns-then-n-lt16-clause-text c = let spelled = digits-one c.args.n (omega arith) in cc

@@ -1,5 +1,0 @@
-use Rattle.q_script.proofs.WrittenLemmas.{buffered-write}
-use Rattle.q_script.proofs.output.write_whole.Goals as goal
-
-pub loop-rest-preserved : goal.loop-rest-preserved
-loop-rest-preserved g c = buffered-write _ _ _ c.in-Ok.n c.loop-rest.rest.now c.args.bytes.now c.loop-rest.invariant c.in-Ok.ensures.bytes
