@@ -36,3 +36,5 @@ mod runs;
 mod show;
 #[cfg(test)]
 mod streams;
+#[cfg(test)]
+mod tree;

@@ -11,7 +11,7 @@ use Rattle.q_model.specs.declared.totals.Totals.{Totals}
 use Rattle.q_model.specs.Beneath.{beneath, beneath_own, totals_in}
 use Rattle.q_model.specs.Find.{depth, greatest, node_at}
 use Rattle.q_model.specs.Node.{Node, Own, shape, with_memory}
-use Rattle.q_model.specs.Route.{Route, route, device_route}
+use Rattle.q_model.specs.Route.{Route, way, route, device_route}
 use Rattle.q_model.specs.Step.{DeviceState}
 use Rattle.q_model.specs.Tally.{Arrived, Lost, Counts, counts_in, history, noted, totals, with_packet}
 use Rattle.q_model.specs.TreeState.{TreeState, put, put_on, loss_on, own_loss, with_work}
@@ -59,6 +59,13 @@ pub route-leads : (route : Option Route) (r : Route) (d : DeviceState Kept) → 
 route-leads route r d e h =
     let on = reaches h.packet d.tree.device.mtu d.tree.root r (sym e ∙ h.is) in
     leads h.packet r.path r.refusal d.tree.root on.is
+
+-- the route looks at no memory
+pub same-routes : (p : Descriptor) (n m : Node Kept) (mtu : ℕ) → unplaced n ≡ unplaced m → device_route p mtu n ≡ device_route p mtu m
+same-routes p n m mtu e =
+    let step : Own → List Route → Route = λ own below. way p own below own.discipline in
+    let bare : (x : Node Kept) → route p (unplaced x) ≡ route p x = λ x. ap (step x.own) (each-each_memory step (λ (k : Kept). k.counts) x.below) in
+    ap (λ (r : Route). if nat_lt mtu p.len then None else Some r) (sym (bare n) ∙ ap (λ (x : Node Counts). route p x) e ∙ bare m)
 
 -- a root that a packet never reaches
 pub still : (n : Node Kept) → booked kept n (quiet (shape n)) ≡ n

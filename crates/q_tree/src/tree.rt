@@ -1,5 +1,6 @@
 ghost use Rattle.std.specs.Prelude.{◌≡◌, ◌≤◌, ◌+◌, ◌++◌, length, IfSome, IsOk, OnOk};
-ghost use Rattle.q_model.specs.Beneath.{beneath};
+ghost use Rattle.q_packet.specs.Descriptor.{Descriptor};
+ghost use Rattle.q_model.specs.Beneath.{beneath, row_of};
 ghost use Rattle.q_model.specs.Node.{shape};
 ghost use Rattle.q_model.specs.Route.{device_route};
 ghost use Rattle.q_model.specs.Step.{losses_in, fate_of};
@@ -66,6 +67,20 @@ impl Tree {
         }
     }
 
+    /// The latest moment that it was given.
+    pub fn clock(&self) -> Moment
+        ensures { result ≡ self.now.clock }
+    {
+        self.clock
+    }
+
+    /// What the device counted, above the root.
+    pub fn totals(&self) -> Row
+        ensures { result ≡ row_of self.now.tree.top.counts (beneath self.now.tree.root) }
+    {
+        self.top
+    }
+
     /// The route of a packet: at most eight children, each the one that a filter, a band or a class names. It takes no memory.
     pub fn route(&self, packet: &Packet) -> Route
         ensures { result ≡ device_route packet.now self.now.tree.device.mtu self.now.tree.root }
@@ -84,10 +99,11 @@ impl Tree {
     /// # Errors
     ///
     /// `AllocError` where memory is refused, or one packet more could overflow what the device counts of arrivals. The tree is
-    /// as it was.
+    /// as it was, but for places.
     pub fn prepare(&mut self, route: &Route) -> Result<(), AllocError>
         requires { IsRouteIn route.now self.old }
         ensures same { numbers self.new ≡ numbers self.old }
+        ensures routes { (p : Descriptor) → device_route p self.new.tree.device.mtu self.new.tree.root ≡ device_route p self.old.tree.device.mtu self.old.tree.root }
         ensures ok { OnOk result (CanArrive route.now self.new) }
         ensures succeeds { CanArrive route.now self.old → IsOk result }
     {
