@@ -44,12 +44,14 @@ pub(crate) fn serve<S: Sink>(
         };
         match active.turn(packet.len) {
             Turn::Send => {
+                // What is given is what was shown.
                 give(active, classes, place);
                 return shown;
             }
             Turn::Granted => {}
         }
     }
+    // No class was active, so nobody was asked.
     Shown::at_hand(None)
 }
 

@@ -67,6 +67,7 @@ pub(crate) fn take_from_flows<S: Sink>(queue: &mut FqCodel, now: Moment, sink: &
         packets: packets - packets_after,
         bytes: bytes - bytes_after,
     };
+    // CoDel drops none of an empty fq_codel.
     let Some(taken) = taken else {
         return Shown::at_hand(None);
     };

@@ -1,10 +1,11 @@
 //! The tree of queueing disciplines.
 //!
+//! - [`Tree`] has the qdiscs of a device: packets are routed, put, peeked at and taken.
 //! - [`Command`] is a change of the tree, [`Kind`] a qdisc with its options, [`Place`] where it goes.
 //! - [`NotDone`] is why a change was not made, [`Row`] what a node counted, and [`NodeView`], [`ClassView`] and
 //!   [`FilterView`] are what `show` prints.
 //!
-//! What a tree does is defined in the `specs/` of `q_model`. Of its code the filters stand today.
+//! What a tree does is defined in the `specs/` of `q_model`. The calls that change its form are to come.
 #![tactic(auto)]
 
 mod at_hand;
