@@ -22,7 +22,7 @@ use Rattle.q_tree.proofs.AskOnce.{fits-beside, told-nothing, told-then}
 use Rattle.q_tree.proofs.AtHandLemmas.{none-held, some-held}
 use Rattle.q_tree.proofs.HereLemmas.{flow-packets}
 use Rattle.q_tree.proofs.Peeks.{IsPeekedAs, asked-in, told-in, each-of, room-of, own-room, items-are, serve-of, holding-after, can-in, enough, can-book, peeked-done, shown-here, told-here, tbf-gave}
-use Rattle.q_tree.proofs.ServeLemmas.{AreClassesAsked, heads_of, classes-start, class-there, class-in-front, place-within, class-size, class-once, class-shown, short-enough, nothing-schedule, nothing-asked, nothing-told, offered-head, given-schedule, given-asked, given-told, classes-go-on, idle-schedule, idle-asked, idle-told}
+use Rattle.q_tree.proofs.ServeLemmas.{AreClassesAsked, SinkTold, heads_of, classes-start, class-there, class-in-front, place-within, class-size, class-once, class-shown, short-enough, nothing-schedule, nothing-asked, nothing-told, offered-head, given-schedule, given-asked, given-told, classes-go-on, idle-schedule, idle-asked, idle-told}
 use Rattle.q_tree.proofs.RouteLemmas.{child-size, children-size}
 use Rattle.q_tree.proofs.TakeCounts.{flow-told}
 use Rattle.q_tree.proofs.+peek.Given.{Over}
@@ -61,78 +61,181 @@ drr::serve-loop-class-init g t c = (
 )
 
 pub drr::serve-unreachable-requires : goal.drr::serve-unreachable-requires
-drr::serve-unreachable-requires g t c = class-there c.args.now c.args.active.now c.loop-class.active c.args.classes.now c.loop-class.classes c.loop-class.unasked c.loop-class.shown (record { losses = g.S.Sink.losses c.args.sink.now; losses_now = g.S.Sink.losses c.loop-class.sink; room = g.S.Sink.room c.args.sink.now; room_now = g.S.Sink.room c.loop-class.sink }) c.requires.ready c.loop-class.invariant.0 c.in-Some.class c.front.ensures.lawful (front_is c.in-Some.class c.loop-class.active (sym c.in-Some.is ∙ c.front.ensures.front)) (sym c.in_default-place_of.is ∙ c.place_of.ensures.value)
+drr::serve-unreachable-requires g t c =
+    let told : SinkTold = record { losses = g.S.Sink.losses c.args.sink.now; losses_now = g.S.Sink.losses c.loop-class.sink; room = g.S.Sink.room c.args.sink.now; room_now = g.S.Sink.room c.loop-class.sink } in
+    let front = front_is c.in-Some.class c.loop-class.active (sym c.in-Some.is ∙ c.front.ensures.front) in
+    class-there c.args.now c.args.active.now c.loop-class.active c.args.classes.now c.loop-class.classes c.loop-class.unasked c.loop-class.shown told c.requires.ready c.loop-class.invariant.0 c.in-Some.class c.front.ensures.lawful front (sym c.in_default-place_of.is ∙ c.place_of.ensures.value)
 
 pub drr::serve-offset_bounds-classes-place : goal.drr::serve-offset_bounds-classes-place
-drr::serve-offset_bounds-classes-place g t c = omega (arith, place-within c.args.now c.args.active.now c.loop-class.active c.args.classes.now c.loop-class.classes c.loop-class.unasked c.loop-class.shown (record { losses = g.S.Sink.losses c.args.sink.now; losses_now = g.S.Sink.losses c.loop-class.sink; room = g.S.Sink.room c.args.sink.now; room_now = g.S.Sink.room c.loop-class.sink }) c.requires.ready c.loop-class.invariant.0 c.in-Some.class c.front.ensures.lawful (front_is c.in-Some.class c.loop-class.active (sym c.in-Some.is ∙ c.front.ensures.front)) c.in-Some-place_of.place (class-in-front c.args.now c.args.active.now c.loop-class.active c.args.classes.now c.loop-class.classes c.loop-class.unasked c.loop-class.shown (record { losses = g.S.Sink.losses c.args.sink.now; losses_now = g.S.Sink.losses c.loop-class.sink; room = g.S.Sink.room c.args.sink.now; room_now = g.S.Sink.room c.loop-class.sink }) c.requires.ready c.loop-class.invariant.0 c.in-Some.class c.front.ensures.lawful (front_is c.in-Some.class c.loop-class.active (sym c.in-Some.is ∙ c.front.ensures.front)) c.in-Some-place_of.place (sym c.in-Some-place_of.is ∙ c.place_of.ensures.value)), c.loop-class.auto.classes)
+drr::serve-offset_bounds-classes-place g t c =
+    let told : SinkTold = record { losses = g.S.Sink.losses c.args.sink.now; losses_now = g.S.Sink.losses c.loop-class.sink; room = g.S.Sink.room c.args.sink.now; room_now = g.S.Sink.room c.loop-class.sink } in
+    let front = front_is c.in-Some.class c.loop-class.active (sym c.in-Some.is ∙ c.front.ensures.front) in
+    let place = class-in-front c.args.now c.args.active.now c.loop-class.active c.args.classes.now c.loop-class.classes c.loop-class.unasked c.loop-class.shown told c.requires.ready c.loop-class.invariant.0 c.in-Some.class c.front.ensures.lawful front c.in-Some-place_of.place (sym c.in-Some-place_of.is ∙ c.place_of.ensures.value) in
+    omega (arith, place-within c.args.now c.args.active.now c.loop-class.active c.args.classes.now c.loop-class.classes c.loop-class.unasked c.loop-class.shown told c.requires.ready c.loop-class.invariant.0 c.in-Some.class c.front.ensures.lawful front c.in-Some-place_of.place place, c.loop-class.auto.classes)
 
 pub drr::serve-bounds-classes-place : goal.drr::serve-bounds-classes-place
-drr::serve-bounds-classes-place g t c = place-within c.args.now c.args.active.now c.loop-class.active c.args.classes.now c.loop-class.classes c.loop-class.unasked c.loop-class.shown (record { losses = g.S.Sink.losses c.args.sink.now; losses_now = g.S.Sink.losses c.loop-class.sink; room = g.S.Sink.room c.args.sink.now; room_now = g.S.Sink.room c.loop-class.sink }) c.requires.ready c.loop-class.invariant.0 c.in-Some.class c.front.ensures.lawful (front_is c.in-Some.class c.loop-class.active (sym c.in-Some.is ∙ c.front.ensures.front)) c.in-Some-place_of.place (class-in-front c.args.now c.args.active.now c.loop-class.active c.args.classes.now c.loop-class.classes c.loop-class.unasked c.loop-class.shown (record { losses = g.S.Sink.losses c.args.sink.now; losses_now = g.S.Sink.losses c.loop-class.sink; room = g.S.Sink.room c.args.sink.now; room_now = g.S.Sink.room c.loop-class.sink }) c.requires.ready c.loop-class.invariant.0 c.in-Some.class c.front.ensures.lawful (front_is c.in-Some.class c.loop-class.active (sym c.in-Some.is ∙ c.front.ensures.front)) c.in-Some-place_of.place (sym c.in-Some-place_of.is ∙ c.place_of.ensures.value))
+drr::serve-bounds-classes-place g t c =
+    let told : SinkTold = record { losses = g.S.Sink.losses c.args.sink.now; losses_now = g.S.Sink.losses c.loop-class.sink; room = g.S.Sink.room c.args.sink.now; room_now = g.S.Sink.room c.loop-class.sink } in
+    let front = front_is c.in-Some.class c.loop-class.active (sym c.in-Some.is ∙ c.front.ensures.front) in
+    let place = class-in-front c.args.now c.args.active.now c.loop-class.active c.args.classes.now c.loop-class.classes c.loop-class.unasked c.loop-class.shown told c.requires.ready c.loop-class.invariant.0 c.in-Some.class c.front.ensures.lawful front c.in-Some-place_of.place (sym c.in-Some-place_of.is ∙ c.place_of.ensures.value) in
+    place-within c.args.now c.args.active.now c.loop-class.active c.args.classes.now c.loop-class.classes c.loop-class.unasked c.loop-class.shown told c.requires.ready c.loop-class.invariant.0 c.in-Some.class c.front.ensures.lawful front c.in-Some-place_of.place place
 
 pub drr::serve-ask_class-shown-requires : goal.drr::serve-ask_class-shown-requires
-drr::serve-ask_class-shown-requires g t c κs within = (
-  omega (arith, class-size c.args.now c.args.active.now c.loop-class.active c.args.classes.now c.loop-class.classes c.loop-class.unasked c.loop-class.shown (record { losses = g.S.Sink.losses c.args.sink.now; losses_now = g.S.Sink.losses c.loop-class.sink; room = g.S.Sink.room c.args.sink.now; room_now = g.S.Sink.room c.loop-class.sink }) c.requires.ready c.loop-class.invariant.0 c.in-Some.class c.front.ensures.lawful (front_is c.in-Some.class c.loop-class.active (sym c.in-Some.is ∙ c.front.ensures.front)) c.in-Some-place_of.place c.index-classes-place.result (place-within c.args.now c.args.active.now c.loop-class.active c.args.classes.now c.loop-class.classes c.loop-class.unasked c.loop-class.shown (record { losses = g.S.Sink.losses c.args.sink.now; losses_now = g.S.Sink.losses c.loop-class.sink; room = g.S.Sink.room c.args.sink.now; room_now = g.S.Sink.room c.loop-class.sink }) c.requires.ready c.loop-class.invariant.0 c.in-Some.class c.front.ensures.lawful (front_is c.in-Some.class c.loop-class.active (sym c.in-Some.is ∙ c.front.ensures.front)) c.in-Some-place_of.place (class-in-front c.args.now c.args.active.now c.loop-class.active c.args.classes.now c.loop-class.classes c.loop-class.unasked c.loop-class.shown (record { losses = g.S.Sink.losses c.args.sink.now; losses_now = g.S.Sink.losses c.loop-class.sink; room = g.S.Sink.room c.args.sink.now; room_now = g.S.Sink.room c.loop-class.sink }) c.requires.ready c.loop-class.invariant.0 c.in-Some.class c.front.ensures.lawful (front_is c.in-Some.class c.loop-class.active (sym c.in-Some.is ∙ c.front.ensures.front)) c.in-Some-place_of.place (sym c.in-Some-place_of.is ∙ c.place_of.ensures.value))), c.decreases),
-  (within, λ some. class-once c.args.now c.args.active.now c.loop-class.active c.args.classes.now c.loop-class.classes c.loop-class.unasked c.loop-class.shown (record { losses = g.S.Sink.losses c.args.sink.now; losses_now = g.S.Sink.losses c.loop-class.sink; room = g.S.Sink.room c.args.sink.now; room_now = g.S.Sink.room c.loop-class.sink }) c.requires.ready c.loop-class.invariant.0 c.in-Some.class c.front.ensures.lawful (front_is c.in-Some.class c.loop-class.active (sym c.in-Some.is ∙ c.front.ensures.front)) c.in-Some-place_of.place (class-in-front c.args.now c.args.active.now c.loop-class.active c.args.classes.now c.loop-class.classes c.loop-class.unasked c.loop-class.shown (record { losses = g.S.Sink.losses c.args.sink.now; losses_now = g.S.Sink.losses c.loop-class.sink; room = g.S.Sink.room c.args.sink.now; room_now = g.S.Sink.room c.loop-class.sink }) c.requires.ready c.loop-class.invariant.0 c.in-Some.class c.front.ensures.lawful (front_is c.in-Some.class c.loop-class.active (sym c.in-Some.is ∙ c.front.ensures.front)) c.in-Some-place_of.place (sym c.in-Some-place_of.is ∙ c.place_of.ensures.value)) c.index-classes-place.result some c.requires.sink),
-)
+drr::serve-ask_class-shown-requires g t c κs within =
+    let told : SinkTold = record { losses = g.S.Sink.losses c.args.sink.now; losses_now = g.S.Sink.losses c.loop-class.sink; room = g.S.Sink.room c.args.sink.now; room_now = g.S.Sink.room c.loop-class.sink } in
+    let front = front_is c.in-Some.class c.loop-class.active (sym c.in-Some.is ∙ c.front.ensures.front) in
+    let place = class-in-front c.args.now c.args.active.now c.loop-class.active c.args.classes.now c.loop-class.classes c.loop-class.unasked c.loop-class.shown told c.requires.ready c.loop-class.invariant.0 c.in-Some.class c.front.ensures.lawful front c.in-Some-place_of.place (sym c.in-Some-place_of.is ∙ c.place_of.ensures.value) in
+    let inside = place-within c.args.now c.args.active.now c.loop-class.active c.args.classes.now c.loop-class.classes c.loop-class.unasked c.loop-class.shown told c.requires.ready c.loop-class.invariant.0 c.in-Some.class c.front.ensures.lawful front c.in-Some-place_of.place place in (
+      omega (arith, class-size c.args.now c.args.active.now c.loop-class.active c.args.classes.now c.loop-class.classes c.loop-class.unasked c.loop-class.shown told c.requires.ready c.loop-class.invariant.0 c.in-Some.class c.front.ensures.lawful front c.in-Some-place_of.place c.index-classes-place.result inside, c.decreases),
+      (within, λ some. class-once c.args.now c.args.active.now c.loop-class.active c.args.classes.now c.loop-class.classes c.loop-class.unasked c.loop-class.shown told c.requires.ready c.loop-class.invariant.0 c.in-Some.class c.front.ensures.lawful front c.in-Some-place_of.place place c.index-classes-place.result some c.requires.sink),
+    )
 
-pub drr::serve-returns-in_default-packet-clause-active :
-    goal.drr::serve-returns-in_default-packet-clause-active
-drr::serve-returns-in_default-packet-clause-active g t c = λ own. nothing-schedule c.args.now c.args.active.now c.loop-class.active c.args.classes.now c.loop-class.classes c.loop-class.unasked c.loop-class.shown (record { losses = g.S.Sink.losses c.args.sink.now; losses_now = g.S.Sink.losses c.loop-class.sink; room = g.S.Sink.room c.args.sink.now; room_now = g.S.Sink.room c.loop-class.sink }) c.requires.ready c.loop-class.invariant.0 c.in-Some.class c.front.ensures.lawful (front_is c.in-Some.class c.loop-class.active (sym c.in-Some.is ∙ c.front.ensures.front)) c.in-Some-place_of.place (class-in-front c.args.now c.args.active.now c.loop-class.active c.args.classes.now c.loop-class.classes c.loop-class.unasked c.loop-class.shown (record { losses = g.S.Sink.losses c.args.sink.now; losses_now = g.S.Sink.losses c.loop-class.sink; room = g.S.Sink.room c.args.sink.now; room_now = g.S.Sink.room c.loop-class.sink }) c.requires.ready c.loop-class.invariant.0 c.in-Some.class c.front.ensures.lawful (front_is c.in-Some.class c.loop-class.active (sym c.in-Some.is ∙ c.front.ensures.front)) c.in-Some-place_of.place (sym c.in-Some-place_of.is ∙ c.place_of.ensures.value)) c.ask_class-shown.new.class c.ask_class-shown.result (g.S.Sink.losses c.ask_class-shown.new.sink) (g.S.Sink.room c.ask_class-shown.new.sink) (class-shown c.args.now c.args.active.now c.loop-class.active c.args.classes.now c.loop-class.classes c.loop-class.unasked c.loop-class.shown (record { losses = g.S.Sink.losses c.args.sink.now; losses_now = g.S.Sink.losses c.loop-class.sink; room = g.S.Sink.room c.args.sink.now; room_now = g.S.Sink.room c.loop-class.sink }) c.requires.ready c.loop-class.invariant.0 c.in-Some.class c.front.ensures.lawful (front_is c.in-Some.class c.loop-class.active (sym c.in-Some.is ∙ c.front.ensures.front)) c.in-Some-place_of.place (class-in-front c.args.now c.args.active.now c.loop-class.active c.args.classes.now c.loop-class.classes c.loop-class.unasked c.loop-class.shown (record { losses = g.S.Sink.losses c.args.sink.now; losses_now = g.S.Sink.losses c.loop-class.sink; room = g.S.Sink.room c.args.sink.now; room_now = g.S.Sink.room c.loop-class.sink }) c.requires.ready c.loop-class.invariant.0 c.in-Some.class c.front.ensures.lawful (front_is c.in-Some.class c.loop-class.active (sym c.in-Some.is ∙ c.front.ensures.front)) c.in-Some-place_of.place (sym c.in-Some-place_of.is ∙ c.place_of.ensures.value)) c.index-classes-place.result c.ask_class-shown.new.class c.ask_class-shown.result (g.S.Sink.losses c.ask_class-shown.new.sink) (g.S.Sink.room c.ask_class-shown.new.sink) c.ask_class-shown.ensures.asked c.ask_class-shown.ensures.told c.ask_class-shown.ensures.at_hand c.ask_class-shown.ensures.not_lost) c.in_default-packet.is own
+pub drr::serve-returns-in_default-packet-clause-active : goal.drr::serve-returns-in_default-packet-clause-active
+drr::serve-returns-in_default-packet-clause-active g t c =
+    let told : SinkTold = record { losses = g.S.Sink.losses c.args.sink.now; losses_now = g.S.Sink.losses c.loop-class.sink; room = g.S.Sink.room c.args.sink.now; room_now = g.S.Sink.room c.loop-class.sink } in
+    let front = front_is c.in-Some.class c.loop-class.active (sym c.in-Some.is ∙ c.front.ensures.front) in
+    let place = class-in-front c.args.now c.args.active.now c.loop-class.active c.args.classes.now c.loop-class.classes c.loop-class.unasked c.loop-class.shown told c.requires.ready c.loop-class.invariant.0 c.in-Some.class c.front.ensures.lawful front c.in-Some-place_of.place (sym c.in-Some-place_of.is ∙ c.place_of.ensures.value) in
+    let class_shows = class-shown c.args.now c.args.active.now c.loop-class.active c.args.classes.now c.loop-class.classes c.loop-class.unasked c.loop-class.shown told c.requires.ready c.loop-class.invariant.0 c.in-Some.class c.front.ensures.lawful front c.in-Some-place_of.place place c.index-classes-place.result c.ask_class-shown.new.class c.ask_class-shown.result (g.S.Sink.losses c.ask_class-shown.new.sink) (g.S.Sink.room c.ask_class-shown.new.sink)
+    c.ask_class-shown.ensures.asked c.ask_class-shown.ensures.told c.ask_class-shown.ensures.at_hand c.ask_class-shown.ensures.not_lost in
+    λ own. nothing-schedule c.args.now c.args.active.now c.loop-class.active c.args.classes.now c.loop-class.classes c.loop-class.unasked c.loop-class.shown told c.requires.ready c.loop-class.invariant.0 c.in-Some.class c.front.ensures.lawful front c.in-Some-place_of.place place
+    c.ask_class-shown.new.class c.ask_class-shown.result (g.S.Sink.losses c.ask_class-shown.new.sink) (g.S.Sink.room c.ask_class-shown.new.sink) class_shows c.in_default-packet.is own
 
-pub drr::serve-returns-in_default-packet-clause-after :
-    goal.drr::serve-returns-in_default-packet-clause-after
-drr::serve-returns-in_default-packet-clause-after g t c = λ own. nothing-asked c.args.now c.args.active.now c.loop-class.active c.args.classes.now c.loop-class.classes c.loop-class.unasked c.loop-class.shown (record { losses = g.S.Sink.losses c.args.sink.now; losses_now = g.S.Sink.losses c.loop-class.sink; room = g.S.Sink.room c.args.sink.now; room_now = g.S.Sink.room c.loop-class.sink }) c.requires.ready c.loop-class.invariant.0 c.in-Some.class c.front.ensures.lawful (front_is c.in-Some.class c.loop-class.active (sym c.in-Some.is ∙ c.front.ensures.front)) c.in-Some-place_of.place (class-in-front c.args.now c.args.active.now c.loop-class.active c.args.classes.now c.loop-class.classes c.loop-class.unasked c.loop-class.shown (record { losses = g.S.Sink.losses c.args.sink.now; losses_now = g.S.Sink.losses c.loop-class.sink; room = g.S.Sink.room c.args.sink.now; room_now = g.S.Sink.room c.loop-class.sink }) c.requires.ready c.loop-class.invariant.0 c.in-Some.class c.front.ensures.lawful (front_is c.in-Some.class c.loop-class.active (sym c.in-Some.is ∙ c.front.ensures.front)) c.in-Some-place_of.place (sym c.in-Some-place_of.is ∙ c.place_of.ensures.value)) c.ask_class-shown.new.class c.ask_class-shown.result (g.S.Sink.losses c.ask_class-shown.new.sink) (g.S.Sink.room c.ask_class-shown.new.sink) (class-shown c.args.now c.args.active.now c.loop-class.active c.args.classes.now c.loop-class.classes c.loop-class.unasked c.loop-class.shown (record { losses = g.S.Sink.losses c.args.sink.now; losses_now = g.S.Sink.losses c.loop-class.sink; room = g.S.Sink.room c.args.sink.now; room_now = g.S.Sink.room c.loop-class.sink }) c.requires.ready c.loop-class.invariant.0 c.in-Some.class c.front.ensures.lawful (front_is c.in-Some.class c.loop-class.active (sym c.in-Some.is ∙ c.front.ensures.front)) c.in-Some-place_of.place (class-in-front c.args.now c.args.active.now c.loop-class.active c.args.classes.now c.loop-class.classes c.loop-class.unasked c.loop-class.shown (record { losses = g.S.Sink.losses c.args.sink.now; losses_now = g.S.Sink.losses c.loop-class.sink; room = g.S.Sink.room c.args.sink.now; room_now = g.S.Sink.room c.loop-class.sink }) c.requires.ready c.loop-class.invariant.0 c.in-Some.class c.front.ensures.lawful (front_is c.in-Some.class c.loop-class.active (sym c.in-Some.is ∙ c.front.ensures.front)) c.in-Some-place_of.place (sym c.in-Some-place_of.is ∙ c.place_of.ensures.value)) c.index-classes-place.result c.ask_class-shown.new.class c.ask_class-shown.result (g.S.Sink.losses c.ask_class-shown.new.sink) (g.S.Sink.room c.ask_class-shown.new.sink) c.ask_class-shown.ensures.asked c.ask_class-shown.ensures.told c.ask_class-shown.ensures.at_hand c.ask_class-shown.ensures.not_lost) c.in_default-packet.is own
+pub drr::serve-returns-in_default-packet-clause-after : goal.drr::serve-returns-in_default-packet-clause-after
+drr::serve-returns-in_default-packet-clause-after g t c =
+    let told : SinkTold = record { losses = g.S.Sink.losses c.args.sink.now; losses_now = g.S.Sink.losses c.loop-class.sink; room = g.S.Sink.room c.args.sink.now; room_now = g.S.Sink.room c.loop-class.sink } in
+    let front = front_is c.in-Some.class c.loop-class.active (sym c.in-Some.is ∙ c.front.ensures.front) in
+    let place = class-in-front c.args.now c.args.active.now c.loop-class.active c.args.classes.now c.loop-class.classes c.loop-class.unasked c.loop-class.shown told c.requires.ready c.loop-class.invariant.0 c.in-Some.class c.front.ensures.lawful front c.in-Some-place_of.place (sym c.in-Some-place_of.is ∙ c.place_of.ensures.value) in
+    let class_shows = class-shown c.args.now c.args.active.now c.loop-class.active c.args.classes.now c.loop-class.classes c.loop-class.unasked c.loop-class.shown told c.requires.ready c.loop-class.invariant.0 c.in-Some.class c.front.ensures.lawful front c.in-Some-place_of.place place c.index-classes-place.result c.ask_class-shown.new.class c.ask_class-shown.result (g.S.Sink.losses c.ask_class-shown.new.sink) (g.S.Sink.room c.ask_class-shown.new.sink)
+    c.ask_class-shown.ensures.asked c.ask_class-shown.ensures.told c.ask_class-shown.ensures.at_hand c.ask_class-shown.ensures.not_lost in
+    λ own. nothing-asked c.args.now c.args.active.now c.loop-class.active c.args.classes.now c.loop-class.classes c.loop-class.unasked c.loop-class.shown told c.requires.ready c.loop-class.invariant.0 c.in-Some.class c.front.ensures.lawful front c.in-Some-place_of.place place
+    c.ask_class-shown.new.class c.ask_class-shown.result (g.S.Sink.losses c.ask_class-shown.new.sink) (g.S.Sink.room c.ask_class-shown.new.sink) class_shows c.in_default-packet.is own
 
-pub drr::serve-returns-in_default-packet-clause-told :
-    goal.drr::serve-returns-in_default-packet-clause-told
-drr::serve-returns-in_default-packet-clause-told g t c = λ own. nothing-told c.args.now c.args.active.now c.loop-class.active c.args.classes.now c.loop-class.classes c.loop-class.unasked c.loop-class.shown (record { losses = g.S.Sink.losses c.args.sink.now; losses_now = g.S.Sink.losses c.loop-class.sink; room = g.S.Sink.room c.args.sink.now; room_now = g.S.Sink.room c.loop-class.sink }) c.requires.ready c.loop-class.invariant.0 c.in-Some.class c.front.ensures.lawful (front_is c.in-Some.class c.loop-class.active (sym c.in-Some.is ∙ c.front.ensures.front)) c.in-Some-place_of.place (class-in-front c.args.now c.args.active.now c.loop-class.active c.args.classes.now c.loop-class.classes c.loop-class.unasked c.loop-class.shown (record { losses = g.S.Sink.losses c.args.sink.now; losses_now = g.S.Sink.losses c.loop-class.sink; room = g.S.Sink.room c.args.sink.now; room_now = g.S.Sink.room c.loop-class.sink }) c.requires.ready c.loop-class.invariant.0 c.in-Some.class c.front.ensures.lawful (front_is c.in-Some.class c.loop-class.active (sym c.in-Some.is ∙ c.front.ensures.front)) c.in-Some-place_of.place (sym c.in-Some-place_of.is ∙ c.place_of.ensures.value)) c.ask_class-shown.new.class c.ask_class-shown.result (g.S.Sink.losses c.ask_class-shown.new.sink) (g.S.Sink.room c.ask_class-shown.new.sink) (class-shown c.args.now c.args.active.now c.loop-class.active c.args.classes.now c.loop-class.classes c.loop-class.unasked c.loop-class.shown (record { losses = g.S.Sink.losses c.args.sink.now; losses_now = g.S.Sink.losses c.loop-class.sink; room = g.S.Sink.room c.args.sink.now; room_now = g.S.Sink.room c.loop-class.sink }) c.requires.ready c.loop-class.invariant.0 c.in-Some.class c.front.ensures.lawful (front_is c.in-Some.class c.loop-class.active (sym c.in-Some.is ∙ c.front.ensures.front)) c.in-Some-place_of.place (class-in-front c.args.now c.args.active.now c.loop-class.active c.args.classes.now c.loop-class.classes c.loop-class.unasked c.loop-class.shown (record { losses = g.S.Sink.losses c.args.sink.now; losses_now = g.S.Sink.losses c.loop-class.sink; room = g.S.Sink.room c.args.sink.now; room_now = g.S.Sink.room c.loop-class.sink }) c.requires.ready c.loop-class.invariant.0 c.in-Some.class c.front.ensures.lawful (front_is c.in-Some.class c.loop-class.active (sym c.in-Some.is ∙ c.front.ensures.front)) c.in-Some-place_of.place (sym c.in-Some-place_of.is ∙ c.place_of.ensures.value)) c.index-classes-place.result c.ask_class-shown.new.class c.ask_class-shown.result (g.S.Sink.losses c.ask_class-shown.new.sink) (g.S.Sink.room c.ask_class-shown.new.sink) c.ask_class-shown.ensures.asked c.ask_class-shown.ensures.told c.ask_class-shown.ensures.at_hand c.ask_class-shown.ensures.not_lost) c.in_default-packet.is own
+pub drr::serve-returns-in_default-packet-clause-told : goal.drr::serve-returns-in_default-packet-clause-told
+drr::serve-returns-in_default-packet-clause-told g t c =
+    let told : SinkTold = record { losses = g.S.Sink.losses c.args.sink.now; losses_now = g.S.Sink.losses c.loop-class.sink; room = g.S.Sink.room c.args.sink.now; room_now = g.S.Sink.room c.loop-class.sink } in
+    let front = front_is c.in-Some.class c.loop-class.active (sym c.in-Some.is ∙ c.front.ensures.front) in
+    let place = class-in-front c.args.now c.args.active.now c.loop-class.active c.args.classes.now c.loop-class.classes c.loop-class.unasked c.loop-class.shown told c.requires.ready c.loop-class.invariant.0 c.in-Some.class c.front.ensures.lawful front c.in-Some-place_of.place (sym c.in-Some-place_of.is ∙ c.place_of.ensures.value) in
+    let class_shows = class-shown c.args.now c.args.active.now c.loop-class.active c.args.classes.now c.loop-class.classes c.loop-class.unasked c.loop-class.shown told c.requires.ready c.loop-class.invariant.0 c.in-Some.class c.front.ensures.lawful front c.in-Some-place_of.place place c.index-classes-place.result c.ask_class-shown.new.class c.ask_class-shown.result (g.S.Sink.losses c.ask_class-shown.new.sink) (g.S.Sink.room c.ask_class-shown.new.sink)
+    c.ask_class-shown.ensures.asked c.ask_class-shown.ensures.told c.ask_class-shown.ensures.at_hand c.ask_class-shown.ensures.not_lost in
+    λ own. nothing-told c.args.now c.args.active.now c.loop-class.active c.args.classes.now c.loop-class.classes c.loop-class.unasked c.loop-class.shown told c.requires.ready c.loop-class.invariant.0 c.in-Some.class c.front.ensures.lawful front c.in-Some-place_of.place place
+    c.ask_class-shown.new.class c.ask_class-shown.result (g.S.Sink.losses c.ask_class-shown.new.sink) (g.S.Sink.room c.ask_class-shown.new.sink) class_shows c.in_default-packet.is own
 
-pub drr::serve-returns-in_default-packet-clause-kept :
-    goal.drr::serve-returns-in_default-packet-clause-kept
-drr::serve-returns-in_default-packet-clause-kept g t c = g.met.S.Sink.keeps_on c.args.sink.now c.loop-class.sink c.ask_class-shown.new.sink c.loop-class.invariant.1 c.ask_class-shown.ensures.kept
+pub drr::serve-returns-in_default-packet-clause-kept : goal.drr::serve-returns-in_default-packet-clause-kept
+drr::serve-returns-in_default-packet-clause-kept g t c =
+    g.met.S.Sink.keeps_on c.args.sink.now c.loop-class.sink c.ask_class-shown.new.sink c.loop-class.invariant.1 c.ask_class-shown.ensures.kept
 
 pub drr::serve-turn-requires-clause-in_range : goal.drr::serve-turn-requires-clause-in_range
-drr::serve-turn-requires-clause-in_range g t c = omega (arith, short-enough c.args.now c.args.active.now c.loop-class.active c.args.classes.now c.loop-class.classes c.loop-class.unasked c.loop-class.shown (record { losses = g.S.Sink.losses c.args.sink.now; losses_now = g.S.Sink.losses c.loop-class.sink; room = g.S.Sink.room c.args.sink.now; room_now = g.S.Sink.room c.loop-class.sink }) c.requires.ready c.loop-class.invariant.0 c.in-Some.class c.front.ensures.lawful (front_is c.in-Some.class c.loop-class.active (sym c.in-Some.is ∙ c.front.ensures.front)) c.in-Some-place_of.place (class-in-front c.args.now c.args.active.now c.loop-class.active c.args.classes.now c.loop-class.classes c.loop-class.unasked c.loop-class.shown (record { losses = g.S.Sink.losses c.args.sink.now; losses_now = g.S.Sink.losses c.loop-class.sink; room = g.S.Sink.room c.args.sink.now; room_now = g.S.Sink.room c.loop-class.sink }) c.requires.ready c.loop-class.invariant.0 c.in-Some.class c.front.ensures.lawful (front_is c.in-Some.class c.loop-class.active (sym c.in-Some.is ∙ c.front.ensures.front)) c.in-Some-place_of.place (sym c.in-Some-place_of.is ∙ c.place_of.ensures.value)) c.in-Some-packet.packet (sym (class-shown c.args.now c.args.active.now c.loop-class.active c.args.classes.now c.loop-class.classes c.loop-class.unasked c.loop-class.shown (record { losses = g.S.Sink.losses c.args.sink.now; losses_now = g.S.Sink.losses c.loop-class.sink; room = g.S.Sink.room c.args.sink.now; room_now = g.S.Sink.room c.loop-class.sink }) c.requires.ready c.loop-class.invariant.0 c.in-Some.class c.front.ensures.lawful (front_is c.in-Some.class c.loop-class.active (sym c.in-Some.is ∙ c.front.ensures.front)) c.in-Some-place_of.place (class-in-front c.args.now c.args.active.now c.loop-class.active c.args.classes.now c.loop-class.classes c.loop-class.unasked c.loop-class.shown (record { losses = g.S.Sink.losses c.args.sink.now; losses_now = g.S.Sink.losses c.loop-class.sink; room = g.S.Sink.room c.args.sink.now; room_now = g.S.Sink.room c.loop-class.sink }) c.requires.ready c.loop-class.invariant.0 c.in-Some.class c.front.ensures.lawful (front_is c.in-Some.class c.loop-class.active (sym c.in-Some.is ∙ c.front.ensures.front)) c.in-Some-place_of.place (sym c.in-Some-place_of.is ∙ c.place_of.ensures.value)) c.index-classes-place.result c.ask_class-shown.new.class c.ask_class-shown.result (g.S.Sink.losses c.ask_class-shown.new.sink) (g.S.Sink.room c.ask_class-shown.new.sink) c.ask_class-shown.ensures.asked c.ask_class-shown.ensures.told c.ask_class-shown.ensures.at_hand c.ask_class-shown.ensures.not_lost).shown ∙ c.in-Some-packet.is), (ap (λ (p : Descriptor). p.len) c.packet.view_is))
+drr::serve-turn-requires-clause-in_range g t c =
+    let told : SinkTold = record { losses = g.S.Sink.losses c.args.sink.now; losses_now = g.S.Sink.losses c.loop-class.sink; room = g.S.Sink.room c.args.sink.now; room_now = g.S.Sink.room c.loop-class.sink } in
+    let front = front_is c.in-Some.class c.loop-class.active (sym c.in-Some.is ∙ c.front.ensures.front) in
+    let place = class-in-front c.args.now c.args.active.now c.loop-class.active c.args.classes.now c.loop-class.classes c.loop-class.unasked c.loop-class.shown told c.requires.ready c.loop-class.invariant.0 c.in-Some.class c.front.ensures.lawful front c.in-Some-place_of.place (sym c.in-Some-place_of.is ∙ c.place_of.ensures.value) in
+    let class_shows = class-shown c.args.now c.args.active.now c.loop-class.active c.args.classes.now c.loop-class.classes c.loop-class.unasked c.loop-class.shown told c.requires.ready c.loop-class.invariant.0 c.in-Some.class c.front.ensures.lawful front c.in-Some-place_of.place place c.index-classes-place.result c.ask_class-shown.new.class c.ask_class-shown.result (g.S.Sink.losses c.ask_class-shown.new.sink) (g.S.Sink.room c.ask_class-shown.new.sink)
+    c.ask_class-shown.ensures.asked c.ask_class-shown.ensures.told c.ask_class-shown.ensures.at_hand c.ask_class-shown.ensures.not_lost in
+    let len = ap (λ (p : Descriptor). p.len) c.packet.view_is in
+    omega (arith, short-enough c.args.now c.args.active.now c.loop-class.active c.args.classes.now c.loop-class.classes c.loop-class.unasked c.loop-class.shown told c.requires.ready c.loop-class.invariant.0 c.in-Some.class c.front.ensures.lawful front c.in-Some-place_of.place place c.in-Some-packet.packet (sym class_shows.shown ∙ c.in-Some-packet.is), len)
 
 pub drr::serve-give-requires : goal.drr::serve-give-requires
-drr::serve-give-requires g t c = omega (arith, (place-within c.args.now c.args.active.now c.loop-class.active c.args.classes.now c.loop-class.classes c.loop-class.unasked c.loop-class.shown (record { losses = g.S.Sink.losses c.args.sink.now; losses_now = g.S.Sink.losses c.loop-class.sink; room = g.S.Sink.room c.args.sink.now; room_now = g.S.Sink.room c.loop-class.sink }) c.requires.ready c.loop-class.invariant.0 c.in-Some.class c.front.ensures.lawful (front_is c.in-Some.class c.loop-class.active (sym c.in-Some.is ∙ c.front.ensures.front)) c.in-Some-place_of.place (class-in-front c.args.now c.args.active.now c.loop-class.active c.args.classes.now c.loop-class.classes c.loop-class.unasked c.loop-class.shown (record { losses = g.S.Sink.losses c.args.sink.now; losses_now = g.S.Sink.losses c.loop-class.sink; room = g.S.Sink.room c.args.sink.now; room_now = g.S.Sink.room c.loop-class.sink }) c.requires.ready c.loop-class.invariant.0 c.in-Some.class c.front.ensures.lawful (front_is c.in-Some.class c.loop-class.active (sym c.in-Some.is ∙ c.front.ensures.front)) c.in-Some-place_of.place (sym c.in-Some-place_of.is ∙ c.place_of.ensures.value))), length-set c.loop-class.classes c.in-Some-place_of.place c.ask_class-shown.new.class)
+drr::serve-give-requires g t c =
+    let told : SinkTold = record { losses = g.S.Sink.losses c.args.sink.now; losses_now = g.S.Sink.losses c.loop-class.sink; room = g.S.Sink.room c.args.sink.now; room_now = g.S.Sink.room c.loop-class.sink } in
+    let front = front_is c.in-Some.class c.loop-class.active (sym c.in-Some.is ∙ c.front.ensures.front) in
+    let place = class-in-front c.args.now c.args.active.now c.loop-class.active c.args.classes.now c.loop-class.classes c.loop-class.unasked c.loop-class.shown told c.requires.ready c.loop-class.invariant.0 c.in-Some.class c.front.ensures.lawful front c.in-Some-place_of.place (sym c.in-Some-place_of.is ∙ c.place_of.ensures.value) in
+    omega (arith, place-within c.args.now c.args.active.now c.loop-class.active c.args.classes.now c.loop-class.classes c.loop-class.unasked c.loop-class.shown told c.requires.ready c.loop-class.invariant.0 c.in-Some.class c.front.ensures.lawful front c.in-Some-place_of.place place, length-set c.loop-class.classes c.in-Some-place_of.place c.ask_class-shown.new.class)
 
 pub drr::serve-returns-in-Send-clause-active : goal.drr::serve-returns-in-Send-clause-active
-drr::serve-returns-in-Send-clause-active g t c = λ own. given-schedule c.args.now c.args.active.now c.loop-class.active c.args.classes.now c.loop-class.classes c.loop-class.unasked c.loop-class.shown (record { losses = g.S.Sink.losses c.args.sink.now; losses_now = g.S.Sink.losses c.loop-class.sink; room = g.S.Sink.room c.args.sink.now; room_now = g.S.Sink.room c.loop-class.sink }) c.requires.ready c.loop-class.invariant.0 c.in-Some.class c.front.ensures.lawful (front_is c.in-Some.class c.loop-class.active (sym c.in-Some.is ∙ c.front.ensures.front)) c.in-Some-place_of.place (class-in-front c.args.now c.args.active.now c.loop-class.active c.args.classes.now c.loop-class.classes c.loop-class.unasked c.loop-class.shown (record { losses = g.S.Sink.losses c.args.sink.now; losses_now = g.S.Sink.losses c.loop-class.sink; room = g.S.Sink.room c.args.sink.now; room_now = g.S.Sink.room c.loop-class.sink }) c.requires.ready c.loop-class.invariant.0 c.in-Some.class c.front.ensures.lawful (front_is c.in-Some.class c.loop-class.active (sym c.in-Some.is ∙ c.front.ensures.front)) c.in-Some-place_of.place (sym c.in-Some-place_of.is ∙ c.place_of.ensures.value)) c.ask_class-shown.new.class c.ask_class-shown.result (g.S.Sink.losses c.ask_class-shown.new.sink) (g.S.Sink.room c.ask_class-shown.new.sink) (class-shown c.args.now c.args.active.now c.loop-class.active c.args.classes.now c.loop-class.classes c.loop-class.unasked c.loop-class.shown (record { losses = g.S.Sink.losses c.args.sink.now; losses_now = g.S.Sink.losses c.loop-class.sink; room = g.S.Sink.room c.args.sink.now; room_now = g.S.Sink.room c.loop-class.sink }) c.requires.ready c.loop-class.invariant.0 c.in-Some.class c.front.ensures.lawful (front_is c.in-Some.class c.loop-class.active (sym c.in-Some.is ∙ c.front.ensures.front)) c.in-Some-place_of.place (class-in-front c.args.now c.args.active.now c.loop-class.active c.args.classes.now c.loop-class.classes c.loop-class.unasked c.loop-class.shown (record { losses = g.S.Sink.losses c.args.sink.now; losses_now = g.S.Sink.losses c.loop-class.sink; room = g.S.Sink.room c.args.sink.now; room_now = g.S.Sink.room c.loop-class.sink }) c.requires.ready c.loop-class.invariant.0 c.in-Some.class c.front.ensures.lawful (front_is c.in-Some.class c.loop-class.active (sym c.in-Some.is ∙ c.front.ensures.front)) c.in-Some-place_of.place (sym c.in-Some-place_of.is ∙ c.place_of.ensures.value)) c.index-classes-place.result c.ask_class-shown.new.class c.ask_class-shown.result (g.S.Sink.losses c.ask_class-shown.new.sink) (g.S.Sink.room c.ask_class-shown.new.sink) c.ask_class-shown.ensures.asked c.ask_class-shown.ensures.told c.ask_class-shown.ensures.at_hand c.ask_class-shown.ensures.not_lost) c.in-Some-packet.packet c.in-Some-packet.is (subst (λ m. m ≤ (front_is c.in-Some.class c.loop-class.active (sym c.in-Some.is ∙ c.front.ensures.front)).first.deficit) (ap (λ (p : Descriptor). p.len) c.packet.view_is) (covers c.loop-class.active c.in-Some.class c.packet.inside.len (front_is c.in-Some.class c.loop-class.active (sym c.in-Some.is ∙ c.front.ensures.front)) (sym c.in-Send.is ∙ c.turn.ensures.answer))) c.give.new.active c.give.new.classes (λ class at. subst (λ s. IsGivenBy c.in-Some-place_of.place class s c.give.new.active (set c.loop-class.classes c.in-Some-place_of.place c.ask_class-shown.new.class) c.give.new.classes) (c.turn.ensures.after ∙ ap (λ m. turned m c.loop-class.active) (ap (λ (p : Descriptor). p.len) c.packet.view_is)) (c.give.ensures class at)) own
+drr::serve-returns-in-Send-clause-active g t c =
+    let told : SinkTold = record { losses = g.S.Sink.losses c.args.sink.now; losses_now = g.S.Sink.losses c.loop-class.sink; room = g.S.Sink.room c.args.sink.now; room_now = g.S.Sink.room c.loop-class.sink } in
+    let front = front_is c.in-Some.class c.loop-class.active (sym c.in-Some.is ∙ c.front.ensures.front) in
+    let place = class-in-front c.args.now c.args.active.now c.loop-class.active c.args.classes.now c.loop-class.classes c.loop-class.unasked c.loop-class.shown told c.requires.ready c.loop-class.invariant.0 c.in-Some.class c.front.ensures.lawful front c.in-Some-place_of.place (sym c.in-Some-place_of.is ∙ c.place_of.ensures.value) in
+    let class_shows = class-shown c.args.now c.args.active.now c.loop-class.active c.args.classes.now c.loop-class.classes c.loop-class.unasked c.loop-class.shown told c.requires.ready c.loop-class.invariant.0 c.in-Some.class c.front.ensures.lawful front c.in-Some-place_of.place place c.index-classes-place.result c.ask_class-shown.new.class c.ask_class-shown.result (g.S.Sink.losses c.ask_class-shown.new.sink) (g.S.Sink.room c.ask_class-shown.new.sink)
+    c.ask_class-shown.ensures.asked c.ask_class-shown.ensures.told c.ask_class-shown.ensures.at_hand c.ask_class-shown.ensures.not_lost in
+    let len = ap (λ (p : Descriptor). p.len) c.packet.view_is in
+    let pays = subst (λ m. m ≤ front.first.deficit) len (covers c.loop-class.active c.in-Some.class c.packet.inside.len front (sym c.in-Send.is ∙ c.turn.ensures.answer)) in
+    let turn = c.turn.ensures.after ∙ ap (λ m. turned m c.loop-class.active) len in
+    λ own. given-schedule c.args.now c.args.active.now c.loop-class.active c.args.classes.now c.loop-class.classes c.loop-class.unasked c.loop-class.shown told c.requires.ready c.loop-class.invariant.0 c.in-Some.class c.front.ensures.lawful front c.in-Some-place_of.place place
+    c.ask_class-shown.new.class c.ask_class-shown.result (g.S.Sink.losses c.ask_class-shown.new.sink) (g.S.Sink.room c.ask_class-shown.new.sink) class_shows c.in-Some-packet.packet c.in-Some-packet.is pays c.give.new.active c.give.new.classes
+    (λ class at. subst (λ s. IsGivenBy c.in-Some-place_of.place class s c.give.new.active (set c.loop-class.classes c.in-Some-place_of.place c.ask_class-shown.new.class) c.give.new.classes) turn (c.give.ensures class at)) own
 
 pub drr::serve-returns-in-Send-clause-after : goal.drr::serve-returns-in-Send-clause-after
-drr::serve-returns-in-Send-clause-after g t c = λ own. given-asked c.args.now c.args.active.now c.loop-class.active c.args.classes.now c.loop-class.classes c.loop-class.unasked c.loop-class.shown (record { losses = g.S.Sink.losses c.args.sink.now; losses_now = g.S.Sink.losses c.loop-class.sink; room = g.S.Sink.room c.args.sink.now; room_now = g.S.Sink.room c.loop-class.sink }) c.requires.ready c.loop-class.invariant.0 c.in-Some.class c.front.ensures.lawful (front_is c.in-Some.class c.loop-class.active (sym c.in-Some.is ∙ c.front.ensures.front)) c.in-Some-place_of.place (class-in-front c.args.now c.args.active.now c.loop-class.active c.args.classes.now c.loop-class.classes c.loop-class.unasked c.loop-class.shown (record { losses = g.S.Sink.losses c.args.sink.now; losses_now = g.S.Sink.losses c.loop-class.sink; room = g.S.Sink.room c.args.sink.now; room_now = g.S.Sink.room c.loop-class.sink }) c.requires.ready c.loop-class.invariant.0 c.in-Some.class c.front.ensures.lawful (front_is c.in-Some.class c.loop-class.active (sym c.in-Some.is ∙ c.front.ensures.front)) c.in-Some-place_of.place (sym c.in-Some-place_of.is ∙ c.place_of.ensures.value)) c.ask_class-shown.new.class c.ask_class-shown.result (g.S.Sink.losses c.ask_class-shown.new.sink) (g.S.Sink.room c.ask_class-shown.new.sink) (class-shown c.args.now c.args.active.now c.loop-class.active c.args.classes.now c.loop-class.classes c.loop-class.unasked c.loop-class.shown (record { losses = g.S.Sink.losses c.args.sink.now; losses_now = g.S.Sink.losses c.loop-class.sink; room = g.S.Sink.room c.args.sink.now; room_now = g.S.Sink.room c.loop-class.sink }) c.requires.ready c.loop-class.invariant.0 c.in-Some.class c.front.ensures.lawful (front_is c.in-Some.class c.loop-class.active (sym c.in-Some.is ∙ c.front.ensures.front)) c.in-Some-place_of.place (class-in-front c.args.now c.args.active.now c.loop-class.active c.args.classes.now c.loop-class.classes c.loop-class.unasked c.loop-class.shown (record { losses = g.S.Sink.losses c.args.sink.now; losses_now = g.S.Sink.losses c.loop-class.sink; room = g.S.Sink.room c.args.sink.now; room_now = g.S.Sink.room c.loop-class.sink }) c.requires.ready c.loop-class.invariant.0 c.in-Some.class c.front.ensures.lawful (front_is c.in-Some.class c.loop-class.active (sym c.in-Some.is ∙ c.front.ensures.front)) c.in-Some-place_of.place (sym c.in-Some-place_of.is ∙ c.place_of.ensures.value)) c.index-classes-place.result c.ask_class-shown.new.class c.ask_class-shown.result (g.S.Sink.losses c.ask_class-shown.new.sink) (g.S.Sink.room c.ask_class-shown.new.sink) c.ask_class-shown.ensures.asked c.ask_class-shown.ensures.told c.ask_class-shown.ensures.at_hand c.ask_class-shown.ensures.not_lost) c.in-Some-packet.packet c.in-Some-packet.is (subst (λ m. m ≤ (front_is c.in-Some.class c.loop-class.active (sym c.in-Some.is ∙ c.front.ensures.front)).first.deficit) (ap (λ (p : Descriptor). p.len) c.packet.view_is) (covers c.loop-class.active c.in-Some.class c.packet.inside.len (front_is c.in-Some.class c.loop-class.active (sym c.in-Some.is ∙ c.front.ensures.front)) (sym c.in-Send.is ∙ c.turn.ensures.answer))) c.give.new.active c.give.new.classes (λ class at. subst (λ s. IsGivenBy c.in-Some-place_of.place class s c.give.new.active (set c.loop-class.classes c.in-Some-place_of.place c.ask_class-shown.new.class) c.give.new.classes) (c.turn.ensures.after ∙ ap (λ m. turned m c.loop-class.active) (ap (λ (p : Descriptor). p.len) c.packet.view_is)) (c.give.ensures class at)) own
+drr::serve-returns-in-Send-clause-after g t c =
+    let told : SinkTold = record { losses = g.S.Sink.losses c.args.sink.now; losses_now = g.S.Sink.losses c.loop-class.sink; room = g.S.Sink.room c.args.sink.now; room_now = g.S.Sink.room c.loop-class.sink } in
+    let front = front_is c.in-Some.class c.loop-class.active (sym c.in-Some.is ∙ c.front.ensures.front) in
+    let place = class-in-front c.args.now c.args.active.now c.loop-class.active c.args.classes.now c.loop-class.classes c.loop-class.unasked c.loop-class.shown told c.requires.ready c.loop-class.invariant.0 c.in-Some.class c.front.ensures.lawful front c.in-Some-place_of.place (sym c.in-Some-place_of.is ∙ c.place_of.ensures.value) in
+    let class_shows = class-shown c.args.now c.args.active.now c.loop-class.active c.args.classes.now c.loop-class.classes c.loop-class.unasked c.loop-class.shown told c.requires.ready c.loop-class.invariant.0 c.in-Some.class c.front.ensures.lawful front c.in-Some-place_of.place place c.index-classes-place.result c.ask_class-shown.new.class c.ask_class-shown.result (g.S.Sink.losses c.ask_class-shown.new.sink) (g.S.Sink.room c.ask_class-shown.new.sink)
+    c.ask_class-shown.ensures.asked c.ask_class-shown.ensures.told c.ask_class-shown.ensures.at_hand c.ask_class-shown.ensures.not_lost in
+    let len = ap (λ (p : Descriptor). p.len) c.packet.view_is in
+    let pays = subst (λ m. m ≤ front.first.deficit) len (covers c.loop-class.active c.in-Some.class c.packet.inside.len front (sym c.in-Send.is ∙ c.turn.ensures.answer)) in
+    let turn = c.turn.ensures.after ∙ ap (λ m. turned m c.loop-class.active) len in
+    λ own. given-asked c.args.now c.args.active.now c.loop-class.active c.args.classes.now c.loop-class.classes c.loop-class.unasked c.loop-class.shown told c.requires.ready c.loop-class.invariant.0 c.in-Some.class c.front.ensures.lawful front c.in-Some-place_of.place place
+    c.ask_class-shown.new.class c.ask_class-shown.result (g.S.Sink.losses c.ask_class-shown.new.sink) (g.S.Sink.room c.ask_class-shown.new.sink) class_shows c.in-Some-packet.packet c.in-Some-packet.is pays c.give.new.active c.give.new.classes
+    (λ class at. subst (λ s. IsGivenBy c.in-Some-place_of.place class s c.give.new.active (set c.loop-class.classes c.in-Some-place_of.place c.ask_class-shown.new.class) c.give.new.classes) turn (c.give.ensures class at)) own
 
 pub drr::serve-returns-in-Send-clause-told : goal.drr::serve-returns-in-Send-clause-told
-drr::serve-returns-in-Send-clause-told g t c = λ own. given-told c.args.now c.args.active.now c.loop-class.active c.args.classes.now c.loop-class.classes c.loop-class.unasked c.loop-class.shown (record { losses = g.S.Sink.losses c.args.sink.now; losses_now = g.S.Sink.losses c.loop-class.sink; room = g.S.Sink.room c.args.sink.now; room_now = g.S.Sink.room c.loop-class.sink }) c.requires.ready c.loop-class.invariant.0 c.in-Some.class c.front.ensures.lawful (front_is c.in-Some.class c.loop-class.active (sym c.in-Some.is ∙ c.front.ensures.front)) c.in-Some-place_of.place (class-in-front c.args.now c.args.active.now c.loop-class.active c.args.classes.now c.loop-class.classes c.loop-class.unasked c.loop-class.shown (record { losses = g.S.Sink.losses c.args.sink.now; losses_now = g.S.Sink.losses c.loop-class.sink; room = g.S.Sink.room c.args.sink.now; room_now = g.S.Sink.room c.loop-class.sink }) c.requires.ready c.loop-class.invariant.0 c.in-Some.class c.front.ensures.lawful (front_is c.in-Some.class c.loop-class.active (sym c.in-Some.is ∙ c.front.ensures.front)) c.in-Some-place_of.place (sym c.in-Some-place_of.is ∙ c.place_of.ensures.value)) c.ask_class-shown.new.class c.ask_class-shown.result (g.S.Sink.losses c.ask_class-shown.new.sink) (g.S.Sink.room c.ask_class-shown.new.sink) (class-shown c.args.now c.args.active.now c.loop-class.active c.args.classes.now c.loop-class.classes c.loop-class.unasked c.loop-class.shown (record { losses = g.S.Sink.losses c.args.sink.now; losses_now = g.S.Sink.losses c.loop-class.sink; room = g.S.Sink.room c.args.sink.now; room_now = g.S.Sink.room c.loop-class.sink }) c.requires.ready c.loop-class.invariant.0 c.in-Some.class c.front.ensures.lawful (front_is c.in-Some.class c.loop-class.active (sym c.in-Some.is ∙ c.front.ensures.front)) c.in-Some-place_of.place (class-in-front c.args.now c.args.active.now c.loop-class.active c.args.classes.now c.loop-class.classes c.loop-class.unasked c.loop-class.shown (record { losses = g.S.Sink.losses c.args.sink.now; losses_now = g.S.Sink.losses c.loop-class.sink; room = g.S.Sink.room c.args.sink.now; room_now = g.S.Sink.room c.loop-class.sink }) c.requires.ready c.loop-class.invariant.0 c.in-Some.class c.front.ensures.lawful (front_is c.in-Some.class c.loop-class.active (sym c.in-Some.is ∙ c.front.ensures.front)) c.in-Some-place_of.place (sym c.in-Some-place_of.is ∙ c.place_of.ensures.value)) c.index-classes-place.result c.ask_class-shown.new.class c.ask_class-shown.result (g.S.Sink.losses c.ask_class-shown.new.sink) (g.S.Sink.room c.ask_class-shown.new.sink) c.ask_class-shown.ensures.asked c.ask_class-shown.ensures.told c.ask_class-shown.ensures.at_hand c.ask_class-shown.ensures.not_lost) c.in-Some-packet.packet c.in-Some-packet.is (subst (λ m. m ≤ (front_is c.in-Some.class c.loop-class.active (sym c.in-Some.is ∙ c.front.ensures.front)).first.deficit) (ap (λ (p : Descriptor). p.len) c.packet.view_is) (covers c.loop-class.active c.in-Some.class c.packet.inside.len (front_is c.in-Some.class c.loop-class.active (sym c.in-Some.is ∙ c.front.ensures.front)) (sym c.in-Send.is ∙ c.turn.ensures.answer))) c.give.new.active c.give.new.classes (λ class at. subst (λ s. IsGivenBy c.in-Some-place_of.place class s c.give.new.active (set c.loop-class.classes c.in-Some-place_of.place c.ask_class-shown.new.class) c.give.new.classes) (c.turn.ensures.after ∙ ap (λ m. turned m c.loop-class.active) (ap (λ (p : Descriptor). p.len) c.packet.view_is)) (c.give.ensures class at)) own
+drr::serve-returns-in-Send-clause-told g t c =
+    let told : SinkTold = record { losses = g.S.Sink.losses c.args.sink.now; losses_now = g.S.Sink.losses c.loop-class.sink; room = g.S.Sink.room c.args.sink.now; room_now = g.S.Sink.room c.loop-class.sink } in
+    let front = front_is c.in-Some.class c.loop-class.active (sym c.in-Some.is ∙ c.front.ensures.front) in
+    let place = class-in-front c.args.now c.args.active.now c.loop-class.active c.args.classes.now c.loop-class.classes c.loop-class.unasked c.loop-class.shown told c.requires.ready c.loop-class.invariant.0 c.in-Some.class c.front.ensures.lawful front c.in-Some-place_of.place (sym c.in-Some-place_of.is ∙ c.place_of.ensures.value) in
+    let class_shows = class-shown c.args.now c.args.active.now c.loop-class.active c.args.classes.now c.loop-class.classes c.loop-class.unasked c.loop-class.shown told c.requires.ready c.loop-class.invariant.0 c.in-Some.class c.front.ensures.lawful front c.in-Some-place_of.place place c.index-classes-place.result c.ask_class-shown.new.class c.ask_class-shown.result (g.S.Sink.losses c.ask_class-shown.new.sink) (g.S.Sink.room c.ask_class-shown.new.sink)
+    c.ask_class-shown.ensures.asked c.ask_class-shown.ensures.told c.ask_class-shown.ensures.at_hand c.ask_class-shown.ensures.not_lost in
+    let len = ap (λ (p : Descriptor). p.len) c.packet.view_is in
+    let pays = subst (λ m. m ≤ front.first.deficit) len (covers c.loop-class.active c.in-Some.class c.packet.inside.len front (sym c.in-Send.is ∙ c.turn.ensures.answer)) in
+    let turn = c.turn.ensures.after ∙ ap (λ m. turned m c.loop-class.active) len in
+    λ own. given-told c.args.now c.args.active.now c.loop-class.active c.args.classes.now c.loop-class.classes c.loop-class.unasked c.loop-class.shown told c.requires.ready c.loop-class.invariant.0 c.in-Some.class c.front.ensures.lawful front c.in-Some-place_of.place place
+    c.ask_class-shown.new.class c.ask_class-shown.result (g.S.Sink.losses c.ask_class-shown.new.sink) (g.S.Sink.room c.ask_class-shown.new.sink) class_shows c.in-Some-packet.packet c.in-Some-packet.is pays c.give.new.active c.give.new.classes
+    (λ class at. subst (λ s. IsGivenBy c.in-Some-place_of.place class s c.give.new.active (set c.loop-class.classes c.in-Some-place_of.place c.ask_class-shown.new.class) c.give.new.classes) turn (c.give.ensures class at)) own
 
 pub drr::serve-returns-in-Send-clause-kept : goal.drr::serve-returns-in-Send-clause-kept
-drr::serve-returns-in-Send-clause-kept g t c = g.met.S.Sink.keeps_on c.args.sink.now c.loop-class.sink c.ask_class-shown.new.sink c.loop-class.invariant.1 c.ask_class-shown.ensures.kept
+drr::serve-returns-in-Send-clause-kept g t c =
+    g.met.S.Sink.keeps_on c.args.sink.now c.loop-class.sink c.ask_class-shown.new.sink c.loop-class.invariant.1 c.ask_class-shown.ensures.kept
 
 pub drr::serve-loop-class-smaller : goal.drr::serve-loop-class-smaller
 drr::serve-loop-class-smaller g t c =
-    subst (λ s. sum_by (need (λ m. quantum_of m s.classes) (heads_of c.args.now c.args.active.now c.args.classes.now)) s.active < sum_by (need (λ m. quantum_of m c.loop-class.active.classes) (heads_of c.args.now c.args.active.now c.args.classes.now)) c.loop-class.active.active)
-    (sym (c.turn.ensures.after ∙ ap (λ m. turned m c.loop-class.active) (ap (λ (p : Descriptor). p.len) c.packet.view_is)))
-    (measure_falls (heads_of c.args.now c.args.active.now c.args.classes.now) c.loop-class.active c.in-Some.class c.in-Some-packet.packet.len (front_is c.in-Some.class c.loop-class.active (sym c.in-Some.is ∙ c.front.ensures.front)) (offered-head c.args.now c.args.active.now c.loop-class.active c.args.classes.now c.loop-class.classes c.loop-class.unasked c.loop-class.shown (record { losses = g.S.Sink.losses c.args.sink.now; losses_now = g.S.Sink.losses c.loop-class.sink; room = g.S.Sink.room c.args.sink.now; room_now = g.S.Sink.room c.loop-class.sink }) c.requires.ready c.loop-class.invariant.0 c.in-Some.class c.front.ensures.lawful (front_is c.in-Some.class c.loop-class.active (sym c.in-Some.is ∙ c.front.ensures.front)) c.in-Some-place_of.place (class-in-front c.args.now c.args.active.now c.loop-class.active c.args.classes.now c.loop-class.classes c.loop-class.unasked c.loop-class.shown (record { losses = g.S.Sink.losses c.args.sink.now; losses_now = g.S.Sink.losses c.loop-class.sink; room = g.S.Sink.room c.args.sink.now; room_now = g.S.Sink.room c.loop-class.sink }) c.requires.ready c.loop-class.invariant.0 c.in-Some.class c.front.ensures.lawful (front_is c.in-Some.class c.loop-class.active (sym c.in-Some.is ∙ c.front.ensures.front)) c.in-Some-place_of.place (sym c.in-Some-place_of.is ∙ c.place_of.ensures.value)) c.ask_class-shown.new.class c.ask_class-shown.result (g.S.Sink.losses c.ask_class-shown.new.sink) (g.S.Sink.room c.ask_class-shown.new.sink) (class-shown c.args.now c.args.active.now c.loop-class.active c.args.classes.now c.loop-class.classes c.loop-class.unasked c.loop-class.shown (record { losses = g.S.Sink.losses c.args.sink.now; losses_now = g.S.Sink.losses c.loop-class.sink; room = g.S.Sink.room c.args.sink.now; room_now = g.S.Sink.room c.loop-class.sink }) c.requires.ready c.loop-class.invariant.0 c.in-Some.class c.front.ensures.lawful (front_is c.in-Some.class c.loop-class.active (sym c.in-Some.is ∙ c.front.ensures.front)) c.in-Some-place_of.place (class-in-front c.args.now c.args.active.now c.loop-class.active c.args.classes.now c.loop-class.classes c.loop-class.unasked c.loop-class.shown (record { losses = g.S.Sink.losses c.args.sink.now; losses_now = g.S.Sink.losses c.loop-class.sink; room = g.S.Sink.room c.args.sink.now; room_now = g.S.Sink.room c.loop-class.sink }) c.requires.ready c.loop-class.invariant.0 c.in-Some.class c.front.ensures.lawful (front_is c.in-Some.class c.loop-class.active (sym c.in-Some.is ∙ c.front.ensures.front)) c.in-Some-place_of.place (sym c.in-Some-place_of.is ∙ c.place_of.ensures.value)) c.index-classes-place.result c.ask_class-shown.new.class c.ask_class-shown.result (g.S.Sink.losses c.ask_class-shown.new.sink) (g.S.Sink.room c.ask_class-shown.new.sink) c.ask_class-shown.ensures.asked c.ask_class-shown.ensures.told c.ask_class-shown.ensures.at_hand c.ask_class-shown.ensures.not_lost) c.in-Some-packet.packet c.in-Some-packet.is) (front_quantum c.loop-class.active c.in-Some.class (front_is c.in-Some.class c.loop-class.active (sym c.in-Some.is ∙ c.front.ensures.front)) c.front.ensures.lawful) (subst (λ m. (front_is c.in-Some.class c.loop-class.active (sym c.in-Some.is ∙ c.front.ensures.front)).first.deficit < m) (ap (λ (p : Descriptor). p.len) c.packet.view_is) (falls_short c.loop-class.active c.in-Some.class c.packet.inside.len (front_is c.in-Some.class c.loop-class.active (sym c.in-Some.is ∙ c.front.ensures.front)) (sym c.in-Granted.is ∙ c.turn.ensures.answer))))
+    let told : SinkTold = record { losses = g.S.Sink.losses c.args.sink.now; losses_now = g.S.Sink.losses c.loop-class.sink; room = g.S.Sink.room c.args.sink.now; room_now = g.S.Sink.room c.loop-class.sink } in
+    let front = front_is c.in-Some.class c.loop-class.active (sym c.in-Some.is ∙ c.front.ensures.front) in
+    let place = class-in-front c.args.now c.args.active.now c.loop-class.active c.args.classes.now c.loop-class.classes c.loop-class.unasked c.loop-class.shown told c.requires.ready c.loop-class.invariant.0 c.in-Some.class c.front.ensures.lawful front c.in-Some-place_of.place (sym c.in-Some-place_of.is ∙ c.place_of.ensures.value) in
+    let class_shows = class-shown c.args.now c.args.active.now c.loop-class.active c.args.classes.now c.loop-class.classes c.loop-class.unasked c.loop-class.shown told c.requires.ready c.loop-class.invariant.0 c.in-Some.class c.front.ensures.lawful front c.in-Some-place_of.place place c.index-classes-place.result c.ask_class-shown.new.class c.ask_class-shown.result (g.S.Sink.losses c.ask_class-shown.new.sink) (g.S.Sink.room c.ask_class-shown.new.sink)
+    c.ask_class-shown.ensures.asked c.ask_class-shown.ensures.told c.ask_class-shown.ensures.at_hand c.ask_class-shown.ensures.not_lost in
+    let len = ap (λ (p : Descriptor). p.len) c.packet.view_is in
+    let short = subst (λ m. front.first.deficit < m) len (falls_short c.loop-class.active c.in-Some.class c.packet.inside.len front (sym c.in-Granted.is ∙ c.turn.ensures.answer)) in
+    let turn = c.turn.ensures.after ∙ ap (λ m. turned m c.loop-class.active) len in
+    subst (λ s. sum_by (need (λ m. quantum_of m s.classes) (heads_of c.args.now c.args.active.now c.args.classes.now)) s.active < sum_by (need (λ m. quantum_of m c.loop-class.active.classes) (heads_of c.args.now c.args.active.now c.args.classes.now)) c.loop-class.active.active) (sym turn)
+    (measure_falls (heads_of c.args.now c.args.active.now c.args.classes.now) c.loop-class.active c.in-Some.class c.in-Some-packet.packet.len front (offered-head c.args.now c.args.active.now c.loop-class.active c.args.classes.now c.loop-class.classes c.loop-class.unasked c.loop-class.shown told c.requires.ready c.loop-class.invariant.0 c.in-Some.class c.front.ensures.lawful front c.in-Some-place_of.place place
+    c.ask_class-shown.new.class c.ask_class-shown.result (g.S.Sink.losses c.ask_class-shown.new.sink) (g.S.Sink.room c.ask_class-shown.new.sink) class_shows c.in-Some-packet.packet c.in-Some-packet.is) (front_quantum c.loop-class.active c.in-Some.class front c.front.ensures.lawful) short)
 
 pub drr::serve-loop-class-preserved : goal.drr::serve-loop-class-preserved
-drr::serve-loop-class-preserved g t c = (
-  subst (λ s. AreClassesAsked c.args.now c.args.active.now s c.args.classes.now (set c.loop-class.classes c.in-Some-place_of.place c.ask_class-shown.new.class) c.saturating_sub-unasked.result c.ask_class-shown.result
-      (record { losses = g.S.Sink.losses c.args.sink.now; losses_now = g.S.Sink.losses c.ask_class-shown.new.sink; room = g.S.Sink.room c.args.sink.now; room_now = g.S.Sink.room c.ask_class-shown.new.sink }))
-      (sym (c.turn.ensures.after ∙ ap (λ m. turned m c.loop-class.active) (ap (λ (p : Descriptor). p.len) c.packet.view_is)))
-      (classes-go-on c.args.now c.args.active.now c.loop-class.active c.args.classes.now c.loop-class.classes c.loop-class.unasked c.loop-class.shown (record { losses = g.S.Sink.losses c.args.sink.now; losses_now = g.S.Sink.losses c.loop-class.sink; room = g.S.Sink.room c.args.sink.now; room_now = g.S.Sink.room c.loop-class.sink }) c.requires.ready c.loop-class.invariant.0 c.in-Some.class c.front.ensures.lawful (front_is c.in-Some.class c.loop-class.active (sym c.in-Some.is ∙ c.front.ensures.front)) c.in-Some-place_of.place (class-in-front c.args.now c.args.active.now c.loop-class.active c.args.classes.now c.loop-class.classes c.loop-class.unasked c.loop-class.shown (record { losses = g.S.Sink.losses c.args.sink.now; losses_now = g.S.Sink.losses c.loop-class.sink; room = g.S.Sink.room c.args.sink.now; room_now = g.S.Sink.room c.loop-class.sink }) c.requires.ready c.loop-class.invariant.0 c.in-Some.class c.front.ensures.lawful (front_is c.in-Some.class c.loop-class.active (sym c.in-Some.is ∙ c.front.ensures.front)) c.in-Some-place_of.place (sym c.in-Some-place_of.is ∙ c.place_of.ensures.value)) c.ask_class-shown.new.class c.ask_class-shown.result (g.S.Sink.losses c.ask_class-shown.new.sink) (g.S.Sink.room c.ask_class-shown.new.sink) (class-shown c.args.now c.args.active.now c.loop-class.active c.args.classes.now c.loop-class.classes c.loop-class.unasked c.loop-class.shown (record { losses = g.S.Sink.losses c.args.sink.now; losses_now = g.S.Sink.losses c.loop-class.sink; room = g.S.Sink.room c.args.sink.now; room_now = g.S.Sink.room c.loop-class.sink }) c.requires.ready c.loop-class.invariant.0 c.in-Some.class c.front.ensures.lawful (front_is c.in-Some.class c.loop-class.active (sym c.in-Some.is ∙ c.front.ensures.front)) c.in-Some-place_of.place (class-in-front c.args.now c.args.active.now c.loop-class.active c.args.classes.now c.loop-class.classes c.loop-class.unasked c.loop-class.shown (record { losses = g.S.Sink.losses c.args.sink.now; losses_now = g.S.Sink.losses c.loop-class.sink; room = g.S.Sink.room c.args.sink.now; room_now = g.S.Sink.room c.loop-class.sink }) c.requires.ready c.loop-class.invariant.0 c.in-Some.class c.front.ensures.lawful (front_is c.in-Some.class c.loop-class.active (sym c.in-Some.is ∙ c.front.ensures.front)) c.in-Some-place_of.place (sym c.in-Some-place_of.is ∙ c.place_of.ensures.value)) c.index-classes-place.result c.ask_class-shown.new.class c.ask_class-shown.result (g.S.Sink.losses c.ask_class-shown.new.sink) (g.S.Sink.room c.ask_class-shown.new.sink) c.ask_class-shown.ensures.asked c.ask_class-shown.ensures.told c.ask_class-shown.ensures.at_hand c.ask_class-shown.ensures.not_lost) c.in-Some-packet.packet c.in-Some-packet.is (subst (λ m. (front_is c.in-Some.class c.loop-class.active (sym c.in-Some.is ∙ c.front.ensures.front)).first.deficit < m) (ap (λ (p : Descriptor). p.len) c.packet.view_is) (falls_short c.loop-class.active c.in-Some.class c.packet.inside.len (front_is c.in-Some.class c.loop-class.active (sym c.in-Some.is ∙ c.front.ensures.front)) (sym c.in-Granted.is ∙ c.turn.ensures.answer))) c.saturating_sub-unasked.result c.saturating_sub-unasked.ensures),
-  g.met.S.Sink.keeps_on c.args.sink.now c.loop-class.sink c.ask_class-shown.new.sink c.loop-class.invariant.1 c.ask_class-shown.ensures.kept,
-)
+drr::serve-loop-class-preserved g t c =
+    let told : SinkTold = record { losses = g.S.Sink.losses c.args.sink.now; losses_now = g.S.Sink.losses c.loop-class.sink; room = g.S.Sink.room c.args.sink.now; room_now = g.S.Sink.room c.loop-class.sink } in
+    let front = front_is c.in-Some.class c.loop-class.active (sym c.in-Some.is ∙ c.front.ensures.front) in
+    let place = class-in-front c.args.now c.args.active.now c.loop-class.active c.args.classes.now c.loop-class.classes c.loop-class.unasked c.loop-class.shown told c.requires.ready c.loop-class.invariant.0 c.in-Some.class c.front.ensures.lawful front c.in-Some-place_of.place (sym c.in-Some-place_of.is ∙ c.place_of.ensures.value) in
+    let class_shows = class-shown c.args.now c.args.active.now c.loop-class.active c.args.classes.now c.loop-class.classes c.loop-class.unasked c.loop-class.shown told c.requires.ready c.loop-class.invariant.0 c.in-Some.class c.front.ensures.lawful front c.in-Some-place_of.place place c.index-classes-place.result c.ask_class-shown.new.class c.ask_class-shown.result (g.S.Sink.losses c.ask_class-shown.new.sink) (g.S.Sink.room c.ask_class-shown.new.sink)
+    c.ask_class-shown.ensures.asked c.ask_class-shown.ensures.told c.ask_class-shown.ensures.at_hand c.ask_class-shown.ensures.not_lost in
+    let len = ap (λ (p : Descriptor). p.len) c.packet.view_is in
+    let short = subst (λ m. front.first.deficit < m) len (falls_short c.loop-class.active c.in-Some.class c.packet.inside.len front (sym c.in-Granted.is ∙ c.turn.ensures.answer)) in
+    let turn = c.turn.ensures.after ∙ ap (λ m. turned m c.loop-class.active) len in
+    let told_after : SinkTold = record { losses = g.S.Sink.losses c.args.sink.now; losses_now = g.S.Sink.losses c.ask_class-shown.new.sink; room = g.S.Sink.room c.args.sink.now; room_now = g.S.Sink.room c.ask_class-shown.new.sink } in (
+      subst (λ s. AreClassesAsked c.args.now c.args.active.now s c.args.classes.now (set c.loop-class.classes c.in-Some-place_of.place c.ask_class-shown.new.class) c.saturating_sub-unasked.result c.ask_class-shown.result told_after) (sym turn)
+          (classes-go-on c.args.now c.args.active.now c.loop-class.active c.args.classes.now c.loop-class.classes c.loop-class.unasked c.loop-class.shown told c.requires.ready c.loop-class.invariant.0 c.in-Some.class c.front.ensures.lawful front c.in-Some-place_of.place place
+          c.ask_class-shown.new.class c.ask_class-shown.result (g.S.Sink.losses c.ask_class-shown.new.sink) (g.S.Sink.room c.ask_class-shown.new.sink) class_shows c.in-Some-packet.packet c.in-Some-packet.is short c.saturating_sub-unasked.result c.saturating_sub-unasked.ensures),
+      g.met.S.Sink.keeps_on c.args.sink.now c.loop-class.sink c.ask_class-shown.new.sink c.loop-class.invariant.1 c.ask_class-shown.ensures.kept,
+    )
 
 pub drr::serve-returns-clause-active : goal.drr::serve-returns-clause-active
-drr::serve-returns-clause-active g t c = λ own. idle-schedule c.args.now c.args.active.now c.loop-class.active c.args.classes.now c.loop-class.classes c.loop-class.unasked c.loop-class.shown (record { losses = g.S.Sink.losses c.args.sink.now; losses_now = g.S.Sink.losses c.loop-class.sink; room = g.S.Sink.room c.args.sink.now; room_now = g.S.Sink.room c.loop-class.sink }) c.requires.ready c.loop-class.invariant.0 c.front.ensures.lawful (empty_front c.loop-class.active (sym c.in_default.is ∙ c.front.ensures.front)) own
+drr::serve-returns-clause-active g t c =
+    let told : SinkTold = record { losses = g.S.Sink.losses c.args.sink.now; losses_now = g.S.Sink.losses c.loop-class.sink; room = g.S.Sink.room c.args.sink.now; room_now = g.S.Sink.room c.loop-class.sink } in
+    let nobody = empty_front c.loop-class.active (sym c.in_default.is ∙ c.front.ensures.front) in
+    λ own. idle-schedule c.args.now c.args.active.now c.loop-class.active c.args.classes.now c.loop-class.classes c.loop-class.unasked c.loop-class.shown told c.requires.ready c.loop-class.invariant.0 c.front.ensures.lawful nobody own
 
 pub drr::serve-returns-clause-after : goal.drr::serve-returns-clause-after
-drr::serve-returns-clause-after g t c = λ own. idle-asked c.args.now c.args.active.now c.loop-class.active c.args.classes.now c.loop-class.classes c.loop-class.unasked c.loop-class.shown (record { losses = g.S.Sink.losses c.args.sink.now; losses_now = g.S.Sink.losses c.loop-class.sink; room = g.S.Sink.room c.args.sink.now; room_now = g.S.Sink.room c.loop-class.sink }) c.requires.ready c.loop-class.invariant.0 c.front.ensures.lawful (empty_front c.loop-class.active (sym c.in_default.is ∙ c.front.ensures.front)) c.at_hand.result (ap (λ (s : Shown). s.packet) c.at_hand.ensures)
+drr::serve-returns-clause-after g t c =
+    let told : SinkTold = record { losses = g.S.Sink.losses c.args.sink.now; losses_now = g.S.Sink.losses c.loop-class.sink; room = g.S.Sink.room c.args.sink.now; room_now = g.S.Sink.room c.loop-class.sink } in
+    let nobody = empty_front c.loop-class.active (sym c.in_default.is ∙ c.front.ensures.front) in
+    λ own. idle-asked c.args.now c.args.active.now c.loop-class.active c.args.classes.now c.loop-class.classes c.loop-class.unasked c.loop-class.shown told c.requires.ready c.loop-class.invariant.0 c.front.ensures.lawful nobody c.at_hand.result (ap (λ (s : Shown). s.packet) c.at_hand.ensures)
     (record { dropped = ap (λ (s : Shown). s.dropped) c.at_hand.ensures; marked = ap (λ (s : Shown). s.marked) c.at_hand.ensures }) own
 
 pub drr::serve-returns-clause-told : goal.drr::serve-returns-clause-told
-drr::serve-returns-clause-told g t c = λ own. idle-told c.args.now c.args.active.now c.loop-class.active c.args.classes.now c.loop-class.classes c.loop-class.unasked c.loop-class.shown (record { losses = g.S.Sink.losses c.args.sink.now; losses_now = g.S.Sink.losses c.loop-class.sink; room = g.S.Sink.room c.args.sink.now; room_now = g.S.Sink.room c.loop-class.sink }) c.requires.ready c.loop-class.invariant.0 c.front.ensures.lawful (empty_front c.loop-class.active (sym c.in_default.is ∙ c.front.ensures.front)) own
+drr::serve-returns-clause-told g t c =
+    let told : SinkTold = record { losses = g.S.Sink.losses c.args.sink.now; losses_now = g.S.Sink.losses c.loop-class.sink; room = g.S.Sink.room c.args.sink.now; room_now = g.S.Sink.room c.loop-class.sink } in
+    let nobody = empty_front c.loop-class.active (sym c.in_default.is ∙ c.front.ensures.front) in
+    λ own. idle-told c.args.now c.args.active.now c.loop-class.active c.args.classes.now c.loop-class.classes c.loop-class.unasked c.loop-class.shown told c.requires.ready c.loop-class.invariant.0 c.front.ensures.lawful nobody own
 
 pub drr::serve-returns-clause-kept : goal.drr::serve-returns-clause-kept
 drr::serve-returns-clause-kept g t c = c.loop-class.invariant.1
