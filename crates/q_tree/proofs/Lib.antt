@@ -4,6 +4,7 @@ pub mod AskOnce
 pub mod AskRows
 pub mod Asking
 pub mod AtHandLemmas
+pub mod FindLemmas
 pub mod FlowCounts
 pub mod Forms
 pub mod HereLemmas
@@ -16,6 +17,7 @@ pub mod Rows
 pub mod RowsOf
 pub mod ServeLemmas
 pub mod SettleLemmas
+pub mod StatsLemmas
 pub mod TakeCounts
 pub mod TreeLemmas
 pub mod TreePuts

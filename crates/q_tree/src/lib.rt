@@ -11,6 +11,7 @@
 mod at_hand;
 mod booking;
 mod drr;
+mod find;
 mod fq_codel;
 mod matching;
 mod node;

@@ -192,8 +192,8 @@ fn go_on(children: &[Node], place: usize, packet: &Packet, way: &mut Way)
     }
 }
 
-// The child in this place.
-fn child_at(children: &[Node], place: usize) -> Option<&Node>
+/// The child in this place.
+pub(crate) fn child_at(children: &[Node], place: usize) -> Option<&Node>
     ensures { option_copied result ≡ slice_get children.now place }
 {
     children.get(place)

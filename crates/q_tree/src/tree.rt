@@ -5,7 +5,7 @@ ghost use Rattle.q_model.specs.Node.{shape};
 ghost use Rattle.q_model.specs.Route.{device_route};
 ghost use Rattle.q_model.specs.Step.{losses_in, fate_of};
 ghost use Rattle.q_model.specs.Tally.{totals};
-ghost use Rattle.q_model.specs.TreeState.{new_tree, put_on, loss_on, put, own_loss, noted_by_put, given, noted_by_take, peek_packet, take_packet};
+ghost use Rattle.q_model.specs.TreeState.{new_tree, stats, put_on, loss_on, put, own_loss, noted_by_put, given, noted_by_take, peek_packet, take_packet};
 ghost use Rattle.q_model.specs.Work.{booked};
 ghost use Rattle.q_tree.specs.Arrivals.{CanPut, IsOutcome};
 ghost use Rattle.q_tree.specs.Kept.{kept};
@@ -16,7 +16,7 @@ use crate::node::{NOTHING_COUNTED, Node};
 use crate::outcome::{Outcome, refuse};
 use crate::route::Route;
 use q_codel::{Limit, Sink};
-use q_model::{Fate, Row};
+use q_model::{Fate, Place, Row};
 use q_packet::{Cause, Moment, Packet};
 use std::alloc::{AllocError, Global};
 use std::marker::Model;
@@ -79,6 +79,17 @@ impl Tree {
         ensures { result ≡ row_of self.now.tree.top.counts (beneath self.now.tree.root) }
     {
         self.top
+    }
+
+    /// What the node in this place counted, and what is queued there; `None` where none stands there.
+    pub fn stats(&self, place: Place) -> Option<Row>
+        ensures { result ≡ stats kept place self.now.tree }
+    {
+        match place {
+            Place::Top => return Some(self.top),
+            Place::Root => return Some(self.root.row()),
+            Place::Class(id) => return Some(self.root.find(id.major)?.class(id.minor)?.row()),
+        }
     }
 
     /// The route of a packet: at most eight children, each the one that a filter, a band or a class names. It takes no memory.
