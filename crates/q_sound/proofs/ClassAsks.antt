@@ -20,6 +20,7 @@ use Rattle.q_model.specs.Grants.{granted_notes}
 use Rattle.q_model.specs.Work.{Worked, booked, settled_class}
 use Rattle.q_model.specs.Ask.{Asked, befores, holding, Dequeue, dequeued, length_of, service_of, place_met, gives_nothing, class_gives, class_serves, ask_drr, ask_discipline, ask_own, ask}
 use Rattle.q_model.specs.Stretches.{bytes_sent, granted_by, grants_to}
+use Rattle.q_sound.proofs.Forests.{nodes-side}
 use Rattle.q_sound.proofs.Kept.{IsLawfulRoot}
 use Rattle.q_sound.proofs.Told.{noted-history}
 use Rattle.q_sound.proofs.NoteSums.{AreRisen, sum-risen, past-granted}
@@ -33,7 +34,7 @@ use Rattle.q_sound.proofs.SentStages.{sum-each}
 use Rattle.q_sound.proofs.SameTurns.{SameTurns, same-all, same-settled}
 use Rattle.q_sound.proofs.TakeTurns.{one_if, Stands, stands, take-books, take-even, grants-noted, absent-noted, deficit-at}
 use Rattle.q_sound.proofs.ClassChildren.{child_for, child-at}
-use Rattle.q_sound.proofs.ClassLooks.{answer-for, nodes-side, before-at, booked-child}
+use Rattle.q_sound.proofs.ClassLooks.{answer-for, before-at, booked-child}
 use Rattle.q_sound.proofs.ClassTakes.{heads, none-sends, looked-gives, service-gives, met-sends}
 use Rattle.q_sound.proofs.ClassSteps.{DrrStep, Stays, quiet-step}
 use Rattle.q_sound.proofs.StepNodes.{IsAsked}

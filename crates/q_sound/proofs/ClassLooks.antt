@@ -15,10 +15,6 @@ use Rattle.q_sound.proofs.Related.{AllRelated, forget}
 use Rattle.q_sound.proofs.SentStages.{Gives, ask-gives}
 use Rattle.q_sound.proofs.ClassChildren.{child_for, here-is, there-is}
 
-pub nodes-side : {M : Type 0} (ns : List (Node M)) → nodes_in (side_by_side ns) ≡ ns
-nodes-side [] = refl
-nodes-side (n ∷ ns) = ap (λ o. n ∷ o) (nodes-side ns)
-
 -- ---- asked
 
 pub record LookedAt (classes : List Class) (below : List Asked) (c : ℕ) (v : Worked) : Type 0 where

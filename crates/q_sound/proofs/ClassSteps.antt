@@ -19,6 +19,7 @@ use Rattle.q_model.specs.Put.{queued_in}
 use Rattle.q_model.specs.Ask.{length_of, ask}
 use Rattle.q_model.specs.Edit.{above, edited_at}
 use Rattle.q_model.specs.Stretches.{sent_by, bytes_sent, granted_by, grants_to}
+use Rattle.q_sound.proofs.Forests.{nodes-side}
 use Rattle.q_sound.proofs.NoteSums.{sum-risen, risen-losses, past-sent, past-granted}
 use Rattle.q_sound.proofs.Told.{noted-history}
 use Rattle.q_sound.proofs.DrrSettled.{class-settled}
@@ -31,7 +32,7 @@ use Rattle.q_sound.proofs.StepNodes.{IsPut, IsRemadeSo, IsEdited}
 use Rattle.q_sound.proofs.SameTurns.{SameTurns, same-all, same-fewer, same-settled, same-quantum}
 use Rattle.q_sound.proofs.TakeTurns.{one_if}
 use Rattle.q_sound.proofs.ClassChildren.{place_in, child_for, child-at, child-set, child-added, child-removed, child-quantum}
-use Rattle.q_sound.proofs.ClassLooks.{nodes-side, booked-child}
+use Rattle.q_sound.proofs.ClassLooks.{booked-child}
 
 -- one class, whose child became another
 pub record ClassStep (c : ℕ) (notes : List Note) (s t : Schedule) (k m : Node (List Note)) : Type 0 where

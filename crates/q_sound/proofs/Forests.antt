@@ -15,6 +15,10 @@ use Rattle.q_sound.proofs.Kept.{AllCounted, AllLawful, IsLawfulRoot, IsCountedRo
 use Rattle.q_sound.proofs.Told.{AllTold, IsRootTold}
 
 module _ {M : Type 0} where
+  pub nodes-side : (ns : List (Node M)) → nodes_in (side_by_side ns) ≡ ns
+  nodes-side [] = refl
+  nodes-side (n ∷ ns) = ap (λ xs. n ∷ xs) (nodes-side ns)
+
   pub side-nodes : (x : Forest M) → side_by_side (nodes_in x) ≡ x
   side-nodes none = refl
   side-nodes (more own m below others) = ap (more own m below) (side-nodes others)

@@ -20,7 +20,7 @@ use Rattle.q_tree.specs.Kept.{Kept}
 use Rattle.q_tree.specs.Seen.{seen, children_seen}
 use Rattle.q_tree.specs.declared.node.Discipline.TheVariants.{Prio, Drr}
 use Rattle.q_tree.specs.declared.node.Node.TheInside.{Inside}
-use Rattle.q_tree.proofs.Forms.{nodes-side}
+use Rattle.q_sound.proofs.Forests.{nodes-side}
 
 -- an address, and the node that it leads to
 abbrev Leads : {M : Type 0} → (List ℕ → Option (Node M)) → Option Address → Option (Node M) → Type 0

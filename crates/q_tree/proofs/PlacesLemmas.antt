@@ -12,14 +12,13 @@ use Rattle.q_model.specs.Node as spec
 use Rattle.q_model.specs.Node.{Node, Forest, children, side_by_side, each, each_memory}
 use Rattle.q_model.specs.Tally.{Counts}
 use Rattle.q_model.proofs.ShrinkLemmas.{each-each_memory}
-use Rattle.q_sound.proofs.Forests.{each-side}
+use Rattle.q_sound.proofs.Forests.{nodes-side, each-side}
 use Rattle.q_tree.specs.Arrivals.{HasPlace, HasPlaceIn}
 use Rattle.q_tree.specs.Kept.{Kept}
 use Rattle.q_tree.specs.Places.{unplaced, Leads, HasPlaceAt}
 use Rattle.q_tree.specs.Seen.{seen, discipline_seen, children_seen, IsKept, IsCountedWithin}
 use Rattle.q_tree.specs.declared.node.Discipline.{Discipline}
 use Rattle.q_tree.specs.declared.node.Node.TheInside.{Inside}
-use Rattle.q_tree.proofs.Forms.{nodes-side}
 use Rattle.q_tree.proofs.Puts.{same-child}
 
 pub on-ok : {A B : Type 0} {P Q : Type 0} (r : Result A B) → (P → Q) → OnOk r P → OnOk r Q

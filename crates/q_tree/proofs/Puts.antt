@@ -34,7 +34,7 @@ use Rattle.q_sound.proofs.Weights.{weigh, weigh-count}
 use Rattle.q_sound.proofs.Answer.{one}
 use Rattle.q_sound.proofs.Counted.{bytes}
 use Rattle.q_sound.proofs.Told.{IsRootTold, root-memory, root-booked}
-use Rattle.q_sound.proofs.Forests.{lawful-with_memory, each-side}
+use Rattle.q_sound.proofs.Forests.{nodes-side, lawful-with_memory, each-side}
 use Rattle.q_sound.proofs.Members.{All-at}
 use Rattle.q_sound.proofs.Quiet.{child-lawful}
 use Rattle.q_sound.proofs.PutHere.{IsPut}
@@ -49,7 +49,7 @@ use Rattle.q_tree.specs.declared.node.Discipline.{Discipline}
 use Rattle.q_tree.specs.declared.node.Node.TheInside.{Inside}
 use Rattle.q_tree.specs.declared.outcome.Outcome.{Outcome}
 use Rattle.q_tree.proofs.FlowCounts.{packets-all, bytes-all, packets-bare, bytes-bare}
-use Rattle.q_tree.proofs.Forms.{nodes-side, children-shape, child-shape, side-quiet, side-booked, noted-kept}
+use Rattle.q_tree.proofs.Forms.{children-shape, child-shape, side-quiet, side-booked, noted-kept}
 use Rattle.q_tree.proofs.Rows.{counts_in_row, AreLosses, counted-arrival, outcome-weighs, IsShifted, lost-of, queued-after, balanced-after, weigh-bytes}
 
 -- what a node remembers is not looked at
