@@ -3,7 +3,7 @@ ghost use Rattle.std.specs.Prelude.{◌+◌, ◌-◌, ◌≤◌, length, OnOk};
 ghost use Rattle.q_model.specs.Beneath.{beneath};
 
 use q_codel::Losses;
-use q_model::Fate;
+use q_model::{ClassId, Fate, Handle, Minor, Place};
 use q_packet::{Cause, Ecn, FlowKey, Moment, Packet};
 use q_tree::Tree;
 use std::test::Fail;
@@ -65,5 +65,15 @@ fn a_pfifo_of_two(rt: HostRuntime) -> Result<(), Fail> {
     assert_eq!(rt; row.dropped.packets, 0);
     assert_eq!(rt; row.queued.packets, 0);
     assert_eq!(rt; losses.count(), 2);
+    assert!(rt; tree.stats(Place::Top) == Some(row));
+    // A packet longer than the mtu never comes to the root.
+    let root = tree.stats(Place::Root).ok_or("root")?;
+    assert_eq!(rt; root.arrived.packets, 3);
+    assert_eq!(rt; root.refused.bytes, 400);
+    let class = ClassId {
+        major: Handle::new(1).ok_or("major")?,
+        minor: Minor::new(1).ok_or("minor")?,
+    };
+    assert!(rt; tree.stats(Place::Class(class)).is_none());
     Ok(())
 }
