@@ -6,6 +6,8 @@ use q_codel::Losses;
 use q_model::{ClassId, Fate, Handle, Minor, Place};
 use q_packet::{Cause, Ecn, FlowKey, Moment, Packet};
 use q_tree::Tree;
+use std::alloc::Global;
+use std::process::Abort;
 use std::test::Fail;
 
 // The packet with this number and length.
@@ -23,53 +25,92 @@ fn make_room(tree: &Tree, losses: &mut Losses) -> Result<(), Fail>
     Ok(())
 }
 
-// Puts a packet on its route, at the latest moment that the tree knows.
-fn arrive(tree: &mut Tree, losses: &mut Losses, packet: Packet) -> Result<Fate, Fail> {
-    let now = tree.clock();
-    let route = tree.route(&packet);
-    tree.prepare(&route)?;
-    make_room(tree, losses)?;
-    Ok(tree.put(&route, packet, now, losses))
+// A tree under test, with what it lost.
+#[derive(Drop)]
+struct Bench {
+    tree: Tree,
+    losses: Losses,
 }
 
-// The number of the packet that a take gives; 0 where none is.
-fn take(tree: &mut Tree, losses: &mut Losses) -> Result<u64, Fail> {
-    let now = tree.clock();
-    make_room(tree, losses)?;
-    let shown = tree.peek(now, losses).map_or(0, |packet| packet.number);
-    make_room(tree, losses)?;
-    let taken = tree.take(now, losses).map_or(0, |packet| packet.number);
-    if taken == shown {
-        Ok(taken)
-    } else {
-        Err(Fail::from("a take gives what a peek shows"))
+impl Bench {
+    // A pfifo of two packets, of at most 1500 bytes each.
+    fn new(alloc: Global) -> Bench {
+        Bench {
+            tree: Tree::new(alloc, 1500, 2),
+            losses: Losses::new(alloc),
+        }
+    }
+
+    // What becomes of a packet that is put at the latest moment which the tree knows.
+    fn put(&mut self, number: u64, len: u16) -> Result<Fate, Fail> {
+        let packet = packet(number, len)?;
+        let tree = &mut self.tree;
+        let now = tree.clock();
+        let route = tree.route(&packet);
+        tree.prepare(&route)?;
+        make_room(tree, &mut self.losses)?;
+        Ok(tree.put(&route, packet, now, &mut self.losses))
+    }
+
+    // The number of the packet that a take gives, which is the one that a peek shows; 0 where none is.
+    fn take(&mut self) -> Result<u64, Fail> {
+        let tree = &mut self.tree;
+        let now = tree.clock();
+        make_room(tree, &mut self.losses)?;
+        let shown = tree
+            .peek(now, &mut self.losses)
+            .map_or(0, |packet| packet.number);
+        make_room(tree, &mut self.losses)?;
+        let taken = tree
+            .take(now, &mut self.losses)
+            .map_or(0, |packet| packet.number);
+        if taken == shown {
+            Ok(taken)
+        } else {
+            Err(Fail::from("a take gives what a peek shows"))
+        }
+    }
+
+    // Two packets that are kept, one longer than the mtu, and one too many.
+    fn fill(&mut self, rt: &impl Abort) -> Result<(), Fail> {
+        assert!(rt; self.put(1, 100)? == Fate::Kept);
+        assert!(rt; self.put(2, 1501)? == Fate::Lost(Cause::TooLong));
+        assert!(rt; self.put(3, 300)? == Fate::Kept);
+        assert!(rt; self.put(4, 400)? == Fate::Lost(Cause::OverLimit));
+        Ok(())
     }
 }
 
 #[test]
 fn a_pfifo_of_two(rt: HostRuntime) -> Result<(), Fail> {
-    let mut tree = Tree::new(rt.alloc(), 1500, 2);
-    let mut losses = Losses::new(rt.alloc());
-    assert!(rt; arrive(&mut tree, &mut losses, packet(1, 100)?)? == Fate::Kept);
-    assert!(rt; arrive(&mut tree, &mut losses, packet(2, 1501)?)? == Fate::Lost(Cause::TooLong));
-    assert!(rt; arrive(&mut tree, &mut losses, packet(3, 300)?)? == Fate::Kept);
-    assert!(rt; arrive(&mut tree, &mut losses, packet(4, 400)?)? == Fate::Lost(Cause::OverLimit));
-    assert_eq!(rt; take(&mut tree, &mut losses)?, 1);
-    assert_eq!(rt; take(&mut tree, &mut losses)?, 3);
-    assert_eq!(rt; take(&mut tree, &mut losses)?, 0);
-    let row = tree.totals();
-    assert_eq!(rt; row.arrived.packets, 4);
-    assert_eq!(rt; row.arrived.bytes, 2301);
-    assert_eq!(rt; row.sent.bytes, 400);
-    assert_eq!(rt; row.refused.packets, 2);
-    assert_eq!(rt; row.dropped.packets, 0);
-    assert_eq!(rt; row.queued.packets, 0);
-    assert_eq!(rt; losses.count(), 2);
-    assert!(rt; tree.stats(Place::Top) == Some(row));
-    // A packet longer than the mtu never comes to the root.
-    let root = tree.stats(Place::Root).ok_or("root")?;
+    let mut bench = Bench::new(rt.alloc());
+    bench.fill(&rt)?;
+    assert_eq!(rt; bench.take()?, 1);
+    assert_eq!(rt; bench.take()?, 3);
+    assert_eq!(rt; bench.take()?, 0);
+    assert_eq!(rt; bench.losses.count(), 2);
+    Ok(())
+}
+
+#[test]
+fn a_packet_longer_than_the_mtu_never_comes_to_the_root(rt: HostRuntime) -> Result<(), Fail> {
+    let mut bench = Bench::new(rt.alloc());
+    bench.fill(&rt)?;
+    let top = bench.tree.totals();
+    assert_eq!(rt; top.arrived.packets, 4);
+    assert_eq!(rt; top.arrived.bytes, 2301);
+    assert_eq!(rt; top.refused.packets, 2);
+    assert!(rt; bench.tree.stats(Place::Top) == Some(top));
+    let root = bench.tree.stats(Place::Root).ok_or("root")?;
     assert_eq!(rt; root.arrived.packets, 3);
     assert_eq!(rt; root.refused.bytes, 400);
+    assert_eq!(rt; root.queued.bytes, 400);
+    Ok(())
+}
+
+#[test]
+fn a_pfifo_has_no_class(rt: HostRuntime) -> Result<(), Fail> {
+    let tree = Tree::new(rt.alloc(), 1500, 2);
     let class = ClassId {
         major: Handle::new(1).ok_or("major")?,
         minor: Minor::new(1).ok_or("minor")?,

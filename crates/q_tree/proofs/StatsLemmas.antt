@@ -30,6 +30,7 @@ in-class id n = by (path_of id.major n) where
     child : (o : Option ℕ) → option_and_then (slice_get (children parent)) o ≡ option_and_then (λ p. node_at p n) (option_map (λ i. path ++ i ∷ []) o)
     child None = refl
     child (Some i) = sym (at-end path i n parent e)
+
   by : (o : Option (List ℕ)) → option_and_then (class_with id.minor) (option_and_then (λ path. node_at path n) o) ≡ option_and_then (λ path. node_at path n) (option_and_then (λ path. option_and_then (λ parent. option_map (λ i. path ++ i ∷ []) (class_place id.minor parent)) (node_at path n)) o)
   by None = refl
   by (Some path) = class-at path (node_at path n) refl
