@@ -8,6 +8,7 @@ pub mod FindLemmas
 pub mod FlowCounts
 pub mod Forms
 pub mod HereLemmas
+pub mod OtherSubtrees
 pub mod Peeks
 pub mod PlacesLemmas
 pub mod PopLemmas

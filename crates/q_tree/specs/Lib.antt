@@ -3,6 +3,7 @@ pub mod Arrivals
 pub mod AskSteps
 pub mod Finding
 pub mod Kept
+pub mod Laws
 pub mod NodeCode
 pub mod NodeFalls
 pub mod Places

@@ -13,6 +13,7 @@ mod booking;
 mod drr;
 mod find;
 mod fq_codel;
+pub mod laws;
 mod matching;
 mod node;
 mod outcome;
