@@ -4,6 +4,7 @@ pub mod AskOnce
 pub mod AskRows
 pub mod Asking
 pub mod AtHandLemmas
+pub mod CountedLosses
 pub mod FindLemmas
 pub mod FlowCounts
 pub mod Forms
