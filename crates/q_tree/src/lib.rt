@@ -4,6 +4,7 @@
 //! - [`Command`] is a change of the tree, [`Kind`] a qdisc with its options, [`Place`] where it goes.
 //! - [`NotDone`] is why a change was not made, [`Row`] what a node counted, and [`NodeView`], [`ClassView`] and
 //!   [`FilterView`] are what `show` prints.
+//! - [`laws`] is what is true of every call for a packet.
 //!
 //! What a tree does is defined in the `specs/` of `q_model`. The calls that change its form are to come.
 #![tactic(auto)]
