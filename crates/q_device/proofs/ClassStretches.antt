@@ -2,11 +2,12 @@
 use Rattle.std.proofs.Common.{◌≡◌, ◌≢◌, ℕ, ◌+◌, ◌*◌, ◌<◌, ◌≤◌, true, false, Bool, List, [], ◌∷◌, ◌++◌, max, refl, sym, ap, subst, ◌∙◌, Some, Ok, Err, Result, arith}
 use Rattle.std.specs.Prelude.{All, drop, IsSomeAnd}
 use Rattle.std.proofs.lemmas.List.Elements.{All-append}
-use Rattle.std.proofs.Math.Nat.{add-mul, mul-add, mul_comm, mul_assoc, mul-le-mul_left, mul-lt-mul_of_pos_left}
 use Rattle.std.proofs.lemmas.List.{append-nil}
 use Rattle.std.proofs.lemmas.Option.{same_Some}
 use Rattle.q_drr.specs.Schedule.{quantum_of, deficit_of}
 use Rattle.q_drr.specs.Stretch.{stands_first}
+use Rattle.std.proofs.Math.Nat.{mul_comm}
+use Rattle.q_drr.proofs.FairLemmas.{fair_numbers}
 use Rattle.q_drr.proofs.TakeLemmas.{has_quantum}
 use Rattle.q_model.specs.declared.event.Event.{Event}
 use Rattle.q_model.specs.declared.event.Event.TheVariants as event
@@ -125,23 +126,6 @@ same-rest : (xs ys zs : List Note) → xs ++ ys ≡ xs ++ zs → ys ≡ zs
 same-rest [] ys zs e = e
 same-rest (x ∷ xs) ys zs e = same-rest xs ys zs (ap (drop 1) e)
 
--- si and sj are sent for gi and gj grants of a and b, from deficits di and dj to ei and ej
-fair-numbers : (si sj gi gj a b di dj ei ej m : ℕ) → si + ei ≡ gi * a + di → sj + ej ≡ gj * b + dj → gi ≤ gj + 1 → di < a + m → ej < b + m → 1 ≤ b
-    → si * b < sj * a + 3 * (a * b) + m * (a + b)
-fair-numbers si sj gi gj a b di dj ei ej m share_i share_j even first last positive =
-    let i : si * b + ei * b ≡ gi * a * b + di * b = sym (add-mul si ei b) ∙ ap (λ x. x * b) share_i ∙ add-mul (gi * a) di b in
-    let j : sj * a + ej * a ≡ gj * b * a + dj * a = sym (add-mul sj ej a) ∙ ap (λ x. x * a) share_j ∙ add-mul (gj * b) dj a in
-    let gi_is : gi * a * b ≡ (a * b) * gi = mul_assoc gi a b ∙ mul_comm gi (a * b) in
-    let gj_is : gj * b * a ≡ (a * b) * gj = mul_assoc gj b a ∙ ap (λ x. gj * x) (mul_comm b a) ∙ mul_comm gj (a * b) in
-    let once_more : (a * b) * gi ≤ (a * b) * (gj + 1) = mul-le-mul_left (a * b) even in
-    let spread : (a * b) * (gj + 1) ≡ (a * b) * gj + (a * b) * 1 = mul-add (a * b) gj 1 in
-    let low : b * di < b * (a + m) = mul-lt-mul_of_pos_left first positive in
-    let low_is : b * (a + m) ≡ b * a + b * m = mul-add b a m in
-    let high : a * ej ≤ a * (b + m) = mul-le-mul_left a (omega arith) in
-    let high_is : a * (b + m) ≡ a * b + a * m = mul-add a b m in
-    let longest : m * (a + b) ≡ m * a + m * b = mul-add m a b in
-    omega (arith, mul_comm b di, mul_comm b a, mul_comm b m, mul_comm a m, mul_comm a ej)
-
 module _ (major i j quantum_i quantum_j : ℕ) (apart : i ≢ j) where
   abbrev BothStay : DeviceState (List Note) → Type 0
   BothStay d = IsBackloggedClass major i quantum_i d × IsBackloggedClass major j quantum_j d
@@ -207,7 +191,7 @@ pairs-share settings range before during major i j quantum_i quantum_j first_i l
     let ej : deficit_of j last_j.schedule.active < quantum_j + settings.mtu = (let b = deficits-bounded settings range (before ++ during) major j last_j all at_j in omega (arith, b, rj)) in
     let low : grants_to i p.notes ≤ grants_to j p.notes + 1 = omega (arith, even, one-at-most (stands_first i j first_i.schedule.active)) in
     let high : grants_to j p.notes ≤ grants_to i p.notes + 1 = omega (arith, even, one-at-most (stands_first i j last_i.schedule.active)) in
-    let fair_j = fair-numbers (bytes_sent k.given) (bytes_sent m.given) (grants_to j p.notes) (grants_to i p.notes) quantum_j quantum_i (deficit_of j first_j.schedule.active) (deficit_of i first_i.schedule.active)
+    let fair_j = fair_numbers (bytes_sent k.given) (bytes_sent m.given) (grants_to j p.notes) (grants_to i p.notes) quantum_j quantum_i (deficit_of j first_j.schedule.active) (deficit_of i first_i.schedule.active)
     (deficit_of j last_j.schedule.active) (deficit_of i last_i.schedule.active) settings.mtu share_j share_i high dj ei pi in
     let sum : settings.mtu * (quantum_j + quantum_i) ≡ settings.mtu * (quantum_i + quantum_j) = ap (λ q. settings.mtu * q) (omega arith) in
     record {
@@ -220,7 +204,7 @@ pairs-share settings range before during major i j quantum_i quantum_j first_i l
       same_order = λ e. omega (arith, even, ap one_if e);
       overtaken = λ e f. omega (arith, even, ap one_if e, ap one_if f);
       overtakes = λ e f. omega (arith, even, ap one_if e, ap one_if f);
-      no_more = fair-numbers (bytes_sent m.given) (bytes_sent k.given) (grants_to i p.notes) (grants_to j p.notes) quantum_i quantum_j (deficit_of i first_i.schedule.active) (deficit_of j first_j.schedule.active)
+      no_more = fair_numbers (bytes_sent m.given) (bytes_sent k.given) (grants_to i p.notes) (grants_to j p.notes) quantum_i quantum_j (deficit_of i first_i.schedule.active) (deficit_of j first_j.schedule.active)
           (deficit_of i last_i.schedule.active) (deficit_of j last_j.schedule.active) settings.mtu share_i share_j low di ej pj;
       no_less = omega (arith, fair_j, mul_comm quantum_j quantum_i, sum);
     }

@@ -12,7 +12,7 @@ use Rattle.q_drr.proofs.StretchLemmas.{each_sends_its_share, grants_are_even, li
 use Rattle.q_drr.proofs.TakeLemmas.{has_quantum}
 
 -- si and sj are sent for gi and gj grants of a and b, from deficits di and dj to ei and ej
-fair_numbers : (si sj gi gj a b di dj ei ej m : ℕ) → si + ei ≡ gi * a + di → sj + ej ≡ gj * b + dj → gi ≤ gj + 1 → di < a + m → ej < b + m → 1 ≤ b
+pub fair_numbers : (si sj gi gj a b di dj ei ej m : ℕ) → si + ei ≡ gi * a + di → sj + ej ≡ gj * b + dj → gi ≤ gj + 1 → di < a + m → ej < b + m → 1 ≤ b
     → si * b < sj * a + 3 * (a * b) + m * (a + b)
 fair_numbers si sj gi gj a b di dj ei ej m share_i share_j even first last positive =
     let i : si * b + ei * b ≡ gi * a * b + di * b = sym (add-mul si ei b) ∙ ap (λ x. x * b) share_i ∙ add-mul (gi * a) di b in
