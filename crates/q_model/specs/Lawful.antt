@@ -14,7 +14,7 @@ use Rattle.q_bucket.specs.Level as bucket
 use Rattle.q_drr.specs.Schedule.{Class, Schedule, is_active}
 use Rattle.q_drr.specs.Schedule as drr
 use Rattle.q_model.specs.declared.filter.Filter.{Filter}
-use Rattle.q_model.specs.Numbers.{IsWithin}
+use Rattle.q_model.specs.Numbers.{IsWithin, IsMinor}
 use Rattle.q_model.specs.Tally.{Tally}
 use Rattle.q_model.specs.Node.{Discipline, Fifo, Prio, Tbf, Drr, FqCodel, Own, Node, each}
 use Rattle.q_model.specs.Beneath.{beneath_own, beneath, row, row_of}
@@ -34,11 +34,12 @@ pub record IsLawfulFifo (clock : ℕ) (queue : List Stamped) (below : List (List
   pub stamps : IsStampedBy clock queue
   pub none : below ≡ []
 
--- a drr: a child for each class, and active are exactly the classes whose child has something queued; each stands once in
--- the active list, and its deficit is below its quantum and the mtu together
+-- a drr: a child for each class, whose name is a minor number, and active are exactly the classes whose child has something
+-- queued; each stands once in the active list, and its deficit is below its quantum and the mtu together
 pub record IsLawfulDrr (mtu : ℕ) (s : Schedule) (below : List (List Descriptor)) : Type 0 where
   pub schedule : drr.IsLawful s
   pub longest : s.max_len ≡ mtu
+  pub minors : All (λ (c : Class). IsMinor c.name) s.classes
   pub exact : AllZip (λ (c : Class) (packets : List Descriptor). is_active c.name s.active ≡ not (length packets == 0)) s.classes below
 
 -- a tbf: the level is at most the burst, and nothing beneath its one child is longer than that, since it could never pass

@@ -17,6 +17,7 @@ use Rattle.q_model.specs.Beneath.{beneath, is_empty}
 use Rattle.q_model.specs.Route.{class_at}
 use Rattle.q_model.specs.Lawful.{IsLawfulOwn}
 use Rattle.q_model.specs.Work.{Worked, settled_class}
+use Rattle.q_model.specs.Numbers.{IsMinor}
 use Rattle.q_model.specs.Grants.{asked_entries}
 use Rattle.q_model.specs.Ask.{Asked, befores, dequeued, is_among, head_of, Service, service_of, place_met, gives_nothing, class_gives, class_serves, ask_drr}
 use Rattle.q_sound.proofs.Weights.{weigh, weigh-nil, weigh-one, lost, marked}
@@ -40,6 +41,7 @@ module _ (mtu now : ℕ) (least_mtu : 1 ≤ mtu) (handle : Option ℕ) (filters 
     discipline = record {
       schedule = next.lawful;
       longest = next.longest;
+      minors = subst (All (λ (c : Class). IsMinor c.name)) (sym next.classes) h.discipline.minors;
       exact = subst (λ cs. AreExact (λ n. is_active n t.active) cs (map beneath after)) (sym next.classes) exact;
     };
     lengths = lengths-among mtu (waiting (drr_node s None) before) (waiting (drr_node t held) after)

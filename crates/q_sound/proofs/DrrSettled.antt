@@ -1,10 +1,11 @@
 -- A drr whose class at one place has other packets beneath it, and is settled, stays lawful and keeps its classes.
 use Rattle.std.proofs.Common.{◌≡◌, ℕ, ◌≤◌, List, length, set, refl, sym, ap, subst, Option, Some, None, eq-eqb, ◌∙◌}
-use Rattle.std.specs.Prelude.{Bool, true, false, ◌==◌, slice_get}
+use Rattle.std.specs.Prelude.{Bool, true, false, ◌==◌, All, slice_get}
 use Rattle.std.specs.Option.{option_map_or}
 use Rattle.q_packet.specs.Descriptor.{Descriptor}
 use Rattle.q_drr.specs.Schedule.{Class, Schedule, has_class, is_active}
 use Rattle.q_drr.specs.Schedule as drr
+use Rattle.q_model.specs.Numbers.{IsMinor}
 use Rattle.q_drr.proofs.ChangeLemmas.{asleep_lawful, woken_lawful}
 use Rattle.q_drr.proofs.DifferLemmas.{differ-from_pairs}
 use Rattle.q_model.specs.Node.{Discipline, Fifo, Prio, Tbf, Drr, FqCodel}
@@ -50,6 +51,7 @@ drr-settled mtu s below i old packets h least e =
     subst (λ (t : Schedule). IsLawfulDrr mtu t (set below i packets)) (sym (settled-at i emptied s found.0 found.1)) (record {
       schedule = next.lawful;
       longest = next.longest;
+      minors = subst (All (λ (c : Class). IsMinor c.name)) (sym next.classes) h.minors;
       exact = subst (λ cs. AreExact (λ n. is_active n (settled_schedule emptied found.0 s).active) cs (set below i packets)) (sym next.classes)
           (exact-settled s s.classes below i found.0 packets found.1 (differ-from_pairs (λ (c : Class). c.name) s.classes h.schedule.classes_differ) h.exact);
     })

@@ -5,7 +5,7 @@ use Rattle.std.specs.List.{All, list_any, position, position_or_len, remove}
 use Rattle.std.proofs.lemmas.Bool.{eqb-true, eq-eqb, false≢true, cases_Bool, cases_lt, lt-ltb, le-ltb, or_parts, or_from, or_left, false_from_ne_true}
 use Rattle.std.proofs.lemmas.Option.{none-some, same_Some, slice_get-get_or, slice_get-map}
 use Rattle.std.proofs.lemmas.List.{length-map, map-append, take_all}
-use Rattle.std.proofs.lemmas.List.Elements.{All-append, All-take, All-drop}
+use Rattle.std.proofs.lemmas.List.Elements.{All-append, All-drop, All-filter, All-map, All-push, All-take, All-weaker}
 use Rattle.std.proofs.lemmas.List.Quantifiers.{position-Some}
 use Rattle.q_packet.specs.Descriptor.{Descriptor}
 use Rattle.q_drr.specs.Schedule.{Class, Entry, Schedule, has_class, is_active, cut, added, removed, with_quantum, IsEntry}
@@ -15,7 +15,7 @@ use Rattle.q_drr.proofs.KeyLemmas.{others, has_push, has_others, has_map}
 use Rattle.q_drr.proofs.ChangeLemmas.{quantum_set, added_lawful, removed_lawful, with_quantum_lawful}
 use Rattle.q_model.specs.declared.class_id.ClassId.{ClassId}
 use Rattle.q_model.specs.declared.filter.Filter.{Filter}
-use Rattle.q_model.specs.Numbers.{IsQuantum}
+use Rattle.q_model.specs.Numbers.{IsMinor, IsQuantum}
 use Rattle.q_model.specs.Filters.{names_class}
 use Rattle.q_model.specs.Tally.{Note, history}
 use Rattle.q_model.specs.Node.{Drr, Own, Node, Shape, Discipline, children, shape}
@@ -87,11 +87,12 @@ never_active s n h absent =
     (λ k d lt. false_from_ne_true (eqb n (get_or s.active k d).class)
     (λ e. false≢true (sym absent ∙ ap (λ m. has_class m s.classes) (eqb-true n (get_or s.active k d).class e) ∙ (h k d lt).there)))
 
-pub added_drr : (mtu : ℕ) (s : Schedule) (below : List (List Descriptor)) (n quantum : ℕ) → IsLawfulDrr mtu s below → has_class n s.classes ≡ false → 1 ≤ quantum
+pub added_drr : (mtu : ℕ) (s : Schedule) (below : List (List Descriptor)) (n quantum : ℕ) → IsLawfulDrr mtu s below → has_class n s.classes ≡ false → IsMinor n → 1 ≤ quantum
     → IsLawfulDrr mtu (added n quantum s) (below ++ [] ∷ [])
-added_drr mtu s below n quantum h absent positive = record {
+added_drr mtu s below n quantum h absent minor positive = record {
   schedule = added_lawful s n quantum h.schedule absent positive;
   longest = h.longest;
+  minors = All-push (λ (c : Class). IsMinor c.name) s.classes (record { name = n; quantum = quantum }) h.minors minor;
   exact = exact_push (λ m. is_active m s.active) s.classes below (record { name = n; quantum = quantum }) [] h.exact (never_active s n h.schedule.entries absent ∙ empty);
 }
   where
@@ -99,10 +100,10 @@ added_drr mtu s below n quantum h absent positive = record {
     empty = ap not (sym (eq-eqb 0 0 refl))
 
 pub remakes_class_added : (mtu now : ℕ) (leaf : Shape) (new : IsNew mtu now None leaf) (old : Node (List Note)) (lawful : IsLawfulRoot mtu now old) (counted : IsCountedRoot old)
-    (s : Schedule) (n quantum : ℕ) → old.own.discipline ≡ Drr s → has_class n s.classes ≡ false → 1 ≤ quantum
+    (s : Schedule) (n quantum : ℕ) → old.own.discipline ≡ Drr s → has_class n s.classes ≡ false → IsMinor n → 1 ≤ quantum
     → let k : ℕ = length (children (shape old)) in
     Remakes mtu now (gone_from (front_and_new k 1 leaf) old) old (record old.own { discipline = Drr (added n quantum s) }) (kids history (children old) (front_and_new k 1 leaf))
-remakes_class_added mtu now leaf new old lawful counted s n quantum is absent positive =
+remakes_class_added mtu now leaf new old lawful counted s n quantum is absent minor positive =
     let k : ℕ = length (children (shape old)) in
     let most : k ≤ length (children old) = omega (arith, length-shape old) in
     let own : Own = record old.own { discipline = Drr (added n quantum s) } in
@@ -116,7 +117,7 @@ remakes_class_added mtu now leaf new old lawful counted s n quantum is absent po
     ∙ ap₂ (λ (a : List (List Descriptor)) (b : List Descriptor). a ++ b ∷ []) (ap (map beneath) all) (new_beneath mtu now None leaf new) in
     remakes_front mtu now leaf new old lawful counted k 1 most own refl refl (ap packets_in (sym is))
     (own_changed mtu now old.own own below (map beneath kept) was refl (ap packets_in (sym is)) (front_fewer mtu now leaf new old lawful counted k 1 most)
-    (subst (λ (b : List (List Descriptor)). IsLawfulDrr mtu (added n quantum s) b) (sym left_is) (added_drr mtu s below n quantum schedule absent positive))
+    (subst (λ (b : List (List Descriptor)). IsLawfulDrr mtu (added n quantum s) b) (sym left_is) (added_drr mtu s below n quantum schedule absent minor positive))
     (λ c. tt) was.filters was.in_order
     (λ j d lt.
     let f : Filter = get_or old.own.filters j d in
@@ -145,6 +146,8 @@ module _ (n q : ℕ) where
   quantum_drr mtu s below h positive = record {
     schedule = with_quantum_lawful s n q h.schedule positive;
     longest = h.longest;
+    minors = All-map (λ (c : Class). IsMinor c.name) (quantum_set n q) s.classes
+        (All-weaker (λ (c : Class). IsMinor c.name) (λ (c : Class). IsMinor (quantum_set n q c).name) (λ c m. subst IsMinor (sym (same_name c)) m) s.classes h.minors);
     exact = exact_mapped (λ m. is_active m s.active) (λ m. is_active m (with_quantum n q s).active)
         (λ m. has_map (λ (e : Entry). e.class) (cut n q s.max_len) (same_class s.max_len) m s.active) s.classes below h.exact;
   }
@@ -206,6 +209,7 @@ pub removed_drr : (mtu : ℕ) (s : Schedule) (below : List (List Descriptor)) (n
 removed_drr mtu s below n i c h e name = record {
   schedule = removed_lawful s n h.schedule;
   longest = h.longest;
+  minors = All-filter (λ (c : Class). not (n == c.name)) (λ (c : Class). IsMinor c.name) s.classes h.minors;
   exact = exact_removed (λ m. is_active m s.active) (λ m. is_active m (removed n s).active) n (λ m apart. has_others (λ (e : Entry). e.class) m n s.active (eqb_swap m n apart))
       s.classes below i c (differ-from_pairs (λ (c : Class). c.name) s.classes h.schedule.classes_differ) e name h.exact;
 }

@@ -12,12 +12,12 @@ use Rattle.q_fqcodel.specs.FqState.{FqSettings, Flow, first_flow, first_state, a
 use Rattle.q_fqcodel.specs.Ranges as settings
 use Rattle.q_fqcodel.proofs.LawfulLemmas.{lawful_first}
 use Rattle.q_bucket.specs.Level.{full}
-use Rattle.q_drr.specs.Schedule.{no_classes}
+use Rattle.q_drr.specs.Schedule.{Class, no_classes}
 use Rattle.q_drr.proofs.ChangeLemmas.{empty_lawful}
 use Rattle.q_model.specs.declared.filter.Filter.{Filter}
 use Rattle.q_model.specs.declared.kind.Kind.{Kind}
 use Rattle.q_model.specs.declared.kind.Kind.TheVariants as kind
-use Rattle.q_model.specs.Numbers.{IsWithin, most_u32}
+use Rattle.q_model.specs.Numbers.{IsWithin, IsMinor, most_u32}
 use Rattle.q_model.specs.Options.{FqOptions, IsFqCodelOptions}
 use Rattle.q_model.specs.Ranges.{IsKind}
 use Rattle.q_model.specs.Node.{Discipline, Fifo, Prio, Tbf, Drr, FqCodel, Shape, each, side_by_side}
@@ -159,7 +159,7 @@ new_made d now handle (kind.Tbf rate burst limit) positive small r =
       short = All-cons (λ packets. All (λ (p : Descriptor). p.len ≤ burst) packets) [] [] (All-nil (λ (p : Descriptor). p.len ≤ burst)) (All-nil (λ packets. All (λ (p : Descriptor). p.len ≤ burst) packets));
     })
 new_made d now handle kind.Drr positive small r =
-    new_node d.mtu now handle (Drr (no_classes d.mtu)) [] refl tt tt (λ h. refl) (record { schedule = empty_lawful d.mtu; longest = refl; exact = tt })
+    new_node d.mtu now handle (Drr (no_classes d.mtu)) [] refl tt tt (λ h. refl) (record { schedule = empty_lawful d.mtu; longest = refl; minors = All-nil (λ (c : Class). IsMinor c.name); exact = tt })
 new_made d now handle (kind.FqCodel options) positive small r =
     let s : FqSettings = with_options options (default_settings d) in
     let default : settings.IsInRange (default_settings d) = record {

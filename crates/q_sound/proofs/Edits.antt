@@ -103,7 +103,7 @@ module _ (d : Device) (now : ℕ) (root : Node (List Note)) (once : (h : ℕ) �
   planned (QdiscAdd place handle kind) edit range e = planned_qdisc_add d now root once positive small place handle kind edit range.2 e
   planned (QdiscChange place handle kind) edit range e = planned_qdisc_change d now root once positive small place handle kind edit range.2 e
   planned (QdiscDel place handle) edit range e = planned_qdisc_del d now root once positive small place handle edit e
-  planned (ClassAdd parent class quantum) edit range e = planned_class_add d now root once positive parent class quantum edit range.2 e
+  planned (ClassAdd parent class quantum) edit range e = planned_class_add d now root once positive parent class quantum edit range.1.minor range.2 e
   planned (ClassChange parent class quantum) edit range e = planned_class_change d now root once positive parent class quantum edit range.2 e
   planned (ClassDel parent class) edit range e = planned_class_del d now root once positive parent class edit e
   planned (FilterAdd parent major filter) edit range e = planned_filter_add d.mtu now root once parent major filter edit e
