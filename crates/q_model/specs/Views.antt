@@ -2,9 +2,8 @@
 -- Each node stands before what is beneath it; children stand in class order.
 use Rattle.std.specs.Prelude.{ℕ, ◌==◌, List, [], ◌∷◌, ◌++◌, map, drop, length, Option, option_map, option_and_then, slice_get, unwrap_or}
 use Rattle.std.specs.List.{filter_map, find, range_with_len}
-use Rattle.std.specs.Option.{option_map_or}
 use Rattle.q_codel.specs.declared.limit.Limit.TheVariants.{Packets, Bytes}
-use Rattle.q_drr.specs.Schedule.{Class, Entry}
+use Rattle.q_drr.specs.Schedule.{Class, Entry, quantum_of}
 use Rattle.q_model.specs.declared.class_id.ClassId.{ClassId}
 use Rattle.q_model.specs.declared.class_kind.ClassKind.{ClassKind}
 use Rattle.q_model.specs.declared.class_kind.ClassKind.TheVariants as class
@@ -72,8 +71,8 @@ views t s = node_view t place.Root s.root ∷ views_in t (places_below s.root.ow
 -- a class of a drr is active with a deficit, or asleep; the only others are those of tbf and prio
 abbrev pub class_kind : Discipline → ℕ → ClassKind
 class_kind (Drr s) minor = class.Drr
-    (option_map_or (λ (c : Class). c.quantum) (find (λ (c : Class). c.name == minor) s.classes) 0)
-    (option_map (λ (e : Entry). e.deficit) (find (λ (e : Entry). e.class == minor) s.active))
+    (quantum_of minor s.classes)
+    (option_map (λ (e : Entry). e.deficit) (find (λ (e : Entry). minor == e.class) s.active))
 class_kind (Tbf bucket limit) minor = class.Tbf
 class_kind other minor = class.Prio
 

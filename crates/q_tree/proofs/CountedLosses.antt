@@ -1,5 +1,5 @@
 -- What is lost is what refused and dropped grow by, note by note.
-use Rattle.std.proofs.Common.{◌≡◌, ℕ, ◌+◌, ◌∙◌, Bool, true, false, List, [], ◌∷◌, ◌++◌, map, ap, ap₂, subst, Option, Some, None, arith}
+use Rattle.std.proofs.Common.{◌≡◌, ◌∙◌, Bool, true, false, List, [], ◌∷◌, ◌++◌, map, ap, ap₂, subst, Option, Some, None, arith}
 use Rattle.std.proofs.lemmas.List.{append-nil}
 use Rattle.std.proofs.lemmas.List.Sums.{sum_by-cons}
 use Rattle.std.proofs.lemmas.List.Elements.{filter_map-append}
@@ -8,13 +8,12 @@ use Rattle.std.specs.List.{filter}
 use Rattle.std.specs.Option.{option_to_list}
 use Rattle.q_packet.specs.Cause.{is_refusal}
 use Rattle.q_packet.specs.Descriptor.{Descriptor}
-use Rattle.q_packet.specs.declared.cause.Cause.{Cause}
 use Rattle.q_codel.specs.declared.loss.Loss.{Loss}
 use Rattle.q_model.specs.declared.totals.Totals.{Totals}
 use Rattle.q_model.specs.Beneath.{totals_in}
 use Rattle.q_model.specs.Step.{loss_in, losses_in}
-use Rattle.q_model.specs.Tally.{Note, Arrived, Sent, Lost, Marked, Granted, Spent, FlowGranted, FlowGave, Counts, with_packet, counted, noted}
-use Rattle.q_model.specs.TreeState.{TreeState, put, noted_by_put, peek_packet, take_packet, noted_by_take, given}
+use Rattle.q_model.specs.Tally.{Note, Arrived, Sent, Lost, Marked, Granted, Spent, FlowGranted, FlowGave, Counts, with_packet, noted}
+use Rattle.q_model.specs.TreeState.{noted_by_put, take_packet, noted_by_take, given}
 use Rattle.q_tree.specs.Arrivals.{plus}
 use Rattle.q_tree.specs.Kept.{Kept, kept}
 use Rattle.q_tree.specs.Laws.{refused_of, dropped_of, HasCountedLosses, PutCountsItsLosses, PeekCountsItsLosses, TakeCountsItsLosses}

@@ -1,21 +1,21 @@
 -- A handle is found where it stands first, node by node from the top.
-use Rattle.std.proofs.Common.{◌≡◌, ℕ, zero, suc, ◌+◌, ◌<◌, ◌≤◌, ◌∙◌, List, [], ◌∷◌, ◌++◌, map, drop, length, refl, sym, ap, ap₂, subst, Option, Some, None, option_map, option_and_then, arith}
+use Rattle.std.proofs.Common.{◌≡◌, ℕ, zero, suc, ◌+◌, ◌<◌, ◌≤◌, ◌∙◌, List, [], ◌∷◌, map, drop, length, refl, sym, ap, ap₂, subst, Option, Some, None, option_map, option_and_then, arith}
 use mathlib.Core.Logic.{◌⊎◌, inl, inr, ◌≢◌}
 use Rattle.std.specs.Prelude.{if◌then◌else◌, nat_le, ◌&&◌, ◌-◌, Bool, true, false, ◌==◌, cond, slice_get, slice_index_or}
 use Rattle.std.specs.List.{cons_option, enumerate_from, find, filter_map, flat_map}
 use Rattle.std.specs.Option.{option_eq, option_or}
-use Rattle.std.proofs.lemmas.Bool.{false≢true, ne_eqb, le-leb}
-use Rattle.std.proofs.lemmas.Bool.Decides.{eqb_tells, leb_tells}
-use Rattle.std.proofs.lemmas.Option.{none-some, slice_get_past}
+use Rattle.std.proofs.lemmas.Bool.{false≢true, ne_eqb, le-leb, lt-leb}
+use Rattle.std.proofs.lemmas.Bool.Decides.{eqb_tells}
+use Rattle.std.proofs.lemmas.Option.{none-some}
 use Rattle.std.proofs.Math.Dec.{eqb, leb}
 use Rattle.std.proofs.lemmas.List.{drop_more, drop_all}
 use Rattle.std.proofs.lemmas.List.Folds.{find-append}
 use Rattle.q_drr.specs.Schedule.{Schedule}
-use Rattle.q_model.specs.Find.{Address, addresses, addresses_own, from_parent, path_of, node_at, class_in}
+use Rattle.q_model.specs.Find.{Address, addresses, addresses_own, from_parent, node_at, class_in, class_place}
 use Rattle.q_model.specs.Node as spec
 use Rattle.q_model.specs.Node.{Own, Forest, none, more, Node, nodes_in, children, each, side_by_side}
 use Rattle.q_model.specs.Route.{class_at}
-use Rattle.q_tree.specs.Finding.{qdisc_with, first_with, class_with}
+use Rattle.q_tree.specs.Finding.{qdisc_with, first_with}
 use Rattle.q_tree.specs.Kept.{Kept}
 use Rattle.q_tree.specs.Seen.{seen, children_seen}
 use Rattle.q_tree.specs.declared.node.Discipline.TheVariants.{Prio, Drr}
@@ -153,14 +153,16 @@ module _ {M : Type 0} (h : ℕ) where
 from-here : (h : ℕ) (ns : List (Node Kept)) (i : ℕ) (n : Node Kept) → i < length ns → n ≡ slice_index_or ns i n → first_with h (drop i ns) ≡ option_or (qdisc_with h n) (first_with h (drop (i + 1) ns))
 from-here h ns i n inside is = ap (first_with h) (drop_more ns i n inside ∙ ap (λ x. x ∷ drop (i + 1) ns) (sym is)) ∙ first-more h n (drop (i + 1) ns)
 
-pub found : (h : ℕ) (ns : List (Node Kept)) (i : ℕ) (n m : Node Kept) → i < length ns → n ≡ slice_index_or ns i n → first_with h (drop i ns) ≡ first_with h ns → qdisc_with h n ≡ Some m → Some m ≡ first_with h ns
-found h ns i n m inside is same e = sym (from-here h ns i n inside is ∙ ap (λ o. option_or o (first_with h (drop (i + 1) ns))) e) ∙ same
+-- what is looked for among nodes is here, further on, or nowhere
+module _ (h : ℕ) (ns : List (Node Kept)) (i : ℕ) (r : Option (Node Kept)) (same : first_with h (drop i ns) ≡ r) where
+  pub found : (n m : Node Kept) → i < length ns → n ≡ slice_index_or ns i n → qdisc_with h n ≡ Some m → Some m ≡ r
+  found n m inside is e = sym (from-here h ns i n inside is ∙ ap (λ o. option_or o (first_with h (drop (i + 1) ns))) e) ∙ same
 
-pub passed : (h : ℕ) (ns : List (Node Kept)) (i : ℕ) (n : Node Kept) → i < length ns → n ≡ slice_index_or ns i n → first_with h (drop i ns) ≡ first_with h ns → qdisc_with h n ≡ None → first_with h (drop (i + 1) ns) ≡ first_with h ns
-passed h ns i n inside is same e = sym (from-here h ns i n inside is ∙ ap (λ o. option_or o (first_with h (drop (i + 1) ns))) e) ∙ same
+  pub passed : (n : Node Kept) → i < length ns → n ≡ slice_index_or ns i n → qdisc_with h n ≡ None → first_with h (drop (i + 1) ns) ≡ r
+  passed n inside is e = sym (from-here h ns i n inside is ∙ ap (λ o. option_or o (first_with h (drop (i + 1) ns))) e) ∙ same
 
-pub nobody : (h : ℕ) (ns : List (Node Kept)) (i : ℕ) → length ns ≤ i → first_with h (drop i ns) ≡ first_with h ns → None ≡ first_with h ns
-nobody h ns i past same = sym (ap (first_with h) (drop_all i ns past)) ∙ same
+  pub nobody : length ns ≤ i → None ≡ r
+  nobody past = sym (ap (first_with h) (drop_all i ns past)) ∙ same
 
 equal : (h : ℕ) → (h == h) ≡ true
 equal h = by (eqb_tells h h) where
@@ -172,36 +174,30 @@ pub apart : (h : ℕ) (o : Option ℕ) → false ≡ option_eq (λ a b. a == b) 
 apart h o differ same = false≢true (differ ∙ ap (λ x. option_eq (λ a b. a == b) x (Some h)) same ∙ equal h)
 
 -- the children of a node, as they are read
-pub among-children : (h : ℕ) (a : Inside) (n : Node Kept) (ns : List (Node Kept)) → seen a ≡ n → ns ≡ children_seen a.discipline → (a.handle ≡ Some h → ⊥) → first_with h ns ≡ qdisc_with h n
-among-children h a n ns view kids other =
-    ap (first_with h) (kids ∙ sym (nodes-side (children_seen a.discipline)))
-    ∙ beneath-first h (seen a) other
-    ∙ ap (qdisc_with h) view
-
-pub one-child : (h : ℕ) (c : Node Kept) → qdisc_with h c ≡ first_with h (c ∷ [])
-one-child h c = by (qdisc_with h c) where
-  by : (o : Option (Node Kept)) → o ≡ slice_get (cons_option o []) 0
-  by None = refl
-  by (Some n) = refl
+pub children-read : (a : Inside) (n : Node Kept) (ns : List (Node Kept)) → seen a ≡ n → ns ≡ children_seen a.discipline → ns ≡ children n
+children-read a n ns view kids = kids ∙ sym (nodes-side (children_seen a.discipline)) ∙ ap children view
 
 -- a band is its class number, from 1
-pub band-class : (ns : List (Node Kept)) (minor : ℕ) → 1 ≤ minor → slice_get ns (minor - 1) ≡ option_and_then (slice_get ns) (if nat_le 1 minor && nat_le minor (length ns) then Some (minor - 1) else None)
-band-class ns minor positive = sym (ap (λ b. option_and_then (slice_get ns) (if b && nat_le minor (length ns) then Some (minor - 1) else None)) (le-leb 1 minor positive) ∙ by (leb_tells minor (length ns))) where
-  by : ((leb minor (length ns) ≡ true) × (minor ≤ length ns)) ⊎ ((leb minor (length ns) ≡ false) × (length ns < minor)) → option_and_then (slice_get ns) (if nat_le minor (length ns) then Some (minor - 1) else None) ≡ slice_get ns (minor - 1)
-  by (inl inside) = ap (λ b. option_and_then (slice_get ns) (if b then Some (minor - 1) else None)) inside.0
-  by (inr past) = ap (λ b. option_and_then (slice_get ns) (if b then Some (minor - 1) else None)) past.0 ∙ sym (slice_get_past ns (minor - 1) (omega (arith, past.1)))
+band-inside : (bands minor : ℕ) → 1 ≤ minor → minor - 1 < bands → Some (minor - 1) ≡ (if nat_le 1 minor && nat_le minor bands then Some (minor - 1) else None)
+band-inside bands minor positive inside = sym (ap (λ b. if b && nat_le minor bands then Some (minor - 1) else None) (le-leb 1 minor positive) ∙ ap (λ b. if b then Some (minor - 1) else None) (le-leb minor bands (omega (arith, positive, inside))))
 
-pub prio-class : (a : Inside) (n : Node Kept) (priomap : List ℕ) (bands : _) (ns : List (Node Kept)) (minor k : ℕ) → seen a ≡ n → a.discipline ≡ Prio priomap bands → ns ≡ bands.items → k ≡ minor → 1 ≤ k → slice_get ns (k - 1) ≡ class_with minor n
-prio-class a n priomap bands ns minor k view is kids same positive =
-    band-class ns k positive
-    ∙ ap (λ m. option_and_then (slice_get ns) (class_in (length ns) m (spec.Prio priomap))) same
-    ∙ ap (λ xs. option_and_then (slice_get xs) (class_in (length xs) minor (spec.Prio priomap))) (kids ∙ sym (nodes-side bands.items))
-    ∙ sym (ap (λ d. class_with minor (seen (record a { discipline = d }))) is)
-    ∙ ap (class_with minor) view
+band-past : (bands minor : ℕ) → 1 ≤ minor → bands ≤ minor - 1 → None ≡ (if nat_le 1 minor && nat_le minor bands then Some (minor - 1) else None)
+band-past bands minor positive past = sym (ap (λ b. if b && nat_le minor bands then Some (minor - 1) else None) (le-leb 1 minor positive) ∙ ap (λ b. if b then Some (minor - 1) else None) (lt-leb minor bands (omega (arith, positive, past))))
 
-pub drr-class : (a : Inside) (n : Node Kept) (s : Schedule) (classes : _) (ns : List (Node Kept)) (minor : ℕ) (o : Option ℕ) → seen a ≡ n → a.discipline ≡ Drr s classes → ns ≡ classes.items → o ≡ class_at minor s → option_and_then (slice_get ns) o ≡ class_with minor n
-drr-class a n s classes ns minor o view is kids at =
-    ap (option_and_then (slice_get ns)) at
-    ∙ ap (λ xs. option_and_then (slice_get xs) (class_at minor s)) (kids ∙ sym (nodes-side classes.items))
-    ∙ sym (ap (λ d. class_with minor (seen (record a { discipline = d }))) is)
-    ∙ ap (class_with minor) view
+module _ (a : Inside) (n : Node Kept) (priomap : List ℕ) (bands : _) (minor k : ℕ) (view : seen a ≡ n) (is : a.discipline ≡ Prio priomap bands) (same : k ≡ minor) (positive : 1 ≤ k) where
+  prio-place : class_in (length bands.items) k (spec.Prio priomap) ≡ class_place minor n
+  prio-place =
+      ap (λ m. class_in (length bands.items) m (spec.Prio priomap)) same
+      ∙ ap (λ (ns : List (Node Kept)). class_in (length ns) minor (spec.Prio priomap)) (sym (nodes-side bands.items))
+      ∙ sym (ap (λ d. class_place minor (seen (record a { discipline = d }))) is)
+      ∙ ap (class_place minor) view
+
+  pub place-inside : k - 1 < length bands.items → Some (k - 1) ≡ class_place minor n
+  place-inside inside = band-inside (length bands.items) k positive inside ∙ prio-place
+
+  pub place-past : length bands.items ≤ k - 1 → None ≡ class_place minor n
+  place-past past = band-past (length bands.items) k positive past ∙ prio-place
+
+pub drr-place : (a : Inside) (n : Node Kept) (s : Schedule) (classes : _) (minor : ℕ) (o : Option ℕ) → seen a ≡ n → a.discipline ≡ Drr s classes → o ≡ class_at minor s → o ≡ class_place minor n
+drr-place a n s classes minor o view is at =
+    at ∙ sym (ap (λ d. class_place minor (seen (record a { discipline = d }))) is) ∙ ap (class_place minor) view

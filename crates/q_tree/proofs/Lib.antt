@@ -19,6 +19,7 @@ pub mod Rows
 pub mod RowsOf
 pub mod ServeLemmas
 pub mod SettleLemmas
+pub mod ShowLemmas
 pub mod StatsLemmas
 pub mod TakeCounts
 pub mod TreeLemmas

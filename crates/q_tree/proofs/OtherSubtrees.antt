@@ -1,14 +1,13 @@
 -- A node that stands off the packet's route is as it was before the put.
-use Rattle.std.proofs.Common.{◌≡◌, ℕ, zero, suc, ◌∙◌, List, [], ◌∷◌, ◌++◌, map, set, refl, sym, ap, ap₂, subst, Option, Some, None, option_map, option_and_then}
+use Rattle.std.proofs.Common.{◌≡◌, ℕ, zero, suc, ◌∙◌, List, [], ◌∷◌, ◌++◌, map, set, refl, sym, ap, Option, Some, None, option_map, option_and_then}
 use Rattle.std.specs.Prelude.{◌≢◌, if◌then◌else◌, nat_lt, slice_get}
 use Rattle.std.specs.Option.{option_map_or}
-use Rattle.std.proofs.lemmas.Option.{none-some, slice_get-map, same_Some}
+use Rattle.std.proofs.lemmas.Option.{none-some, slice_get-map}
 use Rattle.q_packet.specs.Descriptor.{Descriptor}
 use Rattle.q_packet.specs.declared.cause.Cause.{Cause}
 use Rattle.q_model.specs.Find.{node_at}
 use Rattle.q_model.specs.Node.{Node, Shape, nodes_in, side_by_side, children, shape}
 use Rattle.q_model.specs.Put.{put_along, put_here, put_beneath}
-use Rattle.q_model.specs.Route.{Route}
 use Rattle.q_model.specs.TreeState.{put_on}
 use Rattle.q_model.specs.Work.{Worked, quiet, each_booked, booked}
 use Rattle.q_sound.proofs.Forests.{nodes-side, side-nodes}

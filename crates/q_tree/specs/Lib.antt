@@ -10,4 +10,5 @@ pub mod Places
 pub mod PopSteps
 pub mod PutSteps
 pub mod Seen
+pub mod Showing
 pub mod TreeSeen

@@ -24,6 +24,7 @@ mod prepare;
 mod prio;
 mod put;
 mod route;
+mod show;
 mod shown;
 mod tbf;
 mod tree;

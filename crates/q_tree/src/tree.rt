@@ -1,4 +1,4 @@
-ghost use Rattle.std.specs.Prelude.{◌≡◌, ◌≤◌, ◌+◌, ◌++◌, length, IfSome, IsOk, OnOk};
+ghost use Rattle.std.specs.Prelude.{◌≡◌, ◌≤◌, ◌+◌, ◌++◌, length, IfSome, IsOk, OnOk, option_map, slice_get};
 ghost use Rattle.q_packet.specs.Descriptor.{Descriptor};
 ghost use Rattle.q_model.specs.Beneath.{beneath, row_of};
 ghost use Rattle.q_model.specs.Node.{shape};
@@ -6,9 +6,12 @@ ghost use Rattle.q_model.specs.Route.{device_route};
 ghost use Rattle.q_model.specs.Step.{losses_in, fate_of};
 ghost use Rattle.q_model.specs.Tally.{totals};
 ghost use Rattle.q_model.specs.TreeState.{new_tree, stats, put_on, loss_on, put, own_loss, noted_by_put, given, noted_by_take, peek_packet, take_packet};
+ghost use Rattle.q_model.specs.Views.{node, class_of, filter_of};
 ghost use Rattle.q_model.specs.Work.{booked};
+ghost use Rattle.q_model.specs.declared.place.Place.TheVariants as place;
 ghost use Rattle.q_tree.specs.Arrivals.{CanPut, IsOutcome};
 ghost use Rattle.q_tree.specs.Kept.{kept};
+ghost use Rattle.q_tree.specs.Showing.{IsNumbered, standing};
 ghost use Rattle.q_tree.specs.TreeSeen.{CanArrive, IsArrived, IsRouteIn, numbers};
 
 use crate::booking::{book_arrival, book_sent, book_shown};
@@ -16,7 +19,7 @@ use crate::node::{NOTHING_COUNTED, Node};
 use crate::outcome::{Outcome, refuse};
 use crate::route::Route;
 use q_codel::{Limit, Sink};
-use q_model::{Fate, Place, Row};
+use q_model::{ClassView, Fate, FilterView, NodeView, Place, Row};
 use q_packet::{Cause, Moment, Packet};
 use std::alloc::{AllocError, Global};
 use std::marker::Model;
@@ -90,6 +93,50 @@ impl Tree {
             Place::Root => return Some(self.root.row()),
             Place::Class(id) => return Some(self.root.find(id.major)?.class(id.minor)?.row()),
         }
+    }
+
+    /// The node in this place of the order in which `tc qdisc show` lists them, each before those beneath it and children in class
+    /// order, with all that is printed of it; `None` past the last.
+    pub fn node(&self, i: usize) -> Option<NodeView>
+        ensures { result ≡ node kept i self.now.tree }
+    {
+        let Some((place, node)) = self.nth(i) else {
+            return None;
+        };
+        Some(node.view(place))
+    }
+
+    /// A class of the node in this place of that order, with all that `tc class show` prints of it, in class order; `None` past
+    /// the last node or class. Only a qdisc with a handle has classes.
+    pub fn class(&self, i: usize, j: usize) -> Option<ClassView>
+        ensures { result ≡ class_of i j self.now.tree }
+    {
+        let Some((_, node)) = self.nth(i) else {
+            return None;
+        };
+        node.class_view(j)
+    }
+
+    /// A filter of the node in this place of that order, with all that `tc filter show` prints of it, in the order in which
+    /// filters are tried; `None` past the last node or filter. Only a qdisc with a handle has filters.
+    pub fn filter(&self, i: usize, j: usize) -> Option<FilterView>
+        ensures { result ≡ filter_of i j self.now.tree }
+    {
+        let Some((_, node)) = self.nth(i) else {
+            return None;
+        };
+        node.filter_view(j)
+    }
+
+    // A node in the order of show, and where it stands.
+    fn nth(&self, i: usize) -> Option<(Place, &Node)>
+        ensures found { option_map (λ x. (x.0, x.1.now)) result ≡ slice_get (standing place.Root self.now.tree.root) i }
+        ensures numbered { IfSome result (λ x. IsNumbered x.1.now) }
+    {
+        // That the tree is lawful is known where it is looked into.
+        let _ = &self.mtu;
+        let mut left = i;
+        self.root.nth(Place::Root, &mut left)
     }
 
     /// The route of a packet: at most eight children, each the one that a filter, a band or a class names. It takes no memory.

@@ -1,0 +1,10 @@
+use Rattle.std.proofs.Common.{arith}
+use Rattle.q_tree.proofs.TreeLemmas.{lawful-root}
+use Rattle.q_tree.proofs.tree.Tree.nth.Goals as goal
+
+pub nth-requires : goal.nth-requires
+nth-requires c = record {
+  mtu = c.self.inside.mtu;
+  clock = c.self.inside.clock;
+  lawful = lawful-root c.self.inside c.self.invariant c.self.inside.clock (omega arith) c.self.invariant.keeps.moment;
+}
