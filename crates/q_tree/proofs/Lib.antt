@@ -13,6 +13,7 @@ pub mod OtherSubtrees
 pub mod Peeks
 pub mod PlacesLemmas
 pub mod PopLemmas
+pub mod PurgeLemmas
 pub mod Puts
 pub mod RouteLemmas
 pub mod Rows

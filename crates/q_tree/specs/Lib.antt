@@ -8,6 +8,7 @@ pub mod NodeCode
 pub mod NodeFalls
 pub mod Places
 pub mod PopSteps
+pub mod Purging
 pub mod PutSteps
 pub mod Seen
 pub mod Showing

@@ -22,6 +22,7 @@ mod peek;
 mod pop;
 mod prepare;
 mod prio;
+mod purge;
 mod put;
 mod route;
 mod show;

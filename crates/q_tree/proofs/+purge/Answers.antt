@@ -1,0 +1,120 @@
+use Rattle.std.proofs.Common.{◌≡◌, ◌+◌, ◌≤◌, ◌<◌, ◌∙◌, List, [], ◌∷◌, ◌++◌, length, refl, sym, ap, append_assoc, append-nil, arith}
+use Rattle.std.specs.Option.{option_to_list}
+use Rattle.std.specs.Vec.Iter.{into_iter_items}
+use Rattle.std.proofs.lemmas.List.{length-append}
+use Rattle.q_model.specs.Beneath.{beneath, packets_in, packets_of}
+use Rattle.q_model.specs.Node.{Node, side_by_side}
+use Rattle.q_fqcodel.specs.FqState.{all_packets}
+use Rattle.q_tree.specs.Kept.{Kept}
+use Rattle.q_tree.specs.NodeCode.{forest_size}
+use Rattle.q_tree.specs.Purging.{purged}
+use Rattle.q_tree.specs.PutSteps.{packets_beneath}
+use Rattle.q_tree.specs.Seen.{children_seen, discipline_seen}
+use Rattle.q_tree.proofs.FlowCounts.{packets-all}
+use Rattle.q_tree.proofs.PurgeLemmas.{own-beneath, own-count, own-size, flows-count, then-purged, queue-purged, left-count, left-size}
+use Rattle.q_tree.proofs.+purge.Goals as goal
+
+pub node::Node::purge-returns-in-Fifo-clause-lost :
+    goal.node::Node::purge-returns-in-Fifo-clause-lost
+node::Node::purge-returns-in-Fifo-clause-lost g t c =
+    then-purged (g.S.Sink.losses c.args.sink.now) (g.S.Sink.losses c.purge_held.new.sink) (g.S.Sink.losses c.purge.new.sink) (option_to_list c.self.inside.held) (packets_of c.in-Fifo.fifo.packets)
+    c.purge_held.ensures.lost (c.purge.ensures.lost ∙ ap (λ ls. g.S.Sink.losses c.purge_held.new.sink ++ ls) (queue-purged c.in-Fifo.fifo.packets))
+    ∙ ap (λ ps. g.S.Sink.losses c.args.sink.now ++ purged ps)
+    (sym (own-beneath c.self.inside c.args.self c.self.view_is ∙ ap (λ d. option_to_list c.self.inside.held ++ packets_in (discipline_seen d) ++ packets_beneath (children_seen d)) c.in-Fifo.is
+    ∙ append-nil (option_to_list c.self.inside.held ++ packets_of c.in-Fifo.fifo.packets)))
+
+pub node::Node::purge-purge-requires-in-FqCodel : goal.node::Node::purge-purge-requires-in-FqCodel
+node::Node::purge-purge-requires-in-FqCodel g t c =
+    omega (arith, c.requires, c.purge_held.ensures.room, own-count c.self.inside c.args.self c.self.view_is, ap (λ d. length (packets_in (discipline_seen d))) c.in-FqCodel.is, flows-count c.in-FqCodel.queue.state.flows)
+
+pub node::Node::purge-returns-in-FqCodel-clause-lost :
+    goal.node::Node::purge-returns-in-FqCodel-clause-lost
+node::Node::purge-returns-in-FqCodel-clause-lost g t c =
+    let flows = c.in-FqCodel.queue.state.flows in
+    then-purged (g.S.Sink.losses c.args.sink.now) (g.S.Sink.losses c.purge_held.new.sink) (g.S.Sink.losses c.purge-in-FqCodel.new.sink) (option_to_list c.self.inside.held) (packets_of (all_packets flows))
+    c.purge_held.ensures.lost (c.purge-in-FqCodel.ensures.lost ∙ ap (λ ls. g.S.Sink.losses c.purge_held.new.sink ++ ls) (queue-purged (all_packets flows)))
+    ∙ ap (λ ps. g.S.Sink.losses c.args.sink.now ++ purged ps)
+    (sym (own-beneath c.self.inside c.args.self c.self.view_is ∙ ap (λ d. option_to_list c.self.inside.held ++ packets_in (discipline_seen d) ++ packets_beneath (children_seen d)) c.in-FqCodel.is
+    ∙ append-nil (option_to_list c.self.inside.held ++ packets_of (all_packets flows))))
+
+pub node::Node::purge-returns-in-FqCodel-clause-room :
+    goal.node::Node::purge-returns-in-FqCodel-clause-room
+node::Node::purge-returns-in-FqCodel-clause-room g t c =
+    omega (
+      arith,
+      c.purge-in-FqCodel.ensures.room,
+      c.purge_held.ensures.room,
+      own-count c.self.inside c.args.self c.self.view_is,
+      ap (λ d. length (packets_in (discipline_seen d))) c.in-FqCodel.is,
+      ap (λ d. length (packets_beneath (children_seen d))) c.in-FqCodel.is,
+      flows-count c.in-FqCodel.queue.state.flows,
+    )
+
+pub node::Node::purge-purge_each-requires : goal.node::Node::purge-purge_each-requires
+node::Node::purge-purge_each-requires g t c κs within = (
+  omega (arith, own-size c.self.inside c.args.self c.self.view_is, ap (λ d. forest_size (side_by_side (children_seen d))) c.in-Prio.is, c.decreases),
+  (
+    within,
+    omega (arith, c.requires, c.purge_held.ensures.room, own-count c.self.inside c.args.self c.self.view_is, ap (λ d. length (packets_beneath (children_seen d))) c.in-Prio.is),
+  ),
+)
+
+pub node::Node::purge-returns-in-Prio-clause-lost :
+    goal.node::Node::purge-returns-in-Prio-clause-lost
+node::Node::purge-returns-in-Prio-clause-lost g t c =
+    then-purged (g.S.Sink.losses c.args.sink.now) (g.S.Sink.losses c.purge_held.new.sink) (g.S.Sink.losses c.purge_each.new.sink) (option_to_list c.self.inside.held) (packets_beneath c.in-Prio.bands.items)
+    c.purge_held.ensures.lost c.purge_each.ensures.lost
+    ∙ ap (λ ps. g.S.Sink.losses c.args.sink.now ++ purged ps)
+    (sym (own-beneath c.self.inside c.args.self c.self.view_is ∙ ap (λ d. option_to_list c.self.inside.held ++ packets_in (discipline_seen d) ++ packets_beneath (children_seen d)) c.in-Prio.is
+    ∙ ap (λ ps. ps ++ packets_beneath c.in-Prio.bands.items) (append-nil (option_to_list c.self.inside.held))))
+
+pub node::Node::purge-returns-in-Prio-clause-room :
+    goal.node::Node::purge-returns-in-Prio-clause-room
+node::Node::purge-returns-in-Prio-clause-room g t c =
+    omega (
+      arith,
+      c.purge_each.ensures.room,
+      c.purge_held.ensures.room,
+      own-count c.self.inside c.args.self c.self.view_is,
+      ap (λ d. length (packets_in (discipline_seen d))) c.in-Prio.is,
+      ap (λ d. length (packets_beneath (children_seen d))) c.in-Prio.is,
+    )
+
+pub node::Node::purge-purge_each-requires-in-Drr :
+    goal.node::Node::purge-purge_each-requires-in-Drr
+node::Node::purge-purge_each-requires-in-Drr g t c κs within = (
+  omega (arith, own-size c.self.inside c.args.self c.self.view_is, ap (λ d. forest_size (side_by_side (children_seen d))) c.in-Drr.is, c.decreases),
+  (
+    within,
+    omega (arith, c.requires, c.purge_held.ensures.room, own-count c.self.inside c.args.self c.self.view_is, ap (λ d. length (packets_beneath (children_seen d))) c.in-Drr.is),
+  ),
+)
+
+pub node::Node::purge-returns-clause-lost : goal.node::Node::purge-returns-clause-lost
+node::Node::purge-returns-clause-lost g t c =
+    then-purged (g.S.Sink.losses c.args.sink.now) (g.S.Sink.losses c.purge_held.new.sink) (g.S.Sink.losses c.purge_each-in-Drr.new.sink) (option_to_list c.self.inside.held) (packets_beneath c.in-Drr.classes.items)
+    c.purge_held.ensures.lost c.purge_each-in-Drr.ensures.lost
+    ∙ ap (λ ps. g.S.Sink.losses c.args.sink.now ++ purged ps)
+    (sym (own-beneath c.self.inside c.args.self c.self.view_is ∙ ap (λ d. option_to_list c.self.inside.held ++ packets_in (discipline_seen d) ++ packets_beneath (children_seen d)) c.in-Drr.is
+    ∙ ap (λ ps. ps ++ packets_beneath c.in-Drr.classes.items) (append-nil (option_to_list c.self.inside.held))))
+
+pub node::Node::purge-returns-clause-room : goal.node::Node::purge-returns-clause-room
+node::Node::purge-returns-clause-room g t c =
+    omega (
+      arith,
+      c.purge_each-in-Drr.ensures.room,
+      c.purge_held.ensures.room,
+      own-count c.self.inside c.args.self c.self.view_is,
+      ap (λ d. length (packets_in (discipline_seen d))) c.in-Drr.is,
+      ap (λ d. length (packets_beneath (children_seen d))) c.in-Drr.is,
+    )
+
+pub purge::purge_each-purge-requires : goal.purge::purge_each-purge-requires
+purge::purge_each-purge-requires g t c κs within =
+    let at = c.loop-node in
+    let rest = into_iter_items c.next.new.self in
+    let all : at.yielded ++ c.in-Some.node ∷ rest ≡ c.args.nodes.items =
+    ap (λ ns. at.yielded ++ ns) (sym c.in-Some.ensures.steps.0) ∙ at.invariant.0 ∙ c.into_iter-node-iterator.ensures.into_iter_gives.0 in (
+      omega (arith, left-size at.yielded c.in-Some.node rest, ap (λ ns. forest_size (side_by_side ns)) all, c.decreases),
+      (within, omega (arith, left-count at.yielded c.in-Some.node rest, ap (λ ns. length (packets_beneath ns)) all, at.invariant.3, c.requires)),
+    )

@@ -1,0 +1,58 @@
+ghost use Rattle.std.specs.Prelude.{◌≡◌, ◌≤◌, ◌+◌, ◌++◌, length};
+ghost use Rattle.std.specs.Option.{option_to_list};
+ghost use Rattle.q_model.specs.Beneath.{beneath};
+ghost use Rattle.q_tree.specs.Purging.{purged};
+ghost use Rattle.q_tree.specs.PutSteps.{packets_beneath};
+
+use crate::node::{Discipline, Node};
+use q_codel::Sink;
+use q_packet::{Cause, Packet};
+
+impl Node {
+    /// Removes the node with all that is beneath it. Lost are the packet that it holds, those of its own queue, and then those
+    /// beneath each child in class order.
+    #[cycle(purge)]
+    pub(crate) fn purge<S: Sink>(self, sink: &mut S)
+        requires { length (beneath self) ≤ S.room sink.old }
+        ensures lost { S.losses sink.new ≡ S.losses sink.old ++ purged (beneath self) }
+        ensures room { S.room sink.new + length (beneath self) ≡ S.room sink.old }
+        ensures kept { S.keeps sink.old sink.new }
+    {
+        let Node {
+            held, discipline, ..
+        } = self;
+        purge_held(held, sink);
+        match discipline {
+            Discipline::Fifo(mut fifo) => fifo.purge(sink),
+            Discipline::FqCodel(mut queue) => queue.purge(sink),
+            Discipline::Prio { bands, .. } => purge_each(bands, sink),
+            Discipline::Tbf { child, .. } => Box::into_inner(child).purge(sink),
+            Discipline::Drr { classes, .. } => purge_each(classes, sink),
+        }
+    }
+}
+
+// Loses the packet that a node holds, if it holds one.
+fn purge_held<S: Sink>(held: Option<Packet>, sink: &mut S)
+    requires { length (option_to_list held) ≤ S.room sink.old }
+    ensures lost { S.losses sink.new ≡ S.losses sink.old ++ purged (option_to_list held) }
+    ensures room { S.room sink.new + length (option_to_list held) ≡ S.room sink.old }
+    ensures kept { S.keeps sink.old sink.new }
+{
+    if let Some(packet) = held {
+        sink.lost(packet, Cause::Purged);
+    }
+}
+
+// Removes nodes side by side, in their order.
+#[cycle(purge)]
+fn purge_each<S: Sink>(nodes: Vec<Node>, sink: &mut S)
+    requires { length (packets_beneath nodes.items) ≤ S.room sink.old }
+    ensures lost { S.losses sink.new ≡ S.losses sink.old ++ purged (packets_beneath nodes.items) }
+    ensures room { S.room sink.new + length (packets_beneath nodes.items) ≡ S.room sink.old }
+    ensures kept { S.keeps sink.old sink.new }
+{
+    for node in nodes {
+        node.purge(sink);
+    }
+}
