@@ -3,6 +3,7 @@ ghost use Rattle.q_model.specs.Conserved.{IsBalanced};
 ghost use Rattle.q_model.specs.Tally.{with_packet, no_totals};
 ghost use Rattle.q_tree.specs.Arrivals.{CanCount, IsLostOf, plus, minus, with_arrival};
 ghost use Rattle.q_tree.specs.AskSteps.{CanShow, with_shown};
+ghost use Rattle.q_tree.specs.Editing.{CanDrop, with_dropped};
 ghost use Rattle.q_tree.specs.PopSteps.{IsAmong, with_sent};
 
 use crate::outcome::Outcome;
@@ -61,6 +62,16 @@ pub(crate) fn book_shown(row: &mut Row, shown: &Shown)
     row.dropped = sum(row.dropped, shown.dropped);
     row.marked = sum(row.marked, shown.marked);
     row.queued = difference(row.queued, shown.dropped);
+}
+
+/// Books packets that were queued and are dropped.
+pub(crate) fn book_dropped(row: &mut Row, lost: Totals)
+    requires balanced { IsBalanced row.old }
+    requires room { CanDrop lost row.old }
+    ensures { row.new ≡ with_dropped lost row.old }
+{
+    row.dropped = sum(row.dropped, lost);
+    row.queued = difference(row.queued, lost);
 }
 
 /// Packets and bytes of both together.

@@ -12,6 +12,7 @@
 mod at_hand;
 mod booking;
 mod drr;
+mod edit;
 mod find;
 mod fq_codel;
 pub mod laws;

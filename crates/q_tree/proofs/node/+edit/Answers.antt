@@ -1,0 +1,146 @@
+use Rattle.std.proofs.Common.{◌≡◌, ◌+◌, ◌∙◌, ◌++◌, ℕ, length, refl, sym, ap, subst, arith}
+use Rattle.std.specs.Prelude.{IsSome, slice_get, Ok}
+use Rattle.std.proofs.lemmas.List.{get_or-set_same}
+use Rattle.std.proofs.lemmas.Option.{slice_get_within}
+use Rattle.std.specs.Vec.{with_item}
+use Rattle.q_model.specs.Beneath.{beneath, is_empty, totals_in}
+use Rattle.q_model.specs.Find.{node_at}
+use Rattle.q_model.specs.Node as spec
+use Rattle.q_model.specs.Node.{Node}
+use Rattle.q_model.specs.Work.{settled_class, settled_in}
+use Rattle.q_tree.specs.Editing.{removed_at}
+use Rattle.q_tree.specs.Kept.{Kept}
+use Rattle.q_tree.specs.Purging.{purged}
+use Rattle.q_tree.specs.Seen.{children_seen, discipline_seen, places_seen}
+use Rattle.q_tree.specs.declared.node.Discipline.TheVariants as code
+use Rattle.q_tree.proofs.EditLemmas.{IsAnswer, on-ok, led, edited-into, leads, room, stays, after, of-child}
+use Rattle.q_tree.proofs.Puts.{same-child, child-packets, all-packets}
+use Rattle.q_tree.proofs.node.+edit.Goals as goal
+
+pub Discipline::edit_beneath-edit-requires : goal.Discipline::edit_beneath-edit-requires
+Discipline::edit_beneath-edit-requires g t c κs within =
+    let on = led c.args.rest.now c.args.place (children_seen c.args.self.now) c.requires.there in
+    let same = same-child c.in-Prio.bands.items c.args.place c.index_mut.result.now on.child c.index_mut.ensures.value (ap (λ xs. slice_get xs c.args.place) (sym (ap children_seen c.in-Prio.is)) ∙ on.there) in (
+      omega (arith, c.decreases),
+      (
+        within,
+        (
+          subst (λ (n : Node Kept). IsSome (node_at c.args.rest.now n)) (sym same) on.on,
+          (c.requires.ready, omega (arith, c.requires.sink, ap (λ (n : Node Kept). length (beneath n)) same, child-packets (children_seen c.args.self.now) c.args.place on.child on.there)),
+        ),
+      ),
+    )
+
+pub Discipline::edit_beneath-returns-in-Prio-clause-after : goal.Discipline::edit_beneath-returns-in-Prio-clause-after
+Discipline::edit_beneath-returns-in-Prio-clause-after g t c = on-ok c.edit.result (λ edited child at.
+    edited-into c.args.edit c.args.rest.now c.args.place c.args.self.now (code.Prio c.in-Prio.priomap (with_item c.in-Prio.bands c.args.place c.edit.new.self)) c.in-Prio.bands.items
+    c.index_mut.result.now c.edit.new.self child (ap children_seen c.in-Prio.is) c.index_mut.ensures.value at edited refl (sym (ap places_seen c.in-Prio.is))
+    (sym (ap (λ d. settled_in c.args.place (is_empty c.edit.new.self) (discipline_seen d)) c.in-Prio.is))) c.edit.ensures.after
+
+pub Discipline::edit_beneath-returns-in-Prio-clause-totals : goal.Discipline::edit_beneath-returns-in-Prio-clause-totals
+Discipline::edit_beneath-returns-in-Prio-clause-totals g t c = on-ok c.edit.result (λ e child at.
+    let same = same-child c.in-Prio.bands.items c.args.place c.index_mut.result.now child c.index_mut.ensures.value (ap (λ xs. slice_get xs c.args.place) (sym (ap children_seen c.in-Prio.is)) ∙ at) in
+    e ∙ ap (λ (n : Node Kept). Ok (totals_in (removed_at c.args.edit c.args.rest.now n))) same) c.edit.ensures.totals
+
+pub Discipline::edit_beneath-returns-in-Prio-clause-lost : goal.Discipline::edit_beneath-returns-in-Prio-clause-lost
+Discipline::edit_beneath-returns-in-Prio-clause-lost g t c = on-ok c.edit.result (λ e child at.
+    let same = same-child c.in-Prio.bands.items c.args.place c.index_mut.result.now child c.index_mut.ensures.value (ap (λ xs. slice_get xs c.args.place) (sym (ap children_seen c.in-Prio.is)) ∙ at) in
+    e ∙ ap (λ (n : Node Kept). g.S.Sink.losses c.args.sink.now ++ purged (removed_at c.args.edit c.args.rest.now n)) same) c.edit.ensures.lost
+
+pub Discipline::edit_beneath-returns-in-Prio-clause-room : goal.Discipline::edit_beneath-returns-in-Prio-clause-room
+Discipline::edit_beneath-returns-in-Prio-clause-room g t c = on-ok c.edit.result (λ e child at.
+    let same = same-child c.in-Prio.bands.items c.args.place c.index_mut.result.now child c.index_mut.ensures.value (ap (λ xs. slice_get xs c.args.place) (sym (ap children_seen c.in-Prio.is)) ∙ at) in
+    omega (arith, e, ap (λ (n : Node Kept). length (removed_at c.args.edit c.args.rest.now n)) same)) c.edit.ensures.room
+
+pub Discipline::edit_beneath-index_mut-requires-in-Drr : goal.Discipline::edit_beneath-index_mut-requires-in-Drr
+Discipline::edit_beneath-index_mut-requires-in-Drr g t c =
+    let on = led c.args.rest.now c.args.place (children_seen c.args.self.now) c.requires.there in
+    omega (arith, c.in-Drr.classes.ok, slice_get_within c.in-Drr.classes.items c.args.place on.child (ap (λ xs. slice_get xs c.args.place) (sym (ap children_seen c.in-Drr.is)) ∙ on.there))
+
+pub Discipline::edit_beneath-edit-requires-in-Drr : goal.Discipline::edit_beneath-edit-requires-in-Drr
+Discipline::edit_beneath-edit-requires-in-Drr g t c κs within =
+    let on = led c.args.rest.now c.args.place (children_seen c.args.self.now) c.requires.there in
+    let same = same-child c.in-Drr.classes.items c.args.place c.index_mut-in-Drr.result.now on.child c.index_mut-in-Drr.ensures.value (ap (λ xs. slice_get xs c.args.place) (sym (ap children_seen c.in-Drr.is)) ∙ on.there) in (
+      omega (arith, c.decreases),
+      (
+        within,
+        (
+          subst (λ (n : Node Kept). IsSome (node_at c.args.rest.now n)) (sym same) on.on,
+          (c.requires.ready, omega (arith, c.requires.sink, ap (λ (n : Node Kept). length (beneath n)) same, child-packets (children_seen c.args.self.now) c.args.place on.child on.there)),
+        ),
+      ),
+    )
+
+pub Discipline::edit_beneath-index-requires : goal.Discipline::edit_beneath-index-requires
+Discipline::edit_beneath-index-requires g t c =
+    let on = led c.args.rest.now c.args.place (children_seen c.args.self.now) c.requires.there in
+    omega (arith, c.in-Drr.classes.ok, slice_get_within c.in-Drr.classes.items c.args.place on.child (ap (λ xs. slice_get xs c.args.place) (sym (ap children_seen c.in-Drr.is)) ∙ on.there))
+
+pub Discipline::edit_beneath-returns-in-Drr-clause-after : goal.Discipline::edit_beneath-returns-in-Drr-clause-after
+Discipline::edit_beneath-returns-in-Drr-clause-after g t c = λ child at.
+    let there = ap (λ xs. slice_get xs c.args.place) (sym (ap children_seen c.in-Drr.is)) ∙ at in
+    let stored : c.index.result.now ≡ c.edit-in-Drr.new.self =
+    c.index.ensures ∙ get_or-set_same c.in-Drr.classes.items c.args.place c.edit-in-Drr.new.self c.index.result.now (slice_get_within c.in-Drr.classes.items c.args.place child there) in
+    edited-into c.args.edit c.args.rest.now c.args.place c.args.self.now (code.Drr c.settle.new.active (with_item c.in-Drr.classes c.args.place c.edit-in-Drr.new.self)) c.in-Drr.classes.items
+    c.index_mut-in-Drr.result.now c.edit-in-Drr.new.self child (ap children_seen c.in-Drr.is) c.index_mut-in-Drr.ensures.value at c.in_ok-lost-in-Drr.ensures.after refl (sym (ap places_seen c.in-Drr.is))
+    (ap spec.Drr (c.settle.ensures ∙ ap (λ b. settled_class c.args.place b c.in-Drr.active) (c.is_empty.ensures ∙ ap (λ (n : Node Kept). is_empty n) stored))
+    ∙ sym (ap (λ d. settled_in c.args.place (is_empty c.edit-in-Drr.new.self) (discipline_seen d)) c.in-Drr.is))
+
+pub Discipline::edit_beneath-returns-in-Drr-clause-totals : goal.Discipline::edit_beneath-returns-in-Drr-clause-totals
+Discipline::edit_beneath-returns-in-Drr-clause-totals g t c = λ child at.
+    let same = same-child c.in-Drr.classes.items c.args.place c.index_mut-in-Drr.result.now child c.index_mut-in-Drr.ensures.value (ap (λ xs. slice_get xs c.args.place) (sym (ap children_seen c.in-Drr.is)) ∙ at) in
+    c.in_ok-lost-in-Drr.ensures.totals ∙ ap (λ (n : Node Kept). Ok (totals_in (removed_at c.args.edit c.args.rest.now n))) same
+
+pub Discipline::edit_beneath-returns-in-Drr-clause-lost : goal.Discipline::edit_beneath-returns-in-Drr-clause-lost
+Discipline::edit_beneath-returns-in-Drr-clause-lost g t c = λ child at.
+    let same = same-child c.in-Drr.classes.items c.args.place c.index_mut-in-Drr.result.now child c.index_mut-in-Drr.ensures.value (ap (λ xs. slice_get xs c.args.place) (sym (ap children_seen c.in-Drr.is)) ∙ at) in
+    c.in_ok-lost-in-Drr.ensures.lost ∙ ap (λ (n : Node Kept). g.S.Sink.losses c.args.sink.now ++ purged (removed_at c.args.edit c.args.rest.now n)) same
+
+pub Discipline::edit_beneath-returns-in-Drr-clause-room : goal.Discipline::edit_beneath-returns-in-Drr-clause-room
+Discipline::edit_beneath-returns-in-Drr-clause-room g t c = λ child at.
+    let same = same-child c.in-Drr.classes.items c.args.place c.index_mut-in-Drr.result.now child c.index_mut-in-Drr.ensures.value (ap (λ xs. slice_get xs c.args.place) (sym (ap children_seen c.in-Drr.is)) ∙ at) in
+    omega (arith, c.in_ok-lost-in-Drr.ensures.room, ap (λ (n : Node Kept). length (removed_at c.args.edit c.args.rest.now n)) same)
+
+pub Node::edit-edit_beneath-requires : goal.Node::edit-edit_beneath-requires
+Node::edit-edit_beneath-requires g t c κs within = (
+  omega (arith, c.decreases, c.in-Some.ensures.cases.1),
+  (
+    within,
+    (
+      leads c.args.edit c.self.inside c.args.self.now c.self.view_is c.self.invariant c.args.path.now c.in-Some.field-0-0.now c.in-Some.rest.now c.in-Some.ensures.cases.0 c.requires.ready c.requires.there,
+      (c.requires.ready, omega (arith, c.requires.sink, all-packets c.self.inside c.args.self.now c.self.view_is)),
+    ),
+  ),
+)
+
+pub Node::edit-book_dropped-requires-clause-room : goal.Node::edit-book_dropped-requires-clause-room
+Node::edit-book_dropped-requires-clause-room g t c =
+    room c.args.edit c.self.inside c.args.self.now c.self.view_is c.self.invariant c.args.path.now c.in-Some.field-0-0.now c.in-Some.rest.now c.in-Some.ensures.cases.0 c.requires.ready c.requires.there
+    c.in_ok-lost.lost c.in_ok-lost.ensures.totals (omega (arith, c.self.ranges)) (omega (arith, c.self.ranges))
+
+pub Node::edit-invariant_of-self-2 : goal.Node::edit-invariant_of-self-2
+Node::edit-invariant_of-self-2 g t c =
+    stays c.args.edit c.self.inside c.args.self.now c.self.view_is c.self.invariant c.args.path.now c.in-Some.field-0-0.now c.in-Some.rest.now c.in-Some.ensures.cases.0 c.requires.ready c.requires.there
+    c.in_ok-lost.lost c.in_ok-lost.ensures.totals c.edit_beneath.new.self c.in_ok-lost.ensures.after c.book_dropped.new.row c.book_dropped.ensures
+    (room c.args.edit c.self.inside c.args.self.now c.self.view_is c.self.invariant c.args.path.now c.in-Some.field-0-0.now c.in-Some.rest.now c.in-Some.ensures.cases.0 c.requires.ready c.requires.there
+    c.in_ok-lost.lost c.in_ok-lost.ensures.totals (omega (arith, c.self.ranges)) (omega (arith, c.self.ranges)))
+
+pub Node::edit-returns-clause-after : goal.Node::edit-returns-clause-after
+Node::edit-returns-clause-after g t c =
+    after c.args.edit c.self.inside c.args.self.now c.self.view_is c.self.invariant c.args.path.now c.in-Some.field-0-0.now c.in-Some.rest.now c.in-Some.ensures.cases.0 c.requires.ready c.requires.there
+    c.in_ok-lost.lost c.in_ok-lost.ensures.totals c.edit_beneath.new.self c.in_ok-lost.ensures.after c.book_dropped.new.row c.book_dropped.ensures
+
+pub Node::edit-returns-clause-totals : goal.Node::edit-returns-clause-totals
+Node::edit-returns-clause-totals g t c =
+    of-child c.args.edit c.self.inside c.args.self.now c.self.view_is c.self.invariant c.args.path.now c.in-Some.field-0-0.now c.in-Some.rest.now c.in-Some.ensures.cases.0 c.requires.ready c.requires.there
+    (λ ps. IsAnswer c.in_ok-lost.lost (totals_in ps)) c.in_ok-lost.ensures.totals
+
+pub Node::edit-returns-clause-lost : goal.Node::edit-returns-clause-lost
+Node::edit-returns-clause-lost g t c =
+    of-child c.args.edit c.self.inside c.args.self.now c.self.view_is c.self.invariant c.args.path.now c.in-Some.field-0-0.now c.in-Some.rest.now c.in-Some.ensures.cases.0 c.requires.ready c.requires.there
+    (λ ps. g.S.Sink.losses c.edit_beneath.new.sink ≡ g.S.Sink.losses c.args.sink.now ++ purged ps) c.in_ok-lost.ensures.lost
+
+pub Node::edit-returns-clause-room : goal.Node::edit-returns-clause-room
+Node::edit-returns-clause-room g t c =
+    of-child c.args.edit c.self.inside c.args.self.now c.self.view_is c.self.invariant c.args.path.now c.in-Some.field-0-0.now c.in-Some.rest.now c.in-Some.ensures.cases.0 c.requires.ready c.requires.there
+    (λ ps. g.S.Sink.room c.edit_beneath.new.sink + length ps ≡ g.S.Sink.room c.args.sink.now) c.in_ok-lost.ensures.room
