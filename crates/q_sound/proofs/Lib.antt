@@ -38,6 +38,7 @@ pub mod EditNodes
 pub mod EditQdiscPlans
 pub mod EditRemade
 pub mod EditRetuned
+pub mod EditSizes
 pub mod EditSuits
 pub mod Edits
 pub mod Exact
@@ -51,6 +52,7 @@ pub mod Forests
 pub mod Joined
 pub mod Kept
 pub mod Lengths
+pub mod MadeSizes
 pub mod Members
 pub mod NoteSums
 pub mod PopGives
@@ -63,11 +65,15 @@ pub mod PutStages
 pub mod Puts
 pub mod Quiet
 pub mod Related
+pub mod RemadeSizes
 pub mod Replays
 pub mod Risen
 pub mod SameTurns
 pub mod SentStages
 pub mod Shuffled
+pub mod SizeChecks
+pub mod SizedChanges
+pub mod SizedPlans
 pub mod Sound
 pub mod StepNodes
 pub mod Sums
