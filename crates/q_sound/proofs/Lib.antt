@@ -69,6 +69,9 @@ pub mod RemadeSizes
 pub mod Replays
 pub mod Risen
 pub mod SameTurns
+pub mod SecondFlow
+pub mod SecondPeek
+pub mod SecondPrio
 pub mod SentStages
 pub mod Shuffled
 pub mod SizeChecks
