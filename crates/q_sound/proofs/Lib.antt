@@ -69,6 +69,8 @@ pub mod RemadeSizes
 pub mod Replays
 pub mod Risen
 pub mod SameTurns
+pub mod SecondClasses
+pub mod SecondDrr
 pub mod SecondFlow
 pub mod SecondPeek
 pub mod SecondPrio
