@@ -61,7 +61,7 @@ before-drr own below s = by (place_met s below)
     by None = refl
     by (Some i) = child i (slice_get below i)
 
-before-is : (now : ℕ) (own : Own) (below : List Asked) → (ask_own now own below).before ≡ worked own [] (befores below)
+pub before-is : (now : ℕ) (own : Own) (below : List Asked) → (ask_own now own below).before ≡ worked own [] (befores below)
 before-is now own below = by own.held own.discipline
   where
     discipline : (d : Discipline) → (ask_discipline now own below d).before ≡ worked own [] (befores below)
@@ -84,7 +84,7 @@ befores-forest now (more own m below others) =
 pub before-root : (now : ℕ) (s : Shape) → (ask now s).before ≡ quiet s
 before-root now s = before-is now s.own (each (ask_own now) s.below) ∙ ap (λ b. record { own = s.own; memory = []; below = b }) (befores-forest now s.below)
 
-beneath-befores : (now : ℕ) (x : Forest (Unit {0})) → map beneath (befores (each (ask_own now) x)) ≡ each beneath_own x
+pub beneath-befores : (now : ℕ) (x : Forest (Unit {0})) → map beneath (befores (each (ask_own now) x)) ≡ each beneath_own x
 beneath-befores now none = refl
 beneath-befores now (more own m below others) =
     ap₂ (λ a b. a ∷ b)

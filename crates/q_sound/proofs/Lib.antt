@@ -73,6 +73,7 @@ pub mod SecondClasses
 pub mod SecondDrr
 pub mod SecondFlow
 pub mod SecondPeek
+pub mod SecondPeeks
 pub mod SecondPrio
 pub mod SentStages
 pub mod Shuffled
