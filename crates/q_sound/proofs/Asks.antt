@@ -18,7 +18,7 @@ use Rattle.q_model.specs.Work.{Worked, worked, quiet, booked}
 use Rattle.q_model.specs.Ask.{Asked, befores, holding, dequeued, waits, spends, ask_child, ask_tbf, service_of, place_met, gives_nothing, class_gives, class_serves, ask_drr, ask_discipline, ask_own, ask}
 use Rattle.q_model.specs.TreeState.{TreeState, peek_packet, with_work, take_packet}
 use Rattle.q_model.proofs.ShrinkLemmas.{each-each_memory}
-use Rattle.q_sound.proofs.Weights.{IsQuiet, weigh, arrived-nil, sent-nil, lost-nil, dropped-nil, marked-nil, arrived-append, sent-append, lost-append, dropped-append, marked-append, arrived-given, sent-given, lost-given, dropped-given, marked-given}
+use Rattle.q_sound.proofs.Weights.{IsQuiet, weigh, arrived-append, sent-append, lost-append, dropped-append, marked-append, arrived-given, sent-given, lost-given, dropped-given, marked-given}
 use Rattle.q_sound.proofs.Kept.{AreCounted, AllLawful, IsLawfulRoot, IsCountedRoot, IsKeptTree}
 use Rattle.q_sound.proofs.Forests.{lawful-with_memory}
 use Rattle.q_sound.proofs.Told.{IsTold, IsRootTold, each-booked, counted-noted, booked-counted, booked-lawful, root-memory, LooksAtHandle, root-told, root-booked}

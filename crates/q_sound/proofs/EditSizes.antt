@@ -79,7 +79,8 @@ pub record Down (i : ℕ) (path : List ℕ) (n old : Shape) : Type 0 where
 pub down : (i : ℕ) (path : List ℕ) (n old : Shape) → node_at (i ∷ path) n ≡ Some old → Down i path n old
 down i path n old e = go (slice_get (children n) i) refl e
   where
-    go : (o : Option Shape) → slice_get (children n) i ≡ o → option_and_then (node_at path) o ≡ Some old → Down i path n old
+    go : (o : Option Shape) → slice_get (children n) i ≡ o → option_and_then (node_at path) o ≡ Some old
+        → Down i path n old
     go None at e = absurd (none-some old e)
     go (Some child) at e = record { child = child; at = at; rest = e }
 
@@ -90,7 +91,8 @@ pub record IsSized (path : List ℕ) (root old new after : Shape) : Type 0 where
   pub count : count_nodes after + count_nodes old ≡ count_nodes root + count_nodes new
 
 module _ (f : Shape → Shape) where
-  sized-above : (i : ℕ) (path : List ℕ) (n child old after : Shape) → slice_get (children n) i ≡ Some child → IsSized path child old (f old) after
+  sized-above : (i : ℕ) (path : List ℕ) (n child old after : Shape) → slice_get (children n) i ≡ Some child
+      → IsSized path child old (f old) after
       → IsSized (i ∷ path) n old (f old) (above nothing [] i after n)
   sized-above i path n child old after at h =
       let ds : List ℕ = each levels_own n.below in
@@ -108,7 +110,8 @@ module _ (f : Shape → Shape) where
         count = omega (arith, cs_is, h.count, sum-set cs i (count_nodes child) (count_nodes after) count_at);
       }
 
-  pub sized-edit : (path : List ℕ) (root old : Shape) → node_at path root ≡ Some old → IsSized path root old (f old) (edited_at nothing [] f path root)
+  pub sized-edit : (path : List ℕ) (root old : Shape) → node_at path root ≡ Some old
+      → IsSized path root old (f old) (edited_at nothing [] f path root)
   sized-edit [] root old e =
       subst (λ (o : Shape). IsSized [] root o (f o) (f root)) (same_Some root old e) (record {
         most = λ levels le at. omega arith;
@@ -123,7 +126,8 @@ module _ (f : Shape → Shape) where
       subst (IsSized (i ∷ path) root old (f old)) (sym (ap (λ (o : Option Shape). option_map_or go o root) d.at)) (sized-above i path root d.child old below d.at h)
 
 -- the way to a node is no longer than the tree is deep, and the node has no more nodes than the tree
-pub sized-within : (path : List ℕ) (root old : Shape) → node_at path root ≡ Some old → (length path + depth old ≤ depth root) × (count_nodes old ≤ count_nodes root)
+pub sized-within : (path : List ℕ) (root old : Shape) → node_at path root ≡ Some old
+    → (length path + depth old ≤ depth root) × (count_nodes old ≤ count_nodes root)
 sized-within [] root old e =
     subst (λ (o : Shape). (length {A = ℕ} [] + depth o ≤ depth root) × (count_nodes o ≤ count_nodes root)) (same_Some root old e) (omega arith)
 sized-within (i ∷ path) root old e =

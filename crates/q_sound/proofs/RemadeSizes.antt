@@ -34,11 +34,11 @@ counts-append : (xs ys : List Shape) → sum (counts (xs ++ ys)) ≡ sum (counts
 counts-append xs ys = ap sum (map-append (λ (n : Shape). count_nodes n) xs ys) ∙ sum-append (counts xs) (counts ys)
 
 -- so many implicit leaves
-leaves-depth : (d : Device) (k : ℕ) → greatest (depths (replicate k (blank nothing (implicit_pfifo d)))) ≤ 1
+pub leaves-depth : (d : Device) (k : ℕ) → greatest (depths (replicate k (blank nothing (implicit_pfifo d)))) ≤ 1
 leaves-depth d zero = omega arith
 leaves-depth d (suc k) = omega (arith, leaves-depth d k)
 
-leaves-count : (d : Device) (k : ℕ) → sum (counts (replicate k (blank nothing (implicit_pfifo d)))) ≡ k
+pub leaves-count : (d : Device) (k : ℕ) → sum (counts (replicate k (blank nothing (implicit_pfifo d)))) ≡ k
 leaves-count d zero = refl
 leaves-count d (suc k) = omega (arith, sum-cons 1 (counts (replicate k (blank nothing (implicit_pfifo d)))), leaves-count d k)
 
@@ -52,7 +52,7 @@ drop-depths cs k = omega (arith, depths-append (take k cs) (drop k cs), ap (λ (
 pub take-counts : (cs : List Shape) (k : ℕ) → sum (counts (take k cs)) + sum (counts (drop k cs)) ≡ sum (counts cs)
 take-counts cs k = omega (arith, counts-append (take k cs) (drop k cs), ap (λ (xs : List Shape). sum (counts xs)) (take-append-drop k cs))
 
-some-depth : (cs : List Shape) → 1 ≤ length cs → 1 ≤ greatest (depths cs)
+pub some-depth : (cs : List Shape) → 1 ≤ length cs → 1 ≤ greatest (depths cs)
 some-depth [] h = absurd (omega arith)
 some-depth (c ∷ cs) h = omega arith
 
@@ -60,7 +60,8 @@ some-depth (c ∷ cs) h = omega arith
 remove-depths : (cs : List Shape) (i : ℕ) → greatest (depths (remove cs i)) ≤ greatest (depths cs)
 remove-depths cs i = omega (arith, depths-append (take i cs) (drop (suc i) cs), take-depths cs i, drop-depths cs (suc i))
 
-pub remove-counts : (cs : List Shape) (i : ℕ) (c : Shape) → slice_get cs i ≡ Some c → sum (counts (remove cs i)) + count_nodes c ≡ sum (counts cs)
+pub remove-counts : (cs : List Shape) (i : ℕ) (c : Shape) → slice_get cs i ≡ Some c
+    → sum (counts (remove cs i)) + count_nodes c ≡ sum (counts cs)
 remove-counts [] i c e = absurd (none-some c e)
 remove-counts (x ∷ cs) zero c e = omega (arith, sum-cons (count_nodes x) (counts cs), ap (λ (n : Shape). count_nodes n) (same_Some x c e))
 remove-counts (x ∷ cs) (suc i) c e = omega (arith, sum-cons (count_nodes x) (counts cs), sum-cons (count_nodes x) (counts (remove cs i)), remove-counts cs i c e)
@@ -82,13 +83,16 @@ module _ (own : Own) (old : Shape) where
   abbrev pub with_children : List Child → Shape
   with_children below = remade nothing own below [] old
 
-  pub depth-children : (below : List Child) (ns : List Shape) → kids nothing (children old) below ≡ ns → depth (with_children below) ≡ suc (greatest (depths ns))
+  pub depth-children : (below : List Child) (ns : List Shape) → kids nothing (children old) below ≡ ns
+      → depth (with_children below) ≡ suc (greatest (depths ns))
   depth-children below ns e = ap (λ ks. suc (greatest ks)) (each-side levels_own (kids nothing (children old) below)) ∙ ap (λ (xs : List Shape). suc (greatest (depths xs))) e
 
-  pub count-children : (below : List Child) (ns : List Shape) → kids nothing (children old) below ≡ ns → count_nodes (with_children below) ≡ suc (sum (counts ns))
+  pub count-children : (below : List Child) (ns : List Shape) → kids nothing (children old) below ≡ ns
+      → count_nodes (with_children below) ≡ suc (sum (counts ns))
   count-children below ns e = ap (λ ks. suc (sum ks)) (each-side nodes_own (kids nothing (children old) below)) ∙ ap (λ (xs : List Shape). suc (sum (counts xs))) e
 
-  same-size : (below : List Child) (ns : List Shape) → kids nothing (children old) below ≡ ns → greatest (depths ns) ≤ greatest (depths (children old))
+  same-size : (below : List Child) (ns : List Shape) → kids nothing (children old) below ≡ ns
+      → greatest (depths ns) ≤ greatest (depths (children old))
       → sum (counts ns) ≤ sum (counts (children old)) → IsNoLarger old (with_children below)
   same-size below ns e deep many = record {
     depth_is = omega (arith, depth-children below ns e, depth-node old);
@@ -128,25 +132,29 @@ module _ (own : Own) (old : Shape) where
       omega (arith, is, counts-append (take bands cs) leaves, take-counts cs bands, leaves-count d (bands - length cs), count-node old)
 
   -- a class more
-  added-are : (d : Device) → kids nothing (children old) (all_kept old ++ New (implicit_pfifo d) ∷ []) ≡ children old ++ blank nothing (implicit_pfifo d) ∷ []
+  added-are : (d : Device)
+      → kids nothing (children old) (all_kept old ++ New (implicit_pfifo d) ∷ []) ≡ children old ++ blank nothing (implicit_pfifo d) ∷ []
   added-are d =
       kids-append nothing (children old) (all_kept old) (New (implicit_pfifo d) ∷ [])
       ∙ ap (λ (a : List Shape). a ++ blank nothing (implicit_pfifo d) ∷ []) (kids_all nothing (children old) (length (children old)) refl)
 
-  pub added-depth : (d : Device) → depth (with_children (all_kept old ++ New (implicit_pfifo d) ∷ [])) ≡ max 2 (depth old)
+  pub added-depth : (d : Device)
+      → depth (with_children (all_kept old ++ New (implicit_pfifo d) ∷ [])) ≡ max 2 (depth old)
   added-depth d =
       let leaf : List Shape = blank nothing (implicit_pfifo d) ∷ [] in
       let is = depth-children (all_kept old ++ New (implicit_pfifo d) ∷ []) (children old ++ leaf) (added-are d) in
       omega (arith, is, depths-append (children old) leaf, depth-node old)
 
-  pub added-count : (d : Device) → count_nodes (with_children (all_kept old ++ New (implicit_pfifo d) ∷ [])) ≡ suc (count_nodes old)
+  pub added-count : (d : Device)
+      → count_nodes (with_children (all_kept old ++ New (implicit_pfifo d) ∷ [])) ≡ suc (count_nodes old)
   added-count d =
       let leaf : List Shape = blank nothing (implicit_pfifo d) ∷ [] in
       let is = count-children (all_kept old ++ New (implicit_pfifo d) ∷ []) (children old ++ leaf) (added-are d) in
       omega (arith, is, counts-append (children old) leaf, leaves-count d 1, count-node old)
 
   -- a class less
-  pub removed-count : (i : ℕ) (c : Shape) → slice_get (children old) i ≡ Some c → count_nodes (with_children (remove (all_kept old) i)) + count_nodes c ≡ count_nodes old
+  pub removed-count : (i : ℕ) (c : Shape) → slice_get (children old) i ≡ Some c
+      → count_nodes (with_children (remove (all_kept old) i)) + count_nodes c ≡ count_nodes old
   removed-count i c e =
       let cs : List Shape = children old in
       let is = count-children (remove (all_kept old) i) (remove cs i) (kids_removed nothing cs (length cs) i refl (slice_get_within cs i c e)) in
@@ -181,7 +189,8 @@ module _ (bytes : ℕ) where
       ]
   leaf-alike (c ∷ d ∷ cs) one = absurd (omega arith)
 
-  pub bucket-sizes : (own : Own) (old : Shape) → length (children old) ≤ 1 → IsNoLarger old (with_children own old (map (leaf_of_tbf bytes) (children old)))
+  pub bucket-sizes : (own : Own) (old : Shape) → length (children old) ≤ 1
+      → IsNoLarger old (with_children own old (map (leaf_of_tbf bytes) (children old)))
   bucket-sizes own old one =
       let below : List Child = map (leaf_of_tbf bytes) (children old) in
       let h = leaf-alike (children old) one in

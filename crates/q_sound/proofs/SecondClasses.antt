@@ -9,7 +9,7 @@ use Rattle.q_model.specs.Tally.{Note}
 use Rattle.q_model.specs.Work.{Worked}
 use Rattle.q_model.specs.Ask.{Asked, befores, length_of}
 use Rattle.q_sound.proofs.AskClasses.{peeked_by}
-use Rattle.q_sound.proofs.SecondPeek.{IsSecond, again, IsStable, AreStable}
+use Rattle.q_sound.proofs.SecondPeek.{again, AreStable}
 
 -- what the child at this place tells
 abbrev pub rises_of : Option Asked → List Note
@@ -21,7 +21,8 @@ module _ (now : ℕ) (test : Class → Bool) where
   once_more classes below = map (again now) (peeked_by test classes below)
 
   -- each shows what it showed
-  pub heads-again : (classes : List Class) (below : List Asked) (i : ℕ) → length classes ≡ length below → AreStable now below
+  pub heads-again : (classes : List Class) (below : List Asked) (i : ℕ) → length classes ≡ length below
+      → AreStable now below
       → option_and_then length_of (slice_get (once_more classes below) i) ≡ option_and_then length_of (slice_get below i)
   heads-again [] [] i same h = refl
   heads-again [] (a ∷ below) i same h = absurd (omega (arith, same))
@@ -34,7 +35,8 @@ module _ (now : ℕ) (test : Class → Bool) where
   heads-again (c ∷ classes) (a ∷ below) (suc i) same h = heads-again classes below i (omega (arith, same)) h.1
 
   -- one that was peeked has nothing to tell
-  pub rises-again : (classes : List Class) (below : List Asked) (i : ℕ) (c : Class) → AreStable now below → slice_get classes i ≡ Some c → test c ≡ true
+  pub rises-again : (classes : List Class) (below : List Asked) (i : ℕ) (c : Class) → AreStable now below
+      → slice_get classes i ≡ Some c → test c ≡ true
       → rises_of (slice_get (once_more classes below) i) ≡ []
   rises-again [] below i c h e passes = absurd (none-some c e)
   rises-again (d ∷ classes) [] i c h e passes = refl
@@ -43,7 +45,8 @@ module _ (now : ℕ) (test : Class → Bool) where
   rises-again (d ∷ classes) (a ∷ below) (suc i) c h e passes = rises-again classes below i c h.1 e passes
 
   -- none changes, where only those are asked that were
-  pub looked-again : (more : Class → Bool) → ((c : Class) → more c ≡ true → test c ≡ true) → (classes : List Class) (below : List Asked) → length classes ≡ length below → AreStable now below
+  pub looked-again : (more : Class → Bool) → ((c : Class) → more c ≡ true → test c ≡ true)
+      → (classes : List Class) (below : List Asked) → length classes ≡ length below → AreStable now below
       → peeked_by more classes (once_more classes below) ≡ befores (once_more classes below)
   looked-again more only [] [] same h = refl
   looked-again more only [] (a ∷ below) same h = absurd (omega (arith, same))

@@ -1,16 +1,16 @@
 -- A drr that gave nothing meets the same class again, which shows nothing still.
-use Rattle.std.proofs.Common.{◌≡◌, ℕ, zero, suc, List, [], ◌∷◌, ◌++◌, map, length, get_or, refl, sym, ap, ap₂, subst, ◌∙◌, Option, Some, None, option_map, option_and_then, flat_map, arith}
-use Rattle.std.specs.Prelude.{Bool, true, false, slice_get, is_some, unwrap_or, All, set, ◌==◌, ◌||◌}
+use Rattle.std.proofs.Common.{◌≡◌, ℕ, List, [], ◌∷◌, ◌++◌, length, refl, sym, ap, ap₂, subst, ◌∙◌, Option, Some, None, option_map, option_and_then, flat_map}
+use Rattle.std.specs.Prelude.{Bool, true, false, slice_get, unwrap_or, All, set, ◌==◌, ◌||◌}
 use Rattle.std.specs.List.{list_any, position}
 use Rattle.std.specs.Option.{option_map_or}
-use Rattle.std.proofs.lemmas.Bool.{eqb-true, or_parts, false≢true}
-use Rattle.std.proofs.lemmas.Option.{none-some, same_Some, get_or_from_slice_get}
+use Rattle.std.proofs.lemmas.Bool.{eqb-true, false≢true}
+use Rattle.std.proofs.lemmas.Option.{none-some, get_or_from_slice_get}
 use Rattle.std.proofs.lemmas.List.Elements.{All-head}
 use Rattle.std.proofs.lemmas.List.Quantifiers.{position-Some}
 use Rattle.q_packet.specs.Choice.{Choice, choose}
 use Rattle.q_packet.specs.Descriptor.{Descriptor}
-use Rattle.q_drr.specs.Schedule.{Class, Entry, Schedule, IsEntry, IsLawful, quantum_of, has_class}
-use Rattle.q_drr.specs.Take.{choice_of, need, needs, prepared, sent_in, sent_by, served, met_in, met}
+use Rattle.q_drr.specs.Schedule.{Class, Entry, Schedule, IsEntry, IsLawful, quantum_of}
+use Rattle.q_drr.specs.Take.{choice_of, need, needs, prepared, served, met_in}
 use Rattle.q_drr.specs.declared.met.Met.{Met}
 use Rattle.q_drr.proofs.ServedLemmas.{chosen_is_met}
 use Rattle.q_drr.proofs.TakeLemmas.{Front, choice_ready, prepared_ready, prepared_empty, need_at, served_nothing, served_nobody, met_nobody}
@@ -35,7 +35,8 @@ abbrev head_met : Schedule → List Asked → Option ℕ
 head_met s below = option_and_then length_of (option_and_then (slice_get below) (place_met s below))
 
 -- where it shows nothing, nothing is given
-nothing-given : (own : Own) (s : Schedule) (below : List Asked) → head_met s below ≡ None → ask_drr own below s ≡ gives_nothing own below (service_of s below)
+nothing-given : (own : Own) (s : Schedule) (below : List Asked) → head_met s below ≡ None
+    → ask_drr own below s ≡ gives_nothing own below (service_of s below)
 nothing-given own s below e = by (place_met s below) e
   where
     v : Service
@@ -44,11 +45,13 @@ nothing-given own s below e = by (place_met s below) e
     nothing : Asked
     nothing = gives_nothing own below v
 
-    shows : (i : ℕ) (a : Asked) (o : Option Descriptor) → option_map (λ (p : Descriptor). p.len) o ≡ None → option_map_or (class_gives own below v i a) o nothing ≡ nothing
+    shows : (i : ℕ) (a : Asked) (o : Option Descriptor) → option_map (λ (p : Descriptor). p.len) o ≡ None
+        → option_map_or (class_gives own below v i a) o nothing ≡ nothing
     shows i a None e = refl
     shows i a (Some p) e = absurd (none-some p.len (sym e))
 
-    child : (i : ℕ) (o : Option Asked) → option_and_then length_of o ≡ None → option_map_or (class_serves own below v i) o nothing ≡ nothing
+    child : (i : ℕ) (o : Option Asked) → option_and_then length_of o ≡ None
+        → option_map_or (class_serves own below v i) o nothing ≡ nothing
     child i None e = refl
     child i (Some a) e = shows i a a.shown e
 
@@ -58,7 +61,8 @@ nothing-given own s below e = by (place_met s below) e
     by (Some i) e = child i (slice_get below i) e
 
 -- the class in front once the schedule is ready
-place-front : (s : Schedule) (below : List Asked) (e : Entry) (rest : List Entry) → (prepared (head_of s below) s).active ≡ e ∷ rest → place_met s below ≡ class_at e.class s
+place-front : (s : Schedule) (below : List Asked) (e : Entry) (rest : List Entry)
+    → (prepared (head_of s below) s).active ≡ e ∷ rest → place_met s below ≡ class_at e.class s
 place-front s below e rest front = ap (λ (es : List Entry). option_and_then (λ (m : Met). class_at m.class s) (met_in (head_of s below) es)) front
 
 module _ (now : ℕ) (handle : Option ℕ) (filters : List Filter) (s : Schedule) (below : List Asked) (stable : AreStable now below) (same : length s.classes ≡ length below)
@@ -86,7 +90,8 @@ module _ (now : ℕ) (handle : Option ℕ) (filters : List Filter) (s : Schedule
   heads-same : (n : ℕ) → heads_now n ≡ heads n
   heads-same n = ap (λ (o : Option ℕ). option_and_then length_of (option_and_then (slice_get children) o)) (place-left n) ∙ by (class_at n s)
     where
-      by : (o : Option ℕ) → option_and_then length_of (option_and_then (slice_get children) o) ≡ option_and_then length_of (option_and_then (slice_get below) o)
+      by : (o : Option ℕ)
+          → option_and_then length_of (option_and_then (slice_get children) o) ≡ option_and_then length_of (option_and_then (slice_get below) o)
       by None = refl
       by (Some i) = heads-again now (is_among entries) s.classes below i same stable
 
@@ -108,7 +113,8 @@ module _ (now : ℕ) (handle : Option ℕ) (filters : List Filter) (s : Schedule
     service : service_of left children ≡ quiet_service
     head : head_met left children ≡ None
 
-  looked : (es : List Entry) → ((c : Class) → is_among es c ≡ true → is_among entries c ≡ true) → peeked_classes left es children ≡ befores children
+  looked : (es : List Entry) → ((c : Class) → is_among es c ≡ true → is_among entries c ≡ true)
+      → peeked_classes left es children ≡ befores children
   looked es only =
       ap (λ (cs : List Class). peeked_by (is_among es) cs children) (classes-served heads s)
       ∙ looked-again now (is_among entries) (is_among es) only s.classes below same stable
@@ -187,8 +193,8 @@ module _ (now : ℕ) (handle : Option ℕ) (filters : List Filter) (s : Schedule
     idle-hidden =
         let ready : prepared heads_now left ≡ left = prepared_ready heads_now left e.class front_now lawful no-need in
         let quiet : rises_of (class_answer left children e.class) ≡ [] =
-            ap (λ (o : Option ℕ). rises_of (option_and_then (slice_get children) o)) class-now
-            ∙ rises-again now (is_among entries) s.classes below place was-met.class stable was-met.there was-met.asked in
+        ap (λ (o : Option ℕ). rises_of (option_and_then (slice_get children) o)) class-now
+        ∙ rises-again now (is_among entries) s.classes below place was-met.class stable was-met.there was-met.asked in
         record {
           service =
               ap (λ (o : Option Choice). serviced o left.active (served heads_now left)) (choice_ready heads_now left e.class front_now no-need)
@@ -211,7 +217,8 @@ module _ (now : ℕ) (handle : Option ℕ) (filters : List Filter) (s : Schedule
   abbrev drr : Schedule → Own
   drr t = node now handle filters (Drr t) None
 
-  second-nothing : head_met s below ≡ None → IsSecond (gives_nothing (drr s) below (service_of s below)) (again now (gives_nothing (drr s) below (service_of s below)).peeked)
+  second-nothing : head_met s below ≡ None
+      → IsSecond (gives_nothing (drr s) below (service_of s below)) (again now (gives_nothing (drr s) below (service_of s below)).peeked)
   second-nothing e =
       let a : Asked = gives_nothing (drr s) below (service_of s below) in
       let h : IsIdle = idle e in
@@ -232,17 +239,21 @@ module _ (now : ℕ) (handle : Option ℕ) (filters : List Filter) (s : Schedule
       nothing : Asked
       nothing = gives_nothing (drr s) below v
 
-      head : (o : Option ℕ) → place_met s below ≡ o → option_and_then length_of (option_and_then (slice_get below) o) ≡ None → P nothing
+      head : (o : Option ℕ) → place_met s below ≡ o
+          → option_and_then length_of (option_and_then (slice_get below) o) ≡ None → P nothing
       head o e none = second-nothing (ap (λ (x : Option ℕ). option_and_then length_of (option_and_then (slice_get below) x)) e ∙ none)
 
-      shows : (i : ℕ) (a : Asked) → place_met s below ≡ Some i → slice_get below i ≡ Some a → (o : Option Descriptor) → a.shown ≡ o → P (option_map_or (class_gives (drr s) below v i a) o nothing)
+      shows : (i : ℕ) (a : Asked) → place_met s below ≡ Some i → slice_get below i ≡ Some a → (o : Option Descriptor)
+          → a.shown ≡ o → P (option_map_or (class_gives (drr s) below v i a) o nothing)
       shows i a e at None is = head (Some i) e (ap (option_and_then length_of) at ∙ ap (option_map (λ (p : Descriptor). p.len)) is)
       shows i a e at (Some p) is = second-dequeued now handle filters (drr s) below (Drr (settled_class i (is_empty a.taken) v.schedule)) (set v.below i a.taken) v.rises v.grants p
 
-      child : (i : ℕ) → place_met s below ≡ Some i → (o : Option Asked) → slice_get below i ≡ o → P (option_map_or (class_serves (drr s) below v i) o nothing)
+      child : (i : ℕ) → place_met s below ≡ Some i → (o : Option Asked) → slice_get below i ≡ o
+          → P (option_map_or (class_serves (drr s) below v i) o nothing)
       child i e None at = head (Some i) e (ap (option_and_then length_of) at)
       child i e (Some a) at = shows i a e at a.shown refl
 
-      by : (o : Option ℕ) → place_met s below ≡ o → P (option_map_or (λ i. option_map_or (class_serves (drr s) below v i) (slice_get below i) nothing) o nothing)
+      by : (o : Option ℕ) → place_met s below ≡ o
+          → P (option_map_or (λ i. option_map_or (class_serves (drr s) below v i) (slice_get below i) nothing) o nothing)
       by None e = head None e refl
       by (Some i) e = child i e (slice_get below i) refl

@@ -14,7 +14,7 @@ use Rattle.q_fqcodel.specs.Entry.{Entry}
 use Rattle.q_fqcodel.specs.FqState.{Flow, FqState, is_idle, queue_of, queues}
 use Rattle.q_fqcodel.specs.Lawful.{IsLawful}
 use Rattle.q_fqcodel.specs.QuantaGiven.{Grant, quanta_given, grants}
-use Rattle.q_fqcodel.specs.Take.{selected, front, sender, packet_sent, sent_from, dropped_from, after_sending}
+use Rattle.q_fqcodel.specs.Take.{selected, front, packet_sent, sent_from, dropped_from, after_sending}
 use Rattle.q_fqcodel.specs.Turns.{turns, GoesOn, IsSettled}
 use Rattle.q_fqcodel.proofs.KeptLemmas.{take_keeps_lawful}
 use Rattle.q_fqcodel.proofs.LawfulLemmas.{front_within}
@@ -24,7 +24,7 @@ use Rattle.q_model.specs.declared.filter.Filter.{Filter}
 use Rattle.q_model.specs.Tally.{Note, FlowGranted}
 use Rattle.q_model.specs.Node.{FqCodel, Own}
 use Rattle.q_model.specs.Beneath.{packets_of}
-use Rattle.q_model.specs.Work.{Worked, worked, losses_of}
+use Rattle.q_model.specs.Work.{losses_of}
 use Rattle.q_model.specs.Ask.{Asked, befores, dequeued, marks_of, ask_fq_codel}
 use Rattle.q_model.specs.Quanta.{flows_granted, flow_gave, flow_notes}
 use Rattle.q_sound.proofs.SecondPeek.{IsSecond, again, AreStable, again-quiet, second-by, node, second-dequeued}
@@ -53,25 +53,26 @@ module _ (s : FqState) (e : Entry) (rest : List Entry) (lawful : IsLawful s) (po
   at-new new = ⊎_elim
       (λ (low : e.credits ≤ℤ pos 0). led-on s _ onward (fresh_granted s lawful e rest new positive low) positive)
       (λ (high : pos 0 <ℤ e.credits). ⊎_elim
-          (λ (empty : is_idle s.flows e.flow ≡ true). led-on s _ onward (fresh_moves s lawful e rest new high empty) positive)
-          (λ (busy : is_idle s.flows e.flow ≡ false).
-              let chosen : selected s ≡ s = fresh_ready s lawful e rest new high busy in
-              stops s chosen (settled_at (looks (rest ++ s.stale) (ap (λ (es : List Entry). es ++ s.stale) new)) chosen high busy))
-          (cases_Bool (is_idle s.flows e.flow)))
+      (λ (empty : is_idle s.flows e.flow ≡ true). led-on s _ onward (fresh_moves s lawful e rest new high empty) positive)
+      (λ (busy : is_idle s.flows e.flow ≡ false).
+      let chosen : selected s ≡ s = fresh_ready s lawful e rest new high busy in
+      stops s chosen (settled_at (looks (rest ++ s.stale) (ap (λ (es : List Entry). es ++ s.stale) new)) chosen high busy))
+      (cases_Bool (is_idle s.flows e.flow)))
       (cases-credits e.credits)
 
   at-old : s.fresh ≡ [] → s.stale ≡ e ∷ rest → IsSettled (selected s)
   at-old none old = ⊎_elim
       (λ (low : e.credits ≤ℤ pos 0). led-on s _ onward (stale_granted s lawful e rest none old positive low) positive)
       (λ (high : pos 0 <ℤ e.credits). ⊎_elim
-          (λ (empty : is_idle s.flows e.flow ≡ true). led-on s _ onward (stale_leaves s lawful e rest none old high empty) positive)
-          (λ (busy : is_idle s.flows e.flow ≡ false).
-              let chosen : selected s ≡ s = stale_ready s lawful e rest none old high busy in
-              stops s chosen (settled_at (looks rest (ap₂ (λ (a b : List Entry). a ++ b) none old)) chosen high busy))
-          (cases_Bool (is_idle s.flows e.flow)))
+      (λ (empty : is_idle s.flows e.flow ≡ true). led-on s _ onward (stale_leaves s lawful e rest none old high empty) positive)
+      (λ (busy : is_idle s.flows e.flow ≡ false).
+      let chosen : selected s ≡ s = stale_ready s lawful e rest none old high busy in
+      stops s chosen (settled_at (looks rest (ap₂ (λ (a b : List Entry). a ++ b) none old)) chosen high busy))
+      (cases_Bool (is_idle s.flows e.flow)))
       (cases-credits e.credits)
 
-at-front : (s : FqState) (fresh stale : List Entry) → s.fresh ≡ fresh → s.stale ≡ stale → IsLawful s → 1 ≤ s.settings.quantum → Onward s → IsSettled (selected s)
+at-front : (s : FqState) (fresh stale : List Entry) → s.fresh ≡ fresh → s.stale ≡ stale → IsLawful s
+    → 1 ≤ s.settings.quantum → Onward s → IsSettled (selected s)
 at-front s [] [] new old lawful positive onward = stops s (none_left s new old) (settled_none s new old)
 at-front s [] (e ∷ rest) new old lawful positive onward = at-old s e rest lawful positive onward new old
 at-front s (e ∷ rest) stale new old lawful positive onward = at-new s e rest lawful positive onward new
@@ -105,11 +106,13 @@ queue-at flows n f e =
     get_or_from_slice_get (queues flows) n f.queue [] (slice_get-map (λ (g : Flow). g.queue) flows n ∙ ap (option_map (λ (g : Flow). g.queue)) e)
 
 -- where nothing is sent, no flow is in front
-sends-none : (now : ℕ) (x : FqState) → IsLawful x → IsSettled x → given (sent_from now x) ≡ None → (x.fresh ≡ []) × (x.stale ≡ [])
+sends-none : (now : ℕ) (x : FqState) → IsLawful x → IsSettled x → given (sent_from now x) ≡ None
+    → (x.fresh ≡ []) × (x.stale ≡ [])
 unfolding sent_from packet_sent
 sends-none now x lawful settled e = front-none x (by (front x) refl settled.busy)
   where
-    at : (n : Entry) → is_idle x.flows n.flow ≡ false → (o : Option Flow) → slice_get x.flows n.flow ≡ o → IsSome o → given (option_and_then (packet_sent now) o) ≡ None → ⊥
+    at : (n : Entry) → is_idle x.flows n.flow ≡ false → (o : Option Flow) → slice_get x.flows n.flow ≡ o → IsSome o
+        → given (option_and_then (packet_sent now) o) ≡ None → ⊥
     at n busy None there some e = absurd cc
     at n busy (Some f) there some e =
         let empty : queue_of x.flows n.flow ≡ [] = queue-at x.flows n.flow f there ∙ taken-some f.codel now f.queue e in

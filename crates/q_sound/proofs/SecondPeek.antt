@@ -1,6 +1,6 @@
 -- A node that is asked once more at the same moment shows the same and has nothing to tell: what holds a packet, and a tbf.
 use Rattle.std.proofs.Common.{◌≡◌, ℕ, List, [], ◌∷◌, ◌++◌, map, refl, sym, ap, ap₂, subst, ◌∙◌, Option, Some, None}
-use Rattle.std.specs.Prelude.{Bool, true, false, slice_get, if◌then◌else◌}
+use Rattle.std.specs.Prelude.{Bool, true, false, if◌then◌else◌}
 use Rattle.std.specs.Option.{option_map_or}
 use Rattle.q_packet.specs.Descriptor.{Descriptor}
 use Rattle.q_packet.specs.declared.stamped.Stamped.{Stamped}
@@ -8,9 +8,9 @@ use Rattle.q_codel.specs.declared.limit.Limit.{Limit}
 use Rattle.q_bucket.specs.Level.{TokenBucket, allows, after_spend}
 use Rattle.q_model.specs.declared.filter.Filter.{Filter}
 use Rattle.q_model.specs.Tally.{Note, Spent}
-use Rattle.q_model.specs.Node.{Discipline, Fifo, Prio, Tbf, Drr, FqCodel, Own, from_below}
+use Rattle.q_model.specs.Node.{Discipline, Fifo, Tbf, Own, from_below}
 use Rattle.q_model.specs.Work.{Worked, worked}
-use Rattle.q_model.specs.Ask.{Asked, befores, holding, Dequeue, dequeued, spends, waits, ask_child, ask_tbf, ask_fifo, ask_own}
+use Rattle.q_model.specs.Ask.{Asked, befores, holding, dequeued, spends, waits, ask_child, ask_tbf, ask_fifo, ask_own}
 use Rattle.q_sound.proofs.Forests.{each-side}
 
 -- the same node asked once more: it shows the same, has nothing to tell, and neither it nor what is beneath it changes
@@ -33,7 +33,8 @@ module _ (now : ℕ) where
   AreStable [] = Unit {0}
   AreStable (a ∷ below) = IsStable a × AreStable below
 
-  pub again-worked : (own : Own) (notes : List Note) (ws : List Worked) → again (worked own notes ws) ≡ ask_own now own (map again ws)
+  pub again-worked : (own : Own) (notes : List Note) (ws : List Worked)
+      → again (worked own notes ws) ≡ ask_own now own (map again ws)
   again-worked own notes ws = ap (ask_own now own) (each-side (ask_own now) ws)
 
   pub again-befores : (below : List Asked) → AreStable below → map again (befores below) ≡ below
@@ -41,7 +42,8 @@ module _ (now : ℕ) where
   again-befores (a ∷ below) h = ap₂ (λ (b : Asked) (bs : List Asked). b ∷ bs) h.0.same (again-befores below h.1)
 
   -- a node whose children were not asked
-  pub again-quiet : (own : Own) (notes : List Note) (below : List Asked) → AreStable below → again (worked own notes (befores below)) ≡ ask_own now own below
+  pub again-quiet : (own : Own) (notes : List Note) (below : List Asked) → AreStable below
+      → again (worked own notes (befores below)) ≡ ask_own now own below
   again-quiet own notes below h = again-worked own notes (befores below) ∙ ap (ask_own now own) (again-befores below h)
 
   pub second-by : (a b c : Asked) → b ≡ c → IsSecond a c → IsSecond a b
@@ -57,7 +59,8 @@ module _ (now : ℕ) where
     abbrev pub node : Discipline → Option Descriptor → Own
     node d held = record { handle = handle; discipline = d; held = held; filters = filters }
 
-    pub second-holding : (d : Discipline) (below : List Asked) (p : Descriptor) → AreStable below → IsSecond (holding (node d (Some p)) below p) (again (holding (node d (Some p)) below p).peeked)
+    pub second-holding : (d : Discipline) (below : List Asked) (p : Descriptor) → AreStable below
+        → IsSecond (holding (node d (Some p)) below p) (again (holding (node d (Some p)) below p).peeked)
     second-holding d below p h = second-same (holding (node d (Some p)) below p) (again-quiet (node d (Some p)) [] below h) refl refl
 
     pub second-fifo : (limit : Limit) (queue : List Stamped) (below : List Asked) → AreStable below
@@ -82,7 +85,8 @@ module _ (now : ℕ) where
       tbf = node (Tbf b limit) None
 
       -- a tbf that waits, waits once more
-      waits-again : (below : List Asked) (a : Asked) → IsStable a → ask_child now tbf (again a.peeked ∷ []) b limit (again a.peeked) ≡ waits tbf (again a.peeked ∷ []) (again a.peeked)
+      waits-again : (below : List Asked) (a : Asked) → IsStable a
+          → ask_child now tbf (again a.peeked ∷ []) b limit (again a.peeked) ≡ waits tbf (again a.peeked ∷ []) (again a.peeked)
           → IsSecond (waits tbf below a) (again (waits tbf below a).peeked)
       waits-again below a h e =
           let c : Asked = again a.peeked in
@@ -94,7 +98,8 @@ module _ (now : ℕ) where
             peeked = ap₂ (λ (notes : List Note) (w : Worked). worked tbf (notes ++ []) (w ∷ [])) h.second.rises h.second.peeked;
           })
 
-      second-child : (below : List Asked) (a : Asked) → IsStable a → IsSecond (ask_child now tbf below b limit a) (again (ask_child now tbf below b limit a).peeked)
+      second-child : (below : List Asked) (a : Asked) → IsStable a
+          → IsSecond (ask_child now tbf below b limit a) (again (ask_child now tbf below b limit a).peeked)
       second-child below a h = by a.shown refl
         where
           answer : List Asked → Asked → Option Descriptor → Asked
@@ -111,6 +116,7 @@ module _ (now : ℕ) where
           by None is = let c : Asked = again a.peeked in waits-again below a h (ap (answer (c ∷ []) c) (h.second.shown ∙ is))
           by (Some p) is = may p (allows b now p.len) refl is
 
-      pub second-tbf : (below : List Asked) → AreStable below → IsSecond (ask_tbf now tbf below b limit) (again (ask_tbf now tbf below b limit).peeked)
+      pub second-tbf : (below : List Asked) → AreStable below
+          → IsSecond (ask_tbf now tbf below b limit) (again (ask_tbf now tbf below b limit).peeked)
       second-tbf [] h = record { shown = refl; rises = refl; peeked = refl }
       second-tbf (a ∷ below) h = second-child (a ∷ below) a h.0

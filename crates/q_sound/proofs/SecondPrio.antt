@@ -1,30 +1,18 @@
 -- A prio that is asked once more stops at the same band.
-use Rattle.std.proofs.Common.{◌≡◌, ℕ, zero, suc, List, [], ◌∷◌, ◌++◌, map, take, drop, ◌+◌, refl, sym, ap, ap₂, subst, ◌∙◌, Option, None, arith}
-use Rattle.std.specs.Prelude.{Bool, true, false, not, cond, slice_get, is_some, option_and_then, if◌then◌else◌}
-use Rattle.std.specs.List.{flat_map, position_or_len}
-use Rattle.q_packet.specs.Descriptor.{Descriptor}
+use Rattle.std.proofs.Common.{◌≡◌, ℕ, suc, List, [], ◌∷◌, ◌++◌, map, ◌+◌, refl, sym, ap, ap₂, subst, ◌∙◌, Option, None, arith}
+use Rattle.std.specs.Prelude.{Bool, true, false, not, cond, is_some}
+use Rattle.std.specs.List.{position_or_len}
 use Rattle.q_model.specs.declared.filter.Filter.{Filter}
 use Rattle.q_model.specs.Tally.{Note}
 use Rattle.q_model.specs.Node.{Prio, Own}
 use Rattle.q_model.specs.Work.{Worked, worked}
 use Rattle.q_model.specs.Ask.{Asked, befores, showing, ask_prio}
-use Rattle.q_sound.proofs.SecondPeek.{IsSecond, again, IsStable, AreStable, again-worked, again-befores, second-by, node}
+use Rattle.q_sound.proofs.AskPrio.{peeked_to, taken_at, notes_to, packet_at}
+use Rattle.q_sound.proofs.SecondPeek.{IsSecond, again, IsStable, AreStable, again-worked, second-by, node}
 
 -- the first band that shows a packet
 abbrev ready : List Asked → ℕ
 ready below = position_or_len (λ (a : Asked). is_some a.shown) below
-
-abbrev peeked_to : ℕ → List Asked → List Worked
-peeked_to k below = map (λ (a : Asked). a.peeked) (take k below) ++ map (λ (a : Asked). a.peeked) (drop k (take (suc k) below)) ++ befores (drop (suc k) below)
-
-abbrev taken_at : ℕ → List Asked → List Worked
-taken_at k below = map (λ (a : Asked). a.peeked) (take k below) ++ map (λ (a : Asked). a.taken) (drop k (take (suc k) below)) ++ befores (drop (suc k) below)
-
-abbrev notes_to : ℕ → List Asked → List Note
-notes_to k below = flat_map (λ (a : Asked). a.rises) (take (suc k) below)
-
-abbrev packet_at : ℕ → List Asked → Option Descriptor
-packet_at k below = option_and_then (λ (a : Asked). a.shown) (slice_get below k)
 
 -- the bands once more, where those up to this one were asked
 record IsSame (k : ℕ) (below bands : List Asked) : Type 0 where
@@ -44,7 +32,8 @@ module _ (now : ℕ) where
   bands k below = map (again now) (peeked_to k below)
 
   -- the band that shows a packet, and those behind it
-  same-here : (a : Asked) (below : List Asked) → IsStable now a → AreStable now below → is_some a.shown ≡ true → IsSame 0 (a ∷ below) (bands 0 (a ∷ below))
+  same-here : (a : Asked) (below : List Asked) → IsStable now a → AreStable now below → is_some a.shown ≡ true
+      → IsSame 0 (a ∷ below) (bands 0 (a ∷ below))
   same-here a below h all e = record {
     place = ready-here (again now a.peeked) (map (again now) (befores below)) (ap is_some h.second.shown ∙ e);
     rises = ap (λ (ns : List Note). ns ++ []) h.second.rises;
@@ -52,7 +41,8 @@ module _ (now : ℕ) where
     packet = h.second.shown;
   }
 
-  same-later : (a : Asked) (below : List Asked) (k : ℕ) → IsStable now a → is_some a.shown ≡ false → IsSame k below (bands k below) → IsSame (suc k) (a ∷ below) (bands (suc k) (a ∷ below))
+  same-later : (a : Asked) (below : List Asked) (k : ℕ) → IsStable now a → is_some a.shown ≡ false
+      → IsSame k below (bands k below) → IsSame (suc k) (a ∷ below) (bands (suc k) (a ∷ below))
   same-later a below k h e rest = record {
     place = ready-later (again now a.peeked) (bands k below) (ap is_some h.second.shown ∙ e) ∙ ap suc rest.place;
     rises = ap₂ (λ (xs ys : List Note). xs ++ ys) h.second.rises rest.rises;
@@ -67,7 +57,8 @@ module _ (now : ℕ) where
       P : ℕ → Type 0
       P k = IsSame k (a ∷ below) (bands k (a ∷ below))
 
-      by : (t : Bool) → is_some a.shown ≡ t → IsSame (ready below) below (bands (ready below) below) → P (ready (a ∷ below))
+      by : (t : Bool) → is_some a.shown ≡ t → IsSame (ready below) below (bands (ready below) below)
+          → P (ready (a ∷ below))
       by true e rest = subst P (sym (ready-here a below e)) (same-here a below h.0 h.1 e)
       by false e rest = subst P (sym (ready-later a below e)) (same-later a below (ready below) h.0 e rest)
 
@@ -78,7 +69,8 @@ module _ (now : ℕ) where
     abbrev prio_at : ℕ → List Asked → Asked
     prio_at k below = showing below (record { own = prio; own_taken = prio; peeked = peeked_to k below; taken = taken_at k below; notes = notes_to k below; packet = packet_at k below })
 
-    pub second-prio : (below : List Asked) → AreStable now below → IsSecond (ask_prio prio below) (again now (ask_prio prio below).peeked)
+    pub second-prio : (below : List Asked) → AreStable now below
+        → IsSecond (ask_prio prio below) (again now (ask_prio prio below).peeked)
     second-prio below h =
         let k : ℕ = ready below in
         let bs : List Asked = bands k below in

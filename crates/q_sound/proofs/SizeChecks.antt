@@ -54,7 +54,8 @@ module _ (root : Shape) (levels : depth root ≤ most_levels) where
         ])
         (λ lt. omega (arith, size.least))
 
-    many : (nodes : ℕ) → nodes + count_nodes old ≡ count_nodes root + count_nodes (f old) → nat_lt most_nodes (count_nodes after) ≡ nat_lt most_nodes nodes
+    many : (nodes : ℕ) → nodes + count_nodes old ≡ count_nodes root + count_nodes (f old)
+        → nat_lt most_nodes (count_nodes after) ≡ nat_lt most_nodes nodes
     many nodes e = ap (nat_lt most_nodes) {x = count_nodes after} {y = nodes} (omega (arith, size.count))
 
     pub sized : (nodes : ℕ) → nodes + count_nodes old ≡ count_nodes root + count_nodes (f old)
@@ -62,14 +63,16 @@ module _ (root : Shape) (levels : depth root ≤ most_levels) where
     sized nodes e = ap₂ (λ (s t : Bool). done_unless (refuse TooDeep s ∷ refuse TooMany t ∷ []) edit) deep (many nodes e)
 
     -- a node that is no deeper than the one before
-    pub numbered : (nodes : ℕ) → depth (f old) ≤ depth old → nodes + count_nodes old ≡ count_nodes root + count_nodes (f old)
+    pub numbered : (nodes : ℕ) → depth (f old) ≤ depth old
+        → nodes + count_nodes old ≡ count_nodes root + count_nodes (f old)
         → done_unless (size_checks after) edit ≡ done_unless (numbers nodes) edit
     numbered nodes le e =
         let within = sized-within path root old there in
         ap₂ (λ (s t : Bool). done_unless (refuse TooDeep s ∷ refuse TooMany t ∷ []) edit)
         (le-ltb most_levels (depth after) (size.most most_levels levels (omega (arith, within.0)))) (many nodes e)
 
-    pub never : count_nodes root ≤ most_nodes → depth (f old) ≤ depth old → count_nodes (f old) ≤ count_nodes old → done_unless (size_checks after) edit ≡ Ok edit
+    pub never : count_nodes root ≤ most_nodes → depth (f old) ≤ depth old → count_nodes (f old) ≤ count_nodes old
+        → done_unless (size_checks after) edit ≡ Ok edit
     never few le fewer =
         let within = sized-within path root old there in
         ap₂ (λ (s t : Bool). done_unless (refuse TooDeep s ∷ refuse TooMany t ∷ []) edit)
@@ -78,7 +81,8 @@ module _ (root : Shape) (levels : depth root ≤ most_levels) where
 
   -- ---- a node in place of another
 
-  pub checked-graft : (path : List ℕ) (new old : Shape) (nodes : ℕ) → node_at path root ≡ Some old → nodes + count_nodes old ≡ count_nodes root + count_nodes new
+  pub checked-graft : (path : List ℕ) (new old : Shape) (nodes : ℕ) → node_at path root ≡ Some old
+      → nodes + count_nodes old ≡ count_nodes root + count_nodes new
       → checked root (Graft path new) ≡ done_unless (sizes (length path + depth new) nodes) (Graft path new)
   checked-graft path new old nodes there e =
       sized (λ n. blank nothing new) path old there (Graft path new) nodes (omega (arith, count-blank new))
@@ -86,24 +90,28 @@ module _ (root : Shape) (levels : depth root ≤ most_levels) where
 
   module _ (few : count_nodes root ≤ most_nodes) where
     -- a node alone
-    pub checked-one : (path : List ℕ) (new old : Shape) → node_at path root ≡ Some old → depth new ≡ 1 → count_nodes new ≡ 1 → checked root (Graft path new) ≡ Ok (Graft path new)
+    pub checked-one : (path : List ℕ) (new old : Shape) → node_at path root ≡ Some old → depth new ≡ 1
+        → count_nodes new ≡ 1 → checked root (Graft path new) ≡ Ok (Graft path new)
     checked-one path new old there one alone =
         never (λ n. blank nothing new) path old there (Graft path new) few (omega (arith, depth-blank new)) (omega (arith, count-blank new))
 
     -- ---- a node with other settings and children
 
     module _ (path : List ℕ) (old : Shape) (there : node_at path root ≡ Some old) where
-      no_larger : (own : Own) (below : List Child) → IsNoLarger old (with_children own old below) → checked root (Remake path own below) ≡ Ok (Remake path own below)
+      no_larger : (own : Own) (below : List Child) → IsNoLarger old (with_children own old below)
+          → checked root (Remake path own below) ≡ Ok (Remake path own below)
       no_larger own below h = never (λ n. with_children own n below) path old there (Remake path own below) few h.depth_is h.count_is
 
-      pub checked-kept : (own : Own) → checked root (Remake path own (all_kept old)) ≡ Ok (Remake path own (all_kept old))
+      pub checked-kept : (own : Own)
+          → checked root (Remake path own (all_kept old)) ≡ Ok (Remake path own (all_kept old))
       checked-kept own = no_larger own (all_kept old) (kept-sizes own old)
 
       -- the same discipline otherwise set, and other filters
       pub checked-retuned : (d : Discipline) → checked root (retuned old path d) ≡ Ok (retuned old path d)
       checked-retuned d = checked-kept (record old.own { discipline = d })
 
-      pub checked-filters : (filters : List Filter) → checked root (with_filters path old filters) ≡ Ok (with_filters path old filters)
+      pub checked-filters : (filters : List Filter)
+          → checked root (with_filters path old filters) ≡ Ok (with_filters path old filters)
       checked-filters filters = checked-kept (record old.own { filters = filters })
 
       -- a tbf, which has one child
@@ -114,13 +122,15 @@ module _ (root : Shape) (levels : depth root ≤ most_levels) where
           no_larger own (map (leaf_of_tbf bytes) (children old)) (bucket-sizes bytes own old one)
 
       -- a drr with a class less
-      pub checked-without_class : (i : ℕ) (s : Schedule) → checked root (without_class i path old s) ≡ Ok (without_class i path old s)
+      pub checked-without_class : (i : ℕ) (s : Schedule)
+          → checked root (without_class i path old s) ≡ Ok (without_class i path old s)
       checked-without_class i s =
           let own : Own = record old.own { discipline = Drr s } in
           no_larger own (remove (all_kept old) i) (removed-sizes own old i)
 
     -- a prio with a band at least: it gets no deeper, and bands that go take along what is beneath them
-    pub checked-rebanded : (d : Device) (path : List ℕ) (old : Shape) (bands : ℕ) (priomap : List ℕ) (nodes : ℕ) → node_at path root ≡ Some old → 1 ≤ length (children old)
+    pub checked-rebanded : (d : Device) (path : List ℕ) (old : Shape) (bands : ℕ) (priomap : List ℕ) (nodes : ℕ)
+        → node_at path root ≡ Some old → 1 ≤ length (children old)
         → nodes + sum (counts (drop bands (children old))) ≡ count_nodes root + (bands - length (children old))
         → checked root (rebanded d old path bands priomap) ≡ done_unless (numbers nodes) (rebanded d old path bands priomap)
     checked-rebanded d path old bands priomap nodes there some e =
@@ -129,8 +139,10 @@ module _ (root : Shape) (levels : depth root ≤ most_levels) where
         numbered (λ n. with_children own n below) path old there (rebanded d old path bands priomap) nodes (bands-depth own old d bands some)
         (omega (arith, bands-count own old d bands))
 
-    pub checked-fewer_bands : (d : Device) (path : List ℕ) (old : Shape) (bands : ℕ) (priomap : List ℕ) → node_at path root ≡ Some old → 1 ≤ length (children old)
-        → bands ≤ length (children old) → checked root (rebanded d old path bands priomap) ≡ Ok (rebanded d old path bands priomap)
+    pub checked-fewer_bands : (d : Device) (path : List ℕ) (old : Shape) (bands : ℕ) (priomap : List ℕ)
+        → node_at path root ≡ Some old → 1 ≤ length (children old)
+        → bands ≤ length (children old)
+        → checked root (rebanded d old path bands priomap) ≡ Ok (rebanded d old path bands priomap)
     checked-fewer_bands d path old bands priomap there some fewer =
         let own : Own = record old.own { discipline = Prio priomap } in
         let below : List Child = front_and_new (min (length (children old)) bands) (bands - length (children old)) (implicit_pfifo d) in

@@ -31,7 +31,8 @@ use Rattle.q_sound.proofs.SizedPlans.{then_checked, then-done, then-never, then-
 
 -- ---- a node of a lawful tree
 
-pub node-lawful : (mtu now : ℕ) (path : List ℕ) (root n : Shape) → IsLawfulRoot mtu now root → node_at path root ≡ Some n → IsLawfulRoot mtu now n
+pub node-lawful : (mtu now : ℕ) (path : List ℕ) (root n : Shape) → IsLawfulRoot mtu now root
+    → node_at path root ≡ Some n → IsLawfulRoot mtu now n
 node-lawful mtu now [] root n h e = subst (IsLawfulRoot mtu now) (same_Some root n e) h
 node-lawful mtu now (i ∷ path) root n h e =
     let d : Down i path root n = down i path root n e in
@@ -72,7 +73,8 @@ module _ (root : Shape) (levels : depth root ≤ most_levels) (few : count_nodes
         then-never root (flows_check o.flows s.settings.flows) (retuned n path new) (checked-retuned root levels few path n there new)
     change-checked was k h = refl
 
-  pub plan-qdisc_change : (mtu clock : ℕ) → IsLawfulRoot mtu clock root → (place : Option Place) (handle : Option ℕ) (k : Kind)
+  pub plan-qdisc_change : (mtu clock : ℕ) → IsLawfulRoot mtu clock root
+      → (place : Option Place) (handle : Option ℕ) (k : Kind)
       → plan d now (QdiscChange place handle k) root ≡ at_target NoQdisc (target place handle root) (λ path n. change_sized d now root n path n.own.discipline k) root
   plan-qdisc_change mtu clock lawful place handle k =
       then-target root NoQdisc (target place handle root) (λ path n. change_of d now n path n.own.discipline k) (λ path n. change_sized d now root n path n.own.discipline k)

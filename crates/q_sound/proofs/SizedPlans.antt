@@ -34,7 +34,8 @@ then_checked root r = elim r [
 
 module _ (root : Shape) where
   -- the checks of size come behind the others
-  pub then-done : (checks more : List Check) (edit : Edit) → checked root edit ≡ done_unless more edit → then_checked root (done_unless checks edit) ≡ done_unless (checks ++ more) edit
+  pub then-done : (checks more : List Check) (edit : Edit) → checked root edit ≡ done_unless more edit
+      → then_checked root (done_unless checks edit) ≡ done_unless (checks ++ more) edit
   then-done [] more edit e = e
   then-done (c ∷ checks) more edit e = by c.holds (then-done checks more edit e)
     where
@@ -44,7 +45,8 @@ module _ (root : Shape) where
       by true rec = refl
       by false rec = rec
 
-  pub then-never : (checks : List Check) (edit : Edit) → checked root edit ≡ Ok edit → then_checked root (done_unless checks edit) ≡ done_unless checks edit
+  pub then-never : (checks : List Check) (edit : Edit) → checked root edit ≡ Ok edit
+      → then_checked root (done_unless checks edit) ≡ done_unless checks edit
   then-never [] edit e = e
   then-never (c ∷ checks) edit e = by c.holds (then-never checks edit e)
     where
@@ -60,11 +62,13 @@ module _ (root : Shape) where
   then-target refusal None f g h = refl
   then-target refusal (Some path) f g h = by (node_at path root) refl
     where
-      by : (o : Option Shape) → node_at path root ≡ o → then_checked root (option_map_or (f path) o (Err refusal)) ≡ option_map_or (g path) o (Err refusal)
+      by : (o : Option Shape) → node_at path root ≡ o
+          → then_checked root (option_map_or (f path) o (Err refusal)) ≡ option_map_or (g path) o (Err refusal)
       by None e = refl
       by (Some n) e = h path n e
 
-  then-schedule : (f g : Schedule → Result Edit NotDone) → ((s : Schedule) → then_checked root (f s) ≡ g s) → (d : Discipline) → then_checked root (of_schedule f d) ≡ of_schedule g d
+  then-schedule : (f g : Schedule → Result Edit NotDone) → ((s : Schedule) → then_checked root (f s) ≡ g s)
+      → (d : Discipline) → then_checked root (of_schedule f d) ≡ of_schedule g d
   then-schedule f g h (Drr s) = h s
   then-schedule f g h (Fifo limit queue) = refl
   then-schedule f g h (FqCodel s) = refl
@@ -87,7 +91,8 @@ module _ (root : Shape) where
   module _ (levels : depth root ≤ most_levels) (few : count_nodes root ≤ most_nodes) (d : Device) (now : ℕ) where
     -- ---- commands that make no tree larger
 
-    pub plan-filter_add : (parent major : ℕ) (f : Filter) → plan d now (FilterAdd parent major f) root ≡ filter_add parent major f root
+    pub plan-filter_add : (parent major : ℕ) (f : Filter)
+        → plan d now (FilterAdd parent major f) root ≡ filter_add parent major f root
     plan-filter_add parent major f =
         then-target NoQdisc (path_of parent root) (filter_added parent major f) (filter_added parent major f)
         (λ path n e. then-never (filter_add_checks parent major f n) (with_filters path n (with_filter f n.own.filters)) (checked-filters root levels few path n e (with_filter f n.own.filters)))
@@ -99,14 +104,16 @@ module _ (root : Shape) where
         let left : List Filter = filter (λ f. not (has_prio prio f)) n.own.filters in
         then-never (filter_del_checks prio n) (with_filters path n left) (checked-filters root levels few path n e left))
 
-    pub plan-class_change : (parent : Option ℕ) (class : ClassId) (quantum : Option ℕ) → plan d now (ClassChange parent class quantum) root ≡ class_change parent class quantum root
+    pub plan-class_change : (parent : Option ℕ) (class : ClassId) (quantum : Option ℕ)
+        → plan d now (ClassChange parent class quantum) root ≡ class_change parent class quantum root
     plan-class_change parent class quantum =
         then-drr parent class (class_changed class quantum) (class_changed class quantum)
         (λ path n s e.
         let new : Discipline = Drr (with_new_quantum class quantum s) in
         then-never (class_change_checks class n) (retuned n path new) (checked-retuned root levels few path n e new))
 
-    pub plan-class_del : (parent : Option ℕ) (class : ClassId) → plan d now (ClassDel parent class) root ≡ class_del parent class root
+    pub plan-class_del : (parent : Option ℕ) (class : ClassId)
+        → plan d now (ClassDel parent class) root ≡ class_del parent class root
     plan-class_del parent class =
         then-drr parent class (class_removed class) (class_removed class)
         (λ path n s e.
@@ -124,12 +131,14 @@ module _ (root : Shape) where
         implicit (Drr s) = (refl, refl)
         implicit (FqCodel s) = (refl, refl)
 
-        of_parent : (o : Option Shape) → (depth (option_map_or (λ (parent : Shape). implicit_beneath d parent.own.discipline) o (implicit_pfifo d)) ≡ 1)
+        of_parent : (o : Option Shape)
+            → (depth (option_map_or (λ (parent : Shape). implicit_beneath d parent.own.discipline) o (implicit_pfifo d)) ≡ 1)
             × (count_nodes (option_map_or (λ (parent : Shape). implicit_beneath d parent.own.discipline) o (implicit_pfifo d)) ≡ 1)
         of_parent None = (refl, refl)
         of_parent (Some parent) = implicit parent.own.discipline
 
-    pub plan-qdisc_del : (place : Option Place) (handle : Option ℕ) → plan d now (QdiscDel place handle) root ≡ qdisc_del d place handle root
+    pub plan-qdisc_del : (place : Option Place) (handle : Option ℕ)
+        → plan d now (QdiscDel place handle) root ≡ qdisc_del d place handle root
     plan-qdisc_del place handle =
         let f : List ℕ → Shape → Result Edit NotDone = λ path n. Ok (Graft path (leaf_at d path root)) in
         then-target NoQdisc (target place handle root) f f
@@ -151,7 +160,8 @@ module _ (root : Shape) where
 
     -- ---- a new qdisc, in place of this node
 
-    pub plan-qdisc_add : (place : Place) (handle : Option ℕ) (k : Kind) (old : Shape) (nodes : ℕ) → node_at (unwrap_or (place_path place root) []) root ≡ Some old
+    pub plan-qdisc_add : (place : Place) (handle : Option ℕ) (k : Kind) (old : Shape) (nodes : ℕ)
+        → node_at (unwrap_or (place_path place root) []) root ≡ Some old
         → nodes + count_nodes old ≡ count_nodes root + count_nodes (new_qdisc d now handle k root)
         → plan d now (QdiscAdd place handle k) root
         ≡ done_unless (qdisc_add_checks place handle (unwrap_or (place_path place root) []) root ++ sizes (length (unwrap_or (place_path place root) []) + depth (new_qdisc d now handle k root)) nodes)
