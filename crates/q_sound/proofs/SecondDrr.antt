@@ -27,7 +27,7 @@ use Rattle.q_sound.proofs.AskClasses.{peeked_by}
 use Rattle.q_sound.proofs.DrrService.{IsMetAt, met-asked}
 use Rattle.q_sound.proofs.EditClasses.{class_known}
 use Rattle.q_sound.proofs.EditClassPlans.{position_of}
-use Rattle.q_sound.proofs.SecondPeek.{IsSecond, again, AreStable, again-worked, second-by, node, second-dequeued}
+use Rattle.q_sound.proofs.SecondPeek.{Repeats, again, AreStable, again-worked, second-by, node, second-dequeued}
 use Rattle.q_sound.proofs.SecondClasses.{rises_of, once_more, heads-again, rises-again, looked-again}
 
 -- the length of what the class that is met shows
@@ -218,7 +218,7 @@ module _ (now : ℕ) (handle : Option ℕ) (filters : List Filter) (s : Schedule
   drr t = node now handle filters (Drr t) None
 
   second-nothing : head_met s below ≡ None
-      → IsSecond (gives_nothing (drr s) below (service_of s below)) (again now (gives_nothing (drr s) below (service_of s below)).peeked)
+      → Repeats now (gives_nothing (drr s) below (service_of s below))
   second-nothing e =
       let a : Asked = gives_nothing (drr s) below (service_of s below) in
       let h : IsIdle = idle e in
@@ -227,14 +227,14 @@ module _ (now : ℕ) (handle : Option ℕ) (filters : List Filter) (s : Schedule
       ∙ nothing-given (drr left) left children h.head ∙ ap (gives_nothing (drr left) children) h.service)
       (record { shown = refl; rises = refl; peeked = refl })
 
-  pub second-drr : IsSecond (ask_drr (drr s) below s) (again now (ask_drr (drr s) below s).peeked)
+  pub second-drr : Repeats now (ask_drr (drr s) below s)
   second-drr = by (place_met s below) refl
     where
       v : Service
       v = service_of s below
 
       P : Asked → Type 0
-      P a = IsSecond a (again now a.peeked)
+      P a = Repeats now a
 
       nothing : Asked
       nothing = gives_nothing (drr s) below v

@@ -27,7 +27,7 @@ use Rattle.q_model.specs.Beneath.{packets_of}
 use Rattle.q_model.specs.Work.{losses_of}
 use Rattle.q_model.specs.Ask.{Asked, befores, dequeued, marks_of, ask_fq_codel}
 use Rattle.q_model.specs.Quanta.{flows_granted, flow_gave, flow_notes}
-use Rattle.q_sound.proofs.SecondPeek.{IsSecond, again, AreStable, again-quiet, second-by, node, second-dequeued}
+use Rattle.q_sound.proofs.SecondPeek.{Repeats, again, AreStable, again-quiet, second-by, node, second-dequeued}
 
 -- ---- the selection leaves in front a flow with packets, or none
 
@@ -164,7 +164,7 @@ module _ (z : FqState) (new : z.fresh ≡ []) (old : z.stale ≡ []) where
 
 module _ (now : ℕ) (handle : Option ℕ) (filters : List Filter) where
   pub second-fq_codel : (s : FqState) (below : List Asked) → IsLawful s → 1 ≤ s.settings.quantum → AreStable now below
-      → IsSecond (ask_fq_codel now (node now handle filters (FqCodel s) None) below s) (again now (ask_fq_codel now (node now handle filters (FqCodel s) None) below s).peeked)
+      → Repeats now (ask_fq_codel now (node now handle filters (FqCodel s) None) below s)
   second-fq_codel s below lawful positive h = by (given sent) refl
     where
       own : Own
@@ -182,7 +182,7 @@ module _ (now : ℕ) (handle : Option ℕ) (filters : List Filter) where
       answer : Option Descriptor → Asked
       answer o = dequeued own below (record { after = record own { discipline = FqCodel after }; children = befores below; rises = rises; mine = flow_notes s (selected s) sent; packet = o })
 
-      by : (o : Option Descriptor) → given sent ≡ o → IsSecond (answer o) (again now (answer o).peeked)
+      by : (o : Option Descriptor) → given sent ≡ o → Repeats now (answer o)
       by (Some p) e = second-dequeued now handle filters own below (FqCodel after) (befores below) rises (flow_notes s (selected s) sent) p
       by None e =
           let chosen : IsLawful (selected s) = (take_keeps_lawful s now lawful positive).0 in

@@ -24,10 +24,14 @@ module _ (now : ℕ) where
   abbrev pub again : Worked → Asked
   again w = from_below (ask_own now) w
 
+  -- a node that answers so once more where the first asking left it
+  abbrev pub Repeats : Asked → Type 0
+  Repeats a = IsSecond a (again a.peeked)
+
   -- a node that was not asked answers so still, and one that was asked does not change any more
   pub record IsStable (a : Asked) : Type 0 where
     pub same : again a.before ≡ a
-    pub second : IsSecond a (again a.peeked)
+    pub second : Repeats a
 
   abbrev pub AreStable : List Asked → Type 0
   AreStable [] = Unit {0}
@@ -52,7 +56,7 @@ module _ (now : ℕ) where
   -- ---- a node that shows what it has at hand
 
   -- it answers just so again
-  pub second-same : (a : Asked) → again a.peeked ≡ a → a.rises ≡ [] → a.peeked ≡ a.before → IsSecond a (again a.peeked)
+  pub second-same : (a : Asked) → again a.peeked ≡ a → a.rises ≡ [] → a.peeked ≡ a.before → Repeats a
   second-same a e rises peeked = second-by a (again a.peeked) a e (record { shown = refl; rises = rises; peeked = peeked })
 
   module _ (handle : Option ℕ) (filters : List Filter) where
@@ -60,18 +64,18 @@ module _ (now : ℕ) where
     node d held = record { handle = handle; discipline = d; held = held; filters = filters }
 
     pub second-holding : (d : Discipline) (below : List Asked) (p : Descriptor) → AreStable below
-        → IsSecond (holding (node d (Some p)) below p) (again (holding (node d (Some p)) below p).peeked)
+        → Repeats (holding (node d (Some p)) below p)
     second-holding d below p h = second-same (holding (node d (Some p)) below p) (again-quiet (node d (Some p)) [] below h) refl refl
 
     pub second-fifo : (limit : Limit) (queue : List Stamped) (below : List Asked) → AreStable below
-        → IsSecond (ask_fifo (node (Fifo limit queue) None) below limit queue) (again (ask_fifo (node (Fifo limit queue) None) below limit queue).peeked)
+        → Repeats (ask_fifo (node (Fifo limit queue) None) below limit queue)
     second-fifo limit queue below h =
         second-same (ask_fifo (node (Fifo limit queue) None) below limit queue) (again-quiet (node (Fifo limit queue) None) [] below h) refl refl
 
     -- ---- a node that has dequeued a packet holds it
 
     pub second-dequeued : (own : Own) (below : List Asked) (d : Discipline) (children : List Worked) (rises mine : List Note) (p : Descriptor)
-        → (let a : Asked = dequeued own below (record { after = node d None; children = children; rises = rises; mine = mine; packet = Some p }) in IsSecond a (again a.peeked))
+        → (let a : Asked = dequeued own below (record { after = node d None; children = children; rises = rises; mine = mine; packet = Some p }) in Repeats a)
     second-dequeued own below d children rises mine p =
         let a : Asked = dequeued own below (record { after = node d None; children = children; rises = rises; mine = mine; packet = Some p }) in
         second-by a (again a.peeked) (holding (node d (Some p)) (map again children) p)
@@ -87,7 +91,7 @@ module _ (now : ℕ) where
       -- a tbf that waits, waits once more
       waits-again : (below : List Asked) (a : Asked) → IsStable a
           → ask_child now tbf (again a.peeked ∷ []) b limit (again a.peeked) ≡ waits tbf (again a.peeked ∷ []) (again a.peeked)
-          → IsSecond (waits tbf below a) (again (waits tbf below a).peeked)
+          → Repeats (waits tbf below a)
       waits-again below a h e =
           let c : Asked = again a.peeked in
           second-by (waits tbf below a) (again (waits tbf below a).peeked) (waits tbf (c ∷ []) c)
@@ -99,24 +103,24 @@ module _ (now : ℕ) where
           })
 
       second-child : (below : List Asked) (a : Asked) → IsStable a
-          → IsSecond (ask_child now tbf below b limit a) (again (ask_child now tbf below b limit a).peeked)
+          → Repeats (ask_child now tbf below b limit a)
       second-child below a h = by a.shown refl
         where
           answer : List Asked → Asked → Option Descriptor → Asked
           answer bs c o = option_map_or (λ (p : Descriptor). if allows b now p.len then spends tbf bs b limit now c p else waits tbf bs c) o (waits tbf bs c)
 
           may : (p : Descriptor) (t : Bool) → allows b now p.len ≡ t → a.shown ≡ Some p
-              → (let x : Asked = if t then spends tbf below b limit now a p else waits tbf below a in IsSecond x (again x.peeked))
+              → (let x : Asked = if t then spends tbf below b limit now a p else waits tbf below a in Repeats x)
           may p true e is = second-dequeued tbf below (Tbf (after_spend b now p.len) limit) (a.taken ∷ []) a.rises (Spent p.len ∷ []) p
           may p false e is =
               let c : Asked = again a.peeked in
               waits-again below a h (ap (answer (c ∷ []) c) (h.second.shown ∙ is) ∙ ap (λ (t : Bool). if t then spends tbf (c ∷ []) b limit now c p else waits tbf (c ∷ []) c) e)
 
-          by : (o : Option Descriptor) → a.shown ≡ o → (let x : Asked = answer below a o in IsSecond x (again x.peeked))
+          by : (o : Option Descriptor) → a.shown ≡ o → (let x : Asked = answer below a o in Repeats x)
           by None is = let c : Asked = again a.peeked in waits-again below a h (ap (answer (c ∷ []) c) (h.second.shown ∙ is))
           by (Some p) is = may p (allows b now p.len) refl is
 
       pub second-tbf : (below : List Asked) → AreStable below
-          → IsSecond (ask_tbf now tbf below b limit) (again (ask_tbf now tbf below b limit).peeked)
+          → Repeats (ask_tbf now tbf below b limit)
       second-tbf [] h = record { shown = refl; rises = refl; peeked = refl }
       second-tbf (a ∷ below) h = second-child (a ∷ below) a h.0

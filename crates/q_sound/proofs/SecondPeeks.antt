@@ -26,7 +26,7 @@ use Rattle.q_sound.proofs.Exact.{exact-length}
 use Rattle.q_sound.proofs.DrrService.{heads-fit}
 use Rattle.q_sound.proofs.Asks.{before-is, before-root, beneath-befores, forest-answers, ask-answers}
 use Rattle.q_sound.proofs.EditLater.{root-later}
-use Rattle.q_sound.proofs.SecondPeek.{IsSecond, again, IsStable, AreStable, again-quiet, node, second-holding, second-fifo, second-tbf}
+use Rattle.q_sound.proofs.SecondPeek.{IsSecond, Repeats, again, IsStable, AreStable, again-quiet, node, second-holding, second-fifo, second-tbf}
 use Rattle.q_sound.proofs.SecondPrio.{second-prio}
 use Rattle.q_sound.proofs.SecondDrr.{second-drr}
 use Rattle.q_sound.proofs.SecondFlow.{second-fq_codel}
@@ -38,7 +38,7 @@ module _ (mtu now : ℕ) (least : 1 ≤ mtu) (low : now ≤ 2 ^ 62) where
   drr-second : (handle : Option ℕ) (filters : List Filter) (s : Schedule) (below : List Asked)
       → IsLawfulOwn mtu now (node now handle filters (Drr s) None) (map beneath (befores below))
       → AreAnswers mtu now below → AreStable now below
-      → IsSecond (ask_own now (node now handle filters (Drr s) None) below) (again now (ask_own now (node now handle filters (Drr s) None) below).peeked)
+      → Repeats now (ask_own now (node now handle filters (Drr s) None) below)
   drr-second handle filters s below h all stable =
       let same : length s.classes ≡ length below =
       omega (arith, exact-length (λ n. is_active n s.active) s.classes (map beneath (befores below)) h.discipline.exact, length-map (befores below) beneath, length-map below (λ (a : Asked). a.before)) in
@@ -48,7 +48,7 @@ module _ (mtu now : ℕ) (least : 1 ≤ mtu) (low : now ≤ 2 ^ 62) where
 
   node-second : (handle : Option ℕ) (filters : List Filter) (held : Option Descriptor) (d : Discipline) (below : List Asked)
       → (let own : Own = node now handle filters d held in
-      IsLawfulOwn mtu now own (map beneath (befores below)) → AreAnswers mtu now below → AreStable now below → IsSecond (ask_own now own below) (again now (ask_own now own below).peeked))
+      IsLawfulOwn mtu now own (map beneath (befores below)) → AreAnswers mtu now below → AreStable now below → Repeats now (ask_own now own below))
   node-second handle filters (Some p) d below h all stable = second-holding now handle filters d below p stable
   node-second handle filters None (Fifo limit queue) below h all stable = second-fifo now handle filters limit queue below stable
   node-second handle filters None (Prio priomap) below h all stable = second-prio now handle filters priomap below stable

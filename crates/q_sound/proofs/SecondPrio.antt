@@ -8,7 +8,7 @@ use Rattle.q_model.specs.Node.{Prio, Own}
 use Rattle.q_model.specs.Work.{Worked, worked}
 use Rattle.q_model.specs.Ask.{Asked, befores, showing, ask_prio}
 use Rattle.q_sound.proofs.AskPrio.{peeked_to, taken_at, notes_to, packet_at}
-use Rattle.q_sound.proofs.SecondPeek.{IsSecond, again, IsStable, AreStable, again-worked, second-by, node}
+use Rattle.q_sound.proofs.SecondPeek.{Repeats, again, IsStable, AreStable, again-worked, second-by, node}
 
 -- the first band that shows a packet
 abbrev ready : List Asked → ℕ
@@ -70,7 +70,7 @@ module _ (now : ℕ) where
     prio_at k below = showing below (record { own = prio; own_taken = prio; peeked = peeked_to k below; taken = taken_at k below; notes = notes_to k below; packet = packet_at k below })
 
     pub second-prio : (below : List Asked) → AreStable now below
-        → IsSecond (ask_prio prio below) (again now (ask_prio prio below).peeked)
+        → Repeats now (ask_prio prio below)
     second-prio below h =
         let k : ℕ = ready below in
         let bs : List Asked = bands k below in
