@@ -83,6 +83,9 @@ pub mod SizedPlans
 pub mod Sound
 pub mod StepNodes
 pub mod Sums
+pub mod TakeAfterPeek
+pub mod TakeBands
+pub mod TakeJoined
 pub mod TakeTurns
 pub mod Told
 pub mod Ways

@@ -64,19 +64,20 @@ module _ (mtu now : ℕ) (least : 1 ≤ mtu) (low : now ≤ 2 ^ 62) where
     second = node-second own.handle own.filters own.held own.discipline below h all stable;
   }
 
-  forest-stable : (x : Forest (Unit {0})) → AllLawful mtu now x → AreStable now (each (ask_own now) x)
+  pub forest-stable : (x : Forest (Unit {0})) → AllLawful mtu now x → AreStable now (each (ask_own now) x)
   forest-stable none h = tt
   forest-stable (more own m below others) h = (
     own-stable own (each (ask_own now) below) (subst (IsLawfulOwn mtu now own) (sym (beneath-befores now below)) h.0) (forest-answers mtu now least low below h.1) (forest-stable below h.1),
     forest-stable others h.2,
   )
 
-  ask-stable : (s : Shape) → IsLawfulRoot mtu now s → IsStable now (ask now s)
+  pub ask-stable : (s : Shape) → IsLawfulRoot mtu now s → IsStable now (ask now s)
   ask-stable s h =
       own-stable s.own (each (ask_own now) s.below) (subst (IsLawfulOwn mtu now s.own) (sym (beneath-befores now s.below)) h.0) (forest-answers mtu now least low s.below h.1) (forest-stable s.below h.1)
 
 -- what remembers is asked as its shape is
-asked-shape : {M : Type 0} (now : ℕ) (n : Node M) → ask now (shape n) ≡ ask_own now n.own (each (ask_own now) n.below)
+pub asked-shape : {M : Type 0} (now : ℕ) (n : Node M)
+    → ask now (shape n) ≡ ask_own now n.own (each (ask_own now) n.below)
 asked-shape now n = ap (ask_own now n.own) (each-each_memory (ask_own now) (λ m. tt) n.below)
 
 -- ---- a whole tree
@@ -106,7 +107,7 @@ module _ {M : Type 0} (t : Tally M) (now : ℕ) (s : TreeState M) (least : 1 ≤
   abbrev root : Shape
   root = shape s.root
 
-  told : IsRootTold s.root (ask now root).peeked
+  pub told : IsRootTold s.root (ask now root).peeked
   told =
       let answer : IsAnswer s.device.mtu now (ask now root) = ask-answers s.device.mtu now least low root lawful in
       root-memory (λ m. tt) s.root (ask now root).peeked
@@ -166,7 +167,7 @@ lawful-shape t clock now s h later =
 
 -- one of histories
 module _ (clock now : ℕ) (s : TreeState (List Note)) (h : IsKeptTree clock s) (later : clock ≤ now) (low : now ≤ 2 ^ 62) where
-  kept-shape : IsLawfulRoot s.device.mtu now (shape s.root)
+  pub kept-shape : IsLawfulRoot s.device.mtu now (shape s.root)
   kept-shape = lawful-with_memory s.device.mtu now (λ m. tt) s.root (root-later clock now later s.device.mtu s.root h.lawful)
 
   pub kept-second_peek : peek_packet history now (peek_packet history now s) ≡ peek_packet history now s

@@ -11,24 +11,24 @@ use Rattle.q_sound.proofs.AskPrio.{peeked_to, taken_at, notes_to, packet_at}
 use Rattle.q_sound.proofs.SecondPeek.{Repeats, again, IsStable, AreStable, again-worked, second-by, node}
 
 -- the first band that shows a packet
-abbrev ready : List Asked → ℕ
+abbrev pub ready : List Asked → ℕ
 ready below = position_or_len (λ (a : Asked). is_some a.shown) below
 
 -- the bands once more, where those up to this one were asked
-record IsSame (k : ℕ) (below bands : List Asked) : Type 0 where
-  place : ready bands ≡ k
-  rises : notes_to k bands ≡ []
-  peeked : peeked_to k bands ≡ befores bands
-  packet : packet_at k bands ≡ packet_at k below
+pub record IsSame (k : ℕ) (below bands : List Asked) : Type 0 where
+  pub place : ready bands ≡ k
+  pub rises : notes_to k bands ≡ []
+  pub peeked : peeked_to k bands ≡ befores bands
+  pub packet : packet_at k bands ≡ packet_at k below
 
-ready-here : (a : Asked) (below : List Asked) → is_some a.shown ≡ true → ready (a ∷ below) ≡ 0
+pub ready-here : (a : Asked) (below : List Asked) → is_some a.shown ≡ true → ready (a ∷ below) ≡ 0
 ready-here a below e = ap (λ (t : Bool). cond (not t) (1 + ready below) 0) e
 
-ready-later : (a : Asked) (below : List Asked) → is_some a.shown ≡ false → ready (a ∷ below) ≡ suc (ready below)
+pub ready-later : (a : Asked) (below : List Asked) → is_some a.shown ≡ false → ready (a ∷ below) ≡ suc (ready below)
 ready-later a below e = ap (λ (t : Bool). cond (not t) (1 + ready below) 0) e ∙ omega arith
 
 module _ (now : ℕ) where
-  abbrev bands : ℕ → List Asked → List Asked
+  abbrev pub bands : ℕ → List Asked → List Asked
   bands k below = map (again now) (peeked_to k below)
 
   -- the band that shows a packet, and those behind it
@@ -50,7 +50,7 @@ module _ (now : ℕ) where
     packet = rest.packet;
   }
 
-  bands-same : (below : List Asked) → AreStable now below → IsSame (ready below) below (bands (ready below) below)
+  pub bands-same : (below : List Asked) → AreStable now below → IsSame (ready below) below (bands (ready below) below)
   bands-same [] h = record { place = refl; rises = refl; peeked = refl; packet = refl }
   bands-same (a ∷ below) h = by (is_some a.shown) refl (bands-same below h.1)
     where
@@ -63,21 +63,23 @@ module _ (now : ℕ) where
       by false e rest = subst P (sym (ready-later a below e)) (same-later a below (ready below) h.0 e rest)
 
   module _ (handle : Option ℕ) (filters : List Filter) (priomap : List ℕ) where
-    abbrev prio : Own
+    abbrev pub prio : Own
     prio = node now handle filters (Prio priomap) None
 
-    abbrev prio_at : ℕ → List Asked → Asked
+    abbrev pub prio_at : ℕ → List Asked → Asked
     prio_at k below = showing below (record { own = prio; own_taken = prio; peeked = peeked_to k below; taken = taken_at k below; notes = notes_to k below; packet = packet_at k below })
 
-    pub second-prio : (below : List Asked) → AreStable now below
-        → Repeats now (ask_prio prio below)
+    pub again-prio : (below : List Asked) → AreStable now below
+        → again now (ask_prio prio below).peeked ≡ prio_at (ready below) (bands (ready below) below)
+    again-prio below h =
+        let k : ℕ = ready below in
+        again-worked now prio (notes_to k below) (peeked_to k below) ∙ ap (λ (j : ℕ). prio_at j (bands k below)) (bands-same below h).place
+
+    pub second-prio : (below : List Asked) → AreStable now below → Repeats now (ask_prio prio below)
     second-prio below h =
         let k : ℕ = ready below in
-        let bs : List Asked = bands k below in
-        let same : IsSame k below bs = bands-same below h in
-        second-by now (ask_prio prio below) (again now (ask_prio prio below).peeked) (prio_at k bs)
-        (again-worked now prio (notes_to k below) (peeked_to k below) ∙ ap (λ (j : ℕ). prio_at j bs) same.place)
-        (record {
+        let same : IsSame k below (bands k below) = bands-same below h in
+        second-by now (ask_prio prio below) (again now (ask_prio prio below).peeked) (prio_at k (bands k below)) (again-prio below h) (record {
           shown = same.packet;
           rises = same.rises;
           peeked = ap₂ (λ (notes : List Note) (ws : List Worked). worked prio notes ws) same.rises same.peeked;
