@@ -33,22 +33,22 @@ pub record ArePassed (mtu now : ℕ) (below : List Asked) (peeked taken : List W
   pub as_many_peeked : length peeked ≡ length (befores below)
   pub as_many_taken : length taken ≡ length (befores below)
 
-abbrev passed : ℕ → List Asked → List Worked
+abbrev pub passed : ℕ → List Asked → List Worked
 passed k below = map (λ (a : Asked). a.peeked) (take k below)
 
-abbrev unasked : ℕ → List Asked → List Worked
+abbrev pub unasked : ℕ → List Asked → List Worked
 unasked k below = befores (drop (suc k) below)
 
-abbrev peeked_to : ℕ → List Asked → List Worked
+abbrev pub peeked_to : ℕ → List Asked → List Worked
 peeked_to k below = passed k below ++ map (λ (a : Asked). a.peeked) (drop k (take (suc k) below)) ++ unasked k below
 
-abbrev taken_at : ℕ → List Asked → List Worked
+abbrev pub taken_at : ℕ → List Asked → List Worked
 taken_at k below = passed k below ++ map (λ (a : Asked). a.taken) (drop k (take (suc k) below)) ++ unasked k below
 
-abbrev notes_to : ℕ → List Asked → List Note
+abbrev pub notes_to : ℕ → List Asked → List Note
 notes_to k below = flat_map (λ (a : Asked). a.rises) (take (suc k) below)
 
-abbrev packet_at : ℕ → List Asked → Option Descriptor
+abbrev pub packet_at : ℕ → List Asked → Option Descriptor
 packet_at k below = option_and_then (λ (a : Asked). a.shown) (slice_get below k)
 
 none-passed : (mtu now : ℕ) → ArePassed mtu now [] [] [] [] None

@@ -18,7 +18,7 @@ use Rattle.q_model.specs.Work.{Worked, worked, quiet, booked}
 use Rattle.q_model.specs.Ask.{Asked, befores, holding, dequeued, waits, spends, ask_child, ask_tbf, service_of, place_met, gives_nothing, class_gives, class_serves, ask_drr, ask_discipline, ask_own, ask}
 use Rattle.q_model.specs.TreeState.{TreeState, peek_packet, with_work, take_packet}
 use Rattle.q_model.proofs.ShrinkLemmas.{each-each_memory}
-use Rattle.q_sound.proofs.Weights.{IsQuiet, weigh, arrived-nil, sent-nil, lost-nil, dropped-nil, marked-nil, arrived-append, sent-append, lost-append, dropped-append, marked-append, arrived-given, sent-given, lost-given, dropped-given, marked-given}
+use Rattle.q_sound.proofs.Weights.{IsQuiet, weigh, arrived-append, sent-append, lost-append, dropped-append, marked-append, arrived-given, sent-given, lost-given, dropped-given, marked-given}
 use Rattle.q_sound.proofs.Kept.{AreCounted, AllLawful, IsLawfulRoot, IsCountedRoot, IsKeptTree}
 use Rattle.q_sound.proofs.Forests.{lawful-with_memory}
 use Rattle.q_sound.proofs.Told.{IsTold, IsRootTold, each-booked, counted-noted, booked-counted, booked-lawful, root-memory, LooksAtHandle, root-told, root-booked}
@@ -61,7 +61,7 @@ before-drr own below s = by (place_met s below)
     by None = refl
     by (Some i) = child i (slice_get below i)
 
-before-is : (now : ℕ) (own : Own) (below : List Asked) → (ask_own now own below).before ≡ worked own [] (befores below)
+pub before-is : (now : ℕ) (own : Own) (below : List Asked) → (ask_own now own below).before ≡ worked own [] (befores below)
 before-is now own below = by own.held own.discipline
   where
     discipline : (d : Discipline) → (ask_discipline now own below d).before ≡ worked own [] (befores below)
@@ -84,7 +84,7 @@ befores-forest now (more own m below others) =
 pub before-root : (now : ℕ) (s : Shape) → (ask now s).before ≡ quiet s
 before-root now s = before-is now s.own (each (ask_own now) s.below) ∙ ap (λ b. record { own = s.own; memory = []; below = b }) (befores-forest now s.below)
 
-beneath-befores : (now : ℕ) (x : Forest (Unit {0})) → map beneath (befores (each (ask_own now) x)) ≡ each beneath_own x
+pub beneath-befores : (now : ℕ) (x : Forest (Unit {0})) → map beneath (befores (each (ask_own now) x)) ≡ each beneath_own x
 beneath-befores now none = refl
 beneath-befores now (more own m below others) =
     ap₂ (λ a b. a ∷ b)

@@ -240,7 +240,7 @@ map-remove [] (suc i) = refl
 map-remove (n ∷ ns) zero = refl
 map-remove (n ∷ ns) (suc i) = ap (λ (o : List (List Descriptor)). beneath n ∷ o) (map-remove ns i)
 
-member_at : {X : Type 0} (xs : List X) (i : ℕ) → i < length xs → (x : X) × (slice_get xs i ≡ Some x)
+pub member_at : {X : Type 0} (xs : List X) (i : ℕ) → i < length xs → (x : X) × (slice_get xs i ≡ Some x)
 member_at [] i lt = absurd (omega arith)
 member_at (x ∷ xs) zero lt = (x, refl)
 member_at (x ∷ xs) (suc i) lt = member_at xs i (omega arith)

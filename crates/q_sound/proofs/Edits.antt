@@ -68,7 +68,7 @@ forgets_history = record { nothing = refl; one_more = λ m n. refl }
 shape_edited : (edit : Edit) (notes : List Note) (n : Node (List Note)) → shape (edited history notes edit n) ≡ edited nothing [] edit (shape n)
 shape_edited edit notes n = edited-stands history nothing (λ m. tt) forgets_history notes edit n ∙ any_notes notes edit (shape n)
 
-found_in_shape : {A : Type 0} (f : Own → List A → A) (n : Node (List Note)) → from_below f (shape n) ≡ from_below f n
+pub found_in_shape : {M A : Type 0} (f : Own → List A → A) (n : Node M) → from_below f (shape n) ≡ from_below f n
 found_in_shape f n = ap (f n.own) (each-each_memory f (λ m. tt) n.below)
 
 -- ---- what a plan says

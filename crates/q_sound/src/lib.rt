@@ -4,4 +4,9 @@
 //! nothing is made or lost at any node (`Weights`), that no node has marked more than it sent, dropped or holds, and that each
 //! node is lawful (`q_model`, `specs/Lawful.antt`). `Kept` puts these together; `Puts`, `Asks` and `Edits` are the three kinds
 //! of steps. The law over all lists of events is the contract of `q_device::laws::conserved`.
+//!
+//! Two groups of lemmas are for the code of the tree. `SizedPlans`, `SizedChanges` and `MadeSizes` say what a command plans
+//! where the depth and the number of nodes are found from the tree as it stands, so that the edited tree need not be built
+//! to be checked. `SecondPeeks` shows that a second peek at the same moment changes nothing, and `TakeAfterPeek` that a take
+//! after a peek leaves what a take alone leaves.
 #![tactic(auto)]
