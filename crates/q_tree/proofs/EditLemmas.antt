@@ -1,16 +1,15 @@
 -- A node that is edited, or that stands above one which is: what waits there, and what it has counted.
-use Rattle.std.proofs.Common.{◌≡◌, ℕ, zero, suc, ◌+◌, ◌-◌, ◌≤◌, ◌<◌, ◌^◌, ◌∙◌, List, [], ◌∷◌, ◌++◌, map, set, take, length, refl, sym, ap, subst, Option, Some, None, option_and_then, arith}
+use Rattle.std.proofs.Common.{◌≡◌, ℕ, suc, ◌+◌, ◌≤◌, ◌<◌, ◌^◌, ◌∙◌, List, [], ◌∷◌, set, take, length, refl, sym, ap, subst, Option, Some, None, option_and_then, arith}
 use Rattle.std.specs.Prelude.{Bool, true, false, cond, nat_le, IsSome, slice_get, slice_index_or, All, Result, Ok, Err, OnOk}
 use Rattle.std.specs.List.{insert, prefix_len, take_while}
 use Rattle.std.specs.Option.{option_map_or}
 use Rattle.std.specs.declared.alloc.AllocError.{AllocError}
 use Rattle.std.proofs.lemmas.Bool.{false≢true}
 use Rattle.std.proofs.lemmas.List.Elements.{All-set}
+use Rattle.std.proofs.lemmas.Option.{same_Some}
 use Rattle.std.proofs.lemmas.List.Sums.{sum_by-cons}
-use Rattle.std.proofs.lemmas.Option.{none-some}
 use Rattle.q_packet.specs.Descriptor.{Descriptor}
 use Rattle.q_packet.specs.declared.cause.Cause.TheVariants.{Purged}
-use Rattle.q_codel.specs.declared.loss.Loss.{Loss}
 use Rattle.q_model.specs.declared.filter.Filter.{Filter}
 use Rattle.q_model.specs.declared.row.Row.{Row}
 use Rattle.q_model.specs.declared.totals.Totals.{Totals}
@@ -19,10 +18,10 @@ use Rattle.q_model.specs.Conserved.{held_own, held_beneath, IsBalanced, AreMarks
 use Rattle.q_model.specs.Edit.{above, edited_at}
 use Rattle.q_model.specs.Filters.{with_filter}
 use Rattle.q_model.specs.Find.{node_at}
-use Rattle.q_model.specs.Node.{Node, children, each, nodes_in, side_by_side}
+use Rattle.q_model.specs.Node.{Node, children, each, side_by_side}
 use Rattle.q_model.specs.Step.{losses_in}
-use Rattle.q_model.specs.Tally.{Note, no_totals, noted, totals, with_packet}
-use Rattle.q_model.specs.Work.{losses_of, settled, settled_in}
+use Rattle.q_model.specs.Tally.{no_totals, noted, with_packet}
+use Rattle.q_model.specs.Work.{losses_of, settled_in}
 use Rattle.q_sound.proofs.Answer.{one}
 use Rattle.q_sound.proofs.Counted.{bytes}
 use Rattle.q_sound.proofs.DrrSettled.{settled-packets}
@@ -206,6 +205,10 @@ module _ (e : Edit) (a : Inside) (n : Node Kept) (view : seen a ≡ n) (k : IsKe
 
   whole-lost : removed_at e path on.child ≡ removed_at e whole n
   whole-lost = sym (ap (λ m. removed_at e whole m) (sym view) ∙ ap (λ p. removed_at e p (seen a)) way ∙ on.lost)
+
+  -- what is lost through the child in this place
+  pub lost-there : (c : Node Kept) → slice_get (children_seen a.discipline) i ≡ Some c → removed_at e path c ≡ removed_at e whole n
+  lost-there c at = ap (removed_at e path) (same_Some c on.child (sym at ∙ there)) ∙ whole-lost
 
   -- what holds for each child in this place holds for the one that is there
   pub of-child : (P : List Descriptor → Type 0) → ((c : Node Kept) → slice_get (children_seen a.discipline) i ≡ Some c → P (removed_at e path c)) → P (removed_at e whole n)

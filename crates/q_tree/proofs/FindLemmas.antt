@@ -1,86 +1,24 @@
 -- A handle is found where it stands first, node by node from the top.
-use Rattle.std.proofs.Common.{◌≡◌, ℕ, zero, suc, ◌+◌, ◌<◌, ◌≤◌, ◌∙◌, List, [], ◌∷◌, map, drop, length, refl, sym, ap, ap₂, subst, Option, Some, None, option_map, option_and_then, arith}
-use mathlib.Core.Logic.{◌⊎◌, inl, inr, ◌≢◌}
-use Rattle.std.specs.Prelude.{if◌then◌else◌, nat_le, ◌&&◌, ◌-◌, Bool, true, false, ◌==◌, cond, slice_get, slice_index_or}
-use Rattle.std.specs.List.{cons_option, enumerate_from, find, filter_map, flat_map}
+use Rattle.std.proofs.Common.{◌≡◌, ℕ, ◌+◌, ◌<◌, ◌≤◌, ◌∙◌, List, [], ◌∷◌, ◌++◌, map, drop, take, length, refl, sym, ap, Option, Some, None, option_map, arith}
+use Rattle.std.specs.Prelude.{if◌then◌else◌, nat_le, ◌&&◌, ◌-◌, Bool, true, false, ◌==◌, cond, is_some, slice_index_or, unwrap_or}
+use Rattle.std.specs.List.{enumerate_from, find, flat_map}
 use Rattle.std.specs.Option.{option_eq, option_or}
-use Rattle.std.proofs.lemmas.Bool.{false≢true, ne_eqb, le-leb, lt-leb}
-use Rattle.std.proofs.lemmas.Bool.Decides.{eqb_tells}
-use Rattle.std.proofs.lemmas.Option.{none-some}
-use Rattle.std.proofs.Math.Dec.{eqb, leb}
-use Rattle.std.proofs.lemmas.List.{drop_more, drop_all}
+use Rattle.std.proofs.lemmas.Bool.{eq-eqb, false≢true, ne_eqb, le-leb, lt-leb}
+use Rattle.std.proofs.lemmas.List.{drop_more, drop_all, length-append}
 use Rattle.std.proofs.lemmas.List.Folds.{find-append}
 use Rattle.q_drr.specs.Schedule.{Schedule}
-use Rattle.q_model.specs.Find.{Address, addresses, addresses_own, from_parent, node_at, class_in, class_place}
+use Rattle.q_model.specs.Find.{Address, addresses, addresses_own, from_parent, path_of, class_in, class_place}
 use Rattle.q_model.specs.Node as spec
-use Rattle.q_model.specs.Node.{Own, Forest, none, more, Node, nodes_in, children, each, side_by_side}
+use Rattle.q_model.specs.Node.{Node, children, each}
 use Rattle.q_model.specs.Route.{class_at}
-use Rattle.q_tree.specs.Finding.{qdisc_with, first_with}
+use Rattle.q_sound.proofs.Forests.{each-nodes, nodes-side}
 use Rattle.q_tree.specs.Kept.{Kept}
 use Rattle.q_tree.specs.Seen.{seen, children_seen}
 use Rattle.q_tree.specs.declared.node.Discipline.TheVariants.{Prio, Drr}
 use Rattle.q_tree.specs.declared.node.Node.TheInside.{Inside}
-use Rattle.q_sound.proofs.Forests.{nodes-side}
-
--- an address, and the node that it leads to
-abbrev Leads : {M : Type 0} → (List ℕ → Option (Node M)) → Option Address → Option (Node M) → Type 0
-Leads go None None = Unit {0}
-Leads go None (Some n) = ⊥
-Leads go (Some a) None = ⊥
-Leads go (Some a) (Some n) = go a.path ≡ Some n
-
-leads-or : {M : Type 0} (go : List ℕ → Option (Node M)) (o p : Option Address) (n m : Option (Node M)) → Leads go o n → Leads go p m → Leads go (option_or o p) (option_or n m)
-leads-or go None p None m first second = second
-leads-or go None p (Some n) m first second = absurd first
-leads-or go (Some a) p None m first second = absurd first
-leads-or go (Some a) p (Some n) m first second = first
-
-leads-to : {M : Type 0} (go : List ℕ → Option (Node M)) (o : Option Address) (n : Option (Node M)) → Leads go o n → option_and_then go (option_map (λ (a : Address). a.path) o) ≡ n
-leads-to go None None e = refl
-leads-to go None (Some n) e = absurd e
-leads-to go (Some a) None e = absurd e
-leads-to go (Some a) (Some n) e = e
-
--- where a way leads from the parent of these nodes, which it does not end at
-abbrev among : {M : Type 0} → List (Node M) → List ℕ → Option (Node M)
-among ns [] = None
-among ns (i ∷ path) = option_and_then (node_at path) (slice_get ns i)
 
 abbrev lifted : ℕ → Address → Address
 lifted k a = record a { path = k ∷ a.path }
-
-leads-lifted : {M : Type 0} (ns : List (Node M)) (k : ℕ) (c : Node M) (o : Option Address) (n : Option (Node M)) → slice_get ns k ≡ Some c → Leads (λ path. node_at path c) o n → Leads (among ns) (option_map (lifted k) o) n
-leads-lifted ns k c None None at e = tt
-leads-lifted ns k c None (Some n) at e = e
-leads-lifted ns k c (Some a) None at e = e
-leads-lifted ns k c (Some a) (Some n) at e = ap (option_and_then (node_at a.path)) at ∙ e
-
-leads-down : {M : Type 0} (n : Node M) (o : Option Address) (m : Option (Node M)) → Leads (among (children n)) o m → Leads (λ path. node_at path n) o m
-leads-down n None None e = tt
-leads-down n None (Some m) e = e
-leads-down n (Some a) None e = e
-leads-down n (Some a) (Some m) e = on a.path e where
-  on : (path : List ℕ) → among (children n) path ≡ Some m → node_at path n ≡ Some m
-  on [] none-there = absurd (none-some m none-there)
-  on (i ∷ path) there = there
-
-empty-front : {A : Type 0} (x : A) (xs : List A) → [] ≡ x ∷ xs → ⊥
-empty-front x xs e = none-some x (ap (λ ys. slice_get ys 0) e)
-
-first-of : {A : Type 0} (xs : List A) (k : ℕ) (x : A) (ys : List A) → drop k xs ≡ x ∷ ys → slice_get xs k ≡ Some x
-first-of [] zero x ys e = absurd (empty-front x ys e)
-first-of [] (suc k) x ys e = absurd (empty-front x ys e)
-first-of (y ∷ xs) zero x ys e = ap (λ zs. slice_get zs 0) e
-first-of (y ∷ xs) (suc k) x ys e = first-of xs k x ys e
-
-rest-of : {A : Type 0} (xs : List A) (k : ℕ) (x : A) (ys : List A) → drop k xs ≡ x ∷ ys → drop (suc k) xs ≡ ys
-rest-of [] zero x ys e = absurd (empty-front x ys e)
-rest-of [] (suc k) x ys e = absurd (empty-front x ys e)
-rest-of (y ∷ xs) zero x ys e = ap (drop 1) e
-rest-of (y ∷ xs) (suc k) x ys e = rest-of xs k x ys e
-
-more-by-one : (k : ℕ) → suc k ≡ k + 1
-more-by-one k = omega arith
 
 abbrev has : ℕ → Address → Bool
 has h a = a.handle == h
@@ -96,82 +34,59 @@ find-lifted h k (a ∷ xs) = by (a.handle == h) (find-lifted h k xs) where
   by true e = refl
   by false e = e
 
-module _ {M : Type 0} (h : ℕ) where
-  -- what stands at a node, given what is found beneath it
-  abbrev here : Option ℕ → Node M → Option (Node M) → Option (Node M)
-  here None n r = r
-  here (Some k) n r = cond (k == h) (Some n) r
+-- the way to a handle beneath children of which the first is the k-th
+abbrev pub path_from : ℕ → ℕ → List (Node Kept) → Option (List ℕ)
+path_from h k ns = option_map (λ (a : Address). a.path) (find (has h) (below-from k (map addresses ns)))
 
-  abbrev search : Forest M → Option (Node M)
-  search none = None
-  search (more own m below others) = option_or (here own.handle (record { own = own; memory = m; below = below }) (search below)) (search others)
+path-more : (h k : ℕ) (c : Node Kept) (ns : List (Node Kept)) → path_from h k (c ∷ ns) ≡ option_or (option_map (λ p. k ∷ p) (path_of h c)) (path_from h (k + 1) ns)
+path-more h k c ns =
+    ap (option_map (λ (a : Address). a.path)) (find-append (has h) (map (lifted k) (addresses c)) (below-from (k + 1) (map addresses ns))
+    ∙ ap (λ o. option_or o (find (has h) (below-from (k + 1) (map addresses ns)))) (find-lifted h k (addresses c)))
+    ∙ by (find (has h) (addresses c)) (find (has h) (below-from (k + 1) (map addresses ns))) where
+      by : (o p : Option Address) → option_map (λ (a : Address). a.path) (option_or (option_map (lifted k) o) p) ≡ option_or (option_map (λ q. k ∷ q) (option_map (λ (a : Address). a.path) o)) (option_map (λ (a : Address). a.path) p)
+      by None p = refl
+      by (Some a) p = refl
 
-  -- at a node, given what is found beneath it
-  at-node : (n : Node M) (r : Option (Node M)) → Leads (among (children n)) (find (has h) (from_parent (each addresses_own n.below))) r → Leads (λ path. node_at path n) (find (has h) (addresses n)) (here n.own.handle n r)
-  at-node n r e = by n.own.handle where
-    by : (o : Option ℕ) → Leads (λ path. node_at path n) (find (has h) (addresses_own (record n.own { handle = o }) (each addresses_own n.below))) (here o n r)
-    by None = leads-down n (find (has h) (from_parent (each addresses_own n.below))) r e
-    by (Some k) = decided (k == h) where
-      decided : (b : Bool) → Leads (λ path. node_at path n) (cond b (Some (record { handle = k; path = [] })) (find (has h) (from_parent (each addresses_own n.below)))) (cond b (Some n) r)
-      decided true = refl
-      decided false = leads-down n (find (has h) (from_parent (each addresses_own n.below))) r e
+-- a node with another handle, or with none, has it beneath its children
+pub path-beneath : (h : ℕ) (n : Node Kept) (ns : List (Node Kept)) → ns ≡ children n → (n.own.handle ≡ Some h → ⊥) → path_from h 0 ns ≡ path_of h n
+path-beneath h n ns is other =
+    ap (λ xs. path_from h 0 xs) is ∙ ap (λ xs. option_map (λ (a : Address). a.path) (find (has h) (from_parent xs))) (sym (each-nodes addresses_own n.below)) ∙ by n.own.handle other where
+      by : (o : Option ℕ) → (o ≡ Some h → ⊥) → option_map (λ (a : Address). a.path) (find (has h) (from_parent (each addresses_own n.below))) ≡ option_map (λ (a : Address). a.path) (find (has h) (addresses_own (record n.own { handle = o }) (each addresses_own n.below)))
+      by None differs = refl
+      by (Some k) differs = ap (λ b. option_map (λ (a : Address). a.path) (cond b (Some (record { handle = k; path = [] })) (find (has h) (from_parent (each addresses_own n.below))))) (sym (ne_eqb k h (λ e. differs (ap Some e))))
 
-  beneath-finds : (x : Forest M) (k : ℕ) (all : List (Node M)) → drop k all ≡ nodes_in x → Leads (among all) (find (has h) (below-from k (each addresses_own x))) (search x)
-  beneath-finds none k all e = tt
-  beneath-finds (more own m below others) k all e =
-      subst (λ o. Leads (among all) o (search (more own m below others)))
-      (sym (find-append (has h) (map (lifted k) (addresses n)) (below-from (k + 1) (each addresses_own others)) ∙ ap (λ o. option_or o (find (has h) (below-from (k + 1) (each addresses_own others)))) (find-lifted h k (addresses n))))
-      (leads-or (among all) (option_map (lifted k) (find (has h) (addresses n))) (find (has h) (below-from (k + 1) (each addresses_own others))) (here own.handle n (search below)) (search others)
-      (leads-lifted all k n (find (has h) (addresses n)) (here own.handle n (search below)) (first-of all k n (nodes_in others) e) (at-node n (search below) (beneath-finds below 0 (nodes_in below) refl)))
-      (beneath-finds others (k + 1) all (subst (λ j. drop j all ≡ nodes_in others) (more-by-one k) (rest-of all k n (nodes_in others) e)))) where
-        n : Node M
-        n = record { own = own; memory = m; below = below }
+-- and one that has it is where the way ends
+pub path-here : (h : ℕ) (n : Node Kept) → n.own.handle ≡ Some h → path_of h n ≡ Some []
+path-here h n is = ap (λ o. option_map (λ (a : Address). a.path) (find (has h) (addresses_own (record n.own { handle = o }) (each addresses_own n.below)))) is
+    ∙ ap (λ b. option_map (λ (a : Address). a.path) (cond b (Some (record { handle = h; path = [] })) (find (has h) (from_parent (each addresses_own n.below))))) (equal h) where
+      equal : (h : ℕ) → (h == h) ≡ true
+      equal h = eq-eqb h h refl
 
-  found-at : (n : Node M) → qdisc_with h n ≡ here n.own.handle n (search n.below)
-  found-at n = leads-to (λ path. node_at path n) (find (has h) (addresses n)) (here n.own.handle n (search n.below)) (at-node n (search n.below) (beneath-finds n.below 0 (children n) refl))
+-- what is looked for among nodes is beneath this one, further on, or nowhere
+module _ (h i : ℕ) (ns : List (Node Kept)) (r : Option (List ℕ)) (same : path_from h i (drop i ns) ≡ r) where
+  module _ (n : Node Kept) (inside : i < length ns) (is : n ≡ slice_index_or ns i n) where
+    from-here : path_from h i (drop i ns) ≡ option_or (option_map (λ p. i ∷ p) (path_of h n)) (path_from h (i + 1) (drop (i + 1) ns))
+    from-here = ap (path_from h i) (drop_more ns i n inside ∙ ap (λ x. x ∷ drop (i + 1) ns) (sym is)) ∙ path-more h i n (drop (i + 1) ns)
 
-  pub first-more : (n : Node M) (ns : List (Node M)) → first_with h (n ∷ ns) ≡ option_or (qdisc_with h n) (first_with h ns)
-  first-more n ns = by (qdisc_with h n) where
-    by : (o : Option (Node M)) → slice_get (cons_option o (filter_map (qdisc_with h) ns)) 0 ≡ option_or o (first_with h ns)
-    by None = refl
-    by (Some m) = refl
+    pub led-on : (p : List ℕ) → path_of h n ≡ Some p → r ≡ Some (i ∷ p)
+    led-on p e = sym same ∙ from-here ∙ ap (λ o. option_or (option_map (λ q. i ∷ q) o) (path_from h (i + 1) (drop (i + 1) ns))) e
 
-  search-first : (x : Forest M) → search x ≡ first_with h (nodes_in x)
-  search-first none = refl
-  search-first (more own m below others) =
-      ap₂ option_or (sym (found-at (record { own = own; memory = m; below = below }))) (search-first others)
-      ∙ sym (first-more (record { own = own; memory = m; below = below }) (nodes_in others))
+    pub passed : path_of h n ≡ None → path_from h (i + 1) (drop (i + 1) ns) ≡ r
+    passed e = sym (from-here ∙ ap (λ o. option_or (option_map (λ q. i ∷ q) o) (path_from h (i + 1) (drop (i + 1) ns))) e) ∙ same
 
-  -- a node with another handle, or with none, has it beneath its children
-  pub beneath-first : (n : Node M) → (n.own.handle ≡ Some h → ⊥) → first_with h (children n) ≡ qdisc_with h n
-  beneath-first n other = sym (found-at n ∙ by n.own.handle other ∙ search-first n.below) where
-    by : (o : Option ℕ) → (o ≡ Some h → ⊥) → here o n (search n.below) ≡ search n.below
-    by None none-there = refl
-    by (Some k) differs = ap (λ b. cond b (Some n) (search n.below)) (ne_eqb k h (λ e. differs (ap Some e)))
+  pub nobody : length ns ≤ i → r ≡ None
+  nobody past = sym same ∙ ap (path_from h i) (drop_all i ns past)
 
--- nodes side by side, from this one on
-from-here : (h : ℕ) (ns : List (Node Kept)) (i : ℕ) (n : Node Kept) → i < length ns → n ≡ slice_index_or ns i n → first_with h (drop i ns) ≡ option_or (qdisc_with h n) (first_with h (drop (i + 1) ns))
-from-here h ns i n inside is = ap (first_with h) (drop_more ns i n inside ∙ ap (λ x. x ∷ drop (i + 1) ns) (sym is)) ∙ first-more h n (drop (i + 1) ns)
+pub some-path : (o : Option (List ℕ)) → true ≡ is_some o → o ≡ Some (unwrap_or o [])
+some-path None e = absurd (false≢true (sym e))
+some-path (Some p) e = refl
 
--- what is looked for among nodes is here, further on, or nowhere
-module _ (h : ℕ) (ns : List (Node Kept)) (i : ℕ) (r : Option (Node Kept)) (same : first_with h (drop i ns) ≡ r) where
-  pub found : (n m : Node Kept) → i < length ns → n ≡ slice_index_or ns i n → qdisc_with h n ≡ Some m → Some m ≡ r
-  found n m inside is e = sym (from-here h ns i n inside is ∙ ap (λ o. option_or o (first_with h (drop (i + 1) ns))) e) ∙ same
-
-  pub passed : (n : Node Kept) → i < length ns → n ≡ slice_index_or ns i n → qdisc_with h n ≡ None → first_with h (drop (i + 1) ns) ≡ r
-  passed n inside is e = sym (from-here h ns i n inside is ∙ ap (λ o. option_or o (first_with h (drop (i + 1) ns))) e) ∙ same
-
-  pub nobody : length ns ≤ i → None ≡ r
-  nobody past = sym (ap (first_with h) (drop_all i ns past)) ∙ same
-
-equal : (h : ℕ) → (h == h) ≡ true
-equal h = by (eqb_tells h h) where
-  by : ((eqb h h ≡ true) × (h ≡ h)) ⊎ ((eqb h h ≡ false) × (h ≢ h)) → (h == h) ≡ true
-  by (inl same) = same.0
-  by (inr differ) = absurd (differ.1 refl)
+pub no-path : (o : Option (List ℕ)) → false ≡ is_some o → o ≡ None
+no-path None e = refl
+no-path (Some p) e = absurd (false≢true e)
 
 pub apart : (h : ℕ) (o : Option ℕ) → false ≡ option_eq (λ a b. a == b) o (Some h) → o ≡ Some h → ⊥
-apart h o differ same = false≢true (differ ∙ ap (λ x. option_eq (λ a b. a == b) x (Some h)) same ∙ equal h)
+apart h o differ same = false≢true (differ ∙ ap (λ x. option_eq (λ a b. a == b) x (Some h)) same ∙ eq-eqb h h refl)
 
 -- the children of a node, as they are read
 pub children-read : (a : Inside) (n : Node Kept) (ns : List (Node Kept)) → seen a ≡ n → ns ≡ children_seen a.discipline → ns ≡ children n
@@ -201,3 +116,12 @@ module _ (a : Inside) (n : Node Kept) (priomap : List ℕ) (bands : _) (minor k 
 pub drr-place : (a : Inside) (n : Node Kept) (s : Schedule) (classes : _) (minor : ℕ) (o : Option ℕ) → seen a ≡ n → a.discipline ≡ Drr s classes → o ≡ class_at minor s → o ≡ class_place minor n
 drr-place a n s classes minor o view is at =
     at ∙ sym (ap (λ d. class_place minor (seen (record a { discipline = d }))) is) ∙ ap (class_place minor) view
+
+-- a step is taken back
+take-front : (xs : List ℕ) (p : ℕ) → take (length xs) (xs ++ p ∷ []) ≡ xs
+take-front [] p = refl
+take-front (x ∷ xs) p = ap (λ ys. x ∷ ys) (take-front xs p)
+
+pub stepped-back : (before after : List ℕ) (p k : ℕ) (front : List ℕ) → after ≡ before ++ p ∷ [] → k ≡ length after → front ≡ take (k - 1) after → front ≡ before
+stepped-back before after p k front step len is =
+    is ∙ ap (λ n. take n after) (omega (arith, len, ap length step, length-append before (p ∷ []))) ∙ ap (take (length before)) step ∙ take-front before p

@@ -1,5 +1,5 @@
 -- What is lost where a node is removed, part by part.
-use Rattle.std.proofs.Common.{◌≡◌, ℕ, ◌+◌, ◌<◌, ◌≤◌, ◌∙◌, List, [], ◌∷◌, ◌++◌, map, length, refl, sym, ap, append_assoc, append-nil, arith}
+use Rattle.std.proofs.Common.{◌≡◌, ◌+◌, ◌<◌, ◌≤◌, ◌∙◌, List, [], ◌∷◌, ◌++◌, length, refl, sym, ap, append_assoc, append-nil, arith}
 use Rattle.std.specs.List.{flat_map}
 use Rattle.std.specs.Option.{option_to_list}
 use Rattle.std.proofs.lemmas.List.{map-append, length-append}
@@ -11,8 +11,8 @@ use Rattle.q_codel.specs.declared.loss.Loss.{Loss}
 use Rattle.q_fqcodel.specs.FqState.{Flow, all_packets, packets_of}
 use Rattle.q_model.specs.Beneath.{beneath, beneath_own, packets_in}
 use Rattle.q_model.specs.Beneath.{packets_of as bare}
-use Rattle.q_model.specs.Node.{Node, children, side_by_side}
-use Rattle.q_sound.proofs.Forests.{each-side, side-nodes}
+use Rattle.q_model.specs.Node.{Node, side_by_side}
+use Rattle.q_sound.proofs.Forests.{each-side}
 use Rattle.q_tree.specs.Kept.{Kept}
 use Rattle.q_tree.specs.NodeCode.{forest_size, node_size}
 use Rattle.q_tree.specs.Purging.{purged}

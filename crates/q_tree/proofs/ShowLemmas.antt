@@ -17,25 +17,32 @@ use Rattle.q_model.specs.Beneath.{beneath_own}
 use Rattle.q_model.specs.Lawful.{IsLawfulOwn, IsLawfulDiscipline, IsLawfulPrio, IsLawfulDrr}
 use Rattle.q_model.specs.Node as spec
 use Rattle.q_model.specs.Conserved.{every_node, nodes_of}
+use Rattle.q_model.specs.Find.{depth, greatest}
 use Rattle.q_model.specs.Node.{Forest, none, more, Node, children, each, from_below, nodes_in, side_by_side}
 use Rattle.q_model.specs.TreeState.{TreeState}
 use Rattle.q_model.specs.declared.node_view.NodeView.{NodeView}
 use Rattle.q_model.specs.Numbers.{IsMinor}
 use Rattle.q_model.specs.Views.{class_ids, class_kind, minors, node, node_view, places_below, qdisc_view, views_in}
-use Rattle.q_sound.proofs.Forests.{each-side, nodes-side, side-nodes}
+use Rattle.q_sound.proofs.Forests.{each-nodes, each-side, nodes-side, side-nodes}
 use Rattle.q_sound.proofs.Members.{All-at, passes-at}
 use Rattle.q_sound.proofs.Quiet.{child-lawful}
+use Rattle.q_tree.specs.Ahead.{depths}
 use Rattle.q_tree.specs.Kept.{Kept, kept}
 use Rattle.q_tree.specs.NodeCode.{forest_size, node_size}
 use Rattle.q_tree.specs.Seen.{seen, children_seen, discipline_seen}
 use Rattle.q_tree.specs.Showing.{HasClass, IsNumbered, standing, standing_in}
 use Rattle.q_tree.specs.declared.node.Discipline.TheVariants.{Prio, Drr}
 use Rattle.q_tree.specs.declared.node.Node.TheInside.{Inside}
-use Rattle.q_tree.proofs.RouteLemmas.{child-size}
+use Rattle.q_tree.proofs.RouteLemmas.{child-depth, child-size}
 
 -- a child is smaller than its node
 pub beneath-size : (n : Node Kept) (ns : List (Node Kept)) (i : ℕ) (c : Node Kept) → ns ≡ children n → slice_get ns i ≡ Some c → node_size c < node_size n
 beneath-size n ns i c is at = omega (arith, child-size ns i c at, ap forest_size (ap side_by_side is ∙ side-nodes n.below))
+
+-- and less deep
+pub beneath-depth : (n : Node Kept) (ns : List (Node Kept)) (i : ℕ) (c : Node Kept) → ns ≡ children n → slice_get ns i ≡ Some c → suc (depth c) ≤ depth n
+beneath-depth n ns i c is at =
+    omega (arith, child-depth ns i c at, ap (λ xs. greatest (depths xs)) is, ap greatest (each-nodes (λ own below. suc (greatest below)) n.below))
 
 -- nodes side by side, from this one on
 abbrev pub from : List Place → List (Node Kept) → ℕ → List (Place × Node Kept)

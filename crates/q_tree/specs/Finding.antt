@@ -1,15 +1,10 @@
 -- The qdisc with a handle, and the node in one of its classes, among a node and those beneath it (tc(8), "NAMING").
-use Rattle.std.specs.Prelude.{ℕ, List, Option, option_and_then, slice_get}
-use Rattle.std.specs.List.{filter_map}
+use Rattle.std.specs.Prelude.{ℕ, Option, option_and_then, slice_get}
 use Rattle.q_model.specs.Find.{path_of, node_at, class_place}
 use Rattle.q_model.specs.Node.{Node, children}
 
 abbrev pub qdisc_with : {M : Type 0} → ℕ → Node M → Option (Node M)
 qdisc_with handle n = option_and_then (λ path. node_at path n) (path_of handle n)
-
--- the same among nodes side by side: the first one that has it
-abbrev pub first_with : {M : Type 0} → ℕ → List (Node M) → Option (Node M)
-first_with handle ns = slice_get (filter_map (qdisc_with handle) ns) 0
 
 -- the child in the class of this number
 abbrev pub class_with : {M : Type 0} → ℕ → Node M → Option (Node M)

@@ -1,7 +1,7 @@
-ghost use Rattle.std.specs.Prelude.{◌≡◌, ◌≤◌, ◌+◌, ◌++◌, not, ◌==◌, nat_le, IsSome, length, OnOk, OnErr, Ok, slice_get};
+ghost use Rattle.std.specs.Prelude.{◌≡◌, ◌≤◌, ◌+◌, ◌++◌, not, ◌==◌, nat_le, IsSome, length, OnOk, OnErr, Ok, Some, slice_get};
 ghost use Rattle.std.specs.List.{filter, take_while};
 ghost use Rattle.q_model.specs.declared.filter.Filter.{Filter};
-ghost use Rattle.q_model.specs.Beneath.{beneath, totals_in};
+ghost use Rattle.q_model.specs.Beneath.{totals_in};
 ghost use Rattle.q_model.specs.Filters.{with_filter};
 ghost use Rattle.q_model.specs.Find.{node_at};
 ghost use Rattle.q_model.specs.Node as spec;
@@ -9,7 +9,6 @@ ghost use Rattle.q_tree.specs.Editing.{effect, removed, removed_at, edited_by, I
 ghost use Rattle.q_tree.specs.Kept.{Kept};
 ghost use Rattle.q_tree.specs.Places.{Leads};
 ghost use Rattle.q_tree.specs.Purging.{purged};
-ghost use Rattle.q_tree.specs.PutSteps.{packets_beneath};
 ghost use Rattle.q_tree.specs.Seen.{children_seen};
 
 use crate::booking::{NOTHING, book_dropped};
@@ -44,7 +43,7 @@ impl Node {
     ) -> Result<Totals, AllocError>
         requires there { IsSome (node_at path.now self.old) }
         requires ready { IsReady edit }
-        requires sink { length (beneath self.old) ≤ S.room sink.old }
+        requires sink { length (removed_at edit path.now self.old) ≤ S.room sink.old }
         ensures after { OnOk result (self.new ≡ edited_by edit path.now self.old) }
         ensures totals { OnOk result (result ≡ Ok (totals_in (removed_at edit path.now self.old))) }
         ensures lost { OnOk result (S.losses sink.new ≡ S.losses sink.old ++ purged (removed_at edit path.now self.old)) }
@@ -64,7 +63,7 @@ impl Node {
     // Edits this node.
     fn apply<S: Sink>(&mut self, edit: Edit, sink: &mut S) -> Result<Totals, AllocError>
         requires ready { IsReady edit }
-        requires sink { length (beneath self.old) ≤ S.room sink.old }
+        requires sink { length (removed edit self.old) ≤ S.room sink.old }
         ensures after { OnOk result (self.new ≡ effect edit self.old) }
         ensures totals { OnOk result (result ≡ Ok (totals_in (removed edit self.old))) }
         ensures lost { OnOk result (S.losses sink.new ≡ S.losses sink.old ++ purged (removed edit self.old)) }
@@ -104,7 +103,7 @@ impl Discipline {
     ) -> Result<Totals, AllocError>
         requires there { Leads rest.now place (children_seen self.old) }
         requires ready { IsReady edit }
-        requires sink { length (packets_beneath (children_seen self.old)) ≤ S.room sink.old }
+        requires sink { (c : spec.Node Kept) → slice_get (children_seen self.old) place ≡ Some c → length (removed_at edit rest.now c) ≤ S.room sink.old }
         ensures after { OnOk result ((c : spec.Node Kept) → slice_get (children_seen self.old) place ≡ Some c → IsEditedBeneath edit rest.now place c self.old self.new) }
         ensures totals { OnOk result ((c : spec.Node Kept) → slice_get (children_seen self.old) place ≡ Some c → result ≡ Ok (totals_in (removed_at edit rest.now c))) }
         ensures lost { OnOk result ((c : spec.Node Kept) → slice_get (children_seen self.old) place ≡ Some c → S.losses sink.new ≡ S.losses sink.old ++ purged (removed_at edit rest.now c)) }

@@ -1,12 +1,16 @@
-ghost use Rattle.std.specs.Prelude.{◌≡◌, option_copied};
+ghost use Rattle.std.specs.Prelude.{◌≡◌, ◌≤◌, ◌+◌, ◌++◌, [], is_some, length, option_copied, option_map, unwrap_or};
 ghost use Rattle.q_model.specs.Beneath.{row};
-ghost use Rattle.q_model.specs.Find.{class_place};
+ghost use Rattle.q_model.specs.Find.{class_place, depth, node_at, path_of};
 ghost use Rattle.q_model.specs.Node.{children};
 ghost use Rattle.q_tree.specs.Finding.{qdisc_with, class_with};
 ghost use Rattle.q_tree.specs.Kept.{kept};
 
-use crate::node::{Discipline, Node};
+use crate::node::{Discipline, Node, child_at};
+use arrayvec::ArrayVec;
 use q_model::{Handle, Minor, Row};
+
+/// A way down from a node: the place of the child at each step. A tree has at most eight levels.
+pub(crate) type Path = ArrayVec<usize, 8>;
 
 impl Node {
     /// What the node counted, and what is queued at it and beneath it.
@@ -59,18 +63,54 @@ impl Node {
         self.children().get(self.class_place(minor)?)
     }
 
-    /// The qdisc with this handle, at the node or beneath it.
-    pub(crate) fn find(&self, handle: Handle) -> Option<&Node>
-        ensures { option_copied result ≡ qdisc_with handle self.now }
+    /// The way to the qdisc with this handle, at the node or beneath it.
+    pub(crate) fn path_to(&self, handle: Handle) -> Option<Path>
+        requires { depth self.now ≤ 8 }
+        ensures { option_map (λ p. p.items) result ≡ path_of handle self.now }
+    {
+        let mut path = Path::new();
+        if self.leads_to(handle, &mut path) {
+            Some(path)
+        } else {
+            None
+        }
+    }
+
+    // Whether it is there; the way is then behind the one that has come here.
+    fn leads_to(&self, handle: Handle, path: &mut Path) -> bool
+        requires { length path.old.items + depth self.now ≤ 8 }
+        ensures found { result ≡ is_some (path_of handle self.now) }
+        ensures way { path.new.items ≡ path.old.items ++ unwrap_or (path_of handle self.now) [] }
     {
         if self.handle == Some(handle) {
-            return Some(self);
+            return true;
         }
-        for child in self.children() {
-            if let Some(found) = child.find(handle) {
-                return Some(found);
+        for (place, child) in self.children().iter().enumerate() {
+            path.push(place);
+            if child.leads_to(handle, path) {
+                return true;
             }
+            path.pop();
         }
-        None
+        false
+    }
+
+    /// The node at the end of this way.
+    pub(crate) fn at(&self, path: &[usize]) -> Option<&Node>
+        ensures { option_copied result ≡ node_at path.now self.now }
+    {
+        let Some((&place, rest)) = path.split_first() else {
+            return Some(self);
+        };
+        child_at(self.children(), place)?.at(rest)
+    }
+
+    /// The qdisc with this handle, at the node or beneath it.
+    pub(crate) fn find(&self, handle: Handle) -> Option<&Node>
+        requires { depth self.now ≤ 8 }
+        ensures { option_copied result ≡ qdisc_with handle self.now }
+    {
+        let path = self.path_to(handle)?;
+        self.at(&path)
     }
 }

@@ -1,16 +1,13 @@
-use Rattle.std.proofs.Common.{◌≡◌, ◌+◌, ◌≤◌, ◌<◌, ◌∙◌, List, [], ◌∷◌, ◌++◌, length, refl, sym, ap, append_assoc, append-nil, arith}
+use Rattle.std.proofs.Common.{◌≡◌, ◌∙◌, ◌∷◌, ◌++◌, length, sym, ap, append-nil, arith}
 use Rattle.std.specs.Option.{option_to_list}
 use Rattle.std.specs.Vec.Iter.{into_iter_items}
-use Rattle.std.proofs.lemmas.List.{length-append}
-use Rattle.q_model.specs.Beneath.{beneath, packets_in, packets_of}
-use Rattle.q_model.specs.Node.{Node, side_by_side}
+use Rattle.q_model.specs.Beneath.{packets_in, packets_of}
+use Rattle.q_model.specs.Node.{side_by_side}
 use Rattle.q_fqcodel.specs.FqState.{all_packets}
-use Rattle.q_tree.specs.Kept.{Kept}
 use Rattle.q_tree.specs.NodeCode.{forest_size}
 use Rattle.q_tree.specs.Purging.{purged}
 use Rattle.q_tree.specs.PutSteps.{packets_beneath}
 use Rattle.q_tree.specs.Seen.{children_seen, discipline_seen}
-use Rattle.q_tree.proofs.FlowCounts.{packets-all}
 use Rattle.q_tree.proofs.PurgeLemmas.{own-beneath, own-count, own-size, flows-count, then-purged, queue-purged, left-count, left-size}
 use Rattle.q_tree.proofs.+purge.Goals as goal
 

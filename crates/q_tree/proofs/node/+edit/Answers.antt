@@ -1,4 +1,4 @@
-use Rattle.std.proofs.Common.{◌≡◌, ◌+◌, ◌∙◌, ◌++◌, ℕ, length, refl, sym, ap, subst, arith}
+use Rattle.std.proofs.Common.{◌≡◌, ◌+◌, ◌∙◌, ◌++◌, length, refl, sym, ap, subst, arith}
 use Rattle.std.specs.Prelude.{IsSome, slice_get, Ok}
 use Rattle.std.proofs.lemmas.List.{get_or-set_same}
 use Rattle.std.proofs.lemmas.Option.{slice_get_within}
@@ -13,8 +13,8 @@ use Rattle.q_tree.specs.Kept.{Kept}
 use Rattle.q_tree.specs.Purging.{purged}
 use Rattle.q_tree.specs.Seen.{children_seen, discipline_seen, places_seen}
 use Rattle.q_tree.specs.declared.node.Discipline.TheVariants as code
-use Rattle.q_tree.proofs.EditLemmas.{IsAnswer, on-ok, led, edited-into, leads, room, stays, after, of-child}
-use Rattle.q_tree.proofs.Puts.{same-child, child-packets, all-packets}
+use Rattle.q_tree.proofs.EditLemmas.{IsAnswer, on-ok, led, edited-into, leads, lost-there, room, stays, after, of-child}
+use Rattle.q_tree.proofs.Puts.{same-child}
 use Rattle.q_tree.proofs.node.+edit.Goals as goal
 
 pub Discipline::edit_beneath-edit-requires : goal.Discipline::edit_beneath-edit-requires
@@ -26,7 +26,7 @@ Discipline::edit_beneath-edit-requires g t c κs within =
         within,
         (
           subst (λ (n : Node Kept). IsSome (node_at c.args.rest.now n)) (sym same) on.on,
-          (c.requires.ready, omega (arith, c.requires.sink, ap (λ (n : Node Kept). length (beneath n)) same, child-packets (children_seen c.args.self.now) c.args.place on.child on.there)),
+          (c.requires.ready, omega (arith, c.requires.sink on.child on.there, ap (λ (n : Node Kept). length (removed_at c.args.edit c.args.rest.now n)) same)),
         ),
       ),
     )
@@ -66,7 +66,7 @@ Discipline::edit_beneath-edit-requires-in-Drr g t c κs within =
         within,
         (
           subst (λ (n : Node Kept). IsSome (node_at c.args.rest.now n)) (sym same) on.on,
-          (c.requires.ready, omega (arith, c.requires.sink, ap (λ (n : Node Kept). length (beneath n)) same, child-packets (children_seen c.args.self.now) c.args.place on.child on.there)),
+          (c.requires.ready, omega (arith, c.requires.sink on.child on.there, ap (λ (n : Node Kept). length (removed_at c.args.edit c.args.rest.now n)) same)),
         ),
       ),
     )
@@ -108,7 +108,10 @@ Node::edit-edit_beneath-requires g t c κs within = (
     within,
     (
       leads c.args.edit c.self.inside c.args.self.now c.self.view_is c.self.invariant c.args.path.now c.in-Some.field-0-0.now c.in-Some.rest.now c.in-Some.ensures.cases.0 c.requires.ready c.requires.there,
-      (c.requires.ready, omega (arith, c.requires.sink, all-packets c.self.inside c.args.self.now c.self.view_is)),
+      (
+        c.requires.ready,
+        λ child at. omega (arith, c.requires.sink, ap length (lost-there c.args.edit c.self.inside c.args.self.now c.self.view_is c.self.invariant c.args.path.now c.in-Some.field-0-0.now c.in-Some.rest.now c.in-Some.ensures.cases.0 c.requires.ready c.requires.there child at)),
+      ),
     ),
   ),
 )
