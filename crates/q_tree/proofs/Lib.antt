@@ -24,5 +24,6 @@ pub mod SettleLemmas
 pub mod ShowLemmas
 pub mod StatsLemmas
 pub mod TakeCounts
+pub mod TreeEdits
 pub mod TreeLemmas
 pub mod TreePuts

@@ -67,9 +67,12 @@ new-device d a least most clock same queued within = record {
 }
 
 module _ (a : Inside) (k : IsKeptDevice a) where
-  same-shape : shape a.root ≡ shape k.history.root
+  pub same-shape : shape a.root ≡ shape k.history.root
   same-shape =
       sym (shape-with_memory (λ (m : Kept). m.counts) a.root) ∙ ap (λ (s : TreeState Counts). shape s.root) k.same ∙ shape-with_memory counts_in k.history.root
+
+  pub least-mtu : 1 ≤ a.mtu
+  least-mtu = subst (λ m. 1 ≤ m) (ap (λ (s : TreeState Counts). s.device.mtu) (sym k.same)) k.keeps.least_mtu
 
   -- the row of the device is right for its root
   pub top-row : IsRowOf a.top a.root
@@ -92,7 +95,7 @@ module _ (a : Inside) (k : IsKeptDevice a) where
         (root-back mtu now (λ m. tt) a.root (subst (IsLawfulRoot mtu now) (sym same-shape) (lawful-with_memory mtu now (λ m. tt) k.history.root (root-later a.clock now later mtu k.history.root k.keeps.lawful))))
 
     pub can-ask-root : CanAsk now a.root
-    can-ask-root = record { mtu = a.mtu; least = subst (λ m. 1 ≤ m) (ap (λ (s : TreeState Counts). s.device.mtu) (sym k.same)) k.keeps.least_mtu; moment = low; lawful = lawful-root }
+    can-ask-root = record { mtu = a.mtu; least = least-mtu; moment = low; lawful = lawful-root }
 
     -- what a take leaves is kept
     taken-kept : (b : Inside) → b.clock ≡ now → (tree_seen b).tree ≡ take_packet kept now (tree_seen a).tree → b.top.queued ≡ totals_in (beneath b.root) → IsCountedWithin b.root.memory.counts.arrived b.top.arrived → IsKeptDevice b

@@ -1,5 +1,38 @@
 //! Laws of the calls of a tree. Each function does nothing: its contract is the law.
+ghost use Rattle.std.specs.Prelude.{◌≡◌, ◌≤◌, []};
+ghost use Rattle.q_model.specs.TreeState.{given, noted_by_take, peek_packet, take_packet};
+ghost use Rattle.q_tree.specs.Kept.{kept};
 ghost use Rattle.q_tree.specs.Laws.{PutLeavesOtherSubtrees, PutCountsItsLosses, PeekCountsItsLosses, TakeCountsItsLosses};
+
+use crate::tree::Tree;
+use q_packet::Moment;
+
+/// A second peek at the same moment shows the same packet, loses and marks nothing more, and leaves the tree as it is.
+///
+/// `now` is at or after the latest moment that the tree was given.
+pub fn second_peek_changes_nothing(tree: &Tree, now: Moment)
+    requires { tree.now.clock ≤ now }
+    ensures packet { given now (peek_packet kept now tree.now.tree) ≡ given now tree.now.tree }
+    ensures quiet { noted_by_take now (peek_packet kept now tree.now.tree) ≡ [] }
+    ensures same { peek_packet kept now (peek_packet kept now tree.now.tree) ≡ peek_packet kept now tree.now.tree }
+{
+    // The tree is lawful, and a moment is at most 2^62 nanoseconds.
+    let _ = &tree.mtu;
+    let _ = now.ns();
+}
+
+/// A take right after a peek gives the packet that was shown, and leaves the tree that a take alone leaves.
+///
+/// `now` is at or after the latest moment that the tree was given.
+pub fn take_gives_what_peek_shows(tree: &Tree, now: Moment)
+    requires { tree.now.clock ≤ now }
+    ensures packet { given now (peek_packet kept now tree.now.tree) ≡ given now tree.now.tree }
+    ensures after { take_packet kept now (peek_packet kept now tree.now.tree) ≡ take_packet kept now tree.now.tree }
+{
+    // The tree is lawful, and a moment is at most 2^62 nanoseconds.
+    let _ = &tree.mtu;
+    let _ = now.ns();
+}
 
 /// A put changes the nodes on the packet's route alone. Whatever stands beneath another child is as it was, with its
 /// counters.

@@ -17,6 +17,7 @@ mod find;
 mod fq_codel;
 pub mod laws;
 mod matching;
+mod no_losses;
 mod node;
 mod outcome;
 mod peek;

@@ -1,4 +1,4 @@
-ghost use Rattle.std.specs.Prelude.{◌≡◌, ◌≤◌, ◌+◌, ◌++◌, length, IfSome, IsOk, OnOk, option_map, slice_get};
+ghost use Rattle.std.specs.Prelude.{◌≡◌, ◌≤◌, ◌+◌, ◌++◌, length, IfSome, IfErr, IsOk, OnOk, OnErr, option_map, slice_get};
 ghost use Rattle.q_packet.specs.Descriptor.{Descriptor};
 ghost use Rattle.q_model.specs.Beneath.{beneath, row_of};
 ghost use Rattle.q_model.specs.Node.{shape};
@@ -8,18 +8,23 @@ ghost use Rattle.q_model.specs.Tally.{totals};
 ghost use Rattle.q_model.specs.TreeState.{new_tree, stats, put_on, loss_on, put, own_loss, noted_by_put, given, noted_by_take, peek_packet, take_packet};
 ghost use Rattle.q_model.specs.Views.{node, class_of, filter_of};
 ghost use Rattle.q_model.specs.Work.{booked};
+ghost use Rattle.q_model.specs.declared.not_done.NotDone.TheVariants as refusal;
 ghost use Rattle.q_model.specs.declared.place.Place.TheVariants as place;
 ghost use Rattle.q_tree.specs.Arrivals.{CanPut, IsOutcome};
+ghost use Rattle.q_tree.specs.Commands.{IsPlanned, device_edited};
+ghost use Rattle.q_tree.specs.Editing.{removed_at};
 ghost use Rattle.q_tree.specs.Kept.{kept};
+ghost use Rattle.q_tree.specs.Purging.{purged};
 ghost use Rattle.q_tree.specs.Showing.{IsNumbered, standing};
 ghost use Rattle.q_tree.specs.TreeSeen.{CanArrive, IsArrived, IsRouteIn, numbers};
 
-use crate::booking::{book_arrival, book_sent, book_shown};
+use crate::booking::{book_arrival, book_dropped, book_sent, book_shown};
+use crate::edit::Edit;
 use crate::node::{NOTHING_COUNTED, Node};
 use crate::outcome::{Outcome, refuse};
 use crate::route::Route;
 use q_codel::{Limit, Sink};
-use q_model::{ClassView, Fate, FilterView, NodeView, Place, Row};
+use q_model::{ClassView, Fate, FilterView, NodeView, NotDone, Place, Row};
 use q_packet::{Cause, Moment, Packet};
 use std::alloc::{AllocError, Global};
 use std::marker::Model;
@@ -31,7 +36,7 @@ use std::marker::Model;
 /// every discipline is lawful, and a tree has at most eight levels.
 #[derive(Drop)]
 pub struct Tree {
-    mtu: u16,
+    pub(crate) mtu: u16,
     txqueuelen: u32,
     /// The latest moment that it was given.
     clock: Moment,
@@ -126,6 +131,35 @@ impl Tree {
             return None;
         };
         node.filter_view(j)
+    }
+
+    // Edits the node at the end of this way, as a command has planned it.
+    fn edit<S: Sink>(
+        &mut self,
+        path: &[usize],
+        edit: Edit,
+        now: Moment,
+        sink: &mut S,
+    ) -> Result<(), NotDone>
+        requires order { self.old.clock ≤ now }
+        requires planned { IsPlanned edit path.now now self.old }
+        requires sink { length (removed_at edit path.now self.old.tree.root) ≤ S.room sink.old }
+        ensures after { OnOk result (self.new ≡ device_edited edit path.now now self.old) }
+        ensures lost { OnOk result (S.losses sink.new ≡ S.losses sink.old ++ purged (removed_at edit path.now self.old.tree.root)) }
+        ensures room { OnOk result (S.room sink.new + length (removed_at edit path.now self.old.tree.root) ≡ S.room sink.old) }
+        ensures memory { IfErr result (λ why. why ≡ refusal.Memory) }
+        ensures same { OnErr result (self.new ≡ self.old) }
+        ensures not_lost { OnErr result ((S.losses sink.new ≡ S.losses sink.old) × (S.room sink.new ≡ S.room sink.old)) }
+        ensures kept { S.keeps sink.old sink.new }
+    {
+        // A moment is at most 2^62 nanoseconds.
+        let _ = now.ns();
+        let Ok(lost) = self.root.edit(path, edit, sink) else {
+            return Err(NotDone::Memory);
+        };
+        book_dropped(&mut self.top, lost);
+        self.clock = now;
+        Ok(())
     }
 
     // A node in the order of show, and where it stands.
