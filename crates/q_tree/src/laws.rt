@@ -1,4 +1,4 @@
-//! Laws of the calls of a tree. Each function does nothing: its contract is the law.
+//! Laws of a tree and of its calls. Each function does nothing: its contract is the law.
 ghost use Rattle.std.specs.Prelude.{◌≡◌, ◌≤◌, []};
 ghost use Rattle.q_model.specs.TreeState.{given, noted_by_take, peek_packet, take_packet};
 ghost use Rattle.q_tree.specs.Kept.{kept};

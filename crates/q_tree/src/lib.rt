@@ -4,15 +4,17 @@
 //! - [`Command`] is a change of the tree, [`Kind`] a qdisc with its options, [`Place`] where it goes.
 //! - [`NotDone`] is why a change was not made, [`Row`] what a node counted, and [`NodeView`], [`ClassView`] and
 //!   [`FilterView`] are what `show` prints.
-//! - [`laws`] is what is true of every call for a packet.
+//! - [`laws`] is what is true of every tree, and of every call for a packet.
 //!
-//! What a tree does is defined in the `specs/` of `q_model`. The calls that change its form are to come.
+//! What a tree does is defined in the `specs/` of `q_model`. The calls that change its form are to come;
+//! what they share, an edit of the node at the end of a way, stands.
 #![tactic(auto)]
 
 mod at_hand;
 mod booking;
 mod drr;
 mod edit;
+mod filter_commands;
 mod find;
 mod fq_codel;
 pub mod laws;

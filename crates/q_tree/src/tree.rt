@@ -39,9 +39,9 @@ pub struct Tree {
     pub(crate) mtu: u16,
     txqueuelen: u32,
     /// The latest moment that it was given.
-    clock: Moment,
+    pub(crate) clock: Moment,
     top: Row,
-    root: Node,
+    pub(crate) root: Node,
 }
 
 impl Model for Tree {
@@ -134,7 +134,7 @@ impl Tree {
     }
 
     // Edits the node at the end of this way, as a command has planned it.
-    fn edit<S: Sink>(
+    pub(crate) fn edit<S: Sink>(
         &mut self,
         path: &[usize],
         edit: Edit,

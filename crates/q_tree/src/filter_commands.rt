@@ -1,0 +1,110 @@
+ghost use Rattle.std.specs.Prelude.{◌≡◌};
+ghost use Rattle.std.specs.List.{list_any};
+ghost use Rattle.q_model.specs.declared.command.Command.TheVariants.{FilterAdd, FilterDel};
+ghost use Rattle.q_model.specs.FilterCommands.{filter_add_checks, filter_del_checks, has_prio};
+ghost use Rattle.q_model.specs.Node.{shape};
+ghost use Rattle.q_model.specs.Refusals.{done_unless, has_filters};
+ghost use Rattle.q_model.specs.TreeState.{plan};
+ghost use Rattle.q_tree.specs.Commands.{IsAnswered};
+
+use crate::edit::Edit;
+use crate::no_losses::NoLosses;
+use crate::node::{Discipline, Node};
+use crate::tree::Tree;
+use q_model::{Filter, FilterPrio, Handle, NotDone};
+
+/// The most filters that a qdisc has.
+const MOST_FILTERS: usize = 256;
+
+impl Tree {
+    /// Adds a filter to the qdisc with this handle, behind those of the same priority (`tc filter add`, tc(8)). `major` is the
+    /// handle in the class that the line names.
+    ///
+    /// # Errors
+    ///
+    /// The first that holds: `NoQdisc` where no qdisc has the handle; `NotClassful` where it is no prio and no drr; `NoClass`
+    /// where it has no such class; `TooMany` where it has 256 filters; `Memory`. The tree is as it was.
+    pub fn filter_add(&mut self, parent: Handle, major: Handle, filter: Filter) -> Result<(), NotDone>
+        ensures { IsAnswered (plan self.old.tree.device self.old.clock (FilterAdd parent major filter) (shape self.old.tree.root)) self.old self.new result }
+    {
+        filter.ranges();
+        let _ = (parent.major(), major.major());
+        let Some(path) = self.root.path_to(parent) else {
+            return Err(NotDone::NoQdisc);
+        };
+        let Some(node) = self.root.at(&path) else {
+            return Err(NotDone::NoQdisc);
+        };
+        node.can_add_filter(parent, major, &filter)?;
+        self.edit(&path, Edit::AddFilter(filter), self.clock, &mut NoLosses)
+    }
+
+    /// Removes all filters of this priority from the qdisc with this handle (`tc filter del`, tc(8)).
+    ///
+    /// # Errors
+    ///
+    /// The first that holds: `NoQdisc` where no qdisc has the handle; `NotClassful` where it is no prio and no drr; `NoFilter`
+    /// where no filter has the priority. The tree is as it was.
+    pub fn filter_del(&mut self, parent: Handle, prio: FilterPrio) -> Result<(), NotDone>
+        ensures { IsAnswered (plan self.old.tree.device self.old.clock (FilterDel parent prio) (shape self.old.tree.root)) self.old self.new result }
+    {
+        let _ = (parent.major(), prio.number());
+        let Some(path) = self.root.path_to(parent) else {
+            return Err(NotDone::NoQdisc);
+        };
+        let Some(node) = self.root.at(&path) else {
+            return Err(NotDone::NoQdisc);
+        };
+        node.can_remove_filters(prio)?;
+        self.edit(&path, Edit::RemoveFilters(prio), self.clock, &mut NoLosses)
+    }
+}
+
+impl Node {
+    // Whether the qdisc takes a filter into this class.
+    fn can_add_filter(&self, parent: Handle, major: Handle, filter: &Filter) -> Result<(), NotDone>
+        ensures { result ≡ done_unless (filter_add_checks parent major filter.now (shape self.now)) (record {}) }
+    {
+        if !self.has_filters() {
+            return Err(NotDone::NotClassful);
+        }
+        if major != parent || self.class_place(filter.minor).is_none() {
+            return Err(NotDone::NoClass);
+        }
+        if self.filters.len() >= MOST_FILTERS {
+            return Err(NotDone::TooMany);
+        }
+        Ok(())
+    }
+
+    // Whether it has filters of this priority.
+    fn can_remove_filters(&self, prio: FilterPrio) -> Result<(), NotDone>
+        ensures { result ≡ done_unless (filter_del_checks prio (shape self.now)) (record {}) }
+    {
+        if !self.has_filters() {
+            return Err(NotDone::NotClassful);
+        }
+        if !has_prio(&self.filters, prio) {
+            return Err(NotDone::NoFilter);
+        }
+        Ok(())
+    }
+
+    // Filters choose among the classes of a prio and of a drr.
+    fn has_filters(&self) -> bool
+        ensures { result ≡ has_filters self.now.own.discipline }
+    {
+        match &self.discipline {
+            Discipline::Prio { .. } | Discipline::Drr { .. } => return true,
+            Discipline::Fifo(_) | Discipline::Tbf { .. } | Discipline::FqCodel(_) => return false,
+        }
+    }
+}
+
+// Whether one of these filters has this priority.
+fn has_prio(filters: &[Filter], prio: FilterPrio) -> bool
+    ensures { result ≡ list_any (has_prio prio) filters.now }
+{
+    let prio = prio.number();
+    filters.iter().any(|filter| filter.prio.number() == prio)
+}
