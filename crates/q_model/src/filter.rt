@@ -1,3 +1,5 @@
+ghost use Rattle.q_model.specs.Ranges.{IsFilter};
+
 use crate::filter_keys::FilterKeys;
 use crate::filter_prio::FilterPrio;
 use crate::minor::Minor;
@@ -12,4 +14,15 @@ pub struct Filter {
     pub keys: FilterKeys,
     /// The minor number of the class.
     pub minor: Minor,
+}
+
+impl Filter {
+    /// Every number is in its range, which the types keep. It does nothing: its clause is for the laws of other crates.
+    pub fn ranges(&self)
+        ensures { IsFilter self.now }
+    {
+        self.prio.number();
+        self.keys.ranges();
+        self.minor.number();
+    }
 }

@@ -49,4 +49,11 @@ impl IpPrefix {
             None
         }
     }
+
+    /// Each field is within its range, which the type keeps. It does nothing: its clause is for the laws of other crates.
+    pub fn ranges(&self)
+        ensures { IsPrefix self.now }
+    {
+        let _ = &self.len;
+    }
 }

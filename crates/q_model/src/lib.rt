@@ -51,6 +51,7 @@ mod prio_options;
 mod protocol;
 mod qdisc_view;
 mod quantum;
+mod ranges;
 mod rate;
 mod refusal;
 mod reply;
