@@ -1,5 +1,5 @@
-//! What a line gives is in its range, which the types keep. These functions do nothing: their clauses are for the `ranges`
-//! of a command, an event and their parts.
+//! What a line gives is in its range, which the types keep. These functions do nothing: their clauses are for the
+//! `ranges` of a command, an event and their parts.
 ghost use Rattle.std.specs.Prelude.{IfSome};
 ghost use Rattle.q_model.specs.Numbers.{IsHandle, IsQuantum, IsWithin, most_u32};
 ghost use Rattle.q_model.specs.Options.{IsPrefix};
