@@ -1,3 +1,5 @@
+ghost use Rattle.q_model.specs.Ranges.{IsClassId};
+
 use crate::handle::Handle;
 use crate::minor::Minor;
 
@@ -8,4 +10,14 @@ pub struct ClassId {
     pub major: Handle,
     /// Its number among the classes of that qdisc.
     pub minor: Minor,
+}
+
+impl ClassId {
+    /// Every number is in its range, which the types keep. It does nothing: its clause is for the laws of other crates.
+    pub fn ranges(&self)
+        ensures { IsClassId self.now }
+    {
+        self.major.major();
+        self.minor.number();
+    }
 }

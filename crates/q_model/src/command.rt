@@ -1,3 +1,5 @@
+ghost use Rattle.q_model.specs.Ranges.{IsCommand};
+
 use crate::class_id::ClassId;
 use crate::filter::Filter;
 use crate::filter_prio::FilterPrio;
@@ -5,6 +7,7 @@ use crate::handle::Handle;
 use crate::kind::Kind;
 use crate::place::Place;
 use crate::quantum::Quantum;
+use crate::ranges::{class_ranges, filter_ranges, qdisc_ranges};
 
 /// A change of the tree that a `tc` line asks for.
 ///
@@ -58,4 +61,45 @@ pub enum Command {
         parent: Handle,
         prio: FilterPrio,
     },
+}
+
+impl Command {
+    /// Every number is in its range, which the types keep. It does nothing: its clause is for the laws of other crates.
+    pub fn ranges(&self)
+        ensures { IsCommand self.now }
+    {
+        match self {
+            Command::QdiscAdd {
+                place,
+                handle,
+                kind,
+            } => qdisc_ranges(Some(*place), *handle, Some(*kind)),
+            Command::QdiscChange {
+                place,
+                handle,
+                kind,
+            } => qdisc_ranges(*place, *handle, Some(*kind)),
+            Command::QdiscDel { place, handle } => qdisc_ranges(*place, *handle, None),
+            Command::ClassAdd {
+                parent,
+                class,
+                quantum,
+            } => class_ranges(Some(*parent), *class, *quantum),
+            Command::ClassChange {
+                parent,
+                class,
+                quantum,
+            } => class_ranges(*parent, *class, *quantum),
+            Command::ClassDel { parent, class } => class_ranges(*parent, *class, None),
+            Command::FilterAdd {
+                parent,
+                major,
+                filter,
+            } => filter_ranges(*parent, *major, *filter),
+            Command::FilterDel { parent, prio } => {
+                parent.major();
+                prio.number();
+            }
+        }
+    }
 }

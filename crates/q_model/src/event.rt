@@ -1,4 +1,7 @@
+ghost use Rattle.q_model.specs.Events.{IsEvent};
+
 use crate::command::Command;
+use crate::ranges::packet_ranges;
 use q_packet::{Moment, Packet};
 
 /// What is done to a device, and when. A moment before the latest one that the device has seen counts as that one.
@@ -10,4 +13,25 @@ pub enum Event {
     Poll(Moment),
     /// The tree is changed.
     Command(Command, Moment),
+}
+
+impl Event {
+    /// Every number is in its range, which the types keep. It does nothing: its clause is for the laws of other crates.
+    pub fn ranges(&self)
+        ensures { IsEvent self.now }
+    {
+        match self {
+            Event::Arrive(packet, moment) => {
+                packet_ranges(*packet);
+                moment.ns();
+            }
+            Event::Poll(moment) => {
+                moment.ns();
+            }
+            Event::Command(command, moment) => {
+                command.ranges();
+                moment.ns();
+            }
+        }
+    }
 }

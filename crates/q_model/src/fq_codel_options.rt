@@ -109,6 +109,13 @@ impl FqCodelOptions {
             None
         }
     }
+
+    /// Each field is within its range, which the type keeps. It does nothing: its clause is for the laws of other crates.
+    pub fn ranges(&self)
+        ensures { IsFqCodelOptions self.now }
+    {
+        let _ = &self.limit;
+    }
 }
 
 /// The longest target and interval: 1000 s, in nanoseconds.

@@ -1,6 +1,9 @@
+ghost use Rattle.q_model.specs.Ranges.{IsKind};
+
 use crate::burst::Burst;
 use crate::fq_codel_options::FqCodelOptions;
 use crate::prio_options::PrioOptions;
+use crate::ranges::count_ranges;
 use crate::rate::Rate;
 use crate::tbf_limit::TbfLimit;
 
@@ -29,4 +32,23 @@ pub enum Kind {
     Drr,
     /// Fair queueing with CoDel (tc-fq_codel(8)).
     FqCodel(FqCodelOptions),
+}
+
+impl Kind {
+    /// Every number is in its range, which the types keep. It does nothing: its clause is for the laws of other crates.
+    pub fn ranges(&self)
+        ensures { IsKind self.now }
+    {
+        match self {
+            Kind::Pfifo { limit } | Kind::Bfifo { limit } => count_ranges(*limit),
+            Kind::Prio(options) => options.ranges(),
+            Kind::Tbf { rate, burst, limit } => {
+                rate.bits();
+                burst.bytes();
+                limit.ranges();
+            }
+            Kind::Drr => {}
+            Kind::FqCodel(options) => options.ranges(),
+        }
+    }
 }

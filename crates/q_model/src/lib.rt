@@ -3,7 +3,8 @@
 //! - [`Command`] is a change of the tree, as the `tc` lines ask for it: [`Kind`] is a qdisc with its options, [`Place`] and
 //!   [`ClassId`] say where it goes, [`FilterKeys`] which packets a filter takes. Their numbers have types that keep their
 //!   ranges: [`Handle`], [`Minor`], [`Quantum`], [`Rate`], [`Burst`], [`Latency`], [`FilterPrio`], [`PrioOptions`],
-//!   [`FqCodelOptions`] and [`IpPrefix`].
+//!   [`FqCodelOptions`] and [`IpPrefix`]. What is made of these has a method `ranges`, whose clause says so to the proofs
+//!   of other crates, as [`Event::ranges`].
 //! - [`NotDone`] is why a change was not made, with the number and the name of each refusal.
 //! - [`Row`] is what a node counted: six [`Totals`] of packets and bytes.
 //! - [`NodeView`], [`ClassView`] and [`FilterView`] are what `show` prints of a node, a class and a filter.

@@ -1,3 +1,5 @@
+ghost use Rattle.q_model.specs.Ranges.{IsPlace};
+
 use crate::class_id::ClassId;
 
 /// Where in the tree a node stands.
@@ -9,4 +11,15 @@ pub enum Place {
     Root,
     /// In this class of another qdisc (tc(8), `parent major:minor`).
     Class(ClassId),
+}
+
+impl Place {
+    /// Every number is in its range, which the types keep. It does nothing: its clause is for the laws of other crates.
+    pub fn ranges(&self)
+        ensures { IsPlace self.now }
+    {
+        if let Place::Class(class) = self {
+            class.ranges();
+        }
+    }
 }

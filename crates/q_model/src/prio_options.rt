@@ -39,4 +39,11 @@ impl PrioOptions {
             None
         }
     }
+
+    /// Each field is within its range, which the type keeps. It does nothing: its clause is for the laws of other crates.
+    pub fn ranges(&self)
+        ensures { IsPrio self.now }
+    {
+        let _ = &self.bands;
+    }
 }

@@ -1,10 +1,73 @@
-//! What is given of an option is in its range, which the types keep. These functions do nothing: their clauses are for
-//! the `ranges` of a command and its parts.
+//! What a line gives is in its range, which the types keep. These functions do nothing: their clauses are for the
+//! `ranges` of a command, an event and their parts.
 ghost use Rattle.std.specs.Prelude.{IfSome};
-ghost use Rattle.q_model.specs.Numbers.{IsWithin};
+ghost use Rattle.q_model.specs.Numbers.{IsHandle, IsQuantum, IsWithin, most_u32};
 ghost use Rattle.q_model.specs.Options.{IsPrefix};
+ghost use Rattle.q_model.specs.Ranges.{IsClassId, IsFilter, IsKind, IsPacket, IsPlace};
 
+use crate::class_id::ClassId;
+use crate::filter::Filter;
+use crate::handle::Handle;
 use crate::ip_prefix::IpPrefix;
+use crate::kind::Kind;
+use crate::place::Place;
+use crate::quantum::Quantum;
+use q_packet::Packet;
+
+/// What a line about a qdisc names is in its range, so far as it is given.
+pub(crate) fn qdisc_ranges(place: Option<Place>, handle: Option<Handle>, kind: Option<Kind>)
+    ensures place { IfSome place IsPlace }
+    ensures handle { IfSome handle IsHandle }
+    ensures kind { IfSome kind IsKind }
+{
+    if let Some(place) = place {
+        place.ranges();
+    }
+    handle_ranges(handle);
+    if let Some(kind) = kind {
+        kind.ranges();
+    }
+}
+
+/// What a line about a class names is in its range, so far as it is given.
+pub(crate) fn class_ranges(parent: Option<Handle>, class: ClassId, quantum: Option<Quantum>)
+    ensures parent { IfSome parent IsHandle }
+    ensures class { IsClassId class }
+    ensures quantum { IfSome quantum IsQuantum }
+{
+    handle_ranges(parent);
+    class.ranges();
+    if let Some(quantum) = quantum {
+        quantum.bytes();
+    }
+}
+
+/// The handles that a line about a new filter names are in their range, and the numbers of the filter.
+pub(crate) fn filter_ranges(parent: Handle, major: Handle, filter: Filter)
+    ensures parent { IsHandle parent }
+    ensures major { IsHandle major }
+    ensures filter { IsFilter filter }
+{
+    parent.major();
+    major.major();
+    filter.ranges();
+}
+
+/// A handle that is given is in its range.
+fn handle_ranges(handle: Option<Handle>)
+    ensures { IfSome handle IsHandle }
+{
+    if let Some(handle) = handle {
+        handle.major();
+    }
+}
+
+/// A number of packets or bytes that is given fits 32 bits.
+pub(crate) fn count_ranges(count: Option<u32>)
+    ensures { IfSome count (IsWithin 0 most_u32) }
+{
+    let _ = count.is_some();
+}
 
 /// A prefix that is given has an address and a length of its version.
 pub(crate) fn prefix_ranges(prefix: Option<IpPrefix>)
@@ -27,4 +90,11 @@ pub(crate) fn port_ranges(port: Option<u16>)
     ensures { IfSome port (IsWithin 0 0xffff) }
 {
     let _ = port.is_some();
+}
+
+/// The numbers of a packet fit their fields; its length is not 0, and its priority at most 15.
+pub(crate) fn packet_ranges(packet: Packet)
+    ensures { IsPacket packet }
+{
+    let _ = &packet.key.family;
 }
