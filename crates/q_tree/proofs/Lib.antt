@@ -13,6 +13,7 @@ pub mod HereLemmas
 pub mod OtherSubtrees
 pub mod Peeks
 pub mod PlacesLemmas
+pub mod Plans
 pub mod PopLemmas
 pub mod PurgeLemmas
 pub mod Puts

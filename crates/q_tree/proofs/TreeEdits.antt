@@ -1,14 +1,11 @@
 -- A tree of the code that is edited as a command has planned: its numbers stay those of a tree with whole histories.
-use Rattle.std.proofs.Common.{◌≡◌, ℕ, ◌+◌, ◌≤◌, ◌<◌, ◌^◌, ◌∙◌, List, length, refl, sym, ap, subst, Ok, arith}
-use Rattle.q_packet.specs.Descriptor.{Descriptor}
+use Rattle.std.proofs.Common.{◌≡◌, ℕ, ◌≤◌, ◌<◌, ◌^◌, ◌∙◌, List, length, sym, ap, subst, Ok, arith}
 use Rattle.q_packet.specs.declared.cause.Cause.TheVariants.{Purged}
 use Rattle.q_model.specs.declared.row.Row.{Row}
 use Rattle.q_model.specs.declared.totals.Totals.{Totals}
 use Rattle.q_model.specs.Beneath.{beneath, totals_in}
-use Rattle.q_model.specs.Edit.{packets_removed, lost_by, edited}
 use Rattle.q_model.specs.Node.{Node, Shape, shape}
-use Rattle.q_model.specs.Step.{DeviceState}
-use Rattle.q_model.specs.Tally.{Counts, Note, counts_in, history, noted, totals}
+use Rattle.q_model.specs.Tally.{Counts, counts_in, history, noted, totals}
 use Rattle.q_model.specs.TreeState.{TreeState, plan, with_edit}
 use Rattle.q_model.specs.Work.{losses_of}
 use Rattle.q_model.proofs.ShrinkLemmas.{totals_for_history}
@@ -16,7 +13,6 @@ use Rattle.q_model.proofs.ShrinkSteps.{with_edit-stands}
 use Rattle.q_sound.proofs.Answer.{one}
 use Rattle.q_sound.proofs.Counted.{bytes}
 use Rattle.q_sound.proofs.Edits.{edit-keeps}
-use Rattle.q_sound.proofs.Kept.{IsKeptTree}
 use Rattle.q_sound.proofs.Weights.{weigh-count}
 use Rattle.q_tree.specs.Commands.{IsPlanned, device_edited}
 use Rattle.q_tree.specs.Editing.{CanDrop, edited_by, notes_of, removed_at, with_dropped}

@@ -3,7 +3,6 @@ use Rattle.std.specs.Prelude.{◌≡◌, ℕ, List, IsSome, Result, Ok, Err}
 use Rattle.q_model.specs.declared.command.Command.{Command}
 use Rattle.q_model.specs.declared.not_done.NotDone.{NotDone}
 use Rattle.q_model.specs.declared.not_done.NotDone.TheVariants.{Memory}
-use Rattle.q_model.specs.Beneath.{beneath, totals_in}
 use Rattle.q_model.specs.Edit as model
 use Rattle.q_model.specs.Find.{node_at}
 use Rattle.q_model.specs.Node.{shape}
@@ -17,7 +16,7 @@ use Rattle.q_tree.specs.declared.edit.Edit.{Edit}
 
 -- A refusal comes before one for want of memory, and changes nothing; else the edit is done, or memory was refused, which
 -- changes nothing either.
-abbrev pub IsAnswered : Result model.Edit NotDone → DeviceState Kept → DeviceState Kept → Result (record {}) NotDone → Type 0
+abbrev pub IsAnswered : Result model.Edit NotDone → DeviceState Kept → DeviceState Kept → Result (Unit {0}) NotDone → Type 0
 IsAnswered (Err refusal) before after answer = (answer ≡ Err refusal) × (after ≡ before)
 IsAnswered (Ok edit) before after (Ok done) = after ≡ record before { tree = with_edit kept edit before.tree }
 IsAnswered (Ok edit) before after (Err refusal) = (refusal ≡ Memory) × (after ≡ before)

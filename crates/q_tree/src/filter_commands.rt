@@ -35,7 +35,9 @@ impl Tree {
         let Some(node) = self.root.at(&path) else {
             return Err(NotDone::NoQdisc);
         };
-        node.can_add_filter(parent, major, &filter)?;
+        if let Err(refusal) = node.can_add_filter(parent, major, &filter) {
+            return Err(refusal);
+        }
         self.edit(&path, Edit::AddFilter(filter), self.clock, &mut NoLosses)
     }
 
@@ -55,7 +57,9 @@ impl Tree {
         let Some(node) = self.root.at(&path) else {
             return Err(NotDone::NoQdisc);
         };
-        node.can_remove_filters(prio)?;
+        if let Err(refusal) = node.can_remove_filters(prio) {
+            return Err(refusal);
+        }
         self.edit(&path, Edit::RemoveFilters(prio), self.clock, &mut NoLosses)
     }
 }
@@ -68,7 +72,10 @@ impl Node {
         if !self.has_filters() {
             return Err(NotDone::NotClassful);
         }
-        if major != parent || self.class_place(filter.minor).is_none() {
+        if major != parent {
+            return Err(NotDone::NoClass);
+        }
+        if self.class_place(filter.minor).is_none() {
             return Err(NotDone::NoClass);
         }
         if self.filters.len() >= MOST_FILTERS {

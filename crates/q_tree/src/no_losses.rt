@@ -4,6 +4,7 @@ use q_codel::Sink;
 use q_packet::{Cause, Packet};
 
 /// The sink of a command that loses nothing.
+#[derive(Drop)]
 pub(crate) struct NoLosses;
 
 impl Sink for NoLosses {

@@ -3,7 +3,7 @@ use Rattle.std.specs.Prelude.{IsSome, slice_get, Ok}
 use Rattle.std.proofs.lemmas.List.{get_or-set_same}
 use Rattle.std.proofs.lemmas.Option.{slice_get_within}
 use Rattle.std.specs.Vec.{with_item}
-use Rattle.q_model.specs.Beneath.{beneath, is_empty, totals_in}
+use Rattle.q_model.specs.Beneath.{is_empty, totals_in}
 use Rattle.q_model.specs.Find.{node_at}
 use Rattle.q_model.specs.Node as spec
 use Rattle.q_model.specs.Node.{Node}
