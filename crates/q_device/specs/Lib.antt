@@ -1,2 +1,7 @@
+pub mod Counters
+pub mod DeviceCode
+pub mod DeviceSeen
+pub mod Keeping
 pub mod Laws
+pub mod Replayed
 pub mod Sharing
