@@ -1,6 +1,7 @@
 mod BucketStretches
 pub mod ClassStretches
 pub mod CountLemmas
+pub mod DeviceLaws
 pub mod EventLemmas
 pub mod FlowStretches
 pub mod KeptLemmas

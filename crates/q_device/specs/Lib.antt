@@ -1,5 +1,6 @@
 pub mod Counters
 pub mod DeviceCode
+pub mod DeviceLaws
 pub mod DeviceSeen
 pub mod Keeping
 pub mod Laws

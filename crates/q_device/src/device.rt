@@ -1,7 +1,8 @@
-ghost use Rattle.std.specs.Prelude.{◌≡◌, ◌<◌, ◌≤◌, ◌+◌, ◌^◌, IfOk, OnOk, OnErr, IfErr, max, min, length, slice_get, vec_capacity};
+ghost use Rattle.std.specs.Prelude.{◌≡◌, ◌≤◌, ◌+◌, IfOk, OnOk, OnErr, IfErr, max, length, slice_get, vec_capacity};
 ghost use Rattle.q_model.specs.Beneath.{beneath, is_empty, row_of};
 ghost use Rattle.q_model.specs.Node.{shape};
 ghost use Rattle.q_model.specs.Route.{device_route};
+ghost use Rattle.q_model.specs.Settings.{IsInRange};
 ghost use Rattle.q_model.specs.Step.{polled_of, step};
 ghost use Rattle.q_model.specs.Tally.{no_counts, totals, with_packet};
 ghost use Rattle.q_model.specs.TreeState.{stats};
@@ -10,7 +11,8 @@ ghost use Rattle.q_model.specs.declared.reply.Reply.TheVariants as reply;
 ghost use Rattle.q_packet.specs.Descriptor.{Descriptor};
 ghost use Rattle.q_tree.specs.TreeSeen.{numbers, CanArrive, IsRouteIn};
 ghost use Rattle.q_device.specs.Counters.{HasNotFallen};
-ghost use Rattle.q_device.specs.DeviceSeen.{most_events, opened, reaped, with_event, with_recorded};
+ghost use Rattle.q_device.specs.DeviceLaws.{IsReplayed};
+ghost use Rattle.q_device.specs.DeviceSeen.{opened, reaped, with_event, with_recorded};
 
 use crate::ranges::{moment_range, packet_ranges};
 use q_codel::{Loss as Lost, Losses};
@@ -169,6 +171,14 @@ impl Device {
         ensures { result ≡ self.now.events }
     {
         self.events
+    }
+
+    /// What the type keeps, for the laws. It does nothing.
+    pub(crate) fn kept(&self)
+        ensures replayed { IsReplayed self.now }
+        ensures settings { IsInRange self.now.settings }
+    {
+        let _ = &self.tree;
     }
 }
 
