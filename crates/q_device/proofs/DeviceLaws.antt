@@ -1,5 +1,5 @@
 -- What the invariant of a device comes to for its caller.
-use Rattle.std.proofs.Common.{◌≡◌, ℕ, ◌+◌, ◌≤◌, ◌∙◌, zero, suc, List, [], ◌∷◌, ◌++◌, length, sym, subst, Option, Some, None, option_and_then, option_map, arith}
+use Rattle.std.proofs.Common.{ℕ, ◌≤◌, ◌∙◌, zero, suc, List, [], ◌∷◌, ◌++◌, length, sym, subst, Option, Some, None, option_and_then, option_map, arith}
 use Rattle.std.specs.Prelude.{All, IfSome, slice_get}
 use Rattle.std.proofs.lemmas.List.{take_all}
 use Rattle.std.proofs.lemmas.List.Elements.{All-nil, All-cons, All-head, All-tail}

@@ -1,4 +1,4 @@
-ghost use Rattle.std.specs.Prelude.{◌≡◌, ◌≤◌, ◌+◌, IfOk, OnOk, OnErr, IfErr, max, length, slice_get, vec_capacity};
+ghost use Rattle.std.specs.Prelude.{◌≡◌, ◌≤◌, ◌+◌, IfOk, OnOk, OnErr, IfErr, max, min, length, slice_get, vec_capacity};
 ghost use Rattle.q_model.specs.Beneath.{beneath, is_empty, row_of};
 ghost use Rattle.q_model.specs.Node.{shape};
 ghost use Rattle.q_model.specs.Route.{device_route};
@@ -12,7 +12,7 @@ ghost use Rattle.q_packet.specs.Descriptor.{Descriptor};
 ghost use Rattle.q_tree.specs.TreeSeen.{numbers, CanArrive, IsRouteIn};
 ghost use Rattle.q_device.specs.Counters.{HasNotFallen};
 ghost use Rattle.q_device.specs.DeviceLaws.{IsReplayed};
-ghost use Rattle.q_device.specs.DeviceSeen.{opened, reaped, with_event, with_recorded};
+ghost use Rattle.q_device.specs.DeviceSeen.{most_events, opened, reaped, with_event, with_recorded};
 
 use crate::ranges::{moment_range, packet_ranges};
 use q_codel::{Loss as Lost, Losses};
@@ -99,12 +99,8 @@ impl Device {
             return Err((packet, AllocError));
         };
         let fate = self.tree.put(&route, packet, at, &mut self.losses);
-        record(
-            &mut self.recorded,
-            &self.settings,
-            Event::Arrive(packet, at),
-        );
-        self.events = self.events.saturating_add(1);
+        let event = Event::Arrive(packet, at);
+        record(&mut self.recorded, &mut self.events, &self.settings, event);
         Ok(fate)
     }
 
@@ -121,8 +117,8 @@ impl Device {
         moment_range(now);
         let at = later(self.tree.clock(), now);
         let taken = self.tree.take(at, &mut self.losses);
-        record(&mut self.recorded, &self.settings, Event::Poll(at));
-        self.events = self.events.saturating_add(1);
+        let event = Event::Poll(at);
+        record(&mut self.recorded, &mut self.events, &self.settings, event);
         polled_of(taken, &self.tree)
     }
 
@@ -205,12 +201,14 @@ fn make_room(tree: &mut Tree, losses: &mut Losses, route: &Route) -> Result<(), 
     losses.reserve(queued as usize + 1)
 }
 
-// Keeps an event where there is room for it. It reads nothing of the event.
-fn record<E: Copy>(recorded: &mut Vec<E>, settings: &Settings, event: E)
+// Counts an event, and keeps it where there is room. It reads nothing of the event.
+fn record<E: Copy>(recorded: &mut Vec<E>, events: &mut u64, settings: &Settings, event: E)
     requires { settings.now.recorder ≤ vec_capacity recorded.old }
     ensures items { recorded.new.items ≡ with_recorded settings.now.recorder event recorded.old.items }
     ensures capacity { vec_capacity recorded.new ≡ vec_capacity recorded.old }
+    ensures counted { events.new ≡ min (events.old + 1) most_events }
 {
+    *events = events.saturating_add(1);
     if recorded.len() < settings.recorder as usize {
         recorded.push_reserved(event);
     }

@@ -29,8 +29,8 @@ invariant_of-self-2 c =
     let x = c.make_room.new.tree in
     let at : c.later-at.result ≡ max a.tree.clock c.args.now = c.later-at.ensures ∙ ap (λ t. max t c.args.now) c.clock.ensures in
     let lost = c.put-fate.ensures.lost ∙ ap (λ (l : LossList). l.waiting ++ losses_in (noted_by_put c.later-at.result c.args.packet x.tree)) c.make_room.ensures.losses in
-    let b = record a { tree = c.put-fate.new.self; losses = c.put-fate.new.sink; recorded = c.record.new.recorded; events = c.saturating_add-self-inside.result } in
-    let h = arrived a b x c.args.packet c.args.now c.later-at.result c.make_room.ensures.same at refl c.put-fate.ensures.after lost refl c.record.ensures.items c.record.ensures.capacity c.saturating_add-self-inside.ensures in
+    let b = record a { tree = c.put-fate.new.self; losses = c.put-fate.new.sink; recorded = c.record.new.recorded; events = c.record.new.events } in
+    let h = arrived a b x c.args.packet c.args.now c.later-at.result c.make_room.ensures.same at refl c.put-fate.ensures.after lost refl c.record.ensures.items c.record.ensures.capacity c.record.ensures.counted in
     let e = event.Arrive c.args.packet c.args.now in
     event-kept a c.self.invariant x e b h (c.packet_ranges.ensures, c.moment_range.ensures)
     (omega (arith, c.in-Ok.ensures.ready.packets, ap (λ (d : DeviceState Counts). d.tree.top.arrived.packets) c.make_room.ensures.same))
@@ -42,8 +42,8 @@ returns-clause-event c =
     let x = c.make_room.new.tree in
     let at : c.later-at.result ≡ max a.tree.clock c.args.now = c.later-at.ensures ∙ ap (λ t. max t c.args.now) c.clock.ensures in
     let lost = c.put-fate.ensures.lost ∙ ap (λ (l : LossList). l.waiting ++ losses_in (noted_by_put c.later-at.result c.args.packet x.tree)) c.make_room.ensures.losses in
-    let b = record a { tree = c.put-fate.new.self; losses = c.put-fate.new.sink; recorded = c.record.new.recorded; events = c.saturating_add-self-inside.result } in
-    let h = arrived a b x c.args.packet c.args.now c.later-at.result c.make_room.ensures.same at refl c.put-fate.ensures.after lost refl c.record.ensures.items c.record.ensures.capacity c.saturating_add-self-inside.ensures in
+    let b = record a { tree = c.put-fate.new.self; losses = c.put-fate.new.sink; recorded = c.record.new.recorded; events = c.record.new.events } in
+    let h = arrived a b x c.args.packet c.args.now c.later-at.result c.make_room.ensures.same at refl c.put-fate.ensures.after lost refl c.record.ensures.items c.record.ensures.capacity c.record.ensures.counted in
     let e = event.Arrive c.args.packet c.args.now in
     event-seen a x e b h ∙ ap (with_event e) c.self.view_is
 
@@ -64,8 +64,8 @@ returns-clause-arrived c =
     let x = c.make_room.new.tree in
     let at : c.later-at.result ≡ max a.tree.clock c.args.now = c.later-at.ensures ∙ ap (λ t. max t c.args.now) c.clock.ensures in
     let lost = c.put-fate.ensures.lost ∙ ap (λ (l : LossList). l.waiting ++ losses_in (noted_by_put c.later-at.result c.args.packet x.tree)) c.make_room.ensures.losses in
-    let b = record a { tree = c.put-fate.new.self; losses = c.put-fate.new.sink; recorded = c.record.new.recorded; events = c.saturating_add-self-inside.result } in
-    let h = arrived a b x c.args.packet c.args.now c.later-at.result c.make_room.ensures.same at refl c.put-fate.ensures.after lost refl c.record.ensures.items c.record.ensures.capacity c.saturating_add-self-inside.ensures in
+    let b = record a { tree = c.put-fate.new.self; losses = c.put-fate.new.sink; recorded = c.record.new.recorded; events = c.record.new.events } in
+    let h = arrived a b x c.args.packet c.args.now c.later-at.result c.make_room.ensures.same at refl c.put-fate.ensures.after lost refl c.record.ensures.items c.record.ensures.capacity c.record.ensures.counted in
     let e = event.Arrive c.args.packet c.args.now in
     ap (λ (d : DeviceSeen). d.device.tree.top.arrived) (event-seen a x e b h)
     ∙ kept-arrived a c.self.invariant e (c.packet_ranges.ensures, c.moment_range.ensures)
@@ -77,7 +77,7 @@ returns-clause-counters c =
     let x = c.make_room.new.tree in
     let at : c.later-at.result ≡ max a.tree.clock c.args.now = c.later-at.ensures ∙ ap (λ t. max t c.args.now) c.clock.ensures in
     let lost = c.put-fate.ensures.lost ∙ ap (λ (l : LossList). l.waiting ++ losses_in (noted_by_put c.later-at.result c.args.packet x.tree)) c.make_room.ensures.losses in
-    let b = record a { tree = c.put-fate.new.self; losses = c.put-fate.new.sink; recorded = c.record.new.recorded; events = c.saturating_add-self-inside.result } in
-    let h = arrived a b x c.args.packet c.args.now c.later-at.result c.make_room.ensures.same at refl c.put-fate.ensures.after lost refl c.record.ensures.items c.record.ensures.capacity c.saturating_add-self-inside.ensures in
+    let b = record a { tree = c.put-fate.new.self; losses = c.put-fate.new.sink; recorded = c.record.new.recorded; events = c.record.new.events } in
+    let h = arrived a b x c.args.packet c.args.now c.later-at.result c.make_room.ensures.same at refl c.put-fate.ensures.after lost refl c.record.ensures.items c.record.ensures.capacity c.record.ensures.counted in
     let e = event.Arrive c.args.packet c.args.now in
     subst (λ (d : DeviceSeen). HasNotFallen d.device.tree.top c.put-fate.new.self.tree.top.counts) c.self.view_is (event-rises a x e b h)

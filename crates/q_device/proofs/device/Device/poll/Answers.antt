@@ -19,8 +19,8 @@ pub invariant_of-self : goal.invariant_of-self
 invariant_of-self c =
     let a = c.self.inside in
     let at : c.later-at.result ≡ max a.tree.clock c.args.now = c.later-at.ensures ∙ ap (λ t. max t c.args.now) c.clock.ensures in
-    let b = record a { tree = c.take-taken.new.self; losses = c.take-taken.new.sink; recorded = c.record.new.recorded; events = c.saturating_add-self-inside.result } in
-    let h = polled a b c.args.now c.later-at.result at refl c.take-taken.ensures.after c.take-taken.ensures.lost refl c.record.ensures.items c.record.ensures.capacity c.saturating_add-self-inside.ensures in
+    let b = record a { tree = c.take-taken.new.self; losses = c.take-taken.new.sink; recorded = c.record.new.recorded; events = c.record.new.events } in
+    let h = polled a b c.args.now c.later-at.result at refl c.take-taken.ensures.after c.take-taken.ensures.lost refl c.record.ensures.items c.record.ensures.capacity c.record.ensures.counted in
     event-kept a c.self.invariant a.tree (event.Poll c.args.now) b h c.moment_range.ensures c.self.invariant.arrivals
     (omega (arith, c.self.invariant.room, ap (λ (l : LossList). l.places) c.take-taken.ensures.kept))
 
@@ -28,8 +28,8 @@ pub returns-clause-event : goal.returns-clause-event
 returns-clause-event c =
     let a = c.self.inside in
     let at : c.later-at.result ≡ max a.tree.clock c.args.now = c.later-at.ensures ∙ ap (λ t. max t c.args.now) c.clock.ensures in
-    let b = record a { tree = c.take-taken.new.self; losses = c.take-taken.new.sink; recorded = c.record.new.recorded; events = c.saturating_add-self-inside.result } in
-    let h = polled a b c.args.now c.later-at.result at refl c.take-taken.ensures.after c.take-taken.ensures.lost refl c.record.ensures.items c.record.ensures.capacity c.saturating_add-self-inside.ensures in
+    let b = record a { tree = c.take-taken.new.self; losses = c.take-taken.new.sink; recorded = c.record.new.recorded; events = c.record.new.events } in
+    let h = polled a b c.args.now c.later-at.result at refl c.take-taken.ensures.after c.take-taken.ensures.lost refl c.record.ensures.items c.record.ensures.capacity c.record.ensures.counted in
     event-seen a a.tree (event.Poll c.args.now) b h ∙ ap (with_event (event.Poll c.args.now)) c.self.view_is
 
 pub returns-clause-reply : goal.returns-clause-reply
@@ -48,8 +48,8 @@ pub returns-clause-arrived : goal.returns-clause-arrived
 returns-clause-arrived c =
     let a = c.self.inside in
     let at : c.later-at.result ≡ max a.tree.clock c.args.now = c.later-at.ensures ∙ ap (λ t. max t c.args.now) c.clock.ensures in
-    let b = record a { tree = c.take-taken.new.self; losses = c.take-taken.new.sink; recorded = c.record.new.recorded; events = c.saturating_add-self-inside.result } in
-    let h = polled a b c.args.now c.later-at.result at refl c.take-taken.ensures.after c.take-taken.ensures.lost refl c.record.ensures.items c.record.ensures.capacity c.saturating_add-self-inside.ensures in
+    let b = record a { tree = c.take-taken.new.self; losses = c.take-taken.new.sink; recorded = c.record.new.recorded; events = c.record.new.events } in
+    let h = polled a b c.args.now c.later-at.result at refl c.take-taken.ensures.after c.take-taken.ensures.lost refl c.record.ensures.items c.record.ensures.capacity c.record.ensures.counted in
     ap (λ (d : DeviceSeen). d.device.tree.top.arrived) (event-seen a a.tree (event.Poll c.args.now) b h)
     ∙ kept-arrived a c.self.invariant (event.Poll c.args.now) c.moment_range.ensures
     ∙ ap (λ (d : DeviceSeen). d.device.tree.top.arrived) c.self.view_is
@@ -58,6 +58,6 @@ pub returns-clause-counters : goal.returns-clause-counters
 returns-clause-counters c =
     let a = c.self.inside in
     let at : c.later-at.result ≡ max a.tree.clock c.args.now = c.later-at.ensures ∙ ap (λ t. max t c.args.now) c.clock.ensures in
-    let b = record a { tree = c.take-taken.new.self; losses = c.take-taken.new.sink; recorded = c.record.new.recorded; events = c.saturating_add-self-inside.result } in
-    let h = polled a b c.args.now c.later-at.result at refl c.take-taken.ensures.after c.take-taken.ensures.lost refl c.record.ensures.items c.record.ensures.capacity c.saturating_add-self-inside.ensures in
+    let b = record a { tree = c.take-taken.new.self; losses = c.take-taken.new.sink; recorded = c.record.new.recorded; events = c.record.new.events } in
+    let h = polled a b c.args.now c.later-at.result at refl c.take-taken.ensures.after c.take-taken.ensures.lost refl c.record.ensures.items c.record.ensures.capacity c.record.ensures.counted in
     subst (λ (d : DeviceSeen). HasNotFallen d.device.tree.top c.take-taken.new.self.tree.top.counts) c.self.view_is (event-rises a a.tree (event.Poll c.args.now) b h)
