@@ -1,5 +1,5 @@
 -- A device of the code keeps its invariant, whatever happens to it.
-use Rattle.std.proofs.Common.{◌≡◌, ◌+◌, ◌<◌, ◌≤◌, ◌^◌, List, [], ◌∷◌, ◌++◌, length, drop, refl, sym, ap, subst, Some, arith, ◌∙◌}
+use Rattle.std.proofs.Common.{◌≡◌, ◌+◌, ◌<◌, ◌≤◌, ◌^◌, List, [], ◌∷◌, ◌++◌, length, take, drop, refl, sym, ap, subst, Some, arith, ◌∙◌}
 use Rattle.std.specs.Prelude.{slice_get, vec_capacity}
 use Rattle.std.proofs.lemmas.List.{length-append, length-drop}
 use Rattle.std.proofs.lemmas.List.Elements.{All-nil, All-cons, All-append}
@@ -20,7 +20,7 @@ use Rattle.q_tree.specs.Kept.{Kept}
 use Rattle.q_tree.specs.TreeSeen.{numbers}
 use Rattle.q_device.specs.declared.device.Device.TheInside.{Inside}
 use Rattle.q_device.specs.Counters.{arrived_after}
-use Rattle.q_device.specs.DeviceSeen.{DeviceSeen, opened, as_counted, with_oldest_out}
+use Rattle.q_device.specs.DeviceSeen.{DeviceSeen, opened, as_counted}
 use Rattle.q_device.specs.Keeping.{device_seen, IsKeptDevice}
 use Rattle.q_device.specs.Replayed.{IsReplayOf}
 use Rattle.q_device.proofs.EventLemmas.{waits-numbers, waits-same, Happened, event-seen}
@@ -105,19 +105,15 @@ module _ (a : Inside) (k : IsKeptDevice a) where
     happened = k.happened;
     events = k.events;
     settings = k.settings;
-    replayed = by a.losses.waiting first refl;
+    replayed = subst (λ n. IsReplayOf k.happened (record (device_seen a) { waiting = drop 1 a.losses.waiting; handed_out = a.handed_out + n })) (one a.losses.waiting first) (replay-reaped k.happened (device_seen a) k.replayed);
     room = omega (arith, k.room, length-drop 1 a.losses.waiting);
     recorder = k.recorder;
     arrivals = k.arrivals;
   })
     where
-      by : (ls : List Loss) → Some l ≡ slice_get ls 0 → a.losses.waiting ≡ ls → IsReplayOf k.happened (device_seen (record a { losses = record a.losses { waiting = drop 1 a.losses.waiting }; handed_out = a.handed_out + 1 }))
-      by [] e is = cc
-      by (x ∷ rest) e is =
-          let d : DeviceSeen = device_seen a in
-          let rests : drop 1 a.losses.waiting ≡ rest = ap (drop 1) is in
-          subst (λ (ls : List Loss). IsReplayOf k.happened (record d { waiting = ls; handed_out = d.handed_out + 1 })) (sym rests)
-          (subst (λ (ls : List Loss). IsReplayOf k.happened (with_oldest_out ls d)) is (replay-reaped k.happened d k.replayed))
+      one : (ls : List Loss) → Some l ≡ slice_get ls 0 → length (take 1 ls) ≡ 1
+      one [] e = cc
+      one (x ∷ rest) e = refl
 
   -- where places were made
   pub room-kept : (x : DeviceState Kept) (losses : LossList) → numbers x ≡ numbers a.tree → losses ≡ record a.losses { places = losses.places } → a.losses.places ≤ losses.places → IsKeptDevice (record a { tree = x; losses = losses })

@@ -1,5 +1,5 @@
 -- A device that is the replay of events is, after one event more, the replay of those and it.
-use Rattle.std.proofs.Common.{◌≡◌, ℕ, ◌<◌, ◌≤◌, max, List, [], ◌∷◌, ◌++◌, length, take, drop, refl, sym, ap, arith, ◌∙◌}
+use Rattle.std.proofs.Common.{◌≡◌, ◌+◌, ◌-◌, ℕ, ◌<◌, ◌≤◌, max, List, [], ◌∷◌, ◌++◌, length, take, drop, refl, sym, ap, arith, ◌∙◌}
 use mathlib.Core.Logic.{inl, inr}
 use Rattle.std.proofs.Math.Seq.{take-nil}
 use Rattle.std.proofs.lemmas.Bool.{cases_lt, cond_below, cond_above}
@@ -12,7 +12,7 @@ use Rattle.q_model.specs.Settings.{DeviceSettings}
 use Rattle.q_model.specs.Step.{DeviceState, arrive, poll, command, step}
 use Rattle.q_model.specs.Tally.{Counts, totals}
 use Rattle.q_device.proofs.ReplayLemmas.{replay_from-append}
-use Rattle.q_device.specs.DeviceSeen.{DeviceSeen, opened, as_counted, with_recorded, with_event, with_oldest_out, reaped}
+use Rattle.q_device.specs.DeviceSeen.{DeviceSeen, opened, as_counted, with_recorded, with_event, reaped}
 use Rattle.q_device.specs.Replayed.{IsReplayOf}
 
 -- a new device
@@ -66,17 +66,17 @@ module _ (events : List Event) (d : DeviceSeen) (h : IsReplayOf events d) where
 
   -- the oldest loss handed out
   pub replay-reaped : IsReplayOf events (reaped d)
-  replay-reaped = by d.waiting refl
+  replay-reaped =
+      let all = (replay totals d.settings events).losses in
+      let waits : length d.waiting ≡ length all - d.handed_out = ap length h.waiting ∙ length-drop d.handed_out all in
+      record {
+        device = h.device;
+        handed_out = omega (arith, h.handed_out, waits, length-take 1 d.waiting);
+        waiting = by d.waiting h.waiting;
+        recorded = h.recorded;
+        counted = h.counted;
+      }
     where
-      by : (ls : List Loss) → d.waiting ≡ ls → IsReplayOf events (with_oldest_out ls d)
-      by [] is = h
-      by (l ∷ rest) is =
-          let all = (replay totals d.settings events).losses in
-          let same : drop d.handed_out all ≡ l ∷ rest = sym h.waiting ∙ is in
-          record {
-            device = h.device;
-            handed_out = omega (arith, h.handed_out, length-drop d.handed_out all, ap length same);
-            waiting = sym (ap (drop 1) same) ∙ drop-drop 1 d.handed_out all;
-            recorded = h.recorded;
-            counted = h.counted;
-          }
+      by : (ls : List Loss) → ls ≡ drop d.handed_out (replay totals d.settings events).losses → drop 1 ls ≡ drop (d.handed_out + length (take 1 ls)) (replay totals d.settings events).losses
+      by [] is = is ∙ ap (λ n. drop n (replay totals d.settings events).losses) (let same : d.handed_out ≡ d.handed_out + 0 = omega arith in same)
+      by (l ∷ rest) is = ap (drop 1) is ∙ drop-drop 1 d.handed_out (replay totals d.settings events).losses

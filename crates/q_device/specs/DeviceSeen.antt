@@ -1,6 +1,6 @@
 -- What a contract sees of a device of the code, and what an event and a reap make of it.
 -- What an event makes of the tree stands in q_model's specs/Step.antt; the recorder and the lost list are this project's own.
-use Rattle.std.specs.Prelude.{ℕ, ◌+◌, ◌-◌, ◌^◌, min, if◌then◌else◌, nat_lt, List, [], ◌∷◌, ◌++◌, length}
+use Rattle.std.specs.Prelude.{ℕ, ◌+◌, ◌-◌, ◌^◌, min, if◌then◌else◌, nat_lt, List, [], ◌∷◌, ◌++◌, length, take, drop}
 use Rattle.q_codel.specs.declared.loss.Loss.{Loss}
 use Rattle.q_model.specs.declared.event.Event.{Event}
 use Rattle.q_model.specs.declared.event.Event.TheVariants.{Arrive, Poll, Command}
@@ -48,9 +48,5 @@ with_event e d =
     }
 
 -- the oldest of the losses that wait is handed out, where one waits
-abbrev pub with_oldest_out : List Loss → DeviceSeen → DeviceSeen
-with_oldest_out [] d = d
-with_oldest_out (l ∷ rest) d = record d { waiting = rest; handed_out = d.handed_out + 1 }
-
 abbrev pub reaped : DeviceSeen → DeviceSeen
-reaped d = with_oldest_out d.waiting d
+reaped d = record d { waiting = drop 1 d.waiting; handed_out = d.handed_out + length (take 1 d.waiting) }

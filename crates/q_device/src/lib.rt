@@ -19,4 +19,5 @@ mod ranges;
 
 pub use crate::device::Device;
 pub use q_codel::Loss as Lost;
-pub use q_model::{Event, Fate, Polled, Refusal, Reply, Settings};
+pub use q_model::{Event, Fate, Place, Polled, Refusal, Reply, Row, Settings, Totals};
+pub use q_tree::Tree;
