@@ -41,56 +41,52 @@ module _ (d : DeviceState Counts) (x : DeviceState Kept) (same : numbers x ≡ d
   pub losses-step : (step kept x e).losses ≡ (step totals d e).losses
   losses-step = stood.losses ∙ ap (λ y. (step totals y e).losses) same
 
--- An event changed the fields of a device so, in whose tree places may have been made before.
-pub record Happened (a : Inside) (x : DeviceState Kept) (e : Event) (b : Inside) : Type 0 where
-  pub same : numbers x ≡ numbers a.tree
+-- An event changed the fields of a device so.
+pub record Happened (a : Inside) (e : Event) (b : Inside) : Type 0 where
   pub settings : b.settings ≡ a.settings
-  pub tree : b.tree ≡ (step kept x e).device
-  pub waiting : b.losses.waiting ≡ a.losses.waiting ++ (step kept x e).losses
+  pub tree : numbers b.tree ≡ (step totals (numbers a.tree) e).device
+  pub waiting : b.losses.waiting ≡ a.losses.waiting ++ (step totals (numbers a.tree) e).losses
   pub handed_out : b.handed_out ≡ a.handed_out
   pub recorded : b.recorded.items ≡ with_recorded a.settings.recorder (as_counted (numbers a.tree) e) a.recorded.items
   pub capacity : vec_capacity b.recorded ≡ vec_capacity a.recorded
   pub events : b.events ≡ min (a.events + 1) most_events
 
-module _ (a : Inside) (x : DeviceState Kept) (e : Event) (b : Inside) (h : Happened a x e b) where
+module _ (a : Inside) (e : Event) (b : Inside) (h : Happened a e b) where
   pub event-seen : device_seen b ≡ with_event e (device_seen a)
-  event-seen = λ i. record {
-    settings = h.settings i;
-    device = (ap numbers h.tree ∙ numbers-step (numbers a.tree) x h.same e) i;
-    waiting = (h.waiting ∙ ap (λ (ls : List Loss). a.losses.waiting ++ ls) (losses-step (numbers a.tree) x h.same e)) i;
-    handed_out = h.handed_out i;
-    recorded = h.recorded i;
-    events = h.events i;
-  }
+  event-seen = λ i. record { settings = h.settings i; device = h.tree i; waiting = h.waiting i; handed_out = h.handed_out i; recorded = h.recorded i; events = h.events i }
 
   pub event-rises : HasNotFallen (device_seen a).device.tree.top (device_seen b).device.tree.top
   event-rises = subst (λ (d : DeviceSeen). HasNotFallen (device_seen a).device.tree.top d.device.tree.top) (sym event-seen) (step-rises (numbers a.tree) e)
 
--- a poll, and an arrival, at the moment at which they count
+-- a poll, at the moment at which it counts
 pub polled : (a b : Inside) (now at : ℕ) → at ≡ max a.tree.clock now → b.settings ≡ a.settings → b.tree ≡ record { clock = at; tree = take_packet kept at a.tree.tree }
     → b.losses.waiting ≡ a.losses.waiting ++ losses_in (noted_by_take at a.tree.tree) → b.handed_out ≡ a.handed_out → b.recorded.items ≡ with_recorded a.settings.recorder (event.Poll at) a.recorded.items
-    → vec_capacity b.recorded ≡ vec_capacity a.recorded → b.events ≡ min (a.events + 1) most_events → Happened a a.tree (event.Poll now) b
-polled a b now at is settings tree waiting handed_out recorded capacity events = record {
-  same = refl;
-  settings = settings;
-  tree = tree ∙ ap (λ t. record { clock = t; tree = take_packet kept t a.tree.tree }) is;
-  waiting = waiting ∙ ap (λ t. a.losses.waiting ++ losses_in (noted_by_take t a.tree.tree)) is;
-  handed_out = handed_out;
-  recorded = recorded ∙ ap (λ t. with_recorded a.settings.recorder (event.Poll t) a.recorded.items) is;
-  capacity = capacity;
-  events = events;
-}
+    → vec_capacity b.recorded ≡ vec_capacity a.recorded → b.events ≡ min (a.events + 1) most_events → Happened a (event.Poll now) b
+polled a b now at is settings tree waiting handed_out recorded capacity events =
+    let d = numbers a.tree in
+    let e = event.Poll now in
+    record {
+      settings = settings;
+      tree = ap numbers (tree ∙ ap (λ t. record { clock = t; tree = take_packet kept t a.tree.tree }) is) ∙ numbers-step d a.tree refl e;
+      waiting = waiting ∙ ap (λ t. a.losses.waiting ++ losses_in (noted_by_take t a.tree.tree)) is ∙ ap (λ (ls : List Loss). a.losses.waiting ++ ls) (losses-step d a.tree refl e);
+      handed_out = handed_out;
+      recorded = recorded ∙ ap (λ t. with_recorded a.settings.recorder (event.Poll t) a.recorded.items) is;
+      capacity = capacity;
+      events = events;
+    }
 
+-- an arrival, once places were made in the tree
 pub arrived : (a b : Inside) (x : DeviceState Kept) (p : Descriptor) (now at : ℕ) → numbers x ≡ numbers a.tree → at ≡ max a.tree.clock now → b.settings ≡ a.settings → b.tree ≡ record { clock = at; tree = put kept at p x.tree }
     → b.losses.waiting ≡ a.losses.waiting ++ losses_in (noted_by_put at p x.tree) → b.handed_out ≡ a.handed_out → b.recorded.items ≡ with_recorded a.settings.recorder (event.Arrive p at) a.recorded.items
-    → vec_capacity b.recorded ≡ vec_capacity a.recorded → b.events ≡ min (a.events + 1) most_events → Happened a x (event.Arrive p now) b
+    → vec_capacity b.recorded ≡ vec_capacity a.recorded → b.events ≡ min (a.events + 1) most_events → Happened a (event.Arrive p now) b
 arrived a b x p now at same is settings tree waiting handed_out recorded capacity events =
-    let here : at ≡ max x.clock now = is ∙ ap (λ (d : DeviceState Counts). max d.clock now) (sym same) in
+    let d = numbers a.tree in
+    let e = event.Arrive p now in
+    let here : at ≡ max x.clock now = is ∙ ap (λ (y : DeviceState Counts). max y.clock now) (sym same) in
     record {
-      same = same;
       settings = settings;
-      tree = tree ∙ ap (λ t. record { clock = t; tree = put kept t p x.tree }) here;
-      waiting = waiting ∙ ap (λ t. a.losses.waiting ++ losses_in (noted_by_put t p x.tree)) here;
+      tree = ap numbers (tree ∙ ap (λ t. record { clock = t; tree = put kept t p x.tree }) here) ∙ numbers-step d x same e;
+      waiting = waiting ∙ ap (λ t. a.losses.waiting ++ losses_in (noted_by_put t p x.tree)) here ∙ ap (λ (ls : List Loss). a.losses.waiting ++ ls) (losses-step d x same e);
       handed_out = handed_out;
       recorded = recorded ∙ ap (λ t. with_recorded a.settings.recorder (event.Arrive p t) a.recorded.items) is;
       capacity = capacity;

@@ -58,11 +58,11 @@ module _ (a : Inside) (k : IsKeptDevice a) where
   kept-arrived e is = seen-arrived k.happened (device_seen a) k.replayed k.settings k.events e is
 
   -- after an event, for whose losses there was room
-  pub event-kept : (x : DeviceState Kept) (e : Event) (b : Inside) → Happened a x e b → IsEvent e → (arrived_after e a.tree.tree.top.counts.arrived).packets < 2 ^ 64
+  pub event-kept : (e : Event) (b : Inside) → Happened a e b → IsEvent e → (arrived_after e a.tree.tree.top.counts.arrived).packets < 2 ^ 64
       → length (beneath a.tree.tree.root) + (arrived_after e a.tree.tree.top.counts.arrived).packets + length a.losses.waiting ≤ b.losses.places + a.tree.tree.top.counts.arrived.packets
       → IsKeptDevice b
-  event-kept x e b happened is fits room =
-      let seen = event-seen a x e b happened in
+  event-kept e b happened is fits room =
+      let seen = event-seen a e b happened in
       let d : DeviceSeen = device_seen a in
       let events : List Event = k.happened ++ as_counted d.device e ∷ [] in
       let replayed : IsReplayOf events (device_seen b) = subst (IsReplayOf events) (sym seen) (replay-more k.happened d k.replayed e) in

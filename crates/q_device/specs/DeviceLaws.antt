@@ -7,8 +7,10 @@ use Rattle.q_model.specs.Beneath.{beneath}
 use Rattle.q_model.specs.Conserved.{IsBalanced}
 use Rattle.q_model.specs.Events.{IsEvent}
 use Rattle.q_model.specs.Lawful.{IsLawfulTree}
-use Rattle.q_model.specs.Tally.{totals}
+use Rattle.q_model.specs.Step.{DeviceState, step}
+use Rattle.q_model.specs.Tally.{Counts, totals}
 use Rattle.q_model.specs.TreeState.{stats}
+use Rattle.q_device.specs.Counters.{HasNotFallen, arrived_after}
 use Rattle.q_device.specs.DeviceSeen.{DeviceSeen}
 use Rattle.q_device.specs.Replayed.{IsReplayOf}
 
@@ -32,3 +34,11 @@ pub record IsLawfulDevice (d : DeviceSeen) : Type 0 where
 pub record TellsItsLosses (d : DeviceSeen) : Type 0 where
   pub lost : d.handed_out + length d.waiting ≡ d.device.tree.top.refused.packets + d.device.tree.top.dropped.packets
   pub arrived : d.device.tree.top.arrived.packets ≡ d.device.tree.top.sent.packets + d.handed_out + length d.waiting + length (beneath d.device.tree.root)
+
+-- Whatever happens next, arrivals alone count as arrived.
+abbrev pub ArrivesByArrivals : DeviceSeen → Type 0
+ArrivesByArrivals d = (e : Event) → IsEvent e → (step totals d.device e).device.tree.top.arrived ≡ arrived_after e d.device.tree.top.arrived
+
+-- No event lowers a counter, whatever the device.
+abbrev pub CountersNeverFall : Type 0
+CountersNeverFall = (d : DeviceState Counts) (e : Event) → HasNotFallen d.tree.top (step totals d e).device.tree.top

@@ -1,5 +1,5 @@
 //! What is true of every device and every replay. Each law is the contract of a function that does nothing.
-ghost use Rattle.q_device.specs.DeviceLaws.{IsReplayed, IsReplayOfRecorded, IsLawfulDevice, TellsItsLosses};
+ghost use Rattle.q_device.specs.DeviceLaws.{ArrivesByArrivals, CountersNeverFall, IsLawfulDevice, IsReplayed, IsReplayOfRecorded, TellsItsLosses};
 ghost use Rattle.q_device.specs.Laws.{ReplayGoesOn, ShrinkCommutes, ReplayShrinks, EveryReplayIsSound, TotalsAreLawful, EveryReplayTellsAll};
 ghost use Rattle.q_device.specs.Sharing.{ClassesSendTheirShares, DeficitsAreBounded, GrantsComeWhereShort, ClassesWakeWithAQuantum, ClassesShareByQuanta, BucketsAreBounded, FlowsGiveTheirShares, FlowsBeginNew, FlowsAreGrantedEvenly};
 
@@ -114,3 +114,15 @@ pub fn device_tells_its_losses(device: &Device)
 {
     device.kept();
 }
+
+/// Whatever happens next to a device, its arrived grows by the packet of an arrival, and by nothing else.
+pub fn arrivals_alone_arrive(device: &Device)
+    ensures { ArrivesByArrivals device.now }
+{
+    device.kept();
+}
+
+/// No event lowers what a device counts as arrived, sent, refused, dropped or marked.
+pub fn counters_never_fall()
+    ensures { CountersNeverFall }
+{}

@@ -32,7 +32,7 @@ invariant_of-self-2 c =
     let b = record a { tree = c.put-fate.new.self; losses = c.put-fate.new.sink; recorded = c.record.new.recorded; events = c.record.new.events } in
     let h = arrived a b x c.args.packet c.args.now c.later-at.result c.make_room.ensures.same at refl c.put-fate.ensures.after lost refl c.record.ensures.items c.record.ensures.capacity c.record.ensures.counted in
     let e = event.Arrive c.args.packet c.args.now in
-    event-kept a c.self.invariant x e b h (c.packet_ranges.ensures, c.moment_range.ensures)
+    event-kept a c.self.invariant e b h (c.packet_ranges.ensures, c.moment_range.ensures)
     (omega (arith, c.in-Ok.ensures.ready.packets, ap (λ (d : DeviceState Counts). d.tree.top.arrived.packets) c.make_room.ensures.same))
     (omega (arith, c.in-Ok.ensures.room, ap (λ (l : LossList). l.places) c.put-fate.ensures.kept))
 
@@ -45,7 +45,7 @@ returns-clause-event c =
     let b = record a { tree = c.put-fate.new.self; losses = c.put-fate.new.sink; recorded = c.record.new.recorded; events = c.record.new.events } in
     let h = arrived a b x c.args.packet c.args.now c.later-at.result c.make_room.ensures.same at refl c.put-fate.ensures.after lost refl c.record.ensures.items c.record.ensures.capacity c.record.ensures.counted in
     let e = event.Arrive c.args.packet c.args.now in
-    event-seen a x e b h ∙ ap (with_event e) c.self.view_is
+    event-seen a e b h ∙ ap (with_event e) c.self.view_is
 
 pub returns-clause-fate : goal.returns-clause-fate
 returns-clause-fate c =
@@ -67,7 +67,7 @@ returns-clause-arrived c =
     let b = record a { tree = c.put-fate.new.self; losses = c.put-fate.new.sink; recorded = c.record.new.recorded; events = c.record.new.events } in
     let h = arrived a b x c.args.packet c.args.now c.later-at.result c.make_room.ensures.same at refl c.put-fate.ensures.after lost refl c.record.ensures.items c.record.ensures.capacity c.record.ensures.counted in
     let e = event.Arrive c.args.packet c.args.now in
-    ap (λ (d : DeviceSeen). d.device.tree.top.arrived) (event-seen a x e b h)
+    ap (λ (d : DeviceSeen). d.device.tree.top.arrived) (event-seen a e b h)
     ∙ kept-arrived a c.self.invariant e (c.packet_ranges.ensures, c.moment_range.ensures)
     ∙ ap (λ (d : DeviceSeen). with_packet d.device.tree.top.arrived c.args.packet) c.self.view_is
 
@@ -80,4 +80,4 @@ returns-clause-counters c =
     let b = record a { tree = c.put-fate.new.self; losses = c.put-fate.new.sink; recorded = c.record.new.recorded; events = c.record.new.events } in
     let h = arrived a b x c.args.packet c.args.now c.later-at.result c.make_room.ensures.same at refl c.put-fate.ensures.after lost refl c.record.ensures.items c.record.ensures.capacity c.record.ensures.counted in
     let e = event.Arrive c.args.packet c.args.now in
-    subst (λ (d : DeviceSeen). HasNotFallen d.device.tree.top c.put-fate.new.self.tree.top.counts) c.self.view_is (event-rises a x e b h)
+    subst (λ (d : DeviceSeen). HasNotFallen d.device.tree.top c.put-fate.new.self.tree.top.counts) c.self.view_is (event-rises a e b h)

@@ -21,7 +21,7 @@ invariant_of-self c =
     let at : c.later-at.result ≡ max a.tree.clock c.args.now = c.later-at.ensures ∙ ap (λ t. max t c.args.now) c.clock.ensures in
     let b = record a { tree = c.take-taken.new.self; losses = c.take-taken.new.sink; recorded = c.record.new.recorded; events = c.record.new.events } in
     let h = polled a b c.args.now c.later-at.result at refl c.take-taken.ensures.after c.take-taken.ensures.lost refl c.record.ensures.items c.record.ensures.capacity c.record.ensures.counted in
-    event-kept a c.self.invariant a.tree (event.Poll c.args.now) b h c.moment_range.ensures c.self.invariant.arrivals
+    event-kept a c.self.invariant (event.Poll c.args.now) b h c.moment_range.ensures c.self.invariant.arrivals
     (omega (arith, c.self.invariant.room, ap (λ (l : LossList). l.places) c.take-taken.ensures.kept))
 
 pub returns-clause-event : goal.returns-clause-event
@@ -30,7 +30,7 @@ returns-clause-event c =
     let at : c.later-at.result ≡ max a.tree.clock c.args.now = c.later-at.ensures ∙ ap (λ t. max t c.args.now) c.clock.ensures in
     let b = record a { tree = c.take-taken.new.self; losses = c.take-taken.new.sink; recorded = c.record.new.recorded; events = c.record.new.events } in
     let h = polled a b c.args.now c.later-at.result at refl c.take-taken.ensures.after c.take-taken.ensures.lost refl c.record.ensures.items c.record.ensures.capacity c.record.ensures.counted in
-    event-seen a a.tree (event.Poll c.args.now) b h ∙ ap (with_event (event.Poll c.args.now)) c.self.view_is
+    event-seen a (event.Poll c.args.now) b h ∙ ap (with_event (event.Poll c.args.now)) c.self.view_is
 
 pub returns-clause-reply : goal.returns-clause-reply
 returns-clause-reply c =
@@ -50,7 +50,7 @@ returns-clause-arrived c =
     let at : c.later-at.result ≡ max a.tree.clock c.args.now = c.later-at.ensures ∙ ap (λ t. max t c.args.now) c.clock.ensures in
     let b = record a { tree = c.take-taken.new.self; losses = c.take-taken.new.sink; recorded = c.record.new.recorded; events = c.record.new.events } in
     let h = polled a b c.args.now c.later-at.result at refl c.take-taken.ensures.after c.take-taken.ensures.lost refl c.record.ensures.items c.record.ensures.capacity c.record.ensures.counted in
-    ap (λ (d : DeviceSeen). d.device.tree.top.arrived) (event-seen a a.tree (event.Poll c.args.now) b h)
+    ap (λ (d : DeviceSeen). d.device.tree.top.arrived) (event-seen a (event.Poll c.args.now) b h)
     ∙ kept-arrived a c.self.invariant (event.Poll c.args.now) c.moment_range.ensures
     ∙ ap (λ (d : DeviceSeen). d.device.tree.top.arrived) c.self.view_is
 
@@ -60,4 +60,4 @@ returns-clause-counters c =
     let at : c.later-at.result ≡ max a.tree.clock c.args.now = c.later-at.ensures ∙ ap (λ t. max t c.args.now) c.clock.ensures in
     let b = record a { tree = c.take-taken.new.self; losses = c.take-taken.new.sink; recorded = c.record.new.recorded; events = c.record.new.events } in
     let h = polled a b c.args.now c.later-at.result at refl c.take-taken.ensures.after c.take-taken.ensures.lost refl c.record.ensures.items c.record.ensures.capacity c.record.ensures.counted in
-    subst (λ (d : DeviceSeen). HasNotFallen d.device.tree.top c.take-taken.new.self.tree.top.counts) c.self.view_is (event-rises a a.tree (event.Poll c.args.now) b h)
+    subst (λ (d : DeviceSeen). HasNotFallen d.device.tree.top c.take-taken.new.self.tree.top.counts) c.self.view_is (event-rises a (event.Poll c.args.now) b h)
