@@ -1,6 +1,14 @@
 mod BucketStretches
 pub mod ClassStretches
+pub mod CountLemmas
+pub mod DeviceLaws
+pub mod EventLemmas
 pub mod FlowStretches
+pub mod KeptLemmas
+pub mod LawfulLemmas
 pub mod ReplayLemmas
+pub mod ReplayedLemmas
 pub mod ShrinkLemmas
+pub mod StatsStands
+pub mod StepStands
 pub mod ToldLemmas

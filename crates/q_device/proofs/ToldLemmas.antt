@@ -34,11 +34,11 @@ use Rattle.q_sound.proofs.Replays.{IsKept, not-after, step-kept, new-kept-device
 use Rattle.q_device.specs.Laws.{brought, given_in, TellsAll}
 
 -- notes of losses and marks alone
-record AreLosses (notes : List Note) : Type 0 where
-  none_arrived : filter_map arrival_in notes ≡ []
-  none_sent : filter_map sent_in notes ≡ []
+pub record AreLosses (notes : List Note) : Type 0 where
+  pub none_arrived : filter_map arrival_in notes ≡ []
+  pub none_sent : filter_map sent_in notes ≡ []
 
-losses-are : (cause : Cause) (ps : List Descriptor) → AreLosses (losses_of cause ps)
+pub losses-are : (cause : Cause) (ps : List Descriptor) → AreLosses (losses_of cause ps)
 losses-are cause [] = record { none_arrived = refl; none_sent = refl }
 losses-are cause (p ∷ ps) = let rest = losses-are cause ps in record { none_arrived = rest.none_arrived; none_sent = rest.none_sent }
 
@@ -62,12 +62,12 @@ along-are now p o (i ∷ path) s = by (slice_get (children s) i) (λ c. along-ar
     by None h = here-are now p o s
     by (Some c) h = h c
 
-on-are : (now : ℕ) (p : Descriptor) (r : Option Route) (s : Shape) → AreLosses (put_on now p r s).rises
+pub on-are : (now : ℕ) (p : Descriptor) (r : Option Route) (s : Shape) → AreLosses (put_on now p r s).rises
 on-are now p None s = record { none_arrived = refl; none_sent = refl }
 on-are now p (Some r) s = along-are now p r.refusal r.path s
 
 -- what a poll hands up holds no arrival and nothing sent
-quiet-are : (notes : List Note) → IsQuiet notes → AreLosses notes
+pub quiet-are : (notes : List Note) → IsQuiet notes → AreLosses notes
 quiet-are notes h = record {
   none_arrived = nil_from_length (filter_map arrival_in notes) (omega (arith, weigh-count (filter_map arrival_in notes), weigh-arrivals (λ p. 1) notes, h.no_arrival (λ p. 1)));
   none_sent = nil_from_length (filter_map sent_in notes) (omega (arith, weigh-count (filter_map sent_in notes), weigh-sent (λ p. 1) notes, h.nothing_sent (λ p. 1)));

@@ -1,7 +1,9 @@
 //! What is true of every device and every replay. Each law is the contract of a function that does nothing.
+ghost use Rattle.q_device.specs.DeviceLaws.{ArrivesByArrivals, CountersNeverFall, IsLawfulDevice, IsReplayed, IsReplayOfRecorded, TellsItsLosses};
 ghost use Rattle.q_device.specs.Laws.{ReplayGoesOn, ShrinkCommutes, ReplayShrinks, EveryReplayIsSound, TotalsAreLawful, EveryReplayTellsAll};
 ghost use Rattle.q_device.specs.Sharing.{ClassesSendTheirShares, DeficitsAreBounded, GrantsComeWhereShort, ClassesWakeWithAQuantum, ClassesShareByQuanta, BucketsAreBounded, FlowsGiveTheirShares, FlowsBeginNew, FlowsAreGrantedEvenly};
 
+use crate::device::Device;
 use q_model::Settings;
 
 /// The replay of a longer list is the step of the replay: what happens next depends on the device alone.
@@ -86,3 +88,41 @@ pub fn flow_stretch(settings: Settings)
 {
     settings.ranges();
 }
+
+/// A device is the replay of all that happened to it: its tree, with its clock, its counters and its queues, and its losses, the
+/// first of which were handed out while the others wait. The recorded events are the first of those; where there were no more
+/// than the recorder keeps, the device is the replay of them.
+pub fn device_is_replayed(device: &Device)
+    ensures all { IsReplayed device.now }
+    ensures recorded { IsReplayOfRecorded device.now }
+{
+    device.kept();
+}
+
+/// The tree of a device is lawful, and each of its rows balanced: arrived is sent, refused, dropped and queued together, in
+/// packets and bytes.
+pub fn device_is_lawful(device: &Device)
+    ensures { IsLawfulDevice device.now }
+{
+    device.kept();
+}
+
+/// Each packet that a device counts as refused or dropped was handed out as a loss, or waits for it; and each that arrived was
+/// sent, is queued, or was lost so.
+pub fn device_tells_its_losses(device: &Device)
+    ensures { TellsItsLosses device.now }
+{
+    device.kept();
+}
+
+/// Whatever happens next to a device, its arrived grows by the packet of an arrival, and by nothing else.
+pub fn arrivals_alone_arrive(device: &Device)
+    ensures { ArrivesByArrivals device.now }
+{
+    device.kept();
+}
+
+/// No event lowers what a device counts as arrived, sent, refused, dropped or marked.
+pub fn counters_never_fall()
+    ensures { CountersNeverFall }
+{}

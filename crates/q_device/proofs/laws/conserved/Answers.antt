@@ -1,11 +1,8 @@
-use Rattle.std.proofs.Common.{subst}
-use Rattle.q_model.specs.Tally.{Counts, totals, history}
-use Rattle.q_model.specs.Lawful.{IsLawfulTree}
 use Rattle.q_model.specs.Replay.{replay}
-use Rattle.q_model.specs.Step.{DeviceState}
+use Rattle.q_model.specs.Tally.{history}
 use Rattle.q_sound.proofs.Replays.{replay-kept}
-use Rattle.q_sound.proofs.Sound.{kept-sound, kept-totals}
-use Rattle.q_device.proofs.ShrinkLemmas.{replay-shrunk}
+use Rattle.q_sound.proofs.Sound.{kept-sound}
+use Rattle.q_device.proofs.LawfulLemmas.{replay-lawful}
 use Rattle.q_device.proofs.ToldLemmas.{replay-tells}
 use Rattle.q_device.proofs.laws.conserved.Goals as goal
 
@@ -15,10 +12,7 @@ returns-clause-histories c = λ events all.
     kept-sound d.clock d.tree (replay-kept c.args.settings events c.ranges-2.ensures all)
 
 pub returns-clause-totals : goal.returns-clause-totals
-returns-clause-totals c = λ events all.
-    let d = (replay history c.args.settings events).device in
-    subst (λ (x : DeviceState Counts). IsLawfulTree totals x.clock x.tree) (replay-shrunk c.args.settings events).device
-    (kept-totals d.clock d.tree (replay-kept c.args.settings events c.ranges-2.ensures all))
+returns-clause-totals c = λ events all. replay-lawful c.args.settings events c.ranges-2.ensures all
 
 pub returns-clause-answers : goal.returns-clause-answers
 returns-clause-answers c = λ events all. replay-tells c.args.settings events c.ranges-2.ensures all

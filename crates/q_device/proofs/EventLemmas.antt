@@ -1,0 +1,94 @@
+-- What an event makes of the fields of a device.
+use Rattle.std.proofs.Common.{◌≡◌, ◌∙◌, ℕ, ◌+◌, ◌++◌, length, max, min, List, refl, sym, ap, subst}
+use Rattle.std.specs.Prelude.{vec_capacity}
+use Rattle.q_codel.specs.declared.loss.Loss.{Loss}
+use Rattle.q_packet.specs.Descriptor.{Descriptor}
+use Rattle.q_model.specs.Beneath.{beneath, beneath_own}
+use Rattle.q_model.specs.declared.event.Event.{Event}
+use Rattle.q_model.specs.declared.event.Event.TheVariants as event
+use Rattle.q_model.specs.Step.{DeviceState, losses_in, step}
+use Rattle.q_model.specs.Tally.{Counts, totals}
+use Rattle.q_model.specs.TreeState.{noted_by_put, noted_by_take, put, take_packet}
+use Rattle.q_model.proofs.ShrinkLemmas.{each-each_memory}
+use Rattle.q_tree.specs.Kept.{Kept, kept}
+use Rattle.q_tree.specs.TreeSeen.{numbers}
+use Rattle.q_tree.proofs.TreeLemmas.{stands}
+use Rattle.q_device.specs.declared.device.Device.TheInside.{Inside}
+use Rattle.q_device.specs.Counters.{HasNotFallen}
+use Rattle.q_device.specs.DeviceSeen.{DeviceSeen, as_counted, most_events, with_event, with_recorded}
+use Rattle.q_device.specs.Keeping.{device_seen}
+use Rattle.q_device.proofs.CountLemmas.{step-rises}
+use Rattle.q_device.proofs.StepStands.{Stands, step-stands}
+
+-- what waits in a tree, by its numbers
+pub waits-numbers : (x : DeviceState Kept) → beneath (numbers x).tree.root ≡ beneath x.tree.root
+waits-numbers x = ap (beneath_own x.tree.root.own) (each-each_memory beneath_own (λ (k : Kept). k.counts) x.tree.root.below)
+
+pub waits-same : (x y : DeviceState Kept) → numbers x ≡ numbers y → length (beneath x.tree.root) ≡ length (beneath y.tree.root)
+waits-same x y same = ap (λ (ps : List Descriptor). length ps) (sym (waits-numbers x) ∙ ap (λ (d : DeviceState Counts). beneath d.tree.root) same ∙ waits-numbers y)
+
+-- The step of a tree of the code is that of its numbers, also where places were made in it before.
+module _ (d : DeviceState Counts) (x : DeviceState Kept) (same : numbers x ≡ d) (e : Event) where
+  stood : Stands (λ (k : Kept). k.counts) (step kept x e) (step totals (numbers x) e)
+  stood = step-stands kept totals (λ (k : Kept). k.counts) stands x e
+
+  pub numbers-step : numbers (step kept x e).device ≡ (step totals d e).device
+  numbers-step = stood.device ∙ ap (λ y. (step totals y e).device) same
+
+  pub reply-step : (step kept x e).reply ≡ (step totals d e).reply
+  reply-step = stood.reply ∙ ap (λ y. (step totals y e).reply) same
+
+  pub losses-step : (step kept x e).losses ≡ (step totals d e).losses
+  losses-step = stood.losses ∙ ap (λ y. (step totals y e).losses) same
+
+-- An event changed the fields of a device so.
+pub record Happened (a : Inside) (e : Event) (b : Inside) : Type 0 where
+  pub settings : b.settings ≡ a.settings
+  pub tree : numbers b.tree ≡ (step totals (numbers a.tree) e).device
+  pub waiting : b.losses.waiting ≡ a.losses.waiting ++ (step totals (numbers a.tree) e).losses
+  pub handed_out : b.handed_out ≡ a.handed_out
+  pub recorded : b.recorded.items ≡ with_recorded a.settings.recorder (as_counted (numbers a.tree) e) a.recorded.items
+  pub capacity : vec_capacity b.recorded ≡ vec_capacity a.recorded
+  pub events : b.events ≡ min (a.events + 1) most_events
+
+module _ (a : Inside) (e : Event) (b : Inside) (h : Happened a e b) where
+  pub event-seen : device_seen b ≡ with_event e (device_seen a)
+  event-seen = λ i. record { settings = h.settings i; device = h.tree i; waiting = h.waiting i; handed_out = h.handed_out i; recorded = h.recorded i; events = h.events i }
+
+  pub event-rises : HasNotFallen (device_seen a).device.tree.top (device_seen b).device.tree.top
+  event-rises = subst (λ (d : DeviceSeen). HasNotFallen (device_seen a).device.tree.top d.device.tree.top) (sym event-seen) (step-rises (numbers a.tree) e)
+
+-- a poll, at the moment at which it counts
+pub polled : (a b : Inside) (now at : ℕ) → at ≡ max a.tree.clock now → b.settings ≡ a.settings → b.tree ≡ record { clock = at; tree = take_packet kept at a.tree.tree }
+    → b.losses.waiting ≡ a.losses.waiting ++ losses_in (noted_by_take at a.tree.tree) → b.handed_out ≡ a.handed_out → b.recorded.items ≡ with_recorded a.settings.recorder (event.Poll at) a.recorded.items
+    → vec_capacity b.recorded ≡ vec_capacity a.recorded → b.events ≡ min (a.events + 1) most_events → Happened a (event.Poll now) b
+polled a b now at is settings tree waiting handed_out recorded capacity events =
+    let d = numbers a.tree in
+    let e = event.Poll now in
+    record {
+      settings = settings;
+      tree = ap numbers (tree ∙ ap (λ t. record { clock = t; tree = take_packet kept t a.tree.tree }) is) ∙ numbers-step d a.tree refl e;
+      waiting = waiting ∙ ap (λ t. a.losses.waiting ++ losses_in (noted_by_take t a.tree.tree)) is ∙ ap (λ (ls : List Loss). a.losses.waiting ++ ls) (losses-step d a.tree refl e);
+      handed_out = handed_out;
+      recorded = recorded ∙ ap (λ t. with_recorded a.settings.recorder (event.Poll t) a.recorded.items) is;
+      capacity = capacity;
+      events = events;
+    }
+
+-- an arrival, once places were made in the tree
+pub arrived : (a b : Inside) (x : DeviceState Kept) (p : Descriptor) (now at : ℕ) → numbers x ≡ numbers a.tree → at ≡ max a.tree.clock now → b.settings ≡ a.settings → b.tree ≡ record { clock = at; tree = put kept at p x.tree }
+    → b.losses.waiting ≡ a.losses.waiting ++ losses_in (noted_by_put at p x.tree) → b.handed_out ≡ a.handed_out → b.recorded.items ≡ with_recorded a.settings.recorder (event.Arrive p at) a.recorded.items
+    → vec_capacity b.recorded ≡ vec_capacity a.recorded → b.events ≡ min (a.events + 1) most_events → Happened a (event.Arrive p now) b
+arrived a b x p now at same is settings tree waiting handed_out recorded capacity events =
+    let d = numbers a.tree in
+    let e = event.Arrive p now in
+    let here : at ≡ max x.clock now = is ∙ ap (λ (y : DeviceState Counts). max y.clock now) (sym same) in
+    record {
+      settings = settings;
+      tree = ap numbers (tree ∙ ap (λ t. record { clock = t; tree = put kept t p x.tree }) here) ∙ numbers-step d x same e;
+      waiting = waiting ∙ ap (λ t. a.losses.waiting ++ losses_in (noted_by_put t p x.tree)) here ∙ ap (λ (ls : List Loss). a.losses.waiting ++ ls) (losses-step d x same e);
+      handed_out = handed_out;
+      recorded = recorded ∙ ap (λ t. with_recorded a.settings.recorder (event.Arrive p t) a.recorded.items) is;
+      capacity = capacity;
+      events = events;
+    }

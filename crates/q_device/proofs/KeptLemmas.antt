@@ -1,0 +1,128 @@
+-- A device of the code keeps its invariant, whatever happens to it.
+use Rattle.std.proofs.Common.{◌≡◌, ◌+◌, ◌<◌, ◌≤◌, ◌^◌, List, [], ◌∷◌, ◌++◌, length, take, drop, refl, sym, ap, subst, Some, arith, ◌∙◌}
+use Rattle.std.specs.Prelude.{slice_get, vec_capacity}
+use Rattle.std.proofs.lemmas.List.{length-append, length-drop}
+use Rattle.std.proofs.lemmas.List.Elements.{All-nil, All-cons, All-append}
+use Rattle.q_codel.specs.Losses.{LossList}
+use Rattle.q_codel.specs.declared.loss.Loss.{Loss}
+use Rattle.q_packet.specs.Descriptor.{Descriptor}
+use Rattle.q_model.specs.declared.event.Event.{Event}
+use Rattle.q_model.specs.declared.event.Event.TheVariants as event
+use Rattle.q_model.specs.declared.totals.Totals.{Totals}
+use Rattle.q_model.specs.Beneath.{beneath}
+use Rattle.q_model.specs.Events.{IsEvent}
+use Rattle.q_model.specs.Lawful.{IsLawfulTree}
+use Rattle.q_model.specs.Settings.{DeviceSettings, IsInRange}
+use Rattle.q_model.specs.Step.{DeviceState, step}
+use Rattle.q_model.specs.Tally.{Counts, totals}
+use Rattle.q_sound.proofs.Replays.{not-after}
+use Rattle.q_tree.specs.Kept.{Kept}
+use Rattle.q_tree.specs.TreeSeen.{numbers}
+use Rattle.q_device.specs.declared.device.Device.TheInside.{Inside}
+use Rattle.q_device.specs.Counters.{arrived_after}
+use Rattle.q_device.specs.DeviceSeen.{DeviceSeen, opened, as_counted}
+use Rattle.q_device.specs.Keeping.{device_seen, IsKeptDevice}
+use Rattle.q_device.specs.Replayed.{IsReplayOf}
+use Rattle.q_device.proofs.EventLemmas.{waits-numbers, waits-same, Happened, event-seen}
+use Rattle.q_device.proofs.LawfulLemmas.{losses-told, seen-lawful, seen-arrived, queued-after}
+use Rattle.q_device.proofs.ReplayedLemmas.{opened-replay, replay-more, replay-reaped}
+
+pub new-kept : (a : Inside) → IsInRange a.settings → device_seen a ≡ opened a.settings → a.settings.recorder ≤ vec_capacity a.recorded → IsKeptDevice a
+new-kept a range is recorder = record {
+  happened = [];
+  events = All-nil IsEvent;
+  settings = range;
+  replayed = subst (IsReplayOf []) (sym is) (opened-replay a.settings);
+  room =
+      let empty : beneath a.tree.tree.root ≡ [] = sym (waits-numbers a.tree) ∙ ap (λ (d : DeviceSeen). beneath d.device.tree.root) is in
+      omega (arith, ap (λ (ps : List Descriptor). length ps) empty, ap (λ (d : DeviceSeen). length d.waiting) is);
+  recorder = recorder;
+  arrivals = omega (arith, ap (λ (d : DeviceSeen). d.device.tree.top.arrived.packets) is);
+}
+
+-- an event is in its ranges as it counts
+counted-event : (d : DeviceState Counts) (e : Event) → d.clock ≤ 2 ^ 62 → IsEvent e → IsEvent (as_counted d e)
+counted-event d (event.Arrive p moment) low is = (is.0, not-after d.clock moment (2 ^ 62) low is.1)
+counted-event d (event.Poll moment) low is = not-after d.clock moment (2 ^ 62) low is
+counted-event d (event.Command c moment) low is = (is.0, not-after d.clock moment (2 ^ 62) low is.1)
+
+module _ (a : Inside) (k : IsKeptDevice a) where
+  pub kept-lawful : IsLawfulTree totals (device_seen a).device.clock (device_seen a).device.tree
+  kept-lawful = seen-lawful k.happened (device_seen a) k.replayed k.settings k.events
+
+  -- no more is queued than has arrived
+  pub queued-arrived : length (beneath a.tree.tree.root) ≤ a.tree.tree.top.counts.arrived.packets
+  queued-arrived = omega (arith, kept-lawful.device.packets, ap (λ (ps : List Descriptor). length ps) (waits-numbers a.tree))
+
+  pub kept-arrived : (e : Event) → IsEvent e → (step totals (device_seen a).device e).device.tree.top.arrived ≡ arrived_after e (device_seen a).device.tree.top.arrived
+  kept-arrived e is = seen-arrived k.happened (device_seen a) k.replayed k.settings k.events e is
+
+  -- after an event, for whose losses there was room
+  pub event-kept : (e : Event) (b : Inside) → Happened a e b → IsEvent e → (arrived_after e a.tree.tree.top.counts.arrived).packets < 2 ^ 64
+      → length (beneath a.tree.tree.root) + (arrived_after e a.tree.tree.top.counts.arrived).packets + length a.losses.waiting ≤ b.losses.places + a.tree.tree.top.counts.arrived.packets
+      → IsKeptDevice b
+  event-kept e b happened is fits room =
+      let seen = event-seen a e b happened in
+      let d : DeviceSeen = device_seen a in
+      let events : List Event = k.happened ++ as_counted d.device e ∷ [] in
+      let replayed : IsReplayOf events (device_seen b) = subst (IsReplayOf events) (sym seen) (replay-more k.happened d k.replayed e) in
+      let settings : b.settings ≡ a.settings = ap (λ (x : DeviceSeen). x.settings) seen in
+      let range : IsInRange b.settings = subst IsInRange (sym settings) k.settings in
+      let counted : IsEvent (as_counted d.device e) = counted-event d.device e kept-lawful.moment is in
+      let all = All-append IsEvent k.happened (as_counted d.device e ∷ []) k.events (All-cons IsEvent (as_counted d.device e) [] counted (All-nil IsEvent)) in
+      let device : (device_seen b).device ≡ (step totals d.device e).device = ap (λ (x : DeviceSeen). x.device) seen in
+      let arrived : (device_seen b).device.tree.top.arrived ≡ arrived_after e d.device.tree.top.arrived = ap (λ (x : DeviceState Counts). x.tree.top.arrived) device ∙ kept-arrived e is in
+      let left = queued-after d.device (device_seen b).device e kept-lawful (seen-lawful events (device_seen b) replayed range all) device arrived in
+      record {
+        happened = events;
+        events = all;
+        settings = range;
+        replayed = replayed;
+        room = omega (
+          arith,
+          room,
+          left,
+          ap (λ (x : DeviceSeen). length x.waiting) seen,
+          length-append a.losses.waiting (step totals d.device e).losses,
+          ap (λ (ps : List Descriptor). length ps) (waits-numbers a.tree),
+          ap (λ (ps : List Descriptor). length ps) (waits-numbers b.tree),
+        );
+        recorder = omega (arith, k.recorder, happened.capacity, ap (λ (s : DeviceSettings). s.recorder) settings);
+        arrivals = omega (arith, fits, ap (λ (t : Totals). t.packets) arrived);
+      }
+
+  -- a loss more can be counted as handed out
+  pub handed-fits : (l : Loss) → Some l ≡ slice_get a.losses.waiting 0 → a.handed_out + 1 < 2 ^ 64
+  handed-fits l first = omega (arith, waits a.losses.waiting first, losses-told k.happened (device_seen a) k.replayed, kept-lawful.device.packets, k.arrivals)
+    where
+      waits : (ls : List Loss) → Some l ≡ slice_get ls 0 → 1 ≤ length ls
+      waits [] e = cc
+      waits (x ∷ rest) e = omega arith
+
+  -- the oldest loss handed out
+  pub reaped-kept : (l : Loss) (losses : LossList) → Some l ≡ slice_get a.losses.waiting 0 → losses ≡ record a.losses { waiting = drop 1 a.losses.waiting } → IsKeptDevice (record a { losses = losses; handed_out = a.handed_out + 1 })
+  reaped-kept l losses first is = subst (λ (x : LossList). IsKeptDevice (record a { losses = x; handed_out = a.handed_out + 1 })) (sym is) (record {
+    happened = k.happened;
+    events = k.events;
+    settings = k.settings;
+    replayed = subst (λ n. IsReplayOf k.happened (record (device_seen a) { waiting = drop 1 a.losses.waiting; handed_out = a.handed_out + n })) (one a.losses.waiting first) (replay-reaped k.happened (device_seen a) k.replayed);
+    room = omega (arith, k.room, length-drop 1 a.losses.waiting);
+    recorder = k.recorder;
+    arrivals = k.arrivals;
+  })
+    where
+      one : (ls : List Loss) → Some l ≡ slice_get ls 0 → length (take 1 ls) ≡ 1
+      one [] e = cc
+      one (x ∷ rest) e = refl
+
+  -- where places were made
+  pub room-kept : (x : DeviceState Kept) (losses : LossList) → numbers x ≡ numbers a.tree → losses ≡ record a.losses { places = losses.places } → a.losses.places ≤ losses.places → IsKeptDevice (record a { tree = x; losses = losses })
+  room-kept x losses same is more = record {
+    happened = k.happened;
+    events = k.events;
+    settings = k.settings;
+    replayed = subst (IsReplayOf k.happened) (λ i. record (device_seen a) { device = sym same i; waiting = ap (λ (l : LossList). l.waiting) (sym is) i }) k.replayed;
+    room = omega (arith, k.room, more, waits-same x a.tree same, ap (λ (l : LossList). length l.waiting) is);
+    recorder = k.recorder;
+    arrivals = omega (arith, k.arrivals, ap (λ (d : DeviceState Counts). d.tree.top.arrived.packets) same);
+  }

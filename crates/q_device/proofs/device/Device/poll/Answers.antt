@@ -1,0 +1,63 @@
+use Rattle.std.proofs.Common.{◌≡◌, ◌∙◌, max, refl, ap, ap₂, subst, arith}
+use Rattle.q_codel.specs.Losses.{LossList}
+use Rattle.q_model.specs.declared.event.Event.TheVariants as event
+use Rattle.q_model.specs.declared.reply.Reply.TheVariants as reply
+use Rattle.q_model.specs.Beneath.{is_empty}
+use Rattle.q_model.specs.Node.{shape}
+use Rattle.q_model.specs.Step.{DeviceState, polled_of, step}
+use Rattle.q_model.specs.Tally.{totals}
+use Rattle.q_model.specs.TreeState.{given, take_packet}
+use Rattle.q_tree.specs.Kept.{Kept, kept}
+use Rattle.q_tree.specs.TreeSeen.{numbers}
+use Rattle.q_device.specs.Counters.{HasNotFallen}
+use Rattle.q_device.specs.DeviceSeen.{DeviceSeen, with_event}
+use Rattle.q_device.proofs.EventLemmas.{event-rises, event-seen, polled, reply-step}
+use Rattle.q_device.proofs.KeptLemmas.{event-kept, kept-arrived}
+use Rattle.q_device.proofs.device.Device.poll.Goals as goal
+
+pub invariant_of-self : goal.invariant_of-self
+invariant_of-self c =
+    let a = c.self.inside in
+    let at : c.later-at.result ≡ max a.tree.clock c.args.now = c.later-at.ensures ∙ ap (λ t. max t c.args.now) c.clock.ensures in
+    let b = record a { tree = c.take-taken.new.self; losses = c.take-taken.new.sink; recorded = c.record.new.recorded; events = c.record.new.events } in
+    let h = polled a b c.args.now c.later-at.result at refl c.take-taken.ensures.after c.take-taken.ensures.lost refl c.record.ensures.items c.record.ensures.capacity c.record.ensures.counted in
+    event-kept a c.self.invariant (event.Poll c.args.now) b h c.moment_range.ensures c.self.invariant.arrivals
+    (omega (arith, c.self.invariant.room, ap (λ (l : LossList). l.places) c.take-taken.ensures.kept))
+
+pub returns-clause-event : goal.returns-clause-event
+returns-clause-event c =
+    let a = c.self.inside in
+    let at : c.later-at.result ≡ max a.tree.clock c.args.now = c.later-at.ensures ∙ ap (λ t. max t c.args.now) c.clock.ensures in
+    let b = record a { tree = c.take-taken.new.self; losses = c.take-taken.new.sink; recorded = c.record.new.recorded; events = c.record.new.events } in
+    let h = polled a b c.args.now c.later-at.result at refl c.take-taken.ensures.after c.take-taken.ensures.lost refl c.record.ensures.items c.record.ensures.capacity c.record.ensures.counted in
+    event-seen a (event.Poll c.args.now) b h ∙ ap (with_event (event.Poll c.args.now)) c.self.view_is
+
+pub returns-clause-reply : goal.returns-clause-reply
+returns-clause-reply c =
+    let a = c.self.inside in
+    let tree = a.tree.tree in
+    let at : c.later-at.result ≡ max a.tree.clock c.args.now = c.later-at.ensures ∙ ap (λ t. max t c.args.now) c.clock.ensures in
+    let e = event.Poll c.args.now in
+    let left = ap (λ (d : DeviceState Kept). is_empty (shape d.tree.root)) c.take-taken.ensures.after in
+    ap reply.Polled (c.polled_of.ensures ∙ ap₂ polled_of c.take-taken.ensures.packet left)
+    ∙ ap (λ t. reply.Polled (polled_of (given t tree) (is_empty (shape (take_packet kept t tree).root)))) at
+    ∙ reply-step (numbers a.tree) a.tree refl e
+    ∙ ap (λ (d : DeviceSeen). (step totals d.device e).reply) c.self.view_is
+
+pub returns-clause-arrived : goal.returns-clause-arrived
+returns-clause-arrived c =
+    let a = c.self.inside in
+    let at : c.later-at.result ≡ max a.tree.clock c.args.now = c.later-at.ensures ∙ ap (λ t. max t c.args.now) c.clock.ensures in
+    let b = record a { tree = c.take-taken.new.self; losses = c.take-taken.new.sink; recorded = c.record.new.recorded; events = c.record.new.events } in
+    let h = polled a b c.args.now c.later-at.result at refl c.take-taken.ensures.after c.take-taken.ensures.lost refl c.record.ensures.items c.record.ensures.capacity c.record.ensures.counted in
+    ap (λ (d : DeviceSeen). d.device.tree.top.arrived) (event-seen a (event.Poll c.args.now) b h)
+    ∙ kept-arrived a c.self.invariant (event.Poll c.args.now) c.moment_range.ensures
+    ∙ ap (λ (d : DeviceSeen). d.device.tree.top.arrived) c.self.view_is
+
+pub returns-clause-counters : goal.returns-clause-counters
+returns-clause-counters c =
+    let a = c.self.inside in
+    let at : c.later-at.result ≡ max a.tree.clock c.args.now = c.later-at.ensures ∙ ap (λ t. max t c.args.now) c.clock.ensures in
+    let b = record a { tree = c.take-taken.new.self; losses = c.take-taken.new.sink; recorded = c.record.new.recorded; events = c.record.new.events } in
+    let h = polled a b c.args.now c.later-at.result at refl c.take-taken.ensures.after c.take-taken.ensures.lost refl c.record.ensures.items c.record.ensures.capacity c.record.ensures.counted in
+    subst (λ (d : DeviceSeen). HasNotFallen d.device.tree.top c.take-taken.new.self.tree.top.counts) c.self.view_is (event-rises a (event.Poll c.args.now) b h)

@@ -1,0 +1,7 @@
+use Rattle.q_device.proofs.DeviceLaws.{of-recorded}
+use Rattle.q_device.proofs.laws.device_is_replayed.Goals as goal
+
+pub returns-clause-recorded : goal.returns-clause-recorded
+returns-clause-recorded c =
+    let r = c.kept.ensures.replayed in
+    of-recorded r.happened c.args.device.now r.replayed c.kept.ensures.settings r.events

@@ -1,0 +1,24 @@
+-- What events make of the counters of a device: they only rise, and arrivals alone count as arrived.
+-- They are those of `tc -s qdisc show` (tc(8)); what is queued is none of them.
+use Rattle.std.specs.Prelude.{◌≤◌}
+use Rattle.q_model.specs.declared.totals.Totals.{Totals}
+use Rattle.q_model.specs.declared.event.Event.{Event}
+use Rattle.q_model.specs.declared.event.Event.TheVariants.{Arrive, Poll, Command}
+use Rattle.q_model.specs.Tally.{Counts, with_packet}
+
+pub record IsNotBelow (before after : Totals) : Type 0 where
+  pub packets : before.packets ≤ after.packets
+  pub bytes : before.bytes ≤ after.bytes
+
+pub record HasNotFallen (before after : Counts) : Type 0 where
+  pub arrived : IsNotBelow before.arrived after.arrived
+  pub sent : IsNotBelow before.sent after.sent
+  pub refused : IsNotBelow before.refused after.refused
+  pub dropped : IsNotBelow before.dropped after.dropped
+  pub marked : IsNotBelow before.marked after.marked
+
+-- what has arrived after an event
+abbrev pub arrived_after : Event → Totals → Totals
+arrived_after (Arrive p moment) t = with_packet t p
+arrived_after (Poll moment) t = t
+arrived_after (Command c moment) t = t

@@ -1,0 +1,231 @@
+ghost use Rattle.std.specs.Prelude.{◌≡◌, ◌≤◌, ◌+◌, IfOk, OnOk, OnErr, IfErr, max, min, length, slice_get, vec_capacity};
+ghost use Rattle.q_model.specs.Beneath.{beneath, is_empty, row_of};
+ghost use Rattle.q_model.specs.Node.{shape};
+ghost use Rattle.q_model.specs.Route.{device_route};
+ghost use Rattle.q_model.specs.Settings.{IsInRange};
+ghost use Rattle.q_model.specs.Step.{polled_of, step};
+ghost use Rattle.q_model.specs.Tally.{no_counts, totals, with_packet};
+ghost use Rattle.q_model.specs.TreeState.{stats};
+ghost use Rattle.q_model.specs.declared.event.Event.TheVariants as event;
+ghost use Rattle.q_model.specs.declared.reply.Reply.TheVariants as reply;
+ghost use Rattle.q_packet.specs.Descriptor.{Descriptor};
+ghost use Rattle.q_tree.specs.TreeSeen.{numbers, CanArrive, IsRouteIn};
+ghost use Rattle.q_device.specs.Counters.{HasNotFallen};
+ghost use Rattle.q_device.specs.DeviceLaws.{IsReplayed};
+ghost use Rattle.q_device.specs.DeviceSeen.{most_events, opened, reaped, with_event, with_recorded};
+
+use crate::ranges::{moment_range, packet_ranges};
+use q_codel::{Loss as Lost, Losses};
+use q_model::{Event, Fate, Place, Polled, Row, Settings};
+use q_packet::{Moment, Packet};
+use q_tree::{Route, Tree};
+use std::alloc::{AllocError, Global};
+use std::marker::Model;
+
+/// A device: a tree of qdiscs, the packets that it lost, and a recorder of what happened to it.
+///
+/// A contract sees it as the record `DeviceSeen`: its settings, the model's device with totals, the losses that wait, how many
+/// were handed out, the recorded events and the number of all. The type keeps that the device is what all events so far make of
+/// a new one, that the recorded ones are the first of them, and that there is room for every loss of what is queued.
+#[derive(Drop)]
+pub struct Device {
+    settings: Settings,
+    tree: Tree,
+    losses: Losses,
+    /// How many losses were handed out.
+    handed_out: u64,
+    /// The first events, with the moments as they counted.
+    recorded: Vec<Event>,
+    /// How many events there were.
+    events: u64,
+}
+
+impl Model for Device {
+    ghost use Rattle.q_device.specs.DeviceSeen.{DeviceSeen};
+    ghost use Rattle.q_device.specs.DeviceCode.{device_code};
+
+    ghost Value = { DeviceSeen };
+
+    ghost coded = { device_code };
+
+    ghost use Rattle.q_device.specs.Keeping.{device_seen, IsKeptDevice};
+
+    ghost view = { device_seen };
+
+    ghost invariant = { IsKeptDevice };
+}
+
+impl Device {
+    /// A new device with an implicit root, to which nothing has happened. The recorder's room is taken here.
+    ///
+    /// # Errors
+    ///
+    /// `AllocError` where memory for the recorder is refused.
+    pub fn open(alloc: Global, settings: Settings) -> Result<Device, AllocError>
+        ensures new { IfOk result (λ device. device ≡ opened settings) }
+        ensures nothing_arrived { IfOk result (λ device. device.device.tree.top ≡ no_counts) }
+    {
+        Ok(Device {
+            tree: Tree::new(alloc, settings.mtu, settings.txqueuelen),
+            losses: Losses::new(alloc),
+            handed_out: 0,
+            recorded: Vec::with_capacity(alloc, settings.recorder as usize)?,
+            events: 0,
+            settings,
+        })
+    }
+
+    /// A packet arrives, and is queued or lost. All memory is taken first: a place in its queue, and one for its loss.
+    ///
+    /// A moment before the device's clock counts as the clock.
+    ///
+    /// # Errors
+    ///
+    /// The packet and `AllocError` where memory is refused, or one packet more could overflow what the device counts of
+    /// arrivals. Nothing has changed then, and there was no event.
+    pub fn arrive(&mut self, packet: Packet, now: Moment) -> Result<Fate, (Packet, AllocError)>
+        ensures event { OnOk result (self.new ≡ with_event (event.Arrive packet now) self.old) }
+        ensures fate { IfOk result (λ fate. reply.Fate fate ≡ (step totals self.old.device (event.Arrive packet now)).reply) }
+        ensures arrived { OnOk result (self.new.device.tree.top.arrived ≡ with_packet self.old.device.tree.top.arrived packet) }
+        ensures same { OnErr result (self.new ≡ self.old) }
+        ensures back { IfErr result (λ refused. refused.0 ≡ packet) }
+        ensures counters { HasNotFallen self.old.device.tree.top self.new.device.tree.top }
+    {
+        packet_ranges(packet);
+        moment_range(now);
+        let at = later(self.tree.clock(), now);
+        let route = self.tree.route(&packet);
+        let Ok(()) = make_room(&mut self.tree, &mut self.losses, &route) else {
+            return Err((packet, AllocError));
+        };
+        let fate = self.tree.put(&route, packet, at, &mut self.losses);
+        let event = Event::Arrive(packet, at);
+        record(&mut self.recorded, &mut self.events, &self.settings, event);
+        Ok(fate)
+    }
+
+    /// Takes the packet whose turn it is. `Idle` where none is given and nothing is queued, and `Later` where none is given
+    /// though something is. It takes no memory.
+    ///
+    /// A moment before the device's clock counts as the clock.
+    pub fn poll(&mut self, now: Moment) -> Polled
+        ensures event { self.new ≡ with_event (event.Poll now) self.old }
+        ensures reply { reply.Polled result ≡ (step totals self.old.device (event.Poll now)).reply }
+        ensures arrived { self.new.device.tree.top.arrived ≡ self.old.device.tree.top.arrived }
+        ensures counters { HasNotFallen self.old.device.tree.top self.new.device.tree.top }
+    {
+        moment_range(now);
+        let at = later(self.tree.clock(), now);
+        let taken = self.tree.take(at, &mut self.losses);
+        let event = Event::Poll(at);
+        record(&mut self.recorded, &mut self.events, &self.settings, event);
+        polled_of(taken, &self.tree)
+    }
+
+    /// The oldest loss that was not handed out yet; `None` where none waits. It takes no memory and is no event.
+    pub fn reap(&mut self) -> Option<Lost>
+        ensures oldest { result ≡ slice_get self.old.waiting 0 }
+        ensures rest { self.new ≡ reaped self.old }
+    {
+        let Some(lost) = self.losses.reap() else {
+            return None;
+        };
+        self.handed_out += 1;
+        Some(lost)
+    }
+
+    /// What the device counted, and what is queued at it.
+    pub fn totals(&self) -> Row
+        ensures { result ≡ row_of self.now.device.tree.top (beneath self.now.device.tree.root) }
+    {
+        self.tree.totals()
+    }
+
+    /// What the node in this place counted, and what is queued there; `None` where none stands there.
+    pub fn stats(&self, place: Place) -> Option<Row>
+        ensures { result ≡ stats totals place self.now.device.tree }
+    {
+        self.tree.stats(place)
+    }
+
+    /// The tree.
+    pub fn tree(&self) -> &Tree
+        ensures { numbers result.now ≡ self.now.device }
+    {
+        &self.tree
+    }
+
+    /// The first events, as many as the settings say, each with the moment at which it counted.
+    pub fn recorded(&self) -> &[Event]
+        ensures { result.now ≡ self.now.recorded }
+    {
+        self.recorded.as_slice()
+    }
+
+    /// The number of events, recorded or not, which stays at 2^64 - 1 once there.
+    pub fn events(&self) -> u64
+        ensures { result ≡ self.now.events }
+    {
+        self.events
+    }
+
+    /// What the type keeps, for the laws. It does nothing.
+    pub(crate) fn kept(&self)
+        ensures replayed { IsReplayed self.now }
+        ensures settings { IsInRange self.now.settings }
+    {
+        let _ = &self.tree;
+    }
+}
+
+// The later of two moments: the clock never goes back.
+fn later(clock: Moment, now: Moment) -> Moment
+    ensures { result ≡ max clock now }
+{
+    clock.max(now)
+}
+
+// Makes the place that a packet on this route needs, and a place for a loss more than there are packets queued.
+fn make_room(tree: &mut Tree, losses: &mut Losses, route: &Route) -> Result<(), AllocError>
+    requires route { IsRouteIn route.now tree.old }
+    requires counted { length (beneath tree.old.tree.root) ≤ tree.old.tree.top.counts.arrived.packets }
+    ensures same { numbers tree.new ≡ numbers tree.old }
+    ensures routes { (p : Descriptor) → device_route p tree.new.tree.device.mtu tree.new.tree.root ≡ device_route p tree.old.tree.device.mtu tree.old.tree.root }
+    ensures ready { OnOk result (CanArrive route.now tree.new) }
+    ensures losses { losses.new ≡ record losses.old { places = losses.new.places } }
+    ensures grows { losses.old.places ≤ losses.new.places }
+    ensures room { OnOk result (length losses.old.waiting + length (beneath tree.old.tree.root) + 1 ≤ losses.new.places) }
+{
+    tree.prepare(route)?;
+    let queued = tree.totals().queued.packets;
+    losses.reserve(queued as usize + 1)
+}
+
+// Counts an event, and keeps it where there is room. It reads nothing of the event.
+fn record<E: Copy>(recorded: &mut Vec<E>, events: &mut u64, settings: &Settings, event: E)
+    requires { settings.now.recorder ≤ vec_capacity recorded.old }
+    ensures items { recorded.new.items ≡ with_recorded settings.now.recorder event recorded.old.items }
+    ensures capacity { vec_capacity recorded.new ≡ vec_capacity recorded.old }
+    ensures counted { events.new ≡ min (events.old + 1) most_events }
+{
+    *events = events.saturating_add(1);
+    if recorded.len() < settings.recorder as usize {
+        recorded.push_reserved(event);
+    }
+}
+
+// What a poll is answered that took this, if any, and left this tree.
+fn polled_of(taken: Option<Packet>, tree: &Tree) -> Polled
+    ensures { result ≡ polled_of taken (is_empty (shape tree.now.tree.root)) }
+{
+    match taken {
+        Some(packet) => Polled::Packet(packet),
+        None => {
+            if tree.totals().queued.packets == 0 {
+                Polled::Idle
+            } else {
+                Polled::Later
+            }
+        }
+    }
+}
