@@ -1,7 +1,7 @@
 //! What holds of the grammar as a whole. A law is the contract of a function that does nothing.
 
 ghost use Rattle.q_language.specs.FirstPath.{FirstPathIsPart};
-ghost use Rattle.q_language.specs.Laws.{FaultsAreLeftmost};
+ghost use Rattle.q_language.specs.Laws.{FaultsAreLeftmost, SpellingsAreRead};
 
 /// The grammar that `q_line` reads by is the whole one, with the words of the first path alone: the same lines are read,
 /// and every other has the same fault at the same word.
@@ -13,4 +13,9 @@ pub fn first_path_is_a_part()
 /// fits, a number of the line's priomap that names no band is the fault; else the fault is a word that is missing at the end.
 pub fn faults_are_leftmost()
     ensures { FaultsAreLeftmost }
+{}
+
+/// Each line but those that change the tree can be written, where its parts are in range, and is read as itself.
+pub fn spellings_are_read()
+    ensures { SpellingsAreRead }
 {}
