@@ -9,4 +9,9 @@ pub mod SpelledAddresses
 pub mod SpelledAddresses6
 pub mod SpelledProtocols
 pub mod SpelledPackets
+pub mod SpelledTimes
+pub mod SpelledPrio
+pub mod SpelledKinds
+pub mod SpelledFilters
+pub mod SpelledCommands
 pub mod SpelledLines

@@ -1,5 +1,5 @@
 -- An address of version 4 is read as what was written of it; and a prefix is, where its address is.
-use Rattle.std.proofs.Common.{◌≡◌, ◌∙◌, ℕ, suc, ◌+◌, ◌/◌, ◌%◌, ◌<◌, ◌≤◌, ◌^◌, ◌||◌, Bool, true, false, not, List, [], ◌∷◌, ◌++◌, length, drop, take, ltb, leb, Result, Ok, Err, Option, Some, None, refl, sym, ap, arith, if◌then◌else◌, append_assoc, lit<}
+use Rattle.std.proofs.Common.{◌≡◌, ◌∙◌, ℕ, suc, ◌+◌, ◌/◌, ◌%◌, ◌<◌, ◌≤◌, ◌^◌, ◌||◌, Bool, true, false, not, List, [], ◌∷◌, ◌++◌, length, drop, take, ltb, leb, Result, Ok, Err, Option, Some, None, refl, sym, ap, arith, if◌then◌else◌, lit<}
 use Rattle.std.specs.List.{AllByRecursion, join_with_byte, list_all, list_any, onto_first, slice_split, position_or_len, before_first, after_first}
 use Rattle.std.specs.Char.{is_digit}
 use Rattle.std.specs.Fmt.{decimal}

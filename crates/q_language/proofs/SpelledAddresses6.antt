@@ -1,8 +1,7 @@
 -- An address of version 6 is read as what was written of it, eight groups; and so is an address of either version.
-use Rattle.std.proofs.Common.{◌≡◌, ◌∙◌, ℕ, zero, suc, ◌+◌, ◌*◌, ◌/◌, ◌%◌, ◌-◌, ◌<◌, ◌≤◌, ◌^◌, ◌&&◌, Bool, true, false, not, List, [], ◌∷◌, ◌++◌, length, drop, take, ltb, Ok, refl, ap, arith, if◌then◌else◌, codes, append_assoc}
+use Rattle.std.proofs.Common.{◌≡◌, ◌∙◌, ℕ, zero, suc, ◌+◌, ◌*◌, ◌/◌, ◌%◌, ◌-◌, ◌<◌, ◌^◌, ◌&&◌, Bool, true, false, not, List, [], ◌∷◌, ◌++◌, length, drop, take, ltb, Ok, refl, ap, arith, if◌then◌else◌}
 use Rattle.std.specs.List.{AllByRecursion, fold, join_with_byte, list_all, slice_split}
 use Rattle.std.specs.Char.{is_digit}
-use Rattle.std.specs.Fmt.{decimal}
 use Rattle.std.proofs.lemmas.Bool.{le-leb}
 use Rattle.std.proofs.lemmas.Bool.Decides.{nat_tests}
 use Rattle.std.proofs.lemmas.List.{drop_all, take_all}
@@ -10,13 +9,13 @@ use Rattle.q_packet.proofs.LeastLemmas.{least_none}
 use Rattle.q_model.specs.declared.ip_version.IpVersion.{IpVersion}
 use Rattle.q_model.specs.declared.ip_version.IpVersion.TheVariants.{V4, V6}
 use Rattle.q_model.specs.Options.{bits_of}
-use Rattle.q_words.specs.Addresses.{address_of, begins_with_two, gap_at, groups_in, ipv4_of, ipv6_of, is_slash, joined, prefix_of}
+use Rattle.q_words.specs.Addresses.{address_of, begins_with_two, gap_at, groups_in, ipv4_of, ipv6_of, joined}
 use Rattle.q_words.specs.Units.{is_point}
 use Rattle.q_words.specs.Values.{is_colon}
 use Rattle.q_line.proofs.SpelledWords.{both, digit_not_blank, digit_not_colon, digit_small, every_digit, left_of, right_of}
 use Rattle.q_language.proofs.SpelledSteps.{Word}
 use Rattle.q_words.specs.Words.{is_blank, is_filled}
-use Rattle.q_language.proofs.SpelledAddresses.{Plain, address4_read, all_joined, any_at, digit_plain, no_slash, no_slash_10, not_true, octets_all, prefix_gives, split_joined}
+use Rattle.q_language.proofs.SpelledAddresses.{Plain, address4_read, all_joined, any_at, digit_plain, not_true, octets_all, split_joined}
 use Rattle.q_language.specs.Spelling.{address_word, groups, hex, octets}
 use Rattle.q_language.proofs.SpelledValues.{Hex, hex_of, not_below_itself}
 
@@ -162,6 +161,7 @@ address_good v a =
     front : (xs zs : List ℕ) (b : ℕ) → is_filled (xs ++ b ∷ zs) ≡ true
     front [] zs b = refl
     front (x ∷ xs) zs b = refl
+
     filled : (v : IpVersion) (a : ℕ) → is_filled (address_word v a) ≡ true
     filled V4 a = front _ _ 46
     filled V6 a = front _ _ 58

@@ -3,7 +3,6 @@ use Rattle.std.proofs.Common.{◌≡◌, ◌∙◌, ℕ, ◌<◌, ◌≤◌, ◌
 use Rattle.std.specs.List.{join_with_byte}
 use Rattle.std.specs.Fmt.{decimal}
 use Rattle.q_line.specs.Laws.{IsName}
-use Rattle.q_line.specs.Spelling.{is_word}
 use Rattle.q_line.proofs.SpelledWords.{number_read, words_of_spelling}
 use Rattle.q_language.specs.Grammar.{every_word, fits, line_of, line_of_words, rest_of, value}
 use Rattle.q_packet.specs.Head.{head as head_in}
@@ -12,14 +11,18 @@ use Rattle.q_words.specs.Values.{number_in}
 use Rattle.q_language.specs.Laws.{SpellingsAreRead}
 use Rattle.q_language.specs.Positions
 use Rattle.q_language.specs.Positions.{Position, first, show_line, tc, whole}
-use Rattle.q_language.specs.Ranges.{IsLine}
-use Rattle.q_language.specs.Spelling.{arrival_words, counters_words, line_words, object_word}
+use Rattle.q_model.specs.Ranges.{IsCommand}
+use Rattle.q_model.specs.declared.command.Command.{Command}
+use Rattle.q_model.specs.declared.command.Command.TheVariants as command
+use Rattle.q_language.specs.Ranges.{IsWhole}
+use Rattle.q_language.specs.Spelling.{command_words, counters_words, object_word}
 use Rattle.q_language.specs.declared.line.Line.{Line}
 use Rattle.q_language.specs.declared.line.Line.TheVariants as line
 use Rattle.q_language.specs.declared.object.Object.{Object}
 use Rattle.q_language.specs.declared.object.Object.TheVariants as object
 use Rattle.q_language.specs.declared.show.Show.{Show}
 use Rattle.q_language.proofs.SpelledPackets.{arrival_says, frame_says}
+use Rattle.q_language.proofs.SpelledCommands.{command_says}
 use Rattle.q_language.proofs.SpelledSteps.{Path, Says, Word, decimal_word, ended_says, nowhere, pair, chain, word}
 
 -- a line of a keyword and a number
@@ -65,9 +68,20 @@ line_read l w ws s filled =
     ∙ ap (λ (t : Bool). if t then Ok line.Blank else rest_of every_word first 1 (w ∷ ws)) filled
     ∙ s.read 1
 
+-- the words of each command begin with tc
+tc_read : (name : List ℕ) (c : Command) → IsName name → IsCommand c → IsWhole c → line_of (join_with_byte 32 (command_words name c)) ≡ Ok (line.Tc c)
+tc_read name (command.QdiscAdd place handle kind) n h w = line_read _ _ _ (command_says name (command.QdiscAdd place handle kind) n h w) refl
+tc_read name (command.QdiscChange place handle kind) n h w = line_read _ _ _ (command_says name (command.QdiscChange place handle kind) n h w) refl
+tc_read name (command.QdiscDel place handle) n h w = line_read _ _ _ (command_says name (command.QdiscDel place handle) n h w) refl
+tc_read name (command.ClassAdd parent class quantum) n h w = line_read _ _ _ (command_says name (command.ClassAdd parent class quantum) n h w) refl
+tc_read name (command.ClassChange parent class quantum) n h w = line_read _ _ _ (command_says name (command.ClassChange parent class quantum) n h w) refl
+tc_read name (command.ClassDel parent class) n h w = line_read _ _ _ (command_says name (command.ClassDel parent class) n h w) refl
+tc_read name (command.FilterAdd parent major filter) n h w = line_read _ _ _ (command_says name (command.FilterAdd parent major filter) n h w) refl
+tc_read name (command.FilterDel parent prio) n h w = line_read _ _ _ (command_says name (command.FilterDel parent prio) n h w) refl
+
 pub spellings : SpellingsAreRead
 spellings name packet line.Blank is_name h = refl
-spellings name packet (line.Tc command) is_name h = absurd h
+spellings name packet (line.Tc command) is_name h = tc_read name command is_name h.0 h.1
 spellings name packet (line.Show s) is_name h = line_read (line.Show s) _ _ (show_says s) refl
 spellings name packet (line.At n) is_name h = line_read (line.At n) _ _ (number_line Positions.at (codes "at") 0 (2 ^ 62) n line.At (refl, refl) (λ i. refl) (λ i w. refl) (omega arith) h (lit< tt)) refl
 spellings name packet (line.Pkt a) is_name h = line_read (line.Pkt a) _ _ (arrival_says a h) refl

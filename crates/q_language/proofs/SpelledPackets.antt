@@ -1,6 +1,6 @@
 -- A packet that is written is read as itself: the fields of a `pkt` line one by one, and the bytes of a `frame` line.
-use Rattle.std.proofs.Common.{◌≡◌, ◌∙◌, ℕ, suc, ◌+◌, ◌*◌, ◌/◌, ◌%◌, ◌<◌, ◌≤◌, ◌^◌, ◌&&◌, ◌==◌, Bool, true, false, not, List, [], ◌∷◌, ◌++◌, length, ltb, eqb, Option, Some, None, IfSome, IsTrue, Ok, Err, option_map, refl, sym, ap, arith, if◌then◌else◌, codes, lit<}
-use Rattle.std.specs.List.{AllByRecursion, list_all}
+use Rattle.std.proofs.Common.{◌≡◌, ◌∙◌, ℕ, ◌+◌, ◌*◌, ◌/◌, ◌%◌, ◌<◌, ◌≤◌, ◌^◌, Bool, true, false, not, List, [], ◌∷◌, ◌++◌, length, ltb, eqb, Option, Some, None, IfSome, IsTrue, Ok, Err, option_map, refl, sym, ap, arith, if◌then◌else◌, codes, lit<}
+use Rattle.std.specs.List.{AllByRecursion}
 use Rattle.std.specs.Option.{option_map_or}
 use Rattle.std.specs.Fmt.{decimal, digit_glyph}
 use Rattle.std.specs.Char.{digit_value, is_digit}
@@ -15,11 +15,10 @@ use Rattle.q_packet.specs.Head.{head as head_in}
 use Rattle.q_packet.specs.Key.{Key, IsKey, address_bits, is_family}
 use Rattle.q_packet.specs.declared.ecn.Ecn.{Ecn}
 use Rattle.q_packet.specs.declared.ecn.Ecn.TheVariants.{NotEct, Ect1, Ect0, Ce}
-use Rattle.q_words.specs.Addresses.{Address, address_of, bytes_from, frame_of, protocol_number}
+use Rattle.q_words.specs.Addresses.{Address, bytes_from, frame_of}
 use Rattle.q_words.specs.Values.{is_digits, is_numeral, number_in}
 use Rattle.q_words.specs.Words.{is_blank, is_filled}
 use Rattle.q_words.specs.declared.wrong.Wrong.TheVariants.{BadNumber, OutOfRange}
-use Rattle.q_line.specs.Spelling.{is_word}
 use Rattle.q_line.proofs.SpelledWords.{both, digit_not_blank, digit_small, every_digit, left_of, number_read, right_of}
 use Rattle.q_model.specs.Filters.{family_of}
 use Rattle.q_model.specs.Numbers.{IsWithin, most_u32}
@@ -27,7 +26,7 @@ use Rattle.q_model.specs.Options.{bits_of}
 use Rattle.q_model.specs.declared.ip_version.IpVersion.{IpVersion}
 use Rattle.q_model.specs.declared.ip_version.IpVersion.TheVariants.{V4, V6}
 use Rattle.q_language.specs.Drafts.{no_fields}
-use Rattle.q_language.specs.Grammar.{every_word, fits, framed, key_of, of_version, packet_version, same_version, value}
+use Rattle.q_language.specs.Grammar.{framed, of_version, packet_version, same_version, value}
 use Rattle.q_language.specs.Positions.{Position, first, pkt, packet, packet_value, frame, frame_bytes, whole}
 use Rattle.q_language.specs.Ranges.{IsArrival, IsPacketBytes}
 use Rattle.q_language.specs.Spelling.{address_word, address_words, arrival_words, byte_digits, given, hex, packet_word, version_in}
@@ -37,7 +36,7 @@ use Rattle.q_language.specs.declared.packet_draft.PacketDraft.{PacketDraft}
 use Rattle.q_language.specs.declared.packet_field.PacketField.TheVariants as field
 use Rattle.q_language.proofs.SpelledAddresses6.{address_good, address_read}
 use Rattle.q_language.proofs.SpelledProtocols.{proto_read}
-use Rattle.q_language.proofs.SpelledSteps.{Path, Says, Word, decimal_word, ended_says, hex_word, nowhere, number_reads, option, pair, chain, chain_says, word}
+use Rattle.q_language.proofs.SpelledSteps.{Path, Says, Word, decimal_word, ended_says, hex_word, nowhere, number_reads, option, pair, chain, word}
 use Rattle.q_language.proofs.SpelledValues.{Hex, hex_of}
 
 -- the fields so far

@@ -1,7 +1,7 @@
 -- Words that lead from one position of a line to another, whatever stands behind them, and words that end a line.
-use Rattle.std.proofs.Common.{◌≡◌, ◌∙◌, ℕ, suc, ◌<◌, ◌≤◌, ◌^◌, Bool, true, false, List, [], ◌∷◌, ◌++◌, length, ltb, not, Option, Some, None, IfSome, Result, Ok, Err, refl, sym, ap, arith, if◌then◌else◌, codes, append-nil, append_assoc}
+use Rattle.std.proofs.Common.{◌≡◌, ◌∙◌, ℕ, suc, ◌<◌, ◌≤◌, ◌^◌, Bool, true, List, [], ◌∷◌, ◌++◌, length, ltb, not, Option, Some, None, IfSome, Result, Ok, Err, refl, sym, ap, arith, if◌then◌else◌, codes, append-nil, append_assoc}
 use Rattle.std.specs.List.{list_all}
-use Rattle.std.specs.Fmt.{decimal, digits}
+use Rattle.std.specs.Fmt.{decimal}
 use Rattle.std.specs.Str.{is_utf8}
 use Rattle.std.proofs.lemmas.Bool.{le-leb}
 use Rattle.std.proofs.lemmas.List.Folds.{list_all-append}
@@ -14,7 +14,7 @@ use Rattle.q_line.specs.Laws.{IsName}
 use Rattle.q_line.specs.Spelling.{is_word}
 use Rattle.q_line.proofs.SpelledWords.{both, number_read, right_of, utf8_from_ascii}
 use Rattle.q_model.specs.Numbers.{IsWithin}
-use Rattle.q_line.proofs.SpelledLines.{Digits, decimal_digits, digits_ascii, digits_word, handle_ascii, handle_word, hex_digits}
+use Rattle.q_line.proofs.SpelledLines.{decimal_digits, digits_ascii, digits_word, handle_ascii, handle_word, hex_digits}
 use Rattle.q_language.specs.Grammar.{ended, every_word, fits, rest_of}
 use Rattle.q_language.specs.Positions.{Position}
 use Rattle.q_language.specs.Spelling.{given, hex}

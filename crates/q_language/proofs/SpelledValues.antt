@@ -57,10 +57,10 @@ class_read major minor low high some few =
 
 -- digits and nothing else are the whole number part, without a point and without a suffix
 
-digit_of_decimal : (c : ℕ) → is_digit c 10 ≡ true → is_of_decimal c ≡ true
+pub digit_of_decimal : (c : ℕ) → is_digit c 10 ≡ true → is_of_decimal c ≡ true
 digit_of_decimal c h = grind (arith, nat_tests)
 
-digit_no_point : (c : ℕ) → is_digit c 10 ≡ true → not (is_point c) ≡ true
+pub digit_no_point : (c : ℕ) → is_digit c 10 ≡ true → not (is_point c) ≡ true
 digit_no_point c h = grind (arith, nat_tests)
 
 pub not_below_itself : (n : ℕ) → ltb n n ≡ false
@@ -74,7 +74,7 @@ prefix_to p (d ∷ ds) rest h e = ap (λ (b : Bool). cond b (1 + prefix_len p (d
 pub prefix_all : (p : ℕ → Bool) (ds : List ℕ) → list_all p ds ≡ true → prefix_len p ds ≡ length ds
 prefix_all p ds h = ap (prefix_len p) (sym (append-nil ds)) ∙ prefix_to p ds [] h refl
 
-drop_front : (ds rest : List ℕ) → drop (length ds) (ds ++ rest) ≡ rest
+pub drop_front : (ds rest : List ℕ) → drop (length ds) (ds ++ rest) ≡ rest
 drop_front [] rest = refl
 drop_front (d ∷ ds) rest = drop_front ds rest
 

@@ -1,6 +1,6 @@
 -- What a line may say: the ranges of its numbers, and which of its parts it has to have.
 -- Those of tc lines are after tc(8) and the pages of the disciplines, the others this project's.
-use Rattle.std.specs.Prelude.{◌≡◌, ℕ, ◌^◌, ◌<◌, ◌≤◌, ◌||◌, IfSome, IsTrue, List, All, length, Option, Some, is_some, option_map, true, ⊤}
+use Rattle.std.specs.Prelude.{◌≡◌, ℕ, ◌^◌, ◌<◌, ◌≤◌, ◌||◌, IfSome, IsTrue, List, All, length, Some, is_some, option_map, true, ⊤}
 use Rattle.std.specs.Option.{option_map_or, option_or}
 use Rattle.q_packet.specs.Head.{head as head_in}
 use Rattle.q_packet.specs.Key.{IsKey}
@@ -51,7 +51,7 @@ IsWhole _ = ⊤
 
 -- the head of a `frame` line is that of the bytes that it gives
 abbrev pub IsLine : List ℕ → Line → Type 0
-IsLine packet (line.Tc command) = ⊥
+IsLine packet (line.Tc command) = IsCommand command × IsWhole command
 IsLine packet (line.At moment) = moment ≤ 2 ^ 62
 IsLine packet (line.Pkt arrival) = IsArrival arrival
 IsLine packet (line.Frame len head) = IsWithin 1 65535 len × IsPacketBytes packet × (head ≡ head_in packet)

@@ -2,10 +2,8 @@
 -- in bits a second and times in microseconds. The words of tc lines are those of tc(8) and the pages of the disciplines.
 use Rattle.std.specs.Prelude.{ℕ, ◌+◌, ◌/◌, ◌%◌, ◌^◌, ◌==◌, Bool, true, false, List, [], ◌∷◌, ◌++◌, map, codes, decimal, if◌then◌else◌, Option, Some, None}
 use Rattle.std.specs.List.{flat_map, join_with_byte}
-use Rattle.std.specs.Option.{option_map_or}
 use Rattle.std.specs.Fmt.{digits, digit_glyph}
 use Rattle.q_packet.specs.Ecn.{codepoint}
-use Rattle.q_packet.specs.Key.{Key}
 use Rattle.q_model.specs.declared.class_id.ClassId.{ClassId}
 use Rattle.q_model.specs.declared.command.Command.{Command}
 use Rattle.q_model.specs.declared.command.Command.TheVariants as command

@@ -15,7 +15,8 @@ pub fn faults_are_leftmost()
     ensures { FaultsAreLeftmost }
 {}
 
-/// Each line but those that change the tree can be written, where its parts are in range, and is read as itself.
+/// Each line whose parts are in range can be written, with any name for the device, and is read as itself: every object and
+/// verb, every kind with whichever of its options are given, every packet, and every frame that some bytes have.
 pub fn spellings_are_read()
     ensures { SpellingsAreRead }
 {}
