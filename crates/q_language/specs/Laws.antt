@@ -1,13 +1,17 @@
--- Where the fault of a line lies: at its leftmost word that does not fit, or at its end, where every word fits.
+-- What holds of the grammar as a whole: where the fault of a line lies, and that each line can be written.
+-- A fault is at the leftmost word that does not fit, or at the end, where every word fits.
 -- The bands of a priomap are judged at the end, since `bands` may stand behind it. The script language is this project's,
--- after tc(8); the law stands on a function of the module `laws`.
+-- after tc(8); the laws stand on functions of the module `laws`.
 use Rattle.std.specs.Prelude.{◌≡◌, ℕ, suc, ◌<◌, ◌≤◌, ◌⊎◌, List, [], ◌∷◌, ◌++◌, length, take, Some, None, Result, Ok, Err}
-use Rattle.q_line.specs.Laws.{index_of}
+use Rattle.q_line.specs.Laws.{IsName, index_of}
 use Rattle.q_words.specs.declared.line_fault.LineFault.{LineFault}
 use Rattle.q_words.specs.declared.line_fault.LineFault.TheVariants.{Missing, OutOfRange, BadUtf8}
 use Rattle.q_words.specs.declared.wrong.Wrong.{Wrong}
-use Rattle.q_language.specs.Grammar.{after, ends, every_word, late_fault, line_of_words}
+use Rattle.q_language.specs.Grammar.{after, ends, every_word, late_fault, line_of, line_of_words}
 use Rattle.q_language.specs.Positions.{Position, first}
+use Rattle.q_language.specs.Ranges.{IsLine}
+use Rattle.q_language.specs.Spelling.{spelling}
+use Rattle.q_language.specs.declared.line.Line.{Line}
 
 -- nothing is wrong with these words so far: a word behind them that is not UTF-8 is the fault of the line
 abbrev pub FitSoFar : List (List ℕ) → Type 0
@@ -41,3 +45,7 @@ pub record IsAtEnd (words : List (List ℕ)) (fault : LineFault) : Type 0 where
 
 abbrev pub FaultsAreLeftmost : Type 0
 FaultsAreLeftmost = (words : List (List ℕ)) (fault : LineFault) → line_of_words every_word words ≡ Err fault → IsAtWord words fault ⊎ IsAtEnd words fault
+
+-- each line whose parts are in range can be written, with any name for the device, and is read as itself
+abbrev pub SpellingsAreRead : Type 0
+SpellingsAreRead = (name packet : List ℕ) (line : Line) → IsName name → IsLine packet line → line_of (spelling name packet line) ≡ Ok line

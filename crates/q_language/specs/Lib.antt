@@ -3,4 +3,6 @@ pub mod FirstPath
 pub mod Grammar
 pub mod Laws
 pub mod Positions
+pub mod Ranges
 pub mod Reading
+pub mod Spelling
