@@ -1,4 +1,4 @@
-ghost use Rattle.std.specs.Prelude.{◌≡◌, ◌≤◌, ◌+◌, IfOk, OnOk, OnErr, IfErr, max, min, length, slice_get, vec_capacity};
+ghost use Rattle.std.specs.Prelude.{◌≡◌, ◌≤◌, ◌+◌, ◌^◌, IfOk, OnOk, OnErr, IfErr, max, min, length, slice_get, vec_capacity};
 ghost use Rattle.q_model.specs.Beneath.{beneath, is_empty, row_of};
 ghost use Rattle.q_model.specs.Node.{shape};
 ghost use Rattle.q_model.specs.Route.{device_route};
@@ -14,9 +14,8 @@ ghost use Rattle.q_device.specs.Counters.{HasNotFallen};
 ghost use Rattle.q_device.specs.DeviceLaws.{IsReplayed};
 ghost use Rattle.q_device.specs.DeviceSeen.{most_events, opened, reaped, with_event, with_recorded};
 
-use crate::ranges::{moment_range, packet_ranges};
 use q_codel::{Loss as Lost, Losses};
-use q_model::{Event, Fate, Place, Polled, Row, Settings};
+use q_model::{Event, Fate, Place, Polled, Row, Settings, packet_ranges};
 use q_packet::{Moment, Packet};
 use q_tree::{Route, Tree};
 use std::alloc::{AllocError, Global};
@@ -176,6 +175,13 @@ impl Device {
     {
         let _ = &self.tree;
     }
+}
+
+// A moment is within its range, which its type keeps. It does nothing.
+fn moment_range(now: Moment)
+    ensures { now ≤ 2 ^ 62 }
+{
+    let _ = now.ns();
 }
 
 // The later of two moments: the clock never goes back.

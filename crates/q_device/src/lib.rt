@@ -15,7 +15,6 @@
 
 mod device;
 pub mod laws;
-mod ranges;
 
 pub use crate::device::Device;
 pub use q_codel::Loss as Lost;

@@ -92,8 +92,9 @@ pub(crate) fn port_ranges(port: Option<u16>)
     let _ = port.is_some();
 }
 
-/// The numbers of a packet fit their fields; its length is not 0, and its priority at most 15.
-pub(crate) fn packet_ranges(packet: Packet)
+/// The numbers of a packet fit their fields; its length is not 0, and its priority at most 15, which the type keeps. It does
+/// nothing: its clause is for the laws of other crates.
+pub fn packet_ranges(packet: Packet)
     ensures { IsPacket packet }
 {
     let _ = &packet.key.family;
