@@ -7,6 +7,8 @@
 //!   one for each kind.
 //! - `line_in` is generic in which words are spoken: any other is unknown. `specs/FirstPath.antt` has the words that `q_line`
 //!   speaks, and [`laws`] says that its grammar is this one with those words alone.
+//! - `specs/Ranges.antt` says what a line may say, and `specs/Spelling.antt` has one way to write each such line; [`laws`] says
+//!   that it is read as itself.
 //!
 //! The program reads by `q_line`, whose types these will take the place of. `q_report` computes worked scripts from these
 //! definitions, from their bytes to their reports.
