@@ -13,6 +13,8 @@ mod command_line;
 #[cfg(test)]
 mod device;
 #[cfg(test)]
+mod device_calls;
+#[cfg(test)]
 mod drr;
 #[cfg(test)]
 mod fifo;

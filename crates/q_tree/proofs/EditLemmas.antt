@@ -87,24 +87,24 @@ loses-above lost i n old new there h =
     let counts = ap (λ (k : Kept). k.counts.arrived) (noted-purged n.memory lost) in
     record {
       conserved = λ w.
-      omega (
-        arith,
-        weigh-beneath w n.own at,
-        weigh-beneath w after.own (each beneath_own after.below),
-        ap (λ b. weigh w (joined b)) below_is,
-        ap (weigh w) (settled-packets i (is_empty new) n.own.discipline),
-        weigh-joined-set w at i (beneath old) (beneath new) (each-at beneath_own n.below i old there),
-        h.conserved w,
-      );
+          omega (
+            arith,
+            weigh-beneath w n.own at,
+            weigh-beneath w after.own (each beneath_own after.below),
+            ap (λ b. weigh w (joined b)) below_is,
+            ap (weigh w) (settled-packets i (is_empty new) n.own.discipline),
+            weigh-joined-set w at i (beneath old) (beneath new) (each-at beneath_own n.below i old there),
+            h.conserved w,
+          );
       held = λ w.
-      omega (
-        arith,
-        weigh-held w n.own held_at,
-        weigh-held w after.own (each held_own after.below),
-        ap (λ b. weigh w (joined b)) held_is,
-        weigh-joined-set w held_at i (held_beneath old) (held_beneath new) (each-at held_own n.below i old there),
-        h.held w,
-      );
+          omega (
+            arith,
+            weigh-held w n.own held_at,
+            weigh-held w after.own (each held_own after.below),
+            ap (λ b. weigh w (joined b)) held_is,
+            weigh-joined-set w held_at i (held_beneath old) (held_beneath new) (each-at held_own n.below i old there),
+            h.held w,
+          );
       arrived = record { packets = omega (arith, ap (λ (t : Totals). t.packets) counts); bytes = omega (arith, ap (λ (t : Totals). t.bytes) counts) };
     }
 

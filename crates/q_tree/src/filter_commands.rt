@@ -24,7 +24,12 @@ impl Tree {
     ///
     /// The first that holds: `NoQdisc` where no qdisc has the handle; `NotClassful` where it is no prio and no drr; `NoClass`
     /// where it has no such class; `TooMany` where it has 256 filters; `Memory`. The tree is as it was.
-    pub fn filter_add(&mut self, parent: Handle, major: Handle, filter: Filter) -> Result<(), NotDone>
+    pub fn filter_add(
+        &mut self,
+        parent: Handle,
+        major: Handle,
+        filter: Filter,
+    ) -> Result<(), NotDone>
         ensures { IsAnswered (plan self.old.tree.device self.old.clock (FilterAdd parent major filter) (shape self.old.tree.root)) self.old self.new result }
     {
         filter.ranges();

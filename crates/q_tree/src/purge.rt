@@ -19,7 +19,9 @@ impl Node {
         ensures kept { S.keeps sink.old sink.new }
     {
         let Node {
-            held, discipline, ..
+            held,
+            discipline,
+            ..
         } = self;
         purge_held(held, sink);
         match discipline {

@@ -7,7 +7,9 @@ ghost use Rattle.q_tree.specs.Showing.{HasClass, IsNumbered, standing};
 
 use crate::node::{Discipline, Node};
 use q_codel::Limit;
-use q_model::{ClassId, ClassKind, ClassView, Filter, FilterView, Minor, NodeView, Place, QdiscView};
+use q_model::{
+    ClassId, ClassKind, ClassView, Filter, FilterView, Minor, NodeView, Place, QdiscView,
+};
 
 impl Node {
     /// The node so many places on in the order of show, which has each node before those beneath it, with the place where it

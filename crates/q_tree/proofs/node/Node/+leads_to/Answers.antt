@@ -13,15 +13,22 @@ pub loop-place-init : goal.loop-place-init
 loop-place-init t c = (
   refl,
   path-beneath c.args.handle c.args.self.now c.children-child-items.result.now c.children-child-items.ensures
-  (λ e. apart c.args.handle c.self.inside.handle c.if-eq.ensures (ap (λ (n : Node Kept). n.own.handle) c.self.view_is ∙ e)),
+      (λ e. apart c.args.handle c.self.inside.handle c.if-eq.ensures (ap (λ (n : Node Kept). n.own.handle) c.self.view_is ∙ e)),
 )
 
 pub leads_to-requires : goal.leads_to-requires
 leads_to-requires t c =
     let at = there-at c.children-child-items.result.now c.loop-place.place c.child-item.result c.loop-place-test.true c.child-item.is in (
       omega (arith, beneath-size c.args.self.now c.children-child-items.result.now c.loop-place.place c.child-item.result c.children-child-items.ensures at, c.decreases),
-      omega (arith, c.requires, c.push.ensures.len, ap length c.push.ensures.items, ap length c.loop-place.invariant.0, length-append c.loop-place.path.items (c.loop-place.place ∷ []),
-      beneath-depth c.args.self.now c.children-child-items.result.now c.loop-place.place c.child-item.result c.children-child-items.ensures at),
+      omega (
+        arith,
+        c.requires,
+        c.push.ensures.len,
+        ap length c.push.ensures.items,
+        ap length c.loop-place.invariant.0,
+        length-append c.loop-place.path.items (c.loop-place.place ∷ []),
+        beneath-depth c.args.self.now c.children-child-items.result.now c.loop-place.place c.child-item.result c.children-child-items.ensures at,
+      ),
     )
 
 -- the way to the handle, where the child has it
