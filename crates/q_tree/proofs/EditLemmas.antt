@@ -1,8 +1,8 @@
 -- A node that is edited, or that stands above one which is: what waits there, and what it has counted.
-use Rattle.std.proofs.Common.{◌≡◌, ℕ, suc, ◌+◌, ◌≤◌, ◌<◌, ◌^◌, ◌∙◌, List, [], ◌∷◌, set, take, length, refl, sym, ap, subst, Option, Some, None, option_and_then, arith}
+use Rattle.std.proofs.Common.{◌≡◌, ℕ, suc, ◌+◌, ◌≤◌, ◌<◌, ◌^◌, ◌∙◌, List, [], ◌∷◌, ◌++◌, set, take, length, refl, sym, ap, subst, Option, Some, None, option_and_then, arith}
 use Rattle.std.specs.Prelude.{Bool, true, false, cond, nat_le, IsSome, slice_get, slice_index_or, All, Result, Ok, Err, OnOk}
 use Rattle.std.specs.List.{insert, prefix_len, take_while}
-use Rattle.std.specs.Option.{option_map_or}
+use Rattle.std.specs.Option.{option_map_or, option_to_list}
 use Rattle.std.specs.declared.alloc.AllocError.{AllocError}
 use Rattle.std.proofs.lemmas.Bool.{false≢true}
 use Rattle.std.proofs.lemmas.List.Elements.{All-set}
@@ -13,11 +13,12 @@ use Rattle.q_packet.specs.declared.cause.Cause.TheVariants.{Purged}
 use Rattle.q_model.specs.declared.filter.Filter.{Filter}
 use Rattle.q_model.specs.declared.row.Row.{Row}
 use Rattle.q_model.specs.declared.totals.Totals.{Totals}
-use Rattle.q_model.specs.Beneath.{beneath, beneath_own, is_empty, totals_in}
+use Rattle.q_model.specs.Beneath.{beneath, beneath_own, is_empty, packets_in, totals_in}
 use Rattle.q_model.specs.Conserved.{held_own, held_beneath, IsBalanced, AreMarksBounded}
 use Rattle.q_model.specs.Edit.{above, edited_at}
 use Rattle.q_model.specs.Filters.{with_filter}
 use Rattle.q_model.specs.Find.{node_at}
+use Rattle.q_model.specs.Node as spec
 use Rattle.q_model.specs.Node.{Node, children, each, side_by_side}
 use Rattle.q_model.specs.Step.{losses_in}
 use Rattle.q_model.specs.Tally.{no_totals, noted, with_packet}
@@ -31,13 +32,13 @@ use Rattle.q_sound.proofs.Joined.{joined, weigh-joined-set, weigh-beneath, weigh
 use Rattle.q_sound.proofs.Members.{All-at}
 use Rattle.q_sound.proofs.Weights.{weigh, weigh-count, weigh-nil}
 use Rattle.q_tree.specs.Arrivals.{plus}
-use Rattle.q_tree.specs.Editing.{effect, removed, removed_at, notes_of, edited_by, with_dropped, CanDrop, IsReady, IsEditedBeneath}
+use Rattle.q_tree.specs.Editing.{requantized, effect, removed, removed_at, notes_of, edited_by, with_dropped, CanDrop, IsReady, IsEditedBeneath}
 use Rattle.q_tree.specs.Kept.{Kept, kept}
 use Rattle.q_tree.specs.Places.{Leads}
 use Rattle.q_tree.specs.Purging.{purged}
 use Rattle.q_tree.specs.Seen.{seen, children_seen, discipline_seen, places_seen, IsKept, IsCountedWithin}
 use Rattle.q_tree.specs.declared.edit.Edit.{Edit}
-use Rattle.q_tree.specs.declared.edit.Edit.TheVariants.{Graft, AddFilter, RemoveFilters}
+use Rattle.q_tree.specs.declared.edit.Edit.TheVariants.{Graft, AddFilter, RemoveFilters, Quantum}
 use Rattle.q_tree.specs.declared.node.Discipline.{Discipline}
 use Rattle.q_tree.specs.declared.node.Node.TheInside.{Inside}
 use Rattle.q_tree.proofs.Puts.{same-child}
@@ -64,6 +65,14 @@ pub record Loses (lost : List Descriptor) (old new : Node Kept) : Type 0 where
   pub held : (w : Descriptor → ℕ) → weigh w (held_beneath old) ≤ weigh w (held_beneath new) + weigh w lost
   pub arrived : IsCountedWithin new.memory.counts.arrived old.memory.counts.arrived
 
+-- another quantum keeps the packets
+requantized-packets : (class : ℕ) (quantum : Option ℕ) (d : spec.Discipline) → packets_in (requantized class quantum d) ≡ packets_in d
+requantized-packets class quantum (spec.Drr s) = refl
+requantized-packets class quantum (spec.Fifo limit queue) = refl
+requantized-packets class quantum (spec.Prio priomap) = refl
+requantized-packets class quantum (spec.Tbf bucket limit) = refl
+requantized-packets class quantum (spec.FqCodel s) = refl
+
 pub effect-loses : (e : Edit) (n : Node Kept) → IsReady e → Loses (removed e n) n (effect e n)
 effect-loses (Graft new) n h = record {
   conserved = λ w. omega (arith, ap (weigh w) h.1, weigh-nil w);
@@ -75,6 +84,13 @@ effect-loses (Graft new) n h = record {
 }
 effect-loses (AddFilter f) n h = record { conserved = λ w. omega (arith, weigh-nil w); held = λ w. omega (arith, weigh-nil w); arrived = record { packets = omega arith; bytes = omega arith } }
 effect-loses (RemoveFilters prio) n h = record { conserved = λ w. omega (arith, weigh-nil w); held = λ w. omega (arith, weigh-nil w); arrived = record { packets = omega arith; bytes = omega arith } }
+effect-loses (Quantum class quantum) n h =
+    let same = requantized-packets class quantum n.own.discipline in
+    record {
+      conserved = λ w. omega (arith, weigh-nil w, ap (λ ps. weigh w (option_to_list n.own.held ++ ps ++ joined (each beneath_own n.below))) same);
+      held = λ w. omega (arith, weigh-nil w);
+      arrived = record { packets = omega arith; bytes = omega arith };
+    }
 
 -- a node above one that loses them
 pub loses-above : (lost : List Descriptor) (i : ℕ) (n old new : Node Kept) → slice_get (children n) i ≡ Some old → Loses lost old new → Loses lost n (above kept (losses_of Purged lost) i new n)

@@ -1,37 +1,38 @@
 -- What the model plans of a command that names a qdisc by its handle, and that an edit of the code is this plan.
 use Rattle.std.proofs.Common.{◌≡◌, ℕ, ◌≤◌, ◌∙◌, List, [], ◌∷◌, length, map, refl, sym, ap, subst, Option, Some, None, option_map, option_and_then, Result, Ok, Err, arith}
-use Rattle.std.specs.Prelude.{IfErr, OnErr, OnOk, Bool, is_none, is_some, not, slice_get, true, false, ◌==◌, ◌||◌}
+use Rattle.std.specs.Prelude.{IfErr, OnErr, OnOk, Bool, is_none, is_some, not, slice_get, true, false, ◌==◌, ◌||◌, if◌then◌else◌}
 use Rattle.std.specs.List.{find, list_any}
 use Rattle.std.specs.Option.{option_map_or}
-use Rattle.std.proofs.lemmas.Bool.{false≢true}
+use Rattle.std.proofs.lemmas.Bool.{false≢true, not-false}
 use Rattle.std.proofs.lemmas.List.{length-map}
 use Rattle.std.proofs.lemmas.Option.{same_Some}
+use Rattle.q_drr.specs.Schedule.{Schedule, has_class, with_quantum}
 use Rattle.q_packet.specs.declared.cause.Cause.TheVariants.{Purged}
+use Rattle.q_model.specs.declared.class_id.ClassId.{ClassId}
 use Rattle.q_model.specs.declared.command.Command.{Command}
-use Rattle.q_model.specs.declared.filter.Filter.{Filter}
 use Rattle.q_model.specs.declared.not_done.NotDone.{NotDone}
-use Rattle.q_model.specs.declared.not_done.NotDone.TheVariants.{Memory, NoClass, NoQdisc, NotClassful, TooMany}
+use Rattle.q_model.specs.declared.not_done.NotDone.TheVariants.{Memory, NoClass, NoParent, NoQdisc, NotClassful, TooMany}
 use Rattle.q_model.specs.Beneath.{beneath}
+use Rattle.q_model.specs.ClassCommands.{class_change, class_change_checks, class_changed, is_there, of_schedule, with_new_quantum}
 use Rattle.q_model.specs.Edit as model
-use Rattle.q_model.specs.Edit.{above, edited_at, keeps, lost_by, packets_removed, beneath_removed, remade}
-use Rattle.q_model.specs.FilterCommands.{with_filters}
+use Rattle.q_model.specs.Edit.{Remake, above, edited_at, keeps, lost_by, packets_removed, beneath_removed, remade}
 use Rattle.q_model.specs.Find.{Address, addresses_own, class_in, class_place, count_nodes, depth, node_at, path_of}
-use Rattle.q_model.specs.Node.{Node, Shape, children, shape, side_by_side}
-use Rattle.q_model.specs.QdiscCommands.{all_kept, at_target}
-use Rattle.q_model.specs.Refusals.{Check, done_unless, first_refusal, most_levels, most_nodes, refuse}
+use Rattle.q_model.specs.Node.{Discipline, Fifo, Prio, Tbf, Drr, FqCodel, Own, Node, Shape, children, shape, side_by_side}
+use Rattle.q_model.specs.QdiscCommands.{all_kept, at_target, retuned}
+use Rattle.q_model.specs.Refusals.{Check, done_unless, first_refusal, is_so, most_levels, most_nodes, refuse}
 use Rattle.q_model.specs.Step.{DeviceState}
 use Rattle.q_model.specs.Tally.{Note, noted}
 use Rattle.q_model.specs.Ranges.{IsCommand}
 use Rattle.q_model.specs.TreeState.{plan, with_edit}
 use Rattle.q_model.specs.Work.{losses_of}
+use Rattle.q_sound.proofs.EditClasses.{class_known}
 use Rattle.q_sound.proofs.EditChildren.{gone_is, gone_none, kept_there, kids_all}
-use Rattle.q_sound.proofs.EditSuits.{done_is, length-shape, node_at-shape}
+use Rattle.q_sound.proofs.EditSuits.{check_passed, done_is, length-shape, node_at-shape}
 use Rattle.q_sound.proofs.Edits.{found_in_shape}
 use Rattle.q_sound.proofs.Forests.{side-nodes}
 use Rattle.q_sound.proofs.MadeSizes.{count-shape, depth-shape}
-use Rattle.q_tree.specs.Commands.{IsAnswered, IsPlanned, device_edited}
-use Rattle.q_tree.specs.Editing as edits
-use Rattle.q_tree.specs.Editing.{IsReady, edited_by, effect, notes_of, removed, removed_at}
+use Rattle.q_tree.specs.Commands.{IsAnswered, IsPlanned, change_answer, device_edited}
+use Rattle.q_tree.specs.Editing.{IsReady, edited_by, effect, removed, removed_at, requantized, requantum}
 use Rattle.q_tree.specs.Kept.{Kept, kept}
 use Rattle.q_tree.specs.TreeSeen.{IsKeptDevice, tree_seen}
 use Rattle.q_tree.specs.declared.edit.Edit.{Edit}
@@ -76,7 +77,7 @@ pub answered : (e : Edit) (path : List ℕ) (now : ℕ) (d after : DeviceState K
 answered e path now d after p same plan is (Ok done) edited memory unchanged = subst (λ q. IsAnswered q d after (Ok done)) (sym is) (edited ∙ device-is e path now d p same)
 answered e path now d after p same plan is (Err why) edited memory unchanged = subst (λ q. IsAnswered q d after (Err why)) (sym is) (memory, unchanged)
 
--- ---- other filters
+-- ---- other settings
 
 -- an edit is told by what it makes of the node at the end of its way
 edited-end : (notes : List Note) (f g : Node Kept → Node Kept) (path : List ℕ) (root n : Node Kept) → node_at path root ≡ Some n → f n ≡ g n → edited_at kept notes f path root ≡ edited_at kept notes g path root
@@ -87,9 +88,9 @@ edited-end notes f g (i ∷ path) root n at same = by (slice_get (children root)
   by None there on = refl
   by (Some c) there on = ap (λ x. above kept notes i x root) (on c there)
 
-module _ (e : Edit) (path : List ℕ) (root n : Node Kept) (there : node_at path root ≡ Some n) (filters : List Filter) (does : effect e n ≡ edits.with_filters filters n) (nothing_lost : removed e n ≡ []) where
-  abbrev pub filters_edit : model.Edit
-  filters_edit = with_filters path (shape n) filters
+module _ (e : Edit) (path : List ℕ) (root n : Node Kept) (there : node_at path root ≡ Some n) (own : Own) (does : effect e n ≡ record n { own = own }) (nothing_lost : removed e n ≡ []) where
+  abbrev pub own_edit : model.Edit
+  own_edit = Remake path own (all_kept (shape n))
 
   all-stay : beneath_removed (all_kept (shape n)) (shape n) ≡ []
   all-stay =
@@ -97,23 +98,23 @@ module _ (e : Edit) (path : List ℕ) (root n : Node Kept) (there : node_at path
       ∙ gone_none (λ j. list_any (keeps j) (all_kept (shape n))) 0 (map beneath (children (shape n)))
       (λ j le lt. kept_there j 0 (length (children (shape n))) le (omega (arith, lt, length-map (children (shape n)) beneath)))
 
-  removed-none : packets_removed filters_edit (shape root) ≡ []
+  removed-none : packets_removed own_edit (shape root) ≡ []
   removed-none = ap (λ o. option_map_or (beneath_removed (all_kept (shape n))) o []) (node_at-shape path root ∙ ap (option_map shape) there) ∙ all-stay
 
-  pub filters-lost : removed_at e path root ≡ packets_removed filters_edit (shape root)
-  filters-lost = ap (λ o. option_map_or (removed e) o []) there ∙ nothing_lost ∙ sym removed-none
+  pub own-lost : removed_at e path root ≡ packets_removed own_edit (shape root)
+  own-lost = ap (λ o. option_map_or (removed e) o []) there ∙ nothing_lost ∙ sym removed-none
 
-  remade-is : remade kept (record n.own { filters = filters }) (all_kept (shape n)) (lost_by filters_edit (shape root)) n ≡ edits.with_filters filters n
+  remade-is : remade kept own (all_kept (shape n)) (lost_by own_edit (shape root)) n ≡ record n { own = own }
   remade-is = λ i. record {
-    own = record n.own { filters = filters };
+    own = own;
     memory = noted kept n.memory (losses_of Purged (removed-none i));
     below = (ap side_by_side (kids_all kept (children n) (length (children (shape n))) (length-shape n)) ∙ side-nodes n.below) i;
   }
 
-  pub filters-same : edited_by e path root ≡ model.edited kept (lost_by filters_edit (shape root)) filters_edit root
-  filters-same =
-      ap (λ ps. edited_at kept (losses_of Purged ps) (effect e) path root) filters-lost
-      ∙ edited-end (lost_by filters_edit (shape root)) (effect e) (remade kept (record n.own { filters = filters }) (all_kept (shape n)) (lost_by filters_edit (shape root))) path root n there (does ∙ sym remade-is)
+  pub own-same : edited_by e path root ≡ model.edited kept (lost_by own_edit (shape root)) own_edit root
+  own-same =
+      ap (λ ps. edited_at kept (losses_of Purged ps) (effect e) path root) own-lost
+      ∙ edited-end (lost_by own_edit (shape root)) (effect e) (remade kept own (all_kept (shape n)) (lost_by own_edit (shape root))) path root n there (does ∙ sym remade-is)
 
 -- ---- the bounds of a tree
 
@@ -151,33 +152,63 @@ same-refusal {A} {B} checks a b refusal e = by (first_refusal checks) e where
 pub all-passed : {A B : Type 0} (checks : List Check) (a : A) (b : B) → done_unless checks a ≡ Ok a → done_unless checks b ≡ Ok b
 all-passed checks a b e = ap (λ o. option_map_or (λ r. Err r) o (Ok b)) (done_is checks a a e).0
 
--- ---- the plan of a line about filters
+-- ---- the plan of a line that gives a qdisc other settings
 
-module _ (a : Inside) (e : Edit) (ready : IsReady e) (h : ℕ) (path : List ℕ) (n : Node Kept) (found : path_of h a.root ≡ Some path) (there : node_at path a.root ≡ Some n)
-    (filters : List Filter) (does : effect e n ≡ edits.with_filters filters n) (nothing_lost : removed e n ≡ [])
-    (command : Command) (ranges : IsCommand command) (now : ℕ) (f : List ℕ → Shape → Result model.Edit NotDone)
-    (plan-is : plan (tree_seen a).tree.device now command (shape a.root) ≡ at_target NoQdisc (path_of h (shape a.root)) f (shape a.root))
-    (passed : f path (shape n) ≡ Ok (with_filters path (shape n) filters)) where
-  pub filters-planned : IsPlanned e path now (tree_seen a)
-  filters-planned = record {
+module _ (a : Inside) (e : Edit) (ready : IsReady e) (path : List ℕ) (n : Node Kept) (there : node_at path a.root ≡ Some n)
+    (own : Own) (does : effect e n ≡ record n { own = own }) (nothing_lost : removed e n ≡ [])
+    (command : Command) (ranges : IsCommand command) (now : ℕ)
+    (plan-is : plan (tree_seen a).tree.device now command (shape a.root) ≡ Ok (Remake path own (all_kept (shape n)))) where
+  pub own-planned : IsPlanned e path now (tree_seen a)
+  own-planned = record {
     command = command;
     ranges = ranges;
-    edit = with_filters path (shape n) filters;
-    planned = plan-is ∙ planned-at h a.root f path n found there ∙ passed;
-    lost = filters-lost e path a.root n there filters does nothing_lost;
-    same = filters-same e path a.root n there filters does nothing_lost;
+    edit = Remake path own (all_kept (shape n));
+    planned = plan-is;
+    lost = own-lost e path a.root n there own does nothing_lost;
+    same = own-same e path a.root n there own does nothing_lost;
     there = ap is_some there;
     ready = ready;
   }
 
   module _ (d : DeviceState Kept) (view : tree_seen a ≡ d) (now_is : now ≡ a.clock) (lent : List ℕ) (lent_is : lent ≡ path) (after : DeviceState Kept) (result : Result (Unit {0}) NotDone)
       (edited : OnOk result (after ≡ device_edited e lent now d)) (memory : IfErr result (λ why. why ≡ Memory)) (unchanged : OnErr result (after ≡ d)) where
-    pub filters-planned_there : IsPlanned e lent now d
-    filters-planned_there = subst (IsPlanned e lent now) view (subst (λ p. IsPlanned e p now (tree_seen a)) (sym lent_is) filters-planned)
-
-    pub filters-answered : IsAnswered (plan (tree_seen a).tree.device now command (shape a.root)) (tree_seen a) after result
-    unfolding filters-planned
-    filters-answered =
-        answered e path now (tree_seen a) after filters-planned now_is (plan (tree_seen a).tree.device now command (shape a.root)) filters-planned.planned result
+    pub own-answered : IsAnswered (plan (tree_seen a).tree.device now command (shape a.root)) (tree_seen a) after result
+    unfolding own-planned
+    own-answered =
+        answered e path now (tree_seen a) after own-planned now_is (plan (tree_seen a).tree.device now command (shape a.root)) own-planned.planned result
         (subst (λ x. OnOk result (after ≡ device_edited e path now x)) (sym view) (subst (λ p. OnOk result (after ≡ device_edited e p now d)) lent_is edited))
         memory (subst (λ x. OnErr result (after ≡ x)) (sym view) unchanged)
+
+-- ---- the class of a drr
+
+pub own-class : (parent : Option ℕ) (class : ClassId) (quantum : Option ℕ) (root : Shape) → is_so (λ major. not (major == class.major)) parent ≡ false
+    → class_change parent class quantum root ≡ at_target NoQdisc (path_of class.major root) (λ path n. of_schedule (class_changed class quantum path n) n.own.discipline) root
+own-class parent class quantum root e =
+    ap (λ b. if b then Err NoParent else at_target NoQdisc (path_of class.major root) (λ path n. of_schedule (class_changed class quantum path n) n.own.discipline) root) e
+
+pub change-refused : (class : ClassId) (quantum : Option ℕ) (path : List ℕ) (n : Shape) (refusal : NotDone) (d : Discipline) → change_answer class n d ≡ Err refusal → of_schedule (class_changed class quantum path n) d ≡ Err refusal
+change-refused class quantum path n refusal (Drr s) e = same-refusal (class_change_checks class n) tt (retuned n path (Drr (with_new_quantum class quantum s))) refusal e
+change-refused class quantum path n refusal (Fifo limit queue) e = cc
+change-refused class quantum path n refusal (Prio priomap) e = cc
+change-refused class quantum path n refusal (Tbf bucket limit) e = cc
+change-refused class quantum path n refusal (FqCodel s) e = cc
+
+requantum-is : (class : ClassId) (quantum : Option ℕ) (s : Schedule) → has_class class.minor s.classes ≡ true → with_new_quantum class quantum s ≡ requantum class.minor quantum s
+requantum-is class None s there = refl
+requantum-is class (Some q) s there = sym (ap (λ b. if b then with_quantum class.minor q s else s) there)
+
+pub change-done : (class : ClassId) (quantum : Option ℕ) (path : List ℕ) (n : Node Kept) → change_answer class (shape n) n.own.discipline ≡ Ok tt
+    → of_schedule (class_changed class quantum path (shape n)) n.own.discipline ≡ Ok (Remake path (record n.own { discipline = requantized class.minor quantum n.own.discipline }) (all_kept (shape n)))
+change-done class quantum path n e = by n.own.discipline refl e where
+  by : (d : Discipline) → n.own.discipline ≡ d → change_answer class (shape n) d ≡ Ok tt
+      → of_schedule (class_changed class quantum path (shape n)) d ≡ Ok (Remake path (record n.own { discipline = requantized class.minor quantum d }) (all_kept (shape n)))
+  by (Drr s) is e =
+      let passed = check_passed (refuse NoClass (not (is_there class (shape n)))) [] (done_is (class_change_checks class (shape n)) tt tt e).0 in
+      let there : has_class class.minor s.classes ≡ true =
+      sym (class_known (length (children (shape n))) class.minor s) ∙ ap (λ d. is_some (class_in (length (children (shape n))) class.minor d)) (sym is) ∙ not-false (is_there class (shape n)) passed.0 in
+      all-passed (class_change_checks class (shape n)) tt (retuned (shape n) path (Drr (with_new_quantum class quantum s))) e
+      ∙ ap (λ t. Ok (Remake path (record n.own { discipline = Drr t }) (all_kept (shape n)))) (requantum-is class quantum s there)
+  by (Fifo limit queue) is e = absurd cc
+  by (Prio priomap) is e = absurd cc
+  by (Tbf bucket limit) is e = absurd cc
+  by (FqCodel s) is e = absurd cc

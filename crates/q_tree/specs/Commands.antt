@@ -1,12 +1,15 @@
 -- What a command comes to (tc(8)): the model's plan says whether it is refused, and why, or which edit of the tree is done.
 use Rattle.std.specs.Prelude.{◌≡◌, ℕ, List, IsSome, Result, Ok, Err}
+use Rattle.q_model.specs.declared.class_id.ClassId.{ClassId}
 use Rattle.q_model.specs.declared.command.Command.{Command}
 use Rattle.q_model.specs.declared.not_done.NotDone.{NotDone}
-use Rattle.q_model.specs.declared.not_done.NotDone.TheVariants.{Memory}
+use Rattle.q_model.specs.declared.not_done.NotDone.TheVariants.{CannotChange, Memory, NotClassful}
+use Rattle.q_model.specs.ClassCommands.{class_change_checks}
 use Rattle.q_model.specs.Edit as model
 use Rattle.q_model.specs.Find.{node_at}
-use Rattle.q_model.specs.Node.{shape}
+use Rattle.q_model.specs.Node.{Discipline, Fifo, Prio, Tbf, Drr, FqCodel, Shape, shape}
 use Rattle.q_model.specs.Ranges.{IsCommand}
+use Rattle.q_model.specs.Refusals.{done_unless}
 use Rattle.q_model.specs.Step.{DeviceState}
 use Rattle.q_model.specs.Tally.{noted}
 use Rattle.q_model.specs.TreeState.{plan, with_edit}
@@ -38,3 +41,11 @@ pub record IsPlanned (e : Edit) (path : List ℕ) (now : ℕ) (d : DeviceState K
   pub same : edited_by e path d.tree.root ≡ model.edited kept (model.lost_by edit (shape d.tree.root)) edit d.tree.root
   pub there : IsSome (node_at path d.tree.root)
   pub ready : IsReady e
+
+-- whether the class of a qdisc can be changed: only a drr's are set by themselves (tc-drr(8))
+abbrev pub change_answer : ClassId → Shape → Discipline → Result (Unit {0}) NotDone
+change_answer class n (Drr s) = done_unless (class_change_checks class n) tt
+change_answer class n (Fifo limit queue) = Err NotClassful
+change_answer class n (FqCodel s) = Err NotClassful
+change_answer class n (Prio priomap) = Err CannotChange
+change_answer class n (Tbf bucket limit) = Err CannotChange

@@ -1,8 +1,9 @@
 -- What an edit of a tree makes of the node at the end of its way, and of the nodes above it (tc(8), `add`, `change`, `del`).
 -- Each node above counts what is lost as dropped, and a class of a drr that is thereby empty leaves the active list.
-use Rattle.std.specs.Prelude.{◌≡◌, ℕ, ◌<◌, ◌≤◌, ◌^◌, ◌==◌, not, List, [], set}
+use Rattle.std.specs.Prelude.{◌≡◌, ℕ, ◌<◌, ◌≤◌, ◌^◌, ◌==◌, not, List, [], set, Option, None, Some, if◌then◌else◌}
 use Rattle.std.specs.List.{filter}
 use Rattle.std.specs.Option.{option_map_or}
+use Rattle.q_drr.specs.Schedule.{Schedule, has_class, with_quantum}
 use Rattle.q_packet.specs.Descriptor.{Descriptor}
 use Rattle.q_packet.specs.declared.cause.Cause.TheVariants.{Purged}
 use Rattle.q_model.specs.declared.filter.Filter.{Filter}
@@ -12,6 +13,7 @@ use Rattle.q_model.specs.Beneath.{beneath, is_empty}
 use Rattle.q_model.specs.Edit.{edited_at}
 use Rattle.q_model.specs.Filters.{with_filter}
 use Rattle.q_model.specs.Find.{node_at}
+use Rattle.q_model.specs.Node as spec
 use Rattle.q_model.specs.Node.{Node, blank, shape}
 use Rattle.q_model.specs.Tally.{Note}
 use Rattle.q_model.specs.Work.{losses_of, settled_in}
@@ -19,29 +21,44 @@ use Rattle.q_tree.specs.Arrivals.{plus, minus}
 use Rattle.q_tree.specs.Kept.{Kept, kept}
 use Rattle.q_tree.specs.Seen.{children_seen, discipline_seen, places_seen}
 use Rattle.q_tree.specs.declared.edit.Edit.{Edit}
-use Rattle.q_tree.specs.declared.edit.Edit.TheVariants.{Graft, AddFilter, RemoveFilters}
+use Rattle.q_tree.specs.declared.edit.Edit.TheVariants.{Graft, AddFilter, RemoveFilters, Quantum}
 use Rattle.q_tree.specs.declared.node.Discipline.{Discipline}
 
 abbrev pub with_filters : List Filter → Node Kept → Node Kept
 with_filters filters n = record n { own = record n.own { filters = filters } }
+
+-- another quantum for a class that is there, where one is given
+abbrev pub requantum : ℕ → Option ℕ → Schedule → Schedule
+requantum class None s = s
+requantum class (Some quantum) s = if has_class class s.classes then with_quantum class quantum s else s
+
+abbrev pub requantized : ℕ → Option ℕ → spec.Discipline → spec.Discipline
+requantized class quantum (spec.Drr s) = spec.Drr (requantum class quantum s)
+requantized class quantum (spec.Fifo limit queue) = spec.Fifo limit queue
+requantized class quantum (spec.Prio priomap) = spec.Prio priomap
+requantized class quantum (spec.Tbf bucket limit) = spec.Tbf bucket limit
+requantized class quantum (spec.FqCodel s) = spec.FqCodel s
 
 -- the node that it makes of this one
 abbrev pub effect : Edit → Node Kept → Node Kept
 effect (Graft new) n = new
 effect (AddFilter f) n = with_filters (with_filter f n.own.filters) n
 effect (RemoveFilters prio) n = with_filters (filter (λ (f : Filter). not (f.prio == prio)) n.own.filters) n
+effect (Quantum class quantum) n = record n { own = record n.own { discipline = requantized class quantum n.own.discipline } }
 
 -- the packets that it loses there
 abbrev pub removed : Edit → Node Kept → List Descriptor
 removed (Graft new) n = beneath n
 removed (AddFilter f) n = []
 removed (RemoveFilters prio) n = []
+removed (Quantum class quantum) n = []
 
 -- what stands in place of a node is new: it has counted nothing, and nothing is queued there
 abbrev pub IsReady : Edit → Type 0
 IsReady (Graft new) = (new ≡ blank kept (shape new)) × (beneath new ≡ [])
 IsReady (AddFilter f) = Unit {0}
 IsReady (RemoveFilters prio) = Unit {0}
+IsReady (Quantum class quantum) = Unit {0}
 
 -- the same for a way from a node down
 abbrev pub removed_at : Edit → List ℕ → Node Kept → List Descriptor

@@ -5,17 +5,18 @@ ghost use Rattle.q_model.specs.Beneath.{totals_in};
 ghost use Rattle.q_model.specs.Filters.{with_filter};
 ghost use Rattle.q_model.specs.Find.{node_at};
 ghost use Rattle.q_model.specs.Node as spec;
-ghost use Rattle.q_tree.specs.Editing.{effect, removed, removed_at, edited_by, IsReady, IsEditedBeneath, IsUnchanged};
+ghost use Rattle.q_tree.specs.Editing.{effect, removed, removed_at, edited_by, requantized, requantum, IsReady, IsEditedBeneath, IsUnchanged};
 ghost use Rattle.q_tree.specs.Kept.{Kept};
 ghost use Rattle.q_tree.specs.Places.{Leads};
 ghost use Rattle.q_tree.specs.Purging.{purged};
-ghost use Rattle.q_tree.specs.Seen.{children_seen};
+ghost use Rattle.q_tree.specs.Seen.{children_seen, discipline_seen, places_seen};
 
 use crate::booking::{NOTHING, book_dropped};
 use crate::drr::settle;
 use crate::node::{Discipline, Node};
 use q_codel::Sink;
-use q_model::{Filter, FilterPrio, Totals};
+use q_drr::Active;
+use q_model::{Filter, FilterPrio, Minor, Quantum, Totals};
 use std::alloc::AllocError;
 
 /// What a command makes of the node at the end of its way.
@@ -26,6 +27,8 @@ pub(crate) enum Edit {
     AddFilter(Filter),
     /// It has no filters of this priority.
     RemoveFilters(FilterPrio),
+    /// This class of a drr has another quantum, where one is given.
+    Quantum(Minor, Option<Quantum>),
 }
 
 impl Node {
@@ -87,6 +90,10 @@ impl Node {
                 remove_filters(&mut self.filters, prio);
                 return Ok(NOTHING);
             }
+            Edit::Quantum(class, quantum) => {
+                self.discipline.set_quantum(class, quantum);
+                return Ok(NOTHING);
+            }
         }
     }
 }
@@ -122,6 +129,33 @@ impl Discipline {
             }
             Discipline::Fifo(_) | Discipline::FqCodel(_) => unreachable!(),
         }
+    }
+}
+
+impl Discipline {
+    // Gives a class of a drr another quantum, where one is given and the class is there (tc-drr(8)).
+    fn set_quantum(&mut self, class: Minor, quantum: Option<Quantum>)
+        ensures discipline { discipline_seen self.new ≡ requantized class quantum (discipline_seen self.old) }
+        ensures children { children_seen self.new ≡ children_seen self.old }
+        ensures places { places_seen self.new ≡ places_seen self.old }
+    {
+        match self {
+            Discipline::Drr { active, .. } => set_class_quantum(active, class.number(), quantum),
+            Discipline::Prio { .. } | Discipline::Tbf { .. } => (),
+            Discipline::Fifo(_) | Discipline::FqCodel(_) => (),
+        }
+    }
+}
+
+// The same in the schedule.
+fn set_class_quantum(active: &mut Active, class: u16, quantum: Option<Quantum>)
+    ensures { active.new ≡ requantum class quantum active.old }
+{
+    let Some(quantum) = quantum else {
+        return;
+    };
+    if active.has(class) {
+        active.set_quantum(class, quantum.bytes());
     }
 }
 

@@ -12,6 +12,7 @@
 
 mod at_hand;
 mod booking;
+mod class_commands;
 mod drr;
 mod edit;
 mod filter_commands;

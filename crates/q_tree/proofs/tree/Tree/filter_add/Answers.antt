@@ -14,7 +14,7 @@ use Rattle.q_tree.specs.Commands.{IsAnswered, IsPlanned}
 use Rattle.q_tree.specs.Kept.{Kept}
 use Rattle.q_tree.specs.TreeSeen.{tree_seen}
 use Rattle.q_tree.specs.declared.edit.Edit.TheVariants.{AddFilter}
-use Rattle.q_tree.proofs.Plans.{all-passed, few-shape, filters-answered, filters-planned, filters_edit, nothing-there, planned-at, refused, same-refusal, shallow-shape, unfound}
+use Rattle.q_tree.proofs.Plans.{all-passed, few-shape, own-answered, own-planned, nothing-there, planned-at, refused, same-refusal, shallow-shape, unfound}
 use Rattle.q_tree.proofs.TreePuts.{levels}
 use Rattle.q_tree.proofs.tree.Tree.filter_add.Goals as goal
 
@@ -55,7 +55,7 @@ returns-in-Err c =
     plan-filter_add (shape root) (shallow-shape c.self.inside c.self.invariant) (few-shape c.self.inside c.self.invariant) device clock c.args.parent c.args.major c.args.filter
     ∙ planned-at c.args.parent root (filter_added c.args.parent c.args.major c.args.filter) c.in-Some.path.items c.in-Some-at.node.now found there in
     let same : filter_added c.args.parent c.args.major c.args.filter c.in-Some.path.items (shape c.in-Some-at.node.now) ≡ Err c.in-Err.refusal =
-    same-refusal (filter_add_checks c.args.parent c.args.major c.args.filter (shape c.in-Some-at.node.now)) tt (filters_edit (AddFilter c.args.filter) c.in-Some.path.items root c.in-Some-at.node.now there (with_filter c.args.filter c.in-Some-at.node.now.own.filters) refl refl) c.in-Err.refusal (sym c.can_add_filter.ensures ∙ c.in-Err.is) in
+    same-refusal (filter_add_checks c.args.parent c.args.major c.args.filter (shape c.in-Some-at.node.now)) tt (with_filters c.in-Some.path.items (shape c.in-Some-at.node.now) (with_filter c.args.filter c.in-Some-at.node.now.own.filters)) c.in-Err.refusal (sym c.can_add_filter.ensures ∙ c.in-Err.is) in
     subst (λ (d : DeviceState Kept). IsAnswered (plan d.tree.device d.clock (FilterAdd c.args.parent c.args.major c.args.filter) (shape d.tree.root)) d d (Err c.in-Err.refusal)) c.self.view_is (refused (plan device clock (FilterAdd c.args.parent c.args.major c.args.filter) (shape root)) c.in-Err.refusal (tree_seen c.self.inside) (planned ∙ same))
 
 pub edit-requires-clause-planned : goal.edit-requires-clause-planned
@@ -70,8 +70,8 @@ edit-requires-clause-planned c =
     let planned = plan-filter_add (shape root) (shallow-shape c.self.inside c.self.invariant) (few-shape c.self.inside c.self.invariant) device now c.args.parent c.args.major c.args.filter in
     let passed = all-passed (filter_add_checks c.args.parent c.args.major c.args.filter (shape n)) tt (with_filters c.in-Some.path.items (shape n) filters) (sym c.can_add_filter.ensures ∙ c.in_default-can_add_filter.is) in
     subst (IsPlanned (AddFilter c.args.filter) c.deref-2.result.now now) c.self.view_is (subst (λ p. IsPlanned (AddFilter c.args.filter) p now (tree_seen c.self.inside)) (sym c.deref-2.ensures.0)
-    (filters-planned c.self.inside (AddFilter c.args.filter) tt c.args.parent c.in-Some.path.items n found there filters refl refl (FilterAdd c.args.parent c.args.major c.args.filter)
-    (subst IsHandle c.major.ensures.value c.major.ensures.in_range, subst IsHandle c.major-2.ensures.value c.major-2.ensures.in_range, c.ranges-2.ensures) now (filter_added c.args.parent c.args.major c.args.filter) planned passed))
+    (own-planned c.self.inside (AddFilter c.args.filter) tt c.in-Some.path.items n there (record n.own { filters = filters }) refl refl (FilterAdd c.args.parent c.args.major c.args.filter)
+    (subst IsHandle c.major.ensures.value c.major.ensures.in_range, subst IsHandle c.major-2.ensures.value c.major-2.ensures.in_range, c.ranges-2.ensures) now (planned ∙ planned-at c.args.parent root (filter_added c.args.parent c.args.major c.args.filter) c.in-Some.path.items n found there ∙ passed)))
 
 pub returns : goal.returns
 returns c =
@@ -86,6 +86,6 @@ returns c =
     let passed = all-passed (filter_add_checks c.args.parent c.args.major c.args.filter (shape n)) tt (with_filters c.in-Some.path.items (shape n) filters) (sym c.can_add_filter.ensures ∙ c.in_default-can_add_filter.is) in
     let same_clock = ap (λ (d : DeviceState Kept). d.clock) (c.edit.view_is ∙ sym c.self.view_is) in
     subst (λ (d : DeviceState Kept). IsAnswered (plan d.tree.device d.clock (FilterAdd c.args.parent c.args.major c.args.filter) (shape d.tree.root)) d c.edit-2.new.self c.edit-2.result) c.self.view_is
-    (filters-answered c.self.inside (AddFilter c.args.filter) tt c.args.parent c.in-Some.path.items n found there filters refl refl (FilterAdd c.args.parent c.args.major c.args.filter)
-    (subst IsHandle c.major.ensures.value c.major.ensures.in_range, subst IsHandle c.major-2.ensures.value c.major-2.ensures.in_range, c.ranges-2.ensures) now (filter_added c.args.parent c.args.major c.args.filter) planned passed
+    (own-answered c.self.inside (AddFilter c.args.filter) tt c.in-Some.path.items n there (record n.own { filters = filters }) refl refl (FilterAdd c.args.parent c.args.major c.args.filter)
+    (subst IsHandle c.major.ensures.value c.major.ensures.in_range, subst IsHandle c.major-2.ensures.value c.major-2.ensures.in_range, c.ranges-2.ensures) now (planned ∙ planned-at c.args.parent root (filter_added c.args.parent c.args.major c.args.filter) c.in-Some.path.items n found there ∙ passed)
     c.args.self.now c.self.view_is same_clock c.deref-2.result.now c.deref-2.ensures.0 c.edit-2.new.self c.edit-2.result c.edit-2.ensures.after c.edit-2.ensures.memory c.edit-2.ensures.same)

@@ -16,7 +16,7 @@ use Rattle.q_tree.specs.Commands.{IsAnswered, IsPlanned}
 use Rattle.q_tree.specs.Kept.{Kept}
 use Rattle.q_tree.specs.TreeSeen.{tree_seen}
 use Rattle.q_tree.specs.declared.edit.Edit.TheVariants.{RemoveFilters}
-use Rattle.q_tree.proofs.Plans.{all-passed, few-shape, filters-answered, filters-planned, filters_edit, nothing-there, planned-at, refused, same-refusal, shallow-shape, unfound}
+use Rattle.q_tree.proofs.Plans.{all-passed, few-shape, own-answered, own-planned, nothing-there, planned-at, refused, same-refusal, shallow-shape, unfound}
 use Rattle.q_tree.proofs.TreePuts.{levels}
 use Rattle.q_tree.proofs.tree.Tree.filter_del.Goals as goal
 
@@ -57,7 +57,7 @@ returns-in-Err c =
     plan-filter_del (shape root) (shallow-shape c.self.inside c.self.invariant) (few-shape c.self.inside c.self.invariant) device clock c.args.parent c.args.prio
     ∙ planned-at c.args.parent root (filters_removed c.args.prio) c.in-Some.path.items c.in-Some-at.node.now found there in
     let same : filters_removed c.args.prio c.in-Some.path.items (shape c.in-Some-at.node.now) ≡ Err c.in-Err.refusal =
-    same-refusal (filter_del_checks c.args.prio (shape c.in-Some-at.node.now)) tt (filters_edit (RemoveFilters c.args.prio) c.in-Some.path.items root c.in-Some-at.node.now there (filter (λ (f : Filter). not (f.prio == c.args.prio)) c.in-Some-at.node.now.own.filters) refl refl) c.in-Err.refusal (sym c.can_remove_filters.ensures ∙ c.in-Err.is) in
+    same-refusal (filter_del_checks c.args.prio (shape c.in-Some-at.node.now)) tt (with_filters c.in-Some.path.items (shape c.in-Some-at.node.now) (filter (λ (f : Filter). not (f.prio == c.args.prio)) c.in-Some-at.node.now.own.filters)) c.in-Err.refusal (sym c.can_remove_filters.ensures ∙ c.in-Err.is) in
     subst (λ (d : DeviceState Kept). IsAnswered (plan d.tree.device d.clock (FilterDel c.args.parent c.args.prio) (shape d.tree.root)) d d (Err c.in-Err.refusal)) c.self.view_is (refused (plan device clock (FilterDel c.args.parent c.args.prio) (shape root)) c.in-Err.refusal (tree_seen c.self.inside) (planned ∙ same))
 
 pub edit-requires-clause-planned : goal.edit-requires-clause-planned
@@ -72,8 +72,8 @@ edit-requires-clause-planned c =
     let planned = plan-filter_del (shape root) (shallow-shape c.self.inside c.self.invariant) (few-shape c.self.inside c.self.invariant) device now c.args.parent c.args.prio in
     let passed = all-passed (filter_del_checks c.args.prio (shape n)) tt (with_filters c.in-Some.path.items (shape n) filters) (sym c.can_remove_filters.ensures ∙ c.in_default-can_remove_filters.is) in
     subst (IsPlanned (RemoveFilters c.args.prio) c.deref-2.result.now now) c.self.view_is (subst (λ p. IsPlanned (RemoveFilters c.args.prio) p now (tree_seen c.self.inside)) (sym c.deref-2.ensures.0)
-    (filters-planned c.self.inside (RemoveFilters c.args.prio) tt c.args.parent c.in-Some.path.items n found there filters refl refl (FilterDel c.args.parent c.args.prio)
-    (subst IsHandle c.major.ensures.value c.major.ensures.in_range, subst IsFilterPrio c.number.ensures.value c.number.ensures.in_range) now (filters_removed c.args.prio) planned passed))
+    (own-planned c.self.inside (RemoveFilters c.args.prio) tt c.in-Some.path.items n there (record n.own { filters = filters }) refl refl (FilterDel c.args.parent c.args.prio)
+    (subst IsHandle c.major.ensures.value c.major.ensures.in_range, subst IsFilterPrio c.number.ensures.value c.number.ensures.in_range) now (planned ∙ planned-at c.args.parent root (filters_removed c.args.prio) c.in-Some.path.items n found there ∙ passed)))
 
 pub returns : goal.returns
 returns c =
@@ -88,6 +88,6 @@ returns c =
     let passed = all-passed (filter_del_checks c.args.prio (shape n)) tt (with_filters c.in-Some.path.items (shape n) filters) (sym c.can_remove_filters.ensures ∙ c.in_default-can_remove_filters.is) in
     let same_clock = ap (λ (d : DeviceState Kept). d.clock) (c.edit.view_is ∙ sym c.self.view_is) in
     subst (λ (d : DeviceState Kept). IsAnswered (plan d.tree.device d.clock (FilterDel c.args.parent c.args.prio) (shape d.tree.root)) d c.edit-2.new.self c.edit-2.result) c.self.view_is
-    (filters-answered c.self.inside (RemoveFilters c.args.prio) tt c.args.parent c.in-Some.path.items n found there filters refl refl (FilterDel c.args.parent c.args.prio)
-    (subst IsHandle c.major.ensures.value c.major.ensures.in_range, subst IsFilterPrio c.number.ensures.value c.number.ensures.in_range) now (filters_removed c.args.prio) planned passed
+    (own-answered c.self.inside (RemoveFilters c.args.prio) tt c.in-Some.path.items n there (record n.own { filters = filters }) refl refl (FilterDel c.args.parent c.args.prio)
+    (subst IsHandle c.major.ensures.value c.major.ensures.in_range, subst IsFilterPrio c.number.ensures.value c.number.ensures.in_range) now (planned ∙ planned-at c.args.parent root (filters_removed c.args.prio) c.in-Some.path.items n found there ∙ passed)
     c.args.self.now c.self.view_is same_clock c.deref-2.result.now c.deref-2.ensures.0 c.edit-2.new.self c.edit-2.result c.edit-2.ensures.after c.edit-2.ensures.memory c.edit-2.ensures.same)
