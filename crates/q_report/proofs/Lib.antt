@@ -1,6 +1,4 @@
-pub mod Prefix6ReadBack
 pub mod FilterReadBack
-pub mod FilterWords
 pub mod PrefixReadBack
 pub mod PrioReadBack
 pub mod QdiscReadBack
