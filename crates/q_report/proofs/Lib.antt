@@ -1,6 +1,5 @@
 pub mod FilterReadBack
 pub mod PrefixReadBack
-pub mod PrioReadBack
 pub mod QdiscReadBack
 pub mod ReadBack
 pub mod ReadBackSteps
