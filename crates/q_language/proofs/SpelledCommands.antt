@@ -36,11 +36,11 @@ use Rattle.q_language.proofs.SpelledKinds.{Makes, bytes_reads, kind_says}
 use Rattle.q_language.proofs.SpelledSteps.{Path, Says, Word, chain, chain_says, class_is_word, decimal_word, device, ended_says, handle_is_word, name_read, nowhere, option, pair, word}
 use Rattle.q_language.proofs.SpelledValues.{class_read}
 
-abbrev named : HeadDraft
+abbrev pub named : HeadDraft
 named = record no_head { named = true }
 
 -- tc OBJECT VERB dev NAME
-starts : (object verb name : List ℕ) (p : Position) (v : Verb) → Word object → Word verb → ((i : ℕ) → fits every_word i (tc false) object ≡ Ok p) → ((i : ℕ) → fits every_word i p verb ≡ Ok (head v no_head)) → IsName name
+pub starts : (object verb name : List ℕ) (p : Position) (v : Verb) → Word object → Word verb → ((i : ℕ) → fits every_word i (tc false) object ≡ Ok p) → ((i : ℕ) → fits every_word i p verb ≡ Ok (head v no_head)) → IsName name
     → Path first (head v named) (change_words object verb name)
 starts object verb name p v a b f g is_name =
     chain first (tc false) (head v named) (codes "tc" ∷ []) (object ∷ verb ∷ codes "dev" ∷ name ∷ []) (word first (tc false) (codes "tc") (refl, refl) (λ i. refl))
@@ -103,15 +103,15 @@ gone_says p n in_place below handle some =
 
 -- classes
 
-abbrev owned : Option ℕ → Option ClassId → HeadDraft
+abbrev pub owned : Option ℕ → Option ClassId → HeadDraft
 owned parent class = record named { parent = parent; class = class }
 
-parent_path : (v : ClassVerb) (n : Option ℕ) → IfSome n IsHandle → Path (head (of_class v) named) (head (of_class v) (owned n None)) (given (codes "parent") handle_word n)
+pub parent_path : (v : ClassVerb) (n : Option ℕ) → IfSome n IsHandle → Path (head (of_class v) named) (head (of_class v) (owned n None)) (given (codes "parent") handle_word n)
 parent_path v n h =
     option (codes "parent") handle_word handle_of n (λ x. head (of_class v) (owned x None)) (head_value Positions.parent (of_class v) named) (refl, refl) (λ i. refl)
     (λ i a e. ap (λ r. value r (λ x. head (of_class v) (owned (Some x) None))) e) (handle_reads n h)
 
-class_path : (v : ClassVerb) (n : Option ℕ) (c : ClassId) → IsClassId c → Path (head (of_class v) (owned n None)) (head (of_class v) (owned n (Some c))) (codes "classid" ∷ class_word c ∷ [])
+pub class_path : (v : ClassVerb) (n : Option ℕ) (c : ClassId) → IsClassId c → Path (head (of_class v) (owned n None)) (head (of_class v) (owned n (Some c))) (codes "classid" ∷ class_word c ∷ [])
 class_path v n c h =
     pair (head (of_class v) (owned n None)) (head_value Positions.class_id (of_class v) (owned n None)) (head (of_class v) (owned n (Some c))) (codes "classid") (class_word c) (refl, refl) (class_good c h) (λ i. refl)
     (λ i. ap (λ r. value r (λ x. head (of_class v) (owned n (Some x)))) (class_gives c h))

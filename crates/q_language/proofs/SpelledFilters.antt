@@ -37,7 +37,7 @@ length_small : (v : IpVersion) (len : ℕ) → len ≤ bits_of v → len < 2 ^ 6
 length_small V4 len h = omega arith
 length_small V6 len h = omega arith
 
-prefix_read : (p : Prefix) → IsPrefix p → prefix_of (prefix_word p) ≡ Ok p
+pub prefix_read : (p : Prefix) → IsPrefix p → prefix_of (prefix_word p) ≡ Ok p
 prefix_read p h =
     prefix_gives (record { version = p.version; address = p.address }) (address_word p.version p.address) p.len
     (address_passes (λ c. not (is_slash c)) no_slash refl refl p.version p.address) (address_read p.version p.address h.address) h.len (length_small p.version p.len h.len)

@@ -62,7 +62,7 @@ show_says s =
 plain_says : (w : List ℕ) (l : Line) → Word w → ((i : ℕ) → fits every_word i first w ≡ Ok (whole l)) → Says first l (w ∷ [])
 plain_says w l a f = ended_says first (whole l) l (w ∷ []) (word first (whole l) w a f) (λ i. refl)
 
-line_read : (l : Line) (w : List ℕ) (ws : List (List ℕ)) → Says first l (w ∷ ws) → is_blank_line (w ∷ ws) ≡ false → line_of (join_with_byte 32 (w ∷ ws)) ≡ Ok l
+pub line_read : (l : Line) (w : List ℕ) (ws : List (List ℕ)) → Says first l (w ∷ ws) → is_blank_line (w ∷ ws) ≡ false → line_of (join_with_byte 32 (w ∷ ws)) ≡ Ok l
 line_read l w ws s filled =
     ap (line_of_words every_word) (words_of_spelling (w ∷ ws) s.good)
     ∙ ap (λ (t : Bool). if t then Ok line.Blank else rest_of every_word first 1 (w ∷ ws)) filled

@@ -1,11 +1,6 @@
-pub mod Prefix6ReadBack
 pub mod FilterReadBack
-pub mod FilterWords
 pub mod PrefixReadBack
-pub mod PrioReadBack
 pub mod QdiscReadBack
 pub mod ReadBack
-pub mod ReadBackSteps
-pub mod ReadBackValues
 pub mod ReportLemmas
 mod ShownLemmas

@@ -2,9 +2,8 @@
 -- A shown line is no command itself: there the kind stands before the handle and the place, a class has no parent's name and
 -- a filter no `flower`. Nor is a limit in packets a number, or `ns` a unit of time. The texts and the commands are this
 -- project's, in the manner of tc(8).
-use Rattle.std.specs.Prelude.{◌≡◌, ℕ, ◌≤◌, List, [], ◌∷◌, ◌++◌, codes, decimal, Option, Some, None, IfSome, true, option_map, Ok, ⊤}
+use Rattle.std.specs.Prelude.{◌≡◌, ℕ, ◌≤◌, List, [], ◌∷◌, ◌++◌, codes, decimal, Option, Some, None, IfSome, Ok, ⊤}
 use Rattle.std.specs.List.{join_with_byte}
-use Rattle.std.specs.Option.{option_map_or, option_or}
 use Rattle.q_line.specs.Laws.{IsName}
 use Rattle.q_model.specs.Numbers.{IsBurst, IsFilterPrio, IsHandle, IsMinor, IsQuantum, IsRate, most_u32}
 use Rattle.q_model.specs.Options.{IsPrefix, IsPrio, Prefix}
@@ -22,7 +21,8 @@ use Rattle.q_model.specs.declared.qdisc_view.QdiscView.{QdiscView}
 use Rattle.q_model.specs.declared.qdisc_view.QdiscView.TheVariants as qdisc
 use Rattle.q_model.specs.declared.tbf_limit.TbfLimit.TheVariants.{Bytes}
 use Rattle.q_words.specs.Addresses.{prefix_of}
-use Rattle.q_language.specs.Grammar.{line_of, same_version, version_of}
+use Rattle.q_language.specs.Grammar.{line_of}
+use Rattle.q_language.specs.Ranges.{IsAgreed}
 use Rattle.q_language.specs.declared.line.Line.TheVariants.{Tc}
 use Rattle.q_show.specs.ShowText.{class_text, handle_text, hex, into_text, keys_text, kind_text, options_text, place_text, prefix_text, protocol_text, setting}
 
@@ -85,13 +85,7 @@ QdiscsAreReadBack = (name : List ℕ) (handle : ℕ) (place : Place) (view : Qdi
 abbrev pub PrefixesAreReadBack : Type 0
 PrefixesAreReadBack = (p : Prefix) → IsPrefix p → prefix_of (prefix_text p) ≡ Ok p
 
--- the addresses of a filter are of the version of its protocol, if that has one, and of one version
-abbrev pub IsAgreed : FilterView → Type 0
-IsAgreed f =
-    IfSome f.filter.keys.src_ip (λ p. option_map_or (same_version p.version) (version_of (Some f.filter.protocol)) true ≡ true)
-    × IfSome f.filter.keys.dst_ip (λ p. option_map_or (same_version p.version) (option_or (version_of (Some f.filter.protocol)) (option_map (λ (q : Prefix). q.version) f.filter.keys.src_ip)) true ≡ true)
-
--- the numbers of a filter are in the ranges of a command
+-- the numbers of a filter are in the ranges of a command, and its addresses agree with its protocol and with each other
 pub record IsFilter (f : FilterView) : Type 0 where
   pub parent : IsHandle f.parent
   pub prio : IsFilterPrio f.filter.prio
@@ -101,7 +95,7 @@ pub record IsFilter (f : FilterView) : Type 0 where
   pub dst_ip : IfSome f.filter.keys.dst_ip IsPrefix
   pub src_port : IfSome f.filter.keys.src_port (λ n. n ≤ 65535)
   pub dst_port : IfSome f.filter.keys.dst_port (λ n. n ≤ 65535)
-  pub agreed : IsAgreed f
+  pub agreed : IsAgreed f.filter
 
 -- a shown filter is read back, with `flower` before its keys
 abbrev pub FiltersAreReadBack : Type 0
