@@ -7,8 +7,8 @@ ghost use Rattle.q_model.specs.TreeState.{plan};
 ghost use Rattle.q_tree.specs.Commands.{IsAnswered, change_answer};
 
 use crate::edit::Edit;
-use crate::no_losses::NoLosses;
 use crate::node::{Discipline, Node};
+use crate::one_loss::OneLoss;
 use crate::tree::Tree;
 use q_model::{ClassId, Command, Handle, NotDone, Quantum};
 
@@ -43,7 +43,7 @@ impl Tree {
             return Err(refusal);
         }
         let edit = Edit::Quantum(class.minor, quantum);
-        self.edit(&path, edit, self.clock, &mut NoLosses)
+        self.edit(&path, edit, self.clock, &mut OneLoss { told: None })
     }
 }
 

@@ -8,8 +8,8 @@ ghost use Rattle.q_model.specs.TreeState.{plan};
 ghost use Rattle.q_tree.specs.Commands.{IsAnswered};
 
 use crate::edit::Edit;
-use crate::no_losses::NoLosses;
 use crate::node::{Discipline, Node};
+use crate::one_loss::OneLoss;
 use crate::tree::Tree;
 use q_model::{Filter, FilterPrio, Handle, NotDone};
 
@@ -43,7 +43,12 @@ impl Tree {
         if let Err(refusal) = node.can_add_filter(parent, major, &filter) {
             return Err(refusal);
         }
-        self.edit(&path, Edit::AddFilter(filter), self.clock, &mut NoLosses)
+        self.edit(
+            &path,
+            Edit::AddFilter(filter),
+            self.clock,
+            &mut OneLoss { told: None },
+        )
     }
 
     /// Removes all filters of this priority from the qdisc with this handle (`tc filter del`, tc(8)).
@@ -65,7 +70,12 @@ impl Tree {
         if let Err(refusal) = node.can_remove_filters(prio) {
             return Err(refusal);
         }
-        self.edit(&path, Edit::RemoveFilters(prio), self.clock, &mut NoLosses)
+        self.edit(
+            &path,
+            Edit::RemoveFilters(prio),
+            self.clock,
+            &mut OneLoss { told: None },
+        )
     }
 }
 
