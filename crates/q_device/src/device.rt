@@ -1,4 +1,4 @@
-ghost use Rattle.std.specs.Prelude.{◌≡◌, ◌≤◌, ◌+◌, ◌^◌, IfOk, OnOk, OnErr, IfErr, max, min, length, slice_get, vec_capacity};
+ghost use Rattle.std.specs.Prelude.{◌≡◌, ◌≤◌, ◌+◌, ◌^◌, IsOk, IfOk, OnOk, OnErr, IfErr, max, min, length, slice_get, vec_capacity};
 ghost use Rattle.q_model.specs.Beneath.{beneath, is_empty, row_of};
 ghost use Rattle.q_model.specs.Node.{shape};
 ghost use Rattle.q_model.specs.Route.{device_route};
@@ -59,10 +59,11 @@ impl Device {
     ///
     /// # Errors
     ///
-    /// `AllocError` where memory for the recorder is refused.
+    /// `AllocError` where memory for the recorder is refused; never where it keeps no event.
     pub fn open(alloc: Global, settings: Settings) -> Result<Device, AllocError>
         ensures new { IfOk result (λ device. device ≡ opened settings) }
         ensures nothing_arrived { IfOk result (λ device. device.device.tree.top ≡ no_counts) }
+        ensures succeeds { settings.recorder ≡ 0 → IsOk result }
     {
         Ok(Device {
             tree: Tree::new(alloc, settings.mtu, settings.txqueuelen),
@@ -191,7 +192,8 @@ fn later(clock: Moment, now: Moment) -> Moment
     clock.max(now)
 }
 
-// Makes the place that a packet on this route needs, and a place for a loss more than there are packets queued.
+// Makes the place that a packet on this route needs, and a place for a loss more than there are packets queued. It succeeds
+// where both are there already.
 fn make_room(tree: &mut Tree, losses: &mut Losses, route: &Route) -> Result<(), AllocError>
     requires route { IsRouteIn route.now tree.old }
     requires counted { length (beneath tree.old.tree.root) ≤ tree.old.tree.top.counts.arrived.packets }
@@ -201,6 +203,7 @@ fn make_room(tree: &mut Tree, losses: &mut Losses, route: &Route) -> Result<(), 
     ensures losses { losses.new ≡ record losses.old { places = losses.new.places } }
     ensures grows { losses.old.places ≤ losses.new.places }
     ensures room { OnOk result (length losses.old.waiting + length (beneath tree.old.tree.root) + 1 ≤ losses.new.places) }
+    ensures succeeds { CanArrive route.now tree.old → length losses.old.waiting + length (beneath tree.old.tree.root) + 1 ≤ losses.old.places → IsOk result }
 {
     tree.prepare(route)?;
     let queued = tree.totals().queued.packets;
