@@ -10,6 +10,7 @@ use Rattle.q_codel.specs.declared.loss.Loss.{Loss}
 use Rattle.q_model.specs.declared.event.Event.{Event}
 use Rattle.q_model.specs.declared.event.Event.TheVariants as event
 use Rattle.q_model.specs.declared.not_done.NotDone.{NotDone}
+use Rattle.q_model.specs.declared.totals.Totals.{Totals}
 use Rattle.q_model.specs.Conserved.{arrival_in}
 use Rattle.q_model.specs.Edit.{Edit, lost_by, packets_removed}
 use Rattle.q_model.specs.Events.{IsEvent}
@@ -23,7 +24,7 @@ use Rattle.q_sound.proofs.Counted.{bytes, all-more, lost-parts}
 use Rattle.q_sound.proofs.Replays.{not-before, not-after}
 use Rattle.q_sound.proofs.Shuffled.{weigh-arrivals}
 use Rattle.q_sound.proofs.Weights.{weigh, weigh-nil, arrived, lost, lost-nil, lost-cons}
-use Rattle.q_device.specs.Counters.{HasNotFallen, arrived_after}
+use Rattle.q_device.specs.Counters.{IsNotBelow, HasNotFallen, arrived_after}
 use Rattle.q_device.proofs.ToldLemmas.{AreLosses, losses-are, on-are}
 
 -- no counter falls, whatever is noted
@@ -51,6 +52,19 @@ step-rises d (event.Command c moment) = by (plan d.tree.device (max d.clock mome
     by : (answer : Result Edit NotDone) → HasNotFallen d.tree.top (answered totals answer (max d.clock moment) d).device.tree.top
     by (Ok edit) = noted-rises d.tree.top (lost_by edit (shape d.tree.root))
     by (Err refusal) = nothing-fallen d.tree.top
+
+-- where neither has fallen below the other, both are the same
+pub none-left-out : (a b : Counts) → HasNotFallen a b → HasNotFallen b a → a ≡ b
+none-left-out a b up down = λ i. record {
+  arrived = same a.arrived b.arrived up.arrived down.arrived i;
+  sent = same a.sent b.sent up.sent down.sent i;
+  refused = same a.refused b.refused up.refused down.refused i;
+  dropped = same a.dropped b.dropped up.dropped down.dropped i;
+  marked = same a.marked b.marked up.marked down.marked i;
+}
+  where
+    same : (s t : Totals) → IsNotBelow s t → IsNotBelow t s → s ≡ t
+    same s t rises falls = ap₂ (λ packets more. record { packets = packets; bytes = more }) (omega (arith, rises.packets, falls.packets)) (omega (arith, rises.bytes, falls.bytes))
 
 -- each loss is refused or dropped
 losses-counted : (notes : List Note) → lost one notes ≡ length (losses_in notes)

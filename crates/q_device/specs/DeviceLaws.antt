@@ -42,3 +42,7 @@ ArrivesByArrivals d = (e : Event) → IsEvent e → (step totals d.device e).dev
 -- No event lowers a counter, whatever the device.
 abbrev pub CountersNeverFall : Type 0
 CountersNeverFall = (d : DeviceState Counts) (e : Event) → HasNotFallen d.tree.top (step totals d e).device.tree.top
+
+-- No counter is left out of that: of two devices neither of which has fallen below the other, both have counted the same.
+abbrev pub EveryCounterIsCompared : Type 0
+EveryCounterIsCompared = (a b : Counts) → HasNotFallen a b → HasNotFallen b a → a ≡ b

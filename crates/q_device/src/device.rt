@@ -1,4 +1,4 @@
-ghost use Rattle.std.specs.Prelude.{◌≡◌, ◌≤◌, ◌+◌, ◌^◌, IfOk, OnOk, OnErr, IfErr, max, min, length, slice_get, vec_capacity};
+ghost use Rattle.std.specs.Prelude.{◌≡◌, ◌≤◌, ◌+◌, ◌^◌, IsOk, IfOk, OnOk, OnErr, IfErr, max, min, length, slice_get, vec_capacity};
 ghost use Rattle.q_model.specs.Beneath.{beneath, is_empty, row_of};
 ghost use Rattle.q_model.specs.Node.{shape};
 ghost use Rattle.q_model.specs.Route.{device_route};
@@ -12,7 +12,7 @@ ghost use Rattle.q_packet.specs.Descriptor.{Descriptor};
 ghost use Rattle.q_tree.specs.TreeSeen.{numbers, CanArrive, IsRouteIn};
 ghost use Rattle.q_device.specs.Counters.{HasNotFallen};
 ghost use Rattle.q_device.specs.DeviceLaws.{IsReplayed};
-ghost use Rattle.q_device.specs.DeviceSeen.{most_events, opened, reaped, with_event, with_recorded};
+ghost use Rattle.q_device.specs.DeviceSeen.{as_counted, most_events, opened, reaped, with_event, with_recorded};
 
 use q_codel::{Loss as Lost, Losses};
 use q_model::{Event, Fate, Place, Polled, Row, Settings, packet_ranges};
@@ -59,10 +59,11 @@ impl Device {
     ///
     /// # Errors
     ///
-    /// `AllocError` where memory for the recorder is refused.
+    /// `AllocError` where memory for the recorder is refused; never where it keeps no event.
     pub fn open(alloc: Global, settings: Settings) -> Result<Device, AllocError>
         ensures new { IfOk result (λ device. device ≡ opened settings) }
         ensures nothing_arrived { IfOk result (λ device. device.device.tree.top ≡ no_counts) }
+        ensures succeeds { settings.recorder ≡ 0 → IsOk result }
     {
         Ok(Device {
             tree: Tree::new(alloc, settings.mtu, settings.txqueuelen),
@@ -76,7 +77,7 @@ impl Device {
 
     /// A packet arrives, and is queued or lost. All memory is taken first: a place in its queue, and one for its loss.
     ///
-    /// A moment before the device's clock counts as the clock.
+    /// A moment before the device's clock counts as the clock. It is recorded at the moment that the clock shows after it.
     ///
     /// # Errors
     ///
@@ -84,6 +85,7 @@ impl Device {
     /// arrivals. Nothing has changed then, and there was no event.
     pub fn arrive(&mut self, packet: Packet, now: Moment) -> Result<Fate, (Packet, AllocError)>
         ensures event { OnOk result (self.new ≡ with_event (event.Arrive packet now) self.old) }
+        ensures moment { OnOk result (as_counted self.old.device (event.Arrive packet now) ≡ event.Arrive packet self.new.device.clock) }
         ensures fate { IfOk result (λ fate. reply.Fate fate ≡ (step totals self.old.device (event.Arrive packet now)).reply) }
         ensures arrived { OnOk result (self.new.device.tree.top.arrived ≡ with_packet self.old.device.tree.top.arrived packet) }
         ensures same { OnErr result (self.new ≡ self.old) }
@@ -106,9 +108,10 @@ impl Device {
     /// Takes the packet whose turn it is. `Idle` where none is given and nothing is queued, and `Later` where none is given
     /// though something is. It takes no memory.
     ///
-    /// A moment before the device's clock counts as the clock.
+    /// A moment before the device's clock counts as the clock. It is recorded at the moment that the clock shows after it.
     pub fn poll(&mut self, now: Moment) -> Polled
         ensures event { self.new ≡ with_event (event.Poll now) self.old }
+        ensures moment { as_counted self.old.device (event.Poll now) ≡ event.Poll self.new.device.clock }
         ensures reply { reply.Polled result ≡ (step totals self.old.device (event.Poll now)).reply }
         ensures arrived { self.new.device.tree.top.arrived ≡ self.old.device.tree.top.arrived }
         ensures counters { HasNotFallen self.old.device.tree.top self.new.device.tree.top }
@@ -191,7 +194,8 @@ fn later(clock: Moment, now: Moment) -> Moment
     clock.max(now)
 }
 
-// Makes the place that a packet on this route needs, and a place for a loss more than there are packets queued.
+// Makes the place that a packet on this route needs, and a place for a loss more than there are packets queued. It succeeds
+// where both are there already.
 fn make_room(tree: &mut Tree, losses: &mut Losses, route: &Route) -> Result<(), AllocError>
     requires route { IsRouteIn route.now tree.old }
     requires counted { length (beneath tree.old.tree.root) ≤ tree.old.tree.top.counts.arrived.packets }
@@ -201,6 +205,7 @@ fn make_room(tree: &mut Tree, losses: &mut Losses, route: &Route) -> Result<(), 
     ensures losses { losses.new ≡ record losses.old { places = losses.new.places } }
     ensures grows { losses.old.places ≤ losses.new.places }
     ensures room { OnOk result (length losses.old.waiting + length (beneath tree.old.tree.root) + 1 ≤ losses.new.places) }
+    ensures succeeds { CanArrive route.now tree.old → length losses.old.waiting + length (beneath tree.old.tree.root) + 1 ≤ losses.old.places → IsOk result }
 {
     tree.prepare(route)?;
     let queued = tree.totals().queued.packets;

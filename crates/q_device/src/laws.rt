@@ -1,5 +1,5 @@
 //! What is true of every device and every replay. Each law is the contract of a function that does nothing.
-ghost use Rattle.q_device.specs.DeviceLaws.{ArrivesByArrivals, CountersNeverFall, IsLawfulDevice, IsReplayed, IsReplayOfRecorded, TellsItsLosses};
+ghost use Rattle.q_device.specs.DeviceLaws.{ArrivesByArrivals, CountersNeverFall, EveryCounterIsCompared, IsLawfulDevice, IsReplayed, IsReplayOfRecorded, TellsItsLosses};
 ghost use Rattle.q_device.specs.Laws.{ReplayGoesOn, ShrinkCommutes, ReplayShrinks, EveryReplayIsSound, TotalsAreLawful, EveryReplayTellsAll};
 ghost use Rattle.q_device.specs.Sharing.{ClassesSendTheirShares, DeficitsAreBounded, GrantsComeWhereShort, ClassesWakeWithAQuantum, ClassesShareByQuanta, BucketsAreBounded, FlowsGiveTheirShares, FlowsBeginNew, FlowsAreGrantedEvenly};
 
@@ -122,7 +122,9 @@ pub fn arrivals_alone_arrive(device: &Device)
     device.kept();
 }
 
-/// No event lowers what a device counts as arrived, sent, refused, dropped or marked.
+/// No event lowers what a device counts as arrived, sent, refused, dropped or marked, in packets or bytes; and no counter
+/// is left out of that.
 pub fn counters_never_fall()
-    ensures { CountersNeverFall }
+    ensures events { CountersNeverFall }
+    ensures compared { EveryCounterIsCompared }
 {}

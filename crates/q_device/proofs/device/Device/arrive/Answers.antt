@@ -47,6 +47,9 @@ returns-clause-event c =
     let e = event.Arrive c.args.packet c.args.now in
     event-seen a e b h ∙ ap (with_event e) c.self.view_is
 
+pub returns-clause-moment : goal.returns-clause-moment
+returns-clause-moment c = ap (λ (d : DeviceSeen). event.Arrive c.args.packet d.device.clock) (sym (returns-clause-event c))
+
 pub returns-clause-fate : goal.returns-clause-fate
 returns-clause-fate c =
     let x = c.make_room.new.tree in

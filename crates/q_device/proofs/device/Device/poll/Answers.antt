@@ -1,4 +1,4 @@
-use Rattle.std.proofs.Common.{◌≡◌, ◌∙◌, max, refl, ap, ap₂, subst, arith}
+use Rattle.std.proofs.Common.{◌≡◌, ◌∙◌, max, refl, sym, ap, ap₂, subst, arith}
 use Rattle.q_codel.specs.Losses.{LossList}
 use Rattle.q_model.specs.declared.event.Event.TheVariants as event
 use Rattle.q_model.specs.declared.reply.Reply.TheVariants as reply
@@ -31,6 +31,9 @@ returns-clause-event c =
     let b = record a { tree = c.take-taken.new.self; losses = c.take-taken.new.sink; recorded = c.record.new.recorded; events = c.record.new.events } in
     let h = polled a b c.args.now c.later-at.result at refl c.take-taken.ensures.after c.take-taken.ensures.lost refl c.record.ensures.items c.record.ensures.capacity c.record.ensures.counted in
     event-seen a (event.Poll c.args.now) b h ∙ ap (with_event (event.Poll c.args.now)) c.self.view_is
+
+pub returns-clause-moment : goal.returns-clause-moment
+returns-clause-moment c = ap (λ (d : DeviceSeen). event.Poll d.device.clock) (sym (returns-clause-event c))
 
 pub returns-clause-reply : goal.returns-clause-reply
 returns-clause-reply c =
