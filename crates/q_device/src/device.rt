@@ -77,7 +77,8 @@ impl Device {
 
     /// A packet arrives, and is queued or lost. All memory is taken first: a place in its queue, and one for its loss.
     ///
-    /// A moment before the device's clock counts as the clock. It is recorded at the moment that the clock shows after it.
+    /// A moment before the device's clock counts as the clock. The event is recorded at the moment that the clock shows
+    /// after it.
     ///
     /// # Errors
     ///
@@ -108,7 +109,8 @@ impl Device {
     /// Takes the packet whose turn it is. `Idle` where none is given and nothing is queued, and `Later` where none is given
     /// though something is. It takes no memory.
     ///
-    /// A moment before the device's clock counts as the clock. It is recorded at the moment that the clock shows after it.
+    /// A moment before the device's clock counts as the clock. The event is recorded at the moment that the clock shows
+    /// after it.
     pub fn poll(&mut self, now: Moment) -> Polled
         ensures event { self.new ≡ with_event (event.Poll now) self.old }
         ensures moment { as_counted self.old.device (event.Poll now) ≡ event.Poll self.new.device.clock }
