@@ -13,8 +13,6 @@ mod command_line;
 #[cfg(test)]
 mod device;
 #[cfg(test)]
-mod device_calls;
-#[cfg(test)]
 mod drr;
 #[cfg(test)]
 mod fifo;

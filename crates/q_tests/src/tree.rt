@@ -3,7 +3,7 @@ ghost use Rattle.std.specs.Prelude.{◌+◌, ◌-◌, ◌≤◌, length, OnOk};
 ghost use Rattle.q_model.specs.Beneath.{beneath};
 
 use q_codel::Losses;
-use q_model::{ClassId, Fate, FilterPrio, Handle, Minor, NotDone, Place, QdiscView};
+use q_model::{ClassId, Fate, Handle, Minor, Place};
 use q_packet::{Cause, Ecn, FlowKey, Moment, Packet};
 use q_tree::Tree;
 use std::alloc::Global;
@@ -116,27 +116,5 @@ fn a_pfifo_has_no_class(rt: HostRuntime) -> Result<(), Fail> {
         minor: Minor::new(1).ok_or("minor")?,
     };
     assert!(rt; tree.stats(Place::Class(class)).is_none());
-    Ok(())
-}
-
-#[test]
-fn a_pfifo_is_shown_alone(rt: HostRuntime) -> Result<(), Fail> {
-    let tree = Tree::new(rt.alloc(), 1500, 2);
-    let root = tree.node(0).ok_or("root")?;
-    assert!(rt; root.handle.is_none());
-    assert!(rt; root.place == Place::Root);
-    assert!(rt; root.qdisc == QdiscView::Pfifo { limit: 2 });
-    assert!(rt; tree.node(1).is_none());
-    assert!(rt; tree.class(0, 0).is_none());
-    assert!(rt; tree.filter(0, 0).is_none());
-    Ok(())
-}
-
-#[test]
-fn a_pfifo_takes_no_filter(rt: HostRuntime) -> Result<(), Fail> {
-    let mut tree = Tree::new(rt.alloc(), 1500, 2);
-    let parent = Handle::new(1).ok_or("parent")?;
-    let prio = FilterPrio::new(1).ok_or("prio")?;
-    assert!(rt; tree.filter_del(parent, prio) == Err(NotDone::NoQdisc));
     Ok(())
 }
