@@ -10,6 +10,7 @@ pub mod FindLemmas
 pub mod FlowCounts
 pub mod Forms
 pub mod HereLemmas
+pub mod MakingLemmas
 pub mod OtherSubtrees
 pub mod Peeks
 pub mod PlacesLemmas
@@ -25,6 +26,7 @@ pub mod SettleLemmas
 pub mod ShowLemmas
 pub mod StatsLemmas
 pub mod TakeCounts
+pub mod TargetLemmas
 pub mod TreeEdits
 pub mod TreeLemmas
 pub mod TreePuts

@@ -6,6 +6,7 @@ pub mod Editing
 pub mod Finding
 pub mod Kept
 pub mod Laws
+pub mod Making
 pub mod NodeCode
 pub mod NodeFalls
 pub mod Places

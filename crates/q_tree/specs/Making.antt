@@ -1,0 +1,28 @@
+-- A node of the code that was made anew is the model's, of which nothing was noted, but for the places of its queue.
+-- Nothing here is of a standard.
+use Rattle.std.specs.Prelude.{◌≡◌, ℕ, List, [], ◌∷◌, map}
+use Rattle.q_bucket.specs.Level.{TokenBucket}
+use Rattle.q_model.specs.Make.{implicit_bfifo}
+use Rattle.q_model.specs.Node as spec
+use Rattle.q_model.specs.Node.{Node, Shape, blank, children}
+use Rattle.q_model.specs.Tally.{totals}
+use Rattle.q_tree.specs.Kept.{Kept}
+use Rattle.q_tree.specs.Places.{unplaced}
+use Rattle.q_tree.specs.Seen.{children_seen, discipline_seen}
+use Rattle.q_tree.specs.declared.node.Discipline.{Discipline}
+
+abbrev pub IsNewNode : Node Kept → Shape → Type 0
+IsNewNode n s = unplaced n ≡ blank totals s
+
+abbrev pub AreNew : List (Node Kept) → List Shape → Type 0
+AreNew ns shapes = map unplaced ns ≡ map (blank totals) shapes
+
+-- the discipline of a new qdisc, with its implicit leaves
+pub record IsNewDiscipline (d : Discipline) (s : Shape) : Type 0 where
+  pub discipline : discipline_seen d ≡ s.own.discipline
+  pub leaves : AreNew (children_seen d) (children s)
+
+-- a new tbf with this bucket, over an implicit bfifo of so many bytes
+pub record IsNewTbf (d : Discipline) (bucket : TokenBucket) (limit : ℕ) : Type 0 where
+  pub discipline : discipline_seen d ≡ spec.Tbf bucket limit
+  pub leaf : AreNew (children_seen d) (implicit_bfifo limit ∷ [])
