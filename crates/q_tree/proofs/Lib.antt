@@ -5,6 +5,7 @@ pub mod AskRows
 pub mod Asking
 pub mod AtHandLemmas
 pub mod CountedLosses
+pub mod CountingLemmas
 pub mod EditLemmas
 pub mod FindLemmas
 pub mod FlowCounts

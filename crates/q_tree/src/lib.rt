@@ -13,6 +13,7 @@
 mod at_hand;
 mod booking;
 mod class_commands;
+mod counting;
 mod drr;
 mod edit;
 mod filter_commands;
