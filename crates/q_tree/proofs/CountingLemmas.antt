@@ -1,5 +1,5 @@
 -- How many nodes a tree has, and the handles in it: of the nodes that were passed, and of those that are still ahead.
-use Rattle.std.proofs.Common.{◌≡◌, ℕ, zero, suc, ◌+◌, ◌-◌, ◌<◌, ◌≤◌, ◌∙◌, List, [], ◌∷◌, ◌++◌, append_assoc, append-nil, drop, length, map, refl, sym, ap, ap₂, Option, Some, None, arith}
+use Rattle.std.proofs.Common.{◌≡◌, ℕ, zero, suc, ◌+◌, ◌-◌, ◌<◌, ◌≤◌, ◌∙◌, List, [], ◌∷◌, ◌++◌, drop, length, map, refl, sym, ap, ap₂, Option, Some, None, arith}
 use Rattle.std.specs.Prelude.{Bool, true, false, not, ◌==◌, ◌||◌, if◌then◌else◌, slice_index_or}
 use Rattle.std.specs.List.{enumerate_from, flat_map, list_any, sum}
 use Rattle.std.specs.Option.{option_to_list}

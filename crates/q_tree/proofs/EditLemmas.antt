@@ -21,7 +21,7 @@ use Rattle.q_model.specs.Find.{node_at}
 use Rattle.q_model.specs.Node as spec
 use Rattle.q_model.specs.Node.{Node, children, each, side_by_side}
 use Rattle.q_model.specs.Step.{losses_in}
-use Rattle.q_model.specs.Tally.{no_totals, noted, with_packet}
+use Rattle.q_model.specs.Tally.{Counts, no_totals, noted, with_packet}
 use Rattle.q_model.specs.Work.{losses_of, settled_in}
 use Rattle.q_sound.proofs.Answer.{one}
 use Rattle.q_sound.proofs.Counted.{bytes}
@@ -78,8 +78,8 @@ effect-loses (Graft new) n h = record {
   conserved = λ w. omega (arith, ap (weigh w) h.1, weigh-nil w);
   held = λ w. omega (arith, held-le-beneath w n);
   arrived = record {
-    packets = omega (arith, ap (λ (m : Node Kept). m.memory.counts.arrived.packets) h.0);
-    bytes = omega (arith, ap (λ (m : Node Kept). m.memory.counts.arrived.bytes) h.0);
+    packets = omega (arith, ap (λ (c : Counts). c.arrived.packets) h.0);
+    bytes = omega (arith, ap (λ (c : Counts). c.arrived.bytes) h.0);
   };
 }
 effect-loses (AddFilter f) n h = record { conserved = λ w. omega (arith, weigh-nil w); held = λ w. omega (arith, weigh-nil w); arrived = record { packets = omega arith; bytes = omega arith } }

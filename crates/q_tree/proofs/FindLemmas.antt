@@ -118,7 +118,7 @@ drr-place a n s classes minor o view is at =
     at ∙ sym (ap (λ d. class_place minor (seen (record a { discipline = d }))) is) ∙ ap (class_place minor) view
 
 -- a step is taken back
-take-front : (xs : List ℕ) (p : ℕ) → take (length xs) (xs ++ p ∷ []) ≡ xs
+pub take-front : (xs : List ℕ) (p : ℕ) → take (length xs) (xs ++ p ∷ []) ≡ xs
 take-front [] p = refl
 take-front (x ∷ xs) p = ap (λ ys. x ∷ ys) (take-front xs p)
 

@@ -10,6 +10,7 @@ pub mod EditLemmas
 pub mod FindLemmas
 pub mod FlowCounts
 pub mod Forms
+pub mod GraftLemmas
 pub mod HereLemmas
 pub mod MakingLemmas
 pub mod OtherSubtrees

@@ -1,9 +1,8 @@
 -- A new node of the code: the model's, of which nothing was noted, so nothing waits there and no arrival was counted.
-use Rattle.std.proofs.Common.{◌≡◌, ℕ, ◌+◌, ◌<◌, ◌≤◌, ◌^◌, ◌∙◌, List, [], ◌∷◌, ◌++◌, map, refl, sym, ap, ap₂, subst, Option, Some, None, replicate, arith}
+use Rattle.std.proofs.Common.{◌≡◌, ℕ, ◌+◌, ◌<◌, ◌≤◌, ◌^◌, ◌∙◌, List, [], ◌∷◌, ◌++◌, map, refl, sym, ap, ap₂, subst, Option, None, replicate, arith}
 use Rattle.std.specs.Prelude.{All}
 use Rattle.std.proofs.lemmas.List.{map-append, replicate_more}
 use Rattle.std.proofs.lemmas.List.Elements.{All-cons, All-head, All-nil, All-tail}
-use Rattle.q_packet.specs.Descriptor.{Descriptor}
 use Rattle.q_model.proofs.ShrinkLemmas.{each-each_memory, side_by_side-map}
 use Rattle.q_model.specs.declared.kind.Kind.{Kind}
 use Rattle.q_model.specs.declared.kind.Kind.TheVariants as kind
@@ -11,7 +10,7 @@ use Rattle.q_model.specs.declared.row.Row.{Row}
 use Rattle.q_model.specs.Beneath.{beneath, beneath_own, totals_in}
 use Rattle.q_model.specs.Conserved.{held_beneath, held_own}
 use Rattle.q_model.specs.Make.{Device, made}
-use Rattle.q_model.specs.Node.{Discipline, Forest, Node, Own, Shape, blank, children, nodes_in, side_by_side}
+use Rattle.q_model.specs.Node.{Forest, Node, Own, Shape, blank, children, side_by_side}
 use Rattle.q_model.specs.Ranges.{IsKind}
 use Rattle.q_model.specs.Tally.{Counts, history, no_counts, no_totals, totals}
 use Rattle.q_sound.proofs.EditMade.{new_made}
@@ -20,7 +19,7 @@ use Rattle.q_sound.proofs.Forests.{side-nodes}
 use Rattle.q_tree.specs.Kept.{Kept}
 use Rattle.q_tree.specs.Making.{AreNew, IsNewDiscipline, IsNewNode}
 use Rattle.q_tree.specs.Places.{unplaced}
-use Rattle.q_tree.specs.Seen.{IsCountedWithin, IsKept, children_seen, discipline_seen, seen}
+use Rattle.q_tree.specs.Seen.{IsCountedWithin, IsKept, children_seen, seen}
 use Rattle.q_tree.specs.declared.node.Node.TheInside.{Inside}
 
 -- one new node more

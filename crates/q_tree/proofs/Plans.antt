@@ -1,13 +1,18 @@
 -- What the model plans of a command that names a qdisc by its handle, and that an edit of the code is this plan.
-use Rattle.std.proofs.Common.{◌≡◌, ℕ, ◌≤◌, ◌∙◌, List, [], ◌∷◌, length, map, refl, sym, ap, subst, Option, Some, None, option_map, option_and_then, Result, Ok, Err, arith}
+use Rattle.std.proofs.Common.{◌≡◌, ℕ, ◌≤◌, ◌+◌, ◌∙◌, List, [], ◌∷◌, ◌++◌, append-nil, length, map, refl, sym, ap, subst, Option, Some, None, option_map, option_and_then, Result, Ok, Err, arith}
 use Rattle.std.specs.Prelude.{IfErr, OnErr, OnOk, Bool, is_none, is_some, not, slice_get, true, false, ◌==◌, ◌||◌, if◌then◌else◌}
-use Rattle.std.specs.List.{find, list_any}
+use Rattle.std.specs.List.{list_any}
 use Rattle.std.specs.Option.{option_map_or}
 use Rattle.std.proofs.lemmas.Bool.{false≢true, not-false}
 use Rattle.std.proofs.lemmas.List.{length-map}
 use Rattle.std.proofs.lemmas.Option.{same_Some}
 use Rattle.q_drr.specs.Schedule.{Schedule, has_class, with_quantum}
+use Rattle.q_codel.specs.declared.loss.Loss.{Loss}
 use Rattle.q_packet.specs.declared.cause.Cause.TheVariants.{Purged}
+use Rattle.q_sound.proofs.Answer.{one}
+use Rattle.q_sound.proofs.Weights.{weigh-count}
+use Rattle.q_tree.specs.Purging.{purged}
+use Rattle.q_tree.proofs.EditLemmas.{edited-loses, told-purged}
 use Rattle.q_model.specs.declared.class_id.ClassId.{ClassId}
 use Rattle.q_model.specs.declared.command.Command.{Command}
 use Rattle.q_model.specs.declared.not_done.NotDone.{NotDone}
@@ -16,66 +21,122 @@ use Rattle.q_model.specs.Beneath.{beneath}
 use Rattle.q_model.specs.ClassCommands.{class_change, class_change_checks, class_changed, is_there, of_schedule, with_new_quantum}
 use Rattle.q_model.specs.Edit as model
 use Rattle.q_model.specs.Edit.{Remake, above, edited_at, keeps, lost_by, packets_removed, beneath_removed, remade}
-use Rattle.q_model.specs.Find.{Address, addresses_own, class_in, class_place, count_nodes, depth, node_at, path_of}
+use Rattle.q_model.specs.Find.{class_in, count_nodes, depth, node_at, path_of}
 use Rattle.q_model.specs.Node.{Discipline, Fifo, Prio, Tbf, Drr, FqCodel, Own, Node, Shape, children, shape, side_by_side}
+use Rattle.q_model.specs.Make.{Device}
 use Rattle.q_model.specs.QdiscCommands.{all_kept, at_target, retuned}
+use Rattle.q_model.proofs.ShrinkLemmas.{noted-stands, shape-with_memory}
+use Rattle.q_model.proofs.ShrinkSteps.{edited-stands}
 use Rattle.q_model.specs.Refusals.{Check, done_unless, first_refusal, is_so, most_levels, most_nodes, refuse}
-use Rattle.q_model.specs.Step.{DeviceState}
-use Rattle.q_model.specs.Tally.{Note, noted}
+use Rattle.q_model.specs.Step.{DeviceState, losses_in}
+use Rattle.q_model.specs.Tally.{Note, noted, totals}
 use Rattle.q_model.specs.Ranges.{IsCommand}
 use Rattle.q_model.specs.TreeState.{plan, with_edit}
 use Rattle.q_model.specs.Work.{losses_of}
 use Rattle.q_sound.proofs.EditClasses.{class_known}
 use Rattle.q_sound.proofs.EditChildren.{gone_is, gone_none, kept_there, kids_all}
 use Rattle.q_sound.proofs.EditSuits.{check_passed, done_is, length-shape, node_at-shape}
-use Rattle.q_sound.proofs.Edits.{found_in_shape}
 use Rattle.q_sound.proofs.Forests.{side-nodes}
 use Rattle.q_sound.proofs.MadeSizes.{count-shape, depth-shape}
-use Rattle.q_tree.specs.Commands.{IsAnswered, IsPlanned, change_answer, device_edited}
-use Rattle.q_tree.specs.Editing.{IsReady, edited_by, effect, removed, removed_at, requantized, requantum}
+use Rattle.q_tree.specs.Commands.{IsAnswered, IsBounded, IsDone, IsPlanned, IsPlannedFor, IsPlanOf, IsRefused, change_answer, device_edited, told}
+use Rattle.q_tree.specs.Editing.{IsReady, LosesNothing, TakesMemory, edited_by, effect, removed, removed_at, requantized, requantum}
+use Rattle.q_tree.specs.Places.{unplaced}
 use Rattle.q_tree.specs.Kept.{Kept, kept}
-use Rattle.q_tree.specs.TreeSeen.{IsKeptDevice, tree_seen}
+use Rattle.q_tree.specs.TreeSeen.{IsKeptDevice, numbers, tree_numbers}
 use Rattle.q_tree.specs.declared.edit.Edit.{Edit}
+use Rattle.q_tree.specs.declared.edit.Edit.TheVariants.{Graft, AddFilter, RemoveFilters, Quantum}
+use Rattle.q_tree.specs.declared.edit.Planned.{Planned}
 use Rattle.q_tree.specs.declared.tree.Tree.TheInside.{Inside}
-use Rattle.q_tree.proofs.TreeLemmas.{same-shape}
+use Rattle.q_tree.proofs.TreeLemmas.{lawful-root, same-shape, stands}
+use Rattle.q_tree.specs.Showing.{IsNumbered}
 use Rattle.q_tree.proofs.TreePuts.{levels}
-
--- ---- the node that a command names
-
-path-shape : (h : ℕ) (root : Node Kept) → path_of h (shape root) ≡ path_of h root
-path-shape h root = ap (λ xs. option_map (λ (a : Address). a.path) (find (λ (a : Address). a.handle == h) xs)) (found_in_shape addresses_own root)
-
-module _ (h : ℕ) (root : Node Kept) (f : List ℕ → Shape → Result model.Edit NotDone) where
-  abbrev pub planned : Result model.Edit NotDone
-  planned = at_target NoQdisc (path_of h (shape root)) f (shape root)
-
-  pub unfound : path_of h root ≡ None → at_target NoQdisc (path_of h (shape root)) f (shape root) ≡ Err NoQdisc
-  unfound e = ap (λ o. at_target NoQdisc o f (shape root)) (path-shape h root ∙ e)
-
-  at-path : (path : List ℕ) → path_of h root ≡ Some path → at_target NoQdisc (path_of h (shape root)) f (shape root) ≡ option_map_or (f path) (option_map shape (node_at path root)) (Err NoQdisc)
-  at-path path e = ap (λ o. at_target NoQdisc o f (shape root)) (path-shape h root ∙ e) ∙ ap (λ o. option_map_or (f path) o (Err NoQdisc)) (node_at-shape path root)
-
-  pub nothing-there : (path : List ℕ) → path_of h root ≡ Some path → node_at path root ≡ None → at_target NoQdisc (path_of h (shape root)) f (shape root) ≡ Err NoQdisc
-  nothing-there path e at = at-path path e ∙ ap (λ o. option_map_or (f path) (option_map shape o) (Err NoQdisc)) at
-
-  pub planned-at : (path : List ℕ) (n : Node Kept) → path_of h root ≡ Some path → node_at path root ≡ Some n → at_target NoQdisc (path_of h (shape root)) f (shape root) ≡ f path (shape n)
-  planned-at path n e at = at-path path e ∙ ap (λ o. option_map_or (f path) (option_map shape o) (Err NoQdisc)) at
 
 -- ---- the answer
 
-pub refused : (plan : Result model.Edit NotDone) (refusal : NotDone) (d : DeviceState Kept) → plan ≡ Err refusal → IsAnswered plan d d (Err refusal)
-refused plan refusal d e = subst (λ p. IsAnswered p d d (Err refusal)) (sym e) (refl, refl)
+-- the numbers of a device that was edited
+numbers-edited : (e : Edit) (path : List ℕ) (now : ℕ) (d : DeviceState Kept) (p : IsPlanned e path now d.tree.device d.tree.root)
+    → numbers (device_edited e path now d) ≡ record { clock = now; tree = with_edit totals p.edit (tree_numbers d.tree) }
+numbers-edited e path now d p =
+    (λ i. record {
+      clock = now;
+      tree = record {
+        device = d.tree.device;
+        top = (noted-stands kept totals (λ (k : Kept). k.counts) stands d.tree.top (losses_of Purged (removed_at e path d.tree.root)) ∙ ap (λ ps. noted totals d.tree.top.counts (losses_of Purged ps)) p.lost) i;
+        root = p.same i;
+      };
+    })
+    ∙ sym (ap (λ (r : Shape). record {
+      clock = now;
+      tree = record { device = d.tree.device; top = noted totals d.tree.top.counts (lost_by p.edit r); root = model.edited totals (lost_by p.edit r) p.edit (unplaced d.tree.root) };
+    }) (shape-with_memory (λ (k : Kept). k.counts) d.tree.root))
 
-device-is : (e : Edit) (path : List ℕ) (now : ℕ) (d : DeviceState Kept) (p : IsPlanned e path now d) → now ≡ d.clock → device_edited e path now d ≡ record d { tree = with_edit kept p.edit d.tree }
-device-is e path now d p same = λ i. record {
-  clock = same i;
-  tree = record d.tree { top = noted kept d.tree.top (losses_of Purged (p.lost i)); root = p.same i };
-}
+pub numbers-after : (e : Edit) (path : List ℕ) (now : ℕ) (d after : DeviceState Kept) (p : IsPlanned e path now d.tree.device d.tree.root) → after ≡ device_edited e path now d
+    → numbers after ≡ record { clock = now; tree = with_edit totals p.edit (tree_numbers d.tree) }
+numbers-after e path now d after p is = ap numbers is ∙ numbers-edited e path now d p
 
-pub answered : (e : Edit) (path : List ℕ) (now : ℕ) (d after : DeviceState Kept) (p : IsPlanned e path now d) → now ≡ d.clock → (plan : Result model.Edit NotDone) → plan ≡ Ok p.edit → (result : Result (Unit {0}) NotDone)
-    → OnOk result (after ≡ device_edited e path now d) → IfErr result (λ why. why ≡ Memory) → OnErr result (after ≡ d) → IsAnswered plan d after result
-answered e path now d after p same plan is (Ok done) edited memory unchanged = subst (λ q. IsAnswered q d after (Ok done)) (sym is) (edited ∙ device-is e path now d p same)
-answered e path now d after p same plan is (Err why) edited memory unchanged = subst (λ q. IsAnswered q d after (Err why)) (sym is) (memory, unchanged)
+module _ (memory : Type 0) (command : Command) (d : DeviceState Kept) (now : ℕ) (root : Node Kept) (root_is : root ≡ d.tree.root) (answer : Result Planned NotDone)
+    (plan_of : IsPlanOf memory command now d.tree.device root answer) where
+  abbrev planned : Result model.Edit NotDone
+  planned = plan d.tree.device now command (shape d.tree.root)
+
+  pub tree-refused : (refusal : NotDone) → answer ≡ Err refusal → IsAnswered memory now planned d d (Err refusal)
+  tree-refused refusal is =
+      (subst (λ (n : Node Kept). IsRefused memory (plan d.tree.device now command (shape n)) refusal) root_is
+      (subst (IsPlanOf memory command now d.tree.device root) is plan_of), refl)
+
+  module _ (p : Planned) (is : answer ≡ Ok p) where
+    pub tree-planned : IsPlannedFor memory command p now d.tree.device d.tree.root
+    tree-planned = subst (IsPlannedFor memory command p now d.tree.device) root_is (subst (IsPlanOf memory command now d.tree.device root) is plan_of)
+
+    tree-plan : planned ≡ Ok tree-planned.planned.edit
+    tree-plan = ap (λ c. plan d.tree.device now c (shape d.tree.root)) (sym tree-planned.asked) ∙ tree-planned.planned.planned
+
+    pub tree-answered : (after : DeviceState Kept) (result : Result (Unit {0}) NotDone) → OnOk result (after ≡ device_edited p.edit p.path.items now d)
+        → IfErr result (λ why. (why ≡ Memory) × TakesMemory p.edit) → OnErr result (after ≡ d) → IsAnswered memory now planned d after result
+    tree-answered after (Ok done) edited memory_refused unchanged = subst (λ q. IsDone now q d after) (sym tree-plan) (numbers-after p.edit p.path.items now d after tree-planned.planned edited)
+    tree-answered after (Err why) edited memory_refused unchanged =
+        (subst (λ q. IsRefused memory q why) (sym tree-plan) (memory_refused.0, tree-planned.takes memory_refused.1), unchanged)
+
+    -- the losses that are told are those of the plan
+    pub tree-room-for : length (removed_at p.edit p.path.items d.tree.root) ≤ length (beneath d.tree.root)
+    tree-room-for =
+        let loses = edited-loses p.edit p.path.items d.tree.root tree-planned.planned.ready tree-planned.planned.there in
+        omega (arith, loses.conserved one, weigh-count (beneath d.tree.root), weigh-count (removed_at p.edit p.path.items d.tree.root))
+
+    told-done : told planned (shape d.tree.root) (Ok tt) ≡ purged (removed_at p.edit p.path.items d.tree.root)
+    told-done =
+        ap (λ q. told q (shape d.tree.root) (Ok tt)) tree-plan
+        ∙ ap (λ ps. losses_in (losses_of Purged ps)) (sym tree-planned.planned.lost)
+        ∙ told-purged (removed_at p.edit p.path.items d.tree.root)
+
+    told-none : (why : NotDone) → told planned (shape d.tree.root) (Err why) ≡ []
+    told-none why = ap (λ q. told q (shape d.tree.root) (Err why)) tree-plan
+
+    pub tree-lost : (before after : List Loss) (A : Type 0) (result : Result (Unit {0}) NotDone) → OnOk result (after ≡ before ++ purged (removed_at p.edit p.path.items d.tree.root)) → OnErr result ((after ≡ before) × A)
+        → after ≡ before ++ told planned (shape d.tree.root) result
+    tree-lost before after A (Ok done) ok err = ok ∙ ap (λ xs. before ++ xs) (sym told-done)
+    tree-lost before after A (Err why) ok err = err.0 ∙ sym (append-nil before) ∙ ap (λ xs. before ++ xs) (sym (told-none why))
+
+    pub tree-room : (before after : ℕ) (A : Type 0) (result : Result (Unit {0}) NotDone) → OnOk result (after + length (removed_at p.edit p.path.items d.tree.root) ≡ before) → OnErr result (A × (after ≡ before))
+        → after + length (told planned (shape d.tree.root) result) ≡ before
+    tree-room before after A (Ok done) ok err = omega (arith, ok, ap (λ xs. length xs) told-done, length-map {B = Loss} (removed_at p.edit p.path.items d.tree.root) (λ q. record { packet = q; cause = Purged }))
+    tree-room before after A (Err why) ok err = omega (arith, err.1, ap (λ xs. length xs) (told-none why))
+
+-- an edit that loses nothing
+pub quiet-removed : (e : Edit) (path : List ℕ) (n : Node Kept) → LosesNothing e → removed_at e path n ≡ []
+quiet-removed (Graft new) path n h = absurd h
+quiet-removed (AddFilter f) path n h = by (node_at path n) where
+  by : (o : Option (Node Kept)) → option_map_or (removed (AddFilter f)) o [] ≡ []
+  by None = refl
+  by (Some m) = refl
+quiet-removed (RemoveFilters prio) path n h = by (node_at path n) where
+  by : (o : Option (Node Kept)) → option_map_or (removed (RemoveFilters prio)) o [] ≡ []
+  by None = refl
+  by (Some m) = refl
+quiet-removed (Quantum class quantum) path n h = by (node_at path n) where
+  by : (o : Option (Node Kept)) → option_map_or (removed (Quantum class quantum)) o [] ≡ []
+  by None = refl
+  by (Some m) = refl
 
 -- ---- other settings
 
@@ -118,21 +179,27 @@ module _ (e : Edit) (path : List ℕ) (root n : Node Kept) (there : node_at path
 
 -- ---- the bounds of a tree
 
-module _ (a : Inside) (k : IsKeptDevice a) where
-  pub shallow-shape : depth (shape a.root) ≤ most_levels
-  shallow-shape = omega (arith, levels a k, depth-shape a.root)
+pub bounded : (a : Inside) (k : IsKeptDevice a) → IsBounded a.root
+bounded a k = record {
+  levels = levels a k;
+  nodes = omega (arith, k.keeps.few, count-shape k.history.root, count-shape a.root, ap (λ (s : Shape). count_nodes s) (same-shape a k));
+}
 
-  pub few-shape : count_nodes (shape a.root) ≤ most_nodes
-  few-shape = omega (arith, k.keeps.few, count-shape k.history.root, ap (λ (s : Shape). count_nodes s) (same-shape a k))
+pub numbered : (a : Inside) (k : IsKeptDevice a) → IsNumbered a.root
+numbered a k = record { mtu = a.mtu; clock = a.clock; lawful = lawful-root a k a.clock (omega arith) k.keeps.moment }
+
+module _ (root : Node Kept) (h : IsBounded root) where
+  pub shallow : depth (shape root) ≤ most_levels
+  shallow = omega (arith, h.levels, depth-shape root)
+
+  pub few : count_nodes (shape root) ≤ most_nodes
+  few = omega (arith, h.nodes, count-shape root)
 
 -- ---- the checks of a new filter
 
 abbrev pub add_answer : Bool → Bool → Bool → Bool → Result (Unit {0}) NotDone
 add_answer classful other_class no_class many =
     done_unless (refuse NotClassful (not classful) ∷ refuse NoClass (other_class || no_class) ∷ refuse TooMany many ∷ []) tt
-
-pub class-shape : (minor : ℕ) (n : Node Kept) → class_place minor (shape n) ≡ class_place minor n
-class-shape minor n = ap (λ k. class_in k minor n.own.discipline) (length-shape n)
 
 pub none-is : (o : Option ℕ) → is_some o ≡ false → is_none o ≡ true
 none-is None e = refl
@@ -154,30 +221,29 @@ all-passed checks a b e = ap (λ o. option_map_or (λ r. Err r) o (Ok b)) (done_
 
 -- ---- the plan of a line that gives a qdisc other settings
 
-module _ (a : Inside) (e : Edit) (ready : IsReady e) (path : List ℕ) (n : Node Kept) (there : node_at path a.root ≡ Some n)
-    (own : Own) (does : effect e n ≡ record n { own = own }) (nothing_lost : removed e n ≡ [])
-    (command : Command) (ranges : IsCommand command) (now : ℕ)
-    (plan-is : plan (tree_seen a).tree.device now command (shape a.root) ≡ Ok (Remake path own (all_kept (shape n)))) where
-  pub own-planned : IsPlanned e path now (tree_seen a)
-  own-planned = record {
-    command = command;
-    ranges = ranges;
-    edit = Remake path own (all_kept (shape n));
-    planned = plan-is;
-    lost = own-lost e path a.root n there own does nothing_lost;
-    same = own-same e path a.root n there own does nothing_lost;
-    there = ap is_some there;
-    ready = ready;
-  }
+pub refused-plan : (memory : Type 0) (plan : Result model.Edit NotDone) (refusal : NotDone) → plan ≡ Err refusal → IsRefused memory plan refusal
+refused-plan memory plan refusal e = subst (λ p. IsRefused memory p refusal) (sym e) refl
 
-  module _ (d : DeviceState Kept) (view : tree_seen a ≡ d) (now_is : now ≡ a.clock) (lent : List ℕ) (lent_is : lent ≡ path) (after : DeviceState Kept) (result : Result (Unit {0}) NotDone)
-      (edited : OnOk result (after ≡ device_edited e lent now d)) (memory : IfErr result (λ why. why ≡ Memory)) (unchanged : OnErr result (after ≡ d)) where
-    pub own-answered : IsAnswered (plan (tree_seen a).tree.device now command (shape a.root)) (tree_seen a) after result
-    unfolding own-planned
-    own-answered =
-        answered e path now (tree_seen a) after own-planned now_is (plan (tree_seen a).tree.device now command (shape a.root)) own-planned.planned result
-        (subst (λ x. OnOk result (after ≡ device_edited e path now x)) (sym view) (subst (λ p. OnOk result (after ≡ device_edited e p now d)) lent_is edited))
-        memory (subst (λ x. OnErr result (after ≡ x)) (sym view) unchanged)
+module _ (device : Device) (root : Node Kept) (p : Planned) (ready : IsReady p.edit) (n : Node Kept) (there : node_at p.path.items root ≡ Some n)
+    (own : Own) (does : effect p.edit n ≡ record n { own = own }) (nothing_lost : removed p.edit n ≡ [])
+    (command : Command) (ranges : IsCommand command) (now : ℕ)
+    (plan-is : plan device now command (shape root) ≡ Ok (Remake p.path.items own (all_kept (shape n)))) where
+  pub own-planned : (memory : Type 0) → (TakesMemory p.edit → memory) → IsPlannedFor memory command p now device root
+  own-planned memory takes = record {
+    planned = record {
+      command = command;
+      ranges = ranges;
+      edit = Remake p.path.items own (all_kept (shape n));
+      planned = plan-is;
+      lost = own-lost p.edit p.path.items root n there own does nothing_lost;
+      same = ap unplaced (own-same p.edit p.path.items root n there own does nothing_lost)
+          ∙ edited-stands kept totals (λ (k : Kept). k.counts) stands (lost_by (Remake p.path.items own (all_kept (shape n))) (shape root)) (Remake p.path.items own (all_kept (shape n))) root;
+      there = ap is_some there;
+      ready = ready;
+    };
+    asked = refl;
+    takes = takes;
+  }
 
 -- ---- the class of a drr
 

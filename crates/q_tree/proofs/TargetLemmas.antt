@@ -10,7 +10,7 @@ use Rattle.q_model.specs.declared.place.Place.{Place}
 use Rattle.q_model.specs.declared.place.Place.TheVariants as place
 use Rattle.q_model.specs.Edit as model
 use Rattle.q_model.specs.Find.{Address, addresses_own, class_in, class_path, class_place, depth, is_explicit, node_at, path_of, place_path}
-use Rattle.q_model.specs.Node.{Node, Shape, children, shape}
+use Rattle.q_model.specs.Node.{Node, Shape, shape}
 use Rattle.q_model.specs.QdiscCommands.{at_target, explicit_at, handle_at, target}
 use Rattle.q_model.specs.Refusals.{is_so}
 use Rattle.q_sound.proofs.EditSizes.{depth-node, sized-within}

@@ -1,13 +1,11 @@
 -- A tree of the code that is edited as a command has planned: its numbers stay those of a tree with whole histories.
 use Rattle.std.proofs.Common.{◌≡◌, ℕ, ◌≤◌, ◌<◌, ◌^◌, ◌∙◌, List, length, sym, ap, subst, Ok, arith}
-use Rattle.q_packet.specs.declared.cause.Cause.TheVariants.{Purged}
 use Rattle.q_model.specs.declared.row.Row.{Row}
 use Rattle.q_model.specs.declared.totals.Totals.{Totals}
 use Rattle.q_model.specs.Beneath.{beneath, totals_in}
 use Rattle.q_model.specs.Node.{Node, Shape, shape}
 use Rattle.q_model.specs.Tally.{Counts, counts_in, history, noted, totals}
 use Rattle.q_model.specs.TreeState.{TreeState, plan, with_edit}
-use Rattle.q_model.specs.Work.{losses_of}
 use Rattle.q_model.proofs.ShrinkLemmas.{totals_for_history}
 use Rattle.q_model.proofs.ShrinkSteps.{with_edit-stands}
 use Rattle.q_sound.proofs.Answer.{one}
@@ -17,14 +15,16 @@ use Rattle.q_sound.proofs.Weights.{weigh-count}
 use Rattle.q_tree.specs.Commands.{IsPlanned, device_edited}
 use Rattle.q_tree.specs.Editing.{CanDrop, edited_by, notes_of, removed_at, with_dropped}
 use Rattle.q_tree.specs.Kept.{Kept, kept}
-use Rattle.q_tree.specs.TreeSeen.{tree_seen, tree_numbers, IsKeptDevice}
+use Rattle.q_tree.specs.TreeSeen.{tree_seen, IsKeptDevice}
 use Rattle.q_tree.specs.declared.edit.Edit.{Edit}
 use Rattle.q_tree.specs.declared.tree.Tree.TheInside.{Inside}
 use Rattle.q_tree.proofs.EditLemmas.{IsAnswer, Loses, can-drop, edited-loses, noted-purged, same-total}
 use Rattle.q_tree.proofs.Rows.{counts_in_row, same-totals, weigh-bytes}
-use Rattle.q_tree.proofs.TreeLemmas.{same-shape, stands, top-row}
+use Rattle.q_tree.proofs.Plans.{numbers-after}
+use Rattle.q_tree.proofs.TreeLemmas.{same-shape, top-row}
+use Rattle.q_model.specs.Step.{DeviceState}
 
-module _ (a : Inside) (k : IsKeptDevice a) (e : Edit) (path : List ℕ) (now : ℕ) (later : a.clock ≤ now) (low : now ≤ 2 ^ 62) (p : IsPlanned e path now (tree_seen a))
+module _ (a : Inside) (k : IsKeptDevice a) (e : Edit) (path : List ℕ) (now : ℕ) (later : a.clock ≤ now) (low : now ≤ 2 ^ 62) (p : IsPlanned e path now (tree_seen a).tree.device a.root)
     (lost : Totals) (lost_is : IsAnswer lost (totals_in (removed_at e path a.root))) where
   same : totals_in (removed_at e path a.root) ≡ lost
   same = sym (same-total lost (totals_in (removed_at e path a.root)) lost_is)
@@ -48,13 +48,6 @@ module _ (a : Inside) (k : IsKeptDevice a) (e : Edit) (path : List ℕ) (now : �
       tree = record { device = (tree_seen a).tree.device; top = counts j; root = root_is j };
     }
 
-    tree-is : (tree_seen (record a { clock = now; top = r; root = root })).tree ≡ with_edit kept p.edit (tree_seen a).tree
-    tree-is = λ j. record {
-      device = (tree_seen a).tree.device;
-      top = (counts ∙ ap (λ ps. noted kept (tree_seen a).tree.top (losses_of Purged ps)) p.lost) j;
-      root = (root_is ∙ p.same) j;
-    }
-
     plan-is : plan k.history.device now p.command (shape k.history.root) ≡ Ok p.edit
     plan-is =
         ap (λ (s : Shape). plan k.history.device now p.command s) (sym (same-shape a k))
@@ -65,7 +58,7 @@ module _ (a : Inside) (k : IsKeptDevice a) (e : Edit) (path : List ℕ) (now : �
     stays = record {
       history = with_edit history p.edit k.history;
       keeps = edit-keeps k.history a.clock now p.command p.edit k.keeps later low p.ranges plan-is;
-      same = ap tree_numbers tree-is ∙ with_edit-stands kept totals (λ (m : Kept). m.counts) stands p.edit (tree_seen a).tree ∙ ap (with_edit totals p.edit) k.same
+      same = ap (λ (d : DeviceState Counts). d.tree) (numbers-after e path now (tree_seen a) (tree_seen (record a { clock = now; top = r; root = root })) p after) ∙ ap (with_edit totals p.edit) k.same
           ∙ sym (with_edit-stands history totals counts_in totals_for_history p.edit k.history);
       queued =
           same-totals r.queued (totals_in (beneath root))

@@ -1,28 +1,54 @@
 -- What a command comes to (tc(8)): the model's plan says whether it is refused, and why, or which edit of the tree is done.
-use Rattle.std.specs.Prelude.{◌≡◌, ℕ, List, IsSome, Result, Ok, Err}
+use Rattle.std.specs.Prelude.{◌≡◌, ◌≤◌, ℕ, List, [], IsSome, Result, Ok, Err}
+use Rattle.q_codel.specs.declared.loss.Loss.{Loss}
 use Rattle.q_model.specs.declared.class_id.ClassId.{ClassId}
 use Rattle.q_model.specs.declared.command.Command.{Command}
 use Rattle.q_model.specs.declared.not_done.NotDone.{NotDone}
 use Rattle.q_model.specs.declared.not_done.NotDone.TheVariants.{CannotChange, Memory, NotClassful}
 use Rattle.q_model.specs.ClassCommands.{class_change_checks}
 use Rattle.q_model.specs.Edit as model
-use Rattle.q_model.specs.Find.{node_at}
-use Rattle.q_model.specs.Node.{Discipline, Fifo, Prio, Tbf, Drr, FqCodel, Shape, shape}
+use Rattle.q_model.specs.Find.{node_at, depth, count_nodes}
+use Rattle.q_model.specs.Make.{Device}
+use Rattle.q_model.specs.Node.{Discipline, Fifo, Prio, Tbf, Drr, FqCodel, Node, Shape, shape}
 use Rattle.q_model.specs.Ranges.{IsCommand}
-use Rattle.q_model.specs.Refusals.{done_unless}
-use Rattle.q_model.specs.Step.{DeviceState}
-use Rattle.q_model.specs.Tally.{noted}
+use Rattle.q_model.specs.Refusals.{done_unless, most_levels, most_nodes}
+use Rattle.q_model.specs.Step.{DeviceState, losses_in}
+use Rattle.q_model.specs.Tally.{noted, totals}
 use Rattle.q_model.specs.TreeState.{plan, with_edit}
-use Rattle.q_tree.specs.Editing.{removed_at, notes_of, edited_by, IsReady}
+use Rattle.q_tree.specs.Editing.{removed_at, notes_of, edited_by, IsReady, TakesMemory}
 use Rattle.q_tree.specs.Kept.{Kept, kept}
+use Rattle.q_tree.specs.Places.{unplaced}
+use Rattle.q_tree.specs.TreeSeen.{numbers, tree_numbers}
 use Rattle.q_tree.specs.declared.edit.Edit.{Edit}
+use Rattle.q_tree.specs.declared.edit.Planned.{Planned}
 
--- A refusal comes before one for want of memory, and changes nothing; else the edit is done, or memory was refused, which
--- changes nothing either.
-abbrev pub IsAnswered : Result model.Edit NotDone → DeviceState Kept → DeviceState Kept → Result (Unit {0}) NotDone → Type 0
-IsAnswered (Err refusal) before after answer = (answer ≡ Err refusal) × (after ≡ before)
-IsAnswered (Ok edit) before after (Ok done) = after ≡ record before { tree = with_edit kept edit before.tree }
-IsAnswered (Ok edit) before after (Err refusal) = (refusal ≡ Memory) × (after ≡ before)
+-- whether a command takes memory
+abbrev pub takes_memory : Type 0
+takes_memory = Unit {0}
+
+abbrev pub takes_none : Type 0
+takes_none = ⊥
+
+-- the first refusal that holds; where none does, want of memory, of a command that takes memory
+abbrev pub IsRefused : Type 0 → Result model.Edit NotDone → NotDone → Type 0
+IsRefused memory (Err first) refusal = refusal ≡ first
+IsRefused memory (Ok edit) refusal = (refusal ≡ Memory) × memory
+
+-- the edit of the plan is done, but for the places of queues, which are memory and mean nothing to the rules
+abbrev pub IsDone : ℕ → Result model.Edit NotDone → DeviceState Kept → DeviceState Kept → Type 0
+IsDone now (Ok edit) before after = numbers after ≡ record { clock = now; tree = with_edit totals edit (tree_numbers before.tree) }
+IsDone now (Err refusal) before after = ⊥
+
+-- a command that is refused changes nothing
+abbrev pub IsAnswered : Type 0 → ℕ → Result model.Edit NotDone → DeviceState Kept → DeviceState Kept → Result (Unit {0}) NotDone → Type 0
+IsAnswered memory now plan before after (Ok done) = IsDone now plan before after
+IsAnswered memory now plan before after (Err refusal) = IsRefused memory plan refusal × (after ≡ before)
+
+-- what is lost by a command: nothing where it is refused
+abbrev pub told : Result model.Edit NotDone → Shape → Result (Unit {0}) NotDone → List Loss
+told (Ok edit) root (Ok done) = losses_in (model.lost_by edit root)
+told (Ok edit) root (Err refusal) = []
+told (Err first) root answer = []
 
 -- the device after an edit at the end of this way
 abbrev pub device_edited : Edit → List ℕ → ℕ → DeviceState Kept → DeviceState Kept
@@ -31,16 +57,32 @@ device_edited e path now d = record {
   tree = record d.tree { top = noted kept d.tree.top (notes_of e path d.tree.root); root = edited_by e path d.tree.root };
 }
 
--- An edit of the code is the one that the model plans for a command, whose numbers are in their ranges.
-pub record IsPlanned (e : Edit) (path : List ℕ) (now : ℕ) (d : DeviceState Kept) : Type 0 where
+-- an edit of the code is the one that the model plans for a command, whose numbers are in their ranges
+pub record IsPlanned (e : Edit) (path : List ℕ) (now : ℕ) (device : Device) (root : Node Kept) : Type 0 where
   pub command : Command
   pub ranges : IsCommand command
   pub edit : model.Edit
-  pub planned : plan d.tree.device now command (shape d.tree.root) ≡ Ok edit
-  pub lost : removed_at e path d.tree.root ≡ model.packets_removed edit (shape d.tree.root)
-  pub same : edited_by e path d.tree.root ≡ model.edited kept (model.lost_by edit (shape d.tree.root)) edit d.tree.root
-  pub there : IsSome (node_at path d.tree.root)
+  pub planned : plan device now command (shape root) ≡ Ok edit
+  pub lost : removed_at e path root ≡ model.packets_removed edit (shape root)
+  pub same : unplaced (edited_by e path root) ≡ model.edited totals (model.lost_by edit (shape root)) edit (unplaced root)
+  pub there : IsSome (node_at path root)
   pub ready : IsReady e
+
+-- and it is the edit for this command, which takes no more memory
+pub record IsPlannedFor (memory : Type 0) (command : Command) (p : Planned) (now : ℕ) (device : Device) (root : Node Kept) : Type 0 where
+  pub planned : IsPlanned p.edit p.path.items now device root
+  pub asked : planned.command ≡ command
+  pub takes : TakesMemory p.edit → memory
+
+-- what is found out about a command before anything is changed
+abbrev pub IsPlanOf : Type 0 → Command → ℕ → Device → Node Kept → Result Planned NotDone → Type 0
+IsPlanOf memory command now device root (Ok p) = IsPlannedFor memory command p now device root
+IsPlanOf memory command now device root (Err refusal) = IsRefused memory (plan device now command (shape root)) refusal
+
+-- a tree within its bounds
+pub record IsBounded (root : Node Kept) : Type 0 where
+  pub levels : depth root ≤ most_levels
+  pub nodes : count_nodes root ≤ most_nodes
 
 -- whether the class of a qdisc can be changed: only a drr's are set by themselves (tc-drr(8))
 abbrev pub change_answer : ClassId → Shape → Discipline → Result (Unit {0}) NotDone

@@ -14,8 +14,8 @@ use Rattle.q_model.specs.Edit.{edited_at}
 use Rattle.q_model.specs.Filters.{with_filter}
 use Rattle.q_model.specs.Find.{node_at}
 use Rattle.q_model.specs.Node as spec
-use Rattle.q_model.specs.Node.{Node, blank, shape}
-use Rattle.q_model.specs.Tally.{Note}
+use Rattle.q_model.specs.Node.{Node}
+use Rattle.q_model.specs.Tally.{Note, no_counts}
 use Rattle.q_model.specs.Work.{losses_of, settled_in}
 use Rattle.q_tree.specs.Arrivals.{plus, minus}
 use Rattle.q_tree.specs.Kept.{Kept, kept}
@@ -55,10 +55,24 @@ removed (Quantum class quantum) n = []
 
 -- what stands in place of a node is new: it has counted nothing, and nothing is queued there
 abbrev pub IsReady : Edit → Type 0
-IsReady (Graft new) = (new ≡ blank kept (shape new)) × (beneath new ≡ [])
+IsReady (Graft new) = (new.memory.counts ≡ no_counts) × (beneath new ≡ [])
 IsReady (AddFilter f) = Unit {0}
 IsReady (RemoveFilters prio) = Unit {0}
 IsReady (Quantum class quantum) = Unit {0}
+
+-- the edits that lose nothing
+abbrev pub LosesNothing : Edit → Type 0
+LosesNothing (Graft new) = ⊥
+LosesNothing (AddFilter f) = Unit {0}
+LosesNothing (RemoveFilters prio) = Unit {0}
+LosesNothing (Quantum class quantum) = Unit {0}
+
+-- the edits that take memory: for one more filter
+abbrev pub TakesMemory : Edit → Type 0
+TakesMemory (Graft new) = ⊥
+TakesMemory (AddFilter f) = Unit {0}
+TakesMemory (RemoveFilters prio) = ⊥
+TakesMemory (Quantum class quantum) = ⊥
 
 -- the same for a way from a node down
 abbrev pub removed_at : Edit → List ℕ → Node Kept → List Descriptor

@@ -4,6 +4,7 @@ pub mod AskSteps
 pub mod Commands
 pub mod Editing
 pub mod Finding
+pub mod Grafting
 pub mod Kept
 pub mod Laws
 pub mod Making

@@ -1,12 +1,14 @@
-ghost use Rattle.std.specs.Prelude.{◌≡◌, ◌==◌, not};
+ghost use Rattle.std.specs.Prelude.{◌≡◌, ◌==◌, ℕ, IfOk, not};
 ghost use Rattle.q_model.specs.declared.command.Command.TheVariants.{ClassChange};
+ghost use Rattle.q_model.specs.Make.{Device};
 ghost use Rattle.q_model.specs.Node.{shape};
 ghost use Rattle.q_model.specs.Ranges.{IsCommand};
 ghost use Rattle.q_model.specs.Refusals.{is_so};
 ghost use Rattle.q_model.specs.TreeState.{plan};
-ghost use Rattle.q_tree.specs.Commands.{IsAnswered, change_answer};
+ghost use Rattle.q_tree.specs.Editing.{LosesNothing};
+ghost use Rattle.q_tree.specs.Commands.{IsAnswered, IsBounded, IsPlanOf, change_answer, takes_none};
 
-use crate::edit::Edit;
+use crate::edit::{Edit, Planned};
 use crate::node::{Discipline, Node};
 use crate::one_loss::OneLoss;
 use crate::tree::Tree;
@@ -27,27 +29,41 @@ impl Tree {
         class: ClassId,
         quantum: Option<Quantum>,
     ) -> Result<(), NotDone>
-        ensures { IsAnswered (plan self.old.tree.device self.old.clock (ClassChange parent class quantum) (shape self.old.tree.root)) self.old self.new result }
+        ensures { IsAnswered takes_none self.old.clock (plan self.old.tree.device self.old.clock (ClassChange parent class quantum) (shape self.old.tree.root)) self.old self.new result }
+    {
+        match self.root.class_changed(parent, class, quantum) {
+            Err(refusal) => return Err(refusal),
+            Ok(planned) => return self.edit(planned, self.clock, &mut OneLoss { told: None }),
+        }
+    }
+}
+
+impl Node {
+    // The edit that gives a class another quantum, or the first refusal that holds.
+    fn class_changed(
+        &self,
+        parent: Option<Handle>,
+        class: ClassId,
+        quantum: Option<Quantum>,
+    ) -> Result<Planned, NotDone>
+        requires { IsBounded self.now }
+        ensures plan { (device : Device) (now : ℕ) → IsPlanOf takes_none (ClassChange parent class quantum) now device self.now result }
+        ensures quiet { IfOk result (λ p. LosesNothing p.edit) }
     {
         change_ranges(&parent, &class, &quantum);
         if names_another(&parent, &class) {
             return Err(NotDone::NoParent);
         }
-        let Some(path) = self.root.path_to(class.major) else {
-            return Err(NotDone::NoQdisc);
-        };
-        let Some(node) = self.root.at(&path) else {
+        let Some((path, node)) = self.qdisc(class.major) else {
             return Err(NotDone::NoQdisc);
         };
         if let Err(refusal) = node.can_change_class(&class) {
             return Err(refusal);
         }
         let edit = Edit::Quantum(class.minor, quantum);
-        self.edit(&path, edit, self.clock, &mut OneLoss { told: None })
+        Ok(Planned { path, edit })
     }
-}
 
-impl Node {
     // Whether the qdisc has this class, and lets it be changed.
     fn can_change_class(&self, class: &ClassId) -> Result<(), NotDone>
         ensures { result ≡ change_answer class.now (shape self.now) self.now.own.discipline }

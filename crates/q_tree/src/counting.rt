@@ -120,7 +120,8 @@ pub(crate) fn levels_made(kind: &Kind) -> usize
 
 /// How many nodes a new qdisc of this kind has.
 pub(crate) fn nodes_made(kind: &Kind) -> usize
-    ensures { result ≡ nodes_made kind.now }
+    ensures value { result ≡ nodes_made kind.now }
+    ensures few { result ≤ most_nodes }
 {
     match kind {
         Kind::Prio(options) => 1 + usize::from(options.bands),

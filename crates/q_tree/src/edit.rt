@@ -5,7 +5,7 @@ ghost use Rattle.q_model.specs.Beneath.{totals_in};
 ghost use Rattle.q_model.specs.Filters.{with_filter};
 ghost use Rattle.q_model.specs.Find.{node_at};
 ghost use Rattle.q_model.specs.Node as spec;
-ghost use Rattle.q_tree.specs.Editing.{effect, removed, removed_at, edited_by, requantized, requantum, IsReady, IsEditedBeneath, IsUnchanged};
+ghost use Rattle.q_tree.specs.Editing.{effect, removed, removed_at, edited_by, requantized, requantum, IsReady, TakesMemory, IsEditedBeneath, IsUnchanged};
 ghost use Rattle.q_tree.specs.Kept.{Kept};
 ghost use Rattle.q_tree.specs.Places.{Leads};
 ghost use Rattle.q_tree.specs.Purging.{purged};
@@ -13,6 +13,7 @@ ghost use Rattle.q_tree.specs.Seen.{children_seen, discipline_seen, places_seen}
 
 use crate::booking::{NOTHING, book_dropped};
 use crate::drr::settle;
+use crate::find::Path;
 use crate::node::{Discipline, Node};
 use q_codel::Sink;
 use q_drr::Active;
@@ -29,6 +30,12 @@ pub(crate) enum Edit {
     RemoveFilters(FilterPrio),
     /// This class of a drr has another quantum, where one is given.
     Quantum(Minor, Option<Quantum>),
+}
+
+/// An edit that was planned, with the way to the node that it changes.
+pub(crate) struct Planned {
+    pub(crate) path: Path,
+    pub(crate) edit: Edit,
 }
 
 impl Node {
@@ -51,6 +58,7 @@ impl Node {
         ensures totals { OnOk result (result ≡ Ok (totals_in (removed_at edit path.now self.old))) }
         ensures lost { OnOk result (S.losses sink.new ≡ S.losses sink.old ++ purged (removed_at edit path.now self.old)) }
         ensures room { OnOk result (S.room sink.new + length (removed_at edit path.now self.old) ≡ S.room sink.old) }
+        ensures memory { OnErr result (TakesMemory edit) }
         ensures same { OnErr result (self.new ≡ self.old) }
         ensures not_lost { OnErr result ((S.losses sink.new ≡ S.losses sink.old) × (S.room sink.new ≡ S.room sink.old)) }
         ensures kept { S.keeps sink.old sink.new }
@@ -71,6 +79,7 @@ impl Node {
         ensures totals { OnOk result (result ≡ Ok (totals_in (removed edit self.old))) }
         ensures lost { OnOk result (S.losses sink.new ≡ S.losses sink.old ++ purged (removed edit self.old)) }
         ensures room { OnOk result (S.room sink.new + length (removed edit self.old) ≡ S.room sink.old) }
+        ensures memory { OnErr result (TakesMemory edit) }
         ensures same { OnErr result (self.new ≡ self.old) }
         ensures not_lost { OnErr result ((S.losses sink.new ≡ S.losses sink.old) × (S.room sink.new ≡ S.room sink.old)) }
         ensures kept { S.keeps sink.old sink.new }
@@ -115,6 +124,7 @@ impl Discipline {
         ensures totals { OnOk result ((c : spec.Node Kept) → slice_get (children_seen self.old) place ≡ Some c → result ≡ Ok (totals_in (removed_at edit rest.now c))) }
         ensures lost { OnOk result ((c : spec.Node Kept) → slice_get (children_seen self.old) place ≡ Some c → S.losses sink.new ≡ S.losses sink.old ++ purged (removed_at edit rest.now c)) }
         ensures room { OnOk result ((c : spec.Node Kept) → slice_get (children_seen self.old) place ≡ Some c → S.room sink.new + length (removed_at edit rest.now c) ≡ S.room sink.old) }
+        ensures memory { OnErr result (TakesMemory edit) }
         ensures same { OnErr result (IsUnchanged self.old self.new) }
         ensures not_lost { OnErr result ((S.losses sink.new ≡ S.losses sink.old) × (S.room sink.new ≡ S.room sink.old)) }
         ensures kept { S.keeps sink.old sink.new }

@@ -1,13 +1,15 @@
-ghost use Rattle.std.specs.Prelude.{◌≡◌};
+ghost use Rattle.std.specs.Prelude.{◌≡◌, ℕ, IfOk};
 ghost use Rattle.std.specs.List.{list_any};
 ghost use Rattle.q_model.specs.declared.command.Command.TheVariants.{FilterAdd, FilterDel};
 ghost use Rattle.q_model.specs.FilterCommands.{filter_add_checks, filter_del_checks, has_prio};
+ghost use Rattle.q_model.specs.Make.{Device};
 ghost use Rattle.q_model.specs.Node.{shape};
 ghost use Rattle.q_model.specs.Refusals.{done_unless, has_filters};
 ghost use Rattle.q_model.specs.TreeState.{plan};
-ghost use Rattle.q_tree.specs.Commands.{IsAnswered};
+ghost use Rattle.q_tree.specs.Editing.{LosesNothing};
+ghost use Rattle.q_tree.specs.Commands.{IsAnswered, IsBounded, IsPlanOf, takes_memory, takes_none};
 
-use crate::edit::Edit;
+use crate::edit::{Edit, Planned};
 use crate::node::{Discipline, Node};
 use crate::one_loss::OneLoss;
 use crate::tree::Tree;
@@ -30,25 +32,12 @@ impl Tree {
         major: Handle,
         filter: Filter,
     ) -> Result<(), NotDone>
-        ensures { IsAnswered (plan self.old.tree.device self.old.clock (FilterAdd parent major filter) (shape self.old.tree.root)) self.old self.new result }
+        ensures { IsAnswered takes_memory self.old.clock (plan self.old.tree.device self.old.clock (FilterAdd parent major filter) (shape self.old.tree.root)) self.old self.new result }
     {
-        filter.ranges();
-        let _ = (parent.major(), major.major());
-        let Some(path) = self.root.path_to(parent) else {
-            return Err(NotDone::NoQdisc);
-        };
-        let Some(node) = self.root.at(&path) else {
-            return Err(NotDone::NoQdisc);
-        };
-        if let Err(refusal) = node.can_add_filter(parent, major, &filter) {
-            return Err(refusal);
+        match self.root.filter_added(parent, major, filter) {
+            Err(refusal) => return Err(refusal),
+            Ok(planned) => return self.edit(planned, self.clock, &mut OneLoss { told: None }),
         }
-        self.edit(
-            &path,
-            Edit::AddFilter(filter),
-            self.clock,
-            &mut OneLoss { told: None },
-        )
     }
 
     /// Removes all filters of this priority from the qdisc with this handle (`tc filter del`, tc(8)).
@@ -58,28 +47,56 @@ impl Tree {
     /// The first that holds: `NoQdisc` where no qdisc has the handle; `NotClassful` where it is no prio and no drr; `NoFilter`
     /// where no filter has the priority. The tree is as it was.
     pub fn filter_del(&mut self, parent: Handle, prio: FilterPrio) -> Result<(), NotDone>
-        ensures { IsAnswered (plan self.old.tree.device self.old.clock (FilterDel parent prio) (shape self.old.tree.root)) self.old self.new result }
+        ensures { IsAnswered takes_none self.old.clock (plan self.old.tree.device self.old.clock (FilterDel parent prio) (shape self.old.tree.root)) self.old self.new result }
     {
-        let _ = (parent.major(), prio.number());
-        let Some(path) = self.root.path_to(parent) else {
+        match self.root.filters_removed(parent, prio) {
+            Err(refusal) => return Err(refusal),
+            Ok(planned) => return self.edit(planned, self.clock, &mut OneLoss { told: None }),
+        }
+    }
+}
+
+impl Node {
+    // The edit that adds a filter, or the first refusal that holds.
+    fn filter_added(
+        &self,
+        parent: Handle,
+        major: Handle,
+        filter: Filter,
+    ) -> Result<Planned, NotDone>
+        requires { IsBounded self.now }
+        ensures plan { (device : Device) (now : ℕ) → IsPlanOf takes_memory (FilterAdd parent major filter) now device self.now result }
+        ensures quiet { IfOk result (λ p. LosesNothing p.edit) }
+    {
+        filter.ranges();
+        let _ = (parent.major(), major.major());
+        let Some((path, node)) = self.qdisc(parent) else {
             return Err(NotDone::NoQdisc);
         };
-        let Some(node) = self.root.at(&path) else {
+        if let Err(refusal) = node.can_add_filter(parent, major, &filter) {
+            return Err(refusal);
+        }
+        let edit = Edit::AddFilter(filter);
+        Ok(Planned { path, edit })
+    }
+
+    // The edit that removes filters, or the first refusal that holds.
+    fn filters_removed(&self, parent: Handle, prio: FilterPrio) -> Result<Planned, NotDone>
+        requires { IsBounded self.now }
+        ensures plan { (device : Device) (now : ℕ) → IsPlanOf takes_none (FilterDel parent prio) now device self.now result }
+        ensures quiet { IfOk result (λ p. LosesNothing p.edit) }
+    {
+        let _ = (parent.major(), prio.number());
+        let Some((path, node)) = self.qdisc(parent) else {
             return Err(NotDone::NoQdisc);
         };
         if let Err(refusal) = node.can_remove_filters(prio) {
             return Err(refusal);
         }
-        self.edit(
-            &path,
-            Edit::RemoveFilters(prio),
-            self.clock,
-            &mut OneLoss { told: None },
-        )
+        let edit = Edit::RemoveFilters(prio);
+        Ok(Planned { path, edit })
     }
-}
 
-impl Node {
     // Whether the qdisc takes a filter into this class.
     fn can_add_filter(&self, parent: Handle, major: Handle, filter: &Filter) -> Result<(), NotDone>
         ensures { result ≡ done_unless (filter_add_checks parent major filter.now (shape self.now)) (record {}) }

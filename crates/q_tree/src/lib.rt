@@ -31,6 +31,7 @@ mod prepare;
 mod prio;
 mod purge;
 mod put;
+mod qdisc_commands;
 mod route;
 mod show;
 mod shown;

@@ -12,14 +12,15 @@ ghost use Rattle.q_model.specs.declared.not_done.NotDone.TheVariants as refusal;
 ghost use Rattle.q_model.specs.declared.place.Place.TheVariants as place;
 ghost use Rattle.q_tree.specs.Arrivals.{CanPut, IsOutcome};
 ghost use Rattle.q_tree.specs.Commands.{IsPlanned, device_edited};
-ghost use Rattle.q_tree.specs.Editing.{removed_at};
+ghost use Rattle.q_tree.specs.Editing.{removed_at, TakesMemory};
 ghost use Rattle.q_tree.specs.Kept.{kept};
 ghost use Rattle.q_tree.specs.Purging.{purged};
 ghost use Rattle.q_tree.specs.Showing.{IsNumbered, standing};
 ghost use Rattle.q_tree.specs.TreeSeen.{CanArrive, IsArrived, IsRouteIn, numbers};
 
 use crate::booking::{book_arrival, book_dropped, book_sent, book_shown};
-use crate::edit::Edit;
+use crate::edit::Planned;
+use crate::made::Link;
 use crate::node::{NOTHING_COUNTED, Node};
 use crate::outcome::{Outcome, refuse};
 use crate::route::Route;
@@ -133,28 +134,40 @@ impl Tree {
         node.filter_view(j)
     }
 
-    // Edits the node at the end of this way, as a command has planned it.
+    // What the device lends to a new qdisc.
+    pub(crate) fn link(&self) -> Link
+        ensures mtu { result.mtu ≡ self.now.tree.device.mtu }
+        ensures txqueuelen { result.txqueuelen ≡ self.now.tree.device.txqueuelen }
+        ensures positive { 1 ≤ result.mtu }
+    {
+        Link {
+            mtu: self.mtu,
+            txqueuelen: self.txqueuelen,
+        }
+    }
+
+    // Edits a node as a command has planned it.
     pub(crate) fn edit<S: Sink>(
         &mut self,
-        path: &[usize],
-        edit: Edit,
+        planned: Planned,
         now: Moment,
         sink: &mut S,
     ) -> Result<(), NotDone>
         requires order { self.old.clock ≤ now }
-        requires planned { IsPlanned edit path.now now self.old }
-        requires sink { length (removed_at edit path.now self.old.tree.root) ≤ S.room sink.old }
-        ensures after { OnOk result (self.new ≡ device_edited edit path.now now self.old) }
-        ensures lost { OnOk result (S.losses sink.new ≡ S.losses sink.old ++ purged (removed_at edit path.now self.old.tree.root)) }
-        ensures room { OnOk result (S.room sink.new + length (removed_at edit path.now self.old.tree.root) ≡ S.room sink.old) }
-        ensures memory { IfErr result (λ why. why ≡ refusal.Memory) }
+        requires planned { IsPlanned planned.edit planned.path.items now self.old.tree.device self.old.tree.root }
+        requires sink { length (removed_at planned.edit planned.path.items self.old.tree.root) ≤ S.room sink.old }
+        ensures after { OnOk result (self.new ≡ device_edited planned.edit planned.path.items now self.old) }
+        ensures lost { OnOk result (S.losses sink.new ≡ S.losses sink.old ++ purged (removed_at planned.edit planned.path.items self.old.tree.root)) }
+        ensures room { OnOk result (S.room sink.new + length (removed_at planned.edit planned.path.items self.old.tree.root) ≡ S.room sink.old) }
+        ensures memory { IfErr result (λ why. (why ≡ refusal.Memory) × TakesMemory planned.edit) }
         ensures same { OnErr result (self.new ≡ self.old) }
         ensures not_lost { OnErr result ((S.losses sink.new ≡ S.losses sink.old) × (S.room sink.new ≡ S.room sink.old)) }
         ensures kept { S.keeps sink.old sink.new }
     {
         // A moment is at most 2^62 nanoseconds.
         let _ = now.ns();
-        let Ok(lost) = self.root.edit(path, edit, sink) else {
+        let Planned { path, edit } = planned;
+        let Ok(lost) = self.root.edit(&path, edit, sink) else {
             return Err(NotDone::Memory);
         };
         book_dropped(&mut self.top, lost);

@@ -1,6 +1,6 @@
-use Rattle.std.proofs.Common.{◌≡◌, ◌+◌, ◌∷◌, sym, ap, subst, map, replicate, arith}
+use Rattle.std.proofs.Common.{◌≡◌, ◌+◌, sym, ap, subst, map, replicate, arith}
 use Rattle.q_model.specs.Make.{implicit_pfifo}
-use Rattle.q_tree.specs.Making.{AreNew, IsNewNode}
+use Rattle.q_tree.specs.Making.{AreNew}
 use Rattle.q_tree.specs.Places.{unplaced}
 use Rattle.q_tree.proofs.MakingLemmas.{more-new}
 use Rattle.q_tree.proofs.made.leaves.Goals as goal

@@ -1,6 +1,5 @@
-use Rattle.std.proofs.Common.{◌≡◌, ◌∙◌, sym, ap, subst, refl, replicate, Option, None}
+use Rattle.std.proofs.Common.{◌∙◌, sym, ap, subst, refl, replicate, None}
 use Rattle.q_fqcodel.specs.FqState.{first_state}
-use Rattle.q_model.specs.declared.kind.Kind.TheVariants as kind
 use Rattle.q_model.specs.Make.{Device, implicit_pfifo, made, with_options}
 use Rattle.q_model.specs.Node as spec
 use Rattle.q_model.specs.Options.{PrioSettings}

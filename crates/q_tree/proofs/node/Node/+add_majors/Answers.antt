@@ -1,12 +1,10 @@
-use Rattle.std.proofs.Common.{◌≡◌, ◌≤◌, ◌+◌, ◌∷◌, ◌++◌, [], ◌∙◌, append_assoc, append-nil, length, refl, sym, ap, Some, None, Option, arith}
+use Rattle.std.proofs.Common.{◌+◌, ◌++◌, ◌∙◌, append_assoc, append-nil, length, refl, sym, ap, arith}
 use Rattle.std.proofs.lemmas.List.{length-append}
-use Rattle.q_model.specs.Find.{count_nodes}
-use Rattle.q_model.specs.Node.{Node, children}
+use Rattle.q_model.specs.Node.{children}
 use Rattle.std.specs.Option.{option_to_list}
 use Rattle.q_tree.specs.Finding.{handles_in}
-use Rattle.q_tree.specs.Kept.{Kept}
 use Rattle.q_tree.proofs.AtHandLemmas.{there-at}
-use Rattle.q_tree.proofs.CountingLemmas.{ahead, count-all, count-end, count-next, handles_ahead, handles-all, handles-end, handles-next, one}
+use Rattle.q_tree.proofs.CountingLemmas.{count-all, count-next, handles_ahead, handles-all, handles-end, handles-next, one}
 use Rattle.q_tree.proofs.ShowLemmas.{beneath-size}
 use Rattle.q_tree.proofs.node.Node.+add_majors.Goals as goal
 

@@ -1,4 +1,4 @@
-use Rattle.std.proofs.Common.{◌≡◌, ◌∙◌, sym, ap, Some, None, option_map}
+use Rattle.std.proofs.Common.{◌∙◌, sym, ap, Some, None, option_map}
 use Rattle.std.specs.Prelude.{if◌then◌else◌}
 use Rattle.q_model.specs.Find.{is_explicit}
 use Rattle.q_tree.proofs.TargetLemmas.{explicit-at}

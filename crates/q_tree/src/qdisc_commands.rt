@@ -1,0 +1,287 @@
+ghost use Rattle.std.specs.Prelude.{◌≡◌, ◌≤◌, ◌+◌, ◌++◌, ℕ, [], IsSome, length, option_map, unwrap_or};
+ghost use Rattle.std.specs.Result.{result_map_both};
+ghost use Rattle.q_model.specs.declared.command.Command.TheVariants.{QdiscAdd, QdiscDel};
+ghost use Rattle.q_model.specs.Beneath.{beneath};
+ghost use Rattle.q_model.specs.Find.{depth, free_handle, has_handle, node_at, place_path};
+ghost use Rattle.q_model.specs.Make.{implicit_beneath};
+ghost use Rattle.q_model.specs.Node.{shape};
+ghost use Rattle.q_model.specs.QdiscCommands.{leaf_at, place_checks};
+ghost use Rattle.q_model.specs.Ranges.{IsCommand};
+ghost use Rattle.q_model.specs.Refusals.{done_unless, is_classless, is_so, most_nodes};
+ghost use Rattle.q_model.specs.TreeState.{plan};
+ghost use Rattle.q_tree.specs.Commands.{IsAnswered, IsBounded, IsPlanOf, takes_memory, takes_none, told};
+ghost use Rattle.q_tree.specs.Grafting.{graft_checks, nodes_at};
+ghost use Rattle.q_tree.specs.Making.{IsNewNode};
+ghost use Rattle.q_tree.specs.Showing.{IsNumbered};
+
+use crate::counting::{MOST_NODES, levels_made, nodes_made};
+use crate::edit::{Edit, Planned};
+use crate::find::Path;
+use crate::made::{Link, implicit_pfifo};
+use crate::node::{Discipline, Node};
+use crate::tree::Tree;
+use q_codel::{Limit, Sink};
+use q_model::{Command, Handle, Kind, NotDone, Place};
+use q_packet::Moment;
+use std::alloc::Global;
+
+/// The most levels of a tree.
+const MOST_LEVELS: usize = 8;
+
+impl Tree {
+    /// Puts a new qdisc into a place, instead of the implicit leaf there (`tc qdisc add`, tc(8)). Without a handle it gets the least
+    /// major number from 8001 (hexadecimal) on that no qdisc has. `now` is at or after the latest moment that the tree was given.
+    ///
+    /// What waits in the leaf is lost to `sink`, which needs room for what is queued in the tree.
+    ///
+    /// # Errors
+    ///
+    /// The first that holds: `Exists` where the place is the device itself; `NoParent` where the class's qdisc is not there;
+    /// `NotClassful` where it has no classes; `NoClass` where it has no such class; `Exists` where a qdisc with a handle stands
+    /// there; `HandleTaken`; `TooDeep` beyond 8 levels; `TooMany` beyond 256 nodes, implicit leaves among them; `Memory`. The
+    /// tree is as it was.
+    pub fn graft<S: Sink>(
+        &mut self,
+        alloc: Global,
+        place: Place,
+        handle: Option<Handle>,
+        kind: Kind,
+        now: Moment,
+        sink: &mut S,
+    ) -> Result<(), NotDone>
+        requires order { self.old.clock ≤ now }
+        requires sink { length (beneath self.old.tree.root) ≤ S.room sink.old }
+        ensures answer { IsAnswered takes_memory now (plan self.old.tree.device now (QdiscAdd place handle kind) (shape self.old.tree.root)) self.old self.new result }
+        ensures lost { S.losses sink.new ≡ S.losses sink.old ++ told (plan self.old.tree.device now (QdiscAdd place handle kind) (shape self.old.tree.root)) (shape self.old.tree.root) result }
+        ensures room { S.room sink.new + length (told (plan self.old.tree.device now (QdiscAdd place handle kind) (shape self.old.tree.root)) (shape self.old.tree.root) result) ≡ S.room sink.old }
+        ensures kept { S.keeps sink.old sink.new }
+    {
+        match self
+            .root
+            .grafted(alloc, self.link(), place, handle, &kind, now)
+        {
+            Err(refusal) => return Err(refusal),
+            Ok(planned) => return self.edit(planned, now, sink),
+        }
+    }
+
+    /// Removes a qdisc with all that is beneath it, named by its place, its handle or both, which then name the same one
+    /// (`tc qdisc del`, tc(8)). The implicit leaf of its place comes back, empty.
+    ///
+    /// What waits there is lost to `sink`, which needs room for what is queued in the tree. It takes no memory.
+    ///
+    /// # Errors
+    ///
+    /// `NoQdisc` where no qdisc is named so. The tree is as it was.
+    pub fn prune<S: Sink>(
+        &mut self,
+        alloc: Global,
+        place: Option<Place>,
+        handle: Option<Handle>,
+        sink: &mut S,
+    ) -> Result<(), NotDone>
+        requires sink { length (beneath self.old.tree.root) ≤ S.room sink.old }
+        ensures answer { IsAnswered takes_none self.old.clock (plan self.old.tree.device self.old.clock (QdiscDel place handle) (shape self.old.tree.root)) self.old self.new result }
+        ensures lost { S.losses sink.new ≡ S.losses sink.old ++ told (plan self.old.tree.device self.old.clock (QdiscDel place handle) (shape self.old.tree.root)) (shape self.old.tree.root) result }
+        ensures room { S.room sink.new + length (told (plan self.old.tree.device self.old.clock (QdiscDel place handle) (shape self.old.tree.root)) (shape self.old.tree.root) result) ≡ S.room sink.old }
+        ensures kept { S.keeps sink.old sink.new }
+    {
+        match self.root.pruned(alloc, self.link(), place, handle) {
+            Err(refusal) => return Err(refusal),
+            Ok(planned) => return self.edit(planned, self.clock, sink),
+        }
+    }
+}
+
+impl Node {
+    // The edit that puts a new qdisc into a place, or the first refusal that holds.
+    fn grafted(
+        &self,
+        alloc: Global,
+        link: Link,
+        place: Place,
+        handle: Option<Handle>,
+        kind: &Kind,
+        now: Moment,
+    ) -> Result<Planned, NotDone>
+        requires bounded { IsBounded self.now }
+        requires lawful { IsNumbered self.now }
+        requires mtu { 1 ≤ link.mtu }
+        ensures plan { IsPlanOf takes_memory (QdiscAdd place handle kind.now) now (record { mtu = link.mtu; txqueuelen = link.txqueuelen }) self.now result }
+    {
+        add_ranges(&place, &handle, kind);
+        let path = match self.way_in(place) {
+            Err(refusal) => return Err(refusal),
+            Ok(path) => path,
+        };
+        if let Err(refusal) = self.can_graft(&path, &handle, kind) {
+            return Err(refusal);
+        }
+        let handle = self.handle_or_free(&handle);
+        let Ok(node) = Node::made(alloc, link, now, handle, kind) else {
+            return Err(NotDone::Memory);
+        };
+        let edit = Edit::Graft(node);
+        Ok(Planned { path, edit })
+    }
+
+    // The edit that removes a qdisc, or the refusal where there is none.
+    fn pruned(
+        &self,
+        alloc: Global,
+        link: Link,
+        place: Option<Place>,
+        handle: Option<Handle>,
+    ) -> Result<Planned, NotDone>
+        requires { IsBounded self.now }
+        ensures plan { (now : ℕ) → IsPlanOf takes_none (QdiscDel place handle) now (record { mtu = link.mtu; txqueuelen = link.txqueuelen }) self.now result }
+    {
+        del_ranges(&place, &handle);
+        let Some((path, _)) = self.target(place, handle) else {
+            return Err(NotDone::NoQdisc);
+        };
+        let leaf = self.leaf_at(alloc, link, &path);
+        let edit = Edit::Graft(leaf);
+        Ok(Planned { path, edit })
+    }
+
+    // The way to a place for a new qdisc, or why there is none.
+    fn way_in(&self, place: Place) -> Result<Path, NotDone>
+        requires { depth self.now ≤ 8 }
+        ensures { result_map_both (λ p. p.items) (λ e. e) result ≡ done_unless (place_checks place (shape self.now)) (unwrap_or (place_path place (shape self.now)) []) }
+    {
+        let class = match place {
+            Place::Top => return Err(NotDone::Exists),
+            Place::Root => return Ok(Path::new()),
+            Place::Class(class) => class,
+        };
+        let Some((path, parent)) = self.qdisc(class.major) else {
+            return Err(NotDone::NoParent);
+        };
+        if parent.is_classless() {
+            return Err(NotDone::NotClassful);
+        }
+        let Some(child) = parent.class_place(class.minor) else {
+            return Err(NotDone::NoClass);
+        };
+        let mut path = path;
+        path.push(child);
+        Ok(path)
+    }
+
+    // Whether a new qdisc may stand at the end of this way.
+    fn can_graft(
+        &self,
+        path: &[usize],
+        handle: &Option<Handle>,
+        kind: &Kind,
+    ) -> Result<(), NotDone>
+        requires bounded { IsBounded self.now }
+        requires there { IsSome (node_at path.now self.now) }
+        ensures { result ≡ done_unless (graft_checks handle.now kind.now path.now self.now) (record {}) }
+    {
+        if self.is_explicit(path) {
+            return Err(NotDone::Exists);
+        }
+        if self.is_taken(handle) {
+            return Err(NotDone::HandleTaken);
+        }
+        if path.len() + levels_made(kind) > MOST_LEVELS {
+            return Err(NotDone::TooDeep);
+        }
+        if self.count_nodes() + nodes_made(kind) > MOST_NODES + self.nodes_at(path) {
+            return Err(NotDone::TooMany);
+        }
+        Ok(())
+    }
+
+    // How many nodes stand at the end of this way and beneath.
+    fn nodes_at(&self, path: &[usize]) -> usize
+        requires { IsBounded self.now }
+        ensures value { result ≡ nodes_at path.now self.now }
+        ensures few { result ≤ most_nodes }
+    {
+        let Some(node) = self.at(path) else {
+            return 0;
+        };
+        node.count_nodes()
+    }
+
+    // Whether a handle is given that a qdisc has.
+    fn is_taken(&self, handle: &Option<Handle>) -> bool
+        requires { IsBounded self.now }
+        ensures { result ≡ is_so (λ h. has_handle h self.now) handle.now }
+    {
+        match handle {
+            None => return false,
+            Some(handle) => return self.has_handle(*handle),
+        }
+    }
+
+    // The handle that is given, or the least free one.
+    fn handle_or_free(&self, handle: &Option<Handle>) -> Handle
+        requires { IsBounded self.now }
+        ensures { result ≡ unwrap_or handle.now (free_handle self.now) }
+    {
+        match handle {
+            None => return self.free_handle(),
+            Some(handle) => return *handle,
+        }
+    }
+
+    // pfifo, bfifo and fq_codel have no classes.
+    fn is_classless(&self) -> bool
+        ensures { result ≡ is_classless self.now.own.discipline }
+    {
+        match &self.discipline {
+            Discipline::Fifo(_) | Discipline::FqCodel(_) => return true,
+            Discipline::Prio { .. } | Discipline::Tbf { .. } | Discipline::Drr { .. } => return false,
+        }
+    }
+
+    // The implicit leaf of the place where this way ends: beneath a tbf a bfifo of its limit.
+    fn leaf_at(&self, alloc: Global, link: Link, path: &[usize]) -> Node
+        ensures { IsNewNode result (leaf_at (record { mtu = link.mtu; txqueuelen = link.txqueuelen }) path.now (shape self.now)) }
+    {
+        let Some((_, way)) = path.split_last() else {
+            return implicit_pfifo(alloc, link);
+        };
+        let Some(parent) = self.at(way) else {
+            return implicit_pfifo(alloc, link);
+        };
+        parent.implicit_beneath(alloc, link)
+    }
+
+    // The leaf that stands in a class of this qdisc where nothing else does.
+    fn implicit_beneath(&self, alloc: Global, link: Link) -> Node
+        ensures { IsNewNode result (implicit_beneath (record { mtu = link.mtu; txqueuelen = link.txqueuelen }) self.now.own.discipline) }
+    {
+        match &self.discipline {
+            Discipline::Tbf { limit, .. } => return Node::fifo(alloc, None, Limit::Bytes(*limit)),
+            Discipline::Prio { .. } | Discipline::Drr { .. } => return implicit_pfifo(alloc, link),
+            Discipline::Fifo(_) | Discipline::FqCodel(_) => return implicit_pfifo(alloc, link),
+        }
+    }
+}
+
+// The numbers are in their ranges, which the types keep. They do nothing.
+fn add_ranges(place: &Place, handle: &Option<Handle>, kind: &Kind)
+    ensures { IsCommand (QdiscAdd place.now handle.now kind.now) }
+{
+    let command = Command::QdiscAdd {
+        place: *place,
+        handle: *handle,
+        kind: *kind,
+    };
+    command.ranges();
+}
+
+fn del_ranges(place: &Option<Place>, handle: &Option<Handle>)
+    ensures { IsCommand (QdiscDel place.now handle.now) }
+{
+    let command = Command::QdiscDel {
+        place: *place,
+        handle: *handle,
+    };
+    command.ranges();
+}
