@@ -108,7 +108,7 @@ fn filters(rt: HostRuntime) -> Result<(), Fail> {
 }
 
 #[test]
-fn keys(rt: HostRuntime) -> Result<(), Fail> {
+fn protocols_of_a_filter(rt: HostRuntime) -> Result<(), Fail> {
     assert_lines(
         &rt,
         rt.alloc(),
@@ -138,6 +138,24 @@ fn keys(rt: HostRuntime) -> Result<(), Fail> {
                     },
                 )?,
             ),
+        ],
+    )?;
+    assert_faults(
+        &rt,
+        rt.alloc(),
+        "tc filter add dev e parent 1: prio 1 flower classid 1:1 ",
+        &[("ip_proto 100", OutOfRange(14))],
+    )?;
+    Ok(())
+}
+
+#[test]
+fn ports_of_a_filter(rt: HostRuntime) -> Result<(), Fail> {
+    assert_lines(
+        &rt,
+        rt.alloc(),
+        "tc filter add dev e parent 1: prio 1 flower classid 1:1 ",
+        &[
             (
                 "src_port 0",
                 filter_added(
@@ -193,7 +211,6 @@ fn keys(rt: HostRuntime) -> Result<(), Fail> {
         rt.alloc(),
         "tc filter add dev e parent 1: prio 1 flower classid 1:1 ",
         &[
-            ("ip_proto 100", OutOfRange(14)),
             ("src_port -1", BadNumber(14)),
             ("src_port 65536", OutOfRange(14)),
             ("dst_port -1", BadNumber(14)),
@@ -230,7 +247,7 @@ fn lengths(rt: HostRuntime) -> Result<(), Fail> {
 }
 
 #[test]
-fn fields(rt: HostRuntime) -> Result<(), Fail> {
+fn hashes_and_priorities(rt: HostRuntime) -> Result<(), Fail> {
     assert_lines(
         &rt,
         rt.alloc(),
@@ -264,6 +281,29 @@ fn fields(rt: HostRuntime) -> Result<(), Fail> {
                     ..one_byte()
                 }),
             ),
+        ],
+    )?;
+    assert_faults(
+        &rt,
+        rt.alloc(),
+        "pkt 1 ",
+        &[
+            ("hash -1", BadNumber(4)),
+            ("hash 4294967296", OutOfRange(4)),
+            ("prio -1", BadNumber(4)),
+            ("prio 16", OutOfRange(4)),
+        ],
+    )?;
+    Ok(())
+}
+
+#[test]
+fn protocols_of_a_packet(rt: HostRuntime) -> Result<(), Fail> {
+    assert_lines(
+        &rt,
+        rt.alloc(),
+        "pkt 1 ",
+        &[
             (
                 "ip_proto 0",
                 Line::Pkt(Arrival {
@@ -284,6 +324,24 @@ fn fields(rt: HostRuntime) -> Result<(), Fail> {
                     ..one_byte()
                 }),
             ),
+        ],
+    )?;
+    assert_faults(
+        &rt,
+        rt.alloc(),
+        "pkt 1 ",
+        &[("ip_proto 100", OutOfRange(4))],
+    )?;
+    Ok(())
+}
+
+#[test]
+fn ports_of_a_packet(rt: HostRuntime) -> Result<(), Fail> {
+    assert_lines(
+        &rt,
+        rt.alloc(),
+        "pkt 1 ",
+        &[
             (
                 "src_port 0",
                 Line::Pkt(Arrival {
@@ -324,6 +382,29 @@ fn fields(rt: HostRuntime) -> Result<(), Fail> {
                     ..one_byte()
                 }),
             ),
+        ],
+    )?;
+    assert_faults(
+        &rt,
+        rt.alloc(),
+        "pkt 1 ",
+        &[
+            ("src_port -1", BadNumber(4)),
+            ("src_port 65536", OutOfRange(4)),
+            ("dst_port -1", BadNumber(4)),
+            ("dst_port 65536", OutOfRange(4)),
+        ],
+    )?;
+    Ok(())
+}
+
+#[test]
+fn codepoints(rt: HostRuntime) -> Result<(), Fail> {
+    assert_lines(
+        &rt,
+        rt.alloc(),
+        "pkt 1 ",
+        &[
             (
                 "ecn 0",
                 Line::Pkt(Arrival {
@@ -358,19 +439,7 @@ fn fields(rt: HostRuntime) -> Result<(), Fail> {
         &rt,
         rt.alloc(),
         "pkt 1 ",
-        &[
-            ("hash -1", BadNumber(4)),
-            ("hash 4294967296", OutOfRange(4)),
-            ("prio -1", BadNumber(4)),
-            ("prio 16", OutOfRange(4)),
-            ("ip_proto 100", OutOfRange(4)),
-            ("src_port -1", BadNumber(4)),
-            ("src_port 65536", OutOfRange(4)),
-            ("dst_port -1", BadNumber(4)),
-            ("dst_port 65536", OutOfRange(4)),
-            ("ecn -1", BadNumber(4)),
-            ("ecn 4", OutOfRange(4)),
-        ],
+        &[("ecn -1", BadNumber(4)), ("ecn 4", OutOfRange(4))],
     )?;
     Ok(())
 }

@@ -130,7 +130,7 @@ fn tbfs(rt: HostRuntime) -> Result<(), Fail> {
 }
 
 #[test]
-fn fq_codels(rt: HostRuntime) -> Result<(), Fail> {
+fn limits_and_flows_of_an_fq_codel(rt: HostRuntime) -> Result<(), Fail> {
     assert_lines(
         &rt,
         rt.alloc(),
@@ -164,6 +164,29 @@ fn fq_codels(rt: HostRuntime) -> Result<(), Fail> {
                     ..NO_OPTIONS
                 }),
             ),
+        ],
+    )?;
+    assert_faults(
+        &rt,
+        rt.alloc(),
+        "tc qdisc add dev e root fq_codel ",
+        &[
+            ("limit 0", OutOfRange(9)),
+            ("limit 4294967296", OutOfRange(9)),
+            ("flows 0", OutOfRange(9)),
+            ("flows 65537", OutOfRange(9)),
+        ],
+    )?;
+    Ok(())
+}
+
+#[test]
+fn quanta_and_batches_of_an_fq_codel(rt: HostRuntime) -> Result<(), Fail> {
+    assert_lines(
+        &rt,
+        rt.alloc(),
+        "tc qdisc add dev e root fq_codel ",
+        &[
             (
                 "quantum 1",
                 fq_codel(FqCodelOptions {
@@ -178,6 +201,43 @@ fn fq_codels(rt: HostRuntime) -> Result<(), Fail> {
                     ..NO_OPTIONS
                 }),
             ),
+            (
+                "drop_batch 1",
+                fq_codel(FqCodelOptions {
+                    drop_batch: Some(1),
+                    ..NO_OPTIONS
+                }),
+            ),
+            (
+                "drop_batch 65536",
+                fq_codel(FqCodelOptions {
+                    drop_batch: Some(65536),
+                    ..NO_OPTIONS
+                }),
+            ),
+        ],
+    )?;
+    assert_faults(
+        &rt,
+        rt.alloc(),
+        "tc qdisc add dev e root fq_codel ",
+        &[
+            ("quantum 0", OutOfRange(9)),
+            ("quantum 4294967296", OutOfRange(9)),
+            ("drop_batch 0", OutOfRange(9)),
+            ("drop_batch 65537", OutOfRange(9)),
+        ],
+    )?;
+    Ok(())
+}
+
+#[test]
+fn times_of_an_fq_codel(rt: HostRuntime) -> Result<(), Fail> {
+    assert_lines(
+        &rt,
+        rt.alloc(),
+        "tc qdisc add dev e root fq_codel ",
+        &[
             (
                 "target 0",
                 fq_codel(FqCodelOptions {
@@ -206,20 +266,29 @@ fn fq_codels(rt: HostRuntime) -> Result<(), Fail> {
                     ..NO_OPTIONS
                 }),
             ),
-            (
-                "drop_batch 1",
-                fq_codel(FqCodelOptions {
-                    drop_batch: Some(1),
-                    ..NO_OPTIONS
-                }),
-            ),
-            (
-                "drop_batch 65536",
-                fq_codel(FqCodelOptions {
-                    drop_batch: Some(65536),
-                    ..NO_OPTIONS
-                }),
-            ),
+        ],
+    )?;
+    assert_faults(
+        &rt,
+        rt.alloc(),
+        "tc qdisc add dev e root fq_codel ",
+        &[
+            ("target -0.001", BadNumber(9)),
+            ("target 1000000000.001us", OutOfRange(9)),
+            ("interval 0.999us", OutOfRange(9)),
+            ("interval 1000000000.001us", OutOfRange(9)),
+        ],
+    )?;
+    Ok(())
+}
+
+#[test]
+fn marks_of_an_fq_codel(rt: HostRuntime) -> Result<(), Fail> {
+    assert_lines(
+        &rt,
+        rt.alloc(),
+        "tc qdisc add dev e root fq_codel ",
+        &[
             (
                 "ecn",
                 fq_codel(FqCodelOptions {
@@ -234,25 +303,6 @@ fn fq_codels(rt: HostRuntime) -> Result<(), Fail> {
                     ..NO_OPTIONS
                 }),
             ),
-        ],
-    )?;
-    assert_faults(
-        &rt,
-        rt.alloc(),
-        "tc qdisc add dev e root fq_codel ",
-        &[
-            ("limit 0", OutOfRange(9)),
-            ("limit 4294967296", OutOfRange(9)),
-            ("flows 0", OutOfRange(9)),
-            ("flows 65537", OutOfRange(9)),
-            ("quantum 0", OutOfRange(9)),
-            ("quantum 4294967296", OutOfRange(9)),
-            ("target -0.001", BadNumber(9)),
-            ("target 1000000000.001us", OutOfRange(9)),
-            ("interval 0.999us", OutOfRange(9)),
-            ("interval 1000000000.001us", OutOfRange(9)),
-            ("drop_batch 0", OutOfRange(9)),
-            ("drop_batch 65537", OutOfRange(9)),
         ],
     )?;
     Ok(())
