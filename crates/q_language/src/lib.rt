@@ -47,6 +47,7 @@ mod reading;
 mod show;
 mod tbf;
 mod tc;
+mod text;
 mod words;
 
 pub use arrival::Arrival;

@@ -1,5 +1,6 @@
 ghost use Rattle.std.specs.Prelude.{◌≡◌, ◌+◌, ◌^◌, ◌<◌, ◌≤◌, ℕ, suc, true, false, not, IsTrue, List, [], ◌∷◌, length, slice_index, Result, Option, Ok, Err, Some, None, IfOk, IfErr, MatchOption, if◌then◌else◌};
 ghost use Rattle.std.specs.List.{position};
+ghost use Rattle.std.specs.Option.{option_map_or};
 ghost use Rattle.std.specs.Str.{is_utf8};
 ghost use Rattle.q_words.specs.Words.{words_in, is_blank, is_blank_line};
 ghost use Rattle.q_language.specs.Positions.{Position, whole};
@@ -7,6 +8,7 @@ ghost use Rattle.q_language.specs.Reading.{placed};
 ghost use Rattle.q_language.specs.Grammar.{rest_of, late_fault, ends, every_word};
 
 use crate::line::Line;
+use crate::text;
 use q_words::{LineFault, Wrong, cut_word, skip_blanks};
 use std::str::from_utf8;
 
@@ -14,8 +16,11 @@ use std::str::from_utf8;
 #[derive(Drop)]
 pub struct Words<'a> {
     rest: &'a [u8],
+    /// The same as text, where the whole line is UTF-8: no word of it has to be looked at for that again.
+    text: Option<&'a str>,
     taken: usize,
     ghost in_range: { taken + length rest.now < 2 ^ 63 },
+    ghost same: { option_map_or (λ s. s.now) text rest.now ≡ rest.now },
 }
 
 impl<'a> Words<'a> {
@@ -24,8 +29,13 @@ impl<'a> Words<'a> {
         ensures all { words_in result.rest.now ≡ words_in line.now }
         ensures none_taken { result.taken ≡ 0 }
     {
+        let text = match from_utf8(line) {
+            Ok(text) => Some(text),
+            Err(_) => None,
+        };
         Words {
             rest: line,
+            text,
             taken: 0,
         }
     }
@@ -48,6 +58,9 @@ impl<'a> Words<'a> {
         ensures err { IfErr result (λ fault. (position : Position)
             → rest_of every_word position (suc self.old.taken) (words_in self.old.rest.now) ≡ Err fault) }
     {
+        if let Some(text) = self.text {
+            return Ok(self.next_of_text(text));
+        }
         let rest = skip_blanks(self.rest);
         if rest.is_empty() {
             return Ok(None);
@@ -59,6 +72,24 @@ impl<'a> Words<'a> {
             Ok(word) => Ok(Some(word)),
             Err(_) => Err(LineFault::BadUtf8(self.taken)),
         }
+    }
+
+    /// The next word of a line that is UTF-8 as a whole.
+    fn next_of_text(&mut self, text: &'a str) -> Option<&'a str>
+        requires { text.now ≡ self.old.rest.now }
+        ensures { MatchOption result ((words_in self.old.rest.now ≡ []) × (self.new.taken ≡ self.old.taken))
+            (λ word. (words_in self.old.rest.now ≡ word.now ∷ words_in self.new.rest.now)
+            × (self.new.taken ≡ suc self.old.taken) × (is_utf8 word.now ≡ true)) }
+    {
+        let text = text::skip_blanks(text);
+        if text.is_empty() {
+            return None;
+        }
+        let (word, behind) = text::cut_word(text);
+        self.rest = behind.as_bytes();
+        self.text = Some(behind);
+        self.taken += 1;
+        Some(word)
     }
 
     /// The next word, where the line needs one.

@@ -13,7 +13,14 @@ mod FqCodelValues
 mod HeadValues
 mod LargeReports
 mod LeftmostValues
+mod LineAddresses
 mod LineFaults
+mod LineHeads
+mod LineOrders
+mod LinePlaces
+mod LineRanges
+pub mod LineTable
+mod LineUnits
 mod LineValues
 mod NoteScripts
 mod PacketValues

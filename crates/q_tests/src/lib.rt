@@ -27,6 +27,22 @@ mod head;
 #[cfg(test)]
 mod line;
 #[cfg(test)]
+mod line_addresses;
+#[cfg(test)]
+mod line_fields;
+#[cfg(test)]
+mod line_heads;
+#[cfg(test)]
+mod line_orders;
+#[cfg(test)]
+mod line_places;
+#[cfg(test)]
+mod line_ranges;
+#[cfg(test)]
+mod line_reading;
+#[cfg(test)]
+mod line_units;
+#[cfg(test)]
 mod packet;
 #[cfg(test)]
 mod plain_fq_codel;
