@@ -59,7 +59,11 @@ impl Winners {
         if leads && before <= bytes {
             return;
         }
-        climb(&self.bytes, &mut self.inner, flow);
+        if before <= bytes {
+            raise(&self.bytes, &mut self.inner, flow);
+        } else {
+            lower(&self.bytes, &mut self.inner, flow);
+        }
     }
 }
 
@@ -108,24 +112,45 @@ fn play(bytes: &Vec<u64>, inner: &mut Vec<u32>)
     }
 }
 
-// Makes the winners right again on the way from a flow's leaf to the root, where the flow has other bytes than before.
-fn climb(bytes: &Vec<u64>, inner: &mut Vec<u32>, flow: u32)
-    requires before { (before : ℕ) × IsTournament (set bytes.now.items flow before) inner.old.items }
+// Makes the winners right again where a flow has as many bytes as before, or more: it wins on its way up until another one
+// still leads it.
+fn raise(bytes: &Vec<u64>, inner: &mut Vec<u32>, flow: u32)
+    requires before { (before : ℕ) × (before ≤ bytes_at bytes.now.items flow) × IsTournament (set bytes.now.items flow before) inner.old.items }
     requires within { flow < length bytes.now.items }
     requires few { length bytes.now.items ≤ 65536 }
     ensures { IsTournament bytes.now.items inner.new.items }
 {
     let mut node = (inner.len() + flow as usize) / 2;
     while node >= 1 {
-        let before = inner[node];
-        let first = winner_at(inner, 2 * node);
-        let second = winner_at(inner, 2 * node + 1);
-        let now = better_of(bytes, first, second);
-        inner[node] = now;
-        // What stands above has seen neither this flow nor another winner here.
-        if now == before && now != flow {
+        let there = inner[node];
+        let now = better_of(bytes, there, flow);
+        // What stands above has seen another flow here, and sees it again.
+        if now != flow {
             return;
         }
+        inner[node] = flow;
         node /= 2;
+    }
+}
+
+// Makes the winners right again where a flow has fewer bytes than before: wherever it stood, the better of two stands now.
+fn lower(bytes: &Vec<u64>, inner: &mut Vec<u32>, flow: u32)
+    requires before { (before : ℕ) × (bytes_at bytes.now.items flow ≤ before) × IsTournament (set bytes.now.items flow before) inner.old.items }
+    requires within { flow < length bytes.now.items }
+    requires few { length bytes.now.items ≤ 65536 }
+    ensures { IsTournament bytes.now.items inner.new.items }
+{
+    let mut child = inner.len() + flow as usize;
+    let mut best = flow;
+    while child > 1 {
+        let node = child / 2;
+        // What stands here and above has not seen this flow.
+        if inner[node] != flow {
+            return;
+        }
+        let beside = winner_at(inner, 4 * node + 1 - child);
+        best = better_of(bytes, best, beside);
+        inner[node] = best;
+        child = node;
     }
 }
