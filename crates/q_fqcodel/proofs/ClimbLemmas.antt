@@ -41,6 +41,35 @@ better_other b x y ne =
     (λ (two : (better b x y ≡ y) × Leads b y x). absurd (ne two.0))
     (better_is b x y)
 
+-- ---- the best of all, where one flow has more bytes
+
+module _ (b c : ℕ → ℕ) (n flow top : ℕ) (best : (i : ℕ) → i < n → Leads b top i) (within : flow < n) (same : (i : ℕ) → i ≢ flow → c i ≡ b i) (more : b flow ≤ c flow) where
+  pub best_flow : b top ≤ c flow → (b top ≡ c flow → flow ≤ top) → (i : ℕ) → i < n → Leads c flow i
+  best_flow past tie i h =
+      ⊎_elim
+      (λ (own : i ≡ flow). subst (λ (m : ℕ). Leads c flow m) (sym own) (leads_same c flow))
+      (λ (ne : i ≢ flow).
+      let l = best i h in
+      record {
+        most = omega (arith, l.most, same i ne, past);
+        first = λ g.
+            let equal : b top ≡ c flow = omega (arith, g, l.most, same i ne, past) in
+            omega (arith, tie equal, l.first (omega (arith, equal, g, same i ne)));
+      })
+      (cases_eq i flow)
+
+  pub best_top : c flow ≤ b top → (b top ≡ c flow → top ≤ flow) → (i : ℕ) → i < n → Leads c top i
+  best_top past tie i h =
+      ⊎_elim
+      (λ (e : top ≡ flow). subst (λ (m : ℕ). Leads c m i) (sym e) (best_flow (omega (arith, more, ap b e)) (λ _. omega (arith, e)) i h))
+      (λ (apart : top ≢ flow).
+      ⊎_elim
+      (λ (own : i ≡ flow).
+      subst (λ (m : ℕ). Leads c top m) (sym own) (record { most = omega (arith, past, same top apart); first = λ g. tie (omega (arith, g, past, same top apart)) }))
+      (λ (ne : i ≢ flow). let l = best i h in record { most = omega (arith, l.most, same i ne, same top apart); first = λ g. l.first (omega (arith, g, same i ne, same top apart)) })
+      (cases_eq i flow))
+      (cases_eq top flow)
+
 -- ---- the next node
 
 module _ (b c w0 w : ℕ → ℕ) (n flow d : ℕ) (tree : IsTree b w0 n) (same : (i : ℕ) → i ≢ flow → c i ≡ b i)

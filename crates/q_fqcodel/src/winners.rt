@@ -38,13 +38,22 @@ impl Winners {
         Ok(Winners { bytes, inner })
     }
 
-    /// The flow with the most bytes, of equals the first.
-    pub(crate) fn top(&self) -> u32
-        requires { 0 < length self.now }
+    /// The flow with the most bytes, of equals the first, if this flow had so many bytes: as many as it has, or more.
+    pub(crate) fn top_with(&self, flow: u32, bytes: u64) -> u32
+        requires in_range { flow < length self.now }
+        requires more { bytes_at self.now flow ≤ bytes }
         ensures within { result < length self.now }
-        ensures leads { (i : ℕ) → i < length self.now → Leads (bytes_at self.now) result i }
+        ensures leads { (i : ℕ) → i < length self.now → Leads (bytes_at (set self.now flow bytes)) result i }
     {
-        winner_at(&self.inner, 1)
+        let top = winner_at(&self.inner, 1);
+        let most = self.bytes[top as usize];
+        if most < bytes {
+            return flow;
+        }
+        if bytes < most {
+            return top;
+        }
+        top.min(flow)
     }
 
     /// Notes how many bytes a flow has now.
@@ -89,11 +98,13 @@ fn better_of(bytes: &Vec<u64>, first: u32, second: u32) -> u32
 {
     let most = bytes[first as usize];
     let others = bytes[second as usize];
-    if most < others || (most == others && second < first) {
-        second
-    } else {
-        first
+    if most > others {
+        return first;
     }
+    if most < others {
+        return second;
+    }
+    first.min(second)
 }
 
 // Finds every winner, from the last inner node to the root.
