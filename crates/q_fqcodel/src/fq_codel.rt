@@ -100,8 +100,8 @@ impl FqCodel {
             self.flows.push(flow, stamped);
             return false;
         }
-        self.flows
-            .push_over(flow, stamped, settings.drop_batch, sink)
+        let batch = settings.drop_batch;
+        self.flows.push_over(flow, stamped, batch, sink)
     }
 
     /// Makes a place for one packet more.
