@@ -158,20 +158,54 @@ impl Winners {
         if most < others || (most == others && second < first) { second } else { first }
     }
 
+    /// The flow with the most bytes, if this one had so many: as many as it has, or more.
+    fn top_with(&self, flow: u32, bytes: u64) -> u32 {
+        let top = self.at(1);
+        let most = self.bytes[top as usize];
+        if most < bytes || (most == bytes && flow < top) { flow } else { top }
+    }
+
     fn renew(&mut self, flow: u32, bytes: u64) {
         let leads = self.at(1) == flow;
         let before = std::mem::replace(&mut self.bytes[flow as usize], bytes);
         if leads && before <= bytes {
             return;
         }
+        if before <= bytes {
+            self.raise(flow, bytes);
+        } else {
+            self.lower(flow, bytes);
+        }
+    }
+
+    fn raise(&mut self, flow: u32, bytes: u64) {
         let mut node = (self.inner.len() + flow as usize) / 2;
         while node >= 1 {
-            let now = self.better(node);
-            let before = std::mem::replace(&mut self.inner[node], now);
-            if now == before && now != flow {
+            let there = self.inner[node];
+            let held = self.bytes[there as usize];
+            if held > bytes || (held == bytes && there < flow) {
                 return;
             }
+            self.inner[node] = flow;
             node /= 2;
+        }
+    }
+
+    fn lower(&mut self, flow: u32, bytes: u64) {
+        let (mut best, mut most) = (flow, bytes);
+        let mut child = self.inner.len() + flow as usize;
+        while child > 1 {
+            let node = child / 2;
+            if self.inner[node] != flow {
+                return;
+            }
+            let beside = self.at(child ^ 1);
+            let others = self.bytes[beside as usize];
+            if others > most || (others == most && beside < best) {
+                (best, most) = (beside, others);
+            }
+            self.inner[node] = best;
+            child = node;
         }
     }
 }
@@ -266,12 +300,16 @@ impl FqCodel {
             append(&mut self.links, &mut self.fresh, Place::Fresh, flow, credits);
         }
         self.pool.push(Stamped { packet, at: now }, flow);
-        self.winners.renew(flow, self.pool.lists[flow as usize].bytes);
+        let bytes = self.pool.lists[flow as usize].bytes;
         let count = self.pool.nodes.len as u64;
         if count <= u64::from(self.settings.limit) {
+            self.winners.renew(flow, bytes);
             return false;
         }
-        let fat = self.winners.at(1);
+        let fat = self.winners.top_with(flow, bytes);
+        if fat != flow {
+            self.winners.renew(flow, bytes);
+        }
         let held = self.pool.lists[fat as usize].count;
         let shed = held.min(count - 1).min(u64::from(self.settings.drop_batch));
         for _ in 0..shed {

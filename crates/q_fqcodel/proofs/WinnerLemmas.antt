@@ -101,7 +101,7 @@ pub above_next : (d k : ℕ) → above (suc d) k ≡ above d k / 2
 unfolding above
 above_next d k = refl
 
-above_falls : (d e k : ℕ) → e < d → 1 ≤ above e k → above d k < above e k
+pub above_falls : (d e k : ℕ) → e < d → 1 ≤ above e k → above d k < above e k
 above_falls zero e k h some = absurd (omega arith)
 above_falls (suc d) e k h some =
     ⊎_elim

@@ -103,6 +103,7 @@ impl Flows {
     }
 
     /// Appends a packet to a flow.
+    #[inline(always)]
     pub(crate) fn push(&mut self, flow: u32, stamped: Stamped)
         requires in_range { flow < length self.old.flows }
         requires own { stamped.packet.hash % length self.old.flows ≡ flow }
@@ -146,15 +147,17 @@ impl Flows {
         taken
     }
 
-    /// The fat flow: the first of those that have the most bytes.
-    pub(crate) fn fattest(&self) -> u32
-        requires { 0 < length self.now.flows }
-        ensures value { result ≡ fattest self.now.flows }
-        ensures within { result < length self.now.flows }
-        ensures some { 0 < packets_of self.now.flows → 0 < count (queue_of self.now.flows result) }
+    // The fat flow, once a packet with so many bytes has joined a flow.
+    fn fattest_with(&self, flow: u32, len: u16) -> u32
+        requires within { flow < length self.now.flows }
+        requires few { packets_of self.now.flows < 2 ^ 32 }
+        requires some { 1 ≤ len }
+        ensures value { (s : Stamped) → s.packet.len ≡ len → result ≡ fattest (adjust (joined s) flow self.now.flows) }
+        ensures some { (s : Stamped) → s.packet.len ≡ len → 0 < count (queue_of (adjust (joined s) flow self.now.flows) result) }
     {
         self.pool.each_has_bytes();
-        self.winners.top()
+        let held = self.pool.bytes_of(flow) + len as u64;
+        self.winners.top_with(flow, held)
     }
 
     /// Loses the first `lost` packets of a flow.
@@ -176,8 +179,8 @@ impl Flows {
         self.winners.renew(flow, rest);
     }
 
-    /// How many packets the fat flow loses where the limit is passed.
-    pub(crate) fn shed_count(&self, fat: u32, batch: u32) -> u64
+    // How many packets the fat flow loses where the limit is passed.
+    fn shed_count(&self, fat: u32, batch: u32) -> u64
         requires fat { fat ≡ fattest self.now.flows }
         requires some { 0 < packets_of self.now.flows }
         ensures { result ≡ shed_count self.now.flows batch }
@@ -186,11 +189,68 @@ impl Flows {
         most.min(batch as u64)
     }
 
-    /// Whether the last packet of the flow `own` is among the first `lost` packets of the flow `fat`.
-    pub(crate) fn is_last_among(&self, own: u32, fat: u32, lost: u64) -> bool
-        ensures { result ≡ ((fat == own) && nat_le (count (queue_of self.now.flows own)) lost) }
+    // Appends a packet to a flow, which then loses the first `lost` of its packets.
+    #[inline(always)]
+    fn exchange<S: Sink>(&mut self, flow: u32, stamped: Stamped, lost: u64, sink: &mut S)
+        requires in_range { flow < length self.old.flows }
+        requires own { stamped.packet.hash % length self.old.flows ≡ flow }
+        requires place { packets_of self.old.flows < self.old.places }
+        requires few { packets_of self.old.flows < 2 ^ 32 }
+        requires held { lost ≤ count (queue_of (adjust (joined stamped) flow self.old.flows) flow) }
+        requires room { lost ≤ S.room sink.old }
+        ensures flows { self.new.flows ≡ adjust (shortened lost) flow (adjust (joined stamped) flow self.old.flows) }
+        ensures places { self.new.places ≡ self.old.places }
+        ensures lost { S.losses sink.new ≡ S.losses sink.old
+            ++ losses_of Cause.FatFlow (take lost (queue_of (adjust (joined stamped) flow self.old.flows) flow)) }
+        ensures room { S.room sink.new + lost ≡ S.room sink.old }
+        ensures kept { S.keeps sink.old sink.new }
     {
-        fat == own && self.count_of(own) <= lost
+        self.pool.push(stamped, flow);
+        lose_from(&mut self.pool, flow, lost, Cause::FatFlow, sink);
+        // Once for what it gains and loses.
+        let kept = self.pool.bytes_of(flow);
+        self.winners.renew(flow, kept);
+    }
+
+    /// Appends a packet to a flow where the limit is passed with it: the fat flow then loses packets from its front. Says
+    /// whether the packet that was put is itself among them.
+    #[inline(always)]
+    pub(crate) fn push_over<S: Sink>(
+        &mut self,
+        flow: u32,
+        stamped: Stamped,
+        batch: u32,
+        sink: &mut S,
+    ) -> bool
+        requires in_range { flow < length self.old.flows }
+        requires own { stamped.packet.hash % length self.old.flows ≡ flow }
+        requires place { packets_of self.old.flows < self.old.places }
+        requires few { packets_of self.old.flows < 2 ^ 32 }
+        requires room { shed_count (adjust (joined stamped) flow self.old.flows) batch ≤ S.room sink.old }
+        ensures answer { result ≡ ((fattest (adjust (joined stamped) flow self.old.flows) == flow)
+            && nat_le (count (queue_of (adjust (joined stamped) flow self.old.flows) flow)) (shed_count (adjust (joined stamped) flow self.old.flows) batch)) }
+        ensures flows { self.new.flows ≡ adjust (shortened (shed_count (adjust (joined stamped) flow self.old.flows) batch))
+            (fattest (adjust (joined stamped) flow self.old.flows)) (adjust (joined stamped) flow self.old.flows) }
+        ensures places { self.new.places ≡ self.old.places }
+        ensures some { 0 < count (queue_of (adjust (joined stamped) flow self.old.flows) (fattest (adjust (joined stamped) flow self.old.flows))) }
+        ensures lost { S.losses sink.new ≡ S.losses sink.old ++ losses_of Cause.FatFlow (take (shed_count (adjust (joined stamped) flow self.old.flows) batch)
+            (queue_of (adjust (joined stamped) flow self.old.flows) (fattest (adjust (joined stamped) flow self.old.flows)))) }
+        ensures room { S.room sink.new + shed_count (adjust (joined stamped) flow self.old.flows) batch ≡ S.room sink.old }
+        ensures kept { S.keeps sink.old sink.new }
+    {
+        let packet = stamped.packet;
+        let fat = self.fattest_with(flow, packet.len);
+        if fat != flow {
+            self.push(flow, stamped);
+            let lost = self.shed_count(fat, batch);
+            self.lose(fat, lost, Cause::FatFlow, sink);
+            return false;
+        }
+        let held = self.count_of(flow) + 1;
+        let most = held.min(self.count());
+        let lost = most.min(batch as u64);
+        self.exchange(flow, stamped, lost, sink);
+        held <= lost
     }
 
     /// Changes the settings of CoDel for all flows.
@@ -258,6 +318,7 @@ fn parameters_of(settings: Settings) -> Parameters
 }
 
 // Loses the first `lost` packets of a flow.
+#[inline(always)]
 fn lose_from<S: Sink>(pool: &mut Pool, flow: u32, lost: u64, cause: Cause, sink: &mut S)
     requires held { lost ≤ count (get_or pool.old.queues flow []) }
     requires room { lost ≤ S.room sink.old }

@@ -95,15 +95,13 @@ impl FqCodel {
         let settings = self.settings;
         let flow = packet.hash % settings.flows;
         self.lists.enlist(flow, settings.quantum);
-        self.flows.push(flow, Stamped { packet, at: now });
-        if self.flows.count() <= settings.limit as u64 {
+        let stamped = Stamped { packet, at: now };
+        if self.flows.count() < settings.limit as u64 {
+            self.flows.push(flow, stamped);
             return false;
         }
-        let fat = self.flows.fattest();
-        let lost = self.flows.shed_count(fat, settings.drop_batch);
-        let is_own = self.flows.is_last_among(flow, fat, lost);
-        self.flows.lose(fat, lost, Cause::FatFlow, sink);
-        is_own
+        let batch = settings.drop_batch;
+        self.flows.push_over(flow, stamped, batch, sink)
     }
 
     /// Makes a place for one packet more.

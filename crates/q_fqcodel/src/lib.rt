@@ -16,8 +16,9 @@
 //! `specs/Lawful.antt` has what every value of the type keeps.
 //!
 //! The packets of each flow are linked through one slab, and both lists through the flows' own links; a tree of winners has
-//! the fat flow at its root. So a put or a take costs a few steps, and one for each level of the tree at most; a change of
-//! the settings touches no flow. A flow takes 96 bytes at most, and a packet 112.
+//! the fat flow at its root. So a put takes a few steps, and one for each level of the tree at most, twice where it drops. A
+//! take does so too, after a few steps for each listed flow that it passes over, for want of credits or of packets. A change
+//! of the settings touches no flow. A flow takes 96 bytes at most, and a packet 112.
 //!
 //! [`laws`] states what follows from these definitions: nothing is made or lost, a put leaves a packet, each call keeps the
 //! state lawful, a flow that has just become new sends before any flow of the old list, and a flow's credits grow by the quanta

@@ -1,4 +1,4 @@
-ghost use Rattle.std.specs.Prelude.{ℕ, ◌≡◌, ◌+◌, ◌<◌, ◌≤◌, ◌%◌, ◌^◌, [], ◌∷◌, ◌++◌, length, slice_get, get_or, drop, set, replicate, IsOk, IfOk, OnOk, OnErr};
+ghost use Rattle.std.specs.Prelude.{ℕ, ◌≡◌, ◌+◌, ◌*◌, ◌<◌, ◌≤◌, ◌%◌, ◌^◌, [], ◌∷◌, ◌++◌, length, slice_get, get_or, drop, set, replicate, IsOk, IfOk, OnOk, OnErr};
 ghost use Rattle.q_packet.specs.Totals.{count, size};
 ghost use Rattle.q_fqcodel.specs.Pool.{packets_in, bytes_in, no_list, SameBeside};
 
@@ -70,6 +70,7 @@ impl Pool {
     }
 
     /// Appends a packet to a flow.
+    #[inline(always)]
     pub(crate) fn push(&mut self, stamped: Stamped, flow: u32)
         requires in_range { flow < length self.old.queues }
         requires own { stamped.packet.hash % length self.old.queues ≡ flow }
@@ -126,9 +127,10 @@ impl Pool {
         list_of(&self.lists, flow).bytes
     }
 
-    /// Every packet has a byte at least. It does nothing.
+    /// Every packet has a byte at least, and 65535 at most. It does nothing.
     pub(crate) fn each_has_bytes(&self)
-        ensures { (n : ℕ) → count (get_or self.now.queues n []) ≤ size (get_or self.now.queues n []) }
+        ensures least { (n : ℕ) → count (get_or self.now.queues n []) ≤ size (get_or self.now.queues n []) }
+        ensures most { (n : ℕ) → size (get_or self.now.queues n []) ≤ 65535 * count (get_or self.now.queues n []) }
     {
         let _ = &self.lists;
     }

@@ -38,13 +38,22 @@ impl Winners {
         Ok(Winners { bytes, inner })
     }
 
-    /// The flow with the most bytes, of equals the first.
-    pub(crate) fn top(&self) -> u32
-        requires { 0 < length self.now }
+    /// The flow with the most bytes, of equals the first, if this flow had so many bytes: as many as it has, or more.
+    pub(crate) fn top_with(&self, flow: u32, bytes: u64) -> u32
+        requires in_range { flow < length self.now }
+        requires more { bytes_at self.now flow ≤ bytes }
         ensures within { result < length self.now }
-        ensures leads { (i : ℕ) → i < length self.now → Leads (bytes_at self.now) result i }
+        ensures leads { (i : ℕ) → i < length self.now → Leads (bytes_at (set self.now flow bytes)) result i }
     {
-        winner_at(&self.inner, 1)
+        let top = winner_at(&self.inner, 1);
+        let most = self.bytes[top as usize];
+        if most < bytes {
+            return flow;
+        }
+        if bytes < most {
+            return top;
+        }
+        top.min(flow)
     }
 
     /// Notes how many bytes a flow has now.
@@ -59,7 +68,11 @@ impl Winners {
         if leads && before <= bytes {
             return;
         }
-        climb(&self.bytes, &mut self.inner, flow);
+        if before <= bytes {
+            raise(&self.bytes, &mut self.inner, flow);
+        } else {
+            lower(&self.bytes, &mut self.inner, flow);
+        }
     }
 }
 
@@ -85,11 +98,13 @@ fn better_of(bytes: &Vec<u64>, first: u32, second: u32) -> u32
 {
     let most = bytes[first as usize];
     let others = bytes[second as usize];
-    if most < others || (most == others && second < first) {
-        second
-    } else {
-        first
+    if most > others {
+        return first;
     }
+    if most < others {
+        return second;
+    }
+    first.min(second)
 }
 
 // Finds every winner, from the last inner node to the root.
@@ -108,24 +123,45 @@ fn play(bytes: &Vec<u64>, inner: &mut Vec<u32>)
     }
 }
 
-// Makes the winners right again on the way from a flow's leaf to the root, where the flow has other bytes than before.
-fn climb(bytes: &Vec<u64>, inner: &mut Vec<u32>, flow: u32)
-    requires before { (before : ℕ) × IsTournament (set bytes.now.items flow before) inner.old.items }
+// Makes the winners right again where a flow has as many bytes as before, or more: it wins on its way up until another one
+// still leads it.
+fn raise(bytes: &Vec<u64>, inner: &mut Vec<u32>, flow: u32)
+    requires before { (before : ℕ) × (before ≤ bytes_at bytes.now.items flow) × IsTournament (set bytes.now.items flow before) inner.old.items }
     requires within { flow < length bytes.now.items }
     requires few { length bytes.now.items ≤ 65536 }
     ensures { IsTournament bytes.now.items inner.new.items }
 {
     let mut node = (inner.len() + flow as usize) / 2;
     while node >= 1 {
-        let before = inner[node];
-        let first = winner_at(inner, 2 * node);
-        let second = winner_at(inner, 2 * node + 1);
-        let now = better_of(bytes, first, second);
-        inner[node] = now;
-        // What stands above has seen neither this flow nor another winner here.
-        if now == before && now != flow {
+        let there = inner[node];
+        let now = better_of(bytes, there, flow);
+        // What stands above has seen another flow here, and sees it again.
+        if now != flow {
             return;
         }
+        inner[node] = flow;
         node /= 2;
+    }
+}
+
+// Makes the winners right again where a flow has fewer bytes than before: wherever it stood, the better of two stands now.
+fn lower(bytes: &Vec<u64>, inner: &mut Vec<u32>, flow: u32)
+    requires before { (before : ℕ) × (bytes_at bytes.now.items flow ≤ before) × IsTournament (set bytes.now.items flow before) inner.old.items }
+    requires within { flow < length bytes.now.items }
+    requires few { length bytes.now.items ≤ 65536 }
+    ensures { IsTournament bytes.now.items inner.new.items }
+{
+    let mut child = inner.len() + flow as usize;
+    let mut best = flow;
+    while child > 1 {
+        let node = child / 2;
+        // What stands here and above has not seen this flow.
+        if inner[node] != flow {
+            return;
+        }
+        let beside = winner_at(inner, 4 * node + 1 - child);
+        best = better_of(bytes, best, beside);
+        inner[node] = best;
+        child = node;
     }
 }

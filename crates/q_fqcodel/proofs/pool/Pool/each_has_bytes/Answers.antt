@@ -1,11 +1,11 @@
 use Rattle.std.proofs.Common.{get_or, refl, ap, arith}
 use Rattle.slab.specs.Slab.{get, slab_len}
 use Rattle.q_fqcodel.specs.Pool.{PoolState, no_list}
-use Rattle.q_fqcodel.proofs.PoolLemmas.{bytes_read, count_read, bytes_enough}
+use Rattle.q_fqcodel.proofs.PoolLemmas.{bytes_read, count_read, bytes_enough, bytes_few}
 use Rattle.q_fqcodel.proofs.pool.Pool.each_has_bytes.Goals as goal
 
-pub returns : goal.returns
-returns c n =
+pub returns-clause-least : goal.returns-clause-least
+returns-clause-least c n =
     let p = c.self.inside in
     let same = ap (λ (s : PoolState). s.queues) c.self.view_is in
     let l = get_or p.lists.items n no_list in
@@ -14,4 +14,16 @@ returns c n =
       bytes_read (get p.nodes) (slab_len p.nodes) p.lists.items p.bytes c.self.invariant.0 c.args.self.now.queues same n l refl,
       count_read (get p.nodes) (slab_len p.nodes) p.lists.items p.bytes c.self.invariant.0 c.args.self.now.queues same n l refl,
       bytes_enough (get p.nodes) (slab_len p.nodes) p.lists.items p.bytes c.self.invariant.0 n,
+    )
+
+pub returns-clause-most : goal.returns-clause-most
+returns-clause-most c n =
+    let p = c.self.inside in
+    let same = ap (λ (s : PoolState). s.queues) c.self.view_is in
+    let l = get_or p.lists.items n no_list in
+    omega (
+      arith,
+      bytes_read (get p.nodes) (slab_len p.nodes) p.lists.items p.bytes c.self.invariant.0 c.args.self.now.queues same n l refl,
+      count_read (get p.nodes) (slab_len p.nodes) p.lists.items p.bytes c.self.invariant.0 c.args.self.now.queues same n l refl,
+      bytes_few (get p.nodes) (slab_len p.nodes) p.lists.items p.bytes c.self.invariant.0 n,
     )
