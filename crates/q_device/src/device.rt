@@ -66,6 +66,7 @@ impl Device {
     pub fn open(alloc: Global, settings: Settings) -> Result<Device, AllocError>
         ensures new { IfOk result (λ device. device ≡ opened settings device.memory) }
         ensures nothing_arrived { IfOk result (λ device. device.device.tree.top ≡ no_counts) }
+        ensures recorder { IfOk result (λ device. device.memory.events ≡ settings.recorder) }
         ensures succeeds { settings.recorder ≡ 0 → IsOk result }
     {
         Ok(Device {
