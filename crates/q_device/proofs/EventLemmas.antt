@@ -1,5 +1,5 @@
 -- What an event makes of the fields of a device.
-use Rattle.std.proofs.Common.{◌≡◌, ◌∙◌, ℕ, ◌+◌, ◌++◌, length, max, min, List, refl, sym, ap, subst}
+use Rattle.std.proofs.Common.{◌≡◌, ◌∙◌, ℕ, ◌+◌, ◌++◌, length, max, min, List, refl, sym, ap, ap₂, subst}
 use Rattle.std.specs.Prelude.{vec_capacity}
 use Rattle.q_codel.specs.declared.loss.Loss.{Loss}
 use Rattle.q_packet.specs.Descriptor.{Descriptor}
@@ -16,7 +16,7 @@ use Rattle.q_tree.proofs.TreeLemmas.{stands}
 use Rattle.q_device.specs.declared.device.Device.TheInside.{Inside}
 use Rattle.q_device.specs.Counters.{HasNotFallen}
 use Rattle.q_device.specs.DeviceSeen.{DeviceSeen, as_counted, most_events, with_event, with_recorded}
-use Rattle.q_device.specs.Keeping.{device_seen}
+use Rattle.q_device.specs.Keeping.{device_seen, numbers_at}
 use Rattle.q_device.proofs.CountLemmas.{step-rises}
 use Rattle.q_device.proofs.StepStands.{Stands, step-stands}
 
@@ -26,6 +26,9 @@ waits-numbers x = ap (beneath_own x.tree.root.own) (each-each_memory beneath_own
 
 pub waits-same : (x y : DeviceState Kept) → numbers x ≡ numbers y → length (beneath x.tree.root) ≡ length (beneath y.tree.root)
 waits-same x y same = ap (λ (ps : List Descriptor). length ps) (sym (waits-numbers x) ∙ ap (λ (d : DeviceState Counts). beneath d.tree.root) same ∙ waits-numbers y)
+
+pub same-at : (clock : ℕ) (x y : DeviceState Kept) → numbers x ≡ numbers y → numbers_at clock x ≡ numbers_at clock y
+same-at clock x y same = ap (λ (d : DeviceState Counts). record d { clock = clock }) same
 
 -- The step of a tree of the code is that of its numbers, also where places were made in it before.
 module _ (d : DeviceState Counts) (x : DeviceState Kept) (same : numbers x ≡ d) (e : Event) where
@@ -44,31 +47,32 @@ module _ (d : DeviceState Counts) (x : DeviceState Kept) (same : numbers x ≡ d
 -- An event changed the fields of a device so.
 pub record Happened (a : Inside) (e : Event) (b : Inside) : Type 0 where
   pub settings : b.settings ≡ a.settings
-  pub tree : numbers b.tree ≡ (step totals (numbers a.tree) e).device
-  pub waiting : b.losses.waiting ≡ a.losses.waiting ++ (step totals (numbers a.tree) e).losses
+  pub device : numbers_at b.clock b.tree ≡ (step totals (numbers_at a.clock a.tree) e).device
+  pub waiting : b.losses.waiting ≡ a.losses.waiting ++ (step totals (numbers_at a.clock a.tree) e).losses
   pub handed_out : b.handed_out ≡ a.handed_out
-  pub recorded : b.recorded.items ≡ with_recorded a.settings.recorder (as_counted (numbers a.tree) e) a.recorded.items
+  pub recorded : b.recorded.items ≡ with_recorded a.settings.recorder (as_counted (numbers_at a.clock a.tree) e) a.recorded.items
   pub capacity : vec_capacity b.recorded ≡ vec_capacity a.recorded
   pub events : b.events ≡ min (a.events + 1) most_events
 
 module _ (a : Inside) (e : Event) (b : Inside) (h : Happened a e b) where
-  pub event-seen : device_seen b ≡ with_event e (device_seen a)
-  event-seen = λ i. record { settings = h.settings i; device = h.tree i; waiting = h.waiting i; handed_out = h.handed_out i; recorded = h.recorded i; events = h.events i }
+  pub event-seen : device_seen b ≡ record (with_event e (device_seen a)) { memory = (device_seen b).memory }
+  event-seen = λ i. record { settings = h.settings i; device = h.device i; waiting = h.waiting i; handed_out = h.handed_out i; recorded = h.recorded i; events = h.events i; memory = (device_seen b).memory }
 
   pub event-rises : HasNotFallen (device_seen a).device.tree.top (device_seen b).device.tree.top
-  event-rises = subst (λ (d : DeviceSeen). HasNotFallen (device_seen a).device.tree.top d.device.tree.top) (sym event-seen) (step-rises (numbers a.tree) e)
+  event-rises = subst (λ (d : DeviceSeen). HasNotFallen (device_seen a).device.tree.top d.device.tree.top) (sym event-seen) (step-rises (numbers_at a.clock a.tree) e)
 
 -- a poll, at the moment at which it counts
-pub polled : (a b : Inside) (now at : ℕ) → at ≡ max a.tree.clock now → b.settings ≡ a.settings → b.tree ≡ record { clock = at; tree = take_packet kept at a.tree.tree }
+pub polled : (a b : Inside) (now at : ℕ) → at ≡ max a.clock now → b.settings ≡ a.settings → b.clock ≡ at → b.tree ≡ record { clock = at; tree = take_packet kept at a.tree.tree }
     → b.losses.waiting ≡ a.losses.waiting ++ losses_in (noted_by_take at a.tree.tree) → b.handed_out ≡ a.handed_out → b.recorded.items ≡ with_recorded a.settings.recorder (event.Poll at) a.recorded.items
     → vec_capacity b.recorded ≡ vec_capacity a.recorded → b.events ≡ min (a.events + 1) most_events → Happened a (event.Poll now) b
-polled a b now at is settings tree waiting handed_out recorded capacity events =
-    let d = numbers a.tree in
+polled a b now at is settings clock tree waiting handed_out recorded capacity events =
+    let d = numbers_at a.clock a.tree in
+    let x : DeviceState Kept = record a.tree { clock = a.clock } in
     let e = event.Poll now in
     record {
       settings = settings;
-      tree = ap numbers (tree ∙ ap (λ t. record { clock = t; tree = take_packet kept t a.tree.tree }) is) ∙ numbers-step d a.tree refl e;
-      waiting = waiting ∙ ap (λ t. a.losses.waiting ++ losses_in (noted_by_take t a.tree.tree)) is ∙ ap (λ (ls : List Loss). a.losses.waiting ++ ls) (losses-step d a.tree refl e);
+      device = ap₂ numbers_at clock tree ∙ ap (λ t. numbers (record { clock = t; tree = take_packet kept t a.tree.tree })) is ∙ numbers-step d x refl e;
+      waiting = waiting ∙ ap (λ t. a.losses.waiting ++ losses_in (noted_by_take t a.tree.tree)) is ∙ ap (λ (ls : List Loss). a.losses.waiting ++ ls) (losses-step d x refl e);
       handed_out = handed_out;
       recorded = recorded ∙ ap (λ t. with_recorded a.settings.recorder (event.Poll t) a.recorded.items) is;
       capacity = capacity;
@@ -76,17 +80,18 @@ polled a b now at is settings tree waiting handed_out recorded capacity events =
     }
 
 -- an arrival, once places were made in the tree
-pub arrived : (a b : Inside) (x : DeviceState Kept) (p : Descriptor) (now at : ℕ) → numbers x ≡ numbers a.tree → at ≡ max a.tree.clock now → b.settings ≡ a.settings → b.tree ≡ record { clock = at; tree = put kept at p x.tree }
+pub arrived : (a b : Inside) (x : DeviceState Kept) (p : Descriptor) (now at : ℕ) → numbers x ≡ numbers a.tree → at ≡ max a.clock now → b.settings ≡ a.settings → b.clock ≡ at → b.tree ≡ record { clock = at; tree = put kept at p x.tree }
     → b.losses.waiting ≡ a.losses.waiting ++ losses_in (noted_by_put at p x.tree) → b.handed_out ≡ a.handed_out → b.recorded.items ≡ with_recorded a.settings.recorder (event.Arrive p at) a.recorded.items
     → vec_capacity b.recorded ≡ vec_capacity a.recorded → b.events ≡ min (a.events + 1) most_events → Happened a (event.Arrive p now) b
-arrived a b x p now at same is settings tree waiting handed_out recorded capacity events =
-    let d = numbers a.tree in
+arrived a b x p now at same is settings clock tree waiting handed_out recorded capacity events =
+    let d = numbers_at a.clock a.tree in
+    let y : DeviceState Kept = record x { clock = a.clock } in
+    let there : numbers y ≡ d = same-at a.clock x a.tree same in
     let e = event.Arrive p now in
-    let here : at ≡ max x.clock now = is ∙ ap (λ (y : DeviceState Counts). max y.clock now) (sym same) in
     record {
       settings = settings;
-      tree = ap numbers (tree ∙ ap (λ t. record { clock = t; tree = put kept t p x.tree }) here) ∙ numbers-step d x same e;
-      waiting = waiting ∙ ap (λ t. a.losses.waiting ++ losses_in (noted_by_put t p x.tree)) here ∙ ap (λ (ls : List Loss). a.losses.waiting ++ ls) (losses-step d x same e);
+      device = ap₂ numbers_at clock tree ∙ ap (λ t. numbers (record { clock = t; tree = put kept t p x.tree })) is ∙ numbers-step d y there e;
+      waiting = waiting ∙ ap (λ t. a.losses.waiting ++ losses_in (noted_by_put t p x.tree)) is ∙ ap (λ (ls : List Loss). a.losses.waiting ++ ls) (losses-step d y there e);
       handed_out = handed_out;
       recorded = recorded ∙ ap (λ t. with_recorded a.settings.recorder (event.Arrive p t) a.recorded.items) is;
       capacity = capacity;

@@ -1,5 +1,5 @@
 -- A device of the code keeps its invariant, whatever happens to it.
-use Rattle.std.proofs.Common.{◌≡◌, ◌+◌, ◌<◌, ◌≤◌, ◌^◌, List, [], ◌∷◌, ◌++◌, length, take, drop, refl, sym, ap, subst, Some, arith, ◌∙◌}
+use Rattle.std.proofs.Common.{◌≡◌, ℕ, ◌+◌, ◌<◌, ◌≤◌, ◌^◌, List, [], ◌∷◌, ◌++◌, length, take, drop, refl, sym, ap, subst, Some, None, arith, ◌∙◌}
 use Rattle.std.specs.Prelude.{slice_get, vec_capacity}
 use Rattle.std.proofs.lemmas.List.{length-append, length-drop}
 use Rattle.std.proofs.lemmas.List.Elements.{All-nil, All-cons, All-append}
@@ -13,32 +13,59 @@ use Rattle.q_model.specs.Beneath.{beneath}
 use Rattle.q_model.specs.Events.{IsEvent}
 use Rattle.q_model.specs.Lawful.{IsLawfulTree}
 use Rattle.q_model.specs.Settings.{DeviceSettings, IsInRange}
-use Rattle.q_model.specs.Step.{DeviceState, step}
+use Rattle.q_model.specs.Step.{DeviceState, new_device, step}
 use Rattle.q_model.specs.Tally.{Counts, totals}
 use Rattle.q_sound.proofs.Replays.{not-after}
 use Rattle.q_tree.specs.Kept.{Kept}
 use Rattle.q_tree.specs.TreeSeen.{numbers}
 use Rattle.q_device.specs.declared.device.Device.TheInside.{Inside}
 use Rattle.q_device.specs.Counters.{arrived_after}
-use Rattle.q_device.specs.DeviceSeen.{DeviceSeen, opened, as_counted}
-use Rattle.q_device.specs.Keeping.{device_seen, IsKeptDevice}
+use Rattle.q_device.specs.DeviceSeen.{DeviceSeen, opened, as_counted, reaped, with_event}
+use Rattle.q_device.specs.Keeping.{device_seen, numbers_at, IsKeptDevice}
 use Rattle.q_device.specs.Replayed.{IsReplayOf}
-use Rattle.q_device.proofs.EventLemmas.{waits-numbers, waits-same, Happened, event-seen}
+use Rattle.q_device.proofs.EventLemmas.{waits-numbers, waits-same, same-at, Happened, event-seen}
 use Rattle.q_device.proofs.LawfulLemmas.{losses-told, seen-lawful, seen-arrived, queued-after}
-use Rattle.q_device.proofs.ReplayedLemmas.{opened-replay, replay-more, replay-reaped}
+use Rattle.q_device.proofs.ReplayedLemmas.{opened-replay, replay-with, replay-more, replay-reaped}
 
-pub new-kept : (a : Inside) → IsInRange a.settings → device_seen a ≡ opened a.settings → a.settings.recorder ≤ vec_capacity a.recorded → IsKeptDevice a
-new-kept a range is recorder = record {
+opened-seen : (a : Inside) → numbers_at a.clock a.tree ≡ new_device totals a.settings → a.losses.waiting ≡ [] → a.handed_out ≡ 0 → a.recorded.items ≡ [] → a.events ≡ 0 → device_seen a ≡ opened a.settings (device_seen a).memory
+opened-seen a device waiting handed_out recorded events = λ i. record {
+  settings = a.settings;
+  device = device i;
+  waiting = waiting i;
+  handed_out = handed_out i;
+  recorded = recorded i;
+  events = events i;
+  memory = (device_seen a).memory;
+}
+
+pub new-kept : (a : Inside) → IsInRange a.settings → numbers_at a.clock a.tree ≡ new_device totals a.settings → a.losses.waiting ≡ [] → a.handed_out ≡ 0 → a.recorded.items ≡ [] → a.events ≡ 0
+    → a.tree.clock ≤ a.clock → a.settings.recorder ≤ vec_capacity a.recorded → IsKeptDevice a
+new-kept a range device waiting handed_out recorded events clock recorder = let is = opened-seen a device waiting handed_out recorded events in record {
   happened = [];
   events = All-nil IsEvent;
   settings = range;
-  replayed = subst (IsReplayOf []) (sym is) (opened-replay a.settings);
+  replayed = subst (IsReplayOf []) (sym is) (opened-replay a.settings (device_seen a).memory);
+  clock = clock;
   room =
       let empty : beneath a.tree.tree.root ≡ [] = sym (waits-numbers a.tree) ∙ ap (λ (d : DeviceSeen). beneath d.device.tree.root) is in
       omega (arith, ap (λ (ps : List Descriptor). length ps) empty, ap (λ (d : DeviceSeen). length d.waiting) is);
   recorder = recorder;
   arrivals = omega (arith, ap (λ (d : DeviceSeen). d.device.tree.top.arrived.packets) is);
 }
+
+-- what is seen once a loss was handed out, or where none waits
+pub reaped-seen : (a : Inside) (losses : LossList) (handed_out : ℕ) → losses ≡ record a.losses { waiting = drop 1 a.losses.waiting } → handed_out ≡ a.handed_out + length (take 1 a.losses.waiting)
+    → device_seen (record a { losses = losses; handed_out = handed_out }) ≡ reaped (device_seen a)
+reaped-seen a losses handed_out is counted = λ i. record (device_seen a) { waiting = (is i).waiting; handed_out = counted i; memory = record (device_seen a).memory { losses = (is i).places } }
+
+-- how many a reap hands out
+pub handed-none : (n : ℕ) (ls : List Loss) → None ≡ slice_get ls 0 → n ≡ n + length (take 1 ls)
+handed-none n [] first = omega arith
+handed-none n (l ∷ ls) first = cc
+
+pub handed-one : (n : ℕ) (l : Loss) (ls : List Loss) → Some l ≡ slice_get ls 0 → n + 1 ≡ n + length (take 1 ls)
+handed-one n l [] first = cc
+handed-one n l (x ∷ ls) first = refl
 
 -- an event is in its ranges as it counts
 counted-event : (d : DeviceState Counts) (e : Event) → d.clock ≤ 2 ^ 62 → IsEvent e → IsEvent (as_counted d e)
@@ -58,14 +85,14 @@ module _ (a : Inside) (k : IsKeptDevice a) where
   kept-arrived e is = seen-arrived k.happened (device_seen a) k.replayed k.settings k.events e is
 
   -- after an event, for whose losses there was room
-  pub event-kept : (e : Event) (b : Inside) → Happened a e b → IsEvent e → (arrived_after e a.tree.tree.top.counts.arrived).packets < 2 ^ 64
+  pub event-kept : (e : Event) (b : Inside) → Happened a e b → IsEvent e → b.tree.clock ≤ b.clock → (arrived_after e a.tree.tree.top.counts.arrived).packets < 2 ^ 64
       → length (beneath a.tree.tree.root) + (arrived_after e a.tree.tree.top.counts.arrived).packets + length a.losses.waiting ≤ b.losses.places + a.tree.tree.top.counts.arrived.packets
       → IsKeptDevice b
-  event-kept e b happened is fits room =
+  event-kept e b happened is clock fits room =
       let seen = event-seen a e b happened in
       let d : DeviceSeen = device_seen a in
       let events : List Event = k.happened ++ as_counted d.device e ∷ [] in
-      let replayed : IsReplayOf events (device_seen b) = subst (IsReplayOf events) (sym seen) (replay-more k.happened d k.replayed e) in
+      let replayed : IsReplayOf events (device_seen b) = subst (IsReplayOf events) (sym seen) (replay-with events (with_event e d) (device_seen b).memory (replay-more k.happened d k.replayed e)) in
       let settings : b.settings ≡ a.settings = ap (λ (x : DeviceSeen). x.settings) seen in
       let range : IsInRange b.settings = subst IsInRange (sym settings) k.settings in
       let counted : IsEvent (as_counted d.device e) = counted-event d.device e kept-lawful.moment is in
@@ -78,6 +105,7 @@ module _ (a : Inside) (k : IsKeptDevice a) where
         events = all;
         settings = range;
         replayed = replayed;
+        clock = clock;
         room = omega (
           arith,
           room,
@@ -106,6 +134,7 @@ module _ (a : Inside) (k : IsKeptDevice a) where
     events = k.events;
     settings = k.settings;
     replayed = subst (λ n. IsReplayOf k.happened (record (device_seen a) { waiting = drop 1 a.losses.waiting; handed_out = a.handed_out + n })) (one a.losses.waiting first) (replay-reaped k.happened (device_seen a) k.replayed);
+    clock = k.clock;
     room = omega (arith, k.room, length-drop 1 a.losses.waiting);
     recorder = k.recorder;
     arrivals = k.arrivals;
@@ -117,11 +146,13 @@ module _ (a : Inside) (k : IsKeptDevice a) where
 
   -- where places were made
   pub room-kept : (x : DeviceState Kept) (losses : LossList) → numbers x ≡ numbers a.tree → losses ≡ record a.losses { places = losses.places } → a.losses.places ≤ losses.places → IsKeptDevice (record a { tree = x; losses = losses })
-  room-kept x losses same is more = record {
+  room-kept x losses same is more = let b : Inside = record a { tree = x; losses = losses } in record {
     happened = k.happened;
     events = k.events;
     settings = k.settings;
-    replayed = subst (IsReplayOf k.happened) (λ i. record (device_seen a) { device = sym same i; waiting = ap (λ (l : LossList). l.waiting) (sym is) i }) k.replayed;
+    replayed = subst (IsReplayOf k.happened) (λ i. record (device_seen b) { device = same-at a.clock a.tree x (sym same) i; waiting = ap (λ (l : LossList). l.waiting) (sym is) i })
+        (replay-with k.happened (device_seen a) (device_seen b).memory k.replayed);
+    clock = omega (arith, k.clock, ap (λ (d : DeviceState Counts). d.clock) same);
     room = omega (arith, k.room, more, waits-same x a.tree same, ap (λ (l : LossList). length l.waiting) is);
     recorder = k.recorder;
     arrivals = omega (arith, k.arrivals, ap (λ (d : DeviceState Counts). d.tree.top.arrived.packets) same);

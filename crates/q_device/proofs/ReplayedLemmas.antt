@@ -12,12 +12,16 @@ use Rattle.q_model.specs.Settings.{DeviceSettings}
 use Rattle.q_model.specs.Step.{DeviceState, arrive, poll, command, step}
 use Rattle.q_model.specs.Tally.{Counts, totals}
 use Rattle.q_device.proofs.ReplayLemmas.{replay_from-append}
-use Rattle.q_device.specs.DeviceSeen.{DeviceSeen, opened, as_counted, with_recorded, with_event, reaped}
+use Rattle.q_device.specs.DeviceSeen.{DeviceSeen, Memory, opened, as_counted, with_recorded, with_event, reaped}
 use Rattle.q_device.specs.Replayed.{IsReplayOf}
 
 -- a new device
-pub opened-replay : (settings : DeviceSettings) → IsReplayOf [] (opened settings)
-opened-replay settings = record { device = refl; handed_out = omega arith; waiting = refl; recorded = sym (take-nil settings.recorder); counted = omega arith }
+pub opened-replay : (settings : DeviceSettings) (memory : Memory) → IsReplayOf [] (opened settings memory)
+opened-replay settings memory = record { device = refl; handed_out = omega arith; waiting = refl; recorded = sym (take-nil settings.recorder); counted = omega arith }
+
+-- it does not matter with which memory
+pub replay-with : (events : List Event) (d : DeviceSeen) (memory : Memory) → IsReplayOf events d → IsReplayOf events (record d { memory = memory })
+replay-with events d memory h = record { device = h.device; handed_out = h.handed_out; waiting = h.waiting; recorded = h.recorded; counted = h.counted }
 
 -- the recorded event does what the event did
 step-counted : (d : DeviceState Counts) (e : Event) → step totals d (as_counted d e) ≡ step totals d e

@@ -11,6 +11,7 @@ use Rattle.q_model.specs.Step.{DeviceState, step}
 use Rattle.q_model.specs.Tally.{Counts, totals}
 use Rattle.q_model.specs.TreeState.{stats}
 use Rattle.q_device.specs.Counters.{HasNotFallen, arrived_after}
+use Rattle.q_tree.specs.TreeSeen.{tree_numbers}
 use Rattle.q_device.specs.DeviceSeen.{DeviceSeen}
 use Rattle.q_device.specs.Replayed.{IsReplayOf}
 
@@ -34,6 +35,14 @@ pub record IsLawfulDevice (d : DeviceSeen) : Type 0 where
 pub record TellsItsLosses (d : DeviceSeen) : Type 0 where
   pub lost : d.handed_out + length d.waiting ≡ d.device.tree.top.refused.packets + d.device.tree.top.dropped.packets
   pub arrived : d.device.tree.top.arrived.packets ≡ d.device.tree.top.sent.packets + d.handed_out + length d.waiting + length (beneath d.device.tree.root)
+
+-- Its memory: the tree is that of the device, and was given no moment after the clock. The lost list has a place for each loss that
+-- waits and each packet that is queued, so that whatever is lost of them needs no memory; the recorder has all its places.
+pub record HasItsMemory (d : DeviceSeen) : Type 0 where
+  pub tree : tree_numbers d.memory.tree.tree ≡ d.device.tree
+  pub clock : d.memory.tree.clock ≤ d.device.clock
+  pub losses : length d.waiting + length (beneath d.device.tree.root) ≤ d.memory.losses
+  pub events : d.settings.recorder ≤ d.memory.events
 
 -- Whatever happens next, arrivals alone count as arrived.
 abbrev pub ArrivesByArrivals : DeviceSeen → Type 0

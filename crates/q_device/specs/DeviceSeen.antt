@@ -1,15 +1,28 @@
 -- What a contract sees of a device of the code, and what an event and a reap make of it.
 -- What an event makes of the tree stands in q_model's specs/Step.antt; the recorder and the lost list are this project's own.
-use Rattle.std.specs.Prelude.{ℕ, ◌+◌, ◌-◌, ◌^◌, min, if◌then◌else◌, nat_lt, List, [], ◌∷◌, ◌++◌, length, take, drop}
+use Rattle.std.specs.Prelude.{ℕ, ◌+◌, ◌-◌, ◌^◌, ◌≤◌, min, if◌then◌else◌, nat_lt, List, [], ◌∷◌, ◌++◌, length, take, drop}
+use Rattle.q_packet.specs.Descriptor.{Descriptor}
 use Rattle.q_codel.specs.declared.loss.Loss.{Loss}
 use Rattle.q_model.specs.declared.event.Event.{Event}
 use Rattle.q_model.specs.declared.event.Event.TheVariants.{Arrive, Poll, Command}
+use Rattle.q_model.specs.Beneath.{beneath}
+use Rattle.q_model.specs.Route.{device_route}
 use Rattle.q_model.specs.Settings.{DeviceSettings}
 use Rattle.q_model.specs.Step.{DeviceState, new_device, counts_at, step}
 use Rattle.q_model.specs.Tally.{Counts, totals}
+use Rattle.q_model.specs.TreeState.{take_packet}
+use Rattle.q_tree.specs.Kept.{Kept, kept}
+use Rattle.q_tree.specs.TreeSeen.{CanArrive}
+
+-- The memory of a device, at which no rule looks: its tree as the code has it, whose queues have places, and the places of its
+-- lost list and of its recorder.
+pub record Memory : Type 0 where
+  pub tree : DeviceState Kept
+  pub losses : ℕ
+  pub events : ℕ
 
 -- Its settings, and its clock and tree with totals. The losses that wait, oldest first, and how many were handed out before
--- them. The events that are recorded, the first ones first, and how many there were in all.
+-- them. The events that are recorded, the first ones first, and how many there were in all. Its memory.
 pub record DeviceSeen : Type 0 where
   pub settings : DeviceSettings
   pub device : DeviceState Counts
@@ -17,10 +30,11 @@ pub record DeviceSeen : Type 0 where
   pub handed_out : ℕ
   pub recorded : List Event
   pub events : ℕ
+  pub memory : Memory
 
--- a device to which nothing has happened
-abbrev pub opened : DeviceSettings → DeviceSeen
-opened settings = record { settings = settings; device = new_device totals settings; waiting = []; handed_out = 0; recorded = []; events = 0 }
+-- a device to which nothing has happened, with this memory
+abbrev pub opened : DeviceSettings → Memory → DeviceSeen
+opened settings memory = record { settings = settings; device = new_device totals settings; waiting = []; handed_out = 0; recorded = []; events = 0; memory = memory }
 
 -- an event with the moment at which it counts
 abbrev pub as_counted : DeviceState Counts → Event → Event
@@ -50,3 +64,13 @@ with_event e d =
 -- the oldest of the losses that wait is handed out, where one waits
 abbrev pub reaped : DeviceSeen → DeviceSeen
 reaped d = record d { waiting = drop 1 d.waiting; handed_out = d.handed_out + length (take 1 d.waiting) }
+
+-- A packet can arrive without memory: where it is not refused its queue has a place, the device can count it, and the lost list
+-- has a place more than the losses that wait and the packets that are queued.
+pub record HasRoomFor (p : Descriptor) (d : DeviceSeen) : Type 0 where
+  pub tree : CanArrive (device_route p d.memory.tree.tree.device.mtu d.memory.tree.tree.root) d.memory.tree
+  pub losses : length d.waiting + length (beneath d.device.tree.root) + 1 ≤ d.memory.losses
+
+-- The memory after a poll at this moment: the packets that it took have left the tree, and every place is still there.
+abbrev pub polled_memory : ℕ → Memory → Memory
+polled_memory now m = record m { tree = record { clock = now; tree = take_packet kept now m.tree.tree } }

@@ -9,10 +9,10 @@ ghost use Rattle.q_model.specs.TreeState.{stats};
 ghost use Rattle.q_model.specs.declared.event.Event.TheVariants as event;
 ghost use Rattle.q_model.specs.declared.reply.Reply.TheVariants as reply;
 ghost use Rattle.q_packet.specs.Descriptor.{Descriptor};
-ghost use Rattle.q_tree.specs.TreeSeen.{numbers, CanArrive, IsRouteIn};
+ghost use Rattle.q_tree.specs.TreeSeen.{numbers, tree_numbers, CanArrive, IsRouteIn};
 ghost use Rattle.q_device.specs.Counters.{HasNotFallen};
-ghost use Rattle.q_device.specs.DeviceLaws.{IsReplayed};
-ghost use Rattle.q_device.specs.DeviceSeen.{as_counted, most_events, opened, reaped, with_event, with_recorded};
+ghost use Rattle.q_device.specs.DeviceLaws.{HasItsMemory, IsReplayed};
+ghost use Rattle.q_device.specs.DeviceSeen.{as_counted, most_events, opened, polled_memory, reaped, with_event, with_recorded, HasRoomFor};
 
 use q_codel::{Loss as Lost, Losses};
 use q_model::{Event, Fate, Place, Polled, Row, Settings, packet_ranges};
@@ -24,11 +24,14 @@ use std::marker::Model;
 /// A device: a tree of qdiscs, the packets that it lost, and a recorder of what happened to it.
 ///
 /// A contract sees it as the record `DeviceSeen`: its settings, the model's device with totals, the losses that wait, how many
-/// were handed out, the recorded events and the number of all. The type keeps that the device is what all events so far make of
-/// a new one, that the recorded ones are the first of them, and that there is room for every loss of what is queued.
+/// were handed out, the recorded events and the number of all, and its memory, which means nothing to what it answers. The type
+/// keeps that the device is what all events so far make of a new one, that the recorded ones are the first of them, and that
+/// there is room for every loss of what is queued.
 #[derive(Drop)]
 pub struct Device {
     settings: Settings,
+    /// The latest moment that counted. The tree was given none after it.
+    clock: Moment,
     tree: Tree,
     losses: Losses,
     /// How many losses were handed out.
@@ -61,11 +64,13 @@ impl Device {
     ///
     /// `AllocError` where memory for the recorder is refused; never where it keeps no event.
     pub fn open(alloc: Global, settings: Settings) -> Result<Device, AllocError>
-        ensures new { IfOk result (λ device. device ≡ opened settings) }
+        ensures new { IfOk result (λ device. device ≡ opened settings device.memory) }
         ensures nothing_arrived { IfOk result (λ device. device.device.tree.top ≡ no_counts) }
+        ensures recorder { IfOk result (λ device. device.memory.events ≡ settings.recorder) }
         ensures succeeds { settings.recorder ≡ 0 → IsOk result }
     {
         Ok(Device {
+            clock: Moment::zero(),
             tree: Tree::new(alloc, settings.mtu, settings.txqueuelen),
             losses: Losses::new(alloc),
             handed_out: 0,
@@ -83,24 +88,28 @@ impl Device {
     /// # Errors
     ///
     /// The packet and `AllocError` where memory is refused, or one packet more could overflow what the device counts of
-    /// arrivals. Nothing has changed then, and there was no event.
+    /// arrivals; never where there is room for the packet already. Nothing has changed then but for places, and there was no event.
     pub fn arrive(&mut self, packet: Packet, now: Moment) -> Result<Fate, (Packet, AllocError)>
-        ensures event { OnOk result (self.new ≡ with_event (event.Arrive packet now) self.old) }
+        ensures event { OnOk result (self.new ≡ record (with_event (event.Arrive packet now) self.old) { memory = self.new.memory }) }
         ensures moment { OnOk result (as_counted self.old.device (event.Arrive packet now) ≡ event.Arrive packet self.new.device.clock) }
         ensures fate { IfOk result (λ fate. reply.Fate fate ≡ (step totals self.old.device (event.Arrive packet now)).reply) }
         ensures arrived { OnOk result (self.new.device.tree.top.arrived ≡ with_packet self.old.device.tree.top.arrived packet) }
-        ensures same { OnErr result (self.new ≡ self.old) }
+        ensures same { OnErr result (self.new ≡ record self.old { memory = self.new.memory }) }
+        ensures succeeds { HasRoomFor packet self.old → IsOk result }
+        ensures places { self.old.memory.losses ≤ self.new.memory.losses }
+        ensures recorder { self.new.memory.events ≡ self.old.memory.events }
         ensures back { IfErr result (λ refused. refused.0 ≡ packet) }
         ensures counters { HasNotFallen self.old.device.tree.top self.new.device.tree.top }
     {
         packet_ranges(packet);
         moment_range(now);
-        let at = later(self.tree.clock(), now);
+        let at = later(self.clock, now);
         let route = self.tree.route(&packet);
         let Ok(()) = make_room(&mut self.tree, &mut self.losses, &route) else {
             return Err((packet, AllocError));
         };
         let fate = self.tree.put(&route, packet, at, &mut self.losses);
+        self.clock = at;
         let event = Event::Arrive(packet, at);
         record(&mut self.recorded, &mut self.events, &self.settings, event);
         Ok(fate)
@@ -112,15 +121,17 @@ impl Device {
     /// A moment before the device's clock counts as the clock. The event is recorded at the moment that the clock shows
     /// after it.
     pub fn poll(&mut self, now: Moment) -> Polled
-        ensures event { self.new ≡ with_event (event.Poll now) self.old }
+        ensures event { self.new ≡ record (with_event (event.Poll now) self.old) { memory = self.new.memory } }
+        ensures memory { self.new.memory ≡ polled_memory self.new.device.clock self.old.memory }
         ensures moment { as_counted self.old.device (event.Poll now) ≡ event.Poll self.new.device.clock }
         ensures reply { reply.Polled result ≡ (step totals self.old.device (event.Poll now)).reply }
         ensures arrived { self.new.device.tree.top.arrived ≡ self.old.device.tree.top.arrived }
         ensures counters { HasNotFallen self.old.device.tree.top self.new.device.tree.top }
     {
         moment_range(now);
-        let at = later(self.tree.clock(), now);
+        let at = later(self.clock, now);
         let taken = self.tree.take(at, &mut self.losses);
+        self.clock = at;
         let event = Event::Poll(at);
         record(&mut self.recorded, &mut self.events, &self.settings, event);
         polled_of(taken, &self.tree)
@@ -152,9 +163,11 @@ impl Device {
         self.tree.stats(place)
     }
 
-    /// The tree.
+    /// The tree. Its own clock is at or before the device's, which events that give the tree no moment move alone.
     pub fn tree(&self) -> &Tree
-        ensures { numbers result.now ≡ self.now.device }
+        ensures memory { result.now ≡ self.now.memory.tree }
+        ensures numbers { tree_numbers result.now.tree ≡ self.now.device.tree }
+        ensures clock { result.now.clock ≤ self.now.device.clock }
     {
         &self.tree
     }
@@ -176,6 +189,7 @@ impl Device {
     /// What the type keeps, for the laws. It does nothing.
     pub(crate) fn kept(&self)
         ensures replayed { IsReplayed self.now }
+        ensures memory { HasItsMemory self.now }
         ensures settings { IsInRange self.now.settings }
     {
         let _ = &self.tree;

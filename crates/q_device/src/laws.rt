@@ -1,5 +1,5 @@
 //! What is true of every device and every replay. Each law is the contract of a function that does nothing.
-ghost use Rattle.q_device.specs.DeviceLaws.{ArrivesByArrivals, CountersNeverFall, EveryCounterIsCompared, IsLawfulDevice, IsReplayed, IsReplayOfRecorded, TellsItsLosses};
+ghost use Rattle.q_device.specs.DeviceLaws.{ArrivesByArrivals, CountersNeverFall, EveryCounterIsCompared, HasItsMemory, IsLawfulDevice, IsReplayed, IsReplayOfRecorded, TellsItsLosses};
 ghost use Rattle.q_device.specs.Laws.{ReplayGoesOn, ShrinkCommutes, ReplayShrinks, EveryReplayIsSound, TotalsAreLawful, EveryReplayTellsAll};
 ghost use Rattle.q_device.specs.Sharing.{ClassesSendTheirShares, DeficitsAreBounded, GrantsComeWhereShort, ClassesWakeWithAQuantum, ClassesShareByQuanta, BucketsAreBounded, FlowsGiveTheirShares, FlowsBeginNew, FlowsAreGrantedEvenly};
 
@@ -111,6 +111,15 @@ pub fn device_is_lawful(device: &Device)
 /// sent, is queued, or was lost so.
 pub fn device_tells_its_losses(device: &Device)
     ensures { TellsItsLosses device.now }
+{
+    device.kept();
+}
+
+/// The lost list of a device has a place for each loss that waits and each packet that is queued, so that whatever is lost of
+/// them needs no memory; and the recorder has a place for each event that it keeps. Its tree was given no moment after the
+/// device's clock.
+pub fn device_has_its_memory(device: &Device)
+    ensures { HasItsMemory device.now }
 {
     device.kept();
 }

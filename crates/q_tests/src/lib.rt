@@ -13,6 +13,8 @@ mod command_line;
 #[cfg(test)]
 mod device;
 #[cfg(test)]
+mod device_calls;
+#[cfg(test)]
 mod drr;
 #[cfg(test)]
 mod fifo;
@@ -54,3 +56,5 @@ mod show;
 mod streams;
 #[cfg(test)]
 mod tree;
+#[cfg(test)]
+mod tree_views;

@@ -1,5 +1,6 @@
-use Rattle.std.proofs.Common.{arith}
-use Rattle.q_device.proofs.KeptLemmas.{handed-fits, reaped-kept}
+use Rattle.std.proofs.Common.{◌+◌, ◌∙◌, ap, arith}
+use Rattle.q_device.specs.DeviceSeen.{reaped}
+use Rattle.q_device.proofs.KeptLemmas.{handed-fits, handed-none, handed-one, reaped-kept, reaped-seen}
 use Rattle.q_device.proofs.device.Device.reap.Goals as goal
 
 pub overflow_add-self : goal.overflow_add-self
@@ -7,3 +8,13 @@ overflow_add-self c = omega (arith, handed-fits c.self.inside c.self.invariant c
 
 pub invariant_of-self-2 : goal.invariant_of-self-2
 invariant_of-self-2 c = reaped-kept c.self.inside c.self.invariant c.in-Some.lost c.reap.new.self c.in-Some.ensures.oldest c.in-Some.ensures.rest
+
+pub returns-in_default-clause-rest : goal.returns-in_default-clause-rest
+returns-in_default-clause-rest c =
+    let a = c.self.inside in
+    reaped-seen a c.reap.new.self a.handed_out c.in_default.ensures.rest (handed-none a.handed_out a.losses.waiting c.in_default.ensures.oldest) ∙ ap reaped c.self.view_is
+
+pub returns-clause-rest : goal.returns-clause-rest
+returns-clause-rest c =
+    let a = c.self.inside in
+    reaped-seen a c.reap.new.self (a.handed_out + 1) c.in-Some.ensures.rest (handed-one a.handed_out c.in-Some.lost a.losses.waiting c.in-Some.ensures.oldest) ∙ ap reaped c.self.view_is
