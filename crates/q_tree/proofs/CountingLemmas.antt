@@ -101,11 +101,11 @@ module _ (handles : List ℕ) (k : ℕ) (inside : k < length handles) where
 
   pub taken : is_free handles k ≡ false → least_from handles (k + 1) ≡ least_from handles k
   taken e = sym (
-    ap (λ m. k + least (λ j. is_free handles (k + j)) m) more
-    ∙ ap (λ b. k + (if b then zero else suc (least (λ j. is_free handles (k + suc j)) (length handles - (k + 1))))) (ap (is_free handles) (omega arith) ∙ e)
-    ∙ (λ i. k + suc (least (λ j. same-test j i) (length handles - (k + 1))))
-    ∙ omega arith
-  )
+      ap (λ m. k + least (λ j. is_free handles (k + j)) m) more
+      ∙ ap (λ b. k + (if b then zero else suc (least (λ j. is_free handles (k + suc j)) (length handles - (k + 1))))) (ap (is_free handles) (omega arith) ∙ e)
+      ∙ (λ i. k + suc (least (λ j. same-test j i) (length handles - (k + 1))))
+      ∙ omega arith
+      )
 
   pub found : is_free handles k ≡ true → least_from handles k ≡ k
   found e =

@@ -80,9 +80,11 @@ module _ (memory : Type 0) (command : Command) (d : DeviceState Kept) (now : ℕ
   planned = plan d.tree.device now command (shape d.tree.root)
 
   pub tree-refused : (refusal : NotDone) → answer ≡ Err refusal → IsAnswered memory now planned d d (Err refusal)
-  tree-refused refusal is =
-      (subst (λ (n : Node Kept). IsRefused memory (plan d.tree.device now command (shape n)) refusal) root_is
-      (subst (IsPlanOf memory command now d.tree.device root) is plan_of), refl)
+  tree-refused refusal is = (
+    subst (λ (n : Node Kept). IsRefused memory (plan d.tree.device now command (shape n)) refusal) root_is
+        (subst (IsPlanOf memory command now d.tree.device root) is plan_of),
+    refl,
+  )
 
   module _ (p : Planned) (is : answer ≡ Ok p) where
     pub tree-planned : IsPlannedFor memory command p now d.tree.device d.tree.root

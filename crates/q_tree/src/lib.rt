@@ -6,8 +6,9 @@
 //!   [`FilterView`] are what `show` prints.
 //! - [`laws`] is what is true of every tree, and of every call for a packet.
 //!
-//! What a tree does is defined in the `specs/` of `q_model`. The calls that change its form are to come;
-//! what they share, an edit of the node at the end of a way, stands.
+//! What a tree does is defined in the `specs/` of `q_model`. Of the commands [`Tree::graft`] and [`Tree::prune`] stand, which put a
+//! qdisc into a place and remove one, [`Tree::class_change`], [`Tree::filter_add`] and [`Tree::filter_del`]; a change of a qdisc, and
+//! classes that are added and removed, are to come.
 #![tactic(auto)]
 
 mod at_hand;

@@ -138,7 +138,8 @@ pub(crate) fn limit_bytes(rate: Rate, burst: Burst, limit: TbfLimit) -> u64
     match limit {
         TbfLimit::Bytes(bytes) => u64::from(bytes),
         TbfLimit::Latency(latency) => {
-            let brought = u128::from(rate.bits()) * u128::from(latency.nanoseconds()) / UNITS_IN_BYTE;
+            let brought = u128::from(rate.bits()) * u128::from(latency.nanoseconds())
+                / UNITS_IN_BYTE;
             brought as u64 + u64::from(burst.bytes())
         }
     }

@@ -170,12 +170,7 @@ impl Node {
     }
 
     // Whether a new qdisc may stand at the end of this way.
-    fn can_graft(
-        &self,
-        path: &[usize],
-        handle: &Option<Handle>,
-        kind: &Kind,
-    ) -> Result<(), NotDone>
+    fn can_graft(&self, path: &[usize], handle: &Option<Handle>, kind: &Kind) -> Result<(), NotDone>
         requires bounded { IsBounded self.now }
         requires there { IsSome (node_at path.now self.now) }
         ensures { result ≡ done_unless (graft_checks handle.now kind.now path.now self.now) (record {}) }
@@ -235,7 +230,8 @@ impl Node {
     {
         match &self.discipline {
             Discipline::Fifo(_) | Discipline::FqCodel(_) => return true,
-            Discipline::Prio { .. } | Discipline::Tbf { .. } | Discipline::Drr { .. } => return false,
+            Discipline::Prio { .. } | Discipline::Tbf { .. } | Discipline::Drr { .. } =>
+                return false,
         }
     }
 

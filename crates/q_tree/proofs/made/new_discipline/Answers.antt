@@ -15,7 +15,7 @@ returns-in-Prio c =
     subst (λ k. IsNewDiscipline (Prio c.options.inside.priomap c.in_ok-bands-in-Prio.bands) (made d c.args.now None k)) (sym c.in-Prio.is) (record {
       discipline = ap (λ (o : PrioSettings). spec.Prio o.priomap) c.options.view_is;
       leaves = subst (λ xs. AreNew c.in_ok-bands-in-Prio.bands.items xs) (sym (nodes-side (replicate c.in-Prio.options.bands leaf)))
-        (subst (λ k. AreNew c.in_ok-bands-in-Prio.bands.items (replicate k leaf)) (c.from.ensures ∙ ap (λ (o : PrioSettings). o.bands) c.options.view_is) c.in_ok-bands-in-Prio.ensures);
+          (subst (λ k. AreNew c.in_ok-bands-in-Prio.bands.items (replicate k leaf)) (c.from.ensures ∙ ap (λ (o : PrioSettings). o.bands) c.options.view_is) c.in_ok-bands-in-Prio.ensures);
     })
 
 pub returns-in-FqCodel : goal.returns-in-FqCodel

@@ -18,8 +18,8 @@ loop-child-init t c =
     let ns = c.children-child-items.result.now in
     let own = option_to_list c.args.self.now.own.handle in (
       ap (λ xs. xs ++ handles_ahead 0 ns) c.add_own.ensures
-      ∙ append_assoc c.args.majors.now.items own (handles_ahead 0 ns)
-      ∙ ap (λ xs. c.args.majors.now.items ++ xs) (sym (handles-all c.args.self.now ns c.children-child-items.ensures)),
+          ∙ append_assoc c.args.majors.now.items own (handles_ahead 0 ns)
+          ∙ ap (λ xs. c.args.majors.now.items ++ xs) (sym (handles-all c.args.self.now ns c.children-child-items.ensures)),
       omega (arith, ap length c.add_own.ensures, length-append c.args.majors.now.items own, one c.args.self.now.own.handle, count-all c.args.self.now ns c.children-child-items.ensures),
     )
 
@@ -36,9 +36,9 @@ loop-child-preserved t c =
     let i = c.loop-child.child-index in
     let n = c.child-item.result in (
       ap (λ xs. xs ++ handles_ahead (i + 1) ns) c.add_majors.ensures.added
-      ∙ append_assoc c.loop-child.majors.items (handles_in n) (handles_ahead (i + 1) ns)
-      ∙ ap (λ xs. c.loop-child.majors.items ++ xs) (sym (handles-next ns i n c.loop-child-test.true c.child-item.is))
-      ∙ c.loop-child.invariant.0,
+          ∙ append_assoc c.loop-child.majors.items (handles_in n) (handles_ahead (i + 1) ns)
+          ∙ ap (λ xs. c.loop-child.majors.items ++ xs) (sym (handles-next ns i n c.loop-child-test.true c.child-item.is))
+          ∙ c.loop-child.invariant.0,
       omega (arith, c.loop-child.invariant.1, c.add_majors.ensures.few, count-next ns i n c.loop-child-test.true c.child-item.is),
     )
 
