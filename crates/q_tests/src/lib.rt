@@ -57,4 +57,6 @@ mod streams;
 #[cfg(test)]
 mod tree;
 #[cfg(test)]
+mod tree_commands;
+#[cfg(test)]
 mod tree_views;
