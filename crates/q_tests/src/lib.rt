@@ -13,8 +13,6 @@ mod command_line;
 #[cfg(test)]
 mod device;
 #[cfg(test)]
-mod device_calls;
-#[cfg(test)]
 mod drr;
 #[cfg(test)]
 mod fifo;
@@ -29,22 +27,6 @@ mod head;
 #[cfg(test)]
 mod line;
 #[cfg(test)]
-mod line_addresses;
-#[cfg(test)]
-mod line_fields;
-#[cfg(test)]
-mod line_heads;
-#[cfg(test)]
-mod line_orders;
-#[cfg(test)]
-mod line_places;
-#[cfg(test)]
-mod line_ranges;
-#[cfg(test)]
-mod line_reading;
-#[cfg(test)]
-mod line_units;
-#[cfg(test)]
 mod packet;
 #[cfg(test)]
 mod plain_fq_codel;
@@ -56,7 +38,3 @@ mod show;
 mod streams;
 #[cfg(test)]
 mod tree;
-#[cfg(test)]
-mod tree_commands;
-#[cfg(test)]
-mod tree_views;
