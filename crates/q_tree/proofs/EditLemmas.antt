@@ -27,21 +27,24 @@ use Rattle.q_sound.proofs.Answer.{one}
 use Rattle.q_sound.proofs.Counted.{bytes}
 use Rattle.q_sound.proofs.DrrSettled.{settled-packets}
 use Rattle.q_sound.proofs.EditNew.{held-le-beneath}
-use Rattle.q_sound.proofs.Forests.{each-at, each-set, nodes-side}
+use Rattle.q_sound.proofs.Forests.{each-at, each-nodes, each-set, each-side, nodes-side}
 use Rattle.q_sound.proofs.Joined.{joined, weigh-joined-set, weigh-beneath, weigh-held}
 use Rattle.q_sound.proofs.Members.{All-at}
 use Rattle.q_sound.proofs.Weights.{weigh, weigh-count, weigh-nil}
 use Rattle.q_tree.specs.Arrivals.{plus}
-use Rattle.q_tree.specs.Editing.{requantized, effect, removed, removed_at, notes_of, edited_by, with_dropped, CanDrop, IsReady, IsEditedBeneath}
+use Rattle.q_tree.specs.Editing.{effect, reshaped, removed, removed_at, notes_of, edited_by, with_dropped, CanDrop, IsReady, IsEditedBeneath}
 use Rattle.q_tree.specs.Kept.{Kept, kept}
 use Rattle.q_tree.specs.Places.{Leads}
 use Rattle.q_tree.specs.Purging.{purged}
 use Rattle.q_tree.specs.Seen.{seen, children_seen, discipline_seen, places_seen, IsKept, IsCountedWithin}
 use Rattle.q_tree.specs.declared.edit.Edit.{Edit}
-use Rattle.q_tree.specs.declared.edit.Edit.TheVariants.{Graft, AddFilter, RemoveFilters, Quantum}
+use Rattle.q_tree.specs.declared.edit.Edit.TheVariants.{Graft, AddFilter, RemoveFilters, Reshape}
+use Rattle.q_tree.specs.declared.reshape.Reshape as shapes
 use Rattle.q_tree.specs.declared.node.Discipline.{Discipline}
 use Rattle.q_tree.specs.declared.node.Node.TheInside.{Inside}
 use Rattle.q_tree.proofs.Puts.{same-child}
+use Rattle.q_tree.proofs.ReshapeLemmas.{IsConserved, conserved}
+use Rattle.q_tree.specs.Reshaping.{IsReshaped, children_after, discipline_after, lost_with}
 use Rattle.q_tree.proofs.Rows.{counts_in_row, same-totals, weigh-bytes}
 
 -- the losses of a purge, as they are told
@@ -65,32 +68,51 @@ pub record Loses (lost : List Descriptor) (old new : Node Kept) : Type 0 where
   pub held : (w : Descriptor → ℕ) → weigh w (held_beneath old) ≤ weigh w (held_beneath new) + weigh w lost
   pub arrived : IsCountedWithin new.memory.counts.arrived old.memory.counts.arrived
 
--- another quantum keeps the packets
-requantized-packets : (class : ℕ) (quantum : Option ℕ) (d : spec.Discipline) → packets_in (requantized class quantum d) ≡ packets_in d
-requantized-packets class quantum (spec.Drr s) = refl
-requantized-packets class quantum (spec.Fifo limit queue) = refl
-requantized-packets class quantum (spec.Prio priomap) = refl
-requantized-packets class quantum (spec.Tbf bucket limit) = refl
-requantized-packets class quantum (spec.FqCodel s) = refl
+pub reshaped-loses : (r : shapes.Reshape) (n : Node Kept) → IsConserved n.own.discipline (discipline_after r n.own.discipline (children n)) (children n) (children_after r n.own.discipline (children n)) (lost_with r n.own.discipline (children n))
+    → Loses (lost_with r n.own.discipline (children n)) n (reshaped r n)
+reshaped-loses r n h =
+    let after : Node Kept = reshaped r n in
+    let lost : List Descriptor = lost_with r n.own.discipline (children n) in
+    let ms : List (Node Kept) = children_after r n.own.discipline (children n) in
+    let counts = ap (λ (k : Kept). k.counts.arrived) (noted-purged n.memory lost) in
+    record {
+      conserved = λ w.
+          omega (
+            arith,
+            weigh-beneath w n.own (each beneath_own n.below),
+            weigh-beneath w after.own (each beneath_own after.below),
+            ap (λ b. weigh w (joined b)) (each-nodes beneath_own n.below),
+            ap (λ b. weigh w (joined b)) (each-side beneath_own ms),
+            ap (weigh w) h.packets,
+            h.waits w,
+          );
+      held = λ w.
+          omega (
+            arith,
+            weigh-held w n.own (each held_own n.below),
+            weigh-held w after.own (each held_own after.below),
+            ap (λ b. weigh w (joined b)) (each-nodes held_own n.below),
+            ap (λ b. weigh w (joined b)) (each-side held_own ms),
+            h.holds w,
+          );
+      arrived = record { packets = omega (arith, ap (λ (t : Totals). t.packets) counts); bytes = omega (arith, ap (λ (t : Totals). t.bytes) counts) };
+    }
 
 pub effect-loses : (e : Edit) (n : Node Kept) → IsReady e → Loses (removed e n) n (effect e n)
 effect-loses (Graft new) n h = record {
-  conserved = λ w. omega (arith, ap (weigh w) h.1, weigh-nil w);
+  conserved = λ w. omega (arith, ap (weigh w) h.alone, weigh-nil w);
   held = λ w. omega (arith, held-le-beneath w n);
   arrived = record {
-    packets = omega (arith, ap (λ (c : Counts). c.arrived.packets) h.0);
-    bytes = omega (arith, ap (λ (c : Counts). c.arrived.bytes) h.0);
+    packets = omega (arith, ap (λ (c : Counts). c.arrived.packets) h.counts);
+    bytes = omega (arith, ap (λ (c : Counts). c.arrived.bytes) h.counts);
   };
 }
 effect-loses (AddFilter f) n h = record { conserved = λ w. omega (arith, weigh-nil w); held = λ w. omega (arith, weigh-nil w); arrived = record { packets = omega arith; bytes = omega arith } }
 effect-loses (RemoveFilters prio) n h = record { conserved = λ w. omega (arith, weigh-nil w); held = λ w. omega (arith, weigh-nil w); arrived = record { packets = omega arith; bytes = omega arith } }
-effect-loses (Quantum class quantum) n h =
-    let same = requantized-packets class quantum n.own.discipline in
-    record {
-      conserved = λ w. omega (arith, weigh-nil w, ap (λ ps. weigh w (option_to_list n.own.held ++ ps ++ joined (each beneath_own n.below))) same);
-      held = λ w. omega (arith, weigh-nil w);
-      arrived = record { packets = omega arith; bytes = omega arith };
-    }
+effect-loses (Reshape r) n h =
+    let kept_by : IsConserved n.own.discipline (discipline_after r n.own.discipline (children n)) (children n) (children_after r n.own.discipline (children n)) (lost_with r n.own.discipline (children n)) =
+    conserved r n.own.discipline (children n) h in
+    reshaped-loses r n kept_by
 
 -- a node above one that loses them
 pub loses-above : (lost : List Descriptor) (i : ℕ) (n old new : Node Kept) → slice_get (children n) i ≡ Some old → Loses lost old new → Loses lost n (above kept (losses_of Purged lost) i new n)
@@ -205,6 +227,71 @@ pub same-total : (t u : Totals) → IsAnswer t u → t ≡ u
 unfolding total_of
 same-total t u e = ap total_of e
 
+-- a node of which these packets are lost and booked as dropped
+pub kept-booked : (a b : Inside) (ps : List Descriptor) → IsKept a → Loses ps (seen a) (seen b) → b.row ≡ with_dropped (totals_in ps) a.row
+    → All (λ (child : Node Kept). IsCountedWithin child.memory.counts.arrived a.row.arrived) (children_seen b.discipline) → CanDrop (totals_in ps) a.row → IsKept b
+kept-booked a b ps k l booked within among =
+    let row_packets = ap (λ (x : Row). x.queued.packets) booked in
+    let row_bytes = ap (λ (x : Row). x.queued.bytes) booked in
+    record {
+      queued = same-totals b.row.queued (totals_in (beneath (seen b)))
+          (omega (arith, row_packets, ap (λ (t : Totals). t.packets) k.queued, l.conserved one, weigh-count (beneath (seen a)), weigh-count (beneath (seen b)), weigh-count ps))
+          (omega (arith, row_bytes, ap (λ (t : Totals). t.bytes) k.queued, l.conserved bytes, weigh-bytes (beneath (seen a)), weigh-bytes (beneath (seen b)), weigh-bytes ps));
+      balanced = subst IsBalanced (sym booked) (record { packets = omega (arith, k.balanced.packets, among.packets); bytes = omega (arith, k.balanced.bytes, among.bytes) });
+      marks = subst (λ (x : Row). AreMarksBounded (counts_in_row x) (held_beneath (seen b))) (sym booked) (record {
+        packets = omega (arith, k.marks.packets, l.held one, weigh-count (held_beneath (seen a)), weigh-count (held_beneath (seen b)), weigh-count ps);
+        bytes = omega (arith, k.marks.bytes, l.held bytes, weigh-bytes (held_beneath (seen a)), weigh-bytes (held_beneath (seen b)), weigh-bytes ps);
+      });
+      within = subst (λ (x : Row). All (λ (child : Node Kept). IsCountedWithin child.memory.counts.arrived x.arrived) (children_seen b.discipline)) (sym booked) within;
+    }
+
+-- a node that is reshaped
+module _ (r : shapes.Reshape) (e : Edit) (is : e ≡ Reshape r) (a : Inside) (n : Node Kept) (view : seen a ≡ n) (k : IsKept a) (ready : IsReady e) where
+  abbrev goes : List Descriptor
+  goes = lost_with r (discipline_seen a.discipline) (children_seen a.discipline)
+
+  abbrev kids : children (seen a) ≡ children_seen a.discipline
+  kids = nodes-side (children_seen a.discipline)
+
+  pub goes-is : goes ≡ removed e n
+  goes-is = sym (ap (λ m. removed e m) (sym view) ∙ ap (λ x. removed x (seen a)) is ∙ ap (lost_with r (discipline_seen a.discipline)) kids)
+
+  kept-whole : IsConserved (discipline_seen a.discipline) (discipline_after r (discipline_seen a.discipline) (children (seen a))) (children (seen a)) (children_after r (discipline_seen a.discipline) (children (seen a))) (lost_with r (discipline_seen a.discipline) (children (seen a)))
+  kept-whole = conserved r (discipline_seen a.discipline) (children (seen a)) (subst IsReady is ready)
+
+  goes-lost : Loses goes (seen a) (reshaped r (seen a))
+  goes-lost = subst (λ ps. Loses ps (seen a) (reshaped r (seen a))) (ap (lost_with r (discipline_seen a.discipline)) kids) (reshaped-loses r (seen a) kept-whole)
+
+  pub can-lose : a.row.arrived.packets < 2 ^ 64 → a.row.arrived.bytes < 2 ^ 64 → CanDrop (totals_in goes) a.row
+  can-lose packets_fit bytes_fit = can-drop goes (seen a) (reshaped r (seen a)) a.row k.queued goes-lost packets_fit bytes_fit
+
+  pub goes-room : (room : ℕ) → length (removed e n) ≤ room → length goes ≤ room
+  goes-room room le = omega (arith, le, ap (λ (ps : List Descriptor). length ps) goes-is)
+
+  module _ (d : Discipline) (after : IsReshaped r a.discipline d) (row : Row) (booked : row ≡ with_dropped (totals_in goes) a.row) where
+    is-reshaped : seen (record a { row = row; discipline = d }) ≡ reshaped r (seen a)
+    is-reshaped = λ j. record {
+      own = record { handle = a.handle; discipline = (after.discipline ∙ ap (discipline_after r (discipline_seen a.discipline)) (sym kids)) j; held = a.held; filters = a.filters.items };
+      memory = memory j;
+      below = ap side_by_side (after.children ∙ ap (children_after r (discipline_seen a.discipline)) (sym kids)) j;
+    }
+      where
+        memory : record { counts = counts_in_row row; places = places_seen d } ≡ noted kept (seen a).memory (losses_of Purged (lost_with r (discipline_seen a.discipline) (children (seen a))))
+        memory =
+            ap (λ (x : Row). record { counts = counts_in_row x; places = places_seen d }) booked
+            ∙ ap (λ p. record { counts = counts_in_row (with_dropped (totals_in goes) a.row); places = p }) after.places
+            ∙ sym (noted-purged (seen a).memory goes)
+            ∙ ap (λ ns. noted kept (seen a).memory (losses_of Purged (lost_with r (discipline_seen a.discipline) ns))) (sym kids)
+
+    pub reshaped-effect : seen (record a { row = row; discipline = d }) ≡ effect e n
+    reshaped-effect = is-reshaped ∙ sym (ap (λ x. effect x (seen a)) is) ∙ ap (effect e) view
+
+    pub reshaped-kept : CanDrop (totals_in goes) a.row → IsKept (record a { row = row; discipline = d })
+    reshaped-kept among =
+        kept-booked a (record a { row = row; discipline = d }) goes k (subst (Loses goes (seen a)) (sym is-reshaped) goes-lost) booked
+        (subst (All (λ (child : Node Kept). IsCountedWithin child.memory.counts.arrived a.row.arrived)) (sym after.children)
+        ((conserved r (discipline_seen a.discipline) (children_seen a.discipline) (subst IsReady is ready)).within a.row.arrived k.within)) among
+
 -- a node that a way has gone through, once what was lost beneath is booked
 module _ (e : Edit) (a : Inside) (n : Node Kept) (view : seen a ≡ n) (k : IsKept a) (whole : List ℕ) (i : ℕ) (path : List ℕ) (way : whole ≡ i ∷ path) (ready : IsReady e) (some : IsSome (node_at whole n)) where
   on : GoesOn e i path (seen a)
@@ -270,21 +357,9 @@ module _ (e : Edit) (a : Inside) (n : Node Kept) (view : seen a ≡ n) (k : IsKe
           let ps : List Descriptor = removed_at e path on.child in
           let l = subst (Loses ps (seen a)) (sym is-above) loses in
           let b : Inside = record a { row = r; discipline = d } in
-          let row_packets = ap (λ (x : Row). x.queued.packets) booked_is in
-          let row_bytes = ap (λ (x : Row). x.queued.bytes) booked_is in
-          record {
-            queued = same-totals r.queued (totals_in (beneath (seen b)))
-                (omega (arith, row_packets, ap (λ (t : Totals). t.packets) same, ap (λ (t : Totals). t.packets) k.queued, l.conserved one, weigh-count (beneath (seen a)), weigh-count (beneath (seen b)), weigh-count ps))
-                (omega (arith, row_bytes, ap (λ (t : Totals). t.bytes) same, ap (λ (t : Totals). t.bytes) k.queued, l.conserved bytes, weigh-bytes (beneath (seen a)), weigh-bytes (beneath (seen b)), weigh-bytes ps));
-            balanced = subst IsBalanced (sym booked_is) (record { packets = omega (arith, k.balanced.packets, among.packets); bytes = omega (arith, k.balanced.bytes, among.bytes) });
-            marks = subst (λ (x : Row). AreMarksBounded (counts_in_row x) (held_beneath (seen b))) (sym booked_is) (record {
-              packets = omega (arith, k.marks.packets, ap (λ (t : Totals). t.packets) same, l.held one, weigh-count (held_beneath (seen a)), weigh-count (held_beneath (seen b)), weigh-count ps);
-              bytes = omega (arith, k.marks.bytes, ap (λ (t : Totals). t.bytes) same, l.held bytes, weigh-bytes (held_beneath (seen a)), weigh-bytes (held_beneath (seen b)), weigh-bytes ps);
-            });
-            within = subst (λ (x : Row). All (λ (child : Node Kept). IsCountedWithin child.memory.counts.arrived x.arrived) (children_seen d)) (sym booked_is)
-                (subst (All (λ (child : Node Kept). IsCountedWithin child.memory.counts.arrived a.row.arrived)) (sym edited.children)
-                (All-set (λ (child : Node Kept). IsCountedWithin child.memory.counts.arrived a.row.arrived) (children_seen a.discipline) i (edited_by e path on.child) new_within k.within));
-          }
+          kept-booked a b ps k l row_is (subst (All (λ (child : Node Kept). IsCountedWithin child.memory.counts.arrived a.row.arrived)) (sym edited.children)
+          (All-set (λ (child : Node Kept). IsCountedWithin child.memory.counts.arrived a.row.arrived) (children_seen a.discipline) i (edited_by e path on.child) new_within k.within))
+          (subst (λ t. CanDrop t a.row) (sym same) among)
         where
           new_within : IsCountedWithin (edited_by e path on.child).memory.counts.arrived a.row.arrived
           new_within =

@@ -46,7 +46,7 @@ use Rattle.q_tree.specs.Making.{IsNewNode}
 use Rattle.q_tree.specs.Places.{unplaced}
 use Rattle.q_tree.specs.Showing.{IsNumbered}
 use Rattle.q_tree.specs.declared.edit.Edit.TheVariants.{Graft}
-use Rattle.q_tree.specs.declared.edit.Planned.{Planned}
+use Rattle.q_tree.specs.declared.planned.Planned.{Planned}
 use Rattle.q_tree.proofs.MakingLemmas.{new-counts, nothing-beneath}
 use Rattle.q_tree.proofs.FindLemmas.{take-front}
 use Rattle.q_tree.proofs.Plans.{all-passed, few, same-refusal, shallow}

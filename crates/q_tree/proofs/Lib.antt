@@ -4,6 +4,8 @@ pub mod AskOnce
 pub mod AskRows
 pub mod Asking
 pub mod AtHandLemmas
+pub mod BandsLemmas
+pub mod ClassLemmas
 pub mod CountedLosses
 pub mod CountingLemmas
 pub mod EditLemmas
@@ -20,6 +22,7 @@ pub mod Plans
 pub mod PopLemmas
 pub mod PurgeLemmas
 pub mod Puts
+pub mod ReshapeLemmas
 pub mod RouteLemmas
 pub mod Rows
 pub mod RowsOf

@@ -25,11 +25,11 @@ use Rattle.q_model.specs.Find.{class_in, count_nodes, depth, node_at, path_of}
 use Rattle.q_model.specs.Node.{Discipline, Fifo, Prio, Tbf, Drr, FqCodel, Own, Node, Shape, children, shape, side_by_side}
 use Rattle.q_model.specs.Make.{Device}
 use Rattle.q_model.specs.QdiscCommands.{all_kept, at_target, retuned}
-use Rattle.q_model.proofs.ShrinkLemmas.{noted-stands, shape-with_memory}
-use Rattle.q_model.proofs.ShrinkSteps.{edited-stands}
+use Rattle.q_model.proofs.ShrinkLemmas.{child-with_memory, noted-stands, shape-with_memory}
+use Rattle.q_model.proofs.ShrinkSteps.{edited_at-stands}
 use Rattle.q_model.specs.Refusals.{Check, done_unless, first_refusal, is_so, most_levels, most_nodes, refuse}
 use Rattle.q_model.specs.Step.{DeviceState, losses_in}
-use Rattle.q_model.specs.Tally.{Note, noted, totals}
+use Rattle.q_model.specs.Tally.{Note, Tally, noted, totals}
 use Rattle.q_model.specs.Ranges.{IsCommand}
 use Rattle.q_model.specs.TreeState.{plan, with_edit}
 use Rattle.q_model.specs.Work.{losses_of}
@@ -39,13 +39,16 @@ use Rattle.q_sound.proofs.EditSuits.{check_passed, done_is, length-shape, node_a
 use Rattle.q_sound.proofs.Forests.{side-nodes}
 use Rattle.q_sound.proofs.MadeSizes.{count-shape, depth-shape}
 use Rattle.q_tree.specs.Commands.{IsAnswered, IsBounded, IsDone, IsPlanned, IsPlannedFor, IsPlanOf, IsRefused, change_answer, device_edited, told}
-use Rattle.q_tree.specs.Editing.{IsReady, LosesNothing, TakesMemory, edited_by, effect, removed, removed_at, requantized, requantum}
+use Rattle.q_tree.specs.Editing.{IsReady, LosesNothing, TakesMemory, edited_by, effect, removed, removed_at}
+use Rattle.q_tree.specs.Reshaping.{KeepsAll, children_after, discipline_after, lost_with, requantum, rescheduled}
 use Rattle.q_tree.specs.Places.{unplaced}
 use Rattle.q_tree.specs.Kept.{Kept, kept}
 use Rattle.q_tree.specs.TreeSeen.{IsKeptDevice, numbers, tree_numbers}
 use Rattle.q_tree.specs.declared.edit.Edit.{Edit}
-use Rattle.q_tree.specs.declared.edit.Edit.TheVariants.{Graft, AddFilter, RemoveFilters, Quantum}
-use Rattle.q_tree.specs.declared.edit.Planned.{Planned}
+use Rattle.q_tree.specs.declared.edit.Edit.TheVariants.{Graft, AddFilter, RemoveFilters, Reshape}
+use Rattle.q_tree.specs.declared.reshape.Reshape as shapes
+use Rattle.q_tree.specs.declared.reshape.Reshape.TheVariants.{Nothing, SetLimit, SetBands, SetBucket, SetOptions, AddClass, SetQuantum, RemoveClass}
+use Rattle.q_tree.specs.declared.planned.Planned.{Planned}
 use Rattle.q_tree.specs.declared.tree.Tree.TheInside.{Inside}
 use Rattle.q_tree.proofs.TreeLemmas.{lawful-root, same-shape, stands}
 use Rattle.q_tree.specs.Showing.{IsNumbered}
@@ -125,6 +128,16 @@ module _ (memory : Type 0) (command : Command) (d : DeviceState Kept) (now : ℕ
     tree-room before after A (Err why) ok err = omega (arith, err.1, ap (λ xs. length xs) (told-none why))
 
 -- an edit that loses nothing
+quiet-lost : (r : shapes.Reshape) (d : Discipline) (ns : List (Node Kept)) → KeepsAll r → lost_with r d ns ≡ []
+quiet-lost Nothing d ns h = refl
+quiet-lost (SetLimit limit) d ns h = refl
+quiet-lost (SetBands options leaves) d ns h = absurd h
+quiet-lost (SetBucket bucket limit) d ns h = refl
+quiet-lost (SetOptions options) d ns h = refl
+quiet-lost (AddClass class quantum leaf) d ns h = refl
+quiet-lost (SetQuantum class quantum) d ns h = refl
+quiet-lost (RemoveClass class) d ns h = absurd h
+
 pub quiet-removed : (e : Edit) (path : List ℕ) (n : Node Kept) → LosesNothing e → removed_at e path n ≡ []
 quiet-removed (Graft new) path n h = absurd h
 quiet-removed (AddFilter f) path n h = by (node_at path n) where
@@ -135,49 +148,91 @@ quiet-removed (RemoveFilters prio) path n h = by (node_at path n) where
   by : (o : Option (Node Kept)) → option_map_or (removed (RemoveFilters prio)) o [] ≡ []
   by None = refl
   by (Some m) = refl
-quiet-removed (Quantum class quantum) path n h = by (node_at path n) where
-  by : (o : Option (Node Kept)) → option_map_or (removed (Quantum class quantum)) o [] ≡ []
+quiet-removed (Reshape r) path n h = by (node_at path n) where
+  by : (o : Option (Node Kept)) → option_map_or (removed (Reshape r)) o [] ≡ []
   by None = refl
-  by (Some m) = refl
+  by (Some m) = quiet-lost r m.own.discipline (children m) h
 
--- ---- other settings
+-- ---- a node that is made anew
 
 -- an edit is told by what it makes of the node at the end of its way
-edited-end : (notes : List Note) (f g : Node Kept → Node Kept) (path : List ℕ) (root n : Node Kept) → node_at path root ≡ Some n → f n ≡ g n → edited_at kept notes f path root ≡ edited_at kept notes g path root
-edited-end notes f g [] root n at same = ap f (same_Some root n at) ∙ same ∙ sym (ap g (same_Some root n at))
-edited-end notes f g (i ∷ path) root n at same = by (slice_get (children root) i) at (λ c there. edited-end notes f g path c n there same) where
-  by : (o : Option (Node Kept)) → option_and_then (node_at path) o ≡ Some n → ((c : Node Kept) → node_at path c ≡ Some n → edited_at kept notes f path c ≡ edited_at kept notes g path c)
-      → option_map_or (λ child. above kept notes i (edited_at kept notes f path child) root) o root ≡ option_map_or (λ child. above kept notes i (edited_at kept notes g path child) root) o root
+edited-end : {M : Type 0} (t : Tally M) (notes : List Note) (f g : Node M → Node M) (path : List ℕ) (root n : Node M) → node_at path root ≡ Some n → f n ≡ g n → edited_at t notes f path root ≡ edited_at t notes g path root
+edited-end t notes f g [] root n at same = ap f (same_Some root n at) ∙ same ∙ sym (ap g (same_Some root n at))
+edited-end {M} t notes f g (i ∷ path) root n at same = by (slice_get (children root) i) at (λ c there. edited-end t notes f g path c n there same) where
+  by : (o : Option (Node M)) → option_and_then (node_at path) o ≡ Some n → ((c : Node M) → node_at path c ≡ Some n → edited_at t notes f path c ≡ edited_at t notes g path c)
+      → option_map_or (λ child. above t notes i (edited_at t notes f path child) root) o root ≡ option_map_or (λ child. above t notes i (edited_at t notes g path child) root) o root
   by None there on = refl
-  by (Some c) there on = ap (λ x. above kept notes i x root) (on c there)
+  by (Some c) there on = ap (λ x. above t notes i x root) (on c there)
 
-module _ (e : Edit) (path : List ℕ) (root n : Node Kept) (there : node_at path root ≡ Some n) (own : Own) (does : effect e n ≡ record n { own = own }) (nothing_lost : removed e n ≡ []) where
-  abbrev pub own_edit : model.Edit
-  own_edit = Remake path own (all_kept (shape n))
+node_at-unplaced : (path : List ℕ) (n : Node Kept) → node_at path (unplaced n) ≡ option_map unplaced (node_at path n)
+node_at-unplaced [] n = refl
+node_at-unplaced (i ∷ path) n = ap (option_and_then (node_at path)) (child-with_memory (λ (k : Kept). k.counts) n i) ∙ beneath-child (slice_get (children n) i) (node_at-unplaced path) where
+  beneath-child : (o : Option (Node Kept)) → ((c : Node Kept) → node_at path (unplaced c) ≡ option_map unplaced (node_at path c)) → option_and_then (node_at path) (option_map unplaced o) ≡ option_map unplaced (option_and_then (node_at path) o)
+  beneath-child None rec = refl
+  beneath-child (Some c) rec = rec c
 
+-- an edit that gives the node at the end of its way other settings and children
+module _ (device : Device) (root : Node Kept) (p : Planned) (ready : IsReady p.edit) (n : Node Kept) (there : node_at p.path.items root ≡ Some n) (own : Own) (below : List model.Child)
+    (lost_is : removed p.edit n ≡ beneath_removed below (shape n))
+    (does : unplaced (effect p.edit n) ≡ remade totals own below (losses_of Purged (removed p.edit n)) (unplaced n))
+    (command : Command) (ranges : IsCommand command) (now : ℕ)
+    (plan-is : plan device now command (shape root) ≡ Ok (Remake p.path.items own below)) where
+  abbrev remake : model.Edit
+  remake = Remake p.path.items own below
+
+  abbrev notes : List Note
+  notes = losses_of Purged (removed_at p.edit p.path.items root)
+
+  here : removed_at p.edit p.path.items root ≡ removed p.edit n
+  here = ap (λ o. option_map_or (removed p.edit) o []) there
+
+  remade-lost : removed_at p.edit p.path.items root ≡ packets_removed remake (shape root)
+  remade-lost = here ∙ lost_is ∙ sym (ap (λ o. option_map_or (beneath_removed below) o []) (node_at-shape p.path.items root ∙ ap (option_map shape) there))
+
+  remade-same : unplaced (edited_by p.edit p.path.items root) ≡ model.edited totals (lost_by remake (shape root)) remake (unplaced root)
+  remade-same =
+      ap unplaced (edited-end kept notes (effect p.edit) (λ m. effect p.edit n) p.path.items root n there refl)
+      ∙ edited_at-stands kept totals (λ (k : Kept). k.counts) stands notes (λ m. effect p.edit n) (λ m. unplaced (effect p.edit n)) (λ m. refl) p.path.items root
+      ∙ edited-end totals notes (λ m. unplaced (effect p.edit n)) (remade totals own below notes) p.path.items (unplaced root) (unplaced n)
+      (node_at-unplaced p.path.items root ∙ ap (option_map unplaced) there) (does ∙ ap (λ ps. remade totals own below (losses_of Purged ps) (unplaced n)) (sym here))
+      ∙ ap (λ ps. edited_at totals (losses_of Purged ps) (remade totals own below (losses_of Purged ps)) p.path.items (unplaced root)) remade-lost
+
+  pub remade-planned : (memory : Type 0) → (TakesMemory p.edit → memory) → IsPlannedFor memory command p now device root
+  remade-planned memory takes = record {
+    planned = record {
+      command = command;
+      ranges = ranges;
+      edit = remake;
+      planned = plan-is;
+      lost = remade-lost;
+      same = remade-same;
+      there = ap is_some there;
+      ready = ready;
+    };
+    asked = refl;
+    takes = takes;
+  }
+
+-- other settings alone: all children stay
+module _ (n : Node Kept) where
   all-stay : beneath_removed (all_kept (shape n)) (shape n) ≡ []
   all-stay =
       gone_is (λ j. list_any (keeps j) (all_kept (shape n))) 0 (children (shape n))
       ∙ gone_none (λ j. list_any (keeps j) (all_kept (shape n))) 0 (map beneath (children (shape n)))
       (λ j le lt. kept_there j 0 (length (children (shape n))) le (omega (arith, lt, length-map (children (shape n)) beneath)))
 
-  removed-none : packets_removed own_edit (shape root) ≡ []
-  removed-none = ap (λ o. option_map_or (beneath_removed (all_kept (shape n))) o []) (node_at-shape path root ∙ ap (option_map shape) there) ∙ all-stay
+  pub length-unplaced : length (children (shape n)) ≡ length (children (unplaced n))
+  length-unplaced = ap (λ (s : Shape). length (children s)) (sym (shape-with_memory (λ (k : Kept). k.counts) n)) ∙ length-shape (unplaced n)
 
-  pub own-lost : removed_at e path root ≡ packets_removed own_edit (shape root)
-  own-lost = ap (λ o. option_map_or (removed e) o []) there ∙ nothing_lost ∙ sym removed-none
+  pub own-lost : (e : Edit) → removed e n ≡ [] → removed e n ≡ beneath_removed (all_kept (shape n)) (shape n)
+  own-lost e nothing_lost = nothing_lost ∙ sym all-stay
 
-  remade-is : remade kept own (all_kept (shape n)) (lost_by own_edit (shape root)) n ≡ record n { own = own }
-  remade-is = λ i. record {
+  pub own-does : (e : Edit) (own : Own) → effect e n ≡ record n { own = own } → removed e n ≡ [] → unplaced (effect e n) ≡ remade totals own (all_kept (shape n)) (losses_of Purged (removed e n)) (unplaced n)
+  own-does e own does nothing_lost = ap unplaced does ∙ sym (λ i. record {
     own = own;
-    memory = noted kept n.memory (losses_of Purged (removed-none i));
-    below = (ap side_by_side (kids_all kept (children n) (length (children (shape n))) (length-shape n)) ∙ side-nodes n.below) i;
-  }
-
-  pub own-same : edited_by e path root ≡ model.edited kept (lost_by own_edit (shape root)) own_edit root
-  own-same =
-      ap (λ ps. edited_at kept (losses_of Purged ps) (effect e) path root) own-lost
-      ∙ edited-end (lost_by own_edit (shape root)) (effect e) (remade kept own (all_kept (shape n)) (lost_by own_edit (shape root))) path root n there (does ∙ sym remade-is)
+    memory = noted totals n.memory.counts (losses_of Purged (nothing_lost i));
+    below = (ap side_by_side (kids_all totals (children (unplaced n)) (length (children (shape n))) length-unplaced) ∙ side-nodes (unplaced n).below) i;
+  })
 
 -- ---- the bounds of a tree
 
@@ -226,26 +281,19 @@ all-passed checks a b e = ap (λ o. option_map_or (λ r. Err r) o (Ok b)) (done_
 pub refused-plan : (memory : Type 0) (plan : Result model.Edit NotDone) (refusal : NotDone) → plan ≡ Err refusal → IsRefused memory plan refusal
 refused-plan memory plan refusal e = subst (λ p. IsRefused memory p refusal) (sym e) refl
 
-module _ (device : Device) (root : Node Kept) (p : Planned) (ready : IsReady p.edit) (n : Node Kept) (there : node_at p.path.items root ≡ Some n)
-    (own : Own) (does : effect p.edit n ≡ record n { own = own }) (nothing_lost : removed p.edit n ≡ [])
-    (command : Command) (ranges : IsCommand command) (now : ℕ)
-    (plan-is : plan device now command (shape root) ≡ Ok (Remake p.path.items own (all_kept (shape n)))) where
-  pub own-planned : (memory : Type 0) → (TakesMemory p.edit → memory) → IsPlannedFor memory command p now device root
-  own-planned memory takes = record {
-    planned = record {
-      command = command;
-      ranges = ranges;
-      edit = Remake p.path.items own (all_kept (shape n));
-      planned = plan-is;
-      lost = own-lost p.edit p.path.items root n there own does nothing_lost;
-      same = ap unplaced (own-same p.edit p.path.items root n there own does nothing_lost)
-          ∙ edited-stands kept totals (λ (k : Kept). k.counts) stands (lost_by (Remake p.path.items own (all_kept (shape n))) (shape root)) (Remake p.path.items own (all_kept (shape n))) root;
-      there = ap is_some there;
-      ready = ready;
-    };
-    asked = refl;
-    takes = takes;
-  }
+pub own-kept : (r : shapes.Reshape) (n : Node Kept) → lost_with r n.own.discipline (children n) ≡ [] → children_after r n.own.discipline (children n) ≡ children n
+    → effect (Reshape r) n ≡ record n { own = record n.own { discipline = discipline_after r n.own.discipline (children n) } }
+own-kept r n nothing_lost all = λ i. record {
+  own = record n.own { discipline = discipline_after r n.own.discipline (children n) };
+  memory = noted kept n.memory (losses_of Purged (nothing_lost i));
+  below = (ap side_by_side all ∙ side-nodes n.below) i;
+}
+
+pub own-planned : (device : Device) (root : Node Kept) (p : Planned) → IsReady p.edit → (n : Node Kept) → node_at p.path.items root ≡ Some n → (own : Own) → effect p.edit n ≡ record n { own = own } → removed p.edit n ≡ []
+    → (command : Command) → IsCommand command → (now : ℕ) → plan device now command (shape root) ≡ Ok (Remake p.path.items own (all_kept (shape n)))
+    → (memory : Type 0) → (TakesMemory p.edit → memory) → IsPlannedFor memory command p now device root
+own-planned device root p ready n there own does nothing_lost command ranges now plan-is memory takes =
+    remade-planned device root p ready n there own (all_kept (shape n)) (own-lost n p.edit nothing_lost) (own-does n p.edit own does nothing_lost) command ranges now plan-is memory takes
 
 -- ---- the class of a drr
 
@@ -266,10 +314,10 @@ requantum-is class None s there = refl
 requantum-is class (Some q) s there = sym (ap (λ b. if b then with_quantum class.minor q s else s) there)
 
 pub change-done : (class : ClassId) (quantum : Option ℕ) (path : List ℕ) (n : Node Kept) → change_answer class (shape n) n.own.discipline ≡ Ok tt
-    → of_schedule (class_changed class quantum path (shape n)) n.own.discipline ≡ Ok (Remake path (record n.own { discipline = requantized class.minor quantum n.own.discipline }) (all_kept (shape n)))
+    → of_schedule (class_changed class quantum path (shape n)) n.own.discipline ≡ Ok (Remake path (record n.own { discipline = rescheduled (requantum class.minor quantum) n.own.discipline }) (all_kept (shape n)))
 change-done class quantum path n e = by n.own.discipline refl e where
   by : (d : Discipline) → n.own.discipline ≡ d → change_answer class (shape n) d ≡ Ok tt
-      → of_schedule (class_changed class quantum path (shape n)) d ≡ Ok (Remake path (record n.own { discipline = requantized class.minor quantum d }) (all_kept (shape n)))
+      → of_schedule (class_changed class quantum path (shape n)) d ≡ Ok (Remake path (record n.own { discipline = rescheduled (requantum class.minor quantum) d }) (all_kept (shape n)))
   by (Drr s) is e =
       let passed = check_passed (refuse NoClass (not (is_there class (shape n)))) [] (done_is (class_change_checks class (shape n)) tt tt e).0 in
       let there : has_class class.minor s.classes ≡ true =

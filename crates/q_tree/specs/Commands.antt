@@ -20,7 +20,7 @@ use Rattle.q_tree.specs.Kept.{Kept, kept}
 use Rattle.q_tree.specs.Places.{unplaced}
 use Rattle.q_tree.specs.TreeSeen.{numbers, tree_numbers}
 use Rattle.q_tree.specs.declared.edit.Edit.{Edit}
-use Rattle.q_tree.specs.declared.edit.Planned.{Planned}
+use Rattle.q_tree.specs.declared.planned.Planned.{Planned}
 
 -- whether a command takes memory
 abbrev pub takes_memory : Type 0

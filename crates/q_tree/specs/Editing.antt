@@ -3,7 +3,6 @@
 use Rattle.std.specs.Prelude.{◌≡◌, ℕ, ◌<◌, ◌≤◌, ◌^◌, ◌==◌, not, List, [], set, Option, None, Some, if◌then◌else◌}
 use Rattle.std.specs.List.{filter}
 use Rattle.std.specs.Option.{option_map_or}
-use Rattle.q_drr.specs.Schedule.{Schedule, has_class, with_quantum}
 use Rattle.q_packet.specs.Descriptor.{Descriptor}
 use Rattle.q_packet.specs.declared.cause.Cause.TheVariants.{Purged}
 use Rattle.q_model.specs.declared.filter.Filter.{Filter}
@@ -14,65 +13,63 @@ use Rattle.q_model.specs.Edit.{edited_at}
 use Rattle.q_model.specs.Filters.{with_filter}
 use Rattle.q_model.specs.Find.{node_at}
 use Rattle.q_model.specs.Node as spec
-use Rattle.q_model.specs.Node.{Node}
-use Rattle.q_model.specs.Tally.{Note, no_counts}
+use Rattle.q_model.specs.Node.{Node, children, side_by_side}
+use Rattle.q_model.specs.Tally.{Note, noted}
 use Rattle.q_model.specs.Work.{losses_of, settled_in}
 use Rattle.q_tree.specs.Arrivals.{plus, minus}
 use Rattle.q_tree.specs.Kept.{Kept, kept}
+use Rattle.q_tree.specs.Reshaping.{AreReady, IsFresh, KeepsAll, TakesMore, children_after, discipline_after, lost_with}
+use Rattle.q_tree.specs.declared.reshape.Reshape as shapes
 use Rattle.q_tree.specs.Seen.{children_seen, discipline_seen, places_seen}
 use Rattle.q_tree.specs.declared.edit.Edit.{Edit}
-use Rattle.q_tree.specs.declared.edit.Edit.TheVariants.{Graft, AddFilter, RemoveFilters, Quantum}
+use Rattle.q_tree.specs.declared.edit.Edit.TheVariants.{Graft, AddFilter, RemoveFilters, Reshape}
 use Rattle.q_tree.specs.declared.node.Discipline.{Discipline}
 
 abbrev pub with_filters : List Filter → Node Kept → Node Kept
 with_filters filters n = record n { own = record n.own { filters = filters } }
 
--- another quantum for a class that is there, where one is given
-abbrev pub requantum : ℕ → Option ℕ → Schedule → Schedule
-requantum class None s = s
-requantum class (Some quantum) s = if has_class class s.classes then with_quantum class quantum s else s
-
-abbrev pub requantized : ℕ → Option ℕ → spec.Discipline → spec.Discipline
-requantized class quantum (spec.Drr s) = spec.Drr (requantum class quantum s)
-requantized class quantum (spec.Fifo limit queue) = spec.Fifo limit queue
-requantized class quantum (spec.Prio priomap) = spec.Prio priomap
-requantized class quantum (spec.Tbf bucket limit) = spec.Tbf bucket limit
-requantized class quantum (spec.FqCodel s) = spec.FqCodel s
+-- the node with another discipline and other children, which counts what went with those that are gone
+abbrev pub reshaped : shapes.Reshape → Node Kept → Node Kept
+reshaped r n = record {
+  own = record n.own { discipline = discipline_after r n.own.discipline (children n) };
+  memory = noted kept n.memory (losses_of Purged (lost_with r n.own.discipline (children n)));
+  below = side_by_side (children_after r n.own.discipline (children n));
+}
 
 -- the node that it makes of this one
 abbrev pub effect : Edit → Node Kept → Node Kept
 effect (Graft new) n = new
 effect (AddFilter f) n = with_filters (with_filter f n.own.filters) n
 effect (RemoveFilters prio) n = with_filters (filter (λ (f : Filter). not (f.prio == prio)) n.own.filters) n
-effect (Quantum class quantum) n = record n { own = record n.own { discipline = requantized class quantum n.own.discipline } }
+effect (Reshape r) n = reshaped r n
 
 -- the packets that it loses there
 abbrev pub removed : Edit → Node Kept → List Descriptor
 removed (Graft new) n = beneath n
 removed (AddFilter f) n = []
 removed (RemoveFilters prio) n = []
-removed (Quantum class quantum) n = []
+removed (Reshape r) n = lost_with r n.own.discipline (children n)
 
 -- what stands in place of a node is new: it has counted nothing, and nothing is queued there
 abbrev pub IsReady : Edit → Type 0
-IsReady (Graft new) = (new.memory.counts ≡ no_counts) × (beneath new ≡ [])
+IsReady (Graft new) = IsFresh new
 IsReady (AddFilter f) = Unit {0}
 IsReady (RemoveFilters prio) = Unit {0}
-IsReady (Quantum class quantum) = Unit {0}
+IsReady (Reshape r) = AreReady r
 
 -- the edits that lose nothing
 abbrev pub LosesNothing : Edit → Type 0
 LosesNothing (Graft new) = ⊥
 LosesNothing (AddFilter f) = Unit {0}
 LosesNothing (RemoveFilters prio) = Unit {0}
-LosesNothing (Quantum class quantum) = Unit {0}
+LosesNothing (Reshape r) = KeepsAll r
 
--- the edits that take memory: for one more filter
+-- the edits that take memory: for a filter or a child more
 abbrev pub TakesMemory : Edit → Type 0
 TakesMemory (Graft new) = ⊥
 TakesMemory (AddFilter f) = Unit {0}
 TakesMemory (RemoveFilters prio) = ⊥
-TakesMemory (Quantum class quantum) = ⊥
+TakesMemory (Reshape r) = TakesMore r
 
 -- the same for a way from a node down
 abbrev pub removed_at : Edit → List ℕ → Node Kept → List Descriptor
@@ -99,10 +96,4 @@ pub record CanDrop (lost : Totals) (r : Row) : Type 0 where
 pub record IsEditedBeneath (e : Edit) (rest : List ℕ) (place : ℕ) (c : Node Kept) (old new : Discipline) : Type 0 where
   pub discipline : discipline_seen new ≡ settled_in place (is_empty (edited_by e rest c)) (discipline_seen old)
   pub children : children_seen new ≡ set (children_seen old) place (edited_by e rest c)
-  pub places : places_seen new ≡ places_seen old
-
--- one that is as it was
-pub record IsUnchanged (old new : Discipline) : Type 0 where
-  pub discipline : discipline_seen new ≡ discipline_seen old
-  pub children : children_seen new ≡ children_seen old
   pub places : places_seen new ≡ places_seen old

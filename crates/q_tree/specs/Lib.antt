@@ -14,6 +14,7 @@ pub mod Places
 pub mod PopSteps
 pub mod Purging
 pub mod PutSteps
+pub mod Reshaping
 pub mod Seen
 pub mod Showing
 pub mod TreeSeen

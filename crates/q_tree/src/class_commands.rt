@@ -8,8 +8,10 @@ ghost use Rattle.q_model.specs.TreeState.{plan};
 ghost use Rattle.q_tree.specs.Editing.{LosesNothing};
 ghost use Rattle.q_tree.specs.Commands.{IsAnswered, IsBounded, IsPlanOf, change_answer, takes_none};
 
-use crate::edit::{Edit, Planned};
+use crate::edit::Edit;
 use crate::node::{Discipline, Node};
+use crate::planned::Planned;
+use crate::reshape::Reshape;
 use crate::one_loss::OneLoss;
 use crate::tree::Tree;
 use q_model::{ClassId, Command, Handle, NotDone, Quantum};
@@ -60,7 +62,7 @@ impl Node {
         if let Err(refusal) = node.can_change_class(&class) {
             return Err(refusal);
         }
-        let edit = Edit::Quantum(class.minor, quantum);
+        let edit = Edit::Reshape(Reshape::SetQuantum(class.minor, quantum));
         Ok(Planned { path, edit })
     }
 

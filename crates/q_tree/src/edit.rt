@@ -5,19 +5,19 @@ ghost use Rattle.q_model.specs.Beneath.{totals_in};
 ghost use Rattle.q_model.specs.Filters.{with_filter};
 ghost use Rattle.q_model.specs.Find.{node_at};
 ghost use Rattle.q_model.specs.Node as spec;
-ghost use Rattle.q_tree.specs.Editing.{effect, removed, removed_at, edited_by, requantized, requantum, IsReady, TakesMemory, IsEditedBeneath, IsUnchanged};
+ghost use Rattle.q_tree.specs.Editing.{effect, removed, removed_at, edited_by, IsReady, TakesMemory, IsEditedBeneath};
 ghost use Rattle.q_tree.specs.Kept.{Kept};
 ghost use Rattle.q_tree.specs.Places.{Leads};
 ghost use Rattle.q_tree.specs.Purging.{purged};
+ghost use Rattle.q_tree.specs.Reshaping.{IsUnchanged};
 ghost use Rattle.q_tree.specs.Seen.{children_seen, discipline_seen, places_seen};
 
 use crate::booking::{NOTHING, book_dropped};
 use crate::drr::settle;
-use crate::find::Path;
 use crate::node::{Discipline, Node};
+use crate::reshape::Reshape;
 use q_codel::Sink;
-use q_drr::Active;
-use q_model::{Filter, FilterPrio, Minor, Quantum, Totals};
+use q_model::{Filter, FilterPrio, Totals};
 use std::alloc::AllocError;
 
 /// What a command makes of the node at the end of its way.
@@ -28,14 +28,8 @@ pub(crate) enum Edit {
     AddFilter(Filter),
     /// It has no filters of this priority.
     RemoveFilters(FilterPrio),
-    /// This class of a drr has another quantum, where one is given.
-    Quantum(Minor, Option<Quantum>),
-}
-
-/// An edit that was planned, with the way to the node that it changes.
-pub(crate) struct Planned {
-    pub(crate) path: Path,
-    pub(crate) edit: Edit,
+    /// Its discipline and its children are reshaped.
+    Reshape(Reshape),
 }
 
 impl Node {
@@ -99,9 +93,10 @@ impl Node {
                 remove_filters(&mut self.filters, prio);
                 return Ok(NOTHING);
             }
-            Edit::Quantum(class, quantum) => {
-                self.discipline.set_quantum(class, quantum);
-                return Ok(NOTHING);
+            Edit::Reshape(reshape) => {
+                let lost = self.discipline.reshape(reshape, sink)?;
+                book_dropped(&mut self.row, lost);
+                return Ok(lost);
             }
         }
     }
@@ -139,33 +134,6 @@ impl Discipline {
             }
             Discipline::Fifo(_) | Discipline::FqCodel(_) => unreachable!(),
         }
-    }
-}
-
-impl Discipline {
-    // Gives a class of a drr another quantum, where one is given and the class is there (tc-drr(8)).
-    fn set_quantum(&mut self, class: Minor, quantum: Option<Quantum>)
-        ensures discipline { discipline_seen self.new ≡ requantized class quantum (discipline_seen self.old) }
-        ensures children { children_seen self.new ≡ children_seen self.old }
-        ensures places { places_seen self.new ≡ places_seen self.old }
-    {
-        match self {
-            Discipline::Drr { active, .. } => set_class_quantum(active, class.number(), quantum),
-            Discipline::Prio { .. } | Discipline::Tbf { .. } => (),
-            Discipline::Fifo(_) | Discipline::FqCodel(_) => (),
-        }
-    }
-}
-
-// The same in the schedule.
-fn set_class_quantum(active: &mut Active, class: u16, quantum: Option<Quantum>)
-    ensures { active.new ≡ requantum class quantum active.old }
-{
-    let Some(quantum) = quantum else {
-        return;
-    };
-    if active.has(class) {
-        active.set_quantum(class, quantum.bytes());
     }
 }
 

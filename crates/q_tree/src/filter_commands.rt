@@ -9,8 +9,9 @@ ghost use Rattle.q_model.specs.TreeState.{plan};
 ghost use Rattle.q_tree.specs.Editing.{LosesNothing};
 ghost use Rattle.q_tree.specs.Commands.{IsAnswered, IsBounded, IsPlanOf, takes_memory, takes_none};
 
-use crate::edit::{Edit, Planned};
+use crate::edit::Edit;
 use crate::node::{Discipline, Node};
+use crate::planned::Planned;
 use crate::one_loss::OneLoss;
 use crate::tree::Tree;
 use q_model::{Filter, FilterPrio, Handle, NotDone};

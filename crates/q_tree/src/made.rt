@@ -2,6 +2,7 @@ ghost use Rattle.std.specs.Prelude.{◌≡◌, ◌≤◌, ◌*◌, IfOk, None, S
 ghost use Rattle.q_model.specs.Make.{implicit_pfifo, limit_bytes, made, with_options};
 ghost use Rattle.q_tree.specs.Making.{AreNew, IsNewDiscipline, IsNewNode, IsNewTbf};
 
+use crate::link::Link;
 use crate::node::{Discipline, NOTHING_COUNTED, Node};
 use q_bucket::Bucket;
 use q_codel::{Fifo, Limit};
@@ -10,13 +11,6 @@ use q_fqcodel::{FqCodel, Settings};
 use q_model::{Burst, FqCodelOptions, Handle, Kind, Rate, TbfLimit};
 use q_packet::Moment;
 use std::alloc::{AllocError, Global};
-
-/// What a device lends to its qdiscs: its mtu in bytes, and the packets of its queue (ip-link(8)).
-#[derive(Clone, Copy)]
-pub(crate) struct Link {
-    pub(crate) mtu: u16,
-    pub(crate) txqueuelen: u32,
-}
 
 impl Node {
     /// A new qdisc of this kind, with the implicit leaves that it brings. A bucket begins full.

@@ -15,10 +15,12 @@ ghost use Rattle.q_tree.specs.Making.{IsNewNode};
 ghost use Rattle.q_tree.specs.Showing.{IsNumbered};
 
 use crate::counting::{MOST_NODES, levels_made, nodes_made};
-use crate::edit::{Edit, Planned};
+use crate::edit::Edit;
 use crate::find::Path;
-use crate::made::{Link, implicit_pfifo};
+use crate::link::Link;
+use crate::made::implicit_pfifo;
 use crate::node::{Discipline, Node};
+use crate::planned::Planned;
 use crate::tree::Tree;
 use q_codel::{Limit, Sink};
 use q_model::{Command, Handle, Kind, NotDone, Place};

@@ -19,8 +19,8 @@ ghost use Rattle.q_tree.specs.Showing.{IsNumbered, standing};
 ghost use Rattle.q_tree.specs.TreeSeen.{CanArrive, IsArrived, IsRouteIn, numbers};
 
 use crate::booking::{book_arrival, book_dropped, book_sent, book_shown};
-use crate::edit::Planned;
-use crate::made::Link;
+use crate::planned::Planned;
+use crate::link::Link;
 use crate::node::{NOTHING_COUNTED, Node};
 use crate::outcome::{Outcome, refuse};
 use crate::route::Route;

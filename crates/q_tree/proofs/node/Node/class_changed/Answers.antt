@@ -8,9 +8,10 @@ use Rattle.q_tree.specs.Commands.{takes_none}
 use Rattle.q_tree.proofs.TargetLemmas.{reached-at, target-none, target-some}
 use Rattle.q_model.specs.ClassCommands.{class_changed, of_schedule}
 use Rattle.q_sound.proofs.SizedPlans.{plan-class_change}
-use Rattle.q_tree.specs.Editing.{requantized}
-use Rattle.q_tree.specs.declared.edit.Edit.TheVariants.{Quantum}
-use Rattle.q_tree.proofs.Plans.{change-done, change-refused, few, own-class, own-planned, refused-plan, shallow}
+use Rattle.q_tree.specs.Reshaping.{requantum, rescheduled}
+use Rattle.q_tree.specs.declared.edit.Edit.TheVariants.{Reshape}
+use Rattle.q_tree.specs.declared.reshape.Reshape.TheVariants.{SetQuantum}
+use Rattle.q_tree.proofs.Plans.{change-done, change-refused, few, own-class, own-kept, own-planned, refused-plan, shallow}
 use Rattle.q_tree.proofs.node.Node.class_changed.Goals as goal
 
 pub returns-in_default-clause-plan : goal.returns-in_default-clause-plan
@@ -38,6 +39,6 @@ returns-clause-plan c = λ device now.
     let planned = plan-class_change (shape root) (shallow root c.requires) (few root c.requires) device now c.args.parent c.args.class c.args.quantum ∙ own-class c.args.parent c.args.class c.args.quantum (shape root) (sym c.names_another.ensures ∙ c.if-names_another.false) in
     let reached = sym c.qdisc.ensures ∙ ap (option_map (λ x. (x.0.items, x.1.now))) c.in-Some.is in
     let found = target-some root (path_of c.args.class.major (shape root)) NoQdisc (λ path n. of_schedule (class_changed c.args.class c.args.quantum path n) n.own.discipline) path n reached in
-    own-planned device root (record { path = c.in-Some.path; edit = Quantum c.args.class.minor c.args.quantum }) tt n (reached-at root (path_of c.args.class.major (shape root)) path n reached).there
-    (record n.own { discipline = requantized c.args.class.minor c.args.quantum n.own.discipline }) refl refl (ClassChange c.args.parent c.args.class c.args.quantum) c.change_ranges.ensures now
+    own-planned device root (record { path = c.in-Some.path; edit = Reshape (SetQuantum c.args.class.minor c.args.quantum) }) tt n (reached-at root (path_of c.args.class.major (shape root)) path n reached).there
+    (record n.own { discipline = rescheduled (requantum c.args.class.minor c.args.quantum) n.own.discipline }) (own-kept (SetQuantum c.args.class.minor c.args.quantum) n refl refl) refl (ClassChange c.args.parent c.args.class c.args.quantum) c.change_ranges.ensures now
     (planned ∙ found ∙ change-done c.args.class c.args.quantum path n (sym c.can_change_class.ensures ∙ c.in_default-can_change_class.is)) takes_none (λ h. h)

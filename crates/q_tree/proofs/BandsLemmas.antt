@@ -1,0 +1,114 @@
+-- Bands that go one after the other, from the first behind those that stay.
+use Rattle.std.proofs.Common.{◌≡◌, ℕ, zero, suc, ◌+◌, ◌<◌, ◌≤◌, ◌^◌, ◌∙◌, List, [], ◌∷◌, ◌++◌, append-nil, append_assoc, take, drop, length, get_or, refl, sym, ap, arith}
+use Rattle.std.specs.Prelude.{slice_index_or}
+use Rattle.std.specs.List.{remove}
+use Rattle.std.proofs.lemmas.List.{drop_more, length-append, map-append, take_all}
+use Rattle.std.proofs.lemmas.List.Sums.{sum_by-append}
+use Rattle.q_codel.specs.declared.loss.Loss.{Loss}
+use Rattle.q_packet.specs.Descriptor.{Descriptor}
+use Rattle.q_packet.specs.declared.cause.Cause.TheVariants.{Purged}
+use Rattle.q_model.specs.declared.totals.Totals.{Totals}
+use Rattle.q_model.specs.Beneath.{beneath, totals_in}
+use Rattle.q_model.specs.Node.{Node}
+use Rattle.q_model.specs.Tally.{no_totals}
+use Rattle.q_tree.specs.Arrivals.{plus}
+use Rattle.q_tree.specs.Kept.{Kept}
+use Rattle.q_tree.specs.Purging.{purged}
+use Rattle.q_tree.specs.PutSteps.{packets_beneath}
+use Rattle.q_tree.specs.Reshaping.{FitsCounters}
+use Rattle.q_tree.proofs.Rows.{same-totals}
+
+drop-removed : (ns : List (Node Kept)) (i : ℕ) → drop i (remove ns i) ≡ drop (suc i) ns
+drop-removed [] zero = refl
+drop-removed [] (suc i) = refl
+drop-removed (n ∷ ns) zero = refl
+drop-removed (n ∷ ns) (suc i) = drop-removed ns i
+
+take-removed : (ns : List (Node Kept)) (i : ℕ) → take i (remove ns i) ≡ take i ns
+take-removed [] zero = refl
+take-removed [] (suc i) = refl
+take-removed (n ∷ ns) zero = refl
+take-removed (n ∷ ns) (suc i) = ap (λ xs. n ∷ xs) (take-removed ns i)
+
+pub record IsGoing (count : ℕ) (before ns : List (Node Kept)) (lost : Totals) (losses_before losses : List Loss) (room_before room : ℕ) : Type 0 where
+  pub gone : List Descriptor
+  pub front : take count ns ≡ take count before
+  pub back : packets_beneath (drop count before) ≡ gone ++ packets_beneath (drop count ns)
+  pub totals : lost ≡ totals_in gone
+  pub told : losses ≡ losses_before ++ purged gone
+  pub rooms : room + length gone ≡ room_before
+
+pub none-gone : (count : ℕ) (ns : List (Node Kept)) (losses : List Loss) (room : ℕ) → IsGoing count ns ns no_totals losses losses room room
+none-gone count ns losses room = record {
+  gone = [];
+  front = refl;
+  back = refl;
+  totals = same-totals no_totals (totals_in []) (omega arith) (omega arith);
+  told = sym (append-nil losses);
+  rooms = omega arith;
+}
+
+totals-append : (ps qs : List Descriptor) → plus (totals_in ps) (totals_in qs) ≡ totals_in (ps ++ qs)
+totals-append ps qs = same-totals (plus (totals_in ps) (totals_in qs)) (totals_in (ps ++ qs)) (omega (arith, length-append ps qs)) (omega (arith, sum_by-append (λ (p : Descriptor). p.len) ps qs))
+
+module _ (count : ℕ) (before ns : List (Node Kept)) (lost : Totals) (losses_before losses : List Loss) (room_before room : ℕ) (h : IsGoing count before ns lost losses_before losses room_before room) where
+  module _ (x : Node Kept) (lt : count < length ns) (at : x ≡ slice_index_or ns count x) where
+    split : packets_beneath (drop count ns) ≡ beneath x ++ packets_beneath (drop (suc count) ns)
+    split = ap packets_beneath (drop_more ns count x lt ∙ ap (λ y. y ∷ drop (count + 1) ns) (sym at) ∙ ap (λ k. x ∷ drop k ns) {x = count + 1} {y = suc count} (omega arith))
+
+    whole : packets_beneath (drop count before) ≡ (h.gone ++ beneath x) ++ packets_beneath (drop (suc count) ns)
+    whole = h.back ∙ ap (λ ps. h.gone ++ ps) split ∙ sym (append_assoc h.gone (beneath x) (packets_beneath (drop (suc count) ns)))
+
+    lengths : length (packets_beneath (drop count before)) ≡ length h.gone + length (beneath x) + length (packets_beneath (drop (suc count) ns))
+    lengths = omega (arith, ap (λ xs. length xs) whole, length-append (h.gone ++ beneath x) (packets_beneath (drop (suc count) ns)), length-append h.gone (beneath x))
+
+    bytes : (totals_in (packets_beneath (drop count before))).bytes ≡ (totals_in h.gone).bytes + (totals_in (beneath x)).bytes + (totals_in (packets_beneath (drop (suc count) ns))).bytes
+    bytes = omega (
+      arith,
+      ap (λ ps. (totals_in ps).bytes) whole,
+      sum_by-append (λ (p : Descriptor). p.len) (h.gone ++ beneath x) (packets_beneath (drop (suc count) ns)),
+      sum_by-append (λ (p : Descriptor). p.len) h.gone (beneath x),
+    )
+
+    pub fits-packets : FitsCounters (packets_beneath (drop count before)) → lost.packets + length (beneath x) < 2 ^ 64
+    fits-packets fits = omega (arith, fits.packets, lengths, ap (λ (t : Totals). t.packets) h.totals)
+
+    pub fits-bytes : FitsCounters (packets_beneath (drop count before)) → lost.bytes + (totals_in (beneath x)).bytes < 2 ^ 64
+    fits-bytes fits = omega (arith, fits.bytes, bytes, ap (λ (t : Totals). t.bytes) h.totals)
+
+    pub has-room : length (packets_beneath (drop count before)) ≤ room_before → length (beneath x) ≤ room
+    has-room le = omega (arith, le, lengths, h.rooms)
+
+    pub one-goes : (sum : Totals) → sum ≡ plus lost (totals_in (beneath x)) → (after : List Loss) → after ≡ losses ++ purged (beneath x) → (left : ℕ) → left + length (beneath x) ≡ room
+        → IsGoing count before (remove ns count) sum losses_before after room_before left
+    one-goes sum sum_is after after_is left left_is = record {
+      gone = h.gone ++ beneath x;
+      front = take-removed ns count ∙ h.front;
+      back = whole ∙ ap (λ xs. (h.gone ++ beneath x) ++ packets_beneath xs) (sym (drop-removed ns count));
+      totals = sum_is ∙ ap (λ t. plus t (totals_in (beneath x))) h.totals ∙ totals-append h.gone (beneath x);
+      told = after_is ∙ ap (λ ls. ls ++ purged (beneath x)) h.told ∙ append_assoc losses_before (purged h.gone) (purged (beneath x))
+          ∙ ap (λ ls. losses_before ++ ls) (sym (map-append (λ (p : Descriptor). record { packet = p; cause = Purged }) h.gone (beneath x)));
+      rooms = omega (arith, h.rooms, left_is, length-append h.gone (beneath x));
+    }
+
+  -- none is behind them
+  module _ (done : length ns ≤ count) where
+    all-gone : packets_beneath (drop count before) ≡ h.gone
+    all-gone = h.back ∙ ap (λ xs. h.gone ++ packets_beneath xs) (none-behind ns count done) ∙ append-nil h.gone where
+      none-behind : (xs : List (Node Kept)) (k : ℕ) → length xs ≤ k → drop k xs ≡ []
+      none-behind [] zero le = refl
+      none-behind [] (suc k) le = refl
+      none-behind (x ∷ xs) zero le = absurd (omega (arith, le))
+      none-behind (x ∷ xs) (suc k) le = none-behind xs k (omega (arith, le))
+
+    pub stay : ns ≡ take count before
+    stay = sym (take_all count ns done) ∙ h.front
+
+    pub all-counted : lost ≡ totals_in (packets_beneath (drop count before))
+    all-counted = h.totals ∙ ap totals_in (sym all-gone)
+
+    pub all-told : losses ≡ losses_before ++ purged (packets_beneath (drop count before))
+    all-told = h.told ∙ ap (λ ps. losses_before ++ purged ps) (sym all-gone)
+
+    pub all-rooms : room + length (packets_beneath (drop count before)) ≡ room_before
+    all-rooms = omega (arith, h.rooms, ap (λ xs. length xs) all-gone)

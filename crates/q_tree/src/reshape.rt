@@ -1,0 +1,68 @@
+ghost use Rattle.std.specs.Prelude.{◌≡◌, ◌≤◌, ◌+◌, ◌++◌, Ok, OnOk, OnErr, length};
+ghost use Rattle.q_model.specs.Beneath.{totals_in};
+ghost use Rattle.q_tree.specs.Purging.{purged};
+ghost use Rattle.q_tree.specs.Reshaping.{FitsCounters, IsReshaped, IsUnchanged, TakesMore, lost_with};
+ghost use Rattle.q_tree.specs.Seen.{children_seen, discipline_seen};
+
+use crate::booking::NOTHING;
+use crate::node::{Discipline, Node};
+use q_bucket::Bucket;
+use q_codel::{Limit, Sink};
+use q_model::{FqCodelOptions, Minor, PrioOptions, Quantum, Totals};
+use std::alloc::AllocError;
+
+/// What a command makes of a discipline and of its children. What is not for a discipline leaves it as it is.
+pub(crate) enum Reshape {
+    /// Everything stays.
+    Nothing,
+    /// A fifo has this limit.
+    SetLimit(Limit),
+    /// A prio has these options, and these leaves as its new bands.
+    SetBands(PrioOptions, Vec<Node>),
+    /// A tbf has this bucket, and it and its implicit leaf this limit in bytes.
+    SetBucket(Bucket, u64),
+    /// An fq_codel has these options, but as many flows as before.
+    SetOptions(FqCodelOptions),
+    /// A drr has a class more with this leaf, asleep; one that it has stays as it is.
+    AddClass(Minor, Quantum, Node),
+    /// A class of a drr has another quantum, where one is given.
+    SetQuantum(Minor, Option<Quantum>),
+    /// A drr has no such class.
+    RemoveClass(Minor),
+}
+
+impl Discipline {
+    /// Reshapes the discipline, and says what was lost with the children that went.
+    ///
+    /// # Errors
+    ///
+    /// `AllocError` where memory is refused; nothing has changed then.
+    pub(crate) fn reshape<S: Sink>(
+        &mut self,
+        reshape: Reshape,
+        sink: &mut S,
+    ) -> Result<Totals, AllocError>
+        requires few { FitsCounters (lost_with reshape (discipline_seen self.old) (children_seen self.old)) }
+        requires sink { length (lost_with reshape (discipline_seen self.old) (children_seen self.old)) ≤ S.room sink.old }
+        ensures after { OnOk result (IsReshaped reshape self.old self.new) }
+        ensures totals { OnOk result (result ≡ Ok (totals_in (lost_with reshape (discipline_seen self.old) (children_seen self.old)))) }
+        ensures lost { OnOk result (S.losses sink.new ≡ S.losses sink.old ++ purged (lost_with reshape (discipline_seen self.old) (children_seen self.old))) }
+        ensures room { OnOk result (S.room sink.new + length (lost_with reshape (discipline_seen self.old) (children_seen self.old)) ≡ S.room sink.old) }
+        ensures memory { OnErr result (TakesMore reshape) }
+        ensures same { OnErr result (IsUnchanged self.old self.new) }
+        ensures not_lost { OnErr result ((S.losses sink.new ≡ S.losses sink.old) × (S.room sink.new ≡ S.room sink.old)) }
+        ensures kept { S.keeps sink.old sink.new }
+    {
+        match reshape {
+            Reshape::Nothing => (),
+            Reshape::SetLimit(limit) => self.set_limit(limit),
+            Reshape::SetBands(options, leaves) => return self.set_bands(options, leaves, sink),
+            Reshape::SetBucket(bucket, limit) => self.set_bucket(bucket, limit),
+            Reshape::SetOptions(options) => self.set_options(&options),
+            Reshape::AddClass(class, quantum, leaf) => self.add_class(class, quantum, leaf)?,
+            Reshape::SetQuantum(class, quantum) => self.set_quantum(class, quantum),
+            Reshape::RemoveClass(class) => return Ok(self.remove_class(class, sink)),
+        }
+        Ok(NOTHING)
+    }
+}
