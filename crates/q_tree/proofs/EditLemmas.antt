@@ -1,12 +1,12 @@
 -- A node that is edited, or that stands above one which is: what waits there, and what it has counted.
-use Rattle.std.proofs.Common.{◌≡◌, ℕ, suc, ◌+◌, ◌≤◌, ◌<◌, ◌^◌, ◌∙◌, List, [], ◌∷◌, ◌++◌, set, take, length, refl, sym, ap, subst, Option, Some, None, option_and_then, arith}
+use Rattle.std.proofs.Common.{◌≡◌, ℕ, zero, suc, ◌+◌, ◌≤◌, ◌<◌, ◌^◌, ◌∙◌, List, [], ◌∷◌, ◌++◌, set, take, length, refl, sym, ap, subst, Option, Some, None, option_and_then, arith}
 use Rattle.std.specs.Prelude.{Bool, true, false, cond, nat_le, IsSome, slice_get, slice_index_or, All, Result, Ok, Err, OnOk}
 use Rattle.std.specs.List.{insert, prefix_len, take_while}
 use Rattle.std.specs.Option.{option_map_or, option_to_list}
 use Rattle.std.specs.declared.alloc.AllocError.{AllocError}
 use Rattle.std.proofs.lemmas.Bool.{false≢true}
 use Rattle.std.proofs.lemmas.List.Elements.{All-set}
-use Rattle.std.proofs.lemmas.Option.{same_Some}
+use Rattle.std.proofs.lemmas.Option.{none-some, same_Some}
 use Rattle.std.proofs.lemmas.List.Sums.{sum_by-cons}
 use Rattle.q_packet.specs.Descriptor.{Descriptor}
 use Rattle.q_packet.specs.declared.cause.Cause.TheVariants.{Purged}
@@ -214,6 +214,17 @@ edited-into e rest i before after ns x x2 c kids is there edited set_is places d
       children = set_is ∙ ap (λ n. set ns i n) edited_is ∙ ap (λ xs. set xs i (edited_by e rest c)) (sym kids);
       places = places;
     }
+
+only-child : (i : ℕ) (x c : Node Kept) → slice_get (x ∷ []) i ≡ Some c → (x ≡ c) × ((d : Node Kept) → x ≡ slice_index_or (x ∷ []) i d) × ((y : Node Kept) → y ∷ [] ≡ set (x ∷ []) i y)
+only-child zero x c at = (same_Some x c at, (λ d. refl), (λ y. refl))
+only-child (suc i) x c at = absurd (none-some c at)
+
+-- the same for an only child
+pub only-edited : (e : Edit) (rest : List ℕ) (i : ℕ) (before after : Discipline) (x x2 c : Node Kept) → children_seen before ≡ x ∷ [] → slice_get (children_seen before) i ≡ Some c
+    → x2 ≡ edited_by e rest x → children_seen after ≡ x2 ∷ [] → places_seen after ≡ places_seen before → discipline_seen after ≡ settled_in i (is_empty x2) (discipline_seen before) → IsEditedBeneath e rest i c before after
+only-edited e rest i before after x x2 c kids there edited set_is places discipline =
+    let first = only-child i x c (ap (λ xs. slice_get xs i) (sym kids) ∙ there) in
+    edited-into e rest i before after (x ∷ []) x x2 c kids (first.1 x) there edited (set_is ∙ first.2 x2) places discipline
 
 total_of : Result Totals AllocError → Totals
 total_of (Ok t) = t

@@ -5,7 +5,9 @@ pub mod AskRows
 pub mod Asking
 pub mod AtHandLemmas
 pub mod BandsLemmas
+pub mod ClassAdding
 pub mod ClassLemmas
+pub mod ClassPlans
 pub mod CountedLosses
 pub mod CountingLemmas
 pub mod EditLemmas

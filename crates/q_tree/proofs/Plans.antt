@@ -25,7 +25,7 @@ use Rattle.q_model.specs.Find.{class_in, count_nodes, depth, node_at, path_of}
 use Rattle.q_model.specs.Node.{Discipline, Fifo, Prio, Tbf, Drr, FqCodel, Own, Node, Shape, children, shape, side_by_side}
 use Rattle.q_model.specs.Make.{Device}
 use Rattle.q_model.specs.QdiscCommands.{all_kept, at_target, retuned}
-use Rattle.q_model.proofs.ShrinkLemmas.{child-with_memory, noted-stands, shape-with_memory}
+use Rattle.q_model.proofs.ShrinkLemmas.{child-with_memory, noted-stands, shape-with_memory, side_by_side-map}
 use Rattle.q_model.proofs.ShrinkSteps.{edited_at-stands}
 use Rattle.q_model.specs.Refusals.{Check, done_unless, first_refusal, is_so, most_levels, most_nodes, refuse}
 use Rattle.q_model.specs.Step.{DeviceState, losses_in}
@@ -34,11 +34,11 @@ use Rattle.q_model.specs.Ranges.{IsCommand}
 use Rattle.q_model.specs.TreeState.{plan, with_edit}
 use Rattle.q_model.specs.Work.{losses_of}
 use Rattle.q_sound.proofs.EditClasses.{class_known}
-use Rattle.q_sound.proofs.EditChildren.{gone_is, gone_none, kept_there, kids_all}
+use Rattle.q_sound.proofs.EditChildren.{gone_is, gone_none, kept_there, kids, kids_all}
 use Rattle.q_sound.proofs.EditSuits.{check_passed, done_is, length-shape, node_at-shape}
 use Rattle.q_sound.proofs.Forests.{side-nodes}
 use Rattle.q_sound.proofs.MadeSizes.{count-shape, depth-shape}
-use Rattle.q_tree.specs.Commands.{IsAnswered, IsBounded, IsDone, IsPlanned, IsPlannedFor, IsPlanOf, IsRefused, change_answer, device_edited, told}
+use Rattle.q_tree.specs.Commands.{IsAnswered, IsBounded, IsDone, IsPlanned, IsPlannedFor, IsPlanOf, IsRefused, device_edited, told}
 use Rattle.q_tree.specs.Editing.{IsReady, LosesNothing, TakesMemory, edited_by, effect, removed, removed_at}
 use Rattle.q_tree.specs.Reshaping.{KeepsAll, children_after, discipline_after, lost_with, requantum, rescheduled}
 use Rattle.q_tree.specs.Places.{unplaced}
@@ -289,42 +289,18 @@ own-kept r n nothing_lost all = λ i. record {
   below = (ap side_by_side all ∙ side-nodes n.below) i;
 }
 
+-- children that are named by what becomes of them
+pub reshape-does : (r : shapes.Reshape) (n : Node Kept) (own : Own) (below : List model.Child) → ◌≡◌ {A = Own} (record n.own { discipline = discipline_after r n.own.discipline (children n) }) own
+    → map unplaced (children_after r n.own.discipline (children n)) ≡ kids totals (children (unplaced n)) below
+    → unplaced (effect (Reshape r) n) ≡ remade totals own below (losses_of Purged (removed (Reshape r) n)) (unplaced n)
+reshape-does r n own below own_is kids_is = λ i. record {
+  own = own_is i;
+  memory = noted-stands kept totals (λ (k : Kept). k.counts) stands n.memory (losses_of Purged (lost_with r n.own.discipline (children n))) i;
+  below = (side_by_side-map (λ (k : Kept). k.counts) (children_after r n.own.discipline (children n)) ∙ ap side_by_side kids_is) i;
+}
+
 pub own-planned : (device : Device) (root : Node Kept) (p : Planned) → IsReady p.edit → (n : Node Kept) → node_at p.path.items root ≡ Some n → (own : Own) → effect p.edit n ≡ record n { own = own } → removed p.edit n ≡ []
     → (command : Command) → IsCommand command → (now : ℕ) → plan device now command (shape root) ≡ Ok (Remake p.path.items own (all_kept (shape n)))
     → (memory : Type 0) → (TakesMemory p.edit → memory) → IsPlannedFor memory command p now device root
 own-planned device root p ready n there own does nothing_lost command ranges now plan-is memory takes =
     remade-planned device root p ready n there own (all_kept (shape n)) (own-lost n p.edit nothing_lost) (own-does n p.edit own does nothing_lost) command ranges now plan-is memory takes
-
--- ---- the class of a drr
-
-pub own-class : (parent : Option ℕ) (class : ClassId) (quantum : Option ℕ) (root : Shape) → is_so (λ major. not (major == class.major)) parent ≡ false
-    → class_change parent class quantum root ≡ at_target NoQdisc (path_of class.major root) (λ path n. of_schedule (class_changed class quantum path n) n.own.discipline) root
-own-class parent class quantum root e =
-    ap (λ b. if b then Err NoParent else at_target NoQdisc (path_of class.major root) (λ path n. of_schedule (class_changed class quantum path n) n.own.discipline) root) e
-
-pub change-refused : (class : ClassId) (quantum : Option ℕ) (path : List ℕ) (n : Shape) (refusal : NotDone) (d : Discipline) → change_answer class n d ≡ Err refusal → of_schedule (class_changed class quantum path n) d ≡ Err refusal
-change-refused class quantum path n refusal (Drr s) e = same-refusal (class_change_checks class n) tt (retuned n path (Drr (with_new_quantum class quantum s))) refusal e
-change-refused class quantum path n refusal (Fifo limit queue) e = cc
-change-refused class quantum path n refusal (Prio priomap) e = cc
-change-refused class quantum path n refusal (Tbf bucket limit) e = cc
-change-refused class quantum path n refusal (FqCodel s) e = cc
-
-requantum-is : (class : ClassId) (quantum : Option ℕ) (s : Schedule) → has_class class.minor s.classes ≡ true → with_new_quantum class quantum s ≡ requantum class.minor quantum s
-requantum-is class None s there = refl
-requantum-is class (Some q) s there = sym (ap (λ b. if b then with_quantum class.minor q s else s) there)
-
-pub change-done : (class : ClassId) (quantum : Option ℕ) (path : List ℕ) (n : Node Kept) → change_answer class (shape n) n.own.discipline ≡ Ok tt
-    → of_schedule (class_changed class quantum path (shape n)) n.own.discipline ≡ Ok (Remake path (record n.own { discipline = rescheduled (requantum class.minor quantum) n.own.discipline }) (all_kept (shape n)))
-change-done class quantum path n e = by n.own.discipline refl e where
-  by : (d : Discipline) → n.own.discipline ≡ d → change_answer class (shape n) d ≡ Ok tt
-      → of_schedule (class_changed class quantum path (shape n)) d ≡ Ok (Remake path (record n.own { discipline = rescheduled (requantum class.minor quantum) d }) (all_kept (shape n)))
-  by (Drr s) is e =
-      let passed = check_passed (refuse NoClass (not (is_there class (shape n)))) [] (done_is (class_change_checks class (shape n)) tt tt e).0 in
-      let there : has_class class.minor s.classes ≡ true =
-      sym (class_known (length (children (shape n))) class.minor s) ∙ ap (λ d. is_some (class_in (length (children (shape n))) class.minor d)) (sym is) ∙ not-false (is_there class (shape n)) passed.0 in
-      all-passed (class_change_checks class (shape n)) tt (retuned (shape n) path (Drr (with_new_quantum class quantum s))) e
-      ∙ ap (λ t. Ok (Remake path (record n.own { discipline = Drr t }) (all_kept (shape n)))) (requantum-is class quantum s there)
-  by (Fifo limit queue) is e = absurd cc
-  by (Prio priomap) is e = absurd cc
-  by (Tbf bucket limit) is e = absurd cc
-  by (FqCodel s) is e = absurd cc

@@ -1,20 +1,21 @@
 -- What a command comes to (tc(8)): the model's plan says whether it is refused, and why, or which edit of the tree is done.
-use Rattle.std.specs.Prelude.{◌≡◌, ◌≤◌, ℕ, List, [], IsSome, Result, Ok, Err}
+use Rattle.std.specs.Prelude.{◌≡◌, ◌≤◌, ◌+◌, ◌++◌, ℕ, List, [], IsSome, Result, Ok, Err}
 use Rattle.q_codel.specs.declared.loss.Loss.{Loss}
 use Rattle.q_model.specs.declared.class_id.ClassId.{ClassId}
 use Rattle.q_model.specs.declared.command.Command.{Command}
 use Rattle.q_model.specs.declared.not_done.NotDone.{NotDone}
 use Rattle.q_model.specs.declared.not_done.NotDone.TheVariants.{CannotChange, Memory, NotClassful}
-use Rattle.q_model.specs.ClassCommands.{class_change_checks}
+use Rattle.q_model.specs.ClassCommands.{class_add_checks}
 use Rattle.q_model.specs.Edit as model
 use Rattle.q_model.specs.Find.{node_at, depth, count_nodes}
 use Rattle.q_model.specs.Make.{Device}
 use Rattle.q_model.specs.Node.{Discipline, Fifo, Prio, Tbf, Drr, FqCodel, Node, Shape, shape}
 use Rattle.q_model.specs.Ranges.{IsCommand}
-use Rattle.q_model.specs.Refusals.{done_unless, most_levels, most_nodes}
+use Rattle.q_model.specs.Refusals.{Check, done_unless, most_levels, most_nodes}
 use Rattle.q_model.specs.Step.{DeviceState, losses_in}
 use Rattle.q_model.specs.Tally.{noted, totals}
 use Rattle.q_model.specs.TreeState.{plan, with_edit}
+use Rattle.q_sound.proofs.SizeChecks.{sizes}
 use Rattle.q_tree.specs.Editing.{removed_at, notes_of, edited_by, IsReady, TakesMemory}
 use Rattle.q_tree.specs.Kept.{Kept, kept}
 use Rattle.q_tree.specs.Places.{unplaced}
@@ -84,10 +85,14 @@ pub record IsBounded (root : Node Kept) : Type 0 where
   pub levels : depth root ≤ most_levels
   pub nodes : count_nodes root ≤ most_nodes
 
--- whether the class of a qdisc can be changed: only a drr's are set by themselves (tc-drr(8))
-abbrev pub change_answer : ClassId → Shape → Discipline → Result (Unit {0}) NotDone
-change_answer class n (Drr s) = done_unless (class_change_checks class n) tt
-change_answer class n (Fifo limit queue) = Err NotClassful
-change_answer class n (FqCodel s) = Err NotClassful
-change_answer class n (Prio priomap) = Err CannotChange
-change_answer class n (Tbf bucket limit) = Err CannotChange
+-- the answer of a qdisc whose classes are added, changed and removed by themselves, as a drr's are (tc-drr(8))
+abbrev pub drr_answer : List Check → Discipline → Result (Unit {0}) NotDone
+drr_answer checks (Drr s) = done_unless checks tt
+drr_answer checks (Fifo limit queue) = Err NotClassful
+drr_answer checks (FqCodel s) = Err NotClassful
+drr_answer checks (Prio priomap) = Err CannotChange
+drr_answer checks (Tbf bucket limit) = Err CannotChange
+
+-- the refusals of a class more, in a tree that has one node more then, one level below the qdisc
+abbrev pub class_add_sized : ClassId → ℕ → Shape → Node Kept → List Check
+class_add_sized class steps n root = class_add_checks class n ++ sizes (steps + 2) (count_nodes root + 1)

@@ -1,22 +1,87 @@
-ghost use Rattle.std.specs.Prelude.{◌≡◌, ◌==◌, ℕ, IfOk, not};
-ghost use Rattle.q_model.specs.declared.command.Command.TheVariants.{ClassChange};
+ghost use Rattle.std.specs.Prelude.{◌≡◌, ◌<◌, ◌≤◌, ◌+◌, ◌++◌, ◌==◌, ℕ, IfOk, [], length, not, unwrap_or};
+ghost use Rattle.std.specs.List.{list_any};
+ghost use Rattle.q_model.specs.declared.command.Command.TheVariants.{ClassAdd, ClassChange, ClassDel};
+ghost use Rattle.q_model.specs.declared.filter.Filter.{Filter};
+ghost use Rattle.q_model.specs.Beneath.{beneath};
+ghost use Rattle.q_model.specs.ClassCommands.{class_change_checks, class_del_checks};
+ghost use Rattle.q_model.specs.Filters.{names_class};
 ghost use Rattle.q_model.specs.Make.{Device};
 ghost use Rattle.q_model.specs.Node.{shape};
 ghost use Rattle.q_model.specs.Ranges.{IsCommand};
 ghost use Rattle.q_model.specs.Refusals.{is_so};
 ghost use Rattle.q_model.specs.TreeState.{plan};
 ghost use Rattle.q_tree.specs.Editing.{LosesNothing};
-ghost use Rattle.q_tree.specs.Commands.{IsAnswered, IsBounded, IsPlanOf, change_answer, takes_none};
+ghost use Rattle.q_tree.specs.Commands.{IsAnswered, IsBounded, IsPlanOf, class_add_sized, drr_answer, takes_memory, takes_none, told};
+ghost use Rattle.q_tree.specs.Showing.{IsNumbered};
 
+use crate::counting::{MOST_LEVELS, MOST_NODES};
 use crate::edit::Edit;
+use crate::link::Link;
+use crate::made::implicit_pfifo;
 use crate::node::{Discipline, Node};
+use crate::one_loss::OneLoss;
 use crate::planned::Planned;
 use crate::reshape::Reshape;
-use crate::one_loss::OneLoss;
 use crate::tree::Tree;
-use q_model::{ClassId, Command, Handle, NotDone, Quantum};
+use q_codel::Sink;
+use q_model::{ClassId, Command, Filter, Handle, Minor, NotDone, Quantum};
+use std::alloc::Global;
 
 impl Tree {
+    /// Adds a class to a drr, behind the others, with an implicit pfifo (`tc class add`, tc-drr(8)). Its quantum is the mtu where
+    /// none is given.
+    ///
+    /// # Errors
+    ///
+    /// The first that holds: `NoParent` where `parent` is not the class's qdisc; `NoQdisc` where that is not there;
+    /// `NotClassful` where it has no classes; `CannotChange` where its classes come with it; `Exists` where it has the class;
+    /// `TooDeep` where the pfifo would stand below 8 levels; `TooMany` beyond 256 nodes, implicit leaves among them; `Memory`.
+    /// The tree is as it was.
+    pub fn class_add(
+        &mut self,
+        alloc: Global,
+        parent: Handle,
+        class: ClassId,
+        quantum: Option<Quantum>,
+    ) -> Result<(), NotDone>
+        ensures { IsAnswered takes_memory self.old.clock (plan self.old.tree.device self.old.clock (ClassAdd parent class quantum) (shape self.old.tree.root)) self.old self.new result }
+    {
+        match self
+            .root
+            .class_added(alloc, self.link(), parent, class, quantum)
+        {
+            Err(refusal) => return Err(refusal),
+            Ok(planned) => return self.edit(planned, self.clock, &mut OneLoss { told: None }),
+        }
+    }
+
+    /// Removes a class of a drr, with all that is beneath it (`tc class del`, tc-drr(8)).
+    ///
+    /// What waits there is lost to `sink`, which needs room for what is queued in the tree. It takes no memory.
+    ///
+    /// # Errors
+    ///
+    /// The first that holds: `NoParent` where `parent` is not the class's qdisc; `NoQdisc` where that is not there;
+    /// `NotClassful` where it has no classes; `CannotChange` where its classes come with it; `NoClass` where it has no such
+    /// class; `Busy` where one of its filters names the class. The tree is as it was.
+    pub fn class_del<S: Sink>(
+        &mut self,
+        parent: Option<Handle>,
+        class: ClassId,
+        sink: &mut S,
+    ) -> Result<(), NotDone>
+        requires sink { length (beneath self.old.tree.root) ≤ S.room sink.old }
+        ensures answer { IsAnswered takes_none self.old.clock (plan self.old.tree.device self.old.clock (ClassDel parent class) (shape self.old.tree.root)) self.old self.new result }
+        ensures lost { S.losses sink.new ≡ S.losses sink.old ++ told (plan self.old.tree.device self.old.clock (ClassDel parent class) (shape self.old.tree.root)) (shape self.old.tree.root) result }
+        ensures room { S.room sink.new + length (told (plan self.old.tree.device self.old.clock (ClassDel parent class) (shape self.old.tree.root)) (shape self.old.tree.root) result) ≡ S.room sink.old }
+        ensures kept { S.keeps sink.old sink.new }
+    {
+        match self.root.class_removed(parent, class) {
+            Err(refusal) => return Err(refusal),
+            Ok(planned) => return self.edit(planned, self.clock, sink),
+        }
+    }
+
     /// Gives a class of a drr another quantum, where one is given (`tc class change`, tc-drr(8)). A deficit above what the new
     /// quantum allows is cut.
     ///
@@ -41,6 +106,57 @@ impl Tree {
 }
 
 impl Node {
+    // The edit that adds a class, or the first refusal that holds.
+    fn class_added(
+        &self,
+        alloc: Global,
+        link: Link,
+        parent: Handle,
+        class: ClassId,
+        quantum: Option<Quantum>,
+    ) -> Result<Planned, NotDone>
+        requires bounded { IsBounded self.now }
+        requires mtu { 1 ≤ link.mtu }
+        ensures plan { (now : ℕ) → IsPlanOf takes_memory (ClassAdd parent class quantum) now (record { mtu = link.mtu; txqueuelen = link.txqueuelen }) self.now result }
+        ensures quiet { IfOk result (λ p. LosesNothing p.edit) }
+    {
+        add_ranges(&parent, &class, &quantum);
+        let parent = Some(parent);
+        if names_another(&parent, &class) {
+            return Err(NotDone::NoParent);
+        }
+        let Some((path, node)) = self.qdisc(class.major) else {
+            return Err(NotDone::NoQdisc);
+        };
+        if let Err(refusal) = self.can_add_class(path.len(), node, &class) {
+            return Err(refusal);
+        }
+        let quantum = quantum_or_mtu(&quantum, link);
+        let leaf = implicit_pfifo(alloc, link);
+        let edit = Edit::Reshape(Reshape::AddClass(class.minor, quantum, leaf));
+        Ok(Planned { path, edit })
+    }
+
+    // The edit that removes a class, or the first refusal that holds.
+    fn class_removed(&self, parent: Option<Handle>, class: ClassId) -> Result<Planned, NotDone>
+        requires bounded { IsBounded self.now }
+        requires lawful { IsNumbered self.now }
+        ensures plan { (device : Device) (now : ℕ) → IsPlanOf takes_none (ClassDel parent class) now device self.now result }
+    {
+        del_ranges(&parent, &class);
+        if names_another(&parent, &class) {
+            return Err(NotDone::NoParent);
+        }
+        let Some((path, node)) = self.qdisc(class.major) else {
+            return Err(NotDone::NoQdisc);
+        };
+        if let Err(refusal) = node.can_remove_class(&class) {
+            return Err(refusal);
+        }
+        let edit = Edit::Reshape(Reshape::RemoveClass(class.minor));
+        Ok(Planned { path, edit })
+    }
+
     // The edit that gives a class another quantum, or the first refusal that holds.
     fn class_changed(
         &self,
@@ -66,20 +182,81 @@ impl Node {
         Ok(Planned { path, edit })
     }
 
+    // Whether a class can be added to this node, to which so many steps lead.
+    fn can_add_class(&self, steps: usize, node: &Node, class: &ClassId) -> Result<(), NotDone>
+        requires bounded { IsBounded self.now }
+        requires short { steps < MOST_LEVELS }
+        ensures { result ≡ drr_answer (class_add_sized class.now steps (shape node.now) self.now) node.now.own.discipline }
+    {
+        node.has_own_classes()?;
+        if node.class_place(class.minor).is_some() {
+            return Err(NotDone::Exists);
+        }
+        if steps + 2 > MOST_LEVELS {
+            return Err(NotDone::TooDeep);
+        }
+        if self.count_nodes() + 1 > MOST_NODES {
+            return Err(NotDone::TooMany);
+        }
+        Ok(())
+    }
+
     // Whether the qdisc has this class, and lets it be changed.
     fn can_change_class(&self, class: &ClassId) -> Result<(), NotDone>
-        ensures { result ≡ change_answer class.now (shape self.now) self.now.own.discipline }
+        ensures { result ≡ drr_answer (class_change_checks class.now (shape self.now)) self.now.own.discipline }
+    {
+        self.has_own_classes()?;
+        if self.class_place(class.minor).is_none() {
+            return Err(NotDone::NoClass);
+        }
+        Ok(())
+    }
+
+    // Whether the qdisc has this class, and lets it be removed.
+    fn can_remove_class(&self, class: &ClassId) -> Result<(), NotDone>
+        ensures { result ≡ drr_answer (class_del_checks class.now (shape self.now)) self.now.own.discipline }
+    {
+        self.has_own_classes()?;
+        if self.class_place(class.minor).is_none() {
+            return Err(NotDone::NoClass);
+        }
+        if is_named(&self.filters, class.minor) {
+            return Err(NotDone::Busy);
+        }
+        Ok(())
+    }
+
+    // Whether classes are added and removed one by one: those of a drr are.
+    fn has_own_classes(&self) -> Result<(), NotDone>
+        ensures { result ≡ drr_answer [] self.now.own.discipline }
     {
         match &self.discipline {
-            Discipline::Drr { .. } => {
-                if self.class_place(class.minor).is_none() {
-                    return Err(NotDone::NoClass);
-                }
-                return Ok(());
-            }
+            Discipline::Drr { .. } => return Ok(()),
             Discipline::Prio { .. } | Discipline::Tbf { .. } => return Err(NotDone::CannotChange),
             Discipline::Fifo(_) | Discipline::FqCodel(_) => return Err(NotDone::NotClassful),
         }
+    }
+}
+
+// Whether one of these filters names this class.
+fn is_named(filters: &[Filter], class: Minor) -> bool
+    ensures { result ≡ list_any (names_class class) filters.now }
+{
+    let class = class.number();
+    filters.iter().any(|filter| filter.minor.number() == class)
+}
+
+// The quantum that is given, or one of the mtu.
+fn quantum_or_mtu(quantum: &Option<Quantum>, link: Link) -> Quantum
+    requires { 1 ≤ link.mtu }
+    ensures { result ≡ unwrap_or quantum.now link.mtu }
+{
+    if let Some(quantum) = quantum {
+        return *quantum;
+    }
+    match Quantum::new(u32::from(link.mtu)) {
+        Some(quantum) => quantum,
+        None => unreachable!(),
     }
 }
 
@@ -91,6 +268,27 @@ fn change_ranges(parent: &Option<Handle>, class: &ClassId, quantum: &Option<Quan
         parent: *parent,
         class: *class,
         quantum: *quantum,
+    };
+    command.ranges();
+}
+
+fn add_ranges(parent: &Handle, class: &ClassId, quantum: &Option<Quantum>)
+    ensures { IsCommand (ClassAdd parent.now class.now quantum.now) }
+{
+    let command = Command::ClassAdd {
+        parent: *parent,
+        class: *class,
+        quantum: *quantum,
+    };
+    command.ranges();
+}
+
+fn del_ranges(parent: &Option<Handle>, class: &ClassId)
+    ensures { IsCommand (ClassDel parent.now class.now) }
+{
+    let command = Command::ClassDel {
+        parent: *parent,
+        class: *class,
     };
     command.ranges();
 }

@@ -14,6 +14,9 @@ use q_model::{Handle, Kind};
 /// The most nodes of a tree, implicit leaves among them.
 pub(crate) const MOST_NODES: usize = 256;
 
+/// The most levels of a tree.
+pub(crate) const MOST_LEVELS: usize = 8;
+
 /// The least major number that a qdisc gets which is added without a handle.
 const FIRST_FREE: u16 = 0x8001;
 

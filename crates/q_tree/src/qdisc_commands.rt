@@ -14,7 +14,7 @@ ghost use Rattle.q_tree.specs.Grafting.{graft_checks, nodes_at};
 ghost use Rattle.q_tree.specs.Making.{IsNewNode};
 ghost use Rattle.q_tree.specs.Showing.{IsNumbered};
 
-use crate::counting::{MOST_NODES, levels_made, nodes_made};
+use crate::counting::{MOST_LEVELS, MOST_NODES, levels_made, nodes_made};
 use crate::edit::Edit;
 use crate::find::Path;
 use crate::link::Link;
@@ -26,9 +26,6 @@ use q_codel::{Limit, Sink};
 use q_model::{Command, Handle, Kind, NotDone, Place};
 use q_packet::Moment;
 use std::alloc::Global;
-
-/// The most levels of a tree.
-const MOST_LEVELS: usize = 8;
 
 impl Tree {
     /// Puts a new qdisc into a place, instead of the implicit leaf there (`tc qdisc add`, tc(8)). Without a handle it gets the least

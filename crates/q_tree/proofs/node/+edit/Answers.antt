@@ -1,7 +1,8 @@
-use Rattle.std.proofs.Common.{◌≡◌, ◌+◌, ◌∙◌, ◌++◌, length, refl, sym, ap, subst, arith}
+use Rattle.std.proofs.Common.{◌≡◌, ◌+◌, ◌∙◌, [], ◌∷◌, ◌++◌, length, refl, sym, ap, subst, arith}
 use Rattle.std.specs.Prelude.{IsSome, slice_get, Ok}
 use Rattle.std.proofs.lemmas.List.{get_or-set_same}
 use Rattle.std.proofs.lemmas.Option.{slice_get_within}
+use Rattle.std.specs.Box.{with_value}
 use Rattle.std.specs.Vec.{with_item}
 use Rattle.q_model.specs.Beneath.{is_empty, totals_in}
 use Rattle.q_model.specs.Find.{node_at}
@@ -13,7 +14,7 @@ use Rattle.q_tree.specs.Kept.{Kept}
 use Rattle.q_tree.specs.Purging.{purged}
 use Rattle.q_tree.specs.Seen.{children_seen, discipline_seen, places_seen}
 use Rattle.q_tree.specs.declared.node.Discipline.TheVariants as code
-use Rattle.q_tree.proofs.EditLemmas.{IsAnswer, on-ok, led, edited-into, leads, lost-there, room, stays, after, of-child}
+use Rattle.q_tree.proofs.EditLemmas.{IsAnswer, on-ok, led, edited-into, only-edited, leads, lost-there, room, stays, after, of-child}
 use Rattle.q_tree.proofs.Puts.{same-child}
 use Rattle.q_tree.proofs.node.+edit.Goals as goal
 
@@ -36,6 +37,12 @@ Discipline::edit_beneath-returns-in-Prio-clause-after g t c = on-ok c.edit.resul
     edited-into c.args.edit c.args.rest.now c.args.place c.args.self.now (code.Prio c.in-Prio.priomap (with_item c.in-Prio.bands c.args.place c.edit.new.self)) c.in-Prio.bands.items
     c.index_mut.result.now c.edit.new.self child (ap children_seen c.in-Prio.is) c.index_mut.ensures.value at edited refl (sym (ap places_seen c.in-Prio.is))
     (sym (ap (λ d. settled_in c.args.place (is_empty c.edit.new.self) (discipline_seen d)) c.in-Prio.is))) c.edit.ensures.after
+
+pub Discipline::edit_beneath-returns-in-Tbf-clause-after : goal.Discipline::edit_beneath-returns-in-Tbf-clause-after
+Discipline::edit_beneath-returns-in-Tbf-clause-after g t c = on-ok c.edit-in-Tbf.result (λ edited child at.
+    only-edited c.args.edit c.args.rest.now c.args.place c.args.self.now (code.Tbf c.in-Tbf.bucket c.in-Tbf.limit (with_value c.in-Tbf.child c.edit-in-Tbf.new.self)) c.deref_mut.result.now c.edit-in-Tbf.new.self child
+    (ap children_seen c.in-Tbf.is ∙ ap (λ n. n ∷ []) (sym c.deref_mut.ensures.value)) at edited refl (sym (ap places_seen c.in-Tbf.is))
+    (sym (ap (λ d. settled_in c.args.place (is_empty c.edit-in-Tbf.new.self) (discipline_seen d)) c.in-Tbf.is))) c.edit-in-Tbf.ensures.after
 
 pub Discipline::edit_beneath-returns-in-Prio-clause-totals : goal.Discipline::edit_beneath-returns-in-Prio-clause-totals
 Discipline::edit_beneath-returns-in-Prio-clause-totals g t c = on-ok c.edit.result (λ e child at.
