@@ -231,7 +231,7 @@ module _ (memory : Type 0) (device : Device) (root : Node Kept) (p : Planned) (n
       same = edited_at-stands kept totals (λ (k : Kept). k.counts) stands (notes_of (Graft new) p.path.items root) (λ n. new) (λ n. blank totals s) (λ n. is) p.path.items root
           ∙ ap (λ ps. model.edited_at totals (losses_of Purged ps) (λ n. blank totals s) p.path.items (unplaced root)) removed-is;
       there = there;
-      ready = (new-counts new s is, nothing-beneath new s is mtu clock fresh made);
+      ready = record { counts = new-counts new s is; alone = nothing-beneath new s is mtu clock fresh made };
     };
     asked = refl;
     takes = λ h. absurd h;

@@ -23,6 +23,10 @@ use Rattle.q_tree.specs.TreeSeen.{numbers, tree_numbers}
 use Rattle.q_tree.specs.declared.edit.Edit.{Edit}
 use Rattle.q_tree.specs.declared.planned.Planned.{Planned}
 
+-- what the model plans for a command
+abbrev pub plan_of : Command → ℕ → DeviceState Kept → Result model.Edit NotDone
+plan_of command now d = plan d.tree.device now command (shape d.tree.root)
+
 -- whether a command takes memory
 abbrev pub takes_memory : Type 0
 takes_memory = Unit {0}

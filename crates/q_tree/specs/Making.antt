@@ -2,6 +2,8 @@
 -- Nothing here is of a standard.
 use Rattle.std.specs.Prelude.{◌≡◌, ℕ, List, [], ◌∷◌, map}
 use Rattle.q_bucket.specs.Level.{TokenBucket}
+use Rattle.q_model.specs.declared.kind.Kind.{Kind}
+use Rattle.q_model.specs.declared.kind.Kind.TheVariants as kind
 use Rattle.q_model.specs.Make.{implicit_bfifo}
 use Rattle.q_model.specs.Node as spec
 use Rattle.q_model.specs.Node.{Node, Shape, blank, children}
@@ -26,3 +28,12 @@ pub record IsNewDiscipline (d : Discipline) (s : Shape) : Type 0 where
 pub record IsNewTbf (d : Discipline) (bucket : TokenBucket) (limit : ℕ) : Type 0 where
   pub discipline : discipline_seen d ≡ spec.Tbf bucket limit
   pub leaf : AreNew (children_seen d) (implicit_bfifo limit ∷ [])
+
+-- the kinds that need memory of their own, for bands, an implicit leaf or flows
+abbrev pub NeedsMemory : Kind → Type 0
+NeedsMemory (kind.Pfifo limit) = ⊥
+NeedsMemory (kind.Bfifo limit) = ⊥
+NeedsMemory (kind.Prio options) = Unit {0}
+NeedsMemory (kind.Tbf rate burst limit) = Unit {0}
+NeedsMemory kind.Drr = ⊥
+NeedsMemory (kind.FqCodel options) = Unit {0}

@@ -9,9 +9,8 @@ ghost use Rattle.q_model.specs.Make.{Device};
 ghost use Rattle.q_model.specs.Node.{shape};
 ghost use Rattle.q_model.specs.Ranges.{IsCommand};
 ghost use Rattle.q_model.specs.Refusals.{is_so};
-ghost use Rattle.q_model.specs.TreeState.{plan};
 ghost use Rattle.q_tree.specs.Editing.{LosesNothing};
-ghost use Rattle.q_tree.specs.Commands.{IsAnswered, IsBounded, IsPlanOf, class_add_sized, drr_answer, takes_memory, takes_none, told};
+ghost use Rattle.q_tree.specs.Commands.{IsAnswered, IsBounded, IsPlanOf, class_add_sized, drr_answer, plan_of, takes_memory, takes_none, told};
 ghost use Rattle.q_tree.specs.Showing.{IsNumbered};
 
 use crate::counting::{MOST_LEVELS, MOST_NODES};
@@ -44,7 +43,7 @@ impl Tree {
         class: ClassId,
         quantum: Option<Quantum>,
     ) -> Result<(), NotDone>
-        ensures { IsAnswered takes_memory self.old.clock (plan self.old.tree.device self.old.clock (ClassAdd parent class quantum) (shape self.old.tree.root)) self.old self.new result }
+        ensures { IsAnswered takes_memory self.old.clock (plan_of (ClassAdd parent class quantum) self.old.clock self.old) self.old self.new result }
     {
         match self
             .root
@@ -71,9 +70,9 @@ impl Tree {
         sink: &mut S,
     ) -> Result<(), NotDone>
         requires sink { length (beneath self.old.tree.root) ≤ S.room sink.old }
-        ensures answer { IsAnswered takes_none self.old.clock (plan self.old.tree.device self.old.clock (ClassDel parent class) (shape self.old.tree.root)) self.old self.new result }
-        ensures lost { S.losses sink.new ≡ S.losses sink.old ++ told (plan self.old.tree.device self.old.clock (ClassDel parent class) (shape self.old.tree.root)) (shape self.old.tree.root) result }
-        ensures room { S.room sink.new + length (told (plan self.old.tree.device self.old.clock (ClassDel parent class) (shape self.old.tree.root)) (shape self.old.tree.root) result) ≡ S.room sink.old }
+        ensures answer { IsAnswered takes_none self.old.clock (plan_of (ClassDel parent class) self.old.clock self.old) self.old self.new result }
+        ensures lost { S.losses sink.new ≡ S.losses sink.old ++ told (plan_of (ClassDel parent class) self.old.clock self.old) (shape self.old.tree.root) result }
+        ensures room { S.room sink.new + length (told (plan_of (ClassDel parent class) self.old.clock self.old) (shape self.old.tree.root) result) ≡ S.room sink.old }
         ensures kept { S.keeps sink.old sink.new }
     {
         match self.root.class_removed(parent, class) {
@@ -96,7 +95,7 @@ impl Tree {
         class: ClassId,
         quantum: Option<Quantum>,
     ) -> Result<(), NotDone>
-        ensures { IsAnswered takes_none self.old.clock (plan self.old.tree.device self.old.clock (ClassChange parent class quantum) (shape self.old.tree.root)) self.old self.new result }
+        ensures { IsAnswered takes_none self.old.clock (plan_of (ClassChange parent class quantum) self.old.clock self.old) self.old self.new result }
     {
         match self.root.class_changed(parent, class, quantum) {
             Err(refusal) => return Err(refusal),

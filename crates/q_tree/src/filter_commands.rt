@@ -5,9 +5,8 @@ ghost use Rattle.q_model.specs.FilterCommands.{filter_add_checks, filter_del_che
 ghost use Rattle.q_model.specs.Make.{Device};
 ghost use Rattle.q_model.specs.Node.{shape};
 ghost use Rattle.q_model.specs.Refusals.{done_unless, has_filters};
-ghost use Rattle.q_model.specs.TreeState.{plan};
 ghost use Rattle.q_tree.specs.Editing.{LosesNothing};
-ghost use Rattle.q_tree.specs.Commands.{IsAnswered, IsBounded, IsPlanOf, takes_memory, takes_none};
+ghost use Rattle.q_tree.specs.Commands.{IsAnswered, IsBounded, IsPlanOf, plan_of, takes_memory, takes_none};
 
 use crate::edit::Edit;
 use crate::node::{Discipline, Node};
@@ -33,7 +32,7 @@ impl Tree {
         major: Handle,
         filter: Filter,
     ) -> Result<(), NotDone>
-        ensures { IsAnswered takes_memory self.old.clock (plan self.old.tree.device self.old.clock (FilterAdd parent major filter) (shape self.old.tree.root)) self.old self.new result }
+        ensures { IsAnswered takes_memory self.old.clock (plan_of (FilterAdd parent major filter) self.old.clock self.old) self.old self.new result }
     {
         match self.root.filter_added(parent, major, filter) {
             Err(refusal) => return Err(refusal),
@@ -48,7 +47,7 @@ impl Tree {
     /// The first that holds: `NoQdisc` where no qdisc has the handle; `NotClassful` where it is no prio and no drr; `NoFilter`
     /// where no filter has the priority. The tree is as it was.
     pub fn filter_del(&mut self, parent: Handle, prio: FilterPrio) -> Result<(), NotDone>
-        ensures { IsAnswered takes_none self.old.clock (plan self.old.tree.device self.old.clock (FilterDel parent prio) (shape self.old.tree.root)) self.old self.new result }
+        ensures { IsAnswered takes_none self.old.clock (plan_of (FilterDel parent prio) self.old.clock self.old) self.old self.new result }
     {
         match self.root.filters_removed(parent, prio) {
             Err(refusal) => return Err(refusal),

@@ -1,6 +1,6 @@
-ghost use Rattle.std.specs.Prelude.{◌≡◌, ◌≤◌, ◌*◌, IfOk, None, Some, replicate, unwrap_or};
+ghost use Rattle.std.specs.Prelude.{◌≡◌, ◌≤◌, ◌*◌, IfOk, None, OnErr, Some, replicate, unwrap_or};
 ghost use Rattle.q_model.specs.Make.{implicit_pfifo, limit_bytes, made, with_options};
-ghost use Rattle.q_tree.specs.Making.{AreNew, IsNewDiscipline, IsNewNode, IsNewTbf};
+ghost use Rattle.q_tree.specs.Making.{AreNew, IsNewDiscipline, IsNewNode, IsNewTbf, NeedsMemory};
 
 use crate::link::Link;
 use crate::node::{Discipline, NOTHING_COUNTED, Node};
@@ -17,7 +17,7 @@ impl Node {
     ///
     /// # Errors
     ///
-    /// `AllocError` where memory is refused.
+    /// `AllocError` where memory is refused, to a prio, a tbf or an fq_codel: the others need none.
     pub(crate) fn made(
         alloc: Global,
         link: Link,
@@ -26,7 +26,8 @@ impl Node {
         kind: &Kind,
     ) -> Result<Node, AllocError>
         requires { 1 ≤ link.mtu }
-        ensures { IfOk result (λ n. IsNewNode n (made (record { mtu = link.mtu; txqueuelen = link.txqueuelen }) now (Some handle) kind.now)) }
+        ensures new { IfOk result (λ n. IsNewNode n (made (record { mtu = link.mtu; txqueuelen = link.txqueuelen }) now (Some handle) kind.now)) }
+        ensures memory { OnErr result (NeedsMemory kind.now) }
     {
         // What a kind has is in its ranges, and an mtu fits 16 bits.
         let _ = (kind.ranges(), link.mtu);
@@ -49,7 +50,8 @@ fn new_discipline(
     kind: &Kind,
 ) -> Result<Discipline, AllocError>
     requires { 1 ≤ link.mtu }
-    ensures { IfOk result (λ d. IsNewDiscipline d (made (record { mtu = link.mtu; txqueuelen = link.txqueuelen }) now None kind.now)) }
+    ensures new { IfOk result (λ d. IsNewDiscipline d (made (record { mtu = link.mtu; txqueuelen = link.txqueuelen }) now None kind.now)) }
+    ensures memory { OnErr result (NeedsMemory kind.now) }
 {
     match kind {
         Kind::Pfifo { limit } => {

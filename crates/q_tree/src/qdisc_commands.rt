@@ -8,10 +8,9 @@ ghost use Rattle.q_model.specs.Node.{shape};
 ghost use Rattle.q_model.specs.QdiscCommands.{leaf_at, place_checks};
 ghost use Rattle.q_model.specs.Ranges.{IsCommand};
 ghost use Rattle.q_model.specs.Refusals.{done_unless, is_classless, is_so, most_nodes};
-ghost use Rattle.q_model.specs.TreeState.{plan};
-ghost use Rattle.q_tree.specs.Commands.{IsAnswered, IsBounded, IsPlanOf, takes_memory, takes_none, told};
+ghost use Rattle.q_tree.specs.Commands.{IsAnswered, IsBounded, IsPlanOf, plan_of, takes_none, told};
 ghost use Rattle.q_tree.specs.Grafting.{graft_checks, nodes_at};
-ghost use Rattle.q_tree.specs.Making.{IsNewNode};
+ghost use Rattle.q_tree.specs.Making.{IsNewNode, NeedsMemory};
 ghost use Rattle.q_tree.specs.Showing.{IsNumbered};
 
 use crate::counting::{MOST_LEVELS, MOST_NODES, levels_made, nodes_made};
@@ -37,8 +36,8 @@ impl Tree {
     ///
     /// The first that holds: `Exists` where the place is the device itself; `NoParent` where the class's qdisc is not there;
     /// `NotClassful` where it has no classes; `NoClass` where it has no such class; `Exists` where a qdisc with a handle stands
-    /// there; `HandleTaken`; `TooDeep` beyond 8 levels; `TooMany` beyond 256 nodes, implicit leaves among them; `Memory`. The
-    /// tree is as it was.
+    /// there; `HandleTaken`; `TooDeep` beyond 8 levels; `TooMany` beyond 256 nodes, implicit leaves among them; `Memory`,
+    /// of a prio, a tbf or an fq_codel. The tree is as it was.
     pub fn graft<S: Sink>(
         &mut self,
         alloc: Global,
@@ -50,9 +49,9 @@ impl Tree {
     ) -> Result<(), NotDone>
         requires order { self.old.clock ≤ now }
         requires sink { length (beneath self.old.tree.root) ≤ S.room sink.old }
-        ensures answer { IsAnswered takes_memory now (plan self.old.tree.device now (QdiscAdd place handle kind) (shape self.old.tree.root)) self.old self.new result }
-        ensures lost { S.losses sink.new ≡ S.losses sink.old ++ told (plan self.old.tree.device now (QdiscAdd place handle kind) (shape self.old.tree.root)) (shape self.old.tree.root) result }
-        ensures room { S.room sink.new + length (told (plan self.old.tree.device now (QdiscAdd place handle kind) (shape self.old.tree.root)) (shape self.old.tree.root) result) ≡ S.room sink.old }
+        ensures answer { IsAnswered (NeedsMemory kind) now (plan_of (QdiscAdd place handle kind) now self.old) self.old self.new result }
+        ensures lost { S.losses sink.new ≡ S.losses sink.old ++ told (plan_of (QdiscAdd place handle kind) now self.old) (shape self.old.tree.root) result }
+        ensures room { S.room sink.new + length (told (plan_of (QdiscAdd place handle kind) now self.old) (shape self.old.tree.root) result) ≡ S.room sink.old }
         ensures kept { S.keeps sink.old sink.new }
     {
         match self
@@ -80,9 +79,9 @@ impl Tree {
         sink: &mut S,
     ) -> Result<(), NotDone>
         requires sink { length (beneath self.old.tree.root) ≤ S.room sink.old }
-        ensures answer { IsAnswered takes_none self.old.clock (plan self.old.tree.device self.old.clock (QdiscDel place handle) (shape self.old.tree.root)) self.old self.new result }
-        ensures lost { S.losses sink.new ≡ S.losses sink.old ++ told (plan self.old.tree.device self.old.clock (QdiscDel place handle) (shape self.old.tree.root)) (shape self.old.tree.root) result }
-        ensures room { S.room sink.new + length (told (plan self.old.tree.device self.old.clock (QdiscDel place handle) (shape self.old.tree.root)) (shape self.old.tree.root) result) ≡ S.room sink.old }
+        ensures answer { IsAnswered takes_none self.old.clock (plan_of (QdiscDel place handle) self.old.clock self.old) self.old self.new result }
+        ensures lost { S.losses sink.new ≡ S.losses sink.old ++ told (plan_of (QdiscDel place handle) self.old.clock self.old) (shape self.old.tree.root) result }
+        ensures room { S.room sink.new + length (told (plan_of (QdiscDel place handle) self.old.clock self.old) (shape self.old.tree.root) result) ≡ S.room sink.old }
         ensures kept { S.keeps sink.old sink.new }
     {
         match self.root.pruned(alloc, self.link(), place, handle) {
@@ -106,7 +105,7 @@ impl Node {
         requires bounded { IsBounded self.now }
         requires lawful { IsNumbered self.now }
         requires mtu { 1 ≤ link.mtu }
-        ensures plan { IsPlanOf takes_memory (QdiscAdd place handle kind.now) now (record { mtu = link.mtu; txqueuelen = link.txqueuelen }) self.now result }
+        ensures plan { IsPlanOf (NeedsMemory kind.now) (QdiscAdd place handle kind.now) now (record { mtu = link.mtu; txqueuelen = link.txqueuelen }) self.now result }
     {
         add_ranges(&place, &handle, kind);
         let path = match self.way_in(place) {

@@ -8,8 +8,8 @@ use Rattle.q_tree.specs.declared.node.Discipline.TheVariants.{Prio, FqCodel}
 use Rattle.q_tree.specs.Making.{AreNew, IsNewDiscipline}
 use Rattle.q_tree.proofs.made.new_discipline.Goals as goal
 
-pub returns-in-Prio : goal.returns-in-Prio
-returns-in-Prio c =
+pub returns-in-Prio-clause-new : goal.returns-in-Prio-clause-new
+returns-in-Prio-clause-new c =
     let d : Device = record { mtu = c.args.link.mtu; txqueuelen = c.args.link.txqueuelen } in
     let leaf = implicit_pfifo d in
     subst (λ k. IsNewDiscipline (Prio c.options.inside.priomap c.in_ok-bands-in-Prio.bands) (made d c.args.now None k)) (sym c.in-Prio.is) (record {
@@ -18,8 +18,8 @@ returns-in-Prio c =
           (subst (λ k. AreNew c.in_ok-bands-in-Prio.bands.items (replicate k leaf)) (c.from.ensures ∙ ap (λ (o : PrioSettings). o.bands) c.options.view_is) c.in_ok-bands-in-Prio.ensures);
     })
 
-pub returns-in-FqCodel : goal.returns-in-FqCodel
-returns-in-FqCodel c =
+pub returns-in-FqCodel-clause-new : goal.returns-in-FqCodel-clause-new
+returns-in-FqCodel-clause-new c =
     let d : Device = record { mtu = c.args.link.mtu; txqueuelen = c.args.link.txqueuelen } in
     subst (λ k. IsNewDiscipline (FqCodel c.in_ok-new-in-FqCodel.field-0) (made d c.args.now None k)) (sym c.in-FqCodel.is) (record {
       discipline = ap spec.FqCodel (c.in_ok-new-in-FqCodel.ensures ∙ ap first_state (c.with_options-settings.ensures ∙ ap (with_options c.in-FqCodel.options) c.defaults.ensures));

@@ -12,9 +12,9 @@ use Rattle.q_model.specs.TreeState.{plan}
 use Rattle.q_model.specs.Edit as model
 use Rattle.q_sound.proofs.EditMade.{new_made}
 use Rattle.q_sound.proofs.EditSuits.{done_is}
-use Rattle.q_tree.specs.Commands.{IsRefused, takes_memory}
+use Rattle.q_tree.specs.Commands.{IsRefused}
 use Rattle.q_tree.specs.Grafting.{graft_checks}
-use Rattle.q_tree.specs.Making.{IsNewNode}
+use Rattle.q_tree.specs.Making.{IsNewNode, NeedsMemory}
 use Rattle.q_tree.specs.declared.edit.Edit.TheVariants.{Graft}
 use Rattle.q_tree.proofs.GraftLemmas.{free-shape, graft-planned, graft-planned-for, graft-refused, place-refused, there}
 use Rattle.q_tree.proofs.Plans.{refused-plan}
@@ -25,7 +25,7 @@ returns-in-Err c =
     let root = c.args.self.now in
     let d : Device = record { mtu = c.args.link.mtu; txqueuelen = c.args.link.txqueuelen } in
     record {
-      plan = refused-plan takes_memory (plan d c.args.now (QdiscAdd c.args.place c.args.handle c.args.kind.now) (shape root)) c.in-Err.refusal
+      plan = refused-plan (NeedsMemory c.args.kind.now) (plan d c.args.now (QdiscAdd c.args.place c.args.handle c.args.kind.now) (shape root)) c.in-Err.refusal
           (place-refused root c.requires.bounded c.requires.lawful d c.args.now c.args.place c.args.handle c.args.kind.now c.add_ranges.ensures.2 (unwrap_or (place_path c.args.place (shape root)) []) c.in-Err.refusal
           (sym c.way_in.ensures ∙ ap (result_map_both (λ p. p.items) (λ e. e)) c.in-Err.is));
     }
@@ -52,7 +52,7 @@ returns-in-Err-can_graft c =
     let passed = sym c.way_in.ensures ∙ ap (result_map_both (λ p. p.items) (λ e. e)) c.in-Ok.is in
     let same = (done_is (place_checks c.args.place (shape root)) way c.in-Ok.path.items passed).1 ∙ sym c.deref.ensures.0 in
     record {
-      plan = refused-plan takes_memory (plan d c.args.now (QdiscAdd c.args.place c.args.handle c.args.kind.now) (shape root)) c.in-Err-can_graft.refusal
+      plan = refused-plan (NeedsMemory c.args.kind.now) (plan d c.args.now (QdiscAdd c.args.place c.args.handle c.args.kind.now) (shape root)) c.in-Err-can_graft.refusal
           (graft-refused root c.requires.bounded c.requires.lawful d c.args.now c.args.place c.args.handle c.args.kind.now c.add_ranges.ensures.2 way c.in-Ok.path.items passed c.in-Err-can_graft.refusal
           (ap (λ p. done_unless (graft_checks c.args.handle c.args.kind.now p root) tt) same ∙ sym c.can_graft.ensures ∙ c.in-Err-can_graft.is));
     }
@@ -66,7 +66,7 @@ returns-in_default-made c =
     let same = (done_is (place_checks c.args.place (shape root)) way c.in-Ok.path.items passed).1 ∙ sym c.deref.ensures.0 in
     let planned = graft-planned root c.requires.bounded c.requires.lawful d c.args.now c.args.place c.args.handle c.args.kind.now c.add_ranges.ensures.2 way c.in-Ok.path.items passed
     (ap (λ p. done_unless (graft_checks c.args.handle c.args.kind.now p root) tt) same ∙ sym c.can_graft.ensures ∙ c.in_default.is) in
-    record { plan = subst (λ q. IsRefused takes_memory q Memory) (sym planned) (refl, tt) }
+    record { plan = subst (λ q. IsRefused (NeedsMemory c.args.kind.now) q Memory) (sym planned) (refl, c.in_default-made.ensures.memory) }
 
 pub returns : goal.returns
 returns c =
@@ -80,10 +80,10 @@ returns c =
     (ap (λ p. done_unless (graft_checks c.args.handle k p root) tt) (way_is ∙ sym c.deref.ensures.0) ∙ sym c.can_graft.ensures ∙ c.in_default.is) in
     let h = unwrap_or c.args.handle (free_handle (shape root)) in
     let handle_is : c.handle_or_free-handle.result ≡ h = c.handle_or_free-handle.ensures ∙ ap (unwrap_or c.args.handle) (sym (free-shape root)) in
-    let new : IsNewNode c.in-Ok-made.node (new_qdisc d c.args.now c.args.handle k (shape root)) = subst (λ m. IsNewNode c.in-Ok-made.node (made d c.args.now (Some m) k)) handle_is c.in-Ok-made.ensures in
+    let new : IsNewNode c.in-Ok-made.node (new_qdisc d c.args.now c.args.handle k (shape root)) = subst (λ m. IsNewNode c.in-Ok-made.node (made d c.args.now (Some m) k)) handle_is c.in-Ok-made.ensures.new in
     let small : d.mtu < 2 ^ 16 = omega (arith, c.well_formed) in
     record {
-      plan = graft-planned-for takes_memory d root (record { path = c.in-Ok.path; edit = Graft c.in-Ok-made.node }) c.in-Ok-made.node (new_qdisc d c.args.now c.args.handle k (shape root)) new d.mtu c.args.now (Some h)
+      plan = graft-planned-for (NeedsMemory k) d root (record { path = c.in-Ok.path; edit = Graft c.in-Ok-made.node }) c.in-Ok-made.node (new_qdisc d c.args.now c.args.handle k (shape root)) new d.mtu c.args.now (Some h)
           (new_made d c.args.now (Some h) k c.requires.mtu small c.add_ranges.ensures.2) (QdiscAdd c.args.place c.args.handle k) c.add_ranges.ensures c.args.now
           (planned ∙ ap (λ p. Ok (model.Graft p (new_qdisc d c.args.now c.args.handle k (shape root)))) way_is)
           (subst (λ p. is_some (node_at p root) ≡ true) way_is (there root c.requires.bounded c.requires.lawful d c.args.now c.args.place c.args.handle k c.add_ranges.ensures.2));
