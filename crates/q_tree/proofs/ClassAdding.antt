@@ -1,7 +1,7 @@
 -- What the model plans of a class that is added or removed, and that the edit of the code is this plan.
-use Rattle.std.proofs.Common.{◌≡◌, ℕ, suc, ◌+◌, ◌<◌, ◌≤◌, ◌∙◌, List, [], ◌∷◌, ◌++◌, length, refl, sym, ap, subst, Option, Some, None, option_map, Result, Ok, Err, arith}
+use Rattle.std.proofs.Common.{◌≡◌, ℕ, suc, ◌+◌, ◌<◌, ◌∙◌, List, [], ◌∷◌, ◌++◌, length, sym, ap, subst, Option, Some, None, option_map, Result, Ok, Err, arith}
 use Rattle.std.specs.Prelude.{false, not, slice_get, unwrap_or, ◌==◌}
-use Rattle.std.specs.List.{list_any, position, remove}
+use Rattle.std.specs.List.{list_any}
 use Rattle.std.proofs.lemmas.Bool.{not-false}
 use Rattle.std.proofs.lemmas.List.Quantifiers.{position-Some}
 use Rattle.q_codel.specs.declared.limit.Limit.TheVariants.{Packets}
@@ -10,7 +10,7 @@ use Rattle.q_model.specs.declared.class_id.ClassId.{ClassId}
 use Rattle.q_model.specs.declared.command.Command.TheVariants.{ClassAdd, ClassDel}
 use Rattle.q_model.specs.declared.not_done.NotDone.{NotDone}
 use Rattle.q_model.specs.declared.not_done.NotDone.TheVariants.{Busy, Exists, NoClass, NoQdisc}
-use Rattle.q_model.specs.Beneath.{beneath, beneath_own}
+use Rattle.q_model.specs.Beneath.{beneath_own}
 use Rattle.q_model.specs.ClassCommands.{class_add_checks, class_del_checks, class_removed, is_there, of_schedule, with_class, without_class}
 use Rattle.q_model.specs.Edit as model
 use Rattle.q_model.specs.Filters.{names_class}
@@ -44,7 +44,7 @@ use Rattle.q_tree.specs.declared.reshape.Reshape.TheVariants.{AddClass, RemoveCl
 use Rattle.q_tree.proofs.ClassPlans.{IsPassed, at-class, drr-done, drr-passed, drr-refused, first-passed, kids-joined, kids-left, none-lost, one-lost, one_less, one_more, own-joined, own-left, sized-is, there-known}
 use Rattle.q_tree.proofs.MakingLemmas.{new-counts, nothing-beneath}
 use Rattle.q_tree.proofs.Plans.{few, remade-planned, reshape-does, shallow}
-use Rattle.q_tree.proofs.TargetLemmas.{IsReached, reached-at, target-none, target-some}
+use Rattle.q_tree.proofs.TargetLemmas.{reached-at, target-none, target-some}
 
 -- ---- a class more
 

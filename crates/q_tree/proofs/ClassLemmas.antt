@@ -1,12 +1,12 @@
 -- The class of a drr that is to go, and the child in it.
-use Rattle.std.proofs.Common.{◌≡◌, ℕ, ◌≤◌, ◌<◌, ◌∙◌, Bool, true, List, length, refl, sym, ap, Option, Some, None, option_and_then, option_map}
+use Rattle.std.proofs.Common.{◌≡◌, ℕ, ◌<◌, ◌∙◌, true, List, length, sym, ap, Option, Some, None, option_and_then, option_map}
 use Rattle.std.specs.Prelude.{is_some, slice_get, slice_index_or}
 use Rattle.q_drr.specs.Schedule.{Schedule, has_class, place_of}
 use Rattle.q_model.specs.Node as spec
 use Rattle.q_model.specs.Node.{Node}
 use Rattle.q_sound.proofs.EditClasses.{class_known, member_at}
 use Rattle.q_tree.specs.Kept.{Kept}
-use Rattle.q_tree.specs.Reshaping.{class_child, place_in}
+use Rattle.q_tree.specs.Reshaping.{class_child}
 use Rattle.q_tree.proofs.Puts.{same-child}
 
 pub class-is-there : (class i : ℕ) (s : Schedule) → Some i ≡ place_of class s.classes → has_class class s.classes ≡ true

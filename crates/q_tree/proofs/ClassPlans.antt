@@ -1,6 +1,6 @@
 -- What the model plans of a command for a class of a drr, and that the edit of the code is this plan.
-use Rattle.std.proofs.Common.{◌≡◌, ℕ, zero, suc, ◌+◌, ◌-◌, ◌<◌, ◌≤◌, ◌∙◌, List, [], ◌∷◌, ◌++◌, append-nil, length, map, refl, sym, ap, ap₂, subst, Option, Some, None, option_map, option_and_then, Result, Ok, Err, arith}
-use Rattle.std.specs.Prelude.{Bool, true, false, not, is_some, slice_get, unwrap_or, ◌==◌, ◌||◌, if◌then◌else◌}
+use Rattle.std.proofs.Common.{◌≡◌, ℕ, zero, suc, ◌+◌, ◌<◌, ◌≤◌, ◌∙◌, List, [], ◌∷◌, ◌++◌, append-nil, length, map, refl, sym, ap, ap₂, Option, Some, None, option_map, option_and_then, Result, Ok, Err, arith}
+use Rattle.std.specs.Prelude.{Bool, true, false, not, is_some, slice_get, ◌==◌, if◌then◌else◌}
 use Rattle.std.specs.List.{list_any, remove}
 use Rattle.std.specs.Option.{option_map_or}
 use Rattle.std.proofs.lemmas.Bool.{not-false, or_left}
@@ -22,11 +22,10 @@ use Rattle.q_model.specs.Node.{Discipline, Fifo, Prio, Tbf, Drr, FqCodel, Own, N
 use Rattle.q_model.specs.QdiscCommands.{all_kept, at_target, retuned}
 use Rattle.q_model.specs.Refusals.{Check, done_unless, is_so, refuse}
 use Rattle.q_model.specs.Tally.{totals}
-use Rattle.q_model.specs.Work.{losses_of}
 use Rattle.q_model.proofs.ShrinkLemmas.{nodes_in-each_memory}
 use Rattle.q_sound.proofs.EditChildren.{any-append, gone, gone_is, gone_none, kept_there, kids, kids-append, kids_all, kids_removed, removed_goes, removed_keeps}
 use Rattle.q_sound.proofs.EditClasses.{class_known}
-use Rattle.q_sound.proofs.EditSuits.{beneath-children, check_passed, done_is, length-shape}
+use Rattle.q_sound.proofs.EditSuits.{beneath-children, check_passed, done_is}
 use Rattle.q_sound.proofs.MadeSizes.{count-shape}
 use Rattle.q_sound.proofs.SizeChecks.{sizes}
 use Rattle.q_tree.specs.Commands.{class_add_sized, drr_answer}

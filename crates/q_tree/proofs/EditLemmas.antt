@@ -1,8 +1,8 @@
 -- A node that is edited, or that stands above one which is: what waits there, and what it has counted.
-use Rattle.std.proofs.Common.{◌≡◌, ℕ, zero, suc, ◌+◌, ◌≤◌, ◌<◌, ◌^◌, ◌∙◌, List, [], ◌∷◌, ◌++◌, set, take, length, refl, sym, ap, subst, Option, Some, None, option_and_then, arith}
+use Rattle.std.proofs.Common.{◌≡◌, ℕ, zero, suc, ◌+◌, ◌≤◌, ◌<◌, ◌^◌, ◌∙◌, List, [], ◌∷◌, set, take, length, refl, sym, ap, subst, Option, Some, None, option_and_then, arith}
 use Rattle.std.specs.Prelude.{Bool, true, false, cond, nat_le, IsSome, slice_get, slice_index_or, All, Result, Ok, Err, OnOk}
 use Rattle.std.specs.List.{insert, prefix_len, take_while}
-use Rattle.std.specs.Option.{option_map_or, option_to_list}
+use Rattle.std.specs.Option.{option_map_or}
 use Rattle.std.specs.declared.alloc.AllocError.{AllocError}
 use Rattle.std.proofs.lemmas.Bool.{false≢true}
 use Rattle.std.proofs.lemmas.List.Elements.{All-set}
@@ -13,12 +13,11 @@ use Rattle.q_packet.specs.declared.cause.Cause.TheVariants.{Purged}
 use Rattle.q_model.specs.declared.filter.Filter.{Filter}
 use Rattle.q_model.specs.declared.row.Row.{Row}
 use Rattle.q_model.specs.declared.totals.Totals.{Totals}
-use Rattle.q_model.specs.Beneath.{beneath, beneath_own, is_empty, packets_in, totals_in}
+use Rattle.q_model.specs.Beneath.{beneath, beneath_own, is_empty, totals_in}
 use Rattle.q_model.specs.Conserved.{held_own, held_beneath, IsBalanced, AreMarksBounded}
 use Rattle.q_model.specs.Edit.{above, edited_at}
 use Rattle.q_model.specs.Filters.{with_filter}
 use Rattle.q_model.specs.Find.{node_at}
-use Rattle.q_model.specs.Node as spec
 use Rattle.q_model.specs.Node.{Node, children, each, side_by_side}
 use Rattle.q_model.specs.Step.{losses_in}
 use Rattle.q_model.specs.Tally.{Counts, no_totals, noted, with_packet}

@@ -1,46 +1,42 @@
 -- What the model plans of a command that names a qdisc by its handle, and that an edit of the code is this plan.
 use Rattle.std.proofs.Common.{◌≡◌, ℕ, ◌≤◌, ◌+◌, ◌∙◌, List, [], ◌∷◌, ◌++◌, append-nil, length, map, refl, sym, ap, subst, Option, Some, None, option_map, option_and_then, Result, Ok, Err, arith}
-use Rattle.std.specs.Prelude.{IfErr, OnErr, OnOk, Bool, is_none, is_some, not, slice_get, true, false, ◌==◌, ◌||◌, if◌then◌else◌}
+use Rattle.std.specs.Prelude.{IfErr, OnErr, OnOk, Bool, is_none, is_some, not, slice_get, true, false, ◌||◌}
 use Rattle.std.specs.List.{list_any}
 use Rattle.std.specs.Option.{option_map_or}
-use Rattle.std.proofs.lemmas.Bool.{false≢true, not-false}
+use Rattle.std.proofs.lemmas.Bool.{false≢true}
 use Rattle.std.proofs.lemmas.List.{length-map}
 use Rattle.std.proofs.lemmas.Option.{same_Some}
-use Rattle.q_drr.specs.Schedule.{Schedule, has_class, with_quantum}
 use Rattle.q_codel.specs.declared.loss.Loss.{Loss}
 use Rattle.q_packet.specs.declared.cause.Cause.TheVariants.{Purged}
 use Rattle.q_sound.proofs.Answer.{one}
 use Rattle.q_sound.proofs.Weights.{weigh-count}
 use Rattle.q_tree.specs.Purging.{purged}
 use Rattle.q_tree.proofs.EditLemmas.{edited-loses, told-purged}
-use Rattle.q_model.specs.declared.class_id.ClassId.{ClassId}
 use Rattle.q_model.specs.declared.command.Command.{Command}
 use Rattle.q_model.specs.declared.not_done.NotDone.{NotDone}
-use Rattle.q_model.specs.declared.not_done.NotDone.TheVariants.{Memory, NoClass, NoParent, NoQdisc, NotClassful, TooMany}
+use Rattle.q_model.specs.declared.not_done.NotDone.TheVariants.{Memory, NoClass, NotClassful, TooMany}
 use Rattle.q_model.specs.Beneath.{beneath}
-use Rattle.q_model.specs.ClassCommands.{class_change, class_change_checks, class_changed, is_there, of_schedule, with_new_quantum}
 use Rattle.q_model.specs.Edit as model
 use Rattle.q_model.specs.Edit.{Remake, above, edited_at, keeps, lost_by, packets_removed, beneath_removed, remade}
-use Rattle.q_model.specs.Find.{class_in, count_nodes, depth, node_at, path_of}
-use Rattle.q_model.specs.Node.{Discipline, Fifo, Prio, Tbf, Drr, FqCodel, Own, Node, Shape, children, shape, side_by_side}
+use Rattle.q_model.specs.Find.{count_nodes, depth, node_at}
+use Rattle.q_model.specs.Node.{Discipline, Own, Node, Shape, children, shape, side_by_side}
 use Rattle.q_model.specs.Make.{Device}
-use Rattle.q_model.specs.QdiscCommands.{all_kept, at_target, retuned}
+use Rattle.q_model.specs.QdiscCommands.{all_kept}
 use Rattle.q_model.proofs.ShrinkLemmas.{child-with_memory, noted-stands, shape-with_memory, side_by_side-map}
 use Rattle.q_model.proofs.ShrinkSteps.{edited_at-stands}
-use Rattle.q_model.specs.Refusals.{Check, done_unless, first_refusal, is_so, most_levels, most_nodes, refuse}
+use Rattle.q_model.specs.Refusals.{Check, done_unless, first_refusal, most_levels, most_nodes, refuse}
 use Rattle.q_model.specs.Step.{DeviceState, losses_in}
 use Rattle.q_model.specs.Tally.{Note, Tally, noted, totals}
 use Rattle.q_model.specs.Ranges.{IsCommand}
 use Rattle.q_model.specs.TreeState.{plan, with_edit}
 use Rattle.q_model.specs.Work.{losses_of}
-use Rattle.q_sound.proofs.EditClasses.{class_known}
 use Rattle.q_sound.proofs.EditChildren.{gone_is, gone_none, kept_there, kids, kids_all}
-use Rattle.q_sound.proofs.EditSuits.{check_passed, done_is, length-shape, node_at-shape}
+use Rattle.q_sound.proofs.EditSuits.{done_is, length-shape, node_at-shape}
 use Rattle.q_sound.proofs.Forests.{side-nodes}
 use Rattle.q_sound.proofs.MadeSizes.{count-shape, depth-shape}
 use Rattle.q_tree.specs.Commands.{IsAnswered, IsBounded, IsDone, IsPlanned, IsPlannedFor, IsPlanOf, IsRefused, device_edited, told}
 use Rattle.q_tree.specs.Editing.{IsReady, LosesNothing, TakesMemory, edited_by, effect, removed, removed_at}
-use Rattle.q_tree.specs.Reshaping.{KeepsAll, children_after, discipline_after, lost_with, requantum, rescheduled}
+use Rattle.q_tree.specs.Reshaping.{KeepsAll, children_after, discipline_after, lost_with}
 use Rattle.q_tree.specs.Places.{unplaced}
 use Rattle.q_tree.specs.Kept.{Kept, kept}
 use Rattle.q_tree.specs.TreeSeen.{IsKeptDevice, numbers, tree_numbers}

@@ -18,9 +18,9 @@ use Rattle.q_model.specs.Node as spec
 use Rattle.q_model.specs.Node.{Node}
 use Rattle.q_model.specs.Options.{FqOptions}
 use Rattle.q_model.specs.QdiscCommands.{relimited}
-use Rattle.q_model.specs.Tally.{Counts, no_totals}
+use Rattle.q_model.specs.Tally.{Counts}
 use Rattle.q_sound.proofs.EditNew.{held-le-beneath}
-use Rattle.q_sound.proofs.Joined.{joined, weigh-joined-append, weigh-joined-cons, weigh-beneath}
+use Rattle.q_sound.proofs.Joined.{joined, weigh-joined-append, weigh-joined-cons}
 use Rattle.q_sound.proofs.Weights.{weigh, weigh-nil}
 use Rattle.q_tree.specs.Kept.{Kept}
 use Rattle.q_tree.specs.PutSteps.{packets_beneath}

@@ -1,6 +1,6 @@
 -- What an edit of a tree makes of the node at the end of its way, and of the nodes above it (tc(8), `add`, `change`, `del`).
 -- Each node above counts what is lost as dropped, and a class of a drr that is thereby empty leaves the active list.
-use Rattle.std.specs.Prelude.{◌≡◌, ℕ, ◌<◌, ◌≤◌, ◌^◌, ◌==◌, not, List, [], set, Option, None, Some, if◌then◌else◌}
+use Rattle.std.specs.Prelude.{◌≡◌, ℕ, ◌<◌, ◌≤◌, ◌^◌, ◌==◌, not, List, [], set}
 use Rattle.std.specs.List.{filter}
 use Rattle.std.specs.Option.{option_map_or}
 use Rattle.q_packet.specs.Descriptor.{Descriptor}
@@ -12,7 +12,6 @@ use Rattle.q_model.specs.Beneath.{beneath, is_empty}
 use Rattle.q_model.specs.Edit.{edited_at}
 use Rattle.q_model.specs.Filters.{with_filter}
 use Rattle.q_model.specs.Find.{node_at}
-use Rattle.q_model.specs.Node as spec
 use Rattle.q_model.specs.Node.{Node, children, side_by_side}
 use Rattle.q_model.specs.Tally.{Note, noted}
 use Rattle.q_model.specs.Work.{losses_of, settled_in}

@@ -10,8 +10,8 @@ ghost use Rattle.q_tree.specs.Commands.{IsAnswered, IsBounded, IsPlanOf, plan_of
 
 use crate::edit::Edit;
 use crate::node::{Discipline, Node};
-use crate::planned::Planned;
 use crate::one_loss::OneLoss;
+use crate::planned::Planned;
 use crate::tree::Tree;
 use q_model::{Filter, FilterPrio, Handle, NotDone};
 

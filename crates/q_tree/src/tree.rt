@@ -19,10 +19,10 @@ ghost use Rattle.q_tree.specs.Showing.{IsNumbered, standing};
 ghost use Rattle.q_tree.specs.TreeSeen.{CanArrive, IsArrived, IsRouteIn, numbers};
 
 use crate::booking::{book_arrival, book_dropped, book_sent, book_shown};
-use crate::planned::Planned;
 use crate::link::Link;
 use crate::node::{NOTHING_COUNTED, Node};
 use crate::outcome::{Outcome, refuse};
+use crate::planned::Planned;
 use crate::route::Route;
 use q_codel::{Limit, Sink};
 use q_model::{ClassView, Fate, FilterView, NodeView, NotDone, Place, Row};

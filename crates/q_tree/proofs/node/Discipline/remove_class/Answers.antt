@@ -1,8 +1,7 @@
-use Rattle.std.proofs.Common.{◌≡◌, ℕ, List, [], ◌+◌, ◌∙◌, ◌++◌, Option, None, Some, append-nil, length, refl, sym, ap, arith}
+use Rattle.std.proofs.Common.{ℕ, List, [], ◌∙◌, ◌++◌, Option, append-nil, length, sym, ap, arith}
 use Rattle.std.specs.List.{remove}
 use Rattle.std.specs.Option.{option_map_or}
 use Rattle.std.proofs.lemmas.Option.{slice_get_past}
-use Rattle.q_codel.specs.declared.loss.Loss.{Loss}
 use Rattle.q_drr.specs.Schedule as schedule
 use Rattle.q_drr.specs.Schedule.{place_of}
 use Rattle.q_model.specs.Beneath.{beneath, totals_in}
@@ -13,7 +12,7 @@ use Rattle.q_tree.specs.Kept.{Kept}
 use Rattle.q_tree.specs.Purging.{purged}
 use Rattle.q_tree.specs.Reshaping.{rescheduled}
 use Rattle.q_tree.specs.Seen.{children_seen, discipline_seen, places_seen}
-use Rattle.q_tree.proofs.ClassLemmas.{class-is-there, found-class, no-class, past-class}
+use Rattle.q_tree.proofs.ClassLemmas.{class-is-there, found-class, past-class}
 use Rattle.q_tree.proofs.node.Discipline.remove_class.Goals as goal
 
 -- what is lost with the child that was found

@@ -1,5 +1,4 @@
-use Rattle.std.proofs.Common.{◌≡◌, ◌+◌, ◌∙◌, ◌++◌, List, Ok, length, sym, ap, subst, arith}
-use Rattle.q_model.specs.declared.totals.Totals.{Totals}
+use Rattle.std.proofs.Common.{◌∙◌, ◌++◌, List, Ok, length, sym, ap, subst, arith}
 use Rattle.q_model.specs.Beneath.{totals_in}
 use Rattle.q_packet.specs.Descriptor.{Descriptor}
 use Rattle.q_tree.specs.Editing.{CanDrop, with_dropped}
