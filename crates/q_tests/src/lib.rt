@@ -11,8 +11,6 @@ mod codel;
 #[cfg(test)]
 mod command_line;
 #[cfg(test)]
-mod device;
-#[cfg(test)]
 mod drr;
 #[cfg(test)]
 mod fifo;
@@ -36,5 +34,3 @@ mod runs;
 mod show;
 #[cfg(test)]
 mod streams;
-#[cfg(test)]
-mod tree;
