@@ -19,8 +19,6 @@ mod fq_codel;
 #[cfg(test)]
 mod fq_codel_twins;
 #[cfg(test)]
-mod frame_lines;
-#[cfg(test)]
 mod head;
 #[cfg(test)]
 mod line;
