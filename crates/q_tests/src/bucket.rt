@@ -1,76 +1,163 @@
 //! The token bucket, at worked moments.
-ghost use Rattle.std.specs.Prelude.{◌≡◌, ◌≤◌, ◌^◌};
+ghost use Rattle.std.specs.Prelude.{◌≤◌, IfSome};
 
 use q_bucket::Bucket;
 use q_packet::Moment;
+use std::test::Fail;
 
-fn moment(ns: u64) -> Moment
-    requires { ns ≤ 2 ^ 62 }
-    ensures { result ≡ ns }
+// A call, and what it has to answer. Moments are in nanoseconds, lengths and bursts in bytes, rates in bits a second.
+#[derive(Clone, Copy, Debug)]
+enum Call {
+    // The moment, the length, and whether the packet goes.
+    Spend(u64, u16, bool),
+    // The length, and the least moment at which such a packet may go.
+    Ready(u16, Option<u64>),
+    // The moment, and the level in units of 1/(8*10^9) byte.
+    Level(u64, u128),
+    // The moment, and the rate and the burst from then on.
+    Change(u64, u64, u32),
+}
+
+// This moment, where the bucket may be asked at it.
+fn in_order(bucket: &Bucket, ns: u64) -> Option<Moment>
+    ensures { IfSome result (λ at. bucket.now.last ≤ at) }
 {
-    Moment::new(ns).unwrap()
+    let last = bucket.ready_at(0)?;
+    let now = Moment::new(ns)?;
+    if now < last { None } else { Some(now) }
+}
+
+// A full bucket.
+fn full(rate: u64, burst: u32, ns: u64) -> Result<Bucket, Fail> {
+    if rate < 1 || rate > 1_000_000_000_000 || burst < 1 {
+        return Err(Fail::from("rate or burst"));
+    }
+    let now = Moment::new(ns).ok_or("moment")?;
+    Ok(Bucket::new(rate, burst, now))
+}
+
+fn change(bucket: &mut Bucket, ns: u64, rate: u64, burst: u32) -> Result<bool, Fail> {
+    let now = in_order(bucket, ns).ok_or("moment")?;
+    if rate < 1 || rate > 1_000_000_000_000 || burst < 1 {
+        return Err(Fail::from("rate or burst"));
+    }
+    bucket.change(rate, burst, now);
+    Ok(bucket.rate() == rate && bucket.burst() == burst)
+}
+
+// Whether a call answers as it has to.
+fn answers(bucket: &mut Bucket, call: Call) -> Result<bool, Fail> {
+    match call {
+        Call::Spend(ns, len, goes) => {
+            let now = in_order(bucket, ns).ok_or("moment")?;
+            Ok(bucket.spend(now, len) == goes)
+        }
+        Call::Ready(len, ns) => match bucket.ready_at(len) {
+            Some(at) => Ok(ns == Some(at.ns())),
+            None => Ok(ns.is_none()),
+        },
+        Call::Level(ns, level) => {
+            let now = in_order(bucket, ns).ok_or("moment")?;
+            Ok(bucket.level_at(now) == level)
+        }
+        Call::Change(ns, rate, burst) => change(bucket, ns, rate, burst),
+    }
+}
+
+// Plays these calls on a bucket that is full at moment 0, and fails at the first that does not answer as it has to.
+fn play(rate: u64, burst: u32, calls: &[Call]) -> Result<(), Fail> {
+    let mut bucket = full(rate, burst, 0)?;
+    for call in calls {
+        if !answers(&mut bucket, *call)? {
+            return Err(Fail::new(format_args!("{call:?}")));
+        }
+    }
+    Ok(())
 }
 
 #[test]
-fn three_bits_a_second(rt: HostRuntime) {
-    let mut bucket = Bucket::new(3, 2, moment(0));
-    assert!(rt; bucket.spend(moment(0), 2));
-    assert_eq!(rt; bucket.ready_at(1), Some(moment(2666666667)));
-    assert!(rt; !bucket.spend(moment(2666666666), 1));
-    assert!(rt; bucket.spend(moment(2666666667), 1));
-    assert_eq!(rt; bucket.level_at(moment(2666666667)), 1);
-    assert_eq!(rt; bucket.ready_at(3), None);
+fn three_bits_a_second() -> Result<(), Fail> {
+    play(
+        3,
+        2,
+        &[
+            Call::Spend(0, 2, true),
+            Call::Ready(1, Some(2_666_666_667)),
+            Call::Spend(2_666_666_666, 1, false),
+            Call::Spend(2_666_666_667, 1, true),
+            Call::Level(2_666_666_667, 1),
+            Call::Ready(3, None),
+        ],
+    )
 }
 
 #[test]
-fn second_packet_goes_when_its_bytes_have_come(rt: HostRuntime) {
-    let mut slow = Bucket::new(8000, 1500, moment(0));
-    assert!(rt; slow.spend(moment(0), 1000));
-    assert_eq!(rt; slow.ready_at(1000), Some(moment(500000000)));
-    assert!(rt; !slow.spend(moment(499999999), 1000));
-    assert!(rt; slow.spend(moment(500000000), 1000));
-
-    let mut fast = Bucket::new(8000000000, 1000, moment(0));
-    assert!(rt; fast.spend(moment(0), 1000));
-    assert_eq!(rt; fast.ready_at(1000), Some(moment(1000)));
-    assert!(rt; !fast.spend(moment(999), 1000));
-    assert!(rt; fast.spend(moment(1000), 1000));
+fn second_packet_goes_when_its_bytes_have_come() -> Result<(), Fail> {
+    play(
+        8000,
+        1500,
+        &[
+            Call::Spend(0, 1000, true),
+            Call::Ready(1000, Some(500_000_000)),
+            Call::Spend(499_999_999, 1000, false),
+            Call::Spend(500_000_000, 1000, true),
+        ],
+    )?;
+    play(
+        8_000_000_000,
+        1000,
+        &[
+            Call::Spend(0, 1000, true),
+            Call::Ready(1000, Some(1000)),
+            Call::Spend(999, 1000, false),
+            Call::Spend(1000, 1000, true),
+        ],
+    )
 }
 
 #[test]
-fn change_fills_then_cuts(rt: HostRuntime) {
-    let mut bucket = Bucket::new(8000, 1500, moment(0));
-    assert!(rt; bucket.spend(moment(0), 1500));
-    bucket.change(16000, 500, moment(1000000000));
-    assert_eq!(rt; bucket.level_at(moment(1000000000)), 500 * 8000000000);
-    bucket.change(16000, 1500, moment(1000000000));
-    assert_eq!(rt; bucket.ready_at(1500), Some(moment(1500000000)));
-    assert_eq!(rt; (bucket.rate(), bucket.burst()), (16000, 1500));
+fn change_fills_then_cuts() -> Result<(), Fail> {
+    play(
+        8000,
+        1500,
+        &[
+            Call::Spend(0, 1500, true),
+            Call::Change(1_000_000_000, 16000, 500),
+            Call::Level(1_000_000_000, 500 * 8_000_000_000),
+            Call::Change(1_000_000_000, 16000, 1500),
+            Call::Ready(1500, Some(1_500_000_000)),
+        ],
+    )
 }
 
 #[test]
-fn ends_of_the_ranges(rt: HostRuntime) {
-    let latest = moment(1 << 62);
-
-    let mut slowest = Bucket::new(1, 1, moment(0));
-    assert!(rt; slowest.spend(moment(0), 1));
-    assert_eq!(rt; slowest.ready_at(1), Some(moment(8000000000)));
-    assert_eq!(rt; slowest.level_at(moment(7999999999)), 7999999999);
-    assert_eq!(rt; slowest.level_at(latest), 8000000000);
-    assert!(rt; slowest.spend(latest, 1));
-    assert_eq!(rt; slowest.ready_at(1), None);
-    assert_eq!(rt; slowest.ready_at(0), Some(latest));
-
-    let mut widest = Bucket::new(1000000000000, u32::MAX, moment(0));
-    assert!(rt; widest.spend(moment(0), u16::MAX));
-    assert_eq!(rt;
-        widest.level_at(moment(0)),
-        34359738360000000000 - 524280000000000
-    );
-    assert_eq!(rt; widest.level_at(moment(525)), 34359738360000000000);
-    assert_eq!(rt; widest.level_at(latest), 34359738360000000000);
-
-    let mut fastest = Bucket::new(1000000000000, 1, moment(0));
-    assert!(rt; fastest.spend(moment(0), 1));
-    assert_eq!(rt; fastest.ready_at(1), Some(moment(1)));
+fn ends_of_the_ranges() -> Result<(), Fail> {
+    play(
+        1,
+        1,
+        &[
+            Call::Spend(0, 1, true),
+            Call::Ready(1, Some(8_000_000_000)),
+            Call::Level(7_999_999_999, 7_999_999_999),
+            Call::Level(1 << 62, 8_000_000_000),
+            Call::Spend(1 << 62, 1, true),
+            Call::Ready(1, None),
+            Call::Ready(0, Some(1 << 62)),
+        ],
+    )?;
+    play(
+        1_000_000_000_000,
+        u32::MAX,
+        &[
+            Call::Spend(0, u16::MAX, true),
+            Call::Level(0, 34_359_738_360_000_000_000 - 524_280_000_000_000),
+            Call::Level(525, 34_359_738_360_000_000_000),
+            Call::Level(1 << 62, 34_359_738_360_000_000_000),
+        ],
+    )?;
+    play(
+        1_000_000_000_000,
+        1,
+        &[Call::Spend(0, 1, true), Call::Ready(1, Some(1))],
+    )
 }

@@ -87,8 +87,8 @@ impl Twins {
             20 + (word % 300) as u32,
             now.flows,
             300 + ((word >> 9) % 2000) as u32,
-            now.target,
-            now.interval,
+            1_000_000 + (word >> 21) % 8_000_000,
+            50_000_000 + (word >> 11) % 100_000_000,
             (word >> 20) % 2 == 0,
             now.drop_batch,
             now.mtu,
@@ -133,8 +133,9 @@ impl Twins {
 /// The packet that a word says: most are of few flows.
 fn packet_of(number: u64, word: u64) -> Result<Packet, Fail> {
     let len = 60 + ((word >> 10) % 1454) as u16;
-    let flows = 1u64 << ((word >> 24) % 17);
-    let hash = ((word >> 30) % flows) as u32;
+    // Below a power of two, which is at most 65536.
+    let most = (1u32 << ((word >> 24) % 17)).saturating_sub(1);
+    let hash = ((word >> 30) % 65536) as u32 & most;
     let ecn = if (word >> 29) % 2 == 0 {
         Ecn::Ect0
     } else {

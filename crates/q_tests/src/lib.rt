@@ -11,8 +11,6 @@ mod codel;
 #[cfg(test)]
 mod command_line;
 #[cfg(test)]
-mod device;
-#[cfg(test)]
 mod drr;
 #[cfg(test)]
 mod fifo;
@@ -20,8 +18,6 @@ mod fifo;
 mod fq_codel;
 #[cfg(test)]
 mod fq_codel_twins;
-#[cfg(test)]
-mod frame_lines;
 #[cfg(test)]
 mod head;
 #[cfg(test)]
@@ -36,5 +32,3 @@ mod runs;
 mod show;
 #[cfg(test)]
 mod streams;
-#[cfg(test)]
-mod tree;

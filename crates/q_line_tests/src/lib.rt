@@ -1,0 +1,24 @@
+//! Tests of what each line of the whole language is read as, or is answered: tables of lines, a module for each topic.
+//!
+//! They need nothing private of `q_language`, and stand apart from `q_tests`, since one check that holds the modules of all
+//! libraries takes too much memory. The crate exports nothing.
+#![tactic(auto)]
+
+#[cfg(test)]
+mod frame_lines;
+#[cfg(test)]
+mod line_addresses;
+#[cfg(test)]
+mod line_fields;
+#[cfg(test)]
+mod line_heads;
+#[cfg(test)]
+mod line_orders;
+#[cfg(test)]
+mod line_places;
+#[cfg(test)]
+mod line_ranges;
+#[cfg(test)]
+mod line_reading;
+#[cfg(test)]
+mod line_units;

@@ -1,0 +1,16 @@
+//! Tests of trees and devices that need nothing private: commands and packets, and what is shown.
+//!
+//! They stand apart from `q_tests`, since one check that holds the modules of all libraries takes too much memory. The crate
+//! exports nothing.
+#![tactic(auto)]
+
+#[cfg(test)]
+mod device;
+#[cfg(test)]
+mod device_calls;
+#[cfg(test)]
+mod tree;
+#[cfg(test)]
+mod tree_commands;
+#[cfg(test)]
+mod tree_views;
