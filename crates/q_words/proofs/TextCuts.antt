@@ -1,20 +1,20 @@
 -- Where a line that is UTF-8 may be cut: before a blank, since that is one byte, and behind one.
-use Rattle.std.proofs.Common.{◌≡◌, ℕ, suc, ◌+◌, ◌-◌, ◌<◌, ◌==◌, ◌||◌, Bool, true, false, not, List, length, get_or, refl, subst, ap, ◌∙◌, arith, Option}
+use Rattle.std.proofs.Common.{◌≡◌, ℕ, suc, ◌+◌, ◌-◌, ◌<◌, ◌==◌, ◌||◌, Bool, true, false, not, List, [], ◌∷◌, length, get_or, take, drop, refl, sym, subst, ap, ◌∙◌, arith, Option, Some, None}
 use Rattle.std.specs.List.{position, position_or_len}
 use Rattle.std.specs.Option.{unwrap_or}
 use Rattle.std.specs.Str.{IsUtf8, IsCharBoundary}
 use Rattle.std.proofs.lemmas.Bool.{eqb-true}
-use Rattle.std.proofs.lemmas.List.Sums.{prefix_len-le-length, prefix_len_passes, prefix_len_stops}
-use Rattle.std.proofs.lemmas.Str.{IsCharBoundary-after_ascii}
-use Rattle.q_words.specs.Words.{is_blank}
-use Rattle.q_words.proofs.Cuts.{first_or_length}
+use Rattle.std.proofs.Math.Seq.{take-length, drop-length}
+use Rattle.std.proofs.lemmas.List.{drop_more}
+use Rattle.std.proofs.lemmas.List.Quantifiers.{position-Some}
+use Rattle.std.proofs.lemmas.List.Sums.{position_or_len_is, prefix_len_passes, prefix_len-le-length}
+use Rattle.std.proofs.lemmas.Str.{IsCharBoundary-after_ascii, IsCharBoundary-before_ascii}
+use Rattle.q_words.specs.Words.{words_in, is_blank}
+use Rattle.q_words.proofs.Cuts.{cut_word_is, first_or_length}
 
 -- the place of the first byte that passes, in a text of these bytes
 pub first_in : (p : ℕ → Bool) (bs text : List ℕ) (found : Option ℕ) (n : ℕ) → n ≡ unwrap_or found (length bs) → found ≡ position p bs → bs ≡ text → n ≡ position_or_len p text
 first_in p bs text found n at_it at_first same = at_it ∙ first_or_length p bs found at_first ∙ ap (λ xs. position_or_len p xs) same
-
-pub less_none : (n : ℕ) → n - 0 ≡ n
-less_none n = omega arith
 
 -- a blank is one byte
 blank_is_small : (b : ℕ) → is_blank b ≡ true → b < 128
@@ -26,19 +26,48 @@ blank_is_small b e = by_byte (b == 32) (b == 9) (b == 13) refl refl refl e
     by_byte false false true a h r t = let is : b ≡ 13 = eqb-true b 13 r in omega (arith, is)
     by_byte false false false a h r t = absurd (let no : false ≡ true = t in cc)
 
-not_false : (v : Bool) → not v ≡ false → v ≡ true
-not_false true e = refl
-not_false false e = search
-
 not_true : (v : Bool) → not (not v) ≡ true → v ≡ true
 not_true true e = refl
 not_true false e = search
 
-pub before_blank : (bs : List ℕ) → IsCharBoundary bs (position_or_len is_blank bs)
-before_blank bs = (
-  prefix_len-le-length (λ b. not (is_blank b)) bs,
-  λ here large. absurd (omega (arith, large, blank_is_small (get_or bs (position_or_len is_blank bs) 0) (not_false _ (prefix_len_stops (λ b. not (is_blank b)) bs 0 here)))),
-)
+pub less_none : (n : ℕ) → n - 0 ≡ n
+less_none n = omega arith
+
+-- the place of the first blank, in a text of these bytes
+pub record FirstBlank (text : List ℕ) (n : ℕ) : Type 0 where
+  pub within : n < length text
+  pub blank : is_blank (get_or text n 0) ≡ true
+  pub first : position_or_len is_blank text ≡ n
+
+pub first_blank_at : (bs text : List ℕ) (found : Option ℕ) (n : ℕ) → found ≡ Some n → found ≡ position is_blank bs → bs ≡ text → FirstBlank text n
+first_blank_at bs text found n is_some at same =
+    let h = position-Some is_blank text n 0 (ap (position is_blank) (sym same) ∙ sym at ∙ is_some) in
+    record { within = h.0; blank = h.1; first = position_or_len_is is_blank text n 0 (omega (arith, h.0)) h.2 (λ _. h.1) }
+
+-- a text may be cut before a blank and behind it
+pub before_blank : (text : List ℕ) (n : ℕ) → FirstBlank text n → IsCharBoundary text n
+before_blank text n at = IsCharBoundary-before_ascii text n at.within (blank_is_small (get_or text n 0) at.blank)
+
+pub behind_blank : (text : List ℕ) (n : ℕ) → IsUtf8 text → FirstBlank text n → IsCharBoundary text (n + 1)
+behind_blank text n utf8 at = IsCharBoundary-after_ascii text n utf8 at.within (blank_is_small (get_or text n 0) at.blank)
+
+-- and then the word is what stands before it, and the others stand behind it
+words_behind : (b : ℕ) (bytes : List ℕ) → is_blank b ≡ true → words_in (b ∷ bytes) ≡ words_in bytes
+words_behind b bytes e = rw (e) refl
+
+pub cut_at_blank : (text : List ℕ) (n : ℕ) → 0 < length text → is_blank (get_or text 0 0) ≡ false → FirstBlank text n
+    → words_in text ≡ take n text ∷ words_in (drop (n + 1) text)
+cut_at_blank text n some first at =
+    let P : ℕ → Type 0 = λ k. words_in text ≡ take k text ∷ words_in (drop k text) in
+    subst P at.first (cut_word_is text some first) ∙ ap (λ ws. take n text ∷ ws) (ap words_in (drop_more text n 0 at.within) ∙ words_behind (get_or text n 0) (drop (n + 1) text) at.blank)
+
+-- without a blank all of it is the word
+pub cut_nowhere : (bs text : List ℕ) (found : Option ℕ) → found ≡ None → found ≡ position is_blank bs → bs ≡ text → 0 < length text → is_blank (get_or text 0 0) ≡ false
+    → words_in text ≡ text ∷ []
+cut_nowhere bs text found is_none at same some first =
+    let none : None ≡ position is_blank text = sym is_none ∙ at ∙ ap (position is_blank) same in
+    let all : length text ≡ position_or_len is_blank text = first_or_length is_blank text None none in
+    cut_word_is text some first ∙ rw (← all, take-length, drop-length) refl
 
 -- what stands before the first byte of a word is blank
 behind_blanks_at : (bs : List ℕ) (n : ℕ) → IsUtf8 bs → suc n ≡ position_or_len (λ b. not (is_blank b)) bs → IsCharBoundary bs (position_or_len (λ b. not (is_blank b)) bs)

@@ -1,22 +1,26 @@
-use Rattle.std.proofs.Common.{sym, subst}
-use Rattle.std.specs.Str.{IsCharBoundary}
 use Rattle.std.proofs.lemmas.Str.{is_utf8-from_IsUtf8}
-use Rattle.q_words.specs.Words.{is_blank}
-use Rattle.q_words.proofs.Cuts.{cut_word_is}
-use Rattle.q_language.proofs.TextCuts.{before_blank, first_in, less_none}
-use Rattle.q_language.proofs.text.cut_word.Goals as goal
+use Rattle.q_words.proofs.TextCuts.{FirstBlank, first_blank_at, before_blank, behind_blank, cut_at_blank, cut_nowhere, less_none}
+use Rattle.q_words.proofs.text.cut_word.Goals as goal
+
+cut_at : (c : goal.In-Some) → FirstBlank c.args.text.now c.in-Some.end
+cut_at c = first_blank_at _ _ _ _ c.in-Some.is c.first_blank.ensures c.as_bytes.ensures.value
 
 pub range-requires-clause-end_boundary : goal.range-requires-clause-end_boundary
-range-requires-clause-end_boundary c = subst (λ n. IsCharBoundary c.args.text.now n)
-    (sym (first_in is_blank _ _ _ _ c.unwrap_or-end.ensures c.first_blank.ensures c.as_bytes-bytes.ensures.value)) (before_blank c.args.text.now)
+range-requires-clause-end_boundary c = before_blank _ _ (cut_at c)
 
 pub range_from-requires : goal.range_from-requires
-range_from-requires c = λ some. subst (λ n. IsCharBoundary c.args.text.now n)
-    (sym (first_in is_blank _ _ _ _ c.unwrap_or-end.ensures c.first_blank.ensures c.as_bytes-bytes.ensures.value)) (before_blank c.args.text.now)
+range_from-requires c = λ some. behind_blank _ _ c.utf8.text (first_blank_at _ _ _ _ c.in-Some.is c.first_blank.ensures c.as_bytes.ensures.value)
 
-pub returns-clause-words : goal.returns-clause-words
-returns-clause-words c = let e = first_in is_blank _ _ _ _ c.unwrap_or-end.ensures c.first_blank.ensures c.as_bytes-bytes.ensures.value in
-    rw (c.range.ensures.value, c.range_from.ensures.value, e, less_none) (cut_word_is c.args.text.now c.requires.some c.requires.first)
+pub returns-in-Some-clause-words : goal.returns-in-Some-clause-words
+returns-in-Some-clause-words c =
+    let at = first_blank_at _ _ _ _ c.in-Some.is c.first_blank.ensures c.as_bytes.ensures.value in
+    rw (c.range.ensures.value, c.range_from.ensures.value, less_none) (cut_at_blank c.args.text.now c.in-Some.end c.requires.some c.requires.first at)
 
-pub returns-clause-utf8 : goal.returns-clause-utf8
-returns-clause-utf8 c = is_utf8-from_IsUtf8 c.range.result.now c.range.utf8
+pub returns-in-Some-clause-utf8 : goal.returns-in-Some-clause-utf8
+returns-in-Some-clause-utf8 c = is_utf8-from_IsUtf8 c.range.result.now c.range.utf8
+
+pub returns-in-None-clause-words : goal.returns-in-None-clause-words
+returns-in-None-clause-words c = cut_nowhere _ _ _ c.in-None.is c.first_blank.ensures c.as_bytes.ensures.value c.requires.some c.requires.first
+
+pub returns-in-None-clause-utf8 : goal.returns-in-None-clause-utf8
+returns-in-None-clause-utf8 c = is_utf8-from_IsUtf8 c.args.text.now c.utf8.text
