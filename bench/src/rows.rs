@@ -1,7 +1,9 @@
 //! The rows of the table: each is one workload, in Rattle and in plain Rust.
 
+use crate::plain::language_work;
 use crate::plain::work::{self, FlowLoad};
 use crate::{inputs, rattle};
+use std::net::{Ipv4Addr, Ipv6Addr};
 
 /// A workload, run so many times over; answers its checksum.
 type Work = Box<dyn Fn(u32) -> u64>;
@@ -53,7 +55,72 @@ pub fn all() -> Vec<Row> {
         let (handle, limit) = (1 + random.below(0xffff - 1), random.below(100_000));
         format!("tc qdisc add dev eth0 root handle {handle:x}: pfifo limit {limit}")
     }));
+    rows.extend(whole_language());
     rows
+}
+
+/// Lines of the whole language, each of one kind.
+fn whole_language() -> Vec<Row> {
+    vec![
+        whole_line("pkt", |random| format!("pkt {}", 60 + random.below(1454))),
+        whole_line("pkt, all options, IPv4", |random| {
+            let source = Ipv4Addr::from_bits(random.next() as u32);
+            let destination = Ipv4Addr::from_bits(random.next() as u32);
+            packet(random, &source.to_string(), &destination.to_string())
+        }),
+        whole_line("pkt, all options, IPv6", |random| {
+            let source = Ipv6Addr::from_bits(ipv6(random));
+            let destination = Ipv6Addr::from_bits(ipv6(random));
+            packet(random, &source.to_string(), &destination.to_string())
+        }),
+        whole_line("tc qdisc, pfifo", |random| {
+            let (handle, limit) = (1 + random.below(0xfffe), random.below(100_000));
+            format!("tc qdisc add dev eth0 root handle {handle:x}: pfifo limit {limit}")
+        }),
+        whole_line("tc qdisc, tbf", |random| {
+            let (handle, rate) = (1 + random.below(0xfffe), 1 + random.below(1000));
+            let (burst, latency) = (1 + random.below(1000), random.below(1000));
+            format!(
+                "tc qdisc add dev eth0 root handle {handle:x}: tbf rate {rate}mbit burst {burst}kb latency {latency}ms"
+            )
+        }),
+        whole_line("tc qdisc, fq_codel", |random| {
+            let (minor, handle) = (1 + random.below(0xffff), 1 + random.below(0xfffe));
+            let (limit, flows) = (1 + random.below(100_000), 1 + random.below(65536));
+            let (target, interval) = (random.below(100), 1 + random.below(1000));
+            format!(
+                "tc qdisc add dev eth0 parent 1:{minor:x} handle {handle:x}: fq_codel limit {limit} flows {flows} \
+                 quantum 1514 target {target}ms interval {interval}ms noecn drop_batch 64"
+            )
+        }),
+        whole_line("tc filter", |random| {
+            let source = Ipv4Addr::from_bits(random.next() as u32);
+            let (prio, len) = (1 + random.below(0xffff), random.below(33));
+            let (port, minor) = (random.below(0x10000), 1 + random.below(0xffff));
+            format!(
+                "tc filter add dev eth0 parent 1: prio {prio} protocol ip flower ip_proto tcp src_ip {source}/{len} \
+                 dst_port {port} classid 1:{minor:x}"
+            )
+        }),
+    ]
+}
+
+/// A `pkt` line with every option.
+fn packet(random: &mut inputs::Xorshift, source: &str, destination: &str) -> String {
+    let (len, hash, prio) = (60 + random.below(1454), random.below(1 << 32), random.below(16));
+    let (sport, dport, ecn) = (random.below(0x10000), random.below(0x10000), random.below(4));
+    let proto = ["tcp", "udp", "sctp", "11"][random.below(4) as usize];
+    format!(
+        "pkt {len} hash {hash} prio {prio} ip_proto {proto} src_ip {source} dst_ip {destination} \
+         src_port {sport} dst_port {dport} ecn {ecn}"
+    )
+}
+
+/// An address of version 6, half of them with a run of zero groups.
+fn ipv6(random: &mut inputs::Xorshift) -> u128 {
+    let (high, low) = (random.next() | 1 << 61, random.next());
+    let low = if random.below(2) == 0 { low & 0xffff } else { low };
+    u128::from(high) << 64 | u128::from(low)
 }
 
 fn read_head() -> Row {
@@ -166,6 +233,19 @@ fn flows(count: u32, name: &str, limit: u32, drop_batch: u32, takes: bool) -> Ro
         passes: 20,
         rattle: Box::new(move |passes| rattle::flows(&load, &hashes, passes)),
         plain: Box::new(move |passes| work::flows(&load, &same, passes)),
+    }
+}
+
+fn whole_line(name: &str, line: impl FnMut(&mut inputs::Xorshift) -> String) -> Row {
+    let (text, ends) = inputs::text(8192, line);
+    let (same_text, same_ends) = (text.clone(), ends.clone());
+    Row {
+        name: format!("whole language, {name}"),
+        unit: "line",
+        ops: 8192,
+        passes: 20,
+        rattle: Box::new(move |passes| rattle::read_whole_line(&text, &ends, passes)),
+        plain: Box::new(move |passes| language_work::read_line(&same_text, &same_ends, passes)),
     }
 }
 

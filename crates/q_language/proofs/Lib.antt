@@ -2,7 +2,6 @@ pub mod FirstPathLemmas
 pub mod LateBands
 pub mod Leftmost
 pub mod Steps
-mod TextCuts
 pub mod BandLemmas
 pub mod SpelledSteps
 pub mod SpelledValues

@@ -59,9 +59,6 @@ no_point c h = grind (arith, nat_tests)
 pub no_slash : (c : ℕ) → is_digit c 16 ≡ true → not (is_slash c) ≡ true
 no_slash c h = grind (arith, nat_tests)
 
-pub no_slash_10 : (c : ℕ) → is_digit c 10 ≡ true → not (is_slash c) ≡ true
-no_slash_10 c h = grind (arith, nat_tests)
-
 no_colon : (c : ℕ) → is_digit c 10 ≡ true → not (is_colon c) ≡ true
 no_colon c h = grind (arith, nat_tests)
 

@@ -14,8 +14,8 @@ use q_model::Kind;
 use q_words::{LineFault, size};
 
 /// Behind `bfifo`: its options.
-pub fn bfifo_line(mut words: Words, verb: QdiscVerb, head: HeadDraft) -> Result<Line, LineFault>
-    ensures { result ≡ rest_of every_word (options verb head Bfifo no_options) (suc words.entry.taken) (words_in words.entry.rest.now) }
+pub fn bfifo_line(words: &mut Words, verb: QdiscVerb, head: HeadDraft) -> Result<Line, LineFault>
+    ensures { result ≡ rest_of every_word (options verb head Bfifo no_options) (suc words.old.taken) (words_in words.old.rest.now) }
 {
     let mut limit = None;
     while let Some(word) = words.next()? {
@@ -28,5 +28,5 @@ pub fn bfifo_line(mut words: Words, verb: QdiscVerb, head: HeadDraft) -> Result<
             _ => return Err(words.unknown()),
         }
     }
-    qdisc_made(&words, verb, head, Kind::Bfifo { limit })
+    qdisc_made(words, verb, head, Kind::Bfifo { limit })
 }

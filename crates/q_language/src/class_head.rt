@@ -12,8 +12,8 @@ use q_model::{Command, Quantum};
 use q_words::{LineFault, class, handle, name, size};
 
 /// Behind `class add`, `change` or `del`: the head, then the kind.
-pub fn class_head(mut words: Words, verb: ClassVerb) -> Result<Line, LineFault>
-    ensures { result ≡ rest_of every_word (head (of_class verb) no_head) (suc words.entry.taken) (words_in words.entry.rest.now) }
+pub fn class_head(words: &mut Words, verb: ClassVerb) -> Result<Line, LineFault>
+    ensures { result ≡ rest_of every_word (head (of_class verb) no_head) (suc words.old.taken) (words_in words.old.rest.now) }
 {
     let mut head = HeadDraft::new();
     while let Some(word) = words.next()? {
@@ -45,14 +45,14 @@ pub fn class_head(mut words: Words, verb: ClassVerb) -> Result<Line, LineFault>
         }
     }
     match verb {
-        ClassVerb::Del => class_made(&words, ClassVerb::Del, head, None),
+        ClassVerb::Del => class_made(words, ClassVerb::Del, head, None),
         _ => Err(words.missing()),
     }
 }
 
 /// Behind `drr`: the quantum of the class.
-fn quantum_line(mut words: Words, verb: ClassVerb, head: HeadDraft) -> Result<Line, LineFault>
-    ensures { result ≡ rest_of every_word (quantum_of verb head None) (suc words.entry.taken) (words_in words.entry.rest.now) }
+fn quantum_line(words: &mut Words, verb: ClassVerb, head: HeadDraft) -> Result<Line, LineFault>
+    ensures { result ≡ rest_of every_word (quantum_of verb head None) (suc words.old.taken) (words_in words.old.rest.now) }
 {
     let mut quantum = None;
     while let Some(word) = words.next()? {
@@ -65,7 +65,7 @@ fn quantum_line(mut words: Words, verb: ClassVerb, head: HeadDraft) -> Result<Li
             _ => return Err(words.unknown()),
         }
     }
-    class_made(&words, verb, head, quantum)
+    class_made(words, verb, head, quantum)
 }
 
 /// The line of a class with this quantum, where its head is whole.

@@ -14,11 +14,11 @@ use q_model::Kind;
 use q_words::LineFault;
 
 /// Behind `drr`: its options.
-pub fn drr_line(mut words: Words, verb: QdiscVerb, head: HeadDraft) -> Result<Line, LineFault>
-    ensures { result ≡ rest_of every_word (options verb head Drr no_options) (suc words.entry.taken) (words_in words.entry.rest.now) }
+pub fn drr_line(words: &mut Words, verb: QdiscVerb, head: HeadDraft) -> Result<Line, LineFault>
+    ensures { result ≡ rest_of every_word (options verb head Drr no_options) (suc words.old.taken) (words_in words.old.rest.now) }
 {
     match words.next()? {
-        None => qdisc_made(&words, verb, head, Kind::Drr),
+        None => qdisc_made(words, verb, head, Kind::Drr),
         Some(_) => Err(words.unknown()),
     }
 }

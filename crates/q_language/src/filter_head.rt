@@ -13,8 +13,8 @@ use q_model::{Command, FilterPrio};
 use q_words::{LineFault, handle, name, number, protocol};
 
 /// Behind `filter add` or `del`: the head, then `flower`.
-pub fn filter_head(mut words: Words, verb: FilterVerb) -> Result<Line, LineFault>
-    ensures { result ≡ rest_of every_word (head (of_filter verb) no_head) (suc words.entry.taken) (words_in words.entry.rest.now) }
+pub fn filter_head(words: &mut Words, verb: FilterVerb) -> Result<Line, LineFault>
+    ensures { result ≡ rest_of every_word (head (of_filter verb) no_head) (suc words.old.taken) (words_in words.old.rest.now) }
 {
     let mut head = HeadDraft::new();
     while let Some(word) = words.next()? {
@@ -46,14 +46,18 @@ pub fn filter_head(mut words: Words, verb: FilterVerb) -> Result<Line, LineFault
         }
     }
     match verb {
-        FilterVerb::Del => filters_removed(&words, head),
+        FilterVerb::Del => filters_removed(words, head),
         FilterVerb::Add => Err(words.missing()),
     }
 }
 
 /// Behind `flower`: the keys of a filter, or nothing where the line removes filters.
-fn flower_or_removal(words: Words, verb: FilterVerb, head: HeadDraft) -> Result<Line, LineFault>
-    ensures { result ≡ rest_of every_word (behind_flower verb head) (suc words.entry.taken) (words_in words.entry.rest.now) }
+fn flower_or_removal(
+    words: &mut Words,
+    verb: FilterVerb,
+    head: HeadDraft,
+) -> Result<Line, LineFault>
+    ensures { result ≡ rest_of every_word (behind_flower verb head) (suc words.old.taken) (words_in words.old.rest.now) }
 {
     match verb {
         FilterVerb::Add => flower_line(words, head),
@@ -62,11 +66,11 @@ fn flower_or_removal(words: Words, verb: FilterVerb, head: HeadDraft) -> Result<
 }
 
 /// Behind the `flower` of a line that removes filters.
-fn removal_line(mut words: Words, head: HeadDraft) -> Result<Line, LineFault>
-    ensures { result ≡ rest_of every_word (done (of_filter FilterVerb.Del) head) (suc words.entry.taken) (words_in words.entry.rest.now) }
+fn removal_line(words: &mut Words, head: HeadDraft) -> Result<Line, LineFault>
+    ensures { result ≡ rest_of every_word (done (of_filter FilterVerb.Del) head) (suc words.old.taken) (words_in words.old.rest.now) }
 {
     match words.next()? {
-        None => filters_removed(&words, head),
+        None => filters_removed(words, head),
         Some(_) => Err(words.unknown()),
     }
 }

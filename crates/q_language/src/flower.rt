@@ -13,8 +13,8 @@ use q_model::{Command, Filter, Protocol};
 use q_words::LineFault;
 
 /// Behind the `flower` of a line that adds a filter: its keys and its class.
-pub fn flower_line(mut words: Words, head: HeadDraft) -> Result<Line, LineFault>
-    ensures { result ≡ rest_of every_word (keys head no_keys) (suc words.entry.taken) (words_in words.entry.rest.now) }
+pub fn flower_line(words: &mut Words, head: HeadDraft) -> Result<Line, LineFault>
+    ensures { result ≡ rest_of every_word (keys head no_keys) (suc words.old.taken) (words_in words.old.rest.now) }
 {
     let mut draft = KeyDraft::new();
     while let Some(word) = words.next()? {
@@ -25,7 +25,7 @@ pub fn flower_line(mut words: Words, head: HeadDraft) -> Result<Line, LineFault>
         let word = words.needed()?;
         words.placed(draft.set(name, &head, word))?;
     }
-    filter_made(&words, head, draft)
+    filter_made(words, head, draft)
 }
 
 /// The line that adds a filter, where its head and its class are there.

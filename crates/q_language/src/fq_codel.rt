@@ -15,8 +15,8 @@ use q_model::{FqCodelOptions, Kind};
 use q_words::LineFault;
 
 /// Behind `fq_codel`: its options.
-pub fn fq_codel_line(mut words: Words, verb: QdiscVerb, head: HeadDraft) -> Result<Line, LineFault>
-    ensures { result ≡ rest_of every_word (options verb head FqCodel no_options) (suc words.entry.taken) (words_in words.entry.rest.now) }
+pub fn fq_codel_line(words: &mut Words, verb: QdiscVerb, head: HeadDraft) -> Result<Line, LineFault>
+    ensures { result ≡ rest_of every_word (options verb head FqCodel no_options) (suc words.old.taken) (words_in words.old.rest.now) }
 {
     let mut options = no_fq_codel_options();
     while let Some(word) = words.next()? {
@@ -34,7 +34,7 @@ pub fn fq_codel_line(mut words: Words, verb: QdiscVerb, head: HeadDraft) -> Resu
             }
         }
     }
-    qdisc_made(&words, verb, head, Kind::FqCodel(options))
+    qdisc_made(words, verb, head, Kind::FqCodel(options))
 }
 
 /// No option of an fq_codel.

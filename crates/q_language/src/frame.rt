@@ -8,8 +8,8 @@ use crate::words::Words;
 use q_words::{LineFault, frame_head, number};
 
 /// Behind `frame`: LEN, bytes, and HEX, the first of them.
-pub fn frame_line(mut words: Words) -> Result<Line, LineFault>
-    ensures { result ≡ rest_of every_word frame (suc words.entry.taken) (words_in words.entry.rest.now) }
+pub fn frame_line(words: &mut Words) -> Result<Line, LineFault>
+    ensures { result ≡ rest_of every_word frame (suc words.old.taken) (words_in words.old.rest.now) }
 {
     let word = words.needed()?;
     let len = words.placed(number(word.as_bytes(), 1, u64::from(u16::MAX)))? as u16;

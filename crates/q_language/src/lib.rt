@@ -47,7 +47,6 @@ mod reading;
 mod show;
 mod tbf;
 mod tc;
-mod text;
 mod words;
 
 pub use arrival::Arrival;

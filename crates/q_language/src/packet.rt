@@ -12,8 +12,8 @@ use crate::words::Words;
 use q_words::{LineFault, number};
 
 /// Behind `pkt`: LEN, bytes, and the fields of the packet.
-pub fn pkt_line(mut words: Words) -> Result<Line, LineFault>
-    ensures { result ≡ rest_of every_word pkt (suc words.entry.taken) (words_in words.entry.rest.now) }
+pub fn pkt_line(words: &mut Words) -> Result<Line, LineFault>
+    ensures { result ≡ rest_of every_word pkt (suc words.old.taken) (words_in words.old.rest.now) }
 {
     let word = words.needed()?;
     let len = words.placed(number(word.as_bytes(), 1, u64::from(u16::MAX)))? as u16;
@@ -21,9 +21,9 @@ pub fn pkt_line(mut words: Words) -> Result<Line, LineFault>
 }
 
 /// The fields of a packet.
-fn packet_line(mut words: Words, first: PacketDraft) -> Result<Line, LineFault>
+fn packet_line(words: &mut Words, first: PacketDraft) -> Result<Line, LineFault>
     requires { IsAgreed first }
-    ensures { result ≡ rest_of every_word (packet first) (suc words.entry.taken) (words_in words.entry.rest.now) }
+    ensures { result ≡ rest_of every_word (packet first) (suc words.old.taken) (words_in words.old.rest.now) }
 {
     let mut draft = first;
     while let Some(word) = words.next()? {

@@ -14,8 +14,8 @@ use q_model::Kind;
 use q_words::{LineFault, number};
 
 /// Behind `pfifo`: its options.
-pub fn pfifo_line(mut words: Words, verb: QdiscVerb, head: HeadDraft) -> Result<Line, LineFault>
-    ensures { result ≡ rest_of every_word (options verb head Pfifo no_options) (suc words.entry.taken) (words_in words.entry.rest.now) }
+pub fn pfifo_line(words: &mut Words, verb: QdiscVerb, head: HeadDraft) -> Result<Line, LineFault>
+    ensures { result ≡ rest_of every_word (options verb head Pfifo no_options) (suc words.old.taken) (words_in words.old.rest.now) }
 {
     let mut limit = None;
     while let Some(word) = words.next()? {
@@ -26,5 +26,5 @@ pub fn pfifo_line(mut words: Words, verb: QdiscVerb, head: HeadDraft) -> Result<
         let word = words.needed()?;
         limit = Some(words.placed(number(word.as_bytes(), 0, u64::from(u32::MAX)))? as u32);
     }
-    qdisc_made(&words, verb, head, Kind::Pfifo { limit })
+    qdisc_made(words, verb, head, Kind::Pfifo { limit })
 }

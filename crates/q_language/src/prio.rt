@@ -16,8 +16,8 @@ use crate::words::Words;
 use q_words::{LineFault, Wrong, number, numeral};
 
 /// Behind `prio`: its options, up to a priomap.
-pub fn prio_line(mut words: Words, verb: QdiscVerb, head: HeadDraft) -> Result<Line, LineFault>
-    ensures { result ≡ rest_of every_word (options verb head Prio no_options) (suc words.entry.taken) (words_in words.entry.rest.now) }
+pub fn prio_line(words: &mut Words, verb: QdiscVerb, head: HeadDraft) -> Result<Line, LineFault>
+    ensures { result ≡ rest_of every_word (options verb head Prio no_options) (suc words.old.taken) (words_in words.old.rest.now) }
 {
     let mut bands = None;
     while let Some(word) = words.next()? {
@@ -31,25 +31,25 @@ pub fn prio_line(mut words: Words, verb: QdiscVerb, head: HeadDraft) -> Result<L
             _ => return Err(words.unknown()),
         }
     }
-    prio_made(&words, verb, head, bands, None)
+    prio_made(words, verb, head, bands, None)
 }
 
 /// Behind `priomap`: its numbers.
 fn priomap_line(
-    mut words: Words,
+    words: &mut Words,
     verb: QdiscVerb,
     head: HeadDraft,
     bands: Option<u8>,
 ) -> Result<Line, LineFault>
     requires { IfSome bands (IsWithin 2 16) }
-    ensures { result ≡ rest_of every_word (priomap verb head Prio (prio_draft bands None)) (suc words.entry.taken) (words_in words.entry.rest.now) }
+    ensures { result ≡ rest_of every_word (priomap verb head Prio (prio_draft bands None)) (suc words.old.taken) (words_in words.old.rest.now) }
 {
     let word = words.needed()?;
     let first = words.placed(band(word.as_bytes()))?;
     let mut map = Priomap::new(words.taken()).with(first);
     while !map.is_whole() {
         let Some(word) = words.next()? else {
-            return Err(is_late(&words, bands, &map));
+            return Err(is_late(words, bands, &map));
         };
         map = map.with(words.placed(band(word.as_bytes()))?);
     }
@@ -58,7 +58,7 @@ fn priomap_line(
 
 /// Behind the numbers of a priomap: the other options.
 fn mapped_line(
-    mut words: Words,
+    words: &mut Words,
     verb: QdiscVerb,
     head: HeadDraft,
     mut bands: Option<u8>,
@@ -66,14 +66,14 @@ fn mapped_line(
 ) -> Result<Line, LineFault>
     requires bands { IfSome bands (IsWithin 2 16) }
     requires map { length map.numbers ≡ 16 }
-    ensures { result ≡ rest_of every_word (options verb head Prio (prio_draft bands (Some map))) (suc words.entry.taken) (words_in words.entry.rest.now) }
+    ensures { result ≡ rest_of every_word (options verb head Prio (prio_draft bands (Some map))) (suc words.old.taken) (words_in words.old.rest.now) }
 {
     while let Some(word) = words.next()? {
         match word {
             "bands" => {
                 words.once(bands.is_some())?;
                 let Some(word) = words.next()? else {
-                    return Err(is_late(&words, bands, &map));
+                    return Err(is_late(words, bands, &map));
                 };
                 bands = Some(words.placed(number(word.as_bytes(), 2, 16))? as u8);
             }
@@ -81,7 +81,7 @@ fn mapped_line(
             _ => return Err(words.unknown()),
         }
     }
-    prio_made(&words, verb, head, bands, Some(map))
+    prio_made(words, verb, head, bands, Some(map))
 }
 
 /// A number of a priomap; 16 stands for all that are greater.

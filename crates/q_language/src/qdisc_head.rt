@@ -19,8 +19,8 @@ use q_model::{Command, Place};
 use q_words::{LineFault, class, handle, name};
 
 /// Behind `qdisc add`, `change` or `del`: the head, then the kind.
-pub fn qdisc_head(mut words: Words, verb: QdiscVerb) -> Result<Line, LineFault>
-    ensures { result ≡ rest_of every_word (head (of_qdisc verb) no_head) (suc words.entry.taken) (words_in words.entry.rest.now) }
+pub fn qdisc_head(words: &mut Words, verb: QdiscVerb) -> Result<Line, LineFault>
+    ensures { result ≡ rest_of every_word (head (of_qdisc verb) no_head) (suc words.old.taken) (words_in words.old.rest.now) }
 {
     let mut head = HeadDraft::new();
     while let Some(word) = words.next()? {
@@ -54,7 +54,7 @@ pub fn qdisc_head(mut words: Words, verb: QdiscVerb) -> Result<Line, LineFault>
             _ => return Err(words.unknown()),
         }
     }
-    headed(&words, verb, head)
+    headed(words, verb, head)
 }
 
 /// The line that ends behind a head, where it removes a qdisc.
@@ -68,13 +68,14 @@ fn headed(words: &Words, verb: QdiscVerb, head: HeadDraft) -> Result<Line, LineF
 }
 
 /// Behind a kind: its options, or nothing where the line removes a qdisc.
+#[inline(always)]
 fn kind_line(
-    words: Words,
+    words: &mut Words,
     verb: QdiscVerb,
     head: HeadDraft,
     kind: KindName,
 ) -> Result<Line, LineFault>
-    ensures { result ≡ rest_of every_word (behind_kind verb head kind) (suc words.entry.taken) (words_in words.entry.rest.now) }
+    ensures { result ≡ rest_of every_word (behind_kind verb head kind) (suc words.old.taken) (words_in words.old.rest.now) }
 {
     match verb {
         QdiscVerb::Add => options_line(words, QdiscVerb::Add, head, kind),
@@ -85,12 +86,12 @@ fn kind_line(
 
 /// Behind a kind that options may follow.
 fn options_line(
-    words: Words,
+    words: &mut Words,
     verb: QdiscVerb,
     head: HeadDraft,
     kind: KindName,
 ) -> Result<Line, LineFault>
-    ensures { result ≡ rest_of every_word (options verb head kind no_options) (suc words.entry.taken) (words_in words.entry.rest.now) }
+    ensures { result ≡ rest_of every_word (options verb head kind no_options) (suc words.old.taken) (words_in words.old.rest.now) }
 {
     match kind {
         KindName::Pfifo => pfifo_line(words, verb, head),
@@ -103,11 +104,11 @@ fn options_line(
 }
 
 /// Where no word may follow: the line removes a qdisc.
-fn removal_line(mut words: Words, head: HeadDraft) -> Result<Line, LineFault>
-    ensures { result ≡ rest_of every_word (done (of_qdisc QdiscVerb.Del) head) (suc words.entry.taken) (words_in words.entry.rest.now) }
+fn removal_line(words: &mut Words, head: HeadDraft) -> Result<Line, LineFault>
+    ensures { result ≡ rest_of every_word (done (of_qdisc QdiscVerb.Del) head) (suc words.old.taken) (words_in words.old.rest.now) }
 {
     match words.next()? {
-        None => qdisc_removed(&words, head),
+        None => qdisc_removed(words, head),
         Some(_) => Err(words.unknown()),
     }
 }

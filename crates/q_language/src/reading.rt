@@ -18,16 +18,17 @@ const MAX_POLLS: u64 = 100_000;
 pub fn read_line(line: &[u8]) -> Result<Line, LineFault>
     ensures { result ≡ line_of line.now }
 {
-    let words = Words::new(line);
+    let mut words = Words::new(line);
     if words.is_blank_line() {
         return Ok(Line::Blank);
     }
-    first_word(words)
+    first_word(&mut words)
 }
 
 /// The first word of a line that says something.
-fn first_word(mut words: Words) -> Result<Line, LineFault>
-    ensures { result ≡ rest_of every_word first (suc words.entry.taken) (words_in words.entry.rest.now) }
+#[inline(always)]
+fn first_word(words: &mut Words) -> Result<Line, LineFault>
+    ensures { result ≡ rest_of every_word first (suc words.old.taken) (words_in words.old.rest.now) }
 {
     match words.needed()? {
         "pkt" => pkt_line(words),
@@ -42,8 +43,8 @@ fn first_word(mut words: Words) -> Result<Line, LineFault>
 }
 
 /// Behind `at`: N, nanoseconds.
-fn at_line(mut words: Words) -> Result<Line, LineFault>
-    ensures { result ≡ rest_of every_word at (suc words.entry.taken) (words_in words.entry.rest.now) }
+fn at_line(words: &mut Words) -> Result<Line, LineFault>
+    ensures { result ≡ rest_of every_word at (suc words.old.taken) (words_in words.old.rest.now) }
 {
     let word = words.needed()?;
     let ns = words.placed(number(word.as_bytes(), 0, Moment::MAX))?;
@@ -52,8 +53,8 @@ fn at_line(mut words: Words) -> Result<Line, LineFault>
 }
 
 /// Behind `poll`: N, which is 1 where it is not there.
-fn poll_line(mut words: Words) -> Result<Line, LineFault>
-    ensures { result ≡ rest_of every_word poll (suc words.entry.taken) (words_in words.entry.rest.now) }
+fn poll_line(words: &mut Words) -> Result<Line, LineFault>
+    ensures { result ≡ rest_of every_word poll (suc words.old.taken) (words_in words.old.rest.now) }
 {
     let Some(word) = words.next()? else {
         return Ok(Line::Poll(1));

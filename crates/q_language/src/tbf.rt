@@ -17,8 +17,8 @@ use q_words::{LineFault, rate, size, time};
 const LONGEST: u64 = 1_000_000_000_000;
 
 /// Behind `tbf`: its options.
-pub fn tbf_line(mut words: Words, verb: QdiscVerb, head: HeadDraft) -> Result<Line, LineFault>
-    ensures { result ≡ rest_of every_word (options verb head Tbf no_options) (suc words.entry.taken) (words_in words.entry.rest.now) }
+pub fn tbf_line(words: &mut Words, verb: QdiscVerb, head: HeadDraft) -> Result<Line, LineFault>
+    ensures { result ≡ rest_of every_word (options verb head Tbf no_options) (suc words.old.taken) (words_in words.old.rest.now) }
 {
     let (mut bits, mut burst, mut limit) = (None, None, None);
     while let Some(word) = words.next()? {
@@ -52,5 +52,5 @@ pub fn tbf_line(mut words: Words, verb: QdiscVerb, head: HeadDraft) -> Result<Li
     let (Some(rate), Some(burst), Some(limit)) = (bits, burst, limit) else {
         return Err(words.missing());
     };
-    qdisc_made(&words, verb, head, Kind::Tbf { rate, burst, limit })
+    qdisc_made(words, verb, head, Kind::Tbf { rate, burst, limit })
 }

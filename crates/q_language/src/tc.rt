@@ -17,8 +17,9 @@ use crate::words::Words;
 use q_words::{LineFault, name};
 
 /// Behind `tc`: an option, or the object.
-pub fn tc_line(mut words: Words) -> Result<Line, LineFault>
-    ensures { result ≡ rest_of every_word (tc false) (suc words.entry.taken) (words_in words.entry.rest.now) }
+#[inline(always)]
+pub fn tc_line(words: &mut Words) -> Result<Line, LineFault>
+    ensures { result ≡ rest_of every_word (tc false) (suc words.old.taken) (words_in words.old.rest.now) }
 {
     match words.needed()? {
         "-s" => object_line(words),
@@ -30,8 +31,9 @@ pub fn tc_line(mut words: Words) -> Result<Line, LineFault>
 }
 
 /// Behind `tc -s`: the object.
-fn object_line(mut words: Words) -> Result<Line, LineFault>
-    ensures { result ≡ rest_of every_word (tc true) (suc words.entry.taken) (words_in words.entry.rest.now) }
+#[inline(always)]
+fn object_line(words: &mut Words) -> Result<Line, LineFault>
+    ensures { result ≡ rest_of every_word (tc true) (suc words.old.taken) (words_in words.old.rest.now) }
 {
     match words.needed()? {
         "qdisc" => qdisc_line(words, true),
@@ -42,8 +44,9 @@ fn object_line(mut words: Words) -> Result<Line, LineFault>
 }
 
 /// Behind `qdisc`: what is done.
-fn qdisc_line(mut words: Words, counters: bool) -> Result<Line, LineFault>
-    ensures { result ≡ rest_of every_word (qdisc counters) (suc words.entry.taken) (words_in words.entry.rest.now) }
+#[inline(always)]
+fn qdisc_line(words: &mut Words, counters: bool) -> Result<Line, LineFault>
+    ensures { result ≡ rest_of every_word (qdisc counters) (suc words.old.taken) (words_in words.old.rest.now) }
 {
     let object = Object::Qdisc;
     match words.needed()? {
@@ -56,8 +59,9 @@ fn qdisc_line(mut words: Words, counters: bool) -> Result<Line, LineFault>
 }
 
 /// Behind `class`: what is done.
-fn class_line(mut words: Words, counters: bool) -> Result<Line, LineFault>
-    ensures { result ≡ rest_of every_word (class counters) (suc words.entry.taken) (words_in words.entry.rest.now) }
+#[inline(always)]
+fn class_line(words: &mut Words, counters: bool) -> Result<Line, LineFault>
+    ensures { result ≡ rest_of every_word (class counters) (suc words.old.taken) (words_in words.old.rest.now) }
 {
     let object = Object::Class;
     match words.needed()? {
@@ -70,8 +74,9 @@ fn class_line(mut words: Words, counters: bool) -> Result<Line, LineFault>
 }
 
 /// Behind `filter`: what is done.
-fn filter_line(mut words: Words, counters: bool) -> Result<Line, LineFault>
-    ensures { result ≡ rest_of every_word (filter counters) (suc words.entry.taken) (words_in words.entry.rest.now) }
+#[inline(always)]
+fn filter_line(words: &mut Words, counters: bool) -> Result<Line, LineFault>
+    ensures { result ≡ rest_of every_word (filter counters) (suc words.old.taken) (words_in words.old.rest.now) }
 {
     let object = Object::Filter;
     match words.needed()? {
@@ -83,8 +88,8 @@ fn filter_line(mut words: Words, counters: bool) -> Result<Line, LineFault>
 }
 
 /// Behind `show`: `dev NAME`, or nothing.
-fn shown(mut words: Words, show: Show) -> Result<Line, LineFault>
-    ensures { result ≡ rest_of every_word (show_line show false) (suc words.entry.taken) (words_in words.entry.rest.now) }
+fn shown(words: &mut Words, show: Show) -> Result<Line, LineFault>
+    ensures { result ≡ rest_of every_word (show_line show false) (suc words.old.taken) (words_in words.old.rest.now) }
 {
     let mut named = false;
     while let Some(word) = words.next()? {

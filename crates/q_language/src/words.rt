@@ -8,8 +8,7 @@ ghost use Rattle.q_language.specs.Reading.{placed};
 ghost use Rattle.q_language.specs.Grammar.{rest_of, late_fault, ends, every_word};
 
 use crate::line::Line;
-use crate::text;
-use q_words::{LineFault, Wrong, cut_word, skip_blanks};
+use q_words::{LineFault, Wrong, cut_word, skip_blanks, text};
 use std::str::from_utf8;
 
 /// The words of a line that are still to be read, from the left.
@@ -51,6 +50,7 @@ impl<'a> Words<'a> {
     }
 
     /// The next word; `None` after the last. A word that is not UTF-8 is a fault.
+    #[inline(always)]
     pub fn next(&mut self) -> Result<Option<&'a str>, LineFault>
         ensures ok { IfOk result (λ found. MatchOption found ((words_in self.old.rest.now ≡ []) × (self.new.taken ≡ self.old.taken))
             (λ word. (words_in self.old.rest.now ≡ word.now ∷ words_in self.new.rest.now)
@@ -58,15 +58,48 @@ impl<'a> Words<'a> {
         ensures err { IfErr result (λ fault. (position : Position)
             → rest_of every_word position (suc self.old.taken) (words_in self.old.rest.now) ≡ Err fault) }
     {
-        if let Some(text) = self.text {
-            return Ok(self.next_of_text(text));
+        let Some(text) = self.text else {
+            return self.next_of_bytes();
+        };
+        let word = self.next_of_text(text);
+        Ok(if word.is_empty() { None } else { Some(word) })
+    }
+
+    /// The next word of a line that is UTF-8 as a whole; empty after the last.
+    fn next_of_text(&mut self, text: &'a str) -> &'a str
+        requires { text.now ≡ self.old.rest.now }
+        ensures none { length result.now ≡ 0 → (words_in self.old.rest.now ≡ []) × (self.new.taken ≡ self.old.taken) }
+        ensures some { 0 < length result.now → (words_in self.old.rest.now ≡ result.now ∷ words_in self.new.rest.now)
+            × (self.new.taken ≡ suc self.old.taken) }
+        ensures utf8 { is_utf8 result.now ≡ true }
+    {
+        let text = text::skip_blanks(text);
+        if text.is_empty() {
+            return text;
         }
+        let (word, behind) = text::cut_word(text);
+        self.rest = behind.as_bytes();
+        self.text = Some(behind);
+        self.taken += 1;
+        word
+    }
+
+    /// The next word of a line that is not UTF-8 as a whole.
+    #[cold]
+    fn next_of_bytes(&mut self) -> Result<Option<&'a str>, LineFault>
+        ensures ok { IfOk result (λ found. MatchOption found ((words_in self.old.rest.now ≡ []) × (self.new.taken ≡ self.old.taken))
+            (λ word. (words_in self.old.rest.now ≡ word.now ∷ words_in self.new.rest.now)
+            × (self.new.taken ≡ suc self.old.taken) × (is_utf8 word.now ≡ true))) }
+        ensures err { IfErr result (λ fault. (position : Position)
+            → rest_of every_word position (suc self.old.taken) (words_in self.old.rest.now) ≡ Err fault) }
+    {
         let rest = skip_blanks(self.rest);
         if rest.is_empty() {
             return Ok(None);
         }
         let (word, rest) = cut_word(rest);
         self.rest = rest;
+        self.text = None;
         self.taken += 1;
         match from_utf8(word) {
             Ok(word) => Ok(Some(word)),
@@ -74,25 +107,8 @@ impl<'a> Words<'a> {
         }
     }
 
-    /// The next word of a line that is UTF-8 as a whole.
-    fn next_of_text(&mut self, text: &'a str) -> Option<&'a str>
-        requires { text.now ≡ self.old.rest.now }
-        ensures { MatchOption result ((words_in self.old.rest.now ≡ []) × (self.new.taken ≡ self.old.taken))
-            (λ word. (words_in self.old.rest.now ≡ word.now ∷ words_in self.new.rest.now)
-            × (self.new.taken ≡ suc self.old.taken) × (is_utf8 word.now ≡ true)) }
-    {
-        let text = text::skip_blanks(text);
-        if text.is_empty() {
-            return None;
-        }
-        let (word, behind) = text::cut_word(text);
-        self.rest = behind.as_bytes();
-        self.text = Some(behind);
-        self.taken += 1;
-        Some(word)
-    }
-
     /// The next word, where the line needs one.
+    #[inline(always)]
     pub fn needed(&mut self) -> Result<&'a str, LineFault>
         ensures ok { IfOk result (λ word. (words_in self.old.rest.now ≡ word.now ∷ words_in self.new.rest.now)
             × (self.new.taken ≡ suc self.old.taken) × (is_utf8 word.now ≡ true)) }
@@ -168,8 +184,8 @@ impl<'a> Words<'a> {
     }
 
     /// The line, where no word is left.
-    pub fn ended(mut self, line: Line) -> Result<Line, LineFault>
-        ensures { result ≡ rest_of every_word (whole line) (suc self.entry.taken) (words_in self.entry.rest.now) }
+    pub fn ended(&mut self, line: Line) -> Result<Line, LineFault>
+        ensures { result ≡ rest_of every_word (whole line) (suc self.old.taken) (words_in self.old.rest.now) }
     {
         match self.next()? {
             None => Ok(line),

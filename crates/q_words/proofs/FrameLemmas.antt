@@ -1,20 +1,19 @@
 -- A packet's head is read from its first 64 bytes at most.
-use Rattle.std.proofs.Common.{◌≡◌, ℕ, ◌+◌, ◌-◌, ◌*◌, ◌%◌, ◌==◌, ◌<◌, ◌≤◌, ◌&&◌, Bool, true, false, List, [], ◌∷◌, ◌++◌, length, take, drop, slice_index, slice_set, nat_le, nat_lt, refl, sym, ap, ◌∙◌, arith, lit<, lit≤, length-take, append_assoc, inl, inr, Option, Some, None, is_some, Result, Ok, Err, if◌then◌else◌}
+use Rattle.std.proofs.Common.{◌≡◌, ℕ, ◌+◌, ◌-◌, ◌%◌, ◌==◌, ◌<◌, ◌≤◌, ◌&&◌, Bool, true, false, List, [], ◌∷◌, ◌++◌, length, take, drop, slice_index, slice_set, nat_le, nat_lt, refl, sym, ap, ◌∙◌, arith, lit<, lit≤, length-take, append_assoc, inl, inr, Option, Some, None, is_some, Result, Ok, Err, if◌then◌else◌}
 use Rattle.std.specs.Str.Parse.{digits_value}
 use Rattle.std.specs.Char.{is_digit}
-use Rattle.std.proofs.lemmas.List.{append-nil, get_or-take, take_all, take-append-le, length-take-le, take_more_set}
+use Rattle.std.proofs.lemmas.List.{append-nil, get_or-take, take_all, take-append-le, take_more_set}
 use Rattle.std.proofs.lemmas.Bool.{and_from, eq-eqb, le-leb, lt-ltb, cases_lt}
 use Rattle.std.proofs.Math.Nat.{mod-lt}
-use Rattle.byteorder.specs.Endian.{big_from}
 use Rattle.byteorder.specs.Numbers.{big_from-take}
-use Rattle.q_words.proofs.GroupLemmas.{left_of, right_of}
+use Rattle.q_words.proofs.GroupLemmas.{right_of}
 use Rattle.q_words.specs.Addresses.{bytes_from}
 use Rattle.q_words.specs.declared.wrong.Wrong.{Wrong}
 use Rattle.q_words.specs.declared.wrong.Wrong.TheVariants.{BadNumber}
 use Rattle.q_packet.specs.declared.head.Head.{Head}
 use Rattle.q_words.specs.Parts.{head_of_frame}
 use Rattle.q_words.specs.Values.{is_digits, is_numeral}
-use Rattle.q_packet.specs.Head.{head, ipv4_head, ipv6_head, header_length, is_ipv4, is_ipv6}
+use Rattle.q_packet.specs.Head.{head, ipv4_head, ipv6_head, header_length}
 
 -- a number that is among the first 64 bytes of many is there in both
 there : (xs : List ℕ) (n : ℕ) → n ≤ 64 → 64 ≤ length xs → nat_le n (length (take 64 xs)) ≡ nat_le n (length xs)

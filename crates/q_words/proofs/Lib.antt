@@ -1,4 +1,5 @@
 pub mod Cuts
+mod TextCuts
 pub mod Numbers
 pub mod Splits
 pub mod GroupLemmas

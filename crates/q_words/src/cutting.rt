@@ -10,14 +10,14 @@ fn is_blank(byte: u8) -> bool
 }
 
 /// The place of the first byte of a word.
-fn first_filled(bytes: &[u8]) -> Option<usize>
+pub fn first_filled(bytes: &[u8]) -> Option<usize>
     ensures { result ≡ position (λ byte. not (is_blank byte)) bytes.now }
 {
     bytes.iter().position(|byte| !is_blank(*byte))
 }
 
 /// The place of the first blank.
-fn first_blank(bytes: &[u8]) -> Option<usize>
+pub fn first_blank(bytes: &[u8]) -> Option<usize>
     ensures { result ≡ position is_blank bytes.now }
 {
     bytes.iter().position(|byte| is_blank(*byte))

@@ -1,6 +1,6 @@
 //! The words of a line, and the values that a word can be.
 //!
-//! - [`skip_blanks`] and [`cut_word`] cut a line into words.
+//! - [`skip_blanks`] and [`cut_word`] cut a line into words, and those of [`text`] a line that is UTF-8.
 //! - [`number`], [`handle`], [`class`] and [`name`] read the numbers and names of tc's lines.
 //! - [`Wrong`] says what is wrong with a word by itself, [`LineFault`] the same of a line, with the index of the word; its
 //!   text is `fault 3 BadNumber word 9` and the like.
@@ -21,6 +21,7 @@ mod line_fault;
 mod parts;
 mod prefixes;
 mod protocols;
+pub mod text;
 mod units;
 mod values;
 mod wrong;

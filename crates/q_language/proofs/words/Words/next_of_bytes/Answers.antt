@@ -2,7 +2,7 @@ use Rattle.std.proofs.Common.{◌∙◌, ◌∷◌, ap, sym, add-one}
 use Rattle.std.proofs.lemmas.Str.{is_utf8-from_IsUtf8}
 use Rattle.q_language.proofs.Steps.{bad_utf8}
 use Rattle.q_words.specs.Words.{words_in}
-use Rattle.q_language.proofs.words.Words.next.Goals as goal
+use Rattle.q_language.proofs.words.Words.next_of_bytes.Goals as goal
 
 pub returns-in-Ok-clause-ok : goal.returns-in-Ok-clause-ok
 returns-in-Ok-clause-ok c =

@@ -3,8 +3,8 @@ use Rattle.std.specs.List.{position_or_len}
 use Rattle.std.specs.Str.{IsCharBoundary}
 use Rattle.q_words.specs.Words.{words_in, is_blank}
 use Rattle.q_words.proofs.Cuts.{skipped, begins_filled, past_blanks}
-use Rattle.q_language.proofs.TextCuts.{behind_blanks, first_in}
-use Rattle.q_language.proofs.text.skip_blanks.Goals as goal
+use Rattle.q_words.proofs.TextCuts.{behind_blanks, first_in}
+use Rattle.q_words.proofs.text.skip_blanks.Goals as goal
 
 start_is : (c : goal.After-unwrap_or-start) → c.unwrap_or-start.result ≡ position_or_len (λ byte. not (is_blank byte)) c.args.text.now
 start_is c = first_in (λ byte. not (is_blank byte)) _ _ _ _ c.unwrap_or-start.ensures c.first_filled.ensures c.as_bytes-bytes.ensures.value
