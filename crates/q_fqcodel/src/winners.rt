@@ -98,24 +98,31 @@ fn play(ranks: &mut Vec<u64>)
 
 // Makes the ranks right again above a node whose own rank was written: each is the greater of the two below it, and where it
 // is no other than before, nothing above changes.
-fn climb(ranks: &mut Vec<u64>, from: usize)
-    requires even { length ranks.old.items ≡ 2 * (length ranks.old.items / 2) }
-    requires few { length ranks.old.items ≤ 131072 }
-    requires within { from < length ranks.old.items }
-    requires others { IsRightBut (from / 2) ranks.old.items }
-    ensures len { length ranks.new.items ≡ length ranks.old.items }
-    ensures leaves { drop (length ranks.old.items / 2) ranks.new.items ≡ drop (length ranks.old.items / 2) ranks.old.items }
-    ensures each { IsRightBut 0 ranks.new.items }
+fn climb(ranks: &mut [u64], from: usize)
+    requires even { length ranks.old ≡ 2 * (length ranks.old / 2) }
+    requires few { length ranks.old ≤ 131072 }
+    requires within { from < length ranks.old }
+    requires others { IsRightBut (from / 2) ranks.old }
+    ensures len { length ranks.new ≡ length ranks.old }
+    ensures leaves { drop (length ranks.old / 2) ranks.new ≡ drop (length ranks.old / 2) ranks.old }
+    ensures each { IsRightBut 0 ranks.new }
 {
     let mut child = from;
     let mut best = ranks[child];
     while child > 1 {
         let node = child / 2;
-        best = best.max(ranks[4 * node + 1 - child]);
+        best = best.max(ranks[beside(child)]);
         if ranks[node] == best {
             return;
         }
         ranks[node] = best;
         child = node;
     }
+}
+
+// The node beside one, below the same node.
+fn beside(node: usize) -> usize
+    ensures { result ≡ 4 * (node / 2) + 1 - node }
+{
+    node ^ 1
 }

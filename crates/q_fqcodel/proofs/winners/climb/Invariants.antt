@@ -4,11 +4,11 @@ use Rattle.q_fqcodel.proofs.winners.climb.Given as goal
 
 abbrev pub invariant-loop-child : goal.invariant-loop-child
 invariant-loop-child l = record {
-  high : l.child < length l.ranks.items;
-  len : length l.ranks.items ≡ length l.fn.ranks.items;
-  leaves : drop (length l.fn.ranks.items / 2) l.ranks.items ≡ drop (length l.fn.ranks.items / 2) l.fn.ranks.items;
-  right : IsRightBut (l.child / 2) l.ranks.items;
-  best : l.best ≡ rank_at l.ranks.items l.child;
+  high : l.child < length l.ranks;
+  len : length l.ranks ≡ length l.fn.ranks;
+  leaves : drop (length l.fn.ranks / 2) l.ranks ≡ drop (length l.fn.ranks / 2) l.fn.ranks;
+  right : IsRightBut (l.child / 2) l.ranks;
+  best : l.best ≡ rank_at l.ranks l.child;
 }
 
 abbrev pub decreases-loop-child : goal.decreases-loop-child

@@ -1,5 +1,6 @@
-use Rattle.std.proofs.Common.{◌≡◌, ℕ, ◌+◌, ◌/◌, ◌<◌, List, length, set, ap, ◌∙◌, arith}
-use Rattle.std.proofs.lemmas.List.{length-set}
+use Rattle.std.proofs.Common.{◌≡◌, ℕ, ◌+◌, ◌/◌, ◌<◌, ◌≤◌, List, ◌++◌, length, take, drop, set, sym, ap, ◌∙◌, arith, subst}
+use Rattle.std.proofs.lemmas.List.{length-set, take-append-le, take_all}
+use Rattle.q_fqcodel.specs.Winners.{bytes_in, IsTournament}
 use Rattle.q_fqcodel.proofs.WinnerLemmas.{length-bytes, tree_written, bytes_renewed}
 use Rattle.q_fqcodel.proofs.winners.Winners.renew.Goals as goal
 use Rattle.q_fqcodel.proofs.winners.Winners.renew.Goals.{After-len, After-climb}
@@ -23,20 +24,41 @@ climb-requires-clause-within c =
     let d = (goal.at.climb-requires-clause-within c).After-len in
     omega (arith, within d, place d, c.self.invariant.0.even, length-set c.self.inside.ranks.items (c.len.result / 2 + c.args.flow) c.rank_of.result)
 
+-- the ranks with the leaf written, and those after the climb
+abbrev told : After-climb → List ℕ
+told c = set c.self.inside.ranks.items (c.len.result / 2 + c.args.flow) c.rank_of.result
+
+len_is : (c : After-climb) → length c.climb.new.ranks ≡ length (told c)
+len_is c = c.climb.ensures.len ∙ ap length c.deref_mut.ensures.value
+
+leaves_are : (c : After-climb) → drop (length (told c) / 2) c.climb.new.ranks ≡ drop (length (told c) / 2) (told c)
+leaves_are c = subst (λ (l : List ℕ). drop (length l / 2) c.climb.new.ranks ≡ drop (length l / 2) l) c.deref_mut.ensures.value c.climb.ensures.leaves
+
+all_written : (c : After-climb) → take c.self.inside.ranks.len (c.climb.new.ranks ++ drop (length c.climb.new.ranks) (told c)) ≡ c.climb.new.ranks
+all_written c =
+    let xs : List ℕ = c.self.inside.ranks.items in
+    let long : length c.climb.new.ranks ≡ c.self.inside.ranks.len = omega (arith, len_is c, length-set xs (c.len.result / 2 + c.args.flow) c.rank_of.result, c.self.inside.ranks.ok.0) in
+    take-append-le c.self.inside.ranks.len c.climb.new.ranks (drop (length c.climb.new.ranks) (told c)) (omega (arith, long))
+    ∙ take_all c.self.inside.ranks.len c.climb.new.ranks (omega (arith, long))
+
 pub invariant_of-self : goal.invariant_of-self
 invariant_of-self c =
+    let e = (goal.at.invariant_of-self c).After-climb in
     let d = (goal.at.invariant_of-self c).After-len in
     let xs : List ℕ = c.self.inside.ranks.items in
     let leaf : ℕ = c.len.result / 2 + c.args.flow in
-    let v : ℕ = c.rank_of.result in (
-      tree_written xs c.climb.new.ranks.items c.args.flow c.args.bytes v leaf c.self.invariant.0 (within d) (omega (arith, within d, c.self.invariant.1)) c.rank_of.ensures (place d) c.climb.ensures.len c.climb.ensures.leaves c.climb.ensures.each,
-      omega (arith, c.climb.ensures.len, length-set xs leaf v, c.self.invariant.1),
+    let v : ℕ = c.rank_of.result in
+    subst (λ (l : List ℕ). IsTournament l × (length l ≤ 131072)) (sym (all_written e)) (
+      tree_written xs c.climb.new.ranks c.args.flow c.args.bytes v leaf c.self.invariant.0 (within d) (omega (arith, within d, c.self.invariant.1)) c.rank_of.ensures (place d) (len_is e) (leaves_are e) c.climb.ensures.each,
+      omega (arith, len_is e, length-set xs leaf v, c.self.invariant.1),
     )
 
 pub returns : goal.returns
 returns c =
+    let e = (goal.at.returns c).After-climb in
     let d = (goal.at.returns c).After-len in
     let xs : List ℕ = c.self.inside.ranks.items in
     let leaf : ℕ = c.len.result / 2 + c.args.flow in
-    bytes_renewed xs c.climb.new.ranks.items c.args.flow c.args.bytes c.rank_of.result leaf c.self.invariant.0 (within d) (omega (arith, within d, c.self.invariant.1)) c.rank_of.ensures (place d) c.climb.ensures.len c.climb.ensures.leaves
+    ap bytes_in (all_written e)
+    ∙ bytes_renewed xs c.climb.new.ranks c.args.flow c.args.bytes c.rank_of.result leaf c.self.invariant.0 (within d) (omega (arith, within d, c.self.invariant.1)) c.rank_of.ensures (place d) (len_is e) (leaves_are e)
     ∙ ap (λ (l : List ℕ). set l c.args.flow c.args.bytes) c.self.view_is
