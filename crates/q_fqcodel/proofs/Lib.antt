@@ -1,6 +1,5 @@
 pub mod ChainLemmas
 pub mod ClearedLemmas
-pub mod ClimbLemmas
 pub mod FatLemmas
 pub mod FlowLemmas
 pub mod GivenLemmas

@@ -55,7 +55,9 @@ pub(crate) fn take_head(nodes: &mut Slab<Node>, list: FlowList) -> (Stamped, Flo
     ensures len { slab_len nodes.new + 1 ≡ slab_len nodes.old }
     ensures capacity { nodes.new.capacity ≡ nodes.old.capacity }
 {
-    let node = nodes.remove(list.head);
+    // It is read where it stands: as what `remove` gives it would be copied once more.
+    let node = nodes[list.head];
+    nodes.remove(list.head);
     let packet = node.packet;
     let rest = FlowList {
         head: node.next,

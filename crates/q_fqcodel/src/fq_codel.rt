@@ -25,13 +25,9 @@ pub struct FqCodel {
     lists: ActiveLists,
 }
 
-// What a flow takes: the list of its packets, what CoDel knows of it, its link, and its bytes and inner node among the winners.
+// What a flow takes: the list of its packets, what CoDel knows of it, its link, and its leaf and inner node among the winners.
 const _: () = prove!(
-    size_of::<FlowList>()
-        + size_of::<ControlState>()
-        + size_of::<Link>()
-        + size_of::<u64>()
-        + size_of::<u32>()
+    size_of::<FlowList>() + size_of::<ControlState>() + size_of::<Link>() + 2 * size_of::<u64>()
         <= 96
 );
 

@@ -120,9 +120,10 @@ impl Pool {
         list_of(&self.lists, flow).count
     }
 
-    /// The bytes in a flow.
+    /// The bytes in a flow: at most 65535 of each packet, of which there are no more than 2^32.
     pub(crate) fn bytes_of(&self, flow: u32) -> u64
-        ensures { result ≡ size (get_or self.now.queues flow []) }
+        ensures value { result ≡ size (get_or self.now.queues flow []) }
+        ensures few { result < 2 ^ 48 }
     {
         list_of(&self.lists, flow).bytes
     }

@@ -1,5 +1,5 @@
-ghost use Rattle.std.specs.Prelude.{ℕ, ◌≡◌, ◌≢◌, ◌*◌, ◌+◌, ◌<◌, ◌≤◌, length, get_or, set, replicate, IfOk};
-ghost use Rattle.q_fqcodel.specs.Winners.{better, winner, bytes_at, Leads, IsTournament};
+ghost use Rattle.std.specs.Prelude.{ℕ, ◌≡◌, ◌+◌, ◌-◌, ◌*◌, ◌/◌, ◌%◌, ◌^◌, ◌<◌, ◌≤◌, length, drop, set, replicate, IfOk};
+ghost use Rattle.q_fqcodel.specs.Winners.{rank, rank_at, bytes_at, Leads, IsRightBut};
 
 use std::alloc::{AllocError, Global};
 use std::marker::Model;
@@ -9,21 +9,20 @@ use std::marker::Model;
 /// A contract sees it as the list of the flows' bytes.
 #[derive(Drop)]
 pub(crate) struct Winners {
-    // The bytes of each flow, as far as `renew` has told.
-    bytes: Vec<u64>,
-    // At each inner node the better of the two flows that stand below it. The root is the second of the list.
-    inner: Vec<u32>,
+    // The rank at each node: in the second half those of the flows, and before them the greater of the two below. The root is
+    // the second of the list. A rank has bytes and flow in one number, so that a level of the tree costs one comparison.
+    ranks: Vec<u64>,
 }
 
 impl Model for Winners {
     ghost use Rattle.std.specs.Prelude.{ℕ, List, ◌≤◌, length};
-    ghost use Rattle.q_fqcodel.specs.Winners.{IsTournament};
+    ghost use Rattle.q_fqcodel.specs.Winners.{bytes_in, IsTournament};
 
     ghost Value = { List ℕ };
 
-    ghost view = { λ w. w.bytes.items };
+    ghost view = { λ w. bytes_in w.ranks.items };
 
-    ghost invariant = { λ w. IsTournament w.bytes.items w.inner.items × (length w.bytes.items ≤ 65536) };
+    ghost invariant = { λ w. IsTournament w.ranks.items × (length w.ranks.items ≤ 131072) };
 }
 
 impl Winners {
@@ -32,136 +31,98 @@ impl Winners {
         requires { flows ≤ 65536 }
         ensures { IfOk result (λ w. w ≡ replicate flows 0) }
     {
-        let bytes = vec![in alloc; 0u64; flows as usize]?;
-        let mut inner = vec![in alloc; 0u32; flows as usize]?;
-        play(&bytes, &mut inner);
-        Ok(Winners { bytes, inner })
+        let mut ranks = vec![in alloc; 0u64; 2 * flows as usize]?;
+        play(&mut ranks);
+        Ok(Winners { ranks })
     }
 
     /// The flow with the most bytes, of equals the first, if this flow had so many bytes: as many as it has, or more.
     pub(crate) fn top_with(&self, flow: u32, bytes: u64) -> u32
         requires in_range { flow < length self.now }
         requires more { bytes_at self.now flow ≤ bytes }
+        requires few { bytes < 2 ^ 48 }
         ensures within { result < length self.now }
         ensures leads { (i : ℕ) → i < length self.now → Leads (bytes_at (set self.now flow bytes)) result i }
     {
-        let top = winner_at(&self.inner, 1);
-        let most = self.bytes[top as usize];
-        if most < bytes {
-            return flow;
-        }
-        if bytes < most {
-            return top;
-        }
-        top.min(flow)
+        let top = self.ranks[1];
+        flow_of(rank_of(flow, bytes).max(top))
     }
 
     /// Notes how many bytes a flow has now.
     pub(crate) fn renew(&mut self, flow: u32, bytes: u64)
-        requires { flow < length self.old }
+        requires in_range { flow < length self.old }
+        requires few { bytes < 2 ^ 48 }
         ensures { self.new ≡ set self.old flow bytes }
     {
-        let leads = winner_at(&self.inner, 1) == flow;
-        let before = self.bytes[flow as usize];
-        self.bytes[flow as usize] = bytes;
-        // A leader with as many bytes as before, or more, stays wherever it stands.
-        if leads && before <= bytes {
-            return;
-        }
-        if before <= bytes {
-            raise(&self.bytes, &mut self.inner, flow);
-        } else {
-            lower(&self.bytes, &mut self.inner, flow);
-        }
+        let leaf = self.ranks.len() / 2 + flow as usize;
+        self.ranks[leaf] = rank_of(flow, bytes);
+        climb(&mut self.ranks, leaf);
     }
 }
 
-// What stands at a node.
-fn winner_at(inner: &Vec<u32>, node: usize) -> u32
-    requires within { node < 2 * length inner.now.items }
-    requires few { length inner.now.items ≤ 65536 }
-    ensures { result ≡ winner inner.now.items node }
+// The rank of a flow with so many bytes: the greater for more bytes, and of equals for the lower index.
+fn rank_of(flow: u32, bytes: u64) -> u64
+    requires flow { flow < 65536 }
+    requires few { bytes < 2 ^ 48 }
+    ensures { result ≡ rank flow bytes }
 {
-    if node < inner.len() {
-        inner[node]
-    } else {
-        (node - inner.len()) as u32
-    }
+    bytes * 65536 + (65535 - flow) as u64
 }
 
-// The flow of two that has more bytes, of equals the lower index.
-#[tactic(auto, unfolding(crate::specs::Winners::better))]
-fn better_of(bytes: &Vec<u64>, first: u32, second: u32) -> u32
-    requires first { first < length bytes.now.items }
-    requires second { second < length bytes.now.items }
-    ensures { result ≡ better (bytes_at bytes.now.items) first second }
+// The flow that has a rank.
+fn flow_of(rank: u64) -> u32
+    ensures { result ≡ 65535 - rank % 65536 }
 {
-    let most = bytes[first as usize];
-    let others = bytes[second as usize];
-    if most > others {
-        return first;
-    }
-    if most < others {
-        return second;
-    }
-    first.min(second)
+    65535 - (rank % 65536) as u32
 }
 
-// Finds every winner, from the last inner node to the root.
-fn play(bytes: &Vec<u64>, inner: &mut Vec<u32>)
-    requires same { length inner.old.items ≡ length bytes.now.items }
-    requires few { length bytes.now.items ≤ 65536 }
-    requires small { (k : ℕ) → k < length inner.old.items → get_or inner.old.items k 0 < length inner.old.items }
-    ensures { IsTournament bytes.now.items inner.new.items }
+// Finds every rank, from the last leaf to the root, where no flow has bytes.
+fn play(ranks: &mut Vec<u64>)
+    requires even { length ranks.old.items ≡ 2 * (length ranks.old.items / 2) }
+    requires few { length ranks.old.items ≤ 131072 }
+    ensures len { length ranks.new.items ≡ length ranks.old.items }
+    ensures leaves { (i : ℕ) → i < length ranks.old.items / 2 → rank_at ranks.new.items (length ranks.old.items / 2 + i) ≡ rank i 0 }
+    ensures each { IsRightBut 0 ranks.new.items }
 {
-    let mut node = inner.len();
+    let flows = ranks.len() / 2;
+    let mut node = ranks.len();
+    while node > flows {
+        node -= 1;
+        ranks[node] = rank_of((node - flows) as u32, 0);
+    }
     while node > 1 {
         node -= 1;
-        let first = winner_at(inner, 2 * node);
-        let second = winner_at(inner, 2 * node + 1);
-        inner[node] = better_of(bytes, first, second);
+        ranks[node] = ranks[2 * node].max(ranks[2 * node + 1]);
     }
 }
 
-// Makes the winners right again where a flow has as many bytes as before, or more: it wins on its way up until another one
-// still leads it.
-fn raise(bytes: &Vec<u64>, inner: &mut Vec<u32>, flow: u32)
-    requires before { (before : ℕ) × (before ≤ bytes_at bytes.now.items flow) × IsTournament (set bytes.now.items flow before) inner.old.items }
-    requires within { flow < length bytes.now.items }
-    requires few { length bytes.now.items ≤ 65536 }
-    ensures { IsTournament bytes.now.items inner.new.items }
+// Makes the ranks right again above a node whose own rank was written: each is the greater of the two below it, and where it
+// is no other than before, nothing above changes.
+fn climb(ranks: &mut [u64], from: usize)
+    requires even { length ranks.old ≡ 2 * (length ranks.old / 2) }
+    requires few { length ranks.old ≤ 131072 }
+    requires within { from < length ranks.old }
+    requires others { IsRightBut (from / 2) ranks.old }
+    ensures len { length ranks.new ≡ length ranks.old }
+    ensures leaves { drop (length ranks.old / 2) ranks.new ≡ drop (length ranks.old / 2) ranks.old }
+    ensures each { IsRightBut 0 ranks.new }
 {
-    let mut node = (inner.len() + flow as usize) / 2;
-    while node >= 1 {
-        let there = inner[node];
-        let now = better_of(bytes, there, flow);
-        // What stands above has seen another flow here, and sees it again.
-        if now != flow {
-            return;
-        }
-        inner[node] = flow;
-        node /= 2;
-    }
-}
-
-// Makes the winners right again where a flow has fewer bytes than before: wherever it stood, the better of two stands now.
-fn lower(bytes: &Vec<u64>, inner: &mut Vec<u32>, flow: u32)
-    requires before { (before : ℕ) × (bytes_at bytes.now.items flow ≤ before) × IsTournament (set bytes.now.items flow before) inner.old.items }
-    requires within { flow < length bytes.now.items }
-    requires few { length bytes.now.items ≤ 65536 }
-    ensures { IsTournament bytes.now.items inner.new.items }
-{
-    let mut child = inner.len() + flow as usize;
-    let mut best = flow;
+    let mut child = from;
+    let mut best = ranks[child];
     while child > 1 {
         let node = child / 2;
-        // What stands here and above has not seen this flow.
-        if inner[node] != flow {
+        best = best.max(ranks[beside(child)]);
+        if ranks[node] == best {
             return;
         }
-        let beside = winner_at(inner, 4 * node + 1 - child);
-        best = better_of(bytes, best, beside);
-        inner[node] = best;
+        ranks[node] = best;
         child = node;
     }
+}
+
+// The node beside one, below the same node.
+fn beside(node: usize) -> usize
+    ensures { result ≡ 4 * (node / 2) + 1 - node }
+{
+    node ^ 1
 }

@@ -7,10 +7,10 @@ use Rattle.q_fqcodel.specs.Linked.{chain}
 use Rattle.q_fqcodel.specs.declared.node.Node.{Node}
 use Rattle.q_fqcodel.proofs.ChainLemmas.{head_there, rest_queue, rest_bytes, rest_list, rest_keeps}
 use Rattle.q_fqcodel.proofs.chain.take_head.Goals as goal
-use Rattle.q_fqcodel.proofs.chain.take_head.Goals.{After-remove-node}
+use Rattle.q_fqcodel.proofs.chain.take_head.Goals.{After-index-node}
 
-pub remove-node-requires : goal.remove-node-requires
-remove-node-requires c =
+pub index-node-requires : goal.index-node-requires
+index-node-requires c =
     let x = head_there (get c.args.nodes.now) c.requires.linked.0 c.requires.linked.1 c.args.list c.requires.linked.2 c.requires.some in
     subst (λ (o : Option Node). IsSome o) (sym x.1) refl
 
@@ -19,22 +19,22 @@ overflow_sub-rest-2 c =
     omega (
       arith,
       ap (λ (p : Descriptor). p.len) c.packet.view_is,
-      rest_bytes (get c.args.nodes.now) (get c.remove-node.new.self) c.requires.linked.0 c.requires.linked.1 c.args.list c.remove-node.result c.requires.linked.2 c.requires.some c.remove-node.ensures.value c.remove-node.ensures.updates.others,
+      rest_bytes (get c.args.nodes.now) (get c.remove.new.self) c.requires.linked.0 c.requires.linked.1 c.args.list c.index-node.result.now c.requires.linked.2 c.requires.some c.index-node.ensures c.remove.ensures.updates.others,
     )
 
 pub returns-clause-queue : goal.returns-clause-queue
 returns-clause-queue c =
-    rest_queue (get c.args.nodes.now) (get c.remove-node.new.self) c.requires.linked.0 c.requires.linked.1 c.args.list c.remove-node.result c.requires.linked.2 c.requires.some c.remove-node.ensures.value c.remove-node.ensures.updates.others
-    ∙ ap (λ (s : Stamped). s ∷ chain packets (get c.remove-node.new.self) (c.args.list.count - 1) c.remove-node.result.next) (sym c.stamped.ensures)
+    rest_queue (get c.args.nodes.now) (get c.remove.new.self) c.requires.linked.0 c.requires.linked.1 c.args.list c.index-node.result.now c.requires.linked.2 c.requires.some c.index-node.ensures c.remove.ensures.updates.others
+    ∙ ap (λ (s : Stamped). s ∷ chain packets (get c.remove.new.self) (c.args.list.count - 1) c.index-node.result.now.next) (sym c.stamped.ensures)
 
 pub returns-clause-linked : goal.returns-clause-linked
 returns-clause-linked c w f linked =
-    rest_list (get c.args.nodes.now) (get c.remove-node.new.self) w f c.args.list c.remove-node.result linked c.requires.some c.remove-node.ensures.value c.remove-node.ensures.updates.others _
+    rest_list (get c.args.nodes.now) (get c.remove.new.self) w f c.args.list c.index-node.result.now linked c.requires.some c.index-node.ensures c.remove.ensures.updates.others _
     (ap (λ (p : Descriptor). c.args.list.bytes - p.len) c.packet.view_is)
 
 pub returns-clause-others : goal.returns-clause-others
 returns-clause-others c w f linked =
-    rest_keeps (get c.args.nodes.now) (get c.remove-node.new.self) w f c.args.list c.remove-node.result linked c.requires.some c.remove-node.ensures.value c.remove-node.ensures.updates.others
+    rest_keeps (get c.args.nodes.now) (get c.remove.new.self) w f c.args.list c.index-node.result.now linked c.requires.some c.index-node.ensures c.remove.ensures.updates.others
 
 pub returns-clause-bytes : goal.returns-clause-bytes
 returns-clause-bytes c =
@@ -42,5 +42,5 @@ returns-clause-bytes c =
       arith,
       ap (λ (s : Stamped). s.packet.len) c.stamped.ensures,
       ap (λ (p : Descriptor). p.len) c.packet.view_is,
-      rest_bytes (get c.args.nodes.now) (get c.remove-node.new.self) c.requires.linked.0 c.requires.linked.1 c.args.list c.remove-node.result c.requires.linked.2 c.requires.some c.remove-node.ensures.value c.remove-node.ensures.updates.others,
+      rest_bytes (get c.args.nodes.now) (get c.remove.new.self) c.requires.linked.0 c.requires.linked.1 c.args.list c.index-node.result.now c.requires.linked.2 c.requires.some c.index-node.ensures c.remove.ensures.updates.others,
     )

@@ -63,9 +63,9 @@ queue_is g c =
 pub lose_from-requires-clause-held : goal.lose_from-requires-clause-held
 lose_from-requires-clause-held g c = omega (arith, c.requires.held, ap count (queue_is g (goal.at.lose_from-requires-clause-held g c).After-push))
 
-pub renew-requires : goal.renew-requires
-renew-requires g c =
-    omega (arith, within g (goal.at.renew-requires g c).After-push, ap length c.self.invariant.2, length-sizes c.self.inside.pool.queues)
+pub renew-requires-clause-in_range : goal.renew-requires-clause-in_range
+renew-requires-clause-in_range g c =
+    omega (arith, within g (goal.at.renew-requires-clause-in_range g c).After-push, ap length c.self.invariant.2, length-sizes c.self.inside.pool.queues)
 
 pub invariant_of-self : goal.invariant_of-self
 invariant_of-self g c =
@@ -81,7 +81,7 @@ invariant_of-self g c =
     ∙ sym (ap (λ (l : List ℕ). set l n c.bytes_of-kept.result) (ap sizes c.push.ensures.queues ∙ sizes-set qs n q) ∙ set-set (sizes qs) n (size q) c.bytes_of-kept.result) in (
       ap length c.lose_from.ensures.queues ∙ length-set more n rest ∙ longer g d ∙ c.self.invariant.0,
       c.self.invariant.1,
-      sizes_renewed more c.lose_from.new.pool.queues n rest c.renew.new.self c.bytes_of-kept.result c.lose_from.ensures.queues (omega (arith, within g d, longer g d)) told c.bytes_of-kept.ensures,
+      sizes_renewed more c.lose_from.new.pool.queues n rest c.renew.new.self c.bytes_of-kept.result c.lose_from.ensures.queues (omega (arith, within g d, longer g d)) told c.bytes_of-kept.ensures.value,
       c.self.invariant.3,
     )
 

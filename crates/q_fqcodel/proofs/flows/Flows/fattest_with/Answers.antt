@@ -6,7 +6,7 @@ use Rattle.q_packet.proofs.TotalsLemmas.{size_push}
 use Rattle.q_packet.specs.declared.stamped.Stamped.{Stamped}
 use Rattle.q_fqcodel.specs.Cleared.{adjust}
 use Rattle.q_fqcodel.specs.FlowsState.{FlowsState}
-use Rattle.q_fqcodel.specs.FqState.{Flow, queue_of, packets_of}
+use Rattle.q_fqcodel.specs.FqState.{Flow, queue_of}
 use Rattle.q_fqcodel.specs.Pool.{codels_in}
 use Rattle.q_fqcodel.specs.Put.{joined}
 use Rattle.q_fqcodel.specs.Winners.{bytes_at}
@@ -39,7 +39,7 @@ overflow_add-held c =
     let d = (goal.at.overflow_add-held c).After-each_has_bytes in
     omega (
       arith,
-      c.bytes_of.ensures,
+      c.bytes_of.ensures.value,
       c.each_has_bytes.ensures.most c.args.flow,
       ap count (queue_is d c.args.flow),
       packets-at c.args.flow c.args.self.now.flows,
@@ -52,7 +52,19 @@ top_with-requires-clause-in_range c = omega (arith, c.requires.within, all (goal
 pub top_with-requires-clause-more : goal.top_with-requires-clause-more
 top_with-requires-clause-more c =
     let d = (goal.at.top_with-requires-clause-more c).After-each_has_bytes in
-    omega (arith, bytes_are d c.args.flow, ap size (queue_is d c.args.flow), c.bytes_of.ensures)
+    omega (arith, bytes_are d c.args.flow, ap size (queue_is d c.args.flow), c.bytes_of.ensures.value)
+
+pub top_with-requires-clause-few : goal.top_with-requires-clause-few
+top_with-requires-clause-few c =
+    let d = (goal.at.top_with-requires-clause-few c).After-each_has_bytes in
+    omega (
+      arith,
+      c.bytes_of.ensures.value,
+      c.each_has_bytes.ensures.most c.args.flow,
+      ap count (queue_is d c.args.flow),
+      packets-at c.args.flow c.args.self.now.flows,
+      c.requires.few,
+    )
 
 -- the flows once the packet has joined, and the bytes of each
 abbrev fuller : After-top_with → Stamped → List Flow
@@ -71,7 +83,7 @@ grown c s len k =
     ap (λ (m : ℕ). size (queue_of (fuller c s) m)) own
     ∙ ap size (own_queue s n c.args.self.now.flows c.requires.within)
     ∙ size_push (queue_of c.args.self.now.flows n) s
-    ∙ omega (arith, ap size (queue_is d n), c.bytes_of.ensures, len)
+    ∙ omega (arith, ap size (queue_is d n), c.bytes_of.ensures.value, len)
     ∙ sym (get_or-set_same ws n (held c) 0 (omega (arith, c.requires.within, all d)))
     ∙ ap (λ (m : ℕ). bytes_at (set ws n (held c)) m) (sym own))
     (λ (ne : k ≢ n).

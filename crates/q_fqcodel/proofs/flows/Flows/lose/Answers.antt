@@ -34,9 +34,9 @@ lose_from-requires-clause-held g c =
 within : (g : _) (c : After-lose_from g) → c.args.lost ≢ 0 → c.args.flow < length c.self.inside.pool.queues
 within g c some = flow_with c.self.inside.pool.queues c.args.flow (omega (arith, c.requires.held, ap count (own g c), some))
 
-pub renew-requires : goal.renew-requires
-renew-requires g c =
-    omega (arith, within g (goal.at.renew-requires g c).After-lose_from c.if-lost-eq0.false, ap length c.self.invariant.2, length-sizes c.self.inside.pool.queues)
+pub renew-requires-clause-in_range : goal.renew-requires-clause-in_range
+renew-requires-clause-in_range g c =
+    omega (arith, within g (goal.at.renew-requires-clause-in_range g c).After-lose_from c.if-lost-eq0.false, ap length c.self.invariant.2, length-sizes c.self.inside.pool.queues)
 
 pub invariant_of-self : goal.invariant_of-self
 invariant_of-self g c =
@@ -46,7 +46,7 @@ invariant_of-self g c =
       ap length c.lose_from.ensures.queues ∙ length-set qs n rest ∙ c.self.invariant.0,
       c.self.invariant.1,
       sizes_renewed qs c.lose_from.new.pool.queues n rest c.renew.new.self c.bytes_of-rest.result c.lose_from.ensures.queues (within g (goal.at.invariant_of-self g c).After-lose_from c.if-lost-eq0.false)
-          (c.renew.ensures ∙ ap (λ (l : List ℕ). set l n c.bytes_of-rest.result) c.self.invariant.2) c.bytes_of-rest.ensures,
+          (c.renew.ensures ∙ ap (λ (l : List ℕ). set l n c.bytes_of-rest.result) c.self.invariant.2) c.bytes_of-rest.ensures.value,
       c.self.invariant.3,
     )
 

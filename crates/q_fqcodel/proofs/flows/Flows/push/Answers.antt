@@ -36,10 +36,10 @@ within c =
     let same = ap (λ (f : FlowsState). f.flows) c.self.view_is in
     omega (arith, c.requires.in_range, ap length same, length-flows c.self.inside.pool.queues (codels_in c.self.inside.parameters c.self.inside.states.items) c.self.invariant.0, c.self.invariant.0)
 
-pub renew-requires : goal.renew-requires
-renew-requires c =
+pub renew-requires-clause-in_range : goal.renew-requires-clause-in_range
+renew-requires-clause-in_range c =
     let qs = c.self.inside.pool.queues in
-    omega (arith, within (goal.at.renew-requires c).After-push, ap length c.self.invariant.2, length-sizes qs)
+    omega (arith, within (goal.at.renew-requires-clause-in_range c).After-push, ap length c.self.invariant.2, length-sizes qs)
 
 pub invariant_of-self : goal.invariant_of-self
 invariant_of-self c =
@@ -47,7 +47,7 @@ invariant_of-self c =
       ap length c.push.ensures.queues ∙ length-set qs _ _ ∙ c.self.invariant.0,
       c.self.invariant.1,
       sizes_renewed qs c.push.new.self.queues c.args.flow (get_or qs c.args.flow [] ++ c.args.stamped ∷ []) c.renew.new.self c.bytes_of-held.result c.push.ensures.queues (within (goal.at.invariant_of-self c).After-push)
-          (c.renew.ensures ∙ ap (λ (l : List ℕ). set l c.args.flow c.bytes_of-held.result) c.self.invariant.2) c.bytes_of-held.ensures,
+          (c.renew.ensures ∙ ap (λ (l : List ℕ). set l c.args.flow c.bytes_of-held.result) c.self.invariant.2) c.bytes_of-held.ensures.value,
       c.self.invariant.3,
     )
 

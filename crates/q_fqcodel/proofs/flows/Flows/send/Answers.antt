@@ -97,9 +97,9 @@ returns-clause-some g c =
     let r = ap (λ (fs : List Flow). count (queue_of fs c.args.flow)) same in
     (λ h. let s = c.send_from-taken.ensures.some.0 h in omega (arith, s, q, r), λ h. c.send_from-taken.ensures.some.1 (omega (arith, h, q, r)))
 
-pub renew-requires : goal.renew-requires
-renew-requires g c =
-    let d = (goal.at.renew-requires g c).After-index_mut-codel in
+pub renew-requires-clause-in_range : goal.renew-requires-clause-in_range
+renew-requires-clause-in_range g c =
+    let d = (goal.at.renew-requires-clause-in_range g c).After-index_mut-codel in
     omega (arith, omega_within g d, c.self.invariant.0, ap length c.self.invariant.2, length-sizes c.self.inside.pool.queues)
 
 pub invariant_of-self : goal.invariant_of-self
@@ -114,6 +114,6 @@ invariant_of-self g c =
       ap length c.send_from-taken.ensures.others ∙ length-set qs n (get_or new n []) ∙ c.self.invariant.0 ∙ length-codels p vs ∙ sym (length-set vs n v) ∙ sym (length-codels p (set vs n v)),
       omega (arith, c.self.invariant.1, length-set vs n v),
       sizes_renewed qs new n (get_or new n []) c.renew.new.self c.bytes_of-left.result c.send_from-taken.ensures.others (omega (arith, omega_within g d, c.self.invariant.0))
-          (c.renew.ensures ∙ ap (λ (l : List ℕ). set l n c.bytes_of-left.result) c.self.invariant.2) c.bytes_of-left.ensures,
+          (c.renew.ensures ∙ ap (λ (l : List ℕ). set l n c.bytes_of-left.result) c.self.invariant.2) c.bytes_of-left.ensures.value,
       c.self.invariant.3,
     )

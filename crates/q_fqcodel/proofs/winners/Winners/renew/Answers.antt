@@ -1,43 +1,64 @@
-use Rattle.std.proofs.Common.{◌≡◌, ◌<◌, ◌≤◌, List, ℕ, length, get_or, set, sym, ap, ◌∙◌, arith, subst}
-use Rattle.std.proofs.lemmas.List.{length-set, set-set, set-get_or, get_or-set_same, get_or_default}
-use Rattle.q_fqcodel.specs.Winners.{IsTournament}
-use Rattle.q_fqcodel.proofs.WinnerLemmas.{list_grown}
+use Rattle.std.proofs.Common.{◌≡◌, ℕ, ◌+◌, ◌/◌, ◌<◌, ◌≤◌, List, ◌++◌, length, take, drop, set, sym, ap, ◌∙◌, arith, subst}
+use Rattle.std.proofs.lemmas.List.{length-set, take-append-le, take_all}
+use Rattle.q_fqcodel.specs.Winners.{bytes_in, IsTournament}
+use Rattle.q_fqcodel.proofs.WinnerLemmas.{length-bytes, tree_written, bytes_renewed}
 use Rattle.q_fqcodel.proofs.winners.Winners.renew.Goals as goal
-use Rattle.q_fqcodel.proofs.winners.Winners.renew.Goals.{After-index_mut}
+use Rattle.q_fqcodel.proofs.winners.Winners.renew.Goals.{After-len, After-climb}
+
+within : (c : After-len) → c.args.flow < length c.self.inside.ranks.items / 2
+within c = omega (arith, c.requires.in_range, ap length c.self.view_is, length-bytes c.self.inside.ranks.items, c.self.invariant.0.even)
+
+place : (c : After-len) → c.len.result / 2 + c.args.flow ≡ length c.self.inside.ranks.items / 2 + c.args.flow
+place c = ap (λ (m : ℕ). m / 2 + c.args.flow) (c.len.ensures ∙ c.self.inside.ranks.ok.0)
+
+pub rank_of-requires-clause-flow : goal.rank_of-requires-clause-flow
+rank_of-requires-clause-flow c = omega (arith, within (goal.at.rank_of-requires-clause-flow c).After-len, c.self.invariant.1)
+
+pub index_mut-requires : goal.index_mut-requires
+index_mut-requires c =
+    let d = (goal.at.index_mut-requires c).After-len in
+    omega (arith, within d, place d, c.self.invariant.0.even, c.self.inside.ranks.ok.0)
+
+pub climb-requires-clause-within : goal.climb-requires-clause-within
+climb-requires-clause-within c =
+    let d = (goal.at.climb-requires-clause-within c).After-len in
+    omega (arith, within d, place d, c.self.invariant.0.even, length-set c.self.inside.ranks.items (c.len.result / 2 + c.args.flow) c.rank_of.result)
+
+-- the ranks with the leaf written, and those after the climb
+abbrev told : After-climb → List ℕ
+told c = set c.self.inside.ranks.items (c.len.result / 2 + c.args.flow) c.rank_of.result
+
+len_is : (c : After-climb) → length c.climb.new.ranks ≡ length (told c)
+len_is c = c.climb.ensures.len ∙ ap length c.deref_mut.ensures.value
+
+leaves_are : (c : After-climb) → drop (length (told c) / 2) c.climb.new.ranks ≡ drop (length (told c) / 2) (told c)
+leaves_are c = subst (λ (l : List ℕ). drop (length l / 2) c.climb.new.ranks ≡ drop (length l / 2) l) c.deref_mut.ensures.value c.climb.ensures.leaves
+
+all_written : (c : After-climb) → take c.self.inside.ranks.len (c.climb.new.ranks ++ drop (length c.climb.new.ranks) (told c)) ≡ c.climb.new.ranks
+all_written c =
+    let xs : List ℕ = c.self.inside.ranks.items in
+    let long : length c.climb.new.ranks ≡ c.self.inside.ranks.len = omega (arith, len_is c, length-set xs (c.len.result / 2 + c.args.flow) c.rank_of.result, c.self.inside.ranks.ok.0) in
+    take-append-le c.self.inside.ranks.len c.climb.new.ranks (drop (length c.climb.new.ranks) (told c)) (omega (arith, long))
+    ∙ take_all c.self.inside.ranks.len c.climb.new.ranks (omega (arith, long))
 
 pub invariant_of-self : goal.invariant_of-self
 invariant_of-self c =
-    let bs : List ℕ = c.self.inside.bytes.items in
-    let n : ℕ = c.args.flow in
-    let within : n < length bs = omega (arith, c.requires, ap length c.self.view_is) in
-    let len = length-set bs n c.args.bytes in
-    let more : get_or bs n 0 ≤ c.args.bytes = omega (arith, c.if-before-bytes.true, c.index-before.ensures, get_or_default bs n c.index-before.result.now 0 within) in (
-      list_grown bs c.self.inside.inner.items n c.args.bytes c.self.invariant.0 within more (sym c.winner_at.ensures ∙ c.if-leads.true),
-      omega (arith, len, c.self.invariant.1),
+    let e = (goal.at.invariant_of-self c).After-climb in
+    let d = (goal.at.invariant_of-self c).After-len in
+    let xs : List ℕ = c.self.inside.ranks.items in
+    let leaf : ℕ = c.len.result / 2 + c.args.flow in
+    let v : ℕ = c.rank_of.result in
+    subst (λ (l : List ℕ). IsTournament l × (length l ≤ 131072)) (sym (all_written e)) (
+      tree_written xs c.climb.new.ranks c.args.flow c.args.bytes v leaf c.self.invariant.0 (within d) (omega (arith, within d, c.self.invariant.1)) c.rank_of.ensures (place d) (len_is e) (leaves_are e) c.climb.ensures.each,
+      omega (arith, len_is e, length-set xs leaf v, c.self.invariant.1),
     )
 
--- the winners as they were, of the bytes as they were
-tournament_before : (c : After-index_mut) → IsTournament (set (set c.self.inside.bytes.items c.args.flow c.args.bytes) c.args.flow (get_or c.self.inside.bytes.items c.args.flow 0)) c.self.inside.inner.items
-tournament_before c =
-    let bs : List ℕ = c.self.inside.bytes.items in
-    let n : ℕ = c.args.flow in
-    subst (λ (l : List ℕ). IsTournament l c.self.inside.inner.items) (sym (set-set bs n c.args.bytes (get_or bs n 0) ∙ set-get_or bs n 0)) c.self.invariant.0
-
-within : (c : After-index_mut) → c.args.flow < length c.self.inside.bytes.items
-within c = omega (arith, c.requires, ap length c.self.view_is)
-
-had : (c : After-index_mut) → c.index-before.result.now ≡ get_or c.self.inside.bytes.items c.args.flow 0
-had c = c.index-before.ensures ∙ get_or_default c.self.inside.bytes.items c.args.flow c.index-before.result.now 0 (within c)
-
-has : (c : After-index_mut) → get_or (set c.self.inside.bytes.items c.args.flow c.args.bytes) c.args.flow 0 ≡ c.args.bytes
-has c = get_or-set_same c.self.inside.bytes.items c.args.flow c.args.bytes 0 (within c)
-
-pub raise-requires-clause-before : goal.raise-requires-clause-before
-raise-requires-clause-before c =
-    let d = (goal.at.raise-requires-clause-before c).After-index_mut in
-    (get_or c.self.inside.bytes.items c.args.flow 0, omega (arith, had d, has d, c.if-before-bytes-2.true), tournament_before d)
-
-pub lower-requires-clause-before : goal.lower-requires-clause-before
-lower-requires-clause-before c =
-    let d = (goal.at.lower-requires-clause-before c).After-index_mut in
-    (get_or c.self.inside.bytes.items c.args.flow 0, omega (arith, had d, has d, c.if-before-bytes-2.false), tournament_before d)
+pub returns : goal.returns
+returns c =
+    let e = (goal.at.returns c).After-climb in
+    let d = (goal.at.returns c).After-len in
+    let xs : List ℕ = c.self.inside.ranks.items in
+    let leaf : ℕ = c.len.result / 2 + c.args.flow in
+    ap bytes_in (all_written e)
+    ∙ bytes_renewed xs c.climb.new.ranks c.args.flow c.args.bytes c.rank_of.result leaf c.self.invariant.0 (within d) (omega (arith, within d, c.self.invariant.1)) c.rank_of.ensures (place d) (len_is e) (leaves_are e)
+    ∙ ap (λ (l : List ℕ). set l c.args.flow c.args.bytes) c.self.view_is
