@@ -1,0 +1,52 @@
+//! What is true of every book, and of the calls that take the lock, with the locked value in hand.
+ghost use Rattle.std.specs.Prelude.{◌≡◌, ◌≤◌};
+ghost use Rattle.q_device.specs.DeviceLaws.{HasItsMemory, IsLawfulDevice, IsReplayed, IsReplayOfRecorded, TellsItsLosses};
+
+use crate::booked::Booked;
+use crate::seat::Seat;
+use q_device::laws::{
+    device_has_its_memory, device_is_lawful, device_is_replayed, device_tells_its_losses,
+};
+use std::sync::ledger::Ledger;
+
+/// Whenever the lock is free the device is the replay of all that happened to it; and of the recorded events, where there were
+/// no more than the recorder keeps.
+pub fn booked_is_replayed<P: Ledger, B: Ledger>(booked: &Booked<P, B>)
+    ensures all { IsReplayed booked.now }
+    ensures recorded { IsReplayOfRecorded booked.now }
+{
+    device_is_replayed(booked.device());
+}
+
+/// Whenever the lock is free the tree is lawful, and each of its rows balanced: arrived is sent, refused, dropped and queued
+/// together, in packets and bytes.
+pub fn booked_is_lawful<P: Ledger, B: Ledger>(booked: &Booked<P, B>)
+    ensures { IsLawfulDevice booked.now }
+{
+    device_is_lawful(booked.device());
+}
+
+/// Whenever the lock is free, what was refused or dropped was handed out as a loss or waits for it.
+pub fn booked_tells_its_losses<P: Ledger, B: Ledger>(booked: &Booked<P, B>)
+    ensures { TellsItsLosses booked.now }
+{
+    device_tells_its_losses(booked.device());
+}
+
+/// Whenever the lock is free, the lost list has room for every loss of what is queued.
+pub fn booked_has_its_memory<P: Ledger, B: Ledger>(booked: &Booked<P, B>)
+    ensures { HasItsMemory booked.now }
+{
+    device_has_its_memory(booked.device());
+}
+
+/// The book is what the device counts as arrived: a seat holds at most that, and a seat with every part holds just that. It does
+/// nothing.
+pub fn book_is_arrived<P: Ledger, B: Ledger>(booked: &mut Booked<P, B>, seat: &mut Seat<P, B>)
+    ensures same { (booked.new ≡ booked.old) × (seat.new ≡ seat.old) }
+    ensures bound { (seat.old.packets ≤ booked.old.device.tree.top.arrived.packets) × (seat.old.bytes ≤ booked.old.device.tree.top.arrived.bytes) }
+    ensures packets { seat.old.parts ≡ P.parts → seat.old.packets ≡ booked.old.device.tree.top.arrived.packets }
+    ensures bytes { seat.old.parts ≡ B.parts → seat.old.bytes ≡ booked.old.device.tree.top.arrived.bytes }
+{
+    booked.audit(seat);
+}
