@@ -1,1 +1,4 @@
+pub mod CollectLemmas
 pub mod EventLemmas
+pub mod PollLemmas
+pub mod RingLemmas

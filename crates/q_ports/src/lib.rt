@@ -3,9 +3,11 @@
 
 mod booked;
 mod full;
+mod intake;
 pub mod laws;
 mod port;
 mod seat;
+mod take;
 
 pub use booked::Booked;
 pub use full::Full;
