@@ -39,10 +39,10 @@ collects-more now rs rs1 rs2 d d1 d2 n t c within more arrives =
       rings = All-push (λ (u : Take). u.ring < length rs) c.takes t c.rings (omega (arith, same, within));
       received = more ∙ (ap (λ (xs : List (List Descriptor)). received_one xs t) c.received ∙ sym (fold_push received_one rs c.takes t));
       arrived =
-        arrives
-        ∙ (ap (λ (x : DeviceSeen). with_memory d2.memory (arrived_one now x t)) c.arrived
-        ∙ (ap (λ (x : DeviceSeen). with_memory d2.memory x) (after-memory (Arrive t.packet now) d1.memory (fold (arrived_one now) d c.takes))
-        ∙ ap (λ (x : DeviceSeen). with_memory d2.memory x) (sym (fold_push (arrived_one now) d c.takes t))));
+          arrives
+          ∙ (ap (λ (x : DeviceSeen). with_memory d2.memory (arrived_one now x t)) c.arrived
+          ∙ (ap (λ (x : DeviceSeen). with_memory d2.memory x) (after-memory (Arrive t.packet now) d1.memory (fold (arrived_one now) d c.takes))
+          ∙ ap (λ (x : DeviceSeen). with_memory d2.memory x) (sym (fold_push (arrived_one now) d c.takes t))));
     }
 
 pub collects-then : (now : ℕ) (rs rs1 rs2 : List (List Descriptor)) (d d1 d2 : DeviceSeen) (n m : ℕ) → Collects now rs rs1 d d1 n → Collects now rs1 rs2 d1 d2 m → Collects now rs rs2 d d2 (n + m)
@@ -55,8 +55,12 @@ collects-then now rs rs1 rs2 d d1 d2 n m a b =
       rings = All-append (λ (u : Take). u.ring < length rs) a.takes b.takes a.rings (subst (λ (k : ℕ). All (λ (u : Take). u.ring < k) b.takes) same b.rings);
       received = b.received ∙ (ap (λ (xs : List (List Descriptor)). fold received_one xs b.takes) a.received ∙ sym (fold-append received_one rs a.takes b.takes));
       arrived =
-        b.arrived
-        ∙ (ap (λ (x : DeviceSeen). with_memory d2.memory (fold (arrived_one now) x b.takes)) a.arrived
-        ∙ (ap (λ (x : DeviceSeen). with_memory d2.memory x) (fold-memory now d1.memory (fold (arrived_one now) d a.takes) b.takes)
-        ∙ ap (λ (x : DeviceSeen). with_memory d2.memory x) (sym (fold-append (arrived_one now) d a.takes b.takes))));
+          b.arrived
+          ∙ (ap (λ (x : DeviceSeen). with_memory d2.memory (fold (arrived_one now) x b.takes)) a.arrived
+          ∙ (ap (λ (x : DeviceSeen). with_memory d2.memory x) (fold-memory now d1.memory (fold (arrived_one now) d a.takes) b.takes)
+          ∙ ap (λ (x : DeviceSeen). with_memory d2.memory x) (sym (fold-append (arrived_one now) d a.takes b.takes))));
     }
+
+pub collects-same : (now : ℕ) (a a' b b' : List (List Descriptor)) (d e e' : DeviceSeen) (n : ℕ) → a ≡ a' → b ≡ b' → e ≡ e' → Collects now a b d e n → Collects now a' b' d e' n
+collects-same now a a' b b' d e e' n p q r c =
+    subst (λ (x : List (List Descriptor)). Collects now x b' d e' n) p (subst (λ (x : List (List Descriptor)). Collects now a x d e' n) q (subst (λ (x : DeviceSeen). Collects now a b d x n) r c))

@@ -2,7 +2,7 @@
 use Rattle.std.proofs.Common.{◌≡◌, refl}
 use Rattle.q_model.specs.declared.event.Event.{Event}
 use Rattle.q_device.specs.DeviceSeen.{DeviceSeen, Memory}
-use Rattle.q_ports.specs.Events.{after_event, reply_to, with_memory}
+use Rattle.q_ports.specs.Events.{after_event, device_row, reply_to, with_memory}
 
 pub after-memory : (e : Event) (m : Memory) (d : DeviceSeen) → after_event e (with_memory m d) ≡ with_memory m (after_event e d)
 unfolding after_event
@@ -16,3 +16,8 @@ reply-memory e m d = refl
 pub memory-after : (e : Event) (d : DeviceSeen) → (after_event e d).memory ≡ d.memory
 unfolding after_event
 memory-after e d = refl
+
+-- the row tells what has arrived
+pub row-arrived : (d : DeviceSeen) → (device_row d).arrived ≡ d.device.tree.top.arrived
+unfolding device_row
+row-arrived d = refl

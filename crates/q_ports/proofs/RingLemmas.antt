@@ -1,5 +1,6 @@
 -- What a look at a ring, and a packet received from it, change in the list of rings.
-use Rattle.std.proofs.Common.{◌≡◌, ◌≢◌, ℕ, ◌+◌, ◌<◌, ◌≤◌, List, [], ◌∷◌, ◌++◌, length, get_or, set, drop, map, Bool, true, false, refl, sym, ap, ◌∙◌, subst, arith, append_assoc}
+use Rattle.std.proofs.Common.{◌≡◌, ◌≢◌, ℕ, ◌+◌, ◌<◌, ◌≤◌, List, [], ◌∷◌, ◌++◌, length, get_or, set, drop, map, Bool, true, false, refl, sym, ap, ◌∙◌, subst, arith, append_assoc, ⊎_elim, zero-le}
+use Rattle.std.proofs.lemmas.Bool.{cases_eq, cases_lt}
 use Rattle.std.proofs.lemmas.List.{map-set, set-get_or, get_or-set_same, get_or-set_other, get_or-map, length-set, length-map, length_push}
 use Rattle.std.proofs.lemmas.List.Sums.{sum_by-set, sum_by_push}
 use Rattle.std.specs.Prelude.{sum_by}
@@ -12,7 +13,7 @@ use Rattle.q_packet.specs.Descriptor.{Descriptor}
 use Rattle.q_ports.specs.Collected.{received_one, take}
 use Rattle.q_ports.specs.Held.{Held, held, booking}
 use Rattle.q_ports.specs.Placed.{RingId, ring_at, bytes_in}
-use Rattle.q_ports.specs.Rings.{RingSeen, ring_seen, ring_id, received_from, all_of, seat_for, with_known, popped, Looks, Receives}
+use Rattle.q_ports.specs.Rings.{RingSeen, ring_seen, ring_id, received_from, all_of, seat_for, with_known, popped, Looks, Receives, AreEmptyWithin, AreSameFrom, AreSeenEmpty}
 
 -- some ring, to look past the end of a list
 abbrev pub no_ring : RingSeen
@@ -26,7 +27,7 @@ map-cell f items at c c' r d h e s = (
   ap f e ∙ sym (get_or-map f items at c d h),
 )
 
-map-set-same : {A B : Type 0} (f : A → B) (xs : List A) (at : ℕ) (r d : A) → f r ≡ f (get_or xs at d) → map f (set xs at r) ≡ map f xs
+pub map-set-same : {A B : Type 0} (f : A → B) (xs : List A) (at : ℕ) (r d : A) → f r ≡ f (get_or xs at d) → map f (set xs at r) ≡ map f xs
 map-set-same f xs at r d e = map-set f xs at r ∙ (ap (λ y. set (map f xs) at y) e ∙ (sym (map-set f xs at (get_or xs at d)) ∙ ap (λ ys. map f ys) (set-get_or xs at d)))
 
 -- ---- a look
@@ -146,3 +147,29 @@ pub known-there : (items : List Ring) (now : List RingSeen) (at : ℕ) (a : Ring
 known-there items now at a is h e d =
     let m = map-cell (ring_seen {P = AnyItems}) items at a a (ring_seen a) d (place items now at is h) e refl in
     sym (ap (λ (r : RingSeen). r.known) m.1 ∙ ap (λ (xs : List RingSeen). (get_or xs at d).known) is)
+
+-- ---- rings that are looked at in turn
+
+-- rings that are the same ones are as many
+pub ids-length : (xs ys : List RingSeen) → map ring_id ys ≡ map ring_id xs → length ys ≡ length xs
+ids-length xs ys e = sym (length-map ys ring_id) ∙ (ap (λ (is : List RingId). length is) e ∙ length-map xs ring_id)
+
+pub same-more : (to at : ℕ) (zs xs ys : List RingSeen) → at < to → AreSameFrom to zs xs → ((k : ℕ) (d : RingSeen) → k ≢ at → get_or ys k d ≡ get_or xs k d) → AreSameFrom to zs ys
+same-more to at zs xs ys h before others k d past = others k d (λ e. absurd (omega arith)) ∙ before k d past
+
+pub empty-more : (from at : ℕ) (xs ys : List RingSeen) → AreEmptyWithin from at xs → ((k : ℕ) (d : RingSeen) → k ≢ at → get_or ys k d ≡ get_or xs k d) → ((d : RingSeen) → (get_or ys at d).known ≡ [])
+    → AreEmptyWithin from (at + 1) ys
+empty-more from at xs ys before others here k d ge lt =
+    ⊎_elim (λ (e : k ≡ at). subst (λ (j : ℕ). (get_or ys j d).known ≡ []) (sym e) (here d))
+    (λ (n : k ≢ at). ap (λ (r : RingSeen). r.known) (others k d n) ∙ before k d ge (omega arith)) (cases_eq k at)
+
+-- first the rings from one place on were seen empty, and then those before it
+pub empty-round : (start : ℕ) (xs ys : List RingSeen) → AreEmptyWithin start (length xs) xs → AreSameFrom start xs ys → AreEmptyWithin 0 start ys → length ys ≡ length xs → AreSeenEmpty ys
+empty-round start xs ys late same early long k d h =
+    ⊎_elim (λ (l : k < start). early k d zero-le l) (λ (g : start ≤ k). ap (λ (r : RingSeen). r.known) (same k d g) ∙ late k d g (omega arith)) (cases_lt k start)
+
+-- what a contract sees of a ring at its place
+pub seen-there : (items : List Ring) (now : List RingSeen) (at : ℕ) (a : Ring) → map ring_seen items ≡ now → at < length now → a ≡ get_or items at a → (d : RingSeen) → get_or now at d ≡ ring_seen a
+seen-there items now at a is h e d =
+    let m = map-cell (ring_seen {P = AnyItems}) items at a a (ring_seen a) d (place items now at is h) e refl in
+    sym (m.1 ∙ ap (λ (xs : List RingSeen). get_or xs at d) is)

@@ -27,3 +27,7 @@ pub record Collects (now : ℕ) (before after : List (List Descriptor)) (device 
   pub rings : All (λ (t : Take). t.ring < length before) takes
   pub received : after ≡ fold received_one before takes
   pub arrived : device' ≡ with_memory device'.memory (fold (arrived_one now) device takes)
+
+-- the same of some number of packets
+abbrev pub CollectsSome : ℕ → List (List Descriptor) → List (List Descriptor) → DeviceSeen → DeviceSeen → Type 0
+CollectsSome now before after device device' = (count : ℕ) × Collects now before after device device' count

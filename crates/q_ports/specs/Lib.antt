@@ -4,3 +4,7 @@ pub mod Held
 pub mod Placed
 pub mod Polls
 pub mod Rings
+pub mod Rows
+pub mod Rules
+pub mod Turned
+pub mod Views

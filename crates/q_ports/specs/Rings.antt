@@ -1,6 +1,7 @@
 -- The drain's ends of the rings: which ring each is, what was received from it, and what is known to wait there.
 -- Nothing here is of a standard.
 use Rattle.std.specs.Prelude.{◌≡◌, ℕ, ◌<◌, ◌≤◌, true, false, Bool, List, [], ◌∷◌, ◌++◌, length, get_or, set, drop, sum_by}
+use mathlib.Core.List.{IsPrefix}
 use Rattle.std.specs.declared.alloc.Global.{Global}
 use Rattle.rtrb.specs.declared.consumer.Consumer.{Consumer}
 use Rattle.rtrb.specs.Ring as ends
@@ -62,3 +63,14 @@ AreEmptyWithin from to rings = (k : ℕ) (d : RingSeen) → from ≤ k → k < t
 -- the rings but those from one place on, up to another, are as they were
 abbrev pub AreSameFrom : ℕ → List RingSeen → List RingSeen → Type 0
 AreSameFrom to before after = (k : ℕ) (d : RingSeen) → to ≤ k → get_or after k d ≡ get_or before k d
+
+-- a look at one ring with its port in hand: all that was placed and not received is known to wait there
+pub record LooksBeside (at : ℕ) (before after : List RingSeen) (placed : List Descriptor) : Type 0 where
+  pub known : List Descriptor
+  pub after_is : (d : RingSeen) → after ≡ set before at (with_known known (get_or before at d))
+  pub whole : (d : RingSeen) → (get_or before at d).received ++ known ≡ placed
+
+-- for each ring what was received from it is a beginning of what was placed there
+pub record AreBeginnings (received placed : List (List Descriptor)) : Type 0 where
+  pub count : length received ≡ length placed
+  pub each : (k : ℕ) → k < length received → IsPrefix (get_or received k []) (get_or placed k [])

@@ -1,12 +1,13 @@
-ghost use Rattle.std.specs.Prelude.{◌≡◌, OnOk, IfErr, IfSome};
+ghost use Rattle.std.specs.Prelude.{◌≡◌, ◌++◌, [], OnOk, IfErr, IfSome};
 ghost use Rattle.q_model.specs.Beneath.{totals_in};
 ghost use Rattle.q_model.specs.Tally.{with_packet};
-ghost use Rattle.q_ports.specs.Placed.{placing};
+ghost use Rattle.q_ports.specs.Placed.{placed_by, placing, port_seen, ring_at, ring_of, ring_of_port};
+ghost use Rattle.rtrb.specs.Ring.{known_items, received, sent, ConsumerLooked};
 
 use crate::full::Full;
 use q_device::Totals as Share;
 use q_packet::Packet;
-use rtrb::Producer;
+use rtrb::{Consumer, Producer};
 use std::marker::Model;
 
 /// A sender's end of its ring. It may move to a thread of its own.
@@ -34,6 +35,21 @@ impl Model for Port {
 }
 
 impl Port {
+    /// A port of a ring in which nothing was placed.
+    pub(crate) fn new(index: u32, ring: Producer<Packet>) -> Port
+        requires { sent ring ≡ [] }
+        ensures { result ≡ port_seen index (ring_of ring) [] }
+    {
+        Port {
+            index,
+            ring,
+            share: Share {
+                packets: 0,
+                bytes: 0,
+            },
+        }
+    }
+
     /// Places a packet in the port's ring. The port's index and its own count of placed packets, from 1, are written into
     /// `port` and `number`. It waits for nobody and takes no memory.
     ///
@@ -58,6 +74,16 @@ impl Port {
         }
         self.share = share;
         Ok(())
+    }
+
+    // Looks at the ring with both ends in hand: all that was placed and not received is then known to wait.
+    pub(crate) fn look(&mut self, ring: &mut Consumer<Packet>)
+        requires { ring_of_port self.old ≡ ring_at ring.old }
+        ensures same { self.new ≡ self.old }
+        ensures looked { ConsumerLooked ring.old ring.new }
+        ensures whole { received ring.new ++ known_items ring.new ≡ placed_by self.old }
+    {
+        ring.slots_beside(&mut self.ring);
     }
 
     /// The packets and bytes that it placed.

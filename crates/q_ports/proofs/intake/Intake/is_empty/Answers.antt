@@ -14,8 +14,8 @@ invariant_of-self g c =
     let after = looked-rings items now c.args.at c.index_mut.result.now c.is_empty.new.self c.self.view_is c.requires c.index_mut.ensures.value c.is_empty.ensures.looked no_ring in
     let long = length-set items c.args.at c.is_empty.new.self in (
       c.self.invariant.0
-      ∙ (ap (λ (xs : List RingSeen). seat_for xs) c.self.view_is
-      ∙ (sym (seat-known c.args.at now (ends.known_items c.is_empty.new.self) c.requires) ∙ ap (λ (xs : List RingSeen). seat_for xs) (sym after))),
+          ∙ (ap (λ (xs : List RingSeen). seat_for xs) c.self.view_is
+          ∙ (sym (seat-known c.args.at now (ends.known_items c.is_empty.new.self) c.requires) ∙ ap (λ (xs : List RingSeen). seat_for xs) (sym after))),
       omega (arith, long, c.self.invariant.1),
       omega (arith, long, c.self.invariant.2),
     )

@@ -32,7 +32,7 @@ returns-in_err-packet-clause-others g c k d other = ap (λ (xs : List RingSeen).
 pub returns-in_err-packet-clause-err : goal.returns-in_err-packet-clause-err
 returns-in_err-packet-clause-err g c =
     let same : map received_from c.take_known.new.self ≡ map received_from c.args.self.now =
-        ap (λ (xs : List RingSeen). map received_from xs) c.in_err-packet.ensures.same ∙ looks-received c.args.at c.args.self.now c.is_empty.new.self c.is_empty.result c.is_empty.ensures in
+    ap (λ (xs : List RingSeen). map received_from xs) c.in_err-packet.ensures.same ∙ looks-received c.args.at c.args.self.now c.is_empty.new.self c.is_empty.result c.is_empty.ensures in
     search rules
 
 pub returns-clause-rings : goal.returns-clause-rings

@@ -24,8 +24,8 @@ invariant_of-self-2 g c =
     let after = popped-rings items now c.args.at a b p c.self.view_is c.requires.at c.index_mut-ring.ensures.value c.pop_known.ensures.ring all known no_ring in
     let long = length-set items c.args.at b in (
       c.in-Ok.ensures.seat
-      ∙ (ap (λ (h : Held). booking h p) (c.self.invariant.0 ∙ ap (λ (xs : List RingSeen). seat_for xs) c.self.view_is)
-      ∙ (sym (seat-popped c.args.at now p c.requires.at) ∙ ap (λ (xs : List RingSeen). seat_for xs) (sym after))),
+          ∙ (ap (λ (h : Held). booking h p) (c.self.invariant.0 ∙ ap (λ (xs : List RingSeen). seat_for xs) c.self.view_is)
+          ∙ (sym (seat-popped c.args.at now p c.requires.at) ∙ ap (λ (xs : List RingSeen). seat_for xs) (sym after))),
       omega (arith, long, c.self.invariant.1),
       omega (arith, long, c.self.invariant.2),
     )
