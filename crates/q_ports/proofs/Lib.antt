@@ -1,0 +1,9 @@
+pub mod Adding
+pub mod Boards
+pub mod CollectLemmas
+pub mod EventLemmas
+pub mod PollLemmas
+pub mod Prefixes
+pub mod RingLemmas
+pub mod Rising
+pub mod SettleLemmas

@@ -1,0 +1,47 @@
+use Rattle.std.proofs.Common.{◌≡◌, ◌∙◌, ℕ, suc, ◌+◌, ◌-◌, ◌++◌, ◌∷◌, [], List, refl, sym, ap, subst, arith, append_assoc, Option, Some, None}
+use Rattle.std.proofs.lemmas.List.{append-nil}
+use Rattle.q_packet.specs.Descriptor.{Descriptor}
+use Rattle.q_model.specs.declared.reply.Reply.{Reply}
+use Rattle.q_device.specs.DeviceSeen.{DeviceSeen}
+use Rattle.q_device.specs.Laws.{given_in}
+use Rattle.q_ports.specs.Events.{with_memory}
+use Rattle.q_ports.specs.Polls.{given_at, given_by, polled}
+use Rattle.q_ports.proofs.PollLemmas.{given-more, given-none, polled-more, polled-none}
+use Rattle.q_ports.proofs.turn.poll_all.Goals as goal
+
+pub loop-poll-preserved : goal.loop-poll-preserved
+loop-poll-preserved g c =
+    let now = c.args.now in
+    let d = c.loop-poll.booked in
+    let d' = c.poll.new.self in
+    let m = c.args.booked.now.memory in
+    let p = c.in-Some.packet in
+    let old = c.loop-poll.sent.items in
+    let inv = c.loop-poll.invariant in
+    let push = c.push_reserved.ensures in
+    let n = c.args.most - (c.loop-poll._poll + 1) in
+    let left : c.args.most - c.loop-poll._poll ≡ suc n = omega (arith, c.loop-poll-test.true) in
+    let gives : given_at now d ≡ Some p = ap (λ (r : Reply). given_in r) (sym c.poll.ensures.reply) ∙ (sym c.given.ensures ∙ c.in-Some.is) in
+    let more : given_by (c.args.most - c.loop-poll._poll) now d ≡ p ∷ given_by n now d' = ap (λ (k : ℕ). given_by k now d) left ∙ given-more n now d d' p gives c.poll.ensures.event in
+    record {
+      sent = ap (λ (xs : List Descriptor). xs ++ given_by n now d') push.items ∙ (append_assoc old (p ∷ []) (given_by n now d') ∙ (ap (λ (xs : List Descriptor). old ++ xs) (sym more) ∙ inv.sent));
+      polled = sym (ap (λ (k : ℕ). with_memory m (polled k now d)) left ∙ polled-more n now m d d' p gives c.poll.ensures.event) ∙ inv.polled;
+      count = omega (arith, push.len, inv.count);
+      room = push.capacity ∙ inv.room;
+    }
+
+pub returns-in-None : goal.returns-in-None
+returns-in-None g c =
+    let now = c.args.now in
+    let d = c.loop-poll.booked in
+    let d' = c.poll.new.self in
+    let items = c.loop-poll.sent.items in
+    let inv = c.loop-poll.invariant in
+    let n = c.args.most - (c.loop-poll._poll + 1) in
+    let left : c.args.most - c.loop-poll._poll ≡ suc n = omega (arith, c.loop-poll-test.true) in
+    let none : given_at now d ≡ None = ap (λ (r : Reply). given_in r) (sym c.poll.ensures.reply) ∙ (sym c.given.ensures ∙ c.in-None.is) in
+    let last : polled (c.args.most - c.loop-poll._poll) now d ≡ _ = ap (λ (k : ℕ). polled k now d) left ∙ polled-none n now d none in
+    record {
+      sent = sym (append-nil items) ∙ (ap (λ (xs : List Descriptor). items ++ xs) (sym (ap (λ (k : ℕ). given_by k now d) left ∙ given-none n now d none)) ∙ inv.sent);
+      polled = c.poll.ensures.event ∙ (ap (λ (x : DeviceSeen). with_memory d'.memory x) (sym last) ∙ ap (λ (x : DeviceSeen). with_memory d'.memory x) inv.polled);
+    }

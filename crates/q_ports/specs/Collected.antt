@@ -1,0 +1,33 @@
+-- What a drain collects: packets that arrive at the device and are received from the rings, one by one.
+-- Nothing here is of a standard.
+use Rattle.std.specs.Prelude.{◌≡◌, ℕ, ◌<◌, List, [], ◌∷◌, ◌++◌, length, set, get_or, All}
+use Rattle.std.specs.List.{fold}
+use Rattle.q_packet.specs.Descriptor.{Descriptor}
+use Rattle.q_model.specs.declared.event.Event.TheVariants.{Arrive}
+use Rattle.q_device.specs.DeviceSeen.{DeviceSeen}
+use Rattle.q_ports.specs.declared.take.Take.{Take}
+use Rattle.q_ports.specs.Events.{after_event, with_memory}
+
+abbrev pub take : ℕ → Descriptor → Take
+take ring p = record { ring = ring; packet = p }
+
+-- the packet is the newest that was received from its ring
+abbrev pub received_one : List (List Descriptor) → Take → List (List Descriptor)
+received_one received t = set received t.ring (get_or received t.ring [] ++ t.packet ∷ [])
+
+-- the packet arrived at the device
+abbrev pub arrived_one : ℕ → DeviceSeen → Take → DeviceSeen
+arrived_one now d t = after_event (Arrive t.packet now) d
+
+-- So many packets were received, in some order of the rings, each after those that were received from its ring before. Each of
+-- them arrived at the device, in the same order and with all its fields, and nothing else happened to the device.
+pub record Collects (now : ℕ) (before after : List (List Descriptor)) (device device' : DeviceSeen) (count : ℕ) : Type 0 where
+  pub takes : List Take
+  pub counted : length takes ≡ count
+  pub rings : All (λ (t : Take). t.ring < length before) takes
+  pub received : after ≡ fold received_one before takes
+  pub arrived : device' ≡ with_memory device'.memory (fold (arrived_one now) device takes)
+
+-- the same of some number of packets
+abbrev pub CollectsSome : ℕ → List (List Descriptor) → List (List Descriptor) → DeviceSeen → DeviceSeen → Type 0
+CollectsSome now before after device device' = (count : ℕ) × Collects now before after device device' count

@@ -1,0 +1,10 @@
+pub mod Collected
+pub mod Events
+pub mod Held
+pub mod Placed
+pub mod Polls
+pub mod Rings
+pub mod Rows
+pub mod Rules
+pub mod Turned
+pub mod Views

@@ -1,0 +1,32 @@
+-- What polls give: each gives a packet, and the first that gives none is the last.
+-- Nothing here is of a standard.
+use Rattle.std.specs.Prelude.{ℕ, zero, suc, List, [], ◌∷◌, Option, Some, None}
+use Rattle.q_packet.specs.Descriptor.{Descriptor}
+use Rattle.q_model.specs.declared.event.Event.TheVariants.{Poll}
+use Rattle.q_device.specs.DeviceSeen.{DeviceSeen}
+use Rattle.q_device.specs.Laws.{given_in}
+use Rattle.q_ports.specs.Events.{after_event, reply_to}
+
+-- the packet that a poll gives, if any
+abbrev pub given_at : ℕ → DeviceSeen → Option Descriptor
+given_at now d = given_in (reply_to (Poll now) d)
+
+-- what follows a packet, and nothing where none was given
+abbrev pub and_then : Option Descriptor → List Descriptor → List Descriptor
+and_then (Some p) rest = p ∷ rest
+and_then None rest = []
+
+-- the device after the polls that follow a packet, and after this one where none was given
+abbrev pub or_last : Option Descriptor → DeviceSeen → DeviceSeen → DeviceSeen
+or_last (Some p) last rest = rest
+or_last None last rest = last
+
+-- what so many polls at most give
+abbrev pub given_by : ℕ → ℕ → DeviceSeen → List Descriptor
+given_by zero now d = []
+given_by (suc n) now d = and_then (given_at now d) (given_by n now (after_event (Poll now) d))
+
+-- the device after them
+abbrev pub polled : ℕ → ℕ → DeviceSeen → DeviceSeen
+polled zero now d = d
+polled (suc n) now d = or_last (given_at now d) (after_event (Poll now) d) (polled n now (after_event (Poll now) d))

@@ -1,0 +1,157 @@
+ghost use Rattle.std.specs.Prelude.{◌≡◌, ◌≤◌, [], true, drop, length, All, IsOk, IfOk};
+ghost use Rattle.left_right.specs.Sides.{view as view_of};
+ghost use Rattle.q_ports.specs.Rows.{AreOf, FrontSeen};
+
+use crate::board::Board;
+use crate::front::Front;
+use crate::gauge::Gauge;
+use crate::view::{Notes, Published, Reads, View};
+use left_right::writer::Writer;
+use std::alloc::{AllocError, Global};
+use std::marker::Model;
+use std::sync::Wait;
+
+/// A writer under the rule of the board.
+pub type RuledWriter = Writer<Board, Front, View, Published>;
+
+/// What the drain writes the board with. It is not `Drop`: end it by `end`.
+///
+/// A contract sees it as the book whose rows are on the board.
+pub struct BoardWriter {
+    writer: RuledWriter,
+}
+
+impl Model for BoardWriter {
+    ghost use Rattle.std.specs.Prelude.{◌≡◌, drop, true};
+    ghost use Rattle.left_right.specs.Sides.{view as view_of};
+    ghost use Rattle.logbook.specs.Pages.{Book, book_coded};
+    ghost use Rattle.q_ports.specs.Rows.{AreOf};
+
+    ghost Value = { Book };
+
+    ghost coded = { book_coded };
+
+    ghost view = { λ w. w.writer.desk.shown.value.front.book };
+
+    ghost invariant = { λ w. ((view_of w.writer.desk.place).known ≡ true) × ((view_of w.writer.desk.place).front.book ≡ w.writer.desk.shown.value.front.book) × AreOf w.writer.desk.shown.value.front.book (drop w.writer.behind w.writer.log.items) };
+}
+
+impl BoardWriter {
+    /// A board that shows a history, with places for so many gauges.
+    pub(crate) fn open<R: Wait>(
+        rt: &R,
+        alloc: Global,
+        front: &Front,
+        gauges: usize,
+    ) -> Result<BoardWriter, AllocError>
+        requires { gauges ≤ 16 }
+        ensures { IfOk result (λ w. w ≡ front.now.book) }
+    {
+        let writer = begin(rt, alloc, front, gauges)?;
+        Ok(BoardWriter { writer })
+    }
+
+    /// Takes in a history to be shown; `false` where memory is refused.
+    pub(crate) fn append(&mut self, front: Front) -> bool
+        requires { front.book ≡ self.old }
+        ensures { self.new ≡ self.old }
+    {
+        self.writer.append(front).is_ok()
+    }
+
+    /// Shows all that was taken in. It may wait for gauges.
+    pub(crate) fn show<R: Wait>(self, rt: &R) -> BoardWriter
+        ensures { result ≡ self }
+    {
+        let BoardWriter { writer } = self;
+        let (writer, _shown) = show(rt, writer);
+        BoardWriter { writer }
+    }
+
+    /// So many gauges of the board.
+    pub(crate) fn gauges(
+        &mut self,
+        alloc: Global,
+        front: &Front,
+        count: usize,
+    ) -> Result<Vec<Gauge>, AllocError>
+        requires { front.now.book ≡ self.old }
+        ensures same { self.new ≡ self.old }
+        ensures count { IfOk result (λ all. length all.items ≡ count) }
+        ensures gauges { IfOk result (λ all. All (λ (g : FrontSeen). g ≡ front.now) all.items) }
+    {
+        let mut all = Vec::with_capacity(alloc, count)?;
+        for _gauge in 0..count {
+            match self.gauge(front) {
+                Ok(gauge) => all.push_reserved(gauge),
+                Err(error) => return Err(error),
+            }
+        }
+        Ok(all)
+    }
+
+    // A gauge of the board.
+    fn gauge(&mut self, front: &Front) -> Result<Gauge, AllocError>
+        requires { front.now.book ≡ self.old }
+        ensures same { self.new ≡ self.old }
+        ensures gauge { IfOk result (λ g. g ≡ front.now) }
+    {
+        gauge(&mut self.writer, front)
+    }
+
+    /// Ends it. It may wait for gauges.
+    pub(crate) fn end<R: Wait>(self, rt: &R) {
+        let BoardWriter { writer } = self;
+        writer.take(rt);
+    }
+}
+
+// A board with the opening row, shown, and the writer that knows its book.
+fn begin<R: Wait>(
+    rt: &R,
+    alloc: Global,
+    front: &Front,
+    gauges: usize,
+) -> Result<RuledWriter, AllocError>
+    requires { gauges ≤ 16 }
+    ensures book { IfOk result (λ w. w.desk.shown.value.front.book ≡ front.now.book) }
+    ensures known { IfOk result (λ w. ((view_of w.desk.place).known ≡ true) × ((view_of w.desk.place).front.book ≡ front.now.book)) }
+    ensures pending { IfOk result (λ w. drop w.behind w.log.items ≡ []) }
+{
+    let first = Board {
+        front: front.again(),
+    };
+    let second = Board {
+        front: front.again(),
+    };
+    let writer: RuledWriter = Writer::new(alloc, first, second, gauges.max(1))?;
+    let (writer, _shown) = show(rt, writer);
+    Ok(writer)
+}
+
+// Shows all that is pending. It may wait for gauges.
+fn show<R: Wait>(rt: &R, writer: RuledWriter) -> (RuledWriter, Result<(), AllocError>)
+    requires { AreOf writer.desk.shown.value.front.book (drop writer.behind writer.log.items) }
+    ensures succeeds { IsOk result.1 }
+    ensures book { result.0.desk.shown.value.front.book ≡ writer.desk.shown.value.front.book }
+    ensures known { ((view_of result.0.desk.place).known ≡ true) × ((view_of result.0.desk.place).front.book ≡ writer.desk.shown.value.front.book) }
+    ensures pending { drop result.0.behind result.0.log.items ≡ [] }
+{
+    writer.publish_as::<Reads, R>(rt)
+}
+
+// A gauge of the board.
+fn gauge(writer: &mut RuledWriter, front: &Front) -> Result<Gauge, AllocError>
+    requires known { ((view_of writer.old.desk.place).known ≡ true) × ((view_of writer.old.desk.place).front.book ≡ front.now.book) }
+    ensures gauge { IfOk result (λ g. g ≡ front.now) }
+    ensures shown { writer.new.desk.shown ≡ writer.old.desk.shown }
+    ensures pending { drop writer.new.behind writer.new.log.items ≡ drop writer.old.behind writer.old.log.items }
+    ensures view { view_of writer.new.desk.place ≡ view_of writer.old.desk.place }
+{
+    let mut reader = writer.factory().reader()?;
+    reader.learn::<Notes>(writer.tell::<Notes>());
+    Ok(Gauge {
+        reader,
+        mine: front.again(),
+    })
+}

@@ -1,0 +1,161 @@
+ghost use Rattle.std.specs.Prelude.{◌≡◌, ◌≤◌, ◌<◌, IsOk, IfOk, OnOk, OnErr, IfErr, slice_get};
+ghost use Rattle.q_model.specs.Conserved.{IsBalanced};
+ghost use Rattle.q_model.specs.Tally.{no_totals};
+ghost use Rattle.q_model.specs.TreeState.{stats};
+ghost use Rattle.q_model.specs.Tally.{totals};
+ghost use Rattle.q_model.specs.declared.event.Event.TheVariants as event;
+ghost use Rattle.q_model.specs.declared.reply.Reply.TheVariants as reply;
+ghost use Rattle.q_device.specs.DeviceSeen.{polled_memory, reaped, HasRoomFor};
+ghost use Rattle.q_ports.specs.Events.{after_event, device_row, reply_to, with_memory};
+ghost use Rattle.q_ports.specs.Held.{booking, held};
+
+use crate::seat::Seat;
+use q_device::laws::device_is_lawful;
+use q_device::{Device, Event, Fate, Lost, Place, Polled, Row};
+use q_packet::{Moment, Packet};
+use std::alloc::AllocError;
+use std::marker::Model;
+use std::sync::ledger::{Blank, Book, Ledger};
+
+/// The value behind the lock: a device, and a book of its arrivals in packets and in bytes.
+///
+/// A contract sees it as its device. The type keeps that the book is what the device counts as arrived. `P` is the book's ledger
+/// of packets and `B` that of bytes, each of 65 parts.
+#[derive(Drop)]
+pub struct Booked<P: Ledger, B: Ledger> {
+    device: Device,
+    packets: Book<P>,
+    bytes: Book<B>,
+}
+
+impl<P: Ledger, B: Ledger> Model for Booked<P, B> {
+    ghost use Rattle.std.specs.Prelude.{◌≡◌};
+    ghost use Rattle.q_device.specs.DeviceSeen.{DeviceSeen};
+    ghost use Rattle.q_device.specs.DeviceCode.{device_code};
+
+    ghost Value = { DeviceSeen };
+
+    ghost coded = { device_code };
+
+    ghost view = { λ b. b.device };
+
+    ghost invariant = { λ b. (b.packets.total ≡ b.device.device.tree.top.arrived.packets) × (b.bytes.total ≡ b.device.device.tree.top.arrived.bytes) };
+}
+
+impl<P: Ledger, B: Ledger> Booked<P, B> {
+    /// A book of a device at which nothing has arrived, with the seat that has all its parts. The blanks are those of the two
+    /// ledgers.
+    pub fn new(device: Device, packets: Blank, bytes: Blank) -> (Booked<P, B>, Seat<P, B>)
+        requires nothing { device.device.tree.top.arrived ≡ no_totals }
+        requires packets { (packets.name ≡ P.name) × (packets.parts ≡ P.parts) × (P.parts ≡ 65) }
+        requires bytes { (bytes.name ≡ B.name) × (bytes.parts ≡ B.parts) × (B.parts ≡ 65) }
+        ensures device { result.0 ≡ device }
+        ensures seat { result.1 ≡ held 65 0 0 }
+    {
+        let (packets, packets_share) = packets.open::<P>();
+        let (bytes, bytes_share) = bytes.open::<B>();
+        let booked = Booked {
+            device,
+            packets,
+            bytes,
+        };
+        let seat = Seat {
+            parts: 65,
+            packets: packets_share,
+            bytes: bytes_share,
+        };
+        (booked, seat)
+    }
+
+    /// A packet arrives, as at [`Device::arrive`], and is booked with the seat. It is the only way in.
+    ///
+    /// # Errors
+    ///
+    /// Those of [`Device::arrive`]: the packet and `AllocError`. Nothing has changed then but for places.
+    pub fn arrive(
+        &mut self,
+        seat: &mut Seat<P, B>,
+        packet: Packet,
+        now: Moment,
+    ) -> Result<Fate, (Packet, AllocError)>
+        requires { 0 < seat.old.parts }
+        ensures event { OnOk result (self.new ≡ with_memory self.new.memory (after_event (event.Arrive packet now) self.old)) }
+        ensures fate { IfOk result (λ fate. reply.Fate fate ≡ reply_to (event.Arrive packet now) self.old) }
+        ensures seat { OnOk result (seat.new ≡ booking seat.old packet) }
+        ensures same { OnErr result (self.new ≡ with_memory self.new.memory self.old) }
+        ensures same_seat { OnErr result (seat.new ≡ seat.old) }
+        ensures back { IfErr result (λ refused. refused.0 ≡ packet) }
+        ensures succeeds { HasRoomFor packet self.old → IsOk result }
+    {
+        let fate = self.device.arrive(packet, now)?;
+        self.packets.add(&mut seat.packets, 1);
+        self.bytes.add(&mut seat.bytes, u64::from(packet.len));
+        Ok(fate)
+    }
+
+    /// Takes the packet whose turn it is, as [`Device::poll`]. It takes no memory.
+    pub fn poll(&mut self, now: Moment) -> Polled
+        ensures event { self.new ≡ with_memory self.new.memory (after_event (event.Poll now) self.old) }
+        ensures memory { self.new.memory ≡ polled_memory self.new.device.clock self.old.memory }
+        ensures reply { reply.Polled result ≡ reply_to (event.Poll now) self.old }
+    {
+        self.device.poll(now)
+    }
+
+    /// The oldest loss that was not handed out yet, as [`Device::reap`]. It takes no memory and is no event.
+    pub fn reap(&mut self) -> Option<Lost>
+        ensures oldest { result ≡ slice_get self.old.waiting 0 }
+        ensures rest { self.new ≡ reaped self.old }
+    {
+        self.device.reap()
+    }
+
+    /// What the device counted, and what is queued at it. It is balanced: arrived is sent, refused, dropped and queued together.
+    pub fn totals(&self) -> Row
+        ensures row { result ≡ device_row self.now }
+        ensures balanced { IsBalanced result }
+    {
+        device_is_lawful(&self.device);
+        self.device.totals()
+    }
+
+    /// What the node in this place counted, and what is queued there; `None` where none stands there.
+    pub fn stats(&self, place: Place) -> Option<Row>
+        ensures { result ≡ stats totals place self.now.device.tree }
+    {
+        self.device.stats(place)
+    }
+
+    /// The first events, as many as the settings say, each with the moment at which it counted.
+    pub fn recorded(&self) -> &[Event]
+        ensures { result.now ≡ self.now.recorded }
+    {
+        self.device.recorded()
+    }
+
+    /// The number of events, recorded or not, which stays at 2^64 - 1 once there.
+    pub fn events(&self) -> u64
+        ensures { result ≡ self.now.events }
+    {
+        self.device.events()
+    }
+
+    // The device, for the laws.
+    pub(crate) fn device(&self) -> &Device
+        ensures { result.now ≡ self.now }
+    {
+        &self.device
+    }
+
+    // Compares a seat with the book. Neither changes.
+    pub(crate) fn audit(&mut self, seat: &mut Seat<P, B>)
+        ensures same { self.new ≡ self.old }
+        ensures seat { seat.new ≡ seat.old }
+        ensures bound { (seat.old.packets ≤ self.old.device.tree.top.arrived.packets) × (seat.old.bytes ≤ self.old.device.tree.top.arrived.bytes) }
+        ensures packets { seat.old.parts ≡ P.parts → seat.old.packets ≡ self.old.device.tree.top.arrived.packets }
+        ensures bytes { seat.old.parts ≡ B.parts → seat.old.bytes ≡ self.old.device.tree.top.arrived.bytes }
+    {
+        self.packets.audit(&mut seat.packets);
+        self.bytes.audit(&mut seat.bytes);
+    }
+}

@@ -1,0 +1,97 @@
+ghost use Rattle.std.specs.Prelude.{◌≡◌, ◌≤◌, map, IfOk, IfErr, IfSome, OnErr};
+ghost use Rattle.q_ports.specs.Placed.{placed_by, ring_of_port, share_of};
+ghost use Rattle.q_ports.specs.Rings.{received_from, ring_id, AreBeginnings};
+
+use crate::booked::Booked;
+use crate::intake::Intake;
+use crate::laws::{settle_on, turn_on};
+use crate::port::Port;
+use crate::publisher::Publisher;
+use crate::settled::Settled;
+use crate::turn::Turn;
+use crate::unsettled::Unsettled;
+use q_packet::Moment;
+use std::alloc::{AllocError, Global};
+use std::marker::Model;
+use std::sync::ledger::Ledger;
+use std::sync::{Mutex, Wait};
+
+/// The one who feeds the device: it holds the other ends of the rings, the whole seat, and the gauges' writer.
+///
+/// It is not `Drop`: end it by `settle` or `end`. A contract sees it as its rings, with what it received from each, and the history
+/// of the rows that it handed over for publication.
+pub struct Drain<P: Ledger, B: Ledger> {
+    pub(crate) intake: Intake<P, B>,
+    pub(crate) publisher: Publisher,
+}
+
+impl<P: Ledger, B: Ledger> Model for Drain<P, B> {
+    ghost use Rattle.q_ports.specs.Turned.{drain_seen, DrainSeen};
+
+    ghost Value = { DrainSeen };
+
+    ghost view = { λ d. drain_seen d.intake d.publisher };
+}
+
+impl<P: Ledger, B: Ledger> Drain<P, B> {
+    /// A turn at this moment: under one lock up to `most` packets arrive, 1 to 1024, one from each port in turn, going on after the
+    /// port that was taken from last; then come up to `most` polls, to the first that gives no packet. A packet arrives before it
+    /// leaves its ring. It may wait for the lock and for gauges.
+    ///
+    /// # Errors
+    ///
+    /// `AllocError` where memory for the list of sent packets is refused. Nothing has changed then.
+    pub fn turn<R: Wait>(
+        &mut self,
+        rt: &R,
+        alloc: Global,
+        booked: &Mutex<Booked<P, B>>,
+        now: Moment,
+        most: usize,
+    ) -> Result<Turn, AllocError>
+        requires { (1 ≤ most) × (most ≤ 1024) }
+        ensures rings { map ring_id self.new.rings ≡ map ring_id self.old.rings }
+        ensures few { IfOk result (λ t. t.taken ≤ most) }
+        ensures book { self.new.board.book ≡ self.old.board.book }
+        ensures told { IfOk result (λ t. IfSome t.told (λ f. f ≡ self.new.board)) }
+        ensures same { OnErr result (self.new ≡ self.old) }
+    {
+        let mut locked = booked.lock(rt);
+        turn_on(self, rt, alloc, &mut *locked, now, most)
+    }
+
+    /// Takes what is left in the rings, and gives up the whole seat. The ports are exactly this drain's, in order of index. It may
+    /// wait for the lock and for gauges.
+    ///
+    /// # Errors
+    ///
+    /// The drain and its ports, for want of memory: what was taken stays taken, and `settle` may be called again.
+    pub fn settle<R: Wait>(
+        self,
+        rt: &R,
+        booked: &Mutex<Booked<P, B>>,
+        ports: Vec<Port>,
+        now: Moment,
+    ) -> Result<Settled<P, B>, Unsettled<P, B>>
+        requires parts { (P.parts ≡ 65) × (B.parts ≡ 65) }
+        requires ports { map ring_of_port ports.items ≡ map ring_id self.rings }
+        ensures share { IfOk result (λ s. s ≡ share_of (map placed_by ports.items)) }
+        ensures rings { IfErr result (λ u. map ring_id u.drain.rings ≡ map ring_id self.rings) }
+        ensures ports { IfErr result (λ u. u.ports.items ≡ ports.items) }
+        ensures beginnings { IfErr result (λ u. AreBeginnings (map received_from u.drain.rings) (map placed_by ports.items)) }
+        ensures board { IfErr result (λ u. u.drain.board ≡ self.board) }
+    {
+        let mut locked = booked.lock(rt);
+        settle_on(self, rt, &mut *locked, ports, now)
+    }
+
+    /// Ends the drain without settling: what is left in the rings is lost to the device. It may wait for gauges; from then on they
+    /// may read nothing.
+    pub fn end<R: Wait>(self, rt: &R) {
+        let Drain {
+            intake: _intake,
+            publisher,
+        } = self;
+        publisher.end(rt);
+    }
+}

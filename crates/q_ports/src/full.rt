@@ -1,0 +1,5 @@
+use q_packet::Packet;
+
+/// The packet that a port did not take, as it was given.
+#[derive(Clone, Copy, PartialEq, Eq, Debug)]
+pub struct Full(pub Packet);

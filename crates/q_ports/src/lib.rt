@@ -1,0 +1,36 @@
+//! Senders with a ring each, the drain that feeds a device from them, and gauges of its row.
+#![tactic(auto)]
+
+mod board;
+mod board_writer;
+mod booked;
+mod drain;
+mod front;
+mod full;
+mod gauge;
+mod intake;
+mod law;
+pub mod laws;
+mod open;
+mod port;
+mod publisher;
+mod seat;
+mod settled;
+mod take;
+mod told;
+mod turn;
+mod unsettled;
+mod view;
+
+pub use booked::Booked;
+pub use drain::Drain;
+pub use full::Full;
+pub use gauge::Gauge;
+pub use open::open_ports;
+pub use port::Port;
+pub use q_device::Totals as Share;
+pub use seat::Seat;
+pub use settled::Settled;
+pub use told::Told;
+pub use turn::Turn;
+pub use unsettled::Unsettled;

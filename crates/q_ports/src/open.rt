@@ -1,0 +1,84 @@
+ghost use Rattle.std.specs.Prelude.{◌≡◌, ◌≤◌, ◌<◌, ℕ, [], length, get_or, map, replicate, All, IfOk, IfErr};
+ghost use Rattle.q_packet.specs.Descriptor.{Descriptor};
+ghost use Rattle.q_ports.specs.Held.{held};
+ghost use Rattle.q_ports.specs.Placed.{placed_by, ring_of_port, PortSeen};
+ghost use Rattle.q_ports.specs.Rings.{received_from, ring_id, ring_seen};
+ghost use Rattle.q_ports.specs.Rows.{FrontSeen};
+
+use crate::drain::Drain;
+use crate::gauge::Gauge;
+use crate::intake::Intake;
+use crate::port::Port;
+use crate::publisher::Publisher;
+use crate::seat::Seat;
+use q_packet::Packet;
+use rtrb::{Consumer, RingBuffer};
+use std::alloc::{AllocError, Global};
+use std::sync::Wait;
+use std::sync::ledger::Ledger;
+
+/// The drain, the ports and the gauges of a book: so many ports, indexed from 0, with a ring of so many packets each, and so many
+/// gauges. There are 1 to 64 ports, a ring has 1 to 65536 places, and there are at most 16 gauges. The seat is whole, and nothing
+/// was let in with it.
+///
+/// # Errors
+///
+/// The seat and `AllocError` where memory is refused, or a gauge finds no place to read from.
+pub fn open_ports<P: Ledger, B: Ledger, R: Wait>(
+    rt: &R,
+    alloc: Global,
+    seat: Seat<P, B>,
+    count: usize,
+    ring: usize,
+    gauges: usize,
+) -> Result<(Drain<P, B>, Vec<Port>, Vec<Gauge>), (Seat<P, B>, AllocError)>
+    requires count { (1 ≤ count) × (count ≤ 64) }
+    requires ring { (1 ≤ ring) × (ring ≤ 65536) }
+    requires gauges { gauges ≤ 16 }
+    requires seat { seat ≡ held 65 0 0 }
+    ensures ports { IfOk result (λ r. map ring_of_port r.1.items ≡ map ring_id r.0.rings) }
+    ensures count { IfOk result (λ r. length r.1.items ≡ count) }
+    ensures indexes { IfOk result (λ r. (k : ℕ) (d : PortSeen) → k < count → (get_or r.1.items k d).index ≡ k) }
+    ensures placed { IfOk result (λ r. map placed_by r.1.items ≡ replicate count []) }
+    ensures received { IfOk result (λ r. map received_from r.0.rings ≡ replicate count []) }
+    ensures gauges { IfOk result (λ r. length r.2.items ≡ gauges) }
+    ensures book { IfOk result (λ r. All (λ (g : FrontSeen). g ≡ r.0.board) r.2.items) }
+    ensures rows { IfOk result (λ r. r.0.board.rows ≡ []) }
+    ensures err { IfErr result (λ e. e.0 ≡ seat) }
+{
+    let Ok((rings, ports)) = make_rings(alloc, count, ring) else {
+        return Err((seat, AllocError));
+    };
+    let Ok((publisher, gauges)) = Publisher::open(rt, alloc, gauges) else {
+        return Err((seat, AllocError));
+    };
+    let intake = Intake::new(seat, rings);
+    Ok((Drain { intake, publisher }, ports, gauges))
+}
+
+// Both ends of so many rings.
+fn make_rings(
+    alloc: Global,
+    count: usize,
+    ring: usize,
+) -> Result<(Vec<Consumer<Packet>>, Vec<Port>), AllocError>
+    requires { count ≤ 64 }
+    ensures ports { IfOk result (λ r. map ring_of_port r.1.items ≡ map ring_id (map ring_seen r.0.items)) }
+    ensures count { IfOk result (λ r. (length r.0.items ≡ count) × (length r.1.items ≡ count)) }
+    ensures indexes { IfOk result (λ r. (k : ℕ) (d : PortSeen) → k < count → (get_or r.1.items k d).index ≡ k) }
+    ensures placed { IfOk result (λ r. map placed_by r.1.items ≡ replicate count []) }
+    ensures received { IfOk result (λ r. map received_from (map ring_seen r.0.items) ≡ replicate count []) }
+{
+    let mut rings = Vec::with_capacity(alloc, count)?;
+    let mut ports = Vec::with_capacity(alloc, count)?;
+    for index in 0..count {
+        match RingBuffer::new(alloc, ring) {
+            Ok((producer, consumer)) => {
+                ports.push_reserved(Port::new(index as u32, producer));
+                rings.push_reserved(consumer);
+            }
+            Err(error) => return Err(error),
+        }
+    }
+    Ok((rings, ports))
+}

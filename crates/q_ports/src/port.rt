@@ -1,0 +1,105 @@
+ghost use Rattle.std.specs.Prelude.{◌≡◌, ◌++◌, [], OnOk, IfErr, IfSome};
+ghost use Rattle.q_model.specs.Beneath.{totals_in};
+ghost use Rattle.q_model.specs.Tally.{with_packet};
+ghost use Rattle.q_ports.specs.Placed.{placed_by, placing, port_seen, ring_at, ring_of, ring_of_port};
+ghost use Rattle.rtrb.specs.Ring.{known_items, received, sent, ConsumerLooked};
+
+use crate::full::Full;
+use q_device::Totals as Share;
+use q_packet::Packet;
+use rtrb::{Consumer, Producer};
+use std::marker::Model;
+
+/// A sender's end of its ring. It may move to a thread of its own.
+///
+/// A contract sees it as the record `PortSeen` of its index, its ring, and the packets that it placed, in order.
+#[derive(Drop)]
+pub struct Port {
+    index: u32,
+    ring: Producer<Packet>,
+    /// What it placed.
+    share: Share,
+}
+
+impl Model for Port {
+    ghost use Rattle.std.specs.Prelude.{◌≡◌};
+    ghost use Rattle.rtrb.specs.Ring.{sent};
+    ghost use Rattle.q_model.specs.Beneath.{totals_in};
+    ghost use Rattle.q_ports.specs.Placed.{PortSeen, port_seen, ring_of};
+
+    ghost Value = { PortSeen };
+
+    ghost view = { λ p. port_seen p.index (ring_of p.ring) (sent p.ring) };
+
+    ghost invariant = { λ p. p.share ≡ totals_in (sent p.ring) };
+}
+
+impl Port {
+    /// A port of a ring in which nothing was placed.
+    pub(crate) fn new(index: u32, ring: Producer<Packet>) -> Port
+        requires { sent ring ≡ [] }
+        ensures { result ≡ port_seen index (ring_of ring) [] }
+    {
+        Port {
+            index,
+            ring,
+            share: Share {
+                packets: 0,
+                bytes: 0,
+            },
+        }
+    }
+
+    /// Places a packet in the port's ring. The port's index and its own count of placed packets, from 1, are written into
+    /// `port` and `number`. It waits for nobody and takes no memory.
+    ///
+    /// # Errors
+    ///
+    /// `Full` with the packet as it was given where the ring is full, or where the bytes placed would pass 2^64 - 1. Nothing has
+    /// changed then.
+    pub fn offer(&mut self, packet: Packet) -> Result<(), Full>
+        ensures ok { OnOk result (self.new ≡ placing self.old packet) }
+        ensures full { IfErr result (λ full. (full.0 ≡ packet) × (self.new ≡ self.old)) }
+    {
+        let Some(share) = with_packet(&self.share, &packet) else {
+            return Err(Full(packet));
+        };
+        let placed = Packet {
+            port: self.index,
+            number: share.packets,
+            ..packet
+        };
+        if self.ring.push(placed).is_err() {
+            return Err(Full(packet));
+        }
+        self.share = share;
+        Ok(())
+    }
+
+    // Looks at the ring with both ends in hand: all that was placed and not received is then known to wait.
+    pub(crate) fn look(&mut self, ring: &mut Consumer<Packet>)
+        requires { ring_of_port self.old ≡ ring_at ring.old }
+        ensures same { self.new ≡ self.old }
+        ensures looked { ConsumerLooked ring.old ring.new }
+        ensures whole { received ring.new ++ known_items ring.new ≡ placed_by self.old }
+    {
+        ring.slots_beside(&mut self.ring);
+    }
+
+    /// The packets and bytes that it placed.
+    pub fn share(&self) -> Share
+        ensures { result ≡ totals_in self.now.placed }
+    {
+        self.share
+    }
+}
+
+// What was placed, with a packet more; `None` where a count would overflow.
+fn with_packet(share: &Share, packet: &Packet) -> Option<Share>
+    ensures { IfSome result (λ s. s ≡ with_packet share.now packet.now) }
+{
+    Some(Share {
+        packets: share.packets.checked_add(1)?,
+        bytes: share.bytes.checked_add(u64::from(packet.len))?,
+    })
+}

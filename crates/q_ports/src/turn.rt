@@ -1,0 +1,90 @@
+ghost use Rattle.std.specs.Prelude.{◌≡◌, ◌≤◌, ◌++◌, ◌∷◌, ◌⊎◌, [], map, vec_capacity, IfOk, IfSome, IfNone, OnErr};
+ghost use Rattle.q_device.specs.Laws.{given_in};
+ghost use Rattle.q_model.specs.declared.reply.Reply.TheVariants as reply;
+ghost use Rattle.q_ports.specs.Events.{device_row, with_memory};
+ghost use Rattle.q_ports.specs.Polls.{given_by, polled};
+ghost use Rattle.q_ports.specs.Rings.{ring_id};
+ghost use Rattle.q_ports.specs.Turned.{Turned};
+
+use crate::booked::Booked;
+use crate::intake::Intake;
+use crate::publisher::Publisher;
+use crate::told::Told;
+use q_device::Polled;
+use q_packet::{Moment, Packet};
+use std::alloc::{AllocError, Global};
+use std::sync::Wait;
+use std::sync::ledger::Ledger;
+
+/// What a turn of the drain did.
+#[derive(Drop)]
+pub struct Turn {
+    /// How many packets arrived.
+    pub taken: usize,
+    /// The packets that the polls gave, in order.
+    pub sent: Vec<Packet>,
+    /// Whether a refused allocation ended the collecting.
+    pub memory: bool,
+    /// What the drain tells of the row after the turn; `None` where memory for the publication was refused, or the row is lower
+    /// than the last one that was handed over.
+    pub told: Option<Told>,
+}
+
+/// A turn, of the two parts of a drain. It may wait for gauges.
+pub(crate) fn turn_parts<P: Ledger, B: Ledger, R: Wait>(
+    intake: &mut Intake<P, B>,
+    publisher: &mut Publisher,
+    rt: &R,
+    alloc: Global,
+    booked: &mut Booked<P, B>,
+    now: Moment,
+    most: usize,
+) -> Result<Turn, AllocError>
+    ensures rings { map ring_id intake.new ≡ map ring_id intake.old }
+    ensures ok { IfOk result (λ t. Turned now most intake.old intake.new booked.old booked.new t.taken t.memory t.sent.items) }
+    ensures book { publisher.new.book ≡ publisher.old.book }
+    ensures told { IfOk result (λ t. IfSome t.told (λ f. (f ≡ publisher.new) × (f.rows ≡ publisher.old.rows ++ device_row booked.new ∷ []))) }
+    ensures untold { IfOk result (λ t. IfNone t.told ((publisher.new.rows ≡ publisher.old.rows) ⊎ (publisher.new.rows ≡ publisher.old.rows ++ device_row booked.new ∷ []))) }
+    ensures same { OnErr result ((intake.new ≡ intake.old) × (publisher.new ≡ publisher.old)) }
+    ensures same_device { OnErr result (booked.new ≡ booked.old) }
+{
+    let mut sent = Vec::with_capacity(alloc, most)?;
+    let (taken, memory) = intake.collect(booked, now, most);
+    poll_all(booked, &mut sent, now, most);
+    let told = publisher.publish(rt, booked.totals());
+    Ok(Turn {
+        taken,
+        sent,
+        memory,
+        told,
+    })
+}
+
+// Polls up to `most` times, to the first poll that gives no packet.
+fn poll_all<P: Ledger, B: Ledger>(
+    booked: &mut Booked<P, B>,
+    sent: &mut Vec<Packet>,
+    now: Moment,
+    most: usize,
+)
+    requires { (sent.old.items ≡ []) × (most ≤ vec_capacity sent.old) }
+    ensures sent { sent.new.items ≡ given_by most now booked.old }
+    ensures polled { booked.new ≡ with_memory booked.new.memory (polled most now booked.old) }
+{
+    for _poll in 0..most {
+        match given(booked.poll(now)) {
+            Some(packet) => sent.push_reserved(packet),
+            None => return,
+        }
+    }
+}
+
+// The packet that a poll gave, if any.
+fn given(polled: Polled) -> Option<Packet>
+    ensures { result ≡ given_in (reply.Polled polled) }
+{
+    match polled {
+        Polled::Packet(packet) => Some(packet),
+        Polled::Idle | Polled::Later => None,
+    }
+}
