@@ -1,5 +1,5 @@
 -- Collecting, packet by packet.
-use Rattle.std.proofs.Common.{◌≡◌, ℕ, ◌+◌, ◌<◌, List, [], ◌∷◌, ◌++◌, length, set, get_or, refl, sym, ap, ◌∙◌, subst, arith, length-append, All}
+use Rattle.std.proofs.Common.{◌≡◌, ℕ, ◌+◌, ◌<◌, List, [], ◌∷◌, ◌++◌, length, get_or, refl, sym, ap, ◌∙◌, subst, arith, length-append, All}
 use Rattle.std.proofs.lemmas.List.{length-set, length_push}
 use Rattle.std.proofs.lemmas.List.Elements.{All-nil, All-push, All-append}
 use Rattle.std.proofs.lemmas.List.Sums.{fold_push, fold-append}
@@ -9,7 +9,7 @@ use Rattle.q_model.specs.declared.event.Event.TheVariants.{Arrive}
 use Rattle.q_device.specs.DeviceSeen.{DeviceSeen, Memory}
 use Rattle.q_ports.specs.declared.take.Take.{Take}
 use Rattle.q_ports.specs.Collected.{received_one, arrived_one, Collects}
-use Rattle.q_ports.specs.Events.{after_event, with_memory}
+use Rattle.q_ports.specs.Events.{with_memory}
 use Rattle.q_ports.proofs.EventLemmas.{after-memory}
 
 pub length-received : (rs : List (List Descriptor)) (ts : List Take) → length (fold received_one rs ts) ≡ length rs

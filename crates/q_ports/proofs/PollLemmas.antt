@@ -1,11 +1,11 @@
 -- Polls, one by one.
-use Rattle.std.proofs.Common.{◌≡◌, ℕ, zero, suc, ◌+◌, List, [], ◌∷◌, ◌++◌, refl, sym, ap, ap₂, ◌∙◌, Option, Some, None}
+use Rattle.std.proofs.Common.{◌≡◌, ℕ, zero, suc, [], ◌∷◌, refl, sym, ap, ap₂, ◌∙◌, Option, Some, None}
 use Rattle.q_packet.specs.Descriptor.{Descriptor}
 use Rattle.q_model.specs.declared.event.Event.TheVariants.{Poll}
 use Rattle.q_model.specs.declared.reply.Reply.{Reply}
 use Rattle.q_device.specs.DeviceSeen.{DeviceSeen, Memory}
 use Rattle.q_device.specs.Laws.{given_in}
-use Rattle.q_ports.specs.Events.{after_event, reply_to, with_memory}
+use Rattle.q_ports.specs.Events.{after_event, with_memory}
 use Rattle.q_ports.specs.Polls.{and_then, given_at, given_by, or_last, polled}
 use Rattle.q_ports.proofs.EventLemmas.{after-memory, reply-memory}
 

@@ -1,17 +1,17 @@
 -- What a look at a ring, and a packet received from it, change in the list of rings.
-use Rattle.std.proofs.Common.{◌≡◌, ◌≢◌, ℕ, ◌+◌, ◌<◌, ◌≤◌, List, [], ◌∷◌, ◌++◌, length, get_or, set, drop, map, Bool, true, false, refl, sym, ap, ◌∙◌, subst, arith, append_assoc, ⊎_elim, zero-le}
+use Rattle.std.proofs.Common.{◌≡◌, ◌≢◌, ℕ, ◌+◌, ◌<◌, ◌≤◌, List, [], ◌∷◌, ◌++◌, length, get_or, set, drop, map, Bool, refl, sym, ap, ◌∙◌, subst, arith, append_assoc, ⊎_elim, zero-le}
 use Rattle.std.proofs.lemmas.Bool.{cases_eq, cases_lt}
 use Rattle.std.proofs.lemmas.List.{map-set, set-get_or, get_or-set_same, get_or-set_other, get_or-map, length-set, length-map, length_push}
 use Rattle.std.proofs.lemmas.List.Sums.{sum_by-set, sum_by_push}
 use Rattle.std.specs.Prelude.{sum_by}
 use Rattle.std.specs.declared.alloc.Global.{Global}
-use denote.RawPtr.{Ptr, null_ptr}
+use denote.RawPtr.{null_ptr}
 use Rattle.rtrb.specs.declared.AnyItems.{AnyItems}
 use Rattle.rtrb.specs.declared.consumer.Consumer.{Consumer}
 use Rattle.rtrb.specs.Ring as ends
 use Rattle.q_packet.specs.Descriptor.{Descriptor}
 use Rattle.q_ports.specs.Collected.{received_one, take}
-use Rattle.q_ports.specs.Held.{Held, held, booking}
+use Rattle.q_ports.specs.Held.{held, booking}
 use Rattle.q_ports.specs.Placed.{RingId, ring_at, bytes_in}
 use Rattle.q_ports.specs.Rings.{RingSeen, ring_seen, ring_id, received_from, all_of, seat_for, with_known, popped, Looks, Receives, AreEmptyWithin, AreSameFrom, AreSeenEmpty}
 

@@ -1,5 +1,5 @@
 -- Rows that rise.
-use Rattle.std.proofs.Common.{◌≡◌, ℕ, ◌≤◌, List, [], ◌∷◌, ◌++◌, refl, sym, subst, arith}
+use Rattle.std.proofs.Common.{◌≡◌, List, [], ◌∷◌, ◌++◌, refl, sym, subst, arith}
 use mathlib.Core.List.{IsPrefix}
 use Rattle.q_device.specs.Counters.{IsNotBelow}
 use Rattle.q_model.specs.declared.row.Row.{Row}

@@ -1,5 +1,4 @@
-use Rattle.std.proofs.Common.{◌≡◌, ◌∙◌, refl, sym, ap, drop, rules}
-use Rattle.left_right.specs.Sides.{view as view_of}
+use Rattle.std.proofs.Common.{◌∙◌, refl, ap, drop}
 use Rattle.q_ports.specs.declared.view.View.{View}
 use Rattle.q_ports.specs.Rows.{FrontSeen}
 use Rattle.q_ports.proofs.Boards.{fold-book, matched, turns}

@@ -1,7 +1,7 @@
 use Rattle.std.proofs.Common.{◌≡◌, ◌∙◌, sym, ap, map, List}
 use Rattle.q_packet.specs.Descriptor.{Descriptor}
 use Rattle.q_ports.specs.Placed.{placed_by, share_of}
-use Rattle.q_ports.specs.Rings.{RingSeen, received_from}
+use Rattle.q_ports.specs.Rings.{received_from}
 use Rattle.q_ports.specs.Turned.{DrainSeen}
 use Rattle.q_ports.proofs.CollectLemmas.{collects-same}
 use Rattle.q_ports.proofs.SettleLemmas.{received-all, received-begins}

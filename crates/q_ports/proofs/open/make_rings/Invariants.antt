@@ -1,4 +1,4 @@
-use Rattle.std.proofs.Common.{◌≡◌, ◌<◌, ℕ, [], length, get_or, map, replicate}
+use Rattle.std.proofs.Common.{◌≡◌, ◌<◌, ℕ, [], get_or, map, replicate}
 use Rattle.std.specs.Prelude.{vec_len, vec_capacity}
 use Rattle.q_ports.specs.Placed.{placed_by, ring_of_port, PortSeen}
 use Rattle.q_ports.specs.Rings.{received_from, ring_id, ring_seen}

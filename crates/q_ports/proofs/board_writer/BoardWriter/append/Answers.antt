@@ -1,8 +1,8 @@
-use Rattle.std.proofs.Common.{◌≡◌, ◌∙◌, sym, ap, subst, drop, List}
+use Rattle.std.proofs.Common.{◌≡◌, ◌∙◌, sym, ap, subst, drop}
 use Rattle.left_right.specs.Sides.{view as view_of}
 use Rattle.logbook.specs.Pages.{Book}
 use Rattle.q_ports.specs.declared.view.View.{View}
-use Rattle.q_ports.specs.Rows.{AreOf, FrontSeen}
+use Rattle.q_ports.specs.Rows.{AreOf}
 use Rattle.q_ports.proofs.Boards.{pending-of}
 use Rattle.q_ports.proofs.board_writer.BoardWriter.append.Goals as goal
 

@@ -1,4 +1,4 @@
-use Rattle.std.proofs.Common.{◌≡◌, length}
+use Rattle.std.proofs.Common.{◌≡◌}
 use Rattle.std.specs.Prelude.{All, vec_len, vec_capacity}
 use Rattle.q_ports.specs.Rows.{FrontSeen}
 use Rattle.q_ports.proofs.board_writer.BoardWriter.gauges.Given as goal

@@ -1,9 +1,9 @@
-use Rattle.std.proofs.Common.{◌≡◌, ◌∙◌, ◌+◌, ◌==◌, ◌++◌, ◌∷◌, [], Bool, true, false, List, length, refl, sym, ap, subst, arith, MatchBool}
+use Rattle.std.proofs.Common.{◌≡◌, ◌∙◌, ◌+◌, ◌==◌, ◌++◌, ◌∷◌, [], Bool, true, false, List, length, sym, ap, subst, arith, MatchBool}
 use Rattle.std.proofs.lemmas.Bool.{false≢true}
 use Rattle.std.proofs.lemmas.Bool.Decides.{nat_tests}
 use Rattle.std.proofs.lemmas.List.{length_push}
 use Rattle.q_model.specs.declared.row.Row.{Row}
-use Rattle.q_ports.specs.Rows.{FrontSeen, opening, last_of, IsLegal, MayFollow}
+use Rattle.q_ports.specs.Rows.{FrontSeen, opening, last_of, MayFollow}
 use Rattle.q_ports.proofs.Adding.{adds_moves}
 use Rattle.q_ports.proofs.Rising.{last-push}
 use Rattle.q_ports.proofs.front.Front.add.Goals as goal

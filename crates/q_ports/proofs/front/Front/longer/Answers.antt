@@ -1,4 +1,4 @@
-use Rattle.std.proofs.Common.{◌≡◌, ◌≤◌, ◌∙◌, ap, sym, subst, arith, length, List}
+use Rattle.std.proofs.Common.{◌≤◌, ◌∙◌, ap, sym, subst, arith, length, List}
 use mathlib.Core.List.{IsPrefix}
 use Rattle.q_model.specs.declared.row.Row.{Row}
 use Rattle.q_ports.specs.Rows.{FrontSeen}

@@ -1,6 +1,6 @@
-use Rattle.std.proofs.Common.{◌≡◌, ◌∙◌, refl, sym, ap, subst, arith, length, map, List}
+use Rattle.std.proofs.Common.{◌∙◌, refl, arith, map}
 use Rattle.std.proofs.lemmas.List.{length-map}
-use Rattle.q_ports.specs.Rings.{ring_id, received_from}
+use Rattle.q_ports.specs.Rings.{received_from}
 use Rattle.q_ports.proofs.CollectLemmas.{collects-more, collects-none}
 use Rattle.q_ports.proofs.intake.Intake.collect.Goals as goal
 

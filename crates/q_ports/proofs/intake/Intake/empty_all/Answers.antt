@@ -1,6 +1,5 @@
-use Rattle.std.proofs.Common.{◌≡◌, ◌∙◌, ◌+◌, refl, sym, ap, subst, arith, length, map, List}
-use Rattle.q_ports.specs.Collected.{CollectsSome}
-use Rattle.q_ports.specs.Rings.{RingSeen, all_of, ring_id, received_from}
+use Rattle.std.proofs.Common.{◌∙◌, ◌+◌, refl, arith, map}
+use Rattle.q_ports.specs.Rings.{received_from}
 use Rattle.q_ports.proofs.CollectLemmas.{collects-none, collects-then}
 use Rattle.q_ports.proofs.RingLemmas.{empty-more, ids-length}
 use Rattle.q_ports.proofs.intake.Intake.empty_all.Goals as goal

@@ -1,8 +1,8 @@
-use Rattle.std.proofs.Common.{◌≡◌, ◌≢◌, ◌∙◌, ◌+◌, ◌<◌, ◌∷◌, ℕ, refl, sym, ap, subst, arith, length, get_or, map, List}
-use Rattle.std.proofs.lemmas.List.{length-map, nil_from_length}
+use Rattle.std.proofs.Common.{◌∙◌, ◌<◌, refl, ap, arith, length, map, List}
+use Rattle.std.proofs.lemmas.List.{length-map}
 use Rattle.q_packet.specs.Descriptor.{Descriptor}
 use Rattle.q_ports.specs.Collected.{take}
-use Rattle.q_ports.specs.Rings.{RingSeen, all_of, ring_id, received_from}
+use Rattle.q_ports.specs.Rings.{received_from}
 use Rattle.q_ports.proofs.CollectLemmas.{collects-more, collects-none}
 use Rattle.q_ports.proofs.RingLemmas.{ids-length, receives-all, receives-ids, receives-known, receives-others, receives-received}
 use Rattle.q_ports.proofs.intake.Intake.empty_at.Goals as goal

@@ -1,10 +1,10 @@
-use Rattle.std.proofs.Common.{◌≡◌, ◌<◌, ◌∙◌, refl, sym, ap, subst, arith, length, List, [], ◌∷◌, true, false}
+use Rattle.std.proofs.Common.{◌≡◌, ◌<◌, ◌∙◌, refl, sym, ap, arith, length, List, [], ◌∷◌}
 use Rattle.std.proofs.lemmas.Bool.{true≢false}
 use Rattle.q_packet.specs.Descriptor.{Descriptor}
 use Rattle.std.proofs.lemmas.List.{length-set, nil_from_length}
 use Rattle.rtrb.specs.Ring as ends
-use Rattle.q_ports.specs.Rings.{RingSeen, Looks, seat_for, with_known}
-use Rattle.q_ports.proofs.RingLemmas.{Ring, looked-rings, no_ring, place, seat-known}
+use Rattle.q_ports.specs.Rings.{RingSeen, seat_for}
+use Rattle.q_ports.proofs.RingLemmas.{looked-rings, no_ring, seat-known}
 use Rattle.q_ports.proofs.intake.Intake.is_empty.Goals as goal
 
 pub invariant_of-self : goal.invariant_of-self

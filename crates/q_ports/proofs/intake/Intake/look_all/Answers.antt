@@ -1,8 +1,7 @@
-use Rattle.std.proofs.Common.{◌≡◌, ◌∙◌, ◌<◌, refl, sym, ap, subst, arith, length, get_or, map, take, set, List, []}
+use Rattle.std.proofs.Common.{◌≡◌, ◌∙◌, ◌<◌, sym, ap, arith, length, get_or, map, set, List, []}
 use Rattle.std.proofs.lemmas.List.{length-map, set-get_or, get_or-map}
-use Rattle.q_packet.specs.Descriptor.{Descriptor}
-use Rattle.q_ports.specs.Placed.{RingId, PortSeen, placed_by, ring_of_port}
-use Rattle.q_ports.specs.Rings.{RingSeen, ring_id}
+use Rattle.q_ports.specs.Placed.{PortSeen, placed_by, ring_of_port}
+use Rattle.q_ports.specs.Rings.{ring_id}
 use Rattle.q_ports.proofs.SettleLemmas.{beside-ids, beside-more, beside-received, pair-at, pair-length}
 use Rattle.q_ports.proofs.intake.Intake.look_all.Goals as goal
 

@@ -1,8 +1,8 @@
-use Rattle.std.proofs.Common.{◌≡◌, ◌++◌, ◌∙◌, refl, sym, ap, subst, arith, length, List}
+use Rattle.std.proofs.Common.{◌++◌, ◌∙◌, sym, ap, arith, List}
 use Rattle.std.proofs.lemmas.List.{length-set}
 use Rattle.q_packet.specs.Descriptor.{Descriptor}
 use Rattle.rtrb.specs.Ring as ends
-use Rattle.q_ports.specs.Rings.{RingSeen, ring_id, seat_for}
+use Rattle.q_ports.specs.Rings.{RingSeen, seat_for}
 use Rattle.q_ports.proofs.RingLemmas.{looked-rings, no_ring, seat-known, seen-there}
 use Rattle.q_ports.proofs.intake.Intake.look_beside.Goals as goal
 

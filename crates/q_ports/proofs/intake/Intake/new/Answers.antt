@@ -1,8 +1,8 @@
-use Rattle.std.proofs.Common.{◌≡◌, ◌∙◌, sym, ap, arith, length, map, replicate, List, []}
+use Rattle.std.proofs.Common.{◌∙◌, sym, ap, arith, map, replicate, List, []}
 use Rattle.std.proofs.lemmas.List.{length-map}
 use Rattle.rtrb.specs.declared.AnyItems.{AnyItems}
 use Rattle.q_packet.specs.Descriptor.{Descriptor}
-use Rattle.q_ports.specs.Rings.{RingSeen, received_from, ring_seen}
+use Rattle.q_ports.specs.Rings.{ring_seen}
 use Rattle.q_ports.proofs.SettleLemmas.{seat-none}
 use Rattle.q_ports.proofs.intake.Intake.new.Goals as goal
 

@@ -1,11 +1,9 @@
-use Rattle.std.proofs.Common.{◌≡◌, ◌∙◌, sym, ap, map, List}
-use Rattle.q_model.specs.declared.row.Row.{Row}
+use Rattle.std.proofs.Common.{◌≡◌, ◌∙◌, sym, ap, List}
 use Rattle.q_model.specs.declared.totals.Totals.{Totals}
 use Rattle.q_device.specs.DeviceSeen.{DeviceSeen}
 use Rattle.q_ports.specs.Events.{device_row}
 use Rattle.q_ports.specs.Held.{Held, whole}
-use Rattle.q_ports.specs.Placed.{share_of}
-use Rattle.q_ports.specs.Rings.{RingSeen, received_from, seat_for}
+use Rattle.q_ports.specs.Rings.{RingSeen, seat_for}
 use Rattle.q_ports.proofs.SettleLemmas.{seat-share, settled-share}
 use Rattle.q_ports.proofs.intake.Intake.settle.Goals as goal
 

@@ -1,4 +1,4 @@
-use Rattle.std.proofs.Common.{◌≡◌, ◌∙◌, refl, sym, ap, subst, arith, rules, length, get_or, map, List}
+use Rattle.std.proofs.Common.{◌≡◌, ◌∙◌, ap, arith, rules, get_or, map, List}
 use Rattle.q_packet.specs.Descriptor.{Descriptor}
 use Rattle.q_ports.specs.Collected.{received_one, take}
 use Rattle.q_ports.specs.Rings.{RingSeen, ring_id, received_from}

@@ -1,10 +1,10 @@
-use Rattle.std.proofs.Common.{◌≡◌, ◌<◌, ◌++◌, ◌∷◌, [], ◌∙◌, refl, sym, ap, subst, arith, length, drop, List}
+use Rattle.std.proofs.Common.{◌≡◌, ◌<◌, ◌++◌, ◌∷◌, [], ◌∙◌, sym, ap, subst, arith, length, drop, List}
 use Rattle.std.proofs.lemmas.List.{length-set}
 use Rattle.rtrb.specs.Ring as ends
-use Rattle.q_ports.specs.Rings.{RingSeen, Receives, seat_for}
+use Rattle.q_ports.specs.Rings.{RingSeen, seat_for}
 use Rattle.q_ports.specs.Held.{Held, booking}
 use Rattle.q_packet.specs.Descriptor.{Descriptor}
-use Rattle.q_ports.proofs.RingLemmas.{Ring, known-there, no_ring, popped-rings, seat-popped}
+use Rattle.q_ports.proofs.RingLemmas.{known-there, no_ring, popped-rings, seat-popped}
 use Rattle.q_ports.proofs.intake.Intake.take_known.Goals as goal
 
 pub peek_known-packet-requires : goal.peek_known-packet-requires

@@ -1,9 +1,4 @@
-use Rattle.std.proofs.Common.{◌≡◌, ◌∙◌, refl, sym, ap, subst, arith, rules, length, get_or, map, List}
-use Rattle.q_packet.specs.Descriptor.{Descriptor}
-use Rattle.q_device.specs.DeviceSeen.{DeviceSeen}
-use Rattle.q_ports.specs.Collected.{received_one, arrived_one, take}
-use Rattle.q_ports.specs.Events.{with_memory}
-use Rattle.q_ports.specs.Rings.{RingSeen, ring_id, received_from}
+use Rattle.std.proofs.Common.{◌∙◌, refl, arith}
 use Rattle.q_ports.proofs.RingLemmas.{ids-length, same-more, empty-more}
 use Rattle.q_ports.proofs.intake.Intake.take_within.Goals as goal
 

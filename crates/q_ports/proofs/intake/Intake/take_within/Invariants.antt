@@ -1,4 +1,4 @@
-use Rattle.std.proofs.Common.{◌≡◌, map, length}
+use Rattle.std.proofs.Common.{◌≡◌, map}
 use Rattle.q_ports.specs.Rings.{ring_id, received_from, AreEmptyWithin, AreSameFrom}
 use Rattle.q_ports.proofs.intake.Intake.take_within.Given as goal
 
