@@ -127,85 +127,46 @@ impl Queue for FlowQueue<'_> {
     }
 }
 
-/// A tree of winners by bytes, of equals the lower index.
+/// A tree of winners by ranks, the flows behind the inner nodes.
 struct Winners {
-    bytes: Vec<u64>,
-    inner: Vec<u32>,
+    ranks: Vec<u64>,
+}
+
+/// The greater for more bytes, and of equals for the lower index.
+fn rank_of(flow: u32, bytes: u64) -> u64 {
+    bytes * 65536 + u64::from(65535 - flow)
 }
 
 impl Winners {
     fn new(flows: usize) -> Winners {
-        let mut winners = Winners {
-            bytes: vec![0; flows],
-            inner: vec![0; flows],
-        };
-        for node in (1..flows).rev() {
-            winners.inner[node] = winners.better(node);
+        let mut ranks = vec![0; 2 * flows];
+        for node in (1..2 * flows).rev() {
+            ranks[node] = if node < flows {
+                ranks[2 * node].max(ranks[2 * node + 1])
+            } else {
+                rank_of((node - flows) as u32, 0)
+            };
         }
-        winners
-    }
-
-    fn at(&self, node: usize) -> u32 {
-        match self.inner.get(node) {
-            Some(flow) => *flow,
-            None => (node - self.inner.len()) as u32,
-        }
-    }
-
-    fn better(&self, node: usize) -> u32 {
-        let (first, second) = (self.at(2 * node), self.at(2 * node + 1));
-        let (most, others) = (self.bytes[first as usize], self.bytes[second as usize]);
-        if most < others || (most == others && second < first) { second } else { first }
+        Winners { ranks }
     }
 
     /// The flow with the most bytes, if this one had so many: as many as it has, or more.
     fn top_with(&self, flow: u32, bytes: u64) -> u32 {
-        let top = self.at(1);
-        let most = self.bytes[top as usize];
-        if most < bytes || (most == bytes && flow < top) { flow } else { top }
+        65535 - (rank_of(flow, bytes).max(self.ranks[1]) % 65536) as u32
     }
 
     fn renew(&mut self, flow: u32, bytes: u64) {
-        let leads = self.at(1) == flow;
-        let before = std::mem::replace(&mut self.bytes[flow as usize], bytes);
-        if leads && before <= bytes {
-            return;
-        }
-        if before <= bytes {
-            self.raise(flow, bytes);
-        } else {
-            self.lower(flow, bytes);
-        }
-    }
-
-    fn raise(&mut self, flow: u32, bytes: u64) {
-        let mut node = (self.inner.len() + flow as usize) / 2;
-        while node >= 1 {
-            let there = self.inner[node];
-            let held = self.bytes[there as usize];
-            if held > bytes || (held == bytes && there < flow) {
-                return;
-            }
-            self.inner[node] = flow;
-            node /= 2;
-        }
-    }
-
-    fn lower(&mut self, flow: u32, bytes: u64) {
-        let (mut best, mut most) = (flow, bytes);
-        let mut child = self.inner.len() + flow as usize;
+        let ranks = &mut self.ranks[..];
+        let mut child = ranks.len() / 2 + flow as usize;
+        let mut best = rank_of(flow, bytes);
+        ranks[child] = best;
         while child > 1 {
-            let node = child / 2;
-            if self.inner[node] != flow {
+            best = best.max(ranks[child ^ 1]);
+            child /= 2;
+            if ranks[child] == best {
                 return;
             }
-            let beside = self.at(child ^ 1);
-            let others = self.bytes[beside as usize];
-            if others > most || (others == most && beside < best) {
-                (best, most) = (beside, others);
-            }
-            self.inner[node] = best;
-            child = node;
+            ranks[child] = best;
         }
     }
 }
