@@ -1,9 +1,8 @@
-ghost use Rattle.std.specs.Prelude.{◌≡◌, suc, option_map, Ok, Err, IfOk, IfErr};
+ghost use Rattle.std.specs.Prelude.{◌≡◌, suc, option_map};
 ghost use Rattle.q_words.specs.Words.{words_in};
 ghost use Rattle.q_language.specs.Drafts.{no_head, no_options, of_qdisc, qdisc_del_line};
-ghost use Rattle.q_language.specs.Grammar.{every_word, removal, rest_of, row_of, said};
-ghost use Rattle.q_language.specs.Positions.{Position, behind_kind, done, head, kind_rows, options};
-ghost use Rattle.q_language.specs.declared.kind_name.KindName.{KindName};
+ghost use Rattle.q_language.specs.Grammar.{every_word, removal, rest_of, said};
+ghost use Rattle.q_language.specs.Positions.{behind_kind, done, head, options};
 
 use crate::bfifo::bfifo_line;
 use crate::drr::drr_line;
@@ -17,7 +16,7 @@ use crate::qdisc_verb::QdiscVerb;
 use crate::tbf::tbf_line;
 use crate::words::Words;
 use q_model::{Command, Place};
-use q_words::{LineFault, Wrong, class, handle, name};
+use q_words::{LineFault, class, handle, name};
 
 /// Behind `qdisc add`, `change` or `del`: the head, then the kind.
 pub fn qdisc_head(words: &mut Words, verb: QdiscVerb) -> Result<Line, LineFault>
@@ -46,29 +45,16 @@ pub fn qdisc_head(words: &mut Words, verb: QdiscVerb) -> Result<Line, LineFault>
                 let word = words.needed()?;
                 head.handle = Some(words.placed(handle(word.as_bytes()))?);
             }
-            _ => {
-                let kind = words.placed(kind_named(word))?;
-                return kind_line(words, verb, head, kind);
-            }
+            "pfifo" => return kind_line(words, verb, head, KindName::Pfifo),
+            "bfifo" => return kind_line(words, verb, head, KindName::Bfifo),
+            "prio" => return kind_line(words, verb, head, KindName::Prio),
+            "tbf" => return kind_line(words, verb, head, KindName::Tbf),
+            "drr" => return kind_line(words, verb, head, KindName::Drr),
+            "fq_codel" => return kind_line(words, verb, head, KindName::FqCodel),
+            _ => return Err(words.unknown()),
         }
     }
     headed(words, verb, head)
-}
-
-/// The kind that has this name; any other word is unknown.
-fn kind_named(word: &str) -> Result<KindName, Wrong>
-    ensures ok { IfOk result (λ kind. (f : KindName → Position) → row_of (kind_rows f) word.now ≡ Ok (f kind)) }
-    ensures err { IfErr result (λ e. (f : KindName → Position) → row_of (kind_rows f) word.now ≡ Err e) }
-{
-    match word {
-        "pfifo" => Ok(KindName::Pfifo),
-        "bfifo" => Ok(KindName::Bfifo),
-        "prio" => Ok(KindName::Prio),
-        "tbf" => Ok(KindName::Tbf),
-        "drr" => Ok(KindName::Drr),
-        "fq_codel" => Ok(KindName::FqCodel),
-        _ => Err(Wrong::UnknownWord),
-    }
 }
 
 /// The line that ends behind a head, where it removes a qdisc.
@@ -92,13 +78,13 @@ fn kind_line(
     ensures { result ≡ rest_of every_word (behind_kind verb head kind) (suc words.old.taken) (words_in words.old.rest.now) }
 {
     match verb {
-        QdiscVerb::Add | QdiscVerb::Change => options_line(words, verb, head, kind),
+        QdiscVerb::Add => options_line(words, QdiscVerb::Add, head, kind),
+        QdiscVerb::Change => options_line(words, QdiscVerb::Change, head, kind),
         QdiscVerb::Del => removal_line(words, head),
     }
 }
 
 /// Behind a kind that options may follow.
-#[inline(always)]
 fn options_line(
     words: &mut Words,
     verb: QdiscVerb,
