@@ -146,7 +146,7 @@ fn later(tree: &Tree, now: Moment) -> Moment
 /// A tree under test, with what it lost.
 #[derive(Drop)]
 pub struct Bench {
-    tree: Tree,
+    pub tree: Tree,
     losses: Losses,
     // The moment of the calls to come.
     now: Moment,
@@ -269,7 +269,7 @@ impl Bench {
         Ok(answer.err())
     }
 
-    fn put(&mut self, packet: Packet) -> Result<Fate, Fail> {
+    pub fn put(&mut self, packet: Packet) -> Result<Fate, Fail> {
         let tree = &mut self.tree;
         let now = later(tree, self.now);
         let route = tree.route(&packet);
@@ -300,7 +300,7 @@ impl Bench {
         }
     }
 
-    fn counts(&self, place: Place) -> [u64; 5] {
+    pub fn counts(&self, place: Place) -> [u64; 5] {
         match self.tree.stats(place) {
             Some(row) => [
                 row.arrived.packets,

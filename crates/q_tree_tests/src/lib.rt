@@ -17,4 +17,6 @@ mod tree_classes;
 #[cfg(test)]
 mod tree_commands;
 #[cfg(test)]
+mod tree_filters;
+#[cfg(test)]
 mod tree_views;
