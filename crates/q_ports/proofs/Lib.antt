@@ -2,7 +2,6 @@ pub mod Adding
 pub mod Boards
 pub mod CollectLemmas
 pub mod EventLemmas
-pub mod OfferLemmas
 pub mod PollLemmas
 pub mod Prefixes
 pub mod RingLemmas
