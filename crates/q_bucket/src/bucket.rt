@@ -123,10 +123,7 @@ impl Bucket {
         Moment::new(self.last.ns() + wait)
     }
 
-    /// Gives the bucket another rate and burst, in the ranges of [`Bucket::new`].
-    ///
-    /// It first fills at the old rate up to `now`, within the old burst; what the new burst cannot hold is lost. No change
-    /// raises the level.
+    /// Gives the bucket another rate and burst, as [`Bucket::changed`] says.
     pub fn change(&mut self, rate: u64, burst: u32, now: Moment)
         requires rate_from { 1 ≤ rate }
         requires rate_to { rate ≤ 10 ^ 12 }
@@ -134,12 +131,28 @@ impl Bucket {
         requires order { self.old.last ≤ now }
         ensures { self.new ≡ after_change self.old rate burst now }
     {
+        *self = self.changed(rate, burst, now);
+    }
+
+    /// The bucket with another rate and burst, in the ranges of [`Bucket::new`].
+    ///
+    /// It first fills at the old rate up to `now`, within the old burst; what the new burst cannot hold is lost. No change
+    /// raises the level.
+    pub fn changed(&self, rate: u64, burst: u32, now: Moment) -> Bucket
+        requires rate_from { 1 ≤ rate }
+        requires rate_to { rate ≤ 10 ^ 12 }
+        requires burst_from { 1 ≤ burst }
+        requires order { self.now.last ≤ now }
+        ensures { result ≡ after_change self.now rate burst now }
+    {
         let filled = self.level_at(now);
-        self.rate = rate;
-        self.burst = burst;
-        self.level = capacity_of(burst).min(filled);
-        self.last = now;
-        self.brought = brought_at(rate, now);
+        Bucket {
+            rate,
+            burst,
+            level: capacity_of(burst).min(filled),
+            last: now,
+            brought: brought_at(rate, now),
+        }
     }
 
     /// The rate, in bits a second.

@@ -97,7 +97,7 @@ change-done class quantum path n e =
 
 -- ---- a class more
 
-kept-nodes : (n : Node Kept) → children (unplaced n) ≡ map unplaced (children n)
+pub kept-nodes : (n : Node Kept) → children (unplaced n) ≡ map unplaced (children n)
 kept-nodes n = nodes_in-each_memory (λ (k : Kept). k.counts) n.below
 
 module _ (n : Node Kept) (s : Schedule) (is : n.own.discipline ≡ Drr s) (class quantum : ℕ) (leaf : Node Kept) (d : Device) (new : IsNewNode leaf (implicit_pfifo d)) (absent : has_class class s.classes ≡ false) where

@@ -122,3 +122,12 @@ none-free handles k is =
 pub one : (o : Option ℕ) → length (option_to_list o) ≤ 1
 one None = omega arith
 one (Some h) = omega arith
+
+-- no more nodes stand from a place on than there are
+fewer-from : (k : ℕ) (ns : List (Node Kept)) → ahead k ns ≤ ahead 0 ns
+fewer-from zero ns = omega arith
+fewer-from (suc k) [] = omega arith
+fewer-from (suc k) (n ∷ ns) = omega (arith, fewer-from k ns, sum_by-cons (λ i. i) (count_nodes n) (map count_nodes ns))
+
+pub few-from : (n : Node Kept) (place : ℕ) → sum (map count_nodes (drop place (children n))) ≤ count_nodes n
+few-from n place = omega (arith, fewer-from place (children n), count-all n (children n) refl)

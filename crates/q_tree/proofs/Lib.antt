@@ -5,6 +5,7 @@ pub mod AskRows
 pub mod Asking
 pub mod AtHandLemmas
 pub mod BandsLemmas
+pub mod ChangeLemmas
 pub mod ClassAdding
 pub mod ClassLemmas
 pub mod ClassPlans

@@ -211,7 +211,7 @@ module _ (device : Device) (root : Node Kept) (p : Planned) (ready : IsReady p.e
 
 -- other settings alone: all children stay
 module _ (n : Node Kept) where
-  all-stay : beneath_removed (all_kept (shape n)) (shape n) ≡ []
+  pub all-stay : beneath_removed (all_kept (shape n)) (shape n) ≡ []
   all-stay =
       gone_is (λ j. list_any (keeps j) (all_kept (shape n))) 0 (children (shape n))
       ∙ gone_none (λ j. list_any (keeps j) (all_kept (shape n))) 0 (map beneath (children (shape n)))

@@ -36,6 +36,7 @@ mod prepare;
 mod prio;
 mod purge;
 mod put;
+mod qdisc_change;
 mod qdisc_commands;
 mod reshape;
 mod route;

@@ -1,0 +1,105 @@
+-- What a change makes of a qdisc of the same kind (tc(8), `change`; tc-pfifo(8), tc-prio(8), tc-tbf(8), tc-fq_codel(8)), or
+-- the first refusal that holds.
+use Rattle.std.specs.Prelude.{◌≡◌, ℕ, ◌+◌, ◌-◌, List, ◌++◌, drop, length, map, unwrap_or, Option, Result, Ok, Err}
+use Rattle.std.specs.List.{flat_map, sum}
+use Rattle.q_codel.specs.declared.limit.Limit.TheVariants.{Packets, Bytes}
+use Rattle.q_bucket.specs.Level.{after_change}
+use Rattle.q_model.specs.declared.kind.Kind.{Kind}
+use Rattle.q_model.specs.declared.kind.Kind.TheVariants as kind
+use Rattle.q_model.specs.declared.not_done.NotDone.{NotDone}
+use Rattle.q_model.specs.declared.not_done.NotDone.TheVariants.{CannotChange}
+use Rattle.q_model.specs.declared.tbf_limit.TbfLimit.{TbfLimit}
+use Rattle.q_model.specs.Edit as model
+use Rattle.q_model.specs.Edit.{Child, Remake, beneath_removed, child_of}
+use Rattle.q_model.specs.Find.{count_nodes}
+use Rattle.q_model.specs.Make.{limit_bytes}
+use Rattle.q_model.specs.Node.{Discipline, Fifo, Prio, Tbf, Drr, FqCodel, Own, Node, children, shape}
+use Rattle.q_model.specs.Options.{FqOptions}
+use Rattle.q_model.specs.QdiscCommands.{bands_check, burst_check, flows_check}
+use Rattle.q_model.specs.Refusals.{done_unless}
+use Rattle.q_model.specs.Tally.{totals}
+use Rattle.q_sound.proofs.SizeChecks.{numbers}
+use Rattle.q_tree.specs.Commands.{IsRefused}
+use Rattle.q_tree.specs.Kept.{Kept}
+use Rattle.q_tree.specs.Places.{unplaced}
+use Rattle.q_tree.specs.Reshaping.{AreReady, TakesMore, children_after, discipline_after, lost_with}
+use Rattle.q_tree.specs.declared.reshape.Reshape.{Reshape}
+use Rattle.q_tree.specs.declared.reshape.Reshape.TheVariants.{Nothing, SetLimit, SetBucket, SetOptions}
+
+abbrev pub pfifo_answer : Option ℕ → Discipline → Result Reshape NotDone
+pfifo_answer limit (Fifo (Packets old) queue) = Ok (SetLimit (Packets (unwrap_or limit old)))
+pfifo_answer limit (Fifo (Bytes old) queue) = Err CannotChange
+pfifo_answer limit (Prio priomap) = Err CannotChange
+pfifo_answer limit (Tbf bucket old) = Err CannotChange
+pfifo_answer limit (Drr s) = Err CannotChange
+pfifo_answer limit (FqCodel s) = Err CannotChange
+
+abbrev pub bfifo_answer : Option ℕ → Discipline → Result Reshape NotDone
+bfifo_answer limit (Fifo (Packets old) queue) = Err CannotChange
+bfifo_answer limit (Fifo (Bytes old) queue) = Ok (SetLimit (Bytes (unwrap_or limit old)))
+bfifo_answer limit (Prio priomap) = Err CannotChange
+bfifo_answer limit (Tbf bucket old) = Err CannotChange
+bfifo_answer limit (Drr s) = Err CannotChange
+bfifo_answer limit (FqCodel s) = Err CannotChange
+
+-- the bucket fills up to now at its old rate
+abbrev pub tbf_answer : ℕ → ℕ → ℕ → ℕ → TbfLimit → Discipline → Result Reshape NotDone
+tbf_answer mtu now rate burst limit (Fifo most queue) = Err CannotChange
+tbf_answer mtu now rate burst limit (Prio priomap) = Err CannotChange
+tbf_answer mtu now rate burst limit (Tbf bucket old) =
+    done_unless (burst_check bucket.burst burst mtu) (SetBucket (after_change bucket rate burst now) (limit_bytes rate burst limit))
+tbf_answer mtu now rate burst limit (Drr s) = Err CannotChange
+tbf_answer mtu now rate burst limit (FqCodel s) = Err CannotChange
+
+-- a drr has no settings of its own
+abbrev pub drr_same : Discipline → Result Reshape NotDone
+drr_same (Fifo limit queue) = Err CannotChange
+drr_same (Prio priomap) = Err CannotChange
+drr_same (Tbf bucket limit) = Err CannotChange
+drr_same (Drr s) = Ok Nothing
+drr_same (FqCodel s) = Err CannotChange
+
+abbrev pub fq_codel_answer : FqOptions → Discipline → Result Reshape NotDone
+fq_codel_answer o (Fifo limit queue) = Err CannotChange
+fq_codel_answer o (Prio priomap) = Err CannotChange
+fq_codel_answer o (Tbf bucket limit) = Err CannotChange
+fq_codel_answer o (Drr s) = Err CannotChange
+fq_codel_answer o (FqCodel s) = done_unless (flows_check o.flows s.settings.flows) (SetOptions o)
+
+-- how many nodes stand at the children from this place on, and beneath them
+abbrev pub nodes_from : ℕ → Node Kept → ℕ
+nodes_from place n = sum (map count_nodes (drop place (children n)))
+
+-- how many leaves a prio needs for so many bands, in a tree of so many nodes
+abbrev pub leaves_answer : ℕ → ℕ → Node Kept → Discipline → Result ℕ NotDone
+leaves_answer bands nodes n (Fifo limit queue) = Err CannotChange
+leaves_answer bands nodes n (Prio priomap) =
+    let more = bands - length (children n) in
+    done_unless (bands_check bands (shape n) ++ numbers (nodes + more - nodes_from bands n)) more
+leaves_answer bands nodes n (Tbf bucket limit) = Err CannotChange
+leaves_answer bands nodes n (Drr s) = Err CannotChange
+leaves_answer bands nodes n (FqCodel s) = Err CannotChange
+
+-- the change of bands alone takes memory
+abbrev pub NeedsMore : Kind → Type 0
+NeedsMore (kind.Pfifo limit) = ⊥
+NeedsMore (kind.Bfifo limit) = ⊥
+NeedsMore (kind.Prio options) = Unit {0}
+NeedsMore (kind.Tbf rate burst limit) = ⊥
+NeedsMore kind.Drr = ⊥
+NeedsMore (kind.FqCodel options) = ⊥
+
+-- a reshaping of this node is the remaking that the model plans for it, whichever way leads there
+pub record IsRemade (plan : List ℕ → Result model.Edit NotDone) (n : Node Kept) (r : Reshape) : Type 0 where
+  pub own : Own
+  pub below : List Child
+  pub planned : (path : List ℕ) → plan path ≡ Ok (Remake path own below)
+  pub own_is : ◌≡◌ {A = Own} (record n.own { discipline = discipline_after r n.own.discipline (children n) }) own
+  pub kids_is : map unplaced (children_after r n.own.discipline (children n)) ≡ flat_map (child_of totals (children (unplaced n))) below
+  pub lost_is : lost_with r n.own.discipline (children n) ≡ beneath_removed below (shape n)
+  pub ready : AreReady r
+
+-- the reshaping that the model plans, or the refusal; memory last
+abbrev pub IsChange : Type 0 → (List ℕ → Result model.Edit NotDone) → Node Kept → Result Reshape NotDone → Type 0
+IsChange memory plan n (Ok r) = IsRemade plan n r × (TakesMore r → memory)
+IsChange memory plan n (Err refusal) = (path : List ℕ) → IsRefused memory (plan path) refusal

@@ -1,0 +1,278 @@
+ghost use Rattle.std.specs.Prelude.{◌≡◌, ◌≤◌, ◌+◌, ◌++◌, ℕ, length, nat_lt};
+ghost use Rattle.std.specs.List.{list_any};
+ghost use Rattle.q_model.specs.declared.command.Command.TheVariants.{QdiscChange};
+ghost use Rattle.q_model.specs.declared.filter.Filter.{Filter};
+ghost use Rattle.q_model.specs.declared.kind.Kind.TheVariants as kind;
+ghost use Rattle.q_model.specs.Beneath.{beneath};
+ghost use Rattle.q_model.specs.Find.{count_nodes};
+ghost use Rattle.q_model.specs.Node.{Shape, shape};
+ghost use Rattle.q_model.specs.Ranges.{IsCommand, IsKind};
+ghost use Rattle.q_model.specs.Refusals.{most_nodes};
+ghost use Rattle.q_sound.proofs.Kept.{IsLawfulRoot};
+ghost use Rattle.q_sound.proofs.SizedChanges.{change_sized};
+ghost use Rattle.q_tree.specs.Changing.{IsChange, NeedsMore, bfifo_answer, drr_same, fq_codel_answer, leaves_answer, nodes_from, pfifo_answer, tbf_answer};
+ghost use Rattle.q_tree.specs.Commands.{IsAnswered, IsBounded, IsPlanOf, plan_of, takes_memory, told};
+
+use crate::counting::MOST_NODES;
+use crate::edit::Edit;
+use crate::link::Link;
+use crate::made::{leaves, limit_bytes};
+use crate::node::{Discipline, Node};
+use crate::planned::Planned;
+use crate::reshape::Reshape;
+use crate::tree::Tree;
+use q_codel::{Limit, Sink};
+use q_model::{
+    Burst, Command, Filter, FqCodelOptions, Handle, Kind, NotDone, Place, PrioOptions, Rate,
+    TbfLimit,
+};
+use q_packet::Moment;
+use std::alloc::Global;
+
+impl Tree {
+    /// Gives a qdisc, named by its place, its handle or both, which then name the same one, other settings of its kind
+    /// (`tc qdisc change`, tc(8)). What is not given stays as it is. `now` is at or after the latest moment that the tree was given.
+    ///
+    /// A smaller limit removes nothing. A bucket first fills at its old rate up to `now`. New bands of a prio are implicit pfifos; of
+    /// bands fewer the last go, and what waits there is lost to `sink`, which needs room for what is queued in the tree.
+    ///
+    /// # Errors
+    ///
+    /// `NoQdisc` where no qdisc is named so. `CannotChange` where it is of another kind, or an fq_codel would have another number of
+    /// flows. `SmallBurst` where a tbf's burst would fall below both what it was and the mtu. Of a prio the first that holds: `Busy`
+    /// where a filter names a band that would go; `TooMany` beyond 256 nodes, implicit leaves among them; `Memory`. The tree is as it
+    /// was.
+    pub fn change<S: Sink>(
+        &mut self,
+        alloc: Global,
+        place: Option<Place>,
+        handle: Option<Handle>,
+        kind: Kind,
+        now: Moment,
+        sink: &mut S,
+    ) -> Result<(), NotDone>
+        requires order { self.old.clock ≤ now }
+        requires sink { length (beneath self.old.tree.root) ≤ S.room sink.old }
+        ensures answer { IsAnswered (NeedsMore kind) now (plan_of (QdiscChange place handle kind) now self.old) self.old self.new result }
+        ensures lost { S.losses sink.new ≡ S.losses sink.old ++ told (plan_of (QdiscChange place handle kind) now self.old) (shape self.old.tree.root) result }
+        ensures room { S.room sink.new + length (told (plan_of (QdiscChange place handle kind) now self.old) (shape self.old.tree.root) result) ≡ S.room sink.old }
+        ensures kept { S.keeps sink.old sink.new }
+    {
+        // A moment is at most 2^62 nanoseconds.
+        let _ = now.ns();
+        match self
+            .root
+            .changed(alloc, self.link(), place, handle, &kind, now)
+        {
+            Err(refusal) => return Err(refusal),
+            Ok(planned) => return self.edit(planned, now, sink),
+        }
+    }
+}
+
+impl Node {
+    // The edit that gives a qdisc other settings, or the first refusal that holds.
+    fn changed(
+        &self,
+        alloc: Global,
+        link: Link,
+        place: Option<Place>,
+        handle: Option<Handle>,
+        kind: &Kind,
+        now: Moment,
+    ) -> Result<Planned, NotDone>
+        requires bounded { IsBounded self.now }
+        requires lawful { IsLawfulRoot link.mtu now self.now }
+        ensures plan { IsPlanOf (NeedsMore kind.now) (QdiscChange place handle kind.now) now (record { mtu = link.mtu; txqueuelen = link.txqueuelen }) self.now result }
+    {
+        change_ranges(&place, &handle, kind);
+        let Some((path, node)) = self.target(place, handle) else {
+            return Err(NotDone::NoQdisc);
+        };
+        match node.reshape_to(alloc, link, self.count_nodes(), kind, now) {
+            Err(refusal) => return Err(refusal),
+            Ok(reshape) => {
+                let edit = Edit::Reshape(reshape);
+                return Ok(Planned { path, edit });
+            }
+        }
+    }
+
+    // What a change to these settings makes of the qdisc, in a tree of so many nodes, or the first refusal that holds.
+    fn reshape_to(
+        &self,
+        alloc: Global,
+        link: Link,
+        nodes: usize,
+        kind: &Kind,
+        now: Moment,
+    ) -> Result<Reshape, NotDone>
+        requires within { count_nodes self.now ≤ nodes }
+        requires few { nodes ≤ most_nodes }
+        requires lawful { IsLawfulRoot link.mtu now (shape self.now) }
+        ensures { (root : Shape) → count_nodes root ≡ nodes → IsChange (NeedsMore kind.now) (λ path. change_sized (record { mtu = link.mtu; txqueuelen = link.txqueuelen }) now root (shape self.now) path self.now.own.discipline kind.now) self.now result }
+    {
+        match kind {
+            Kind::Pfifo { limit } => return self.packet_limit(*limit),
+            Kind::Bfifo { limit } => return self.byte_limit(*limit),
+            Kind::Prio(options) => return self.bands(alloc, link, nodes, options),
+            Kind::Tbf { rate, burst, limit } => {
+                return self.bucket(link, *rate, *burst, *limit, now);
+            }
+            Kind::Drr => return self.same_drr(),
+            Kind::FqCodel(options) => return self.options(options),
+        }
+    }
+
+    // A pfifo keeps its limit in packets where none is given.
+    fn packet_limit(&self, limit: Option<u32>) -> Result<Reshape, NotDone>
+        ensures { result ≡ pfifo_answer limit self.now.own.discipline }
+    {
+        let Discipline::Fifo(fifo) = &self.discipline else {
+            return Err(NotDone::CannotChange);
+        };
+        let Limit::Packets(old) = fifo.limit() else {
+            return Err(NotDone::CannotChange);
+        };
+        let packets = limit.map_or(old, u64::from);
+        Ok(Reshape::SetLimit(Limit::Packets(packets)))
+    }
+
+    // A bfifo keeps its limit in bytes where none is given.
+    fn byte_limit(&self, limit: Option<u32>) -> Result<Reshape, NotDone>
+        ensures { result ≡ bfifo_answer limit self.now.own.discipline }
+    {
+        let Discipline::Fifo(fifo) = &self.discipline else {
+            return Err(NotDone::CannotChange);
+        };
+        let Limit::Bytes(old) = fifo.limit() else {
+            return Err(NotDone::CannotChange);
+        };
+        let bytes = limit.map_or(old, u64::from);
+        Ok(Reshape::SetLimit(Limit::Bytes(bytes)))
+    }
+
+    // A prio gets the leaves that it needs for its bands.
+    fn bands(
+        &self,
+        alloc: Global,
+        link: Link,
+        nodes: usize,
+        options: &PrioOptions,
+    ) -> Result<Reshape, NotDone>
+        requires within { count_nodes self.now ≤ nodes }
+        requires few { nodes ≤ most_nodes }
+        ensures { (root : Shape) (now : ℕ) → count_nodes root ≡ nodes → IsChange takes_memory (λ path. change_sized (record { mtu = link.mtu; txqueuelen = link.txqueuelen }) now root (shape self.now) path self.now.own.discipline (kind.Prio options.now)) self.now result }
+    {
+        let more = match self.leaves_needed(options.bands, nodes) {
+            Err(refusal) => return Err(refusal),
+            Ok(more) => more,
+        };
+        let Ok(leaves) = leaves(alloc, link, more) else {
+            return Err(NotDone::Memory);
+        };
+        Ok(Reshape::SetBands(*options, leaves))
+    }
+
+    // How many leaves a prio needs for so many bands, in a tree of so many nodes.
+    fn leaves_needed(&self, bands: u8, nodes: usize) -> Result<usize, NotDone>
+        requires within { count_nodes self.now ≤ nodes }
+        requires few { nodes ≤ most_nodes }
+        ensures { result ≡ leaves_answer bands nodes self.now self.now.own.discipline }
+    {
+        let Discipline::Prio { .. } = &self.discipline else {
+            return Err(NotDone::CannotChange);
+        };
+        let bands = usize::from(bands);
+        if names_beyond(&self.filters, bands) {
+            return Err(NotDone::Busy);
+        }
+        let more = bands.saturating_sub(self.children().len());
+        if nodes + more > MOST_NODES + self.nodes_from(bands) {
+            return Err(NotDone::TooMany);
+        }
+        Ok(more)
+    }
+
+    // How many nodes stand at the children from this place on, and beneath them.
+    fn nodes_from(&self, place: usize) -> usize
+        requires { count_nodes self.now ≤ most_nodes }
+        ensures value { result ≡ nodes_from place self.now }
+        ensures few { result ≤ most_nodes }
+    {
+        let children = self.children();
+        let mut nodes = 0;
+        for child in &children[place.min(children.len())..] {
+            nodes += child.count_nodes();
+        }
+        nodes
+    }
+
+    // A tbf's bucket fills up to now, before it is another.
+    fn bucket(
+        &self,
+        link: Link,
+        rate: Rate,
+        burst: Burst,
+        limit: TbfLimit,
+        now: Moment,
+    ) -> Result<Reshape, NotDone>
+        requires lawful { IsLawfulRoot link.mtu now (shape self.now) }
+        ensures { result ≡ tbf_answer link.mtu now rate burst limit self.now.own.discipline }
+    {
+        let Discipline::Tbf { bucket, .. } = &self.discipline else {
+            return Err(NotDone::CannotChange);
+        };
+        if burst.bytes() < bucket.burst().min(u32::from(link.mtu)) {
+            return Err(NotDone::SmallBurst);
+        }
+        let bucket = bucket.changed(rate.bits(), burst.bytes(), now);
+        let bytes = limit_bytes(rate, burst, limit);
+        Ok(Reshape::SetBucket(bucket, bytes))
+    }
+
+    // A drr has no settings of its own.
+    fn same_drr(&self) -> Result<Reshape, NotDone>
+        ensures { result ≡ drr_same self.now.own.discipline }
+    {
+        let Discipline::Drr { .. } = &self.discipline else {
+            return Err(NotDone::CannotChange);
+        };
+        Ok(Reshape::Nothing)
+    }
+
+    // An fq_codel keeps its number of flows.
+    fn options(&self, options: &FqCodelOptions) -> Result<Reshape, NotDone>
+        ensures { result ≡ fq_codel_answer options.now self.now.own.discipline }
+    {
+        let Discipline::FqCodel(queue) = &self.discipline else {
+            return Err(NotDone::CannotChange);
+        };
+        let flows = queue.settings().flows;
+        if options.flows.is_some_and(|given| given != flows) {
+            return Err(NotDone::CannotChange);
+        }
+        Ok(Reshape::SetOptions(*options))
+    }
+}
+
+// Whether one of these filters names a band beyond so many.
+fn names_beyond(filters: &[Filter], bands: usize) -> bool
+    ensures { result ≡ list_any (λ (f : Filter). nat_lt bands f.minor) filters.now }
+{
+    filters
+        .iter()
+        .any(|filter| bands < usize::from(filter.minor.number()))
+}
+
+// The numbers are in their ranges, which the types keep. It does nothing.
+fn change_ranges(place: &Option<Place>, handle: &Option<Handle>, kind: &Kind)
+    ensures { IsCommand (QdiscChange place.now handle.now kind.now) }
+{
+    let command = Command::QdiscChange {
+        place: *place,
+        handle: *handle,
+        kind: *kind,
+    };
+    command.ranges();
+}
