@@ -6,9 +6,9 @@
 //!   [`FilterView`] are what `show` prints.
 //! - [`laws`] is what is true of every tree, and of every call for a packet.
 //!
-//! What a tree does is defined in the `specs/` of `q_model`. The commands stand, but for the change of a qdisc: [`Tree::graft`] and
-//! [`Tree::prune`] put a qdisc into a place and remove one, [`Tree::class_add`], [`Tree::class_change`] and [`Tree::class_del`] are for
-//! the classes of a drr, [`Tree::filter_add`] and [`Tree::filter_del`] for filters.
+//! What a tree does is defined in the `specs/` of `q_model`. [`Tree::graft`], [`Tree::prune`] and [`Tree::change`] put a qdisc into a
+//! place, remove one and give it other settings, [`Tree::class_add`], [`Tree::class_change`] and [`Tree::class_del`] are for the
+//! classes of a drr, [`Tree::filter_add`] and [`Tree::filter_del`] for filters.
 #![tactic(auto)]
 
 mod at_hand;
