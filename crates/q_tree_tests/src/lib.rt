@@ -5,12 +5,20 @@
 #![tactic(auto)]
 
 #[cfg(test)]
+mod bench;
+#[cfg(test)]
 mod device;
 #[cfg(test)]
 mod device_calls;
 #[cfg(test)]
 mod tree;
 #[cfg(test)]
+mod tree_change;
+#[cfg(test)]
+mod tree_classes;
+#[cfg(test)]
 mod tree_commands;
+#[cfg(test)]
+mod tree_filters;
 #[cfg(test)]
 mod tree_views;

@@ -1,0 +1,259 @@
+//! Trees with a drr: its classes added, changed and removed, and what they send.
+use crate::bench::{Bench, Call, New, Spot, play};
+use q_model::{Fate, NotDone};
+use q_packet::Cause;
+use std::alloc::Global;
+use std::test::Fail;
+
+const KEPT: Fate = Fate::Kept;
+
+#[test]
+fn classes_send_by_their_deficits(rt: HostRuntime) -> Result<(), Fail> {
+    play(
+        rt.alloc(),
+        &[
+            Call::Graft(Spot::Root, 1, New::Drr, None),
+            Call::AddClass(1, 1, 500, None),
+            Call::AddClass(1, 2, 1500, None),
+            Call::Match(1, 1, 1, None),
+            Call::Match(1, 2, 2, None),
+            Call::Put(9, 100, 3, Fate::Lost(Cause::NoClass)),
+            Call::Put(1, 1000, 1, KEPT),
+            Call::Put(2, 1000, 2, KEPT),
+            Call::Put(3, 500, 2, KEPT),
+            Call::Put(4, 500, 1, KEPT),
+            // The first class is granted 500 bytes and goes to the end; the second has enough for both of its packets.
+            Call::Take(2),
+            Call::Take(3),
+            Call::Take(1),
+            Call::Take(4),
+            Call::Take(0),
+            Call::Counts(Spot::Root, [5, 4, 1, 0, 0]),
+            Call::Counts(Spot::Class(1, 1), [2, 2, 0, 0, 0]),
+            Call::Counts(Spot::Class(1, 2), [2, 2, 0, 0, 0]),
+        ],
+    )
+}
+
+#[test]
+fn a_drr_waits_for_the_tbf_of_its_front_class(rt: HostRuntime) -> Result<(), Fail> {
+    play(
+        rt.alloc(),
+        &[
+            Call::Graft(Spot::Root, 1, New::Drr, None),
+            Call::AddClass(1, 1, 1500, None),
+            Call::AddClass(1, 2, 1500, None),
+            Call::Match(1, 1, 1, None),
+            Call::Match(1, 2, 2, None),
+            Call::Graft(Spot::Class(1, 1), 2, New::Tbf(1500), None),
+            Call::Put(1, 1000, 1, KEPT),
+            Call::Put(2, 1000, 1, KEPT),
+            Call::Put(3, 1000, 2, KEPT),
+            Call::Take(1),
+            // The class in front has nothing to show, and no other one is asked.
+            Call::Take(0),
+            Call::At(4_000_000),
+            Call::Take(3),
+            Call::Take(2),
+            Call::Take(0),
+        ],
+    )
+}
+
+#[test]
+fn a_drop_of_codel_is_counted_at_every_node_above(rt: HostRuntime) -> Result<(), Fail> {
+    play(
+        rt.alloc(),
+        &[
+            Call::Graft(Spot::Root, 1, New::Prio(2), None),
+            Call::Graft(Spot::Class(1, 1), 2, New::Drr, None),
+            Call::AddClass(2, 1, 1500, None),
+            Call::Match(2, 1, 0, None),
+            Call::Graft(Spot::Class(2, 1), 3, New::FqCodel(5), None),
+            Call::Put(1, 1000, 0, KEPT),
+            Call::Put(2, 1000, 0, KEPT),
+            Call::Put(3, 1000, 0, KEPT),
+            Call::Put(4, 1000, 0, KEPT),
+            Call::Put(5, 1000, 0, KEPT),
+            // Above the target of 5 ms from here on, for longer than the interval of 100 ms at the next take.
+            Call::At(10_000_000),
+            Call::Take(1),
+            Call::At(120_000_000),
+            Call::Take(3),
+            Call::Counts(Spot::Class(2, 1), [5, 2, 0, 1, 2]),
+            Call::Counts(Spot::Class(1, 1), [5, 2, 0, 1, 2]),
+            Call::Counts(Spot::Root, [5, 2, 0, 1, 2]),
+            Call::Counts(Spot::Top, [5, 2, 0, 1, 2]),
+            Call::Losses(1),
+        ],
+    )
+}
+
+#[test]
+fn the_fat_flow_beneath_a_drr_drops_at_every_node_above(rt: HostRuntime) -> Result<(), Fail> {
+    play(
+        rt.alloc(),
+        &[
+            Call::Graft(Spot::Root, 1, New::Prio(2), None),
+            Call::Graft(Spot::Class(1, 1), 2, New::Drr, None),
+            Call::AddClass(2, 1, 1500, None),
+            Call::Match(2, 1, 0, None),
+            Call::Graft(Spot::Class(2, 1), 3, New::FqCodel(1), None),
+            Call::Put(1, 100, 0, KEPT),
+            Call::Put(2, 100, 0, KEPT),
+            Call::Counts(Spot::Class(2, 1), [2, 0, 0, 1, 1]),
+            Call::Counts(Spot::Class(1, 1), [2, 0, 0, 1, 1]),
+            Call::Counts(Spot::Top, [2, 0, 0, 1, 1]),
+            Call::Losses(1),
+            Call::Take(2),
+            Call::Take(0),
+        ],
+    )
+}
+
+#[test]
+fn the_first_refusal_of_a_class_is_told(rt: HostRuntime) -> Result<(), Fail> {
+    play(
+        rt.alloc(),
+        &[
+            Call::AddClass(1, 1, 0, Some(NotDone::NoQdisc)),
+            Call::Graft(Spot::Root, 1, New::Prio(2), None),
+            Call::AddClass(1, 1, 0, Some(NotDone::CannotChange)),
+            Call::ChangeClass(1, 1, 0, Some(NotDone::CannotChange)),
+            Call::DelClass(1, 1, Some(NotDone::CannotChange)),
+            Call::Graft(Spot::Class(1, 1), 2, New::Pfifo, None),
+            Call::AddClass(2, 1, 0, Some(NotDone::NotClassful)),
+            Call::DelClass(2, 1, Some(NotDone::NotClassful)),
+            Call::Graft(Spot::Class(1, 2), 3, New::Drr, None),
+            Call::ChangeClass(3, 1, 0, Some(NotDone::NoClass)),
+            Call::DelClass(3, 1, Some(NotDone::NoClass)),
+            Call::AddClass(3, 1, 0, None),
+            Call::AddClass(3, 1, 0, Some(NotDone::Exists)),
+            Call::Match(3, 1, 7, None),
+            Call::DelClass(3, 1, Some(NotDone::Busy)),
+            Call::Unfilter(3, None),
+            Call::DelClass(3, 1, None),
+            Call::Nodes(3),
+        ],
+    )
+}
+
+#[test]
+fn a_removed_class_loses_what_waits_there(rt: HostRuntime) -> Result<(), Fail> {
+    play(
+        rt.alloc(),
+        &[
+            Call::Graft(Spot::Root, 1, New::Prio(2), None),
+            Call::Graft(Spot::Class(1, 1), 2, New::Drr, None),
+            Call::AddClass(2, 1, 1500, None),
+            Call::AddClass(2, 2, 1500, None),
+            Call::Match(2, 1, 0, None),
+            Call::Put(1, 100, 0, KEPT),
+            Call::Put(2, 200, 0, KEPT),
+            Call::Put(3, 300, 1, KEPT),
+            Call::Unfilter(2, None),
+            Call::DelClass(2, 1, None),
+            Call::Counts(Spot::Class(2, 1), [u64::MAX; 5]),
+            Call::Counts(Spot::Class(1, 1), [2, 0, 0, 2, 0]),
+            Call::Counts(Spot::Root, [3, 0, 0, 2, 1]),
+            Call::Counts(Spot::Top, [3, 0, 0, 2, 1]),
+            Call::Losses(2),
+            Call::Take(3),
+            Call::Take(0),
+        ],
+    )
+}
+
+#[test]
+fn classes_are_shown_in_the_order_in_which_they_came(rt: HostRuntime) -> Result<(), Fail> {
+    play(
+        rt.alloc(),
+        &[
+            Call::Graft(Spot::Root, 1, New::Drr, None),
+            Call::AddClass(1, 5, 0, None),
+            Call::AddClass(1, 3, 0, None),
+            Call::Shown(1, Spot::Class(1, 5), 0),
+            Call::Shown(2, Spot::Class(1, 3), 0),
+            Call::DelClass(1, 5, None),
+            Call::AddClass(1, 5, 0, None),
+            Call::Shown(1, Spot::Class(1, 3), 0),
+            Call::Shown(2, Spot::Class(1, 5), 0),
+            Call::Nodes(3),
+        ],
+    )
+}
+
+#[test]
+fn a_class_stands_on_the_eighth_level_at_most(rt: HostRuntime) -> Result<(), Fail> {
+    play(
+        rt.alloc(),
+        &[
+            Call::Graft(Spot::Root, 1, New::Tbf(1500), None),
+            Call::Graft(Spot::Class(1, 1), 2, New::Tbf(1500), None),
+            Call::Graft(Spot::Class(2, 1), 3, New::Tbf(1500), None),
+            Call::Graft(Spot::Class(3, 1), 4, New::Tbf(1500), None),
+            Call::Graft(Spot::Class(4, 1), 5, New::Tbf(1500), None),
+            Call::Graft(Spot::Class(5, 1), 6, New::Tbf(1500), None),
+            Call::Graft(Spot::Class(6, 1), 7, New::Drr, None),
+            Call::AddClass(7, 1, 0, None),
+            Call::Graft(Spot::Class(7, 1), 8, New::Drr, None),
+            Call::AddClass(8, 1, 0, Some(NotDone::TooDeep)),
+        ],
+    )
+}
+
+// A drr of so many classes.
+fn fill_with_classes(bench: &mut Bench, alloc: Global) -> Result<(), Fail> {
+    for minor in 1..256u16 {
+        let call = Call::AddClass(1, minor, 0, None);
+        if !bench.answers(alloc, call)? {
+            return Err(Fail::new(format_args!("{call:?}")));
+        }
+    }
+    Ok(())
+}
+
+#[test]
+fn a_drr_has_at_most_255_classes_at_the_root(rt: HostRuntime) -> Result<(), Fail> {
+    let mut bench = Bench::new(rt.alloc())?;
+    bench.play(rt.alloc(), &[Call::Graft(Spot::Root, 1, New::Drr, None)])?;
+    fill_with_classes(&mut bench, rt.alloc())?;
+    bench.play(
+        rt.alloc(),
+        &[
+            Call::Nodes(256),
+            Call::AddClass(1, 256, 0, Some(NotDone::TooMany)),
+            Call::DelClass(1, 1, None),
+            Call::AddClass(1, 256, 0, None),
+        ],
+    )
+}
+
+// As many filters as a node may have.
+fn fill_with_filters(bench: &mut Bench, alloc: Global) -> Result<(), Fail> {
+    for _ in 0..256u16 {
+        let call = Call::Match(1, 1, 1, None);
+        if !bench.answers(alloc, call)? {
+            return Err(Fail::new(format_args!("{call:?}")));
+        }
+    }
+    Ok(())
+}
+
+#[test]
+fn a_node_has_at_most_256_filters(rt: HostRuntime) -> Result<(), Fail> {
+    let mut bench = Bench::new(rt.alloc())?;
+    bench.play(
+        rt.alloc(),
+        &[Call::Graft(Spot::Root, 1, New::Prio(2), None)],
+    )?;
+    fill_with_filters(&mut bench, rt.alloc())?;
+    bench.play(
+        rt.alloc(),
+        &[
+            Call::Match(1, 1, 1, Some(NotDone::TooMany)),
+            Call::Unfilter(1, None),
+            Call::Match(1, 1, 1, None),
+        ],
+    )
+}

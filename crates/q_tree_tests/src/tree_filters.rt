@@ -1,0 +1,204 @@
+//! Filters: each key that they compare, and prefixes of every kind of length.
+use crate::bench::{Bench, Call, New, Spot};
+use q_model::{
+    ClassId, Filter, FilterKeys, FilterPrio, Handle, IpPrefix, IpVersion, Minor, Place, Protocol,
+};
+use q_packet::{Ecn, FlowKey, Packet};
+use std::alloc::Global;
+use std::test::Fail;
+
+// What a filter compares.
+#[derive(Clone, Copy, Debug)]
+enum Key {
+    Any,
+    Ipv4,
+    Ipv6,
+    // The number of the protocol above IP.
+    Proto(u8),
+    // An address, and how many of its bits are compared.
+    Source4(u128, u8),
+    Source6(u128, u8),
+    Target4(u128, u8),
+    Target6(u128, u8),
+    // A port.
+    SourcePort(u16),
+    TargetPort(u16),
+}
+
+// A filter of this key, into the class 2.
+fn filter(key: Key) -> Result<Filter, Fail> {
+    let mut filter = Filter {
+        prio: FilterPrio::new(1).ok_or("prio")?,
+        protocol: Protocol::All,
+        keys: FilterKeys {
+            ip_proto: None,
+            src_ip: None,
+            dst_ip: None,
+            src_port: None,
+            dst_port: None,
+        },
+        minor: Minor::new(2).ok_or("minor")?,
+    };
+    match key {
+        Key::Any => (),
+        Key::Ipv4 => filter.protocol = Protocol::Ip,
+        Key::Ipv6 => filter.protocol = Protocol::Ipv6,
+        Key::Proto(proto) => filter.keys.ip_proto = Some(proto),
+        Key::Source4(address, len) => filter.keys.src_ip = IpPrefix::new(
+            IpVersion::V4,
+            address,
+            len,
+        ),
+        Key::Source6(address, len) => filter.keys.src_ip = IpPrefix::new(
+            IpVersion::V6,
+            address,
+            len,
+        ),
+        Key::Target4(address, len) => filter.keys.dst_ip = IpPrefix::new(
+            IpVersion::V4,
+            address,
+            len,
+        ),
+        Key::Target6(address, len) => filter.keys.dst_ip = IpPrefix::new(
+            IpVersion::V6,
+            address,
+            len,
+        ),
+        Key::SourcePort(port) => filter.keys.src_port = Some(port),
+        Key::TargetPort(port) => filter.keys.dst_port = Some(port),
+    }
+    Ok(filter)
+}
+
+// A packet of this family, protocol, source and destination, and ports.
+type Flow = (u8, u8, u128, u128, u16, u16);
+
+fn packet(flow: Flow) -> Result<Packet, Fail> {
+    let (family, proto, src, dst, sport, dport) = flow;
+    let key = FlowKey::new(family, proto, src, dst, sport, dport).ok_or("key")?;
+    Ok(Packet::new(0, 1, 0, 100, key, 0, 0, Ecn::NotEct).ok_or("packet")?)
+}
+
+// The band into which a packet goes that has the first one by its priority, with a filter of this key into the second.
+fn band(alloc: Global, key: Key, flow: Flow) -> Result<u16, Fail> {
+    let mut bench = Bench::new(alloc)?;
+    bench.play(alloc, &[Call::Graft(Spot::Root, 1, New::Prio(2), None)])?;
+    let one = Handle::new(1).ok_or("handle")?;
+    if bench.tree.filter_add(one, one, filter(key)?).is_err() {
+        return Err("filter_add".into());
+    }
+    bench.put(packet(flow)?)?;
+    for minor in 1..3u16 {
+        let place = Place::Class(ClassId {
+            major: one,
+            minor: Minor::new(minor).ok_or("minor")?,
+        });
+        if bench.counts(place) == [1, 0, 0, 0, 1] {
+            return Ok(minor);
+        }
+    }
+    Ok(0)
+}
+
+fn go(alloc: Global, rows: &[(Key, Flow, u16)]) -> Result<(), Fail> {
+    for (key, flow, minor) in rows {
+        let answer = band(alloc, *key, *flow)?;
+        if answer != *minor {
+            return Err(Fail::new(format_args!("{key:?} {flow:?}: {answer}")));
+        }
+    }
+    Ok(())
+}
+
+#[test]
+fn a_key_takes_the_packets_that_agree(rt: HostRuntime) -> Result<(), Fail> {
+    go(
+        rt.alloc(),
+        &[
+            (Key::Any, (0, 0, 0, 0, 0, 0), 2),
+            (Key::Ipv4, (4, 6, 1, 2, 3, 4), 2),
+            (Key::Ipv4, (6, 6, 1, 2, 3, 4), 1),
+            (Key::Ipv4, (0, 6, 1, 2, 3, 4), 1),
+            (Key::Ipv6, (6, 6, 1, 2, 3, 4), 2),
+            (Key::Ipv6, (4, 6, 1, 2, 3, 4), 1),
+            (Key::Proto(6), (4, 6, 1, 2, 3, 4), 2),
+            (Key::Proto(6), (6, 6, 1, 2, 3, 4), 2),
+            (Key::Proto(6), (4, 17, 1, 2, 3, 4), 1),
+            (Key::SourcePort(53), (4, 17, 1, 2, 53, 4), 2),
+            (Key::SourcePort(53), (4, 17, 1, 2, 3, 53), 1),
+            (Key::TargetPort(53), (4, 17, 1, 2, 3, 53), 2),
+            (Key::TargetPort(53), (4, 17, 1, 2, 53, 4), 1),
+        ],
+    )
+}
+
+#[test]
+fn a_prefix_of_version_4_compares_so_many_bits(rt: HostRuntime) -> Result<(), Fail> {
+    go(
+        rt.alloc(),
+        &[
+            (Key::Source4(7, 0), (4, 6, 0xffff_ffff, 0, 0, 0), 2),
+            (Key::Source4(7, 0), (6, 6, 7, 0, 0, 0), 1),
+            (
+                Key::Source4(0x8000_0000, 1),
+                (4, 6, 0x8000_0001, 0, 0, 0),
+                2,
+            ),
+            (
+                Key::Source4(0x8000_0000, 1),
+                (4, 6, 0x7fff_ffff, 0, 0, 0),
+                1,
+            ),
+            (
+                Key::Source4(0x0a00_0001, 32),
+                (4, 6, 0x0a00_0001, 0, 0, 0),
+                2,
+            ),
+            (
+                Key::Source4(0x0a00_0001, 32),
+                (4, 6, 0x0a00_0000, 0, 0, 0),
+                1,
+            ),
+            (
+                Key::Source4(0x0a00_0001, 32),
+                (4, 6, 0, 0x0a00_0001, 0, 0),
+                1,
+            ),
+            (Key::Target4(7, 0), (4, 6, 0, 0xffff_ffff, 0, 0), 2),
+            (
+                Key::Target4(0x8000_0000, 1),
+                (4, 6, 0, 0x7fff_ffff, 0, 0),
+                1,
+            ),
+            (
+                Key::Target4(0x0a00_0001, 31),
+                (4, 6, 0, 0x0a00_0000, 0, 0),
+                2,
+            ),
+            (
+                Key::Target4(0x0a00_0001, 32),
+                (4, 6, 0, 0x0a00_0000, 0, 0),
+                1,
+            ),
+        ],
+    )
+}
+
+#[test]
+fn a_prefix_of_version_6_compares_so_many_bits(rt: HostRuntime) -> Result<(), Fail> {
+    go(
+        rt.alloc(),
+        &[
+            (Key::Source6(7, 0), (6, 6, u128::MAX, 0, 0, 0), 2),
+            (Key::Source6(7, 0), (4, 6, 7, 0, 0, 0), 1),
+            (Key::Source6(1 << 127, 1), (6, 6, u128::MAX, 0, 0, 0), 2),
+            (Key::Source6(1 << 127, 1), (6, 6, 1 << 126, 0, 0, 0), 1),
+            (Key::Source6(8, 128), (6, 6, 8, 0, 0, 0), 2),
+            (Key::Source6(8, 128), (6, 6, 9, 0, 0, 0), 1),
+            (Key::Source6(8, 127), (6, 6, 9, 0, 0, 0), 2),
+            (Key::Target6(1 << 127, 1), (6, 6, 0, 1 << 126, 0, 0), 1),
+            (Key::Target6(8, 128), (6, 6, 0, 8, 0, 0), 2),
+            (Key::Target6(8, 128), (6, 6, 8, 0, 0, 0), 1),
+        ],
+    )
+}
