@@ -50,25 +50,6 @@ pub enum New {
     Drr,
 }
 
-impl New {
-    fn kind(self) -> Result<Kind, Fail> {
-        match self {
-            New::Pfifo => Ok(Kind::Pfifo { limit: None }),
-            New::Packets(limit) => Ok(Kind::Pfifo { limit: Some(limit) }),
-            New::Bfifo(bytes) => Ok(Kind::Bfifo { limit: Some(bytes) }),
-            New::FqCodel(limit) => Ok(Kind::FqCodel(fq_codel(Some(limit), 1)?)),
-            New::Flows(count) => Ok(Kind::FqCodel(fq_codel(None, count)?)),
-            New::Prio(bands) => Ok(Kind::Prio(prio(bands)?)),
-            New::Drr => Ok(Kind::Drr),
-            New::Tbf(burst) => Ok(Kind::Tbf {
-                rate: Rate::new(1_000_000).ok_or("rate")?,
-                burst: Burst::new(burst).ok_or("burst")?,
-                limit: TbfLimit::Bytes(10_000),
-            }),
-        }
-    }
-}
-
 fn prio(bands: u8) -> Result<PrioOptions, Fail> {
     let mut priomap = [0; 16];
     for (i, band) in priomap.iter_mut().enumerate() {
@@ -213,6 +194,55 @@ impl Bench {
         Ok(answer.err())
     }
 
+    // Puts a qdisc of this kind into a place, or changes the one with the handle where no place is given.
+    fn set(
+        &mut self,
+        alloc: Global,
+        place: Option<Place>,
+        major: u16,
+        kind: Kind,
+    ) -> Result<Option<NotDone>, Fail> {
+        match place {
+            Some(place) => self.graft(alloc, place, major, kind),
+            None => self.change(alloc, major, kind),
+        }
+    }
+
+    fn make(
+        &mut self,
+        alloc: Global,
+        place: Option<Place>,
+        major: u16,
+        new: New,
+    ) -> Result<Option<NotDone>, Fail> {
+        match new {
+            New::Pfifo => self.set(alloc, place, major, Kind::Pfifo { limit: None }),
+            New::Packets(limit) => self.set(
+                alloc,
+                place,
+                major,
+                Kind::Pfifo { limit: Some(limit) },
+            ),
+            New::Bfifo(bytes) => self.set(alloc, place, major, Kind::Bfifo { limit: Some(bytes) }),
+            New::FqCodel(limit) => {
+                let options = fq_codel(Some(limit), 1)?;
+                self.set(alloc, place, major, Kind::FqCodel(options))
+            }
+            New::Flows(count) => {
+                let options = fq_codel(None, count)?;
+                self.set(alloc, place, major, Kind::FqCodel(options))
+            }
+            New::Prio(bands) => self.set(alloc, place, major, Kind::Prio(prio(bands)?)),
+            New::Drr => self.set(alloc, place, major, Kind::Drr),
+            New::Tbf(burst) => {
+                let rate = Rate::new(1_000_000).ok_or("rate")?;
+                let burst = Burst::new(burst).ok_or("burst")?;
+                let limit = TbfLimit::Bytes(10_000);
+                self.set(alloc, place, major, Kind::Tbf { rate, burst, limit })
+            }
+        }
+    }
+
     fn prune(&mut self, alloc: Global, major: u16) -> Result<Option<NotDone>, Fail> {
         let tree = &mut self.tree;
         make_room(tree, &mut self.losses)?;
@@ -328,11 +358,9 @@ impl Bench {
     pub fn answers(&mut self, alloc: Global, call: Call) -> Result<bool, Fail> {
         match call {
             Call::Graft(spot, major, new, refusal) => {
-                Ok(self.graft(alloc, spot.place()?, major, new.kind()?)? == refusal)
+                Ok(self.make(alloc, Some(spot.place()?), major, new)? == refusal)
             }
-            Call::Change(major, new, refusal) => {
-                Ok(self.change(alloc, major, new.kind()?)? == refusal)
-            }
+            Call::Change(major, new, refusal) => Ok(self.make(alloc, None, major, new)? == refusal),
             Call::Prune(major, refusal) => Ok(self.prune(alloc, major)? == refusal),
             Call::Filter(minor, refusal) => Ok(self.filter(minor)? == refusal),
             Call::Match(major, minor, proto, refusal) => {
