@@ -2,6 +2,7 @@ pub mod Ahead
 pub mod Arrivals
 pub mod AskSteps
 pub mod Changing
+pub mod Commanding
 pub mod Commands
 pub mod Editing
 pub mod Finding

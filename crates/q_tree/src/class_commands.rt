@@ -106,7 +106,7 @@ impl Tree {
 
 impl Node {
     // The edit that adds a class, or the first refusal that holds.
-    fn class_added(
+    pub(crate) fn class_added(
         &self,
         alloc: Global,
         link: Link,
@@ -137,7 +137,7 @@ impl Node {
     }
 
     // The edit that removes a class, or the first refusal that holds.
-    fn class_removed(&self, parent: Option<Handle>, class: ClassId) -> Result<Planned, NotDone>
+    pub(crate) fn class_removed(&self, parent: Option<Handle>, class: ClassId) -> Result<Planned, NotDone>
         requires bounded { IsBounded self.now }
         requires lawful { IsNumbered self.now }
         ensures plan { (device : Device) (now : ℕ) → IsPlanOf takes_none (ClassDel parent class) now device self.now result }
@@ -157,7 +157,7 @@ impl Node {
     }
 
     // The edit that gives a class another quantum, or the first refusal that holds.
-    fn class_changed(
+    pub(crate) fn class_changed(
         &self,
         parent: Option<Handle>,
         class: ClassId,

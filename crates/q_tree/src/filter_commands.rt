@@ -58,7 +58,7 @@ impl Tree {
 
 impl Node {
     // The edit that adds a filter, or the first refusal that holds.
-    fn filter_added(
+    pub(crate) fn filter_added(
         &self,
         parent: Handle,
         major: Handle,
@@ -81,7 +81,7 @@ impl Node {
     }
 
     // The edit that removes filters, or the first refusal that holds.
-    fn filters_removed(&self, parent: Handle, prio: FilterPrio) -> Result<Planned, NotDone>
+    pub(crate) fn filters_removed(&self, parent: Handle, prio: FilterPrio) -> Result<Planned, NotDone>
         requires { IsBounded self.now }
         ensures plan { (device : Device) (now : ℕ) → IsPlanOf takes_none (FilterDel parent prio) now device self.now result }
         ensures quiet { IfOk result (λ p. LosesNothing p.edit) }

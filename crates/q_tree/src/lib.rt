@@ -15,6 +15,7 @@ mod at_hand;
 mod booking;
 mod class_commands;
 mod classes;
+mod command;
 mod counting;
 mod drr;
 mod edit;

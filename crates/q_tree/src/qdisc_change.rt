@@ -72,7 +72,7 @@ impl Tree {
 
 impl Node {
     // The edit that gives a qdisc other settings, or the first refusal that holds.
-    fn changed(
+    pub(crate) fn changed(
         &self,
         alloc: Global,
         link: Link,

@@ -93,7 +93,7 @@ impl Tree {
 
 impl Node {
     // The edit that puts a new qdisc into a place, or the first refusal that holds.
-    fn grafted(
+    pub(crate) fn grafted(
         &self,
         alloc: Global,
         link: Link,
@@ -124,7 +124,7 @@ impl Node {
     }
 
     // The edit that removes a qdisc, or the refusal where there is none.
-    fn pruned(
+    pub(crate) fn pruned(
         &self,
         alloc: Global,
         link: Link,

@@ -1,0 +1,94 @@
+ghost use Rattle.std.specs.Prelude.{◌≡◌, ◌≤◌, ◌+◌, ◌++◌, length};
+ghost use Rattle.q_model.specs.Beneath.{beneath};
+ghost use Rattle.q_model.specs.Node.{shape};
+ghost use Rattle.q_sound.proofs.Kept.{IsLawfulRoot};
+ghost use Rattle.q_tree.specs.Commanding.{MayTakeMemory};
+ghost use Rattle.q_tree.specs.Commands.{IsAnswered, IsBounded, IsPlanOf, plan_of, told};
+
+use crate::link::Link;
+use crate::node::Node;
+use crate::planned::Planned;
+use crate::tree::Tree;
+use q_codel::Sink;
+use q_model::{Command, NotDone};
+use q_packet::Moment;
+use std::alloc::Global;
+
+impl Tree {
+    /// Does what a line of tc asks for, as [`Tree::graft`], [`Tree::change`], [`Tree::prune`], [`Tree::class_add`] and the others say.
+    /// `now` is at or after the latest moment that the tree was given, and is given to the tree by each command that is done.
+    ///
+    /// What is removed is lost to `sink`, which needs room for what is queued in the tree.
+    ///
+    /// # Errors
+    ///
+    /// The first refusal of the command that holds, memory last. The tree is as it was.
+    pub fn command<S: Sink>(
+        &mut self,
+        alloc: Global,
+        command: Command,
+        now: Moment,
+        sink: &mut S,
+    ) -> Result<(), NotDone>
+        requires order { self.old.clock ≤ now }
+        requires sink { length (beneath self.old.tree.root) ≤ S.room sink.old }
+        ensures answer { IsAnswered (MayTakeMemory command) now (plan_of command now self.old) self.old self.new result }
+        ensures lost { S.losses sink.new ≡ S.losses sink.old ++ told (plan_of command now self.old) (shape self.old.tree.root) result }
+        ensures room { S.room sink.new + length (told (plan_of command now self.old) (shape self.old.tree.root) result) ≡ S.room sink.old }
+        ensures kept { S.keeps sink.old sink.new }
+    {
+        // A moment is at most 2^62 nanoseconds.
+        let _ = now.ns();
+        match self.root.planned(alloc, self.link(), &command, now) {
+            Err(refusal) => return Err(refusal),
+            Ok(planned) => return self.edit(planned, now, sink),
+        }
+    }
+}
+
+impl Node {
+    // The edit that a command asks for, or the first refusal that holds.
+    fn planned(
+        &self,
+        alloc: Global,
+        link: Link,
+        command: &Command,
+        now: Moment,
+    ) -> Result<Planned, NotDone>
+        requires bounded { IsBounded self.now }
+        requires lawful { IsLawfulRoot link.mtu now self.now }
+        requires mtu { 1 ≤ link.mtu }
+        ensures plan { IsPlanOf (MayTakeMemory command.now) command.now now (record { mtu = link.mtu; txqueuelen = link.txqueuelen }) self.now result }
+    {
+        match command {
+            Command::QdiscAdd {
+                place,
+                handle,
+                kind,
+            } => return self.grafted(alloc, link, *place, *handle, kind, now),
+            Command::QdiscChange {
+                place,
+                handle,
+                kind,
+            } => return self.changed(alloc, link, *place, *handle, kind, now),
+            Command::QdiscDel { place, handle } => return self.pruned(alloc, link, *place, *handle),
+            Command::ClassAdd {
+                parent,
+                class,
+                quantum,
+            } => return self.class_added(alloc, link, *parent, *class, *quantum),
+            Command::ClassChange {
+                parent,
+                class,
+                quantum,
+            } => return self.class_changed(*parent, *class, *quantum),
+            Command::ClassDel { parent, class } => return self.class_removed(*parent, *class),
+            Command::FilterAdd {
+                parent,
+                major,
+                filter,
+            } => return self.filter_added(*parent, *major, *filter),
+            Command::FilterDel { parent, prio } => return self.filters_removed(*parent, *prio),
+        }
+    }
+}
