@@ -58,15 +58,12 @@ impl Tree {
         ensures room { S.room sink.new + length (told (plan_of (QdiscChange place handle kind) now self.old) (shape self.old.tree.root) result) ≡ S.room sink.old }
         ensures kept { S.keeps sink.old sink.new }
     {
-        // A moment is at most 2^62 nanoseconds.
-        let _ = now.ns();
-        match self
-            .root
-            .changed(alloc, self.link(), place, handle, &kind, now)
-        {
-            Err(refusal) => return Err(refusal),
-            Ok(planned) => return self.edit(planned, now, sink),
-        }
+        let command = Command::QdiscChange {
+            place,
+            handle,
+            kind,
+        };
+        self.command(alloc, command, now, sink)
     }
 }
 

@@ -54,13 +54,12 @@ impl Tree {
         ensures room { S.room sink.new + length (told (plan_of (QdiscAdd place handle kind) now self.old) (shape self.old.tree.root) result) ≡ S.room sink.old }
         ensures kept { S.keeps sink.old sink.new }
     {
-        match self
-            .root
-            .grafted(alloc, self.link(), place, handle, &kind, now)
-        {
-            Err(refusal) => return Err(refusal),
-            Ok(planned) => return self.edit(planned, now, sink),
-        }
+        let command = Command::QdiscAdd {
+            place,
+            handle,
+            kind,
+        };
+        self.command(alloc, command, now, sink)
     }
 
     /// Removes a qdisc with all that is beneath it, named by its place, its handle or both, which then name the same one
@@ -84,10 +83,7 @@ impl Tree {
         ensures room { S.room sink.new + length (told (plan_of (QdiscDel place handle) self.old.clock self.old) (shape self.old.tree.root) result) ≡ S.room sink.old }
         ensures kept { S.keeps sink.old sink.new }
     {
-        match self.root.pruned(alloc, self.link(), place, handle) {
-            Err(refusal) => return Err(refusal),
-            Ok(planned) => return self.edit(planned, self.clock, sink),
-        }
+        self.command(alloc, Command::QdiscDel { place, handle }, self.clock, sink)
     }
 }
 
