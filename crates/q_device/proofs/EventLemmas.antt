@@ -1,21 +1,28 @@
 -- What an event makes of the fields of a device.
-use Rattle.std.proofs.Common.{◌≡◌, ◌∙◌, ℕ, ◌+◌, ◌++◌, length, max, min, List, refl, sym, ap, ap₂, subst}
+use Rattle.std.proofs.Common.{◌≡◌, ◌∙◌, ℕ, ◌+◌, ◌++◌, length, max, min, List, [], Result, Ok, Err, refl, sym, ap, ap₂, subst}
 use Rattle.std.specs.Prelude.{vec_capacity}
 use Rattle.q_codel.specs.declared.loss.Loss.{Loss}
 use Rattle.q_packet.specs.Descriptor.{Descriptor}
 use Rattle.q_model.specs.Beneath.{beneath, beneath_own}
+use Rattle.q_model.specs.declared.command.Command.{Command}
 use Rattle.q_model.specs.declared.event.Event.{Event}
 use Rattle.q_model.specs.declared.event.Event.TheVariants as event
-use Rattle.q_model.specs.Step.{DeviceState, losses_in, step}
+use Rattle.q_model.specs.declared.not_done.NotDone.{NotDone}
+use Rattle.q_model.specs.declared.reply.Reply.TheVariants as reply
+use Rattle.q_model.specs.Edit.{Edit, lost_by}
+use Rattle.q_model.specs.Node.{Shape, shape}
+use Rattle.q_model.specs.Refusal.{refusal_of}
+use Rattle.q_model.specs.Step.{DeviceState, Step, answered, losses_in, step}
 use Rattle.q_model.specs.Tally.{Counts, totals}
-use Rattle.q_model.specs.TreeState.{noted_by_put, noted_by_take, put, take_packet}
-use Rattle.q_model.proofs.ShrinkLemmas.{each-each_memory}
+use Rattle.q_model.specs.TreeState.{noted_by_put, noted_by_take, plan, put, take_packet}
+use Rattle.q_model.proofs.ShrinkLemmas.{each-each_memory, shape-with_memory}
 use Rattle.q_tree.specs.Kept.{Kept, kept}
-use Rattle.q_tree.specs.TreeSeen.{numbers}
+use Rattle.q_tree.specs.Commands.{IsDone, IsRefused, plan_of, told}
+use Rattle.q_tree.specs.TreeSeen.{numbers, tree_numbers}
 use Rattle.q_tree.proofs.TreeLemmas.{stands}
 use Rattle.q_device.specs.declared.device.Device.TheInside.{Inside}
 use Rattle.q_device.specs.Counters.{HasNotFallen}
-use Rattle.q_device.specs.DeviceSeen.{DeviceSeen, as_counted, most_events, with_event, with_recorded}
+use Rattle.q_device.specs.DeviceSeen.{DeviceSeen, IsRefusal, as_counted, most_events, with_event, with_recorded}
 use Rattle.q_device.specs.Keeping.{device_seen, numbers_at}
 use Rattle.q_device.proofs.CountLemmas.{step-rises}
 use Rattle.q_device.proofs.StepStands.{Stands, step-stands}
@@ -97,3 +104,66 @@ arrived a b x p now at same is settings clock tree waiting handed_out recorded c
       capacity = capacity;
       events = events;
     }
+
+-- ---- a command, at the moment at which it counts
+
+module _ (x : DeviceState Kept) (clock now at : ℕ) (is : at ≡ max clock now) (c : Command) where
+  abbrev seen : DeviceState Counts
+  seen = numbers_at clock x
+
+  same-shape : shape (tree_numbers x.tree).root ≡ shape x.tree.root
+  same-shape = shape-with_memory (λ (k : Kept). k.counts) x.tree.root
+
+  step-is : step totals seen (event.Command c now) ≡ answered totals (plan_of c at x) at seen
+  step-is =
+      ap (λ t. answered totals (plan x.tree.device t c (shape (tree_numbers x.tree).root)) t seen) (sym is)
+      ∙ ap (λ (s : Shape). answered totals (plan x.tree.device at c s) at seen) same-shape
+
+  module _ (y : DeviceState Kept) (done_is : IsDone at (plan_of c at x) x y) where
+    pub done-device : numbers_at at y ≡ (step totals seen (event.Command c now)).device
+    done-device = by (plan_of c at x) done_is ∙ sym (ap (λ (s : Step Counts). s.device) step-is) where
+      by : (p : Result Edit NotDone) → IsDone at p x y → numbers_at at y ≡ (answered totals p at seen).device
+      by (Ok edit) h = ap (λ (n : DeviceState Counts). record n { clock = at }) h
+      by (Err refusal) h = absurd h
+
+    pub done-reply : reply.Done (Ok tt) ≡ (step totals seen (event.Command c now)).reply
+    done-reply = by (plan_of c at x) done_is ∙ sym (ap (λ (s : Step Counts). s.reply) step-is) where
+      by : (p : Result Edit NotDone) → IsDone at p x y → reply.Done (Ok tt) ≡ (answered totals p at seen).reply
+      by (Ok edit) h = refl
+      by (Err refusal) h = absurd h
+
+    pub done-losses : told (plan_of c at x) (shape x.tree.root) (Ok tt) ≡ (step totals seen (event.Command c now)).losses
+    done-losses = by (plan_of c at x) done_is ∙ sym (ap (λ (s : Step Counts). s.losses) step-is) where
+      by : (p : Result Edit NotDone) → IsDone at p x y → told p (shape x.tree.root) (Ok tt) ≡ (answered totals p at seen).losses
+      by (Ok edit) h = ap (λ (s : Shape). losses_in (lost_by edit s)) (sym same-shape)
+      by (Err refusal) h = absurd h
+
+    pub done-clock : y.clock ≡ at
+    done-clock = by (plan_of c at x) done_is where
+      by : (p : Result Edit NotDone) → IsDone at p x y → y.clock ≡ at
+      by (Ok edit) h = ap (λ (n : DeviceState Counts). n.clock) h
+      by (Err refusal) h = absurd h
+
+  pub refused-reply : (memory : Type 0) (refusal : NotDone) → IsRefused memory (plan_of c at x) refusal → IsRefusal memory (step totals seen (event.Command c now)).reply (refusal_of refusal)
+  refused-reply memory refusal h = subst (λ (s : Step Counts). IsRefusal memory s.reply (refusal_of refusal)) (sym step-is) (by (plan_of c at x) h) where
+    by : (p : Result Edit NotDone) → IsRefused memory p refusal → IsRefusal memory (answered totals p at seen).reply (refusal_of refusal)
+    by (Ok edit) e = (ap refusal_of e.0, e.1)
+    by (Err first) e = ap refusal_of e
+
+-- a refused command tells of no loss
+pub told-nothing : (p : Result Edit NotDone) (root : Shape) (refusal : NotDone) → told p root (Err refusal) ≡ []
+told-nothing (Ok edit) root refusal = refl
+told-nothing (Err first) root refusal = refl
+
+pub commanded : (a b : Inside) (c : Command) (now at : ℕ) → at ≡ max a.clock now → b.settings ≡ a.settings → b.clock ≡ at → IsDone at (plan_of c at a.tree) a.tree b.tree
+    → b.losses.waiting ≡ a.losses.waiting ++ told (plan_of c at a.tree) (shape a.tree.tree.root) (Ok tt) → b.handed_out ≡ a.handed_out → b.recorded.items ≡ with_recorded a.settings.recorder (event.Command c at) a.recorded.items
+    → vec_capacity b.recorded ≡ vec_capacity a.recorded → b.events ≡ min (a.events + 1) most_events → Happened a (event.Command c now) b
+commanded a b c now at is settings clock done_is waiting handed_out recorded capacity events = record {
+  settings = settings;
+  device = ap (λ t. numbers_at t b.tree) clock ∙ done-device a.tree a.clock now at is c b.tree done_is;
+  waiting = waiting ∙ ap (λ (ls : List Loss). a.losses.waiting ++ ls) (done-losses a.tree a.clock now at is c b.tree done_is);
+  handed_out = handed_out;
+  recorded = recorded ∙ ap (λ t. with_recorded a.settings.recorder (event.Command c t) a.recorded.items) is;
+  capacity = capacity;
+  events = events;
+}

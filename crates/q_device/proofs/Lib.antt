@@ -6,6 +6,7 @@ pub mod EventLemmas
 pub mod FlowStretches
 pub mod KeptLemmas
 pub mod LawfulLemmas
+pub mod PlayLemmas
 pub mod ReplayLemmas
 pub mod ReplayedLemmas
 pub mod ShrinkLemmas

@@ -1,10 +1,14 @@
 -- What a contract sees of a device of the code, and what an event and a reap make of it.
 -- What an event makes of the tree stands in q_model's specs/Step.antt; the recorder and the lost list are this project's own.
-use Rattle.std.specs.Prelude.{ℕ, ◌+◌, ◌-◌, ◌^◌, ◌≤◌, min, if◌then◌else◌, nat_lt, List, [], ◌∷◌, ◌++◌, length, take, drop}
+use Rattle.std.specs.Prelude.{◌≡◌, Ok, Err, ℕ, ◌+◌, ◌-◌, ◌^◌, ◌≤◌, min, if◌then◌else◌, nat_lt, List, [], ◌∷◌, ◌++◌, length, take, drop}
 use Rattle.q_packet.specs.Descriptor.{Descriptor}
 use Rattle.q_codel.specs.declared.loss.Loss.{Loss}
 use Rattle.q_model.specs.declared.event.Event.{Event}
 use Rattle.q_model.specs.declared.event.Event.TheVariants.{Arrive, Poll, Command}
+use Rattle.q_model.specs.declared.refusal.Refusal.{Refusal}
+use Rattle.q_model.specs.declared.refusal.Refusal.TheVariants as refusals
+use Rattle.q_model.specs.declared.reply.Reply.{Reply}
+use Rattle.q_model.specs.declared.reply.Reply.TheVariants as reply
 use Rattle.q_model.specs.Beneath.{beneath}
 use Rattle.q_model.specs.Route.{device_route}
 use Rattle.q_model.specs.Settings.{DeviceSettings}
@@ -74,3 +78,10 @@ pub record HasRoomFor (p : Descriptor) (d : DeviceSeen) : Type 0 where
 -- The memory after a poll at this moment: the packets that it took have left the tree, and every place is still there.
 abbrev pub polled_memory : ℕ → Memory → Memory
 polled_memory now m = record m { tree = record { clock = now; tree = take_packet kept now m.tree.tree } }
+
+-- The refusal of a command: the step's, or, where the step does the command, want of memory.
+abbrev pub IsRefusal : Type 0 → Reply → Refusal → Type 0
+IsRefusal memory (reply.Done (Err first)) refusal = refusal ≡ first
+IsRefusal memory (reply.Done (Ok done)) refusal = (refusal ≡ refusals.Memory) × memory
+IsRefusal memory (reply.Fate fate) refusal = ⊥
+IsRefusal memory (reply.Polled polled) refusal = ⊥

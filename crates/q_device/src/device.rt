@@ -1,4 +1,4 @@
-ghost use Rattle.std.specs.Prelude.{◌≡◌, ◌≤◌, ◌+◌, ◌^◌, IsOk, IfOk, OnOk, OnErr, IfErr, max, min, length, slice_get, vec_capacity};
+ghost use Rattle.std.specs.Prelude.{◌≡◌, ◌≤◌, ◌+◌, ◌^◌, Ok, IsOk, IfOk, OnOk, OnErr, IfErr, max, min, length, slice_get, vec_capacity};
 ghost use Rattle.q_model.specs.Beneath.{beneath, is_empty, row_of};
 ghost use Rattle.q_model.specs.Node.{shape};
 ghost use Rattle.q_model.specs.Route.{device_route};
@@ -9,13 +9,14 @@ ghost use Rattle.q_model.specs.TreeState.{stats};
 ghost use Rattle.q_model.specs.declared.event.Event.TheVariants as event;
 ghost use Rattle.q_model.specs.declared.reply.Reply.TheVariants as reply;
 ghost use Rattle.q_packet.specs.Descriptor.{Descriptor};
+ghost use Rattle.q_tree.specs.Commanding.{MayTakeMemory};
 ghost use Rattle.q_tree.specs.TreeSeen.{numbers, tree_numbers, CanArrive, IsRouteIn};
 ghost use Rattle.q_device.specs.Counters.{HasNotFallen};
 ghost use Rattle.q_device.specs.DeviceLaws.{HasItsMemory, IsReplayed};
-ghost use Rattle.q_device.specs.DeviceSeen.{as_counted, most_events, opened, polled_memory, reaped, with_event, with_recorded, HasRoomFor};
+ghost use Rattle.q_device.specs.DeviceSeen.{IsRefusal, as_counted, most_events, opened, polled_memory, reaped, with_event, with_recorded, HasRoomFor};
 
 use q_codel::{Loss as Lost, Losses};
-use q_model::{Event, Fate, Place, Polled, Row, Settings, packet_ranges};
+use q_model::{Command, Event, Fate, Place, Polled, Refusal, Row, Settings, packet_ranges};
 use q_packet::{Moment, Packet};
 use q_tree::{Route, Tree};
 use std::alloc::{AllocError, Global};
@@ -135,6 +136,40 @@ impl Device {
         let event = Event::Poll(at);
         record(&mut self.recorded, &mut self.events, &self.settings, event);
         polled_of(taken, &self.tree)
+    }
+
+    /// Does what a line of tc asks for, or refuses it. What is removed is lost, and waits for [`Device::reap`].
+    ///
+    /// A moment before the device's clock counts as the clock. The event is recorded at the moment that the clock shows
+    /// after it.
+    ///
+    /// # Errors
+    ///
+    /// The first refusal of the command that holds; `Memory` where none holds, the command may take memory, and it is refused.
+    /// Nothing has changed then, and there was no event.
+    pub fn command(&mut self, command: Command, now: Moment) -> Result<(), Refusal>
+        ensures event { OnOk result (self.new ≡ record (with_event (event.Command command now) self.old) { memory = self.new.memory }) }
+        ensures moment { OnOk result (as_counted self.old.device (event.Command command now) ≡ event.Command command self.new.device.clock) }
+        ensures reply { OnOk result (reply.Done (Ok (record {})) ≡ (step totals self.old.device (event.Command command now)).reply) }
+        ensures refused { IfErr result (IsRefusal (MayTakeMemory command) (step totals self.old.device (event.Command command now)).reply) }
+        ensures same { OnErr result (self.new ≡ self.old) }
+        ensures places { self.new.memory.losses ≡ self.old.memory.losses }
+        ensures recorder { self.new.memory.events ≡ self.old.memory.events }
+        ensures arrived { self.new.device.tree.top.arrived ≡ self.old.device.tree.top.arrived }
+        ensures counters { HasNotFallen self.old.device.tree.top self.new.device.tree.top }
+    {
+        command.ranges();
+        moment_range(now);
+        let at = later(self.clock, now);
+        let alloc = *self.recorded.allocator();
+        let answer = self.tree.command(alloc, command, at, &mut self.losses);
+        if let Err(refused) = answer {
+            return Err(Refusal::of(refused));
+        }
+        self.clock = at;
+        let event = Event::Command(command, at);
+        record(&mut self.recorded, &mut self.events, &self.settings, event);
+        Ok(())
     }
 
     /// The oldest loss that was not handed out yet; `None` where none waits. It takes no memory and is no event.

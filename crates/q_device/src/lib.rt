@@ -1,6 +1,8 @@
-//! A device: a tree of qdiscs with a clock, a recorder and a list of what it lost, and the laws of its replays.
+//! A device: a tree of qdiscs with a clock, a recorder and a list of what it lost, the play of a list of events on one, and
+//! the laws of its replays.
 //!
-//! - [`Device`] takes packets in and is polled for them. Commands on its tree are still to come.
+//! - [`Device`] takes packets in, is polled for them, and does commands on its tree or refuses them.
+//! - [`play`] gives the replies to a list of events, by a device of its own.
 //! - [`Settings`] are a device's mtu, queue length and recorder.
 //! - An [`Event`] is an arrival, a poll or a command, with its moment. A [`Reply`] is what it is answered: a [`Fate`], a
 //!   [`Polled`], or whether the command was done, else the [`Refusal`]. They are those of `q_model`.
@@ -15,8 +17,9 @@
 
 mod device;
 pub mod laws;
+pub mod play;
 
 pub use crate::device::Device;
 pub use q_codel::Loss as Lost;
-pub use q_model::{Event, Fate, Place, Polled, Refusal, Reply, Row, Settings, Totals};
+pub use q_model::{Command, Event, Fate, Place, Polled, Refusal, Reply, Row, Settings, Totals};
 pub use q_tree::Tree;

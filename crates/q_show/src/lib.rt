@@ -1,7 +1,9 @@
-//! What `tc qdisc show`, `tc class show` and `tc filter show` print, written to any writer.
+//! What `tc qdisc show`, `tc class show` and `tc filter show` print, as a text or written to any writer.
 //!
-//! - [`show_qdisc`] writes a node with its settings, and its counters where they are asked for; [`show_class`] writes a class
-//!   and [`show_filter`] a filter. Each takes a view of `q_model`, and allocates nothing.
+//! - [`qdisc_text`] is a node with its settings, and its counters where they are asked for, [`class_text`] a class and
+//!   [`filter_text`] a filter; [`counters_text`] is what a node has counted. Each takes a view of `q_model`, and answers a
+//!   [`Text`], which allocates nothing.
+//! - [`show_qdisc`], [`show_class`] and [`show_filter`] write such a text to a writer.
 //! - [`write_whole`] writes bytes to any writer, and [`Hexadecimal`] is a number's digits: `q_script` writes its reports by them.
 //! - `specs/ShowText.antt` has the texts. Each function appends exactly the text of its view, or stops at the writer's
 //!   failure with a front of it written.
@@ -16,5 +18,8 @@ mod text;
 mod write_fault;
 
 pub use hexadecimal::Hexadecimal;
-pub use showing::{show_class, show_filter, show_qdisc};
+pub use showing::{
+    class_text, counters_text, filter_text, qdisc_text, show_class, show_filter, show_qdisc,
+};
+pub use text::Text;
 pub use write_fault::{WriteFault, write_whole};

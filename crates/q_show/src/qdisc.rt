@@ -61,7 +61,7 @@ fn put_totals(text: &mut Text, name: &[u8], counted: Totals)
 }
 
 /// What a node has counted.
-fn put_counters(text: &mut Text, row: &Row)
+pub fn put_counters(text: &mut Text, row: &Row)
     requires { HasRoom text.old most_counters }
     ensures text { text.new ≡ text.old ++ counters_text row.now }
     ensures short { GrowsBy text.old text.new most_counters }

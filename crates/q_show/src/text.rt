@@ -1,5 +1,5 @@
 ghost use Rattle.std.specs.Prelude.{◌≡◌, ◌+◌, ◌≤◌, ◌++◌, [], codes, length, decimal};
-ghost use Rattle.q_show.specs.Lengths.{HasRoom, GrowsBy, most_decimal, most_hex, most_name, most_named};
+ghost use Rattle.q_show.specs.Lengths.{HasRoom, GrowsBy, capacity, most_decimal, most_hex, most_name, most_named};
 ghost use Rattle.q_show.specs.ShowText.{hex};
 
 use crate::hexadecimal::Hexadecimal;
@@ -33,9 +33,10 @@ impl Text {
         }
     }
 
-    /// The bytes.
+    /// The bytes, 1024 at most.
     pub fn as_bytes(&self) -> &[u8]
-        ensures { result.now ≡ self.now }
+        ensures bytes { result.now ≡ self.now }
+        ensures short { length result.now ≤ capacity }
     {
         self.bytes.as_slice()
     }
