@@ -2,9 +2,8 @@
 //!
 //! The arguments name files of scripts, which lie in `data/`: `corpus.txt` has scripts that reach the corners of the
 //! language, `examples.txt` the worked scripts of `examples/`. [`case::cases`] reads such a file, and [`play::play`] plays a
-//! script by `q_script`. A script that has a word which the program does not speak yet is passed over once its report has
-//! come that far. The crate's file `stdout` names the scripts that are right, and counts them: it grows with the language. A
-//! script whose report or status is another one has a line `WRONG` and makes the status 1.
+//! script by `q_session`. The crate's file `stdout` names the scripts that are right, and counts them: all of them. A script
+//! whose report or status is another one has a line `WRONG` and makes the status 1.
 #![tactic(auto)]
 
 mod case;
@@ -35,7 +34,7 @@ fn main(rt: HostRuntime) -> Result<ExitCode> {
     })
 }
 
-/// Plays the scripts of a file, says of each that is spoken or wrong, and counts them; how many were wrong.
+/// Plays the scripts of a file, says of each whether it is right, and counts them; how many were wrong.
 fn play_file<W: Write>(alloc: Global, file: &str, text: &[u8], output: &mut W) -> Result<u64> {
     let cases = cases(alloc, text)?;
     let mut right = 0u64;
@@ -46,7 +45,6 @@ fn play_file<W: Write>(alloc: Global, file: &str, text: &[u8], output: &mut W) -
                 right = right.saturating_add(1);
                 writeln!(output, "{file} {}: right", case.name)?;
             }
-            Played::NotSpoken => (),
             Played::WrongReport { line } => {
                 wrong = wrong.saturating_add(1);
                 writeln!(

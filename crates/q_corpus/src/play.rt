@@ -1,7 +1,7 @@
 use crate::case::Case;
 use anyhow::{Context, Result, bail};
 use q_script::RunSettings;
-use q_script::run::run;
+use q_session::run::run;
 use std::alloc::Global;
 
 /// How a script went, beside what is known of it.
@@ -9,8 +9,6 @@ use std::alloc::Global;
 pub enum Played {
     /// The report and the status are those of the case.
     Right,
-    /// The language of today lacks a word of the script: the report tells of it where it first differs.
-    NotSpoken,
     /// The report differs first at this line, counted from 1.
     WrongReport { line: usize },
     /// The report is right, and the status is this one.
@@ -27,7 +25,9 @@ pub fn play(alloc: Global, case: &Case<'_>) -> Result<Played> {
         Err(_) => 2,
     };
     Ok(if report.as_slice() != case.report.as_slice() {
-        differing(&report, &case.report)
+        Played::WrongReport {
+            line: differing(&report, &case.report),
+        }
     } else if status != case.status {
         Played::WrongStatus { status }
     } else {
@@ -35,24 +35,17 @@ pub fn play(alloc: Global, case: &Case<'_>) -> Result<Played> {
     })
 }
 
-/// What two different reports tell by the first line that differs.
-fn differing(report: &[u8], wanted: &[u8]) -> Played {
+/// The first line in which two different reports differ, counted from 1.
+fn differing(report: &[u8], wanted: &[u8]) -> usize {
     let mut wanted = wanted.split(|byte| *byte == b'\n');
     let mut number = 0usize;
     for line in report.split(|byte| *byte == b'\n') {
         number = number.saturating_add(1);
         if wanted.next() != Some(line) {
-            let is_fault = str::from_utf8(line).is_ok_and(|text| text.contains("UnknownWord"));
-            return if is_fault {
-                Played::NotSpoken
-            } else {
-                Played::WrongReport { line: number }
-            };
+            return number;
         }
     }
-    Played::WrongReport {
-        line: number.saturating_add(1),
-    }
+    number.saturating_add(1)
 }
 
 /// The settings that the options of a command line ask for, as `--mtu 100 --seed 7`.

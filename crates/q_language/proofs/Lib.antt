@@ -5,6 +5,7 @@ pub mod Steps
 pub mod BandLemmas
 pub mod SpelledSteps
 pub mod SpelledValues
+pub mod PacketRanges
 pub mod SpelledAddresses
 pub mod SpelledAddresses6
 pub mod SpelledProtocols

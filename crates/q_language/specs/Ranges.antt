@@ -57,3 +57,9 @@ IsLine packet (line.Pkt arrival) = IsArrival arrival
 IsLine packet (line.Frame len head) = IsWithin 1 65535 len × IsPacketBytes packet × (head ≡ head_in packet)
 IsLine packet (line.Poll polls) = IsWithin 1 100000 polls
 IsLine packet _ = ⊤
+
+-- a line's packet, where it says one, is one that can be sent
+abbrev pub IsSendable : Line → Type 0
+IsSendable (line.Pkt a) = (1 ≤ a.len) × (a.len ≤ 65535) × (a.prio ≤ 15)
+IsSendable (line.Frame len head) = (1 ≤ len) × (len ≤ 65535) × (head.prio ≤ 15)
+IsSendable _ = ⊤

@@ -3,4 +3,4 @@ pub mod PrefixReadBack
 pub mod QdiscReadBack
 pub mod ReadBack
 pub mod ReportLemmas
-mod ShownLemmas
+pub mod ShownLemmas

@@ -22,7 +22,7 @@ use Rattle.q_language.specs.declared.arrival.Arrival.{Arrival}
 use Rattle.q_language.specs.declared.line.Line.{Line}
 use Rattle.q_language.specs.declared.line.Line.TheVariants as line
 use Rattle.q_words.specs.declared.line_fault.LineFault.{LineFault}
-use Rattle.q_line.specs.Script.{lines_of, is_starved}
+use Rattle.q_script.specs.Script.{lines_of, is_starved}
 use Rattle.q_report.specs.Text.{poll_line, device_line}
 use Rattle.q_report.specs.Report.{SessionState, new_session, after, numbered_packet, framed, arrival, polls, planned, commanded, answered, effect, replayed}
 use Rattle.q_report.specs.Laws.{shrunk_session, IsShrunkEffect, TotalsAreEnough}

@@ -23,7 +23,7 @@ use Rattle.q_language.specs.Grammar.{line_in, every_word}
 use Rattle.q_language.specs.declared.arrival.Arrival.{Arrival}
 use Rattle.q_language.specs.declared.line.Line.{Line}
 use Rattle.q_language.specs.declared.line.Line.TheVariants as line
-use Rattle.q_line.specs.Script.{lines_of, is_starved, fault_line}
+use Rattle.q_script.specs.Script.{lines_of, is_starved, fault_line}
 use Rattle.q_words.specs.declared.line_fault.LineFault.{LineFault}
 use Rattle.q_language.specs.declared.show.Show.{Show}
 use Rattle.q_language.specs.declared.object.Object.TheVariants as object

@@ -10,7 +10,7 @@ use Rattle.q_model.specs.declared.row.Row.{Row}
 use Rattle.q_model.specs.NotDone.{refusal_number, refusal_name}
 use Rattle.q_model.specs.declared.polled.Polled.{Polled}
 use Rattle.q_model.specs.declared.polled.Polled.TheVariants as polled
-use Rattle.q_line.specs.Script.{newline, line_text}
+use Rattle.q_script.specs.Script.{newline, line_text}
 pub use Rattle.q_show.specs.ShowText.{counters_text, handle_text, qdisc_text, class_line, filter_line}
 
 abbrev pub refused_line : ℕ → NotDone → List ℕ

@@ -8,8 +8,7 @@
 //! - [`laws`] says that a session whose nodes keep totals writes what one whose nodes keep whole histories writes, and that what
 //!   show prints is read back as the command that makes it (`specs/ReadBack.antt`).
 //!
-//! No function writes a report here. The contract of `run` in `qtree` is stated over this one, of which the words of today
-//! are spoken.
+//! No function writes a report here: `run` of `q_session` does, and its contract is stated over this one.
 #![tactic(auto)]
 
 pub mod laws;

@@ -1,10 +1,5 @@
-pub mod Arrivals
 pub mod LinesLemmas
 pub mod OnErr
 pub mod Playing
-pub mod Polling
-pub mod Purged
-pub mod Reported
-pub mod Shrink
 pub mod StarvedLines
 pub mod WrittenLemmas

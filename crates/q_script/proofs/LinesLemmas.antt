@@ -1,7 +1,7 @@
 -- The first line of a text, by where its first newline is.
 use Rattle.std.proofs.Common.{◌≡◌, ◌≢◌, ℕ, zero, suc, ◌<◌, ◌+◌, ◌-◌, if◌then◌else◌, List, [], ◌∷◌, length, get_or, take, drop, refl, ap, ◌∙◌, arith, length-drop, eq-eqb, ne_eqb, add-one}
 use Rattle.std.proofs.lemmas.List.{take_all, drop_all}
-use Rattle.q_line.specs.Script.{lines_of, onto_first}
+use Rattle.q_script.specs.Script.{lines_of, onto_first}
 
 at_newline : (b : ℕ) (bytes : List ℕ) → b ≡ 10 → lines_of (b ∷ bytes) ≡ [] ∷ lines_of bytes
 at_newline b bytes h = ap (λ t. if t then [] ∷ lines_of bytes else onto_first b (lines_of bytes)) (eq-eqb b 10 h)

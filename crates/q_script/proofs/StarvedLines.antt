@@ -1,6 +1,6 @@
 -- The numbers of lines at which memory was refused: those of earlier lines and those of later ones.
 use Rattle.std.proofs.Common.{◌≡◌, ℕ, suc, ◌<◌, ◌≤◌, Bool, true, false, ◌||◌, ◌==◌, List, [], ◌∷◌, ◌++◌, refl, ap, ◌∙◌, arith, eq-eqb, ne_eqb}
-use Rattle.q_line.specs.Script.{is_starved}
+use Rattle.q_script.specs.Script.{is_starved}
 
 abbrev pub AllBelow : ℕ → List ℕ → Type 0
 AllBelow k [] = Unit {0}

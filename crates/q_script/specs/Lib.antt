@@ -1,10 +1,5 @@
-pub mod Conserved
-pub mod Device
-pub mod Insides
 pub mod Lengths
 pub mod RunFault
-pub mod Session
+pub mod Script
 pub mod Settings
 pub mod Step
-pub mod Tally
-pub mod Text

@@ -1,45 +1,52 @@
--- What one line of a script may do, at the program: memory may be refused at it, or the writer may fail.
--- It is the effect of Session.antt with totals, beside what was written and what is still buffered.
-use Rattle.std.specs.Prelude.{◌≡◌, ℕ, Bool, List, ◌++◌, Option}
-use Rattle.q_line.specs.Grammar.{line_of}
-use Rattle.q_line.specs.declared.line.Line.{Line}
-use Rattle.q_line.specs.declared.line.Line.TheVariants.{Poll}
-use Rattle.q_script.specs.declared.totals.Totals.{Totals}
-use Rattle.q_script.specs.Tally.{totals}
+-- What a script makes of a session, and what it writes: line by line, whatever the lines mean.
+-- A session says itself what a line does; here is what follows for a whole script, and for a run that fails on the way.
+use Rattle.std.specs.Prelude.{◌≡◌, ℕ, suc, Bool, if◌then◌else◌, List, [], ◌∷◌, ◌++◌, Option}
 use Rattle.std.specs.Io.KnownBytes.{Appends}
-use Rattle.q_line.specs.Script.{is_starved}
-use Rattle.q_script.specs.Session.{SessionState, Effect, effect, replayed}
 use Rattle.q_show.specs.Written.{AppendsFront, IsBuffered}
+use Rattle.q_script.specs.Script.{lines_of, is_starved}
+use Rattle.q_script.specs.declared.outcome.Outcome.{Outcome}
+use Rattle.q_script.specs.declared.outcome.Outcome.TheVariants.{Clean, Refused}
 
--- any line but polls
-abbrev pub IsNoPoll : Line → Type 0
-IsNoPoll (Poll n) = ⊥
-IsNoPoll _ = Unit {0}
+-- what a line writes, and what it leaves
+pub record Effect (S : Type 0) : Type 0 where
+  pub text : List ℕ
+  pub session : S
 
--- the line's effect, where memory is refused at it or not
-abbrev pub effect_of : Bool → ℕ → List ℕ → SessionState Totals → Effect Totals
-effect_of starved k line s = effect totals starved k (line_of line) s
+-- the lines in turn, the first of which has this number
+abbrev pub replayed : {S : Type 0} → (Bool → ℕ → List ℕ → S → Effect S) → (ℕ → Bool) → ℕ → List (List ℕ) → S → Effect S
+replayed effect starved k [] s = record { text = []; session = s }
+replayed effect starved k (line ∷ lines) s =
+    let first = effect (starved k) k line s in
+    let rest = replayed effect starved (suc k) lines first.session in
+    record rest { text = first.text ++ rest.text }
+
+-- the replay of a whole script, where memory is refused at these lines
+abbrev pub run_of : {S : Type 0} → (Bool → ℕ → List ℕ → S → Effect S) → List ℕ → List ℕ → S → Effect S
+run_of effect starved script first = replayed effect (is_starved starved) 1 (lines_of script) first
 
 -- the line had its effect, and its text is written or buffered
-abbrev pub HasEffect : ℕ → List ℕ → SessionState Totals → SessionState Totals → Option (List ℕ) → Option (List ℕ) → List ℕ → List ℕ → Type 0
-HasEffect k line old new held holds before after =
-    (starved : Bool) × (new ≡ (effect_of starved k line old).session) × IsBuffered held holds after (before ++ (effect_of starved k line old).text)
+abbrev pub HasEffect : {S : Type 0} → (Bool → ℕ → List ℕ → S → Effect S) → ℕ → List ℕ → S → S → Option (List ℕ) → Option (List ℕ) → List ℕ → List ℕ → Type 0
+HasEffect effect k line old new held holds before after =
+    (starved : Bool) × (new ≡ (effect starved k line old).session) × IsBuffered held holds after (before ++ (effect starved k line old).text)
 
 -- the writer failed within the line's text
-abbrev pub FailsWithin : ℕ → List ℕ → SessionState Totals → Option (List ℕ) → Option (List ℕ) → List ℕ → Type 0
-FailsWithin k line old held holds before =
-    (starved : Bool) × AppendsFront held holds (before ++ (effect_of starved k line old).text)
+abbrev pub FailsWithin : {S : Type 0} → (Bool → ℕ → List ℕ → S → Effect S) → ℕ → List ℕ → S → Option (List ℕ) → Option (List ℕ) → List ℕ → Type 0
+FailsWithin effect k line old held holds before =
+    (starved : Bool) × AppendsFront held holds (before ++ (effect starved k line old).text)
 
--- the replay of these lines, with memory refused at those lines
-abbrev pub run_of : List ℕ → ℕ → List (List ℕ) → SessionState Totals → Effect Totals
-run_of starved k lines s = replayed totals (is_starved starved) k lines s
-
--- a front of the report was written, and not all of it
-abbrev pub IsPartOfRun : Option (List ℕ) → Option (List ℕ) → List (List ℕ) → SessionState Totals → Type 0
-IsPartOfRun held holds all first = (starved : List ℕ) × AppendsFront held holds (run_of starved 1 all first).text
-
--- the whole report was written
-pub record IsWholeRun (held holds : Option (List ℕ)) (all : List (List ℕ)) (first last : SessionState Totals) : Type 0 where
+-- the whole report was written, and the session is as its replay leaves it
+pub record IsWholeRun {S : Type 0} (effect : Bool → ℕ → List ℕ → S → Effect S) (script : List ℕ) (first last : S) (old new : Option (List ℕ)) : Type 0 where
   pub starved : List ℕ
-  pub text : Appends held holds (run_of starved 1 all first).text
-  pub session : last ≡ (run_of starved 1 all first).session
+  pub text : Appends old new (run_of effect starved script first).text
+  pub session : last ≡ (run_of effect starved script first).session
+
+-- The writer has the report of the script and nothing else, memory having been refused at some lines or none; the outcome is
+-- Refused exactly where the session is refused at the end.
+pub record IsRun {S : Type 0} (effect : Bool → ℕ → List ℕ → S → Effect S) (refused : S → Bool) (script : List ℕ) (first : S) (told : Outcome) (old new : Option (List ℕ)) : Type 0 where
+  pub starved : List ℕ
+  pub text : Appends old new (run_of effect starved script first).text
+  pub outcome_is : told ≡ (if refused (run_of effect starved script first).session then Refused else Clean)
+
+-- the writer has a front of such a report, and some of the report is not written
+abbrev pub IsPartlyRun : {S : Type 0} → (Bool → ℕ → List ℕ → S → Effect S) → List ℕ → S → Option (List ℕ) → Option (List ℕ) → Type 0
+IsPartlyRun effect script first old new = (starved : List ℕ) × AppendsFront old new (run_of effect starved script first).text

@@ -1,5 +1,5 @@
 ghost use Rattle.std.specs.Prelude.{◌≡◌, ◌<◌, ◌≤◌, ◌+◌, ◌∷◌, length};
-ghost use Rattle.q_line.specs.Script.{lines_of};
+ghost use Rattle.q_script.specs.Script.{lines_of};
 
 use memchr::memchr;
 

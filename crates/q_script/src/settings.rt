@@ -59,6 +59,13 @@ impl RunSettings {
         }
     }
 
+    /// Each option is within its range, which the type keeps. It does nothing: its clause is for other crates.
+    pub fn ranges(&self)
+        ensures { IsInRange self.now }
+    {
+        let _ = &self.mtu;
+    }
+
     /// The most bytes that a packet may have, 1 to 65535.
     pub fn mtu(&self) -> u16
         ensures { result ≡ self.now.mtu }
@@ -71,5 +78,19 @@ impl RunSettings {
         ensures { result ≡ self.now.txqueuelen }
     {
         self.txqueuelen
+    }
+
+    /// The seed of the hash.
+    pub fn seed(&self) -> u32
+        ensures { result ≡ self.now.seed }
+    {
+        self.seed
+    }
+
+    /// How many events the recorder keeps, at most [`RunSettings::MAX_RECORDER`].
+    pub fn recorder(&self) -> u32
+        ensures { result ≡ self.now.recorder }
+    {
+        self.recorder
     }
 }

@@ -1,5 +1,6 @@
-ghost use Rattle.std.specs.Prelude.{◌≡◌, OnOk, OnErr};
+ghost use Rattle.std.specs.Prelude.{◌≡◌, ◌≤◌, OnOk, OnErr, length};
 ghost use Rattle.std.specs.Io.KnownBytes.{Appends};
+ghost use Rattle.q_show.specs.Lengths.{most_counters};
 ghost use Rattle.q_show.specs.ShowText.{qdisc_text, class_line, counters_text, filter_line};
 ghost use Rattle.q_show.specs.Written.{AppendsFront};
 
@@ -40,7 +41,8 @@ pub fn filter_text(filter: &FilterView) -> Text
 
 /// What a node has counted, marks left out: each counter behind a blank.
 pub fn counters_text(row: &Row) -> Text
-    ensures { result ≡ counters_text row.now }
+    ensures text { result ≡ counters_text row.now }
+    ensures short { length result ≤ most_counters }
 {
     let mut text = Text::new();
     put_counters(&mut text, row);

@@ -27,8 +27,4 @@ mod packet;
 #[cfg(test)]
 mod plain_fq_codel;
 #[cfg(test)]
-mod runs;
-#[cfg(test)]
 mod show;
-#[cfg(test)]
-mod streams;

@@ -1,21 +1,13 @@
 //! The program `qtree`: `qtree play` reads a script on standard input and writes its report on standard output.
 //!
-//! - [`run::run`] reads a script from any reader and writes its report to any writer. Its contract is the program's
-//!   theorem: what was written is `report settings script starved` of `specs/Report.antt`, for some list `starved` of
-//!   lines at which memory was refused, and nothing else; the outcome is `Refused` if and only if some line was faulty or
-//!   turned down; and each `RunFault` says what was written.
+//! - [`q_session::run::run`] reads a script from any reader and writes its report to any writer. Its contract is the program's
+//!   theorem: what was written is the report of the whole model's replay.
 //! - [`q_options::read_options`] reads the command line.
-//!
-//! `specs/Report.antt` takes the report of `q_report`, over the model of the whole device that keeps every packet, in a
-//! language of which the words of today are spoken. What runs a script is `q_script`, which holds one root pfifo; that its
-//! report is the same stands in `proofs/FirstPath.antt`.
 #![tactic(auto)]
 
-mod run;
-
-use crate::run::run;
 use q_options::Options;
 use q_script::RunSettings;
+use q_session::run::run;
 use std::process::ExitCode;
 use std::{env, io};
 

@@ -1,5 +1,5 @@
 use Rattle.std.proofs.Common.{◌≤◌, ◌<◌, ◌+◌, length}
-use Rattle.q_line.specs.Script.{lines_of}
+use Rattle.q_script.specs.Script.{lines_of}
 use Rattle.q_script.proofs.Playing.{Playing}
 use Rattle.q_script.proofs.run.run_lines.Given as goal
 
@@ -7,8 +7,8 @@ abbrev pub invariant-loop-rest : goal.invariant-loop-rest
 invariant-loop-rest g l =
     let contents = g.W.Write.contents in
     record {
-      playing : Playing (contents l.fn.writer) (contents l.writer) l.output (lines_of l.script) (lines_of l.rest) l.number l.fn.session l.session;
-      numbered : l.session.packets < l.number;
+      playing : Playing g.S.Session.effect (contents l.fn.writer) (contents l.writer) l.output l.script (lines_of l.rest) l.number l.fn.session l.session;
+      numbered : g.S.Session.packets l.session < l.number;
       few : l.number + length l.rest ≤ 16777217;
     }
 

@@ -1,0 +1,7 @@
+pub mod CommandLemmas
+pub mod Listed
+pub mod PollLemmas
+pub mod Reported
+pub mod ShownCounts
+pub mod ShownNodes
+pub mod Writing

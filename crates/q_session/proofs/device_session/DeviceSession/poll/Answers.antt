@@ -1,0 +1,51 @@
+use Rattle.std.proofs.Common.{◌≡◌, ◌∙◌, ℕ, ◌-◌, ◌+◌, List, sym, ap, ap₂, subst, arith}
+use Rattle.q_device.specs.DeviceSeen.{DeviceSeen}
+use Rattle.q_model.specs.Tally.{totals}
+use Rattle.q_report.specs.Report.{polls}
+use Rattle.q_report.specs.Text.{poll_line}
+use Rattle.q_script.proofs.OnErr.{on_err}
+use Rattle.q_session.specs.Session.{SessionSeen}
+use Rattle.q_session.specs.Seen.{session_seen}
+use Rattle.q_session.proofs.PollLemmas.{poll-session, poll-text}
+use Rattle.q_session.proofs.Writing.{Writing, writing-fails, writing-next, writing-start}
+use Rattle.q_session.proofs.device_session.DeviceSession.poll.Goals as goal
+
+pub loop-init : goal.loop-init
+loop-init g c =
+    let count = c.args.count in
+    let s = session_seen c.self.inside in
+    let all : count ≡ count - 0 = omega arith in
+    let held = g.W.Write.contents c.args.writer.now in
+    record {
+      text =
+          subst (λ (left : List ℕ). Writing held held c.args.output.now c.args.output.now (polls totals count c.args.self.now.state).text left)
+          (ap₂ (λ (n : ℕ) (x : SessionSeen). (polls totals n x.state).text) all (sym c.self.view_is))
+          (writing-start held c.args.output.now (polls totals count c.args.self.now.state).text);
+      state = ap₂ (λ (n : ℕ) (x : SessionSeen). (polls totals n x.state).session) all (sym c.self.view_is);
+      seed = ap (λ (x : SessionSeen). x.seed) c.self.view_is;
+      packets = ap (λ (x : SessionSeen). x.state.packets) c.self.view_is;
+    }
+
+pub returns-in_err-make_room-clause-packets : goal.returns-in_err-make_room-clause-packets
+returns-in_err-make_room-clause-packets g c = c.loop.invariant.packets
+
+pub returns-in_err-make_room-clause-err : goal.returns-in_err-make_room-clause-err
+returns-in_err-make_room-clause-err g c =
+    on_err c.from_residual.result
+    (writing-fails _ _ _ c.args.output.now c.loop.output (polls totals c.args.count c.args.self.now.state).text _ c.loop.invariant.text c.in_err-make_room.ensures.err)
+
+pub loop-preserved : goal.loop-preserved
+loop-preserved g c =
+    let s = (session_seen c.loop.self-inside).state in
+    let left = c.args.count - c.loop.counter in
+    let fewer = c.args.count - (c.loop.counter + 1) in
+    let next = record s { device = c.poll.new.self.device; waiting = c.poll.new.self.waiting } in
+    let is = ap (λ (d : DeviceSeen). record s { device = d.device; waiting = d.waiting }) c.poll.ensures.event in
+    record {
+      text = writing-next _ _ _ c.args.output.now c.loop.output c.make_room.new.self c.put_poll.new.output (polls totals c.args.count c.args.self.now.state).text (polls totals left s).text
+          (poll_line c.poll.result) (polls totals fewer next).text
+          c.loop.invariant.text c.in_ok-make_room.ensures.ok (poll-text fewer left s next c.poll.result (omega arith) is c.poll.ensures.reply) c.put_poll.ensures;
+      state = c.loop.invariant.state ∙ poll-session fewer left s next c.poll.result (omega arith) is c.poll.ensures.reply;
+      seed = c.loop.invariant.seed;
+      packets = c.loop.invariant.packets;
+    }

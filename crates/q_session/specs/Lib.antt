@@ -1,0 +1,7 @@
+pub mod Lengths
+pub mod Refusals
+pub mod Reported
+pub mod Seen
+pub mod Session
+pub mod SessionCode
+pub mod Shown

@@ -1,0 +1,34 @@
+-- The report of a run: that of the model of the whole device, which keeps whole histories, in the whole language.
+-- Memory may be refused at some lines; such a line says so.
+use Rattle.std.specs.Prelude.{◌≡◌, ℕ, List, Option, if◌then◌else◌}
+use Rattle.std.specs.Io.KnownBytes.{Appends}
+use Rattle.q_language.specs.Grammar.{every_word}
+use Rattle.q_model.specs.Tally.{Note}
+use Rattle.q_report.specs.Report.{Effect, replay_in}
+use Rattle.q_script.specs.declared.outcome.Outcome.{Outcome}
+use Rattle.q_script.specs.declared.outcome.Outcome.TheVariants.{Clean, Refused}
+use Rattle.q_script.specs.Settings.{Settings}
+use Rattle.q_session.specs.Session.{device_settings}
+use Rattle.q_show.specs.Written.{AppendsFront}
+
+-- a script's replay on a new device that keeps whole histories, where memory is refused at these lines
+abbrev pub replay : Settings → List ℕ → List ℕ → Effect (List Note)
+replay settings script starved = replay_in every_word (device_settings settings) settings.seed script starved
+
+abbrev pub report : Settings → List ℕ → List ℕ → List ℕ
+report settings script starved = (replay settings script starved).text
+
+-- Refused if some line was faulty or turned down
+abbrev pub outcome : Settings → List ℕ → List ℕ → Outcome
+outcome settings script starved = if (replay settings script starved).session.refused then Refused else Clean
+
+-- The writer has the report of the script and nothing else, memory having been refused at some lines or none, and the
+-- outcome is the report's.
+pub record IsReported (settings : Settings) (script : List ℕ) (told : Outcome) (old new : Option (List ℕ)) : Type 0 where
+  pub starved : List ℕ
+  pub text : Appends old new (report settings script starved)
+  pub outcome_is : told ≡ outcome settings script starved
+
+-- the writer has a front of such a report, and some of the report is not written
+abbrev pub IsPartlyReported : Settings → List ℕ → Option (List ℕ) → Option (List ℕ) → Type 0
+IsPartlyReported settings script old new = (starved : List ℕ) × AppendsFront old new (report settings script starved)

@@ -1,0 +1,269 @@
+ghost use Rattle.std.specs.Prelude.{◌≡◌, ◌≤◌, ◌<◌, ◌+◌, ◌++◌, ◌^◌, Bool, true, [], IfOk, IsOk, OnOk, OnErr};
+ghost use Rattle.std.specs.List.{flat_map};
+ghost use Rattle.q_language.specs.Ranges.{IsSendable};
+ghost use Rattle.q_model.specs.Tally.{totals};
+ghost use Rattle.q_report.specs.Report as report;
+ghost use Rattle.q_report.specs.Report.{answered, commanded, framed, numbered_packet, polls, show_text};
+ghost use Rattle.q_report.specs.Text.{lost_line};
+ghost use Rattle.q_script.specs.Lengths.{HasRoom, most_step};
+ghost use Rattle.q_script.specs.Script.{fault_line};
+ghost use Rattle.q_session.specs.Session.{opened, seen, IsShort};
+ghost use Rattle.q_show.specs.Written.{AppendsFront, IsBuffered};
+
+use crate::showing::{put_classes, put_filters, put_qdiscs};
+use crate::text::{put_device, put_fault, put_lost, put_poll, put_refusal};
+use q_device::laws::device_is_lawful;
+use q_device::{Command, Device, Refusal, Settings};
+use q_language::{Arrival, Line, Object, Show, read_line};
+use q_packet::{FlowHash, Head, Moment, OneAtATime, Packet};
+use q_script::{Output, RunSettings, Session};
+use q_show::WriteFault;
+use q_words::LineFault;
+use std::alloc::{AllocError, Global};
+use std::io::Write;
+use std::marker::Model;
+
+/// What the lines of a script have made so far of a device. A contract sees it as the record `SessionSeen`.
+#[derive(Drop)]
+pub struct DeviceSession {
+    device: Device,
+    /// The moment of the lines that follow.
+    moment: Moment,
+    /// How many packets were numbered.
+    packets: u32,
+    /// Whether a line had a fault or was refused.
+    refused: bool,
+    /// What the hash of a packet's key begins with, where its line gives none.
+    seed: u32,
+}
+
+impl Model for DeviceSession {
+    ghost use Rattle.q_session.specs.Session.{SessionSeen};
+    ghost use Rattle.q_session.specs.Seen.{session_seen};
+    ghost use Rattle.q_session.specs.SessionCode.{session_code};
+
+    ghost Value = { SessionSeen };
+
+    ghost coded = { session_code };
+
+    ghost view = { session_seen };
+}
+
+impl DeviceSession {
+    /// A session on a new device.
+    ///
+    /// # Errors
+    ///
+    /// `AllocError` where memory for the recorder is refused; never where it keeps no event.
+    pub fn open(alloc: Global, settings: &RunSettings) -> Result<DeviceSession, AllocError>
+        ensures new { IfOk result (λ session. session ≡ opened settings.now) }
+        ensures succeeds { settings.now.recorder ≡ 0 → IsOk result }
+    {
+        settings.ranges();
+        let device = Settings {
+            mtu: settings.mtu(),
+            txqueuelen: settings.txqueuelen(),
+            recorder: settings.recorder(),
+        };
+        Ok(DeviceSession {
+            device: Device::open(alloc, device)?,
+            moment: Moment::zero(),
+            packets: 0,
+            refused: false,
+            seed: settings.seed(),
+        })
+    }
+
+    /// A packet arrives. It takes its number also where there is no memory for it.
+    fn arrive(&mut self, number: u64, arrival: Arrival, output: &mut Output)
+        requires few { self.old.state.packets + 1 < 2 ^ 32 }
+        requires room { HasRoom output.old most_step }
+        requires len { 1 ≤ arrival.len }
+        requires prio { arrival.prio ≤ 15 }
+        ensures { (starved : Bool)
+            × (self.new ≡ (seen self.old (report.arrival totals self.old.seed starved number arrival self.old.state)).session)
+            × (output.new ≡ output.old ++ (report.arrival totals self.old.seed starved number arrival self.old.state).text) }
+    {
+        self.packets += 1;
+        let packet = self.numbered(arrival);
+        if self.device.arrive(packet, self.moment).is_err() {
+            self.refused = true;
+            put_refusal(output, number, Refusal::Memory);
+        }
+    }
+
+    /// The packet that arrives: its buffer has its number.
+    fn numbered(&self, arrival: Arrival) -> Packet
+        requires len { 1 ≤ arrival.len }
+        requires prio { arrival.prio ≤ 15 }
+        ensures { result ≡ numbered_packet self.now.seed self.now.state.packets arrival }
+    {
+        let hash = match arrival.hash {
+            Some(hash) => hash,
+            None => OneAtATime { seed: self.seed }.hash(&arrival.key),
+        };
+        Packet {
+            key: arrival.key,
+            number: u64::from(self.packets),
+            port: 0,
+            buf: self.packets,
+            hash,
+            len: arrival.len,
+            prio: arrival.prio,
+            ecn: arrival.ecn,
+        }
+    }
+
+    /// So many polls. Each writes a line.
+    fn poll<W: Write>(
+        &mut self,
+        count: u32,
+        output: &mut Output,
+        writer: &mut W,
+    ) -> Result<(), WriteFault>
+        ensures packets { self.new.state.packets ≡ self.old.state.packets }
+        ensures after { OnOk result (self.new ≡ (seen self.old (polls totals count self.old.state)).session) }
+        ensures text { OnOk result (IsBuffered (W.contents writer.old) (W.contents writer.new) output.new
+            (output.old ++ (polls totals count self.old.state).text)) }
+        ensures err { OnErr result (AppendsFront (W.contents writer.old) (W.contents writer.new)
+            (output.old ++ (polls totals count self.old.state).text)) }
+    {
+        for _ in 0..count {
+            output.make_room(writer)?;
+            put_poll(output, self.device.poll(self.moment));
+        }
+        Ok(())
+    }
+
+    /// A command, which the device does or refuses.
+    fn command(&mut self, number: u64, command: Command, output: &mut Output)
+        requires { HasRoom output.old most_step }
+        ensures { (starved : Bool)
+            × (self.new ≡ (seen self.old (commanded totals starved number command self.old.state)).session)
+            × (output.new ≡ output.old ++ (commanded totals starved number command self.old.state).text) }
+    {
+        if let Err(refusal) = self.device.command(command, self.moment) {
+            self.refused = true;
+            put_refusal(output, number, refusal);
+        }
+    }
+
+    /// The losses that wait, oldest first. Each writes a line.
+    fn reap<W: Write>(&mut self, output: &mut Output, writer: &mut W) -> Result<(), WriteFault>
+        ensures packets { self.new.state.packets ≡ self.old.state.packets }
+        ensures after { OnOk result (self.new ≡ record self.old { state = record self.old.state { waiting = [] } }) }
+        ensures text { OnOk result (IsBuffered (W.contents writer.old) (W.contents writer.new) output.new
+            (output.old ++ flat_map lost_line self.old.state.waiting)) }
+        ensures err { OnErr result (AppendsFront (W.contents writer.old) (W.contents writer.new)
+            (output.old ++ flat_map lost_line self.old.state.waiting)) }
+    {
+        while let Some(lost) = self.device.reap() {
+            output.make_room(writer)?;
+            put_lost(output, &lost);
+        }
+        Ok(())
+    }
+
+    /// Each qdisc, class or filter, from the root down.
+    fn show<W: Write>(
+        &self,
+        show: Show,
+        output: &mut Output,
+        writer: &mut W,
+    ) -> Result<(), WriteFault>
+        ensures ok { OnOk result (IsBuffered (W.contents writer.old) (W.contents writer.new) output.new
+            (output.old ++ show_text totals show self.now.state.device)) }
+        ensures err { OnErr result (AppendsFront (W.contents writer.old) (W.contents writer.new)
+            (output.old ++ show_text totals show self.now.state.device)) }
+    {
+        device_is_lawful(&self.device);
+        let tree = self.device.tree();
+        match show.object {
+            Object::Qdisc => put_qdiscs(tree, show.counters, output, writer),
+            Object::Class => put_classes(tree, output, writer),
+            Object::Filter => put_filters(tree, output, writer),
+        }
+    }
+
+    /// A line with a fault.
+    fn fault(&mut self, number: u64, fault: LineFault, output: &mut Output)
+        requires { HasRoom output.old most_step }
+        ensures after { self.new ≡ record self.old { state = record self.old.state { refused = true } } }
+        ensures text { output.new ≡ output.old ++ fault_line number fault }
+    {
+        self.refused = true;
+        put_fault(output, number, fault);
+    }
+
+    /// A line that writes one line at most.
+    fn answer(&mut self, number: u64, line: Line, output: &mut Output)
+        requires few { self.old.state.packets + 1 < 2 ^ 32 }
+        requires room { HasRoom output.old most_step }
+        requires sendable { IsSendable line }
+        requires short { IsShort line }
+        ensures { (starved : Bool)
+            × (self.new ≡ (seen self.old (answered totals self.old.seed starved number line self.old.state)).session)
+            × (output.new ≡ output.old ++ (answered totals self.old.seed starved number line self.old.state).text) }
+    {
+        match line {
+            Line::Pkt(arrival) => self.arrive(number, arrival, output),
+            Line::Frame { len, head } => self.arrive(number, framed(len, head), output),
+            Line::Tc(command) => self.command(number, command, output),
+            Line::At(moment) => self.moment = moment,
+            Line::Totals => put_device(output, &self.device.totals()),
+            Line::Blank | Line::Show(_) | Line::Poll(_) | Line::Reap => {}
+        }
+    }
+}
+
+/// The arrival of a frame, of which its head says all but the length.
+fn framed(len: u16, head: Head) -> Arrival
+    ensures { result ≡ framed len head }
+{
+    Arrival {
+        len,
+        key: head.key,
+        prio: head.prio,
+        ecn: head.ecn,
+        hash: None,
+    }
+}
+
+impl Session for DeviceSession {
+    ghost use Rattle.q_session.specs.Session.{effect_of};
+
+    ghost effect = { effect_of };
+
+    ghost packets = { λ s. s.state.packets };
+
+    ghost refused = { λ s. s.state.refused };
+
+    #[inline(always)]
+    fn run_line<W: Write>(
+        &mut self,
+        number: u64,
+        line: &[u8],
+        output: &mut Output,
+        writer: &mut W,
+    ) -> Result<(), WriteFault> {
+        match read_line(line) {
+            Ok(Line::Poll(count)) => self.poll(count, output, writer),
+            Ok(Line::Reap) => self.reap(output, writer),
+            Ok(Line::Show(show)) => self.show(show, output, writer),
+            Ok(line) => {
+                output.make_room(writer)?;
+                self.answer(number, line, output);
+                Ok(())
+            }
+            Err(fault) => {
+                output.make_room(writer)?;
+                self.fault(number, fault, output);
+                Ok(())
+            }
+        }
+    }
+
+    fn is_refused(&self) -> bool {
+        self.refused
+    }
+}

@@ -1,0 +1,20 @@
+//! Runs a script over a whole device: from its bytes to the bytes of its report.
+//!
+//! - [`run::run`] reads a script from any reader and writes its report to any writer. Its contract is the theorem of the program:
+//!   what was written is `report settings script starved` of `specs/Reported.antt`, for some list of lines at which memory was
+//!   refused, and nothing else; the outcome is `Refused` if and only if some line was faulty or turned down; and each
+//!   `RunFault` says what was written.
+//! - [`DeviceSession`] is the [`Session`](q_script::Session) of `q_script` that runs each line over a `Device` of `q_device`:
+//!   arrivals, polls, commands, show texts, losses and counters, as the report of `q_report` says.
+//!
+//! `specs/Session.antt` says what a line does to a session, by `q_report`'s definitions with totals; `proofs/Reported.antt` that
+//! the report over totals is the one over whole histories.
+#![tactic(auto)]
+
+mod device_session;
+mod refusals;
+pub mod run;
+mod showing;
+mod text;
+
+pub use device_session::DeviceSession;

@@ -1,0 +1,210 @@
+//! Runs whose reader or writer is slow or fails.
+use crate::runs::{TWO_OF_THREE, TWO_OF_THREE_REPORT};
+use q_script::{MAX_LENGTH, Outcome, RunFault, RunSettings};
+use q_session::run::run;
+use std::alloc::Global;
+use std::io::{Error, ErrorKind, Read, Result as IoResult, Write};
+use std::process::Abort;
+use std::test::Fail;
+
+/// A reader that gives a text and then so many blanks, at most `step` bytes a time.
+#[derive(Drop)]
+struct Slow<'a> {
+    text: &'a [u8],
+    blanks: usize,
+    step: usize,
+    /// The read of this number fails, counted from 0.
+    failing: Option<usize>,
+    /// So many reads are interrupted before each byte that is given.
+    interrupts: usize,
+    /// How many reads there were.
+    reads: usize,
+    interrupted: usize,
+}
+
+impl<'a> Slow<'a> {
+    fn new(text: &'a [u8], blanks: usize, step: usize) -> Slow<'a> {
+        Slow {
+            text,
+            blanks,
+            step,
+            failing: None,
+            interrupts: 0,
+            reads: 0,
+            interrupted: 0,
+        }
+    }
+}
+
+impl Read for Slow<'_> {
+    fn read(&mut self, buf: &mut [u8]) -> IoResult<usize> {
+        let number = self.reads;
+        self.reads = number.saturating_add(1);
+        if self.failing == Some(number) {
+            return Err(Error::from(ErrorKind::ConnectionReset));
+        }
+        if self.interrupted < self.interrupts {
+            self.interrupted += 1;
+            return Err(Error::from(ErrorKind::Interrupted));
+        }
+        self.interrupted = 0;
+        let most = self.step.min(buf.len());
+        if self.text.is_empty() {
+            let count = most.min(self.blanks);
+            buf[..count].fill(b' ');
+            self.blanks -= count;
+            return Ok(count);
+        }
+        let count = most.min(self.text.len());
+        let (given, rest) = self.text.split_at(count);
+        buf[..count].copy_from_slice(given);
+        self.text = rest;
+        Ok(count)
+    }
+}
+
+/// A writer that has room for so many bytes, and then fails or takes none.
+#[derive(Drop)]
+struct Narrow {
+    written: Vec<u8>,
+    room: usize,
+    fails: bool,
+}
+
+impl Write for Narrow {
+    fn write(&mut self, buf: &[u8]) -> IoResult<usize> {
+        if self.room == 0 && self.fails {
+            return Err(Error::from(ErrorKind::BrokenPipe));
+        }
+        let count = buf.len().min(self.room);
+        if self.written.extend_from_slice(&buf[..count]).is_err() {
+            return Err(Error::from(ErrorKind::OutOfMemory));
+        }
+        self.room -= count;
+        Ok(count)
+    }
+
+    fn flush(&mut self) -> IoResult<()> {
+        Ok(())
+    }
+}
+
+/// The kind of the read that failed, where one did.
+fn failed_read(told: Result<Outcome, RunFault>) -> Option<ErrorKind> {
+    match told {
+        Err(RunFault::Read(failed)) => Some(failed.kind()),
+        _ => None,
+    }
+}
+
+#[test]
+fn readers_that_are_slow_or_fail(rt: HostRuntime) {
+    let alloc = rt.alloc();
+    for step in 1..TWO_OF_THREE.len() {
+        let mut reader = Slow::new(TWO_OF_THREE, 0, step);
+        reader.interrupts = step % 3;
+        let mut written = Vec::new(alloc);
+        let told = run(alloc, &mut reader, &mut written, RunSettings::defaults());
+        assert_eq!(rt; told, Ok(Outcome::Clean), "{step} bytes a time");
+        assert_eq!(rt;
+            written.as_slice(),
+            TWO_OF_THREE_REPORT.as_bytes(),
+            "{step} bytes a time"
+        );
+
+        let mut reader = Slow::new(TWO_OF_THREE, 0, 1);
+        reader.failing = Some(step);
+        let mut written = Vec::new(alloc);
+        let told = run(alloc, &mut reader, &mut written, RunSettings::defaults());
+        assert_eq!(rt;
+            failed_read(told),
+            Some(ErrorKind::ConnectionReset),
+            "failing at read {step}"
+        );
+        assert!(rt; written.is_empty());
+    }
+}
+
+#[test]
+fn scripts_at_the_greatest_length_and_over_it(rt: HostRuntime) {
+    let alloc = rt.alloc();
+    for (blanks, want, report) in [
+        (MAX_LENGTH - 5, Ok(Outcome::Clean), "idle\n"),
+        (MAX_LENGTH - 4, Err(RunFault::TooLong), ""),
+    ] {
+        let mut reader = Slow::new(b"poll\n", blanks, usize::MAX);
+        let mut written = Vec::new(alloc);
+        let told = run(alloc, &mut reader, &mut written, RunSettings::defaults());
+        assert_eq!(rt; told, want);
+        assert_eq!(rt; written.as_slice(), report.as_bytes());
+    }
+}
+
+/// A reader whose every read is interrupted. It counts them.
+#[derive(Drop)]
+struct Interrupted {
+    reads: u64,
+}
+
+impl Read for Interrupted {
+    fn read(&mut self, _: &mut [u8]) -> IoResult<usize> {
+        self.reads = self.reads.wrapping_add(1);
+        Err(Error::from(ErrorKind::Interrupted))
+    }
+}
+
+#[test]
+fn interrupted_without_end(rt: HostRuntime) {
+    let alloc = rt.alloc();
+    let mut reader = Interrupted { reads: 0 };
+    let mut written = Vec::new(alloc);
+    let told = run(alloc, &mut reader, &mut written, RunSettings::defaults());
+    assert_eq!(rt; failed_read(told), Some(ErrorKind::Interrupted));
+    assert_eq!(rt; reader.reads, 16_777_218);
+    assert!(rt; written.is_empty());
+}
+
+/// Runs a script into a writer with this much room, and looks that it has a front of the report, as long as it can be.
+fn assert_front(
+    rt: &impl Abort,
+    alloc: Global,
+    script: &[u8],
+    report: &[u8],
+    room: usize,
+    fails: bool,
+) {
+    let mut reader = script;
+    let mut writer = Narrow {
+        written: Vec::new(alloc),
+        room,
+        fails,
+    };
+    let told = run(alloc, &mut reader, &mut writer, RunSettings::defaults());
+    assert_eq!(rt; told, Err(RunFault::Write), "room for {room} bytes");
+    assert!(rt;
+        Some(writer.written.as_slice()) == report.get(..room),
+        "room for {room} bytes"
+    );
+}
+
+#[test]
+fn writers_that_are_full(rt: HostRuntime) -> Result<(), Fail> {
+    let alloc = rt.alloc();
+    for room in 0..TWO_OF_THREE_REPORT.len() {
+        for fails in [false, true] {
+            assert_front(
+                &rt,
+                alloc,
+                TWO_OF_THREE,
+                TWO_OF_THREE_REPORT.as_bytes(),
+                room,
+                fails,
+            );
+        }
+    }
+    let report = b"idle\n".repeat(alloc, 20_000)?;
+    for room in [0, 64_000, 65_535, 65_536, 70_000, 99_999] {
+        assert_front(&rt, alloc, b"poll 20000", report.as_slice(), room, true);
+    }
+    Ok(())
+}

@@ -1,5 +1,0 @@
-pub mod FirstPath
-pub mod Reported
-pub mod WholeDevice
-pub mod WholeLines
-pub mod WholeTexts
