@@ -21,7 +21,7 @@ pub enum Spot {
 }
 
 impl Spot {
-    fn place(self) -> Result<Place, Fail> {
+    pub fn place(self) -> Result<Place, Fail> {
         match self {
             Spot::Top => Ok(Place::Top),
             Spot::Root => Ok(Place::Root),
@@ -50,6 +50,26 @@ pub enum New {
     Drr,
 }
 
+impl New {
+    pub fn kind(self) -> Result<Kind, Fail> {
+        match self {
+            New::Pfifo => Ok(Kind::Pfifo { limit: None }),
+            New::Packets(limit) => Ok(Kind::Pfifo { limit: Some(limit) }),
+            New::Bfifo(bytes) => Ok(Kind::Bfifo { limit: Some(bytes) }),
+            New::FqCodel(limit) => Ok(Kind::FqCodel(fq_codel(Some(limit), 1)?)),
+            New::Flows(count) => Ok(Kind::FqCodel(fq_codel(None, count)?)),
+            New::Prio(bands) => Ok(Kind::Prio(prio(bands)?)),
+            New::Drr => Ok(Kind::Drr),
+            New::Tbf(burst) => {
+                let rate = Rate::new(1_000_000).ok_or("rate")?;
+                let burst = Burst::new(burst).ok_or("burst")?;
+                let limit = TbfLimit::Bytes(10_000);
+                Ok(Kind::Tbf { rate, burst, limit })
+            }
+        }
+    }
+}
+
 fn prio(bands: u8) -> Result<PrioOptions, Fail> {
     let mut priomap = [0; 16];
     for (i, band) in priomap.iter_mut().enumerate() {
@@ -63,21 +83,21 @@ fn fq_codel(limit: Option<u32>, flows: u32) -> Result<FqCodelOptions, Fail> {
     Ok(options.ok_or("fq_codel")?)
 }
 
-// The packet with this number, length and priority, which is the number of its IP protocol too.
-fn packet(number: u64, len: u16, prio: u8) -> Result<Packet, Fail> {
+/// The packet with this number, length and priority, which is the number of its IP protocol too.
+pub fn packet(number: u64, len: u16, prio: u8) -> Result<Packet, Fail> {
     let key = FlowKey::new(4, prio, 0, 0, 0, 0).ok_or("key")?;
     Ok(Packet::new(0, number, 0, len, key, 0, prio, Ecn::NotEct).ok_or("packet")?)
 }
 
-// The class with these numbers.
-fn class(major: u16, minor: u16) -> Result<ClassId, Fail> {
+/// The class with these numbers.
+pub fn class(major: u16, minor: u16) -> Result<ClassId, Fail> {
     let major = Handle::new(major).ok_or("major")?;
     let minor = Minor::new(minor).ok_or("minor")?;
     Ok(ClassId { major, minor })
 }
 
-// A filter for every packet, into the class 1.
-fn every_packet() -> Result<Filter, Fail> {
+/// A filter for every packet, into the class 1.
+pub fn every_packet() -> Result<Filter, Fail> {
     Ok(Filter {
         prio: FilterPrio::new(1).ok_or("prio")?,
         protocol: Protocol::All,
@@ -215,31 +235,9 @@ impl Bench {
         major: u16,
         new: New,
     ) -> Result<Option<NotDone>, Fail> {
-        match new {
-            New::Pfifo => self.set(alloc, place, major, Kind::Pfifo { limit: None }),
-            New::Packets(limit) => self.set(
-                alloc,
-                place,
-                major,
-                Kind::Pfifo { limit: Some(limit) },
-            ),
-            New::Bfifo(bytes) => self.set(alloc, place, major, Kind::Bfifo { limit: Some(bytes) }),
-            New::FqCodel(limit) => {
-                let options = fq_codel(Some(limit), 1)?;
-                self.set(alloc, place, major, Kind::FqCodel(options))
-            }
-            New::Flows(count) => {
-                let options = fq_codel(None, count)?;
-                self.set(alloc, place, major, Kind::FqCodel(options))
-            }
-            New::Prio(bands) => self.set(alloc, place, major, Kind::Prio(prio(bands)?)),
-            New::Drr => self.set(alloc, place, major, Kind::Drr),
-            New::Tbf(burst) => {
-                let rate = Rate::new(1_000_000).ok_or("rate")?;
-                let burst = Burst::new(burst).ok_or("burst")?;
-                let limit = TbfLimit::Bytes(10_000);
-                self.set(alloc, place, major, Kind::Tbf { rate, burst, limit })
-            }
+        match new.kind() {
+            Ok(kind) => self.set(alloc, place, major, kind),
+            Err(refused) => Err(refused),
         }
     }
 

@@ -9,7 +9,11 @@ mod bench;
 #[cfg(test)]
 mod device;
 #[cfg(test)]
+mod device_bench;
+#[cfg(test)]
 mod device_calls;
+#[cfg(test)]
+mod device_commands;
 #[cfg(test)]
 mod tree;
 #[cfg(test)]

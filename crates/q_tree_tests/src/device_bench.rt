@@ -1,0 +1,396 @@
+//! A device that commands make, and calls on it with what each has to answer.
+//!
+//! With ample memory no call is refused for want of it. `rt try --test --fail-alloc N` refuses the Nth allocation of each test,
+//! and the tests pass for every N: an event that was refused has changed nothing that is seen, and the same event with memory is
+//! then answered as it has to be.
+use crate::bench::{New, Spot, class, every_packet, packet};
+use q_device::play::play;
+use q_device::{Command, Device, Event, Fate, Place, Polled, Refusal, Reply, Row, Settings, Tree};
+use q_model::{ClassView, FilterView, Handle, NodeView, Quantum};
+use q_packet::{Cause, Moment};
+use std::alloc::Global;
+use std::test::Fail;
+
+/// What a line of tc asks for.
+#[derive(Clone, Copy, Debug)]
+pub enum Ask {
+    // Where, the handle (with 0 the device chooses), and what.
+    Graft(Spot, u16, New),
+    // The handle of what is changed, and to what.
+    Change(u16, New),
+    // The handle of what is removed.
+    Prune(u16),
+    // The class by its numbers, and its quantum (0 for none).
+    AddClass(u16, u16, u32),
+    // The same.
+    ChangeClass(u16, u16, u32),
+    // The class by its numbers.
+    DelClass(u16, u16),
+    // The class by its numbers, and the IP protocol whose packets go there.
+    Match(u16, u16, u8),
+    // The handle whose filters go.
+    Unfilter(u16),
+}
+
+impl Ask {
+    fn command(self) -> Result<Command, Fail> {
+        match self {
+            Ask::Graft(spot, major, new) => graft(spot, major, new),
+            Ask::Change(major, new) => Ok(Command::QdiscChange {
+                place: None,
+                handle: Handle::new(major),
+                kind: new.kind()?,
+            }),
+            Ask::Prune(major) => Ok(Command::QdiscDel {
+                place: None,
+                handle: Handle::new(major),
+            }),
+            Ask::AddClass(major, minor, quantum) => add_class(major, minor, quantum),
+            Ask::ChangeClass(major, minor, quantum) => Ok(Command::ClassChange {
+                parent: None,
+                class: class(major, minor)?,
+                quantum: Quantum::new(quantum),
+            }),
+            Ask::DelClass(major, minor) => Ok(Command::ClassDel {
+                parent: None,
+                class: class(major, minor)?,
+            }),
+            Ask::Match(major, minor, proto) => match_protocol(major, minor, proto),
+            Ask::Unfilter(major) => Ok(Command::FilterDel {
+                parent: Handle::new(major).ok_or("handle")?,
+                prio: every_packet()?.prio,
+            }),
+        }
+    }
+}
+
+fn graft(spot: Spot, major: u16, new: New) -> Result<Command, Fail> {
+    Ok(Command::QdiscAdd {
+        place: spot.place()?,
+        handle: Handle::new(major),
+        kind: new.kind()?,
+    })
+}
+
+fn add_class(major: u16, minor: u16, quantum: u32) -> Result<Command, Fail> {
+    let class = class(major, minor)?;
+    Ok(Command::ClassAdd {
+        parent: class.major,
+        class,
+        quantum: Quantum::new(quantum),
+    })
+}
+
+fn match_protocol(major: u16, minor: u16, proto: u8) -> Result<Command, Fail> {
+    let class = class(major, minor)?;
+    let mut filter = every_packet()?;
+    filter.keys.ip_proto = Some(proto);
+    filter.minor = class.minor;
+    Ok(Command::FilterAdd {
+        parent: class.major,
+        major: class.major,
+        filter,
+    })
+}
+
+fn at(ns: u64) -> Result<Moment, Fail> {
+    Ok(Moment::new(ns).ok_or("moment")?)
+}
+
+/// A call, and what it has to answer.
+#[derive(Clone, Copy, Debug)]
+pub enum Call {
+    // The line, its moment, and the refusal.
+    Do(Ask, u64, Option<Refusal>),
+    // The number, the length, the priority and the moment of a packet, and what becomes of it.
+    Arrive(u64, u16, u8, u64, Fate),
+    // The moment, and the number of the packet that is given; 0 where the device is idle.
+    Poll(u64, u64),
+    // The moment of a poll that gives no packet, though one is queued.
+    Later(u64),
+    // The number of the packet that was lost, and why.
+    Reap(u64, Cause),
+    // No loss waits.
+    ReapNone,
+    // A place in the recorder, and the line and the moment there.
+    Recorded(usize, Ask, u64),
+    // How many events are recorded, and how many there were.
+    Events(usize, u64),
+    // The packets that arrived, were sent, refused and dropped, and that are queued.
+    Counts(Spot, [u64; 5]),
+}
+
+impl Call {
+    // The event that the call is, if it is one.
+    fn event(self) -> Result<Option<Event>, Fail> {
+        match self {
+            Call::Do(ask, ns, _) => Ok(Some(Event::Command(ask.command()?, at(ns)?))),
+            Call::Arrive(number, len, prio, ns, _) => {
+                Ok(Some(Event::Arrive(packet(number, len, prio)?, at(ns)?)))
+            }
+            Call::Poll(ns, _) | Call::Later(ns) => Ok(Some(Event::Poll(at(ns)?))),
+            _ => Ok(None),
+        }
+    }
+
+    // Whether this reply is what the call has to answer.
+    fn is_answered(self, reply: Reply) -> bool {
+        match self {
+            Call::Do(_, _, None) => reply == Reply::Done(Ok(())),
+            Call::Do(_, _, Some(refusal)) => reply == Reply::Done(Err(refusal)),
+            Call::Arrive(_, _, _, _, fate) => reply == Reply::Fate(fate),
+            Call::Poll(_, number) => gives(reply, number),
+            Call::Later(_) => reply == Reply::Polled(Polled::Later),
+            _ => false,
+        }
+    }
+}
+
+// Whether a poll was given the packet of this number; 0 where the device is idle.
+fn gives(reply: Reply, number: u64) -> bool {
+    let Reply::Polled(polled) = reply else {
+        return false;
+    };
+    match polled {
+        Polled::Packet(packet) => packet.number == number,
+        Polled::Idle => number == 0,
+        Polled::Later => false,
+    }
+}
+
+// What is seen of a node, with up to four classes and filters.
+#[derive(Clone, Copy, PartialEq, Eq)]
+struct NodeSeen {
+    node: Option<NodeView>,
+    classes: [Option<ClassView>; 4],
+    filters: [Option<FilterView>; 4],
+}
+
+impl NodeSeen {
+    fn of(tree: &Tree, i: usize) -> NodeSeen {
+        NodeSeen {
+            node: tree.node(i),
+            classes: [
+                tree.class(i, 0),
+                tree.class(i, 1),
+                tree.class(i, 2),
+                tree.class(i, 3),
+            ],
+            filters: [
+                tree.filter(i, 0),
+                tree.filter(i, 1),
+                tree.filter(i, 2),
+                tree.filter(i, 3),
+            ],
+        }
+    }
+}
+
+// What is seen of a device of up to six nodes without a change of it, but for the losses that wait.
+#[derive(Clone, Copy, PartialEq, Eq)]
+struct Seen {
+    totals: Row,
+    root: Option<Row>,
+    nodes: [NodeSeen; 6],
+    // The moment that the tree was given last.
+    clock: Moment,
+    recorded: usize,
+    last: Option<Event>,
+    events: u64,
+}
+
+impl Seen {
+    fn of(device: &Device) -> Seen {
+        let tree = device.tree();
+        let recorded = device.recorded();
+        Seen {
+            totals: device.totals(),
+            root: device.stats(Place::Root),
+            nodes: [
+                NodeSeen::of(tree, 0),
+                NodeSeen::of(tree, 1),
+                NodeSeen::of(tree, 2),
+                NodeSeen::of(tree, 3),
+                NodeSeen::of(tree, 4),
+                NodeSeen::of(tree, 5),
+            ],
+            clock: tree.clock(),
+            recorded: recorded.len(),
+            last: recorded.last().copied(),
+            events: device.events(),
+        }
+    }
+}
+
+// What an event is answered; `None` where memory was refused.
+fn reply(device: &mut Device, event: Event) -> Option<Reply> {
+    match event {
+        Event::Arrive(packet, now) => match device.arrive(packet, now) {
+            Ok(fate) => Some(Reply::Fate(fate)),
+            Err(_) => None,
+        },
+        Event::Poll(now) => Some(Reply::Polled(device.poll(now))),
+        Event::Command(command, now) => match device.command(command, now) {
+            Err(Refusal::Memory) => None,
+            done => Some(Reply::Done(done)),
+        },
+    }
+}
+
+/// A device under test.
+#[derive(Drop)]
+pub struct Bench {
+    device: Device,
+}
+
+// A pfifo of 100 packets, of at most 1500 bytes each, with a recorder of three events.
+fn settings() -> Result<Settings, Fail> {
+    Ok(Settings::new(1500, 100, 3).ok_or("settings")?)
+}
+
+impl Bench {
+    pub fn new(alloc: Global) -> Result<Bench, Fail> {
+        let settings = settings()?;
+        let device = match Device::open(alloc, settings) {
+            Ok(device) => device,
+            Err(_) => Device::open(alloc, settings)?,
+        };
+        Ok(Bench { device })
+    }
+
+    // What an event is answered. Where it was refused nothing has changed, and where memory was it happens with memory.
+    fn reply(&mut self, event: Event) -> Result<Reply, Fail> {
+        let before = Seen::of(&self.device);
+        let answer = reply(&mut self.device, event);
+        if let Some(Reply::Fate(_) | Reply::Polled(_) | Reply::Done(Ok(()))) = answer {
+            return Ok(answer.ok_or("reply")?);
+        }
+        if Seen::of(&self.device) != before {
+            return Err(Fail::from("changed by a refused event"));
+        }
+        match answer {
+            Some(refused) => Ok(refused),
+            None => Ok(reply(&mut self.device, event).ok_or("refused again")?),
+        }
+    }
+
+    // Whether the event in this place of the recorder is the command of this line at this moment.
+    fn is_recorded(&self, i: usize, ask: Ask, ns: u64) -> Result<bool, Fail> {
+        let event = Event::Command(ask.command()?, at(ns)?);
+        match self.device.recorded().get(i) {
+            Some(recorded) => Ok(*recorded == event),
+            None => Ok(false),
+        }
+    }
+
+    fn counts(&self, place: Place) -> [u64; 5] {
+        match self.device.stats(place) {
+            Some(row) => [
+                row.arrived.packets,
+                row.sent.packets,
+                row.refused.packets,
+                row.dropped.packets,
+                row.queued.packets,
+            ],
+            None => [u64::MAX; 5],
+        }
+    }
+
+    // Whether a call answers as it has to.
+    fn answers(&mut self, call: Call) -> Result<bool, Fail> {
+        match call.event() {
+            Ok(Some(event)) => self.is_answered(call, event),
+            Ok(None) => self.is_seen(call),
+            Err(refused) => Err(refused),
+        }
+    }
+
+    // Whether an event is answered as its call has to be.
+    fn is_answered(&mut self, call: Call, event: Event) -> Result<bool, Fail> {
+        match self.reply(event) {
+            Ok(reply) => Ok(call.is_answered(reply)),
+            Err(refused) => Err(refused),
+        }
+    }
+
+    // Whether a call that is no event answers as it has to.
+    fn is_seen(&mut self, call: Call) -> Result<bool, Fail> {
+        match call {
+            Call::Reap(number, cause) => match self.device.reap() {
+                Some(lost) => Ok(lost.packet.number == number && lost.cause == cause),
+                None => Ok(false),
+            },
+            Call::ReapNone => Ok(self.device.reap().is_none()),
+            Call::Recorded(i, ask, ns) => self.is_recorded(i, ask, ns),
+            Call::Events(recorded, events) => {
+                Ok(self.device.recorded().len() == recorded && self.device.events() == events)
+            }
+            Call::Counts(spot, counts) => Ok(self.counts(spot.place()?) == counts),
+            _ => Ok(false),
+        }
+    }
+
+    // Fails at the first call that does not answer as it has to.
+    fn play(&mut self, calls: &[Call]) -> Result<(), Fail> {
+        for call in calls {
+            if !self.answers(*call)? {
+                return Err(Fail::new(format_args!("{call:?}")));
+            }
+        }
+        Ok(())
+    }
+}
+
+/// Does these calls on a new device.
+pub fn called(alloc: Global, calls: &[Call]) -> Result<(), Fail> {
+    Bench::new(alloc)?.play(calls)
+}
+
+// One item more. It reads nothing of the item.
+fn add<E: Copy>(items: &mut Vec<E>, item: E) -> Result<(), Fail> {
+    if items.len() >= items.capacity() {
+        return Err(Fail::from("no room for an item"));
+    }
+    items.push_reserved(item);
+    Ok(())
+}
+
+// The event that a call is, if it is one.
+fn add_call(events: &mut Vec<Event>, call: Call) -> Result<(), Fail> {
+    match call.event() {
+        Ok(Some(event)) => add(events, event),
+        Ok(None) => Ok(()),
+        Err(refused) => Err(refused),
+    }
+}
+
+// The events among these calls.
+fn events_of(alloc: Global, calls: &[Call]) -> Result<Vec<Event>, Fail> {
+    let mut events = match Vec::with_capacity(alloc, calls.len()) {
+        Ok(events) => events,
+        Err(_) => Vec::with_capacity(alloc, calls.len())?,
+    };
+    for call in calls {
+        add_call(&mut events, *call)?;
+    }
+    Ok(events)
+}
+
+/// Plays the events among these calls. A new device answers each of them in turn with the same reply.
+pub fn played(alloc: Global, calls: &[Call]) -> Result<(), Fail> {
+    let events = events_of(alloc, calls)?;
+    let replies = match play(alloc, settings()?, events.as_slice()) {
+        Ok(replies) => replies,
+        Err(_) => play(alloc, settings()?, events.as_slice())?,
+    };
+    let mut bench = Bench::new(alloc)?;
+    for (event, reply) in events.iter().zip(replies.iter()) {
+        if bench.reply(*event)? != *reply {
+            return Err(Fail::new(format_args!("{event:?}: {reply:?}")));
+        }
+    }
+    if replies.len() != events.len() {
+        return Err(Fail::from("one reply an event"));
+    }
+    Ok(())
+}
