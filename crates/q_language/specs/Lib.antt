@@ -1,5 +1,4 @@
 pub mod Drafts
-pub mod FirstPath
 pub mod Grammar
 pub mod Laws
 pub mod Positions
