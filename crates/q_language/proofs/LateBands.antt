@@ -12,7 +12,7 @@ use Rattle.q_words.specs.Addresses.{class_of, frame_of, protocol_of}
 use Rattle.q_words.specs.Units.{rate_in, size_in, time_in}
 use Rattle.q_words.specs.Values.{handle_of, is_numeral, name_of, number_in}
 use Rattle.q_model.specs.declared.tbf_limit.TbfLimit.TheVariants as tbf_limit
-use Rattle.q_language.specs.Grammar.{after, fits, framed, head_fits, key_with, late_fault, limit_fits, longest, most, packet_with, option_fits, priomap_fits, row_of, value}
+use Rattle.q_language.specs.Grammar.{after, every_word, fits, framed, head_fits, key_with, late_fault, limit_fits, longest, most, packet_with, option_fits, priomap_fits, row_of, value}
 use Rattle.q_language.specs.Laws.{reached}
 use Rattle.q_language.specs.Positions
 use Rattle.q_language.specs.Positions.{HeadValue, OptionValue, Position, Row, behind_drr, behind_flower, behind_kind, once, option_rows, table}
@@ -172,7 +172,7 @@ heads_lead (of_class v) h index = (once_leads _ _ index tt, (once_leads _ _ inde
 heads_lead (of_filter v) h index =
     (once_leads _ _ index tt, (once_leads _ _ index tt, (once_leads _ _ index tt, (once_leads _ _ index tt, (once_leads _ _ index tt, (flower_stands v h index, tt))))))
 
-fits_leads : (p : Position) (i : ℕ) (word : List ℕ) → 1 ≤ i → Stands p i → Leads (fits i p word) (suc i)
+fits_leads : (p : Position) (i : ℕ) (word : List ℕ) → 1 ≤ i → Stands p i → Leads (fits every_word i p word) (suc i)
 fits_leads Positions.at i word o s = value_leads (number_in 0 (2 ^ 62) word) (λ n. Positions.whole (line.At n)) (suc i) (λ n. tt)
 fits_leads Positions.pkt i word o s = value_leads (number_in 1 65535 word) (λ n. Positions.packet (no_fields n)) (suc i) (λ n. tt)
 fits_leads Positions.frame i word o s = value_leads (number_in 1 65535 word) (λ n. Positions.frame_bytes n) (suc i) (λ n. tt)
@@ -204,10 +204,10 @@ fits_leads (Positions.show_line x named) i word o s = rows_lead (table (Position
 fits_leads (Positions.done v h) i word o s = tt
 fits_leads (Positions.whole l) i word o s = tt
 
-after_leads : (p : Position) (i : ℕ) (word : List ℕ) → 1 ≤ i → Stands p i → Leads (after i p word) (suc i)
+after_leads : (p : Position) (i : ℕ) (word : List ℕ) → 1 ≤ i → Stands p i → Leads (after every_word i p word) (suc i)
 after_leads p i word o s = by_test (is_utf8 word)
   where
-    by_test : (b : Bool) → Leads (if b then fits i p word else Err wrong.BadUtf8) (suc i)
+    by_test : (b : Bool) → Leads (if b then fits every_word i p word else Err wrong.BadUtf8) (suc i)
     by_test true = fits_leads p i word o s
     by_test false = tt
 
@@ -221,7 +221,7 @@ err_not_ok r x q d e = cc
 pub reached_stands : (ws : List (List ℕ)) (p q : Position) (i next : ℕ) → next ≡ i + length ws → 1 ≤ i → Stands p i → reached p i ws ≡ Ok q → Stands q next
 reached_stands [] p q i next n o s e =
     let same : p ≡ q = ok_same (Ok p) p q refl e in let here : i ≡ next = omega arith in subst (λ (q : Position). Stands q next) same (subst (λ k. Stands p k) here s)
-reached_stands (w ∷ ws) p q i next n o s e = by_word (reached_stands ws) (after i p w) (after_leads p i w o s) e
+reached_stands (w ∷ ws) p q i next n o s e = by_word (reached_stands ws) (after every_word i p w) (after_leads p i w o s) e
   where
     by_word : ((p q : Position) (i next : ℕ) → next ≡ i + length ws → 1 ≤ i → Stands p i → reached p i ws ≡ Ok q → Stands q next)
         → (r : Result Position Wrong) → Leads r (suc i) → (elim r as (λ _. Result Position Wrong) [ Ok p ↦ reached p (suc i) ws | Err e ↦ Err e ]) ≡ Ok q → Stands q next

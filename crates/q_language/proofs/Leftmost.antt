@@ -3,8 +3,9 @@ use Rattle.std.proofs.Common.{◌≡◌, ◌∙◌, ℕ, zero, suc, ◌+◌, ◌
 use Rattle.std.specs.Str.{is_utf8, chars}
 use Rattle.std.proofs.lemmas.List.{length-take-le}
 use Rattle.q_words.specs.Words.{is_blank_line}
-use Rattle.q_language.specs.Laws.{index_of, FitSoFar, IsAtWord, IsAtEnd, IsJudged, FaultsAreLeftmost, reached}
-use Rattle.q_language.specs.Grammar.{after, ended, ends, fits, late_fault, line_of_words, numbered, rest_of, said}
+use Rattle.q_line.specs.Laws.{index_of}
+use Rattle.q_language.specs.Grammar.{after, ended, ends, every_word, fits, late_fault, line_of_words, numbered, rest_of, said}
+use Rattle.q_language.specs.Laws.{FitSoFar, IsAtWord, IsAtEnd, IsJudged, FaultsAreLeftmost, reached}
 use Rattle.q_language.specs.Positions.{Position, first}
 use Rattle.q_language.specs.declared.line.Line.{Line}
 use Rattle.q_language.specs.declared.line.Line.TheVariants.{Blank}
@@ -16,15 +17,15 @@ use Rattle.q_language.proofs.LateBands.{Stands, late_within, reached_stands}
 use Rattle.q_language.proofs.Steps.{continued, rest_of-cons}
 
 abbrev read : Position → ℕ → List (List ℕ) → Result Line LineFault
-read p i ws = rest_of p i ws
+read p i ws = rest_of every_word p i ws
 
 abbrev bad : List (List ℕ)
 bad = (255 ∷ []) ∷ []
 
-word_fits : (p q : Position) (i : ℕ) (w : List ℕ) (ws : List (List ℕ)) → after i p w ≡ Ok q → read p i (w ∷ ws) ≡ read q (suc i) ws
+word_fits : (p q : Position) (i : ℕ) (w : List ℕ) (ws : List (List ℕ)) → after every_word i p w ≡ Ok q → read p i (w ∷ ws) ≡ read q (suc i) ws
 word_fits p q i w ws e = rest_of-cons p i w ws ∙ ap (λ r. continued r i ws) e
 
-word_faults : (p : Position) (x : Wrong) (i : ℕ) (w : List ℕ) (ws : List (List ℕ)) → after i p w ≡ Err x → read p i (w ∷ ws) ≡ Err (numbered x i)
+word_faults : (p : Position) (x : Wrong) (i : ℕ) (w : List ℕ) (ws : List (List ℕ)) → after every_word i p w ≡ Err x → read p i (w ∷ ws) ≡ Err (numbered x i)
 word_faults p x i w ws e = rest_of-cons p i w ws ∙ ap (λ r. continued r i ws) e
 
 not_utf8 : is_utf8 (255 ∷ []) ≡ false
@@ -32,7 +33,7 @@ unfolding is_utf8 chars lib.Utf8.encode
 not_utf8 = refl
 
 bad_word : (p : Position) (i : ℕ) → read p i bad ≡ Err (fault.BadUtf8 i)
-bad_word p i = word_faults p wrong.BadUtf8 i (255 ∷ []) [] (ap (λ (b : Bool). if b then fits i p (255 ∷ []) else Err wrong.BadUtf8) not_utf8)
+bad_word p i = word_faults p wrong.BadUtf8 i (255 ∷ []) [] (ap (λ (b : Bool). if b then fits every_word i p (255 ∷ []) else Err wrong.BadUtf8) not_utf8)
 
 index_numbered : (x : Wrong) (i : ℕ) → index_of (numbered x i) ≡ i
 index_numbered wrong.UnknownWord i = refl
@@ -88,7 +89,7 @@ at_end p i f e = record { fit = λ n next q h. fit n next q h; judged = (p, refl
     by_late None q = by_ends q (ends p) refl
 
 -- a word that does not fit
-at_word : (p : Position) (i : ℕ) (w : List ℕ) (ws : List (List ℕ)) (x : Wrong) → after i p w ≡ Err x → AtWord p i (w ∷ ws) (numbered x i)
+at_word : (p : Position) (i : ℕ) (w : List ℕ) (ws : List (List ℕ)) (x : Wrong) → after every_word i p w ≡ Err x → AtWord p i (w ∷ ws) (numbered x i)
 at_word p i w ws x e = let index = index_numbered x i in record {
   low = omega arith;
   high = omega arith;
@@ -105,7 +106,7 @@ at_word p i w ws x e = let index = index_numbered x i in record {
     from (suc n) others h = word_faults p x i w (take n ws ++ others) e
 
 -- a word that fits, with the fault at a word behind it
-past_word : (p q : Position) (i : ℕ) (w : List ℕ) (ws : List (List ℕ)) (f : LineFault) → after i p w ≡ Ok q → AtWord q (suc i) ws f → AtWord p i (w ∷ ws) f
+past_word : (p q : Position) (i : ℕ) (w : List ℕ) (ws : List (List ℕ)) (f : LineFault) → after every_word i p w ≡ Ok q → AtWord q (suc i) ws f → AtWord p i (w ∷ ws) f
 past_word p q i w ws f e rest = let low = rest.low in let high = rest.high in record {
   low = omega arith;
   high = omega arith;
@@ -125,7 +126,7 @@ abbrev step : ℕ → List (List ℕ) → Result Position Wrong → Result Posit
 step i ws r = elim r as (λ _. Result Position Wrong) [ Ok next ↦ reached next (suc i) ws | Err x ↦ Err x ]
 
 -- a word that fits, with the fault at the end
-past_end : (p q : Position) (i : ℕ) (w : List ℕ) (ws : List (List ℕ)) (f : LineFault) → after i p w ≡ Ok q → AtEnd q (suc i) ws f → AtEnd p i (w ∷ ws) f
+past_end : (p q : Position) (i : ℕ) (w : List ℕ) (ws : List (List ℕ)) (f : LineFault) → after every_word i p w ≡ Ok q → AtEnd q (suc i) ws f → AtEnd p i (w ∷ ws) f
 past_end p q i w ws f e rest = record { fit = λ n next k h. at n next k h; judged = (rest.judged.0, ap (step i ws) e ∙ rest.judged.1, judged) }
   where
     judged : IsJudged rest.judged.0 (i + length (w ∷ ws)) f
@@ -137,18 +138,18 @@ past_end p q i w ws f e rest = record { fit = λ n next k h. at n next k h; judg
 
 from_here : (ws : List (List ℕ)) (p : Position) (i : ℕ) (f : LineFault) → read p i ws ≡ Err f → From p i ws f
 from_here [] p i f e = inr (at_end p i f e)
-from_here (w ∷ ws) p i f e = by_word (from_here ws) (after i p w) refl
+from_here (w ∷ ws) p i f e = by_word (from_here ws) (after every_word i p w) refl
   where
-    past : (q : Position) → after i p w ≡ Ok q → From q (suc i) ws f → From p i (w ∷ ws) f
+    past : (q : Position) → after every_word i p w ≡ Ok q → From q (suc i) ws f → From p i (w ∷ ws) f
     past q k (inl rest) = inl (past_word p q i w ws f k rest)
     past q k (inr rest) = inr (past_end p q i w ws f k rest)
 
-    by_word : ((q : Position) (j : ℕ) (g : LineFault) → read q j ws ≡ Err g → From q j ws g) → (r : Result Position Wrong) → after i p w ≡ r → From p i (w ∷ ws) f
+    by_word : ((q : Position) (j : ℕ) (g : LineFault) → read q j ws ≡ Err g → From q j ws g) → (r : Result Position Wrong) → after every_word i p w ≡ r → From p i (w ∷ ws) f
     by_word more (Ok q) k = past q k (more q (suc i) f (sym (word_fits p q i w ws k) ∙ e))
     by_word more (Err x) k = inl (subst (λ g. AtWord p i (w ∷ ws) g) (same_fault _ _ _ (word_faults p x i w ws k) e) (at_word p i w ws x k))
 
 -- a line that is not blank is read from the first position on, whatever stands behind its first word
-not_blank : (w : List ℕ) (ws : List (List ℕ)) → is_blank_line (w ∷ ws) ≡ false → (others : List (List ℕ)) → line_of_words (w ∷ others) ≡ read first 1 (w ∷ others)
+not_blank : (w : List ℕ) (ws : List (List ℕ)) → is_blank_line (w ∷ ws) ≡ false → (others : List (List ℕ)) → line_of_words every_word (w ∷ others) ≡ read first 1 (w ∷ others)
 not_blank [] ws e others = refl
 not_blank (b ∷ bytes) ws e others = ap (λ (t : Bool). if t then Ok Blank else read first 1 ((b ∷ bytes) ∷ others)) e
 
@@ -180,7 +181,7 @@ leftmost (w ∷ ws) f e = by_blank (is_blank_line (w ∷ ws)) refl
         before here zero h = nothing_fits
         before here (suc n) h = let high = here.high in fitting n (omega arith) (here.before (suc n) (suc (suc n)) (omega arith) (omega arith))
 
-        behind : AtWord first 1 (w ∷ ws) f → (n : ℕ) (others : List (List ℕ)) → index_of f ≤ n → n ≤ length (w ∷ ws) → line_of_words (take n (w ∷ ws) ++ others) ≡ Err f
+        behind : AtWord first 1 (w ∷ ws) f → (n : ℕ) (others : List (List ℕ)) → index_of f ≤ n → n ≤ length (w ∷ ws) → line_of_words every_word (take n (w ∷ ws) ++ others) ≡ Err f
         behind here zero others h k = let low = here.low in absurd (omega arith)
         behind here (suc n) others h k = not_blank w ws q (take n ws ++ others) ∙ here.behind (suc n) others (omega arith) k
 

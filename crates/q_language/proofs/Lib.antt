@@ -1,10 +1,11 @@
+pub mod FirstPathLemmas
 pub mod LateBands
 pub mod Leftmost
 pub mod Steps
 pub mod BandLemmas
-pub mod SpelledWords
 pub mod SpelledSteps
 pub mod SpelledValues
+pub mod PacketRanges
 pub mod SpelledAddresses
 pub mod SpelledAddresses6
 pub mod SpelledProtocols
@@ -15,4 +16,3 @@ pub mod SpelledKinds
 pub mod SpelledFilters
 pub mod SpelledCommands
 pub mod SpelledLines
-pub mod PacketRanges

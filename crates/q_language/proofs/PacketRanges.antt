@@ -21,7 +21,7 @@ use Rattle.q_words.specs.declared.line_fault.LineFault.TheVariants as fault
 use Rattle.q_words.specs.declared.wrong.Wrong.{Wrong}
 use Rattle.q_words.specs.declared.wrong.Wrong.TheVariants as wrong
 use Rattle.q_language.specs.Drafts.{OptionDraft, Verb, of_qdisc, of_class, of_filter, no_fields}
-use Rattle.q_language.specs.Grammar.{after, ended, ends, fits, framed, head_fits, key_with, late_fault, limit_fits, line_of, longest, most, numbered, option_fits, packet_address, packet_with, priomap_fits, removal, rest_of, row_of, said, value}
+use Rattle.q_language.specs.Grammar.{after, ended, ends, every_word, fits, framed, head_fits, key_with, late_fault, limit_fits, line_of, longest, most, numbered, option_fits, packet_address, packet_with, priomap_fits, removal, rest_of, row_of, said, value}
 use Rattle.q_language.specs.Positions
 use Rattle.q_language.specs.Positions.{HeadValue, OptionValue, Position, Row, behind_drr, behind_flower, behind_kind, once, option_rows, table}
 use Rattle.q_language.specs.Ranges.{IsSendable}
@@ -208,7 +208,7 @@ options_lead v h kind_name.FqCodel o =
     (once_leads _ _ tt, (once_leads _ _ tt, (once_leads _ _ tt, (once_leads _ _ tt, (once_leads _ _ tt, (once_leads _ _ tt, (once_leads _ _ tt, (once_leads _ _ tt, tt))))))))
 
 -- a word that fits keeps it so
-fits_leads : (p : Position) (i : ℕ) (word : List ℕ) → IsSound p → Leads (fits i p word)
+fits_leads : (p : Position) (i : ℕ) (word : List ℕ) → IsSound p → Leads (fits every_word i p word)
 fits_leads Positions.at i word s = any_leads (number_in 0 (2 ^ 62) word) (λ n. Positions.whole (line.At n)) (λ n. tt)
 fits_leads Positions.pkt i word s = value_leads (λ n. (1 ≤ n) × (n ≤ 65535)) (number_in 1 65535 word) (λ n. Positions.packet (no_fields n)) (number_within 1 65535 word) (λ n q. (q.0, q.1, tt))
 fits_leads Positions.frame i word s = value_leads (λ n. (1 ≤ n) × (n ≤ 65535)) (number_in 1 65535 word) (λ n. Positions.frame_bytes n) (number_within 1 65535 word) (λ n q. q)
@@ -240,10 +240,10 @@ fits_leads (Positions.show_line x named) i word s = rows_lead (table (Positions.
 fits_leads (Positions.done v h) i word s = tt
 fits_leads (Positions.whole l) i word s = tt
 
-after_leads : (p : Position) (i : ℕ) (word : List ℕ) → IsSound p → Leads (after i p word)
+after_leads : (p : Position) (i : ℕ) (word : List ℕ) → IsSound p → Leads (after every_word i p word)
 after_leads p i word s = by_test (is_utf8 word)
   where
-    by_test : (b : Bool) → Leads (if b then fits i p word else Err wrong.BadUtf8)
+    by_test : (b : Bool) → Leads (if b then fits every_word i p word else Err wrong.BadUtf8)
     by_test true = fits_leads p i word s
     by_test false = tt
 
@@ -304,19 +304,19 @@ ended_sendable p i s = by_end (late_fault p) (ends p) (ends_sendable p s)
 
 -- the words of a line
 
-rest_sendable : (ws : List (List ℕ)) (p : Position) (i : ℕ) → IsSound p → IfOk (rest_of p i ws) IsSendable
+rest_sendable : (ws : List (List ℕ)) (p : Position) (i : ℕ) → IsSound p → IfOk (rest_of every_word p i ws) IsSendable
 rest_sendable [] p i s = ended_sendable p i s
-rest_sendable (w ∷ ws) p i s = by_word (rest_sendable ws) (after i p w) (after_leads p i w s)
+rest_sendable (w ∷ ws) p i s = by_word (rest_sendable ws) (after every_word i p w) (after_leads p i w s)
   where
-    by_word : ((p : Position) (i : ℕ) → IsSound p → IfOk (rest_of p i ws) IsSendable) → (r : Result Position Wrong) → Leads r
-        → IfOk (elim r as (λ _. Result Line LineFault) [ Ok next ↦ rest_of next (suc i) ws | Err e ↦ Err (numbered e i) ]) IsSendable
+    by_word : ((p : Position) (i : ℕ) → IsSound p → IfOk (rest_of every_word p i ws) IsSendable) → (r : Result Position Wrong) → Leads r
+        → IfOk (elim r as (λ _. Result Line LineFault) [ Ok next ↦ rest_of every_word next (suc i) ws | Err e ↦ Err (numbered e i) ]) IsSendable
     by_word more (Ok q) s = more q (suc i) s
     by_word more (Err e) s = tt
 
 line_sendable : (bytes : List ℕ) → IfOk (line_of bytes) IsSendable
 line_sendable bytes = by_blank (is_blank_line (words_in bytes))
   where
-    by_blank : (b : Bool) → IfOk (if b then Ok line.Blank else rest_of Positions.first 1 (words_in bytes)) IsSendable
+    by_blank : (b : Bool) → IfOk (if b then Ok line.Blank else rest_of every_word Positions.first 1 (words_in bytes)) IsSendable
     by_blank true = tt
     by_blank false = rest_sendable (words_in bytes) Positions.first 1 tt
 

@@ -18,7 +18,7 @@ use Rattle.q_words.specs.Values.{is_colon, is_numeral}
 use Rattle.q_words.specs.declared.wrong.Wrong.{Wrong}
 use Rattle.q_words.specs.declared.wrong.Wrong.TheVariants.{BadNumber, OutOfRange}
 use Rattle.q_language.specs.Spelling.{octets}
-use Rattle.q_language.proofs.SpelledWords.{both, digits_from_numeral, every_digit, left_of, right_of}
+use Rattle.q_line.proofs.SpelledWords.{both, digits_from_numeral, every_digit, left_of, right_of}
 use Rattle.q_language.proofs.SpelledValues.{drop_past, none_of, prefix_to}
 
 abbrev pub Plain : (ℕ → Bool) → List ℕ → Type 0

@@ -12,7 +12,7 @@ use Rattle.q_model.specs.Options.{bits_of}
 use Rattle.q_words.specs.Addresses.{address_of, begins_with_two, gap_at, groups_in, ipv4_of, ipv6_of, joined}
 use Rattle.q_words.specs.Units.{is_point}
 use Rattle.q_words.specs.Values.{is_colon}
-use Rattle.q_language.proofs.SpelledWords.{both, digit_not_blank, digit_not_colon, digit_small, every_digit, left_of, right_of}
+use Rattle.q_line.proofs.SpelledWords.{both, digit_not_blank, digit_not_colon, digit_small, every_digit, left_of, right_of}
 use Rattle.q_language.proofs.SpelledSteps.{Word}
 use Rattle.q_words.specs.Words.{is_blank, is_filled}
 use Rattle.q_language.proofs.SpelledAddresses.{Plain, address4_read, all_joined, any_at, digit_plain, not_true, octets_all, split_joined}

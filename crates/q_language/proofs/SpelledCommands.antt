@@ -4,8 +4,8 @@ use Rattle.std.specs.Fmt.{decimal}
 use Rattle.q_words.specs.Addresses.{class_of}
 use Rattle.q_words.specs.Units.{size_in}
 use Rattle.q_words.specs.Values.{handle_of}
-use Rattle.q_language.specs.Laws.{IsName}
-use Rattle.q_language.proofs.SpelledWords.{handle_read, number_read}
+use Rattle.q_line.specs.Laws.{IsName}
+use Rattle.q_line.proofs.SpelledWords.{handle_read, number_read}
 use Rattle.q_model.specs.Numbers.{IsHandle, IsQuantum, IsFilterPrio}
 use Rattle.q_model.specs.Ranges.{IsClassId, IsCommand, IsFilter, IsKind, IsPlace}
 use Rattle.q_model.specs.declared.class_id.ClassId.{ClassId}
@@ -16,7 +16,7 @@ use Rattle.q_model.specs.declared.kind.Kind.{Kind}
 use Rattle.q_model.specs.declared.place.Place.{Place}
 use Rattle.q_model.specs.declared.place.Place.TheVariants as place
 use Rattle.q_language.specs.Drafts.{Verb, of_qdisc, of_class, of_filter, no_head, no_keys, qdisc_line, qdisc_del_line}
-use Rattle.q_language.specs.Grammar.{ended, fits, most, said, value}
+use Rattle.q_language.specs.Grammar.{ended, every_word, fits, most, said, value}
 use Rattle.q_language.specs.Positions
 use Rattle.q_language.specs.Positions.{Position, first, tc, head, head_value, keys, key_value, quantum_of, quantum_value}
 use Rattle.q_language.specs.Ranges.{IsAgreed, IsBelow, IsWhole}
@@ -40,7 +40,7 @@ abbrev pub named : HeadDraft
 named = record no_head { named = true }
 
 -- tc OBJECT VERB dev NAME
-pub starts : (object verb name : List ℕ) (p : Position) (v : Verb) → Word object → Word verb → ((i : ℕ) → fits i (tc false) object ≡ Ok p) → ((i : ℕ) → fits i p verb ≡ Ok (head v no_head)) → IsName name
+pub starts : (object verb name : List ℕ) (p : Position) (v : Verb) → Word object → Word verb → ((i : ℕ) → fits every_word i (tc false) object ≡ Ok p) → ((i : ℕ) → fits every_word i p verb ≡ Ok (head v no_head)) → IsName name
     → Path first (head v named) (change_words object verb name)
 starts object verb name p v a b f g is_name =
     chain first (tc false) (head v named) (codes "tc" ∷ []) (object ∷ verb ∷ codes "dev" ∷ name ∷ []) (word first (tc false) (codes "tc") (refl, refl) (λ i. refl))
@@ -123,7 +123,7 @@ quantum_path v h q is =
 
 -- a class's parent, its name, drr and its quantum
 class_says : (v : ClassVerb) (n : Option ℕ) (c : ClassId) (q : Option ℕ) (made : Command) → IfSome n IsHandle → IsClassId c → IfSome q IsQuantum
-    → ((i : ℕ) → fits i (head (of_class v) (owned n (Some c))) (codes "drr") ≡ Ok (quantum_of v (owned n (Some c)) None))
+    → ((i : ℕ) → fits every_word i (head (of_class v) (owned n (Some c))) (codes "drr") ≡ Ok (quantum_of v (owned n (Some c)) None))
     → ((i : ℕ) → ended (quantum_of v (owned n (Some c)) q) i ≡ Ok (Tc made))
     → Says (head (of_class v) named) (Tc made) (given (codes "parent") handle_word n ++ ((codes "classid" ∷ class_word c ∷ codes "drr" ∷ []) ++ given (codes "quantum") bytes_word q))
 class_says v n c q made parent is quantum drr last =

@@ -6,7 +6,8 @@ use Rattle.q_words.specs.Addresses.{is_slash, prefix_of, protocol_number}
 use Rattle.q_words.specs.Values.{number_in}
 use Rattle.q_words.specs.Words.{is_blank}
 use Rattle.q_words.specs.declared.wrong.Wrong.TheVariants.{OutOfRange}
-use Rattle.q_language.proofs.SpelledWords.{both, digit_not_blank, digit_small, every_digit, decimal_digits}
+use Rattle.q_line.proofs.SpelledWords.{both, digit_not_blank, digit_small, every_digit}
+use Rattle.q_line.proofs.SpelledLines.{decimal_digits}
 use Rattle.q_model.specs.Numbers.{IsWithin}
 use Rattle.q_model.specs.Options.{Prefix, IsPrefix, bits_of}
 use Rattle.q_model.specs.Ranges.{IsFilter}

@@ -14,7 +14,7 @@ use Rattle.q_model.specs.declared.kind.Kind.TheVariants as kind
 use Rattle.q_model.specs.declared.tbf_limit.TbfLimit.{TbfLimit}
 use Rattle.q_model.specs.declared.tbf_limit.TbfLimit.TheVariants as tbf_limit
 use Rattle.q_language.specs.Drafts.{of_qdisc, OptionDraft, no_options, qdisc_line}
-use Rattle.q_language.specs.Grammar.{fits, longest, most, said, value}
+use Rattle.q_language.specs.Grammar.{every_word, fits, longest, most, said, value}
 use Rattle.q_language.specs.Positions
 use Rattle.q_language.specs.Positions.{Position, behind_kind, head, options, option_value}
 use Rattle.q_language.specs.Spelling.{bytes_word, ecn_words, fq_codel_words, given, kind_words, rate_word, tbf_limit_words, time_word}
@@ -35,7 +35,7 @@ Makes qdisc_verb.Del = ⊥
 Makes _ = ⊤
 
 kind_path : (v : QdiscVerb) (h : HeadDraft) (k : KindName) (w : List ℕ) → Makes v → Word w
-    → ((i : ℕ) → fits i (head (of_qdisc v) h) w ≡ Ok (behind_kind v h k)) → Path (head (of_qdisc v) h) (options v h k no_options) (w ∷ [])
+    → ((i : ℕ) → fits every_word i (head (of_qdisc v) h) w ≡ Ok (behind_kind v h k)) → Path (head (of_qdisc v) h) (options v h k no_options) (w ∷ [])
 kind_path qdisc_verb.Add h k w m a f = word (head (of_qdisc qdisc_verb.Add) h) (options qdisc_verb.Add h k no_options) w a f
 kind_path qdisc_verb.Change h k w m a f = word (head (of_qdisc qdisc_verb.Change) h) (options qdisc_verb.Change h k no_options) w a f
 kind_path qdisc_verb.Del h k w m a f = absurd m

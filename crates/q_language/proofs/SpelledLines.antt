@@ -2,12 +2,13 @@
 use Rattle.std.proofs.Common.{◌≡◌, ◌∙◌, ℕ, ◌<◌, ◌≤◌, ◌^◌, Bool, true, false, List, [], ◌∷◌, ◌++◌, Ok, sym, refl, ap, arith, if◌then◌else◌, codes, lit<}
 use Rattle.std.specs.List.{join_with_byte}
 use Rattle.std.specs.Fmt.{decimal}
-use Rattle.q_language.specs.Laws.{IsName, SpellingsAreRead}
-use Rattle.q_language.proofs.SpelledWords.{number_read, words_of_spelling}
-use Rattle.q_language.specs.Grammar.{fits, line_of, line_of_words, rest_of, value}
+use Rattle.q_line.specs.Laws.{IsName}
+use Rattle.q_line.proofs.SpelledWords.{number_read, words_of_spelling}
+use Rattle.q_language.specs.Grammar.{every_word, fits, line_of, line_of_words, rest_of, value}
 use Rattle.q_packet.specs.Head.{head as head_in}
 use Rattle.q_words.specs.Words.{is_blank_line}
 use Rattle.q_words.specs.Values.{number_in}
+use Rattle.q_language.specs.Laws.{SpellingsAreRead}
 use Rattle.q_language.specs.Positions
 use Rattle.q_language.specs.Positions.{Position, first, show_line, tc, whole}
 use Rattle.q_model.specs.Ranges.{IsCommand}
@@ -25,8 +26,8 @@ use Rattle.q_language.proofs.SpelledCommands.{command_says}
 use Rattle.q_language.proofs.SpelledSteps.{Path, Says, Word, decimal_word, ended_says, nowhere, pair, chain, word}
 
 -- a line of a keyword and a number
-number_line : (p : Position) (w : List ℕ) (low high n : ℕ) (said : ℕ → Line) → Word w → ((i : ℕ) → fits i first w ≡ Ok p)
-    → ((i : ℕ) (v : List ℕ) → fits i p v ≡ value (number_in low high v) (λ n. whole (said n)))
+number_line : (p : Position) (w : List ℕ) (low high n : ℕ) (said : ℕ → Line) → Word w → ((i : ℕ) → fits every_word i first w ≡ Ok p)
+    → ((i : ℕ) (v : List ℕ) → fits every_word i p v ≡ value (number_in low high v) (λ n. whole (said n)))
     → low ≤ n → n ≤ high → high < 2 ^ 64 → Says first (said n) (w ∷ decimal n ∷ [])
 number_line p w low high n said a f reads above below small =
     ended_says first (whole (said n)) (said n) (w ∷ decimal n ∷ [])
@@ -58,13 +59,13 @@ show_says s =
     (λ i. refl)
 
 -- a line without a value
-plain_says : (w : List ℕ) (l : Line) → Word w → ((i : ℕ) → fits i first w ≡ Ok (whole l)) → Says first l (w ∷ [])
+plain_says : (w : List ℕ) (l : Line) → Word w → ((i : ℕ) → fits every_word i first w ≡ Ok (whole l)) → Says first l (w ∷ [])
 plain_says w l a f = ended_says first (whole l) l (w ∷ []) (word first (whole l) w a f) (λ i. refl)
 
 pub line_read : (l : Line) (w : List ℕ) (ws : List (List ℕ)) → Says first l (w ∷ ws) → is_blank_line (w ∷ ws) ≡ false → line_of (join_with_byte 32 (w ∷ ws)) ≡ Ok l
 line_read l w ws s filled =
-    ap line_of_words (words_of_spelling (w ∷ ws) s.good)
-    ∙ ap (λ (t : Bool). if t then Ok line.Blank else rest_of first 1 (w ∷ ws)) filled
+    ap (line_of_words every_word) (words_of_spelling (w ∷ ws) s.good)
+    ∙ ap (λ (t : Bool). if t then Ok line.Blank else rest_of every_word first 1 (w ∷ ws)) filled
     ∙ s.read 1
 
 -- the words of each command begin with tc

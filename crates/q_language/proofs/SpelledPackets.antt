@@ -19,7 +19,7 @@ use Rattle.q_words.specs.Addresses.{Address, bytes_from, frame_of}
 use Rattle.q_words.specs.Values.{is_digits, is_numeral, number_in}
 use Rattle.q_words.specs.Words.{is_blank, is_filled}
 use Rattle.q_words.specs.declared.wrong.Wrong.TheVariants.{BadNumber, OutOfRange}
-use Rattle.q_language.proofs.SpelledWords.{both, digit_not_blank, digit_small, every_digit, left_of, number_read, right_of}
+use Rattle.q_line.proofs.SpelledWords.{both, digit_not_blank, digit_small, every_digit, left_of, number_read, right_of}
 use Rattle.q_model.specs.Filters.{family_of}
 use Rattle.q_model.specs.Numbers.{IsWithin, most_u32}
 use Rattle.q_model.specs.Options.{bits_of}

@@ -2,21 +2,23 @@
 use Rattle.std.proofs.Common.{◌≡◌, ◌∙◌, ℕ, suc, ◌+◌, ◌<◌, ◌≤◌, ◌^◌, Bool, true, false, cond, List, [], ◌∷◌, ◌++◌, length, length-append, map, min, ltb, leb, not, Option, Result, Ok, Err, Some, None, option_map, option_and_then, ◌==◌, refl, ap, arith, if◌then◌else◌, codes, append_assoc, lit<}
 use Rattle.std.specs.List.{AllByRecursion, list_all, position, position_or_len}
 use Rattle.std.specs.Fmt.{decimal}
-use Rattle.std.proofs.lemmas.Bool.{eq-eqb, lt-ltb}
+use Rattle.std.proofs.lemmas.Bool.{eq-eqb}
 use Rattle.std.proofs.lemmas.Bool.Decides.{nat_tests}
 use Rattle.std.proofs.lemmas.Fmt.{decimal_is_IsNumeral}
+use Rattle.std.proofs.lemmas.Bool.{lt-ltb}
 use Rattle.std.proofs.lemmas.List.Elements.{recursion_from_All}
 use Rattle.q_words.specs.Values.{is_numeral}
 use Rattle.q_words.specs.declared.wrong.Wrong.TheVariants.{BadNumber}
-use Rattle.q_language.specs.Spelling.{is_word}
-use Rattle.q_language.proofs.SpelledWords.{both, digits_from_numeral, number_read, decimal_digits, digits_word}
+use Rattle.q_line.specs.Spelling.{is_word}
+use Rattle.q_line.proofs.SpelledWords.{both, digits_from_numeral, number_read}
+use Rattle.q_line.proofs.SpelledLines.{decimal_digits, digits_word}
 use Rattle.q_model.specs.Options.{PrioSettings, IsPrio}
 use Rattle.q_model.specs.declared.command.Command.{Command}
 use Rattle.q_model.specs.declared.kind.Kind.TheVariants.{Prio}
 use Rattle.q_words.specs.declared.line_fault.LineFault.{LineFault}
 use Rattle.q_words.specs.declared.line_fault.LineFault.TheVariants as fault
 use Rattle.q_language.specs.Drafts.{OptionDraft, no_options, band_number, qdisc_line}
-use Rattle.q_language.specs.Grammar.{fits, rest_of, said, value}
+use Rattle.q_language.specs.Grammar.{every_word, fits, rest_of, said, value}
 use Rattle.q_language.specs.Positions
 use Rattle.q_language.specs.Positions.{Position, options, option_value}
 use Rattle.q_language.specs.declared.head_draft.HeadDraft.{HeadDraft}
@@ -55,12 +57,12 @@ at_options v h o = options v h kind_name.Prio o
 abbrev next : QdiscVerb → HeadDraft → ℕ → ℕ → List ℕ → Position
 next v h bands from xs = if length xs == 16 then at_options v h (mapped bands from xs) else at_map v h (mapped bands from xs)
 
-first_fits : (v : QdiscVerb) (h : HeadDraft) (bands i x : ℕ) → x ≤ 16 → fits i (at_map v h (record no_options { bands = Some bands })) (decimal x) ≡ Ok (at_map v h (mapped bands i (x ∷ [])))
+first_fits : (v : QdiscVerb) (h : HeadDraft) (bands i x : ℕ) → x ≤ 16 → fits every_word i (at_map v h (record no_options { bands = Some bands })) (decimal x) ≡ Ok (at_map v h (mapped bands i (x ∷ [])))
 first_fits v h bands i x few =
     ap (λ (t : Bool). if t then Ok (at_map v h (mapped bands i (band_number (decimal x) ∷ []))) else Err BadNumber) (numeral x (omega arith))
     ∙ ap (λ n. Ok (at_map v h (mapped bands i (n ∷ [])))) (band_is x few)
 
-number_fits : (v : QdiscVerb) (h : HeadDraft) (bands from i x : ℕ) (acc : List ℕ) → x ≤ 16 → fits i (at_map v h (mapped bands from acc)) (decimal x) ≡ Ok (next v h bands from (acc ++ x ∷ []))
+number_fits : (v : QdiscVerb) (h : HeadDraft) (bands from i x : ℕ) (acc : List ℕ) → x ≤ 16 → fits every_word i (at_map v h (mapped bands from acc)) (decimal x) ≡ Ok (next v h bands from (acc ++ x ∷ []))
 number_fits v h bands from i x acc few =
     ap (λ (t : Bool). if t then Ok (next v h bands from (acc ++ band_number (decimal x) ∷ [])) else Err BadNumber) (numeral x (omega arith))
     ∙ ap (λ n. Ok (next v h bands from (acc ++ n ∷ []))) (band_is x few)
@@ -76,7 +78,7 @@ number_word : (x : ℕ) → x ≤ 16 → Word (decimal x)
 number_word x few = decimal_word x (omega arith)
 
 numbers_read : (xs : List ℕ) (v : QdiscVerb) (h : HeadDraft) (bands from i : ℕ) (acc : List ℕ) → bands ≤ 16 → Below bands xs → length acc + length xs ≡ 16 → 1 ≤ length xs
-    → (j : ℕ) × (rest_of (at_map v h (mapped bands from acc)) i (map decimal xs) ≡ rest_of (at_options v h (mapped bands from (acc ++ xs))) j [])
+    → (j : ℕ) × (rest_of every_word (at_map v h (mapped bands from acc)) i (map decimal xs) ≡ rest_of every_word (at_options v h (mapped bands from (acc ++ xs))) j [])
 numbers_read [] v h bands from i acc few below all some = absurd (omega arith)
 numbers_read (x ∷ []) v h bands from i acc few below all some =
     let x_below = below.0 in
@@ -92,7 +94,7 @@ numbers_read (x ∷ y ∷ ys) v h bands from i acc few below all some =
       rest.0,
       word_at (at_map v h (mapped bands from acc)) (at_map v h (mapped bands from (acc ++ x ∷ []))) (decimal x) i (map decimal (y ∷ ys)) (number_word x (omega arith))
           (number_fits v h bands from i x acc (omega arith) ∙ ap Ok (is_next v h bands from (acc ++ x ∷ []) false (not_sixteen _ (omega arith))))
-          ∙ rest.1 ∙ ap (λ l. rest_of (at_options v h (mapped bands from l)) rest.0 []) (append_assoc acc (x ∷ []) (y ∷ ys)),
+          ∙ rest.1 ∙ ap (λ l. rest_of every_word (at_options v h (mapped bands from l)) rest.0 []) (append_assoc acc (x ∷ []) (y ∷ ys)),
     )
 
 -- the line ends with a priomap that names bands alone
@@ -114,14 +116,14 @@ verdict v h bands xs index late whole =
     elim late as (λ _. Result Line LineFault) [ Some word ↦ Err (fault.OutOfRange word) | None ↦ said (option_map Tc (option_and_then (qdisc_line v h) (option_map (λ m. Prio (record { bands = bands; priomap = m })) (if whole then Some xs else None)))) index ]
 
 map_ends : (v : QdiscVerb) (h : HeadDraft) (bands from index : ℕ) (xs : List ℕ) (c : Command) → Below bands xs → length xs ≡ 16 → qdisc_line v h (Prio (record { bands = bands; priomap = xs })) ≡ Some c
-    → rest_of (at_options v h (mapped bands from xs)) index [] ≡ Ok (Tc c)
+    → rest_of every_word (at_options v h (mapped bands from xs)) index [] ≡ Ok (Tc c)
 map_ends v h bands from index xs c below all made =
     ap (λ late. verdict v h bands xs index (option_map (λ i. from + i) late) (length xs == 16)) (no_bad_band bands xs below)
     ∙ ap (verdict v h bands xs index None) (eq-eqb _ _ all)
     ∙ ap (λ o. said (option_map Tc o) index) made
 
 priomap_read : (v : QdiscVerb) (h : HeadDraft) (bands i : ℕ) (xs : List ℕ) (c : Command) → bands ≤ 16 → Below bands xs → length xs ≡ 16 → qdisc_line v h (Prio (record { bands = bands; priomap = xs })) ≡ Some c
-    → rest_of (at_map v h (record no_options { bands = Some bands })) i (map decimal xs) ≡ Ok (Tc c)
+    → rest_of every_word (at_map v h (record no_options { bands = Some bands })) i (map decimal xs) ≡ Ok (Tc c)
 priomap_read v h bands i [] c few below all made = absurd (omega arith)
 priomap_read v h bands i (x ∷ xs) c few below all made =
     let x_below = below.0 in

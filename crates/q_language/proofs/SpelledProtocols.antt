@@ -8,7 +8,7 @@ use Rattle.std.proofs.lemmas.Bool.Decides.{nat_tests}
 use Rattle.q_words.specs.Addresses.{protocol_number}
 use Rattle.q_words.specs.Values.{is_digits, is_numeral}
 use Rattle.q_words.specs.declared.wrong.Wrong.TheVariants.{BadNumber, OutOfRange}
-use Rattle.q_language.proofs.SpelledWords.{left_of, right_of}
+use Rattle.q_line.proofs.SpelledWords.{left_of, right_of}
 use Rattle.q_language.specs.Spelling.{hex}
 use Rattle.q_language.proofs.SpelledValues.{Hex, hex_of}
 

@@ -18,7 +18,7 @@ use Rattle.q_words.specs.Values.{is_digits, is_numeral}
 use Rattle.q_words.specs.Words.{is_blank}
 use Rattle.q_words.specs.declared.wrong.Wrong.{Wrong}
 use Rattle.q_words.specs.declared.wrong.Wrong.TheVariants.{BadNumber, OutOfRange}
-use Rattle.q_language.proofs.SpelledWords.{both, digit_not_blank, digit_small, digits_from_numeral, every_digit, right_of}
+use Rattle.q_line.proofs.SpelledWords.{both, digit_not_blank, digit_small, digits_from_numeral, every_digit, right_of}
 use Rattle.q_language.specs.Spelling.{last_three, time_word}
 use Rattle.q_language.proofs.SpelledAddresses.{any_at}
 use Rattle.q_language.proofs.SpelledSteps.{Word, decimal_word, word_more}

@@ -14,7 +14,7 @@ use Rattle.q_words.specs.Units.{is_of_decimal, is_point, is_decimal, whole_part,
 use Rattle.q_words.specs.Values.{is_colon, is_digits, is_numeral}
 use Rattle.q_words.specs.declared.wrong.Wrong.{Wrong}
 use Rattle.q_words.specs.declared.wrong.Wrong.TheVariants.{BadNumber, OutOfRange}
-use Rattle.q_language.proofs.SpelledWords.{both, colon_at, digit_not_colon, digits_from_numeral, every_digit, hex_short, left_of, right_of}
+use Rattle.q_line.proofs.SpelledWords.{both, colon_at, digit_not_colon, digits_from_numeral, every_digit, hex_short, left_of, right_of}
 
 pub record Hex (n : ℕ) (ds : List ℕ) : Type 0 where
   pub form : is_numeral 16 ds ≡ true

@@ -161,21 +161,25 @@ abbrev pub row_of : List Row → List ℕ → Result Position Wrong
 row_of [] word = Err wrong.UnknownWord
 row_of (row ∷ rows) word = if bytes_eq word row.0 then row.1 else row_of rows word
 
+-- a word of the table, where it is spoken; any other is unknown
+abbrev pub keyword : (List ℕ → Bool) → Position → List ℕ → Result Position Wrong
+keyword spoken position word = if spoken word then row_of (table position) word else Err wrong.UnknownWord
+
 -- the position after a word, which has this index: a value where one stands, else a word of the table
-abbrev pub fits : ℕ → Position → List ℕ → Result Position Wrong
-fits index Positions.at word = value (number_in 0 (2 ^ 62) word) (λ n. Positions.whole (line.At n))
-fits index Positions.pkt word = value (number_in 1 65535 word) (λ n. Positions.packet (no_fields n))
-fits index Positions.frame word = value (number_in 1 65535 word) (λ n. Positions.frame_bytes n)
-fits index (Positions.frame_bytes len) word = value (frame_of word) (λ bytes. Positions.whole (framed len bytes))
-fits index Positions.poll word = value (number_in 1 100000 word) (λ n. Positions.whole (line.Poll n))
-fits index (Positions.packet_value f p) word = value (packet_with f p word) Positions.packet
-fits index (Positions.head_value v verb h) word = head_fits v verb h word
-fits index (Positions.option_value v verb h k o) word = option_fits v verb h k o word
-fits index (Positions.priomap v h k o) word = priomap_fits index v h k o word
-fits index (Positions.quantum_value v h) word = value (size_in 1 most word) (λ n. Positions.quantum_of v h (Some n))
-fits index (Positions.key_value f h k) word = value (key_with f h k word) (λ d. Positions.keys h d)
-fits index (Positions.show_dev s) word = value (name_of word) (λ u. Positions.show_line s true)
-fits index position word = row_of (table position) word
+abbrev pub fits : (List ℕ → Bool) → ℕ → Position → List ℕ → Result Position Wrong
+fits spoken index Positions.at word = value (number_in 0 (2 ^ 62) word) (λ n. Positions.whole (line.At n))
+fits spoken index Positions.pkt word = value (number_in 1 65535 word) (λ n. Positions.packet (no_fields n))
+fits spoken index Positions.frame word = value (number_in 1 65535 word) (λ n. Positions.frame_bytes n)
+fits spoken index (Positions.frame_bytes len) word = value (frame_of word) (λ bytes. Positions.whole (framed len bytes))
+fits spoken index Positions.poll word = value (number_in 1 100000 word) (λ n. Positions.whole (line.Poll n))
+fits spoken index (Positions.packet_value f p) word = value (packet_with f p word) Positions.packet
+fits spoken index (Positions.head_value v verb h) word = head_fits v verb h word
+fits spoken index (Positions.option_value v verb h k o) word = option_fits v verb h k o word
+fits spoken index (Positions.priomap v h k o) word = priomap_fits index v h k o word
+fits spoken index (Positions.quantum_value v h) word = value (size_in 1 most word) (λ n. Positions.quantum_of v h (Some n))
+fits spoken index (Positions.key_value f h k) word = value (key_with f h k word) (λ d. Positions.keys h d)
+fits spoken index (Positions.show_dev s) word = value (name_of word) (λ u. Positions.show_line s true)
+fits spoken index position word = keyword spoken position word
 
 -- a line that only removes
 abbrev pub removal : Verb → HeadDraft → Option Line
@@ -220,18 +224,25 @@ numbered wrong.Twice index = fault.Twice index
 numbered wrong.BadUtf8 index = fault.BadUtf8 index
 
 -- the position after a word
-abbrev pub after : ℕ → Position → List ℕ → Result Position Wrong
-after index position word = if is_utf8 word then fits index position word else Err wrong.BadUtf8
+abbrev pub after : (List ℕ → Bool) → ℕ → Position → List ℕ → Result Position Wrong
+after spoken index position word = if is_utf8 word then fits spoken index position word else Err wrong.BadUtf8
 
 -- what the words from this position on say, the first of which has this index: from the left, up to the first that does not fit
-abbrev pub rest_of : Position → ℕ → List (List ℕ) → Result Line LineFault
-rest_of position index [] = ended position index
-rest_of position index (word ∷ words) = elim (after index position word) [ Ok next ↦ rest_of next (suc index) words | Err e ↦ Err (numbered e index) ]
+abbrev pub rest_of : (List ℕ → Bool) → Position → ℕ → List (List ℕ) → Result Line LineFault
+rest_of spoken position index [] = ended position index
+rest_of spoken position index (word ∷ words) = elim (after spoken index position word) [ Ok next ↦ rest_of spoken next (suc index) words | Err e ↦ Err (numbered e index) ]
 
 -- what a line's words say, counted from 1
-abbrev pub line_of_words : List (List ℕ) → Result Line LineFault
-line_of_words words = if is_blank_line words then Ok line.Blank else rest_of Positions.first 1 words
+abbrev pub line_of_words : (List ℕ → Bool) → List (List ℕ) → Result Line LineFault
+line_of_words spoken words = if is_blank_line words then Ok line.Blank else rest_of spoken Positions.first 1 words
 
--- what a line's bytes say, or its leftmost fault
+-- what a line's bytes say where only these words are spoken, or its leftmost fault
+abbrev pub line_in : (List ℕ → Bool) → List ℕ → Result Line LineFault
+line_in spoken bytes = line_of_words spoken (words_in bytes)
+
+-- the whole language speaks every word of its tables
+abbrev pub every_word : List ℕ → Bool
+every_word word = true
+
 abbrev pub line_of : List ℕ → Result Line LineFault
-line_of bytes = line_of_words (words_in bytes)
+line_of bytes = line_in every_word bytes

@@ -2,41 +2,32 @@
 -- A fault is at the leftmost word that does not fit, or at the end, where every word fits.
 -- The bands of a priomap are judged at the end, since `bands` may stand behind it. The script language is this project's,
 -- after tc(8); the laws stand on functions of the module `laws`.
-use Rattle.std.specs.Prelude.{◌≡◌, ℕ, suc, ◌<◌, ◌≤◌, ◌⊎◌, List, [], ◌∷◌, ◌++◌, length, take, true, Some, None, Result, Ok, Err}
-use Rattle.std.specs.Str.{IsUtf8}
+use Rattle.std.specs.Prelude.{◌≡◌, ℕ, suc, ◌<◌, ◌≤◌, ◌⊎◌, List, [], ◌∷◌, ◌++◌, length, take, Some, None, Result, Ok, Err}
+use Rattle.q_line.specs.Laws.{IsName, index_of}
 use Rattle.q_words.specs.declared.line_fault.LineFault.{LineFault}
-use Rattle.q_words.specs.declared.line_fault.LineFault.TheVariants.{UnknownWord, Missing, BadNumber, OutOfRange, Twice, BadUtf8}
+use Rattle.q_words.specs.declared.line_fault.LineFault.TheVariants.{Missing, OutOfRange, BadUtf8}
 use Rattle.q_words.specs.declared.wrong.Wrong.{Wrong}
-use Rattle.q_language.specs.Grammar.{after, ends, late_fault, line_of, line_of_words}
+use Rattle.q_language.specs.Grammar.{after, ends, every_word, late_fault, line_of, line_of_words}
 use Rattle.q_language.specs.Positions.{Position, first}
 use Rattle.q_language.specs.Ranges.{IsLine}
-use Rattle.q_language.specs.Spelling.{is_word, spelling}
+use Rattle.q_language.specs.Spelling.{spelling}
 use Rattle.q_language.specs.declared.line.Line.{Line}
-
--- the index of a fault's word
-abbrev pub index_of : LineFault → ℕ
-index_of (UnknownWord word) = word
-index_of (Missing word) = word
-index_of (BadNumber word) = word
-index_of (OutOfRange word) = word
-index_of (Twice word) = word
-index_of (BadUtf8 word) = word
 
 -- nothing is wrong with these words so far: a word behind them that is not UTF-8 is the fault of the line
 abbrev pub FitSoFar : List (List ℕ) → Type 0
-FitSoFar words = line_of_words (words ++ (255 ∷ []) ∷ []) ≡ Err (BadUtf8 (suc (length words)))
+FitSoFar words = line_of_words every_word (words ++ (255 ∷ []) ∷ []) ≡ Err (BadUtf8 (suc (length words)))
 
 -- the words before the fault's word fit, and its word is wrong whatever stands behind it
 pub record IsAtWord (words : List (List ℕ)) (fault : LineFault) : Type 0 where
   pub from_one : 1 ≤ index_of fault
   pub to_the_last : index_of fault ≤ length words
   pub before : (n : ℕ) → n < index_of fault → FitSoFar (take n words)
-  pub behind : (n : ℕ) (others : List (List ℕ)) → index_of fault ≤ n → n ≤ length words → line_of_words (take n words ++ others) ≡ Err fault
+  pub behind : (n : ℕ) (others : List (List ℕ)) → index_of fault ≤ n → n ≤ length words → line_of_words every_word (take n words ++ others) ≡ Err fault
 
 -- the position behind words that fit, the first of which has this index
 abbrev pub reached : Position → ℕ → List (List ℕ) → Result Position Wrong
 reached position index [] = Ok position
-reached position index (word ∷ words) = elim (after index position word) [ Ok next ↦ reached next (suc index) words | Err e ↦ Err e ]
+reached position index (word ∷ words) = elim (after every_word index position word) [ Ok next ↦ reached next (suc index) words | Err e ↦ Err e ]
 
 -- what is wrong with a line that ends at this position: first a number of a priomap that names no band, then a missing word
 abbrev pub IsJudged : Position → ℕ → LineFault → Type 0
@@ -53,13 +44,7 @@ pub record IsAtEnd (words : List (List ℕ)) (fault : LineFault) : Type 0 where
   pub judged : (position : Position) × (reached first 1 words ≡ Ok position) × IsJudged position (suc (length words)) fault
 
 abbrev pub FaultsAreLeftmost : Type 0
-FaultsAreLeftmost = (words : List (List ℕ)) (fault : LineFault) → line_of_words words ≡ Err fault → IsAtWord words fault ⊎ IsAtEnd words fault
-
--- a device's name that a line can have
-pub record IsName (name : List ℕ) : Type 0 where
-  pub word : is_word name ≡ true
-  pub short : length name ≤ 15
-  pub text : IsUtf8 name
+FaultsAreLeftmost = (words : List (List ℕ)) (fault : LineFault) → line_of_words every_word words ≡ Err fault → IsAtWord words fault ⊎ IsAtEnd words fault
 
 -- each line whose parts are in range can be written, with any name for the device, and is read as itself
 abbrev pub SpellingsAreRead : Type 0

@@ -1,4 +1,5 @@
 pub mod Drafts
+pub mod FirstPath
 pub mod Grammar
 pub mod Laws
 pub mod Positions

@@ -1,7 +1,7 @@
 -- One way to write each line: numbers in decimal; handles, class ids and protocol numbers in hexadecimal; sizes in bytes, rates
 -- in bits a second and times in microseconds. The words of tc lines are those of tc(8) and the pages of the disciplines.
-use Rattle.std.specs.Prelude.{ℕ, ◌+◌, ◌/◌, ◌%◌, ◌^◌, ◌==◌, Bool, true, false, ◌&&◌, not, List, [], ◌∷◌, ◌++◌, map, codes, decimal, if◌then◌else◌, Option, Some, None}
-use Rattle.std.specs.List.{flat_map, join_with_byte, list_all}
+use Rattle.std.specs.Prelude.{ℕ, ◌+◌, ◌/◌, ◌%◌, ◌^◌, ◌==◌, Bool, true, false, List, [], ◌∷◌, ◌++◌, map, codes, decimal, if◌then◌else◌, Option, Some, None}
+use Rattle.std.specs.List.{flat_map, join_with_byte}
 use Rattle.std.specs.Fmt.{digits, digit_glyph}
 use Rattle.q_packet.specs.Ecn.{codepoint}
 use Rattle.q_model.specs.declared.class_id.ClassId.{ClassId}
@@ -20,16 +20,11 @@ use Rattle.q_model.specs.declared.protocol.Protocol.TheVariants.{All, Ip, Ipv6}
 use Rattle.q_model.specs.declared.tbf_limit.TbfLimit.{TbfLimit}
 use Rattle.q_model.specs.declared.tbf_limit.TbfLimit.TheVariants as tbf_limit
 use Rattle.q_model.specs.Options.{FqOptions, Prefix}
-use Rattle.q_words.specs.Words.{is_blank, is_filled}
 use Rattle.q_language.specs.declared.arrival.Arrival.{Arrival}
 use Rattle.q_language.specs.declared.line.Line.{Line}
 use Rattle.q_language.specs.declared.line.Line.TheVariants as line
 use Rattle.q_language.specs.declared.object.Object.{Object}
 use Rattle.q_language.specs.declared.object.Object.TheVariants as object
-
--- bytes that are one word: some, and none of them a blank
-abbrev pub is_word : List ℕ → Bool
-is_word bytes = is_filled bytes && list_all (λ b. not (is_blank b)) bytes
 
 abbrev pub hex : ℕ → List ℕ
 hex n = digits 16 false n

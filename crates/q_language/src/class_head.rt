@@ -1,7 +1,7 @@
 ghost use Rattle.std.specs.Prelude.{◌≡◌, None, option_map, suc};
 ghost use Rattle.q_words.specs.Words.{words_in};
 ghost use Rattle.q_language.specs.Drafts.{class_line, no_head, of_class};
-ghost use Rattle.q_language.specs.Grammar.{rest_of, said};
+ghost use Rattle.q_language.specs.Grammar.{every_word, rest_of, said};
 ghost use Rattle.q_language.specs.Positions.{head, quantum_of};
 
 use crate::class_verb::ClassVerb;
@@ -13,7 +13,7 @@ use q_words::{LineFault, class, handle, name, size};
 
 /// Behind `class add`, `change` or `del`: the head, then the kind.
 pub fn class_head(words: &mut Words, verb: ClassVerb) -> Result<Line, LineFault>
-    ensures { result ≡ rest_of (head (of_class verb) no_head) (suc words.old.taken) (words_in words.old.rest.now) }
+    ensures { result ≡ rest_of every_word (head (of_class verb) no_head) (suc words.old.taken) (words_in words.old.rest.now) }
 {
     let mut head = HeadDraft::new();
     while let Some(word) = words.next()? {
@@ -52,7 +52,7 @@ pub fn class_head(words: &mut Words, verb: ClassVerb) -> Result<Line, LineFault>
 
 /// Behind `drr`: the quantum of the class.
 fn quantum_line(words: &mut Words, verb: ClassVerb, head: HeadDraft) -> Result<Line, LineFault>
-    ensures { result ≡ rest_of (quantum_of verb head None) (suc words.old.taken) (words_in words.old.rest.now) }
+    ensures { result ≡ rest_of every_word (quantum_of verb head None) (suc words.old.taken) (words_in words.old.rest.now) }
 {
     let mut quantum = None;
     while let Some(word) = words.next()? {

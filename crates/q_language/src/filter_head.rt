@@ -1,7 +1,7 @@
 ghost use Rattle.std.specs.Prelude.{◌≡◌, option_map, suc};
 ghost use Rattle.q_words.specs.Words.{words_in};
 ghost use Rattle.q_language.specs.Drafts.{filter_del_line, no_head, of_filter};
-ghost use Rattle.q_language.specs.Grammar.{rest_of, said};
+ghost use Rattle.q_language.specs.Grammar.{every_word, rest_of, said};
 ghost use Rattle.q_language.specs.Positions.{behind_flower, done, head};
 
 use crate::filter_verb::FilterVerb;
@@ -14,7 +14,7 @@ use q_words::{LineFault, handle, name, number, protocol};
 
 /// Behind `filter add` or `del`: the head, then `flower`.
 pub fn filter_head(words: &mut Words, verb: FilterVerb) -> Result<Line, LineFault>
-    ensures { result ≡ rest_of (head (of_filter verb) no_head) (suc words.old.taken) (words_in words.old.rest.now) }
+    ensures { result ≡ rest_of every_word (head (of_filter verb) no_head) (suc words.old.taken) (words_in words.old.rest.now) }
 {
     let mut head = HeadDraft::new();
     while let Some(word) = words.next()? {
@@ -57,7 +57,7 @@ fn flower_or_removal(
     verb: FilterVerb,
     head: HeadDraft,
 ) -> Result<Line, LineFault>
-    ensures { result ≡ rest_of (behind_flower verb head) (suc words.old.taken) (words_in words.old.rest.now) }
+    ensures { result ≡ rest_of every_word (behind_flower verb head) (suc words.old.taken) (words_in words.old.rest.now) }
 {
     match verb {
         FilterVerb::Add => flower_line(words, head),
@@ -67,7 +67,7 @@ fn flower_or_removal(
 
 /// Behind the `flower` of a line that removes filters.
 fn removal_line(words: &mut Words, head: HeadDraft) -> Result<Line, LineFault>
-    ensures { result ≡ rest_of (done (of_filter FilterVerb.Del) head) (suc words.old.taken) (words_in words.old.rest.now) }
+    ensures { result ≡ rest_of every_word (done (of_filter FilterVerb.Del) head) (suc words.old.taken) (words_in words.old.rest.now) }
 {
     match words.next()? {
         None => filters_removed(words, head),

@@ -1,7 +1,7 @@
 ghost use Rattle.std.specs.Prelude.{◌≡◌, option_map, suc};
 ghost use Rattle.q_words.specs.Words.{words_in};
 ghost use Rattle.q_language.specs.Drafts.{filter_line, no_keys};
-ghost use Rattle.q_language.specs.Grammar.{rest_of, said};
+ghost use Rattle.q_language.specs.Grammar.{every_word, rest_of, said};
 ghost use Rattle.q_language.specs.Positions.{keys};
 
 use crate::head_draft::HeadDraft;
@@ -14,7 +14,7 @@ use q_words::LineFault;
 
 /// Behind the `flower` of a line that adds a filter: its keys and its class.
 pub fn flower_line(words: &mut Words, head: HeadDraft) -> Result<Line, LineFault>
-    ensures { result ≡ rest_of (keys head no_keys) (suc words.old.taken) (words_in words.old.rest.now) }
+    ensures { result ≡ rest_of every_word (keys head no_keys) (suc words.old.taken) (words_in words.old.rest.now) }
 {
     let mut draft = KeyDraft::new();
     while let Some(word) = words.next()? {

@@ -1,7 +1,7 @@
 ghost use Rattle.std.specs.Prelude.{◌≡◌, suc};
 ghost use Rattle.q_words.specs.Words.{words_in};
 ghost use Rattle.q_language.specs.Drafts.{no_options};
-ghost use Rattle.q_language.specs.Grammar.{rest_of};
+ghost use Rattle.q_language.specs.Grammar.{every_word, rest_of};
 ghost use Rattle.q_language.specs.Positions.{options};
 ghost use Rattle.q_language.specs.declared.kind_name.KindName.TheVariants.{FqCodel};
 
@@ -16,7 +16,7 @@ use q_words::LineFault;
 
 /// Behind `fq_codel`: its options.
 pub fn fq_codel_line(words: &mut Words, verb: QdiscVerb, head: HeadDraft) -> Result<Line, LineFault>
-    ensures { result ≡ rest_of (options verb head FqCodel no_options) (suc words.old.taken) (words_in words.old.rest.now) }
+    ensures { result ≡ rest_of every_word (options verb head FqCodel no_options) (suc words.old.taken) (words_in words.old.rest.now) }
 {
     let mut options = no_fq_codel_options();
     while let Some(word) = words.next()? {

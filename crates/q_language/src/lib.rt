@@ -5,11 +5,13 @@
 //!   and values in `q_words`.
 //! - [`read_line`] reads a line as the grammar says, and allocates nothing. It has one reader for the head of each object and
 //!   one for each kind.
+//! - `line_in` is generic in which words are spoken: any other is unknown. `specs/FirstPath.antt` has the words that `q_line`
+//!   speaks, and [`laws`] says that its grammar is this one with those words alone.
 //! - `specs/Ranges.antt` says what a line may say, and `specs/Spelling.antt` has one way to write each such line; [`laws`] says
-//!   that it is read as itself, and where the fault of any other lies. By `proofs/PacketRanges.antt`
-//!   each packet that is read has a length of 1 to 65535 and a priority of at most 15.
+//!   that it is read as itself.
 //!
-//! `q_report` computes worked scripts from these definitions, from their bytes to their reports.
+//! The program reads by `q_line`, whose types these will take the place of. `q_report` computes worked scripts from these
+//! definitions, from their bytes to their reports.
 #![tactic(auto)]
 
 mod arrival;

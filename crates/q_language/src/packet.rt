@@ -1,7 +1,7 @@
 ghost use Rattle.std.specs.Prelude.{◌≡◌, suc};
 ghost use Rattle.q_words.specs.Words.{words_in};
 ghost use Rattle.q_language.specs.Drafts.{no_fields};
-ghost use Rattle.q_language.specs.Grammar.{rest_of};
+ghost use Rattle.q_language.specs.Grammar.{every_word, rest_of};
 ghost use Rattle.q_language.specs.Positions.{packet, pkt};
 ghost use Rattle.q_language.specs.Reading.{IsAgreed};
 
@@ -13,7 +13,7 @@ use q_words::{LineFault, number};
 
 /// Behind `pkt`: LEN, bytes, and the fields of the packet.
 pub fn pkt_line(words: &mut Words) -> Result<Line, LineFault>
-    ensures { result ≡ rest_of pkt (suc words.old.taken) (words_in words.old.rest.now) }
+    ensures { result ≡ rest_of every_word pkt (suc words.old.taken) (words_in words.old.rest.now) }
 {
     let word = words.needed()?;
     let len = words.placed(number(word.as_bytes(), 1, u64::from(u16::MAX)))? as u16;
@@ -23,7 +23,7 @@ pub fn pkt_line(words: &mut Words) -> Result<Line, LineFault>
 /// The fields of a packet.
 fn packet_line(words: &mut Words, first: PacketDraft) -> Result<Line, LineFault>
     requires { IsAgreed first }
-    ensures { result ≡ rest_of (packet first) (suc words.old.taken) (words_in words.old.rest.now) }
+    ensures { result ≡ rest_of every_word (packet first) (suc words.old.taken) (words_in words.old.rest.now) }
 {
     let mut draft = first;
     while let Some(word) = words.next()? {

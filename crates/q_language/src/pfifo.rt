@@ -1,7 +1,7 @@
 ghost use Rattle.std.specs.Prelude.{◌≡◌, suc};
 ghost use Rattle.q_words.specs.Words.{words_in};
 ghost use Rattle.q_language.specs.Drafts.{no_options};
-ghost use Rattle.q_language.specs.Grammar.{rest_of};
+ghost use Rattle.q_language.specs.Grammar.{every_word, rest_of};
 ghost use Rattle.q_language.specs.Positions.{options};
 ghost use Rattle.q_language.specs.declared.kind_name.KindName.TheVariants.{Pfifo};
 
@@ -15,7 +15,7 @@ use q_words::{LineFault, number};
 
 /// Behind `pfifo`: its options.
 pub fn pfifo_line(words: &mut Words, verb: QdiscVerb, head: HeadDraft) -> Result<Line, LineFault>
-    ensures { result ≡ rest_of (options verb head Pfifo no_options) (suc words.old.taken) (words_in words.old.rest.now) }
+    ensures { result ≡ rest_of every_word (options verb head Pfifo no_options) (suc words.old.taken) (words_in words.old.rest.now) }
 {
     let mut limit = None;
     while let Some(word) = words.next()? {

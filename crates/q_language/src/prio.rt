@@ -2,7 +2,7 @@ ghost use Rattle.std.specs.Prelude.{◌≡◌, ◌<◌, None, Some, Err, IfSome,
 ghost use Rattle.q_words.specs.Words.{words_in};
 ghost use Rattle.q_model.specs.Numbers.{IsWithin};
 ghost use Rattle.q_language.specs.Drafts.{no_options};
-ghost use Rattle.q_language.specs.Grammar.{ended, rest_of};
+ghost use Rattle.q_language.specs.Grammar.{ended, every_word, rest_of};
 ghost use Rattle.q_language.specs.Positions.{options, priomap};
 ghost use Rattle.q_language.specs.Reading.{band_of, prio_draft};
 ghost use Rattle.q_language.specs.declared.kind_name.KindName.TheVariants.{Prio};
@@ -17,7 +17,7 @@ use q_words::{LineFault, Wrong, number, numeral};
 
 /// Behind `prio`: its options, up to a priomap.
 pub fn prio_line(words: &mut Words, verb: QdiscVerb, head: HeadDraft) -> Result<Line, LineFault>
-    ensures { result ≡ rest_of (options verb head Prio no_options) (suc words.old.taken) (words_in words.old.rest.now) }
+    ensures { result ≡ rest_of every_word (options verb head Prio no_options) (suc words.old.taken) (words_in words.old.rest.now) }
 {
     let mut bands = None;
     while let Some(word) = words.next()? {
@@ -42,7 +42,7 @@ fn priomap_line(
     bands: Option<u8>,
 ) -> Result<Line, LineFault>
     requires { IfSome bands (IsWithin 2 16) }
-    ensures { result ≡ rest_of (priomap verb head Prio (prio_draft bands None)) (suc words.old.taken) (words_in words.old.rest.now) }
+    ensures { result ≡ rest_of every_word (priomap verb head Prio (prio_draft bands None)) (suc words.old.taken) (words_in words.old.rest.now) }
 {
     let word = words.needed()?;
     let first = words.placed(band(word.as_bytes()))?;
@@ -66,7 +66,7 @@ fn mapped_line(
 ) -> Result<Line, LineFault>
     requires bands { IfSome bands (IsWithin 2 16) }
     requires map { length map.numbers ≡ 16 }
-    ensures { result ≡ rest_of (options verb head Prio (prio_draft bands (Some map))) (suc words.old.taken) (words_in words.old.rest.now) }
+    ensures { result ≡ rest_of every_word (options verb head Prio (prio_draft bands (Some map))) (suc words.old.taken) (words_in words.old.rest.now) }
 {
     while let Some(word) = words.next()? {
         match word {

@@ -1,7 +1,7 @@
 ghost use Rattle.std.specs.Prelude.{◌≡◌, suc, option_map};
 ghost use Rattle.q_words.specs.Words.{words_in};
 ghost use Rattle.q_language.specs.Drafts.{no_head, no_options, of_qdisc, qdisc_del_line};
-ghost use Rattle.q_language.specs.Grammar.{removal, rest_of, said};
+ghost use Rattle.q_language.specs.Grammar.{every_word, removal, rest_of, said};
 ghost use Rattle.q_language.specs.Positions.{behind_kind, done, head, options};
 
 use crate::bfifo::bfifo_line;
@@ -20,7 +20,7 @@ use q_words::{LineFault, class, handle, name};
 
 /// Behind `qdisc add`, `change` or `del`: the head, then the kind.
 pub fn qdisc_head(words: &mut Words, verb: QdiscVerb) -> Result<Line, LineFault>
-    ensures { result ≡ rest_of (head (of_qdisc verb) no_head) (suc words.old.taken) (words_in words.old.rest.now) }
+    ensures { result ≡ rest_of every_word (head (of_qdisc verb) no_head) (suc words.old.taken) (words_in words.old.rest.now) }
 {
     let mut head = HeadDraft::new();
     while let Some(word) = words.next()? {
@@ -75,7 +75,7 @@ fn kind_line(
     head: HeadDraft,
     kind: KindName,
 ) -> Result<Line, LineFault>
-    ensures { result ≡ rest_of (behind_kind verb head kind) (suc words.old.taken) (words_in words.old.rest.now) }
+    ensures { result ≡ rest_of every_word (behind_kind verb head kind) (suc words.old.taken) (words_in words.old.rest.now) }
 {
     match verb {
         QdiscVerb::Add => options_line(words, QdiscVerb::Add, head, kind),
@@ -91,7 +91,7 @@ fn options_line(
     head: HeadDraft,
     kind: KindName,
 ) -> Result<Line, LineFault>
-    ensures { result ≡ rest_of (options verb head kind no_options) (suc words.old.taken) (words_in words.old.rest.now) }
+    ensures { result ≡ rest_of every_word (options verb head kind no_options) (suc words.old.taken) (words_in words.old.rest.now) }
 {
     match kind {
         KindName::Pfifo => pfifo_line(words, verb, head),
@@ -105,7 +105,7 @@ fn options_line(
 
 /// Where no word may follow: the line removes a qdisc.
 fn removal_line(words: &mut Words, head: HeadDraft) -> Result<Line, LineFault>
-    ensures { result ≡ rest_of (done (of_qdisc QdiscVerb.Del) head) (suc words.old.taken) (words_in words.old.rest.now) }
+    ensures { result ≡ rest_of every_word (done (of_qdisc QdiscVerb.Del) head) (suc words.old.taken) (words_in words.old.rest.now) }
 {
     match words.next()? {
         None => qdisc_removed(words, head),

@@ -1,6 +1,6 @@
 ghost use Rattle.std.specs.Prelude.{◌≡◌, suc};
 ghost use Rattle.q_words.specs.Words.{words_in};
-ghost use Rattle.q_language.specs.Grammar.{line_of, rest_of};
+ghost use Rattle.q_language.specs.Grammar.{every_word, line_of, rest_of};
 ghost use Rattle.q_language.specs.Positions.{at, first, poll};
 
 use crate::frame::frame_line;
@@ -28,7 +28,7 @@ pub fn read_line(line: &[u8]) -> Result<Line, LineFault>
 /// The first word of a line that says something.
 #[inline(always)]
 fn first_word(words: &mut Words) -> Result<Line, LineFault>
-    ensures { result ≡ rest_of first (suc words.old.taken) (words_in words.old.rest.now) }
+    ensures { result ≡ rest_of every_word first (suc words.old.taken) (words_in words.old.rest.now) }
 {
     match words.needed()? {
         "pkt" => pkt_line(words),
@@ -44,7 +44,7 @@ fn first_word(words: &mut Words) -> Result<Line, LineFault>
 
 /// Behind `at`: N, nanoseconds.
 fn at_line(words: &mut Words) -> Result<Line, LineFault>
-    ensures { result ≡ rest_of at (suc words.old.taken) (words_in words.old.rest.now) }
+    ensures { result ≡ rest_of every_word at (suc words.old.taken) (words_in words.old.rest.now) }
 {
     let word = words.needed()?;
     let ns = words.placed(number(word.as_bytes(), 0, Moment::MAX))?;
@@ -54,7 +54,7 @@ fn at_line(words: &mut Words) -> Result<Line, LineFault>
 
 /// Behind `poll`: N, which is 1 where it is not there.
 fn poll_line(words: &mut Words) -> Result<Line, LineFault>
-    ensures { result ≡ rest_of poll (suc words.old.taken) (words_in words.old.rest.now) }
+    ensures { result ≡ rest_of every_word poll (suc words.old.taken) (words_in words.old.rest.now) }
 {
     let Some(word) = words.next()? else {
         return Ok(Line::Poll(1));

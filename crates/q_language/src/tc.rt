@@ -1,7 +1,7 @@
 ghost use Rattle.std.specs.Prelude.{◌≡◌, suc, true, false};
 ghost use Rattle.q_words.specs.Words.{words_in};
 ghost use Rattle.q_language.specs.Drafts.{no_head, of_class, of_filter, of_qdisc};
-ghost use Rattle.q_language.specs.Grammar.{rest_of};
+ghost use Rattle.q_language.specs.Grammar.{every_word, rest_of};
 ghost use Rattle.q_language.specs.Positions.{class, filter, qdisc, show_line, tc};
 
 use crate::class_head::class_head;
@@ -19,7 +19,7 @@ use q_words::{LineFault, name};
 /// Behind `tc`: an option, or the object.
 #[inline(always)]
 pub fn tc_line(words: &mut Words) -> Result<Line, LineFault>
-    ensures { result ≡ rest_of (tc false) (suc words.old.taken) (words_in words.old.rest.now) }
+    ensures { result ≡ rest_of every_word (tc false) (suc words.old.taken) (words_in words.old.rest.now) }
 {
     match words.needed()? {
         "-s" => object_line(words),
@@ -33,7 +33,7 @@ pub fn tc_line(words: &mut Words) -> Result<Line, LineFault>
 /// Behind `tc -s`: the object.
 #[inline(always)]
 fn object_line(words: &mut Words) -> Result<Line, LineFault>
-    ensures { result ≡ rest_of (tc true) (suc words.old.taken) (words_in words.old.rest.now) }
+    ensures { result ≡ rest_of every_word (tc true) (suc words.old.taken) (words_in words.old.rest.now) }
 {
     match words.needed()? {
         "qdisc" => qdisc_line(words, true),
@@ -46,7 +46,7 @@ fn object_line(words: &mut Words) -> Result<Line, LineFault>
 /// Behind `qdisc`: what is done.
 #[inline(always)]
 fn qdisc_line(words: &mut Words, counters: bool) -> Result<Line, LineFault>
-    ensures { result ≡ rest_of (qdisc counters) (suc words.old.taken) (words_in words.old.rest.now) }
+    ensures { result ≡ rest_of every_word (qdisc counters) (suc words.old.taken) (words_in words.old.rest.now) }
 {
     let object = Object::Qdisc;
     match words.needed()? {
@@ -61,7 +61,7 @@ fn qdisc_line(words: &mut Words, counters: bool) -> Result<Line, LineFault>
 /// Behind `class`: what is done.
 #[inline(always)]
 fn class_line(words: &mut Words, counters: bool) -> Result<Line, LineFault>
-    ensures { result ≡ rest_of (class counters) (suc words.old.taken) (words_in words.old.rest.now) }
+    ensures { result ≡ rest_of every_word (class counters) (suc words.old.taken) (words_in words.old.rest.now) }
 {
     let object = Object::Class;
     match words.needed()? {
@@ -76,7 +76,7 @@ fn class_line(words: &mut Words, counters: bool) -> Result<Line, LineFault>
 /// Behind `filter`: what is done.
 #[inline(always)]
 fn filter_line(words: &mut Words, counters: bool) -> Result<Line, LineFault>
-    ensures { result ≡ rest_of (filter counters) (suc words.old.taken) (words_in words.old.rest.now) }
+    ensures { result ≡ rest_of every_word (filter counters) (suc words.old.taken) (words_in words.old.rest.now) }
 {
     let object = Object::Filter;
     match words.needed()? {
@@ -89,7 +89,7 @@ fn filter_line(words: &mut Words, counters: bool) -> Result<Line, LineFault>
 
 /// Behind `show`: `dev NAME`, or nothing.
 fn shown(words: &mut Words, show: Show) -> Result<Line, LineFault>
-    ensures { result ≡ rest_of (show_line show false) (suc words.old.taken) (words_in words.old.rest.now) }
+    ensures { result ≡ rest_of every_word (show_line show false) (suc words.old.taken) (words_in words.old.rest.now) }
 {
     let mut named = false;
     while let Some(word) = words.next()? {

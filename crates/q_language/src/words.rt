@@ -5,7 +5,7 @@ ghost use Rattle.std.specs.Str.{is_utf8};
 ghost use Rattle.q_words.specs.Words.{words_in, is_blank, is_blank_line};
 ghost use Rattle.q_language.specs.Positions.{Position, whole};
 ghost use Rattle.q_language.specs.Reading.{placed};
-ghost use Rattle.q_language.specs.Grammar.{rest_of, late_fault, ends};
+ghost use Rattle.q_language.specs.Grammar.{rest_of, late_fault, ends, every_word};
 
 use crate::line::Line;
 use q_words::{LineFault, Wrong, cut_word, skip_blanks, text};
@@ -56,7 +56,7 @@ impl<'a> Words<'a> {
             (λ word. (words_in self.old.rest.now ≡ word.now ∷ words_in self.new.rest.now)
             × (self.new.taken ≡ suc self.old.taken) × (is_utf8 word.now ≡ true))) }
         ensures err { IfErr result (λ fault. (position : Position)
-            → rest_of position (suc self.old.taken) (words_in self.old.rest.now) ≡ Err fault) }
+            → rest_of every_word position (suc self.old.taken) (words_in self.old.rest.now) ≡ Err fault) }
     {
         let Some(text) = self.text else {
             return self.next_of_bytes();
@@ -91,7 +91,7 @@ impl<'a> Words<'a> {
             (λ word. (words_in self.old.rest.now ≡ word.now ∷ words_in self.new.rest.now)
             × (self.new.taken ≡ suc self.old.taken) × (is_utf8 word.now ≡ true))) }
         ensures err { IfErr result (λ fault. (position : Position)
-            → rest_of position (suc self.old.taken) (words_in self.old.rest.now) ≡ Err fault) }
+            → rest_of every_word position (suc self.old.taken) (words_in self.old.rest.now) ≡ Err fault) }
     {
         let rest = skip_blanks(self.rest);
         if rest.is_empty() {
@@ -113,7 +113,7 @@ impl<'a> Words<'a> {
         ensures ok { IfOk result (λ word. (words_in self.old.rest.now ≡ word.now ∷ words_in self.new.rest.now)
             × (self.new.taken ≡ suc self.old.taken) × (is_utf8 word.now ≡ true)) }
         ensures err { IfErr result (λ fault. (position : Position) → late_fault position ≡ None → ends position ≡ None
-            → rest_of position (suc self.old.taken) (words_in self.old.rest.now) ≡ Err fault) }
+            → rest_of every_word position (suc self.old.taken) (words_in self.old.rest.now) ≡ Err fault) }
     {
         match self.next()? {
             Some(word) => Ok(word),
@@ -177,7 +177,7 @@ impl<'a> Words<'a> {
             × (self.new.taken ≡ suc self.old.taken) × (is_utf8 word.now ≡ true)) }
         ensures twice { IfErr result (λ fault. given ≡ true → fault ≡ LineFault.Twice self.old.taken) }
         ensures err { IfErr result (λ fault. given ≡ false → (position : Position) → late_fault position ≡ None → ends position ≡ None
-            → rest_of position (suc self.old.taken) (words_in self.old.rest.now) ≡ Err fault) }
+            → rest_of every_word position (suc self.old.taken) (words_in self.old.rest.now) ≡ Err fault) }
     {
         self.once(given)?;
         self.needed()
@@ -185,7 +185,7 @@ impl<'a> Words<'a> {
 
     /// The line, where no word is left.
     pub fn ended(&mut self, line: Line) -> Result<Line, LineFault>
-        ensures { result ≡ rest_of (whole line) (suc self.old.taken) (words_in self.old.rest.now) }
+        ensures { result ≡ rest_of every_word (whole line) (suc self.old.taken) (words_in self.old.rest.now) }
     {
         match self.next()? {
             None => Ok(line),
