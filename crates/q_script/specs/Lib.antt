@@ -1,5 +1,4 @@
 pub mod Lengths
-pub mod Reads
 pub mod RunFault
 pub mod Script
 pub mod Settings

@@ -1,4 +1,3 @@
 pub mod Lengths
 pub mod ShowText
-pub mod Writes
 pub mod Written
