@@ -1,5 +1,5 @@
 use crate::checksum;
-use q_language::{Arrival, Line, read_line};
+use q_line::{Arrival, Line, read_line};
 use q_model::{ClassId, Command, Filter, FqCodelOptions, IpPrefix, Kind, Place, TbfLimit};
 use q_words::LineFault;
 

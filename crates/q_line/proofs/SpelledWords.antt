@@ -1,4 +1,4 @@
--- What is written is cut into the words that it was written of, and numbers and handles are read as what was written.
+-- What is written is cut into the words that it was written of, which are ASCII; numbers and handles are read as what was written.
 use Rattle.std.proofs.Common.{◌≡◌, ◌∙◌, ℕ, zero, suc, ◌+◌, ◌*◌, ◌/◌, ◌%◌, ◌^◌, ◌<◌, ◌≤◌, ◌&&◌, not, Bool, true, false, List, [], ◌∷◌, ◌++◌, length, length-append, drop, get_or, eqb, ltb, leb, Ok, Err, refl, sym, ap, arith, if◌then◌else◌, cond, codes, lit<, lit≤}
 use Rattle.std.specs.List.{filter, slice_split, onto_first, join_with_byte, list_all, position_or_len, before_first, after_first}
 use Rattle.std.specs.Char.{is_digit}
@@ -8,6 +8,7 @@ use Rattle.std.specs.Str.Parse.{digits_value, AllDigits}
 use Rattle.std.proofs.lemmas.Bool.Decides.{nat_tests}
 use Rattle.std.proofs.lemmas.Bool.{eq-eqb, ltb-true, lt-ltb, le-leb}
 use Rattle.std.proofs.lemmas.Fmt.{decimal_is_IsNumeral, digits_is_IsNumeral}
+use Rattle.std.proofs.lemmas.List.Folds.{list_all-append}
 use Rattle.std.proofs.lemmas.List.Splits.{slice_split-cons_no}
 use Rattle.std.proofs.lemmas.Str.{IsUtf8-from_ascii, is_utf8-from_IsUtf8}
 use Rattle.std.proofs.Math.Nat.{pow-succ'}
@@ -61,9 +62,6 @@ words_of_spelling (x ∷ y ∷ ws) h =
     ∙ ap (λ vs. x ∷ vs) (words_of_spelling (y ∷ ws) (right_of (is_word x) _ h))
 
 -- bytes below 128 are UTF-8
-pub is_ascii : List ℕ → Bool
-is_ascii w = list_all (λ b. ltb b 128) w
-
 ascii_at : (w : List ℕ) → list_all (λ b. ltb b 128) w ≡ true → (i : ℕ) → get_or w i 0 < 128
 ascii_at [] h i = lit< tt
 ascii_at (b ∷ w) h zero = ltb-true b 128 (left_of (ltb b 128) _ h)
@@ -155,3 +153,41 @@ handle_read n low high =
     let small : n < 16 ^ 64 = omega arith in
     let d = digits_is_IsNumeral 16 false (lit≤ tt) (lit≤ tt) n small in
     handle_gives n (digits 16 false n) (both (lt-ltb _ _ d.0.0) (digits_from_numeral 16 (digits 16 false n) d.0.1)) d.1 (hex_short n (omega arith)) low high
+
+-- numbers and handles as words
+
+wider : (c : ℕ) → is_digit c 10 ≡ true → is_digit c 16 ≡ true
+wider c h = grind (arith, nat_tests)
+
+filled : (bytes : List ℕ) → 0 < length bytes → is_filled bytes ≡ true
+filled [] h = absurd (omega arith)
+filled (b ∷ bytes) h = refl
+
+pub record Digits (w : List ℕ) : Type 0 where
+  pub some : 0 < length w
+  pub each : is_digits 16 w ≡ true
+
+pub decimal_digits : (n : ℕ) → n < 2 ^ 64 → Digits (decimal n)
+decimal_digits n small = let d = decimal_is_IsNumeral n small in
+    record { some = d.0.0; each = every_digit 10 (λ c. is_digit c 16) wider (decimal n) (digits_from_numeral 10 (decimal n) d.0.1) }
+
+pub hex_digits : (n : ℕ) → n < 2 ^ 16 → Digits (digits 16 false n)
+hex_digits n high =
+    let small : n < 16 ^ 64 = omega arith in
+    let d = digits_is_IsNumeral 16 false (lit≤ tt) (lit≤ tt) n small in
+    record { some = d.0.0; each = digits_from_numeral 16 (digits 16 false n) d.0.1 }
+
+pub digits_word : (w : List ℕ) → Digits w → is_word w ≡ true
+digits_word w d = both (filled w d.some) (every_digit 16 (λ c. not (is_blank c)) digit_not_blank w d.each)
+
+pub digits_ascii : (w : List ℕ) → Digits w → list_all (λ b. ltb b 128) w ≡ true
+digits_ascii w d = every_digit 16 (λ c. ltb c 128) digit_small w d.each
+
+pub handle_word : (w : List ℕ) → Digits w → is_word (w ++ codes ":") ≡ true
+handle_word w d =
+    let some = d.some in
+    both (filled (w ++ 58 ∷ []) (simp length-append (omega arith)))
+    (list_all-append (λ c. not (is_blank c)) w (58 ∷ []) ∙ both (every_digit 16 (λ c. not (is_blank c)) digit_not_blank w d.each) refl)
+
+pub handle_ascii : (w : List ℕ) → Digits w → list_all (λ b. ltb b 128) (w ++ codes ":") ≡ true
+handle_ascii w d = list_all-append (λ b. ltb b 128) w (58 ∷ []) ∙ both (digits_ascii w d) refl

@@ -1,6 +1,7 @@
+pub mod Drafts
 pub mod Grammar
 pub mod Laws
+pub mod Positions
 pub mod Ranges
-pub mod Script
-pub mod Settings
+pub mod Reading
 pub mod Spelling

@@ -1,6 +1,14 @@
-/// `pkt`: a packet that arrives at the device.
+use q_packet::{Ecn, FlowKey};
+
+/// A packet that arrives at the device, as a `pkt` line says it.
 #[derive(Clone, Copy, PartialEq, Eq, Debug)]
 pub struct Arrival {
     /// Its length in bytes, 1 to 65535.
     pub len: u16,
+    pub key: FlowKey,
+    /// Its priority, 0 to 15.
+    pub prio: u8,
+    pub ecn: Ecn,
+    /// The hash of its key, where the line gives one.
+    pub hash: Option<u32>,
 }

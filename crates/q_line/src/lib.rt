@@ -1,37 +1,54 @@
-//! The lines of a script: what each says, or its leftmost fault.
+//! The lines of the whole script language, as definitions and their reader.
 //!
-//! - [`read_line`] reads the bytes of one line, without its newline, into a [`Line`]; it allocates nothing.
-//! - [`Line`] is blank, a [`Command`] of `tc`, a [`Show`], a moment, an [`Arrival`] or a number of polls. A command has a
-//!   [`Place`], a handle where the line gives one, and a [`Kind`] with its options.
-//! - [`LineFault`] says why a line is none of the language, with the index of the word; its text is
-//!   `fault 3 BadNumber word 9` and the like.
+//! - `specs/Grammar.antt` says of every line's bytes which [`Line`] they are, or which `LineFault` of `q_words` is the leftmost;
+//!   its tables of words stand in `specs/Positions.antt`, what the words have said so far in `specs/Drafts.antt`, and the words
+//!   and values in `q_words`.
+//! - [`read_line`] reads a line as the grammar says, and allocates nothing. It has one reader for the head of each object and
+//!   one for each kind.
+//! - `specs/Ranges.antt` says what a line may say, and `specs/Spelling.antt` has one way to write each such line; [`laws`] says
+//!   that it is read as itself, and where the fault of any other lies. By `proofs/PacketRanges.antt`
+//!   each packet that is read has a length of 1 to 65535 and a priority of at most 15.
 //!
-//! `specs/Grammar.antt` has the lines of the language, as tables of the words that stand at each position of a line, and
-//! `specs/Script.antt` how a script is cut into lines and a report speaks of one; the words and their values are those of
-//! `q_words`. The contract of
-//! `read_line` says that it gives exactly what they say (`exact`), and that every number is in range (`in_range`, after
-//! `specs/Ranges.antt`). Above the grammar stand the laws of the module [`laws`]: a fault is the leftmost one, `Missing`
-//! comes only where nothing is wrong with any word, each line can be written and is read as itself, and the settings of a
-//! head can stand in any order.
+//! `q_report` computes worked scripts from these definitions, from their bytes to their reports.
 #![tactic(auto)]
 
 mod arrival;
-mod command;
-mod head;
-mod kind;
+mod bfifo;
+mod class_head;
+mod class_verb;
+mod drr;
+mod filter_head;
+mod filter_verb;
+mod flower;
+mod fq_codel;
+mod fq_codel_option;
+mod fq_codel_word;
+mod frame;
+mod head_draft;
+mod key_draft;
+mod key_name;
+mod kind_name;
 pub mod laws;
 mod line;
-mod place;
+mod object;
+mod packet;
+mod packet_draft;
+mod packet_field;
+mod pfifo;
+mod prio;
+mod prio_made;
+mod priomap;
+mod qdisc_head;
+mod qdisc_made;
+mod qdisc_verb;
 mod reading;
 mod show;
+mod tbf;
 mod tc;
 mod words;
 
 pub use arrival::Arrival;
-pub use command::Command;
-pub use kind::Kind;
 pub use line::Line;
-pub use place::Place;
-pub use q_words::LineFault;
+pub use object::Object;
 pub use reading::read_line;
 pub use show::Show;

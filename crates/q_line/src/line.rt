@@ -1,7 +1,7 @@
 use crate::arrival::Arrival;
-use crate::command::Command;
 use crate::show::Show;
-use q_packet::Moment;
+use q_model::Command;
+use q_packet::{Head, Moment};
 
 /// What a line of a script says.
 #[derive(Clone, Copy, PartialEq, Eq, Debug)]
@@ -14,8 +14,18 @@ pub enum Line {
     Show(Show),
     /// `at N`: the moment of the lines that follow.
     At(Moment),
-    /// `pkt LEN`: a packet arrives.
+    /// `pkt`: a packet arrives, of which the line gives the fields.
     Pkt(Arrival),
+    /// `frame`: a packet arrives, whose fields are read from its first bytes.
+    Frame {
+        /// Its length in bytes, 1 to 65535.
+        len: u16,
+        head: Head,
+    },
     /// `poll [N]`: the device is polled so many times, 1 to 100000.
     Poll(u32),
+    /// `reap`: the losses not yet handed out.
+    Reap,
+    /// `totals`: the device's counters.
+    Totals,
 }

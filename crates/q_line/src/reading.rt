@@ -1,10 +1,11 @@
-ghost use Rattle.std.specs.Prelude.{◌≡◌, suc, IfOk};
-ghost use Rattle.q_line.specs.Ranges.{IsLine};
+ghost use Rattle.std.specs.Prelude.{◌≡◌, suc};
 ghost use Rattle.q_words.specs.Words.{words_in};
-ghost use Rattle.q_line.specs.Grammar.{line_of, rest_of, at, pkt, poll};
+ghost use Rattle.q_line.specs.Grammar.{line_of, rest_of};
+ghost use Rattle.q_line.specs.Positions.{at, first, poll};
 
-use crate::arrival::Arrival;
+use crate::frame::frame_line;
 use crate::line::Line;
+use crate::packet::pkt_line;
 use crate::tc::tc_line;
 use crate::words::Words;
 use q_packet::Moment;
@@ -15,32 +16,35 @@ const MAX_POLLS: u64 = 100_000;
 
 /// What a line of a script says, given its bytes without the newline; else its leftmost fault.
 pub fn read_line(line: &[u8]) -> Result<Line, LineFault>
-    ensures exact { result ≡ line_of line.now }
-    ensures in_range { IfOk result IsLine }
-{
-    line_of(line)
-}
-
-/// The same, by the line's first word.
-fn line_of(line: &[u8]) -> Result<Line, LineFault>
     ensures { result ≡ line_of line.now }
 {
     let mut words = Words::new(line);
     if words.is_blank_line() {
         return Ok(Line::Blank);
     }
+    first_word(&mut words)
+}
+
+/// The first word of a line that says something.
+#[inline(always)]
+fn first_word(words: &mut Words) -> Result<Line, LineFault>
+    ensures { result ≡ rest_of first (suc words.old.taken) (words_in words.old.rest.now) }
+{
     match words.needed()? {
         "pkt" => pkt_line(words),
+        "frame" => frame_line(words),
         "poll" => poll_line(words),
         "at" => at_line(words),
         "tc" => tc_line(words),
+        "reap" => words.ended(Line::Reap),
+        "totals" => words.ended(Line::Totals),
         _ => Err(words.unknown()),
     }
 }
 
 /// Behind `at`: N, nanoseconds.
-fn at_line(mut words: Words) -> Result<Line, LineFault>
-    ensures { result ≡ rest_of at (suc words.entry.taken) (words_in words.entry.rest.now) }
+fn at_line(words: &mut Words) -> Result<Line, LineFault>
+    ensures { result ≡ rest_of at (suc words.old.taken) (words_in words.old.rest.now) }
 {
     let word = words.needed()?;
     let ns = words.placed(number(word.as_bytes(), 0, Moment::MAX))?;
@@ -48,18 +52,9 @@ fn at_line(mut words: Words) -> Result<Line, LineFault>
     words.ended(Line::At(moment))
 }
 
-/// Behind `pkt`: LEN, bytes.
-fn pkt_line(mut words: Words) -> Result<Line, LineFault>
-    ensures { result ≡ rest_of pkt (suc words.entry.taken) (words_in words.entry.rest.now) }
-{
-    let word = words.needed()?;
-    let len = words.placed(number(word.as_bytes(), 1, u64::from(u16::MAX)))? as u16;
-    words.ended(Line::Pkt(Arrival { len }))
-}
-
 /// Behind `poll`: N, which is 1 where it is not there.
-fn poll_line(mut words: Words) -> Result<Line, LineFault>
-    ensures { result ≡ rest_of poll (suc words.entry.taken) (words_in words.entry.rest.now) }
+fn poll_line(words: &mut Words) -> Result<Line, LineFault>
+    ensures { result ≡ rest_of poll (suc words.old.taken) (words_in words.old.rest.now) }
 {
     let Some(word) = words.next()? else {
         return Ok(Line::Poll(1));

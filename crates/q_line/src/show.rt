@@ -1,6 +1,10 @@
-/// `tc qdisc show`: what a show text has.
+use crate::object::Object;
+
+/// A line that asks for a show text (tc(8), `show`).
 #[derive(Clone, Copy, PartialEq, Eq, Debug)]
 pub struct Show {
-    /// Whether each qdisc is followed by its counters (tc(8), `-s`).
+    /// What is shown.
+    pub object: Object,
+    /// Whether `-s` stands there: each qdisc is then followed by its counters. Classes and filters have none.
     pub counters: bool,
 }

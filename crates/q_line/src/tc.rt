@@ -1,107 +1,95 @@
-ghost use Rattle.std.specs.Prelude.{◌≡◌, suc, true, false, None};
+ghost use Rattle.std.specs.Prelude.{◌≡◌, suc, true, false};
 ghost use Rattle.q_words.specs.Words.{words_in};
-ghost use Rattle.q_line.specs.Grammar.{rest_of, tc, object, verb, add, pfifo, show, no_head};
+ghost use Rattle.q_line.specs.Drafts.{no_head, of_class, of_filter, of_qdisc};
+ghost use Rattle.q_line.specs.Grammar.{rest_of};
+ghost use Rattle.q_line.specs.Positions.{class, filter, qdisc, show_line, tc};
 
-use crate::command::Command;
-use crate::head::Head;
-use crate::kind::Kind;
+use crate::class_head::class_head;
+use crate::class_verb::ClassVerb;
+use crate::filter_head::filter_head;
+use crate::filter_verb::FilterVerb;
 use crate::line::Line;
-use crate::place::Place;
+use crate::object::Object;
+use crate::qdisc_head::qdisc_head;
+use crate::qdisc_verb::QdiscVerb;
 use crate::show::Show;
 use crate::words::Words;
-use q_words::{LineFault, handle, name, number};
+use q_words::{LineFault, name};
 
 /// Behind `tc`: an option, or the object.
-pub fn tc_line(mut words: Words) -> Result<Line, LineFault>
-    ensures { result ≡ rest_of tc (suc words.entry.taken) (words_in words.entry.rest.now) }
+#[inline(always)]
+pub fn tc_line(words: &mut Words) -> Result<Line, LineFault>
+    ensures { result ≡ rest_of (tc false) (suc words.old.taken) (words_in words.old.rest.now) }
 {
     match words.needed()? {
         "-s" => object_line(words),
         "qdisc" => qdisc_line(words, false),
+        "class" => class_line(words, false),
+        "filter" => filter_line(words, false),
         _ => Err(words.unknown()),
     }
 }
 
 /// Behind `tc -s`: the object.
-fn object_line(mut words: Words) -> Result<Line, LineFault>
-    ensures { result ≡ rest_of (object true) (suc words.entry.taken) (words_in words.entry.rest.now) }
+#[inline(always)]
+fn object_line(words: &mut Words) -> Result<Line, LineFault>
+    ensures { result ≡ rest_of (tc true) (suc words.old.taken) (words_in words.old.rest.now) }
 {
     match words.needed()? {
         "qdisc" => qdisc_line(words, true),
+        "class" => class_line(words, true),
+        "filter" => filter_line(words, true),
         _ => Err(words.unknown()),
     }
 }
 
 /// Behind `qdisc`: what is done.
-fn qdisc_line(mut words: Words, counters: bool) -> Result<Line, LineFault>
-    ensures { result ≡ rest_of (verb counters) (suc words.entry.taken) (words_in words.entry.rest.now) }
+#[inline(always)]
+fn qdisc_line(words: &mut Words, counters: bool) -> Result<Line, LineFault>
+    ensures { result ≡ rest_of (qdisc counters) (suc words.old.taken) (words_in words.old.rest.now) }
 {
+    let object = Object::Qdisc;
     match words.needed()? {
-        "add" => add_line(words),
-        "show" | "list" | "ls" => show_line(words, counters),
+        "add" => qdisc_head(words, QdiscVerb::Add),
+        "change" => qdisc_head(words, QdiscVerb::Change),
+        "del" | "delete" => qdisc_head(words, QdiscVerb::Del),
+        "show" | "list" | "ls" => shown(words, Show { object, counters }),
         _ => Err(words.unknown()),
     }
 }
 
-/// Behind `qdisc add`: the head, then the kind.
-fn add_line(mut words: Words) -> Result<Line, LineFault>
-    ensures { result ≡ rest_of (add no_head) (suc words.entry.taken) (words_in words.entry.rest.now) }
+/// Behind `class`: what is done.
+#[inline(always)]
+fn class_line(words: &mut Words, counters: bool) -> Result<Line, LineFault>
+    ensures { result ≡ rest_of (class counters) (suc words.old.taken) (words_in words.old.rest.now) }
 {
-    let mut head = Head {
-        named: false,
-        place: None,
-        handle: None,
-    };
-    loop {
-        match words.needed()? {
-            "dev" => {
-                words.once(head.named)?;
-                let word = words.needed()?;
-                words.placed(name(word.as_bytes()))?;
-                head.named = true;
-            }
-            "root" => {
-                words.once(head.place.is_some())?;
-                head.place = Some(Place::Root);
-            }
-            "handle" => {
-                words.once(head.handle.is_some())?;
-                let word = words.needed()?;
-                head.handle = Some(words.placed(handle(word.as_bytes()))?.major());
-            }
-            "pfifo" => return pfifo_line(words, head),
-            _ => return Err(words.unknown()),
-        }
+    let object = Object::Class;
+    match words.needed()? {
+        "add" => class_head(words, ClassVerb::Add),
+        "change" => class_head(words, ClassVerb::Change),
+        "del" | "delete" => class_head(words, ClassVerb::Del),
+        "show" | "list" | "ls" => shown(words, Show { object, counters }),
+        _ => Err(words.unknown()),
     }
 }
 
-/// Behind `pfifo`: its options.
-fn pfifo_line(mut words: Words, head: Head) -> Result<Line, LineFault>
-    ensures { result ≡ rest_of (pfifo head None) (suc words.entry.taken) (words_in words.entry.rest.now) }
+/// Behind `filter`: what is done.
+#[inline(always)]
+fn filter_line(words: &mut Words, counters: bool) -> Result<Line, LineFault>
+    ensures { result ≡ rest_of (filter counters) (suc words.old.taken) (words_in words.old.rest.now) }
 {
-    let mut limit = None;
-    while let Some(word) = words.next()? {
-        if word != "limit" {
-            return Err(words.unknown());
-        }
-        words.once(limit.is_some())?;
-        let word = words.needed()?;
-        let packets = words.placed(number(word.as_bytes(), 0, u64::from(u32::MAX)))?;
-        limit = Some(packets as u32);
-    }
-    match head.place {
-        Some(place) if head.named => Ok(Line::Tc(Command::QdiscAdd {
-            place,
-            handle: head.handle,
-            kind: Kind::Pfifo { limit },
-        })),
-        _ => Err(words.missing()),
+    let object = Object::Filter;
+    match words.needed()? {
+        "add" => filter_head(words, FilterVerb::Add),
+        "del" | "delete" => filter_head(words, FilterVerb::Del),
+        "show" | "list" | "ls" => shown(words, Show { object, counters }),
+        _ => Err(words.unknown()),
     }
 }
 
-/// Behind `qdisc show`: `dev NAME`, or nothing.
-fn show_line(mut words: Words, counters: bool) -> Result<Line, LineFault>
-    ensures { result ≡ rest_of (show counters false) (suc words.entry.taken) (words_in words.entry.rest.now) }
+/// Behind `show`: `dev NAME`, or nothing.
+fn shown(words: &mut Words, show: Show) -> Result<Line, LineFault>
+    ensures { result ≡ rest_of (show_line show false) (suc words.old.taken) (words_in words.old.rest.now) }
 {
     let mut named = false;
     while let Some(word) = words.next()? {
@@ -113,5 +101,5 @@ fn show_line(mut words: Words, counters: bool) -> Result<Line, LineFault>
         words.placed(name(word.as_bytes()))?;
         named = true;
     }
-    Ok(Line::Show(Show { counters }))
+    Ok(Line::Show(show))
 }

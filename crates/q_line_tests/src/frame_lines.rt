@@ -1,6 +1,6 @@
 //! `frame` lines, which give a packet's head by its first bytes.
 //! The bytes are written by the diagrams of RFC 791 and RFC 8200, and what they say is read off them by hand.
-use q_language::{Line, read_line};
+use q_line::{Line, read_line};
 use q_packet::{Ecn, FlowKey, Head};
 use q_words::LineFault::{self, BadNumber, BadUtf8, Missing, OutOfRange, UnknownWord};
 use std::process::Abort;

@@ -1,6 +1,6 @@
-//! Tests of what each line of the whole language is read as, or is answered: tables of lines, a module for each topic.
+//! Tests of what each line is read as, or is answered: tables of lines, a module for each topic.
 //!
-//! They need nothing private of `q_language`, and stand apart from `q_tests`, since one check that holds the modules of all
+//! They need nothing private of `q_line`, and stand apart from `q_tests`, since one check that holds the modules of all
 //! libraries takes too much memory. The crate exports nothing.
 #![tactic(auto)]
 
@@ -8,6 +8,8 @@
 mod frame_lines;
 #[cfg(test)]
 mod line_addresses;
+#[cfg(test)]
+mod line_bytes;
 #[cfg(test)]
 mod line_fields;
 #[cfg(test)]

@@ -3,7 +3,7 @@
 use crate::line_reading::{
     NO_KEYS, assert_class, assert_faults, assert_filter, assert_line, class_id, one_byte,
 };
-use q_language::{Arrival, Line};
+use q_line::{Arrival, Line};
 use q_model::FilterKeys;
 use q_packet::{Ecn, FlowKey, Head, Moment};
 use q_words::LineFault::{BadNumber, OutOfRange};

@@ -4,7 +4,7 @@ use crate::line_reading::{
     DEFAULT_PRIOMAP, assert_faults, assert_fq_codel, assert_line, assert_prio, assert_root,
     assert_tbf, class_id, latency,
 };
-use q_language::Line;
+use q_line::Line;
 use q_model::{Command, FqCodelOptions, Handle, Kind, Place, TbfLimit};
 use q_words::LineFault::{BadNumber, OutOfRange};
 use std::alloc::Global;

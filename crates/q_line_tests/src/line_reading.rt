@@ -1,5 +1,5 @@
 //! What a line of the language is read as, for the tests over tables of lines.
-use q_language::{Arrival, Line, read_line};
+use q_line::{Arrival, Line, read_line};
 use q_model::{
     Burst, ClassId, Command, Filter, FilterKeys, FilterPrio, FqCodelOptions, Handle, Kind, Latency,
     Minor, Place, PrioOptions, Protocol, Quantum, Rate, TbfLimit,

@@ -9,10 +9,10 @@ use Rattle.q_model.specs.declared.filter_keys.FilterKeys.{FilterKeys}
 use Rattle.q_model.specs.declared.filter_view.FilterView.{FilterView}
 use Rattle.q_model.specs.declared.protocol.Protocol.{Protocol}
 use Rattle.q_model.specs.declared.protocol.Protocol.TheVariants.{All, Ip, Ipv6}
-use Rattle.q_language.specs.Grammar.{line_of}
-use Rattle.q_language.specs.Spelling.{class_word, given, handle_word, hex, keys_words, prefix_word, protocol_word, spelling}
-use Rattle.q_language.specs.declared.line.Line.TheVariants.{Tc}
-use Rattle.q_language.proofs.SpelledLines.{spellings}
+use Rattle.q_line.specs.Grammar.{line_of}
+use Rattle.q_line.specs.Spelling.{class_word, given, handle_word, hex, keys_words, prefix_word, protocol_word, spelling}
+use Rattle.q_line.specs.declared.line.Line.TheVariants.{Tc}
+use Rattle.q_line.proofs.SpelledLines.{spellings}
 use Rattle.q_show.specs.ShowText
 use Rattle.q_show.specs.ShowText.{keys_text, into_text, protocol_text, prefix_text}
 use Rattle.q_report.specs.ReadBack.{IsFilter, filter_added, filter_command, FiltersAreReadBack}

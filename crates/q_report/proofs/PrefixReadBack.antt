@@ -5,8 +5,8 @@ use Rattle.q_model.specs.declared.ip_version.IpVersion.{IpVersion}
 use Rattle.q_model.specs.declared.ip_version.IpVersion.TheVariants.{V4, V6}
 use Rattle.q_model.specs.Options.{Prefix}
 use Rattle.q_words.specs.Addresses.{prefix_of}
-use Rattle.q_language.specs.Spelling.{address_word, prefix_word}
-use Rattle.q_language.proofs.SpelledFilters.{prefix_read}
+use Rattle.q_line.specs.Spelling.{address_word, prefix_word}
+use Rattle.q_line.proofs.SpelledFilters.{prefix_read}
 use Rattle.q_show.specs.ShowText.{address_text, prefix_text}
 use Rattle.q_report.specs.ReadBack.{PrefixesAreReadBack}
 

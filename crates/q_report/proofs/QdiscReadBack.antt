@@ -12,11 +12,11 @@ use Rattle.q_model.specs.declared.place.Place.{Place}
 use Rattle.q_model.specs.declared.place.Place.TheVariants as place
 use Rattle.q_model.specs.declared.qdisc_view.QdiscView.TheVariants as qdisc
 use Rattle.q_model.specs.declared.tbf_limit.TbfLimit.TheVariants.{Bytes}
-use Rattle.q_language.specs.Grammar.{line_of}
-use Rattle.q_language.specs.Ranges.{IsBelow}
-use Rattle.q_language.specs.Spelling.{change_words, class_word, given, handle_word, kind_words, place_words}
-use Rattle.q_language.specs.declared.line.Line.TheVariants.{Tc}
-use Rattle.q_language.proofs.SpelledLines.{spellings}
+use Rattle.q_line.specs.Grammar.{line_of}
+use Rattle.q_line.specs.Ranges.{IsBelow}
+use Rattle.q_line.specs.Spelling.{change_words, class_word, given, handle_word, kind_words, place_words}
+use Rattle.q_line.specs.declared.line.Line.TheVariants.{Tc}
+use Rattle.q_line.proofs.SpelledLines.{spellings}
 use Rattle.q_show.specs.ShowText.{handle_text, place_text, priomap_text, setting}
 use Rattle.q_report.specs.ReadBack.{IsPlace, adding, QdiscsAreReadBack}
 

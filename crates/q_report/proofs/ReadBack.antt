@@ -6,18 +6,18 @@ use Rattle.q_model.specs.Numbers.{IsQuantum}
 use Rattle.q_model.specs.Ranges.{IsClassId}
 use Rattle.q_model.specs.declared.class_id.ClassId.{ClassId}
 use Rattle.q_model.specs.declared.command.Command.TheVariants.{ClassAdd}
-use Rattle.q_language.specs.Drafts.{Verb, of_class}
-use Rattle.q_language.specs.Grammar.{value}
-use Rattle.q_language.specs.Positions
-use Rattle.q_language.specs.Positions.{first, head, quantum_of, quantum_value}
-use Rattle.q_language.specs.Spelling.{change_words, class_word, handle_word}
-use Rattle.q_language.specs.declared.class_verb.ClassVerb.TheVariants.{Add}
-use Rattle.q_language.specs.declared.head_draft.HeadDraft.{HeadDraft}
-use Rattle.q_language.specs.declared.line.Line.TheVariants.{Tc}
-use Rattle.q_language.proofs.SpelledCommands.{class_path, named, owned, parent_path, starts}
-use Rattle.q_language.proofs.SpelledLines.{line_read}
-use Rattle.q_language.proofs.SpelledSteps.{Path, Says, chain, ended_says, pair, unit_is_word, word}
-use Rattle.q_language.proofs.SpelledValues.{size_read}
+use Rattle.q_line.specs.Drafts.{Verb, of_class}
+use Rattle.q_line.specs.Grammar.{value}
+use Rattle.q_line.specs.Positions
+use Rattle.q_line.specs.Positions.{first, head, quantum_of, quantum_value}
+use Rattle.q_line.specs.Spelling.{change_words, class_word, handle_word}
+use Rattle.q_line.specs.declared.class_verb.ClassVerb.TheVariants.{Add}
+use Rattle.q_line.specs.declared.head_draft.HeadDraft.{HeadDraft}
+use Rattle.q_line.specs.declared.line.Line.TheVariants.{Tc}
+use Rattle.q_line.proofs.SpelledCommands.{class_path, named, owned, parent_path, starts}
+use Rattle.q_line.proofs.SpelledLines.{line_read}
+use Rattle.q_line.proofs.SpelledSteps.{Path, Says, chain, ended_says, pair, unit_is_word, word}
+use Rattle.q_line.proofs.SpelledValues.{size_read}
 use Rattle.q_report.specs.ReadBack.{ClassesAreReadBack}
 
 abbrev verb : Verb

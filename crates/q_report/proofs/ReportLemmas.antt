@@ -17,10 +17,10 @@ use Rattle.q_model.specs.Settings.{DeviceSettings}
 use Rattle.q_model.specs.Step.{DeviceState, Step, losses_in, polled_of, arrive, poll, done, counts_at}
 use Rattle.q_model.specs.ShrinkDevice.{shrunk, IsShrunkStep}
 use Rattle.q_device.proofs.ShrinkLemmas.{step-shrunk}
-use Rattle.q_language.specs.Grammar.{line_in}
-use Rattle.q_language.specs.declared.arrival.Arrival.{Arrival}
-use Rattle.q_language.specs.declared.line.Line.{Line}
-use Rattle.q_language.specs.declared.line.Line.TheVariants as line
+use Rattle.q_line.specs.Grammar.{line_of}
+use Rattle.q_line.specs.declared.arrival.Arrival.{Arrival}
+use Rattle.q_line.specs.declared.line.Line.{Line}
+use Rattle.q_line.specs.declared.line.Line.TheVariants as line
 use Rattle.q_words.specs.declared.line_fault.LineFault.{LineFault}
 use Rattle.q_script.specs.Script.{lines_of, is_starved}
 use Rattle.q_report.specs.Text.{poll_line, device_line}
@@ -102,12 +102,12 @@ effect-shrunk : (seed : ℕ) (starved : Bool) (k : ℕ) (l : Result Line LineFau
 effect-shrunk seed starved k (Err fault) s = record { text = refl; session = refl }
 effect-shrunk seed starved k (Ok l) s = answered-shrunk seed starved k l s
 
-replayed-shrunk : (spoken : List ℕ → Bool) (seed : ℕ) (starved : ℕ → Bool) (k : ℕ) (lines : List (List ℕ)) (s : SessionState (List Note)) → IsShrunkEffect (replayed history spoken seed starved k lines s) (replayed totals spoken seed starved k lines (shrunk_session s))
-replayed-shrunk spoken seed starved k [] s = record { text = refl; session = refl }
-replayed-shrunk spoken seed starved k (l ∷ lines) s =
-    let first = effect history seed (starved k) k (line_in spoken l) s in
-    let same = effect-shrunk seed (starved k) k (line_in spoken l) s in
-    let rest = subst (λ (r : SessionState Counts). IsShrunkEffect (replayed history spoken seed starved (suc k) lines first.session) (replayed totals spoken seed starved (suc k) lines r)) same.session (replayed-shrunk spoken seed starved (suc k) lines first.session) in
+replayed-shrunk : (seed : ℕ) (starved : ℕ → Bool) (k : ℕ) (lines : List (List ℕ)) (s : SessionState (List Note)) → IsShrunkEffect (replayed history seed starved k lines s) (replayed totals seed starved k lines (shrunk_session s))
+replayed-shrunk seed starved k [] s = record { text = refl; session = refl }
+replayed-shrunk seed starved k (l ∷ lines) s =
+    let first = effect history seed (starved k) k (line_of l) s in
+    let same = effect-shrunk seed (starved k) k (line_of l) s in
+    let rest = subst (λ (r : SessionState Counts). IsShrunkEffect (replayed history seed starved (suc k) lines first.session) (replayed totals seed starved (suc k) lines r)) same.session (replayed-shrunk seed starved (suc k) lines first.session) in
     record { text = ap₂ (λ (a b : List ℕ). a ++ b) same.text rest.text; session = rest.session }
 
 new_session-shrunk : (settings : DeviceSettings) → shrunk_session (new_session history settings) ≡ new_session totals settings
@@ -116,6 +116,6 @@ new_session-shrunk settings =
     (new_tree-stands history totals counts_in totals_for_history (record { mtu = settings.mtu; txqueuelen = settings.txqueuelen }))
 
 pub replay-shrunk : TotalsAreEnough
-replay-shrunk spoken settings seed script starved =
-    subst (λ (r : SessionState Counts). IsShrunkEffect (replayed history spoken seed (is_starved starved) 1 (lines_of script) (new_session history settings)) (replayed totals spoken seed (is_starved starved) 1 (lines_of script) r)) (new_session-shrunk settings)
-    (replayed-shrunk spoken seed (is_starved starved) 1 (lines_of script) (new_session history settings))
+replay-shrunk settings seed script starved =
+    subst (λ (r : SessionState Counts). IsShrunkEffect (replayed history seed (is_starved starved) 1 (lines_of script) (new_session history settings)) (replayed totals seed (is_starved starved) 1 (lines_of script) r)) (new_session-shrunk settings)
+    (replayed-shrunk seed (is_starved starved) 1 (lines_of script) (new_session history settings))

@@ -19,9 +19,9 @@ use Rattle.q_model.specs.TreeState.{TreeState}
 use Rattle.q_model.proofs.ShrinkLemmas.{each-each_memory}
 use Rattle.q_model.specs.Step.{DeviceState}
 use Rattle.q_model.specs.ShrinkDevice.{shrunk}
-use Rattle.q_language.specs.declared.show.Show.{Show}
-use Rattle.q_language.specs.declared.object.Object.{Object}
-use Rattle.q_language.specs.declared.object.Object.TheVariants as object
+use Rattle.q_line.specs.declared.show.Show.{Show}
+use Rattle.q_line.specs.declared.object.Object.{Object}
+use Rattle.q_line.specs.declared.object.Object.TheVariants as object
 use Rattle.q_report.specs.Text.{qdisc_text, class_line, filter_line}
 use Rattle.q_report.specs.Report.{show_text}
 

@@ -1,6 +1,6 @@
 -- What holds of every report: a session whose nodes keep totals writes what one whose nodes keep whole histories writes.
 -- So a program that keeps totals alone can write the report that is defined over histories.
-use Rattle.std.specs.Prelude.{◌≡◌, ℕ, Bool, List}
+use Rattle.std.specs.Prelude.{◌≡◌, ℕ, List}
 use Rattle.q_model.specs.Tally.{Note, Counts, history, totals}
 use Rattle.q_model.specs.Settings.{DeviceSettings}
 use Rattle.q_model.specs.ShrinkDevice.{shrunk}
@@ -14,7 +14,7 @@ pub record IsShrunkEffect (e : Effect (List Note)) (f : Effect Counts) : Type 0 
   pub text : e.text ≡ f.text
   pub session : shrunk_session e.session ≡ f.session
 
--- whichever words are spoken, and wherever memory is refused
+-- wherever memory is refused
 abbrev pub TotalsAreEnough : Type 0
-TotalsAreEnough = (spoken : List ℕ → Bool) (settings : DeviceSettings) (seed : ℕ) (script starved : List ℕ) →
-    IsShrunkEffect (replay_with history spoken settings seed script starved) (replay_with totals spoken settings seed script starved)
+TotalsAreEnough = (settings : DeviceSettings) (seed : ℕ) (script starved : List ℕ) →
+    IsShrunkEffect (replay_with history settings seed script starved) (replay_with totals settings seed script starved)

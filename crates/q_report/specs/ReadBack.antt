@@ -21,9 +21,9 @@ use Rattle.q_model.specs.declared.qdisc_view.QdiscView.{QdiscView}
 use Rattle.q_model.specs.declared.qdisc_view.QdiscView.TheVariants as qdisc
 use Rattle.q_model.specs.declared.tbf_limit.TbfLimit.TheVariants.{Bytes}
 use Rattle.q_words.specs.Addresses.{prefix_of}
-use Rattle.q_language.specs.Grammar.{line_of}
-use Rattle.q_language.specs.Ranges.{IsAgreed}
-use Rattle.q_language.specs.declared.line.Line.TheVariants.{Tc}
+use Rattle.q_line.specs.Grammar.{line_of}
+use Rattle.q_line.specs.Ranges.{IsAgreed}
+use Rattle.q_line.specs.declared.line.Line.TheVariants.{Tc}
 use Rattle.q_show.specs.ShowText.{class_text, handle_text, hex, into_text, keys_text, kind_text, options_text, place_text, prefix_text, protocol_text, setting}
 
 -- what a `tc` line adds, with a blank between each two parts

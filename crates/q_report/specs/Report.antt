@@ -19,14 +19,14 @@ use Rattle.q_model.specs.Conserved.{every_node}
 use Rattle.q_model.specs.Views.{views, class_views, filter_views}
 use Rattle.q_model.specs.Settings.{DeviceSettings}
 use Rattle.q_model.specs.Step.{DeviceState, Step, new_device, arrive, poll, done, counts_at, polled_of}
-use Rattle.q_language.specs.Grammar.{line_in, every_word}
-use Rattle.q_language.specs.declared.arrival.Arrival.{Arrival}
-use Rattle.q_language.specs.declared.line.Line.{Line}
-use Rattle.q_language.specs.declared.line.Line.TheVariants as line
+use Rattle.q_line.specs.Grammar.{line_of}
+use Rattle.q_line.specs.declared.arrival.Arrival.{Arrival}
+use Rattle.q_line.specs.declared.line.Line.{Line}
+use Rattle.q_line.specs.declared.line.Line.TheVariants as line
 use Rattle.q_script.specs.Script.{lines_of, is_starved, fault_line}
 use Rattle.q_words.specs.declared.line_fault.LineFault.{LineFault}
-use Rattle.q_language.specs.declared.show.Show.{Show}
-use Rattle.q_language.specs.declared.object.Object.TheVariants as object
+use Rattle.q_line.specs.declared.show.Show.{Show}
+use Rattle.q_line.specs.declared.object.Object.TheVariants as object
 use Rattle.q_report.specs.Text.{refused_line, poll_line, lost_line, device_line, qdisc_text, class_line, filter_line}
 
 -- What a script's lines have made so far: the device, the losses that wait to be reaped, the moment of the lines that
@@ -128,26 +128,22 @@ abbrev pub effect : {M : Type 0} → Tally M → ℕ → Bool → ℕ → Result
 effect t seed starved k (Err fault) s = refusing (fault_line k fault) s
 effect t seed starved k (Ok l) s = answered t seed starved k l s
 
--- the lines in turn, the first of which has this number, in a language of which these words are spoken
-abbrev pub replayed : {M : Type 0} → Tally M → (List ℕ → Bool) → ℕ → (ℕ → Bool) → ℕ → List (List ℕ) → SessionState M → Effect M
-replayed t spoken seed starved k [] s = silent s
-replayed t spoken seed starved k (l ∷ lines) s =
-    let first = effect t seed (starved k) k (line_in spoken l) s in
-    let rest = replayed t spoken seed starved (suc k) lines first.session in
+-- the lines in turn, the first of which has this number
+abbrev pub replayed : {M : Type 0} → Tally M → ℕ → (ℕ → Bool) → ℕ → List (List ℕ) → SessionState M → Effect M
+replayed t seed starved k [] s = silent s
+replayed t seed starved k (l ∷ lines) s =
+    let first = effect t seed (starved k) k (line_of l) s in
+    let rest = replayed t seed starved (suc k) lines first.session in
     record rest { text = first.text ++ rest.text }
 
 -- a script's replay on a new device, where memory is refused at these lines
-abbrev pub replay_with : {M : Type 0} → Tally M → (List ℕ → Bool) → DeviceSettings → ℕ → List ℕ → List ℕ → Effect M
-replay_with t spoken settings seed script starved =
-    replayed t spoken seed (is_starved starved) 1 (lines_of script) (new_session t settings)
+abbrev pub replay_with : {M : Type 0} → Tally M → DeviceSettings → ℕ → List ℕ → List ℕ → Effect M
+replay_with t settings seed script starved =
+    replayed t seed (is_starved starved) 1 (lines_of script) (new_session t settings)
 
 -- the replay that a report is made of keeps every note
-abbrev pub replay_in : (List ℕ → Bool) → DeviceSettings → ℕ → List ℕ → List ℕ → Effect (List Note)
-replay_in spoken settings seed script starved = replay_with history spoken settings seed script starved
+abbrev pub replay : DeviceSettings → ℕ → List ℕ → List ℕ → Effect (List Note)
+replay settings seed script starved = replay_with history settings seed script starved
 
-abbrev pub report_in : (List ℕ → Bool) → DeviceSettings → ℕ → List ℕ → List ℕ → List ℕ
-report_in spoken settings seed script starved = (replay_in spoken settings seed script starved).text
-
--- and in the whole language
 abbrev pub report : DeviceSettings → ℕ → List ℕ → List ℕ → List ℕ
-report settings seed script starved = report_in every_word settings seed script starved
+report settings seed script starved = (replay settings seed script starved).text

@@ -1,7 +1,7 @@
 //! The report of a whole script as a definition, ahead of the program that writes it.
 //!
 //! - `specs/Report.antt` has the text that each line of a script writes, over the model of the whole device (`q_device`) and
-//!   the grammar of all lines (`q_language`); `specs/Text.antt` has the texts, but for those of show, which `q_show` has.
+//!   the grammar of all lines (`q_line`); `specs/Text.antt` has the texts, but for those of show, which `q_show` has.
 //! - `proofs/*Rows.antt` compute the reports of 51 worked scripts, from their bytes to the bytes that are written. Where whole
 //!   settings would take too long to compute, flows are few and times small.
 //!

@@ -5,9 +5,9 @@ use Rattle.std.specs.Prelude.{codes, Ok, Err}
 use Rattle.q_words.specs.Words.{words_in}
 use Rattle.q_words.specs.declared.line_fault.LineFault.{LineFault}
 use Rattle.q_words.specs.declared.line_fault.LineFault.TheVariants as fault
-use Rattle.q_language.specs.Grammar.{every_word, late_fault, line_of, line_of_words}
-use Rattle.q_language.specs.Laws.{FitSoFar, reached}
-use Rattle.q_language.specs.Positions.{first}
+use Rattle.q_line.specs.Grammar.{late_fault, line_of, line_of_words}
+use Rattle.q_line.specs.Laws.{FitSoFar, reached}
+use Rattle.q_line.specs.Positions.{first}
 use Rattle.q_rows.proofs.SharedRules.{line_rules}
 
 abbrev fault_in : List ℕ → Option LineFault
@@ -71,6 +71,6 @@ unfolding line_rules
 fits_where_words_are_missing = refl
 
 -- and words of which one does not fit do not
-does_not_fit : line_of_words every_word (words_in (prio ++ codes "0 x") ++ (255 ∷ []) ∷ []) ≡ Err (fault.BadNumber 10)
+does_not_fit : line_of_words (words_in (prio ++ codes "0 x") ++ (255 ∷ []) ∷ []) ≡ Err (fault.BadNumber 10)
 unfolding line_rules
 does_not_fit = refl

@@ -6,7 +6,7 @@ use Rattle.q_packet.specs.Key.{zero_key}
 use Rattle.q_model.specs.declared.ip_version.IpVersion.TheVariants.{V4, V6}
 use Rattle.q_model.specs.declared.protocol.Protocol.TheVariants.{Ip, Ipv6}
 use Rattle.q_words.specs.declared.line_fault.LineFault.TheVariants as fault
-use Rattle.q_language.specs.declared.line.Line.TheVariants as line
+use Rattle.q_line.specs.declared.line.Line.TheVariants as line
 use Rattle.q_rows.proofs.LineTable.{Row, AreRead, filter, no_keys, one_byte, one_filter, prio}
 use Rattle.q_rows.proofs.SharedRules.{line_rules}
 

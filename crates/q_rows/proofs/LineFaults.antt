@@ -4,7 +4,7 @@ use Rattle.std.proofs.Common.{◌≡◌, ℕ, List, [], ◌∷◌, map, Option, 
 use Rattle.std.specs.Prelude.{codes, Ok, Err}
 use Rattle.q_words.specs.declared.line_fault.LineFault.{LineFault}
 use Rattle.q_words.specs.declared.line_fault.LineFault.TheVariants as fault
-use Rattle.q_language.specs.Grammar.{line_of}
+use Rattle.q_line.specs.Grammar.{line_of}
 use Rattle.q_rows.proofs.SharedRules.{line_rules}
 
 -- the fault of a line, where it has one

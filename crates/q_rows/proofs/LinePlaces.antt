@@ -5,8 +5,8 @@ use Rattle.std.specs.Prelude.{codes, Result, Ok, Err}
 use Rattle.q_words.specs.Words.{words_in}
 use Rattle.q_words.specs.declared.line_fault.LineFault.{LineFault}
 use Rattle.q_words.specs.declared.line_fault.LineFault.TheVariants as fault
-use Rattle.q_language.specs.Grammar.{every_word, line_of_words}
-use Rattle.q_language.specs.declared.line.Line.{Line}
+use Rattle.q_line.specs.Grammar.{line_of_words}
+use Rattle.q_line.specs.declared.line.Line.{Line}
 use Rattle.q_rows.proofs.SharedRules.{line_rules}
 
 -- A letter for the answer to a line that goes wrong at a word: `.` where it is read; `U` UnknownWord, `B` BadNumber,
@@ -30,7 +30,7 @@ fronts (word ∷ words) = [] ∷ map (λ front. word ∷ front) (fronts words)
 
 -- the letters of the lines that have these words in the place of each word and of those right of it
 abbrev letters : (List (List ℕ) → List (List ℕ)) → List ℕ → List ℕ
-letters behind line = map (λ front. letter (suc (length front)) (line_of_words every_word (front ++ behind front))) (fronts (words_in line))
+letters behind line = map (λ front. letter (suc (length front)) (line_of_words (front ++ behind front))) (fronts (words_in line))
 
 -- the word before the last: that of an option which has just been given
 abbrev before_last : List (List ℕ) → List (List ℕ)

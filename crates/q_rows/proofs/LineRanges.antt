@@ -10,8 +10,8 @@ use Rattle.q_model.specs.declared.kind.Kind.TheVariants as kind
 use Rattle.q_model.specs.declared.place.Place.TheVariants as place
 use Rattle.q_model.specs.declared.tbf_limit.TbfLimit.TheVariants as tbf_limit
 use Rattle.q_words.specs.declared.line_fault.LineFault.TheVariants as fault
-use Rattle.q_language.specs.Drafts.{default_priomap}
-use Rattle.q_language.specs.declared.line.Line.TheVariants as line
+use Rattle.q_line.specs.Drafts.{default_priomap}
+use Rattle.q_line.specs.declared.line.Line.TheVariants as line
 use Rattle.q_rows.proofs.LineTable.{Row, AreRead, at_root, class_id, filter, no_fq_codel_options, no_keys, one_byte, one_filter, prio}
 use Rattle.q_rows.proofs.SharedRules.{line_rules}
 

@@ -13,10 +13,10 @@ use Rattle.q_model.specs.declared.kind.Kind.TheVariants as kind
 use Rattle.q_model.specs.declared.place.Place.TheVariants.{Root}
 use Rattle.q_model.specs.declared.protocol.Protocol.TheVariants.{All}
 use Rattle.q_words.specs.declared.line_fault.LineFault.{LineFault}
-use Rattle.q_language.specs.Grammar.{line_of}
-use Rattle.q_language.specs.declared.arrival.Arrival.{Arrival}
-use Rattle.q_language.specs.declared.line.Line.{Line}
-use Rattle.q_language.specs.declared.line.Line.TheVariants.{Tc}
+use Rattle.q_line.specs.Grammar.{line_of}
+use Rattle.q_line.specs.declared.arrival.Arrival.{Arrival}
+use Rattle.q_line.specs.declared.line.Line.{Line}
+use Rattle.q_line.specs.declared.line.Line.TheVariants.{Tc}
 
 -- the bytes of a line, and what they say, or the fault
 abbrev pub Row : Type 0

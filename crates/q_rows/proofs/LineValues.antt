@@ -9,9 +9,9 @@ use Rattle.q_words.specs.Values.{handle_of, number_in}
 use Rattle.q_line.specs.declared.line.Line.TheVariants as line
 use Rattle.q_words.specs.declared.line_fault.LineFault.TheVariants as fault
 use Rattle.q_words.specs.declared.wrong.Wrong.TheVariants as wrong
-use Rattle.q_line.specs.declared.command.Command.TheVariants.{QdiscAdd}
-use Rattle.q_line.specs.declared.place.Place.TheVariants.{Root}
-use Rattle.q_line.specs.declared.kind.Kind.TheVariants.{Pfifo}
+use Rattle.q_model.specs.declared.command.Command.TheVariants.{QdiscAdd}
+use Rattle.q_model.specs.declared.place.Place.TheVariants.{Root}
+use Rattle.q_model.specs.declared.kind.Kind.TheVariants.{Pfifo}
 
 blanks : words_in (32 ∷ 9 ∷ codes "pkt" ++ (9 ∷ 32 ∷ codes "7" ++ (13 ∷ []))) ≡ codes "pkt" ∷ codes "7" ∷ []
 unfolding is_utf8 chars lib.Utf8.encode

@@ -4,9 +4,9 @@ use Rattle.std.proofs.Common.{◌≡◌, ℕ, ◌+◌, ◌-◌, ◌^◌, List, [
 use Rattle.std.specs.Prelude.{codes, replicate, true, Result, Ok, Err}
 use Rattle.std.specs.Fmt.{digits}
 use Rattle.q_fqcodel.specs.FqState.{FqSettings}
-use Rattle.q_language.specs.Grammar.{line_of}
-use Rattle.q_language.specs.declared.line.Line.{Line}
-use Rattle.q_language.specs.declared.line.Line.TheVariants.{Tc}
+use Rattle.q_line.specs.Grammar.{line_of}
+use Rattle.q_line.specs.declared.line.Line.{Line}
+use Rattle.q_line.specs.declared.line.Line.TheVariants.{Tc}
 use Rattle.q_model.specs.declared.class_id.ClassId.{ClassId}
 use Rattle.q_model.specs.declared.class_kind.ClassKind.TheVariants as class
 use Rattle.q_model.specs.declared.command.Command.TheVariants as command

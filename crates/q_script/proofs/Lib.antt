@@ -1,5 +1,7 @@
+pub mod FaultLemmas
 pub mod LinesLemmas
 pub mod OnErr
 pub mod Playing
+pub mod ReadLemmas
 pub mod StarvedLines
 pub mod WrittenLemmas

@@ -20,15 +20,15 @@ preceded text e = record e { text = text ++ e.text }
 abbrev pub replay : {S : Type 0} → LineEffect S → List ℕ → ℕ → List (List ℕ) → S → Effect S
 replay effect starved k lines s = replayed effect (is_starved starved) k lines s
 
-pub record Playing {S : Type 0} (effect : Bool → ℕ → List ℕ → S → Effect S) (held holds : Option (List ℕ)) (buffered script : List ℕ) (left : List (List ℕ)) (k : ℕ) (first now : S) : Type 0 where
+pub record Playing {S : Type 0} (effect : LineEffect S) (held holds : Option (List ℕ)) (buffered : List ℕ) (all left : List (List ℕ)) (k : ℕ) (first now : S) : Type 0 where
   pub starved : List ℕ
   pub produced : List ℕ
   pub below : AllBelow k starved
-  pub goes_on : (later : List ℕ) → AllFrom k later → replay effect (starved ++ later) 1 (lines_of script) first ≡ preceded produced (replay effect (starved ++ later) k left now)
+  pub goes_on : (later : List ℕ) → AllFrom k later → replay effect (starved ++ later) 1 all first ≡ preceded produced (replay effect (starved ++ later) k left now)
   pub written : IsBuffered held holds buffered produced
 
-pub playing-start : {S : Type 0} (effect : LineEffect S) (held : Option (List ℕ)) (script : List ℕ) (first : S) → Playing effect held held [] script (lines_of script) 1 first first
-playing-start effect held script first = record {
+pub playing-start : {S : Type 0} (effect : LineEffect S) (held : Option (List ℕ)) (all : List (List ℕ)) (first : S) → Playing effect held held [] all all 1 first first
+playing-start effect held all first = record {
   starved = [];
   produced = [];
   below = tt;
@@ -54,30 +54,29 @@ now_below true starved k h = below-push k starved h
 now_below false starved k h = below-later k starved h
 
 -- the whole replay, as far as this line and on from it
-through_line : {S : Type 0} (effect : LineEffect S) (script : List ℕ) (left : List (List ℕ)) (line produced starved : List ℕ) (k : ℕ) (first now : S)
+through_line : {S : Type 0} (effect : LineEffect S) (all left : List (List ℕ)) (line produced starved : List ℕ) (k : ℕ) (first now : S)
     → AllBelow k starved
-    → ((later : List ℕ) → AllFrom k later → replay effect (starved ++ later) 1 (lines_of script) first ≡ preceded produced (replay effect (starved ++ later) k (line ∷ left) now))
+    → ((later : List ℕ) → AllFrom k later → replay effect (starved ++ later) 1 all first ≡ preceded produced (replay effect (starved ++ later) k (line ∷ left) now))
     → (b : Bool) (later : List ℕ) → AllFrom (suc k) later
-    → replay effect (now_starved b starved k ++ later) 1 (lines_of script) first
-    ≡ preceded (produced ++ (effect b k line now).text) (replay effect (now_starved b starved k ++ later) (suc k) left (effect b k line now).session)
-through_line effect script left line produced starved k first now below goes_on true later from =
+    → replay effect (now_starved b starved k ++ later) 1 all first ≡ preceded (produced ++ (effect b k line now).text) (replay effect (now_starved b starved k ++ later) (suc k) left (effect b k line now).session)
+through_line effect all left line produced starved k first now below goes_on true later from =
     let e = effect true k line now in
     let joined : (starved ++ k ∷ []) ++ later ≡ starved ++ k ∷ later = append_assoc starved (k ∷ []) later in
     rw joined
     (goes_on (k ∷ later) (omega arith, from-earlier k later from)
     ∙ ap (preceded produced) (step_of effect (starved ++ k ∷ later) k line left now true (starved-here k starved later))
     ∙ preceded-twice produced e.text (replay effect (starved ++ k ∷ later) (suc k) left e.session))
-through_line effect script left line produced starved k first now below goes_on false later from =
+through_line effect all left line produced starved k first now below goes_on false later from =
     let e = effect false k line now in
     goes_on later (from-earlier k later from)
     ∙ ap (preceded produced) (step_of effect (starved ++ later) k line left now false (starved-not k starved later below from))
     ∙ preceded-twice produced e.text (replay effect (starved ++ later) (suc k) left e.session)
 
-pub playing-next : {S : Type 0} (effect : LineEffect S) (held a b : Option (List ℕ)) (buffered after script : List ℕ) (left : List (List ℕ)) (line : List ℕ) (k : ℕ) (first now next : S)
-    → Playing effect held a buffered script (line ∷ left) k first now → HasEffect effect k line now next a b buffered after → Playing effect held b after script left (suc k) first next
-playing-next effect held a b buffered after script left line k first now next p h =
+pub playing-next : {S : Type 0} (effect : LineEffect S) (held a b : Option (List ℕ)) (buffered after : List ℕ) (all left : List (List ℕ)) (line : List ℕ) (k : ℕ) (first now next : S)
+    → Playing effect held a buffered all (line ∷ left) k first now → HasEffect effect k line now next a b buffered after → Playing effect held b after all left (suc k) first next
+playing-next effect held a b buffered after all left line k first now next p h =
     let text = (effect h.0 k line now).text in
-    let on = through_line effect script left line p.produced p.starved k first now p.below p.goes_on h.0 in
+    let on = through_line effect all left line p.produced p.starved k first now p.below p.goes_on h.0 in
     record {
       starved = now_starved h.0 p.starved k;
       produced = p.produced ++ text;
@@ -87,22 +86,22 @@ playing-next effect held a b buffered after script left line k first now next p 
     }
 
 pub playing-fails : {S : Type 0} (effect : LineEffect S) (held a b : Option (List ℕ)) (buffered script : List ℕ) (left : List (List ℕ)) (line : List ℕ) (k : ℕ) (first now : S)
-    → Playing effect held a buffered script (line ∷ left) k first now → FailsWithin effect k line now a b buffered → IsPartlyRun effect script first held b
+    → Playing effect held a buffered (lines_of script) (line ∷ left) k first now → FailsWithin effect k line now a b buffered → IsPartlyRun effect script first held b
 playing-fails effect held a b buffered script left line k first now p h =
     let e = effect h.0 k line now in
     let starved = now_starved h.0 p.starved k ++ [] in
     let rest = replay effect starved (suc k) left e.session in
-    let whole = through_line effect script left line p.produced p.starved k first now p.below p.goes_on h.0 [] tt in
+    let whole = through_line effect (lines_of script) left line p.produced p.starved k first now p.below p.goes_on h.0 [] tt in
     let front = front-of held a b (buffered ++ e.text) (p.produced ++ e.text) (buffered-more held a buffered p.produced e.text p.written) h.1 in
     (starved, subst (AppendsFront held b) (sym (ap (λ x. x.text) whole)) (front-longer held b (p.produced ++ e.text) rest.text front))
 
 pub playing-flush : {S : Type 0} (effect : LineEffect S) (held a b : Option (List ℕ)) (buffered script : List ℕ) (k : ℕ) (first now : S)
-    → Playing effect held a buffered script [] k first now → AppendsFront a b buffered → IsPartlyRun effect script first held b
+    → Playing effect held a buffered (lines_of script) [] k first now → AppendsFront a b buffered → IsPartlyRun effect script first held b
 playing-flush effect held a b buffered script k first now p w =
     (p.starved ++ [], subst (AppendsFront held b) (sym (ap (λ x. x.text) (p.goes_on [] tt) ∙ append-nil p.produced)) (front-of held a b buffered p.produced p.written w))
 
 pub playing-end : {S : Type 0} (effect : LineEffect S) (held a b : Option (List ℕ)) (buffered script : List ℕ) (k : ℕ) (first now : S)
-    → Playing effect held a buffered script [] k first now → Appends a b buffered → IsWholeRun effect script first now held b
+    → Playing effect held a buffered (lines_of script) [] k first now → Appends a b buffered → IsWholeRun effect script first now held b
 playing-end effect held a b buffered script k first now p w =
     let whole = buffered-all held a b buffered p.produced p.written w in
     record {
@@ -112,11 +111,11 @@ playing-end effect held a b buffered script k first now p w =
     }
 
 -- the lines that are left, cut at the first
-pub playing-cut : {S : Type 0} (effect : LineEffect S) (held holds : Option (List ℕ)) (buffered script : List ℕ) (rest left : List (List ℕ)) (line : List ℕ) (k : ℕ) (first now : S)
-    → Playing effect held holds buffered script rest k first now → rest ≡ line ∷ left → Playing effect held holds buffered script (line ∷ left) k first now
-playing-cut effect held holds buffered script rest left line k first now p cut = subst (λ (l : List (List ℕ)). Playing effect held holds buffered script l k first now) cut p
+pub playing-cut : {S : Type 0} (effect : LineEffect S) (held holds : Option (List ℕ)) (buffered : List ℕ) (all rest left : List (List ℕ)) (line : List ℕ) (k : ℕ) (first now : S)
+    → Playing effect held holds buffered all rest k first now → rest ≡ line ∷ left → Playing effect held holds buffered all (line ∷ left) k first now
+playing-cut effect held holds buffered all rest left line k first now p cut = subst (λ (l : List (List ℕ)). Playing effect held holds buffered all l k first now) cut p
 
 -- no line is left
-pub playing-empty : {S : Type 0} (effect : LineEffect S) (held holds : Option (List ℕ)) (buffered script : List ℕ) (rest : List (List ℕ)) (k : ℕ) (first now : S)
-    → Playing effect held holds buffered script rest k first now → rest ≡ [] → Playing effect held holds buffered script [] k first now
-playing-empty effect held holds buffered script rest k first now p none = subst (λ (l : List (List ℕ)). Playing effect held holds buffered script l k first now) none p
+pub playing-empty : {S : Type 0} (effect : LineEffect S) (held holds : Option (List ℕ)) (buffered : List ℕ) (all rest : List (List ℕ)) (k : ℕ) (first now : S)
+    → Playing effect held holds buffered all rest k first now → rest ≡ [] → Playing effect held holds buffered all [] k first now
+playing-empty effect held holds buffered all rest k first now p none = subst (λ (l : List (List ℕ)). Playing effect held holds buffered all l k first now) none p

@@ -1,4 +1,5 @@
 pub mod Lengths
+pub mod Reads
 pub mod RunFault
 pub mod Script
 pub mod Settings

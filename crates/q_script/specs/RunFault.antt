@@ -7,12 +7,12 @@ use Rattle.q_script.specs.declared.script_fault.ScriptFault.{ScriptFault}
 use Rattle.q_script.specs.declared.script_fault.ScriptFault.TheVariants as script
 
 abbrev pub fault_number : RunFault → ℕ
-fault_number (run.Read failed) = 1
+fault_number (run.Read kind) = 1
 fault_number run.TooLong = 2
-fault_number run.Write = 3
+fault_number (run.Write kind) = 3
 fault_number run.Memory = 90
 
 abbrev pub run_fault_of : ScriptFault → RunFault
-run_fault_of (script.Read failed) = run.Read failed
+run_fault_of (script.Read kind) = run.Read kind
 run_fault_of script.TooLong = run.TooLong
 run_fault_of script.Memory = run.Memory

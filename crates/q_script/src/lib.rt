@@ -6,29 +6,36 @@
 //!   `Refused` if and only if the session is refused at the end; and what each `RunFault` leaves.
 //! - [`Session`] is what runs a line. It says by its `effect` what a line writes and what it leaves, and writes through an
 //!   [`Output`], which buffers the report's text.
-//! - [`RunSettings`] are the options of a run, [`Outcome`] and [`RunFault`] what it answers. The fault of a script that could
-//!   not be read holds a [`FailedRead`], which only the call of a reader makes.
+//! - [`run::run_between`] does the same from a [`Source`] to a `Target` of `q_show`, which are a reader and a writer that keep
+//!   what their reads and writes came to. Its contract says when each fault comes: how many reads are made, that `Read` and
+//!   `Write` tell of every read and write that failed and of nothing else, and that an outcome means that none did. A source
+//!   is not read, nor a target written, after one that failed.
+//! - [`RunSettings`] are the options of a run, [`Outcome`] and [`RunFault`] what it answers. A fault of a read or a write has
+//!   the kind of its error.
 //!
 //! `specs/Script.antt` cuts a script into lines and says how a report speaks of one, `specs/Step.antt` has what the lines
-//! come to together, `specs/Lengths.antt` the room in the output and `specs/Settings.antt` the settings.
+//! come to together, `specs/Reads.antt` what reads come to, `specs/Lengths.antt` the room in the output and
+//! `specs/Settings.antt` the settings.
 //! The crate knows nothing of devices and of what a line may say: a session brings both.
 #![tactic(auto)]
 
-mod failed_read;
 mod lines;
 mod outcome;
 mod output;
+mod reads;
 pub mod run;
 mod run_fault;
 mod script;
 mod script_fault;
 mod session;
 mod settings;
+mod source;
 
-pub use failed_read::FailedRead;
 pub use outcome::Outcome;
 pub use output::Output;
+pub use reads::Reads;
 pub use run_fault::RunFault;
 pub use script::MAX_LENGTH;
 pub use session::Session;
 pub use settings::RunSettings;
+pub use source::Source;

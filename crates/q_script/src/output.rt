@@ -1,10 +1,11 @@
-ghost use Rattle.std.specs.Prelude.{◌≡◌, ◌+◌, ◌≤◌, ◌++◌, List, [], ℕ, OnOk, OnErr, IfOk, length, decimal};
+ghost use Rattle.std.specs.Prelude.{◌≡◌, ◌+◌, ◌≤◌, ◌++◌, List, [], ℕ, OnOk, OnErr, IfOk, IfErr, length, decimal};
+ghost use Rattle.q_show.specs.Writes.{MayWrite, WriteFailed};
 ghost use Rattle.std.specs.Io.KnownBytes.{Appends};
 ghost use Rattle.q_show.specs.Written.{AppendsFront, IsBuffered};
 ghost use Rattle.q_script.specs.Lengths.{HasRoom, most_step};
 ghost use Rattle.q_show.specs.Lengths.{GrowsBy, most_decimal};
 
-use q_show::{WriteFault, write_whole};
+use q_show::{Target, WriteFault};
 use std::alloc::{AllocError, Global};
 use std::io::Write;
 use std::marker::Model;
@@ -63,24 +64,33 @@ impl Output {
     }
 
     /// Makes room for one step of the report, by writing out what is buffered where there is none.
-    pub fn make_room<W: Write>(&mut self, writer: &mut W) -> Result<(), WriteFault>
+    pub fn make_room<W: Write>(&mut self, target: &mut Target<'_, W>) -> Result<(), WriteFault>
+        requires going { MayWrite target.old.writes }
+        ensures same_writer { target.new.writer.ghost_name ≡ target.old.writer.ghost_name }
         ensures room { OnOk result (HasRoom self.new most_step) }
-        ensures ok { OnOk result (IsBuffered (W.contents writer.old) (W.contents writer.new) self.new self.old) }
-        ensures err { OnErr result (AppendsFront (W.contents writer.old) (W.contents writer.new) self.old) }
+        ensures ok { OnOk result (IsBuffered (W.contents target.old.writer.now) (W.contents target.new.writer.now) self.new self.old) }
+        ensures err { OnErr result (AppendsFront (W.contents target.old.writer.now) (W.contents target.new.writer.now) self.old) }
+        ensures going { OnOk result (MayWrite target.new.writes) }
+        ensures failed { IfErr result (λ fault. WriteFailed target.new.writes fault.kind) }
     {
         if self.buffer.len() > CAPACITY - STEP {
-            return self.flush(writer);
+            return self.flush(target);
         }
         Ok(())
     }
 
     /// Writes all that is buffered. After an error the writer holds a front of it, and not all.
-    pub fn flush<W: Write>(&mut self, writer: &mut W) -> Result<(), WriteFault>
-        ensures written { OnOk result (Appends (W.contents writer.old) (W.contents writer.new) self.old) }
+    pub fn flush<W: Write>(&mut self, target: &mut Target<'_, W>) -> Result<(), WriteFault>
+        requires going { MayWrite target.old.writes }
+        ensures same_writer { target.new.writer.ghost_name ≡ target.old.writer.ghost_name }
+        ensures written { OnOk result (Appends (W.contents target.old.writer.now) (W.contents target.new.writer.now) self.old) }
         ensures empty { OnOk result (self.new ≡ []) }
-        ensures err { OnErr result (AppendsFront (W.contents writer.old) (W.contents writer.new) self.old) }
+        ensures err { OnErr result (AppendsFront (W.contents target.old.writer.now) (W.contents target.new.writer.now) self.old) }
+        ensures whole { OnOk result (target.new.writes.taken ≡ length self.old) }
+        ensures going { OnOk result (MayWrite target.new.writes) }
+        ensures failed { IfErr result (λ fault. WriteFailed target.new.writes fault.kind) }
     {
-        write_whole(writer, &self.buffer)?;
+        target.write_whole(&self.buffer)?;
         self.buffer.clear();
         Ok(())
     }

@@ -1,21 +1,22 @@
 ghost use Rattle.std.specs.Prelude.{◌≡◌};
 ghost use Rattle.q_script.specs.RunFault.{fault_number};
 
-use crate::failed_read::FailedRead;
+use std::io::ErrorKind;
 use thiserror::Error;
 
 /// Why a script was not run, or its report not written.
 #[derive(Clone, Copy, PartialEq, Eq, Debug, Error)]
 pub enum RunFault {
-    /// The script could not be read, or took too many reads: one that failed or was interrupted. Nothing was written.
-    #[error("the script cannot be read")]
-    Read(FailedRead),
+    /// The script could not be read: a read failed in this way, or was interrupted once too often. Nothing was written.
+    #[error("the script cannot be read: {0}")]
+    Read(ErrorKind),
     /// The script is longer than 16,777,216 bytes. Nothing was written.
     #[error("the script is longer than 16777216 bytes")]
     TooLong,
-    /// The report could not be written. A front of it may be.
-    #[error("the report cannot be written")]
-    Write,
+    /// The report could not be written: a write failed in this way (`WriteZero`: it took no byte), or was interrupted once
+    /// too often. A front of the report may be written.
+    #[error("the report cannot be written: {0}")]
+    Write(ErrorKind),
     /// There was no memory to start with. Nothing was written.
     #[error("memory is refused")]
     Memory,
@@ -29,7 +30,7 @@ impl RunFault {
         match self {
             RunFault::Read(_) => 1,
             RunFault::TooLong => 2,
-            RunFault::Write => 3,
+            RunFault::Write(_) => 3,
             RunFault::Memory => 90,
         }
     }

@@ -1,14 +1,14 @@
 ghost use Rattle.std.specs.Prelude.{◌≡◌};
 ghost use Rattle.q_script.specs.RunFault.{run_fault_of};
 
-use crate::failed_read::FailedRead;
 use crate::run_fault::RunFault;
+use std::io::ErrorKind;
 
 /// Why a script was not read whole.
 #[derive(Clone, Copy, PartialEq, Eq, Debug)]
 pub enum ScriptFault {
-    /// A read failed, or was interrupted once too often.
-    Read(FailedRead),
+    /// A read failed in this way, or was interrupted once too often.
+    Read(ErrorKind),
     /// There are more than 16,777,216 bytes.
     TooLong,
     /// Memory was refused.
@@ -20,7 +20,7 @@ impl From<ScriptFault> for RunFault {
         ensures { result ≡ run_fault_of fault }
     {
         match fault {
-            ScriptFault::Read(failed) => RunFault::Read(failed),
+            ScriptFault::Read(kind) => RunFault::Read(kind),
             ScriptFault::TooLong => RunFault::TooLong,
             ScriptFault::Memory => RunFault::Memory,
         }

@@ -1,8 +1,9 @@
-ghost use Rattle.std.specs.Prelude.{◌≡◌, ◌≤◌, ◌<◌, ◌+◌, ◌^◌, ℕ, Bool, List, OnOk, OnErr};
+ghost use Rattle.std.specs.Prelude.{◌≡◌, ◌≤◌, ◌<◌, ◌+◌, ◌^◌, ℕ, Bool, List, OnOk, OnErr, IfErr};
+ghost use Rattle.q_show.specs.Writes.{MayWrite, WriteFailed};
 ghost use Rattle.q_script.specs.Step.{Effect, HasEffect, FailsWithin};
 
 use crate::output::Output;
-use q_show::WriteFault;
+use q_show::{Target, WriteFault};
 use std::io::Write;
 
 /// What runs the lines of a script, one after another.
@@ -16,21 +17,25 @@ pub trait Session {
 
     ghost refused: { Self → Bool };
 
-    /// Runs the line of this number, without its newline. What it writes goes to the output, or through it to the writer.
-    /// An error comes only from the writer.
+    /// Runs the line of this number, without its newline. What it writes goes to the output, or through it to the target.
+    /// An error comes only from the target, which is then written no more.
     fn run_line<W: Write>(
         &mut self,
         number: u64,
         line: &[u8],
         output: &mut Output,
-        writer: &mut W,
+        target: &mut Target<'_, W>,
     ) -> Result<(), WriteFault>
-        requires { packets self.old + 1 < 2 ^ 32 }
+        requires few { packets self.old + 1 < 2 ^ 32 }
+        requires going { MayWrite target.old.writes }
+        ensures same_writer { target.new.writer.ghost_name ≡ target.old.writer.ghost_name }
         ensures few { OnOk result (packets self.new ≤ packets self.old + 1) }
         ensures effect { OnOk result (HasEffect effect number line.now self.old self.new
-            (W.contents writer.old) (W.contents writer.new) output.old output.new) }
+            (W.contents target.old.writer.now) (W.contents target.new.writer.now) output.old output.new) }
         ensures err { OnErr result (FailsWithin effect number line.now self.old
-            (W.contents writer.old) (W.contents writer.new) output.old) };
+            (W.contents target.old.writer.now) (W.contents target.new.writer.now) output.old) }
+        ensures going { OnOk result (MayWrite target.new.writes) }
+        ensures failed { IfErr result (λ fault. WriteFailed target.new.writes fault.kind) };
 
     /// Whether a line had a fault or was refused.
     fn is_refused(&self) -> bool

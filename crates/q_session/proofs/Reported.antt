@@ -1,7 +1,7 @@
 -- What a session over totals writes is the report over whole histories.
 use Rattle.std.proofs.Common.{◌≡◌, ◌∙◌, ℕ, suc, Bool, List, [], ◌∷◌, ◌++◌, Option, Some, None, Result, Ok, Err, IfOk, IfSome, if◌then◌else◌, refl, sym, ap, subst}
 use Rattle.std.specs.Io.KnownBytes.{Appends}
-use Rattle.q_language.specs.Grammar.{every_word, line_of}
+use Rattle.q_line.specs.Grammar.{line_of}
 use Rattle.q_model.specs.Tally.{totals}
 use Rattle.q_report.specs.Report as report
 use Rattle.q_report.specs.Report.{SessionState}
@@ -20,24 +20,24 @@ abbrev pub is_refused : SessionSeen → Bool
 is_refused s = s.state.refused
 
 -- line by line
-lines-are : (starved : ℕ → Bool) (k : ℕ) (lines : List (List ℕ)) (s : SessionSeen) → replayed effect_of starved k lines s ≡ seen s (report.replayed totals every_word s.seed starved k lines s.state)
+lines-are : (starved : ℕ → Bool) (k : ℕ) (lines : List (List ℕ)) (s : SessionSeen) → replayed effect_of starved k lines s ≡ seen s (report.replayed totals s.seed starved k lines s.state)
 lines-are starved k [] s = refl
 lines-are starved k (l ∷ lines) s =
     let first = report.effect totals s.seed (starved k) k (line_of l) s.state in
     ap (λ (e : Effect SessionSeen). record e { text = first.text ++ e.text }) (lines-are starved (suc k) lines (record s { state = first.session }))
 
 -- a whole script on a new device
-script-is : (settings : Settings) (script starved : List ℕ) → run_of effect_of starved script (opened settings) ≡ seen (opened settings) (report.replay_with totals every_word (device_settings settings) settings.seed script starved)
+script-is : (settings : Settings) (script starved : List ℕ) → run_of effect_of starved script (opened settings) ≡ seen (opened settings) (report.replay_with totals (device_settings settings) settings.seed script starved)
 script-is settings script starved = lines-are (is_starved starved) 1 (lines_of script) (opened settings)
 
 text-is : (settings : Settings) (script starved : List ℕ) → (run_of effect_of starved script (opened settings)).text ≡ text_of settings script starved
 text-is settings script starved =
-    ap (λ (e : Effect SessionSeen). e.text) (script-is settings script starved) ∙ sym (replay-shrunk every_word (device_settings settings) settings.seed script starved).text
+    ap (λ (e : Effect SessionSeen). e.text) (script-is settings script starved) ∙ sym (replay-shrunk (device_settings settings) settings.seed script starved).text
 
 refused-is : (settings : Settings) (script starved : List ℕ) → is_refused (run_of effect_of starved script (opened settings)).session ≡ (replay settings script starved).session.refused
 refused-is settings script starved =
     ap (λ (e : Effect SessionSeen). is_refused e.session) (script-is settings script starved)
-    ∙ sym (ap (λ s. s.refused) (replay-shrunk every_word (device_settings settings) settings.seed script starved).session)
+    ∙ sym (ap (λ s. s.refused) (replay-shrunk (device_settings settings) settings.seed script starved).session)
 
 whole : (settings : Settings) (script : List ℕ) (told : Outcome) (old new : Option (List ℕ)) (first : SessionSeen) → first ≡ opened settings
     → IsRun effect_of is_refused script first told old new → IsReported settings script told old new

@@ -1,10 +1,9 @@
--- The report of a run: that of the model of the whole device, which keeps whole histories, in the whole language.
+-- The report of a run: that of the model of the whole device, which keeps whole histories.
 -- Memory may be refused at some lines; such a line says so.
 use Rattle.std.specs.Prelude.{◌≡◌, ℕ, List, Option, if◌then◌else◌}
 use Rattle.std.specs.Io.KnownBytes.{Appends}
-use Rattle.q_language.specs.Grammar.{every_word}
 use Rattle.q_model.specs.Tally.{Note}
-use Rattle.q_report.specs.Report.{Effect, replay_in}
+use Rattle.q_report.specs.Report.{Effect, replay as whole_replay}
 use Rattle.q_script.specs.declared.outcome.Outcome.{Outcome}
 use Rattle.q_script.specs.declared.outcome.Outcome.TheVariants.{Clean, Refused}
 use Rattle.q_script.specs.Settings.{Settings}
@@ -13,7 +12,7 @@ use Rattle.q_show.specs.Written.{AppendsFront}
 
 -- a script's replay on a new device that keeps whole histories, where memory is refused at these lines
 abbrev pub replay : Settings → List ℕ → List ℕ → Effect (List Note)
-replay settings script starved = replay_in every_word (device_settings settings) settings.seed script starved
+replay settings script starved = whole_replay (device_settings settings) settings.seed script starved
 
 abbrev pub report : Settings → List ℕ → List ℕ → List ℕ
 report settings script starved = (replay settings script starved).text

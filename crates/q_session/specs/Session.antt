@@ -1,8 +1,8 @@
 -- What a line of a script does to a session over a device, by q_report's definitions with totals.
 use Rattle.std.specs.Prelude.{ℕ, Bool, List}
-use Rattle.q_language.specs.Grammar.{line_of}
-use Rattle.q_language.specs.declared.line.Line.{Line}
-use Rattle.q_language.specs.declared.line.Line.TheVariants.{Poll, Reap, Show}
+use Rattle.q_line.specs.Grammar.{line_of}
+use Rattle.q_line.specs.declared.line.Line.{Line}
+use Rattle.q_line.specs.declared.line.Line.TheVariants.{Poll, Reap, Show}
 use Rattle.q_model.specs.Settings.{DeviceSettings}
 use Rattle.q_model.specs.Tally.{Counts, totals}
 use Rattle.q_report.specs.Report.{SessionState, new_session}

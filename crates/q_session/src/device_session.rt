@@ -1,6 +1,6 @@
 ghost use Rattle.std.specs.Prelude.{◌≡◌, ◌≤◌, ◌<◌, ◌+◌, ◌++◌, ◌^◌, Bool, true, [], IfOk, IsOk, OnOk, OnErr};
 ghost use Rattle.std.specs.List.{flat_map};
-ghost use Rattle.q_language.specs.Ranges.{IsSendable};
+ghost use Rattle.q_line.specs.Ranges.{IsSendable};
 ghost use Rattle.q_model.specs.Tally.{totals};
 ghost use Rattle.q_report.specs.Report as report;
 ghost use Rattle.q_report.specs.Report.{answered, commanded, framed, numbered_packet, polls, show_text};
@@ -14,7 +14,7 @@ use crate::showing::{put_classes, put_filters, put_qdiscs};
 use crate::text::{put_device, put_fault, put_lost, put_poll, put_refusal};
 use q_device::laws::device_is_lawful;
 use q_device::{Command, Device, Refusal, Settings};
-use q_language::{Arrival, Line, Object, Show, read_line};
+use q_line::{Arrival, Line, Object, Show, read_line};
 use q_packet::{FlowHash, Head, Moment, OneAtATime, Packet};
 use q_script::{Output, RunSettings, Session};
 use q_show::WriteFault;

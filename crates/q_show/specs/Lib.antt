@@ -1,3 +1,4 @@
 pub mod Lengths
 pub mod ShowText
+pub mod Writes
 pub mod Written

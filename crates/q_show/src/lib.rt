@@ -4,9 +4,11 @@
 //!   [`filter_text`] a filter; [`counters_text`] is what a node has counted. Each takes a view of `q_model`, and answers a
 //!   [`Text`], which allocates nothing.
 //! - [`show_qdisc`], [`show_class`] and [`show_filter`] write such a text to a writer.
-//! - [`write_whole`] writes bytes to any writer, and [`Hexadecimal`] is a number's digits: `q_script` writes its reports by them.
-//! - `specs/ShowText.antt` has the texts. Each function appends exactly the text of its view, or stops at the writer's
-//!   failure with a front of it written.
+//! - [`write_whole`] writes bytes to any writer, and [`Target`] does so time after time to one writer, keeping what the
+//!   writes came to: none is made after one that failed. [`Hexadecimal`] is a number's digits. `q_script` writes its reports by
+//!   them.
+//! - `specs/ShowText.antt` has the texts, and `specs/Writes.antt` what writes come to. Each function appends exactly the text of
+//!   its view, or stops at the writer's failure with a front of it written.
 #![tactic(auto)]
 
 mod class;
@@ -14,12 +16,16 @@ mod filter;
 mod hexadecimal;
 mod qdisc;
 mod showing;
+mod target;
 mod text;
 mod write_fault;
+mod writes;
 
 pub use hexadecimal::Hexadecimal;
 pub use showing::{
     class_text, counters_text, filter_text, qdisc_text, show_class, show_filter, show_qdisc,
 };
+pub use target::Target;
 pub use text::Text;
 pub use write_fault::{WriteFault, write_whole};
+pub use writes::Writes;

@@ -21,8 +21,6 @@ mod fq_codel_twins;
 #[cfg(test)]
 mod head;
 #[cfg(test)]
-mod line;
-#[cfg(test)]
 mod packet;
 #[cfg(test)]
 mod plain_fq_codel;

@@ -1,10 +1,9 @@
-use Rattle.std.proofs.Common.{sym, subst, Result}
-use Rattle.std.specs.Result.{IfOk}
-use Rattle.q_line.specs.Ranges.{IsLine}
-use Rattle.q_line.specs.declared.line.Line.{Line}
-use Rattle.q_words.specs.declared.line_fault.LineFault.{LineFault}
-use Rattle.q_line.proofs.Ranges.{line_within}
+use Rattle.std.proofs.Common.{◌∙◌, ap, sym}
+use Rattle.q_words.specs.Words.{is_blank_line}
+use Rattle.q_line.proofs.Steps.{whole_line}
 use Rattle.q_line.proofs.reading.read_line.Goals as goal
 
-pub returns-clause-in_range : goal.returns-clause-in_range
-returns-clause-in_range c = let P : Result Line LineFault → Type 0 = λ r. IfOk r IsLine in subst P (sym c.line_of.ensures) (line_within c.args.line.now)
+pub returns : goal.returns
+returns c =
+    c.first_word.ensures ∙ whole_line c.args.line.now _ _ c.new-words.ensures.all c.new-words.ensures.none_taken
+    (ap is_blank_line (sym c.new-words.ensures.all) ∙ sym c.is_blank_line.ensures ∙ c.if-is_blank_line.false)

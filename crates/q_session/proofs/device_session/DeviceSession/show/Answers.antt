@@ -1,7 +1,7 @@
 use Rattle.std.proofs.Common.{◌∙◌, ◌++◌, List, ℕ, sym, ap, subst}
 use Rattle.std.specs.List.{flat_map}
 use Rattle.std.proofs.lemmas.Result.{on_ok_weaker}
-use Rattle.q_language.specs.declared.object.Object.{Object}
+use Rattle.q_line.specs.declared.object.Object.{Object}
 use Rattle.q_model.specs.Conserved.{every_node}
 use Rattle.q_model.specs.Tally.{Counts, totals}
 use Rattle.q_model.specs.TreeState.{TreeState}

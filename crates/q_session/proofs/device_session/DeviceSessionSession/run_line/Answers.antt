@@ -1,7 +1,7 @@
 use Rattle.std.proofs.Common.{rules, ◌∙◌, ◌++◌, Bool, true, false, Result, Ok, Err, IsErr, OnOk, sym, ap, subst}
-use Rattle.q_language.specs.declared.line.Line.{Line}
+use Rattle.q_line.specs.declared.line.Line.{Line}
 use Rattle.q_words.specs.declared.line_fault.LineFault.{LineFault}
-use Rattle.q_language.proofs.PacketRanges.{read-sendable}
+use Rattle.q_line.proofs.PacketRanges.{read-sendable}
 use Rattle.q_model.specs.Tally.{totals}
 use Rattle.q_report.specs.Report as report
 use Rattle.q_script.proofs.OnErr.{on_err, on_err_weaker}

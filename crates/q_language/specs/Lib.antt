@@ -1,8 +1,0 @@
-pub mod Drafts
-pub mod FirstPath
-pub mod Grammar
-pub mod Laws
-pub mod Positions
-pub mod Ranges
-pub mod Reading
-pub mod Spelling

@@ -1,0 +1,13 @@
+use Rattle.std.proofs.Common.{◌≡◌, suc, length}
+use Rattle.q_words.specs.Words.{words_in}
+use Rattle.q_line.specs.Grammar.{rest_of}
+use Rattle.q_line.specs.Drafts.{no_keys}
+use Rattle.q_line.specs.Positions.{keys}
+use Rattle.q_line.proofs.flower.flower_line.Given as goal
+
+-- what is left to read says what all of it says
+abbrev pub invariant-loop-word : goal.invariant-loop-word
+invariant-loop-word l = rest_of (keys l.head l.draft) (suc l.words.taken) (words_in l.words.rest.now) ≡ rest_of (keys l.fn.head no_keys) (suc l.fn.words.taken) (words_in l.fn.words.rest.now)
+
+abbrev pub decreases-loop-word : goal.decreases-loop-word
+decreases-loop-word l = length (words_in l.words.rest.now)

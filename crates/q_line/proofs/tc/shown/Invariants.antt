@@ -1,0 +1,12 @@
+use Rattle.std.proofs.Common.{◌≡◌, suc, length, false}
+use Rattle.q_words.specs.Words.{words_in}
+use Rattle.q_line.specs.Grammar.{rest_of}
+use Rattle.q_line.specs.Positions.{show_line}
+use Rattle.q_line.proofs.tc.shown.Given as goal
+
+-- what is left to read says what all of it says
+abbrev pub invariant-loop-word : goal.invariant-loop-word
+invariant-loop-word l = rest_of (show_line l.show l.named) (suc l.words.taken) (words_in l.words.rest.now) ≡ rest_of (show_line l.fn.show false) (suc l.fn.words.taken) (words_in l.fn.words.rest.now)
+
+abbrev pub decreases-loop-word : goal.decreases-loop-word
+decreases-loop-word l = length (words_in l.words.rest.now)

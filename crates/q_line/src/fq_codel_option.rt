@@ -1,0 +1,61 @@
+ghost use Rattle.std.specs.Prelude.{◌≡◌, Ok, Err, OnOk, IfErr};
+ghost use Rattle.q_line.specs.Grammar.{option_fits};
+ghost use Rattle.q_line.specs.Positions.{options as behind};
+ghost use Rattle.q_line.specs.Reading.{fq_draft, fq_has, option_value_of};
+ghost use Rattle.q_line.specs.declared.head_draft.HeadDraft.{HeadDraft};
+ghost use Rattle.q_line.specs.declared.kind_name.KindName.TheVariants.{FqCodel};
+ghost use Rattle.q_line.specs.declared.qdisc_verb.QdiscVerb.{QdiscVerb};
+
+use q_model::FqCodelOptions;
+use q_words::{Wrong, number, size, time};
+
+/// The longest target and interval: 1000 s, in nanoseconds.
+const LONGEST: u64 = 1_000_000_000_000;
+
+/// The greatest limit and quantum.
+const MOST: u64 = 0xffff_ffff;
+
+/// An option of an fq_codel that has a value (tc-fq_codel(8)).
+#[derive(Clone, Copy, PartialEq, Eq, Debug)]
+pub enum FqCodelOption {
+    Limit,
+    Flows,
+    Quantum,
+    Target,
+    Interval,
+    DropBatch,
+}
+
+impl FqCodelOption {
+    /// Whether the option has been given.
+    pub fn is_given(self, options: &FqCodelOptions) -> bool
+        ensures { result ≡ fq_has self options.now }
+    {
+        match self {
+            FqCodelOption::Limit => options.limit.is_some(),
+            FqCodelOption::Flows => options.flows.is_some(),
+            FqCodelOption::Quantum => options.quantum.is_some(),
+            FqCodelOption::Target => options.target.is_some(),
+            FqCodelOption::Interval => options.interval.is_some(),
+            FqCodelOption::DropBatch => options.drop_batch.is_some(),
+        }
+    }
+
+    /// Gives the option the value that a word is.
+    pub fn set(self, options: &mut FqCodelOptions, word: &[u8]) -> Result<(), Wrong>
+        ensures ok { OnOk result ((verb : QdiscVerb) (head : HeadDraft)
+            → option_fits (option_value_of self) verb head FqCodel (fq_draft options.old) word.now ≡ Ok (behind verb head FqCodel (fq_draft options.new))) }
+        ensures err { IfErr result (λ e. (verb : QdiscVerb) (head : HeadDraft)
+            → option_fits (option_value_of self) verb head FqCodel (fq_draft options.old) word.now ≡ Err e) }
+    {
+        match self {
+            FqCodelOption::Limit => options.limit = Some(number(word, 1, MOST)? as u32),
+            FqCodelOption::Flows => options.flows = Some(number(word, 1, 65_536)? as u32),
+            FqCodelOption::Quantum => options.quantum = Some(size(word, 1, MOST)? as u32),
+            FqCodelOption::Target => options.target = Some(time(word, 0, LONGEST)?),
+            FqCodelOption::Interval => options.interval = Some(time(word, 1000, LONGEST)?),
+            FqCodelOption::DropBatch => options.drop_batch = Some(number(word, 1, 65_536)? as u32),
+        }
+        Ok(())
+    }
+}
