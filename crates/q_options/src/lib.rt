@@ -1,10 +1,22 @@
-//! The command line of the program `qtree`: [`read_options`] reads what it asks for, as [`Options`].
+//! The command line of the program `qtree`, and what the program answers.
 //!
-//! It stands apart from `qtree` so that neither is proved a second time for a test of the command line.
+//! - [`answer`] does what a command line asks for, from any reader, to any writer and error writer, and answers the exit
+//!   status. `main` calls it and nothing else.
+//! - [`play`] is the part of it that runs a script: the status, the report, and the line that tells of a [`Fault`].
+//! - [`read_options`] reads what the command line asks for, as [`Options`].
+//!
+//! `specs/Answer.antt` says what is answered. What clap reads and prints is in no contract.
 #![tactic(auto)]
 
+mod answer;
 mod command_line;
+mod fault;
 mod options;
+mod playing;
+mod telling;
 
+pub use answer::answer;
 pub use command_line::read_options;
+pub use fault::Fault;
 pub use options::Options;
+pub use playing::play;

@@ -89,14 +89,6 @@ impl Write for Narrow {
     }
 }
 
-/// The kind of the read that failed, where one did.
-fn failed_read(told: Result<Outcome, RunFault>) -> Option<ErrorKind> {
-    match told {
-        Err(RunFault::Read(failed)) => Some(failed.kind()),
-        _ => None,
-    }
-}
-
 #[test]
 fn readers_that_are_slow_or_fail(rt: HostRuntime) {
     let alloc = rt.alloc();
@@ -117,8 +109,8 @@ fn readers_that_are_slow_or_fail(rt: HostRuntime) {
         let mut written = Vec::new(alloc);
         let told = run(alloc, &mut reader, &mut written, RunSettings::defaults());
         assert_eq!(rt;
-            failed_read(told),
-            Some(ErrorKind::ConnectionReset),
+            told,
+            Err(RunFault::Read(ErrorKind::ConnectionReset)),
             "failing at read {step}"
         );
         assert!(rt; written.is_empty());
@@ -159,7 +151,7 @@ fn interrupted_without_end(rt: HostRuntime) {
     let mut reader = Interrupted { reads: 0 };
     let mut written = Vec::new(alloc);
     let told = run(alloc, &mut reader, &mut written, RunSettings::defaults());
-    assert_eq!(rt; failed_read(told), Some(ErrorKind::Interrupted));
+    assert_eq!(rt; told, Err(RunFault::Read(ErrorKind::Interrupted)));
     assert_eq!(rt; reader.reads, 16_777_218);
     assert!(rt; written.is_empty());
 }
@@ -180,7 +172,12 @@ fn assert_front(
         fails,
     };
     let told = run(alloc, &mut reader, &mut writer, RunSettings::defaults());
-    assert_eq!(rt; told, Err(RunFault::Write), "room for {room} bytes");
+    let kind = if fails {
+        ErrorKind::BrokenPipe
+    } else {
+        ErrorKind::WriteZero
+    };
+    assert_eq!(rt; told, Err(RunFault::Write(kind)), "room for {room} bytes");
     assert!(rt;
         Some(writer.written.as_slice()) == report.get(..room),
         "room for {room} bytes"

@@ -9,8 +9,6 @@ mod bucket;
 #[cfg(test)]
 mod codel;
 #[cfg(test)]
-mod command_line;
-#[cfg(test)]
 mod drr;
 #[cfg(test)]
 mod fifo;

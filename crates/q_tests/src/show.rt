@@ -284,13 +284,18 @@ fn writers_that_take_a_few_bytes_a_time(rt: HostRuntime) {
     }
 }
 
+/// What is answered where that writer has no more room.
+const FULL: Result<(), WriteFault> = Err(WriteFault {
+    kind: ErrorKind::BrokenPipe,
+});
+
 #[test]
 fn writers_that_fail(rt: HostRuntime) -> Result<(), Fail> {
     let alloc = rt.alloc();
     let node = root(QdiscView::FqCodel(Settings::defaults(1514)));
     for room in 0..FQ_CODEL.len() {
         let mut writer = Sipping::new(alloc, 7, room);
-        assert_eq!(rt; show_qdisc(&mut writer, &node, false), Err(WriteFault));
+        assert_eq!(rt; show_qdisc(&mut writer, &node, false), FULL);
         assert!(rt; Some(writer.written.as_slice()) == FQ_CODEL.as_bytes().get(..room));
     }
 
@@ -300,12 +305,12 @@ fn writers_that_fail(rt: HostRuntime) -> Result<(), Fail> {
         kind: ClassKind::Prio,
     };
     let mut writer = Sipping::new(alloc, 4, 6);
-    assert_eq!(rt; show_class(&mut writer, &view), Err(WriteFault));
+    assert_eq!(rt; show_class(&mut writer, &view), FULL);
     assert!(rt; Some(writer.written.as_slice()) == line.as_bytes().get(..6));
 
     let view = filter(1, Protocol::All, NO_KEYS)?;
     let mut writer = Sipping::new(alloc, 4, 6);
-    assert_eq!(rt; show_filter(&mut writer, &view), Err(WriteFault));
+    assert_eq!(rt; show_filter(&mut writer, &view), FULL);
     assert_eq!(rt; writer.written.as_slice(), "filter".as_bytes());
     Ok(())
 }
@@ -330,7 +335,12 @@ impl Write for Interrupted {
 #[test]
 fn interrupted_without_end(rt: HostRuntime) {
     let mut writer = Interrupted { writes: 0 };
-    assert_eq!(rt; write_whole(&mut writer, b"text"), Err(WriteFault));
+    assert_eq!(rt;
+        write_whole(&mut writer, b"text"),
+        Err(WriteFault {
+            kind: ErrorKind::Interrupted
+        })
+    );
     assert_eq!(rt; writer.writes, 16_777_217);
     assert_eq!(rt; write_whole(&mut writer, b""), Ok(()));
     assert_eq!(rt; writer.writes, 16_777_217);

@@ -1,0 +1,7 @@
+use Rattle.std.proofs.Common.{rules, ◌≡◌, List, ℕ, [], ◌∷◌, ◌++◌}
+use Rattle.q_options.specs.Answer.{IsTold, line_with}
+use Rattle.q_options.proofs.telling.line_of.Goals as goal
+use Rattle.q_options.proofs.telling.line_of.Goals.{in-Some, in_default}
+
+pub returns : goal.returns
+returns c = elim c.match-kind.branch [ in-Some w ↦ (w.as_bytes-in-Some.result.now, search rules) | in_default w ↦ ([], search rules) ]

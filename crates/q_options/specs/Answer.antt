@@ -1,0 +1,62 @@
+-- What the program answers: its exit status, the report on its output and one line on its error output.
+-- The statuses and the words are this project's own.
+use Rattle.std.specs.Prelude.{◌≡◌, ◌≢◌, ℕ, ◌⊎◌, List, [], ◌∷◌, ◌++◌, Option, Some, None, IfSome, codes}
+use Rattle.std.specs.Io.KnownBytes.{Appends, Keeps}
+use Rattle.std.specs.declared.io.ErrorKind.{ErrorKind}
+use Rattle.q_options.specs.declared.fault.Fault.{Fault}
+use Rattle.q_options.specs.declared.fault.Fault.TheVariants.{Argument, Help, Run}
+use Rattle.q_script.specs.declared.run_fault.RunFault.{RunFault}
+use Rattle.q_script.specs.declared.run_fault.RunFault.TheVariants.{Read, TooLong, Write, Memory}
+use Rattle.q_script.specs.RunFault.{fault_kind, fault_text}
+use Rattle.q_script.specs.Settings.{Settings}
+use Rattle.q_script.specs.declared.outcome.Outcome.TheVariants.{Clean, Refused}
+use Rattle.q_session.specs.Reported.{IsPartlyReported, IsReported}
+use Rattle.q_show.specs.Written.{AppendsFront}
+
+-- what could not be done, and the kind of the read or the write that failed
+abbrev pub text_of : Fault → List ℕ
+text_of Argument = codes "an argument is not UTF-8"
+text_of (Help kind) = codes "help cannot be written"
+text_of (Run fault) = fault_text fault
+
+abbrev pub kind_of : Fault → Option ErrorKind
+kind_of Argument = None
+kind_of (Help kind) = Some kind
+kind_of (Run fault) = fault_kind fault
+
+-- the words for a kind are Rust's, behind a colon
+abbrev pub caused : Option ErrorKind → List ℕ → List ℕ
+caused None words = []
+caused (Some kind) words = codes ": " ++ words
+
+-- the line that tells of a fault, with some words for its kind
+abbrev pub line_with : Fault → List ℕ → List ℕ
+line_with fault words = codes "qtree: " ++ text_of fault ++ caused (kind_of fault) words ++ (10 ∷ [])
+
+-- the error output has that line and nothing else, or a front of it where it could not be written
+abbrev pub IsTold : Fault → Option (List ℕ) → Option (List ℕ) → Type 0
+IsTold fault old new = (words : List ℕ) × (Appends old new (line_with fault words) ⊎ AppendsFront old new (line_with fault words))
+
+-- what the output has after a fault: a front of a report where that could not be written, else nothing new
+abbrev pub Leaves : Settings → RunFault → Option (List ℕ) → Option (List ℕ) → Option (List ℕ) → Type 0
+Leaves settings (Read kind) script old new = Keeps old new
+Leaves settings TooLong script old new = Keeps old new
+Leaves settings (Write kind) script old new = IfSome script (λ all. IsPartlyReported settings all old new)
+Leaves settings Memory script old new = Keeps old new
+
+-- a script was read: what the output and the error output had before and have now, and the status
+pub record IsPlayed (settings : Settings) (script old new errors_old errors_new : Option (List ℕ)) (status : ℕ) : Type 0 where
+  -- the whole report, in which no line had a fault or was refused
+  pub clean : status ≡ 0 → IfSome script (λ all. IsReported settings all Clean old new)
+  -- the whole report, in which some line had a fault or was refused
+  pub refused : status ≡ 1 → IfSome script (λ all. IsReported settings all Refused old new)
+  pub silent : status ≢ 2 → Keeps errors_old errors_new
+  -- not the whole report, and a line that says why
+  pub fault : status ≡ 2 → (fault : RunFault) × IsTold (Run fault) errors_old errors_new × Leaves settings fault script old new
+
+-- no script was read: help or the version was shown, or the command line was refused
+pub record IsShown {R W : Type 0} (reader reader_new : R) (writer writer_new : W) (errors_old errors_new : Option (List ℕ)) (status : ℕ) : Type 0 where
+  pub unread : reader_new ≡ reader
+  pub status : (status ≡ 0) ⊎ (status ≡ 2)
+  pub silent : status ≡ 0 → Keeps errors_old errors_new
+  pub kept : status ≡ 2 → (writer_new ≡ writer) ⊎ ((kind : ErrorKind) × IsTold (Help kind) errors_old errors_new)
