@@ -1,4 +1,4 @@
-ghost use Rattle.std.specs.Prelude.{◌≡◌, ◌≤◌, ◌<◌, ◌+◌, ◌++◌, ◌^◌, Bool, true, [], IfOk, IsOk, OnOk, OnErr};
+ghost use Rattle.std.specs.Prelude.{◌≡◌, ◌≤◌, ◌<◌, ◌+◌, ◌++◌, ◌^◌, Bool, true, [], IfOk, IfErr, IsOk, OnOk, OnErr};
 ghost use Rattle.std.specs.List.{flat_map};
 ghost use Rattle.q_line.specs.Ranges.{IsSendable};
 ghost use Rattle.q_model.specs.Tally.{totals};
@@ -8,6 +8,7 @@ ghost use Rattle.q_report.specs.Text.{lost_line};
 ghost use Rattle.q_script.specs.Lengths.{HasRoom, most_step};
 ghost use Rattle.q_script.specs.Script.{fault_line};
 ghost use Rattle.q_session.specs.Session.{opened, seen, IsShort};
+ghost use Rattle.q_show.specs.Writes.{MayWrite, WriteFailed};
 ghost use Rattle.q_show.specs.Written.{AppendsFront, IsBuffered};
 
 use crate::showing::{put_classes, put_filters, put_qdiscs};
@@ -17,7 +18,7 @@ use q_device::{Command, Device, Refusal, Settings};
 use q_line::{Arrival, Line, Object, Show, read_line};
 use q_packet::{FlowHash, Head, Moment, OneAtATime, Packet};
 use q_script::{Output, RunSettings, Session};
-use q_show::WriteFault;
+use q_show::{Target, WriteFault};
 use q_words::LineFault;
 use std::alloc::{AllocError, Global};
 use std::io::Write;
@@ -119,17 +120,21 @@ impl DeviceSession {
         &mut self,
         count: u32,
         output: &mut Output,
-        writer: &mut W,
+        target: &mut Target<'_, W>,
     ) -> Result<(), WriteFault>
+        requires { MayWrite target.old.writes }
+        ensures same_writer { target.new.writer.ghost_name ≡ target.old.writer.ghost_name }
         ensures packets { self.new.state.packets ≡ self.old.state.packets }
         ensures after { OnOk result (self.new ≡ (seen self.old (polls totals count self.old.state)).session) }
-        ensures text { OnOk result (IsBuffered (W.contents writer.old) (W.contents writer.new) output.new
+        ensures text { OnOk result (IsBuffered (W.contents target.old.writer.now) (W.contents target.new.writer.now) output.new
             (output.old ++ (polls totals count self.old.state).text)) }
-        ensures err { OnErr result (AppendsFront (W.contents writer.old) (W.contents writer.new)
+        ensures err { OnErr result (AppendsFront (W.contents target.old.writer.now) (W.contents target.new.writer.now)
             (output.old ++ (polls totals count self.old.state).text)) }
+        ensures going { OnOk result (MayWrite target.new.writes) }
+        ensures failed { IfErr result (λ fault. WriteFailed target.new.writes fault.kind) }
     {
         for _ in 0..count {
-            output.make_room(writer)?;
+            output.make_room(target)?;
             put_poll(output, self.device.poll(self.moment));
         }
         Ok(())
@@ -149,16 +154,24 @@ impl DeviceSession {
     }
 
     /// The losses that wait, oldest first. Each writes a line.
-    fn reap<W: Write>(&mut self, output: &mut Output, writer: &mut W) -> Result<(), WriteFault>
+    fn reap<W: Write>(
+        &mut self,
+        output: &mut Output,
+        target: &mut Target<'_, W>,
+    ) -> Result<(), WriteFault>
+        requires { MayWrite target.old.writes }
+        ensures same_writer { target.new.writer.ghost_name ≡ target.old.writer.ghost_name }
         ensures packets { self.new.state.packets ≡ self.old.state.packets }
         ensures after { OnOk result (self.new ≡ record self.old { state = record self.old.state { waiting = [] } }) }
-        ensures text { OnOk result (IsBuffered (W.contents writer.old) (W.contents writer.new) output.new
+        ensures text { OnOk result (IsBuffered (W.contents target.old.writer.now) (W.contents target.new.writer.now) output.new
             (output.old ++ flat_map lost_line self.old.state.waiting)) }
-        ensures err { OnErr result (AppendsFront (W.contents writer.old) (W.contents writer.new)
+        ensures err { OnErr result (AppendsFront (W.contents target.old.writer.now) (W.contents target.new.writer.now)
             (output.old ++ flat_map lost_line self.old.state.waiting)) }
+        ensures going { OnOk result (MayWrite target.new.writes) }
+        ensures failed { IfErr result (λ fault. WriteFailed target.new.writes fault.kind) }
     {
         while let Some(lost) = self.device.reap() {
-            output.make_room(writer)?;
+            output.make_room(target)?;
             put_lost(output, &lost);
         }
         Ok(())
@@ -169,19 +182,23 @@ impl DeviceSession {
         &self,
         show: Show,
         output: &mut Output,
-        writer: &mut W,
+        target: &mut Target<'_, W>,
     ) -> Result<(), WriteFault>
-        ensures ok { OnOk result (IsBuffered (W.contents writer.old) (W.contents writer.new) output.new
+        requires { MayWrite target.old.writes }
+        ensures same_writer { target.new.writer.ghost_name ≡ target.old.writer.ghost_name }
+        ensures ok { OnOk result (IsBuffered (W.contents target.old.writer.now) (W.contents target.new.writer.now) output.new
             (output.old ++ show_text totals show self.now.state.device)) }
-        ensures err { OnErr result (AppendsFront (W.contents writer.old) (W.contents writer.new)
+        ensures err { OnErr result (AppendsFront (W.contents target.old.writer.now) (W.contents target.new.writer.now)
             (output.old ++ show_text totals show self.now.state.device)) }
+        ensures going { OnOk result (MayWrite target.new.writes) }
+        ensures failed { IfErr result (λ fault. WriteFailed target.new.writes fault.kind) }
     {
         device_is_lawful(&self.device);
         let tree = self.device.tree();
         match show.object {
-            Object::Qdisc => put_qdiscs(tree, show.counters, output, writer),
-            Object::Class => put_classes(tree, output, writer),
-            Object::Filter => put_filters(tree, output, writer),
+            Object::Qdisc => put_qdiscs(tree, show.counters, output, target),
+            Object::Class => put_classes(tree, output, target),
+            Object::Filter => put_filters(tree, output, target),
         }
     }
 
@@ -244,19 +261,19 @@ impl Session for DeviceSession {
         number: u64,
         line: &[u8],
         output: &mut Output,
-        writer: &mut W,
+        target: &mut Target<'_, W>,
     ) -> Result<(), WriteFault> {
         match read_line(line) {
-            Ok(Line::Poll(count)) => self.poll(count, output, writer),
-            Ok(Line::Reap) => self.reap(output, writer),
-            Ok(Line::Show(show)) => self.show(show, output, writer),
+            Ok(Line::Poll(count)) => self.poll(count, output, target),
+            Ok(Line::Reap) => self.reap(output, target),
+            Ok(Line::Show(show)) => self.show(show, output, target),
             Ok(line) => {
-                output.make_room(writer)?;
+                output.make_room(target)?;
                 self.answer(number, line, output);
                 Ok(())
             }
             Err(fault) => {
-                output.make_room(writer)?;
+                output.make_room(target)?;
                 self.fault(number, fault, output);
                 Ok(())
             }

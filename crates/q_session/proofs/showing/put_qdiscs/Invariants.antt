@@ -1,9 +1,10 @@
-use Rattle.std.proofs.Common.{◌-◌, length}
+use Rattle.std.proofs.Common.{◌≡◌, ◌-◌, length}
 use Rattle.std.specs.Prelude.{drop}
 use Rattle.std.specs.List.{flat_map}
 use Rattle.q_model.specs.Tally.{totals}
 use Rattle.q_model.specs.Views.{views}
 use Rattle.q_report.specs.Text.{qdisc_text}
+use Rattle.q_show.specs.Writes.{MayWrite}
 use Rattle.q_tree.specs.TreeSeen.{tree_numbers}
 use Rattle.q_session.proofs.Writing.{Writing}
 use Rattle.q_session.proofs.showing.put_qdiscs.Given as goal
@@ -13,7 +14,11 @@ invariant-loop-node g l =
     let contents = g.W.Write.contents in
     let text = qdisc_text l.counters in
     let nodes = views totals (tree_numbers l.tree.tree) in
-    Writing (contents l.fn.writer) (contents l.writer) l.fn.output l.output (flat_map text nodes) (flat_map text (drop l.i nodes))
+    record {
+      same_writer : l.target.writer.ghost_name ≡ l.fn.target.writer.ghost_name;
+      text : Writing (contents l.fn.target.writer.now) (contents l.target.writer.now) l.fn.output l.output (flat_map text nodes) (flat_map text (drop l.i nodes));
+      going : MayWrite l.target.writes;
+    }
 
 abbrev pub decreases-loop-node : goal.decreases-loop-node
 decreases-loop-node g l = length (views totals (tree_numbers l.tree.tree)) - l.i

@@ -1,4 +1,4 @@
-use Rattle.std.proofs.Common.{◌≡◌, ◌∙◌, ℕ, ◌-◌, ◌+◌, List, sym, ap, ap₂, subst, arith}
+use Rattle.std.proofs.Common.{◌≡◌, ◌∙◌, ℕ, ◌-◌, ◌+◌, List, sym, ap, ap₂, subst, arith, refl}
 use Rattle.q_device.specs.DeviceSeen.{DeviceSeen}
 use Rattle.q_model.specs.Tally.{totals}
 use Rattle.q_report.specs.Report.{polls}
@@ -15,8 +15,10 @@ loop-init g c =
     let count = c.args.count in
     let s = session_seen c.self.inside in
     let all : count ≡ count - 0 = omega arith in
-    let held = g.W.Write.contents c.args.writer.now in
+    let held = g.W.Write.contents c.args.target.now.writer.now in
     record {
+      same_writer = refl;
+      going = c.requires;
       text =
           subst (λ (left : List ℕ). Writing held held c.args.output.now c.args.output.now (polls totals count c.args.self.now.state).text left)
           (ap₂ (λ (n : ℕ) (x : SessionSeen). (polls totals n x.state).text) all (sym c.self.view_is))
@@ -42,6 +44,8 @@ loop-preserved g c =
     let next = record s { device = c.poll.new.self.device; waiting = c.poll.new.self.waiting } in
     let is = ap (λ (d : DeviceSeen). record s { device = d.device; waiting = d.waiting }) c.poll.ensures.event in
     record {
+      same_writer = c.in_ok-make_room.ensures.same_writer ∙ c.loop.invariant.same_writer;
+      going = c.in_ok-make_room.ensures.going;
       text = writing-next _ _ _ c.args.output.now c.loop.output c.make_room.new.self c.put_poll.new.output (polls totals c.args.count c.args.self.now.state).text (polls totals left s).text
           (poll_line c.poll.result) (polls totals fewer next).text
           c.loop.invariant.text c.in_ok-make_room.ensures.ok (poll-text fewer left s next c.poll.result (omega arith) is c.poll.ensures.reply) c.put_poll.ensures;

@@ -1,6 +1,7 @@
 use Rattle.std.proofs.Common.{◌≡◌, ◌-◌}
 use Rattle.q_model.specs.Tally.{totals}
 use Rattle.q_report.specs.Report.{polls}
+use Rattle.q_show.specs.Writes.{MayWrite}
 use Rattle.q_session.specs.Seen.{session_seen}
 use Rattle.q_session.proofs.Writing.{Writing}
 use Rattle.q_session.proofs.device_session.DeviceSession.poll.Given as goal
@@ -12,8 +13,10 @@ invariant-loop g l =
     let first = polls totals l.count l.fn.self.state in
     let rest = polls totals (l.count - l.counter) (session_seen l.self-inside).state in
     record {
-      text : Writing (contents l.fn.writer) (contents l.writer) l.fn.output l.output first.text rest.text;
+      same_writer : l.target.writer.ghost_name ≡ l.fn.target.writer.ghost_name;
+      text : Writing (contents l.fn.target.writer.now) (contents l.target.writer.now) l.fn.output l.output first.text rest.text;
       state : first.session ≡ rest.session;
       seed : l.self-inside.seed ≡ l.fn.self.seed;
       packets : l.self-inside.packets ≡ l.fn.self.state.packets;
+      going : MayWrite l.target.writes;
     }

@@ -21,6 +21,8 @@ loop-lost-preserved g c =
     let waiting = before.device.waiting in
     let rest = ap (λ (d : DeviceSeen). d.waiting) c.reap.ensures.rest in
     record {
+      same_writer = c.in_ok-make_room.ensures.same_writer ∙ c.loop-lost.invariant.same_writer;
+      going = c.in_ok-make_room.ensures.going;
       text = writing-next _ _ _ c.args.output.now c.loop-lost.output c.make_room.new.self c.put_lost.new.output (flat_map lost_line c.args.self.now.state.waiting) (flat_map lost_line waiting)
           (lost_line c.in-Some.lost) (flat_map lost_line c.reap.new.self.waiting) c.loop-lost.invariant.text c.in_ok-make_room.ensures.ok
           (lost-first waiting c.in-Some.lost (sym c.in-Some.is ∙ c.reap.ensures.oldest) ∙ ap (λ (ls : List Loss). lost_line c.in-Some.lost ++ flat_map lost_line ls) (sym rest)) c.put_lost.ensures;

@@ -1,6 +1,7 @@
 use Rattle.std.proofs.Common.{◌≡◌, length}
 use Rattle.std.specs.List.{flat_map}
 use Rattle.q_report.specs.Text.{lost_line}
+use Rattle.q_show.specs.Writes.{MayWrite}
 use Rattle.q_session.specs.Seen.{session_seen}
 use Rattle.q_session.proofs.Writing.{Writing}
 use Rattle.q_session.proofs.device_session.DeviceSession.reap.Given as goal
@@ -10,8 +11,10 @@ abbrev pub invariant-loop-lost : goal.invariant-loop-lost
 invariant-loop-lost g l =
     let contents = g.W.Write.contents in
     record {
-      text : Writing (contents l.fn.writer) (contents l.writer) l.fn.output l.output (flat_map lost_line l.fn.self.state.waiting) (flat_map lost_line l.self-inside.device.waiting);
+      same_writer : l.target.writer.ghost_name ≡ l.fn.target.writer.ghost_name;
+      text : Writing (contents l.fn.target.writer.now) (contents l.target.writer.now) l.fn.output l.output (flat_map lost_line l.fn.self.state.waiting) (flat_map lost_line l.self-inside.device.waiting);
       same : session_seen l.self-inside ≡ record l.fn.self { state = record l.fn.self.state { waiting = l.self-inside.device.waiting } };
+      going : MayWrite l.target.writes;
     }
 
 abbrev pub decreases-loop-lost : goal.decreases-loop-lost

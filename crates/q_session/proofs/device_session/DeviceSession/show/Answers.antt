@@ -19,7 +19,7 @@ returns-in-Qdisc-clause-ok g c =
     ap (λ (t : TreeState Counts). flat_map (qdisc_text c.args.show.counters) (views totals t)) c.tree-tree.ensures.numbers
     ∙ ap (λ (s : SessionSeen). flat_map (qdisc_text c.args.show.counters) (views totals s.state.device.tree)) c.self.view_is
     ∙ sym (ap (λ (o : Object). show_text totals (record c.args.show { object = o }) c.args.self.now.state.device) c.in-Qdisc.is) in
-    on_ok_weaker c.put_qdiscs.result (subst (λ (l : List ℕ). IsBuffered (g.W.Write.contents c.args.writer.now) (g.W.Write.contents c.put_qdiscs.new.writer) c.put_qdiscs.new.output (c.args.output.now ++ l)) text) c.put_qdiscs.ensures.ok
+    on_ok_weaker c.put_qdiscs.result (subst (λ (l : List ℕ). IsBuffered (g.W.Write.contents c.args.target.now.writer.now) (g.W.Write.contents c.put_qdiscs.new.target.writer.now) c.put_qdiscs.new.output (c.args.output.now ++ l)) text) c.put_qdiscs.ensures.ok
 
 pub returns-in-Qdisc-clause-err : goal.returns-in-Qdisc-clause-err
 returns-in-Qdisc-clause-err g c =
@@ -27,7 +27,7 @@ returns-in-Qdisc-clause-err g c =
     ap (λ (t : TreeState Counts). flat_map (qdisc_text c.args.show.counters) (views totals t)) c.tree-tree.ensures.numbers
     ∙ ap (λ (s : SessionSeen). flat_map (qdisc_text c.args.show.counters) (views totals s.state.device.tree)) c.self.view_is
     ∙ sym (ap (λ (o : Object). show_text totals (record c.args.show { object = o }) c.args.self.now.state.device) c.in-Qdisc.is) in
-    on_err_weaker c.put_qdiscs.result (subst (λ (l : List ℕ). AppendsFront (g.W.Write.contents c.args.writer.now) (g.W.Write.contents c.put_qdiscs.new.writer) (c.args.output.now ++ l)) text) c.put_qdiscs.ensures.err
+    on_err_weaker c.put_qdiscs.result (subst (λ (l : List ℕ). AppendsFront (g.W.Write.contents c.args.target.now.writer.now) (g.W.Write.contents c.put_qdiscs.new.target.writer.now) (c.args.output.now ++ l)) text) c.put_qdiscs.ensures.err
 
 pub returns-in-Class-clause-err : goal.returns-in-Class-clause-err
 returns-in-Class-clause-err g c =
@@ -35,4 +35,4 @@ returns-in-Class-clause-err g c =
     ap (λ (t : TreeState Counts). flat_map (λ n. flat_map class_line (class_views n)) (every_node t.root)) c.tree-tree.ensures.numbers
     ∙ ap (λ (s : SessionSeen). flat_map (λ n. flat_map class_line (class_views n)) (every_node s.state.device.tree.root)) c.self.view_is
     ∙ sym (ap (λ (o : Object). show_text totals (record c.args.show { object = o }) c.args.self.now.state.device) c.in-Class.is) in
-    on_err_weaker c.put_classes.result (subst (λ (l : List ℕ). AppendsFront (g.W.Write.contents c.args.writer.now) (g.W.Write.contents c.put_classes.new.writer) (c.args.output.now ++ l)) text) c.put_classes.ensures.err
+    on_err_weaker c.put_classes.result (subst (λ (l : List ℕ). AppendsFront (g.W.Write.contents c.args.target.now.writer.now) (g.W.Write.contents c.put_classes.new.target.writer.now) (c.args.output.now ++ l)) text) c.put_classes.ensures.err

@@ -1,4 +1,4 @@
-use Rattle.std.proofs.Common.{rules, ◌∙◌, ◌++◌, Bool, true, false, Result, Ok, Err, IsErr, OnOk, sym, ap, subst}
+use Rattle.std.proofs.Common.{rules, ◌∙◌, ◌++◌, false, Result, Ok, sym, ap, subst}
 use Rattle.q_line.specs.declared.line.Line.{Line}
 use Rattle.q_words.specs.declared.line_fault.LineFault.{LineFault}
 use Rattle.q_line.proofs.PacketRanges.{read-sendable}
@@ -10,27 +10,14 @@ use Rattle.q_session.specs.Session.{effect_of}
 use Rattle.q_show.specs.Written.{AppendsFront}
 use Rattle.q_session.proofs.device_session.DeviceSessionSession.run_line.Goals as goal
 
--- what holds of a value holds where there is none
-abbrev IsFalse : Bool → Type 0
-IsFalse true = ⊥
-IsFalse false = Unit {0}
-
-none_ok : {A E : Type 0} (P : Type 0) (r : Result A E) → IsErr r → OnOk r P
-none_ok P (Ok a) h = absurd (subst IsFalse h tt)
-none_ok P (Err e) h = tt
-
-pub returns-in_err-make_room-in-Ok : goal.returns-in_err-make_room-in-Ok
-returns-in_err-make_room-in-Ok g c =
+pub returns-in_err-make_room-in-Ok-clause-err : goal.returns-in_err-make_room-in-Ok-clause-err
+returns-in_err-make_room-in-Ok-clause-err g c =
     let text = (effect_of false c.args.number c.args.line.now c.args.self.now).text in
-    record {
-      few = none_ok _ c.from_residual.result c.from_residual.ensures.0;
-      effect = none_ok _ c.from_residual.result c.from_residual.ensures.0;
-      err = on_err c.from_residual.result (false, front-longer _ _ c.args.output.now text c.in_err-make_room-in-Ok.ensures.err);
-    }
+    on_err c.from_residual.result (false, front-longer _ _ c.args.output.now text c.in_err-make_room-in-Ok.ensures.err)
 
 pub answer-requires : goal.answer-requires
 answer-requires g c = record {
-  few = c.requires;
+  few = c.requires.few;
   room = c.in_ok-make_room-in-Ok.ensures.room;
   sendable = read-sendable c.args.line.now c.in-Ok.line (sym c.read_line.ensures ∙ c.in-Ok.is);
   short = search rules;
@@ -46,7 +33,7 @@ returns-in-Ok-Poll-clause-err g c =
     let s = c.args.self.now in
     let is = sym c.read_line.ensures ∙ c.in-Ok-Poll.is ∙ ap Ok c.in-Ok-Poll.field-0-is in
     on_err_weaker c.poll.result
-    (λ w. (false, subst (λ (l : Result Line LineFault). AppendsFront (g.W.Write.contents c.args.writer.now) (g.W.Write.contents c.poll.new.writer) (c.args.output.now ++ (report.effect totals s.seed false c.args.number l s.state).text)) (sym is) w))
+    (λ w. (false, subst (λ (l : Result Line LineFault). AppendsFront (g.W.Write.contents c.args.target.now.writer.now) (g.W.Write.contents c.poll.new.target.writer.now) (c.args.output.now ++ (report.effect totals s.seed false c.args.number l s.state).text)) (sym is) w))
     c.poll.ensures.err
 
 pub returns-in-Ok-Reap-clause-err : goal.returns-in-Ok-Reap-clause-err
@@ -54,7 +41,7 @@ returns-in-Ok-Reap-clause-err g c =
     let s = c.args.self.now in
     let is = sym c.read_line.ensures ∙ c.in-Ok-Reap.is ∙ ap Ok c.in-Ok-Reap.field-0-is in
     on_err_weaker c.reap.result
-    (λ w. (false, subst (λ (l : Result Line LineFault). AppendsFront (g.W.Write.contents c.args.writer.now) (g.W.Write.contents c.reap.new.writer) (c.args.output.now ++ (report.effect totals s.seed false c.args.number l s.state).text)) (sym is) w))
+    (λ w. (false, subst (λ (l : Result Line LineFault). AppendsFront (g.W.Write.contents c.args.target.now.writer.now) (g.W.Write.contents c.reap.new.target.writer.now) (c.args.output.now ++ (report.effect totals s.seed false c.args.number l s.state).text)) (sym is) w))
     c.reap.ensures.err
 
 pub returns-in-Ok-Show-clause-err : goal.returns-in-Ok-Show-clause-err
@@ -62,5 +49,5 @@ returns-in-Ok-Show-clause-err g c =
     let s = c.args.self.now in
     let is = sym c.read_line.ensures ∙ c.in-Ok-Show.is ∙ ap Ok c.in-Ok-Show.field-0-is in
     on_err_weaker c.show.result
-    (λ w. (false, subst (λ (l : Result Line LineFault). AppendsFront (g.W.Write.contents c.args.writer.now) (g.W.Write.contents c.show.new.writer) (c.args.output.now ++ (report.effect totals s.seed false c.args.number l s.state).text)) (sym is) w))
+    (λ w. (false, subst (λ (l : Result Line LineFault). AppendsFront (g.W.Write.contents c.args.target.now.writer.now) (g.W.Write.contents c.show.new.target.writer.now) (c.args.output.now ++ (report.effect totals s.seed false c.args.number l s.state).text)) (sym is) w))
     c.show.ensures.err
