@@ -57,6 +57,6 @@ pub record IsPlayed (settings : Settings) (script old new errors_old errors_new 
 -- no script was read: help or the version was shown, or the command line was refused
 pub record IsShown {R W : Type 0} (reader reader_new : R) (writer writer_new : W) (errors_old errors_new : Option (List ℕ)) (status : ℕ) : Type 0 where
   pub unread : reader_new ≡ reader
-  pub status : (status ≡ 0) ⊎ (status ≡ 2)
+  pub shown_or_refused : (status ≡ 0) ⊎ (status ≡ 2)
   pub silent : status ≡ 0 → Keeps errors_old errors_new
   pub kept : status ≡ 2 → (writer_new ≡ writer) ⊎ ((kind : ErrorKind) × IsTold (Help kind) errors_old errors_new)

@@ -8,14 +8,14 @@
 //! `specs/Answer.antt` says what is answered. What clap reads and prints is in no contract.
 #![tactic(auto)]
 
-mod answer;
+mod answering;
 mod command_line;
 mod fault;
 mod options;
 mod playing;
 mod telling;
 
-pub use answer::answer;
+pub use answering::answer;
 pub use command_line::read_options;
 pub use fault::Fault;
 pub use options::Options;

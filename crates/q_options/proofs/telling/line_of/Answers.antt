@@ -1,5 +1,4 @@
-use Rattle.std.proofs.Common.{rules, ◌≡◌, List, ℕ, [], ◌∷◌, ◌++◌}
-use Rattle.q_options.specs.Answer.{IsTold, line_with}
+use Rattle.std.proofs.Common.{rules, []}
 use Rattle.q_options.proofs.telling.line_of.Goals as goal
 use Rattle.q_options.proofs.telling.line_of.Goals.{in-Some, in_default}
 

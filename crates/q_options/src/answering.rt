@@ -1,4 +1,6 @@
 ghost use Rattle.std.specs.Prelude.{◌≡◌, ◌≢◌, ◌≤◌, ◌⊎◌, IfErr};
+ghost use Rattle.std.specs.Io.KnownBytes.{Keeps};
+ghost use Rattle.std.specs.IoError.{error_kind};
 ghost use Rattle.q_options.specs.Answer.{IsPlayed, IsShown, IsTold};
 ghost use Rattle.q_options.specs.declared.fault.Fault.{Fault as SomeFault};
 ghost use Rattle.q_script.specs.Settings.{Settings};
@@ -23,33 +25,34 @@ pub fn answer<R: Read, W: Write, E: Write>(
     errors: &mut E,
 ) -> u8
     ensures statuses { result ≤ 2 }
-    ensures answer {
-        IsShown reader.old reader.new writer.old writer.new (E.contents errors.old) (E.contents errors.new) result
+    ensures answer { IsShown reader.old reader.new writer.old writer.new (E.contents errors.old) (E.contents errors.new) result
         ⊎ ((settings : Settings) × IsPlayed settings (R.remaining reader.old)
-            (W.contents writer.old) (W.contents writer.new) (E.contents errors.old) (E.contents errors.new) result) }
+        (W.contents writer.old) (W.contents writer.new) (E.contents errors.old) (E.contents errors.new) result) }
     // The words of the command line could not be had: one is not UTF-8, or there is no memory for them.
-    ensures not_utf8 { IfErr words.entry (λ error. error_kind error ≡ ErrorKind.InvalidData →
+    ensures not_utf8 { IfErr words (λ error. error_kind error ≡ ErrorKind.InvalidData →
         IsTold SomeFault.Argument (E.contents errors.old) (E.contents errors.new)) }
-    ensures no_memory { IfErr words.entry (λ error. error_kind error ≢ ErrorKind.InvalidData →
+    ensures no_memory { IfErr words (λ error. error_kind error ≢ ErrorKind.InvalidData →
         IsTold (SomeFault.Run RunFault.Memory) (E.contents errors.old) (E.contents errors.new)) }
 {
-    let asked = match words {
-        Ok(words) => read_options(alloc, &words),
+    let words = match words {
+        Ok(words) => words,
         Err(error) => {
             tell(Fault::of_words(error.kind()), errors);
             return FAULT;
         }
     };
-    match asked {
-        Ok(Options::Play(settings)) => play(alloc, settings, reader, writer, errors),
-        Err(error) => show(&error, writer, errors),
-    }
+    let options = match read_options(alloc, &words) {
+        Ok(options) => options,
+        Err(error) => return show(&error, writer, errors),
+    };
+    let Options::Play(settings) = options;
+    play(alloc, settings, reader, writer, errors)
 }
 
 /// Writes what clap has to say: help and the version to the output, with status 0; all else to the error output.
 fn show<W: Write, E: Write>(error: &clap::Error, writer: &mut W, errors: &mut E) -> u8
     ensures status { (result ≡ 0) ⊎ (result ≡ 2) }
-    ensures silent { result ≡ 0 → errors.new ≡ errors.old }
+    ensures silent { result ≡ 0 → Keeps (E.contents errors.old) (E.contents errors.new) }
     ensures kept { result ≡ 2 → (writer.new ≡ writer.old) ⊎ ((kind : ErrorKind) × IsTold (SomeFault.Help kind) (E.contents errors.old) (E.contents errors.new)) }
 {
     if error.kind() == clap::error::ErrorKind::OutOfMemory {
