@@ -52,7 +52,7 @@ impl Model for DeviceSession {
 }
 
 impl DeviceSession {
-    /// A session on a new device.
+    /// A session on a new device with these settings, which its recorder's length is one of.
     ///
     /// # Errors
     ///
