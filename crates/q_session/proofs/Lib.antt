@@ -1,5 +1,5 @@
 pub mod CommandLemmas
-pub mod Listed
+pub mod ListedLemmas
 pub mod PollLemmas
 pub mod Reported
 pub mod ShownCounts

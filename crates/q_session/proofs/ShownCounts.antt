@@ -1,17 +1,17 @@
 -- How many qdiscs, classes and filters a lawful tree has: 256 of each at a node at most, so that they can be counted.
 use Rattle.std.proofs.Common.{◌≡◌, ℕ, suc, ◌≤◌, List, [], ◌∷◌, ◌++◌, All, length, sum, Option, Some, None, refl, ap, arith, length-append}
 use Rattle.std.specs.Prelude.{drop, option_map}
-use Rattle.std.specs.List.{AllZip, cons_option, filter_map}
+use Rattle.std.specs.List.{cons_option, filter_map}
 use Rattle.std.proofs.lemmas.List.{length-map}
 use Rattle.std.proofs.lemmas.List.Elements.{All-append, All-cons, All-nil}
-use Rattle.std.proofs.lemmas.List.Sums.{sum_by-cons}
+use Rattle.std.proofs.lemmas.Slice.Zip.{AllZip-long}
 use Rattle.std.proofs.lemmas.List.FromFn.{length-range_with_len}
 use Rattle.q_drr.specs.Schedule.{Class}
 use Rattle.q_model.specs.Beneath.{beneath_own}
 use Rattle.q_model.specs.Conserved.{nodes_of, every_node}
 use Rattle.q_model.specs.Find.{count_nodes}
 use Rattle.q_model.specs.Lawful.{IsLawfulDiscipline, IsLawfulNode}
-use Rattle.q_model.specs.Node.{Discipline, Fifo, Prio, Tbf, Drr, FqCodel, Own, Forest, none, more, Node, nodes_in, children, each}
+use Rattle.q_model.specs.Node.{Discipline, Fifo, Prio, Tbf, Drr, FqCodel, Own, Forest, none, more, Node, nodes_in, children, each, from_below}
 use Rattle.q_model.specs.Tally.{Tally}
 use Rattle.q_model.specs.TreeState.{TreeState}
 use Rattle.q_model.specs.declared.class_id.ClassId.{ClassId}
@@ -20,6 +20,8 @@ use Rattle.q_model.specs.declared.filter.Filter.{Filter}
 use Rattle.q_model.specs.declared.filter_view.FilterView.{FilterView}
 use Rattle.q_model.specs.Views.{class_ids, class_kind, class_views, filter_views, minors, places_below, views, views_in}
 use Rattle.q_model.specs.declared.place.Place.{Place}
+use Rattle.q_sound.proofs.EditSizes.{sum-cons}
+use Rattle.q_sound.proofs.Forests.{each-nodes}
 
 -- every node of a tree is counted
 counted : {M : Type 0} (x : Forest M) → length (nodes_of x) ≡ sum (each (λ own below. suc (sum below)) x)
@@ -27,7 +29,7 @@ counted none = refl
 counted (more own m below others) =
     let b = counted below in
     let o = counted others in
-    omega (arith, length-append (nodes_of below) (nodes_of others), b, o, sum_by-cons (λ (x : ℕ). x) (suc (sum (each (λ own below. suc (sum below)) below))) (each (λ own below. suc (sum below)) others))
+    omega (arith, length-append (nodes_of below) (nodes_of others), b, o, sum-cons (suc (sum (each (λ own below. suc (sum below)) below))) (each (λ own below. suc (sum below)) others))
 
 pub count-is : {M : Type 0} (n : Node M) → length (every_node n) ≡ count_nodes n
 count-is n = ap suc (counted n.below)
@@ -75,16 +77,6 @@ filtered f (x ∷ xs) = one (f x) (filter_map f xs) (length xs) (filtered f xs) 
   one (Some y) ys n h = omega (arith, h)
   one None ys n h = omega (arith, h)
 
-zipped : {A B : Type 0} (R : A → B → Type 0) (xs : List A) (ys : List B) → AllZip R xs ys → length xs ≡ length ys
-zipped R [] [] h = refl
-zipped R [] (y ∷ ys) h = absurd h
-zipped R (x ∷ xs) [] h = absurd h
-zipped R (x ∷ xs) (y ∷ ys) h = ap suc (zipped R xs ys h.1)
-
-each-count : {M A : Type 0} (f : Own → List A → A) (x : Forest M) → length (each f x) ≡ length (nodes_in x)
-each-count f none = refl
-each-count f (more own m below others) = ap suc (each-count f others)
-
 few-minors : {M : Type 0} (mtu clock : ℕ) (own : Own) (below : Forest M) → IsLawfulDiscipline mtu clock (each beneath_own below) own.discipline → length (nodes_in below) ≤ 256
     → length (minors (length (nodes_in below)) own.discipline) ≤ 256
 few-minors mtu clock own below lawful few = by own.discipline lawful where
@@ -92,7 +84,7 @@ few-minors mtu clock own below lawful few = by own.discipline lawful where
   by (Fifo limit queue) h = omega arith
   by (Prio priomap) h = omega (arith, few, length-range_with_len 1 (length (nodes_in below)))
   by (Tbf bucket limit) h = omega arith
-  by (Drr s) h = omega (arith, few, length-map s.classes (λ (c : Class). c.name), zipped _ s.classes (each beneath_own below) h.exact, each-count beneath_own below)
+  by (Drr s) h = omega (arith, few, length-map s.classes (λ (c : Class). c.name), AllZip-long _ s.classes (each beneath_own below) h.exact, ap length (each-nodes beneath_own below), length-map (nodes_in below) (from_below beneath_own))
   by (FqCodel s) h = omega arith
 
 -- what stands at one node is counted up to 256

@@ -5,5 +5,6 @@ use Rattle.q_session.specs.declared.device_session.DeviceSession.TheInside.{Insi
 abbrev pub session_seen : Inside → SessionSeen
 session_seen a = record {
   seed = a.seed;
+  settings = a.device.settings;
   state = record { device = a.device.device; waiting = a.device.waiting; moment = a.moment; packets = a.packets; refused = a.refused };
 }

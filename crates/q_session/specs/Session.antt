@@ -10,9 +10,11 @@ use Rattle.q_report.specs.Report as report
 use Rattle.q_script.specs.Settings.{Settings}
 use Rattle.q_script.specs.Step.{Effect}
 
--- a session as a contract sees it: the seed of the hash, and what the lines have made so far
+-- a session as a contract sees it: the seed of the hash, the device's settings, of which the recorder's length is one, and what
+-- the lines have made so far
 pub record SessionSeen : Type 0 where
   pub seed : ℕ
+  pub settings : DeviceSettings
   pub state : SessionState Counts
 
 abbrev pub device_settings : Settings → DeviceSettings
@@ -20,7 +22,7 @@ device_settings s = record { mtu = s.mtu; txqueuelen = s.txqueuelen; recorder = 
 
 -- a session on a new device
 abbrev pub opened : Settings → SessionSeen
-opened settings = record { seed = settings.seed; state = new_session totals (device_settings settings) }
+opened settings = record { seed = settings.seed; settings = device_settings settings; state = new_session totals (device_settings settings) }
 
 -- what q_report says that a line writes and leaves
 abbrev pub seen : SessionSeen → report.Effect Counts → Effect SessionSeen

@@ -5,14 +5,16 @@ use Rattle.std.specs.Coded.{Coded, code_by, coded×, coded_ℕ, coded_bool, code
 use Rattle.q_codel.specs.declared.loss.Loss.{Loss}
 use Rattle.q_codel.specs.contracts.loss.Loss as loss
 use Rattle.q_device.specs.DeviceCode.{totals_code}
+use Rattle.q_model.specs.contracts.settings.Settings as settings
+use Rattle.q_model.specs.Settings.{DeviceSettings}
 use Rattle.q_model.specs.Step.{DeviceState}
 use Rattle.q_model.specs.Tally.{Counts}
 use Rattle.q_session.specs.Session.{SessionSeen}
 
 abbrev pub session_code : Coded SessionSeen
 session_code =
-    code_by (ℕ × (DeviceState Counts × (List Loss × (ℕ × (ℕ × Bool)))))
-    (coded× coded_ℕ (coded× totals_code (coded× (coded_list loss.the_row.coded) (coded× coded_ℕ (coded× coded_ℕ coded_bool)))))
-    (λ s. (s.seed, (s.state.device, (s.state.waiting, (s.state.moment, (s.state.packets, s.state.refused))))))
-    (λ p. record { seed = p.0; state = record { device = p.1.0; waiting = p.1.1.0; moment = p.1.1.1.0; packets = p.1.1.1.1.0; refused = p.1.1.1.1.1 } })
+    code_by (ℕ × (DeviceSettings × (DeviceState Counts × (List Loss × (ℕ × (ℕ × Bool))))))
+    (coded× coded_ℕ (coded× settings.the_row.coded (coded× totals_code (coded× (coded_list loss.the_row.coded) (coded× coded_ℕ (coded× coded_ℕ coded_bool))))))
+    (λ s. (s.seed, (s.settings, (s.state.device, (s.state.waiting, (s.state.moment, (s.state.packets, s.state.refused)))))))
+    (λ p. record { seed = p.0; settings = p.1.0; state = record { device = p.1.1.0; waiting = p.1.1.1.0; moment = p.1.1.1.1.0; packets = p.1.1.1.1.1.0; refused = p.1.1.1.1.1.1 } })
     (λ _. refl)

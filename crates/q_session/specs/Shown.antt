@@ -1,13 +1,12 @@
--- The classes and filters of one node of a tree, as show lists them.
+-- What show lists of a tree, node by node: its classes or its filters.
 use Rattle.std.specs.Prelude.{ℕ, List, [], slice_get}
+use Rattle.std.specs.List.{flat_map}
 use Rattle.std.specs.Option.{option_map_or}
-use Rattle.q_model.specs.declared.class_view.ClassView.{ClassView}
-use Rattle.q_model.specs.declared.filter_view.FilterView.{FilterView}
 use Rattle.q_model.specs.Conserved.{every_node}
 use Rattle.q_model.specs.Lawful.{IsLawfulTree}
+use Rattle.q_model.specs.Node.{Node}
 use Rattle.q_model.specs.Tally.{Counts, totals}
 use Rattle.q_model.specs.TreeState.{TreeState}
-use Rattle.q_model.specs.Views.{class_views, filter_views}
 use Rattle.q_tree.specs.Kept.{Kept}
 use Rattle.q_tree.specs.TreeSeen.{tree_numbers}
 
@@ -15,8 +14,10 @@ use Rattle.q_tree.specs.TreeSeen.{tree_numbers}
 abbrev pub IsLawfulSeen : TreeState Kept → Type 0
 IsLawfulSeen s = (clock : ℕ) × IsLawfulTree totals clock (tree_numbers s)
 
-abbrev pub classes_at : ℕ → TreeState Counts → List ClassView
-classes_at i s = option_map_or class_views (slice_get (every_node s.root) i) []
+-- what is listed of the i-th node, where this is listed of a node
+abbrev pub listed_at : {A : Type 0} → (Node Counts → List A) → ℕ → TreeState Counts → List A
+listed_at of_node i s = option_map_or of_node (slice_get (every_node s.root) i) []
 
-abbrev pub filters_at : ℕ → TreeState Counts → List FilterView
-filters_at i s = option_map_or filter_views (slice_get (every_node s.root) i) []
+-- the text of all that is listed, from the root down
+abbrev pub listed_text : {A : Type 0} → (A → List ℕ) → (Node Counts → List A) → TreeState Counts → List ℕ
+listed_text line of_node s = flat_map (λ n. flat_map line (of_node n)) (every_node s.root)

@@ -11,11 +11,12 @@ ghost use Rattle.q_session.specs.Session.{opened, seen, IsShort};
 ghost use Rattle.q_show.specs.Writes.{MayWrite, WriteFailed};
 ghost use Rattle.q_show.specs.Written.{AppendsFront, IsBuffered};
 
-use crate::showing::{put_classes, put_filters, put_qdiscs};
+use crate::showing::{put_listed, put_qdiscs};
 use crate::text::{put_device, put_fault, put_lost, put_poll, put_refusal};
 use q_device::laws::device_is_lawful;
 use q_device::{Command, Device, Refusal, Settings};
 use q_line::{Arrival, Line, Object, Show, read_line};
+use q_model::{ClassView, FilterView};
 use q_packet::{FlowHash, Head, Moment, OneAtATime, Packet};
 use q_script::{Output, RunSettings, Session};
 use q_show::{Target, WriteFault};
@@ -51,7 +52,7 @@ impl Model for DeviceSession {
 }
 
 impl DeviceSession {
-    /// A session on a new device.
+    /// A session on a new device with these settings, which its recorder's length is one of.
     ///
     /// # Errors
     ///
@@ -197,8 +198,8 @@ impl DeviceSession {
         let tree = self.device.tree();
         match show.object {
             Object::Qdisc => put_qdiscs(tree, show.counters, output, target),
-            Object::Class => put_classes(tree, output, target),
-            Object::Filter => put_filters(tree, output, target),
+            Object::Class => put_listed::<ClassView, W>(tree, output, target),
+            Object::Filter => put_listed::<FilterView, W>(tree, output, target),
         }
     }
 

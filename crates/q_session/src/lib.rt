@@ -15,6 +15,7 @@
 #![tactic(auto)]
 
 mod device_session;
+mod listed;
 mod refusals;
 pub mod run;
 mod showing;

@@ -7,7 +7,7 @@ use Rattle.q_model.specs.Views.{views}
 use Rattle.q_report.specs.Text.{qdisc_text}
 use Rattle.q_script.proofs.OnErr.{on_err}
 use Rattle.q_tree.specs.TreeSeen.{tree_numbers}
-use Rattle.q_session.proofs.Listed.{few-views, text-first, text-none}
+use Rattle.q_session.proofs.ListedLemmas.{few-views, text-first, text-none}
 use Rattle.q_session.proofs.ShownNodes.{node-counted}
 use Rattle.q_session.proofs.Writing.{writing-end, writing-fails, writing-next, writing-start}
 use Rattle.q_session.proofs.showing.put_qdiscs.Goals as goal

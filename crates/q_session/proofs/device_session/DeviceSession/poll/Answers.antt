@@ -24,6 +24,7 @@ loop-init g c =
           (ap₂ (λ (n : ℕ) (x : SessionSeen). (polls totals n x.state).text) all (sym c.self.view_is))
           (writing-start held c.args.output.now (polls totals count c.args.self.now.state).text);
       state = ap₂ (λ (n : ℕ) (x : SessionSeen). (polls totals n x.state).session) all (sym c.self.view_is);
+      settings = ap (λ (x : SessionSeen). x.settings) c.self.view_is;
       seed = ap (λ (x : SessionSeen). x.seed) c.self.view_is;
       packets = ap (λ (x : SessionSeen). x.state.packets) c.self.view_is;
     }
@@ -50,6 +51,7 @@ loop-preserved g c =
           (poll_line c.poll.result) (polls totals fewer next).text
           c.loop.invariant.text c.in_ok-make_room.ensures.ok (poll-text fewer left s next c.poll.result (omega arith) is c.poll.ensures.reply) c.put_poll.ensures;
       state = c.loop.invariant.state ∙ poll-session fewer left s next c.poll.result (omega arith) is c.poll.ensures.reply;
+      settings = ap (λ (d : DeviceSeen). d.settings) c.poll.ensures.event ∙ c.loop.invariant.settings;
       seed = c.loop.invariant.seed;
       packets = c.loop.invariant.packets;
     }

@@ -16,6 +16,7 @@ invariant-loop g l =
       same_writer : l.target.writer.ghost_name ≡ l.fn.target.writer.ghost_name;
       text : Writing (contents l.fn.target.writer.now) (contents l.target.writer.now) l.fn.output l.output first.text rest.text;
       state : first.session ≡ rest.session;
+      settings : l.self-inside.device.settings ≡ l.fn.self.settings;
       seed : l.self-inside.seed ≡ l.fn.self.seed;
       packets : l.self-inside.packets ≡ l.fn.self.state.packets;
       going : MayWrite l.target.writes;

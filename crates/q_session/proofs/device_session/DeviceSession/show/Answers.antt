@@ -35,4 +35,4 @@ returns-in-Class-clause-err g c =
     ap (λ (t : TreeState Counts). flat_map (λ n. flat_map class_line (class_views n)) (every_node t.root)) c.tree-tree.ensures.numbers
     ∙ ap (λ (s : SessionSeen). flat_map (λ n. flat_map class_line (class_views n)) (every_node s.state.device.tree.root)) c.self.view_is
     ∙ sym (ap (λ (o : Object). show_text totals (record c.args.show { object = o }) c.args.self.now.state.device) c.in-Class.is) in
-    on_err_weaker c.put_classes.result (subst (λ (l : List ℕ). AppendsFront (g.W.Write.contents c.args.target.now.writer.now) (g.W.Write.contents c.put_classes.new.target.writer.now) (c.args.output.now ++ l)) text) c.put_classes.ensures.err
+    on_err_weaker c.put_listed.result (subst (λ (l : List ℕ). AppendsFront (g.W.Write.contents c.args.target.now.writer.now) (g.W.Write.contents c.put_listed.new.target.writer.now) (c.args.output.now ++ l)) text) c.put_listed.ensures.err

@@ -2,12 +2,10 @@ use Rattle.std.proofs.Common.{◌≡◌, ◌-◌, length}
 use Rattle.std.specs.Prelude.{drop}
 use Rattle.std.specs.List.{flat_map}
 use Rattle.q_model.specs.Conserved.{every_node}
-use Rattle.q_model.specs.Views.{class_views}
-use Rattle.q_report.specs.Text.{class_line}
 use Rattle.q_show.specs.Writes.{MayWrite}
 use Rattle.q_tree.specs.TreeSeen.{tree_numbers}
 use Rattle.q_session.proofs.Writing.{Writing}
-use Rattle.q_session.proofs.showing.put_classes.Given as goal
+use Rattle.q_session.proofs.showing.put_listed.Given as goal
 
 abbrev pub invariant-loop-output : goal.invariant-loop-output
 invariant-loop-output g l =
@@ -16,7 +14,7 @@ invariant-loop-output g l =
     record {
       same_writer : l.target.writer.ghost_name ≡ l.fn.target.writer.ghost_name;
       text : Writing (contents l.fn.target.writer.now) (contents l.target.writer.now) l.fn.output l.output
-          (flat_map (λ n. flat_map class_line (class_views n)) nodes) (flat_map (λ n. flat_map class_line (class_views n)) (drop l.i nodes));
+          (flat_map (λ n. flat_map g.L.Listed.line (g.L.Listed.of_node n)) nodes) (flat_map (λ n. flat_map g.L.Listed.line (g.L.Listed.of_node n)) (drop l.i nodes));
       going : MayWrite l.target.writes;
     }
 
