@@ -43,13 +43,6 @@ unsafe extern "C" {
         ends_len: usize,
         passes: u32,
     ) -> u64;
-    fn q_bench_read_whole_line(
-        text: *const u8,
-        text_len: usize,
-        ends: *const u32,
-        ends_len: usize,
-        passes: u32,
-    ) -> u64;
 }
 
 // SAFETY, of every call below: each pointer and length are those of one slice, which is borrowed for the call, and the
@@ -111,18 +104,6 @@ pub fn turn(classes: u16, quantum: u32, lens: &[u16], passes: u32) -> u64 {
 pub fn read_line(text: &[u8], ends: &[u32], passes: u32) -> u64 {
     unsafe {
         q_bench_read_line(
-            text.as_ptr(),
-            text.len(),
-            ends.as_ptr(),
-            ends.len(),
-            passes,
-        )
-    }
-}
-
-pub fn read_whole_line(text: &[u8], ends: &[u32], passes: u32) -> u64 {
-    unsafe {
-        q_bench_read_whole_line(
             text.as_ptr(),
             text.len(),
             ends.as_ptr(),

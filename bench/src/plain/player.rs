@@ -1,8 +1,8 @@
 //! What `qtree play` does with a script over one root pfifo, by the reader beside this module.
 
 use super::fifo::{Fifo, Limit, Packet, Stamped};
-use super::head::{Ecn, FlowKey};
-use super::line::{Command, Line, read_line};
+use super::head::{Ecn, FlowKey, one_at_a_time};
+use super::line::{Arrival, Command, Kind, Line, read_line};
 use std::io::{self, BufWriter, Read, Write};
 
 /// The limit of a pfifo where the line gives none, in packets.
@@ -33,24 +33,39 @@ pub fn play() -> io::Result<()> {
         match read_line(line) {
             Ok(Line::Blank) => {}
             Ok(Line::At(ns)) => device.at = ns,
-            Ok(Line::Tc(Command::QdiscAdd { limit, .. })) => {
+            Ok(Line::Tc(Command::QdiscAdd {
+                kind: Kind::Pfifo { limit },
+                ..
+            })) => {
                 device.limit = limit.unwrap_or(LIMIT).into();
             }
-            Ok(Line::Pkt { len }) => device.arrive(len).ok_or(io::ErrorKind::OutOfMemory)?,
+            Ok(Line::Pkt(arrival)) => {
+                device
+                    .arrive(&arrival)
+                    .ok_or(io::ErrorKind::OutOfMemory)?;
+            }
             Ok(Line::Poll(polls)) => {
                 for _ in 0..polls {
                     device.poll(&mut output)?;
                 }
             }
-            Ok(Line::Show { .. }) | Err(_) => return Err(io::ErrorKind::InvalidData.into()),
+            Ok(_) | Err(_) => return Err(io::ErrorKind::InvalidData.into()),
         }
     }
     output.flush()
 }
 
 impl Device {
-    fn arrive(&mut self, len: u16) -> Option<()> {
+    fn arrive(&mut self, arrival: &Arrival) -> Option<()> {
         self.packets += 1;
+        let key = FlowKey {
+            family: arrival.family,
+            proto: arrival.proto,
+            src: arrival.src,
+            dst: arrival.dst,
+            sport: arrival.sport,
+            dport: arrival.dport,
+        };
         self.latest = self.latest.max(self.at);
         if self.queue.count() >= self.limit {
             return Some(());
@@ -59,11 +74,11 @@ impl Device {
             port: 0,
             number: self.packets.into(),
             buf: self.packets,
-            len,
-            key: FlowKey::default(),
-            hash: 0,
-            prio: 0,
-            ecn: Ecn::NotEct,
+            len: arrival.len,
+            key,
+            hash: arrival.hash.unwrap_or_else(|| one_at_a_time(0, &key.bytes())),
+            prio: arrival.prio,
+            ecn: Ecn::from_bits(arrival.ecn),
         };
         let at = self.latest;
         self.queue.put(Stamped { packet, at })

@@ -11,7 +11,6 @@
 //! - [`spends`]: a token bucket.
 //! - [`turns`]: deficit round robin.
 //! - [`lines`]: reading the lines of a script.
-//! - [`language`]: reading the lines of the whole language.
 //!
 //! No contract says what a checksum is: the benchmark compares it with that of plain Rust. What is proved is that each
 //! workload keeps to the contracts of what it calls, for all inputs.
@@ -21,7 +20,6 @@ mod checksum;
 mod flows;
 mod gaps;
 mod heads;
-mod language;
 mod lines;
 mod queues;
 mod spends;

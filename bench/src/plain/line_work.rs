@@ -1,6 +1,6 @@
-//! The workload of `crates/q_bench/src/language.rt`, over the plain reader.
+//! The workload of `crates/q_bench/src/lines.rt`, over the plain reader.
 
-use super::language::{
+use super::line::{
     Arrival, ClassId, Command, FqCodel, Keys, Kind, Line, Place, Prefix, TbfLimit, bits,
     read_line as read,
 };
