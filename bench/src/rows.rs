@@ -2,7 +2,7 @@
 
 use crate::plain::line_work;
 use crate::plain::work::{self, FlowLoad};
-use crate::{inputs, rattle};
+use crate::{devices, inputs, rattle};
 use std::net::{Ipv4Addr, Ipv6Addr};
 
 /// A workload, run so many times over; answers its checksum.
@@ -45,6 +45,7 @@ pub fn all() -> Vec<Row> {
         rows.push(flows(count, "put at the limit, batches of 64", FULL, 64, false));
     }
     rows.extend(lines());
+    rows.extend(devices::all());
     rows
 }
 
@@ -230,14 +231,14 @@ fn flows(count: u32, name: &str, limit: u32, drop_batch: u32, takes: bool) -> Ro
 }
 
 fn read_line(name: &str, line: impl FnMut(&mut inputs::Xorshift) -> String) -> Row {
-    let (text, ends) = inputs::text(8192, line);
-    let (same_text, same_ends) = (text.clone(), ends.clone());
+    let lines = inputs::lines(8192, line);
+    let same = lines.clone();
     Row {
         name: format!("read_line, {name}"),
         unit: "line",
         ops: 8192,
         passes: 20,
-        rattle: Box::new(move |passes| rattle::read_line(&text, &ends, passes)),
-        plain: Box::new(move |passes| line_work::read_line(&same_text, &same_ends, passes)),
+        rattle: Box::new(move |passes| rattle::read_line(&lines, passes)),
+        plain: Box::new(move |passes| line_work::read_line(&same, passes)),
     }
 }

@@ -3,7 +3,11 @@
 pub mod active;
 pub mod bucket;
 pub mod codel;
+pub mod counters;
+pub mod device;
+pub mod device_work;
 pub mod fifo;
+pub mod filter;
 pub mod fq_codel;
 pub mod gap;
 pub mod head;
@@ -11,4 +15,6 @@ pub mod line;
 pub mod line_tc;
 pub mod line_work;
 pub mod player;
+pub mod setup;
+pub mod tree;
 pub mod work;
