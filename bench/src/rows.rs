@@ -45,11 +45,12 @@ pub fn all() -> Vec<Row> {
         rows.push(flows(count, "put at the limit, batches of 64", FULL, 64, false));
     }
     rows.extend(lines());
+    rows.extend(tc_lines());
     rows.extend(devices::all());
     rows
 }
 
-/// Lines of a script, each row of one kind.
+/// Packets and polls, each row of one kind.
 fn lines() -> Vec<Row> {
     vec![
         read_line("poll", |random| match random.below(2) {
@@ -67,6 +68,12 @@ fn lines() -> Vec<Row> {
             let destination = Ipv6Addr::from_bits(ipv6(random));
             packet(random, &source.to_string(), &destination.to_string())
         }),
+    ]
+}
+
+/// Lines of tc, each row of one kind.
+fn tc_lines() -> Vec<Row> {
+    vec![
         read_line("tc qdisc, pfifo", |random| {
             let (handle, limit) = (1 + random.below(0xfffe), random.below(100_000));
             format!("tc qdisc add dev eth0 root handle {handle:x}: pfifo limit {limit}")
