@@ -122,14 +122,50 @@ pub fn spends(rate: u64, burst: u32, brought: u64, count: usize) -> (Vec<u32>, V
     (waits, lens)
 }
 
-/// A text of lines without newlines, and where each ends.
-pub fn text(count: usize, mut line: impl FnMut(&mut Xorshift) -> String) -> (Vec<u8>, Vec<u32>) {
-    let mut random = Xorshift::new();
-    let mut text = Vec::new();
-    let mut ends = Vec::new();
-    for _ in 0..count {
-        text.extend(line(&mut random).bytes());
-        ends.push(text.len() as u32);
+/// Lines without newlines, and where each ends.
+#[derive(Clone)]
+pub struct Lines {
+    pub text: Vec<u8>,
+    pub ends: Vec<u32>,
+}
+
+impl Lines {
+    pub fn of(lines: &[String]) -> Lines {
+        let mut text = Vec::new();
+        let mut ends = Vec::new();
+        for line in lines {
+            text.extend(line.bytes());
+            ends.push(text.len() as u32);
+        }
+        Lines { text, ends }
     }
-    (text, ends)
+}
+
+/// So many lines of one kind.
+pub fn lines(count: usize, mut line: impl FnMut(&mut Xorshift) -> String) -> Lines {
+    let mut random = Xorshift::new();
+    let lines: Vec<String> = (0..count).map(|_| line(&mut random)).collect();
+    Lines::of(&lines)
+}
+
+/// Packets that arrive at a device: of each its hash, its priority and its port of destination.
+#[derive(Clone)]
+pub struct Plan {
+    pub hashes: Vec<u32>,
+    pub prios: Vec<u8>,
+    pub ports: Vec<u16>,
+}
+
+/// The first port of destination.
+pub const FIRST_PORT: u16 = 5000;
+
+/// Packets of each flow in turn, with a random priority and a random port of eight.
+pub fn plan(count: u32, flows: u32) -> Plan {
+    let mut random = Xorshift::new();
+    let mut random = |end| (random.next() >> 20) % end;
+    Plan {
+        hashes: (0..count).map(|number| number % flows).collect(),
+        prios: (0..count).map(|_| random(16) as u8).collect(),
+        ports: (0..count).map(|_| FIRST_PORT + random(8) as u16).collect(),
+    }
 }

@@ -1,5 +1,6 @@
 //! Times the crates of this repository beside plain Rust. `bench/run` builds and runs it.
 
+mod devices;
 mod inputs;
 mod plain;
 mod play;

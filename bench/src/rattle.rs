@@ -1,5 +1,6 @@
 //! The workloads of `crates/q_bench`, which `rt lib` builds as a static library.
 
+use crate::inputs::{Lines, Plan};
 use crate::plain::work::FlowLoad;
 
 // A slice crosses as a pointer and a length, and an allocator takes no room among the parameters. Nothing compares these
@@ -29,13 +30,7 @@ unsafe extern "C" {
         len: usize,
         passes: u32,
     ) -> u64;
-    fn q_bench_turn(
-        classes: u16,
-        quantum: u32,
-        lens: *const u16,
-        len: usize,
-        passes: u32,
-    ) -> u64;
+    fn q_bench_turn(classes: u16, quantum: u32, lens: *const u16, len: usize, passes: u32) -> u64;
     fn q_bench_read_line(
         text: *const u8,
         text_len: usize,
@@ -43,11 +38,18 @@ unsafe extern "C" {
         ends_len: usize,
         passes: u32,
     ) -> u64;
-    fn q_bench_read_whole_line(
+    fn q_bench_device(
         text: *const u8,
         text_len: usize,
         ends: *const u32,
         ends_len: usize,
+        queued: u32,
+        hashes: *const u32,
+        hashes_len: usize,
+        prios: *const u8,
+        prios_len: usize,
+        ports: *const u16,
+        ports_len: usize,
         passes: u32,
     ) -> u64;
 }
@@ -108,25 +110,32 @@ pub fn turn(classes: u16, quantum: u32, lens: &[u16], passes: u32) -> u64 {
     unsafe { q_bench_turn(classes, quantum, lens.as_ptr(), lens.len(), passes) }
 }
 
-pub fn read_line(text: &[u8], ends: &[u32], passes: u32) -> u64 {
+pub fn read_line(lines: &Lines, passes: u32) -> u64 {
     unsafe {
         q_bench_read_line(
-            text.as_ptr(),
-            text.len(),
-            ends.as_ptr(),
-            ends.len(),
+            lines.text.as_ptr(),
+            lines.text.len(),
+            lines.ends.as_ptr(),
+            lines.ends.len(),
             passes,
         )
     }
 }
 
-pub fn read_whole_line(text: &[u8], ends: &[u32], passes: u32) -> u64 {
+pub fn device(lines: &Lines, plan: &Plan, queued: u32, passes: u32) -> u64 {
     unsafe {
-        q_bench_read_whole_line(
-            text.as_ptr(),
-            text.len(),
-            ends.as_ptr(),
-            ends.len(),
+        q_bench_device(
+            lines.text.as_ptr(),
+            lines.text.len(),
+            lines.ends.as_ptr(),
+            lines.ends.len(),
+            queued,
+            plan.hashes.as_ptr(),
+            plan.hashes.len(),
+            plan.prios.as_ptr(),
+            plan.prios.len(),
+            plan.ports.as_ptr(),
+            plan.ports.len(),
             passes,
         )
     }

@@ -1,8 +1,8 @@
 //! The rows of the table: each is one workload, in Rattle and in plain Rust.
 
-use crate::plain::language_work;
+use crate::plain::line_work;
 use crate::plain::work::{self, FlowLoad};
-use crate::{inputs, rattle};
+use crate::{devices, inputs, rattle};
 use std::net::{Ipv4Addr, Ipv6Addr};
 
 /// A workload, run so many times over; answers its checksum.
@@ -44,47 +44,48 @@ pub fn all() -> Vec<Row> {
         rows.push(flows(count, "put at the limit", FULL, 1, false));
         rows.push(flows(count, "put at the limit, batches of 64", FULL, 64, false));
     }
-    rows.push(read_line("read_line, pkt", |random| {
-        format!("pkt {}", 60 + random.below(1454))
-    }));
-    rows.push(read_line("read_line, poll", |random| match random.below(2) {
-        0 => "poll".to_string(),
-        _ => format!("poll {}", 1 + random.below(100)),
-    }));
-    rows.push(read_line("read_line, tc", |random| {
-        let (handle, limit) = (1 + random.below(0xffff - 1), random.below(100_000));
-        format!("tc qdisc add dev eth0 root handle {handle:x}: pfifo limit {limit}")
-    }));
-    rows.extend(whole_language());
+    rows.extend(lines());
+    rows.extend(tc_lines());
+    rows.extend(devices::all());
     rows
 }
 
-/// Lines of the whole language, each of one kind.
-fn whole_language() -> Vec<Row> {
+/// Packets and polls, each row of one kind.
+fn lines() -> Vec<Row> {
     vec![
-        whole_line("pkt", |random| format!("pkt {}", 60 + random.below(1454))),
-        whole_line("pkt, all options, IPv4", |random| {
+        read_line("poll", |random| match random.below(2) {
+            0 => "poll".to_string(),
+            _ => format!("poll {}", 1 + random.below(100)),
+        }),
+        read_line("pkt", |random| format!("pkt {}", 60 + random.below(1454))),
+        read_line("pkt, all options, IPv4", |random| {
             let source = Ipv4Addr::from_bits(random.next() as u32);
             let destination = Ipv4Addr::from_bits(random.next() as u32);
             packet(random, &source.to_string(), &destination.to_string())
         }),
-        whole_line("pkt, all options, IPv6", |random| {
+        read_line("pkt, all options, IPv6", |random| {
             let source = Ipv6Addr::from_bits(ipv6(random));
             let destination = Ipv6Addr::from_bits(ipv6(random));
             packet(random, &source.to_string(), &destination.to_string())
         }),
-        whole_line("tc qdisc, pfifo", |random| {
+    ]
+}
+
+/// Lines of tc, each row of one kind.
+fn tc_lines() -> Vec<Row> {
+    vec![
+        read_line("tc qdisc, pfifo", |random| {
             let (handle, limit) = (1 + random.below(0xfffe), random.below(100_000));
             format!("tc qdisc add dev eth0 root handle {handle:x}: pfifo limit {limit}")
         }),
-        whole_line("tc qdisc, tbf", |random| {
+        read_line("tc qdisc, tbf", |random| {
             let (handle, rate) = (1 + random.below(0xfffe), 1 + random.below(1000));
             let (burst, latency) = (1 + random.below(1000), random.below(1000));
             format!(
                 "tc qdisc add dev eth0 root handle {handle:x}: tbf rate {rate}mbit burst {burst}kb latency {latency}ms"
             )
         }),
-        whole_line("tc qdisc, fq_codel", |random| {
+        read_line("tc qdisc, fq_codel", |random| {
             let (minor, handle) = (1 + random.below(0xffff), 1 + random.below(0xfffe));
             let (limit, flows) = (1 + random.below(100_000), 1 + random.below(65536));
             let (target, interval) = (random.below(100), 1 + random.below(1000));
@@ -93,7 +94,7 @@ fn whole_language() -> Vec<Row> {
                  quantum 1514 target {target}ms interval {interval}ms noecn drop_batch 64"
             )
         }),
-        whole_line("tc filter", |random| {
+        read_line("tc filter", |random| {
             let source = Ipv4Addr::from_bits(random.next() as u32);
             let (prio, len) = (1 + random.below(0xffff), random.below(33));
             let (port, minor) = (random.below(0x10000), 1 + random.below(0xffff));
@@ -236,28 +237,15 @@ fn flows(count: u32, name: &str, limit: u32, drop_batch: u32, takes: bool) -> Ro
     }
 }
 
-fn whole_line(name: &str, line: impl FnMut(&mut inputs::Xorshift) -> String) -> Row {
-    let (text, ends) = inputs::text(8192, line);
-    let (same_text, same_ends) = (text.clone(), ends.clone());
-    Row {
-        name: format!("whole language, {name}"),
-        unit: "line",
-        ops: 8192,
-        passes: 20,
-        rattle: Box::new(move |passes| rattle::read_whole_line(&text, &ends, passes)),
-        plain: Box::new(move |passes| language_work::read_line(&same_text, &same_ends, passes)),
-    }
-}
-
 fn read_line(name: &str, line: impl FnMut(&mut inputs::Xorshift) -> String) -> Row {
-    let (text, ends) = inputs::text(8192, line);
-    let (same_text, same_ends) = (text.clone(), ends.clone());
+    let lines = inputs::lines(8192, line);
+    let same = lines.clone();
     Row {
-        name: name.to_string(),
+        name: format!("read_line, {name}"),
         unit: "line",
         ops: 8192,
         passes: 20,
-        rattle: Box::new(move |passes| rattle::read_line(&text, &ends, passes)),
-        plain: Box::new(move |passes| work::read_line(&same_text, &same_ends, passes)),
+        rattle: Box::new(move |passes| rattle::read_line(&lines, passes)),
+        plain: Box::new(move |passes| line_work::read_line(&same, passes)),
     }
 }

@@ -48,6 +48,19 @@ impl Active {
         }
     }
 
+    pub fn sleep(&mut self, class: u16) {
+        let state = &mut self.classes[usize::from(class)];
+        if !state.is_active {
+            return;
+        }
+        state.is_active = false;
+        if self.order.front() == Some(&class) {
+            self.order.pop_front();
+        } else {
+            self.order.retain(|other| *other != class);
+        }
+    }
+
     pub fn front(&self) -> Option<u16> {
         self.order.front().copied()
     }

@@ -23,7 +23,6 @@ impl Queue for Fifo {
 
 pub struct Taken {
     pub packet: Packet,
-    #[allow(dead_code, reason = "the checksum does not have it")]
     pub marked: bool,
 }
 

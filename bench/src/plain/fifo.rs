@@ -21,7 +21,6 @@ pub struct Stamped {
 
 pub enum Limit {
     Packets(u64),
-    #[allow(dead_code, reason = "a fifo of bytes is not timed")]
     Bytes(u64),
 }
 
@@ -40,7 +39,7 @@ impl Fifo {
         }
     }
 
-    fn fits(&self, len: u16) -> bool {
+    pub fn fits(&self, len: u16) -> bool {
         match self.limit {
             Limit::Packets(most) => (self.packets.len() as u64) < most,
             Limit::Bytes(most) => self.bytes + u64::from(len) <= most,
@@ -50,13 +49,29 @@ impl Fifo {
     /// `None` where memory is refused or the limit is reached.
     #[inline(always)]
     pub fn put(&mut self, stamped: Stamped) -> Option<()> {
-        self.packets.try_reserve(1).ok()?;
+        self.reserve()?;
         if !self.fits(stamped.packet.len) {
             return None;
         }
+        self.push(stamped);
+        Some(())
+    }
+
+    /// `None` where memory is refused.
+    #[inline(always)]
+    pub fn reserve(&mut self) -> Option<()> {
+        self.packets.try_reserve(1).ok()
+    }
+
+    #[inline(always)]
+    pub fn push(&mut self, stamped: Stamped) {
         self.bytes += u64::from(stamped.packet.len);
         self.packets.push_back(stamped);
-        Some(())
+    }
+
+    #[inline(always)]
+    pub fn head(&self) -> Option<&Stamped> {
+        self.packets.front()
     }
 
     #[inline(always)]

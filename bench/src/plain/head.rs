@@ -30,6 +30,18 @@ pub enum Ecn {
     Ce,
 }
 
+impl Ecn {
+    /// The codepoint in the low two bits.
+    pub fn from_bits(traffic: u8) -> Ecn {
+        match traffic & 3 {
+            0 => Ecn::NotEct,
+            1 => Ecn::Ect1,
+            2 => Ecn::Ect0,
+            _ => Ecn::Ce,
+        }
+    }
+}
+
 #[derive(Clone, Copy, Default)]
 pub struct Head {
     pub key: FlowKey,
@@ -98,13 +110,8 @@ fn read_ports(proto: u8, payload: &[u8]) -> (u16, u16) {
 const PRIO: [u8; 16] = [0, 0, 0, 0, 2, 2, 2, 2, 6, 6, 6, 6, 4, 4, 4, 4];
 
 fn head_of(key: FlowKey, traffic: u8) -> Head {
-    let ecn = match traffic & 3 {
-        0 => Ecn::NotEct,
-        1 => Ecn::Ect1,
-        2 => Ecn::Ect0,
-        _ => Ecn::Ce,
-    };
     let prio = PRIO[usize::from(traffic >> 1 & 0x0f)];
+    let ecn = Ecn::from_bits(traffic);
     Head { key, prio, ecn }
 }
 

@@ -7,7 +7,6 @@ use super::fifo::{Fifo, Limit, Packet, Stamped};
 use super::fq_codel::{FqCodel, Settings};
 use super::gap;
 use super::head::{Ecn, FlowKey, Head, one_at_a_time, read_head as read};
-use super::line::{Command, Line, read_line as read_words};
 use std::collections::VecDeque;
 
 /// The latest moment, in nanoseconds.
@@ -192,39 +191,6 @@ pub fn turn(classes: u16, quantum: u32, lens: &[u16], passes: u32) -> u64 {
         }
     }
     sum
-}
-
-#[inline(never)]
-pub fn read_line(text: &[u8], ends: &[u32], passes: u32) -> u64 {
-    let mut sum = 0;
-    for _ in 0..passes {
-        let mut start = 0;
-        for end in ends {
-            let end = *end as usize;
-            let Some(line) = text.get(start..end) else {
-                return 0;
-            };
-            sum = with(sum, said(line));
-            start = end;
-        }
-    }
-    sum
-}
-
-fn said(line: &[u8]) -> u64 {
-    match read_words(line) {
-        Ok(Line::At(ns)) => ns,
-        Ok(Line::Pkt { len }) => 1 << 60 | u64::from(len),
-        Ok(Line::Poll(polls)) => 2 << 60 | u64::from(polls),
-        Ok(Line::Tc(Command::QdiscAdd {
-            handle: Some(handle),
-            limit: Some(limit),
-        })) => 3 << 60 | u64::from(handle) << 32 | u64::from(limit),
-        Ok(Line::Tc(_)) => 7 << 60,
-        Ok(Line::Show { counters }) => 4 << 60 | u64::from(counters),
-        Ok(Line::Blank) => 5 << 60,
-        Err(_) => 6 << 60,
-    }
 }
 
 /// Packets into an fq_codel that holds `queued` before, and one taken after each with `takes`.

@@ -11,17 +11,17 @@
 //! - [`spends`]: a token bucket.
 //! - [`turns`]: deficit round robin.
 //! - [`lines`]: reading the lines of a script.
-//! - [`language`]: reading the lines of the whole language.
+//! - [`devices`]: arrivals and polls of a device, whose tree lines of tc set up.
 //!
 //! No contract says what a checksum is: the benchmark compares it with that of plain Rust. What is proved is that each
 //! workload keeps to the contracts of what it calls, for all inputs.
 #![tactic(auto)]
 
 mod checksum;
+mod devices;
 mod flows;
 mod gaps;
 mod heads;
-mod language;
 mod lines;
 mod queues;
 mod spends;

@@ -1,18 +1,19 @@
-//! The workload of `crates/q_bench/src/language.rt`, over the plain reader.
+//! The workload of `crates/q_bench/src/lines.rt`, over the plain reader.
 
-use super::language::{
+use super::line::{
     Arrival, ClassId, Command, FqCodel, Keys, Kind, Line, Place, Prefix, TbfLimit, bits,
     read_line as read,
 };
+use crate::inputs::Lines;
 
 #[inline(never)]
-pub fn read_line(text: &[u8], ends: &[u32], passes: u32) -> u64 {
+pub fn read_line(lines: &Lines, passes: u32) -> u64 {
     let mut sum: u64 = 0;
     for _ in 0..passes {
         let mut start = 0;
-        for end in ends {
+        for end in &lines.ends {
             let end = *end as usize;
-            let Some(line) = text.get(start..end) else {
+            let Some(line) = lines.text.get(start..end) else {
                 return 0;
             };
             sum = sum.rotate_left(5).wrapping_add(said(line));

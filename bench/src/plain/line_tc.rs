@@ -1,6 +1,6 @@
 //! The `tc` lines of the language.
 
-use super::language::{
+use super::line::{
     ClassId, Command, Fault, FqCodel, Keys, Kind, Line, Object, Place, Protocol, TbfLimit, Words,
 };
 
