@@ -1,7 +1,9 @@
 pub mod Adding
 pub mod Boards
 pub mod CollectLemmas
+pub mod DriveLemmas
 pub mod EventLemmas
+pub mod OfferLemmas
 pub mod PollLemmas
 pub mod Prefixes
 pub mod RingLemmas

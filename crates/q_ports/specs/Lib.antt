@@ -1,6 +1,8 @@
 pub mod Collected
+pub mod Driven
 pub mod Events
 pub mod Held
+pub mod Offered
 pub mod Placed
 pub mod Polls
 pub mod Rings

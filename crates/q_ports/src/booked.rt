@@ -1,17 +1,18 @@
-ghost use Rattle.std.specs.Prelude.{◌≡◌, ◌≤◌, ◌<◌, IsOk, IfOk, OnOk, OnErr, IfErr, slice_get};
+ghost use Rattle.std.specs.Prelude.{◌≡◌, ◌≤◌, ◌<◌, Ok, IsOk, IfOk, OnOk, OnErr, IfErr, slice_get};
 ghost use Rattle.q_model.specs.Conserved.{IsBalanced};
 ghost use Rattle.q_model.specs.Tally.{no_totals};
 ghost use Rattle.q_model.specs.TreeState.{stats};
 ghost use Rattle.q_model.specs.Tally.{totals};
 ghost use Rattle.q_model.specs.declared.event.Event.TheVariants as event;
 ghost use Rattle.q_model.specs.declared.reply.Reply.TheVariants as reply;
-ghost use Rattle.q_device.specs.DeviceSeen.{polled_memory, reaped, HasRoomFor};
+ghost use Rattle.q_device.specs.DeviceSeen.{polled_memory, reaped, HasRoomFor, IsRefusal};
+ghost use Rattle.q_tree.specs.Commanding.{MayTakeMemory};
 ghost use Rattle.q_ports.specs.Events.{after_event, device_row, reply_to, with_memory};
 ghost use Rattle.q_ports.specs.Held.{booking, held};
 
 use crate::seat::Seat;
 use q_device::laws::device_is_lawful;
-use q_device::{Device, Event, Fate, Lost, Place, Polled, Row};
+use q_device::{Command, Device, Event, Fate, Lost, Place, Polled, Refusal, Row};
 use q_packet::{Moment, Packet};
 use std::alloc::AllocError;
 use std::marker::Model;
@@ -100,6 +101,23 @@ impl<P: Ledger, B: Ledger> Booked<P, B> {
         ensures reply { reply.Polled result ≡ reply_to (event.Poll now) self.old }
     {
         self.device.poll(now)
+    }
+
+    /// Does what a line of tc asks for, or refuses it, as [`Device::command`]. Nothing arrives by it.
+    ///
+    /// # Errors
+    ///
+    /// Those of [`Device::command`]: the first refusal of the command that holds, or want of memory. Nothing has changed then.
+    pub fn command(&mut self, command: Command, now: Moment) -> Result<(), Refusal>
+        ensures event { OnOk result (self.new ≡ with_memory self.new.memory (after_event (event.Command command now) self.old)) }
+        ensures reply { OnOk result (reply.Done (Ok (record {})) ≡ reply_to (event.Command command now) self.old) }
+        ensures refused { IfErr result (IsRefusal (MayTakeMemory command) (reply_to (event.Command command now) self.old)) }
+        ensures same { OnErr result (self.new ≡ self.old) }
+        ensures places { self.new.memory.losses ≡ self.old.memory.losses }
+        ensures recorder { self.new.memory.events ≡ self.old.memory.events }
+        ensures arrived { self.new.device.tree.top.arrived ≡ self.old.device.tree.top.arrived }
+    {
+        self.device.command(command, now)
     }
 
     /// The oldest loss that was not handed out yet, as [`Device::reap`]. It takes no memory and is no event.

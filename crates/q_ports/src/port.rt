@@ -76,6 +76,13 @@ impl Port {
         Ok(())
     }
 
+    /// Its index among the drain's ports, from 0.
+    pub(crate) fn index(&self) -> u32
+        ensures { result ≡ self.now.index }
+    {
+        self.index
+    }
+
     // Looks at the ring with both ends in hand: all that was placed and not received is then known to wait.
     pub(crate) fn look(&mut self, ring: &mut Consumer<Packet>)
         requires { ring_of_port self.old ≡ ring_at ring.old }

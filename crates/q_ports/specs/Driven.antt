@@ -1,0 +1,45 @@
+-- What driving does: a sender for each port offers its load, while the drain takes turns.
+-- Nothing here is of a standard.
+use Rattle.std.specs.Prelude.{◌≡◌, ◌⊎◌, ℕ, ◌<◌, ◌^◌, List, [], length, map, sum_by, get_or, Vec}
+use Rattle.std.specs.declared.alloc.Global.{Global}
+use Rattle.core.specs.declared.thread.PromisedHandle.{PromisedHandle}
+use Rattle.q_packet.specs.Descriptor.{Descriptor}
+use Rattle.q_model.specs.declared.totals.Totals.{Totals}
+use Rattle.q_ports.specs.declared.sender.Sends.{Sends}
+use Rattle.q_ports.specs.declared.sender.Sent.{Sent}
+use Rattle.q_ports.specs.Offered.{Offered}
+use Rattle.q_ports.specs.Placed.{PortSeen, placed_by, ring_of_port, share_of}
+use Rattle.q_ports.specs.Rings.{RingSeen, ring_id}
+
+abbrev pub promised_port : PromisedHandle Sent Sends → PortSeen
+promised_port h = h.promise.port.value
+
+-- the packets of a load
+abbrev pub packets_of : Vec Descriptor Global → List Descriptor
+packets_of load = load.items
+
+abbrev pub promised_load : PromisedHandle Sent Sends → List Descriptor
+promised_load h = packets_of h.promise.load.value
+
+abbrev pub port_in : Sent → PortSeen
+port_in s = s.port
+
+abbrev pub rest_of : Sent → ℕ
+rest_of s = s.given_up
+
+-- for each port and its load, what its sender handed back
+pub record Drove (before : List PortSeen) (loads : List (List Descriptor)) (after : List Sent) : Type 0 where
+  pub count : length after ≡ length before
+  pub each : (k : ℕ) (p : PortSeen) (s : Sent) → k < length after → Offered (get_or before k p) (get_or loads k []) (get_or after k s).port (get_or after k s).given_up
+
+-- The senders handed back these, the settled share is over what their ports placed, and so many packets were given up in all, where
+-- their number can be counted.
+pub record HasDriven (before : List PortSeen) (loads : List (List Descriptor)) (share : Totals) (given_up : ℕ) : Type 0 where
+  pub after : List Sent
+  pub drove : Drove before loads after
+  pub settled : share ≡ share_of (map placed_by (map port_in after))
+  pub rest : sum_by rest_of after < 2 ^ 64 → given_up ≡ sum_by rest_of after
+
+-- the ports are those of the rings, as settling wants them, or there are none
+abbrev pub MaySettle : List RingSeen → List PortSeen → Type 0
+MaySettle rings ports = (ports ≡ []) ⊎ (map ring_of_port ports ≡ map ring_id rings)

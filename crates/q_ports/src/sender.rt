@@ -1,0 +1,63 @@
+ghost use Rattle.std.specs.Prelude.{◌≡◌, ◌≤◌};
+ghost use Rattle.q_ports.specs.Offered.{Offered, OffersOne};
+
+use crate::full::Full;
+use crate::gate::Gate;
+use crate::port::Port;
+use q_packet::Packet;
+use std::snapshot::Snapshot;
+use std::thread;
+use std::thread::Promise;
+
+/// What a sender hands back: its port, and how many packets of its load the port did not take.
+#[derive(Drop)]
+pub struct Sent {
+    pub port: Port,
+    pub given_up: u64,
+}
+
+/// What a sender promises: each packet of the load was offered at the port, in order.
+#[derive(Drop)]
+pub struct Sends {
+    pub port: Snapshot<Port>,
+    pub load: Snapshot<Vec<Packet>>,
+}
+
+impl Promise<Sent> for Sends {
+    ghost use Rattle.q_ports.specs.Offered.{Offered};
+
+    ghost kept_by = { λ p r. Offered p.port.value p.load.value.items r.port r.given_up };
+}
+
+/// Offers a load at a port, in order, each packet at most `tries` times.
+pub(crate) fn send<G: Gate>(port: Port, load: Vec<Packet>, gate: &G, tries: u64) -> Sent
+    ensures { Offered port load.items result.port result.given_up }
+{
+    let mut port = port;
+    let mut given_up = 0u64;
+    let mut nth = 0u64;
+    for packet in &load {
+        nth = nth.saturating_add(1);
+        given_up += offer_one(&mut port, *packet, gate, nth, tries);
+    }
+    Sent { port, given_up }
+}
+
+// Offers a packet, and answers how many were given up: none where it was placed, else one.
+fn offer_one<G: Gate>(port: &mut Port, packet: Packet, gate: &G, nth: u64, tries: u64) -> u64
+    ensures offered { OffersOne port.old packet port.new result }
+    ensures few { result ≤ 1 }
+{
+    let index = port.index();
+    gate.before_offer(index, nth);
+    for _try in 0..tries {
+        match port.offer(packet) {
+            Ok(()) => {
+                gate.after_offer(index, nth);
+                return 0;
+            }
+            Err(Full(_)) => thread::yield_now(),
+        }
+    }
+    1
+}
