@@ -39,10 +39,8 @@ unsafe extern "C" {
         passes: u32,
     ) -> u64;
     fn q_bench_device(
-        text: *const u8,
-        text_len: usize,
-        ends: *const u32,
-        ends_len: usize,
+        shape: u32,
+        flows: u32,
         queued: u32,
         hashes: *const u32,
         hashes_len: usize,
@@ -52,6 +50,17 @@ unsafe extern "C" {
         ports_len: usize,
         passes: u32,
     ) -> u64;
+}
+
+/// The trees of `crates/q_bench/src/trees.rt`, by the same numbers.
+#[derive(Clone, Copy)]
+pub enum Shape {
+    Pfifo = 0,
+    Prio = 1,
+    Tbf = 2,
+    DrrOfPfifos = 3,
+    FqCodel = 4,
+    DrrOfFqCodels = 5,
 }
 
 // SAFETY, of every call below: each pointer and length are those of one slice, which is borrowed for the call, and the
@@ -122,13 +131,11 @@ pub fn read_line(lines: &Lines, passes: u32) -> u64 {
     }
 }
 
-pub fn device(lines: &Lines, plan: &Plan, queued: u32, passes: u32) -> u64 {
+pub fn device(shape: Shape, flows: u32, plan: &Plan, queued: u32, passes: u32) -> u64 {
     unsafe {
         q_bench_device(
-            lines.text.as_ptr(),
-            lines.text.len(),
-            lines.ends.as_ptr(),
-            lines.ends.len(),
+            shape as u32,
+            flows,
             queued,
             plan.hashes.as_ptr(),
             plan.hashes.len(),

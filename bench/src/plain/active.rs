@@ -38,6 +38,7 @@ impl Active {
         self.classes[index].quantum = quantum;
     }
 
+    #[inline(always)]
     pub fn wake(&mut self, class: u16) {
         let state = &mut self.classes[usize::from(class)];
         if !state.is_active {
@@ -61,10 +62,12 @@ impl Active {
         }
     }
 
+    #[inline(always)]
     pub fn front(&self) -> Option<u16> {
         self.order.front().copied()
     }
 
+    #[inline(always)]
     pub fn turn(&mut self, head_len: u16) -> Turn {
         self.turns = self.turns.saturating_add(1);
         let class = self.order[0];

@@ -1,6 +1,6 @@
 use crate::checksum;
+use crate::trees::{Shape, set_up};
 use q_device::{Device, Fate, Polled, Row, Settings, Totals};
-use q_line::{Line, read_line};
 use q_model::{ClassId, Handle, Minor, Place};
 use q_packet::{Ecn, FlowKey, Moment, Packet};
 use std::alloc::Global;
@@ -37,14 +37,13 @@ impl<'a> Plan<'a> {
     }
 }
 
-/// Opens a device, does these lines of tc there, and lets the first `queued` packets of the plan arrive. Then each of its
-/// packets arrives and the device is polled after it, so many times over. A line ends before the byte at its place in
-/// `ends`, where the next begins.
+/// Opens a device, sets this tree up there, and lets the first `queued` packets of the plan arrive. Then each of its
+/// packets arrives and the device is polled after it, so many times over.
 #[unsafe(no_mangle)]
 pub extern "C" fn q_bench_device(
     alloc: Global,
-    lines: &[u8],
-    ends: &[u32],
+    shape: u32,
+    flows: u32,
     queued: u32,
     hashes: &[u32],
     prios: &[u8],
@@ -57,7 +56,10 @@ pub extern "C" fn q_bench_device(
     let Ok(mut device) = Device::open(alloc, settings) else {
         return 0;
     };
-    if set_up(&mut device, lines, ends).is_none() {
+    let Some(shape) = Shape::of(shape) else {
+        return 0;
+    };
+    if set_up(&mut device, shape, flows).is_none() {
         return 0;
     }
     let plan = Plan {
@@ -66,24 +68,6 @@ pub extern "C" fn q_bench_device(
         ports,
     };
     pass_through(&mut device, plan, queued, passes).unwrap_or(0)
-}
-
-fn set_up(device: &mut Device, lines: &[u8], ends: &[u32]) -> Option<()> {
-    let mut start = 0;
-    for end in ends {
-        let end = *end as usize;
-        if start > end || end > lines.len() {
-            return None;
-        }
-        let Ok(Line::Tc(command)) = read_line(&lines[start..end]) else {
-            return None;
-        };
-        if device.command(command, Moment::zero()).is_err() {
-            return None;
-        }
-        start = end;
-    }
-    Some(())
 }
 
 fn pass_through(device: &mut Device, plan: Plan, queued: u32, passes: u32) -> Option<u64> {

@@ -11,7 +11,7 @@
 //! - [`spends`]: a token bucket.
 //! - [`turns`]: deficit round robin.
 //! - [`lines`]: reading the lines of a script.
-//! - [`devices`]: arrivals and polls of a device, whose tree lines of tc set up.
+//! - [`devices`]: arrivals and polls of a device, over the trees of [`trees`].
 //!
 //! No contract says what a checksum is: the benchmark compares it with that of plain Rust. What is proved is that each
 //! workload keeps to the contracts of what it calls, for all inputs.
@@ -25,4 +25,5 @@ mod heads;
 mod lines;
 mod queues;
 mod spends;
+mod trees;
 mod turns;
