@@ -11,7 +11,7 @@ use std::test::Fail;
 fn words(alloc: Global, line: &str) -> Result<Vec<String>, Fail> {
     let mut words = Vec::new(alloc);
     for word in line.split(' ') {
-        words.push(String::from(alloc, word)?)?;
+        words.push(String::from_str(alloc, word)?)?;
     }
     Ok(words)
 }

@@ -1,5 +1,6 @@
 //! Runs whose reader or writer is slow or fails.
 use crate::runs::{TWO_OF_THREE, TWO_OF_THREE_REPORT};
+use q_options::play;
 use q_script::{MAX_LENGTH, Outcome, RunFault, RunSettings};
 use q_session::run::run;
 use std::alloc::Global;
@@ -204,4 +205,47 @@ fn writers_that_are_full(rt: HostRuntime) -> Result<(), Fail> {
         assert_front(&rt, alloc, b"poll 20000", report.as_slice(), room, true);
     }
     Ok(())
+}
+
+#[test]
+fn failures_are_told(rt: HostRuntime) {
+    let alloc = rt.alloc();
+    let mut reader = Slow::new(TWO_OF_THREE, 0, 10);
+    reader.failing = Some(2);
+    let (mut written, mut errors) = (Vec::new(alloc), Vec::new(alloc));
+    let status = play(
+        alloc,
+        RunSettings::defaults(),
+        &mut reader,
+        &mut written,
+        &mut errors,
+    );
+    assert_eq!(rt; status, 2);
+    assert!(rt; written.is_empty());
+    assert_eq!(rt;
+        errors.as_slice(),
+        "qtree: the script cannot be read: connection reset\n".as_bytes()
+    );
+
+    for (fails, told) in [
+        (true, "qtree: the report cannot be written: broken pipe\n"),
+        (false, "qtree: the report cannot be written: write zero\n"),
+    ] {
+        let mut reader = TWO_OF_THREE;
+        let mut writer = Narrow {
+            written: Vec::new(alloc),
+            room: 10,
+            fails,
+        };
+        let mut errors = Vec::new(alloc);
+        let status = play(
+            alloc,
+            RunSettings::defaults(),
+            &mut reader,
+            &mut writer,
+            &mut errors,
+        );
+        assert_eq!(rt; status, 2);
+        assert_eq!(rt; errors.as_slice(), told.as_bytes());
+    }
 }
