@@ -92,7 +92,7 @@ impl Write for Narrow {
 /// The kind of the read that failed, where one did.
 fn failed_read(told: Result<Outcome, RunFault>) -> Option<ErrorKind> {
     match told {
-        Err(RunFault::Read(failed)) => Some(failed.kind()),
+        Err(RunFault::Read(kind)) => Some(kind),
         _ => None,
     }
 }
@@ -180,7 +180,12 @@ fn assert_front(
         fails,
     };
     let told = run(alloc, &mut reader, &mut writer, RunSettings::defaults());
-    assert_eq!(rt; told, Err(RunFault::Write), "room for {room} bytes");
+    let kind = if fails {
+        ErrorKind::BrokenPipe
+    } else {
+        ErrorKind::WriteZero
+    };
+    assert_eq!(rt; told, Err(RunFault::Write(kind)), "room for {room} bytes");
     assert!(rt;
         Some(writer.written.as_slice()) == report.get(..room),
         "room for {room} bytes"
