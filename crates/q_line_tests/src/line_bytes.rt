@@ -10,14 +10,23 @@ fn words_of_any_bytes(rt: HostRuntime) {
         (b"pkt 1\0", BadNumber(2)),
         (b"pkt\x0b1", UnknownWord(1)),
         (b"p\xc3\xa9", UnknownWord(1)),
-        (b"pkt 1234567890123456789012345678901234567890", OutOfRange(2)),
-        (b"pkt 123456789012345678901234567890123456789x", BadNumber(2)),
+        (
+            b"pkt 1234567890123456789012345678901234567890",
+            OutOfRange(2),
+        ),
+        (
+            b"pkt 123456789012345678901234567890123456789x",
+            BadNumber(2),
+        ),
         (b"pkt 18446744073709551616", OutOfRange(2)),
     ];
     for (line, fault) in rows {
         assert_eq!(rt; fault_in(line), Some(*fault), "{line:?}");
     }
-    assert_eq!(rt; fault_in(b"pkt 0000000000000000000000000000000000000007"), None);
+    assert_eq!(rt;
+        fault_in(b"pkt 0000000000000000000000000000000000000007"),
+        None
+    );
 }
 
 #[test]

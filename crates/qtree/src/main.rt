@@ -11,7 +11,13 @@ use std::{env, io};
 
 fn main(rt: HostRuntime) -> ExitCode {
     let (mut output, mut errors) = (io::writer(&rt), rt.stderr());
-    ExitCode::from(answer(rt.alloc(), words(&rt), &mut rt.reader(), &mut output, &mut errors))
+    ExitCode::from(answer(
+        rt.alloc(),
+        words(&rt),
+        &mut rt.reader(),
+        &mut output,
+        &mut errors,
+    ))
 }
 
 /// The words of the command line, the program's name first.
