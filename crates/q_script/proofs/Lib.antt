@@ -1,4 +1,3 @@
-pub mod FaultLemmas
 pub mod LinesLemmas
 pub mod OnErr
 pub mod Playing

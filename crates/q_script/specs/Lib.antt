@@ -1,3 +1,4 @@
+pub mod Ended
 pub mod Lengths
 pub mod Reads
 pub mod RunFault

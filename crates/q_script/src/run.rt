@@ -1,7 +1,8 @@
-ghost use Rattle.std.specs.Prelude.{◌≡◌, ◌≤◌, ◌<◌, ◌+◌, ◌^◌, [], length, IfOk, IfErr, IfSome, OnOk, OnErr, Some, Err};
+ghost use Rattle.std.specs.Prelude.{◌≡◌, ◌≤◌, ◌<◌, ◌+◌, ◌^◌, [], length, IfOk, IfErr, IfSome, OnOk, OnErr, Err};
 ghost use Rattle.std.specs.Io.KnownBytes.{Keeps};
 ghost use Rattle.q_show.specs.Writes.{no_writes, MayWrite, WriteFailed};
-ghost use Rattle.q_script.specs.Reads.{no_reads, MayRead, IsReadWhole, ReadFailed};
+ghost use Rattle.q_script.specs.Ended.{Ended};
+ghost use Rattle.q_script.specs.Reads.{no_reads};
 ghost use Rattle.q_script.specs.Step.{IsRun, IsPartlyRun, IsWholeRun};
 
 use crate::lines::split_line;
@@ -71,21 +72,11 @@ pub fn run_between<R: Read, W: Write, S: Session>(
     ensures partly { (kind : ErrorKind) → result ≡ Err (RunFault.Write kind) → IfSome (R.remaining source.old.reader.now) (λ script.
         IsPartlyRun S.effect script session.old (W.contents target.old.writer.now) (W.contents target.new.writer.now)) }
 
-    // What the reads and writes came to.
-    ensures few_reads { source.new.reads.count ≤ 16777218 }
-    ensures ok_read { OnOk result (IsReadWhole source.new.reads) }
-    ensures ok_written { OnOk result (MayWrite target.new.writes) }
-    ensures read { (kind : ErrorKind) → result ≡ Err (RunFault.Read kind) → ReadFailed source.new.reads kind }
+    // What the reads and writes came to, and what was written where no report was.
+    ensures ended { Ended result source.new.reads target.new.writes }
     ensures read_unwritten { (kind : ErrorKind) → result ≡ Err (RunFault.Read kind) → target.new ≡ target.old }
-    ensures too_long { result ≡ Err RunFault.TooLong → MayRead source.new.reads }
     ensures too_long_unwritten { result ≡ Err RunFault.TooLong → target.new ≡ target.old }
-    ensures memory { result ≡ Err RunFault.Memory → source.new.reads.failure ≡ None }
     ensures memory_unwritten { result ≡ Err RunFault.Memory → target.new ≡ target.old }
-    ensures write { (kind : ErrorKind) → result ≡ Err (RunFault.Write kind) → WriteFailed target.new.writes kind }
-    ensures write_read { (kind : ErrorKind) → result ≡ Err (RunFault.Write kind) → IsReadWhole source.new.reads }
-    // No failure is told as something else.
-    ensures failed_read { (kind : ErrorKind) → source.new.reads.failure ≡ Some kind → result ≡ Err (RunFault.Read kind) }
-    ensures failed_write { (kind : ErrorKind) → WriteFailed target.new.writes kind → result ≡ Err (RunFault.Write kind) }
 {
     let script = match read_script(alloc, source) {
         Ok(script) => script,
