@@ -9,7 +9,7 @@ use crate::head_draft::HeadDraft;
 use crate::line::Line;
 use crate::words::Words;
 use q_model::{Command, Quantum};
-use q_words::{LineFault, class, handle, name, size};
+use q_words::{LineFault, class, handle, name, read_size};
 
 /// Behind `class add`, `change` or `del`: the head, then the kind.
 pub fn class_head(words: &mut Words, verb: ClassVerb) -> Result<Line, LineFault>
@@ -19,19 +19,16 @@ pub fn class_head(words: &mut Words, verb: ClassVerb) -> Result<Line, LineFault>
     while let Some(word) = words.next()? {
         match word {
             "dev" => {
-                words.once(head.named)?;
-                let word = words.needed()?;
+                let word = words.option(head.named)?;
                 words.placed(name(word.as_bytes()))?;
                 head.named = true;
             }
             "parent" => {
-                words.once(head.parent.is_some())?;
-                let word = words.needed()?;
+                let word = words.option(head.parent.is_some())?;
                 head.parent = Some(words.placed(handle(word.as_bytes()))?);
             }
             "classid" => {
-                words.once(head.class.is_some())?;
-                let word = words.needed()?;
+                let word = words.option(head.class.is_some())?;
                 head.class = Some(words.placed(class(word.as_bytes()))?);
             }
             "drr" => {
@@ -59,7 +56,7 @@ fn quantum_line(words: &mut Words, verb: ClassVerb, head: HeadDraft) -> Result<L
         match word {
             "quantum" => {
                 let word = words.option(quantum.is_some())?;
-                let bytes = words.placed(size(word.as_bytes(), 1, u64::from(u32::MAX)))?;
+                let bytes = words.placed(read_size(word.as_bytes(), 1, u64::from(u32::MAX)))?;
                 quantum = Some(Quantum::new(bytes as u32).unwrap());
             }
             _ => return Err(words.unknown()),

@@ -20,25 +20,21 @@ pub fn filter_head(words: &mut Words, verb: FilterVerb) -> Result<Line, LineFaul
     while let Some(word) = words.next()? {
         match word {
             "dev" => {
-                words.once(head.named)?;
-                let word = words.needed()?;
+                let word = words.option(head.named)?;
                 words.placed(name(word.as_bytes()))?;
                 head.named = true;
             }
             "parent" => {
-                words.once(head.parent.is_some())?;
-                let word = words.needed()?;
+                let word = words.option(head.parent.is_some())?;
                 head.parent = Some(words.placed(handle(word.as_bytes()))?);
             }
             "prio" | "pref" => {
-                words.once(head.prio.is_some())?;
-                let word = words.needed()?;
+                let word = words.option(head.prio.is_some())?;
                 let prio = words.placed(number(word.as_bytes(), 1, 0xffff))? as u16;
                 head.prio = Some(FilterPrio::new(prio).unwrap());
             }
             "protocol" => {
-                words.once(head.protocol.is_some())?;
-                let word = words.needed()?;
+                let word = words.option(head.protocol.is_some())?;
                 head.protocol = Some(words.placed(protocol(word))?);
             }
             "flower" => return flower_or_removal(words, verb, head),

@@ -50,5 +50,6 @@ mod words;
 pub use arrival::Arrival;
 pub use line::Line;
 pub use object::Object;
+pub use q_words::{LineFault, Wrong, read_rate, read_size, read_time};
 pub use reading::read_line;
 pub use show::Show;

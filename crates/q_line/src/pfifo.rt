@@ -22,8 +22,7 @@ pub fn pfifo_line(words: &mut Words, verb: QdiscVerb, head: HeadDraft) -> Result
         if word != "limit" {
             return Err(words.unknown());
         }
-        words.once(limit.is_some())?;
-        let word = words.needed()?;
+        let word = words.option(limit.is_some())?;
         limit = Some(words.placed(number(word.as_bytes(), 0, u64::from(u32::MAX)))? as u32);
     }
     qdisc_made(words, verb, head, Kind::Pfifo { limit })

@@ -23,8 +23,7 @@ pub fn prio_line(words: &mut Words, verb: QdiscVerb, head: HeadDraft) -> Result<
     while let Some(word) = words.next()? {
         match word {
             "bands" => {
-                words.once(bands.is_some())?;
-                let word = words.needed()?;
+                let word = words.option(bands.is_some())?;
                 bands = Some(words.placed(number(word.as_bytes(), 2, 16))? as u8);
             }
             "priomap" => return priomap_line(words, verb, head, bands),

@@ -26,8 +26,7 @@ pub fn qdisc_head(words: &mut Words, verb: QdiscVerb) -> Result<Line, LineFault>
     while let Some(word) = words.next()? {
         match word {
             "dev" => {
-                words.once(head.named)?;
-                let word = words.needed()?;
+                let word = words.option(head.named)?;
                 words.placed(name(word.as_bytes()))?;
                 head.named = true;
             }
@@ -36,13 +35,11 @@ pub fn qdisc_head(words: &mut Words, verb: QdiscVerb) -> Result<Line, LineFault>
                 head.place = Some(Place::Root);
             }
             "parent" => {
-                words.once(head.place.is_some())?;
-                let word = words.needed()?;
+                let word = words.option(head.place.is_some())?;
                 head.place = Some(Place::Class(words.placed(class(word.as_bytes()))?));
             }
             "handle" => {
-                words.once(head.handle.is_some())?;
-                let word = words.needed()?;
+                let word = words.option(head.handle.is_some())?;
                 head.handle = Some(words.placed(handle(word.as_bytes()))?);
             }
             "pfifo" => return kind_line(words, verb, head, KindName::Pfifo),

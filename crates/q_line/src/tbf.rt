@@ -11,7 +11,7 @@ use crate::qdisc_made::qdisc_made;
 use crate::qdisc_verb::QdiscVerb;
 use crate::words::Words;
 use q_model::{Burst, Kind, Latency, Rate, TbfLimit};
-use q_words::{LineFault, rate, size, time};
+use q_words::{LineFault, read_rate, read_size, read_time};
 
 /// The longest latency: 1000 s, in nanoseconds.
 const LONGEST: u64 = 1_000_000_000_000;
@@ -24,26 +24,22 @@ pub fn tbf_line(words: &mut Words, verb: QdiscVerb, head: HeadDraft) -> Result<L
     while let Some(word) = words.next()? {
         match word {
             "rate" => {
-                words.once(bits.is_some())?;
-                let word = words.needed()?;
-                bits = Some(Rate::new(words.placed(rate(word.as_bytes()))?).unwrap());
+                let word = words.option(bits.is_some())?;
+                bits = Some(Rate::new(words.placed(read_rate(word.as_bytes()))?).unwrap());
             }
             "burst" | "buffer" | "maxburst" => {
-                words.once(burst.is_some())?;
-                let word = words.needed()?;
-                let bytes = words.placed(size(word.as_bytes(), 1, u64::from(u32::MAX)))?;
+                let word = words.option(burst.is_some())?;
+                let bytes = words.placed(read_size(word.as_bytes(), 1, u64::from(u32::MAX)))?;
                 burst = Some(Burst::new(bytes as u32).unwrap());
             }
             "limit" => {
-                words.once(limit.is_some())?;
-                let word = words.needed()?;
-                let bytes = words.placed(size(word.as_bytes(), 0, u64::from(u32::MAX)))?;
+                let word = words.option(limit.is_some())?;
+                let bytes = words.placed(read_size(word.as_bytes(), 0, u64::from(u32::MAX)))?;
                 limit = Some(TbfLimit::Bytes(bytes as u32));
             }
             "latency" => {
-                words.once(limit.is_some())?;
-                let word = words.needed()?;
-                let ns = words.placed(time(word.as_bytes(), 0, LONGEST))?;
+                let word = words.option(limit.is_some())?;
+                let ns = words.placed(read_time(word.as_bytes(), 0, LONGEST))?;
                 limit = Some(TbfLimit::Latency(Latency::new(ns).unwrap()));
             }
             _ => return Err(words.unknown()),

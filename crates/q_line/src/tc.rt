@@ -96,8 +96,7 @@ fn shown(words: &mut Words, show: Show) -> Result<Line, LineFault>
         if word != "dev" {
             return Err(words.unknown());
         }
-        words.once(named)?;
-        let word = words.needed()?;
+        let word = words.option(named)?;
         words.placed(name(word.as_bytes()))?;
         named = true;
     }

@@ -172,6 +172,7 @@ impl<'a> Words<'a> {
     }
 
     /// The word behind an option, which may be given once.
+    #[inline(always)]
     pub fn option(&mut self, given: bool) -> Result<&'a str, LineFault>
         ensures ok { IfOk result (λ word. (given ≡ false) × (words_in self.old.rest.now ≡ word.now ∷ words_in self.new.rest.now)
             × (self.new.taken ≡ suc self.old.taken) × (is_utf8 word.now ≡ true)) }

@@ -16,7 +16,7 @@ const MAX_RATE: u64 = 1_000_000_000_000;
 /// RATE: a decimal with a unit, rounded down to bits a second, 1 to 10^12.
 ///
 /// Another form is `BadNumber`, a value outside the range `OutOfRange`.
-pub fn rate(word: &[u8]) -> Result<u64, Wrong>
+pub fn read_rate(word: &[u8]) -> Result<u64, Wrong>
     ensures value { result ≡ rate_in word.now }
     ensures in_range { IfOk result (IsWithin 1 (10 ^ 12)) }
 {
@@ -27,7 +27,7 @@ pub fn rate(word: &[u8]) -> Result<u64, Wrong>
 /// SIZE: a decimal with a unit, rounded down to bytes, from `low` to `high`.
 ///
 /// Another form is `BadNumber`, a value outside the range `OutOfRange`.
-pub fn size(word: &[u8], low: u64, high: u64) -> Result<u64, Wrong>
+pub fn read_size(word: &[u8], low: u64, high: u64) -> Result<u64, Wrong>
     requires { high < 2 ^ 64 - 1 }
     ensures value { result ≡ size_in low high word.now }
     ensures in_range { IfOk result (IsWithin low high) }
@@ -39,7 +39,7 @@ pub fn size(word: &[u8], low: u64, high: u64) -> Result<u64, Wrong>
 /// TIME: a decimal with a unit, rounded down to nanoseconds, from `low` to `high`.
 ///
 /// Another form is `BadNumber`, a value outside the range `OutOfRange`.
-pub fn time(word: &[u8], low: u64, high: u64) -> Result<u64, Wrong>
+pub fn read_time(word: &[u8], low: u64, high: u64) -> Result<u64, Wrong>
     requires { high < 2 ^ 64 - 1 }
     ensures value { result ≡ time_in low high word.now }
     ensures in_range { IfOk result (IsWithin low high) }
