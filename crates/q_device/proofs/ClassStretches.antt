@@ -11,7 +11,7 @@ use Rattle.q_drr.proofs.FairLemmas.{fair_numbers}
 use Rattle.q_drr.proofs.TakeLemmas.{has_quantum}
 use Rattle.q_model.specs.declared.event.Event.{Event}
 use Rattle.q_model.specs.declared.event.Event.TheVariants as event
-use Rattle.q_model.specs.declared.not_done.NotDone.{NotDone}
+use Rattle.q_model.specs.declared.refusal.Refusal.{Refusal}
 use Rattle.q_model.specs.Edit.{Edit}
 use Rattle.q_model.specs.Events.{IsEvent}
 use Rattle.q_model.specs.Beneath.{is_empty}
@@ -37,7 +37,7 @@ step-mtu d (event.Arrive p moment) = refl
 step-mtu d (event.Poll moment) = refl
 step-mtu d (event.Command c moment) = by (plan d.tree.device (max d.clock moment) c (shape d.tree.root))
   where
-    by : (answer : Result Edit NotDone) → (answered history answer (max d.clock moment) d).device.tree.device.mtu ≡ d.tree.device.mtu
+    by : (answer : Result Edit Refusal) → (answered history answer (max d.clock moment) d).device.tree.device.mtu ≡ d.tree.device.mtu
     by (Ok edit) = refl
     by (Err refusal) = refl
 

@@ -9,7 +9,7 @@ use Rattle.q_packet.specs.declared.cause.Cause.TheVariants.{Purged}
 use Rattle.q_codel.specs.declared.loss.Loss.{Loss}
 use Rattle.q_model.specs.declared.event.Event.{Event}
 use Rattle.q_model.specs.declared.event.Event.TheVariants as event
-use Rattle.q_model.specs.declared.not_done.NotDone.{NotDone}
+use Rattle.q_model.specs.declared.refusal.Refusal.{Refusal}
 use Rattle.q_model.specs.declared.totals.Totals.{Totals}
 use Rattle.q_model.specs.Conserved.{arrival_in}
 use Rattle.q_model.specs.Edit.{Edit, lost_by, packets_removed}
@@ -49,7 +49,7 @@ step-rises d (event.Poll moment) =
     noted-rises d.tree.top (a.rises ++ map Sent (option_to_list a.shown))
 step-rises d (event.Command c moment) = by (plan d.tree.device (max d.clock moment) c (shape d.tree.root))
   where
-    by : (answer : Result Edit NotDone) → HasNotFallen d.tree.top (answered totals answer (max d.clock moment) d).device.tree.top
+    by : (answer : Result Edit Refusal) → HasNotFallen d.tree.top (answered totals answer (max d.clock moment) d).device.tree.top
     by (Ok edit) = noted-rises d.tree.top (lost_by edit (shape d.tree.root))
     by (Err refusal) = nothing-fallen d.tree.top
 
@@ -108,7 +108,7 @@ step-lost d (event.Poll moment) =
     noted-lost d.tree.top (a.rises ++ map Sent (option_to_list a.shown)) ∙ ap (λ (ls : List Loss). d.tree.top.refused.packets + d.tree.top.dropped.packets + length ls) none
 step-lost d (event.Command c moment) = by (plan d.tree.device (max d.clock moment) c (shape d.tree.root))
   where
-    by : (answer : Result Edit NotDone)
+    by : (answer : Result Edit Refusal)
         → (answered totals answer (max d.clock moment) d).device.tree.top.refused.packets + (answered totals answer (max d.clock moment) d).device.tree.top.dropped.packets ≡ d.tree.top.refused.packets + d.tree.top.dropped.packets + length (answered totals answer (max d.clock moment) d).losses
     by (Ok edit) = noted-lost d.tree.top (lost_by edit (shape d.tree.root))
     by (Err refusal) = omega arith
@@ -128,6 +128,6 @@ step-arrived d (event.Poll moment) quiet low range =
     ∙ ap₂ (λ xs ys. xs ++ ys) (quiet now (not-before d.clock moment) (not-after d.clock moment (2 ^ 62) low range)).none_arrived (sent-arrived a.shown))
 step-arrived d (event.Command c moment) quiet low range = by (plan d.tree.device (max d.clock moment) c (shape d.tree.root))
   where
-    by : (answer : Result Edit NotDone) → (answered totals answer (max d.clock moment) d).device.tree.top.arrived ≡ d.tree.top.arrived
+    by : (answer : Result Edit Refusal) → (answered totals answer (max d.clock moment) d).device.tree.top.arrived ≡ d.tree.top.arrived
     by (Ok edit) = none-arrived d.tree.top (lost_by edit (shape d.tree.root)) (losses-are Purged (packets_removed edit (shape d.tree.root))).none_arrived
     by (Err refusal) = refl

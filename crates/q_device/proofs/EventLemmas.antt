@@ -7,11 +7,10 @@ use Rattle.q_model.specs.Beneath.{beneath, beneath_own}
 use Rattle.q_model.specs.declared.command.Command.{Command}
 use Rattle.q_model.specs.declared.event.Event.{Event}
 use Rattle.q_model.specs.declared.event.Event.TheVariants as event
-use Rattle.q_model.specs.declared.not_done.NotDone.{NotDone}
+use Rattle.q_model.specs.declared.refusal.Refusal.{Refusal}
 use Rattle.q_model.specs.declared.reply.Reply.TheVariants as reply
 use Rattle.q_model.specs.Edit.{Edit, lost_by}
 use Rattle.q_model.specs.Node.{Shape, shape}
-use Rattle.q_model.specs.Refusal.{refusal_of}
 use Rattle.q_model.specs.Step.{DeviceState, Step, answered, losses_in, step}
 use Rattle.q_model.specs.Tally.{Counts, totals}
 use Rattle.q_model.specs.TreeState.{noted_by_put, noted_by_take, plan, put, take_packet}
@@ -122,36 +121,36 @@ module _ (x : DeviceState Kept) (clock now at : ℕ) (is : at ≡ max clock now)
   module _ (y : DeviceState Kept) (done_is : IsDone at (plan_of c at x) x y) where
     pub done-device : numbers_at at y ≡ (step totals seen (event.Command c now)).device
     done-device = by (plan_of c at x) done_is ∙ sym (ap (λ (s : Step Counts). s.device) step-is) where
-      by : (p : Result Edit NotDone) → IsDone at p x y → numbers_at at y ≡ (answered totals p at seen).device
+      by : (p : Result Edit Refusal) → IsDone at p x y → numbers_at at y ≡ (answered totals p at seen).device
       by (Ok edit) h = ap (λ (n : DeviceState Counts). record n { clock = at }) h
       by (Err refusal) h = absurd h
 
     pub done-reply : reply.Done (Ok tt) ≡ (step totals seen (event.Command c now)).reply
     done-reply = by (plan_of c at x) done_is ∙ sym (ap (λ (s : Step Counts). s.reply) step-is) where
-      by : (p : Result Edit NotDone) → IsDone at p x y → reply.Done (Ok tt) ≡ (answered totals p at seen).reply
+      by : (p : Result Edit Refusal) → IsDone at p x y → reply.Done (Ok tt) ≡ (answered totals p at seen).reply
       by (Ok edit) h = refl
       by (Err refusal) h = absurd h
 
     pub done-losses : told (plan_of c at x) (shape x.tree.root) (Ok tt) ≡ (step totals seen (event.Command c now)).losses
     done-losses = by (plan_of c at x) done_is ∙ sym (ap (λ (s : Step Counts). s.losses) step-is) where
-      by : (p : Result Edit NotDone) → IsDone at p x y → told p (shape x.tree.root) (Ok tt) ≡ (answered totals p at seen).losses
+      by : (p : Result Edit Refusal) → IsDone at p x y → told p (shape x.tree.root) (Ok tt) ≡ (answered totals p at seen).losses
       by (Ok edit) h = ap (λ (s : Shape). losses_in (lost_by edit s)) (sym same-shape)
       by (Err refusal) h = absurd h
 
     pub done-clock : y.clock ≡ at
     done-clock = by (plan_of c at x) done_is where
-      by : (p : Result Edit NotDone) → IsDone at p x y → y.clock ≡ at
+      by : (p : Result Edit Refusal) → IsDone at p x y → y.clock ≡ at
       by (Ok edit) h = ap (λ (n : DeviceState Counts). n.clock) h
       by (Err refusal) h = absurd h
 
-  pub refused-reply : (memory : Type 0) (refusal : NotDone) → IsRefused memory (plan_of c at x) refusal → IsRefusal memory (step totals seen (event.Command c now)).reply (refusal_of refusal)
-  refused-reply memory refusal h = subst (λ (s : Step Counts). IsRefusal memory s.reply (refusal_of refusal)) (sym step-is) (by (plan_of c at x) h) where
-    by : (p : Result Edit NotDone) → IsRefused memory p refusal → IsRefusal memory (answered totals p at seen).reply (refusal_of refusal)
-    by (Ok edit) e = (ap refusal_of e.0, e.1)
-    by (Err first) e = ap refusal_of e
+  pub refused-reply : (memory : Type 0) (refusal : Refusal) → IsRefused memory (plan_of c at x) refusal → IsRefusal memory (step totals seen (event.Command c now)).reply refusal
+  refused-reply memory refusal h = subst (λ (s : Step Counts). IsRefusal memory s.reply refusal) (sym step-is) (by (plan_of c at x) h) where
+    by : (p : Result Edit Refusal) → IsRefused memory p refusal → IsRefusal memory (answered totals p at seen).reply refusal
+    by (Ok edit) e = (e.0, e.1)
+    by (Err first) e = e
 
 -- a refused command tells of no loss
-pub told-nothing : (p : Result Edit NotDone) (root : Shape) (refusal : NotDone) → told p root (Err refusal) ≡ []
+pub told-nothing : (p : Result Edit Refusal) (root : Shape) (refusal : Refusal) → told p root (Err refusal) ≡ []
 told-nothing (Ok edit) root refusal = refl
 told-nothing (Err first) root refusal = refl
 

@@ -5,7 +5,7 @@ use Rattle.q_packet.specs.Descriptor.{Descriptor}
 use Rattle.q_model.specs.declared.command.Command.{Command}
 use Rattle.q_model.specs.declared.event.Event.{Event}
 use Rattle.q_model.specs.declared.event.Event.TheVariants as event
-use Rattle.q_model.specs.declared.not_done.NotDone.{NotDone}
+use Rattle.q_model.specs.declared.refusal.Refusal.{Refusal}
 use Rattle.q_model.specs.declared.reply.Reply.TheVariants as reply
 use Rattle.q_model.specs.Ask.{ask}
 use Rattle.q_model.specs.Beneath.{is_empty}
@@ -52,7 +52,7 @@ module _ {M N : Type 0} (t : Tally M) (u : Tally N) (f : M → N) (h : StandsFor
         losses = sym (ap (λ (r : Shape). losses_in (ask now r).rises) (same_shape d));
       }
 
-  answered-stands : (answer : Result Edit NotDone) (now : ℕ) (d : DeviceState M) → Stands f (answered t answer now d) (answered u answer now (remembered f d))
+  answered-stands : (answer : Result Edit Refusal) (now : ℕ) (d : DeviceState M) → Stands f (answered t answer now d) (answered u answer now (remembered f d))
   answered-stands (Ok edit) now d = record {
     device = ap (λ s. record { clock = now; tree = s }) (with_edit-stands t u f h edit d.tree);
     reply = refl;

@@ -9,7 +9,7 @@ use Rattle.q_packet.specs.Descriptor.{Descriptor}
 use Rattle.q_packet.specs.declared.cause.Cause.{Cause}
 use Rattle.q_model.specs.declared.event.Event.{Event}
 use Rattle.q_model.specs.declared.event.Event.TheVariants as event
-use Rattle.q_model.specs.declared.not_done.NotDone.{NotDone}
+use Rattle.q_model.specs.declared.refusal.Refusal.{Refusal}
 use Rattle.q_model.specs.declared.reply.Reply.TheVariants as reply
 use Rattle.q_packet.specs.declared.cause.Cause.TheVariants.{FatFlow, Purged}
 use Rattle.q_fqcodel.specs.Put.{lost_by_put}
@@ -130,7 +130,7 @@ step-tells events r (event.Command c moment) kept range h = by (plan d.tree.devi
     now : ℕ
     now = max r.device.clock moment
 
-    by : (answer : Result Edit NotDone) → TellsAll (events ++ event.Command c moment ∷ []) (with_step r (answered history answer (max r.device.clock moment) r.device))
+    by : (answer : Result Edit Refusal) → TellsAll (events ++ event.Command c moment ∷ []) (with_step r (answered history answer (max r.device.clock moment) r.device))
     by (Ok edit) =
         let none = losses-are Purged (packets_removed edit (shape r.device.tree.root)) in
         tells-more events r (event.Command c moment) (lost_by edit (shape r.device.tree.root)) (answered history (Ok edit) (max r.device.clock moment) r.device) (noted-history r.device.tree.top (lost_by edit (shape r.device.tree.root))) h (record {

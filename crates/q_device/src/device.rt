@@ -162,10 +162,7 @@ impl Device {
         moment_range(now);
         let at = later(self.clock, now);
         let alloc = *self.recorded.allocator();
-        let answer = self.tree.command(alloc, command, at, &mut self.losses);
-        if let Err(refused) = answer {
-            return Err(Refusal::of(refused));
-        }
+        self.tree.command(alloc, command, at, &mut self.losses)?;
         self.clock = at;
         let event = Event::Command(command, at);
         record(&mut self.recorded, &mut self.events, &self.settings, event);

@@ -3,8 +3,8 @@
 use Rattle.std.specs.Prelude.{ℕ, Bool, not, ◌||◌, ◌==◌, nat_le, List, [], ◌∷◌, length, Result, is_none}
 use Rattle.std.specs.List.{filter, list_any}
 use Rattle.q_model.specs.declared.filter.Filter.{Filter}
-use Rattle.q_model.specs.declared.not_done.NotDone.{NotDone}
-use Rattle.q_model.specs.declared.not_done.NotDone.TheVariants.{NoQdisc, NotClassful, NoClass, TooMany, NoFilter}
+use Rattle.q_model.specs.declared.refusal.Refusal.{Refusal}
+use Rattle.q_model.specs.declared.refusal.Refusal.TheVariants.{NoQdisc, NotClassful, NoClass, TooMany, NoFilter}
 use Rattle.q_model.specs.Filters.{with_filter}
 use Rattle.q_model.specs.Node.{Shape}
 use Rattle.q_model.specs.Find.{path_of, class_place}
@@ -23,10 +23,10 @@ filter_add_checks parent major f n =
     ∷ refuse TooMany (nat_le most_filters (length n.own.filters))
     ∷ []
 
-abbrev pub filter_added : ℕ → ℕ → Filter → List ℕ → Shape → Result Edit NotDone
+abbrev pub filter_added : ℕ → ℕ → Filter → List ℕ → Shape → Result Edit Refusal
 filter_added parent major f path n = done_unless (filter_add_checks parent major f n) (with_filters path n (with_filter f n.own.filters))
 
-abbrev pub filter_add : ℕ → ℕ → Filter → Shape → Result Edit NotDone
+abbrev pub filter_add : ℕ → ℕ → Filter → Shape → Result Edit Refusal
 filter_add parent major f root = at_target NoQdisc (path_of parent root) (filter_added parent major f) root
 
 -- all filters of a priority go
@@ -39,9 +39,9 @@ filter_del_checks prio n =
     ∷ refuse NoFilter (not (list_any (has_prio prio) n.own.filters))
     ∷ []
 
-abbrev pub filters_removed : ℕ → List ℕ → Shape → Result Edit NotDone
+abbrev pub filters_removed : ℕ → List ℕ → Shape → Result Edit Refusal
 filters_removed prio path n =
     done_unless (filter_del_checks prio n) (with_filters path n (filter (λ f. not (has_prio prio f)) n.own.filters))
 
-abbrev pub filter_del : ℕ → ℕ → Shape → Result Edit NotDone
+abbrev pub filter_del : ℕ → ℕ → Shape → Result Edit Refusal
 filter_del parent prio root = at_target NoQdisc (path_of parent root) (filters_removed prio) root

@@ -11,7 +11,7 @@ pub mod Grants
 pub mod Lawful
 pub mod Make
 pub mod Node
-pub mod NotDone
+pub mod Refusal
 pub mod Numbers
 pub mod Options
 pub mod Pop
@@ -19,7 +19,6 @@ pub mod Put
 pub mod QdiscCommands
 pub mod Quanta
 pub mod Ranges
-pub mod Refusal
 pub mod Refusals
 pub mod Replay
 pub mod Route

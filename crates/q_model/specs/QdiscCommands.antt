@@ -11,8 +11,8 @@ use Rattle.q_model.specs.declared.kind.Kind.{Kind}
 use Rattle.q_model.specs.declared.kind.Kind.TheVariants as kind
 use Rattle.q_model.specs.declared.place.Place.{Place}
 use Rattle.q_model.specs.declared.place.Place.TheVariants as place
-use Rattle.q_model.specs.declared.not_done.NotDone.{NotDone}
-use Rattle.q_model.specs.declared.not_done.NotDone.TheVariants.{NoParent, Exists, NoQdisc, HandleTaken, NotClassful, NoClass, Busy, CannotChange, SmallBurst}
+use Rattle.q_model.specs.declared.refusal.Refusal.{Refusal}
+use Rattle.q_model.specs.declared.refusal.Refusal.TheVariants.{NoParent, Exists, NoQdisc, HandleTaken, NotClassful, NoClass, Busy, CannotChange, SmallBurst}
 use Rattle.q_model.specs.Node.{Discipline, Fifo, Prio, Tbf, Drr, FqCodel, Shape, children}
 use Rattle.q_model.specs.Make.{Device, implicit_pfifo, implicit_beneath, limit_bytes, with_options, made}
 use Rattle.q_model.specs.Find.{path_of, has_handle, free_handle, node_at, class_place, place_path, is_explicit}
@@ -50,7 +50,7 @@ qdisc_add_checks place handle path root =
 abbrev pub new_qdisc : Device → ℕ → Option ℕ → Kind → Shape → Shape
 new_qdisc d now handle kind root = made d now (Some (unwrap_or handle (free_handle root))) kind
 
-abbrev pub qdisc_add : Device → ℕ → Place → Option ℕ → Kind → Shape → Result Edit NotDone
+abbrev pub qdisc_add : Device → ℕ → Place → Option ℕ → Kind → Shape → Result Edit Refusal
 qdisc_add d now place handle kind root =
     let path = unwrap_or (place_path place root) [] in
     done_unless (qdisc_add_checks place handle path root) (Graft path (new_qdisc d now handle kind root))
@@ -116,7 +116,7 @@ abbrev pub flows_check : Option ℕ → ℕ → List Check
 flows_check new old = refuse CannotChange (not (unwrap_or new old == old)) ∷ []
 
 -- what a change makes of a qdisc, where it is of the same kind
-abbrev pub change_of : Device → ℕ → Shape → List ℕ → Discipline → Kind → Result Edit NotDone
+abbrev pub change_of : Device → ℕ → Shape → List ℕ → Discipline → Kind → Result Edit Refusal
 change_of d now n path (Fifo (Packets old) queue) (kind.Pfifo limit) = Ok (retuned n path (Fifo (Packets (unwrap_or limit old)) queue))
 change_of d now n path (Fifo (Bytes old) queue) (kind.Bfifo limit) = Ok (retuned n path (Fifo (Bytes (unwrap_or limit old)) queue))
 change_of d now n path (Prio old) (kind.Prio s) = done_unless (bands_check s.bands n) (rebanded d n path s.bands s.priomap)
@@ -128,11 +128,11 @@ change_of d now n path (FqCodel s) (kind.FqCodel o) =
 change_of d now n path discipline other = Err CannotChange
 
 -- an edit of the node that is found, or the refusal where there is none
-abbrev pub at_target : NotDone → Option (List ℕ) → (List ℕ → Shape → Result Edit NotDone) → Shape → Result Edit NotDone
+abbrev pub at_target : Refusal → Option (List ℕ) → (List ℕ → Shape → Result Edit Refusal) → Shape → Result Edit Refusal
 at_target refusal found f root =
     option_map_or (λ path. option_map_or (f path) (node_at path root) (Err refusal)) found (Err refusal)
 
-abbrev pub qdisc_change : Device → ℕ → Option Place → Option ℕ → Kind → Shape → Result Edit NotDone
+abbrev pub qdisc_change : Device → ℕ → Option Place → Option ℕ → Kind → Shape → Result Edit Refusal
 qdisc_change d now place handle kind root =
     at_target NoQdisc (target place handle root) (λ path n. change_of d now n path n.own.discipline kind) root
 
@@ -147,5 +147,5 @@ leaf_at d (i ∷ path) root =
     option_map_or (λ (parent : Shape). implicit_beneath d parent.own.discipline) (node_at (way_to_parent (i ∷ path)) root) (implicit_pfifo d)
 
 -- the implicit leaf of its place comes back, empty
-abbrev pub qdisc_del : Device → Option Place → Option ℕ → Shape → Result Edit NotDone
+abbrev pub qdisc_del : Device → Option Place → Option ℕ → Shape → Result Edit Refusal
 qdisc_del d place handle root = at_target NoQdisc (target place handle root) (λ path n. Ok (Graft path (leaf_at d path root))) root

@@ -2,25 +2,25 @@
 -- The refusals and their order are this project's choice.
 use Rattle.std.specs.Prelude.{ℕ, Bool, true, false, nat_lt, if◌then◌else◌, List, [], ◌∷◌, Option, Some, None, Result, Ok, Err}
 use Rattle.std.specs.Option.{option_map_or}
-use Rattle.q_model.specs.declared.not_done.NotDone.{NotDone}
-use Rattle.q_model.specs.declared.not_done.NotDone.TheVariants.{TooDeep, TooMany}
+use Rattle.q_model.specs.declared.refusal.Refusal.{Refusal}
+use Rattle.q_model.specs.declared.refusal.Refusal.TheVariants.{TooDeep, TooMany}
 use Rattle.q_model.specs.Node.{Discipline, Fifo, Prio, Tbf, Drr, FqCodel, Node}
 use Rattle.q_model.specs.Find.{depth, count_nodes}
 
 -- a refusal, and whether it holds
 pub record Check : Type 0 where
   pub holds : Bool
-  pub refusal : NotDone
+  pub refusal : Refusal
 
-abbrev pub refuse : NotDone → Bool → Check
+abbrev pub refuse : Refusal → Bool → Check
 refuse refusal holds = record { holds = holds; refusal = refusal }
 
-abbrev pub first_refusal : List Check → Option NotDone
+abbrev pub first_refusal : List Check → Option Refusal
 first_refusal [] = None
 first_refusal (c ∷ checks) = if c.holds then Some c.refusal else first_refusal checks
 
 -- what is done where no refusal holds
-abbrev pub done_unless : {A : Type 0} → List Check → A → Result A NotDone
+abbrev pub done_unless : {A : Type 0} → List Check → A → Result A Refusal
 done_unless checks a = option_map_or (λ refusal. Err refusal) (first_refusal checks) (Ok a)
 
 -- a test of what may not be there

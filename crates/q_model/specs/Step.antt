@@ -19,9 +19,7 @@ use Rattle.q_model.specs.declared.polled.Polled.{Polled}
 use Rattle.q_model.specs.declared.polled.Polled.TheVariants as polled
 use Rattle.q_model.specs.declared.reply.Reply.{Reply}
 use Rattle.q_model.specs.declared.reply.Reply.TheVariants as reply
-use Rattle.q_model.specs.declared.not_done.NotDone.{NotDone}
 use Rattle.q_model.specs.declared.refusal.Refusal.{Refusal}
-use Rattle.q_model.specs.Refusal.{refusal_of}
 use Rattle.q_model.specs.Settings.{DeviceSettings}
 
 pub record DeviceState (M : Type 0) : Type 0 where
@@ -86,9 +84,9 @@ done t edit now d = record {
 abbrev pub not_done : {M : Type 0} → Refusal → DeviceState M → Step M
 not_done refusal d = record { device = d; reply = reply.Done (Err refusal); losses = [] }
 
-abbrev pub answered : {M : Type 0} → Tally M → Result Edit NotDone → ℕ → DeviceState M → Step M
+abbrev pub answered : {M : Type 0} → Tally M → Result Edit Refusal → ℕ → DeviceState M → Step M
 answered t (Ok edit) now d = done t edit now d
-answered t (Err refusal) now d = not_done (refusal_of refusal) d
+answered t (Err refusal) now d = not_done refusal d
 
 abbrev pub command : {M : Type 0} → Tally M → Command → ℕ → DeviceState M → Step M
 command t c now d = answered t (plan d.tree.device now c (shape d.tree.root)) now d

@@ -7,7 +7,7 @@ use Rattle.q_packet.specs.declared.cause.Cause.{Cause}
 use Rattle.q_packet.specs.declared.cause.Cause.TheVariants.{TooLong, FatFlow}
 use Rattle.q_model.specs.declared.command.Command.{Command}
 use Rattle.q_model.specs.declared.command.Command.TheVariants.{QdiscAdd, QdiscChange, QdiscDel, ClassAdd, ClassChange, ClassDel, FilterAdd, FilterDel}
-use Rattle.q_model.specs.declared.not_done.NotDone.{NotDone}
+use Rattle.q_model.specs.declared.refusal.Refusal.{Refusal}
 use Rattle.q_model.specs.declared.place.Place.{Place}
 use Rattle.q_model.specs.declared.place.Place.TheVariants as place
 use Rattle.q_model.specs.declared.row.Row.{Row}
@@ -88,7 +88,7 @@ take_packet t now s =
     with_work t (w.rises ++ map Sent (option_to_list (given now s))) w.node s
 
 -- the edit that a command asks for, or its refusal
-abbrev pub edit_of : Device → ℕ → Command → Shape → Result Edit NotDone
+abbrev pub edit_of : Device → ℕ → Command → Shape → Result Edit Refusal
 edit_of d now (QdiscAdd place handle kind) root = qdisc_add d now place handle kind root
 edit_of d now (QdiscChange place handle kind) root = qdisc_change d now place handle kind root
 edit_of d now (QdiscDel place handle) root = qdisc_del d place handle root
@@ -102,10 +102,10 @@ edit_of d now (FilterDel parent prio) root = filter_del parent prio root
 abbrev pub nothing : Tally (Unit {0})
 nothing = record { none = tt; more = λ u n. tt; counts_of = λ u. no_counts }
 
-abbrev pub checked : Shape → Edit → Result Edit NotDone
+abbrev pub checked : Shape → Edit → Result Edit Refusal
 checked root edit = done_unless (size_checks (edited nothing [] edit root)) edit
 
-abbrev pub plan : Device → ℕ → Command → Shape → Result Edit NotDone
+abbrev pub plan : Device → ℕ → Command → Shape → Result Edit Refusal
 plan d now command root = elim (edit_of d now command root) [
   | Ok edit ↦ checked root edit
   | Err refusal ↦ Err refusal

@@ -5,7 +5,7 @@
 //!   ranges: [`Handle`], [`Minor`], [`Quantum`], [`Rate`], [`Burst`], [`Latency`], [`FilterPrio`], [`PrioOptions`],
 //!   [`FqCodelOptions`] and [`IpPrefix`]. What is made of these has a method `ranges`, whose clause says so to the proofs
 //!   of other crates, as [`Event::ranges`].
-//! - [`NotDone`] is why a change was not made, with the number and the name of each refusal.
+//! - [`Refusal`] is why a change was not made, with the number and the name of each refusal.
 //! - [`Row`] is what a node counted: six [`Totals`] of packets and bytes.
 //! - [`NodeView`], [`ClassView`] and [`FilterView`] are what `show` prints of a node, a class and a filter.
 //! - [`Settings`] are a device's mtu, queue length and recorder. An [`Event`] is an arrival, a poll or a command, with its
@@ -45,7 +45,6 @@ mod kind;
 mod latency;
 mod minor;
 mod node_view;
-mod not_done;
 mod place;
 mod polled;
 mod prio_options;
@@ -80,7 +79,6 @@ pub use kind::Kind;
 pub use latency::Latency;
 pub use minor::Minor;
 pub use node_view::NodeView;
-pub use not_done::NotDone;
 pub use place::Place;
 pub use polled::Polled;
 pub use prio_options::PrioOptions;

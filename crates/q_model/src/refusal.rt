@@ -1,72 +1,91 @@
 ghost use Rattle.std.specs.Prelude.{◌≡◌};
-ghost use Rattle.q_model.specs.Refusal.{refusal_of};
+ghost use Rattle.q_model.specs.Refusal.{refusal_number, refusal_name};
 
-use crate::not_done::NotDone;
+use std::fmt;
 use thiserror::Error;
 
 /// Why a command was not done. Nothing has changed then.
 #[derive(Clone, Copy, PartialEq, Eq, Debug, Error)]
 pub enum Refusal {
     /// No qdisc has the major number of the parent, or a class line names a parent that is not its class's qdisc.
-    #[error("refused 10 NoParent")]
     NoParent,
     /// A qdisc, or the class, is there already.
-    #[error("refused 11 Exists")]
     Exists,
     /// No qdisc is there that could be changed, or place and handle name two.
-    #[error("refused 12 NoQdisc")]
     NoQdisc,
     /// Another qdisc has the handle.
-    #[error("refused 13 HandleTaken")]
     HandleTaken,
     /// The parent is a pfifo, bfifo or fq_codel, or has no filters.
-    #[error("refused 14 NotClassful")]
     NotClassful,
     /// The parent has no such class.
-    #[error("refused 15 NoClass")]
     NoClass,
     /// A filter names the class.
-    #[error("refused 16 Busy")]
     Busy,
     /// The qdisc is of another kind, or has other flows, or its classes come with it.
-    #[error("refused 17 CannotChange")]
     CannotChange,
     /// A qdisc would stand at a depth above 8.
-    #[error("refused 18 TooDeep")]
     TooDeep,
     /// There would be more than 256 qdiscs, or filters of one qdisc.
-    #[error("refused 19 TooMany")]
     TooMany,
     /// The burst would be below both the present one and the mtu.
-    #[error("refused 20 SmallBurst")]
     SmallBurst,
     /// No filter has that priority.
-    #[error("refused 21 NoFilter")]
     NoFilter,
     /// Memory was refused.
-    #[error("refused 90 Memory")]
     Memory,
 }
 
 impl Refusal {
-    /// The same refusal, as the tree answers it.
-    pub fn of(refused: NotDone) -> Refusal
-        ensures { result ≡ refusal_of refused }
+    /// Its number, as reports write it.
+    pub fn number(self) -> u8
+        ensures { result ≡ refusal_number self }
     {
-        match refused {
-            NotDone::NoParent => Refusal::NoParent,
-            NotDone::Exists => Refusal::Exists,
-            NotDone::NoQdisc => Refusal::NoQdisc,
-            NotDone::HandleTaken => Refusal::HandleTaken,
-            NotDone::NotClassful => Refusal::NotClassful,
-            NotDone::NoClass => Refusal::NoClass,
-            NotDone::Busy => Refusal::Busy,
-            NotDone::CannotChange => Refusal::CannotChange,
-            NotDone::TooDeep => Refusal::TooDeep,
-            NotDone::TooMany => Refusal::TooMany,
-            NotDone::SmallBurst => Refusal::SmallBurst,
-            NotDone::NoFilter => Refusal::NoFilter,
-            NotDone::Memory => Refusal::Memory,
+        match self {
+            Refusal::NoParent => 10,
+            Refusal::Exists => 11,
+            Refusal::NoQdisc => 12,
+            Refusal::HandleTaken => 13,
+            Refusal::NotClassful => 14,
+            Refusal::NoClass => 15,
+            Refusal::Busy => 16,
+            Refusal::CannotChange => 17,
+            Refusal::TooDeep => 18,
+            Refusal::TooMany => 19,
+            Refusal::SmallBurst => 20,
+            Refusal::NoFilter => 21,
+            Refusal::Memory => 90,
         }
+    }
+
+    /// Its name, as reports write it.
+    pub fn name(self) -> &'static str
+        ensures { result.now ≡ refusal_name self }
+    {
+        match self {
+            Refusal::NoParent => "NoParent",
+            Refusal::Exists => "Exists",
+            Refusal::NoQdisc => "NoQdisc",
+            Refusal::HandleTaken => "HandleTaken",
+            Refusal::NotClassful => "NotClassful",
+            Refusal::NoClass => "NoClass",
+            Refusal::Busy => "Busy",
+            Refusal::CannotChange => "CannotChange",
+            Refusal::TooDeep => "TooDeep",
+            Refusal::TooMany => "TooMany",
+            Refusal::SmallBurst => "SmallBurst",
+            Refusal::NoFilter => "NoFilter",
+            Refusal::Memory => "Memory",
+        }
+    }
+}
+
+impl fmt::Display for Refusal {
+    ghost use Rattle.std.specs.Prelude.{Some};
+    ghost use Rattle.q_model.specs.Refusal.{refusal_text};
+
+    ghost output = { λ refusal. Some (refusal_text refusal) };
+
+    fn fmt<W: fmt::Write>(&self, f: &mut fmt::Formatter<W>) -> fmt::Result {
+        write!(f, "refused {} {}", self.number(), self.name())
     }
 }

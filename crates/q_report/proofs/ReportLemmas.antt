@@ -3,7 +3,7 @@ use Rattle.std.proofs.Common.{◌≡◌, ℕ, zero, suc, ◌∙◌, Bool, true, 
 use Rattle.q_packet.specs.Descriptor.{Descriptor}
 use Rattle.q_codel.specs.declared.loss.Loss.{Loss}
 use Rattle.q_model.specs.declared.command.Command.{Command}
-use Rattle.q_model.specs.declared.not_done.NotDone.{NotDone}
+use Rattle.q_model.specs.declared.refusal.Refusal.{Refusal}
 use Rattle.q_model.specs.Tally.{Note, Counts, counts_in, history, totals}
 use Rattle.q_model.specs.Node.{Shape, shape}
 use Rattle.q_model.specs.Edit.{Edit, lost_by}
@@ -70,7 +70,7 @@ polls-shrunk (suc n) s =
     let rest = subst (λ (r : SessionState Counts). IsShrunkEffect (polls history n (after first s)) (polls totals n r)) (after-shrunk first second (step-shrunk s.device (event.Poll s.moment)) s) (polls-shrunk n (after first s)) in
     record { text = ap₂ (λ (a b : List ℕ). a ++ b) (poll_line-shrunk now s.device) rest.text; session = rest.session }
 
-planned-shrunk : (starved : Bool) (k : ℕ) (answer : Result Edit NotDone) (s : SessionState (List Note)) → IsShrunkEffect (planned history starved k answer s) (planned totals starved k answer (shrunk_session s))
+planned-shrunk : (starved : Bool) (k : ℕ) (answer : Result Edit Refusal) (s : SessionState (List Note)) → IsShrunkEffect (planned history starved k answer s) (planned totals starved k answer (shrunk_session s))
 planned-shrunk starved k (Err refusal) s = record { text = refl; session = refl }
 planned-shrunk true k (Ok edit) s = record { text = refl; session = refl }
 planned-shrunk false k (Ok edit) s =

@@ -8,8 +8,8 @@ use Rattle.q_packet.specs.declared.head.Head.{Head}
 use Rattle.q_packet.specs.OneAtATime.{one_at_a_time}
 use Rattle.q_codel.specs.declared.loss.Loss.{Loss}
 use Rattle.q_model.specs.declared.command.Command.{Command}
-use Rattle.q_model.specs.declared.not_done.NotDone.{NotDone}
-use Rattle.q_model.specs.declared.not_done.NotDone.TheVariants.{Memory}
+use Rattle.q_model.specs.declared.refusal.Refusal.{Refusal}
+use Rattle.q_model.specs.declared.refusal.Refusal.TheVariants.{Memory}
 use Rattle.q_model.specs.Edit.{Edit}
 use Rattle.q_model.specs.Node.{shape}
 use Rattle.q_model.specs.Tally.{Tally, Note, history}
@@ -91,7 +91,7 @@ polls t (suc n) s =
     record rest { text = poll_line (polled_of (given now s.device.tree) (is_empty (shape step.device.tree.root))) ++ rest.text }
 
 -- a command is done, refused, or refused for want of memory
-abbrev pub planned : {M : Type 0} → Tally M → Bool → ℕ → Result Edit NotDone → SessionState M → Effect M
+abbrev pub planned : {M : Type 0} → Tally M → Bool → ℕ → Result Edit Refusal → SessionState M → Effect M
 planned t starved k (Err refusal) s = refusing (refused_line k refusal) s
 planned t starved k (Ok edit) s =
     if starved then refusing (refused_line k Memory) s

@@ -5,16 +5,16 @@ use Rattle.q_packet.specs.Descriptor.{Descriptor}
 use Rattle.q_packet.specs.Cause.{cause_name}
 use Rattle.q_packet.specs.Ecn.{codepoint}
 use Rattle.q_codel.specs.declared.loss.Loss.{Loss}
-use Rattle.q_model.specs.declared.not_done.NotDone.{NotDone}
+use Rattle.q_model.specs.declared.refusal.Refusal.{Refusal}
 use Rattle.q_model.specs.declared.row.Row.{Row}
-use Rattle.q_model.specs.NotDone.{refusal_number, refusal_name}
+use Rattle.q_model.specs.Refusal.{refusal_text}
 use Rattle.q_model.specs.declared.polled.Polled.{Polled}
 use Rattle.q_model.specs.declared.polled.Polled.TheVariants as polled
 use Rattle.q_script.specs.Script.{newline, line_text}
 pub use Rattle.q_show.specs.ShowText.{counters_text, handle_text, qdisc_text, class_line, filter_line}
 
-abbrev pub refused_line : ℕ → NotDone → List ℕ
-refused_line k refusal = line_text k ++ codes "refused " ++ decimal (refusal_number refusal) ++ codes " " ++ refusal_name refusal ++ newline
+abbrev pub refused_line : ℕ → Refusal → List ℕ
+refused_line k refusal = line_text k ++ refusal_text refusal ++ newline
 
 -- a packet, by its number and length
 abbrev pub packet_text : Descriptor → List ℕ

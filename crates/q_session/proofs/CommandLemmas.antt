@@ -2,36 +2,17 @@
 use Rattle.std.proofs.Common.{◌≡◌, ◌∙◌, ℕ, Bool, true, false, Result, Ok, Err, refl, sym, ap, subst}
 use Rattle.q_model.specs.declared.command.Command.{Command}
 use Rattle.q_model.specs.declared.event.Event.TheVariants as event
-use Rattle.q_model.specs.declared.not_done.NotDone.{NotDone}
-use Rattle.q_model.specs.declared.not_done.NotDone.TheVariants as tree
 use Rattle.q_model.specs.declared.refusal.Refusal.{Refusal}
 use Rattle.q_model.specs.declared.reply.Reply.{Reply}
 use Rattle.q_model.specs.declared.reply.Reply.TheVariants as reply
 use Rattle.q_model.specs.Edit.{Edit}
 use Rattle.q_model.specs.Node.{shape}
-use Rattle.q_model.specs.Refusal.{refusal_of}
 use Rattle.q_model.specs.Step.{answered, counts_at, step}
 use Rattle.q_model.specs.Tally.{Counts, totals}
 use Rattle.q_model.specs.TreeState.{plan}
 use Rattle.q_device.specs.DeviceSeen.{IsRefusal}
 use Rattle.q_report.specs.Report.{SessionState, after, commanded, planned, refusing, silent}
 use Rattle.q_report.specs.Text.{refused_line}
-use Rattle.q_session.specs.Refusals.{not_done_of}
-
-pub named : (refusal : NotDone) → not_done_of (refusal_of refusal) ≡ refusal
-named tree.NoParent = refl
-named tree.Exists = refl
-named tree.NoQdisc = refl
-named tree.HandleTaken = refl
-named tree.NotClassful = refl
-named tree.NoClass = refl
-named tree.Busy = refl
-named tree.CannotChange = refl
-named tree.TooDeep = refl
-named tree.TooMany = refl
-named tree.SmallBurst = refl
-named tree.NoFilter = refl
-named tree.Memory = refl
 
 abbrev IsDone : Reply → Type 0
 IsDone (reply.Done (Ok done)) = Unit {0}
@@ -41,18 +22,18 @@ module _ (k : ℕ) (c : Command) (s : SessionState Counts) where
   abbrev at : ℕ
   at = counts_at s.moment s.device
 
-  abbrev answer : Result Edit NotDone
+  abbrev answer : Result Edit Refusal
   answer = plan s.device.tree.device at c (shape s.device.tree.root)
 
   pub done-effect : reply.Done (Ok tt) ≡ (step totals s.device (event.Command c s.moment)).reply → commanded totals false k c s ≡ silent (after (step totals s.device (event.Command c s.moment)) s)
   done-effect told = by answer told where
-    by : (p : Result Edit NotDone) → reply.Done (Ok tt) ≡ (answered totals p at s.device).reply → planned totals false k p s ≡ silent (after (answered totals p at s.device) s)
+    by : (p : Result Edit Refusal) → reply.Done (Ok tt) ≡ (answered totals p at s.device).reply → planned totals false k p s ≡ silent (after (answered totals p at s.device) s)
     by (Ok edit) e = refl
     by (Err refusal) e = absurd (subst IsDone e tt)
 
   pub refused-effect : (memory : Type 0) (refusal : Refusal) → IsRefusal memory (step totals s.device (event.Command c s.moment)).reply refusal
-      → (starved : Bool) × (commanded totals starved k c s ≡ refusing (refused_line k (not_done_of refusal)) s)
+      → (starved : Bool) × (commanded totals starved k c s ≡ refusing (refused_line k refusal) s)
   refused-effect memory refusal told = by answer told where
-    by : (p : Result Edit NotDone) → IsRefusal memory (answered totals p at s.device).reply refusal → (starved : Bool) × (planned totals starved k p s ≡ refusing (refused_line k (not_done_of refusal)) s)
-    by (Ok edit) e = (true, ap (λ r. refusing (refused_line k r) s) (ap not_done_of (sym e.0)))
-    by (Err first) e = (false, ap (λ r. refusing (refused_line k r) s) (sym (named first) ∙ ap not_done_of (sym e)))
+    by : (p : Result Edit Refusal) → IsRefusal memory (answered totals p at s.device).reply refusal → (starved : Bool) × (planned totals starved k p s ≡ refusing (refused_line k refusal) s)
+    by (Ok edit) e = (true, ap (λ r. refusing (refused_line k r) s) (sym e.0))
+    by (Err first) e = (false, ap (λ r. refusing (refused_line k r) s) (sym e))

@@ -14,12 +14,9 @@ most_name = 12
 abbrev pub most_refusal : ℕ
 most_refusal = most_line_number + 8 + most_decimal + 1 + most_name + 1
 
--- `fault 1 UnknownWord word `
-abbrev pub most_fault_name : ℕ
-most_fault_name = 25
-
+-- `fault N NAME word W`
 abbrev pub most_fault_text : ℕ
-most_fault_text = most_fault_name + most_decimal
+most_fault_text = 6 + most_decimal + 1 + most_name + 6 + most_decimal
 
 abbrev pub most_fault : ℕ
 most_fault = most_line_number + most_fault_text + 1

@@ -1,5 +1,4 @@
 pub mod Lengths
-pub mod Refusals
 pub mod Reported
 pub mod Seen
 pub mod Session

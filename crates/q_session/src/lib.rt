@@ -16,7 +16,6 @@
 
 mod device_session;
 mod listed;
-mod refusals;
 pub mod run;
 mod showing;
 mod text;

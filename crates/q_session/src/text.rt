@@ -1,14 +1,12 @@
 //! The report's texts, each put into the output whole.
-ghost use Rattle.std.specs.Prelude.{◌≡◌, ◌+◌, ◌≤◌, ◌++◌, length, decimal};
+ghost use Rattle.std.specs.Prelude.{◌≡◌, ◌++◌};
 ghost use Rattle.q_words.specs.FaultText.{fault_text};
 ghost use Rattle.q_script.specs.Script.{line_text, fault_line};
 ghost use Rattle.q_script.specs.Lengths.{HasRoom};
 ghost use Rattle.q_show.specs.Lengths.{GrowsBy};
 ghost use Rattle.q_report.specs.Text.{device_line, lost_line, packet_text, poll_line, refused_line};
-ghost use Rattle.q_session.specs.Lengths.{most_device, most_fault, most_fault_name, most_fault_text, most_line_number, most_lost, most_packet, most_poll, most_refusal};
-ghost use Rattle.q_session.specs.Refusals.{not_done_of};
+ghost use Rattle.q_session.specs.Lengths.{most_device, most_fault, most_fault_text, most_line_number, most_lost, most_packet, most_poll, most_refusal};
 
-use crate::refusals::not_done;
 use q_device::{Lost, Polled, Refusal, Row};
 use q_packet::{Ecn, Packet};
 use q_script::Output;
@@ -29,26 +27,14 @@ fn put_line_number(output: &mut Output, number: u64)
 /// The line on a refusal.
 pub fn put_refusal(output: &mut Output, number: u64, refusal: Refusal)
     requires { HasRoom output.old most_refusal }
-    ensures { output.new ≡ output.old ++ refused_line number (not_done_of refusal) }
+    ensures { output.new ≡ output.old ++ refused_line number refusal }
 {
-    let refused = not_done(refusal);
     put_line_number(output, number);
     output.put(b"refused ");
-    output.put_number(u64::from(refused.number()));
+    output.put_number(u64::from(refusal.number()));
     output.put(b" ");
-    output.put(refused.name().as_bytes());
+    output.put(refusal.name().as_bytes());
     output.put(b"\n");
-}
-
-/// A fault's number and name, and the index of the word that has it.
-fn put_named_fault(output: &mut Output, name: &[u8], word: usize)
-    requires room { HasRoom output.old most_fault_text }
-    requires name { length name.now ≤ most_fault_name }
-    ensures text { output.new ≡ output.old ++ (name.now ++ decimal word) }
-    ensures short { GrowsBy output.old output.new most_fault_text }
-{
-    output.put(name);
-    output.put_number(word as u64);
 }
 
 /// A fault and the word that has it.
@@ -57,16 +43,12 @@ fn put_fault_text(output: &mut Output, fault: LineFault)
     ensures text { output.new ≡ output.old ++ fault_text fault }
     ensures short { GrowsBy output.old output.new most_fault_text }
 {
-    match fault {
-        LineFault::UnknownWord(word) => {
-            put_named_fault(output, b"fault 1 UnknownWord word ", word)
-        }
-        LineFault::Missing(word) => put_named_fault(output, b"fault 2 Missing word ", word),
-        LineFault::BadNumber(word) => put_named_fault(output, b"fault 3 BadNumber word ", word),
-        LineFault::OutOfRange(word) => put_named_fault(output, b"fault 4 OutOfRange word ", word),
-        LineFault::Twice(word) => put_named_fault(output, b"fault 5 Twice word ", word),
-        LineFault::BadUtf8(word) => put_named_fault(output, b"fault 6 BadUtf8 word ", word),
-    }
+    output.put(b"fault ");
+    output.put_number(u64::from(fault.number()));
+    output.put(b" ");
+    output.put(fault.name().as_bytes());
+    output.put(b" word ");
+    output.put_number(fault.word() as u64);
 }
 
 /// The line on a fault.

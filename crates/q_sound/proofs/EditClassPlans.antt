@@ -6,7 +6,7 @@ use Rattle.std.proofs.lemmas.Bool.{not-false, false≢true}
 use Rattle.q_codel.specs.declared.limit.Limit.TheVariants.{Packets}
 use Rattle.q_drr.specs.Schedule.{Class, Schedule, has_class, added, removed}
 use Rattle.q_model.specs.declared.class_id.ClassId.{ClassId}
-use Rattle.q_model.specs.declared.not_done.NotDone.TheVariants.{Exists, NoClass, Busy}
+use Rattle.q_model.specs.declared.refusal.Refusal.TheVariants.{Exists, NoClass, Busy}
 use Rattle.q_model.specs.Numbers.{IsMinor, IsQuantum}
 use Rattle.q_model.specs.Refusals.{Check, refuse}
 use Rattle.q_model.specs.Filters.{names_class}

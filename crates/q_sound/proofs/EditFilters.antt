@@ -8,7 +8,7 @@ use Rattle.std.proofs.lemmas.List.Sums.{length-filter, count_by-le-length}
 use Rattle.std.proofs.lemmas.List.Elements.{All-nil, All-cons, All-head, All-tail, All-filter}
 use Rattle.std.proofs.lemmas.List.Kept.{AllPairs-cons, AllPairs-filter}
 use Rattle.q_model.specs.declared.filter.Filter.{Filter}
-use Rattle.q_model.specs.declared.not_done.NotDone.TheVariants.{NoQdisc, NotClassful, NoClass, TooMany}
+use Rattle.q_model.specs.declared.refusal.Refusal.TheVariants.{NoQdisc, NotClassful, NoClass, TooMany}
 use Rattle.q_model.specs.Refusals.{Check, refuse, has_filters, most_filters}
 use Rattle.q_model.specs.Filters.{with_filter}
 use Rattle.q_model.specs.Tally.{Note}

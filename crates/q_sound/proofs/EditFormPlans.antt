@@ -16,8 +16,8 @@ use Rattle.q_model.specs.declared.command.Command.TheVariants.{QdiscAdd, QdiscCh
 use Rattle.q_model.specs.declared.filter.Filter.{Filter}
 use Rattle.q_model.specs.declared.kind.Kind.{Kind}
 use Rattle.q_model.specs.declared.kind.Kind.TheVariants as kind
-use Rattle.q_model.specs.declared.not_done.NotDone.TheVariants.{NoQdisc, NoClass, Busy, CannotChange}
-use Rattle.q_model.specs.declared.not_done.NotDone.{NotDone}
+use Rattle.q_model.specs.declared.refusal.Refusal.TheVariants.{NoQdisc, NoClass, Busy, CannotChange}
+use Rattle.q_model.specs.declared.refusal.Refusal.{Refusal}
 use Rattle.q_model.specs.declared.place.Place.{Place}
 use Rattle.q_model.specs.Filters.{names_class, with_filter}
 use Rattle.q_model.specs.Tally.{Note, history}
@@ -162,7 +162,7 @@ module _ (now : ℕ) (root : Node (List Note)) where
 
   qdisc-deleted : (d : Device) (place : Option Place) (handle : Option ℕ) (edit : Edit) → qdisc_del d place handle (shape root) ≡ Ok edit → FormOf now root edit
   qdisc-deleted d place handle edit e =
-      let f : List ℕ → Shape → Result Edit NotDone = λ path n. Ok (Graft path (leaf_at d path (shape root))) in
+      let f : List ℕ → Shape → Result Edit Refusal = λ path n. Ok (Graft path (leaf_at d path (shape root))) in
       let at : AtNode f root edit = node_there NoQdisc (target place handle (shape root)) f root edit e in
       subst (FormOf now root) (same_edit (Graft at.path (leaf_at d at.path (shape root))) edit at.edit_is) tt
 

@@ -12,8 +12,8 @@ use Rattle.q_bucket.specs.Level.{after_change}
 use Rattle.q_model.specs.declared.filter.Filter.{Filter}
 use Rattle.q_model.specs.declared.kind.Kind.{Kind}
 use Rattle.q_model.specs.declared.kind.Kind.TheVariants as kind
-use Rattle.q_model.specs.declared.not_done.NotDone.TheVariants.{NoQdisc, Exists, HandleTaken, Busy, SmallBurst, CannotChange}
-use Rattle.q_model.specs.declared.not_done.NotDone.{NotDone}
+use Rattle.q_model.specs.declared.refusal.Refusal.TheVariants.{NoQdisc, Exists, HandleTaken, Busy, SmallBurst, CannotChange}
+use Rattle.q_model.specs.declared.refusal.Refusal.{Refusal}
 use Rattle.q_model.specs.declared.place.Place.{Place}
 use Rattle.q_model.specs.Options.{FqOptions}
 use Rattle.q_model.specs.Ranges.{IsKind}
@@ -84,7 +84,7 @@ module _ (d : Device) (now : ℕ) (root : Node (List Note)) (once : (h : ℕ) �
 
   pub planned_qdisc_del : (place : Option Place) (handle : Option ℕ) (edit : Edit) → qdisc_del d place handle (shape root) ≡ Ok edit → Planned d.mtu now root edit
   planned_qdisc_del place handle edit e =
-      let f : List ℕ → Shape → Result Edit NotDone = λ path n. Ok (Graft path (leaf_at d path (shape root))) in
+      let f : List ℕ → Shape → Result Edit Refusal = λ path n. Ok (Graft path (leaf_at d path (shape root))) in
       let at : AtNode f root edit = node_there NoQdisc (target place handle (shape root)) f root edit e in
       subst (Planned d.mtu now root) (same_edit (Graft at.path (leaf_at d at.path (shape root))) edit at.edit_is) (record {
         fresh = None;

@@ -6,7 +6,7 @@ use Rattle.std.specs.Option.{option_map_or}
 use Rattle.std.proofs.lemmas.Option.{none-some, same_Some}
 use Rattle.std.proofs.lemmas.List.{length-map}
 use Rattle.q_packet.specs.Descriptor.{Descriptor}
-use Rattle.q_model.specs.declared.not_done.NotDone.{NotDone}
+use Rattle.q_model.specs.declared.refusal.Refusal.{Refusal}
 use Rattle.q_model.proofs.ShrinkLemmas.{each-each_memory, nodes_in-each_memory, child-with_memory}
 use Rattle.q_model.specs.Tally.{Note, history}
 use Rattle.q_model.specs.Node.{Node, Shape, children, shape, blank}
@@ -102,14 +102,14 @@ module _ (mtu now : ℕ) (fresh : Option ℕ) (positive : 1 ≤ mtu) (root : Nod
 
 -- ---- what a plan says
 
-err_not_ok : (refusal : NotDone) (edit : Edit) → ◌≡◌ {A = Result Edit NotDone} (Err refusal) (Ok edit) → ⊥
+err_not_ok : (refusal : Refusal) (edit : Edit) → ◌≡◌ {A = Result Edit Refusal} (Err refusal) (Ok edit) → ⊥
 err_not_ok refusal edit e = cc
 
 -- a command that is done is refused by none of its checks
 pub done_is : {A : Type 0} (checks : List Check) (a edit : A) → done_unless checks a ≡ Ok edit → (first_refusal checks ≡ None) × (a ≡ edit)
 done_is {A} checks a edit e = go (first_refusal checks) e
   where
-    go : (o : Option NotDone) → ◌≡◌ {A = Result A NotDone} (option_map_or (λ (refusal : NotDone). Err refusal) o (Ok a)) (Ok edit) → (o ≡ None) × (a ≡ edit)
+    go : (o : Option Refusal) → ◌≡◌ {A = Result A Refusal} (option_map_or (λ (refusal : Refusal). Err refusal) o (Ok a)) (Ok edit) → (o ≡ None) × (a ≡ edit)
     go None e = (refl, cc)
     go (Some refusal) e = absurd cc
 
@@ -121,14 +121,14 @@ check_passed c checks e = go c.holds e
     go false e = (refl, e)
 
 -- an edit of a node is one of a node that is there
-pub record AtTarget (found : Option (List ℕ)) (f : List ℕ → Shape → Result Edit NotDone) (root : Shape) (edit : Edit) : Type 0 where
+pub record AtTarget (found : Option (List ℕ)) (f : List ℕ → Shape → Result Edit Refusal) (root : Shape) (edit : Edit) : Type 0 where
   pub path : List ℕ
   pub node : Shape
   pub found_is : found ≡ Some path
   pub node_is : node_at path root ≡ Some node
   pub edit_is : f path node ≡ Ok edit
 
-pub target_there : (refusal : NotDone) (found : Option (List ℕ)) (f : List ℕ → Shape → Result Edit NotDone) (root : Shape) (edit : Edit)
+pub target_there : (refusal : Refusal) (found : Option (List ℕ)) (f : List ℕ → Shape → Result Edit Refusal) (root : Shape) (edit : Edit)
     → at_target refusal found f root ≡ Ok edit → AtTarget found f root edit
 target_there refusal None f root edit e = absurd (err_not_ok refusal edit e)
 target_there refusal (Some path) f root edit e = go (node_at path root) refl e

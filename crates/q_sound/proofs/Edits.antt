@@ -8,8 +8,8 @@ use Rattle.q_packet.specs.Descriptor.{Descriptor}
 use Rattle.q_codel.specs.declared.limit.Limit.TheVariants.{Packets}
 use Rattle.q_model.specs.declared.command.Command.{Command}
 use Rattle.q_model.specs.declared.command.Command.TheVariants.{QdiscAdd, QdiscChange, QdiscDel, ClassAdd, ClassChange, ClassDel, FilterAdd, FilterDel}
-use Rattle.q_model.specs.declared.not_done.NotDone.{NotDone}
-use Rattle.q_model.specs.declared.not_done.NotDone.TheVariants.{TooDeep, TooMany}
+use Rattle.q_model.specs.declared.refusal.Refusal.{Refusal}
+use Rattle.q_model.specs.declared.refusal.Refusal.TheVariants.{TooDeep, TooMany}
 use Rattle.q_model.proofs.ShrinkLemmas.{each-each_memory}
 use Rattle.q_model.proofs.ShrinkSteps.{edited-stands}
 use Rattle.q_model.specs.Ranges.{IsCommand}
@@ -81,13 +81,13 @@ pub record Checked (d : Device) (now : ℕ) (c : Command) (root : Shape) (edit :
 pub plan_checked : (d : Device) (now : ℕ) (c : Command) (root : Shape) (edit : Edit) → plan d now c root ≡ Ok edit → Checked d now c root edit
 plan_checked d now c root edit e = go (edit_of d now c root) refl e
   where
-    then_checked : Result Edit NotDone → Result Edit NotDone
+    then_checked : Result Edit Refusal → Result Edit Refusal
     then_checked r = elim r [
       | Ok asked ↦ checked root asked
       | Err refusal ↦ Err refusal
     ]
 
-    go : (r : Result Edit NotDone) → edit_of d now c root ≡ r → then_checked r ≡ Ok edit → Checked d now c root edit
+    go : (r : Result Edit Refusal) → edit_of d now c root ≡ r → then_checked r ≡ Ok edit → Checked d now c root edit
     go (Err refusal) is e = absurd (refused_not_done refusal edit e)
     go (Ok asked) is e =
         let after : Shape = edited nothing [] asked root in

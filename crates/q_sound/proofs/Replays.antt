@@ -2,7 +2,7 @@
 use Rattle.std.proofs.Common.{◌≡◌, ℕ, ◌≤◌, ◌^◌, max, List, [], ◌∷◌, refl, Result, Ok, Err, arith}
 use Rattle.std.specs.Prelude.{All}
 use Rattle.std.proofs.lemmas.List.Elements.{All-head, All-tail}
-use Rattle.q_model.specs.declared.not_done.NotDone.{NotDone}
+use Rattle.q_model.specs.declared.refusal.Refusal.{Refusal}
 use Rattle.q_model.specs.declared.event.Event.{Event}
 use Rattle.q_model.specs.declared.event.Event.TheVariants as event
 use Rattle.q_model.specs.Edit.{Edit}
@@ -33,7 +33,7 @@ step-kept d (event.Arrive p moment) h e =
 step-kept d (event.Poll moment) h e = take-kept d.clock (max d.clock moment) d.tree h (not-before d.clock moment) (not-after d.clock moment (2 ^ 62) h.moment e)
 step-kept d (event.Command c moment) h e = by (plan d.tree.device (max d.clock moment) c (shape d.tree.root)) refl
   where
-    by : (answer : Result Edit NotDone) → plan d.tree.device (max d.clock moment) c (shape d.tree.root) ≡ answer → IsKept (answered history answer (max d.clock moment) d).device
+    by : (answer : Result Edit Refusal) → plan d.tree.device (max d.clock moment) c (shape d.tree.root) ≡ answer → IsKept (answered history answer (max d.clock moment) d).device
     by (Ok edit) is = edit-keeps d.tree d.clock (max d.clock moment) c edit h (not-before d.clock moment) (not-after d.clock moment (2 ^ 62) h.moment e.1) e.0 is
     by (Err refusal) is = h
 

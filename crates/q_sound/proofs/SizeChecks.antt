@@ -6,7 +6,7 @@ use Rattle.std.proofs.lemmas.Bool.{lt-ltb, le-ltb, cases_lt}
 use Rattle.q_bucket.specs.Level.{TokenBucket, after_change}
 use Rattle.q_drr.specs.Schedule.{Schedule}
 use Rattle.q_model.specs.declared.filter.Filter.{Filter}
-use Rattle.q_model.specs.declared.not_done.NotDone.TheVariants.{TooDeep, TooMany}
+use Rattle.q_model.specs.declared.refusal.Refusal.TheVariants.{TooDeep, TooMany}
 use Rattle.q_model.specs.Node.{Discipline, Prio, Tbf, Drr, Own, Shape, children, blank}
 use Rattle.q_model.specs.Make.{Device, implicit_pfifo}
 use Rattle.q_model.specs.Find.{depth, count_nodes, node_at}

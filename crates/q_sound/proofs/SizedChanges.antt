@@ -9,8 +9,8 @@ use Rattle.q_fqcodel.specs.FqState as flows
 use Rattle.q_model.specs.declared.command.Command.TheVariants.{QdiscChange}
 use Rattle.q_model.specs.declared.kind.Kind.{Kind}
 use Rattle.q_model.specs.declared.kind.Kind.TheVariants as kind
-use Rattle.q_model.specs.declared.not_done.NotDone.{NotDone}
-use Rattle.q_model.specs.declared.not_done.NotDone.TheVariants.{NoQdisc}
+use Rattle.q_model.specs.declared.refusal.Refusal.{Refusal}
+use Rattle.q_model.specs.declared.refusal.Refusal.TheVariants.{NoQdisc}
 use Rattle.q_model.specs.declared.place.Place.{Place}
 use Rattle.q_model.specs.Node.{Discipline, Fifo, Prio, Tbf, Drr, FqCodel, Shape, children, each}
 use Rattle.q_model.specs.Beneath.{beneath_own, beneath}
@@ -47,7 +47,7 @@ length-below n = ap length (each-nodes beneath_own n.below) ∙ length-map (chil
 abbrev pub nodes_rebanded : Shape → Shape → ℕ → ℕ
 nodes_rebanded root n bands = count_nodes root + (bands - length (children n)) - sum (counts (drop bands (children n)))
 
-abbrev pub change_sized : Device → ℕ → Shape → Shape → List ℕ → Discipline → Kind → Result Edit NotDone
+abbrev pub change_sized : Device → ℕ → Shape → Shape → List ℕ → Discipline → Kind → Result Edit Refusal
 change_sized d now root n path (Prio old) (kind.Prio s) = done_unless (bands_check s.bands n ++ numbers (nodes_rebanded root n s.bands)) (rebanded d n path s.bands s.priomap)
 change_sized d now root n path was other = change_of d now n path was other
 

@@ -7,8 +7,8 @@ use Rattle.q_model.specs.declared.class_id.ClassId.{ClassId}
 use Rattle.q_model.specs.declared.command.Command.TheVariants.{QdiscAdd, QdiscDel, ClassAdd, ClassChange, ClassDel, FilterAdd, FilterDel}
 use Rattle.q_model.specs.declared.filter.Filter.{Filter}
 use Rattle.q_model.specs.declared.kind.Kind.{Kind}
-use Rattle.q_model.specs.declared.not_done.NotDone.{NotDone}
-use Rattle.q_model.specs.declared.not_done.NotDone.TheVariants.{NoQdisc, NoParent}
+use Rattle.q_model.specs.declared.refusal.Refusal.{Refusal}
+use Rattle.q_model.specs.declared.refusal.Refusal.TheVariants.{NoQdisc, NoParent}
 use Rattle.q_model.specs.declared.place.Place.{Place}
 use Rattle.q_drr.specs.Schedule.{Schedule, added, removed}
 use Rattle.q_model.specs.Node.{Discipline, Fifo, Prio, Tbf, Drr, FqCodel, Shape}
@@ -26,7 +26,7 @@ use Rattle.q_sound.proofs.SizeChecks.{sizes, checked-graft, checked-one, checked
 -- ---- a plan, check by check
 
 -- what a command asks for is done unless the tree gets too large by it
-abbrev pub then_checked : Shape → Result Edit NotDone → Result Edit NotDone
+abbrev pub then_checked : Shape → Result Edit Refusal → Result Edit Refusal
 then_checked root r = elim r [
   | Ok edit ↦ checked root edit
   | Err refusal ↦ Err refusal
@@ -40,8 +40,8 @@ module _ (root : Shape) where
   then-done (c ∷ checks) more edit e = by c.holds (then-done checks more edit e)
     where
       by : (t : Bool) → then_checked root (done_unless checks edit) ≡ done_unless (checks ++ more) edit
-          → then_checked root (option_map_or (λ (r : NotDone). Err r) (if t then Some c.refusal else first_refusal checks) (Ok edit))
-          ≡ option_map_or (λ (r : NotDone). Err r) (if t then Some c.refusal else first_refusal (checks ++ more)) (Ok edit)
+          → then_checked root (option_map_or (λ (r : Refusal). Err r) (if t then Some c.refusal else first_refusal checks) (Ok edit))
+          ≡ option_map_or (λ (r : Refusal). Err r) (if t then Some c.refusal else first_refusal (checks ++ more)) (Ok edit)
       by true rec = refl
       by false rec = rec
 
@@ -51,12 +51,12 @@ module _ (root : Shape) where
   then-never (c ∷ checks) edit e = by c.holds (then-never checks edit e)
     where
       by : (t : Bool) → then_checked root (done_unless checks edit) ≡ done_unless checks edit
-          → then_checked root (option_map_or (λ (r : NotDone). Err r) (if t then Some c.refusal else first_refusal checks) (Ok edit))
-          ≡ option_map_or (λ (r : NotDone). Err r) (if t then Some c.refusal else first_refusal checks) (Ok edit)
+          → then_checked root (option_map_or (λ (r : Refusal). Err r) (if t then Some c.refusal else first_refusal checks) (Ok edit))
+          ≡ option_map_or (λ (r : Refusal). Err r) (if t then Some c.refusal else first_refusal checks) (Ok edit)
       by true rec = refl
       by false rec = rec
 
-  pub then-target : (refusal : NotDone) (found : Option (List ℕ)) (f g : List ℕ → Shape → Result Edit NotDone)
+  pub then-target : (refusal : Refusal) (found : Option (List ℕ)) (f g : List ℕ → Shape → Result Edit Refusal)
       → ((path : List ℕ) (n : Shape) → node_at path root ≡ Some n → then_checked root (f path n) ≡ g path n)
       → then_checked root (at_target refusal found f root) ≡ at_target refusal found g root
   then-target refusal None f g h = refl
@@ -67,7 +67,7 @@ module _ (root : Shape) where
       by None e = refl
       by (Some n) e = h path n e
 
-  then-schedule : (f g : Schedule → Result Edit NotDone) → ((s : Schedule) → then_checked root (f s) ≡ g s)
+  then-schedule : (f g : Schedule → Result Edit Refusal) → ((s : Schedule) → then_checked root (f s) ≡ g s)
       → (d : Discipline) → then_checked root (of_schedule f d) ≡ of_schedule g d
   then-schedule f g h (Drr s) = h s
   then-schedule f g h (Fifo limit queue) = refl
@@ -75,12 +75,12 @@ module _ (root : Shape) where
   then-schedule f g h (Prio priomap) = refl
   then-schedule f g h (Tbf b limit) = refl
 
-  pub then-drr : (parent : Option ℕ) (class : ClassId) (f g : List ℕ → Shape → Schedule → Result Edit NotDone)
+  pub then-drr : (parent : Option ℕ) (class : ClassId) (f g : List ℕ → Shape → Schedule → Result Edit Refusal)
       → ((path : List ℕ) (n : Shape) (s : Schedule) → node_at path root ≡ Some n → then_checked root (f path n s) ≡ g path n s)
       → then_checked root (at_drr parent class f root) ≡ at_drr parent class g root
   then-drr parent class f g h = by (is_so (λ major. not (major == class.major)) parent)
     where
-      at : (List ℕ → Shape → Schedule → Result Edit NotDone) → Result Edit NotDone
+      at : (List ℕ → Shape → Schedule → Result Edit Refusal) → Result Edit Refusal
       at k = at_target NoQdisc (path_of class.major root) (λ path n. of_schedule (k path n) n.own.discipline) root
 
       by : (t : Bool) → then_checked root (if t then Err NoParent else at f) ≡ (if t then Err NoParent else at g)
@@ -140,13 +140,13 @@ module _ (root : Shape) where
     pub plan-qdisc_del : (place : Option Place) (handle : Option ℕ)
         → plan d now (QdiscDel place handle) root ≡ qdisc_del d place handle root
     plan-qdisc_del place handle =
-        let f : List ℕ → Shape → Result Edit NotDone = λ path n. Ok (Graft path (leaf_at d path root)) in
+        let f : List ℕ → Shape → Result Edit Refusal = λ path n. Ok (Graft path (leaf_at d path root)) in
         then-target NoQdisc (target place handle root) f f
         (λ path n e. let alone = leaf-alone path in checked-one root levels few path (leaf_at d path root) n e alone.0 alone.1)
 
     -- ---- a class more
 
-    abbrev pub class_added_sized : ClassId → Option ℕ → List ℕ → Shape → Schedule → Result Edit NotDone
+    abbrev pub class_added_sized : ClassId → Option ℕ → List ℕ → Shape → Schedule → Result Edit Refusal
     class_added_sized class quantum path n s =
         done_unless (class_add_checks class n ++ sizes (length path + 2) (suc (count_nodes root))) (with_class d path n (added class.minor (unwrap_or quantum d.mtu) s))
 

@@ -8,7 +8,7 @@ use Rattle.q_packet.specs.declared.cause.Cause.{Cause}
 use Rattle.q_packet.specs.declared.cause.Cause.TheVariants.{Purged}
 use Rattle.q_model.specs.declared.event.Event.{Event}
 use Rattle.q_model.specs.declared.event.Event.TheVariants as event
-use Rattle.q_model.specs.declared.not_done.NotDone.{NotDone}
+use Rattle.q_model.specs.declared.refusal.Refusal.{Refusal}
 use Rattle.q_model.specs.Tally.{Note, history, noted}
 use Rattle.q_model.specs.Node.{Own, Node, Shape, children, shape, side_by_side, blank, each}
 use Rattle.q_model.specs.Beneath.{beneath_own, beneath, is_empty}
@@ -173,7 +173,7 @@ becomes h d (event.Poll moment) n after kept range is at =
     asked-so h d.clock (max d.clock moment) d kept refl (not-before d.clock moment) n is after f.there f.handle
 becomes h d (event.Command c moment) n after kept range is at = by (plan d.tree.device (max d.clock moment) c (shape d.tree.root)) refl at
   where
-    by : (answer : Result Edit NotDone) → plan d.tree.device (max d.clock moment) c (shape d.tree.root) ≡ answer → qdisc h (answered history answer (max d.clock moment) d).device ≡ Some after
+    by : (answer : Result Edit Refusal) → plan d.tree.device (max d.clock moment) c (shape d.tree.root) ≡ answer → qdisc h (answered history answer (max d.clock moment) d).device ≡ Some after
         → (after ≡ n) ⊎ IsEdited (answered history answer (max d.clock moment) d).device.clock n after
     by (Err refusal) e there = inl (same_Some after n (sym there ∙ is))
     by (Ok edit) e there =
@@ -189,6 +189,6 @@ clock-rises d (event.Arrive p moment) = not-before d.clock moment
 clock-rises d (event.Poll moment) = not-before d.clock moment
 clock-rises d (event.Command c moment) = by (plan d.tree.device (max d.clock moment) c (shape d.tree.root))
   where
-    by : (answer : Result Edit NotDone) → d.clock ≤ (answered history answer (max d.clock moment) d).device.clock
+    by : (answer : Result Edit Refusal) → d.clock ≤ (answered history answer (max d.clock moment) d).device.clock
     by (Ok edit) = not-before d.clock moment
     by (Err refusal) = omega arith

@@ -13,8 +13,8 @@ use Rattle.q_model.specs.declared.command.Command.TheVariants.{QdiscChange}
 use Rattle.q_model.specs.declared.filter.Filter.{Filter}
 use Rattle.q_model.specs.declared.kind.Kind.{Kind}
 use Rattle.q_model.specs.declared.kind.Kind.TheVariants as kind
-use Rattle.q_model.specs.declared.not_done.NotDone.{NotDone}
-use Rattle.q_model.specs.declared.not_done.NotDone.TheVariants.{Busy, CannotChange, NoQdisc, SmallBurst, TooMany}
+use Rattle.q_model.specs.declared.refusal.Refusal.{Refusal}
+use Rattle.q_model.specs.declared.refusal.Refusal.TheVariants.{Busy, CannotChange, NoQdisc, SmallBurst, TooMany}
 use Rattle.q_model.specs.declared.place.Place.{Place}
 use Rattle.q_model.specs.declared.tbf_limit.TbfLimit.{TbfLimit}
 use Rattle.q_model.specs.Beneath.{beneath, beneath_own}
@@ -62,7 +62,7 @@ Counting = Node own_kept.Kept
 
 -- ---- other settings alone
 
-module _ (n : Counting) (plans : List ℕ → Result model.Edit NotDone) (r : shapes.Reshape) (to : Discipline) where
+module _ (n : Counting) (plans : List ℕ → Result model.Edit Refusal) (r : shapes.Reshape) (to : Discipline) where
   kids-stay : map unplaced (children n) ≡ kids totals (children (unplaced n)) (kept_from 0 (length (children (shape n))))
   kids-stay = sym (kept-nodes n) ∙ sym (kids_all totals (children (unplaced n)) (length (children (shape n))) (length-unplaced n))
 
@@ -110,7 +110,7 @@ module _ (bytes : ℕ) where
 -- ---- each kind but prio
 
 module _ (d : Device) (now : ℕ) (root : Shape) (n : Counting) where
-  abbrev pub plans_of : Kind → Discipline → List ℕ → Result model.Edit NotDone
+  abbrev pub plans_of : Kind → Discipline → List ℕ → Result model.Edit Refusal
   plans_of k was path = change_sized d now root (shape n) path was k
 
   pub pfifo-is : (limit : Option ℕ) → IsChange takes_none (plans_of (kind.Pfifo limit) n.own.discipline) n (pfifo_answer limit n.own.discipline)
@@ -301,7 +301,7 @@ module _ (d : Device) (n : Counting) (s : PrioSettings) (ls : List Counting) whe
         (λ j le lt. any-append (keeps j) front behind ∙ ap (λ t. t || list_any (keeps j) behind) (kept_there j 0 (min old s.bands) le lt))
         (λ j le. any-append (keeps j) front behind ∙ ap₂ (λ a b. a || b) (kept_above j 0 (min old s.bands) le) (new_keeps j leaf (s.bands - old))))
 
-    module _ (plans : List ℕ → Result model.Edit NotDone) (r : shapes.Reshape) (priomap : List ℕ) (is : n.own.discipline ≡ Prio priomap) (planned : (path : List ℕ) → plans path ≡ Ok (rebanded d (shape n) path s.bands s.priomap)) where
+    module _ (plans : List ℕ → Result model.Edit Refusal) (r : shapes.Reshape) (priomap : List ℕ) (is : n.own.discipline ≡ Prio priomap) (planned : (path : List ℕ) → plans path ≡ Ok (rebanded d (shape n) path s.bands s.priomap)) where
       -- r is the edit of these bands
       pub rebanded-is : discipline_after r n.own.discipline (children n) ≡ remapped s.priomap n.own.discipline → children_after r n.own.discipline (children n) ≡ bands_staying s.bands ls n.own.discipline (children n)
           → lost_with r n.own.discipline (children n) ≡ packets_beneath (bands_going s.bands ls n.own.discipline (children n)) → (All IsFresh ls → AreReady r) → IsRemade plans n r
@@ -336,7 +336,7 @@ module _ (d : Device) (now : ℕ) (root : Shape) (n : Counting) (s : PrioSetting
       ap (λ ss. sum (counts (drop s.bands ss))) (children-shape n) ∙ ap (λ ss. sum (counts ss)) (drop-map shape s.bands (children n)) ∙ ap sum (counts-shape (drop s.bands (children n))) in
       omega (arith, nodes_is, length-shape n, going)
 
-  pub bands-refused : (refusal : NotDone) → leaves_answer s.bands nodes n n.own.discipline ≡ Err refusal → (path : List ℕ) → plans_of d now root n (kind.Prio s) n.own.discipline path ≡ Err refusal
+  pub bands-refused : (refusal : Refusal) → leaves_answer s.bands nodes n n.own.discipline ≡ Err refusal → (path : List ℕ) → plans_of d now root n (kind.Prio s) n.own.discipline path ≡ Err refusal
   bands-refused refusal e path = by n.own.discipline e where
     by : (was : Discipline) → leaves_answer s.bands nodes n was ≡ Err refusal → plans_of d now root n (kind.Prio s) was path ≡ Err refusal
     by (Prio priomap) same =
@@ -381,10 +381,10 @@ module _ (root : Counting) (bounded : IsBounded root) (d : Device) (now mtu : �
   abbrev found_at : Option (List ℕ)
   found_at = target place handle (shape root)
 
-  abbrev change_at : List ℕ → Shape → Result model.Edit NotDone
+  abbrev change_at : List ℕ → Shape → Result model.Edit Refusal
   change_at path n = change_sized d now (shape root) n path n.own.discipline k
 
-  abbrev whole : Result model.Edit NotDone
+  abbrev whole : Result model.Edit Refusal
   whole = plan d now (QdiscChange place handle k) (shape root)
 
   shape-lawful : IsLawfulRoot mtu now (shape root)
@@ -409,7 +409,7 @@ module _ (root : Counting) (bounded : IsBounded root) (d : Device) (now mtu : �
     pub change-within : count_nodes n ≤ count_nodes root
     change-within = omega (arith, (sized-within path (shape root) (shape n) there).1, count-shape root, count-shape n)
 
-    pub change-refused : (memory : Type 0) (refusal : NotDone) → IsRefused memory (change_at path (shape n)) refusal → IsRefused memory whole refusal
+    pub change-refused : (memory : Type 0) (refusal : Refusal) → IsRefused memory (change_at path (shape n)) refusal → IsRefused memory whole refusal
     change-refused memory refusal h = subst (λ q. IsRefused memory q refusal) (sym at-node) h
 
     pub change-planned : (memory : Type 0) (r : shapes.Reshape) → IsRemade (λ way. change_at way (shape n)) n r × (TakesMore r → memory) → (p : Planned) → p.path.items ≡ path → p.edit ≡ Reshape r → IsCommand (QdiscChange place handle k)

@@ -8,8 +8,8 @@ use Rattle.q_codel.specs.declared.limit.Limit.TheVariants.{Packets}
 use Rattle.q_drr.specs.Schedule.{Class, Schedule, added, has_class, is_active, removed}
 use Rattle.q_model.specs.declared.class_id.ClassId.{ClassId}
 use Rattle.q_model.specs.declared.command.Command.TheVariants.{ClassAdd, ClassDel}
-use Rattle.q_model.specs.declared.not_done.NotDone.{NotDone}
-use Rattle.q_model.specs.declared.not_done.NotDone.TheVariants.{Busy, Exists, NoClass, NoQdisc}
+use Rattle.q_model.specs.declared.refusal.Refusal.{Refusal}
+use Rattle.q_model.specs.declared.refusal.Refusal.TheVariants.{Busy, Exists, NoClass, NoQdisc}
 use Rattle.q_model.specs.Beneath.{beneath_own}
 use Rattle.q_model.specs.ClassCommands.{class_add_checks, class_del_checks, class_removed, is_there, of_schedule, with_class, without_class}
 use Rattle.q_model.specs.Edit as model
@@ -55,7 +55,7 @@ module _ (root : Node Kept) (bounded : IsBounded root) (d : Device) (parent : �
   abbrev adds : List ℕ → Shape → Schedule → model.Edit
   adds path n s = with_class d path n (added class.minor (unwrap_or quantum d.mtu) s)
 
-  abbrev add_at : List ℕ → Shape → Result model.Edit NotDone
+  abbrev add_at : List ℕ → Shape → Result model.Edit Refusal
   add_at path n = of_schedule (λ s. done_unless (add_checks path n) (adds path n s)) n.own.discipline
 
   add-plan : plan d now (ClassAdd parent class quantum) (shape root) ≡ at_target NoQdisc (path_of class.major (shape root)) add_at (shape root)
@@ -70,7 +70,7 @@ module _ (root : Node Kept) (bounded : IsBounded root) (d : Device) (parent : �
     here : plan d now (ClassAdd parent class quantum) (shape root) ≡ add_at path (shape n)
     here = add-plan ∙ target-some root (path_of class.major (shape root)) NoQdisc add_at path n found
 
-    pub add-refused : (refusal : NotDone) → drr_answer (class_add_sized class steps (shape n) root) n.own.discipline ≡ Err refusal → plan d now (ClassAdd parent class quantum) (shape root) ≡ Err refusal
+    pub add-refused : (refusal : Refusal) → drr_answer (class_add_sized class steps (shape n) root) n.own.discipline ≡ Err refusal → plan d now (ClassAdd parent class quantum) (shape root) ≡ Err refusal
     add-refused refusal e = here ∙ drr-refused (add_checks path (shape n)) (adds path (shape n)) refusal n.own.discipline (sized-is class (length path) (shape n) root steps steps_is n.own.discipline ∙ e)
 
     module _ (passed : drr_answer (class_add_sized class steps (shape n) root) n.own.discipline ≡ Ok tt) (leaf : Node Kept) (new : IsNewNode leaf (implicit_pfifo d)) (q : ℕ) (q_is : q ≡ unwrap_or quantum d.mtu)
@@ -100,7 +100,7 @@ module _ (root : Node Kept) (bounded : IsBounded root) (d : Device) (parent : �
 -- ---- a class less
 
 module _ (root : Node Kept) (bounded : IsBounded root) (d : Device) (parent : Option ℕ) (class : ClassId) (own_parent : is_so (λ major. not (major == class.major)) parent ≡ false) (now : ℕ) where
-  abbrev remove_at : List ℕ → Shape → Result model.Edit NotDone
+  abbrev remove_at : List ℕ → Shape → Result model.Edit Refusal
   remove_at path n = of_schedule (class_removed class path n) n.own.discipline
 
   del-plan : plan d now (ClassDel parent class) (shape root) ≡ at_target NoQdisc (path_of class.major (shape root)) remove_at (shape root)
@@ -119,7 +119,7 @@ module _ (root : Node Kept) (bounded : IsBounded root) (d : Device) (parent : Op
     gets : plan d now (ClassDel parent class) (shape root) ≡ remove_at path (shape n)
     gets = del-plan ∙ target-some root (path_of class.major (shape root)) NoQdisc remove_at path n found
 
-    pub del-refused : (refusal : NotDone) → drr_answer (class_del_checks class (shape n)) n.own.discipline ≡ Err refusal → plan d now (ClassDel parent class) (shape root) ≡ Err refusal
+    pub del-refused : (refusal : Refusal) → drr_answer (class_del_checks class (shape n)) n.own.discipline ≡ Err refusal → plan d now (ClassDel parent class) (shape root) ≡ Err refusal
     del-refused refusal e = gets ∙ drr-refused (class_del_checks class (shape n)) removes refusal n.own.discipline e
 
     module _ (passed : drr_answer (class_del_checks class (shape n)) n.own.discipline ≡ Ok tt) (lawful : IsNumbered root) (p : Planned) (way : p.path.items ≡ path) (ranges : IsCommand (ClassDel parent class)) where

@@ -10,8 +10,8 @@ use Rattle.q_drr.specs.Schedule as schedule
 use Rattle.q_drr.specs.Schedule.{Schedule, added, has_class, with_quantum}
 use Rattle.q_packet.specs.Descriptor.{Descriptor}
 use Rattle.q_model.specs.declared.class_id.ClassId.{ClassId}
-use Rattle.q_model.specs.declared.not_done.NotDone.{NotDone}
-use Rattle.q_model.specs.declared.not_done.NotDone.TheVariants.{NoClass, NoParent, NoQdisc}
+use Rattle.q_model.specs.declared.refusal.Refusal.{Refusal}
+use Rattle.q_model.specs.declared.refusal.Refusal.TheVariants.{NoClass, NoParent, NoQdisc}
 use Rattle.q_model.specs.Beneath.{beneath}
 use Rattle.q_model.specs.ClassCommands.{at_drr, class_add_checks, class_change_checks, class_changed, is_there, of_schedule, with_new_quantum}
 use Rattle.q_model.specs.Edit as model
@@ -38,11 +38,11 @@ use Rattle.q_tree.proofs.Plans.{all-passed, length-unplaced, same-refusal}
 
 -- ---- the drr whose class it is
 
-pub at-class : (parent : Option ℕ) (class : ClassId) (f : List ℕ → Shape → Schedule → Result model.Edit NotDone) (root : Shape) → is_so (λ major. not (major == class.major)) parent ≡ false
+pub at-class : (parent : Option ℕ) (class : ClassId) (f : List ℕ → Shape → Schedule → Result model.Edit Refusal) (root : Shape) → is_so (λ major. not (major == class.major)) parent ≡ false
     → at_drr parent class f root ≡ at_target NoQdisc (path_of class.major root) (λ path n. of_schedule (f path n) n.own.discipline) root
 at-class parent class f root e = ap (λ b. if b then Err NoParent else at_target NoQdisc (path_of class.major root) (λ path n. of_schedule (f path n) n.own.discipline) root) e
 
-pub drr-refused : (checks : List Check) (g : Schedule → model.Edit) (refusal : NotDone) (d : Discipline) → drr_answer checks d ≡ Err refusal → of_schedule (λ s. done_unless checks (g s)) d ≡ Err refusal
+pub drr-refused : (checks : List Check) (g : Schedule → model.Edit) (refusal : Refusal) (d : Discipline) → drr_answer checks d ≡ Err refusal → of_schedule (λ s. done_unless checks (g s)) d ≡ Err refusal
 drr-refused checks g refusal (Drr s) e = same-refusal checks tt (g s) refusal e
 drr-refused checks g refusal (Fifo limit queue) e = cc
 drr-refused checks g refusal (Prio priomap) e = cc
@@ -53,7 +53,7 @@ drr-refused checks g refusal (FqCodel s) e = cc
 pub record IsPassed (checks : List Check) (d : Discipline) : Type 0 where
   pub own : Schedule
   pub is : d ≡ Drr own
-  pub passed : ◌≡◌ {A = Result (Unit {0}) NotDone} (done_unless checks tt) (Ok tt)
+  pub passed : ◌≡◌ {A = Result (Unit {0}) Refusal} (done_unless checks tt) (Ok tt)
 
 pub drr-passed : (checks : List Check) (d : Discipline) → drr_answer checks d ≡ Ok tt → IsPassed checks d
 drr-passed checks (Drr s) e = record { own = s; is = refl; passed = e }
@@ -73,7 +73,7 @@ sized-is class steps n root k same d =
     ap₂ (λ l m. drr_answer (class_add_checks class n ++ sizes (l + 2) m) d) (sym same) nodes
 
 -- the first check of those that pass
-pub first-passed : (check : Check) (checks : List Check) → ◌≡◌ {A = Result (Unit {0}) NotDone} (done_unless (check ∷ checks) tt) (Ok tt) → check.holds ≡ false
+pub first-passed : (check : Check) (checks : List Check) → ◌≡◌ {A = Result (Unit {0}) Refusal} (done_unless (check ∷ checks) tt) (Ok tt) → check.holds ≡ false
 first-passed check checks e = (check_passed check checks (done_is (check ∷ checks) tt tt e).0).0
 
 -- ---- another quantum

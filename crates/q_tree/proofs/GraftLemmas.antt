@@ -11,8 +11,8 @@ use Rattle.q_model.specs.declared.class_id.ClassId.{ClassId}
 use Rattle.q_model.specs.declared.command.Command.{Command}
 use Rattle.q_model.specs.declared.command.Command.TheVariants.{QdiscAdd}
 use Rattle.q_model.specs.declared.kind.Kind.{Kind}
-use Rattle.q_model.specs.declared.not_done.NotDone.{NotDone}
-use Rattle.q_model.specs.declared.not_done.NotDone.TheVariants.{NoParent, NotClassful, NoClass, Exists, HandleTaken}
+use Rattle.q_model.specs.declared.refusal.Refusal.{Refusal}
+use Rattle.q_model.specs.declared.refusal.Refusal.TheVariants.{NoParent, NotClassful, NoClass, Exists, HandleTaken}
 use Rattle.q_model.specs.declared.place.Place.{Place}
 use Rattle.q_model.specs.declared.place.Place.TheVariants as place
 use Rattle.q_model.specs.Beneath.{beneath}
@@ -70,7 +70,7 @@ module _ (class : ClassId) (root : Node Kept) where
       ∷ refuse NoClass (is_so (λ (n : Shape). is_none (class_place class.minor n)) parent)
       ∷ []
 
-  abbrev outcome : List ℕ → Option Shape → Result (List ℕ) NotDone
+  abbrev outcome : List ℕ → Option Shape → Result (List ℕ) Refusal
   outcome path parent = done_unless (class_checks parent) path
 
   parent-is : (found : Option (List ℕ)) (o : Option (List ℕ × Node Kept)) → reached root found ≡ o → option_and_then (λ path. node_at path (shape root)) found ≡ option_map (λ (x : List ℕ × Node Kept). shape x.1) o
@@ -129,17 +129,17 @@ leaf-is d path rest i root is = by (node_at rest root) ∙ back ∙ at path is w
 
 -- ---- checks one after another
 
-pub then-refused : {A B : Type 0} (xs ys : List Check) (a : A) (b : B) (refusal : NotDone) → done_unless xs b ≡ Err refusal → done_unless (xs ++ ys) a ≡ Err refusal
+pub then-refused : {A B : Type 0} (xs ys : List Check) (a : A) (b : B) (refusal : Refusal) → done_unless xs b ≡ Err refusal → done_unless (xs ++ ys) a ≡ Err refusal
 then-refused {A} {B} [] ys a b refusal e = absurd cc
 then-refused {A} {B} (c ∷ xs) ys a b refusal e = by (λ h. then-refused xs ys a b refusal h) c.holds e where
-  by : (done_unless xs b ≡ Err refusal → done_unless (xs ++ ys) a ≡ Err refusal) → (t : Bool) → option_map_or (λ (r : NotDone). Err r) (if t then Some c.refusal else first_refusal xs) (Ok b) ≡ Err refusal → option_map_or (λ (r : NotDone). Err r) (if t then Some c.refusal else first_refusal (xs ++ ys)) (Ok a) ≡ Err refusal
+  by : (done_unless xs b ≡ Err refusal → done_unless (xs ++ ys) a ≡ Err refusal) → (t : Bool) → option_map_or (λ (r : Refusal). Err r) (if t then Some c.refusal else first_refusal xs) (Ok b) ≡ Err refusal → option_map_or (λ (r : Refusal). Err r) (if t then Some c.refusal else first_refusal (xs ++ ys)) (Ok a) ≡ Err refusal
   by rest true h = cc
   by rest false h = rest h
 
 pub then-passed : {A B : Type 0} (xs ys : List Check) (a : A) (b x : B) → done_unless xs b ≡ Ok x → done_unless (xs ++ ys) a ≡ done_unless ys a
 then-passed {A} {B} [] ys a b x e = refl
 then-passed {A} {B} (c ∷ xs) ys a b x e = by (λ h. then-passed xs ys a b x h) c.holds e where
-  by : (done_unless xs b ≡ Ok x → done_unless (xs ++ ys) a ≡ done_unless ys a) → (t : Bool) → option_map_or (λ (r : NotDone). Err r) (if t then Some c.refusal else first_refusal xs) (Ok b) ≡ Ok x → option_map_or (λ (r : NotDone). Err r) (if t then Some c.refusal else first_refusal (xs ++ ys)) (Ok a) ≡ done_unless ys a
+  by : (done_unless xs b ≡ Ok x → done_unless (xs ++ ys) a ≡ done_unless ys a) → (t : Bool) → option_map_or (λ (r : Refusal). Err r) (if t then Some c.refusal else first_refusal xs) (Ok b) ≡ Ok x → option_map_or (λ (r : Refusal). Err r) (if t then Some c.refusal else first_refusal (xs ++ ys)) (Ok a) ≡ done_unless ys a
   by rest true h = absurd cc
   by rest false h = rest h
 
@@ -198,15 +198,15 @@ module _ (root : Node Kept) (bounded : IsBounded root) (lawful : IsNumbered root
       plan-qdisc_made (shape root) (shallow root bounded) (few root bounded) d now p handle k old.0 nodes ranges old.1 enough
       ∙ ap (λ checks. done_unless checks new_edit) same-checks
 
-  pub place-refused : (x : List ℕ) (refusal : NotDone) → done_unless (place_checks p (shape root)) x ≡ Err refusal → plan d now (QdiscAdd p handle k) (shape root) ≡ Err refusal
+  pub place-refused : (x : List ℕ) (refusal : Refusal) → done_unless (place_checks p (shape root)) x ≡ Err refusal → plan d now (QdiscAdd p handle k) (shape root) ≡ Err refusal
   place-refused x refusal e = plan-is ∙ then-refused (place_checks p (shape root)) (graft_checks handle k way root) new_edit x refusal e
 
   module _ (x y : List ℕ) (passed : done_unless (place_checks p (shape root)) x ≡ Ok y) where
-    pub graft-refused : (refusal : NotDone) → ◌≡◌ {A = Result (Unit {0}) NotDone} (done_unless (graft_checks handle k way root) tt) (Err refusal) → plan d now (QdiscAdd p handle k) (shape root) ≡ Err refusal
+    pub graft-refused : (refusal : Refusal) → ◌≡◌ {A = Result (Unit {0}) Refusal} (done_unless (graft_checks handle k way root) tt) (Err refusal) → plan d now (QdiscAdd p handle k) (shape root) ≡ Err refusal
     graft-refused refusal e =
         plan-is ∙ then-passed (place_checks p (shape root)) (graft_checks handle k way root) new_edit x y passed ∙ same-refusal (graft_checks handle k way root) tt new_edit refusal e
 
-    pub graft-planned : ◌≡◌ {A = Result (Unit {0}) NotDone} (done_unless (graft_checks handle k way root) tt) (Ok tt) → plan d now (QdiscAdd p handle k) (shape root) ≡ Ok new_edit
+    pub graft-planned : ◌≡◌ {A = Result (Unit {0}) Refusal} (done_unless (graft_checks handle k way root) tt) (Ok tt) → plan d now (QdiscAdd p handle k) (shape root) ≡ Ok new_edit
     graft-planned e =
         plan-is ∙ then-passed (place_checks p (shape root)) (graft_checks handle k way root) new_edit x y passed ∙ all-passed (graft_checks handle k way root) tt new_edit e
 

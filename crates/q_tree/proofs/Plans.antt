@@ -13,8 +13,8 @@ use Rattle.q_sound.proofs.Weights.{weigh-count}
 use Rattle.q_tree.specs.Purging.{purged}
 use Rattle.q_tree.proofs.EditLemmas.{edited-loses, told-purged}
 use Rattle.q_model.specs.declared.command.Command.{Command}
-use Rattle.q_model.specs.declared.not_done.NotDone.{NotDone}
-use Rattle.q_model.specs.declared.not_done.NotDone.TheVariants.{Memory, NoClass, NotClassful, TooMany}
+use Rattle.q_model.specs.declared.refusal.Refusal.{Refusal}
+use Rattle.q_model.specs.declared.refusal.Refusal.TheVariants.{Memory, NoClass, NotClassful, TooMany}
 use Rattle.q_model.specs.Beneath.{beneath}
 use Rattle.q_model.specs.Edit as model
 use Rattle.q_model.specs.Edit.{Remake, above, edited_at, keeps, lost_by, packets_removed, beneath_removed, remade}
@@ -73,12 +73,12 @@ pub numbers-after : (e : Edit) (path : List ℕ) (now : ℕ) (d after : DeviceSt
     → numbers after ≡ record { clock = now; tree = with_edit totals p.edit (tree_numbers d.tree) }
 numbers-after e path now d after p is = ap numbers is ∙ numbers-edited e path now d p
 
-module _ (memory : Type 0) (command : Command) (d : DeviceState Kept) (now : ℕ) (root : Node Kept) (root_is : root ≡ d.tree.root) (answer : Result Planned NotDone)
+module _ (memory : Type 0) (command : Command) (d : DeviceState Kept) (now : ℕ) (root : Node Kept) (root_is : root ≡ d.tree.root) (answer : Result Planned Refusal)
     (plan_of : IsPlanOf memory command now d.tree.device root answer) where
-  abbrev planned : Result model.Edit NotDone
+  abbrev planned : Result model.Edit Refusal
   planned = plan d.tree.device now command (shape d.tree.root)
 
-  pub tree-refused : (refusal : NotDone) → answer ≡ Err refusal → IsAnswered memory now planned d d (Err refusal)
+  pub tree-refused : (refusal : Refusal) → answer ≡ Err refusal → IsAnswered memory now planned d d (Err refusal)
   tree-refused refusal is = (
     subst (λ (n : Node Kept). IsRefused memory (plan d.tree.device now command (shape n)) refusal) root_is
         (subst (IsPlanOf memory command now d.tree.device root) is plan_of),
@@ -92,7 +92,7 @@ module _ (memory : Type 0) (command : Command) (d : DeviceState Kept) (now : ℕ
     tree-plan : planned ≡ Ok tree-planned.planned.edit
     tree-plan = ap (λ c. plan d.tree.device now c (shape d.tree.root)) (sym tree-planned.asked) ∙ tree-planned.planned.planned
 
-    pub tree-answered : (after : DeviceState Kept) (result : Result (Unit {0}) NotDone) → OnOk result (after ≡ device_edited p.edit p.path.items now d)
+    pub tree-answered : (after : DeviceState Kept) (result : Result (Unit {0}) Refusal) → OnOk result (after ≡ device_edited p.edit p.path.items now d)
         → IfErr result (λ why. (why ≡ Memory) × TakesMemory p.edit) → OnErr result (after ≡ d) → IsAnswered memory now planned d after result
     tree-answered after (Ok done) edited memory_refused unchanged = subst (λ q. IsDone now q d after) (sym tree-plan) (numbers-after p.edit p.path.items now d after tree-planned.planned edited)
     tree-answered after (Err why) edited memory_refused unchanged =
@@ -110,15 +110,15 @@ module _ (memory : Type 0) (command : Command) (d : DeviceState Kept) (now : ℕ
         ∙ ap (λ ps. losses_in (losses_of Purged ps)) (sym tree-planned.planned.lost)
         ∙ told-purged (removed_at p.edit p.path.items d.tree.root)
 
-    told-none : (why : NotDone) → told planned (shape d.tree.root) (Err why) ≡ []
+    told-none : (why : Refusal) → told planned (shape d.tree.root) (Err why) ≡ []
     told-none why = ap (λ q. told q (shape d.tree.root) (Err why)) tree-plan
 
-    pub tree-lost : (before after : List Loss) (A : Type 0) (result : Result (Unit {0}) NotDone) → OnOk result (after ≡ before ++ purged (removed_at p.edit p.path.items d.tree.root)) → OnErr result ((after ≡ before) × A)
+    pub tree-lost : (before after : List Loss) (A : Type 0) (result : Result (Unit {0}) Refusal) → OnOk result (after ≡ before ++ purged (removed_at p.edit p.path.items d.tree.root)) → OnErr result ((after ≡ before) × A)
         → after ≡ before ++ told planned (shape d.tree.root) result
     tree-lost before after A (Ok done) ok err = ok ∙ ap (λ xs. before ++ xs) (sym told-done)
     tree-lost before after A (Err why) ok err = err.0 ∙ sym (append-nil before) ∙ ap (λ xs. before ++ xs) (sym (told-none why))
 
-    pub tree-room : (before after : ℕ) (A : Type 0) (result : Result (Unit {0}) NotDone) → OnOk result (after + length (removed_at p.edit p.path.items d.tree.root) ≡ before) → OnErr result (A × (after ≡ before))
+    pub tree-room : (before after : ℕ) (A : Type 0) (result : Result (Unit {0}) Refusal) → OnOk result (after + length (removed_at p.edit p.path.items d.tree.root) ≡ before) → OnErr result (A × (after ≡ before))
         → after + length (told planned (shape d.tree.root) result) ≡ before
     tree-room before after A (Ok done) ok err = omega (arith, ok, ap (λ xs. length xs) told-done, length-map {B = Loss} (removed_at p.edit p.path.items d.tree.root) (λ q. record { packet = q; cause = Purged }))
     tree-room before after A (Err why) ok err = omega (arith, err.1, ap (λ xs. length xs) (told-none why))
@@ -250,7 +250,7 @@ module _ (root : Node Kept) (h : IsBounded root) where
 
 -- ---- the checks of a new filter
 
-abbrev pub add_answer : Bool → Bool → Bool → Bool → Result (Unit {0}) NotDone
+abbrev pub add_answer : Bool → Bool → Bool → Bool → Result (Unit {0}) Refusal
 add_answer classful other_class no_class many =
     done_unless (refuse NotClassful (not classful) ∷ refuse NoClass (other_class || no_class) ∷ refuse TooMany many ∷ []) tt
 
@@ -263,9 +263,9 @@ some-is None e = absurd (false≢true e)
 some-is (Some k) e = refl
 
 -- checks that pass for one thing pass for another
-pub same-refusal : {A B : Type 0} (checks : List Check) (a : A) (b : B) (refusal : NotDone) → done_unless checks a ≡ Err refusal → done_unless checks b ≡ Err refusal
+pub same-refusal : {A B : Type 0} (checks : List Check) (a : A) (b : B) (refusal : Refusal) → done_unless checks a ≡ Err refusal → done_unless checks b ≡ Err refusal
 same-refusal {A} {B} checks a b refusal e = by (first_refusal checks) e where
-  by : (o : Option NotDone) → ◌≡◌ {A = Result A NotDone} (option_map_or (λ r. Err r) o (Ok a)) (Err refusal) → ◌≡◌ {A = Result B NotDone} (option_map_or (λ r. Err r) o (Ok b)) (Err refusal)
+  by : (o : Option Refusal) → ◌≡◌ {A = Result A Refusal} (option_map_or (λ r. Err r) o (Ok a)) (Err refusal) → ◌≡◌ {A = Result B Refusal} (option_map_or (λ r. Err r) o (Ok b)) (Err refusal)
   by None e = absurd cc
   by (Some r) e = cc
 
@@ -274,7 +274,7 @@ all-passed checks a b e = ap (λ o. option_map_or (λ r. Err r) o (Ok b)) (done_
 
 -- ---- the plan of a line that gives a qdisc other settings
 
-pub refused-plan : (memory : Type 0) (plan : Result model.Edit NotDone) (refusal : NotDone) → plan ≡ Err refusal → IsRefused memory plan refusal
+pub refused-plan : (memory : Type 0) (plan : Result model.Edit Refusal) (refusal : Refusal) → plan ≡ Err refusal → IsRefused memory plan refusal
 refused-plan memory plan refusal e = subst (λ p. IsRefused memory p refusal) (sym e) refl
 
 pub own-kept : (r : shapes.Reshape) (n : Node Kept) → lost_with r n.own.discipline (children n) ≡ [] → children_after r n.own.discipline (children n) ≡ children n

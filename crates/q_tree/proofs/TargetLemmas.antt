@@ -5,7 +5,7 @@ use Rattle.std.specs.List.{find}
 use Rattle.std.specs.Option.{option_eq, option_map_or}
 use Rattle.std.proofs.lemmas.Option.{none-some, same_Some}
 use Rattle.q_model.specs.declared.class_id.ClassId.{ClassId}
-use Rattle.q_model.specs.declared.not_done.NotDone.{NotDone}
+use Rattle.q_model.specs.declared.refusal.Refusal.{Refusal}
 use Rattle.q_model.specs.declared.place.Place.{Place}
 use Rattle.q_model.specs.declared.place.Place.TheVariants as place
 use Rattle.q_model.specs.Edit as model
@@ -95,7 +95,7 @@ both-name p h root n path b e same =
       asks (Some k) = refl
 
 -- what the model plans for it
-module _ (root : Node Kept) (found : Option (List ℕ)) (refusal : NotDone) (f : List ℕ → Shape → Result model.Edit NotDone) where
+module _ (root : Node Kept) (found : Option (List ℕ)) (refusal : Refusal) (f : List ℕ → Shape → Result model.Edit Refusal) where
   pub target-none : reached root found ≡ None → at_target refusal found f (shape root) ≡ Err refusal
   target-none e = by found e where
     node : (way : List ℕ) (o : Option (Node Kept)) → option_map {U = List ℕ × Node Kept} (λ (n : Node Kept). (way, n)) o ≡ None → option_map_or (f way) (option_map shape o) (Err refusal) ≡ Err refusal

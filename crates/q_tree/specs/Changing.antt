@@ -6,8 +6,8 @@ use Rattle.q_codel.specs.declared.limit.Limit.TheVariants.{Packets, Bytes}
 use Rattle.q_bucket.specs.Level.{after_change}
 use Rattle.q_model.specs.declared.kind.Kind.{Kind}
 use Rattle.q_model.specs.declared.kind.Kind.TheVariants as kind
-use Rattle.q_model.specs.declared.not_done.NotDone.{NotDone}
-use Rattle.q_model.specs.declared.not_done.NotDone.TheVariants.{CannotChange}
+use Rattle.q_model.specs.declared.refusal.Refusal.{Refusal}
+use Rattle.q_model.specs.declared.refusal.Refusal.TheVariants.{CannotChange}
 use Rattle.q_model.specs.declared.tbf_limit.TbfLimit.{TbfLimit}
 use Rattle.q_model.specs.Edit as model
 use Rattle.q_model.specs.Edit.{Child, Remake, beneath_removed, child_of}
@@ -26,7 +26,7 @@ use Rattle.q_tree.specs.Reshaping.{AreReady, TakesMore, children_after, discipli
 use Rattle.q_tree.specs.declared.reshape.Reshape.{Reshape}
 use Rattle.q_tree.specs.declared.reshape.Reshape.TheVariants.{Nothing, SetLimit, SetBucket, SetOptions}
 
-abbrev pub pfifo_answer : Option ℕ → Discipline → Result Reshape NotDone
+abbrev pub pfifo_answer : Option ℕ → Discipline → Result Reshape Refusal
 pfifo_answer limit (Fifo (Packets old) queue) = Ok (SetLimit (Packets (unwrap_or limit old)))
 pfifo_answer limit (Fifo (Bytes old) queue) = Err CannotChange
 pfifo_answer limit (Prio priomap) = Err CannotChange
@@ -34,7 +34,7 @@ pfifo_answer limit (Tbf bucket old) = Err CannotChange
 pfifo_answer limit (Drr s) = Err CannotChange
 pfifo_answer limit (FqCodel s) = Err CannotChange
 
-abbrev pub bfifo_answer : Option ℕ → Discipline → Result Reshape NotDone
+abbrev pub bfifo_answer : Option ℕ → Discipline → Result Reshape Refusal
 bfifo_answer limit (Fifo (Packets old) queue) = Err CannotChange
 bfifo_answer limit (Fifo (Bytes old) queue) = Ok (SetLimit (Bytes (unwrap_or limit old)))
 bfifo_answer limit (Prio priomap) = Err CannotChange
@@ -43,7 +43,7 @@ bfifo_answer limit (Drr s) = Err CannotChange
 bfifo_answer limit (FqCodel s) = Err CannotChange
 
 -- the bucket fills up to now at its old rate
-abbrev pub tbf_answer : ℕ → ℕ → ℕ → ℕ → TbfLimit → Discipline → Result Reshape NotDone
+abbrev pub tbf_answer : ℕ → ℕ → ℕ → ℕ → TbfLimit → Discipline → Result Reshape Refusal
 tbf_answer mtu now rate burst limit (Fifo most queue) = Err CannotChange
 tbf_answer mtu now rate burst limit (Prio priomap) = Err CannotChange
 tbf_answer mtu now rate burst limit (Tbf bucket old) =
@@ -52,14 +52,14 @@ tbf_answer mtu now rate burst limit (Drr s) = Err CannotChange
 tbf_answer mtu now rate burst limit (FqCodel s) = Err CannotChange
 
 -- a drr has no settings of its own
-abbrev pub drr_same : Discipline → Result Reshape NotDone
+abbrev pub drr_same : Discipline → Result Reshape Refusal
 drr_same (Fifo limit queue) = Err CannotChange
 drr_same (Prio priomap) = Err CannotChange
 drr_same (Tbf bucket limit) = Err CannotChange
 drr_same (Drr s) = Ok Nothing
 drr_same (FqCodel s) = Err CannotChange
 
-abbrev pub fq_codel_answer : FqOptions → Discipline → Result Reshape NotDone
+abbrev pub fq_codel_answer : FqOptions → Discipline → Result Reshape Refusal
 fq_codel_answer o (Fifo limit queue) = Err CannotChange
 fq_codel_answer o (Prio priomap) = Err CannotChange
 fq_codel_answer o (Tbf bucket limit) = Err CannotChange
@@ -71,7 +71,7 @@ abbrev pub nodes_from : ℕ → Node Kept → ℕ
 nodes_from place n = sum (map count_nodes (drop place (children n)))
 
 -- how many leaves a prio needs for so many bands, in a tree of so many nodes
-abbrev pub leaves_answer : ℕ → ℕ → Node Kept → Discipline → Result ℕ NotDone
+abbrev pub leaves_answer : ℕ → ℕ → Node Kept → Discipline → Result ℕ Refusal
 leaves_answer bands nodes n (Fifo limit queue) = Err CannotChange
 leaves_answer bands nodes n (Prio priomap) =
     let more = bands - length (children n) in
@@ -90,7 +90,7 @@ NeedsMore kind.Drr = ⊥
 NeedsMore (kind.FqCodel options) = ⊥
 
 -- a reshaping of this node is the remaking that the model plans for it, whichever way leads there
-pub record IsRemade (plan : List ℕ → Result model.Edit NotDone) (n : Node Kept) (r : Reshape) : Type 0 where
+pub record IsRemade (plan : List ℕ → Result model.Edit Refusal) (n : Node Kept) (r : Reshape) : Type 0 where
   pub own : Own
   pub below : List Child
   pub planned : (path : List ℕ) → plan path ≡ Ok (Remake path own below)
@@ -100,6 +100,6 @@ pub record IsRemade (plan : List ℕ → Result model.Edit NotDone) (n : Node Ke
   pub ready : AreReady r
 
 -- the reshaping that the model plans, or the refusal; memory last
-abbrev pub IsChange : Type 0 → (List ℕ → Result model.Edit NotDone) → Node Kept → Result Reshape NotDone → Type 0
+abbrev pub IsChange : Type 0 → (List ℕ → Result model.Edit Refusal) → Node Kept → Result Reshape Refusal → Type 0
 IsChange memory plan n (Ok r) = IsRemade plan n r × (TakesMore r → memory)
 IsChange memory plan n (Err refusal) = (path : List ℕ) → IsRefused memory (plan path) refusal

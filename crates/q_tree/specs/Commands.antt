@@ -3,8 +3,8 @@ use Rattle.std.specs.Prelude.{◌≡◌, ◌≤◌, ◌+◌, ◌++◌, ℕ, List
 use Rattle.q_codel.specs.declared.loss.Loss.{Loss}
 use Rattle.q_model.specs.declared.class_id.ClassId.{ClassId}
 use Rattle.q_model.specs.declared.command.Command.{Command}
-use Rattle.q_model.specs.declared.not_done.NotDone.{NotDone}
-use Rattle.q_model.specs.declared.not_done.NotDone.TheVariants.{CannotChange, Memory, NotClassful}
+use Rattle.q_model.specs.declared.refusal.Refusal.{Refusal}
+use Rattle.q_model.specs.declared.refusal.Refusal.TheVariants.{CannotChange, Memory, NotClassful}
 use Rattle.q_model.specs.ClassCommands.{class_add_checks}
 use Rattle.q_model.specs.Edit as model
 use Rattle.q_model.specs.Find.{node_at, depth, count_nodes}
@@ -24,7 +24,7 @@ use Rattle.q_tree.specs.declared.edit.Edit.{Edit}
 use Rattle.q_tree.specs.declared.planned.Planned.{Planned}
 
 -- what the model plans for a command
-abbrev pub plan_of : Command → ℕ → DeviceState Kept → Result model.Edit NotDone
+abbrev pub plan_of : Command → ℕ → DeviceState Kept → Result model.Edit Refusal
 plan_of command now d = plan d.tree.device now command (shape d.tree.root)
 
 -- whether a command takes memory
@@ -35,22 +35,22 @@ abbrev pub takes_none : Type 0
 takes_none = ⊥
 
 -- the first refusal that holds; where none does, want of memory, of a command that takes memory
-abbrev pub IsRefused : Type 0 → Result model.Edit NotDone → NotDone → Type 0
+abbrev pub IsRefused : Type 0 → Result model.Edit Refusal → Refusal → Type 0
 IsRefused memory (Err first) refusal = refusal ≡ first
 IsRefused memory (Ok edit) refusal = (refusal ≡ Memory) × memory
 
 -- the edit of the plan is done, but for the places of queues, which are memory and mean nothing to the rules
-abbrev pub IsDone : ℕ → Result model.Edit NotDone → DeviceState Kept → DeviceState Kept → Type 0
+abbrev pub IsDone : ℕ → Result model.Edit Refusal → DeviceState Kept → DeviceState Kept → Type 0
 IsDone now (Ok edit) before after = numbers after ≡ record { clock = now; tree = with_edit totals edit (tree_numbers before.tree) }
 IsDone now (Err refusal) before after = ⊥
 
 -- a command that is refused changes nothing
-abbrev pub IsAnswered : Type 0 → ℕ → Result model.Edit NotDone → DeviceState Kept → DeviceState Kept → Result (Unit {0}) NotDone → Type 0
+abbrev pub IsAnswered : Type 0 → ℕ → Result model.Edit Refusal → DeviceState Kept → DeviceState Kept → Result (Unit {0}) Refusal → Type 0
 IsAnswered memory now plan before after (Ok done) = IsDone now plan before after
 IsAnswered memory now plan before after (Err refusal) = IsRefused memory plan refusal × (after ≡ before)
 
 -- what is lost by a command: nothing where it is refused
-abbrev pub told : Result model.Edit NotDone → Shape → Result (Unit {0}) NotDone → List Loss
+abbrev pub told : Result model.Edit Refusal → Shape → Result (Unit {0}) Refusal → List Loss
 told (Ok edit) root (Ok done) = losses_in (model.lost_by edit root)
 told (Ok edit) root (Err refusal) = []
 told (Err first) root answer = []
@@ -80,7 +80,7 @@ pub record IsPlannedFor (memory : Type 0) (command : Command) (p : Planned) (now
   pub takes : TakesMemory p.edit → memory
 
 -- what is found out about a command before anything is changed
-abbrev pub IsPlanOf : Type 0 → Command → ℕ → Device → Node Kept → Result Planned NotDone → Type 0
+abbrev pub IsPlanOf : Type 0 → Command → ℕ → Device → Node Kept → Result Planned Refusal → Type 0
 IsPlanOf memory command now device root (Ok p) = IsPlannedFor memory command p now device root
 IsPlanOf memory command now device root (Err refusal) = IsRefused memory (plan device now command (shape root)) refusal
 
@@ -90,7 +90,7 @@ pub record IsBounded (root : Node Kept) : Type 0 where
   pub nodes : count_nodes root ≤ most_nodes
 
 -- the answer of a qdisc whose classes are added, changed and removed by themselves, as a drr's are (tc-drr(8))
-abbrev pub drr_answer : List Check → Discipline → Result (Unit {0}) NotDone
+abbrev pub drr_answer : List Check → Discipline → Result (Unit {0}) Refusal
 drr_answer checks (Drr s) = done_unless checks tt
 drr_answer checks (Fifo limit queue) = Err NotClassful
 drr_answer checks (FqCodel s) = Err NotClassful

@@ -2,7 +2,7 @@
 use Rattle.std.specs.Prelude.{ℕ, ◌+◌, ◌-◌, nat_lt, List, [], ◌∷◌, length, Option}
 use Rattle.std.specs.Option.{option_map_or}
 use Rattle.q_model.specs.declared.kind.Kind.{Kind}
-use Rattle.q_model.specs.declared.not_done.NotDone.TheVariants.{Exists, HandleTaken, TooDeep, TooMany}
+use Rattle.q_model.specs.declared.refusal.Refusal.TheVariants.{Exists, HandleTaken, TooDeep, TooMany}
 use Rattle.q_model.specs.Find.{count_nodes, has_handle, is_explicit, node_at}
 use Rattle.q_model.specs.Node.{Node}
 use Rattle.q_model.specs.Refusals.{Check, is_so, most_levels, most_nodes, refuse}

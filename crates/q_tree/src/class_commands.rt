@@ -23,7 +23,7 @@ use crate::planned::Planned;
 use crate::reshape::Reshape;
 use crate::tree::Tree;
 use q_codel::Sink;
-use q_model::{ClassId, Command, Filter, Handle, Minor, NotDone, Quantum};
+use q_model::{ClassId, Command, Filter, Handle, Minor, Quantum, Refusal};
 use std::alloc::Global;
 
 impl Tree {
@@ -42,7 +42,7 @@ impl Tree {
         parent: Handle,
         class: ClassId,
         quantum: Option<Quantum>,
-    ) -> Result<(), NotDone>
+    ) -> Result<(), Refusal>
         ensures { IsAnswered takes_memory self.old.clock (plan_of (ClassAdd parent class quantum) self.old.clock self.old) self.old self.new result }
     {
         match self
@@ -68,7 +68,7 @@ impl Tree {
         parent: Option<Handle>,
         class: ClassId,
         sink: &mut S,
-    ) -> Result<(), NotDone>
+    ) -> Result<(), Refusal>
         requires sink { length (beneath self.old.tree.root) ≤ S.room sink.old }
         ensures answer { IsAnswered takes_none self.old.clock (plan_of (ClassDel parent class) self.old.clock self.old) self.old self.new result }
         ensures lost { S.losses sink.new ≡ S.losses sink.old ++ told (plan_of (ClassDel parent class) self.old.clock self.old) (shape self.old.tree.root) result }
@@ -94,7 +94,7 @@ impl Tree {
         parent: Option<Handle>,
         class: ClassId,
         quantum: Option<Quantum>,
-    ) -> Result<(), NotDone>
+    ) -> Result<(), Refusal>
         ensures { IsAnswered takes_none self.old.clock (plan_of (ClassChange parent class quantum) self.old.clock self.old) self.old self.new result }
     {
         match self.root.class_changed(parent, class, quantum) {
@@ -113,7 +113,7 @@ impl Node {
         parent: Handle,
         class: ClassId,
         quantum: Option<Quantum>,
-    ) -> Result<Planned, NotDone>
+    ) -> Result<Planned, Refusal>
         requires bounded { IsBounded self.now }
         requires mtu { 1 ≤ link.mtu }
         ensures plan { (now : ℕ) → IsPlanOf takes_memory (ClassAdd parent class quantum) now (record { mtu = link.mtu; txqueuelen = link.txqueuelen }) self.now result }
@@ -122,10 +122,10 @@ impl Node {
         add_ranges(&parent, &class, &quantum);
         let parent = Some(parent);
         if names_another(&parent, &class) {
-            return Err(NotDone::NoParent);
+            return Err(Refusal::NoParent);
         }
         let Some((path, node)) = self.qdisc(class.major) else {
-            return Err(NotDone::NoQdisc);
+            return Err(Refusal::NoQdisc);
         };
         if let Err(refusal) = self.can_add_class(path.len(), node, &class) {
             return Err(refusal);
@@ -141,17 +141,17 @@ impl Node {
         &self,
         parent: Option<Handle>,
         class: ClassId,
-    ) -> Result<Planned, NotDone>
+    ) -> Result<Planned, Refusal>
         requires bounded { IsBounded self.now }
         requires lawful { IsNumbered self.now }
         ensures plan { (device : Device) (now : ℕ) → IsPlanOf takes_none (ClassDel parent class) now device self.now result }
     {
         del_ranges(&parent, &class);
         if names_another(&parent, &class) {
-            return Err(NotDone::NoParent);
+            return Err(Refusal::NoParent);
         }
         let Some((path, node)) = self.qdisc(class.major) else {
-            return Err(NotDone::NoQdisc);
+            return Err(Refusal::NoQdisc);
         };
         if let Err(refusal) = node.can_remove_class(&class) {
             return Err(refusal);
@@ -166,17 +166,17 @@ impl Node {
         parent: Option<Handle>,
         class: ClassId,
         quantum: Option<Quantum>,
-    ) -> Result<Planned, NotDone>
+    ) -> Result<Planned, Refusal>
         requires { IsBounded self.now }
         ensures plan { (device : Device) (now : ℕ) → IsPlanOf takes_none (ClassChange parent class quantum) now device self.now result }
         ensures quiet { IfOk result (λ p. LosesNothing p.edit) }
     {
         change_ranges(&parent, &class, &quantum);
         if names_another(&parent, &class) {
-            return Err(NotDone::NoParent);
+            return Err(Refusal::NoParent);
         }
         let Some((path, node)) = self.qdisc(class.major) else {
-            return Err(NotDone::NoQdisc);
+            return Err(Refusal::NoQdisc);
         };
         if let Err(refusal) = node.can_change_class(&class) {
             return Err(refusal);
@@ -186,57 +186,57 @@ impl Node {
     }
 
     // Whether a class can be added to this node, to which so many steps lead.
-    fn can_add_class(&self, steps: usize, node: &Node, class: &ClassId) -> Result<(), NotDone>
+    fn can_add_class(&self, steps: usize, node: &Node, class: &ClassId) -> Result<(), Refusal>
         requires bounded { IsBounded self.now }
         requires short { steps < MOST_LEVELS }
         ensures { result ≡ drr_answer (class_add_sized class.now steps (shape node.now) self.now) node.now.own.discipline }
     {
         node.has_own_classes()?;
         if node.class_place(class.minor).is_some() {
-            return Err(NotDone::Exists);
+            return Err(Refusal::Exists);
         }
         if steps + 2 > MOST_LEVELS {
-            return Err(NotDone::TooDeep);
+            return Err(Refusal::TooDeep);
         }
         if self.count_nodes() + 1 > MOST_NODES {
-            return Err(NotDone::TooMany);
+            return Err(Refusal::TooMany);
         }
         Ok(())
     }
 
     // Whether the qdisc has this class, and lets it be changed.
-    fn can_change_class(&self, class: &ClassId) -> Result<(), NotDone>
+    fn can_change_class(&self, class: &ClassId) -> Result<(), Refusal>
         ensures { result ≡ drr_answer (class_change_checks class.now (shape self.now)) self.now.own.discipline }
     {
         self.has_own_classes()?;
         if self.class_place(class.minor).is_none() {
-            return Err(NotDone::NoClass);
+            return Err(Refusal::NoClass);
         }
         Ok(())
     }
 
     // Whether the qdisc has this class, and lets it be removed.
-    fn can_remove_class(&self, class: &ClassId) -> Result<(), NotDone>
+    fn can_remove_class(&self, class: &ClassId) -> Result<(), Refusal>
         ensures { result ≡ drr_answer (class_del_checks class.now (shape self.now)) self.now.own.discipline }
     {
         self.has_own_classes()?;
         if self.class_place(class.minor).is_none() {
-            return Err(NotDone::NoClass);
+            return Err(Refusal::NoClass);
         }
         if is_named(&self.filters, class.minor) {
-            return Err(NotDone::Busy);
+            return Err(Refusal::Busy);
         }
         Ok(())
     }
 
     // Whether classes are added and removed one by one: those of a drr are.
-    fn has_own_classes(&self) -> Result<(), NotDone>
+    fn has_own_classes(&self) -> Result<(), Refusal>
         ensures { result ≡ drr_answer [] self.now.own.discipline }
     {
         match &self.discipline {
             Discipline::Drr { .. } => return Ok(()),
-            Discipline::Prio { .. } | Discipline::Tbf { .. } => return Err(NotDone::CannotChange),
-            Discipline::Fifo(_) | Discipline::FqCodel(_) => return Err(NotDone::NotClassful),
+            Discipline::Prio { .. } | Discipline::Tbf { .. } => return Err(Refusal::CannotChange),
+            Discipline::Fifo(_) | Discipline::FqCodel(_) => return Err(Refusal::NotClassful),
         }
     }
 }

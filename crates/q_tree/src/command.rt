@@ -10,7 +10,7 @@ use crate::node::Node;
 use crate::planned::Planned;
 use crate::tree::Tree;
 use q_codel::Sink;
-use q_model::{Command, NotDone};
+use q_model::{Command, Refusal};
 use q_packet::Moment;
 use std::alloc::Global;
 
@@ -29,7 +29,7 @@ impl Tree {
         command: Command,
         now: Moment,
         sink: &mut S,
-    ) -> Result<(), NotDone>
+    ) -> Result<(), Refusal>
         requires order { self.old.clock ≤ now }
         requires sink { length (beneath self.old.tree.root) ≤ S.room sink.old }
         ensures answer { IsAnswered (MayTakeMemory command) now (plan_of command now self.old) self.old self.new result }
@@ -54,7 +54,7 @@ impl Node {
         link: Link,
         command: &Command,
         now: Moment,
-    ) -> Result<Planned, NotDone>
+    ) -> Result<Planned, Refusal>
         requires bounded { IsBounded self.now }
         requires lawful { IsLawfulRoot link.mtu now self.now }
         requires mtu { 1 ≤ link.mtu }

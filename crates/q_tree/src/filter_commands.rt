@@ -13,7 +13,7 @@ use crate::node::{Discipline, Node};
 use crate::one_loss::OneLoss;
 use crate::planned::Planned;
 use crate::tree::Tree;
-use q_model::{Filter, FilterPrio, Handle, NotDone};
+use q_model::{Filter, FilterPrio, Handle, Refusal};
 
 /// The most filters that a qdisc has.
 const MOST_FILTERS: usize = 256;
@@ -31,7 +31,7 @@ impl Tree {
         parent: Handle,
         major: Handle,
         filter: Filter,
-    ) -> Result<(), NotDone>
+    ) -> Result<(), Refusal>
         ensures { IsAnswered takes_memory self.old.clock (plan_of (FilterAdd parent major filter) self.old.clock self.old) self.old self.new result }
     {
         match self.root.filter_added(parent, major, filter) {
@@ -46,7 +46,7 @@ impl Tree {
     ///
     /// The first that holds: `NoQdisc` where no qdisc has the handle; `NotClassful` where it is no prio and no drr; `NoFilter`
     /// where no filter has the priority. The tree is as it was.
-    pub fn filter_del(&mut self, parent: Handle, prio: FilterPrio) -> Result<(), NotDone>
+    pub fn filter_del(&mut self, parent: Handle, prio: FilterPrio) -> Result<(), Refusal>
         ensures { IsAnswered takes_none self.old.clock (plan_of (FilterDel parent prio) self.old.clock self.old) self.old self.new result }
     {
         match self.root.filters_removed(parent, prio) {
@@ -63,7 +63,7 @@ impl Node {
         parent: Handle,
         major: Handle,
         filter: Filter,
-    ) -> Result<Planned, NotDone>
+    ) -> Result<Planned, Refusal>
         requires { IsBounded self.now }
         ensures plan { (device : Device) (now : ℕ) → IsPlanOf takes_memory (FilterAdd parent major filter) now device self.now result }
         ensures quiet { IfOk result (λ p. LosesNothing p.edit) }
@@ -71,7 +71,7 @@ impl Node {
         filter.ranges();
         let _ = (parent.major(), major.major());
         let Some((path, node)) = self.qdisc(parent) else {
-            return Err(NotDone::NoQdisc);
+            return Err(Refusal::NoQdisc);
         };
         if let Err(refusal) = node.can_add_filter(parent, major, &filter) {
             return Err(refusal);
@@ -85,14 +85,14 @@ impl Node {
         &self,
         parent: Handle,
         prio: FilterPrio,
-    ) -> Result<Planned, NotDone>
+    ) -> Result<Planned, Refusal>
         requires { IsBounded self.now }
         ensures plan { (device : Device) (now : ℕ) → IsPlanOf takes_none (FilterDel parent prio) now device self.now result }
         ensures quiet { IfOk result (λ p. LosesNothing p.edit) }
     {
         let _ = (parent.major(), prio.number());
         let Some((path, node)) = self.qdisc(parent) else {
-            return Err(NotDone::NoQdisc);
+            return Err(Refusal::NoQdisc);
         };
         if let Err(refusal) = node.can_remove_filters(prio) {
             return Err(refusal);
@@ -102,33 +102,33 @@ impl Node {
     }
 
     // Whether the qdisc takes a filter into this class.
-    fn can_add_filter(&self, parent: Handle, major: Handle, filter: &Filter) -> Result<(), NotDone>
+    fn can_add_filter(&self, parent: Handle, major: Handle, filter: &Filter) -> Result<(), Refusal>
         ensures { result ≡ done_unless (filter_add_checks parent major filter.now (shape self.now)) (record {}) }
     {
         if !self.has_filters() {
-            return Err(NotDone::NotClassful);
+            return Err(Refusal::NotClassful);
         }
         if major != parent {
-            return Err(NotDone::NoClass);
+            return Err(Refusal::NoClass);
         }
         if self.class_place(filter.minor).is_none() {
-            return Err(NotDone::NoClass);
+            return Err(Refusal::NoClass);
         }
         if self.filters.len() >= MOST_FILTERS {
-            return Err(NotDone::TooMany);
+            return Err(Refusal::TooMany);
         }
         Ok(())
     }
 
     // Whether it has filters of this priority.
-    fn can_remove_filters(&self, prio: FilterPrio) -> Result<(), NotDone>
+    fn can_remove_filters(&self, prio: FilterPrio) -> Result<(), Refusal>
         ensures { result ≡ done_unless (filter_del_checks prio (shape self.now)) (record {}) }
     {
         if !self.has_filters() {
-            return Err(NotDone::NotClassful);
+            return Err(Refusal::NotClassful);
         }
         if !has_prio(&self.filters, prio) {
-            return Err(NotDone::NoFilter);
+            return Err(Refusal::NoFilter);
         }
         Ok(())
     }

@@ -2,7 +2,7 @@
 //!
 //! - [`Tree`] has the qdiscs of a device: packets are routed, put, peeked at and taken.
 //! - [`Command`] is a change of the tree, [`Kind`] a qdisc with its options, [`Place`] where it goes.
-//! - [`NotDone`] is why a change was not made, [`Row`] what a node counted, and [`NodeView`], [`ClassView`] and
+//! - [`Refusal`] is why a change was not made, [`Row`] what a node counted, and [`NodeView`], [`ClassView`] and
 //!   [`FilterView`] are what `show` prints.
 //! - [`laws`] is what is true of every tree, and of every call for a packet.
 //!
@@ -52,6 +52,6 @@ pub use crate::route::Route;
 pub use crate::tree::Tree;
 pub use q_model::{
     Burst, ClassId, ClassKind, ClassView, Command, Filter, FilterKeys, FilterPrio, FilterView,
-    FqCodelOptions, Handle, IpPrefix, IpVersion, Kind, Latency, Minor, NodeView, NotDone, Place,
-    PrioOptions, Protocol, QdiscView, Quantum, Rate, Row, TbfLimit, Totals,
+    FqCodelOptions, Handle, IpPrefix, IpVersion, Kind, Latency, Minor, NodeView, Place,
+    PrioOptions, Protocol, QdiscView, Quantum, Rate, Refusal, Row, TbfLimit, Totals,
 };

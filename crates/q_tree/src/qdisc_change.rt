@@ -23,7 +23,7 @@ use crate::reshape::Reshape;
 use crate::tree::Tree;
 use q_codel::{Limit, Sink};
 use q_model::{
-    Burst, Command, Filter, FqCodelOptions, Handle, Kind, NotDone, Place, PrioOptions, Rate,
+    Burst, Command, Filter, FqCodelOptions, Handle, Kind, Place, PrioOptions, Rate, Refusal,
     TbfLimit,
 };
 use q_packet::Moment;
@@ -50,7 +50,7 @@ impl Tree {
         kind: Kind,
         now: Moment,
         sink: &mut S,
-    ) -> Result<(), NotDone>
+    ) -> Result<(), Refusal>
         requires order { self.old.clock ≤ now }
         requires sink { length (beneath self.old.tree.root) ≤ S.room sink.old }
         ensures answer { IsAnswered (NeedsMore kind) now (plan_of (QdiscChange place handle kind) now self.old) self.old self.new result }
@@ -77,14 +77,14 @@ impl Node {
         handle: Option<Handle>,
         kind: &Kind,
         now: Moment,
-    ) -> Result<Planned, NotDone>
+    ) -> Result<Planned, Refusal>
         requires bounded { IsBounded self.now }
         requires lawful { IsLawfulRoot link.mtu now self.now }
         ensures plan { IsPlanOf (NeedsMore kind.now) (QdiscChange place handle kind.now) now (record { mtu = link.mtu; txqueuelen = link.txqueuelen }) self.now result }
     {
         change_ranges(&place, &handle, kind);
         let Some((path, node)) = self.target(place, handle) else {
-            return Err(NotDone::NoQdisc);
+            return Err(Refusal::NoQdisc);
         };
         match node.reshape_to(alloc, link, self.count_nodes(), kind, now) {
             Err(refusal) => return Err(refusal),
@@ -103,7 +103,7 @@ impl Node {
         nodes: usize,
         kind: &Kind,
         now: Moment,
-    ) -> Result<Reshape, NotDone>
+    ) -> Result<Reshape, Refusal>
         requires within { count_nodes self.now ≤ nodes }
         requires few { nodes ≤ most_nodes }
         requires lawful { IsLawfulRoot link.mtu now (shape self.now) }
@@ -122,28 +122,28 @@ impl Node {
     }
 
     // A pfifo keeps its limit in packets where none is given.
-    fn packet_limit(&self, limit: Option<u32>) -> Result<Reshape, NotDone>
+    fn packet_limit(&self, limit: Option<u32>) -> Result<Reshape, Refusal>
         ensures { result ≡ pfifo_answer limit self.now.own.discipline }
     {
         let Discipline::Fifo(fifo) = &self.discipline else {
-            return Err(NotDone::CannotChange);
+            return Err(Refusal::CannotChange);
         };
         let Limit::Packets(old) = fifo.limit() else {
-            return Err(NotDone::CannotChange);
+            return Err(Refusal::CannotChange);
         };
         let packets = limit.map_or(old, u64::from);
         Ok(Reshape::SetLimit(Limit::Packets(packets)))
     }
 
     // A bfifo keeps its limit in bytes where none is given.
-    fn byte_limit(&self, limit: Option<u32>) -> Result<Reshape, NotDone>
+    fn byte_limit(&self, limit: Option<u32>) -> Result<Reshape, Refusal>
         ensures { result ≡ bfifo_answer limit self.now.own.discipline }
     {
         let Discipline::Fifo(fifo) = &self.discipline else {
-            return Err(NotDone::CannotChange);
+            return Err(Refusal::CannotChange);
         };
         let Limit::Bytes(old) = fifo.limit() else {
-            return Err(NotDone::CannotChange);
+            return Err(Refusal::CannotChange);
         };
         let bytes = limit.map_or(old, u64::from);
         Ok(Reshape::SetLimit(Limit::Bytes(bytes)))
@@ -156,7 +156,7 @@ impl Node {
         link: Link,
         nodes: usize,
         options: &PrioOptions,
-    ) -> Result<Reshape, NotDone>
+    ) -> Result<Reshape, Refusal>
         requires within { count_nodes self.now ≤ nodes }
         requires few { nodes ≤ most_nodes }
         ensures { (root : Shape) (now : ℕ) → count_nodes root ≡ nodes → IsChange takes_memory (λ path. change_sized (record { mtu = link.mtu; txqueuelen = link.txqueuelen }) now root (shape self.now) path self.now.own.discipline (kind.Prio options.now)) self.now result }
@@ -166,27 +166,27 @@ impl Node {
             Ok(more) => more,
         };
         let Ok(leaves) = leaves(alloc, link, more) else {
-            return Err(NotDone::Memory);
+            return Err(Refusal::Memory);
         };
         Ok(Reshape::SetBands(*options, leaves))
     }
 
     // How many leaves a prio needs for so many bands, in a tree of so many nodes.
-    fn leaves_needed(&self, bands: u8, nodes: usize) -> Result<usize, NotDone>
+    fn leaves_needed(&self, bands: u8, nodes: usize) -> Result<usize, Refusal>
         requires within { count_nodes self.now ≤ nodes }
         requires few { nodes ≤ most_nodes }
         ensures { result ≡ leaves_answer bands nodes self.now self.now.own.discipline }
     {
         let Discipline::Prio { .. } = &self.discipline else {
-            return Err(NotDone::CannotChange);
+            return Err(Refusal::CannotChange);
         };
         let bands = usize::from(bands);
         if names_beyond(&self.filters, bands) {
-            return Err(NotDone::Busy);
+            return Err(Refusal::Busy);
         }
         let more = bands.saturating_sub(self.children().len());
         if nodes + more > MOST_NODES + self.nodes_from(bands) {
-            return Err(NotDone::TooMany);
+            return Err(Refusal::TooMany);
         }
         Ok(more)
     }
@@ -213,15 +213,15 @@ impl Node {
         burst: Burst,
         limit: TbfLimit,
         now: Moment,
-    ) -> Result<Reshape, NotDone>
+    ) -> Result<Reshape, Refusal>
         requires lawful { IsLawfulRoot link.mtu now (shape self.now) }
         ensures { result ≡ tbf_answer link.mtu now rate burst limit self.now.own.discipline }
     {
         let Discipline::Tbf { bucket, .. } = &self.discipline else {
-            return Err(NotDone::CannotChange);
+            return Err(Refusal::CannotChange);
         };
         if burst.bytes() < bucket.burst().min(u32::from(link.mtu)) {
-            return Err(NotDone::SmallBurst);
+            return Err(Refusal::SmallBurst);
         }
         let bucket = bucket.changed(rate.bits(), burst.bytes(), now);
         let bytes = limit_bytes(rate, burst, limit);
@@ -229,25 +229,25 @@ impl Node {
     }
 
     // A drr has no settings of its own.
-    fn same_drr(&self) -> Result<Reshape, NotDone>
+    fn same_drr(&self) -> Result<Reshape, Refusal>
         ensures { result ≡ drr_same self.now.own.discipline }
     {
         let Discipline::Drr { .. } = &self.discipline else {
-            return Err(NotDone::CannotChange);
+            return Err(Refusal::CannotChange);
         };
         Ok(Reshape::Nothing)
     }
 
     // An fq_codel keeps its number of flows.
-    fn options(&self, options: &FqCodelOptions) -> Result<Reshape, NotDone>
+    fn options(&self, options: &FqCodelOptions) -> Result<Reshape, Refusal>
         ensures { result ≡ fq_codel_answer options.now self.now.own.discipline }
     {
         let Discipline::FqCodel(queue) = &self.discipline else {
-            return Err(NotDone::CannotChange);
+            return Err(Refusal::CannotChange);
         };
         let flows = queue.settings().flows;
         if options.flows.is_some_and(|given| given != flows) {
-            return Err(NotDone::CannotChange);
+            return Err(Refusal::CannotChange);
         }
         Ok(Reshape::SetOptions(*options))
     }

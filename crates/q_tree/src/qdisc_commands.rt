@@ -22,7 +22,7 @@ use crate::node::{Discipline, Node};
 use crate::planned::Planned;
 use crate::tree::Tree;
 use q_codel::{Limit, Sink};
-use q_model::{Command, Handle, Kind, NotDone, Place};
+use q_model::{Command, Handle, Kind, Place, Refusal};
 use q_packet::Moment;
 use std::alloc::Global;
 
@@ -46,7 +46,7 @@ impl Tree {
         kind: Kind,
         now: Moment,
         sink: &mut S,
-    ) -> Result<(), NotDone>
+    ) -> Result<(), Refusal>
         requires order { self.old.clock ≤ now }
         requires sink { length (beneath self.old.tree.root) ≤ S.room sink.old }
         ensures answer { IsAnswered (NeedsMemory kind) now (plan_of (QdiscAdd place handle kind) now self.old) self.old self.new result }
@@ -76,7 +76,7 @@ impl Tree {
         place: Option<Place>,
         handle: Option<Handle>,
         sink: &mut S,
-    ) -> Result<(), NotDone>
+    ) -> Result<(), Refusal>
         requires sink { length (beneath self.old.tree.root) ≤ S.room sink.old }
         ensures answer { IsAnswered takes_none self.old.clock (plan_of (QdiscDel place handle) self.old.clock self.old) self.old self.new result }
         ensures lost { S.losses sink.new ≡ S.losses sink.old ++ told (plan_of (QdiscDel place handle) self.old.clock self.old) (shape self.old.tree.root) result }
@@ -97,7 +97,7 @@ impl Node {
         handle: Option<Handle>,
         kind: &Kind,
         now: Moment,
-    ) -> Result<Planned, NotDone>
+    ) -> Result<Planned, Refusal>
         requires bounded { IsBounded self.now }
         requires lawful { IsNumbered self.now }
         requires mtu { 1 ≤ link.mtu }
@@ -113,7 +113,7 @@ impl Node {
         }
         let handle = self.handle_or_free(&handle);
         let Ok(node) = Node::made(alloc, link, now, handle, kind) else {
-            return Err(NotDone::Memory);
+            return Err(Refusal::Memory);
         };
         let edit = Edit::Graft(node);
         Ok(Planned { path, edit })
@@ -126,13 +126,13 @@ impl Node {
         link: Link,
         place: Option<Place>,
         handle: Option<Handle>,
-    ) -> Result<Planned, NotDone>
+    ) -> Result<Planned, Refusal>
         requires { IsBounded self.now }
         ensures plan { (now : ℕ) → IsPlanOf takes_none (QdiscDel place handle) now (record { mtu = link.mtu; txqueuelen = link.txqueuelen }) self.now result }
     {
         del_ranges(&place, &handle);
         let Some((path, _)) = self.target(place, handle) else {
-            return Err(NotDone::NoQdisc);
+            return Err(Refusal::NoQdisc);
         };
         let leaf = self.leaf_at(alloc, link, &path);
         let edit = Edit::Graft(leaf);
@@ -140,23 +140,23 @@ impl Node {
     }
 
     // The way to a place for a new qdisc, or why there is none.
-    fn way_in(&self, place: Place) -> Result<Path, NotDone>
+    fn way_in(&self, place: Place) -> Result<Path, Refusal>
         requires { depth self.now ≤ 8 }
         ensures { result_map_both (λ p. p.items) (λ e. e) result ≡ done_unless (place_checks place (shape self.now)) (unwrap_or (place_path place (shape self.now)) []) }
     {
         let class = match place {
-            Place::Top => return Err(NotDone::Exists),
+            Place::Top => return Err(Refusal::Exists),
             Place::Root => return Ok(Path::new()),
             Place::Class(class) => class,
         };
         let Some((path, parent)) = self.qdisc(class.major) else {
-            return Err(NotDone::NoParent);
+            return Err(Refusal::NoParent);
         };
         if parent.is_classless() {
-            return Err(NotDone::NotClassful);
+            return Err(Refusal::NotClassful);
         }
         let Some(child) = parent.class_place(class.minor) else {
-            return Err(NotDone::NoClass);
+            return Err(Refusal::NoClass);
         };
         let mut path = path;
         path.push(child);
@@ -164,22 +164,22 @@ impl Node {
     }
 
     // Whether a new qdisc may stand at the end of this way.
-    fn can_graft(&self, path: &[usize], handle: &Option<Handle>, kind: &Kind) -> Result<(), NotDone>
+    fn can_graft(&self, path: &[usize], handle: &Option<Handle>, kind: &Kind) -> Result<(), Refusal>
         requires bounded { IsBounded self.now }
         requires there { IsSome (node_at path.now self.now) }
         ensures { result ≡ done_unless (graft_checks handle.now kind.now path.now self.now) (record {}) }
     {
         if self.is_explicit(path) {
-            return Err(NotDone::Exists);
+            return Err(Refusal::Exists);
         }
         if self.is_taken(handle) {
-            return Err(NotDone::HandleTaken);
+            return Err(Refusal::HandleTaken);
         }
         if path.len() + levels_made(kind) > MOST_LEVELS {
-            return Err(NotDone::TooDeep);
+            return Err(Refusal::TooDeep);
         }
         if self.count_nodes() + nodes_made(kind) > MOST_NODES + self.nodes_at(path) {
-            return Err(NotDone::TooMany);
+            return Err(Refusal::TooMany);
         }
         Ok(())
     }

@@ -8,7 +8,7 @@ ghost use Rattle.q_model.specs.Tally.{totals};
 ghost use Rattle.q_model.specs.TreeState.{new_tree, stats, put_on, loss_on, put, own_loss, noted_by_put, given, noted_by_take, peek_packet, take_packet};
 ghost use Rattle.q_model.specs.Views.{node, class_of, filter_of};
 ghost use Rattle.q_model.specs.Work.{booked};
-ghost use Rattle.q_model.specs.declared.not_done.NotDone.TheVariants as refusal;
+ghost use Rattle.q_model.specs.declared.refusal.Refusal.TheVariants as refusal;
 ghost use Rattle.q_model.specs.declared.place.Place.TheVariants as place;
 ghost use Rattle.q_tree.specs.Arrivals.{CanPut, IsOutcome};
 ghost use Rattle.q_tree.specs.Commands.{IsPlanned, device_edited};
@@ -25,7 +25,7 @@ use crate::outcome::{Outcome, refuse};
 use crate::planned::Planned;
 use crate::route::Route;
 use q_codel::{Limit, Sink};
-use q_model::{ClassView, Fate, FilterView, NodeView, NotDone, Place, Row};
+use q_model::{ClassView, Fate, FilterView, NodeView, Place, Refusal, Row};
 use q_packet::{Cause, Moment, Packet};
 use std::alloc::{AllocError, Global};
 use std::marker::Model;
@@ -152,7 +152,7 @@ impl Tree {
         planned: Planned,
         now: Moment,
         sink: &mut S,
-    ) -> Result<(), NotDone>
+    ) -> Result<(), Refusal>
         requires order { self.old.clock ≤ now }
         requires planned { IsPlanned planned.edit planned.path.items now self.old.tree.device self.old.tree.root }
         requires sink { length (removed_at planned.edit planned.path.items self.old.tree.root) ≤ S.room sink.old }
@@ -168,7 +168,7 @@ impl Tree {
         let _ = now.ns();
         let Planned { path, edit } = planned;
         let Ok(lost) = self.root.edit(&path, edit, sink) else {
-            return Err(NotDone::Memory);
+            return Err(Refusal::Memory);
         };
         book_dropped(&mut self.top, lost);
         self.clock = now;

@@ -5,7 +5,7 @@ ghost use Rattle.q_model.specs.Beneath.{beneath};
 use q_codel::Losses;
 use q_model::{
     Burst, ClassId, Fate, Filter, FilterKeys, FilterPrio, FqCodelOptions, Handle, Kind, Minor,
-    NotDone, Place, PrioOptions, Protocol, Quantum, Rate, TbfLimit,
+    Place, PrioOptions, Protocol, Quantum, Rate, Refusal, TbfLimit,
 };
 use q_packet::{Ecn, FlowKey, Moment, Packet};
 use q_tree::Tree;
@@ -116,23 +116,23 @@ pub fn every_packet() -> Result<Filter, Fail> {
 #[derive(Clone, Copy, Debug)]
 pub enum Call {
     // Where, the handle (with 0 the tree chooses), what, and the refusal.
-    Graft(Spot, u16, New, Option<NotDone>),
+    Graft(Spot, u16, New, Option<Refusal>),
     // The handle of what is changed, to what, and the refusal.
-    Change(u16, New, Option<NotDone>),
+    Change(u16, New, Option<Refusal>),
     // The handle, and the refusal.
-    Prune(u16, Option<NotDone>),
+    Prune(u16, Option<Refusal>),
     // The minor number of the class of 1:, and the refusal.
-    Filter(u16, Option<NotDone>),
+    Filter(u16, Option<Refusal>),
     // The class by its numbers, the IP protocol whose packets go there, and the refusal.
-    Match(u16, u16, u8, Option<NotDone>),
+    Match(u16, u16, u8, Option<Refusal>),
     // The handle whose filters go, and the refusal.
-    Unfilter(u16, Option<NotDone>),
+    Unfilter(u16, Option<Refusal>),
     // The class by its numbers, its quantum (0 for none), and the refusal.
-    AddClass(u16, u16, u32, Option<NotDone>),
+    AddClass(u16, u16, u32, Option<Refusal>),
     // The same.
-    ChangeClass(u16, u16, u32, Option<NotDone>),
+    ChangeClass(u16, u16, u32, Option<Refusal>),
     // The class by its numbers, and the refusal.
-    DelClass(u16, u16, Option<NotDone>),
+    DelClass(u16, u16, Option<Refusal>),
     // The number, the length and the priority of a packet, and what becomes of it.
     Put(u64, u16, u8, Fate),
     // The number of the packet that is given, which is the one that is shown; 0 where none is.
@@ -196,7 +196,7 @@ impl Bench {
         place: Place,
         major: u16,
         kind: Kind,
-    ) -> Result<Option<NotDone>, Fail> {
+    ) -> Result<Option<Refusal>, Fail> {
         let tree = &mut self.tree;
         let now = later(tree, self.now);
         make_room(tree, &mut self.losses)?;
@@ -205,7 +205,7 @@ impl Bench {
         Ok(answer.err())
     }
 
-    fn change(&mut self, alloc: Global, major: u16, kind: Kind) -> Result<Option<NotDone>, Fail> {
+    fn change(&mut self, alloc: Global, major: u16, kind: Kind) -> Result<Option<Refusal>, Fail> {
         let tree = &mut self.tree;
         let now = later(tree, self.now);
         make_room(tree, &mut self.losses)?;
@@ -221,7 +221,7 @@ impl Bench {
         place: Option<Place>,
         major: u16,
         kind: Kind,
-    ) -> Result<Option<NotDone>, Fail> {
+    ) -> Result<Option<Refusal>, Fail> {
         match place {
             Some(place) => self.graft(alloc, place, major, kind),
             None => self.change(alloc, major, kind),
@@ -234,21 +234,21 @@ impl Bench {
         place: Option<Place>,
         major: u16,
         new: New,
-    ) -> Result<Option<NotDone>, Fail> {
+    ) -> Result<Option<Refusal>, Fail> {
         match new.kind() {
             Ok(kind) => self.set(alloc, place, major, kind),
             Err(refused) => Err(refused),
         }
     }
 
-    fn prune(&mut self, alloc: Global, major: u16) -> Result<Option<NotDone>, Fail> {
+    fn prune(&mut self, alloc: Global, major: u16) -> Result<Option<Refusal>, Fail> {
         let tree = &mut self.tree;
         make_room(tree, &mut self.losses)?;
         let answer = tree.prune(alloc, None, Handle::new(major), &mut self.losses);
         Ok(answer.err())
     }
 
-    fn filter(&mut self, minor: u16) -> Result<Option<NotDone>, Fail> {
+    fn filter(&mut self, minor: u16) -> Result<Option<Refusal>, Fail> {
         let one = Handle::new(1).ok_or("handle")?;
         let mut filter = self.every_packet;
         filter.minor = Minor::new(minor).ok_or("minor")?;
@@ -261,7 +261,7 @@ impl Bench {
         major: u16,
         minor: u16,
         proto: u8,
-    ) -> Result<Option<NotDone>, Fail> {
+    ) -> Result<Option<Refusal>, Fail> {
         let class = class(major, minor)?;
         let mut filter = self.every_packet;
         filter.keys.ip_proto = Some(proto);
@@ -270,7 +270,7 @@ impl Bench {
         Ok(answer.err())
     }
 
-    fn unfilter(&mut self, major: u16) -> Result<Option<NotDone>, Fail> {
+    fn unfilter(&mut self, major: u16) -> Result<Option<Refusal>, Fail> {
         let parent = Handle::new(major).ok_or("handle")?;
         let answer = self.tree.filter_del(parent, self.every_packet.prio);
         Ok(answer.err())
@@ -281,19 +281,19 @@ impl Bench {
         alloc: Global,
         class: ClassId,
         quantum: u32,
-    ) -> Result<Option<NotDone>, Fail> {
+    ) -> Result<Option<Refusal>, Fail> {
         let quantum = Quantum::new(quantum);
         let answer = self.tree.class_add(alloc, class.major, class, quantum);
         Ok(answer.err())
     }
 
-    fn change_class(&mut self, class: ClassId, quantum: u32) -> Result<Option<NotDone>, Fail> {
+    fn change_class(&mut self, class: ClassId, quantum: u32) -> Result<Option<Refusal>, Fail> {
         let quantum = Quantum::new(quantum);
         let answer = self.tree.class_change(None, class, quantum);
         Ok(answer.err())
     }
 
-    fn del_class(&mut self, class: ClassId) -> Result<Option<NotDone>, Fail> {
+    fn del_class(&mut self, class: ClassId) -> Result<Option<Refusal>, Fail> {
         let tree = &mut self.tree;
         make_room(tree, &mut self.losses)?;
         let answer = tree.class_del(None, class, &mut self.losses);

@@ -1,24 +1,24 @@
 //! The refusals of the tree and the settings of a device.
 use q_device::{Refusal, Settings};
-use q_tree::NotDone;
+use q_tree::Refusal;
 use std::test::Fail;
 
 #[test]
 fn refusals_have_their_numbers_and_names(rt: HostRuntime) {
     for (refusal, number, name) in [
-        (NotDone::NoParent, 10, "NoParent"),
-        (NotDone::Exists, 11, "Exists"),
-        (NotDone::NoQdisc, 12, "NoQdisc"),
-        (NotDone::HandleTaken, 13, "HandleTaken"),
-        (NotDone::NotClassful, 14, "NotClassful"),
-        (NotDone::NoClass, 15, "NoClass"),
-        (NotDone::Busy, 16, "Busy"),
-        (NotDone::CannotChange, 17, "CannotChange"),
-        (NotDone::TooDeep, 18, "TooDeep"),
-        (NotDone::TooMany, 19, "TooMany"),
-        (NotDone::SmallBurst, 20, "SmallBurst"),
-        (NotDone::NoFilter, 21, "NoFilter"),
-        (NotDone::Memory, 90, "Memory"),
+        (Refusal::NoParent, 10, "NoParent"),
+        (Refusal::Exists, 11, "Exists"),
+        (Refusal::NoQdisc, 12, "NoQdisc"),
+        (Refusal::HandleTaken, 13, "HandleTaken"),
+        (Refusal::NotClassful, 14, "NotClassful"),
+        (Refusal::NoClass, 15, "NoClass"),
+        (Refusal::Busy, 16, "Busy"),
+        (Refusal::CannotChange, 17, "CannotChange"),
+        (Refusal::TooDeep, 18, "TooDeep"),
+        (Refusal::TooMany, 19, "TooMany"),
+        (Refusal::SmallBurst, 20, "SmallBurst"),
+        (Refusal::NoFilter, 21, "NoFilter"),
+        (Refusal::Memory, 90, "Memory"),
     ] {
         assert_eq!(rt; refusal.number(), number, "{refusal:?}");
         assert_eq!(rt; refusal.name(), name);
@@ -28,12 +28,12 @@ fn refusals_have_their_numbers_and_names(rt: HostRuntime) {
 #[test]
 fn refusals_are_shown_with_number_and_name(rt: HostRuntime) -> Result<(), Fail> {
     for (refused, text) in [
-        (NotDone::NoParent, "refused 10 NoParent"),
-        (NotDone::Busy, "refused 16 Busy"),
-        (NotDone::NoFilter, "refused 21 NoFilter"),
-        (NotDone::Memory, "refused 90 Memory"),
+        (Refusal::NoParent, "refused 10 NoParent"),
+        (Refusal::Busy, "refused 16 Busy"),
+        (Refusal::NoFilter, "refused 21 NoFilter"),
+        (Refusal::Memory, "refused 90 Memory"),
     ] {
-        let shown = format!(in rt.alloc(); "{}", Refusal::of(refused))?;
+        let shown = format!(in rt.alloc(); "{}", refused)?;
         assert_eq!(rt; shown.as_str(), text);
     }
     Ok(())

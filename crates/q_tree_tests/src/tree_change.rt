@@ -1,6 +1,6 @@
 //! Qdiscs that get other settings: what stays, what goes, and what is refused.
 use crate::bench::{Bench, Call, New, Spot, play};
-use q_model::{Fate, NotDone};
+use q_model::{Fate, Refusal};
 use q_packet::Cause;
 use std::alloc::Global;
 use std::test::Fail;
@@ -62,7 +62,7 @@ fn a_bucket_keeps_its_level_and_its_burst_falls_to_the_mtu(rt: HostRuntime) -> R
         rt.alloc(),
         &[
             Call::Graft(Spot::Root, 1, New::Tbf(3000), None),
-            Call::Change(1, New::Tbf(1499), Some(NotDone::SmallBurst)),
+            Call::Change(1, New::Tbf(1499), Some(Refusal::SmallBurst)),
             Call::Change(1, New::Tbf(1500), None),
             Call::Put(1, 1500, 0, KEPT),
             Call::Put(2, 1500, 0, KEPT),
@@ -86,7 +86,7 @@ fn flows_stay_as_many_as_they_are(rt: HostRuntime) -> Result<(), Fail> {
             Call::Graft(Spot::Root, 1, New::FqCodel(5), None),
             Call::Put(1, 100, 0, KEPT),
             Call::Put(2, 100, 0, KEPT),
-            Call::Change(1, New::Flows(2), Some(NotDone::CannotChange)),
+            Call::Change(1, New::Flows(2), Some(Refusal::CannotChange)),
             Call::Change(1, New::Flows(1), None),
             Call::Change(1, New::FqCodel(1), None),
             Call::Counts(Spot::Root, [2, 0, 0, 0, 2]),
@@ -103,15 +103,15 @@ fn the_first_refusal_of_a_change_is_told(rt: HostRuntime) -> Result<(), Fail> {
     play(
         rt.alloc(),
         &[
-            Call::Change(1, New::Pfifo, Some(NotDone::NoQdisc)),
+            Call::Change(1, New::Pfifo, Some(Refusal::NoQdisc)),
             Call::Graft(Spot::Root, 1, New::Prio(3), None),
-            Call::Change(1, New::Pfifo, Some(NotDone::CannotChange)),
-            Call::Change(1, New::Drr, Some(NotDone::CannotChange)),
+            Call::Change(1, New::Pfifo, Some(Refusal::CannotChange)),
+            Call::Change(1, New::Drr, Some(Refusal::CannotChange)),
             Call::Filter(3, None),
-            Call::Change(1, New::Prio(2), Some(NotDone::Busy)),
+            Call::Change(1, New::Prio(2), Some(Refusal::Busy)),
             Call::Change(1, New::Prio(3), None),
             Call::Graft(Spot::Class(1, 1), 2, New::Pfifo, None),
-            Call::Change(2, New::Bfifo(1), Some(NotDone::CannotChange)),
+            Call::Change(2, New::Bfifo(1), Some(Refusal::CannotChange)),
             Call::Graft(Spot::Class(1, 2), 3, New::Drr, None),
             Call::Change(3, New::Drr, None),
         ],
@@ -142,7 +142,7 @@ fn bands_are_added_up_to_256_nodes(rt: HostRuntime) -> Result<(), Fail> {
         &[
             Call::Graft(Spot::Class(1, 16), 2, New::Prio(14), None),
             Call::Nodes(256),
-            Call::Change(2, New::Prio(15), Some(NotDone::TooMany)),
+            Call::Change(2, New::Prio(15), Some(Refusal::TooMany)),
             Call::Change(2, New::Prio(14), None),
             Call::Change(0x8001, New::Prio(14), None),
             Call::Change(2, New::Prio(15), None),

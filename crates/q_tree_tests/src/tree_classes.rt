@@ -1,6 +1,6 @@
 //! Trees with a drr: its classes added, changed and removed, and what they send.
 use crate::bench::{Bench, Call, New, Spot, play};
-use q_model::{Fate, NotDone};
+use q_model::{Fate, Refusal};
 use q_packet::Cause;
 use std::alloc::Global;
 use std::test::Fail;
@@ -116,21 +116,21 @@ fn the_first_refusal_of_a_class_is_told(rt: HostRuntime) -> Result<(), Fail> {
     play(
         rt.alloc(),
         &[
-            Call::AddClass(1, 1, 0, Some(NotDone::NoQdisc)),
+            Call::AddClass(1, 1, 0, Some(Refusal::NoQdisc)),
             Call::Graft(Spot::Root, 1, New::Prio(2), None),
-            Call::AddClass(1, 1, 0, Some(NotDone::CannotChange)),
-            Call::ChangeClass(1, 1, 0, Some(NotDone::CannotChange)),
-            Call::DelClass(1, 1, Some(NotDone::CannotChange)),
+            Call::AddClass(1, 1, 0, Some(Refusal::CannotChange)),
+            Call::ChangeClass(1, 1, 0, Some(Refusal::CannotChange)),
+            Call::DelClass(1, 1, Some(Refusal::CannotChange)),
             Call::Graft(Spot::Class(1, 1), 2, New::Pfifo, None),
-            Call::AddClass(2, 1, 0, Some(NotDone::NotClassful)),
-            Call::DelClass(2, 1, Some(NotDone::NotClassful)),
+            Call::AddClass(2, 1, 0, Some(Refusal::NotClassful)),
+            Call::DelClass(2, 1, Some(Refusal::NotClassful)),
             Call::Graft(Spot::Class(1, 2), 3, New::Drr, None),
-            Call::ChangeClass(3, 1, 0, Some(NotDone::NoClass)),
-            Call::DelClass(3, 1, Some(NotDone::NoClass)),
+            Call::ChangeClass(3, 1, 0, Some(Refusal::NoClass)),
+            Call::DelClass(3, 1, Some(Refusal::NoClass)),
             Call::AddClass(3, 1, 0, None),
-            Call::AddClass(3, 1, 0, Some(NotDone::Exists)),
+            Call::AddClass(3, 1, 0, Some(Refusal::Exists)),
             Call::Match(3, 1, 7, None),
-            Call::DelClass(3, 1, Some(NotDone::Busy)),
+            Call::DelClass(3, 1, Some(Refusal::Busy)),
             Call::Unfilter(3, None),
             Call::DelClass(3, 1, None),
             Call::Nodes(3),
@@ -197,7 +197,7 @@ fn a_class_stands_on_the_eighth_level_at_most(rt: HostRuntime) -> Result<(), Fai
             Call::Graft(Spot::Class(6, 1), 7, New::Drr, None),
             Call::AddClass(7, 1, 0, None),
             Call::Graft(Spot::Class(7, 1), 8, New::Drr, None),
-            Call::AddClass(8, 1, 0, Some(NotDone::TooDeep)),
+            Call::AddClass(8, 1, 0, Some(Refusal::TooDeep)),
         ],
     )
 }
@@ -222,7 +222,7 @@ fn a_drr_has_at_most_255_classes_at_the_root(rt: HostRuntime) -> Result<(), Fail
         rt.alloc(),
         &[
             Call::Nodes(256),
-            Call::AddClass(1, 256, 0, Some(NotDone::TooMany)),
+            Call::AddClass(1, 256, 0, Some(Refusal::TooMany)),
             Call::DelClass(1, 1, None),
             Call::AddClass(1, 256, 0, None),
         ],
@@ -251,7 +251,7 @@ fn a_node_has_at_most_256_filters(rt: HostRuntime) -> Result<(), Fail> {
     bench.play(
         rt.alloc(),
         &[
-            Call::Match(1, 1, 1, Some(NotDone::TooMany)),
+            Call::Match(1, 1, 1, Some(Refusal::TooMany)),
             Call::Unfilter(1, None),
             Call::Match(1, 1, 1, None),
         ],

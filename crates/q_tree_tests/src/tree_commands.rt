@@ -1,6 +1,6 @@
 //! Trees that commands make: qdiscs put into classes and removed, and packets that go through them.
 use crate::bench::{Bench, Call, New, Spot, play};
-use q_model::{Fate, NotDone};
+use q_model::{Fate, Refusal};
 use q_packet::Cause;
 use std::alloc::Global;
 use std::test::Fail;
@@ -77,7 +77,7 @@ fn seven_tbfs_stand_over_a_leaf_and_no_eighth(rt: HostRuntime) -> Result<(), Fai
             Call::Graft(Spot::Class(4, 1), 5, New::Tbf(1500), None),
             Call::Graft(Spot::Class(5, 1), 6, New::Tbf(1500), None),
             Call::Graft(Spot::Class(6, 1), 7, New::Tbf(1500), None),
-            Call::Graft(Spot::Class(7, 1), 8, New::Tbf(1500), Some(NotDone::TooDeep)),
+            Call::Graft(Spot::Class(7, 1), 8, New::Tbf(1500), Some(Refusal::TooDeep)),
             Call::Graft(Spot::Class(7, 1), 8, New::Pfifo, None),
             Call::Nodes(8),
             Call::Put(1, 1500, 0, KEPT),
@@ -92,16 +92,16 @@ fn the_first_refusal_of_a_new_qdisc_is_told(rt: HostRuntime) -> Result<(), Fail>
     play(
         rt.alloc(),
         &[
-            Call::Graft(Spot::Top, 1, New::Pfifo, Some(NotDone::Exists)),
-            Call::Graft(Spot::Class(1, 1), 1, New::Pfifo, Some(NotDone::NoParent)),
+            Call::Graft(Spot::Top, 1, New::Pfifo, Some(Refusal::Exists)),
+            Call::Graft(Spot::Class(1, 1), 1, New::Pfifo, Some(Refusal::NoParent)),
             Call::Graft(Spot::Root, 1, New::Prio(2), None),
-            Call::Graft(Spot::Root, 1, New::Pfifo, Some(NotDone::Exists)),
-            Call::Graft(Spot::Class(1, 3), 1, New::Pfifo, Some(NotDone::NoClass)),
-            Call::Graft(Spot::Class(1, 1), 1, New::Pfifo, Some(NotDone::HandleTaken)),
+            Call::Graft(Spot::Root, 1, New::Pfifo, Some(Refusal::Exists)),
+            Call::Graft(Spot::Class(1, 3), 1, New::Pfifo, Some(Refusal::NoClass)),
+            Call::Graft(Spot::Class(1, 1), 1, New::Pfifo, Some(Refusal::HandleTaken)),
             Call::Graft(Spot::Class(1, 1), 2, New::Pfifo, None),
-            Call::Graft(Spot::Class(2, 1), 2, New::Pfifo, Some(NotDone::NotClassful)),
-            Call::Filter(3, Some(NotDone::NoClass)),
-            Call::Prune(3, Some(NotDone::NoQdisc)),
+            Call::Graft(Spot::Class(2, 1), 2, New::Pfifo, Some(Refusal::NotClassful)),
+            Call::Filter(3, Some(Refusal::NoClass)),
+            Call::Prune(3, Some(Refusal::NoQdisc)),
             Call::Nodes(3),
         ],
     )
@@ -136,7 +136,7 @@ fn what_is_removed_is_booked_at_every_node_above(rt: HostRuntime) -> Result<(), 
             Call::Put(1, 100, 0, KEPT),
             Call::Put(2, 200, 1, KEPT),
             Call::Prune(2, None),
-            Call::Prune(2, Some(NotDone::NoQdisc)),
+            Call::Prune(2, Some(Refusal::NoQdisc)),
             Call::Counts(Spot::Top, [2, 0, 0, 1, 1]),
             Call::Counts(Spot::Root, [2, 0, 0, 1, 1]),
             Call::Counts(Spot::Class(1, 1), [0, 0, 0, 0, 0]),
@@ -266,7 +266,7 @@ fn fill_with_nodes(alloc: Global) -> Result<(), Fail> {
                 Spot::Class(1, 15),
                 16,
                 New::Prio(16),
-                Some(NotDone::TooMany),
+                Some(Refusal::TooMany),
             ),
             Call::Graft(Spot::Class(1, 15), 16, New::Prio(15), None),
             Call::Nodes(256),
@@ -274,7 +274,7 @@ fn fill_with_nodes(alloc: Global) -> Result<(), Fail> {
                 Spot::Class(1, 16),
                 17,
                 New::Tbf(1500),
-                Some(NotDone::TooMany),
+                Some(Refusal::TooMany),
             ),
             Call::Graft(Spot::Class(1, 16), 17, New::Pfifo, None),
         ],

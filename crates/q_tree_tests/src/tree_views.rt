@@ -1,5 +1,5 @@
 //! What is shown of a tree of one pfifo, and a command that it refuses.
-use q_model::{FilterPrio, Handle, NotDone, Place, QdiscView};
+use q_model::{FilterPrio, Handle, Place, QdiscView, Refusal};
 use q_tree::Tree;
 use std::alloc::Global;
 use std::test::Fail;
@@ -18,7 +18,7 @@ fn is_shown_alone(tree: &Tree) -> bool {
 }
 
 // What is answered where the filters of a handle that stands nowhere are to be removed.
-fn removal(tree: &mut Tree) -> Result<Result<(), NotDone>, Fail> {
+fn removal(tree: &mut Tree) -> Result<Result<(), Refusal>, Fail> {
     let parent = Handle::new(1).ok_or("parent")?;
     let prio = FilterPrio::new(1).ok_or("prio")?;
     Ok(tree.filter_del(parent, prio))
@@ -33,13 +33,13 @@ fn a_pfifo_is_shown_alone(rt: HostRuntime) {
     assert!(rt; shows_one(rt.alloc()));
 }
 
-fn removed_from_one(alloc: Global) -> Result<Result<(), NotDone>, Fail> {
+fn removed_from_one(alloc: Global) -> Result<Result<(), Refusal>, Fail> {
     removal(&mut Tree::new(alloc, 1500, 2))
 }
 
 #[test]
 fn a_pfifo_takes_no_filter(rt: HostRuntime) -> Result<(), Fail> {
     let answer = removed_from_one(rt.alloc())?;
-    assert!(rt; answer == Err(NotDone::NoQdisc));
+    assert!(rt; answer == Err(Refusal::NoQdisc));
     Ok(())
 }

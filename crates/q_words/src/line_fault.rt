@@ -1,3 +1,6 @@
+ghost use Rattle.std.specs.Prelude.{◌≡◌};
+ghost use Rattle.q_words.specs.FaultText.{fault_name, fault_number, fault_word};
+
 use std::fmt;
 use thiserror::Error;
 
@@ -18,6 +21,50 @@ pub enum LineFault {
     BadUtf8(usize),
 }
 
+impl LineFault {
+    /// Its number, as reports write it.
+    pub fn number(self) -> u8
+        ensures { result ≡ fault_number self }
+    {
+        match self {
+            LineFault::UnknownWord(_) => 1,
+            LineFault::Missing(_) => 2,
+            LineFault::BadNumber(_) => 3,
+            LineFault::OutOfRange(_) => 4,
+            LineFault::Twice(_) => 5,
+            LineFault::BadUtf8(_) => 6,
+        }
+    }
+
+    /// Its name, as reports write it.
+    pub fn name(self) -> &'static str
+        ensures { result.now ≡ fault_name self }
+    {
+        match self {
+            LineFault::UnknownWord(_) => "UnknownWord",
+            LineFault::Missing(_) => "Missing",
+            LineFault::BadNumber(_) => "BadNumber",
+            LineFault::OutOfRange(_) => "OutOfRange",
+            LineFault::Twice(_) => "Twice",
+            LineFault::BadUtf8(_) => "BadUtf8",
+        }
+    }
+
+    /// The index of its word, counted from 1.
+    pub fn word(self) -> usize
+        ensures { result ≡ fault_word self }
+    {
+        match self {
+            LineFault::UnknownWord(word)
+            | LineFault::Missing(word)
+            | LineFault::BadNumber(word)
+            | LineFault::OutOfRange(word)
+            | LineFault::Twice(word)
+            | LineFault::BadUtf8(word) => word,
+        }
+    }
+}
+
 impl fmt::Display for LineFault {
     ghost use Rattle.std.specs.Prelude.{Some};
     ghost use Rattle.q_words.specs.FaultText.{fault_text};
@@ -25,13 +72,12 @@ impl fmt::Display for LineFault {
     ghost output = { λ fault. Some (fault_text fault) };
 
     fn fmt<W: fmt::Write>(&self, f: &mut fmt::Formatter<W>) -> fmt::Result {
-        match self {
-            LineFault::UnknownWord(word) => write!(f, "fault 1 UnknownWord word {word}"),
-            LineFault::Missing(word) => write!(f, "fault 2 Missing word {word}"),
-            LineFault::BadNumber(word) => write!(f, "fault 3 BadNumber word {word}"),
-            LineFault::OutOfRange(word) => write!(f, "fault 4 OutOfRange word {word}"),
-            LineFault::Twice(word) => write!(f, "fault 5 Twice word {word}"),
-            LineFault::BadUtf8(word) => write!(f, "fault 6 BadUtf8 word {word}"),
-        }
+        write!(
+            f,
+            "fault {} {} word {}",
+            self.number(),
+            self.name(),
+            self.word()
+        )
     }
 }

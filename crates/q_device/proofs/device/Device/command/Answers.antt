@@ -1,5 +1,6 @@
-use Rattle.std.proofs.Common.{◌∙◌, ◌++◌, List, refl, sym, ap, subst, arith}
+use Rattle.std.proofs.Common.{◌≡◌, ◌∙◌, ◌++◌, List, Result, Ok, Err, IfErr, refl, sym, ap, subst, arith}
 use Rattle.std.proofs.lemmas.List.{append-nil}
+use Rattle.std.specs.Result.{IsErrAnd}
 use Rattle.q_codel.specs.Losses.{LossList}
 use Rattle.q_codel.specs.declared.loss.Loss.{Loss}
 use Rattle.q_model.specs.declared.event.Event.TheVariants as event
@@ -20,47 +21,51 @@ use Rattle.q_device.proofs.device.Device.command.Goals as goal
 pub invariant_of-self : goal.invariant_of-self
 invariant_of-self c =
     let a = c.self.inside in
-    let nothing = c.in-Err.ensures.lost ∙ ap (λ (ls : List Loss). a.losses.waiting ++ ls) (told-nothing (plan_of c.args.command c.later-at.result a.tree) (shape a.tree.tree.root) c.in-Err.refused) ∙ append-nil a.losses.waiting in
-    let sink = c.in-Err.ensures.kept ∙ ap (λ (ls : List Loss). record a.losses { waiting = ls }) nothing in
-    subst IsKeptDevice (λ i. record a { tree = sym c.in-Err.ensures.answer.1 i; losses = sym sink i }) c.self.invariant
+    let nothing = c.in_err-command.ensures.lost ∙ ap (λ (ls : List Loss). a.losses.waiting ++ ls) (told-nothing (plan_of c.args.command c.later-at.result a.tree) (shape a.tree.tree.root) c.in_err-command.field-0.0) ∙ append-nil a.losses.waiting in
+    let sink = c.in_err-command.ensures.kept ∙ ap (λ (ls : List Loss). record a.losses { waiting = ls }) nothing in
+    subst IsKeptDevice (λ i. record a { tree = sym c.in_err-command.ensures.answer.1 i; losses = sym sink i }) c.self.invariant
 
-pub returns-in-Err-clause-refused : goal.returns-in-Err-clause-refused
-returns-in-Err-clause-refused c =
+passed_on : (r : Result (Unit {0}) Refusal) (x : Refusal) (P : Refusal → Type 0) → IsErrAnd r (λ q. q ≡ x) → P x → IfErr r P
+passed_on (Ok done) x P same p = tt
+passed_on (Err q) x P same p = subst P (sym same) p
+
+pub returns-in_err-command-clause-refused : goal.returns-in_err-command-clause-refused
+returns-in_err-command-clause-refused c =
     let a = c.self.inside in
     let e = event.Command c.args.command c.args.now in
-    let refused = refused-reply a.tree a.clock c.args.now c.later-at.result c.later-at.ensures c.args.command (MayTakeMemory c.args.command) c.in-Err.refused c.in-Err.ensures.answer.0 in
-    subst (λ (d : DeviceSeen). IsRefusal (MayTakeMemory c.args.command) (step totals d.device e).reply c.of.result) c.self.view_is
-    (subst (λ (r : Refusal). IsRefusal (MayTakeMemory c.args.command) (step totals (numbers_at a.clock a.tree) e).reply r) (sym c.of.ensures) refused)
+    let refused = refused-reply a.tree a.clock c.args.now c.later-at.result c.later-at.ensures c.args.command (MayTakeMemory c.args.command) c.in_err-command.field-0.0 c.in_err-command.ensures.answer.0 in
+    subst (λ (d : DeviceSeen). IfErr c.from_residual.result (λ (r : Refusal). IsRefusal (MayTakeMemory c.args.command) (step totals d.device e).reply r)) c.self.view_is
+    (passed_on c.from_residual.result c.in_err-command.field-0.0 (IsRefusal (MayTakeMemory c.args.command) (step totals (numbers_at a.clock a.tree) e).reply) c.from_residual.ensures.1 refused)
 
 pub invariant_of-self-2 : goal.invariant_of-self-2
 invariant_of-self-2 c =
     let a = c.self.inside in
-    let b = record a { clock = c.later-at.result; tree = c.command-answer.new.self; losses = c.command-answer.new.sink; recorded = c.record.new.recorded; events = c.record.new.events } in
-    let h = commanded a b c.args.command c.args.now c.later-at.result c.later-at.ensures refl refl c.in_default.ensures.answer c.in_default.ensures.lost refl c.record.ensures.items c.record.ensures.capacity c.record.ensures.counted in
+    let b = record a { clock = c.later-at.result; tree = c.command.new.self; losses = c.command.new.sink; recorded = c.record.new.recorded; events = c.record.new.events } in
+    let h = commanded a b c.args.command c.args.now c.later-at.result c.later-at.ensures refl refl c.in_ok-command.ensures.answer c.in_ok-command.ensures.lost refl c.record.ensures.items c.record.ensures.capacity c.record.ensures.counted in
     event-kept a c.self.invariant (event.Command c.args.command c.args.now) b h (c.ranges-2.ensures, c.moment_range.ensures)
-    (omega (arith, done-clock a.tree a.clock c.args.now c.later-at.result c.later-at.ensures c.args.command b.tree c.in_default.ensures.answer))
+    (omega (arith, done-clock a.tree a.clock c.args.now c.later-at.result c.later-at.ensures c.args.command b.tree c.in_ok-command.ensures.answer))
     c.self.invariant.arrivals
-    (omega (arith, c.self.invariant.room, ap (λ (l : LossList). l.places) c.in_default.ensures.kept))
+    (omega (arith, c.self.invariant.room, ap (λ (l : LossList). l.places) c.in_ok-command.ensures.kept))
 
 pub returns-clause-event : goal.returns-clause-event
 returns-clause-event c =
     let a = c.self.inside in
-    let b = record a { clock = c.later-at.result; tree = c.command-answer.new.self; losses = c.command-answer.new.sink; recorded = c.record.new.recorded; events = c.record.new.events } in
-    let h = commanded a b c.args.command c.args.now c.later-at.result c.later-at.ensures refl refl c.in_default.ensures.answer c.in_default.ensures.lost refl c.record.ensures.items c.record.ensures.capacity c.record.ensures.counted in
+    let b = record a { clock = c.later-at.result; tree = c.command.new.self; losses = c.command.new.sink; recorded = c.record.new.recorded; events = c.record.new.events } in
+    let h = commanded a b c.args.command c.args.now c.later-at.result c.later-at.ensures refl refl c.in_ok-command.ensures.answer c.in_ok-command.ensures.lost refl c.record.ensures.items c.record.ensures.capacity c.record.ensures.counted in
     let e = event.Command c.args.command c.args.now in
     event-seen a e b h ∙ ap (λ (d : DeviceSeen). record (with_event e d) { memory = (device_seen b).memory }) c.self.view_is
 
 pub returns-clause-reply : goal.returns-clause-reply
 returns-clause-reply c =
     let a = c.self.inside in
-    done-reply a.tree a.clock c.args.now c.later-at.result c.later-at.ensures c.args.command c.command-answer.new.self c.in_default.ensures.answer
+    done-reply a.tree a.clock c.args.now c.later-at.result c.later-at.ensures c.args.command c.command.new.self c.in_ok-command.ensures.answer
     ∙ ap (λ (d : DeviceSeen). (step totals d.device (event.Command c.args.command c.args.now)).reply) c.self.view_is
 
 pub returns-clause-arrived : goal.returns-clause-arrived
 returns-clause-arrived c =
     let a = c.self.inside in
-    let b = record a { clock = c.later-at.result; tree = c.command-answer.new.self; losses = c.command-answer.new.sink; recorded = c.record.new.recorded; events = c.record.new.events } in
-    let h = commanded a b c.args.command c.args.now c.later-at.result c.later-at.ensures refl refl c.in_default.ensures.answer c.in_default.ensures.lost refl c.record.ensures.items c.record.ensures.capacity c.record.ensures.counted in
+    let b = record a { clock = c.later-at.result; tree = c.command.new.self; losses = c.command.new.sink; recorded = c.record.new.recorded; events = c.record.new.events } in
+    let h = commanded a b c.args.command c.args.now c.later-at.result c.later-at.ensures refl refl c.in_ok-command.ensures.answer c.in_ok-command.ensures.lost refl c.record.ensures.items c.record.ensures.capacity c.record.ensures.counted in
     let e = event.Command c.args.command c.args.now in
     ap (λ (d : DeviceSeen). d.device.tree.top.arrived) (event-seen a e b h)
     ∙ kept-arrived a c.self.invariant e (c.ranges-2.ensures, c.moment_range.ensures)
@@ -69,7 +74,7 @@ returns-clause-arrived c =
 pub returns-clause-counters : goal.returns-clause-counters
 returns-clause-counters c =
     let a = c.self.inside in
-    let b = record a { clock = c.later-at.result; tree = c.command-answer.new.self; losses = c.command-answer.new.sink; recorded = c.record.new.recorded; events = c.record.new.events } in
-    let h = commanded a b c.args.command c.args.now c.later-at.result c.later-at.ensures refl refl c.in_default.ensures.answer c.in_default.ensures.lost refl c.record.ensures.items c.record.ensures.capacity c.record.ensures.counted in
+    let b = record a { clock = c.later-at.result; tree = c.command.new.self; losses = c.command.new.sink; recorded = c.record.new.recorded; events = c.record.new.events } in
+    let h = commanded a b c.args.command c.args.now c.later-at.result c.later-at.ensures refl refl c.in_ok-command.ensures.answer c.in_ok-command.ensures.lost refl c.record.ensures.items c.record.ensures.capacity c.record.ensures.counted in
     let e = event.Command c.args.command c.args.now in
-    subst (λ (d : DeviceSeen). HasNotFallen d.device.tree.top c.command-answer.new.self.tree.top.counts) c.self.view_is (event-rises a e b h)
+    subst (λ (d : DeviceSeen). HasNotFallen d.device.tree.top c.command.new.self.tree.top.counts) c.self.view_is (event-rises a e b h)

@@ -1,6 +1,6 @@
 use Rattle.std.proofs.Common.{◌≡◌, ◌∙◌, ◌-◌, Err, length, refl, replicate, sym, subst}
 use Rattle.q_model.specs.declared.kind.Kind.TheVariants as kind
-use Rattle.q_model.specs.declared.not_done.NotDone.TheVariants.{Memory}
+use Rattle.q_model.specs.declared.refusal.Refusal.TheVariants.{Memory}
 use Rattle.q_model.specs.Make.{Device, implicit_pfifo}
 use Rattle.q_model.specs.Node.{children, shape}
 use Rattle.q_model.specs.Options.{PrioSettings}

@@ -1,6 +1,6 @@
 use Rattle.std.proofs.Common.{◌∙◌, sym, ap, option_map, refl, arith}
 use Rattle.q_model.specs.declared.command.Command.TheVariants.{ClassAdd}
-use Rattle.q_model.specs.declared.not_done.NotDone.TheVariants.{NoQdisc}
+use Rattle.q_model.specs.declared.refusal.Refusal.TheVariants.{NoQdisc}
 use Rattle.q_model.specs.Find.{path_of}
 use Rattle.q_model.specs.Make.{Device}
 use Rattle.q_model.specs.Node.{shape}

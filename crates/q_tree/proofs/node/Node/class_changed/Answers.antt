@@ -1,6 +1,6 @@
 use Rattle.std.proofs.Common.{◌∙◌, refl, sym, ap, option_map}
 use Rattle.q_model.specs.declared.command.Command.TheVariants.{ClassChange}
-use Rattle.q_model.specs.declared.not_done.NotDone.TheVariants.{NoQdisc}
+use Rattle.q_model.specs.declared.refusal.Refusal.TheVariants.{NoQdisc}
 use Rattle.q_model.specs.Find.{path_of}
 use Rattle.q_model.specs.Node.{Drr, shape}
 use Rattle.q_model.specs.TreeState.{plan}

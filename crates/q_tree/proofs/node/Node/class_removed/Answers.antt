@@ -1,6 +1,6 @@
 use Rattle.std.proofs.Common.{◌∙◌, sym, ap, option_map, refl}
 use Rattle.q_model.specs.declared.command.Command.TheVariants.{ClassDel}
-use Rattle.q_model.specs.declared.not_done.NotDone.TheVariants.{NoQdisc}
+use Rattle.q_model.specs.declared.refusal.Refusal.TheVariants.{NoQdisc}
 use Rattle.q_model.specs.Node.{shape}
 use Rattle.q_model.specs.TreeState.{plan}
 use Rattle.q_tree.specs.Commands.{takes_none}

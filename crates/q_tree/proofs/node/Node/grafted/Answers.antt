@@ -2,7 +2,7 @@ use Rattle.std.proofs.Common.{◌≡◌, ◌<◌, ◌^◌, ◌∙◌, [], Some, 
 use Rattle.std.specs.Prelude.{is_some, true, unwrap_or}
 use Rattle.std.specs.Result.{result_map_both}
 use Rattle.q_model.specs.declared.command.Command.TheVariants.{QdiscAdd}
-use Rattle.q_model.specs.declared.not_done.NotDone.TheVariants.{Memory}
+use Rattle.q_model.specs.declared.refusal.Refusal.TheVariants.{Memory}
 use Rattle.q_model.specs.Find.{free_handle, node_at, place_path}
 use Rattle.q_model.specs.Make.{Device, made}
 use Rattle.q_model.specs.Node.{shape}

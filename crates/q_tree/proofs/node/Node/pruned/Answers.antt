@@ -1,7 +1,7 @@
 use Rattle.std.proofs.Common.{◌∙◌, None, Ok, sym, ap, subst, option_map}
 use Rattle.std.specs.Prelude.{is_some}
 use Rattle.q_model.specs.declared.command.Command.TheVariants.{QdiscDel}
-use Rattle.q_model.specs.declared.not_done.NotDone.TheVariants.{NoQdisc}
+use Rattle.q_model.specs.declared.refusal.Refusal.TheVariants.{NoQdisc}
 use Rattle.q_model.specs.Edit as model
 use Rattle.q_model.specs.Make.{Device}
 use Rattle.q_model.specs.Node.{shape}
