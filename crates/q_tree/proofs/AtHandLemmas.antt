@@ -16,10 +16,10 @@ use Rattle.q_tree.specs.declared.node.Node.TheInside.{Inside}
 next : (n : ℕ) → 1 + n ≡ suc n
 next n = omega arith
 
-first-some : (b : Popping) (bs : List Popping) (p : Descriptor) → b.shown ≡ Some p → first_shown (b ∷ bs) ≡ Some p
+pub first-some : (b : Popping) (bs : List Popping) (p : Descriptor) → b.shown ≡ Some p → first_shown (b ∷ bs) ≡ Some p
 first-some b bs p e = ap (λ (o : Option Descriptor). option_and_then (λ (x : Popping). x.shown) (slice_get (b ∷ bs) (cond (not (is_some o)) (1 + first_ready bs) 0))) e ∙ e
 
-first-none : (b : Popping) (bs : List Popping) → b.shown ≡ None → first_shown (b ∷ bs) ≡ first_shown bs
+pub first-none : (b : Popping) (bs : List Popping) → b.shown ≡ None → first_shown (b ∷ bs) ≡ first_shown bs
 first-none b bs e =
     ap (λ (o : Option Descriptor). option_and_then (λ (x : Popping). x.shown) (slice_get (b ∷ bs) (cond (not (is_some o)) (1 + first_ready bs) 0))) e
     ∙ ap (λ n. option_and_then (λ (x : Popping). x.shown) (slice_get (b ∷ bs) n)) (next (first_ready bs))

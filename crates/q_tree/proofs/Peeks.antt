@@ -1,6 +1,6 @@
 -- A node that is asked: what its discipline can rely on, what is booked, and what the node is then.
 use Rattle.std.proofs.Common.{◌≡◌, ℕ, ◌≤◌, ◌<◌, ◌^◌, ◌∙◌, List, [], ◌∷◌, ◌++◌, map, take, drop, length, refl, sym, ap, ap₂, subst, Option, Some, None, option_to_list, flat_map, arith}
-use Rattle.std.specs.Prelude.{Bool, true, is_some, if◌then◌else◌}
+use Rattle.std.specs.Prelude.{Bool, true, false, is_some, if◌then◌else◌}
 use Rattle.std.specs.Option.{option_map_or}
 use Rattle.std.specs.List.{All}
 use Rattle.std.proofs.lemmas.List.{append-nil, drop_all, take_all, length-append, length-map}
@@ -143,6 +143,13 @@ holding-after now a n p view e =
     let below : each_booked kept (side_by_side ns) (side_by_side (befores (answers now ns))) ≡ side_by_side ns = sym (side-all ns (befores (answers now ns))) ∙ ap side_by_side (all-before now ns) in
     let still : booked kept (seen a) (holding (seen a).own (answers now ns) p).peeked ≡ seen a = ap (λ b. record { own = (seen a).own; memory = (seen a).memory; below = b }) below in
     subst (λ (m : Node Kept). m ≡ booked kept m (ask now (shape m)).peeked) view (sym still ∙ ap (λ (x : Asked). booked kept (seen a) x.peeked) (sym (ask-holding now a p e)))
+
+-- what a discipline that holds what it shows, and one that does not, lets its node hold
+pub does-hold : (d : Discipline) (shown : Option Descriptor) (holds : Bool) → holds ≡ true → held_in (discipline_seen d) shown ≡ (if holds then shown else None) → shown ≡ held_in (discipline_seen d) shown
+does-hold d shown holds is e = sym (e ∙ ap (λ (b : Bool). if b then shown else None) is)
+
+pub holds-none : (d : Discipline) (shown : Option Descriptor) (holds : Bool) → holds ≡ false → held_in (discipline_seen d) shown ≡ (if holds then shown else None) → None ≡ held_in (discipline_seen d) shown
+holds-none d shown holds is e = sym (e ∙ ap (λ (b : Bool). if b then shown else None) is)
 
 -- one that holds none asks its discipline
 pub record IsPeekedAs (now : ℕ) (n : Node Kept) (inside : Inside) : Type 0 where

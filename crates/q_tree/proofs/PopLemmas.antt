@@ -20,11 +20,11 @@ use Rattle.q_sound.proofs.Members.{All-at}
 use Rattle.q_sound.proofs.Pops.{pop-before}
 use Rattle.q_tree.specs.AskSteps.{own_of}
 use Rattle.q_tree.specs.Kept.{Kept, kept}
-use Rattle.q_tree.specs.PopSteps.{IsPoppedIn, popping_of, with_sent}
+use Rattle.q_tree.specs.PopSteps.{IsFirstReady, IsPoppedIn, popping_of, with_sent}
 use Rattle.q_tree.specs.Seen.{seen, discipline_seen, children_seen, places_seen, IsKept, IsCountedWithin}
 use Rattle.q_tree.specs.declared.node.Discipline.{Discipline}
 use Rattle.q_tree.specs.declared.node.Node.TheInside.{Inside}
-use Rattle.q_tree.proofs.AtHandLemmas.{front-of}
+use Rattle.q_tree.proofs.AtHandLemmas.{front-of, first-some, first-none}
 use Rattle.q_tree.proofs.Forms.{noted-kept}
 use Rattle.q_tree.proofs.Rows.{counts_in_row}
 use Rattle.q_tree.proofs.RowsOf.{IsRowOf, row-of, kept-of, row-popped, row-still}
@@ -96,6 +96,21 @@ prio-kept ns is = sym (side-still ns) ∙ ap (λ (ws : List Worked). each_booked
 
 pub nothing-shown : (ns : List (Node Kept)) → first_ready (map pop ns) ≡ length (map pop ns) → None ≡ first_shown (map pop ns)
 nothing-shown ns is = sym (ap (option_and_then (λ (b : Popping). b.shown)) (none-there (map pop ns))) ∙ ap (λ n. option_and_then (λ (b : Popping). b.shown) (slice_get (map pop ns) n)) (sym is)
+
+-- one is ready where one has a packet at hand
+first-shows : (bs : List Popping) → first_ready bs < length bs → is_some (first_shown bs) ≡ true
+first-shows [] h = absurd (omega (arith, h))
+first-shows (b ∷ bs) h = by b.shown refl (first-shows bs)
+  where
+    by : (o : Option Descriptor) → b.shown ≡ o → (first_ready bs < length bs → is_some (first_shown bs) ≡ true) → is_some (first_shown (b ∷ bs)) ≡ true
+    by (Some p) e others = ap is_some (first-some b bs p e)
+    by None e others =
+        let later : first_ready (b ∷ bs) ≡ 1 + first_ready bs = ap (λ (o : Option Descriptor). cond (not (is_some o)) (1 + first_ready bs) 0) e in
+        ap is_some (first-none b bs e) ∙ others (omega (arith, h, later))
+
+pub ready-some : (ns : List (Node Kept)) (place : Option ℕ) → IsFirstReady (map pop ns) place → is_some place ≡ is_some (first_shown (map pop ns))
+ready-some ns None h = ap is_some (nothing-shown ns h)
+ready-some ns (Some k) h = sym (first-shows (map pop ns) (omega (arith, h.0, h.1)))
 
 -- a node that pops
 abbrev bands_of : Inside → List Popping

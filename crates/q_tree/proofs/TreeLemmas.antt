@@ -36,7 +36,7 @@ use Rattle.q_tree.specs.declared.tree.Tree.TheInside.{Inside}
 use Rattle.q_tree.proofs.AskRows.{counted-shown}
 use Rattle.q_tree.proofs.Asking.{asked-weighs}
 use Rattle.q_tree.proofs.Forms.{noted-kept}
-use Rattle.q_tree.proofs.Peeks.{popped-asked}
+use Rattle.q_tree.proofs.Peeks.{popped-asked, hand-asked}
 use Rattle.q_tree.proofs.Rows.{counts_in_row}
 use Rattle.q_tree.proofs.RowsOf.{IsRowOf, can-show, row-shown, row-popped}
 
@@ -74,17 +74,19 @@ module _ (a : Inside) (k : IsKeptDevice a) where
   pub least-mtu : 1 ≤ a.mtu
   least-mtu = subst (λ m. 1 ≤ m) (ap (λ (s : TreeState Counts). s.device.mtu) (sym k.same)) k.keeps.least_mtu
 
+  pub lawful-tree : IsLawfulTree totals a.clock (tree_numbers (tree_seen a).tree)
+  lawful-tree = subst (IsLawfulTree totals a.clock) (sym k.same) (kept-totals a.clock k.history k.keeps)
+
   -- the row of the device is right for its root
   pub top-row : IsRowOf a.top a.root
   top-row =
-      let law : IsLawfulTree totals a.clock (tree_numbers (tree_seen a).tree) = subst (IsLawfulTree totals a.clock) (sym k.same) (kept-totals a.clock k.history k.keeps) in
       let waits : beneath (with_memory (λ (m : Kept). m.counts) a.root) ≡ beneath a.root = ap (beneath_own a.root.own) (each-each_memory beneath_own (λ (m : Kept). m.counts) a.root.below) in
       let holds : held_beneath (with_memory (λ (m : Kept). m.counts) a.root) ≡ held_beneath a.root = ap (held_own a.root.own) (each-each_memory held_own (λ (m : Kept). m.counts) a.root.below) in
       let row : row_of (counts_in_row a.top) (beneath (with_memory (λ (m : Kept). m.counts) a.root)) ≡ a.top = ap (row_of (counts_in_row a.top)) waits ∙ ap (λ q. record a.top { queued = q }) (sym k.queued) in
       record {
         queued = k.queued;
-        balanced = subst IsBalanced row law.device;
-        marks = subst (AreMarksBounded (counts_in_row a.top)) holds law.marks;
+        balanced = subst IsBalanced row lawful-tree.device;
+        marks = subst (AreMarksBounded (counts_in_row a.top)) holds lawful-tree.marks;
       }
 
   module _ (now : ℕ) (later : a.clock ≤ now) (low : now ≤ 2 ^ 62) where
@@ -113,6 +115,10 @@ module _ (a : Inside) (k : IsKeptDevice a) where
       can-book-top packets_fit bytes_fit =
           let x : Asked = ask now (shape a.root) in
           can-show a.root a.top top-row (booked kept a.root x.peeked) x.rises s (asked-weighs now a.root can-ask-root) shown.dropped shown.marked packets_fit bytes_fit
+
+      -- what the root gives then is what it showed
+      pub gives-shown : (pop root).shown ≡ s.packet
+      gives-shown = hand-asked now a.root root can-ask-root new ∙ sym shown.packet
 
       module _ (fit : CanShow s a.top) (r : Row) (row : r ≡ with_shown s a.top) where
         pub shown-row : IsRowOf r root

@@ -1,11 +1,23 @@
 //! Laws of a tree and of its calls. Each function does nothing: its contract is the law.
 ghost use Rattle.std.specs.Prelude.{◌≡◌, ◌≤◌, []};
+ghost use Rattle.q_model.specs.Lawful.{IsLawfulTree};
+ghost use Rattle.q_model.specs.Tally.{totals};
 ghost use Rattle.q_model.specs.TreeState.{given, noted_by_take, peek_packet, take_packet};
 ghost use Rattle.q_tree.specs.Kept.{kept};
 ghost use Rattle.q_tree.specs.Laws.{PutLeavesOtherSubtrees, PutCountsItsLosses, PeekCountsItsLosses, TakeCountsItsLosses};
+ghost use Rattle.q_tree.specs.TreeSeen.{tree_numbers};
 
 use crate::tree::Tree;
 use q_packet::Moment;
+
+/// A tree is lawful: each row is balanced, each active list holds each backlogged entry once, each bucket is within its burst,
+/// no two qdiscs have one handle, and the bounds on depth and number hold.
+pub fn tree_is_lawful(tree: &Tree)
+    ensures { IsLawfulTree totals tree.now.clock (tree_numbers tree.now.tree) }
+{
+    // What the type keeps.
+    let _ = &tree.mtu;
+}
 
 /// A second peek at the same moment shows the same packet, loses and marks nothing more, and leaves the tree as it is.
 ///

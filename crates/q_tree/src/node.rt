@@ -121,19 +121,9 @@ impl Node {
         self.row.queued
     }
 
-    /// The way of a packet down from the node.
-    pub(crate) fn route(&self, packet: &Packet) -> Way
-        requires { depth self.now ≤ 8 }
-        ensures { result ≡ route packet.now self.now }
-    {
-        let mut way = Way::new();
-        self.go(packet, &mut way);
-        way
-    }
-
-    // Goes on from where the way has come to.
+    /// Goes on with the way of a packet, down from the node, from where it has come to.
     #[cycle(go)]
-    fn go(&self, packet: &Packet, way: &mut Way)
+    pub(crate) fn go(&self, packet: &Packet, way: &mut Way)
         requires room { length way.old.path + depth self.now ≤ 8 }
         requires open { way.old.refusal ≡ None }
         ensures { way.new ≡ ahead way.old.path (route packet.now self.now) }

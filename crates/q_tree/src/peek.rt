@@ -1,4 +1,5 @@
-ghost use Rattle.std.specs.Prelude.{◌≡◌, ◌≤◌, ◌+◌, ◌++◌, length, ℕ, List, Option};
+ghost use Rattle.std.specs.Prelude.{◌≡◌, ◌≤◌, ◌+◌, ◌++◌, length, ℕ, List, Option, None, if◌then◌else◌};
+ghost use Rattle.q_packet.specs.Descriptor.{Descriptor};
 ghost use Rattle.q_model.specs.Ask.{ask};
 ghost use Rattle.q_model.specs.Beneath.{beneath};
 ghost use Rattle.q_model.specs.declared.filter.Filter.{Filter};
@@ -18,7 +19,7 @@ use crate::prio::ask_bands;
 use crate::shown::Shown;
 use crate::tbf::ask_child;
 use q_codel::Sink;
-use q_packet::{Moment, Packet};
+use q_packet::Moment;
 
 impl Node {
     /// Asks the node for its packet, which is at hand then, and books what CoDel dropped and marked for it, here and beneath.
@@ -41,7 +42,9 @@ impl Node {
         }
         let shown = self.discipline.ask(now, sink);
         book_shown(&mut self.row, &shown);
-        self.held = self.discipline.dequeued(shown.packet);
+        if self.discipline.holds() {
+            self.held = shown.packet;
+        }
         shown
     }
 }
@@ -65,14 +68,13 @@ impl Discipline {
         }
     }
 
-    // The packet that the node holds where it shows this one: a tbf, a drr and an fq_codel have dequeued it.
-    fn dequeued(&self, shown: Option<Packet>) -> Option<Packet>
-        ensures { result ≡ held_in (discipline_seen self.now) shown }
+    // Whether the node holds what it shows: a tbf, a drr and an fq_codel have dequeued it.
+    fn holds(&self) -> bool
+        ensures { (shown : Option Descriptor) → held_in (discipline_seen self.now) shown ≡ (if result then shown else None) }
     {
         match self {
-            Discipline::Fifo(_) | Discipline::Prio { .. } => return None,
-            Discipline::Tbf { .. } | Discipline::Drr { .. } | Discipline::FqCodel(_) =>
-                return shown,
+            Discipline::Fifo(_) | Discipline::Prio { .. } => return false,
+            Discipline::Tbf { .. } | Discipline::Drr { .. } | Discipline::FqCodel(_) => return true,
         }
     }
 }

@@ -1,9 +1,10 @@
-ghost use Rattle.std.specs.Prelude.{◌≡◌, map};
+ghost use Rattle.std.specs.Prelude.{◌≡◌, map, is_some};
 ghost use Rattle.q_model.specs.Pop.{pop};
 ghost use Rattle.q_model.specs.Work.{booked};
 ghost use Rattle.q_tree.specs.Kept.{kept};
 ghost use Rattle.q_tree.specs.PopSteps.{IsFirstReady, IsPoppedIn, popping_of};
 
+use crate::at_hand::first_packet;
 use crate::booking::book_sent;
 use crate::node::{Discipline, Node};
 use q_packet::Packet;
@@ -27,6 +28,23 @@ impl Node {
         };
         book_sent(&mut self.row, &packet);
         Some(packet)
+    }
+
+    // Whether the node has a packet at hand. None is copied for that.
+    #[cycle(has_packet)]
+    fn has_packet(&self) -> bool
+        ensures { result ≡ is_some (pop self.now).shown }
+    {
+        if self.held.is_some() {
+            return true;
+        }
+        match &self.discipline {
+            Discipline::Fifo(fifo) => return first_packet(fifo).is_some(),
+            Discipline::Prio { bands, .. } => return ready_band(bands).is_some(),
+            Discipline::Tbf { .. } | Discipline::Drr { .. } | Discipline::FqCodel(_) => {
+                return false;
+            }
+        }
     }
 }
 
@@ -53,11 +71,12 @@ impl Discipline {
 }
 
 // The first band that has a packet at hand.
+#[cycle(has_packet)]
 fn ready_band(bands: &[Node]) -> Option<usize>
     ensures { IsFirstReady (map pop bands.now) result }
 {
     for place in 0..bands.len() {
-        if bands[place].at_hand().is_some() {
+        if bands[place].has_packet() {
             return Some(place);
         }
     }

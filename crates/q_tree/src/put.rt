@@ -29,7 +29,7 @@ use q_packet::{Cause, Moment, Packet, Stamped};
 impl Node {
     /// Puts a packet along its way, or refuses it where that ends, and books it at each node on the way.
     ///
-    /// It takes no memory. `path` and `refusal` are what [`Node::route`] says of the packet, and the queue at the end has a
+    /// It takes no memory. `path` and `refusal` are what [`Node::go`] says of the packet, and the queue at the end has a
     /// place for it. `sink` needs room for what is queued and one packet more.
     #[cycle(put)]
     pub(crate) fn put<S: Sink>(

@@ -24,6 +24,7 @@ use crate::node::{NOTHING_COUNTED, Node};
 use crate::outcome::{Outcome, refuse};
 use crate::planned::Planned;
 use crate::route::Route;
+use crate::way::Way;
 use q_codel::{Limit, Sink};
 use q_model::{ClassView, Fate, FilterView, NodeView, Place, Refusal, Row};
 use q_packet::{Cause, Moment, Packet};
@@ -193,9 +194,14 @@ impl Tree {
         if packet.len > self.mtu {
             return Route { way: None };
         }
-        Route {
-            way: Some(self.root.route(packet)),
+        // A way has 72 bytes, so that it is made where it stands.
+        let mut route = Route {
+            way: Some(Way::new()),
+        };
+        if let Some(way) = &mut route.way {
+            self.root.go(packet, way);
         }
+        route
     }
 
     /// Makes the place that a packet on this route needs. Of the calls for a packet it alone takes memory, and none for one that
@@ -288,10 +294,13 @@ impl Tree {
         let shown = self.root.peek(now, sink);
         book_shown(&mut self.top, &shown);
         self.clock = now;
-        let Some(packet) = shown.packet else {
+        if shown.packet.is_none() {
             return None;
+        }
+        // The root gives what it has shown: one copy less than to give that here.
+        let Some(packet) = self.root.pop() else {
+            unreachable!()
         };
-        self.root.pop();
         book_sent(&mut self.top, &packet);
         Some(packet)
     }

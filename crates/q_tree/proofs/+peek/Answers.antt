@@ -21,21 +21,11 @@ use Rattle.q_tree.proofs.AskBands.{AreBandsAsked, told_to, band-at, band-once, b
 use Rattle.q_tree.proofs.AskOnce.{fits-beside, told-nothing, told-then}
 use Rattle.q_tree.proofs.AtHandLemmas.{none-held, some-held}
 use Rattle.q_tree.proofs.HereLemmas.{flow-packets}
-use Rattle.q_tree.proofs.Peeks.{IsPeekedAs, asked-in, told-in, each-of, room-of, own-room, items-are, serve-of, holding-after, can-in, enough, can-book, peeked-done, shown-here, told-here, tbf-gave}
+use Rattle.q_tree.proofs.Peeks.{asked-in, told-in, each-of, room-of, own-room, items-are, serve-of, holding-after, can-in, enough, can-book, peeked-done, shown-here, told-here, tbf-gave, does-hold, holds-none}
 use Rattle.q_tree.proofs.ServeLemmas.{AreClassesAsked, SinkTold, heads_of, classes-start, class-there, class-in-front, place-within, class-size, class-once, class-shown, short-enough, nothing-schedule, nothing-asked, nothing-told, offered-head, given-schedule, given-asked, given-told, classes-go-on, idle-schedule, idle-asked, idle-told}
 use Rattle.q_tree.proofs.RouteLemmas.{child-size, children-size}
 use Rattle.q_tree.proofs.TakeCounts.{flow-told}
-use Rattle.q_tree.proofs.+peek.Given.{Over}
 use Rattle.q_tree.proofs.+peek.Goals as goal
-
--- a node that asked its discipline
-asked : (g : Over) (t : ℕ) (c : goal.the-here-node::Node::peek-After-self-1 g.row.S g.S.laws g.S.Sink g.S.Sink-dict g.world g.met.S.Sink t)
-    → IsPeekedAs c.args.now c.args.self.now (record c.self.inside { held = c.dequeued-self-inside.result; row = c.book_shown.new.row; discipline = c.ask-shown.new.self })
-asked g t c =
-    let q = c.ask-shown.ensures.after c.self.inside.handle c.self.inside.filters.items in
-    peeked-done c.args.now c.self.inside c.args.self.now c.self.invariant c.self.view_is c.requires.ready (none-held c.self.inside.held c.if-is_some.ensures) c.ask-shown.new.self c.ask-shown.result q c.book_shown.new.row c.dequeued-self-inside.result
-    (can-book c.args.now c.self.inside c.args.self.now c.self.invariant c.self.view_is c.requires.ready (none-held c.self.inside.held c.if-is_some.ensures) c.ask-shown.new.self c.ask-shown.result q (omega (arith, c.self.ranges)) (omega (arith, c.self.ranges)))
-    c.book_shown.ensures c.dequeued-self-inside.ensures
 
 pub drr::ask_class-then-requires-clause-dropped_packets :
     goal.drr::ask_class-then-requires-clause-dropped_packets
@@ -343,21 +333,63 @@ pub node::Node::peek-book_shown-requires-clause-room :
 node::Node::peek-book_shown-requires-clause-room g t c =
     can-book c.args.now c.self.inside c.args.self.now c.self.invariant c.self.view_is c.requires.ready (none-held c.self.inside.held c.if-is_some.ensures) c.ask-shown.new.self c.ask-shown.result (c.ask-shown.ensures.after c.self.inside.handle c.self.inside.filters.items) (omega (arith, c.self.ranges)) (omega (arith, c.self.ranges))
 
-pub node::Node::peek-invariant_of-self : goal.node::Node::peek-invariant_of-self
-node::Node::peek-invariant_of-self g t c = (asked g t c).stays
+pub node::Node::peek-invariant_of-self :
+    goal.node::Node::peek-invariant_of-self
+node::Node::peek-invariant_of-self g t c =
+    (peeked-done c.args.now c.self.inside c.args.self.now c.self.invariant c.self.view_is c.requires.ready (none-held c.self.inside.held c.if-is_some.ensures) c.ask-shown.new.self c.ask-shown.result (c.ask-shown.ensures.after c.self.inside.handle c.self.inside.filters.items) c.book_shown.new.row c.ask-shown.result.packet
+    (can-book c.args.now c.self.inside c.args.self.now c.self.invariant c.self.view_is c.requires.ready (none-held c.self.inside.held c.if-is_some.ensures) c.ask-shown.new.self c.ask-shown.result (c.ask-shown.ensures.after c.self.inside.handle c.self.inside.filters.items) (omega (arith, c.self.ranges)) (omega (arith, c.self.ranges)))
+    c.book_shown.ensures (does-hold c.ask-shown.new.self c.ask-shown.result.packet c.holds.result c.if-holds.true (c.holds.ensures c.ask-shown.result.packet))).stays
 
-pub node::Node::peek-returns-clause-after : goal.node::Node::peek-returns-clause-after
-node::Node::peek-returns-clause-after g t c = (asked g t c).after
+pub node::Node::peek-invariant_of-self-else-holds :
+    goal.node::Node::peek-invariant_of-self-else-holds
+node::Node::peek-invariant_of-self-else-holds g t c =
+    (peeked-done c.args.now c.self.inside c.args.self.now c.self.invariant c.self.view_is c.requires.ready (none-held c.self.inside.held c.if-is_some.ensures) c.ask-shown.new.self c.ask-shown.result (c.ask-shown.ensures.after c.self.inside.handle c.self.inside.filters.items) c.book_shown.new.row c.self.inside.held
+    (can-book c.args.now c.self.inside c.args.self.now c.self.invariant c.self.view_is c.requires.ready (none-held c.self.inside.held c.if-is_some.ensures) c.ask-shown.new.self c.ask-shown.result (c.ask-shown.ensures.after c.self.inside.handle c.self.inside.filters.items) (omega (arith, c.self.ranges)) (omega (arith, c.self.ranges)))
+    c.book_shown.ensures ((none-held c.self.inside.held c.if-is_some.ensures) ∙ holds-none c.ask-shown.new.self c.ask-shown.result.packet c.holds.result c.if-holds.false (c.holds.ensures c.ask-shown.result.packet))).stays
 
-pub node::Node::peek-returns-clause-shown : goal.node::Node::peek-returns-clause-shown
-node::Node::peek-returns-clause-shown g t c =
+pub node::Node::peek-returns-then-holds-clause-after :
+    goal.node::Node::peek-returns-then-holds-clause-after
+node::Node::peek-returns-then-holds-clause-after g t c =
+    (peeked-done c.args.now c.self.inside c.args.self.now c.self.invariant c.self.view_is c.requires.ready (none-held c.self.inside.held c.if-is_some.ensures) c.ask-shown.new.self c.ask-shown.result (c.ask-shown.ensures.after c.self.inside.handle c.self.inside.filters.items) c.book_shown.new.row c.ask-shown.result.packet
+    (can-book c.args.now c.self.inside c.args.self.now c.self.invariant c.self.view_is c.requires.ready (none-held c.self.inside.held c.if-is_some.ensures) c.ask-shown.new.self c.ask-shown.result (c.ask-shown.ensures.after c.self.inside.handle c.self.inside.filters.items) (omega (arith, c.self.ranges)) (omega (arith, c.self.ranges)))
+    c.book_shown.ensures (does-hold c.ask-shown.new.self c.ask-shown.result.packet c.holds.result c.if-holds.true (c.holds.ensures c.ask-shown.result.packet))).after
+
+pub node::Node::peek-returns-else-holds-clause-after :
+    goal.node::Node::peek-returns-else-holds-clause-after
+node::Node::peek-returns-else-holds-clause-after g t c =
+    (peeked-done c.args.now c.self.inside c.args.self.now c.self.invariant c.self.view_is c.requires.ready (none-held c.self.inside.held c.if-is_some.ensures) c.ask-shown.new.self c.ask-shown.result (c.ask-shown.ensures.after c.self.inside.handle c.self.inside.filters.items) c.book_shown.new.row c.self.inside.held
+    (can-book c.args.now c.self.inside c.args.self.now c.self.invariant c.self.view_is c.requires.ready (none-held c.self.inside.held c.if-is_some.ensures) c.ask-shown.new.self c.ask-shown.result (c.ask-shown.ensures.after c.self.inside.handle c.self.inside.filters.items) (omega (arith, c.self.ranges)) (omega (arith, c.self.ranges)))
+    c.book_shown.ensures ((none-held c.self.inside.held c.if-is_some.ensures) ∙ holds-none c.ask-shown.new.self c.ask-shown.result.packet c.holds.result c.if-holds.false (c.holds.ensures c.ask-shown.result.packet))).after
+
+pub node::Node::peek-returns-then-holds-clause-shown :
+    goal.node::Node::peek-returns-then-holds-clause-shown
+node::Node::peek-returns-then-holds-clause-shown g t c =
     shown-here c.args.now c.self.inside c.args.self.now c.self.invariant c.self.view_is c.requires.ready (none-held c.self.inside.held c.if-is_some.ensures) c.ask-shown.new.self c.ask-shown.result (c.ask-shown.ensures.after c.self.inside.handle c.self.inside.filters.items)
 
-pub node::Node::peek-returns-clause-lost : goal.node::Node::peek-returns-clause-lost
-node::Node::peek-returns-clause-lost g t c = (told-here c.args.now c.self.inside c.args.self.now c.self.invariant c.self.view_is c.requires.ready (none-held c.self.inside.held c.if-is_some.ensures) (g.S.Sink.losses c.args.sink.now) (g.S.Sink.losses c.ask-shown.new.sink) (g.S.Sink.room c.args.sink.now) (g.S.Sink.room c.ask-shown.new.sink) (c.ask-shown.ensures.told c.self.inside.handle c.self.inside.filters.items)).lost
+pub node::Node::peek-returns-then-holds-clause-lost :
+    goal.node::Node::peek-returns-then-holds-clause-lost
+node::Node::peek-returns-then-holds-clause-lost g t c =
+    (told-here c.args.now c.self.inside c.args.self.now c.self.invariant c.self.view_is c.requires.ready (none-held c.self.inside.held c.if-is_some.ensures) (g.S.Sink.losses c.args.sink.now) (g.S.Sink.losses c.ask-shown.new.sink) (g.S.Sink.room c.args.sink.now) (g.S.Sink.room c.ask-shown.new.sink) (c.ask-shown.ensures.told c.self.inside.handle c.self.inside.filters.items)).lost
 
-pub node::Node::peek-returns-clause-room : goal.node::Node::peek-returns-clause-room
-node::Node::peek-returns-clause-room g t c = (told-here c.args.now c.self.inside c.args.self.now c.self.invariant c.self.view_is c.requires.ready (none-held c.self.inside.held c.if-is_some.ensures) (g.S.Sink.losses c.args.sink.now) (g.S.Sink.losses c.ask-shown.new.sink) (g.S.Sink.room c.args.sink.now) (g.S.Sink.room c.ask-shown.new.sink) (c.ask-shown.ensures.told c.self.inside.handle c.self.inside.filters.items)).room_taken
+pub node::Node::peek-returns-then-holds-clause-room :
+    goal.node::Node::peek-returns-then-holds-clause-room
+node::Node::peek-returns-then-holds-clause-room g t c =
+    (told-here c.args.now c.self.inside c.args.self.now c.self.invariant c.self.view_is c.requires.ready (none-held c.self.inside.held c.if-is_some.ensures) (g.S.Sink.losses c.args.sink.now) (g.S.Sink.losses c.ask-shown.new.sink) (g.S.Sink.room c.args.sink.now) (g.S.Sink.room c.ask-shown.new.sink) (c.ask-shown.ensures.told c.self.inside.handle c.self.inside.filters.items)).room_taken
+
+pub node::Node::peek-returns-else-holds-clause-shown :
+    goal.node::Node::peek-returns-else-holds-clause-shown
+node::Node::peek-returns-else-holds-clause-shown g t c =
+    shown-here c.args.now c.self.inside c.args.self.now c.self.invariant c.self.view_is c.requires.ready (none-held c.self.inside.held c.if-is_some.ensures) c.ask-shown.new.self c.ask-shown.result (c.ask-shown.ensures.after c.self.inside.handle c.self.inside.filters.items)
+
+pub node::Node::peek-returns-else-holds-clause-lost :
+    goal.node::Node::peek-returns-else-holds-clause-lost
+node::Node::peek-returns-else-holds-clause-lost g t c =
+    (told-here c.args.now c.self.inside c.args.self.now c.self.invariant c.self.view_is c.requires.ready (none-held c.self.inside.held c.if-is_some.ensures) (g.S.Sink.losses c.args.sink.now) (g.S.Sink.losses c.ask-shown.new.sink) (g.S.Sink.room c.args.sink.now) (g.S.Sink.room c.ask-shown.new.sink) (c.ask-shown.ensures.told c.self.inside.handle c.self.inside.filters.items)).lost
+
+pub node::Node::peek-returns-else-holds-clause-room :
+    goal.node::Node::peek-returns-else-holds-clause-room
+node::Node::peek-returns-else-holds-clause-room g t c =
+    (told-here c.args.now c.self.inside c.args.self.now c.self.invariant c.self.view_is c.requires.ready (none-held c.self.inside.held c.if-is_some.ensures) (g.S.Sink.losses c.args.sink.now) (g.S.Sink.losses c.ask-shown.new.sink) (g.S.Sink.room c.args.sink.now) (g.S.Sink.room c.ask-shown.new.sink) (c.ask-shown.ensures.told c.self.inside.handle c.self.inside.filters.items)).room_taken
 
 pub prio::ask_bands-loop-place-init : goal.prio::ask_bands-loop-place-init
 prio::ask_bands-loop-place-init g t c = (

@@ -1,11 +1,14 @@
-use Rattle.std.proofs.Common.{◌∙◌, ◌≤◌, ◌^◌, refl, ap, arith}
+use Rattle.std.proofs.Common.{◌≡◌, ◌∙◌, ◌≤◌, ◌^◌, Some, None, refl, sym, ap, arith}
+use Rattle.std.specs.Prelude.{is_some}
+use Rattle.std.proofs.lemmas.Bool.{false≢true}
 use Rattle.q_model.specs.declared.row.Row.{Row}
 use Rattle.q_model.specs.declared.totals.Totals.{Totals}
 use Rattle.q_model.specs.Step.{DeviceState}
-use Rattle.q_model.specs.TreeState.{take_packet}
+use Rattle.q_model.specs.TreeState.{given, take_packet}
 use Rattle.q_tree.specs.Kept.{Kept, kept}
+use Rattle.q_tree.proofs.AtHandLemmas.{none-held}
 use Rattle.q_tree.proofs.RowsOf.{among}
-use Rattle.q_tree.proofs.TreeLemmas.{top-row, can-ask-root, can-book-top, shown-row, none-taken, none-kept, at-hand, one-taken, one-kept}
+use Rattle.q_tree.proofs.TreeLemmas.{top-row, can-ask-root, can-book-top, shown-row, none-taken, none-kept, at-hand, gives-shown, one-taken, one-kept}
 use Rattle.q_tree.proofs.tree.Tree.take.Goals as goal
 
 pub peek-shown-requires-clause-ready : goal.peek-shown-requires-clause-ready
@@ -30,15 +33,15 @@ invariant_of-self g c =
     let later : c.self.inside.clock ≤ c.args.now = omega (arith, e, c.requires.order) in
     let low : c.args.now ≤ 2 ^ 62 = omega (arith, c.ns.ensures.in_range, c.ns.ensures.value) in
     let shown = c.peek-shown.ensures.shown in
-    none-kept c.self.inside c.self.invariant c.args.now later low c.peek-shown.result shown c.peek-shown.new.self c.peek-shown.ensures.after (can-book-top c.self.inside c.self.invariant c.args.now later low c.peek-shown.result shown c.peek-shown.new.self c.peek-shown.ensures.after (omega (arith, c.self.ranges)) (omega (arith, c.self.ranges))) c.book_shown.new.row c.book_shown.ensures c.in_default.is (record c.self.inside { clock = c.args.now; top = c.book_shown.new.row; root = c.peek-shown.new.self }) refl c.peek-shown.ensures.arrived
+    none-kept c.self.inside c.self.invariant c.args.now later low c.peek-shown.result shown c.peek-shown.new.self c.peek-shown.ensures.after (can-book-top c.self.inside c.self.invariant c.args.now later low c.peek-shown.result shown c.peek-shown.new.self c.peek-shown.ensures.after (omega (arith, c.self.ranges)) (omega (arith, c.self.ranges))) c.book_shown.new.row c.book_shown.ensures (none-held c.peek-shown.result.packet (sym c.if-is_none.ensures)) (record c.self.inside { clock = c.args.now; top = c.book_shown.new.row; root = c.peek-shown.new.self }) refl c.peek-shown.ensures.arrived
 
-pub returns-in_default-clause-after : goal.returns-in_default-clause-after
-returns-in_default-clause-after g c =
+pub returns-then-is_none-clause-after : goal.returns-then-is_none-clause-after
+returns-then-is_none-clause-after g c =
     let e = ap (λ (d : DeviceState Kept). d.clock) c.self.view_is in
     let later : c.self.inside.clock ≤ c.args.now = omega (arith, e, c.requires.order) in
     let low : c.args.now ≤ 2 ^ 62 = omega (arith, c.ns.ensures.in_range, c.ns.ensures.value) in
     let shown = c.peek-shown.ensures.shown in
-    none-taken c.self.inside c.self.invariant c.args.now later low c.peek-shown.result shown c.peek-shown.new.self c.peek-shown.ensures.after (can-book-top c.self.inside c.self.invariant c.args.now later low c.peek-shown.result shown c.peek-shown.new.self c.peek-shown.ensures.after (omega (arith, c.self.ranges)) (omega (arith, c.self.ranges))) c.book_shown.new.row c.book_shown.ensures c.in_default.is (record c.self.inside { clock = c.args.now; top = c.book_shown.new.row; root = c.peek-shown.new.self }) refl
+    none-taken c.self.inside c.self.invariant c.args.now later low c.peek-shown.result shown c.peek-shown.new.self c.peek-shown.ensures.after (can-book-top c.self.inside c.self.invariant c.args.now later low c.peek-shown.result shown c.peek-shown.new.self c.peek-shown.ensures.after (omega (arith, c.self.ranges)) (omega (arith, c.self.ranges))) c.book_shown.new.row c.book_shown.ensures (none-held c.peek-shown.result.packet (sym c.if-is_none.ensures)) (record c.self.inside { clock = c.args.now; top = c.book_shown.new.row; root = c.peek-shown.new.self }) refl
     ∙ ap (λ (d : DeviceState Kept). record { clock = c.args.now; tree = take_packet kept c.args.now d.tree }) c.self.view_is
 
 pub book_sent-requires-clause-balanced : goal.book_sent-requires-clause-balanced
@@ -55,7 +58,8 @@ book_sent-requires-clause-among g c =
     let later : c.self.inside.clock ≤ c.args.now = omega (arith, e, c.requires.order) in
     let low : c.args.now ≤ 2 ^ 62 = omega (arith, c.ns.ensures.in_range, c.ns.ensures.value) in
     let shown = c.peek-shown.ensures.shown in
-    among c.peek-shown.new.self c.book_shown.new.row (shown-row c.self.inside c.self.invariant c.args.now later low c.peek-shown.result shown c.peek-shown.new.self c.peek-shown.ensures.after (can-book-top c.self.inside c.self.invariant c.args.now later low c.peek-shown.result shown c.peek-shown.new.self c.peek-shown.ensures.after (omega (arith, c.self.ranges)) (omega (arith, c.self.ranges))) c.book_shown.new.row c.book_shown.ensures) c.in-Some.packet (at-hand c.self.inside c.self.invariant c.args.now later low c.peek-shown.result shown c.peek-shown.new.self c.peek-shown.ensures.after (can-book-top c.self.inside c.self.invariant c.args.now later low c.peek-shown.result shown c.peek-shown.new.self c.peek-shown.ensures.after (omega (arith, c.self.ranges)) (omega (arith, c.self.ranges))) c.book_shown.new.row c.book_shown.ensures c.in-Some.packet c.in-Some.is)
+    let is : c.peek-shown.result.packet ≡ Some c.in-Some.packet = sym (gives-shown c.self.inside c.self.invariant c.args.now later low c.peek-shown.result shown c.peek-shown.new.self c.peek-shown.ensures.after) ∙ sym c.pop.ensures.packet ∙ c.in-Some.is in
+    among c.peek-shown.new.self c.book_shown.new.row (shown-row c.self.inside c.self.invariant c.args.now later low c.peek-shown.result shown c.peek-shown.new.self c.peek-shown.ensures.after (can-book-top c.self.inside c.self.invariant c.args.now later low c.peek-shown.result shown c.peek-shown.new.self c.peek-shown.ensures.after (omega (arith, c.self.ranges)) (omega (arith, c.self.ranges))) c.book_shown.new.row c.book_shown.ensures) c.in-Some.packet (at-hand c.self.inside c.self.invariant c.args.now later low c.peek-shown.result shown c.peek-shown.new.self c.peek-shown.ensures.after (can-book-top c.self.inside c.self.invariant c.args.now later low c.peek-shown.result shown c.peek-shown.new.self c.peek-shown.ensures.after (omega (arith, c.self.ranges)) (omega (arith, c.self.ranges))) c.book_shown.new.row c.book_shown.ensures c.in-Some.packet is)
 
 pub book_sent-requires-clause-room : goal.book_sent-requires-clause-room
 book_sent-requires-clause-room g c =
@@ -63,8 +67,9 @@ book_sent-requires-clause-room g c =
     let later : c.self.inside.clock ≤ c.args.now = omega (arith, e, c.requires.order) in
     let low : c.args.now ≤ 2 ^ 62 = omega (arith, c.ns.ensures.in_range, c.ns.ensures.value) in
     let shown = c.peek-shown.ensures.shown in
+    let is : c.peek-shown.result.packet ≡ Some c.in-Some.packet = sym (gives-shown c.self.inside c.self.invariant c.args.now later low c.peek-shown.result shown c.peek-shown.new.self c.peek-shown.ensures.after) ∙ sym c.pop.ensures.packet ∙ c.in-Some.is in
     let row = shown-row c.self.inside c.self.invariant c.args.now later low c.peek-shown.result shown c.peek-shown.new.self c.peek-shown.ensures.after (can-book-top c.self.inside c.self.invariant c.args.now later low c.peek-shown.result shown c.peek-shown.new.self c.peek-shown.ensures.after (omega (arith, c.self.ranges)) (omega (arith, c.self.ranges))) c.book_shown.new.row c.book_shown.ensures in
-    let had = among c.peek-shown.new.self c.book_shown.new.row row c.in-Some.packet (at-hand c.self.inside c.self.invariant c.args.now later low c.peek-shown.result shown c.peek-shown.new.self c.peek-shown.ensures.after (can-book-top c.self.inside c.self.invariant c.args.now later low c.peek-shown.result shown c.peek-shown.new.self c.peek-shown.ensures.after (omega (arith, c.self.ranges)) (omega (arith, c.self.ranges))) c.book_shown.new.row c.book_shown.ensures c.in-Some.packet c.in-Some.is) in
+    let had = among c.peek-shown.new.self c.book_shown.new.row row c.in-Some.packet (at-hand c.self.inside c.self.invariant c.args.now later low c.peek-shown.result shown c.peek-shown.new.self c.peek-shown.ensures.after (can-book-top c.self.inside c.self.invariant c.args.now later low c.peek-shown.result shown c.peek-shown.new.self c.peek-shown.ensures.after (omega (arith, c.self.ranges)) (omega (arith, c.self.ranges))) c.book_shown.new.row c.book_shown.ensures c.in-Some.packet is) in
     let same = ap (λ (r : Row). r.arrived) c.book_shown.ensures in
     record {
       packets = omega (arith, row.balanced.packets, had.packets, ap (λ (t : Totals). t.packets) same, c.self.ranges);
@@ -77,7 +82,8 @@ invariant_of-self-2 g c =
     let later : c.self.inside.clock ≤ c.args.now = omega (arith, e, c.requires.order) in
     let low : c.args.now ≤ 2 ^ 62 = omega (arith, c.ns.ensures.in_range, c.ns.ensures.value) in
     let shown = c.peek-shown.ensures.shown in
-    one-kept c.self.inside c.self.invariant c.args.now later low c.peek-shown.result shown c.peek-shown.new.self c.peek-shown.ensures.after (can-book-top c.self.inside c.self.invariant c.args.now later low c.peek-shown.result shown c.peek-shown.new.self c.peek-shown.ensures.after (omega (arith, c.self.ranges)) (omega (arith, c.self.ranges))) c.book_shown.new.row c.book_shown.ensures c.in-Some.packet c.in-Some.is c.book_sent.new.row c.book_sent.ensures c.pop.new.self c.pop.ensures.after (record c.self.inside { clock = c.args.now; top = c.book_sent.new.row; root = c.pop.new.self }) refl c.peek-shown.ensures.arrived c.pop.ensures.arrived
+    let is : c.peek-shown.result.packet ≡ Some c.in-Some.packet = sym (gives-shown c.self.inside c.self.invariant c.args.now later low c.peek-shown.result shown c.peek-shown.new.self c.peek-shown.ensures.after) ∙ sym c.pop.ensures.packet ∙ c.in-Some.is in
+    one-kept c.self.inside c.self.invariant c.args.now later low c.peek-shown.result shown c.peek-shown.new.self c.peek-shown.ensures.after (can-book-top c.self.inside c.self.invariant c.args.now later low c.peek-shown.result shown c.peek-shown.new.self c.peek-shown.ensures.after (omega (arith, c.self.ranges)) (omega (arith, c.self.ranges))) c.book_shown.new.row c.book_shown.ensures c.in-Some.packet is c.book_sent.new.row c.book_sent.ensures c.pop.new.self c.pop.ensures.after (record c.self.inside { clock = c.args.now; top = c.book_sent.new.row; root = c.pop.new.self }) refl c.peek-shown.ensures.arrived c.pop.ensures.arrived
 
 pub returns-clause-after : goal.returns-clause-after
 returns-clause-after g c =
@@ -85,5 +91,23 @@ returns-clause-after g c =
     let later : c.self.inside.clock ≤ c.args.now = omega (arith, e, c.requires.order) in
     let low : c.args.now ≤ 2 ^ 62 = omega (arith, c.ns.ensures.in_range, c.ns.ensures.value) in
     let shown = c.peek-shown.ensures.shown in
-    one-taken c.self.inside c.self.invariant c.args.now later low c.peek-shown.result shown c.peek-shown.new.self c.peek-shown.ensures.after (can-book-top c.self.inside c.self.invariant c.args.now later low c.peek-shown.result shown c.peek-shown.new.self c.peek-shown.ensures.after (omega (arith, c.self.ranges)) (omega (arith, c.self.ranges))) c.book_shown.new.row c.book_shown.ensures c.in-Some.packet c.in-Some.is c.book_sent.new.row c.book_sent.ensures c.pop.new.self c.pop.ensures.after (record c.self.inside { clock = c.args.now; top = c.book_sent.new.row; root = c.pop.new.self }) refl
+    let is : c.peek-shown.result.packet ≡ Some c.in-Some.packet = sym (gives-shown c.self.inside c.self.invariant c.args.now later low c.peek-shown.result shown c.peek-shown.new.self c.peek-shown.ensures.after) ∙ sym c.pop.ensures.packet ∙ c.in-Some.is in
+    one-taken c.self.inside c.self.invariant c.args.now later low c.peek-shown.result shown c.peek-shown.new.self c.peek-shown.ensures.after (can-book-top c.self.inside c.self.invariant c.args.now later low c.peek-shown.result shown c.peek-shown.new.self c.peek-shown.ensures.after (omega (arith, c.self.ranges)) (omega (arith, c.self.ranges))) c.book_shown.new.row c.book_shown.ensures c.in-Some.packet is c.book_sent.new.row c.book_sent.ensures c.pop.new.self c.pop.ensures.after (record c.self.inside { clock = c.args.now; top = c.book_sent.new.row; root = c.pop.new.self }) refl
     ∙ ap (λ (d : DeviceState Kept). record { clock = c.args.now; tree = take_packet kept c.args.now d.tree }) c.self.view_is
+
+pub unreachable-requires : goal.unreachable-requires
+unreachable-requires g c =
+    let e = ap (λ (d : DeviceState Kept). d.clock) c.self.view_is in
+    let later : c.self.inside.clock ≤ c.args.now = omega (arith, e, c.requires.order) in
+    let low : c.args.now ≤ 2 ^ 62 = omega (arith, c.ns.ensures.in_range, c.ns.ensures.value) in
+    let shown = c.peek-shown.ensures.shown in
+    let nothing : c.peek-shown.result.packet ≡ None = sym (gives-shown c.self.inside c.self.invariant c.args.now later low c.peek-shown.result shown c.peek-shown.new.self c.peek-shown.ensures.after) ∙ sym c.pop.ensures.packet ∙ c.in_default.is in
+    false≢true (sym (ap is_some nothing) ∙ c.if-is_none.ensures)
+
+pub returns-clause-packet : goal.returns-clause-packet
+returns-clause-packet g c =
+    let e = ap (λ (d : DeviceState Kept). d.clock) c.self.view_is in
+    let later : c.self.inside.clock ≤ c.args.now = omega (arith, e, c.requires.order) in
+    let low : c.args.now ≤ 2 ^ 62 = omega (arith, c.ns.ensures.in_range, c.ns.ensures.value) in
+    let shown = c.peek-shown.ensures.shown in
+    sym c.in-Some.is ∙ c.pop.ensures.packet ∙ gives-shown c.self.inside c.self.invariant c.args.now later low c.peek-shown.result shown c.peek-shown.new.self c.peek-shown.ensures.after ∙ shown.packet ∙ ap (λ (d : DeviceState Kept). given c.args.now d.tree) c.self.view_is
