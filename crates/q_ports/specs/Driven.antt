@@ -1,6 +1,7 @@
 -- What driving does: a sender for each port offers its load, while the drain takes turns.
 -- Nothing here is of a standard.
-use Rattle.std.specs.Prelude.{◌≡◌, ◌⊎◌, ℕ, ◌<◌, ◌^◌, List, [], length, map, sum_by, get_or, Vec}
+use Rattle.std.specs.Prelude.{◌≡◌, ℕ, ◌<◌, ◌^◌, List, [], length, map, sum_by, get_or, Vec}
+use mathlib.Core.List.{IsPrefix}
 use Rattle.std.specs.declared.alloc.Global.{Global}
 use Rattle.core.specs.declared.thread.PromisedHandle.{PromisedHandle}
 use Rattle.q_packet.specs.Descriptor.{Descriptor}
@@ -27,10 +28,15 @@ port_in s = s.port
 abbrev pub rest_of : Sent → ℕ
 rest_of s = s.given_up
 
+-- each sender offered its load at its port, in the order of the ports, as far as there are senders
+abbrev pub AllOffered : List PortSeen → List (List Descriptor) → List Sent → Type 0
+AllOffered before loads after =
+    (k : ℕ) (p : PortSeen) (s : Sent) → k < length after → Offered (get_or before k p) (get_or loads k []) (get_or after k s).port (get_or after k s).given_up
+
 -- for each port and its load, what its sender handed back
 pub record Drove (before : List PortSeen) (loads : List (List Descriptor)) (after : List Sent) : Type 0 where
   pub count : length after ≡ length before
-  pub each : (k : ℕ) (p : PortSeen) (s : Sent) → k < length after → Offered (get_or before k p) (get_or loads k []) (get_or after k s).port (get_or after k s).given_up
+  pub each : AllOffered before loads after
 
 -- The senders handed back these, the settled share is over what their ports placed, and so many packets were given up in all, where
 -- their number can be counted.
@@ -40,6 +46,19 @@ pub record HasDriven (before : List PortSeen) (loads : List (List Descriptor)) (
   pub settled : share ≡ share_of (map placed_by (map port_in after))
   pub rest : sum_by rest_of after < 2 ^ 64 → given_up ≡ sum_by rest_of after
 
--- the ports are those of the rings, as settling wants them, or there are none
+-- of the load some packets were placed, behind what the port had placed before, and the others were given up
+pub record OfferedSome (before : PortSeen) (load : List Descriptor) (after : PortSeen) : Type 0 where
+  pub given_up : ℕ
+  pub offered : Offered before load after given_up
+
+-- so it was with each port that came back, in the order of the ports
+abbrev pub AreBack : List PortSeen → List (List Descriptor) → List PortSeen → Type 0
+AreBack before loads back = (k : ℕ) (p : PortSeen) → k < length back → OfferedSome (get_or before k p) (get_or loads k []) (get_or back k p)
+
+-- the ports are those of the first rings, in their order
+abbrev pub AreFirst : List RingSeen → List PortSeen → Type 0
+AreFirst rings ports = IsPrefix (map ring_of_port ports) (map ring_id rings)
+
+-- where no port is gone, the ports are those of the rings, as settling wants them
 abbrev pub MaySettle : List RingSeen → List PortSeen → Type 0
-MaySettle rings ports = (ports ≡ []) ⊎ (map ring_of_port ports ≡ map ring_id rings)
+MaySettle rings ports = length ports ≡ length rings → map ring_of_port ports ≡ map ring_id rings

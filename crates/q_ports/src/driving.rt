@@ -1,5 +1,6 @@
-ghost use Rattle.std.specs.Prelude.{◌≡◌, ◌≤◌, ◌<◌, ◌^◌, [], length, map, true, sum_by, vec_capacity, IfOk, IfErr, IfSome};
-ghost use Rattle.q_ports.specs.Driven.{packets_of, port_in, promised_load, promised_port, rest_of, Drove, HasDriven, MaySettle};
+ghost use Rattle.std.specs.Prelude.{◌≡◌, ◌≤◌, ◌<◌, ◌+◌, ◌*◌, ◌^◌, min, [], length, map, true, sum_by, vec_capacity, IfOk, IfErr, IfSome};
+ghost use mathlib.Core.List.{IsPrefix};
+ghost use Rattle.q_ports.specs.Driven.{packets_of, port_in, promised_load, promised_port, rest_of, AllOffered, AreBack, AreFirst, HasDriven, MaySettle};
 ghost use Rattle.q_ports.specs.Offered.{Offered};
 ghost use Rattle.q_ports.specs.Placed.{ring_of_port};
 ghost use Rattle.q_ports.specs.Rings.{ring_id};
@@ -39,8 +40,8 @@ type Running = PromisedHandle<Sent, Sends>;
 ///
 /// # Errors
 ///
-/// `settle`'s, for want of memory; and the drain alone, where a thread could not be started: what was placed and taken stays so,
-/// but the ports are gone.
+/// `settle`'s, for want of memory; or the drain with the ports of the senders that ran, where a thread could not be started: what
+/// was placed and taken stays so, and the other ports are gone.
 pub fn drive<
     P: Ledger + Send + Sync,
     B: Ledger + Send + Sync,
@@ -63,13 +64,16 @@ pub fn drive<
     requires loads { length loads.items ≡ length ports.items }
     ensures driven { IfOk result (λ d. HasDriven ports.items (map packets_of loads.items) d.settled d.given_up) }
     ensures rings { IfErr result (λ u. map ring_id u.drain.rings ≡ map ring_id drain.rings) }
+    ensures first { IfErr result (λ u. AreFirst u.drain.rings u.ports.items) }
     ensures again { IfErr result (λ u. MaySettle u.drain.rings u.ports.items) }
+    ensures back { IfErr result (λ u. AreBack ports.items (map packets_of loads.items) u.ports.items) }
 {
     let Drain {
         intake,
         mut publisher,
     } = drain;
-    let Ok(mut back) = Vec::with_capacity(alloc, ports.len()) else {
+    let count = ports.len();
+    let Ok((room, mut back)) = rooms(alloc, count) else {
         return Err(Unsettled {
             drain: Drain { intake, publisher },
             ports,
@@ -84,22 +88,33 @@ pub fn drive<
         &mut publisher,
         ports,
         loads,
+        room,
         gate,
         pace,
         tries,
     );
     let drain = Drain { intake, publisher };
-    let Some(sent) = sent else {
-        return Err(Unsettled { drain, ports: back });
-    };
     let given_up = give_back(sent, &mut back);
+    if back.len() < count {
+        return Err(Unsettled { drain, ports: back });
+    }
     match drain.settle(rt, booked, back, start) {
         Ok(settled) => Ok(Driven { settled, given_up }),
         Err(unsettled) => Err(unsettled),
     }
 }
 
-// Runs a sender for each port, while the drain takes turns. `None` where a thread could not be started.
+// Room for what so many senders hand back, and for their ports.
+fn rooms(alloc: Global, count: usize) -> Result<(Vec<Sent>, Vec<Port>), AllocError>
+    ensures empty { IfOk result (λ r. (r.0.items ≡ []) × (r.1.items ≡ [])) }
+    ensures room { IfOk result (λ r. (count ≤ vec_capacity r.0) × (count ≤ vec_capacity r.1)) }
+{
+    let room = Vec::with_capacity(alloc, count)?;
+    let back = Vec::with_capacity(alloc, count)?;
+    Ok((room, back))
+}
+
+// Runs a sender for each port, up to the first that cannot be started, while the drain takes turns.
 fn run<P: Ledger + Send + Sync, B: Ledger + Send + Sync, G: Gate + Sync, R: Threads + Wait + Sync>(
     rt: &R,
     alloc: Global,
@@ -108,26 +123,32 @@ fn run<P: Ledger + Send + Sync, B: Ledger + Send + Sync, G: Gate + Sync, R: Thre
     publisher: &mut Publisher,
     ports: Vec<Port>,
     loads: Vec<Vec<Packet>>,
+    room: Vec<Sent>,
     gate: &G,
     pace: Pace,
     tries: u64,
-) -> (Intake<P, B>, Option<Vec<Sent>>)
-    requires { length loads.items ≡ length ports.items }
+) -> (Intake<P, B>, Vec<Sent>)
+    requires loads { length loads.items ≡ length ports.items }
+    requires room { (room.items ≡ []) × (length ports.items ≤ vec_capacity room) }
     ensures rings { map ring_id result.0 ≡ map ring_id intake }
-    ensures sent { IfSome result.1 (λ sent. Drove ports.items (map packets_of loads.items) sent.items) }
+    ensures few { length result.1.items ≤ length ports.items }
+    ensures each { AllOffered ports.items (map packets_of loads.items) result.1.items }
 {
     let count = AtomicU64::new(0);
     let ended = &count;
     thread::scope(
         thread::scope_env(),
         rt,
-        move |scope| -> (Intake<P, B>, Option<Vec<Sent>>)
-            requires { length loads.items ≡ length ports.items }
+        move |scope| -> (Intake<P, B>, Vec<Sent>)
+            requires loads { length loads.items ≡ length ports.items }
+            requires room { (room.items ≡ []) × (length ports.items ≤ vec_capacity room) }
             ensures rings { map ring_id result.0 ≡ map ring_id intake }
-            ensures sent { IfSome result.1 (λ sent. Drove ports.items (map packets_of loads.items) sent.items) }
+            ensures few { length result.1.items ≤ length ports.items }
+            ensures each { AllOffered ports.items (map packets_of loads.items) result.1.items }
         {
             in_scope(
-                scope, rt, alloc, booked, intake, publisher, ports, loads, gate, ended, pace, tries,
+                scope, rt, alloc, booked, intake, publisher, ports, loads, room, gate, ended, pace,
+                tries,
             )
         },
     )
@@ -175,7 +196,7 @@ fn start<'s, E, G: Gate + Sync>(
     }
 }
 
-// Starts a sender for each port, and answers whether all were started.
+// Starts a sender for each port, in order, up to the first that cannot be started.
 fn start_all<'s, E, G: Gate + Sync>(
     scope: &Scope<'s, E>,
     alloc: Global,
@@ -184,13 +205,13 @@ fn start_all<'s, E, G: Gate + Sync>(
     gate: &'s G,
     ended: &'s AtomicU64,
     tries: u64,
-) -> (Vec<Running>, bool)
+) -> Vec<Running>
     requires { length loads.items ≡ length ports.items }
-    ensures ports { result.1 ≡ true → map promised_port result.0.items ≡ ports.items }
-    ensures loads { result.1 ≡ true → map promised_load result.0.items ≡ map packets_of loads.items }
+    ensures ports { IsPrefix (map promised_port result.items) ports.items }
+    ensures loads { IsPrefix (map promised_load result.items) (map packets_of loads.items) }
 {
     let Ok(mut running) = Vec::with_capacity(alloc, ports.len()) else {
-        return (Vec::new(alloc), false);
+        return Vec::new(alloc);
     };
     let mut loads = loads.into_iter();
     for port in ports {
@@ -199,25 +220,23 @@ fn start_all<'s, E, G: Gate + Sync>(
         };
         match start(scope, port, load, gate, ended, tries) {
             Ok(sender) => running.push_reserved(sender),
-            Err(_) => return (running, false),
+            Err(_) => return running,
         }
     }
-    (running, true)
+    running
 }
 
-// What the senders hand back, once each has ended; `None` where memory for the list is refused.
-fn join_all<R: Threads>(rt: &R, running: Vec<Running>) -> Option<Vec<Sent>>
-    ensures { IfSome result (λ sent. Drove (map promised_port running.items) (map promised_load running.items) sent.items) }
+// What the senders hand back, once each has ended.
+fn join_all<R: Threads>(rt: &R, running: Vec<Running>, room: Vec<Sent>) -> Vec<Sent>
+    requires { (room.items ≡ []) × (length running.items ≤ vec_capacity room) }
+    ensures count { length result.items ≡ length running.items }
+    ensures each { AllOffered (map promised_port running.items) (map promised_load running.items) result.items }
 {
-    match thread::join_promised(rt, running) {
-        Ok(sent) => Some(sent),
-        Err(refused) => {
-            for sender in refused.value {
-                sender.join(rt);
-            }
-            None
-        }
+    let mut sent = room;
+    for sender in running {
+        sent.push_reserved(sender.join(rt));
     }
+    sent
 }
 
 // Takes turns until so many senders have ended.
@@ -233,13 +252,22 @@ fn take_turns<P: Ledger, B: Ledger, R: Wait>(
 )
     ensures { map ring_id intake.new ≡ map ring_id intake.old }
 {
-    let mut now = pace.start;
+    let start = pace.start.ns();
+    let step = pace.step;
+    let mut nth = 0u64;
     for _turn in rt.forever() {
         if ended.load(Ordering::SeqCst) >= senders {
             return;
         }
-        turn_at(rt, alloc, booked, intake, publisher, now);
-        now = later(now, pace.step);
+        turn_at(
+            rt,
+            alloc,
+            booked,
+            intake,
+            publisher,
+            moment_of(start, step, nth),
+        );
+        nth = nth.saturating_add(1);
     }
     unreachable!()
 }
@@ -259,20 +287,28 @@ fn turn_at<P: Ledger, B: Ledger, R: Wait>(
     let _turn = turn_parts(intake, publisher, rt, alloc, &mut *locked, now, MOST);
 }
 
-// The moment so many nanoseconds later, or the latest one.
-fn later(now: Moment, step: u64) -> Moment {
-    match now.ns().checked_add(step) {
-        Some(ns) => Moment::new(ns).unwrap_or(latest()),
+// The moment of turn k, from 0: k steps after the first, or the latest moment.
+fn moment_of(start: u64, step: u64, turn: u64) -> Moment
+    ensures { result ≡ min (start + turn * step) (2 ^ 62) }
+{
+    let after = turn.saturating_mul(step);
+    match Moment::new(start.saturating_add(after)) {
+        Some(moment) => moment,
         None => latest(),
     }
 }
 
 // The latest moment.
-fn latest() -> Moment {
-    Moment::new(Moment::MAX).unwrap_or(Moment::zero())
+fn latest() -> Moment
+    ensures { result ≡ 2 ^ 62 }
+{
+    match Moment::new(Moment::MAX) {
+        Some(moment) => moment,
+        None => unreachable!(),
+    }
 }
 
-// Runs the senders while the drain takes turns. `None` where a thread could not be started.
+// Runs the senders while the drain takes turns.
 fn in_scope<'s, E, P: Ledger, B: Ledger, G: Gate + Sync, R: Threads + Wait>(
     scope: &Scope<'s, E>,
     rt: &R,
@@ -282,17 +318,20 @@ fn in_scope<'s, E, P: Ledger, B: Ledger, G: Gate + Sync, R: Threads + Wait>(
     publisher: &mut Publisher,
     ports: Vec<Port>,
     loads: Vec<Vec<Packet>>,
+    room: Vec<Sent>,
     gate: &'s G,
     ended: &'s AtomicU64,
     pace: Pace,
     tries: u64,
-) -> (Intake<P, B>, Option<Vec<Sent>>)
-    requires { length loads.items ≡ length ports.items }
+) -> (Intake<P, B>, Vec<Sent>)
+    requires loads { length loads.items ≡ length ports.items }
+    requires room { (room.items ≡ []) × (length ports.items ≤ vec_capacity room) }
     ensures rings { map ring_id result.0 ≡ map ring_id intake }
-    ensures sent { IfSome result.1 (λ sent. Drove ports.items (map packets_of loads.items) sent.items) }
+    ensures few { length result.1.items ≤ length ports.items }
+    ensures each { AllOffered ports.items (map packets_of loads.items) result.1.items }
 {
     let mut intake = intake;
-    let (running, all) = start_all(scope, alloc, ports, loads, gate, ended, tries);
+    let running = start_all(scope, alloc, ports, loads, gate, ended, tries);
     let senders = running.len() as u64;
     take_turns(
         rt,
@@ -304,6 +343,6 @@ fn in_scope<'s, E, P: Ledger, B: Ledger, G: Gate + Sync, R: Threads + Wait>(
         senders,
         pace,
     );
-    let sent = join_all(rt, running);
-    if all { (intake, sent) } else { (intake, None) }
+    let sent = join_all(rt, running, room);
+    (intake, sent)
 }
