@@ -11,12 +11,10 @@ ghost use Rattle.q_session.specs.Session.{opened, seen, IsShort};
 ghost use Rattle.q_show.specs.Writes.{MayWrite, WriteFailed};
 ghost use Rattle.q_show.specs.Written.{AppendsFront, IsBuffered};
 
-use crate::showing::{put_listed, put_qdiscs};
+use crate::showing::put_show;
 use crate::text::{put_device, put_fault, put_lost, put_poll, put_refusal};
-use q_device::laws::device_is_lawful;
 use q_device::{Command, Device, Refusal, Settings};
-use q_line::{Arrival, Line, Object, Show, read_line};
-use q_model::{ClassView, FilterView};
+use q_line::{Arrival, Line, Show, read_line};
 use q_packet::{FlowHash, Head, Moment, OneAtATime, Packet};
 use q_script::{Output, RunSettings, Session};
 use q_show::{Target, WriteFault};
@@ -194,13 +192,7 @@ impl DeviceSession {
         ensures going { OnOk result (MayWrite target.new.writes) }
         ensures failed { IfErr result (λ fault. WriteFailed target.new.writes fault.kind) }
     {
-        device_is_lawful(&self.device);
-        let tree = self.device.tree();
-        match show.object {
-            Object::Qdisc => put_qdiscs(tree, show.counters, output, target),
-            Object::Class => put_listed::<ClassView, W>(tree, output, target),
-            Object::Filter => put_listed::<FilterView, W>(tree, output, target),
-        }
+        put_show(self.device.tree(), show, output, target)
     }
 
     /// A line with a fault.

@@ -3,20 +3,48 @@ ghost use Rattle.std.specs.Prelude.{◌≡◌, ◌++◌, OnOk, OnErr, IfErr};
 ghost use Rattle.std.specs.List.{flat_map};
 ghost use Rattle.q_model.specs.Tally.{totals};
 ghost use Rattle.q_model.specs.Views.{views};
+ghost use Rattle.q_report.specs.Report.{show_text};
 ghost use Rattle.q_report.specs.Text.{qdisc_text};
 ghost use Rattle.q_session.specs.Shown.{IsLawfulSeen, listed_at, listed_text};
 ghost use Rattle.q_show.specs.Writes.{MayWrite, WriteFailed};
 ghost use Rattle.q_show.specs.Written.{AppendsFront, IsBuffered};
-ghost use Rattle.q_tree.specs.TreeSeen.{tree_numbers};
+ghost use Rattle.q_tree.specs.TreeSeen.{numbers, tree_numbers};
 
 use crate::listed::Listed;
+use q_line::{Object, Show};
+use q_model::{ClassView, FilterView};
 use q_script::Output;
 use q_show::{Target, WriteFault, qdisc_text};
 use q_tree::Tree;
+use q_tree::laws::tree_is_lawful;
 use std::io::Write;
 
+/// What a show line asks for, from the root down.
+pub fn put_show<W: Write>(
+    tree: &Tree,
+    show: Show,
+    output: &mut Output,
+    target: &mut Target<'_, W>,
+) -> Result<(), WriteFault>
+    requires going { MayWrite target.old.writes }
+    ensures same_writer { target.new.writer.ghost_name ≡ target.old.writer.ghost_name }
+    ensures ok { OnOk result (IsBuffered (W.contents target.old.writer.now) (W.contents target.new.writer.now) output.new
+        (output.old ++ show_text totals show (numbers tree.now))) }
+    ensures err { OnErr result (AppendsFront (W.contents target.old.writer.now) (W.contents target.new.writer.now)
+        (output.old ++ show_text totals show (numbers tree.now))) }
+    ensures going { OnOk result (MayWrite target.new.writes) }
+    ensures failed { IfErr result (λ fault. WriteFailed target.new.writes fault.kind) }
+{
+    tree_is_lawful(tree);
+    match show.object {
+        Object::Qdisc => put_qdiscs(tree, show.counters, output, target),
+        Object::Class => put_listed::<ClassView, W>(tree, output, target),
+        Object::Filter => put_listed::<FilterView, W>(tree, output, target),
+    }
+}
+
 /// Each qdisc from the root down, with its counters where they are asked for.
-pub fn put_qdiscs<W: Write>(
+fn put_qdiscs<W: Write>(
     tree: &Tree,
     counters: bool,
     output: &mut Output,
@@ -42,7 +70,7 @@ pub fn put_qdiscs<W: Write>(
 }
 
 /// The classes or the filters of each node, from the root down.
-pub fn put_listed<L: Listed, W: Write>(
+fn put_listed<L: Listed, W: Write>(
     tree: &Tree,
     output: &mut Output,
     target: &mut Target<'_, W>,

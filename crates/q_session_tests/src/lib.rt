@@ -1,5 +1,5 @@
-//! Tests of whole runs: scripts with their reports, command lines with their answers, and readers and writers that are slow or
-//! fail.
+//! Tests of whole runs: scripts with their reports, command lines with their answers, show texts of a tree, and readers and writers
+//! that are slow or fail.
 //!
 //! They stand here so that `q_session` and `q_options` are proved once. The crate exports nothing.
 #![tactic(auto)]
@@ -8,5 +8,7 @@
 mod answers;
 #[cfg(test)]
 mod runs;
+#[cfg(test)]
+mod shows;
 #[cfg(test)]
 mod streams;

@@ -1,8 +1,10 @@
 //! Runs whose reader or writer is slow or fails.
 use crate::runs::{TWO_OF_THREE, TWO_OF_THREE_REPORT};
+use crate::shows::{QDISCS, device};
 use q_options::play;
 use q_script::{MAX_LENGTH, Outcome, RunFault, RunSettings};
 use q_session::run::run;
+use q_session::{ShowFault, show_qdiscs};
 use std::alloc::Global;
 use std::io::{Error, ErrorKind, Read, Result as IoResult, Write};
 use std::process::Abort;
@@ -248,4 +250,28 @@ fn failures_are_told(rt: HostRuntime) {
         assert_eq!(rt; status, 2);
         assert_eq!(rt; errors.as_slice(), told.as_bytes());
     }
+}
+
+#[test]
+fn show_texts_in_writers_that_are_full(rt: HostRuntime) -> Result<(), Fail> {
+    let alloc = rt.alloc();
+    let device = device(alloc)?;
+    for room in 0..QDISCS.len() {
+        let written = Vec::new(alloc);
+        let fails = room % 2 == 0;
+        let mut writer = Narrow {
+            written,
+            room,
+            fails,
+        };
+        let told = show_qdiscs(alloc, device.tree(), false, &mut writer);
+        let kind = if fails {
+            ErrorKind::BrokenPipe
+        } else {
+            ErrorKind::WriteZero
+        };
+        assert_eq!(rt; told, Err(ShowFault::Write(kind)), "room for {room} bytes");
+        assert_eq!(rt; writer.written.as_slice(), &QDISCS.as_bytes()[..room]);
+    }
+    Ok(())
 }
