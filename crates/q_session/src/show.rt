@@ -37,11 +37,7 @@ pub fn show_qdiscs<W: Write>(
 }
 
 /// Writes the classes of each drr, a line each (tc(8), `class show`).
-pub fn show_classes<W: Write>(
-    alloc: Global,
-    tree: &Tree,
-    writer: &mut W,
-) -> Result<(), ShowFault>
+pub fn show_classes<W: Write>(alloc: Global, tree: &Tree, writer: &mut W) -> Result<(), ShowFault>
     ensures { IsShown result (W.contents writer.old) (W.contents writer.new)
         (listed_text class_line class_views (tree_numbers tree.now.tree)) }
 {
@@ -51,11 +47,7 @@ pub fn show_classes<W: Write>(
 }
 
 /// Writes the filters of each prio and drr, a line each (tc(8), `filter show`).
-pub fn show_filters<W: Write>(
-    alloc: Global,
-    tree: &Tree,
-    writer: &mut W,
-) -> Result<(), ShowFault>
+pub fn show_filters<W: Write>(alloc: Global, tree: &Tree, writer: &mut W) -> Result<(), ShowFault>
     ensures { IsShown result (W.contents writer.old) (W.contents writer.new)
         (listed_text filter_line filter_views (tree_numbers tree.now.tree)) }
 {
