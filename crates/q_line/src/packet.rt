@@ -21,6 +21,7 @@ pub fn pkt_line(words: &mut Words) -> Result<Line, LineFault>
 }
 
 /// The fields of a packet.
+#[inline(always)]
 fn packet_line(words: &mut Words, first: PacketDraft) -> Result<Line, LineFault>
     requires { IsAgreed first }
     ensures { result ≡ rest_of (packet first) (suc words.old.taken) (words_in words.old.rest.now) }

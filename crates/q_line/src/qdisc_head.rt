@@ -65,7 +65,6 @@ fn headed(words: &Words, verb: QdiscVerb, head: HeadDraft) -> Result<Line, LineF
 }
 
 /// Behind a kind: its options, or nothing where the line removes a qdisc.
-#[inline(always)]
 fn kind_line(
     words: &mut Words,
     verb: QdiscVerb,
@@ -82,6 +81,7 @@ fn kind_line(
 }
 
 /// Behind a kind that options may follow.
+#[inline(always)]
 fn options_line(
     words: &mut Words,
     verb: QdiscVerb,

@@ -43,6 +43,7 @@ fn first_word(words: &mut Words) -> Result<Line, LineFault>
 }
 
 /// Behind `at`: N, nanoseconds.
+#[inline(always)]
 fn at_line(words: &mut Words) -> Result<Line, LineFault>
     ensures { result ≡ rest_of at (suc words.old.taken) (words_in words.old.rest.now) }
 {
@@ -53,6 +54,7 @@ fn at_line(words: &mut Words) -> Result<Line, LineFault>
 }
 
 /// Behind `poll`: N, which is 1 where it is not there.
+#[inline(always)]
 fn poll_line(words: &mut Words) -> Result<Line, LineFault>
     ensures { result ≡ rest_of poll (suc words.old.taken) (words_in words.old.rest.now) }
 {

@@ -185,6 +185,7 @@ impl<'a> Words<'a> {
     }
 
     /// The line, where no word is left.
+    #[inline(always)]
     pub fn ended(&mut self, line: Line) -> Result<Line, LineFault>
         ensures { result ≡ rest_of (whole line) (suc self.old.taken) (words_in self.old.rest.now) }
     {

@@ -83,10 +83,10 @@ fn fq_codel(limit: Option<u32>, flows: u32) -> Result<FqCodelOptions, Fail> {
     Ok(options.ok_or("fq_codel")?)
 }
 
-/// The packet with this number, length and priority, which is the number of its IP protocol too.
+/// The packet with this number, length and priority, which is the number of its IP protocol and its hash too.
 pub fn packet(number: u64, len: u16, prio: u8) -> Result<Packet, Fail> {
     let key = FlowKey::new(4, prio, 0, 0, 0, 0).ok_or("key")?;
-    Ok(Packet::new(0, number, 0, len, key, 0, prio, Ecn::NotEct).ok_or("packet")?)
+    Ok(Packet::new(0, number, 0, len, key, u32::from(prio), prio, Ecn::NotEct).ok_or("packet")?)
 }
 
 /// The class with these numbers.

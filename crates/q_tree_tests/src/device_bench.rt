@@ -33,7 +33,8 @@ pub enum Ask {
 }
 
 impl Ask {
-    fn command(self) -> Result<Command, Fail> {
+    /// The command of the line.
+    pub fn command(self) -> Result<Command, Fail> {
         match self {
             Ask::Graft(spot, major, new) => graft(spot, major, new),
             Ask::Change(major, new) => Ok(Command::QdiscChange {
@@ -346,8 +347,16 @@ pub fn called(alloc: Global, calls: &[Call]) -> Result<(), Fail> {
     Bench::new(alloc)?.play(calls)
 }
 
-// One item more. It reads nothing of the item.
-fn add<E: Copy>(items: &mut Vec<E>, item: E) -> Result<(), Fail> {
+/// Room for so many items. Where memory is refused it is asked for again.
+pub fn room<E>(alloc: Global, count: usize) -> Result<Vec<E>, Fail> {
+    match Vec::with_capacity(alloc, count) {
+        Ok(items) => Ok(items),
+        Err(_) => Ok(Vec::with_capacity(alloc, count)?),
+    }
+}
+
+/// One item more. It reads nothing of the item.
+pub fn add<E: Copy>(items: &mut Vec<E>, item: E) -> Result<(), Fail> {
     if items.len() >= items.capacity() {
         return Err(Fail::from("no room for an item"));
     }
@@ -366,23 +375,25 @@ fn add_call(events: &mut Vec<Event>, call: Call) -> Result<(), Fail> {
 
 // The events among these calls.
 fn events_of(alloc: Global, calls: &[Call]) -> Result<Vec<Event>, Fail> {
-    let mut events = match Vec::with_capacity(alloc, calls.len()) {
-        Ok(events) => events,
-        Err(_) => Vec::with_capacity(alloc, calls.len())?,
-    };
+    let mut events = room(alloc, calls.len())?;
     for call in calls {
         add_call(&mut events, *call)?;
     }
     Ok(events)
 }
 
+/// What a play of these events answers. Where memory is refused they are played again.
+pub fn replies(alloc: Global, settings: Settings, events: &[Event]) -> Result<Vec<Reply>, Fail> {
+    match play(alloc, settings, events) {
+        Ok(replies) => Ok(replies),
+        Err(_) => Ok(play(alloc, settings, events)?),
+    }
+}
+
 /// Plays the events among these calls. A new device answers each of them in turn with the same reply.
 pub fn played(alloc: Global, calls: &[Call]) -> Result<(), Fail> {
     let events = events_of(alloc, calls)?;
-    let replies = match play(alloc, settings()?, events.as_slice()) {
-        Ok(replies) => replies,
-        Err(_) => play(alloc, settings()?, events.as_slice())?,
-    };
+    let replies = replies(alloc, settings()?, events.as_slice())?;
     let mut bench = Bench::new(alloc)?;
     for (event, reply) in events.iter().zip(replies.iter()) {
         if bench.reply(*event)? != *reply {

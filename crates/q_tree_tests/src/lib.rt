@@ -15,6 +15,8 @@ mod device_calls;
 #[cfg(test)]
 mod device_commands;
 #[cfg(test)]
+mod sharing;
+#[cfg(test)]
 mod tree;
 #[cfg(test)]
 mod tree_change;

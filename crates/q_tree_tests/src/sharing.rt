@@ -1,0 +1,122 @@
+//! What a play sends of each class of a drr, and of each flow of an fq_codel, while they stay backlogged: sums of lengths, and
+//! what quanta, deficits and credits make of them. A priority is a class or a flow.
+use crate::bench::{New, Spot, packet};
+use crate::device_bench::{Ask, add, replies, room};
+use q_device::{Event, Polled, Reply, Settings};
+use q_packet::Moment;
+use std::alloc::Global;
+use std::test::Fail;
+
+// Most events of a script.
+const MOST: usize = 64;
+
+// What happens at moment 0.
+#[derive(Drop)]
+struct Script {
+    events: Vec<Event>,
+}
+
+impl Script {
+    fn new(alloc: Global) -> Result<Script, Fail> {
+        Ok(Script {
+            events: room(alloc, MOST)?,
+        })
+    }
+
+    fn tc(&mut self, line: Ask) -> Result<(), Fail> {
+        add(
+            &mut self.events,
+            Event::Command(line.command()?, Moment::zero()),
+        )
+    }
+
+    // So many packets of a length.
+    fn packets(&mut self, count: u64, len: u16, prio: u8) -> Result<(), Fail> {
+        for number in 0..count {
+            let packet = packet(number, len, prio)?;
+            add(&mut self.events, Event::Arrive(packet, Moment::zero()))?;
+        }
+        Ok(())
+    }
+
+    // The bytes of priority 1 and of priority 2 that so many further polls give.
+    fn polls(&mut self, alloc: Global, count: usize) -> Result<[u64; 2], Fail> {
+        let before = self.events.len();
+        for _ in 0..count {
+            add(&mut self.events, Event::Poll(Moment::zero()))?;
+        }
+        let settings = Settings::new(1514, 100, 0).ok_or("settings")?;
+        let replies = replies(alloc, settings, self.events.as_slice())?;
+        let given = replies.get(before..).ok_or("replies")?;
+        Ok([bytes(given, 1), bytes(given, 2)])
+    }
+}
+
+// The bytes of the packets of a priority that polls gave.
+fn bytes(replies: &[Reply], prio: u8) -> u64 {
+    let mut sum = 0u64;
+    for reply in replies {
+        if let Reply::Polled(Polled::Packet(packet)) = reply {
+            if packet.prio == prio {
+                sum = sum.saturating_add(u64::from(packet.len));
+            }
+        }
+    }
+    sum
+}
+
+// A drr with classes of quanta 1000 and 500, and ten packets of 500 bytes for each.
+fn two_classes(alloc: Global) -> Result<Script, Fail> {
+    let mut script = Script::new(alloc)?;
+    for line in [
+        Ask::Graft(Spot::Root, 1, New::Drr),
+        Ask::AddClass(1, 1, 1000),
+        Ask::AddClass(1, 2, 500),
+        Ask::Match(1, 1, 1),
+        Ask::Match(1, 2, 2),
+    ] {
+        script.tc(line)?;
+    }
+    script.packets(10, 500, 1)?;
+    script.packets(10, 500, 2)?;
+    Ok(script)
+}
+
+// The first class has two grants, and a deficit of 1000 at both ends; the second has one, and uses the quantum that it woke with.
+#[test]
+fn classes_send_as_their_quanta(rt: HostRuntime) -> Result<(), Fail> {
+    let mut script = two_classes(rt.alloc())?;
+    let [first, second] = script.polls(rt.alloc(), 6)?;
+    if [first, second] != [2 * 1000, 500 + 500] {
+        return Err(Fail::new(format_args!("{first}, {second}")));
+    }
+    Ok(())
+}
+
+// Another quantum begins another stretch. At 100 the first class has five grants, and uses the deficit of 1000 that it had; the
+// second has five, the last of which it has not used.
+#[test]
+fn a_class_sends_as_its_new_quantum(rt: HostRuntime) -> Result<(), Fail> {
+    let mut script = two_classes(rt.alloc())?;
+    script.polls(rt.alloc(), 6)?;
+    script.tc(Ask::ChangeClass(1, 1, 100))?;
+    let [first, second] = script.polls(rt.alloc(), 7)?;
+    if [first, second] != [5 * 100 + 1000, 5 * 500 - 500] {
+        return Err(Fail::new(format_args!("{first}, {second}")));
+    }
+    Ok(())
+}
+
+// A flow with credits of 1514 is granted once, and has 1028 left; the other gives its packet of 100 bytes.
+#[test]
+fn a_flow_gives_its_grants_and_credits(rt: HostRuntime) -> Result<(), Fail> {
+    let mut script = Script::new(rt.alloc())?;
+    script.tc(Ask::Graft(Spot::Root, 1, New::Flows(4)))?;
+    script.packets(3, 1000, 1)?;
+    script.packets(1, 100, 2)?;
+    let [first, second] = script.polls(rt.alloc(), 3)?;
+    if [first, second] != [1514 + 1514 - 1028, 100] {
+        return Err(Fail::new(format_args!("{first}, {second}")));
+    }
+    Ok(())
+}
