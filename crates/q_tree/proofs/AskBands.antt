@@ -14,7 +14,7 @@ use Rattle.q_tree.specs.Arrivals.{plus}
 use Rattle.q_tree.specs.AskSteps.{CanAskEach, CanAskOnce, AreAsked, IsShown, IsToldOf, answers}
 use Rattle.q_tree.specs.PutSteps.{packets_beneath}
 use Rattle.q_tree.specs.Kept.{Kept, kept}
-use Rattle.q_tree.specs.declared.shown.Shown.{Shown}
+use Rattle.q_tree.specs.Shown.{Shown}
 use Rattle.q_tree.proofs.AskOnce.{IsCounted, can-ask, can-ask-once, counted-then}
 use Rattle.q_tree.proofs.Asking.{IsAsking, asking-starts, asking-goes, still-there, side-all}
 use Rattle.q_tree.proofs.PopLemmas.{none-there}

@@ -27,7 +27,7 @@ use Rattle.q_tree.specs.Kept.{Kept, kept}
 use Rattle.q_tree.specs.Seen.{seen, discipline_seen, children_seen, places_seen}
 use Rattle.q_tree.specs.declared.node.Discipline.{Discipline}
 use Rattle.q_tree.specs.declared.node.Node.TheInside.{Inside}
-use Rattle.q_tree.specs.declared.shown.Shown.{Shown}
+use Rattle.q_tree.specs.Shown.{Shown}
 use Rattle.q_tree.proofs.AskRows.{counted-shown}
 use Rattle.q_tree.proofs.Forms.{noted-kept}
 use Rattle.q_tree.proofs.Rows.{counts_in_row}

@@ -18,7 +18,7 @@ use Rattle.q_tree.specs.Arrivals.{plus}
 use Rattle.q_tree.specs.AskSteps.{CanAsk, CanAskEach, CanAskOnce, IsShown, IsToldOf}
 use Rattle.q_tree.specs.Kept.{Kept, kept}
 use Rattle.q_tree.specs.PutSteps.{packets_beneath}
-use Rattle.q_tree.specs.declared.shown.Shown.{Shown}
+use Rattle.q_tree.specs.Shown.{Shown}
 use Rattle.q_tree.proofs.AskRows.{counts-of, dropped-both, marked-both}
 use Rattle.q_tree.proofs.Asking.{IsAsking, asked-weighs, fits, lawful-at}
 use Rattle.q_tree.proofs.Rows.{weigh-bytes}

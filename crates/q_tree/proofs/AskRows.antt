@@ -9,7 +9,7 @@ use Rattle.q_sound.proofs.Counted.{bytes, lost-parts, all-more}
 use Rattle.q_sound.proofs.Weights.{dropped, marked, dropped-append, marked-append, lost-append, arrived-append, sent-append, IsQuiet}
 use Rattle.q_tree.specs.Arrivals.{plus}
 use Rattle.q_tree.specs.AskSteps.{with_shown}
-use Rattle.q_tree.specs.declared.shown.Shown.{Shown}
+use Rattle.q_tree.specs.Shown.{Shown}
 use Rattle.q_tree.proofs.Rows.{counts_in_row, same-totals, same-counts}
 
 -- what is counted of notes, packet by packet

@@ -1,6 +1,6 @@
 -- What a prio has at hand, band by band.
-use Rattle.std.proofs.Common.{◌≡◌, ℕ, zero, suc, ◌+◌, ◌≤◌, ◌<◌, ◌∙◌, List, [], ◌∷◌, map, drop, length, refl, sym, ap, arith, Option, Some, None, option_and_then}
-use Rattle.std.specs.Prelude.{true, false, not, cond, is_some, slice_get, slice_index_or}
+use Rattle.std.proofs.Common.{◌≡◌, ℕ, zero, suc, ◌+◌, ◌≤◌, ◌<◌, ◌∙◌, List, [], ◌∷◌, map, drop, length, refl, sym, ap, subst, arith, Option, Some, None, option_and_then}
+use Rattle.std.specs.Prelude.{true, false, not, cond, is_some, IfSome, IsSomeAnd, slice_get, slice_index_or}
 use Rattle.std.proofs.lemmas.List.{drop_more, drop_all}
 use Rattle.std.proofs.lemmas.Bool.{false≢true}
 use Rattle.q_packet.specs.Descriptor.{Descriptor}
@@ -58,3 +58,11 @@ pub there-at : (ns : List (Node Kept)) (i : ℕ) (x : Node Kept) → i < length 
 there-at [] i x inside is = absurd (omega (arith, inside))
 there-at (n ∷ ns) zero x inside is = ap Some (sym is)
 there-at (n ∷ ns) (suc i) x inside is = there-at ns i x (omega (arith, inside)) is
+
+-- a packet that is shown, of which the length is known
+pub shown-len : (o : Option Descriptor) (r : Option ℕ) (n : ℕ) → IfSome r (λ len. IsSomeAnd o (λ (p : Descriptor). p.len ≡ len)) → r ≡ Some n → (p : Descriptor) × (o ≡ Some p) × (p.len ≡ n)
+shown-len o r n some is = from o (subst (λ x. IfSome x (λ len. IsSomeAnd o (λ (p : Descriptor). p.len ≡ len))) is some)
+  where
+    from : (o : Option Descriptor) → IsSomeAnd o (λ (p : Descriptor). p.len ≡ n) → (p : Descriptor) × (o ≡ Some p) × (p.len ≡ n)
+    from None h = absurd h
+    from (Some p) h = (p, refl, h)

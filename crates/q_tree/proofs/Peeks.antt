@@ -31,7 +31,7 @@ use Rattle.q_tree.specs.PutSteps.{packets_beneath}
 use Rattle.q_tree.specs.Seen.{seen, discipline_seen, children_seen, places_seen, IsKept, IsCountedWithin}
 use Rattle.q_tree.specs.declared.node.Discipline.{Discipline}
 use Rattle.q_tree.specs.declared.node.Node.TheInside.{Inside}
-use Rattle.q_tree.specs.declared.shown.Shown.{Shown}
+use Rattle.q_tree.specs.Shown.{Shown}
 use Rattle.q_tree.proofs.AskForms.{ask-holding, ask-none, peeked-is}
 use Rattle.q_tree.proofs.RowsOf.{IsRowOf, row-of, kept-of, can-show, row-shown}
 use Rattle.q_sound.proofs.Weights.{IsQuiet}
@@ -77,6 +77,22 @@ tbf-gave now own b limit n m c p s can new shown may given arrived packet droppe
       nodes = ap (λ (x : Node Kept). side_by_side (x ∷ [])) (given ∙ g.left);
       within = λ t all. set-within (n ∷ []) 0 n c refl arrived t all;
       shown = record { packet = packet ∙ g.at_hand; dropped = dropped; marked = marked };
+    })
+
+-- and one whose child shows nothing
+pub tbf-none : (now : ℕ) (own : Own) (b : TokenBucket) (limit : ℕ) (n m : Node Kept) (s : Shown) → m ≡ booked kept n (ask now (shape n)).peeked → m.memory.counts.arrived ≡ n.memory.counts.arrived → IsShown (ask now (shape n)) s → s.packet ≡ None
+    → AreAsked (ask_child now own (ask now (shape n) ∷ []) b limit (ask now (shape n))) (n ∷ []) (m ∷ []) s
+tbf-none now own b limit n m s new arrived shown none =
+    let a : Asked = ask now (shape n) in
+    let below : List Asked = a ∷ [] in
+    let silent : a.shown ≡ None = sym shown.packet ∙ none in
+    let is : ask_child now own below b limit a ≡ waits own below a =
+    ap (λ (o : Option Descriptor). option_map_or (λ (p : Descriptor). if allows b now p.len then spends own below b limit now a p else waits own below a) o (waits own below a)) silent in
+    subst (λ (x : Asked). AreAsked x (n ∷ []) (m ∷ []) s) (sym is) (record {
+      long = refl;
+      nodes = ap (λ (x : Node Kept). side_by_side (x ∷ [])) new;
+      within = λ t all. set-within (n ∷ []) 0 n m refl arrived t all;
+      shown = record { packet = none; dropped = shown.dropped; marked = shown.marked };
     })
 
 -- children of a discipline that can be asked
@@ -143,13 +159,6 @@ holding-after now a n p view e =
     let below : each_booked kept (side_by_side ns) (side_by_side (befores (answers now ns))) ≡ side_by_side ns = sym (side-all ns (befores (answers now ns))) ∙ ap side_by_side (all-before now ns) in
     let still : booked kept (seen a) (holding (seen a).own (answers now ns) p).peeked ≡ seen a = ap (λ b. record { own = (seen a).own; memory = (seen a).memory; below = b }) below in
     subst (λ (m : Node Kept). m ≡ booked kept m (ask now (shape m)).peeked) view (sym still ∙ ap (λ (x : Asked). booked kept (seen a) x.peeked) (sym (ask-holding now a p e)))
-
--- what a discipline that holds what it shows, and one that does not, lets its node hold
-pub does-hold : (d : Discipline) (shown : Option Descriptor) (holds : Bool) → holds ≡ true → held_in (discipline_seen d) shown ≡ (if holds then shown else None) → shown ≡ held_in (discipline_seen d) shown
-does-hold d shown holds is e = sym (e ∙ ap (λ (b : Bool). if b then shown else None) is)
-
-pub holds-none : (d : Discipline) (shown : Option Descriptor) (holds : Bool) → holds ≡ false → held_in (discipline_seen d) shown ≡ (if holds then shown else None) → None ≡ held_in (discipline_seen d) shown
-holds-none d shown holds is e = sym (e ∙ ap (λ (b : Bool). if b then shown else None) is)
 
 -- one that holds none asks its discipline
 pub record IsPeekedAs (now : ℕ) (n : Node Kept) (inside : Inside) : Type 0 where

@@ -23,7 +23,7 @@ use Rattle.q_tree.specs.Kept.{Kept, kept}
 use Rattle.q_tree.specs.PopSteps.{IsAmong, with_sent}
 use Rattle.q_tree.specs.Seen.{seen, children_seen, IsKept, IsCountedWithin}
 use Rattle.q_tree.specs.declared.node.Node.TheInside.{Inside}
-use Rattle.q_tree.specs.declared.shown.Shown.{Shown}
+use Rattle.q_tree.specs.Shown.{Shown}
 use Rattle.q_tree.proofs.AskRows.{counts-of}
 use Rattle.q_tree.proofs.Asking.{IsWeighed}
 use Rattle.q_tree.proofs.Rows.{counts_in_row, same-totals, weigh-bytes}

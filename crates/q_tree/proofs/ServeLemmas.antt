@@ -34,7 +34,7 @@ use Rattle.q_tree.specs.AskSteps.{CanAsk, CanAskOnce, CanServe, AreAsked, IsAske
 use Rattle.q_tree.specs.Kept.{Kept, kept}
 use Rattle.q_tree.specs.PutSteps.{packets_beneath}
 use Rattle.q_tree.specs.Seen.{IsCountedWithin}
-use Rattle.q_tree.specs.declared.shown.Shown.{Shown}
+use Rattle.q_tree.specs.Shown.{Shown}
 use Rattle.q_tree.specs.NodeCode.{node_size, forest_size}
 use Rattle.q_tree.proofs.AskBands.{get-there}
 use Rattle.q_tree.proofs.RouteLemmas.{child-size}
@@ -338,6 +338,10 @@ module _ (now : ℕ) (first s : Schedule) (ns ms : List (Node Kept)) (unasked : 
               marked = shows.counted.marked ∙ ap (λ notes. (counts_in notes).marked) (sym rises);
             };
           }
+
+    -- what it gives is what it showed
+    pub given-packet : (pop d).shown ≡ result.packet
+    given-packet = hand-asked now p.child d child-can shows.peeked ∙ sym shows.shown
 
     -- one that can send its packet gives it
     module _ (x : Descriptor) (some : result.packet ≡ Some x) where

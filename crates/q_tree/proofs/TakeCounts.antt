@@ -24,7 +24,7 @@ use Rattle.q_sound.proofs.Counted.{bytes, all-more}
 use Rattle.q_sound.proofs.FlowNotes.{take-weighs, nothing-dropped, lost-marks, quiet-marks}
 use Rattle.q_sound.proofs.Weights.{weigh-count, marked, marked-nil, marked-cons, dropped-append, marked-append, dropped-losses, marked-losses}
 use Rattle.q_tree.specs.AskSteps.{IsShown, IsToldOf}
-use Rattle.q_tree.specs.declared.shown.Shown.{Shown}
+use Rattle.q_tree.specs.Shown.{Shown}
 use Rattle.q_tree.proofs.FlowCounts.{packets-all, bytes-all, packets-bare, bytes-bare, told-losses}
 use Rattle.q_tree.proofs.Rows.{same-totals, weigh-bytes}
 

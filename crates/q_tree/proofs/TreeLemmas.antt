@@ -31,7 +31,7 @@ use Rattle.q_tree.specs.Kept.{Kept, kept}
 use Rattle.q_tree.specs.PopSteps.{with_sent}
 use Rattle.q_tree.specs.Seen.{IsCountedWithin}
 use Rattle.q_tree.specs.TreeSeen.{tree_seen, tree_numbers, IsKeptDevice}
-use Rattle.q_tree.specs.declared.shown.Shown.{Shown}
+use Rattle.q_tree.specs.Shown.{Shown}
 use Rattle.q_tree.specs.declared.tree.Tree.TheInside.{Inside}
 use Rattle.q_tree.proofs.AskRows.{counted-shown}
 use Rattle.q_tree.proofs.Asking.{asked-weighs}

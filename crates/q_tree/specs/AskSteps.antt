@@ -25,7 +25,7 @@ use Rattle.q_tree.specs.Kept.{Kept, kept}
 use Rattle.q_tree.specs.PutSteps.{packets_beneath}
 use Rattle.q_tree.specs.Seen.{discipline_seen, children_seen, places_seen, IsCountedWithin}
 use Rattle.q_tree.specs.declared.node.Discipline.{Discipline}
-use Rattle.q_tree.specs.declared.shown.Shown.{Shown}
+use Rattle.q_tree.specs.Shown.{Shown}
 
 -- a node that can be asked: the tree is lawful at `now`, where no packet is longer than some mtu
 pub record CanAsk (now : ℕ) (n : spec.Node Kept) : Type 0 where

@@ -19,4 +19,5 @@ pub mod PutSteps
 pub mod Reshaping
 pub mod Seen
 pub mod Showing
+pub mod Shown
 pub mod TreeSeen

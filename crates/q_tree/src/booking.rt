@@ -59,9 +59,9 @@ pub(crate) fn book_shown(row: &mut Row, shown: &Shown)
     requires room { CanShow shown.now row.old }
     ensures { row.new ≡ with_shown shown.now row.old }
 {
-    row.dropped = sum(row.dropped, shown.dropped);
-    row.marked = sum(row.marked, shown.marked);
-    row.queued = difference(row.queued, shown.dropped);
+    row.dropped = sum(row.dropped, shown.dropped());
+    row.marked = sum(row.marked, shown.marked());
+    row.queued = difference(row.queued, shown.dropped());
 }
 
 /// Books packets that were queued and are dropped.

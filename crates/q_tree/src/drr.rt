@@ -1,4 +1,4 @@
-ghost use Rattle.std.specs.Prelude.{◌≡◌, ◌<◌, ◌≤◌, length, true, false, slice_get, Some};
+ghost use Rattle.std.specs.Prelude.{◌≡◌, ◌<◌, ◌≤◌, length, true, false, slice_get, Some, None};
 ghost use Rattle.q_model.specs.Ask.{ask, ask_drr};
 ghost use Rattle.q_model.specs.Node as spec;
 ghost use Rattle.q_model.specs.Node.{Own, shape};
@@ -12,25 +12,28 @@ use crate::node::Node;
 use crate::shown::Shown;
 use q_codel::Sink;
 use q_drr::{Active, Turn};
-use q_packet::Moment;
+use q_packet::{Moment, Packet};
 
 /// Asks the classes of the active list in turn, and grants to each whose packet is longer than its deficit, until one is met
-/// that can send its packet, which is then taken, or that shows none (tc-drr(8)).
+/// that can send its packet, which is then taken and held, or that shows none (tc-drr(8)).
 #[cycle(peek)]
 pub(crate) fn serve<S: Sink>(
     active: &mut Active,
     classes: &mut [Node],
+    held: &mut Option<Packet>,
     now: Moment,
     sink: &mut S,
 ) -> Shown
+    requires none { held.old ≡ None }
     requires ready { CanServe now active.old classes.old }
     requires sink { length (packets_beneath classes.old) ≤ S.room sink.old }
     ensures active { (own : Own) → spec.Drr active.new ≡ (ask_drr own (answers now classes.old) active.old).peeked.own.discipline }
     ensures after { (own : Own) → AreAsked (ask_drr own (answers now classes.old) active.old) classes.old classes.new result }
+    ensures held { held.new ≡ result.packet }
     ensures told { (own : Own) → IsToldOf (ask_drr own (answers now classes.old) active.old).rises (S.losses sink.old) (S.losses sink.new) (S.room sink.old) (S.room sink.new) }
     ensures kept { S.keeps sink.old sink.new }
 {
-    let mut shown = Shown::at_hand(None);
+    let mut shown = Shown::at_hand(&None);
     // In the first round each class is asked once; in a later one it has at hand what it showed.
     let mut unasked = active.active_count();
     while let Some(class) = active.front() {
@@ -39,20 +42,20 @@ pub(crate) fn serve<S: Sink>(
         };
         shown = ask_class(&mut classes[place], unasked > 0, shown, now, sink);
         unasked = unasked.saturating_sub(1);
-        let Some(packet) = shown.packet else {
+        let Some(len) = shown.packet_len() else {
             return shown;
         };
-        match active.turn(packet.len) {
+        match active.turn(len) {
             Turn::Send => {
                 // What is given is what was shown.
-                give(active, classes, place);
+                *held = give(active, classes, place);
                 return shown;
             }
             Turn::Granted => {}
         }
     }
     // No class was active, so nobody was asked.
-    Shown::at_hand(None)
+    Shown::at_hand(&None)
 }
 
 // What a class shows: it is asked, or has its packet at hand. What was counted so far is counted on.
@@ -74,19 +77,18 @@ fn ask_class<S: Sink>(
     if is_unasked {
         return so_far.then(class.peek(now, sink));
     }
-    Shown {
-        packet: class.at_hand(),
-        ..so_far
-    }
+    so_far.showing(&class.at_hand())
 }
 
 // The class in this place gives its packet, and sleeps where that was its last.
-fn give(active: &mut Active, classes: &mut [Node], place: usize)
+fn give(active: &mut Active, classes: &mut [Node], place: usize) -> Option<Packet>
     requires { place < length classes.old }
-    ensures { (c : spec.Node Kept) → slice_get classes.old place ≡ Some c → IsGivenBy place c active.old active.new classes.old classes.new }
+    ensures packet { (c : spec.Node Kept) → slice_get classes.old place ≡ Some c → result ≡ (pop c).shown }
+    ensures given { (c : spec.Node Kept) → slice_get classes.old place ≡ Some c → IsGivenBy place c active.old active.new classes.old classes.new }
 {
     let packet = classes[place].pop();
     settle(active, place, classes[place].is_empty());
+    packet
 }
 
 /// A class with something queued is active, and another is not (tc-drr(8)).

@@ -50,12 +50,19 @@ pub(crate) fn put_in_flow<S: Sink>(
     }
 }
 
-/// Takes the packet that the flow in front sends (RFC 8290, section 4.2), and counts what CoDel drops and marks.
-pub(crate) fn take_from_flows<S: Sink>(queue: &mut FqCodel, now: Moment, sink: &mut S) -> Shown
+/// Takes the packet that the flow in front sends (RFC 8290, section 4.2), to hold it, and counts what CoDel drops and marks.
+pub(crate) fn take_from_flows<S: Sink>(
+    queue: &mut FqCodel,
+    held: &mut Option<Packet>,
+    now: Moment,
+    sink: &mut S,
+) -> Shown
+    requires none { held.old ≡ None }
     requires sink { packets_of queue.old.state.flows ≤ S.room sink.old }
     ensures after { queue.new.state ≡ after_sending now (selected queue.old.state) }
     ensures places { queue.new.places ≡ queue.old.places }
     ensures shown { (own : Own) (below : List Asked) → IsShown (ask_fq_codel now own below queue.old.state) result }
+    ensures held { held.new ≡ result.packet }
     ensures lost { S.losses sink.new ≡ S.losses sink.old ++ losses_of Cause.CoDel (dropped_from now (selected queue.old.state)) }
     ensures room { S.room sink.new + length (dropped_from now (selected queue.old.state)) ≡ S.room sink.old }
     ensures kept { S.keeps sink.old sink.new }
@@ -69,14 +76,11 @@ pub(crate) fn take_from_flows<S: Sink>(queue: &mut FqCodel, now: Moment, sink: &
     };
     // CoDel drops none of an empty fq_codel.
     let Some(taken) = taken else {
-        return Shown::at_hand(None);
+        return Shown::at_hand(&None);
     };
     let one = one_packet(&taken.packet);
-    Shown {
-        packet: Some(taken.packet),
-        dropped: difference(gone, one),
-        marked: marked_by(&taken),
-    }
+    *held = Some(taken.packet);
+    Shown::new(held, difference(gone, one), marked_by(&taken))
 }
 
 // The packet, where CoDel marked it.

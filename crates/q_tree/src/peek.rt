@@ -1,5 +1,4 @@
-ghost use Rattle.std.specs.Prelude.{◌≡◌, ◌≤◌, ◌+◌, ◌++◌, length, ℕ, List, Option, None, if◌then◌else◌};
-ghost use Rattle.q_packet.specs.Descriptor.{Descriptor};
+ghost use Rattle.std.specs.Prelude.{◌≡◌, ◌≤◌, ◌+◌, ◌++◌, length, ℕ, List, Option, None};
 ghost use Rattle.q_model.specs.Ask.{ask};
 ghost use Rattle.q_model.specs.Beneath.{beneath};
 ghost use Rattle.q_model.specs.declared.filter.Filter.{Filter};
@@ -19,7 +18,7 @@ use crate::prio::ask_bands;
 use crate::shown::Shown;
 use crate::tbf::ask_child;
 use q_codel::Sink;
-use q_packet::Moment;
+use q_packet::{Moment, Packet};
 
 impl Node {
     /// Asks the node for its packet, which is at hand then, and books what CoDel dropped and marked for it, here and beneath.
@@ -38,43 +37,34 @@ impl Node {
         ensures kept { S.keeps sink.old sink.new }
     {
         if self.held.is_some() {
-            return Shown::at_hand(self.held);
+            return Shown::at_hand(&self.held);
         }
-        let shown = self.discipline.ask(now, sink);
+        let shown = self.discipline.ask(&mut self.held, now, sink);
         book_shown(&mut self.row, &shown);
-        if self.discipline.holds() {
-            self.held = shown.packet;
-        }
         shown
     }
 }
 
 impl Discipline {
-    // What a node with this discipline shows that holds no packet.
+    // What a node with this discipline shows that holds no packet: a tbf, a drr and an fq_codel dequeue it, and hold it then.
     #[cycle(peek)]
-    fn ask<S: Sink>(&mut self, now: Moment, sink: &mut S) -> Shown
+    fn ask<S: Sink>(&mut self, held: &mut Option<Packet>, now: Moment, sink: &mut S) -> Shown
+        requires none { held.old ≡ None }
         requires ready { CanAskIn now self.old }
         requires sink { length (packets_within self.old) ≤ S.room sink.old }
         ensures after { (handle : Option ℕ) (filters : List Filter) → IsAskedIn (answer_of now handle filters self.old) self.old self.new result }
+        ensures held { held.new ≡ held_in (discipline_seen self.new) result.packet }
         ensures told { (handle : Option ℕ) (filters : List Filter) → IsToldOf (answer_of now handle filters self.old).rises (S.losses sink.old) (S.losses sink.new) (S.room sink.old) (S.room sink.new) }
         ensures kept { S.keeps sink.old sink.new }
     {
         match self {
-            Discipline::Fifo(fifo) => return Shown::at_hand(first_packet(fifo)),
+            Discipline::Fifo(fifo) => return Shown::at_hand(&first_packet(fifo)),
             Discipline::Prio { bands, .. } => return ask_bands(bands, now, sink),
-            Discipline::Tbf { bucket, child, .. } => return ask_child(bucket, child, now, sink),
-            Discipline::Drr { active, classes } => return serve(active, classes, now, sink),
-            Discipline::FqCodel(queue) => return take_from_flows(queue, now, sink),
-        }
-    }
-
-    // Whether the node holds what it shows: a tbf, a drr and an fq_codel have dequeued it.
-    fn holds(&self) -> bool
-        ensures { (shown : Option Descriptor) → held_in (discipline_seen self.now) shown ≡ (if result then shown else None) }
-    {
-        match self {
-            Discipline::Fifo(_) | Discipline::Prio { .. } => return false,
-            Discipline::Tbf { .. } | Discipline::Drr { .. } | Discipline::FqCodel(_) => return true,
+            Discipline::Tbf { bucket, child, .. } => {
+                return ask_child(bucket, child, held, now, sink);
+            }
+            Discipline::Drr { active, classes } => return serve(active, classes, held, now, sink),
+            Discipline::FqCodel(queue) => return take_from_flows(queue, held, now, sink),
         }
     }
 }

@@ -18,10 +18,10 @@ pub(crate) fn ask_bands<S: Sink>(bands: &mut [Node], now: Moment, sink: &mut S) 
     ensures told { (own : Own) → IsToldOf (ask_prio own (answers now bands.old)).rises (S.losses sink.old) (S.losses sink.new) (S.room sink.old) (S.room sink.new) }
     ensures kept { S.keeps sink.old sink.new }
 {
-    let mut shown = Shown::at_hand(None);
+    let mut shown = Shown::at_hand(&None);
     for place in 0..bands.len() {
         shown = shown.then(bands[place].peek(now, sink));
-        if shown.packet.is_some() {
+        if shown.has_packet() {
             return shown;
         }
     }

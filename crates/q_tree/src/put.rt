@@ -36,29 +36,29 @@ impl Node {
         &mut self,
         path: &[usize],
         refusal: Option<Cause>,
-        packet: Packet,
+        packet: &Packet,
         now: Moment,
         sink: &mut S,
     ) -> Outcome
-        requires ready { CanPut now packet path.now refusal self.old }
+        requires ready { CanPut now packet.now path.now refusal self.old }
         requires sink { length (beneath.beneath self.old) + 1 ≤ S.room sink.old }
-        ensures after { self.new ≡ booked kept self.old (put_along now packet refusal path.now (shape self.old)).node }
-        ensures arrived { self.new.memory.counts.arrived ≡ with_packet self.old.memory.counts.arrived packet }
-        ensures outcome { IsOutcome (loss_at_end now packet (shape self.old) (record { path = path.now; refusal = refusal }))
-            (put_along now packet refusal path.now (shape self.old)).rises result }
-        ensures lost { S.losses sink.new ≡ S.losses sink.old ++ losses_in (put_along now packet refusal path.now (shape self.old)).rises }
-        ensures room { S.room sink.new + length (losses_in (put_along now packet refusal path.now (shape self.old)).rises) ≡ S.room sink.old }
+        ensures after { self.new ≡ booked kept self.old (put_along now packet.now refusal path.now (shape self.old)).node }
+        ensures arrived { self.new.memory.counts.arrived ≡ with_packet self.old.memory.counts.arrived packet.now }
+        ensures outcome { IsOutcome (loss_at_end now packet.now (shape self.old) (record { path = path.now; refusal = refusal }))
+            (put_along now packet.now refusal path.now (shape self.old)).rises result }
+        ensures lost { S.losses sink.new ≡ S.losses sink.old ++ losses_in (put_along now packet.now refusal path.now (shape self.old)).rises }
+        ensures room { S.room sink.new + length (losses_in (put_along now packet.now refusal path.now (shape self.old)).rises) ≡ S.room sink.old }
         ensures kept { S.keeps sink.old sink.new }
     {
         let Some((&place, rest)) = path.split_first() else {
             let outcome = self.discipline.put_here(refusal, packet, now, sink);
-            book_arrival(&mut self.row, &packet, &outcome);
+            book_arrival(&mut self.row, packet, &outcome);
             return outcome;
         };
         let outcome = self
             .discipline
             .put_beneath(place, rest, refusal, packet, now, sink);
-        book_arrival(&mut self.row, &packet, &outcome);
+        book_arrival(&mut self.row, packet, &outcome);
         outcome
     }
 }
@@ -68,30 +68,33 @@ impl Discipline {
     fn put_here<S: Sink>(
         &mut self,
         refusal: Option<Cause>,
-        packet: Packet,
+        packet: &Packet,
         now: Moment,
         sink: &mut S,
     ) -> Outcome
-        requires can { CanQueue packet refusal (places_seen self.old) (discipline_seen self.old) }
+        requires can { CanQueue packet.now refusal (places_seen self.old) (discipline_seen self.old) }
         requires sink { length (beneath.packets_in (discipline_seen self.old)) + 1 ≤ S.room sink.old }
-        ensures after { IsQueued now packet refusal self.old self.new result }
-        ensures lost { S.losses sink.new ≡ S.losses sink.old ++ losses_in (rises_here now packet refusal (discipline_seen self.old)) }
-        ensures room { S.room sink.new + length (losses_in (rises_here now packet refusal (discipline_seen self.old))) ≡ S.room sink.old }
+        ensures after { IsQueued now packet.now refusal self.old self.new result }
+        ensures lost { S.losses sink.new ≡ S.losses sink.old ++ losses_in (rises_here now packet.now refusal (discipline_seen self.old)) }
+        ensures room { S.room sink.new + length (losses_in (rises_here now packet.now refusal (discipline_seen self.old))) ≡ S.room sink.old }
         ensures kept { S.keeps sink.old sink.new }
     {
         if let Some(cause) = refusal {
-            return refuse(packet, cause, sink);
+            return refuse(*packet, cause, sink);
         }
         match self {
             Discipline::Fifo(fifo) => {
-                fifo.put(Stamped { packet, at: now });
+                fifo.put(Stamped {
+                    packet: *packet,
+                    at: now,
+                });
                 return Outcome {
                     loss: None,
                     refused: NOTHING,
                     dropped: NOTHING,
                 };
             }
-            Discipline::FqCodel(queue) => return put_in_flow(queue, packet, now, sink),
+            Discipline::FqCodel(queue) => return put_in_flow(queue, *packet, now, sink),
             Discipline::Prio { .. } | Discipline::Tbf { .. } | Discipline::Drr { .. } => {
                 unreachable!()
             }
@@ -105,18 +108,18 @@ impl Discipline {
         place: usize,
         rest: &[usize],
         refusal: Option<Cause>,
-        packet: Packet,
+        packet: &Packet,
         now: Moment,
         sink: &mut S,
     ) -> Outcome
-        requires child { CanPutInto now packet refusal rest.now place (discipline_seen self.old) (children_seen self.old) }
+        requires child { CanPutInto now packet.now refusal rest.now place (discipline_seen self.old) (children_seen self.old) }
         requires sink { length (packets_beneath (children_seen self.old)) + 1 ≤ S.room sink.old }
         ensures after { (c : spec.Node Kept) → slice_get (children_seen self.old) place ≡ Some c
-            → IsPutInto now packet refusal rest.now place self.old self.new c result }
+            → IsPutInto now packet.now refusal rest.now place self.old self.new c result }
         ensures lost { (c : spec.Node Kept) → slice_get (children_seen self.old) place ≡ Some c
-            → S.losses sink.new ≡ S.losses sink.old ++ losses_in (put_along now packet refusal rest.now (shape c)).rises }
+            → S.losses sink.new ≡ S.losses sink.old ++ losses_in (put_along now packet.now refusal rest.now (shape c)).rises }
         ensures room { (c : spec.Node Kept) → slice_get (children_seen self.old) place ≡ Some c
-            → S.room sink.new + length (losses_in (put_along now packet refusal rest.now (shape c)).rises) ≡ S.room sink.old }
+            → S.room sink.new + length (losses_in (put_along now packet.now refusal rest.now (shape c)).rises) ≡ S.room sink.old }
         ensures kept { S.keeps sink.old sink.new }
     {
         match self {

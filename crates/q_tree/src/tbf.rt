@@ -1,4 +1,4 @@
-ghost use Rattle.std.specs.Prelude.{◌≡◌, ◌≤◌, [], ◌∷◌, length, ℕ};
+ghost use Rattle.std.specs.Prelude.{◌≡◌, ◌≤◌, [], ◌∷◌, length, ℕ, None};
 ghost use Rattle.q_model.specs.Ask.{ask_tbf};
 ghost use Rattle.q_model.specs.Beneath.{beneath};
 ghost use Rattle.q_model.specs.Node.{Own, Tbf};
@@ -8,36 +8,35 @@ use crate::node::Node;
 use crate::shown::Shown;
 use q_bucket::Bucket;
 use q_codel::Sink;
-use q_packet::Moment;
+use q_packet::{Moment, Packet};
 
-/// Asks the child, and takes the packet that it shows where the bucket allows it (tc-tbf(8)).
+/// Asks the child, and takes the packet that it shows where the bucket allows it, to hold it (tc-tbf(8)).
 #[cycle(peek)]
 pub(crate) fn ask_child<S: Sink>(
     bucket: &mut Bucket,
     child: &mut Node,
+    held: &mut Option<Packet>,
     now: Moment,
     sink: &mut S,
 ) -> Shown
     requires ready { CanAsk now child.old }
     requires order { bucket.old.last ≤ now }
+    requires none { held.old ≡ None }
     requires sink { length (beneath child.old) ≤ S.room sink.old }
     ensures bucket { (own : Own) (limit : ℕ) → own.discipline ≡ Tbf bucket.old limit → Tbf bucket.new limit ≡ (ask_tbf now own (answers now (child.old ∷ [])) bucket.old limit).peeked.own.discipline }
     ensures after { (own : Own) (limit : ℕ) → AreAsked (ask_tbf now own (answers now (child.old ∷ [])) bucket.old limit) (child.old ∷ []) (child.new ∷ []) result }
     ensures told { (own : Own) (limit : ℕ) → IsToldOf (ask_tbf now own (answers now (child.old ∷ [])) bucket.old limit).rises (S.losses sink.old) (S.losses sink.new) (S.room sink.old) (S.room sink.new) }
+    ensures held { held.new ≡ result.packet }
     ensures kept { S.keeps sink.old sink.new }
 {
     let shown = child.peek(now, sink);
-    let Some(packet) = shown.packet else {
+    let Some(len) = shown.packet_len() else {
         return shown;
     };
-    if !bucket.spend(now, packet.len) {
-        return Shown {
-            packet: None,
-            ..shown
-        };
+    if !bucket.spend(now, len) {
+        return shown.showing(&None);
     }
-    Shown {
-        packet: child.pop(),
-        ..shown
-    }
+    // What is given is what was shown.
+    *held = child.pop();
+    shown
 }

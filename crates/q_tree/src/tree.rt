@@ -191,15 +191,13 @@ impl Tree {
     pub fn route(&self, packet: &Packet) -> Route
         ensures { result ≡ device_route packet.now self.now.tree.device.mtu self.now.tree.root }
     {
-        if packet.len > self.mtu {
-            return Route { way: None };
-        }
-        // A way has 72 bytes, so that it is made where it stands.
+        // A way has 80 bytes, so that it is made where it stands.
         let mut route = Route {
-            way: Some(Way::new()),
+            way: Way::new(),
+            is_too_long: packet.len > self.mtu,
         };
-        if let Some(way) = &mut route.way {
-            self.root.go(packet, way);
+        if !route.is_too_long {
+            self.root.go(packet, &mut route.way);
         }
         route
     }
@@ -222,13 +220,13 @@ impl Tree {
         if arrived.packets == u64::MAX || arrived.bytes > u64::MAX - u64::from(u16::MAX) {
             return Err(AllocError);
         }
-        let Some(way) = &route.way else {
-            return Ok(());
-        };
-        if way.refusal().is_some() {
+        if route.is_too_long {
             return Ok(());
         }
-        self.root.prepare(way.places())
+        if route.way.refusal().is_some() {
+            return Ok(());
+        }
+        self.root.prepare(route.way.places())
     }
 
     /// Puts a packet on its route, for which [`Tree::prepare`] has made the place, and says what became of it. `now` is at or
@@ -248,7 +246,7 @@ impl Tree {
     {
         // A moment is at most 2^62 nanoseconds, and a packet has a byte at least.
         let _ = (now.ns(), packet.len);
-        let outcome = put_on(&mut self.root, route, packet, now, sink);
+        let outcome = put_on(&mut self.root, route, &packet, now, sink);
         book_arrival(&mut self.top, &packet, &outcome);
         self.clock = now;
         fate_of(outcome.loss)
@@ -273,7 +271,8 @@ impl Tree {
         let shown = self.root.peek(now, sink);
         book_shown(&mut self.top, &shown);
         self.clock = now;
-        shown.packet
+        // The root has at hand what it has shown.
+        self.root.at_hand()
     }
 
     /// Takes the packet whose turn it is; `None` where none may go now. `now` is at or after the latest moment that the tree
@@ -294,7 +293,7 @@ impl Tree {
         let shown = self.root.peek(now, sink);
         book_shown(&mut self.top, &shown);
         self.clock = now;
-        if shown.packet.is_none() {
+        if !shown.has_packet() {
             return None;
         }
         // The root gives what it has shown: one copy less than to give that here.
@@ -320,21 +319,21 @@ fn fate_of(loss: Option<Cause>) -> Fate
 fn put_on<S: Sink>(
     root: &mut Node,
     route: &Route,
-    packet: Packet,
+    packet: &Packet,
     now: Moment,
     sink: &mut S,
 ) -> Outcome
-    requires ready { IfSome route.now (λ r. CanPut now packet r.path r.refusal root.old) }
+    requires ready { IfSome route.now (λ r. CanPut now packet.now r.path r.refusal root.old) }
     requires sink { length (beneath root.old) + 1 ≤ S.room sink.old }
-    ensures after { root.new ≡ booked kept root.old (put_on now packet route.now (shape root.old)).node }
-    ensures arrived { IsArrived packet root.old root.new }
-    ensures outcome { IsOutcome (loss_on now packet route.now (shape root.old)) (put_on now packet route.now (shape root.old)).rises result }
-    ensures lost { S.losses sink.new ≡ S.losses sink.old ++ losses_in (put_on now packet route.now (shape root.old)).rises }
-    ensures room { S.room sink.new + length (losses_in (put_on now packet route.now (shape root.old)).rises) ≡ S.room sink.old }
+    ensures after { root.new ≡ booked kept root.old (put_on now packet.now route.now (shape root.old)).node }
+    ensures arrived { IsArrived packet.now root.old root.new }
+    ensures outcome { IsOutcome (loss_on now packet.now route.now (shape root.old)) (put_on now packet.now route.now (shape root.old)).rises result }
+    ensures lost { S.losses sink.new ≡ S.losses sink.old ++ losses_in (put_on now packet.now route.now (shape root.old)).rises }
+    ensures room { S.room sink.new + length (losses_in (put_on now packet.now route.now (shape root.old)).rises) ≡ S.room sink.old }
     ensures kept { S.keeps sink.old sink.new }
 {
-    let Some(way) = &route.way else {
-        return refuse(packet, Cause::TooLong, sink);
-    };
-    root.put(way.places(), way.refusal(), packet, now, sink)
+    if route.is_too_long {
+        return refuse(*packet, Cause::TooLong, sink);
+    }
+    root.put(route.way.places(), route.way.refusal(), packet, now, sink)
 }

@@ -16,13 +16,13 @@ use Rattle.q_tree.specs.AskSteps.{IsGivenBy, IsToldOf, answers, own_of}
 use Rattle.q_tree.specs.NodeCode.{forest_size}
 use Rattle.q_tree.specs.Seen.{children_seen, discipline_seen, places_seen}
 use Rattle.q_tree.specs.declared.node.Discipline.TheVariants as code
-use Rattle.q_tree.specs.declared.shown.Shown.{Shown}
+use Rattle.q_tree.specs.Shown.{Shown}
 use Rattle.q_tree.proofs.AskBands.{AreBandsAsked, told_to, band-at, band-once, band-shown, band-rises, band-passed, band-told, bands-start, bands-end, bands-rises}
 use Rattle.q_tree.proofs.AskOnce.{fits-beside, told-nothing, told-then}
-use Rattle.q_tree.proofs.AtHandLemmas.{none-held, some-held}
+use Rattle.q_tree.proofs.AtHandLemmas.{none-held, some-held, shown-len}
 use Rattle.q_tree.proofs.HereLemmas.{flow-packets}
-use Rattle.q_tree.proofs.Peeks.{asked-in, told-in, each-of, room-of, own-room, items-are, serve-of, holding-after, can-in, enough, can-book, peeked-done, shown-here, told-here, tbf-gave, does-hold, holds-none}
-use Rattle.q_tree.proofs.ServeLemmas.{AreClassesAsked, SinkTold, heads_of, classes-start, class-there, class-in-front, place-within, class-size, class-once, class-shown, short-enough, nothing-schedule, nothing-asked, nothing-told, offered-head, given-schedule, given-asked, given-told, classes-go-on, idle-schedule, idle-asked, idle-told}
+use Rattle.q_tree.proofs.Peeks.{asked-in, told-in, each-of, room-of, own-room, items-are, serve-of, holding-after, can-in, enough, can-book, peeked-done, shown-here, told-here, tbf-gave, tbf-none, hand-asked}
+use Rattle.q_tree.proofs.ServeLemmas.{AreClassesAsked, SinkTold, heads_of, classes-start, class-there, class-in-front, place-within, class-size, class-once, class-shown, short-enough, nothing-schedule, nothing-asked, nothing-told, offered-head, given-packet, given-schedule, given-asked, given-told, classes-go-on, idle-schedule, idle-asked, idle-told}
 use Rattle.q_tree.proofs.RouteLemmas.{child-size, children-size}
 use Rattle.q_tree.proofs.TakeCounts.{flow-told}
 use Rattle.q_tree.proofs.+peek.Goals as goal
@@ -48,6 +48,7 @@ drr::serve-loop-class-init g t c = (
   classes-start c.args.now c.args.active.now c.args.classes.now c.active_count-unasked.result c.at_hand-shown.result (g.S.Sink.losses c.args.sink.now) (g.S.Sink.room c.args.sink.now) c.requires.ready c.active_count-unasked.ensures
       (record { dropped = ap (λ (s : Shown). s.dropped) c.at_hand-shown.ensures; marked = ap (λ (s : Shown). s.marked) c.at_hand-shown.ensures }),
   g.met.S.Sink.keeps_same c.args.sink.now,
+  c.requires.none,
 )
 
 pub drr::serve-unreachable-requires : goal.drr::serve-unreachable-requires
@@ -80,38 +81,38 @@ drr::serve-ask_class-shown-requires g t c κs within =
       (within, λ some. class-once c.args.now c.args.active.now c.loop-class.active c.args.classes.now c.loop-class.classes c.loop-class.unasked c.loop-class.shown told c.requires.ready c.loop-class.invariant.0 c.in-Some.class c.front.ensures.lawful front c.in-Some-place_of.place place c.index-classes-place.result some c.requires.sink),
     )
 
-pub drr::serve-returns-in_default-packet-clause-active : goal.drr::serve-returns-in_default-packet-clause-active
-drr::serve-returns-in_default-packet-clause-active g t c =
+pub drr::serve-returns-in_default-packet_len-clause-active : goal.drr::serve-returns-in_default-packet_len-clause-active
+drr::serve-returns-in_default-packet_len-clause-active g t c =
     let told : SinkTold = record { losses = g.S.Sink.losses c.args.sink.now; losses_now = g.S.Sink.losses c.loop-class.sink; room = g.S.Sink.room c.args.sink.now; room_now = g.S.Sink.room c.loop-class.sink } in
     let front = front_is c.in-Some.class c.loop-class.active (sym c.in-Some.is ∙ c.front.ensures.front) in
     let place = class-in-front c.args.now c.args.active.now c.loop-class.active c.args.classes.now c.loop-class.classes c.loop-class.unasked c.loop-class.shown told c.requires.ready c.loop-class.invariant.0 c.in-Some.class c.front.ensures.lawful front c.in-Some-place_of.place (sym c.in-Some-place_of.is ∙ c.place_of.ensures.value) in
     let class_shows = class-shown c.args.now c.args.active.now c.loop-class.active c.args.classes.now c.loop-class.classes c.loop-class.unasked c.loop-class.shown told c.requires.ready c.loop-class.invariant.0 c.in-Some.class c.front.ensures.lawful front c.in-Some-place_of.place place c.index-classes-place.result c.ask_class-shown.new.class c.ask_class-shown.result (g.S.Sink.losses c.ask_class-shown.new.sink) (g.S.Sink.room c.ask_class-shown.new.sink)
     c.ask_class-shown.ensures.asked c.ask_class-shown.ensures.told c.ask_class-shown.ensures.at_hand c.ask_class-shown.ensures.not_lost in
     λ own. nothing-schedule c.args.now c.args.active.now c.loop-class.active c.args.classes.now c.loop-class.classes c.loop-class.unasked c.loop-class.shown told c.requires.ready c.loop-class.invariant.0 c.in-Some.class c.front.ensures.lawful front c.in-Some-place_of.place place
-    c.ask_class-shown.new.class c.ask_class-shown.result (g.S.Sink.losses c.ask_class-shown.new.sink) (g.S.Sink.room c.ask_class-shown.new.sink) class_shows c.in_default-packet.is own
+    c.ask_class-shown.new.class c.ask_class-shown.result (g.S.Sink.losses c.ask_class-shown.new.sink) (g.S.Sink.room c.ask_class-shown.new.sink) class_shows (c.packet_len.ensures.none c.in_default-packet_len.is) own
 
-pub drr::serve-returns-in_default-packet-clause-after : goal.drr::serve-returns-in_default-packet-clause-after
-drr::serve-returns-in_default-packet-clause-after g t c =
+pub drr::serve-returns-in_default-packet_len-clause-after : goal.drr::serve-returns-in_default-packet_len-clause-after
+drr::serve-returns-in_default-packet_len-clause-after g t c =
     let told : SinkTold = record { losses = g.S.Sink.losses c.args.sink.now; losses_now = g.S.Sink.losses c.loop-class.sink; room = g.S.Sink.room c.args.sink.now; room_now = g.S.Sink.room c.loop-class.sink } in
     let front = front_is c.in-Some.class c.loop-class.active (sym c.in-Some.is ∙ c.front.ensures.front) in
     let place = class-in-front c.args.now c.args.active.now c.loop-class.active c.args.classes.now c.loop-class.classes c.loop-class.unasked c.loop-class.shown told c.requires.ready c.loop-class.invariant.0 c.in-Some.class c.front.ensures.lawful front c.in-Some-place_of.place (sym c.in-Some-place_of.is ∙ c.place_of.ensures.value) in
     let class_shows = class-shown c.args.now c.args.active.now c.loop-class.active c.args.classes.now c.loop-class.classes c.loop-class.unasked c.loop-class.shown told c.requires.ready c.loop-class.invariant.0 c.in-Some.class c.front.ensures.lawful front c.in-Some-place_of.place place c.index-classes-place.result c.ask_class-shown.new.class c.ask_class-shown.result (g.S.Sink.losses c.ask_class-shown.new.sink) (g.S.Sink.room c.ask_class-shown.new.sink)
     c.ask_class-shown.ensures.asked c.ask_class-shown.ensures.told c.ask_class-shown.ensures.at_hand c.ask_class-shown.ensures.not_lost in
     λ own. nothing-asked c.args.now c.args.active.now c.loop-class.active c.args.classes.now c.loop-class.classes c.loop-class.unasked c.loop-class.shown told c.requires.ready c.loop-class.invariant.0 c.in-Some.class c.front.ensures.lawful front c.in-Some-place_of.place place
-    c.ask_class-shown.new.class c.ask_class-shown.result (g.S.Sink.losses c.ask_class-shown.new.sink) (g.S.Sink.room c.ask_class-shown.new.sink) class_shows c.in_default-packet.is own
+    c.ask_class-shown.new.class c.ask_class-shown.result (g.S.Sink.losses c.ask_class-shown.new.sink) (g.S.Sink.room c.ask_class-shown.new.sink) class_shows (c.packet_len.ensures.none c.in_default-packet_len.is) own
 
-pub drr::serve-returns-in_default-packet-clause-told : goal.drr::serve-returns-in_default-packet-clause-told
-drr::serve-returns-in_default-packet-clause-told g t c =
+pub drr::serve-returns-in_default-packet_len-clause-told : goal.drr::serve-returns-in_default-packet_len-clause-told
+drr::serve-returns-in_default-packet_len-clause-told g t c =
     let told : SinkTold = record { losses = g.S.Sink.losses c.args.sink.now; losses_now = g.S.Sink.losses c.loop-class.sink; room = g.S.Sink.room c.args.sink.now; room_now = g.S.Sink.room c.loop-class.sink } in
     let front = front_is c.in-Some.class c.loop-class.active (sym c.in-Some.is ∙ c.front.ensures.front) in
     let place = class-in-front c.args.now c.args.active.now c.loop-class.active c.args.classes.now c.loop-class.classes c.loop-class.unasked c.loop-class.shown told c.requires.ready c.loop-class.invariant.0 c.in-Some.class c.front.ensures.lawful front c.in-Some-place_of.place (sym c.in-Some-place_of.is ∙ c.place_of.ensures.value) in
     let class_shows = class-shown c.args.now c.args.active.now c.loop-class.active c.args.classes.now c.loop-class.classes c.loop-class.unasked c.loop-class.shown told c.requires.ready c.loop-class.invariant.0 c.in-Some.class c.front.ensures.lawful front c.in-Some-place_of.place place c.index-classes-place.result c.ask_class-shown.new.class c.ask_class-shown.result (g.S.Sink.losses c.ask_class-shown.new.sink) (g.S.Sink.room c.ask_class-shown.new.sink)
     c.ask_class-shown.ensures.asked c.ask_class-shown.ensures.told c.ask_class-shown.ensures.at_hand c.ask_class-shown.ensures.not_lost in
     λ own. nothing-told c.args.now c.args.active.now c.loop-class.active c.args.classes.now c.loop-class.classes c.loop-class.unasked c.loop-class.shown told c.requires.ready c.loop-class.invariant.0 c.in-Some.class c.front.ensures.lawful front c.in-Some-place_of.place place
-    c.ask_class-shown.new.class c.ask_class-shown.result (g.S.Sink.losses c.ask_class-shown.new.sink) (g.S.Sink.room c.ask_class-shown.new.sink) class_shows c.in_default-packet.is own
+    c.ask_class-shown.new.class c.ask_class-shown.result (g.S.Sink.losses c.ask_class-shown.new.sink) (g.S.Sink.room c.ask_class-shown.new.sink) class_shows (c.packet_len.ensures.none c.in_default-packet_len.is) own
 
-pub drr::serve-returns-in_default-packet-clause-kept : goal.drr::serve-returns-in_default-packet-clause-kept
-drr::serve-returns-in_default-packet-clause-kept g t c =
+pub drr::serve-returns-in_default-packet_len-clause-kept : goal.drr::serve-returns-in_default-packet_len-clause-kept
+drr::serve-returns-in_default-packet_len-clause-kept g t c =
     g.met.S.Sink.keeps_on c.args.sink.now c.loop-class.sink c.ask_class-shown.new.sink c.loop-class.invariant.1 c.ask_class-shown.ensures.kept
 
 pub drr::serve-turn-requires-clause-in_range : goal.drr::serve-turn-requires-clause-in_range
@@ -121,8 +122,9 @@ drr::serve-turn-requires-clause-in_range g t c =
     let place = class-in-front c.args.now c.args.active.now c.loop-class.active c.args.classes.now c.loop-class.classes c.loop-class.unasked c.loop-class.shown told c.requires.ready c.loop-class.invariant.0 c.in-Some.class c.front.ensures.lawful front c.in-Some-place_of.place (sym c.in-Some-place_of.is ∙ c.place_of.ensures.value) in
     let class_shows = class-shown c.args.now c.args.active.now c.loop-class.active c.args.classes.now c.loop-class.classes c.loop-class.unasked c.loop-class.shown told c.requires.ready c.loop-class.invariant.0 c.in-Some.class c.front.ensures.lawful front c.in-Some-place_of.place place c.index-classes-place.result c.ask_class-shown.new.class c.ask_class-shown.result (g.S.Sink.losses c.ask_class-shown.new.sink) (g.S.Sink.room c.ask_class-shown.new.sink)
     c.ask_class-shown.ensures.asked c.ask_class-shown.ensures.told c.ask_class-shown.ensures.at_hand c.ask_class-shown.ensures.not_lost in
-    let len = ap (λ (p : Descriptor). p.len) c.packet.view_is in
-    omega (arith, short-enough c.args.now c.args.active.now c.loop-class.active c.args.classes.now c.loop-class.classes c.loop-class.unasked c.loop-class.shown told c.requires.ready c.loop-class.invariant.0 c.in-Some.class c.front.ensures.lawful front c.in-Some-place_of.place place c.in-Some-packet.packet (sym class_shows.shown ∙ c.in-Some-packet.is), len)
+    let offer = shown-len c.ask_class-shown.result.packet c.packet_len.result c.in-Some-packet_len.len c.packet_len.ensures.some c.in-Some-packet_len.is in
+    let len = sym offer.2 in
+    omega (arith, short-enough c.args.now c.args.active.now c.loop-class.active c.args.classes.now c.loop-class.classes c.loop-class.unasked c.loop-class.shown told c.requires.ready c.loop-class.invariant.0 c.in-Some.class c.front.ensures.lawful front c.in-Some-place_of.place place offer.0 (sym class_shows.shown ∙ offer.1), len)
 
 pub drr::serve-give-requires : goal.drr::serve-give-requires
 drr::serve-give-requires g t c =
@@ -138,12 +140,13 @@ drr::serve-returns-in-Send-clause-active g t c =
     let place = class-in-front c.args.now c.args.active.now c.loop-class.active c.args.classes.now c.loop-class.classes c.loop-class.unasked c.loop-class.shown told c.requires.ready c.loop-class.invariant.0 c.in-Some.class c.front.ensures.lawful front c.in-Some-place_of.place (sym c.in-Some-place_of.is ∙ c.place_of.ensures.value) in
     let class_shows = class-shown c.args.now c.args.active.now c.loop-class.active c.args.classes.now c.loop-class.classes c.loop-class.unasked c.loop-class.shown told c.requires.ready c.loop-class.invariant.0 c.in-Some.class c.front.ensures.lawful front c.in-Some-place_of.place place c.index-classes-place.result c.ask_class-shown.new.class c.ask_class-shown.result (g.S.Sink.losses c.ask_class-shown.new.sink) (g.S.Sink.room c.ask_class-shown.new.sink)
     c.ask_class-shown.ensures.asked c.ask_class-shown.ensures.told c.ask_class-shown.ensures.at_hand c.ask_class-shown.ensures.not_lost in
-    let len = ap (λ (p : Descriptor). p.len) c.packet.view_is in
-    let pays = subst (λ m. m ≤ front.first.deficit) len (covers c.loop-class.active c.in-Some.class c.packet.inside.len front (sym c.in-Send.is ∙ c.turn.ensures.answer)) in
+    let offer = shown-len c.ask_class-shown.result.packet c.packet_len.result c.in-Some-packet_len.len c.packet_len.ensures.some c.in-Some-packet_len.is in
+    let len = sym offer.2 in
+    let pays = subst (λ m. m ≤ front.first.deficit) len (covers c.loop-class.active c.in-Some.class c.in-Some-packet_len.len front (sym c.in-Send.is ∙ c.turn.ensures.answer)) in
     let turn = c.turn.ensures.after ∙ ap (λ m. turned m c.loop-class.active) len in
     λ own. given-schedule c.args.now c.args.active.now c.loop-class.active c.args.classes.now c.loop-class.classes c.loop-class.unasked c.loop-class.shown told c.requires.ready c.loop-class.invariant.0 c.in-Some.class c.front.ensures.lawful front c.in-Some-place_of.place place
-    c.ask_class-shown.new.class c.ask_class-shown.result (g.S.Sink.losses c.ask_class-shown.new.sink) (g.S.Sink.room c.ask_class-shown.new.sink) class_shows c.in-Some-packet.packet c.in-Some-packet.is pays c.give.new.active c.give.new.classes
-    (λ class at. subst (λ s. IsGivenBy c.in-Some-place_of.place class s c.give.new.active (set c.loop-class.classes c.in-Some-place_of.place c.ask_class-shown.new.class) c.give.new.classes) turn (c.give.ensures class at)) own
+    c.ask_class-shown.new.class c.ask_class-shown.result (g.S.Sink.losses c.ask_class-shown.new.sink) (g.S.Sink.room c.ask_class-shown.new.sink) class_shows offer.0 offer.1 pays c.give.new.active c.give.new.classes
+    (λ class at. subst (λ s. IsGivenBy c.in-Some-place_of.place class s c.give.new.active (set c.loop-class.classes c.in-Some-place_of.place c.ask_class-shown.new.class) c.give.new.classes) turn (c.give.ensures.given class at)) own
 
 pub drr::serve-returns-in-Send-clause-after : goal.drr::serve-returns-in-Send-clause-after
 drr::serve-returns-in-Send-clause-after g t c =
@@ -152,12 +155,30 @@ drr::serve-returns-in-Send-clause-after g t c =
     let place = class-in-front c.args.now c.args.active.now c.loop-class.active c.args.classes.now c.loop-class.classes c.loop-class.unasked c.loop-class.shown told c.requires.ready c.loop-class.invariant.0 c.in-Some.class c.front.ensures.lawful front c.in-Some-place_of.place (sym c.in-Some-place_of.is ∙ c.place_of.ensures.value) in
     let class_shows = class-shown c.args.now c.args.active.now c.loop-class.active c.args.classes.now c.loop-class.classes c.loop-class.unasked c.loop-class.shown told c.requires.ready c.loop-class.invariant.0 c.in-Some.class c.front.ensures.lawful front c.in-Some-place_of.place place c.index-classes-place.result c.ask_class-shown.new.class c.ask_class-shown.result (g.S.Sink.losses c.ask_class-shown.new.sink) (g.S.Sink.room c.ask_class-shown.new.sink)
     c.ask_class-shown.ensures.asked c.ask_class-shown.ensures.told c.ask_class-shown.ensures.at_hand c.ask_class-shown.ensures.not_lost in
-    let len = ap (λ (p : Descriptor). p.len) c.packet.view_is in
-    let pays = subst (λ m. m ≤ front.first.deficit) len (covers c.loop-class.active c.in-Some.class c.packet.inside.len front (sym c.in-Send.is ∙ c.turn.ensures.answer)) in
+    let offer = shown-len c.ask_class-shown.result.packet c.packet_len.result c.in-Some-packet_len.len c.packet_len.ensures.some c.in-Some-packet_len.is in
+    let len = sym offer.2 in
+    let pays = subst (λ m. m ≤ front.first.deficit) len (covers c.loop-class.active c.in-Some.class c.in-Some-packet_len.len front (sym c.in-Send.is ∙ c.turn.ensures.answer)) in
     let turn = c.turn.ensures.after ∙ ap (λ m. turned m c.loop-class.active) len in
     λ own. given-asked c.args.now c.args.active.now c.loop-class.active c.args.classes.now c.loop-class.classes c.loop-class.unasked c.loop-class.shown told c.requires.ready c.loop-class.invariant.0 c.in-Some.class c.front.ensures.lawful front c.in-Some-place_of.place place
-    c.ask_class-shown.new.class c.ask_class-shown.result (g.S.Sink.losses c.ask_class-shown.new.sink) (g.S.Sink.room c.ask_class-shown.new.sink) class_shows c.in-Some-packet.packet c.in-Some-packet.is pays c.give.new.active c.give.new.classes
-    (λ class at. subst (λ s. IsGivenBy c.in-Some-place_of.place class s c.give.new.active (set c.loop-class.classes c.in-Some-place_of.place c.ask_class-shown.new.class) c.give.new.classes) turn (c.give.ensures class at)) own
+    c.ask_class-shown.new.class c.ask_class-shown.result (g.S.Sink.losses c.ask_class-shown.new.sink) (g.S.Sink.room c.ask_class-shown.new.sink) class_shows offer.0 offer.1 pays c.give.new.active c.give.new.classes
+    (λ class at. subst (λ s. IsGivenBy c.in-Some-place_of.place class s c.give.new.active (set c.loop-class.classes c.in-Some-place_of.place c.ask_class-shown.new.class) c.give.new.classes) turn (c.give.ensures.given class at)) own
+
+pub drr::serve-returns-in-Send-clause-held : goal.drr::serve-returns-in-Send-clause-held
+drr::serve-returns-in-Send-clause-held g t c =
+    let told : SinkTold = record { losses = g.S.Sink.losses c.args.sink.now; losses_now = g.S.Sink.losses c.loop-class.sink; room = g.S.Sink.room c.args.sink.now; room_now = g.S.Sink.room c.loop-class.sink } in
+    let front = front_is c.in-Some.class c.loop-class.active (sym c.in-Some.is ∙ c.front.ensures.front) in
+    let place = class-in-front c.args.now c.args.active.now c.loop-class.active c.args.classes.now c.loop-class.classes c.loop-class.unasked c.loop-class.shown told c.requires.ready c.loop-class.invariant.0 c.in-Some.class c.front.ensures.lawful front c.in-Some-place_of.place (sym c.in-Some-place_of.is ∙ c.place_of.ensures.value) in
+    let class_shows = class-shown c.args.now c.args.active.now c.loop-class.active c.args.classes.now c.loop-class.classes c.loop-class.unasked c.loop-class.shown told c.requires.ready c.loop-class.invariant.0 c.in-Some.class c.front.ensures.lawful front c.in-Some-place_of.place place c.index-classes-place.result c.ask_class-shown.new.class c.ask_class-shown.result (g.S.Sink.losses c.ask_class-shown.new.sink) (g.S.Sink.room c.ask_class-shown.new.sink)
+    c.ask_class-shown.ensures.asked c.ask_class-shown.ensures.told c.ask_class-shown.ensures.at_hand c.ask_class-shown.ensures.not_lost in
+    c.give.ensures.packet c.ask_class-shown.new.class class_shows.stored
+    ∙ given-packet c.args.now c.args.active.now c.loop-class.active c.args.classes.now c.loop-class.classes c.loop-class.unasked c.loop-class.shown told c.requires.ready c.loop-class.invariant.0 c.in-Some.class c.front.ensures.lawful front c.in-Some-place_of.place place
+    c.ask_class-shown.new.class c.ask_class-shown.result (g.S.Sink.losses c.ask_class-shown.new.sink) (g.S.Sink.room c.ask_class-shown.new.sink) class_shows
+
+pub drr::serve-returns-in_default-packet_len-clause-held : goal.drr::serve-returns-in_default-packet_len-clause-held
+drr::serve-returns-in_default-packet_len-clause-held g t c = c.loop-class.invariant.2 ∙ sym (c.packet_len.ensures.none c.in_default-packet_len.is)
+
+pub drr::serve-returns-clause-held : goal.drr::serve-returns-clause-held
+drr::serve-returns-clause-held g t c = c.loop-class.invariant.2 ∙ sym (ap (λ (s : Shown). s.packet) c.at_hand.ensures)
 
 pub drr::serve-returns-in-Send-clause-told : goal.drr::serve-returns-in-Send-clause-told
 drr::serve-returns-in-Send-clause-told g t c =
@@ -166,12 +187,13 @@ drr::serve-returns-in-Send-clause-told g t c =
     let place = class-in-front c.args.now c.args.active.now c.loop-class.active c.args.classes.now c.loop-class.classes c.loop-class.unasked c.loop-class.shown told c.requires.ready c.loop-class.invariant.0 c.in-Some.class c.front.ensures.lawful front c.in-Some-place_of.place (sym c.in-Some-place_of.is ∙ c.place_of.ensures.value) in
     let class_shows = class-shown c.args.now c.args.active.now c.loop-class.active c.args.classes.now c.loop-class.classes c.loop-class.unasked c.loop-class.shown told c.requires.ready c.loop-class.invariant.0 c.in-Some.class c.front.ensures.lawful front c.in-Some-place_of.place place c.index-classes-place.result c.ask_class-shown.new.class c.ask_class-shown.result (g.S.Sink.losses c.ask_class-shown.new.sink) (g.S.Sink.room c.ask_class-shown.new.sink)
     c.ask_class-shown.ensures.asked c.ask_class-shown.ensures.told c.ask_class-shown.ensures.at_hand c.ask_class-shown.ensures.not_lost in
-    let len = ap (λ (p : Descriptor). p.len) c.packet.view_is in
-    let pays = subst (λ m. m ≤ front.first.deficit) len (covers c.loop-class.active c.in-Some.class c.packet.inside.len front (sym c.in-Send.is ∙ c.turn.ensures.answer)) in
+    let offer = shown-len c.ask_class-shown.result.packet c.packet_len.result c.in-Some-packet_len.len c.packet_len.ensures.some c.in-Some-packet_len.is in
+    let len = sym offer.2 in
+    let pays = subst (λ m. m ≤ front.first.deficit) len (covers c.loop-class.active c.in-Some.class c.in-Some-packet_len.len front (sym c.in-Send.is ∙ c.turn.ensures.answer)) in
     let turn = c.turn.ensures.after ∙ ap (λ m. turned m c.loop-class.active) len in
     λ own. given-told c.args.now c.args.active.now c.loop-class.active c.args.classes.now c.loop-class.classes c.loop-class.unasked c.loop-class.shown told c.requires.ready c.loop-class.invariant.0 c.in-Some.class c.front.ensures.lawful front c.in-Some-place_of.place place
-    c.ask_class-shown.new.class c.ask_class-shown.result (g.S.Sink.losses c.ask_class-shown.new.sink) (g.S.Sink.room c.ask_class-shown.new.sink) class_shows c.in-Some-packet.packet c.in-Some-packet.is pays c.give.new.active c.give.new.classes
-    (λ class at. subst (λ s. IsGivenBy c.in-Some-place_of.place class s c.give.new.active (set c.loop-class.classes c.in-Some-place_of.place c.ask_class-shown.new.class) c.give.new.classes) turn (c.give.ensures class at)) own
+    c.ask_class-shown.new.class c.ask_class-shown.result (g.S.Sink.losses c.ask_class-shown.new.sink) (g.S.Sink.room c.ask_class-shown.new.sink) class_shows offer.0 offer.1 pays c.give.new.active c.give.new.classes
+    (λ class at. subst (λ s. IsGivenBy c.in-Some-place_of.place class s c.give.new.active (set c.loop-class.classes c.in-Some-place_of.place c.ask_class-shown.new.class) c.give.new.classes) turn (c.give.ensures.given class at)) own
 
 pub drr::serve-returns-in-Send-clause-kept : goal.drr::serve-returns-in-Send-clause-kept
 drr::serve-returns-in-Send-clause-kept g t c =
@@ -184,12 +206,13 @@ drr::serve-loop-class-smaller g t c =
     let place = class-in-front c.args.now c.args.active.now c.loop-class.active c.args.classes.now c.loop-class.classes c.loop-class.unasked c.loop-class.shown told c.requires.ready c.loop-class.invariant.0 c.in-Some.class c.front.ensures.lawful front c.in-Some-place_of.place (sym c.in-Some-place_of.is ∙ c.place_of.ensures.value) in
     let class_shows = class-shown c.args.now c.args.active.now c.loop-class.active c.args.classes.now c.loop-class.classes c.loop-class.unasked c.loop-class.shown told c.requires.ready c.loop-class.invariant.0 c.in-Some.class c.front.ensures.lawful front c.in-Some-place_of.place place c.index-classes-place.result c.ask_class-shown.new.class c.ask_class-shown.result (g.S.Sink.losses c.ask_class-shown.new.sink) (g.S.Sink.room c.ask_class-shown.new.sink)
     c.ask_class-shown.ensures.asked c.ask_class-shown.ensures.told c.ask_class-shown.ensures.at_hand c.ask_class-shown.ensures.not_lost in
-    let len = ap (λ (p : Descriptor). p.len) c.packet.view_is in
-    let short = subst (λ m. front.first.deficit < m) len (falls_short c.loop-class.active c.in-Some.class c.packet.inside.len front (sym c.in-Granted.is ∙ c.turn.ensures.answer)) in
+    let offer = shown-len c.ask_class-shown.result.packet c.packet_len.result c.in-Some-packet_len.len c.packet_len.ensures.some c.in-Some-packet_len.is in
+    let len = sym offer.2 in
+    let short = subst (λ m. front.first.deficit < m) len (falls_short c.loop-class.active c.in-Some.class c.in-Some-packet_len.len front (sym c.in-Granted.is ∙ c.turn.ensures.answer)) in
     let turn = c.turn.ensures.after ∙ ap (λ m. turned m c.loop-class.active) len in
     subst (λ s. sum_by (need (λ m. quantum_of m s.classes) (heads_of c.args.now c.args.active.now c.args.classes.now)) s.active < sum_by (need (λ m. quantum_of m c.loop-class.active.classes) (heads_of c.args.now c.args.active.now c.args.classes.now)) c.loop-class.active.active) (sym turn)
-    (measure_falls (heads_of c.args.now c.args.active.now c.args.classes.now) c.loop-class.active c.in-Some.class c.in-Some-packet.packet.len front (offered-head c.args.now c.args.active.now c.loop-class.active c.args.classes.now c.loop-class.classes c.loop-class.unasked c.loop-class.shown told c.requires.ready c.loop-class.invariant.0 c.in-Some.class c.front.ensures.lawful front c.in-Some-place_of.place place
-    c.ask_class-shown.new.class c.ask_class-shown.result (g.S.Sink.losses c.ask_class-shown.new.sink) (g.S.Sink.room c.ask_class-shown.new.sink) class_shows c.in-Some-packet.packet c.in-Some-packet.is) (front_quantum c.loop-class.active c.in-Some.class front c.front.ensures.lawful) short)
+    (measure_falls (heads_of c.args.now c.args.active.now c.args.classes.now) c.loop-class.active c.in-Some.class offer.0.len front (offered-head c.args.now c.args.active.now c.loop-class.active c.args.classes.now c.loop-class.classes c.loop-class.unasked c.loop-class.shown told c.requires.ready c.loop-class.invariant.0 c.in-Some.class c.front.ensures.lawful front c.in-Some-place_of.place place
+    c.ask_class-shown.new.class c.ask_class-shown.result (g.S.Sink.losses c.ask_class-shown.new.sink) (g.S.Sink.room c.ask_class-shown.new.sink) class_shows offer.0 offer.1) (front_quantum c.loop-class.active c.in-Some.class front c.front.ensures.lawful) short)
 
 pub drr::serve-loop-class-preserved : goal.drr::serve-loop-class-preserved
 drr::serve-loop-class-preserved g t c =
@@ -198,14 +221,16 @@ drr::serve-loop-class-preserved g t c =
     let place = class-in-front c.args.now c.args.active.now c.loop-class.active c.args.classes.now c.loop-class.classes c.loop-class.unasked c.loop-class.shown told c.requires.ready c.loop-class.invariant.0 c.in-Some.class c.front.ensures.lawful front c.in-Some-place_of.place (sym c.in-Some-place_of.is ∙ c.place_of.ensures.value) in
     let class_shows = class-shown c.args.now c.args.active.now c.loop-class.active c.args.classes.now c.loop-class.classes c.loop-class.unasked c.loop-class.shown told c.requires.ready c.loop-class.invariant.0 c.in-Some.class c.front.ensures.lawful front c.in-Some-place_of.place place c.index-classes-place.result c.ask_class-shown.new.class c.ask_class-shown.result (g.S.Sink.losses c.ask_class-shown.new.sink) (g.S.Sink.room c.ask_class-shown.new.sink)
     c.ask_class-shown.ensures.asked c.ask_class-shown.ensures.told c.ask_class-shown.ensures.at_hand c.ask_class-shown.ensures.not_lost in
-    let len = ap (λ (p : Descriptor). p.len) c.packet.view_is in
-    let short = subst (λ m. front.first.deficit < m) len (falls_short c.loop-class.active c.in-Some.class c.packet.inside.len front (sym c.in-Granted.is ∙ c.turn.ensures.answer)) in
+    let offer = shown-len c.ask_class-shown.result.packet c.packet_len.result c.in-Some-packet_len.len c.packet_len.ensures.some c.in-Some-packet_len.is in
+    let len = sym offer.2 in
+    let short = subst (λ m. front.first.deficit < m) len (falls_short c.loop-class.active c.in-Some.class c.in-Some-packet_len.len front (sym c.in-Granted.is ∙ c.turn.ensures.answer)) in
     let turn = c.turn.ensures.after ∙ ap (λ m. turned m c.loop-class.active) len in
     let told_after : SinkTold = record { losses = g.S.Sink.losses c.args.sink.now; losses_now = g.S.Sink.losses c.ask_class-shown.new.sink; room = g.S.Sink.room c.args.sink.now; room_now = g.S.Sink.room c.ask_class-shown.new.sink } in (
       subst (λ s. AreClassesAsked c.args.now c.args.active.now s c.args.classes.now (set c.loop-class.classes c.in-Some-place_of.place c.ask_class-shown.new.class) c.saturating_sub-unasked.result c.ask_class-shown.result told_after) (sym turn)
           (classes-go-on c.args.now c.args.active.now c.loop-class.active c.args.classes.now c.loop-class.classes c.loop-class.unasked c.loop-class.shown told c.requires.ready c.loop-class.invariant.0 c.in-Some.class c.front.ensures.lawful front c.in-Some-place_of.place place
-          c.ask_class-shown.new.class c.ask_class-shown.result (g.S.Sink.losses c.ask_class-shown.new.sink) (g.S.Sink.room c.ask_class-shown.new.sink) class_shows c.in-Some-packet.packet c.in-Some-packet.is short c.saturating_sub-unasked.result c.saturating_sub-unasked.ensures),
+          c.ask_class-shown.new.class c.ask_class-shown.result (g.S.Sink.losses c.ask_class-shown.new.sink) (g.S.Sink.room c.ask_class-shown.new.sink) class_shows offer.0 offer.1 short c.saturating_sub-unasked.result c.saturating_sub-unasked.ensures),
       g.met.S.Sink.keeps_on c.args.sink.now c.loop-class.sink c.ask_class-shown.new.sink c.loop-class.invariant.1 c.ask_class-shown.ensures.kept,
+      c.loop-class.invariant.2,
     )
 
 pub drr::serve-returns-clause-active : goal.drr::serve-returns-clause-active
@@ -270,7 +295,7 @@ node::Discipline::ask-returns-in-Tbf-clause-told g t c = λ handle filters.
 pub node::Discipline::ask-serve-requires : goal.node::Discipline::ask-serve-requires
 node::Discipline::ask-serve-requires g t c κs within =
     let kids = c.deref_mut-in-Drr.ensures.value ∙ sym (ap children_seen c.in-Drr.is) in
-    (omega (arith, ap (λ xs. forest_size (side_by_side xs)) kids, c.decreases), (within, (serve-of c.args.now c.args.self.now c.in-Drr.active c.deref_mut-in-Drr.result.now c.requires.ready (ap discipline_seen c.in-Drr.is) kids, omega (arith, c.requires.sink, room-of c.args.self.now c.deref_mut-in-Drr.result.now kids))))
+    (omega (arith, ap (λ xs. forest_size (side_by_side xs)) kids, c.decreases), (within, (c.requires.none, (serve-of c.args.now c.args.self.now c.in-Drr.active c.deref_mut-in-Drr.result.now c.requires.ready (ap discipline_seen c.in-Drr.is) kids, omega (arith, c.requires.sink, room-of c.args.self.now c.deref_mut-in-Drr.result.now kids)))))
 
 pub node::Discipline::ask-returns-in-Drr-clause-after :
     goal.node::Discipline::ask-returns-in-Drr-clause-after
@@ -290,7 +315,7 @@ node::Discipline::ask-returns-in-Drr-clause-told g t c = λ handle filters.
 
 pub node::Discipline::ask-take_from_flows-requires :
     goal.node::Discipline::ask-take_from_flows-requires
-node::Discipline::ask-take_from_flows-requires g t c = record { sink = omega (arith, c.requires.sink, own-room c.args.self.now, flow-packets c.args.self.now c.in-FqCodel.queue c.in-FqCodel.is) }
+node::Discipline::ask-take_from_flows-requires g t c = record { none = c.requires.none; sink = omega (arith, c.requires.sink, own-room c.args.self.now, flow-packets c.args.self.now c.in-FqCodel.queue c.in-FqCodel.is) }
 
 pub node::Discipline::ask-returns-in-FqCodel-clause-after :
     goal.node::Discipline::ask-returns-in-FqCodel-clause-after
@@ -322,8 +347,11 @@ node::Node::peek-ask-shown-requires g t c κs within = (
   (
     within,
     (
-      can-in c.args.now c.self.inside c.args.self.now c.self.invariant c.self.view_is c.requires.ready (omega (arith, c.self.ranges)) (omega (arith, c.self.ranges)),
-      enough c.args.now c.self.inside c.args.self.now c.self.invariant c.self.view_is c.requires.ready (g.S.Sink.room c.args.sink.now) c.requires.sink,
+      none-held c.self.inside.held c.if-is_some.ensures,
+      (
+        can-in c.args.now c.self.inside c.args.self.now c.self.invariant c.self.view_is c.requires.ready (omega (arith, c.self.ranges)) (omega (arith, c.self.ranges)),
+        enough c.args.now c.self.inside c.args.self.now c.self.invariant c.self.view_is c.requires.ready (g.S.Sink.room c.args.sink.now) c.requires.sink,
+      ),
     ),
   ),
 )
@@ -336,59 +364,30 @@ node::Node::peek-book_shown-requires-clause-room g t c =
 pub node::Node::peek-invariant_of-self :
     goal.node::Node::peek-invariant_of-self
 node::Node::peek-invariant_of-self g t c =
-    (peeked-done c.args.now c.self.inside c.args.self.now c.self.invariant c.self.view_is c.requires.ready (none-held c.self.inside.held c.if-is_some.ensures) c.ask-shown.new.self c.ask-shown.result (c.ask-shown.ensures.after c.self.inside.handle c.self.inside.filters.items) c.book_shown.new.row c.ask-shown.result.packet
+    (peeked-done c.args.now c.self.inside c.args.self.now c.self.invariant c.self.view_is c.requires.ready (none-held c.self.inside.held c.if-is_some.ensures) c.ask-shown.new.self c.ask-shown.result (c.ask-shown.ensures.after c.self.inside.handle c.self.inside.filters.items) c.book_shown.new.row c.ask-shown.new.held
     (can-book c.args.now c.self.inside c.args.self.now c.self.invariant c.self.view_is c.requires.ready (none-held c.self.inside.held c.if-is_some.ensures) c.ask-shown.new.self c.ask-shown.result (c.ask-shown.ensures.after c.self.inside.handle c.self.inside.filters.items) (omega (arith, c.self.ranges)) (omega (arith, c.self.ranges)))
-    c.book_shown.ensures (does-hold c.ask-shown.new.self c.ask-shown.result.packet c.holds.result c.if-holds.true (c.holds.ensures c.ask-shown.result.packet))).stays
+    c.book_shown.ensures c.ask-shown.ensures.held).stays
 
-pub node::Node::peek-invariant_of-self-else-holds :
-    goal.node::Node::peek-invariant_of-self-else-holds
-node::Node::peek-invariant_of-self-else-holds g t c =
-    (peeked-done c.args.now c.self.inside c.args.self.now c.self.invariant c.self.view_is c.requires.ready (none-held c.self.inside.held c.if-is_some.ensures) c.ask-shown.new.self c.ask-shown.result (c.ask-shown.ensures.after c.self.inside.handle c.self.inside.filters.items) c.book_shown.new.row c.self.inside.held
+pub node::Node::peek-returns-clause-after :
+    goal.node::Node::peek-returns-clause-after
+node::Node::peek-returns-clause-after g t c =
+    (peeked-done c.args.now c.self.inside c.args.self.now c.self.invariant c.self.view_is c.requires.ready (none-held c.self.inside.held c.if-is_some.ensures) c.ask-shown.new.self c.ask-shown.result (c.ask-shown.ensures.after c.self.inside.handle c.self.inside.filters.items) c.book_shown.new.row c.ask-shown.new.held
     (can-book c.args.now c.self.inside c.args.self.now c.self.invariant c.self.view_is c.requires.ready (none-held c.self.inside.held c.if-is_some.ensures) c.ask-shown.new.self c.ask-shown.result (c.ask-shown.ensures.after c.self.inside.handle c.self.inside.filters.items) (omega (arith, c.self.ranges)) (omega (arith, c.self.ranges)))
-    c.book_shown.ensures ((none-held c.self.inside.held c.if-is_some.ensures) ∙ holds-none c.ask-shown.new.self c.ask-shown.result.packet c.holds.result c.if-holds.false (c.holds.ensures c.ask-shown.result.packet))).stays
+    c.book_shown.ensures c.ask-shown.ensures.held).after
 
-pub node::Node::peek-returns-then-holds-clause-after :
-    goal.node::Node::peek-returns-then-holds-clause-after
-node::Node::peek-returns-then-holds-clause-after g t c =
-    (peeked-done c.args.now c.self.inside c.args.self.now c.self.invariant c.self.view_is c.requires.ready (none-held c.self.inside.held c.if-is_some.ensures) c.ask-shown.new.self c.ask-shown.result (c.ask-shown.ensures.after c.self.inside.handle c.self.inside.filters.items) c.book_shown.new.row c.ask-shown.result.packet
-    (can-book c.args.now c.self.inside c.args.self.now c.self.invariant c.self.view_is c.requires.ready (none-held c.self.inside.held c.if-is_some.ensures) c.ask-shown.new.self c.ask-shown.result (c.ask-shown.ensures.after c.self.inside.handle c.self.inside.filters.items) (omega (arith, c.self.ranges)) (omega (arith, c.self.ranges)))
-    c.book_shown.ensures (does-hold c.ask-shown.new.self c.ask-shown.result.packet c.holds.result c.if-holds.true (c.holds.ensures c.ask-shown.result.packet))).after
-
-pub node::Node::peek-returns-else-holds-clause-after :
-    goal.node::Node::peek-returns-else-holds-clause-after
-node::Node::peek-returns-else-holds-clause-after g t c =
-    (peeked-done c.args.now c.self.inside c.args.self.now c.self.invariant c.self.view_is c.requires.ready (none-held c.self.inside.held c.if-is_some.ensures) c.ask-shown.new.self c.ask-shown.result (c.ask-shown.ensures.after c.self.inside.handle c.self.inside.filters.items) c.book_shown.new.row c.self.inside.held
-    (can-book c.args.now c.self.inside c.args.self.now c.self.invariant c.self.view_is c.requires.ready (none-held c.self.inside.held c.if-is_some.ensures) c.ask-shown.new.self c.ask-shown.result (c.ask-shown.ensures.after c.self.inside.handle c.self.inside.filters.items) (omega (arith, c.self.ranges)) (omega (arith, c.self.ranges)))
-    c.book_shown.ensures ((none-held c.self.inside.held c.if-is_some.ensures) ∙ holds-none c.ask-shown.new.self c.ask-shown.result.packet c.holds.result c.if-holds.false (c.holds.ensures c.ask-shown.result.packet))).after
-
-pub node::Node::peek-returns-then-holds-clause-shown :
-    goal.node::Node::peek-returns-then-holds-clause-shown
-node::Node::peek-returns-then-holds-clause-shown g t c =
+pub node::Node::peek-returns-clause-shown :
+    goal.node::Node::peek-returns-clause-shown
+node::Node::peek-returns-clause-shown g t c =
     shown-here c.args.now c.self.inside c.args.self.now c.self.invariant c.self.view_is c.requires.ready (none-held c.self.inside.held c.if-is_some.ensures) c.ask-shown.new.self c.ask-shown.result (c.ask-shown.ensures.after c.self.inside.handle c.self.inside.filters.items)
 
-pub node::Node::peek-returns-then-holds-clause-lost :
-    goal.node::Node::peek-returns-then-holds-clause-lost
-node::Node::peek-returns-then-holds-clause-lost g t c =
+pub node::Node::peek-returns-clause-lost :
+    goal.node::Node::peek-returns-clause-lost
+node::Node::peek-returns-clause-lost g t c =
     (told-here c.args.now c.self.inside c.args.self.now c.self.invariant c.self.view_is c.requires.ready (none-held c.self.inside.held c.if-is_some.ensures) (g.S.Sink.losses c.args.sink.now) (g.S.Sink.losses c.ask-shown.new.sink) (g.S.Sink.room c.args.sink.now) (g.S.Sink.room c.ask-shown.new.sink) (c.ask-shown.ensures.told c.self.inside.handle c.self.inside.filters.items)).lost
 
-pub node::Node::peek-returns-then-holds-clause-room :
-    goal.node::Node::peek-returns-then-holds-clause-room
-node::Node::peek-returns-then-holds-clause-room g t c =
-    (told-here c.args.now c.self.inside c.args.self.now c.self.invariant c.self.view_is c.requires.ready (none-held c.self.inside.held c.if-is_some.ensures) (g.S.Sink.losses c.args.sink.now) (g.S.Sink.losses c.ask-shown.new.sink) (g.S.Sink.room c.args.sink.now) (g.S.Sink.room c.ask-shown.new.sink) (c.ask-shown.ensures.told c.self.inside.handle c.self.inside.filters.items)).room_taken
-
-pub node::Node::peek-returns-else-holds-clause-shown :
-    goal.node::Node::peek-returns-else-holds-clause-shown
-node::Node::peek-returns-else-holds-clause-shown g t c =
-    shown-here c.args.now c.self.inside c.args.self.now c.self.invariant c.self.view_is c.requires.ready (none-held c.self.inside.held c.if-is_some.ensures) c.ask-shown.new.self c.ask-shown.result (c.ask-shown.ensures.after c.self.inside.handle c.self.inside.filters.items)
-
-pub node::Node::peek-returns-else-holds-clause-lost :
-    goal.node::Node::peek-returns-else-holds-clause-lost
-node::Node::peek-returns-else-holds-clause-lost g t c =
-    (told-here c.args.now c.self.inside c.args.self.now c.self.invariant c.self.view_is c.requires.ready (none-held c.self.inside.held c.if-is_some.ensures) (g.S.Sink.losses c.args.sink.now) (g.S.Sink.losses c.ask-shown.new.sink) (g.S.Sink.room c.args.sink.now) (g.S.Sink.room c.ask-shown.new.sink) (c.ask-shown.ensures.told c.self.inside.handle c.self.inside.filters.items)).lost
-
-pub node::Node::peek-returns-else-holds-clause-room :
-    goal.node::Node::peek-returns-else-holds-clause-room
-node::Node::peek-returns-else-holds-clause-room g t c =
+pub node::Node::peek-returns-clause-room :
+    goal.node::Node::peek-returns-clause-room
+node::Node::peek-returns-clause-room g t c =
     (told-here c.args.now c.self.inside c.args.self.now c.self.invariant c.self.view_is c.requires.ready (none-held c.self.inside.held c.if-is_some.ensures) (g.S.Sink.losses c.args.sink.now) (g.S.Sink.losses c.ask-shown.new.sink) (g.S.Sink.room c.args.sink.now) (g.S.Sink.room c.ask-shown.new.sink) (c.ask-shown.ensures.told c.self.inside.handle c.self.inside.filters.items)).room_taken
 
 pub prio::ask_bands-loop-place-init : goal.prio::ask_bands-loop-place-init
@@ -428,30 +427,30 @@ prio::ask_bands-then-shown-requires-clause-marked_bytes g t c =
     (fits-beside c.args.now (slice_index_or c.loop-place.bands c.loop-place.place c.index-bands-place.result) c.loop-place.shown c.peek.result (g.S.Sink.room c.loop-place.sink)
     (band-once c.args.now c.args.bands.now c.loop-place.bands c.loop-place.place c.loop-place.shown c.requires.ready c.loop-place.invariant.0 (slice_index_or c.loop-place.bands c.loop-place.place c.index-bands-place.result) (band-at c.args.now c.args.bands.now c.loop-place.bands c.loop-place.place c.loop-place.shown c.loop-place.invariant.0 c.index-bands-place.result c.loop-place-test.true) (g.S.Sink.losses c.args.sink.now) (g.S.Sink.losses c.loop-place.sink) (g.S.Sink.room c.args.sink.now) (g.S.Sink.room c.loop-place.sink) c.loop-place.invariant.1 c.requires.sink) c.peek.ensures.shown).marked_bytes
 
-pub prio::ask_bands-returns-then-is_some-clause-after :
-    goal.prio::ask_bands-returns-then-is_some-clause-after
-prio::ask_bands-returns-then-is_some-clause-after g t c = λ own.
+pub prio::ask_bands-returns-then-has_packet-clause-after :
+    goal.prio::ask_bands-returns-then-has_packet-clause-after
+prio::ask_bands-returns-then-has_packet-clause-after g t c = λ own.
     band-shown c.args.now c.args.bands.now c.loop-place.bands c.loop-place.place c.loop-place.shown c.requires.ready c.loop-place.invariant.0 (slice_index_or c.loop-place.bands c.loop-place.place c.index-bands-place.result) (band-at c.args.now c.args.bands.now c.loop-place.bands c.loop-place.place c.loop-place.shown c.loop-place.invariant.0 c.index-bands-place.result c.loop-place-test.true) c.peek.new.self c.peek.result c.then-shown.result c.peek.ensures.after c.peek.ensures.arrived c.peek.ensures.shown
-    (ap (λ (s : Shown). s.dropped) c.then-shown.ensures) (ap (λ (s : Shown). s.marked) c.then-shown.ensures) (ap (λ (s : Shown). s.packet) c.then-shown.ensures) (sym c.if-is_some.ensures) own
+    (ap (λ (s : Shown). s.dropped) c.then-shown.ensures) (ap (λ (s : Shown). s.marked) c.then-shown.ensures) (ap (λ (s : Shown). s.packet) c.then-shown.ensures) (sym c.if-has_packet.ensures) own
 
-pub prio::ask_bands-returns-then-is_some-clause-told :
-    goal.prio::ask_bands-returns-then-is_some-clause-told
-prio::ask_bands-returns-then-is_some-clause-told g t c = λ own.
+pub prio::ask_bands-returns-then-has_packet-clause-told :
+    goal.prio::ask_bands-returns-then-has_packet-clause-told
+prio::ask_bands-returns-then-has_packet-clause-told g t c = λ own.
     subst (λ notes. IsToldOf notes (g.S.Sink.losses c.args.sink.now) (g.S.Sink.losses c.peek.new.sink) (g.S.Sink.room c.args.sink.now) (g.S.Sink.room c.peek.new.sink))
     (band-rises c.args.now c.args.bands.now c.loop-place.bands c.loop-place.place c.loop-place.shown c.requires.ready c.loop-place.invariant.0 (slice_index_or c.loop-place.bands c.loop-place.place c.index-bands-place.result) (band-at c.args.now c.args.bands.now c.loop-place.bands c.loop-place.place c.loop-place.shown c.loop-place.invariant.0 c.index-bands-place.result c.loop-place-test.true) c.peek.new.self c.peek.result c.then-shown.result c.peek.ensures.after c.peek.ensures.arrived c.peek.ensures.shown
-    (ap (λ (s : Shown). s.dropped) c.then-shown.ensures) (ap (λ (s : Shown). s.marked) c.then-shown.ensures) (ap (λ (s : Shown). s.packet) c.then-shown.ensures) (sym c.if-is_some.ensures) own)
+    (ap (λ (s : Shown). s.dropped) c.then-shown.ensures) (ap (λ (s : Shown). s.marked) c.then-shown.ensures) (ap (λ (s : Shown). s.packet) c.then-shown.ensures) (sym c.if-has_packet.ensures) own)
     (told-then (told_to c.loop-place.place (answers c.args.now c.args.bands.now)) (ask c.args.now (shape (slice_index_or c.loop-place.bands c.loop-place.place c.index-bands-place.result))).rises (g.S.Sink.losses c.args.sink.now) (g.S.Sink.losses c.loop-place.sink) (g.S.Sink.losses c.peek.new.sink)
     (g.S.Sink.room c.args.sink.now) (g.S.Sink.room c.loop-place.sink) (g.S.Sink.room c.peek.new.sink) c.loop-place.invariant.1 (record { lost = c.peek.ensures.lost; room_taken = c.peek.ensures.room }))
 
-pub prio::ask_bands-returns-then-is_some-clause-kept :
-    goal.prio::ask_bands-returns-then-is_some-clause-kept
-prio::ask_bands-returns-then-is_some-clause-kept g t c = g.met.S.Sink.keeps_on c.args.sink.now c.loop-place.sink c.peek.new.sink c.loop-place.invariant.2 c.peek.ensures.kept
+pub prio::ask_bands-returns-then-has_packet-clause-kept :
+    goal.prio::ask_bands-returns-then-has_packet-clause-kept
+prio::ask_bands-returns-then-has_packet-clause-kept g t c = g.met.S.Sink.keeps_on c.args.sink.now c.loop-place.sink c.peek.new.sink c.loop-place.invariant.2 c.peek.ensures.kept
 
 pub prio::ask_bands-loop-place-preserved : goal.prio::ask_bands-loop-place-preserved
 prio::ask_bands-loop-place-preserved g t c = (
   subst (λ n. AreBandsAsked c.args.now c.args.bands.now (set c.loop-place.bands c.loop-place.place c.peek.new.self) n c.then-shown.result) (sym (add-one c.loop-place.place))
       (band-passed c.args.now c.args.bands.now c.loop-place.bands c.loop-place.place c.loop-place.shown c.requires.ready c.loop-place.invariant.0 (slice_index_or c.loop-place.bands c.loop-place.place c.index-bands-place.result) (band-at c.args.now c.args.bands.now c.loop-place.bands c.loop-place.place c.loop-place.shown c.loop-place.invariant.0 c.index-bands-place.result c.loop-place-test.true) c.peek.new.self c.peek.result c.then-shown.result c.peek.ensures.after c.peek.ensures.arrived c.peek.ensures.shown
-      (ap (λ (s : Shown). s.dropped) c.then-shown.ensures) (ap (λ (s : Shown). s.marked) c.then-shown.ensures) (ap (λ (s : Shown). s.packet) c.then-shown.ensures) (sym c.if-is_some.ensures)),
+      (ap (λ (s : Shown). s.dropped) c.then-shown.ensures) (ap (λ (s : Shown). s.marked) c.then-shown.ensures) (ap (λ (s : Shown). s.packet) c.then-shown.ensures) (sym c.if-has_packet.ensures)),
   subst (λ n. IsToldOf (told_to n (answers c.args.now c.args.bands.now)) (g.S.Sink.losses c.args.sink.now) (g.S.Sink.losses c.peek.new.sink) (g.S.Sink.room c.args.sink.now) (g.S.Sink.room c.peek.new.sink)) (sym (add-one c.loop-place.place))
       (subst (λ notes. IsToldOf notes (g.S.Sink.losses c.args.sink.now) (g.S.Sink.losses c.peek.new.sink) (g.S.Sink.room c.args.sink.now) (g.S.Sink.room c.peek.new.sink))
       (band-told c.args.now c.args.bands.now c.loop-place.bands c.loop-place.place c.loop-place.shown c.requires.ready c.loop-place.invariant.0 (slice_index_or c.loop-place.bands c.loop-place.place c.index-bands-place.result) (band-at c.args.now c.args.bands.now c.loop-place.bands c.loop-place.place c.loop-place.shown c.loop-place.invariant.0 c.index-bands-place.result c.loop-place-test.true))
@@ -470,8 +469,19 @@ prio::ask_bands-returns-clause-told g t c = λ own.
 pub prio::ask_bands-returns-clause-kept : goal.prio::ask_bands-returns-clause-kept
 prio::ask_bands-returns-clause-kept g t c = c.loop-place.invariant.2
 
+pub tbf::ask_child-returns-in_default-clause-after :
+    goal.tbf::ask_child-returns-in_default-clause-after
+tbf::ask_child-returns-in_default-clause-after g t c = λ own limit.
+    tbf-none c.args.now own c.args.bucket.now limit c.args.child.now c.peek-shown.new.self c.peek-shown.result c.peek-shown.ensures.after c.peek-shown.ensures.arrived c.peek-shown.ensures.shown (c.packet_len.ensures.none c.in_default.is)
+
 pub tbf::ask_child-returns-clause-after : goal.tbf::ask_child-returns-clause-after
 tbf::ask_child-returns-clause-after g t c = λ own limit.
-    let shown = sym c.peek-shown.ensures.shown.packet ∙ c.in-Some.is in
-    tbf-gave c.args.now own c.args.bucket.now limit c.args.child.now c.peek-shown.new.self c.pop.new.self c.in-Some.packet (record { packet = c.pop.result; dropped = c.peek-shown.result.dropped; marked = c.peek-shown.result.marked })
-    c.requires.ready c.peek-shown.ensures.after shown (sym (ap (λ (p : Descriptor). allows c.args.bucket.now c.args.now p.len) c.packet.view_is) ∙ sym c.spend.ensures.answer ∙ c.if-not-spend.false) c.pop.ensures.after (c.pop.ensures.arrived ∙ c.peek-shown.ensures.arrived) c.pop.ensures.packet c.peek-shown.ensures.shown.dropped c.peek-shown.ensures.shown.marked
+    let offer = shown-len c.peek-shown.result.packet c.packet_len.result c.in-Some.len c.packet_len.ensures.some c.in-Some.is in
+    let shown = sym c.peek-shown.ensures.shown.packet ∙ offer.1 in
+    let given = hand-asked c.args.now c.args.child.now c.peek-shown.new.self c.requires.ready c.peek-shown.ensures.after in
+    tbf-gave c.args.now own c.args.bucket.now limit c.args.child.now c.peek-shown.new.self c.pop.new.self offer.0 c.peek-shown.result
+    c.requires.ready c.peek-shown.ensures.after shown (ap (allows c.args.bucket.now c.args.now) offer.2 ∙ sym c.spend.ensures.answer ∙ c.if-not-spend.false) c.pop.ensures.after (c.pop.ensures.arrived ∙ c.peek-shown.ensures.arrived) (c.peek-shown.ensures.shown.packet ∙ sym given) c.peek-shown.ensures.shown.dropped c.peek-shown.ensures.shown.marked
+
+pub tbf::ask_child-returns-clause-held : goal.tbf::ask_child-returns-clause-held
+tbf::ask_child-returns-clause-held g t c =
+    c.pop.ensures.packet ∙ hand-asked c.args.now c.args.child.now c.peek-shown.new.self c.requires.ready c.peek-shown.ensures.after ∙ sym c.peek-shown.ensures.shown.packet

@@ -1,4 +1,4 @@
-use Rattle.std.proofs.Common.{◌+◌, ◌*◌}
+use Rattle.std.proofs.Common.{◌≡◌, ◌+◌, ◌*◌, None}
 use Rattle.std.specs.List.{sum_by}
 use Rattle.q_drr.specs.Schedule.{quantum_of}
 use Rattle.q_drr.specs.Take.{need}
@@ -15,6 +15,7 @@ invariant-drr::serve-loop-class g l =
     AreClassesAsked l.fn.now l.fn.active l.active l.fn.classes l.classes l.unasked l.shown
     (record { losses = g.S.Sink.losses l.fn.sink; losses_now = g.S.Sink.losses l.sink; room = g.S.Sink.room l.fn.sink; room_now = g.S.Sink.room l.sink })
     × g.S.Sink.keeps l.fn.sink l.sink
+    × (l.held ≡ None)
 
 -- each grant lowers one class's need of grants by one
 abbrev pub decreases-drr::serve-loop-class : goal.decreases-drr::serve-loop-class

@@ -1,8 +1,9 @@
-use Rattle.std.proofs.Common.{arith}
+use Rattle.std.proofs.Common.{ap, arith}
+use Rattle.q_model.specs.declared.totals.Totals.{Totals}
 use Rattle.q_tree.proofs.booking.book_shown.Goals as goal
 
 pub sum-row-requires-clause-packets : goal.sum-row-requires-clause-packets
-sum-row-requires-clause-packets c = omega (arith, c.requires.balanced.packets, c.requires.room.packets, c.requires.room.arrived_packets)
+sum-row-requires-clause-packets c = omega (arith, c.requires.balanced.packets, c.requires.room.packets, c.requires.room.arrived_packets, ap (λ (t : Totals). t.packets) c.dropped.ensures)
 
 pub sum-row-requires-clause-bytes : goal.sum-row-requires-clause-bytes
-sum-row-requires-clause-bytes c = omega (arith, c.requires.balanced.bytes, c.requires.room.bytes, c.requires.room.arrived_bytes)
+sum-row-requires-clause-bytes c = omega (arith, c.requires.balanced.bytes, c.requires.room.bytes, c.requires.room.arrived_bytes, ap (λ (t : Totals). t.bytes) c.dropped.ensures)

@@ -9,8 +9,12 @@ use Rattle.q_model.specs.Work.{booked, settled_class}
 use Rattle.q_tree.specs.Kept.{Kept, kept}
 use Rattle.q_tree.proofs.drr.give.Goals as goal
 
-pub returns : goal.returns
-returns c = λ class at.
+pub returns-clause-packet : goal.returns-clause-packet
+returns-clause-packet c = λ class at.
+    c.pop-packet.ensures.packet ∙ ap (λ (n : spec.Node Kept). (pop n).shown) (get_or_from_slice_get c.args.classes.now c.args.place class c.index-classes-place.result at)
+
+pub returns-clause-given : goal.returns-clause-given
+returns-clause-given c = λ class at.
     let ns = c.args.classes.now in
     let i = c.args.place in
     let here : slice_index_or ns i c.index-classes-place.result ≡ class = get_or_from_slice_get ns i class c.index-classes-place.result at in

@@ -7,7 +7,7 @@ use Rattle.q_model.specs.declared.totals.Totals.{Totals}
 use Rattle.q_model.specs.Beneath as beneath
 use Rattle.q_model.specs.Beneath.{totals_in}
 use Rattle.q_tree.specs.Arrivals.{minus}
-use Rattle.q_tree.specs.declared.shown.Shown.{Shown}
+use Rattle.q_tree.specs.Shown.{Shown}
 use Rattle.q_tree.proofs.Rows.{same-totals}
 use Rattle.q_tree.proofs.TakeCounts.{counted-take, packet_of, marked_of, flow-shown, nothing-taken}
 use Rattle.q_tree.proofs.fq_codel.take_from_flows.Goals as goal
@@ -43,10 +43,10 @@ pub returns-clause-shown : goal.returns-clause-shown
 returns-clause-shown g c =
     let sent = sym c.take-taken.ensures.sent ∙ c.in-Some.is in
     let take = counted-take c.args.now c.args.queue.now.state in
-    flow-shown c.args.now c.args.queue.now.state (record { packet = Some c.in-Some.taken.packet; dropped = c.difference.result; marked = c.marked_by.result })
-    (sym (ap packet_of sent))
-    (c.difference.ensures ∙ same-totals (minus (record { packets = c.queued-packets.result.0 - c.queued-packets_after.result.0; bytes = c.queued-packets.result.1 - c.queued-packets_after.result.1 }) c.one_packet-one.result)
+    flow-shown c.args.now c.args.queue.now.state c.new.result
+    (ap (λ (s : Shown). s.packet) c.new.ensures ∙ sym (ap packet_of sent))
+    (ap (λ (s : Shown). s.dropped) c.new.ensures ∙ c.difference.ensures ∙ same-totals (minus (record { packets = c.queued-packets.result.0 - c.queued-packets_after.result.0; bytes = c.queued-packets.result.1 - c.queued-packets_after.result.1 }) c.one_packet-one.result)
     (totals_in (beneath.packets_of (dropped_from c.args.now (selected c.args.queue.now.state))))
     (omega (arith, take.packets, ap (λ o. length (option_to_list (packet_of o))) sent, c.queued-packets.ensures.packets, c.queued-packets_after.ensures.packets, ap (λ (s : FqState). packets_of s.flows) c.take-taken.ensures.after, ap (λ (t : Totals). t.packets) c.one_packet-one.ensures))
     (omega (arith, take.bytes, ap (λ o. (totals_in (option_to_list (packet_of o))).bytes) sent, sum_by-cons (λ (p : Descriptor). p.len) c.in-Some.taken.packet [], c.queued-packets.ensures.bytes, c.queued-packets_after.ensures.bytes, ap (λ (s : FqState). bytes_of s.flows) c.take-taken.ensures.after, ap (λ (t : Totals). t.bytes) c.one_packet-one.ensures)))
-    (c.marked_by.ensures ∙ sym (ap marked_of sent))
+    (ap (λ (s : Shown). s.marked) c.new.ensures ∙ c.marked_by.ensures ∙ sym (ap marked_of sent))

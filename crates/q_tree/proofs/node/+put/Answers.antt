@@ -25,7 +25,7 @@ Discipline::put_beneath-put-requires g t c κs within =
       (
         within,
         (
-          subst (CanPut c.args.now c.args.packet c.args.rest.now c.args.refusal) (sym same) c.requires.child.can,
+          subst (CanPut c.args.now c.args.packet.now c.args.rest.now c.args.refusal) (sym same) c.requires.child.can,
           omega (arith, c.requires.sink, ap (λ (n : Node Kept). length (beneath n)) same, child-packets (children_seen c.args.self.now) c.args.place c.requires.child.child c.requires.child.there),
         ),
       ),
@@ -35,22 +35,22 @@ pub Discipline::put_beneath-returns-in-Prio-clause-after :
     goal.Discipline::put_beneath-returns-in-Prio-clause-after
 Discipline::put_beneath-returns-in-Prio-clause-after g t c = λ child at.
     let e = c.put.ensures in
-    put-into c.args.now c.args.packet c.args.refusal c.args.rest.now c.args.place c.args.self.now (code.Prio c.in-Prio.priomap (with_item c.in-Prio.bands c.args.place c.put.new.self)) c.in-Prio.bands.items
+    put-into c.args.now c.args.packet.now c.args.refusal c.args.rest.now c.args.place c.args.self.now (code.Prio c.in-Prio.priomap (with_item c.in-Prio.bands c.args.place c.put.new.self)) c.in-Prio.bands.items
     c.index_mut.result.now c.put.new.self child c.put.result (ap children_seen c.in-Prio.is) c.index_mut.ensures.value at e.after e.arrived e.outcome
     refl (sym (ap places_seen c.in-Prio.is))
-    (sym (ap (λ d. settled_in c.args.place (is_empty (put_along c.args.now c.args.packet c.args.refusal c.args.rest.now (shape c.index_mut.result.now)).node) (discipline_seen d)) c.in-Prio.is))
+    (sym (ap (λ d. settled_in c.args.place (is_empty (put_along c.args.now c.args.packet.now c.args.refusal c.args.rest.now (shape c.index_mut.result.now)).node) (discipline_seen d)) c.in-Prio.is))
 
 pub Discipline::put_beneath-returns-in-Prio-clause-lost :
     goal.Discipline::put_beneath-returns-in-Prio-clause-lost
 Discipline::put_beneath-returns-in-Prio-clause-lost g t c = λ child at.
     let same = same-child c.in-Prio.bands.items c.args.place c.index_mut.result.now child c.index_mut.ensures.value (ap (λ xs. slice_get xs c.args.place) (sym (ap children_seen c.in-Prio.is)) ∙ at) in
-    c.put.ensures.lost ∙ ap (λ (n : Node Kept). g.S.Sink.losses c.args.sink.now ++ losses_in (put_along c.args.now c.args.packet c.args.refusal c.args.rest.now (shape n)).rises) same
+    c.put.ensures.lost ∙ ap (λ (n : Node Kept). g.S.Sink.losses c.args.sink.now ++ losses_in (put_along c.args.now c.args.packet.now c.args.refusal c.args.rest.now (shape n)).rises) same
 
 pub Discipline::put_beneath-returns-in-Prio-clause-room :
     goal.Discipline::put_beneath-returns-in-Prio-clause-room
 Discipline::put_beneath-returns-in-Prio-clause-room g t c = λ child at.
     let same = same-child c.in-Prio.bands.items c.args.place c.index_mut.result.now child c.index_mut.ensures.value (ap (λ xs. slice_get xs c.args.place) (sym (ap children_seen c.in-Prio.is)) ∙ at) in
-    omega (arith, c.put.ensures.room, ap (λ (n : Node Kept). length (losses_in (put_along c.args.now c.args.packet c.args.refusal c.args.rest.now (shape n)).rises)) same)
+    omega (arith, c.put.ensures.room, ap (λ (n : Node Kept). length (losses_in (put_along c.args.now c.args.packet.now c.args.refusal c.args.rest.now (shape n)).rises)) same)
 
 pub Discipline::put_beneath-index_mut-requires-in-Drr :
     goal.Discipline::put_beneath-index_mut-requires-in-Drr
@@ -66,7 +66,7 @@ Discipline::put_beneath-put-outcome-requires g t c κs within =
       (
         within,
         (
-          subst (CanPut c.args.now c.args.packet c.args.rest.now c.args.refusal) (sym same) c.requires.child.can,
+          subst (CanPut c.args.now c.args.packet.now c.args.rest.now c.args.refusal) (sym same) c.requires.child.can,
           omega (arith, c.requires.sink, ap (λ (n : Node Kept). length (beneath n)) same, child-packets (children_seen c.args.self.now) c.args.place c.requires.child.child c.requires.child.there),
         ),
       ),
@@ -82,39 +82,39 @@ Discipline::put_beneath-returns-in-Drr-clause-after g t c = λ child at.
     let e = c.put-outcome.ensures in
     let there = ap (λ xs. slice_get xs c.args.place) (sym (ap children_seen c.in-Drr.is)) ∙ c.requires.child.there in
     let same = same-child c.in-Drr.classes.items c.args.place c.index_mut-in-Drr.result.now c.requires.child.child c.index_mut-in-Drr.ensures.value there in
-    let can = subst (CanPut c.args.now c.args.packet c.args.rest.now c.args.refusal) (sym same) c.requires.child.can in
+    let can = subst (CanPut c.args.now c.args.packet.now c.args.rest.now c.args.refusal) (sym same) c.requires.child.can in
     let stored : c.index.result.now ≡ c.put-outcome.new.self =
     c.index.ensures ∙ get_or-set_same c.in-Drr.classes.items c.args.place c.put-outcome.new.self c.index.result.now (slice_get_within c.in-Drr.classes.items c.args.place c.requires.child.child there) in
-    let emptied = c.is_empty.ensures ∙ ap (λ (n : Node Kept). is_empty n) (stored ∙ e.after) ∙ is-empty-put c.args.now c.args.packet c.args.rest.now c.args.refusal c.index_mut-in-Drr.result.now can in
-    put-into c.args.now c.args.packet c.args.refusal c.args.rest.now c.args.place c.args.self.now (code.Drr c.settle.new.active (with_item c.in-Drr.classes c.args.place c.put-outcome.new.self)) c.in-Drr.classes.items
+    let emptied = c.is_empty.ensures ∙ ap (λ (n : Node Kept). is_empty n) (stored ∙ e.after) ∙ is-empty-put c.args.now c.args.packet.now c.args.rest.now c.args.refusal c.index_mut-in-Drr.result.now can in
+    put-into c.args.now c.args.packet.now c.args.refusal c.args.rest.now c.args.place c.args.self.now (code.Drr c.settle.new.active (with_item c.in-Drr.classes c.args.place c.put-outcome.new.self)) c.in-Drr.classes.items
     c.index_mut-in-Drr.result.now c.put-outcome.new.self child c.put-outcome.result (ap children_seen c.in-Drr.is) c.index_mut-in-Drr.ensures.value at e.after e.arrived e.outcome
     refl (sym (ap places_seen c.in-Drr.is))
     (ap spec.Drr (c.settle.ensures ∙ ap (λ b. settled_class c.args.place b c.in-Drr.active) emptied)
-    ∙ sym (ap (λ d. settled_in c.args.place (is_empty (put_along c.args.now c.args.packet c.args.refusal c.args.rest.now (shape c.index_mut-in-Drr.result.now)).node) (discipline_seen d)) c.in-Drr.is))
+    ∙ sym (ap (λ d. settled_in c.args.place (is_empty (put_along c.args.now c.args.packet.now c.args.refusal c.args.rest.now (shape c.index_mut-in-Drr.result.now)).node) (discipline_seen d)) c.in-Drr.is))
 
 pub Discipline::put_beneath-returns-in-Drr-clause-lost :
     goal.Discipline::put_beneath-returns-in-Drr-clause-lost
 Discipline::put_beneath-returns-in-Drr-clause-lost g t c = λ child at.
     let same = same-child c.in-Drr.classes.items c.args.place c.index_mut-in-Drr.result.now child c.index_mut-in-Drr.ensures.value (ap (λ xs. slice_get xs c.args.place) (sym (ap children_seen c.in-Drr.is)) ∙ at) in
-    c.put-outcome.ensures.lost ∙ ap (λ (n : Node Kept). g.S.Sink.losses c.args.sink.now ++ losses_in (put_along c.args.now c.args.packet c.args.refusal c.args.rest.now (shape n)).rises) same
+    c.put-outcome.ensures.lost ∙ ap (λ (n : Node Kept). g.S.Sink.losses c.args.sink.now ++ losses_in (put_along c.args.now c.args.packet.now c.args.refusal c.args.rest.now (shape n)).rises) same
 
 pub Discipline::put_beneath-returns-in-Drr-clause-room :
     goal.Discipline::put_beneath-returns-in-Drr-clause-room
 Discipline::put_beneath-returns-in-Drr-clause-room g t c = λ child at.
     let same = same-child c.in-Drr.classes.items c.args.place c.index_mut-in-Drr.result.now child c.index_mut-in-Drr.ensures.value (ap (λ xs. slice_get xs c.args.place) (sym (ap children_seen c.in-Drr.is)) ∙ at) in
-    omega (arith, c.put-outcome.ensures.room, ap (λ (n : Node Kept). length (losses_in (put_along c.args.now c.args.packet c.args.refusal c.args.rest.now (shape n)).rises)) same)
+    omega (arith, c.put-outcome.ensures.room, ap (λ (n : Node Kept). length (losses_in (put_along c.args.now c.args.packet.now c.args.refusal c.args.rest.now (shape n)).rises)) same)
 
 pub Node::put-put_here-outcome-requires-clause-can :
     goal.Node::put-put_here-outcome-requires-clause-can
-Node::put-put_here-outcome-requires-clause-can g t c = here-can c.args.now c.args.packet c.args.refusal c.self.inside c.args.self.now c.args.path.now c.self.invariant c.self.view_is c.requires.ready (nil_from_length c.args.path.now c.in_default.ensures.cases)
+Node::put-put_here-outcome-requires-clause-can g t c = here-can c.args.now c.args.packet.now c.args.refusal c.self.inside c.args.self.now c.args.path.now c.self.invariant c.self.view_is c.requires.ready (nil_from_length c.args.path.now c.in_default.ensures.cases)
 
 pub Node::put-book_arrival-requires-clause-lost : goal.Node::put-book_arrival-requires-clause-lost
-Node::put-book_arrival-requires-clause-lost g t c = here-lost c.args.now c.args.packet c.args.refusal c.self.inside c.args.self.now c.args.path.now c.self.invariant c.self.view_is c.requires.ready (nil_from_length c.args.path.now c.in_default.ensures.cases) c.put_here-outcome.new.self c.put_here-outcome.result c.put_here-outcome.ensures.after
+Node::put-book_arrival-requires-clause-lost g t c = here-lost c.args.now c.args.packet.now c.args.refusal c.self.inside c.args.self.now c.args.path.now c.self.invariant c.self.view_is c.requires.ready (nil_from_length c.args.path.now c.in_default.ensures.cases) c.put_here-outcome.new.self c.put_here-outcome.result c.put_here-outcome.ensures.after
 
 -- a node where the way has ended
 ended : (g : Over) (t : ℕ) (c : goal.the-here-Node::put-After-book_arrival g.row.S g.S.laws g.S.Sink g.S.Sink-dict g.world g.met.S.Sink t)
-    → IsDone c.args.now c.args.packet c.args.path.now c.args.refusal c.args.self.now (record c.self.inside { row = c.book_arrival.new.row; discipline = c.put_here-outcome.new.self }) c.put_here-outcome.result
-ended g t c = here-at c.args.now c.args.packet c.args.refusal c.self.inside c.args.self.now c.args.path.now c.self.invariant c.self.view_is c.requires.ready (nil_from_length c.args.path.now c.in_default.ensures.cases) c.put_here-outcome.new.self c.book_arrival.new.row c.put_here-outcome.result c.put_here-outcome.ensures.after c.book_arrival.ensures
+    → IsDone c.args.now c.args.packet.now c.args.path.now c.args.refusal c.args.self.now (record c.self.inside { row = c.book_arrival.new.row; discipline = c.put_here-outcome.new.self }) c.put_here-outcome.result
+ended g t c = here-at c.args.now c.args.packet.now c.args.refusal c.self.inside c.args.self.now c.args.path.now c.self.invariant c.self.view_is c.requires.ready (nil_from_length c.args.path.now c.in_default.ensures.cases) c.put_here-outcome.new.self c.book_arrival.new.row c.put_here-outcome.result c.put_here-outcome.ensures.after c.book_arrival.ensures
 
 pub Node::put-invariant_of-self : goal.Node::put-invariant_of-self
 Node::put-invariant_of-self g t c = (ended g t c).stays
@@ -128,10 +128,10 @@ Node::put-returns-in_default-clause-outcome g t c = (ended g t c).outcome
 pub Node::put-returns-in_default-clause-lost : goal.Node::put-returns-in_default-clause-lost
 Node::put-returns-in_default-clause-lost g t c =
     c.put_here-outcome.ensures.lost
-    ∙ ap (λ notes. g.S.Sink.losses c.args.sink.now ++ losses_in notes) (sym (here-rises c.args.now c.args.packet c.args.refusal c.self.inside c.args.self.now c.args.path.now c.self.invariant c.self.view_is c.requires.ready (nil_from_length c.args.path.now c.in_default.ensures.cases)))
+    ∙ ap (λ notes. g.S.Sink.losses c.args.sink.now ++ losses_in notes) (sym (here-rises c.args.now c.args.packet.now c.args.refusal c.self.inside c.args.self.now c.args.path.now c.self.invariant c.self.view_is c.requires.ready (nil_from_length c.args.path.now c.in_default.ensures.cases)))
 
 pub Node::put-returns-in_default-clause-room : goal.Node::put-returns-in_default-clause-room
-Node::put-returns-in_default-clause-room g t c = omega (arith, c.put_here-outcome.ensures.room, ap (λ notes. length (losses_in notes)) (here-rises c.args.now c.args.packet c.args.refusal c.self.inside c.args.self.now c.args.path.now c.self.invariant c.self.view_is c.requires.ready (nil_from_length c.args.path.now c.in_default.ensures.cases)))
+Node::put-returns-in_default-clause-room g t c = omega (arith, c.put_here-outcome.ensures.room, ap (λ notes. length (losses_in notes)) (here-rises c.args.now c.args.packet.now c.args.refusal c.self.inside c.args.self.now c.args.path.now c.self.invariant c.self.view_is c.requires.ready (nil_from_length c.args.path.now c.in_default.ensures.cases)))
 
 pub Node::put-put_beneath-outcome-requires : goal.Node::put-put_beneath-outcome-requires
 Node::put-put_beneath-outcome-requires g t c κs within = (
@@ -139,7 +139,7 @@ Node::put-put_beneath-outcome-requires g t c κs within = (
   (
     within,
     (
-      on-into c.args.now c.args.packet c.args.refusal c.self.inside c.args.self.now c.args.path.now c.self.invariant c.self.view_is c.requires.ready c.in-Some.field-0-0.now c.in-Some.rest.now c.in-Some.ensures.cases.0,
+      on-into c.args.now c.args.packet.now c.args.refusal c.self.inside c.args.self.now c.args.path.now c.self.invariant c.self.view_is c.requires.ready c.in-Some.field-0-0.now c.in-Some.rest.now c.in-Some.ensures.cases.0,
       omega (arith, c.requires.sink, all-packets c.self.inside c.args.self.now c.self.view_is),
     ),
   ),
@@ -147,12 +147,12 @@ Node::put-put_beneath-outcome-requires g t c κs within = (
 
 pub Node::put-book_arrival-requires-2-clause-lost :
     goal.Node::put-book_arrival-requires-2-clause-lost
-Node::put-book_arrival-requires-2-clause-lost g t c = on-lost c.args.now c.args.packet c.args.refusal c.self.inside c.args.self.now c.args.path.now c.self.invariant c.self.view_is c.requires.ready c.in-Some.field-0-0.now c.in-Some.rest.now c.in-Some.ensures.cases.0 c.put_beneath-outcome.new.self c.put_beneath-outcome.result c.put_beneath-outcome.ensures.after
+Node::put-book_arrival-requires-2-clause-lost g t c = on-lost c.args.now c.args.packet.now c.args.refusal c.self.inside c.args.self.now c.args.path.now c.self.invariant c.self.view_is c.requires.ready c.in-Some.field-0-0.now c.in-Some.rest.now c.in-Some.ensures.cases.0 c.put_beneath-outcome.new.self c.put_beneath-outcome.result c.put_beneath-outcome.ensures.after
 
 -- a node that the way has gone through
 passed : (g : Over) (t : ℕ) (c : goal.the-here-Node::put-After-book_arrival-2 g.row.S g.S.laws g.S.Sink g.S.Sink-dict g.world g.met.S.Sink t)
-    → IsDone c.args.now c.args.packet c.args.path.now c.args.refusal c.args.self.now (record c.self.inside { row = c.book_arrival-2.new.row; discipline = c.put_beneath-outcome.new.self }) c.put_beneath-outcome.result
-passed g t c = on-at c.args.now c.args.packet c.args.refusal c.self.inside c.args.self.now c.args.path.now c.self.invariant c.self.view_is c.requires.ready c.in-Some.field-0-0.now c.in-Some.rest.now c.in-Some.ensures.cases.0 c.put_beneath-outcome.new.self c.book_arrival-2.new.row c.put_beneath-outcome.result c.put_beneath-outcome.ensures.after c.book_arrival-2.ensures
+    → IsDone c.args.now c.args.packet.now c.args.path.now c.args.refusal c.args.self.now (record c.self.inside { row = c.book_arrival-2.new.row; discipline = c.put_beneath-outcome.new.self }) c.put_beneath-outcome.result
+passed g t c = on-at c.args.now c.args.packet.now c.args.refusal c.self.inside c.args.self.now c.args.path.now c.self.invariant c.self.view_is c.requires.ready c.in-Some.field-0-0.now c.in-Some.rest.now c.in-Some.ensures.cases.0 c.put_beneath-outcome.new.self c.book_arrival-2.new.row c.put_beneath-outcome.result c.put_beneath-outcome.ensures.after c.book_arrival-2.ensures
 
 pub Node::put-invariant_of-self-2 : goal.Node::put-invariant_of-self-2
 Node::put-invariant_of-self-2 g t c = (passed g t c).stays
@@ -165,10 +165,10 @@ Node::put-returns-clause-outcome g t c = (passed g t c).outcome
 
 pub Node::put-returns-clause-lost : goal.Node::put-returns-clause-lost
 Node::put-returns-clause-lost g t c =
-    let into = on-into c.args.now c.args.packet c.args.refusal c.self.inside c.args.self.now c.args.path.now c.self.invariant c.self.view_is c.requires.ready c.in-Some.field-0-0.now c.in-Some.rest.now c.in-Some.ensures.cases.0 in
-    c.put_beneath-outcome.ensures.lost into.child into.there ∙ ap (λ notes. g.S.Sink.losses c.args.sink.now ++ losses_in notes) (sym (on-rises c.args.now c.args.packet c.args.refusal c.self.inside c.args.self.now c.args.path.now c.self.invariant c.self.view_is c.requires.ready c.in-Some.field-0-0.now c.in-Some.rest.now c.in-Some.ensures.cases.0))
+    let into = on-into c.args.now c.args.packet.now c.args.refusal c.self.inside c.args.self.now c.args.path.now c.self.invariant c.self.view_is c.requires.ready c.in-Some.field-0-0.now c.in-Some.rest.now c.in-Some.ensures.cases.0 in
+    c.put_beneath-outcome.ensures.lost into.child into.there ∙ ap (λ notes. g.S.Sink.losses c.args.sink.now ++ losses_in notes) (sym (on-rises c.args.now c.args.packet.now c.args.refusal c.self.inside c.args.self.now c.args.path.now c.self.invariant c.self.view_is c.requires.ready c.in-Some.field-0-0.now c.in-Some.rest.now c.in-Some.ensures.cases.0))
 
 pub Node::put-returns-clause-room : goal.Node::put-returns-clause-room
 Node::put-returns-clause-room g t c =
-    let into = on-into c.args.now c.args.packet c.args.refusal c.self.inside c.args.self.now c.args.path.now c.self.invariant c.self.view_is c.requires.ready c.in-Some.field-0-0.now c.in-Some.rest.now c.in-Some.ensures.cases.0 in
-    omega (arith, c.put_beneath-outcome.ensures.room into.child into.there, ap (λ notes. length (losses_in notes)) (on-rises c.args.now c.args.packet c.args.refusal c.self.inside c.args.self.now c.args.path.now c.self.invariant c.self.view_is c.requires.ready c.in-Some.field-0-0.now c.in-Some.rest.now c.in-Some.ensures.cases.0))
+    let into = on-into c.args.now c.args.packet.now c.args.refusal c.self.inside c.args.self.now c.args.path.now c.self.invariant c.self.view_is c.requires.ready c.in-Some.field-0-0.now c.in-Some.rest.now c.in-Some.ensures.cases.0 in
+    omega (arith, c.put_beneath-outcome.ensures.room into.child into.there, ap (λ notes. length (losses_in notes)) (on-rises c.args.now c.args.packet.now c.args.refusal c.self.inside c.args.self.now c.args.path.now c.self.invariant c.self.view_is c.requires.ready c.in-Some.field-0-0.now c.in-Some.rest.now c.in-Some.ensures.cases.0))

@@ -1,5 +1,5 @@
 use Rattle.std.proofs.Common.{◌∙◌, sym, ap}
-use Rattle.std.specs.Prelude.{Option}
+use Rattle.std.specs.Prelude.{Option, Some, None, if◌then◌else◌}
 use Rattle.q_model.specs.Node.{shape}
 use Rattle.q_model.specs.Route.{Route}
 use Rattle.q_model.specs.TreeState.{put_on}
@@ -8,7 +8,7 @@ use Rattle.q_tree.specs.Kept.{kept}
 use Rattle.q_tree.proofs.TreePuts.{still}
 use Rattle.q_tree.proofs.tree.put_on.Goals as goal
 
-pub returns-in_default-clause-after : goal.returns-in_default-clause-after
-returns-in_default-clause-after g c =
+pub returns-then-route-clause-after : goal.returns-then-route-clause-after
+returns-then-route-clause-after g c =
     let root = c.args.root.now in
-    sym (still root) ∙ ap (λ (o : Option Route). booked kept root (put_on c.args.now c.args.packet o (shape root)).node) (sym (sym c.route.view_is ∙ c.in_default.is))
+    sym (still root) ∙ ap (λ (o : Option Route). booked kept root (put_on c.args.now c.args.packet.now o (shape root)).node) (sym (sym c.route.view_is ∙ ap (λ b. if b then None else Some c.route.inside.way) c.if-route.true))

@@ -13,15 +13,15 @@ put_in_flow-requires-clause-sink g c = omega (arith, c.requires.sink, flow-packe
 pub returns-in-FqCodel-clause-after : goal.returns-in-FqCodel-clause-after
 returns-in-FqCodel-clause-after g c =
     let e = c.put_in_flow.ensures in
-    queued-flow c.args.now c.args.packet c.args.refusal c.args.self.now c.in-FqCodel.queue c.put_in_flow.new.queue c.put_in_flow.result
+    queued-flow c.args.now c.args.packet.now c.args.refusal c.args.self.now c.in-FqCodel.queue c.put_in_flow.new.queue c.put_in_flow.result
     c.in_default.is c.in-FqCodel.is e.after e.places e.loss e.refused e.dropped
 
 pub returns-in-FqCodel-clause-lost : goal.returns-in-FqCodel-clause-lost
 returns-in-FqCodel-clause-lost g c =
     c.put_in_flow.ensures.lost
-    ∙ ap (λ ls. g.S.Sink.losses c.args.sink.now ++ ls) (sym (told-here c.args.now c.args.packet c.args.refusal c.args.self.now c.in-FqCodel.queue c.in_default.is c.in-FqCodel.is))
+    ∙ ap (λ ls. g.S.Sink.losses c.args.sink.now ++ ls) (sym (told-here c.args.now c.args.packet.now c.args.refusal c.args.self.now c.in-FqCodel.queue c.in_default.is c.in-FqCodel.is))
 
 pub returns-in-FqCodel-clause-room : goal.returns-in-FqCodel-clause-room
 returns-in-FqCodel-clause-room g c =
-    let told = told-here c.args.now c.args.packet c.args.refusal c.args.self.now c.in-FqCodel.queue c.in_default.is c.in-FqCodel.is in
-    omega (arith, c.put_in_flow.ensures.room, ap length told, length-map {B = Loss} (lost_by_put c.in-FqCodel.queue.state c.args.packet c.args.now) (λ (s : Stamped). record { packet = s.packet; cause = FatFlow }))
+    let told = told-here c.args.now c.args.packet.now c.args.refusal c.args.self.now c.in-FqCodel.queue c.in_default.is c.in-FqCodel.is in
+    omega (arith, c.put_in_flow.ensures.room, ap length told, length-map {B = Loss} (lost_by_put c.in-FqCodel.queue.state c.args.packet.now c.args.now) (λ (s : Stamped). record { packet = s.packet; cause = FatFlow }))

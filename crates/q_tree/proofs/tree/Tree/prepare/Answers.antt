@@ -1,5 +1,5 @@
 use Rattle.std.proofs.Common.{◌∙◌, List, ℕ, sym, ap, subst}
-use Rattle.std.specs.Prelude.{IsSome}
+use Rattle.std.specs.Prelude.{IsSome, Some, None, if◌then◌else◌}
 use Rattle.q_model.specs.Find.{node_at}
 use Rattle.q_model.specs.Route.{device_route}
 use Rattle.q_model.specs.Step.{DeviceState}
@@ -10,7 +10,7 @@ use Rattle.q_tree.proofs.tree.Tree.prepare.Goals as goal
 
 pub prepare-requires : goal.prepare-requires
 prepare-requires c =
-    let way = route-leads c.args.route.now c.in-Some.way (tree_seen c.self.inside) (sym c.route.view_is ∙ c.in-Some.is) (subst (λ (d : DeviceState Kept). IsRouteIn c.args.route.now d) (sym c.self.view_is) c.requires) in
+    let way = route-leads c.args.route.now c.route.inside.way (tree_seen c.self.inside) (sym c.route.view_is ∙ ap (λ b. if b then None else Some c.route.inside.way) c.if-route.false) (subst (λ (d : DeviceState Kept). IsRouteIn c.args.route.now d) (sym c.self.view_is) c.requires) in
     subst (λ (path : List ℕ). IsSome (node_at path c.self.inside.root)) (sym c.places.ensures) way
 
 pub invariant_of-self : goal.invariant_of-self

@@ -33,15 +33,15 @@ invariant_of-self g c =
     let later : c.self.inside.clock ≤ c.args.now = omega (arith, e, c.requires.order) in
     let low : c.args.now ≤ 2 ^ 62 = omega (arith, c.ns.ensures.in_range, c.ns.ensures.value) in
     let shown = c.peek-shown.ensures.shown in
-    none-kept c.self.inside c.self.invariant c.args.now later low c.peek-shown.result shown c.peek-shown.new.self c.peek-shown.ensures.after (can-book-top c.self.inside c.self.invariant c.args.now later low c.peek-shown.result shown c.peek-shown.new.self c.peek-shown.ensures.after (omega (arith, c.self.ranges)) (omega (arith, c.self.ranges))) c.book_shown.new.row c.book_shown.ensures (none-held c.peek-shown.result.packet (sym c.if-is_none.ensures)) (record c.self.inside { clock = c.args.now; top = c.book_shown.new.row; root = c.peek-shown.new.self }) refl c.peek-shown.ensures.arrived
+    none-kept c.self.inside c.self.invariant c.args.now later low c.peek-shown.result shown c.peek-shown.new.self c.peek-shown.ensures.after (can-book-top c.self.inside c.self.invariant c.args.now later low c.peek-shown.result shown c.peek-shown.new.self c.peek-shown.ensures.after (omega (arith, c.self.ranges)) (omega (arith, c.self.ranges))) c.book_shown.new.row c.book_shown.ensures (none-held c.peek-shown.result.packet (sym c.if-not-has_packet.true ∙ c.has_packet.ensures)) (record c.self.inside { clock = c.args.now; top = c.book_shown.new.row; root = c.peek-shown.new.self }) refl c.peek-shown.ensures.arrived
 
-pub returns-then-is_none-clause-after : goal.returns-then-is_none-clause-after
-returns-then-is_none-clause-after g c =
+pub returns-then-not-has_packet-clause-after : goal.returns-then-not-has_packet-clause-after
+returns-then-not-has_packet-clause-after g c =
     let e = ap (λ (d : DeviceState Kept). d.clock) c.self.view_is in
     let later : c.self.inside.clock ≤ c.args.now = omega (arith, e, c.requires.order) in
     let low : c.args.now ≤ 2 ^ 62 = omega (arith, c.ns.ensures.in_range, c.ns.ensures.value) in
     let shown = c.peek-shown.ensures.shown in
-    none-taken c.self.inside c.self.invariant c.args.now later low c.peek-shown.result shown c.peek-shown.new.self c.peek-shown.ensures.after (can-book-top c.self.inside c.self.invariant c.args.now later low c.peek-shown.result shown c.peek-shown.new.self c.peek-shown.ensures.after (omega (arith, c.self.ranges)) (omega (arith, c.self.ranges))) c.book_shown.new.row c.book_shown.ensures (none-held c.peek-shown.result.packet (sym c.if-is_none.ensures)) (record c.self.inside { clock = c.args.now; top = c.book_shown.new.row; root = c.peek-shown.new.self }) refl
+    none-taken c.self.inside c.self.invariant c.args.now later low c.peek-shown.result shown c.peek-shown.new.self c.peek-shown.ensures.after (can-book-top c.self.inside c.self.invariant c.args.now later low c.peek-shown.result shown c.peek-shown.new.self c.peek-shown.ensures.after (omega (arith, c.self.ranges)) (omega (arith, c.self.ranges))) c.book_shown.new.row c.book_shown.ensures (none-held c.peek-shown.result.packet (sym c.if-not-has_packet.true ∙ c.has_packet.ensures)) (record c.self.inside { clock = c.args.now; top = c.book_shown.new.row; root = c.peek-shown.new.self }) refl
     ∙ ap (λ (d : DeviceState Kept). record { clock = c.args.now; tree = take_packet kept c.args.now d.tree }) c.self.view_is
 
 pub book_sent-requires-clause-balanced : goal.book_sent-requires-clause-balanced
@@ -102,7 +102,7 @@ unreachable-requires g c =
     let low : c.args.now ≤ 2 ^ 62 = omega (arith, c.ns.ensures.in_range, c.ns.ensures.value) in
     let shown = c.peek-shown.ensures.shown in
     let nothing : c.peek-shown.result.packet ≡ None = sym (gives-shown c.self.inside c.self.invariant c.args.now later low c.peek-shown.result shown c.peek-shown.new.self c.peek-shown.ensures.after) ∙ sym c.pop.ensures.packet ∙ c.in_default.is in
-    false≢true (sym (ap is_some nothing) ∙ c.if-is_none.ensures)
+    false≢true (sym (ap is_some nothing) ∙ sym c.has_packet.ensures ∙ c.if-not-has_packet.false)
 
 pub returns-clause-packet : goal.returns-clause-packet
 returns-clause-packet g c =
