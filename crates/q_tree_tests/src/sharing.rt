@@ -93,15 +93,15 @@ fn classes_send_as_their_quanta(rt: HostRuntime) -> Result<(), Fail> {
     Ok(())
 }
 
-// Another quantum begins another stretch. At 100 the first class has five grants, and uses the deficit of 1000 that it had; the
-// second has five, the last of which it has not used.
+// Another quantum begins another stretch. At 100 the first class has five grants and a deficit of 1000, of which 500 are left; the
+// second has five of its own.
 #[test]
 fn a_class_sends_as_its_new_quantum(rt: HostRuntime) -> Result<(), Fail> {
     let mut script = two_classes(rt.alloc())?;
     script.polls(rt.alloc(), 6)?;
     script.tc(Ask::ChangeClass(1, 1, 100))?;
     let [first, second] = script.polls(rt.alloc(), 7)?;
-    if [first, second] != [5 * 100 + 1000, 5 * 500 - 500] {
+    if [first, second] != [5 * 100 + 1000 - 500, 5 * 500] {
         return Err(Fail::new(format_args!("{first}, {second}")));
     }
     Ok(())
