@@ -65,6 +65,7 @@ fn headed(words: &Words, verb: QdiscVerb, head: HeadDraft) -> Result<Line, LineF
 }
 
 /// Behind a kind: its options, or nothing where the line removes a qdisc.
+#[inline(always)]
 fn kind_line(
     words: &mut Words,
     verb: QdiscVerb,

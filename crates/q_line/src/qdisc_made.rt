@@ -10,7 +10,6 @@ use q_model::{Command, Kind};
 use q_words::LineFault;
 
 /// The line that adds or changes a qdisc of this kind, where its head is whole.
-#[inline(always)]
 pub fn qdisc_made(
     words: &Words,
     verb: QdiscVerb,
