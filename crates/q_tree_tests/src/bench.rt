@@ -151,8 +151,8 @@ pub enum Call {
     Losses(u64),
 }
 
-// Makes room for every packet that may be lost, and one more.
-fn make_room(tree: &Tree, losses: &mut Losses) -> Result<(), Fail>
+/// Makes room for every packet that may be lost, and one more.
+pub fn make_room(tree: &Tree, losses: &mut Losses) -> Result<(), Fail>
     ensures { OnOk result (length (beneath tree.now.tree.root) + 1 ≤ losses.new.places - length losses.new.waiting) }
 {
     let row = tree.totals();
@@ -173,7 +173,7 @@ fn later(tree: &Tree, now: Moment) -> Moment
 #[derive(Drop)]
 pub struct Bench {
     pub tree: Tree,
-    losses: Losses,
+    pub losses: Losses,
     // The moment of the calls to come.
     now: Moment,
     every_packet: Filter,

@@ -27,4 +27,6 @@ mod tree_commands;
 #[cfg(test)]
 mod tree_filters;
 #[cfg(test)]
+mod tree_refusals;
+#[cfg(test)]
 mod tree_views;

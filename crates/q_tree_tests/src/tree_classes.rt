@@ -172,13 +172,19 @@ fn classes_are_shown_in_the_order_in_which_they_came(rt: HostRuntime) -> Result<
             Call::Graft(Spot::Root, 1, New::Drr, None),
             Call::AddClass(1, 5, 0, None),
             Call::AddClass(1, 3, 0, None),
+            Call::AddClass(1, 4, 0, None),
             Call::Shown(1, Spot::Class(1, 5), 0),
             Call::Shown(2, Spot::Class(1, 3), 0),
+            Call::Shown(3, Spot::Class(1, 4), 0),
+            Call::DelClass(1, 3, None),
             Call::DelClass(1, 5, None),
+            Call::Shown(1, Spot::Class(1, 4), 0),
             Call::AddClass(1, 5, 0, None),
-            Call::Shown(1, Spot::Class(1, 3), 0),
+            Call::AddClass(1, 3, 0, None),
+            Call::Shown(1, Spot::Class(1, 4), 0),
             Call::Shown(2, Spot::Class(1, 5), 0),
-            Call::Nodes(3),
+            Call::Shown(3, Spot::Class(1, 3), 0),
+            Call::Nodes(4),
         ],
     )
 }
@@ -251,6 +257,8 @@ fn a_node_has_at_most_256_filters(rt: HostRuntime) -> Result<(), Fail> {
     bench.play(
         rt.alloc(),
         &[
+            // The class is not there either.
+            Call::Match(1, 3, 1, Some(Refusal::NoClass)),
             Call::Match(1, 1, 1, Some(Refusal::TooMany)),
             Call::Unfilter(1, None),
             Call::Match(1, 1, 1, None),

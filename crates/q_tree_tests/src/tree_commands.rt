@@ -122,6 +122,17 @@ fn the_least_free_handle_is_given(rt: HostRuntime) -> Result<(), Fail> {
             Call::Shown(1, Spot::Class(0x8002, 1), 0),
             Call::Graft(Spot::Class(0x8002, 4), 0, New::Pfifo, None),
             Call::Shown(4, Spot::Class(0x8002, 4), 0x8001),
+            // A handle that a line names is free again too.
+            Call::Graft(
+                Spot::Class(0x8002, 1),
+                0x8003,
+                New::Drr,
+                Some(Refusal::HandleTaken),
+            ),
+            Call::Prune(0x8003, None),
+            Call::Graft(Spot::Class(0x8002, 1), 0x8003, New::Drr, None),
+            Call::Shown(1, Spot::Class(0x8002, 1), 0x8003),
+            Call::Shown(2, Spot::Class(0x8002, 2), 0),
         ],
     )
 }
