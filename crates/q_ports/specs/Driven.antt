@@ -1,26 +1,34 @@
 -- What driving does: a sender for each port offers its load, while the drain takes turns.
 -- Nothing here is of a standard.
-use Rattle.std.specs.Prelude.{◌≡◌, ℕ, ◌<◌, ◌^◌, List, [], length, map, sum_by, get_or, Vec}
-use mathlib.Core.List.{IsPrefix}
+use Rattle.std.specs.Prelude.{◌≡◌, ℕ, ◌<◌, ◌≤◌, ◌^◌, List, [], length, map, sum_by, get_or, vec_capacity, IfOk, IfErr, Vec}
 use Rattle.std.specs.declared.alloc.Global.{Global}
-use Rattle.core.specs.declared.thread.PromisedHandle.{PromisedHandle}
 use Rattle.q_packet.specs.Descriptor.{Descriptor}
 use Rattle.q_model.specs.declared.totals.Totals.{Totals}
-use Rattle.q_ports.specs.declared.sender.Sends.{Sends}
+use Rattle.q_ports.specs.declared.room.Room.{Room}
 use Rattle.q_ports.specs.declared.sender.Sent.{Sent}
+use Rattle.q_ports.specs.declared.started.Started.{Started}
 use Rattle.q_ports.specs.Offered.{Offered}
-use Rattle.q_ports.specs.Placed.{PortSeen, placed_by, ring_of_port, share_of}
-use Rattle.q_ports.specs.Rings.{RingSeen, ring_id}
+use Rattle.q_ports.specs.Placed.{PortSeen, placed_by, share_of}
 
-abbrev pub promised_port : PromisedHandle Sent Sends → PortSeen
-promised_port h = h.promise.port.value
+abbrev pub promised_port : Started → PortSeen
+promised_port s = s.promise.port.value
 
 -- the packets of a load
 abbrev pub packets_of : Vec Descriptor Global → List Descriptor
 packets_of load = load.items
 
-abbrev pub promised_load : PromisedHandle Sent Sends → List Descriptor
-promised_load h = packets_of h.promise.load.value
+abbrev pub promised_load : Started → List Descriptor
+promised_load s = packets_of s.promise.load.value
+
+-- the sender's thread has promised that much, or what is handed back without a thread keeps it
+abbrev pub HasKept : Started → Type 0
+HasKept s =
+    IfOk s.work (λ h. (h.promise.port.value ≡ promised_port s) × (packets_of h.promise.load.value ≡ promised_load s))
+    × IfErr s.work (λ r. Offered (promised_port s) (promised_load s) r.port r.given_up)
+
+-- there is room for so many senders, and nothing in it
+abbrev pub IsRoomFor : ℕ → Room → Type 0
+IsRoomFor count r = (r.started.items ≡ []) × (count ≤ vec_capacity r.started) × (r.sent.items ≡ []) × (count ≤ vec_capacity r.sent)
 
 abbrev pub port_in : Sent → PortSeen
 port_in s = s.port
@@ -54,11 +62,3 @@ pub record OfferedSome (before : PortSeen) (load : List Descriptor) (after : Por
 -- so it was with each port that came back, in the order of the ports
 abbrev pub AreBack : List PortSeen → List (List Descriptor) → List PortSeen → Type 0
 AreBack before loads back = (k : ℕ) (p : PortSeen) → k < length back → OfferedSome (get_or before k p) (get_or loads k []) (get_or back k p)
-
--- the ports are those of the first rings, in their order
-abbrev pub AreFirst : List RingSeen → List PortSeen → Type 0
-AreFirst rings ports = IsPrefix (map ring_of_port ports) (map ring_id rings)
-
--- where no port is gone, the ports are those of the rings, as settling wants them
-abbrev pub MaySettle : List RingSeen → List PortSeen → Type 0
-MaySettle rings ports = length ports ≡ length rings → map ring_of_port ports ≡ map ring_id rings

@@ -1,6 +1,5 @@
-ghost use Rattle.std.specs.Prelude.{◌≡◌, ◌≤◌, ◌<◌, ◌+◌, ◌*◌, ◌^◌, min, [], length, map, true, sum_by, vec_capacity, IfOk, IfErr, IfSome};
-ghost use mathlib.Core.List.{IsPrefix};
-ghost use Rattle.q_ports.specs.Driven.{packets_of, port_in, promised_load, promised_port, rest_of, AllOffered, AreBack, AreFirst, HasDriven, MaySettle};
+ghost use Rattle.std.specs.Prelude.{◌≡◌, ◌≤◌, ◌<◌, ◌+◌, ◌*◌, ◌^◌, min, [], length, map, sum_by, vec_capacity, All, IfOk, IfErr};
+ghost use Rattle.q_ports.specs.Driven.{packets_of, port_in, promised_load, promised_port, rest_of, AllOffered, AreBack, Drove, HasDriven, HasKept, IsRoomFor};
 ghost use Rattle.q_ports.specs.Offered.{Offered};
 ghost use Rattle.q_ports.specs.Placed.{ring_of_port};
 ghost use Rattle.q_ports.specs.Rings.{ring_id};
@@ -8,28 +7,27 @@ ghost use Rattle.q_ports.specs.Rings.{ring_id};
 use crate::booked::Booked;
 use crate::drain::Drain;
 use crate::driven::Driven;
+use crate::ended::Ended;
 use crate::gate::Gate;
 use crate::intake::Intake;
 use crate::pace::Pace;
 use crate::port::Port;
 use crate::publisher::Publisher;
-use crate::sender::{Sends, Sent, send};
+use crate::room::Room;
+use crate::sender::{Sends, Sent, keep, send};
+use crate::started::Started;
 use crate::turn::turn_parts;
 use crate::unsettled::Unsettled;
 use q_packet::{Moment, Packet};
 use std::alloc::{AllocError, Global};
 use std::snapshot::Snapshot;
-use std::sync::atomic::{AtomicU64, Ordering};
 use std::sync::ledger::Ledger;
 use std::sync::{Mutex, Wait};
 use std::thread;
-use std::thread::{PromisedHandle, Scope, Threads};
+use std::thread::{Scope, Threads};
 
 /// The most packets that a turn of `drive` takes.
 const MOST: usize = 64;
-
-/// A sender that runs.
-type Running = PromisedHandle<Sent, Sends>;
 
 /// Drives a device: a thread for each port offers its load in order, each packet at most `tries` times, while the caller's thread
 /// takes turns of up to 64 packets, turn k at `start` and k times `step` nanoseconds or at the latest moment, until all senders have
@@ -40,8 +38,8 @@ type Running = PromisedHandle<Sent, Sends>;
 ///
 /// # Errors
 ///
-/// `settle`'s, for want of memory; or the drain with the ports of the senders that ran, where a thread could not be started: what
-/// was placed and taken stays so, and the other ports are gone.
+/// The drain and all its ports: as of `settle`, for want of memory; or where a thread could not be started, whose sender has then
+/// offered nothing. What was placed and taken stays so, and `settle` may follow.
 pub fn drive<
     P: Ledger + Send + Sync,
     B: Ledger + Send + Sync,
@@ -64,23 +62,21 @@ pub fn drive<
     requires loads { length loads.items ≡ length ports.items }
     ensures driven { IfOk result (λ d. HasDriven ports.items (map packets_of loads.items) d.settled d.given_up) }
     ensures rings { IfErr result (λ u. map ring_id u.drain.rings ≡ map ring_id drain.rings) }
-    ensures first { IfErr result (λ u. AreFirst u.drain.rings u.ports.items) }
-    ensures again { IfErr result (λ u. MaySettle u.drain.rings u.ports.items) }
+    ensures again { IfErr result (λ u. map ring_of_port u.ports.items ≡ map ring_id u.drain.rings) }
     ensures back { IfErr result (λ u. AreBack ports.items (map packets_of loads.items) u.ports.items) }
 {
     let Drain {
         intake,
         mut publisher,
     } = drain;
-    let count = ports.len();
-    let Ok((room, mut back)) = rooms(alloc, count) else {
+    let Ok((room, mut back)) = rooms(alloc, ports.len()) else {
         return Err(Unsettled {
             drain: Drain { intake, publisher },
             ports,
         });
     };
     let pace = Pace { start, step };
-    let (intake, sent) = run(
+    let (intake, sent, all_ran) = run(
         rt,
         alloc,
         booked,
@@ -95,7 +91,7 @@ pub fn drive<
     );
     let drain = Drain { intake, publisher };
     let given_up = give_back(sent, &mut back);
-    if back.len() < count {
+    if !all_ran {
         return Err(Unsettled { drain, ports: back });
     }
     match drain.settle(rt, booked, back, start) {
@@ -104,17 +100,18 @@ pub fn drive<
     }
 }
 
-// Room for what so many senders hand back, and for their ports.
-fn rooms(alloc: Global, count: usize) -> Result<(Vec<Sent>, Vec<Port>), AllocError>
-    ensures empty { IfOk result (λ r. (r.0.items ≡ []) × (r.1.items ≡ [])) }
-    ensures room { IfOk result (λ r. (count ≤ vec_capacity r.0) × (count ≤ vec_capacity r.1)) }
+// Room for so many senders and what they hand back, and for their ports.
+fn rooms(alloc: Global, count: usize) -> Result<(Room, Vec<Port>), AllocError>
+    ensures senders { IfOk result (λ r. IsRoomFor count r.0) }
+    ensures ports { IfOk result (λ r. (r.1.items ≡ []) × (count ≤ vec_capacity r.1)) }
 {
-    let room = Vec::with_capacity(alloc, count)?;
+    let started = Vec::with_capacity(alloc, count)?;
+    let sent = Vec::with_capacity(alloc, count)?;
     let back = Vec::with_capacity(alloc, count)?;
-    Ok((room, back))
+    Ok((Room { started, sent }, back))
 }
 
-// Runs a sender for each port, up to the first that cannot be started, while the drain takes turns.
+// Runs a sender for each port while the drain takes turns; and whether there was a thread for each.
 fn run<P: Ledger + Send + Sync, B: Ledger + Send + Sync, G: Gate + Sync, R: Threads + Wait + Sync>(
     rt: &R,
     alloc: Global,
@@ -123,35 +120,34 @@ fn run<P: Ledger + Send + Sync, B: Ledger + Send + Sync, G: Gate + Sync, R: Thre
     publisher: &mut Publisher,
     ports: Vec<Port>,
     loads: Vec<Vec<Packet>>,
-    room: Vec<Sent>,
+    room: Room,
     gate: &G,
     pace: Pace,
     tries: u64,
-) -> (Intake<P, B>, Vec<Sent>)
+) -> (Intake<P, B>, Vec<Sent>, bool)
     requires loads { length loads.items ≡ length ports.items }
-    requires room { (room.items ≡ []) × (length ports.items ≤ vec_capacity room) }
+    requires room { IsRoomFor (length ports.items) room }
     ensures rings { map ring_id result.0 ≡ map ring_id intake }
-    ensures few { length result.1.items ≤ length ports.items }
-    ensures each { AllOffered ports.items (map packets_of loads.items) result.1.items }
+    ensures drove { Drove ports.items (map packets_of loads.items) result.1.items }
 {
-    let count = AtomicU64::new(0);
-    let ended = &count;
-    thread::scope(
+    let all_ended = Ended::new();
+    let ended = &all_ended;
+    let (intake, sent) = thread::scope(
         thread::scope_env(),
         rt,
         move |scope| -> (Intake<P, B>, Vec<Sent>)
             requires loads { length loads.items ≡ length ports.items }
-            requires room { (room.items ≡ []) × (length ports.items ≤ vec_capacity room) }
+            requires room { IsRoomFor (length ports.items) room }
             ensures rings { map ring_id result.0 ≡ map ring_id intake }
-            ensures few { length result.1.items ≤ length ports.items }
-            ensures each { AllOffered ports.items (map packets_of loads.items) result.1.items }
+            ensures drove { Drove ports.items (map packets_of loads.items) result.1.items }
         {
             in_scope(
                 scope, rt, alloc, booked, intake, publisher, ports, loads, room, gate, ended, pace,
                 tries,
             )
         },
-    )
+    );
+    (intake, sent, !all_ended.was_refused())
 }
 
 // Takes the ports back, and answers how many packets were given up.
@@ -168,73 +164,123 @@ fn give_back(sent: Vec<Sent>, back: &mut Vec<Port>) -> u64
     given_up
 }
 
-// Starts a sender in a thread of its own.
+// What a sender of this port and this load promises.
+fn promise(port: &Port, load: &Vec<Packet>) -> Sends
+    ensures port { result.port.value ≡ port.now }
+    ensures load { result.load.value ≡ load.now }
+{
+    Sends {
+        port: Snapshot::of(port),
+        load: Snapshot::of(load),
+    }
+}
+
+// Starts a sender in a thread of its own. Where there is none, it offers nothing.
 fn start<'s, E, G: Gate + Sync>(
     scope: &Scope<'s, E>,
     port: Port,
     load: Vec<Packet>,
     gate: &'s G,
-    ended: &'s AtomicU64,
+    ended: &'s Ended,
     tries: u64,
-) -> Result<Running, AllocError>
-    ensures { IfOk result (λ h. (h.promise.port.value ≡ port) × (h.promise.load.value ≡ load)) }
+) -> Started
+    ensures port { promised_port result ≡ port }
+    ensures load { promised_load result ≡ load.items }
+    ensures kept { HasKept result }
 {
-    let promise = Sends {
-        port: Snapshot::of(&port),
-        load: Snapshot::of(&load),
-    };
+    let promised = promise(&port, &load);
+    let of_thread = promise(&port, &load);
+    let index = port.index();
     let job = move || -> Sent
         ensures { Offered port load.items result.port result.given_up }
     {
-        let sent = send(port, load, gate, tries);
-        ended.fetch_add(1, Ordering::SeqCst);
+        let sent = send_unless_refused(port, load, gate, ended, tries);
+        ended.add();
         sent
     };
-    match scope.spawn_with(promise, job) {
-        Ok(running) => Ok(running),
-        Err(_refused) => Err(AllocError),
+    match scope.spawn_with(of_thread, job) {
+        Ok(thread) => Started {
+            promise: promised,
+            work: Ok(thread),
+        },
+        Err(refused) => {
+            ended.refuse(index);
+            Started {
+                promise: promised,
+                work: Err((refused.value)()),
+            }
+        }
     }
 }
 
-// Starts a sender for each port, in order, up to the first that cannot be started.
+// Offers a load at a port, or nothing where the sender got no thread.
+fn send_unless_refused<G: Gate>(
+    port: Port,
+    load: Vec<Packet>,
+    gate: &G,
+    ended: &Ended,
+    tries: u64,
+) -> Sent
+    ensures { Offered port load.items result.port result.given_up }
+{
+    if ended.is_refused(port.index()) {
+        return keep(port, load);
+    }
+    send(port, load, gate, tries)
+}
+
+// Starts a sender for each port, in order.
 fn start_all<'s, E, G: Gate + Sync>(
     scope: &Scope<'s, E>,
-    alloc: Global,
     ports: Vec<Port>,
     loads: Vec<Vec<Packet>>,
+    room: Vec<Started>,
     gate: &'s G,
-    ended: &'s AtomicU64,
+    ended: &'s Ended,
     tries: u64,
-) -> Vec<Running>
-    requires { length loads.items ≡ length ports.items }
-    ensures ports { IsPrefix (map promised_port result.items) ports.items }
-    ensures loads { IsPrefix (map promised_load result.items) (map packets_of loads.items) }
+) -> Vec<Started>
+    requires loads { length loads.items ≡ length ports.items }
+    requires room { (room.items ≡ []) × (length ports.items ≤ vec_capacity room) }
+    ensures ports { map promised_port result.items ≡ ports.items }
+    ensures loads { map promised_load result.items ≡ map packets_of loads.items }
+    ensures kept { All HasKept result.items }
 {
-    let Ok(mut running) = Vec::with_capacity(alloc, ports.len()) else {
-        return Vec::new(alloc);
-    };
+    let mut started = room;
     let mut loads = loads.into_iter();
     for port in ports {
         let Some(load) = loads.next() else {
             unreachable!()
         };
-        match start(scope, port, load, gate, ended, tries) {
-            Ok(sender) => running.push_reserved(sender),
-            Err(_) => return running,
-        }
+        started.push_reserved(start(scope, port, load, gate, ended, tries));
     }
-    running
+    started
+}
+
+// What a sender hands back, once it has ended.
+fn join<R: Threads>(rt: &R, sender: Started) -> Sent
+    requires { HasKept sender }
+    ensures { Offered (promised_port sender) (promised_load sender) result.port result.given_up }
+{
+    let Started {
+        promise: _promise,
+        work,
+    } = sender;
+    match work {
+        Ok(thread) => thread.join(rt),
+        Err(sent) => sent,
+    }
 }
 
 // What the senders hand back, once each has ended.
-fn join_all<R: Threads>(rt: &R, running: Vec<Running>, room: Vec<Sent>) -> Vec<Sent>
-    requires { (room.items ≡ []) × (length running.items ≤ vec_capacity room) }
-    ensures count { length result.items ≡ length running.items }
-    ensures each { AllOffered (map promised_port running.items) (map promised_load running.items) result.items }
+fn join_all<R: Threads>(rt: &R, started: Vec<Started>, room: Vec<Sent>) -> Vec<Sent>
+    requires kept { All HasKept started.items }
+    requires room { (room.items ≡ []) × (length started.items ≤ vec_capacity room) }
+    ensures count { length result.items ≡ length started.items }
+    ensures each { AllOffered (map promised_port started.items) (map promised_load started.items) result.items }
 {
     let mut sent = room;
-    for sender in running {
-        sent.push_reserved(sender.join(rt));
+    for sender in started {
+        sent.push_reserved(join(rt, sender));
     }
     sent
 }
@@ -246,7 +292,7 @@ fn take_turns<P: Ledger, B: Ledger, R: Wait>(
     booked: &Mutex<Booked<P, B>>,
     intake: &mut Intake<P, B>,
     publisher: &mut Publisher,
-    ended: &AtomicU64,
+    ended: &Ended,
     senders: u64,
     pace: Pace,
 )
@@ -256,7 +302,7 @@ fn take_turns<P: Ledger, B: Ledger, R: Wait>(
     let step = pace.step;
     let mut nth = 0u64;
     for _turn in rt.forever() {
-        if ended.load(Ordering::SeqCst) >= senders {
+        if ended.count() >= senders {
             return;
         }
         turn_at(
@@ -318,21 +364,21 @@ fn in_scope<'s, E, P: Ledger, B: Ledger, G: Gate + Sync, R: Threads + Wait>(
     publisher: &mut Publisher,
     ports: Vec<Port>,
     loads: Vec<Vec<Packet>>,
-    room: Vec<Sent>,
+    room: Room,
     gate: &'s G,
-    ended: &'s AtomicU64,
+    ended: &'s Ended,
     pace: Pace,
     tries: u64,
 ) -> (Intake<P, B>, Vec<Sent>)
     requires loads { length loads.items ≡ length ports.items }
-    requires room { (room.items ≡ []) × (length ports.items ≤ vec_capacity room) }
+    requires room { IsRoomFor (length ports.items) room }
     ensures rings { map ring_id result.0 ≡ map ring_id intake }
-    ensures few { length result.1.items ≤ length ports.items }
-    ensures each { AllOffered ports.items (map packets_of loads.items) result.1.items }
+    ensures drove { Drove ports.items (map packets_of loads.items) result.1.items }
 {
     let mut intake = intake;
-    let running = start_all(scope, alloc, ports, loads, gate, ended, tries);
-    let senders = running.len() as u64;
+    let Room { started, sent } = room;
+    let started = start_all(scope, ports, loads, started, gate, ended, tries);
+    let senders = started.len() as u64;
     take_turns(
         rt,
         alloc,
@@ -343,6 +389,6 @@ fn in_scope<'s, E, P: Ledger, B: Ledger, G: Gate + Sync, R: Threads + Wait>(
         senders,
         pace,
     );
-    let sent = join_all(rt, running, room);
+    let sent = join_all(rt, started, sent);
     (intake, sent)
 }

@@ -43,6 +43,17 @@ pub(crate) fn send<G: Gate>(port: Port, load: Vec<Packet>, gate: &G, tries: u64)
     Sent { port, given_up }
 }
 
+/// Offers nothing: the port as it is, and the whole load is given up.
+pub(crate) fn keep(port: Port, load: Vec<Packet>) -> Sent
+    ensures port { result.port ≡ port }
+    ensures offered { Offered port load.items result.port result.given_up }
+{
+    Sent {
+        port,
+        given_up: load.len() as u64,
+    }
+}
+
 // Offers a packet, and answers how many were given up: none where it was placed, else one.
 fn offer_one<G: Gate>(port: &mut Port, packet: Packet, gate: &G, nth: u64, tries: u64) -> u64
     ensures offered { OffersOne port.old packet port.new result }
