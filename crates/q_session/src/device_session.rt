@@ -74,6 +74,13 @@ impl DeviceSession {
         })
     }
 
+    /// The device, when its script has ended.
+    pub fn into_device(self) -> Device
+        ensures { result.device ≡ self.state.device }
+    {
+        self.device
+    }
+
     /// A packet arrives. It takes its number also where there is no memory for it.
     fn arrive(&mut self, number: u64, arrival: Arrival, output: &mut Output)
         requires few { self.old.state.packets + 1 < 2 ^ 32 }
@@ -140,7 +147,7 @@ impl DeviceSession {
     }
 
     /// A command, which the device does or refuses.
-    fn command(&mut self, number: u64, command: Command, output: &mut Output)
+    pub fn command(&mut self, number: u64, command: Command, output: &mut Output)
         requires { HasRoom output.old most_step }
         ensures { (starved : Bool)
             × (self.new ≡ (seen self.old (commanded totals starved number command self.old.state)).session)
@@ -177,7 +184,7 @@ impl DeviceSession {
     }
 
     /// Each qdisc, class or filter, from the root down.
-    fn show<W: Write>(
+    pub fn show<W: Write>(
         &self,
         show: Show,
         output: &mut Output,
@@ -196,7 +203,7 @@ impl DeviceSession {
     }
 
     /// A line with a fault.
-    fn fault(&mut self, number: u64, fault: LineFault, output: &mut Output)
+    pub fn fault(&mut self, number: u64, fault: LineFault, output: &mut Output)
         requires { HasRoom output.old most_step }
         ensures after { self.new ≡ record self.old { state = record self.old.state { refused = true } } }
         ensures text { output.new ≡ output.old ++ fault_line number fault }

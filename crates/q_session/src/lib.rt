@@ -10,7 +10,7 @@
 //! - [`DeviceSession`] is the [`Session`](q_script::Session) of `q_script` that runs each line over a `Device` of `q_device`:
 //!   arrivals, polls, commands, show texts, losses and counters, as the report of `q_report` says.
 //! - [`show_qdiscs`], [`show_classes`] and [`show_filters`] write what tc's show lines print of a `Tree` of `q_tree`, and
-//!   [`ShowFault`] is why they did not.
+//!   [`ShowFault`] is why they did not. [`put_show`] puts such a text into an `Output` of `q_script`.
 //!
 //! `specs/Session.antt` says what a line does to a session, by `q_report`'s definitions with totals; `proofs/Reported.antt` that
 //! the report over totals is the one over whole histories.
@@ -27,3 +27,4 @@ mod text;
 pub use device_session::DeviceSession;
 pub use show::{show_classes, show_filters, show_qdiscs};
 pub use show_fault::ShowFault;
+pub use showing::put_show;

@@ -1,0 +1,4 @@
+pub mod Accounts
+pub mod LoadLemmas
+pub mod Reporting
+pub mod SetUpLemmas

@@ -1,0 +1,18 @@
+-- The most bytes of the lines at the end, each the sum of the most that stands in it.
+use Rattle.std.specs.Prelude.{ℕ, ◌+◌}
+use Rattle.q_show.specs.Lengths.{most_decimal}
+
+-- `Pp Bb`, and the end of the line
+abbrev pub most_amount : ℕ
+most_amount = most_decimal + 2 + most_decimal + 1 + 1
+
+-- `settled ` or `arrived `
+abbrev pub most_amount_line : ℕ
+most_amount_line = 8 + most_amount
+
+-- `given up `
+abbrev pub most_given_up : ℕ
+most_given_up = 9 + most_decimal + 1
+
+abbrev pub most_driven : ℕ
+most_driven = most_amount_line + most_amount_line + most_given_up

@@ -1,0 +1,41 @@
+-- What a whole drive writes: what standard input came to, and then what the senders did.
+use Rattle.std.specs.Prelude.{◌≡◌, List, ℕ, ◌++◌, if◌then◌else◌, Option, None, Some, IfSome}
+use Rattle.std.specs.Io.KnownBytes.{Appends}
+use Rattle.q_script.specs.Step.{Effect, run_of}
+use Rattle.q_script.specs.declared.outcome.Outcome.{Outcome}
+use Rattle.q_script.specs.declared.outcome.Outcome.TheVariants.{Clean, Refused}
+use Rattle.q_session.specs.Session.{SessionSeen, opened}
+use Rattle.q_show.specs.Written.{AppendsFront}
+use Rattle.q_drive.specs.Drive.{Drive}
+use Rattle.q_drive.specs.Driven.{HasDriven}
+use Rattle.q_drive.specs.SetUp.{effect_of}
+use Rattle.q_drive.specs.Texts.{ending_text}
+use Rattle.q_drive.specs.declared.driven.Driven.{Driven}
+
+-- what the lines of standard input do to a new device, where memory is refused at these lines
+abbrev pub set_up : Drive → List ℕ → List ℕ → Effect SessionSeen
+set_up s script starved = run_of effect_of starved script (opened s.device)
+
+-- all that is written, where the senders come to this, or to nothing for want of memory
+abbrev pub report : Drive → List ℕ → List ℕ → Option Driven → List ℕ
+report s script starved driven = (set_up s script starved).text ++ ending_text driven
+
+-- Refused where a line was faulty or turned down, or memory was refused to the senders
+abbrev pub outcome : Drive → List ℕ → List ℕ → Option Driven → Outcome
+outcome s script starved None = Refused
+outcome s script starved (Some d) = if (set_up s script starved).session.state.refused then Refused else Clean
+
+-- The writer has the report and nothing else, memory having been refused at some lines or none, and the outcome is the report's.
+pub record IsDriven (s : Drive) (script : List ℕ) (told : Outcome) (old new : Option (List ℕ)) : Type 0 where
+  pub starved : List ℕ
+  pub driven : Option Driven
+  pub has_driven : IfSome driven (HasDriven s)
+  pub text : Appends old new (report s script starved driven)
+  pub outcome_is : told ≡ outcome s script starved driven
+
+-- the writer has a front of such a report, and some of the report is not written
+pub record IsPartlyDriven (s : Drive) (script : List ℕ) (old new : Option (List ℕ)) : Type 0 where
+  pub starved : List ℕ
+  pub driven : Option Driven
+  pub has_driven : IfSome driven (HasDriven s)
+  pub text : AppendsFront old new (report s script starved driven)

@@ -1,0 +1,96 @@
+ghost use Rattle.std.specs.Prelude.{◌≡◌, IfSome};
+ghost use Rattle.q_drive.specs.Driven.{HasDriven};
+ghost use Rattle.q_model.specs.Tally.{no_totals};
+
+use crate::driven::Driven;
+use crate::free_gate::FreeGate;
+use crate::loads::loads;
+use crate::settings::DriveSettings;
+use q_device::Device;
+use q_packet::Moment;
+use q_ports::laws::settled;
+use q_ports::{Booked, Settled, Unsettled, drive, open_ports};
+use std::alloc::Global;
+use std::marker::Brand;
+use std::sync::ledger::{Blank, Ledger};
+use std::sync::{Mutex, Wait};
+use std::thread::Threads;
+
+/// How many parts the right to let packets in has.
+const PARTS: u64 = 65;
+
+/// How often a packet is offered.
+const TRIES: u64 = 1_000_000_000;
+
+/// The nanoseconds between two turns.
+const STEP: u64 = 1000;
+
+/// Lets the senders run over a device at which nothing has arrived. `None` where memory is refused, or a thread could not be
+/// started.
+pub fn drive_device<R: Threads + Wait + Sync>(
+    rt: &R,
+    alloc: Global,
+    device: Device,
+    settings: &DriveSettings,
+) -> Option<Driven>
+    requires { device.device.tree.top.arrived ≡ no_totals }
+    ensures { IfSome result (HasDriven settings.now) }
+{
+    let (packets, bytes) = (Blank::new(PARTS), Blank::new(PARTS));
+    drive_booked::<Brand, Brand, R>(rt, alloc, device, settings, packets, bytes)
+}
+
+/// The same, with the ledgers of the book in hand.
+fn drive_booked<P: Ledger + Send + Sync, B: Ledger + Send + Sync, R: Threads + Wait + Sync>(
+    rt: &R,
+    alloc: Global,
+    device: Device,
+    settings: &DriveSettings,
+    packets: Blank,
+    bytes: Blank,
+) -> Option<Driven>
+    requires nothing { device.device.tree.top.arrived ≡ no_totals }
+    requires packets { (packets.name ≡ P.name) × (packets.parts ≡ P.parts) × (P.parts ≡ 65) }
+    requires bytes { (bytes.name ≡ B.name) × (bytes.parts ≡ B.parts) × (B.parts ≡ 65) }
+    ensures { IfSome result (HasDriven settings.now) }
+{
+    settings.ranges();
+    let Ok(loads) = loads(alloc, settings) else {
+        return None;
+    };
+    let (booked, seat) = Booked::<P, B>::new(device, packets, bytes);
+    let (count, ring) = (settings.senders(), settings.ring());
+    let Ok((drain, ports, _gauges)) = open_ports(rt, alloc, seat, count, ring, 0) else {
+        return None;
+    };
+    let lock = Mutex::new(booked);
+    let start = Moment::zero();
+    match drive(
+        rt, alloc, &lock, drain, ports, loads, &FreeGate, start, STEP, TRIES,
+    ) {
+        Ok(driven) => Some(ended(lock.into_inner(), driven.settled, driven.given_up)),
+        Err(Unsettled {
+            drain,
+            ports: _ports,
+        }) => {
+            drain.end(rt);
+            None
+        }
+    }
+}
+
+/// What a drive came to that has settled: the share is what has arrived at the device.
+fn ended<P: Ledger, B: Ledger>(booked: Booked<P, B>, share: Settled<P, B>, given_up: u64) -> Driven
+    requires { (P.parts ≡ 65) × (B.parts ≡ 65) }
+    ensures settled { result.settled ≡ share }
+    ensures given_up { result.given_up ≡ given_up }
+    ensures arrived { result.arrived ≡ share }
+{
+    let (mut booked, mut share) = (booked, share);
+    let settled = settled(&mut booked, &mut share);
+    Driven {
+        settled,
+        arrived: booked.totals().arrived,
+        given_up,
+    }
+}

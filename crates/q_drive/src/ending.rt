@@ -1,0 +1,110 @@
+//! What a drive writes at its end.
+ghost use Rattle.std.specs.Prelude.{◌≡◌, ◌++◌, [], OnOk, OnErr, IfErr};
+ghost use Rattle.std.specs.Io.KnownBytes.{Appends};
+ghost use Rattle.q_script.specs.Lengths.{HasRoom};
+ghost use Rattle.q_show.specs.Lengths.{GrowsBy};
+ghost use Rattle.q_show.specs.Writes.{MayWrite, WriteFailed};
+ghost use Rattle.q_show.specs.Written.{AppendsFront};
+ghost use Rattle.q_drive.specs.Lengths.{most_amount, most_amount_line, most_driven, most_given_up};
+ghost use Rattle.q_drive.specs.Texts.{amount_text, arrived_line, driven_text, ending_text, given_up_line, memory_line, settled_line};
+
+use crate::driven::Driven;
+use q_device::{Refusal, Totals};
+use q_script::Output;
+use q_show::{Target, WriteFault};
+use std::io::Write;
+
+/// Writes what the senders came to; or that memory was refused to them.
+pub fn write_ending<W: Write>(
+    driven: Option<Driven>,
+    output: &mut Output,
+    target: &mut Target<'_, W>,
+) -> Result<(), WriteFault>
+    requires empty { output.old ≡ [] }
+    requires going { MayWrite target.old.writes }
+    ensures same_writer { target.new.writer.ghost_name ≡ target.old.writer.ghost_name }
+    ensures ok { OnOk result (Appends (W.contents target.old.writer.now) (W.contents target.new.writer.now) (ending_text driven)) }
+    ensures err { OnErr result (AppendsFront (W.contents target.old.writer.now) (W.contents target.new.writer.now) (ending_text driven)) }
+    ensures going { OnOk result (MayWrite target.new.writes) }
+    ensures failed { IfErr result (λ fault. WriteFailed target.new.writes fault.kind) }
+{
+    put_ending(driven, output);
+    output.flush(target)
+}
+
+/// What the senders came to; or that memory was refused to them.
+fn put_ending(driven: Option<Driven>, output: &mut Output)
+    requires { HasRoom output.old most_driven }
+    ensures { output.new ≡ output.old ++ ending_text driven }
+{
+    match driven {
+        Some(driven) => put_driven(driven, output),
+        None => put_memory(output),
+    }
+}
+
+/// The three lines: the settled share, what the device counts as arrived, and how many packets were given up.
+fn put_driven(driven: Driven, output: &mut Output)
+    requires { HasRoom output.old most_driven }
+    ensures { output.new ≡ output.old ++ driven_text driven }
+{
+    put_settled(output, driven.settled);
+    put_arrived(output, driven.arrived);
+    put_given_up(output, driven.given_up);
+}
+
+/// Packets and bytes, and the end of the line.
+fn put_amount(output: &mut Output, amount: Totals)
+    requires { HasRoom output.old most_amount }
+    ensures text { output.new ≡ output.old ++ amount_text amount }
+    ensures short { GrowsBy output.old output.new most_amount }
+{
+    output.put_number(amount.packets);
+    output.put(b"p ");
+    output.put_number(amount.bytes);
+    output.put(b"b");
+    output.put(b"\n");
+}
+
+/// The line on the settled share.
+fn put_settled(output: &mut Output, settled: Totals)
+    requires { HasRoom output.old most_amount_line }
+    ensures text { output.new ≡ output.old ++ settled_line settled }
+    ensures short { GrowsBy output.old output.new most_amount_line }
+{
+    output.put(b"settled ");
+    put_amount(output, settled);
+}
+
+/// The line on what has arrived at the device.
+fn put_arrived(output: &mut Output, arrived: Totals)
+    requires { HasRoom output.old most_amount_line }
+    ensures text { output.new ≡ output.old ++ arrived_line arrived }
+    ensures short { GrowsBy output.old output.new most_amount_line }
+{
+    output.put(b"arrived ");
+    put_amount(output, arrived);
+}
+
+/// The line on the packets that were given up.
+fn put_given_up(output: &mut Output, given_up: u64)
+    requires { HasRoom output.old most_given_up }
+    ensures { output.new ≡ output.old ++ given_up_line given_up }
+{
+    output.put(b"given up ");
+    output.put_number(given_up);
+    output.put(b"\n");
+}
+
+/// The line on memory that was refused.
+fn put_memory(output: &mut Output)
+    requires { HasRoom output.old most_driven }
+    ensures { output.new ≡ output.old ++ memory_line }
+{
+    let refusal = Refusal::Memory;
+    output.put(b"refused ");
+    output.put_number(u64::from(refusal.number()));
+    output.put(b" ");
+    output.put(refusal.name().as_bytes());
+    output.put(b"\n");
+}

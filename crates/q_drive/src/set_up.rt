@@ -1,0 +1,93 @@
+ghost use Rattle.std.specs.Prelude.{◌≡◌, IfOk, IsOk};
+ghost use Rattle.q_drive.specs.SetUp.{IsUnused};
+ghost use Rattle.q_session.specs.Session.{opened};
+
+use crate::set_up_line::{SetUpLine, read_set_up_line};
+use q_device::Device;
+use q_script::{Output, RunSettings, Session};
+use q_session::DeviceSession;
+use q_show::{Target, WriteFault};
+use std::alloc::{AllocError, Global};
+use std::io::Write;
+use std::marker::Model;
+
+/// The session in which tc's lines set up the device, before the senders run. Nothing arrives in it, which the type keeps.
+#[derive(Drop)]
+pub struct SetUp {
+    session: DeviceSession,
+}
+
+impl Model for SetUp {
+    ghost use Rattle.q_drive.specs.SetUp.{IsUnused};
+    ghost use Rattle.q_session.specs.Session.{SessionSeen};
+    ghost use Rattle.q_session.specs.SessionCode.{session_code};
+
+    ghost Value = { SessionSeen };
+
+    ghost coded = { session_code };
+
+    ghost view = { λ s. s.session };
+
+    ghost invariant = { λ s. IsUnused s.session };
+}
+
+impl SetUp {
+    /// A new device with these settings.
+    ///
+    /// # Errors
+    ///
+    /// `AllocError` where memory for the recorder is refused.
+    pub fn open(alloc: Global, settings: &RunSettings) -> Result<SetUp, AllocError>
+        ensures new { IfOk result (λ s. s ≡ opened settings.now) }
+        ensures succeeds { settings.now.recorder ≡ 0 → IsOk result }
+    {
+        Ok(SetUp {
+            session: DeviceSession::open(alloc, settings)?,
+        })
+    }
+
+    /// The device, when its lines were run.
+    pub fn into_device(self) -> Device
+        ensures device { result.device ≡ self.state.device }
+        ensures unused { IsUnused self }
+    {
+        self.session.into_device()
+    }
+}
+
+impl Session for SetUp {
+    ghost use Rattle.q_drive.specs.SetUp.{effect_of};
+
+    ghost effect = { effect_of };
+
+    ghost packets = { λ s. 0 };
+
+    ghost refused = { λ s. s.state.refused };
+
+    fn run_line<W: Write>(
+        &mut self,
+        number: u64,
+        line: &[u8],
+        output: &mut Output,
+        target: &mut Target<'_, W>,
+    ) -> Result<(), WriteFault> {
+        match read_set_up_line(line) {
+            Ok(SetUpLine::Blank) => Ok(()),
+            Ok(SetUpLine::Show(show)) => self.session.show(show, output, target),
+            Ok(SetUpLine::Tc(command)) => {
+                output.make_room(target)?;
+                self.session.command(number, command, output);
+                Ok(())
+            }
+            Err(fault) => {
+                output.make_room(target)?;
+                self.session.fault(number, fault, output);
+                Ok(())
+            }
+        }
+    }
+
+    fn is_refused(&self) -> bool {
+        self.session.is_refused()
+    }
+}
