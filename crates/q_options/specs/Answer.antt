@@ -3,12 +3,15 @@
 use Rattle.std.specs.Prelude.{◌≡◌, ◌≢◌, ℕ, ◌⊎◌, List, [], ◌∷◌, ◌++◌, Option, Some, None, IfSome, codes}
 use Rattle.std.specs.Io.KnownBytes.{Appends, Keeps}
 use Rattle.std.specs.declared.io.ErrorKind.{ErrorKind}
+use Rattle.q_drive.specs.Drive.{Drive}
+use Rattle.q_drive.specs.Reported.{IsDriven, IsPartlyDriven}
 use Rattle.q_options.specs.declared.fault.Fault.{Fault}
 use Rattle.q_options.specs.declared.fault.Fault.TheVariants.{Argument, Help, Run}
 use Rattle.q_script.specs.declared.run_fault.RunFault.{RunFault}
 use Rattle.q_script.specs.declared.run_fault.RunFault.TheVariants.{Read, TooLong, Write, Memory}
 use Rattle.q_script.specs.RunFault.{fault_kind, fault_text}
 use Rattle.q_script.specs.Settings.{Settings}
+use Rattle.q_script.specs.declared.outcome.Outcome.{Outcome}
 use Rattle.q_script.specs.declared.outcome.Outcome.TheVariants.{Clean, Refused}
 use Rattle.q_session.specs.Reported.{IsPartlyReported, IsReported}
 use Rattle.q_show.specs.Written.{AppendsFront}
@@ -38,21 +41,32 @@ abbrev pub IsTold : Fault → Option (List ℕ) → Option (List ℕ) → Type 0
 IsTold fault old new = (words : List ℕ) × (Appends old new (line_with fault words) ⊎ AppendsFront old new (line_with fault words))
 
 -- what the output has after a fault: a front of a report where that could not be written, else nothing new
-abbrev pub Leaves : Settings → RunFault → Option (List ℕ) → Option (List ℕ) → Option (List ℕ) → Type 0
-Leaves settings (Read kind) script old new = Keeps old new
-Leaves settings TooLong script old new = Keeps old new
-Leaves settings (Write kind) script old new = IfSome script (λ all. IsPartlyReported settings all old new)
-Leaves settings Memory script old new = Keeps old new
+abbrev pub Leaves : (List ℕ → Type 0) → RunFault → Option (List ℕ) → Option (List ℕ) → Option (List ℕ) → Type 0
+Leaves partly (Read kind) script old new = Keeps old new
+Leaves partly TooLong script old new = Keeps old new
+Leaves partly (Write kind) script old new = IfSome script partly
+Leaves partly Memory script old new = Keeps old new
 
--- a script was read: what the output and the error output had before and have now, and the status
-pub record IsPlayed (settings : Settings) (script old new errors_old errors_new : Option (List ℕ)) (status : ℕ) : Type 0 where
-  -- the whole report, in which no line had a fault or was refused
-  pub clean : status ≡ 0 → IfSome script (λ all. IsReported settings all Clean old new)
-  -- the whole report, in which some line had a fault or was refused
-  pub refused : status ≡ 1 → IfSome script (λ all. IsReported settings all Refused old new)
+-- Standard input was read: what the output and the error output had before and have now, and the status. What is reported whole
+-- of a script, with its outcome, and what in part, is the command's own.
+pub record IsAnswered (whole : Outcome → List ℕ → Type 0) (partly : List ℕ → Type 0) (script old new errors_old errors_new : Option (List ℕ)) (status : ℕ) : Type 0 where
+  -- the whole report, in which nothing had a fault or was refused
+  pub clean : status ≡ 0 → IfSome script (whole Clean)
+  -- the whole report, in which something had a fault or was refused
+  pub refused : status ≡ 1 → IfSome script (whole Refused)
   pub silent : status ≢ 2 → Keeps errors_old errors_new
   -- not the whole report, and a line that says why
-  pub fault : status ≡ 2 → (fault : RunFault) × IsTold (Run fault) errors_old errors_new × Leaves settings fault script old new
+  pub fault : status ≡ 2 → (fault : RunFault) × IsTold (Run fault) errors_old errors_new × Leaves partly fault script old new
+
+-- a script was played
+abbrev pub IsPlayed : Settings → Option (List ℕ) → Option (List ℕ) → Option (List ℕ) → Option (List ℕ) → Option (List ℕ) → ℕ → Type 0
+IsPlayed settings script old new errors_old errors_new status =
+    IsAnswered (λ told all. IsReported settings all told old new) (λ all. IsPartlyReported settings all old new) script old new errors_old errors_new status
+
+-- a device was set up and driven
+abbrev pub IsDriveAnswered : Drive → Option (List ℕ) → Option (List ℕ) → Option (List ℕ) → Option (List ℕ) → Option (List ℕ) → ℕ → Type 0
+IsDriveAnswered settings script old new errors_old errors_new status =
+    IsAnswered (λ told all. IsDriven settings all told old new) (λ all. IsPartlyDriven settings all old new) script old new errors_old errors_new status
 
 -- no script was read: help or the version was shown, or the command line was refused
 pub record IsShown {R W : Type 0} (reader reader_new : R) (writer writer_new : W) (errors_old errors_new : Option (List ℕ)) (status : ℕ) : Type 0 where

@@ -1,11 +1,13 @@
 ghost use Rattle.std.specs.Prelude.{◌≡◌, ◌≢◌, ◌≤◌, ◌⊎◌, IfErr};
 ghost use Rattle.std.specs.Io.KnownBytes.{Keeps};
 ghost use Rattle.std.specs.IoError.{error_kind};
-ghost use Rattle.q_options.specs.Answer.{IsPlayed, IsShown, IsTold};
+ghost use Rattle.q_options.specs.Answer.{IsDriveAnswered, IsPlayed, IsShown, IsTold};
+ghost use Rattle.q_drive.specs.Drive.{Drive};
 ghost use Rattle.q_options.specs.declared.fault.Fault.{Fault as SomeFault};
 ghost use Rattle.q_script.specs.Settings.{Settings};
 
 use crate::command_line::read_options;
+use crate::driving::drive;
 use crate::fault::Fault;
 use crate::options::Options;
 use crate::playing::{FAULT, play};
@@ -13,11 +15,14 @@ use crate::telling::tell;
 use q_script::RunFault;
 use std::alloc::Global;
 use std::io::{Error, ErrorKind, Read, Write};
+use std::sync::Wait;
+use std::thread::Threads;
 
-/// Does what a command line asks for, the program's name first, and answers the exit status: that of [`play`]; 0 where help
-/// or the version was asked for and is written to the output; 2, with lines on the error output, where nothing that can be
-/// done was asked for. Only a script to play is read.
-pub fn answer<R: Read, W: Write, E: Write>(
+/// Does what a command line asks for, the program's name first, and answers the exit status: that of [`play`] or of [`drive`]; 0
+/// where help or the version was asked for and is written to the output; 2, with lines on the error output, where nothing that can
+/// be done was asked for. Standard input is read only to play or to drive. It waits for the threads of `drive`.
+pub fn answer<H: Threads + Wait + Sync, R: Read, W: Write, E: Write>(
+    rt: &H,
     alloc: Global,
     words: Result<Vec<String>, Error>,
     reader: &mut R,
@@ -27,6 +32,8 @@ pub fn answer<R: Read, W: Write, E: Write>(
     ensures statuses { result ≤ 2 }
     ensures answer { IsShown reader.old reader.new writer.old writer.new (E.contents errors.old) (E.contents errors.new) result
         ⊎ ((settings : Settings) × IsPlayed settings (R.remaining reader.old)
+        (W.contents writer.old) (W.contents writer.new) (E.contents errors.old) (E.contents errors.new) result)
+        ⊎ ((settings : Drive) × IsDriveAnswered settings (R.remaining reader.old)
         (W.contents writer.old) (W.contents writer.new) (E.contents errors.old) (E.contents errors.new) result) }
     // The words of the command line could not be had: one is not UTF-8, or there is no memory for them.
     ensures not_utf8 { IfErr words (λ error. error_kind error ≡ ErrorKind.InvalidData →
@@ -45,8 +52,10 @@ pub fn answer<R: Read, W: Write, E: Write>(
         Ok(options) => options,
         Err(error) => return show(&error, writer, errors),
     };
-    let Options::Play(settings) = options;
-    play(alloc, settings, reader, writer, errors)
+    match options {
+        Options::Play(settings) => play(alloc, settings, reader, writer, errors),
+        Options::Drive(settings) => drive(rt, alloc, settings, reader, writer, errors),
+    }
 }
 
 /// Writes what clap has to say: help and the version to the output, with status 0; all else to the error output.

@@ -1,10 +1,11 @@
 ghost use Rattle.std.specs.Prelude.{codes, IfSome};
 ghost use Rattle.clap.specs.Words.{found_of};
-ghost use Rattle.q_options.specs.CommandLine.{IsNumber};
+ghost use Rattle.q_options.specs.CommandLine.{HasOptionsOf, IsGiven, IsNumber};
 
 use crate::options::Options;
 use clap::error::ErrorKind;
 use clap::{Arg, ArgMatches, Command, Error, value_parser};
+use q_drive::DriveSettings;
 use q_script::RunSettings;
 use std::alloc::{AllocError, Global};
 use std::convert::AsStr;
@@ -15,37 +16,63 @@ const VERSION: &str = "0.1.0, proved with rattle-kit-13b";
 const EXAMPLE: &str = "Example:
   printf 'tc qdisc add dev eth0 root pfifo limit 2\\npkt 1500\\npoll\\n' | qtree play";
 
+const DRIVE_EXAMPLE: &str = "Example:
+  qtree drive --senders 4 --count 1000 --len 100 --ring 16 </dev/null";
+
 /// Reads a command line, the program's name first. An error is clap's: it has the usage, the help or the version that it
 /// prints.
 pub fn read_options<S: AsStr>(alloc: Global, words: &[S]) -> Result<Options, Error> {
     let mut qtree = qtree(alloc)?;
     let matches = qtree.try_get_matches_from_mut(words)?;
-    let settings = match matches.subcommand_matches("play") {
-        Some(play) => settings_of(play),
-        None => None,
-    };
-    match settings {
-        Some(settings) => Ok(Options::Play(settings)),
+    match options_of(&matches) {
+        Some(options) => Ok(options),
         // clap has seen to the command, and to each number's range.
         None => Err(qtree.error(ErrorKind::ValueValidation, "an option is out of its range")?),
     }
 }
 
-/// The program: one command, without which it shows its help.
+/// The program: its commands, without which it shows its help.
 fn qtree<'a>(alloc: Global) -> Result<Command<'a>, AllocError> {
     Command::new(alloc, "qtree")
         .about("A packet scheduler with the behaviour of Linux traffic control")
         .version(VERSION)
         .subcommand_required(true)
         .arg_required_else_help(true)
-        .subcommand(play(alloc)?)
+        .subcommand(play(alloc)?)?
+        .subcommand(drive(alloc)?)
 }
 
-/// The command that runs a script, with the options of its device.
+/// The command that runs a script.
 fn play<'a>(alloc: Global) -> Result<Command<'a>, AllocError> {
-    Command::new(alloc, "play")
+    let play = Command::new(alloc, "play")
         .about("Reads a script on standard input and writes its report on standard output")
-        .after_help(EXAMPLE)
+        .after_help(EXAMPLE);
+    with_device(alloc, play)
+}
+
+/// The command that lets senders run over a device.
+fn drive<'a>(alloc: Global) -> Result<Command<'a>, AllocError> {
+    let drive = Command::new(alloc, "drive")
+        .about("Sets up a device by tc's lines on standard input, and drives it from many threads")
+        .after_help(DRIVE_EXAMPLE)
+        .arg(needed(alloc, "senders", "Senders, 64 at most").value_parser(value_parser!(u8).range(
+            1..=64,
+        )))?
+        .arg(needed(alloc, "count", "Packets of each sender, 1000000 at most").value_parser(
+            value_parser!(u32).range(..=1_000_000),
+        ))?
+        .arg(needed(alloc, "len", "Bytes of a packet, 65535 at most").value_parser(value_parser!(
+            u16
+        ).range(1..)))?
+        .arg(needed(alloc, "ring", "Places of each sender's ring, 65536 at most").value_parser(
+            value_parser!(u32).range(1..=65_536),
+        ))?;
+    with_device(alloc, drive)
+}
+
+/// A command with the options of its device.
+fn with_device<'a>(alloc: Global, command: Command<'a>) -> Result<Command<'a>, AllocError> {
+    command
         .arg(number(alloc, "mtu", "Most bytes of a packet [default: 1514]").value_parser(
             value_parser!(u16).range(1..),
         ))?
@@ -71,28 +98,72 @@ fn number<'a>(alloc: Global, name: &'a str, help: &'a str) -> Arg<'a> {
     Arg::new(alloc, name).long(name).value_name("N").help(help)
 }
 
-/// The settings that were given, and the defaults of the others; `None` where a text is no number, or one out of range.
-fn settings_of(play: &ArgMatches) -> Option<RunSettings>
-    ensures mtu { IfSome result (λ s. IsNumber (found_of play.now) (codes "mtu") 1514 s.mtu) }
-    ensures txqueuelen { IfSome result (λ s. IsNumber (found_of play.now) (codes "txqueuelen") 1000 s.txqueuelen) }
-    ensures seed { IfSome result (λ s. IsNumber (found_of play.now) (codes "seed") 0 s.seed) }
-    ensures record { IfSome result (λ s. IsNumber (found_of play.now) (codes "record") 4096 s.recorder) }
+/// An option with a number, which has to be given.
+fn needed<'a>(alloc: Global, name: &'a str, help: &'a str) -> Arg<'a> {
+    number(alloc, name, help).required(true)
+}
+
+/// What was asked for; `None` where a text is no number, or one out of range.
+fn options_of(matches: &ArgMatches) -> Option<Options> {
+    if let Some(play) = matches.subcommand_matches("play") {
+        return Some(Options::Play(settings_of(play)?));
+    }
+    let drive = matches.subcommand_matches("drive")?;
+    Some(Options::Drive(drive_settings_of(drive)?))
+}
+
+/// The settings of a drive that were given; `None` where a text is no number, or one out of range, or is not there.
+fn drive_settings_of(drive: &ArgMatches) -> Option<DriveSettings>
+    ensures device { IfSome result (λ s. HasOptionsOf (found_of drive.now) s.device) }
+    ensures senders { IfSome result (λ s. IsGiven (found_of drive.now) (codes "senders") s.senders) }
+    ensures count { IfSome result (λ s. IsGiven (found_of drive.now) (codes "count") s.count) }
+    ensures len { IfSome result (λ s. IsGiven (found_of drive.now) (codes "len") s.len) }
+    ensures ring { IfSome result (λ s. IsGiven (found_of drive.now) (codes "ring") s.ring) }
+{
+    let device = settings_of(drive)?;
+    let senders = needed_of(drive, "senders")?;
+    let count = needed_of(drive, "count")?;
+    let len = needed_of(drive, "len")?;
+    let ring = needed_of(drive, "ring")?;
+    DriveSettings::new(
+        device,
+        u8::try_from(senders).ok()?,
+        count,
+        u16::try_from(len).ok()?,
+        ring,
+    )
+}
+
+/// The settings of the device that were given, and the defaults of the others; `None` where a text is no number, or one out of
+/// range.
+fn settings_of(command: &ArgMatches) -> Option<RunSettings>
+    ensures { IfSome result (HasOptionsOf (found_of command.now)) }
 {
     let defaults = RunSettings::defaults();
-    let mtu = number_of(play, "mtu", u32::from(defaults.mtu()))?;
-    let txqueuelen = number_of(play, "txqueuelen", defaults.txqueuelen())?;
-    let seed = number_of(play, "seed", defaults.seed())?;
-    let recorder = number_of(play, "record", defaults.recorder())?;
+    let mtu = number_of(command, "mtu", u32::from(defaults.mtu()))?;
+    let txqueuelen = number_of(command, "txqueuelen", defaults.txqueuelen())?;
+    let seed = number_of(command, "seed", defaults.seed())?;
+    let recorder = number_of(command, "record", defaults.recorder())?;
     RunSettings::new(u16::try_from(mtu).ok()?, txqueuelen, seed, recorder)
 }
 
 /// The number that an option was given, or its default; `None` where its text is no number.
-fn number_of(play: &ArgMatches, name: &str, default: u32) -> Option<u32>
-    ensures { IfSome result (IsNumber (found_of play.now) name.now default) }
+fn number_of(command: &ArgMatches, name: &str, default: u32) -> Option<u32>
+    ensures { IfSome result (IsNumber (found_of command.now) name.now default) }
 {
-    match play.try_get_one(name) {
+    match command.try_get_one(name) {
         Ok(Some(number)) => Some(number),
         Ok(None) => Some(default),
+        Err(_) => None,
+    }
+}
+
+/// The number that an option was given; `None` where it was not given, or its text is no number.
+fn needed_of(command: &ArgMatches, name: &str) -> Option<u32>
+    ensures { IfSome result (IsGiven (found_of command.now) name.now) }
+{
+    match command.try_get_one(name) {
+        Ok(number) => number,
         Err(_) => None,
     }
 }

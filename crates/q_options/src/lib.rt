@@ -2,7 +2,8 @@
 //!
 //! - [`answer`] does what a command line asks for, from any reader, to any writer and error writer, and answers the exit
 //!   status. `main` calls it and nothing else.
-//! - [`play`] is the part of it that runs a script: the status, the report, and the line that tells of a [`Fault`].
+//! - [`play`] is the part of it that runs a script, and [`drive`] the one that drives a device: the status, the report, and the line
+//!   that tells of a [`Fault`].
 //! - [`read_options`] reads what the command line asks for, as [`Options`].
 //!
 //! `specs/Answer.antt` says what is answered. What clap reads and prints is in no contract.
@@ -10,6 +11,7 @@
 
 mod answering;
 mod command_line;
+mod driving;
 mod fault;
 mod options;
 mod playing;
@@ -17,6 +19,7 @@ mod telling;
 
 pub use answering::answer;
 pub use command_line::read_options;
+pub use driving::drive;
 pub use fault::Fault;
 pub use options::Options;
 pub use playing::play;

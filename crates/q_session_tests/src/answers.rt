@@ -5,7 +5,9 @@ use q_script::RunSettings;
 use std::alloc::Global;
 use std::io::{Error, ErrorKind, Read, Result as IoResult, Write};
 use std::process::Abort;
+use std::sync::Wait;
 use std::test::Fail;
+use std::thread::Threads;
 
 /// The words of a command line.
 fn words(alloc: Global, line: &str) -> Result<Vec<String>, Fail> {
@@ -17,8 +19,8 @@ fn words(alloc: Global, line: &str) -> Result<Vec<String>, Fail> {
 }
 
 /// What a command line and a script come to: the status, the output and the error output.
-fn assert_answers(
-    rt: &impl Abort,
+fn assert_answers<R: Abort + Threads + Wait + Sync>(
+    rt: &R,
     alloc: Global,
     line: &str,
     script: &[u8],
@@ -28,7 +30,7 @@ fn assert_answers(
 ) -> Result<(), Fail> {
     let (mut reader, mut written, mut errors) = (script, Vec::new(alloc), Vec::new(alloc));
     let words = Ok(words(alloc, line)?);
-    let answered = answer(alloc, words, &mut reader, &mut written, &mut errors);
+    let answered = answer(rt, alloc, words, &mut reader, &mut written, &mut errors);
     assert_eq!(rt; answered, status, "{line}");
     assert_eq!(rt; written.as_slice(), report.as_bytes(), "{line}");
     assert_eq!(rt; errors.as_slice(), told.as_bytes(), "{line}");

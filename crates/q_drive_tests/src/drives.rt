@@ -1,0 +1,136 @@
+//! What drives come to.
+use q_drive::{DriveSettings, run_drive};
+use q_script::{Outcome, RunFault, RunSettings};
+use std::alloc::Global;
+use std::io::{Error, ErrorKind, Result as IoResult, Write};
+use std::process::Abort;
+use std::sync::Wait;
+use std::test::Fail;
+use std::thread::Threads;
+
+/// A device with defaults, senders, their packets, the length of each, and the places of a ring.
+pub fn settings(
+    senders: u8,
+    count: u32,
+    len: u16,
+    ring: u32,
+) -> Result<DriveSettings, Fail> {
+    let device = RunSettings::defaults();
+    Ok(DriveSettings::new(device, senders, count, len, ring).ok_or("settings in range")?)
+}
+
+/// What standard input and settings come to: the outcome and all that is written.
+pub fn assert_drives<R: Abort + Threads + Wait + Sync>(
+    rt: &R,
+    alloc: Global,
+    input: &[u8],
+    settings: DriveSettings,
+    outcome: Outcome,
+    report: &str,
+) {
+    let (mut reader, mut written) = (input, Vec::new(alloc));
+    let told = run_drive(rt, alloc, &mut reader, &mut written, settings);
+    assert_eq!(rt; told, Ok(outcome), "{report}");
+    assert_eq!(rt; written.as_slice(), report.as_bytes(), "{report}");
+}
+
+#[test]
+fn four_senders_over_the_first_root(rt: HostRuntime) -> Result<(), Fail> {
+    assert_drives(
+        &rt,
+        rt.alloc(),
+        b"",
+        settings(4, 16, 100, 16)?,
+        Outcome::Clean,
+        "settled 64p 6400b\narrived 64p 6400b\ngiven up 0\n",
+    );
+    Ok(())
+}
+
+#[test]
+fn loads_that_are_empty_or_longer_than_their_ring(rt: HostRuntime) -> Result<(), Fail> {
+    for (asked, report) in [
+        (
+            settings(64, 0, 1, 1)?,
+            "settled 0p 0b\narrived 0p 0b\ngiven up 0\n",
+        ),
+        (
+            settings(1, 1000, 1, 1)?,
+            "settled 1000p 1000b\narrived 1000p 1000b\ngiven up 0\n",
+        ),
+        // Packets longer than the mtu arrive and are refused.
+        (
+            settings(2, 3, 65535, 65536)?,
+            "settled 6p 393210b\narrived 6p 393210b\ngiven up 0\n",
+        ),
+    ] {
+        assert_drives(&rt, rt.alloc(), b"", asked, Outcome::Clean, report);
+    }
+    Ok(())
+}
+
+/// A tree whose filter no packet of a load matches: all of them are refused, and settled all the same.
+const REFUSING: &[u8] = b"tc qdisc add dev eth0 root handle 1: drr
+tc class add dev eth0 parent 1: classid 1:1 drr
+tc qdisc add dev eth0 parent 1:1 handle 10: fq_codel
+tc filter add dev eth0 parent 1: prio 1 flower src_port 1 classid 1:1
+";
+
+#[test]
+fn every_packet_refused(rt: HostRuntime) -> Result<(), Fail> {
+    assert_drives(
+        &rt,
+        rt.alloc(),
+        REFUSING,
+        settings(4, 1000, 100, 16)?,
+        Outcome::Clean,
+        "settled 4000p 400000b
+arrived 4000p 400000b
+given up 0
+",
+    );
+    Ok(())
+}
+
+/// A writer that has room for so many bytes, and then fails.
+#[derive(Drop)]
+struct Narrow {
+    written: Vec<u8>,
+    room: usize,
+}
+
+impl Write for Narrow {
+    fn write(&mut self, buf: &[u8]) -> IoResult<usize> {
+        if self.room == 0 {
+            return Err(Error::from(ErrorKind::BrokenPipe));
+        }
+        let count = buf.len().min(self.room);
+        if self.written.extend_from_slice(&buf[..count]).is_err() {
+            return Err(Error::from(ErrorKind::OutOfMemory));
+        }
+        self.room -= count;
+        Ok(count)
+    }
+
+    fn flush(&mut self) -> IoResult<()> {
+        Ok(())
+    }
+}
+
+#[test]
+fn writers_that_fail_at_each_byte(rt: HostRuntime) -> Result<(), Fail> {
+    let alloc = rt.alloc();
+    let input = b"poll\n";
+    let report = "line 1: fault 1 UnknownWord word 1\nsettled 2p 14b\narrived 2p 14b\ngiven up 0\n";
+    let asked = settings(1, 2, 7, 1)?;
+    for room in 0..report.len() {
+        let mut reader: &[u8] = input;
+        let written = Vec::new(alloc);
+        let mut writer = Narrow { written, room };
+        let told = run_drive(&rt, alloc, &mut reader, &mut writer, asked);
+        assert_eq!(rt; told, Err(RunFault::Write(ErrorKind::BrokenPipe)), "{room}");
+        assert_eq!(rt; writer.written.as_slice(), &report.as_bytes()[..room]);
+    }
+    assert_drives(&rt, alloc, input, asked, Outcome::Refused, report);
+    Ok(())
+}
