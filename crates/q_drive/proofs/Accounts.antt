@@ -106,10 +106,10 @@ pub accounted : (s : Drive) (ports : List PortSeen) (loads : List (List Descript
     → IsInRange s → length ports ≡ s.senders → map placed_by ports ≡ replicate s.senders [] → AreLoads s s.senders loads → HasDriven ports loads share given_up → IsAccounted s share given_up
 accounted s ports loads share given_up range long none asked d =
     let sent = all-sent s.count s.len d.after (λ k x lt.
-      let few : k < length ports = omega (arith, lt, d.drove.count) in
-      let in_range : k < s.senders = omega (arith, few, long) in
-      offered-sent (get_or ports k no_port) (get_or d.after k x).port (get_or loads k []) (get_or d.after k x).given_up s.count (packet_of s.len k)
-      (nothing_placed ports s.senders k none few in_range) (asked.each k in_range) (d.drove.each k no_port x lt)) in
+    let few : k < length ports = omega (arith, lt, d.drove.count) in
+    let in_range : k < s.senders = omega (arith, few, long) in
+    offered-sent (get_or ports k no_port) (get_or d.after k x).port (get_or loads k []) (get_or d.after k x).given_up s.count (packet_of s.len k)
+    (nothing_placed ports s.senders k none few in_range) (asked.each k in_range) (d.drove.each k no_port x lt)) in
     let count : length d.after ≡ s.senders = d.drove.count ∙ long in
     let few : s.senders * s.count ≤ 64 * 1000000 = mul-le-mul range.senders.1 range.count in
     let all : (share_of (lists d.after)).packets + sum_by rest_of d.after ≡ s.senders * s.count = sent.all ∙ ap (λ n. n * s.count) count in

@@ -69,10 +69,12 @@ fn drive_booked<P: Ledger + Send + Sync, B: Ledger + Send + Sync, R: Threads + W
         rt, alloc, &lock, drain, ports, loads, &FreeGate, start, STEP, TRIES,
     ) {
         Ok(driven) => Some(ended(lock.into_inner(), driven.settled, driven.given_up)),
-        Err(Unsettled {
-            drain,
-            ports: _ports,
-        }) => {
+        Err(
+            Unsettled {
+                drain,
+                ports: _ports,
+            },
+        ) => {
             drain.end(rt);
             None
         }

@@ -9,12 +9,7 @@ use std::test::Fail;
 use std::thread::Threads;
 
 /// A device with defaults, senders, their packets, the length of each, and the places of a ring.
-pub fn settings(
-    senders: u8,
-    count: u32,
-    len: u16,
-    ring: u32,
-) -> Result<DriveSettings, Fail> {
+pub fn settings(senders: u8, count: u32, len: u16, ring: u32) -> Result<DriveSettings, Fail> {
     let device = RunSettings::defaults();
     Ok(DriveSettings::new(device, senders, count, len, ring).ok_or("settings in range")?)
 }

@@ -47,10 +47,12 @@ tc qdisc add dev eth0 root handle 1: pfifo limit 0
 
 tc qdisc show
 tc -s qdisc show dev eth0";
-    let report = format!(in alloc; "qdisc pfifo 1: root limit 0p
+    let report = format!(in alloc;
+        "qdisc pfifo 1: root limit 0p
 qdisc pfifo 1: root limit 0p
  arrived 0p 0b sent 0p 0b refused 0p 0b dropped 0p 0b queued 0p 0b
-{ONE}")?;
+{ONE}"
+    )?;
     let asked = settings(1, 1, 100, 1)?;
     assert_drives(&rt, alloc, input, asked, Outcome::Clean, report.as_str());
     Ok(())
