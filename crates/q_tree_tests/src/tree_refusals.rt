@@ -127,13 +127,26 @@ fn command(bench: &mut Bench, alloc: Global, command: Command) -> Result<Option<
     Ok(answer.err())
 }
 
+// Whether a command is refused so by both calls.
+fn both(bench: &mut Bench, alloc: Global, line: Command, refusal: Refusal) -> Result<bool, Fail> {
+    if call(bench, alloc, line)? != Some(refusal) {
+        return Ok(false);
+    }
+    Ok(command(bench, alloc, line)? == Some(refusal))
+}
+
+fn is_refused(bench: &mut Bench, alloc: Global, ask: Ask, refusal: Refusal) -> Result<bool, Fail> {
+    match ask.command() {
+        Ok(line) => both(bench, alloc, line, refusal),
+        Err(failed) => Err(failed),
+    }
+}
+
 // Fails at the first command that is not refused so by both calls.
 fn refused(bench: &mut Bench, alloc: Global, rows: &[(Ask, Refusal)]) -> Result<(), Fail> {
     for (ask, refusal) in rows {
-        let line = ask.command()?;
-        let told = (call(bench, alloc, line)?, command(bench, alloc, line)?);
-        if told != (Some(*refusal), Some(*refusal)) {
-            return Err(Fail::new(format_args!("{ask:?}: {told:?}")));
+        if !is_refused(bench, alloc, *ask, *refusal)? {
+            return Err(Fail::new(format_args!("{ask:?}: {refusal:?}")));
         }
     }
     Ok(())
