@@ -7,7 +7,7 @@ use Rattle.q_packet.specs.Descriptor.{Descriptor}
 use Rattle.q_packet.specs.declared.cause.Cause.{Cause}
 use Rattle.q_packet.specs.declared.cause.Cause.TheVariants.{FatFlow}
 use Rattle.q_codel.specs.Losses as codel
-use Rattle.q_fqcodel.specs.FqState.{FqView, packets_of, all_packets}
+use Rattle.q_fqcodel.specs.FqState.{FqState, packets_of, all_packets}
 use Rattle.q_fqcodel.specs.Put.{after_put, lost_by_put, is_lost_itself}
 use Rattle.q_model.specs.declared.totals.Totals.{Totals}
 use Rattle.q_model.specs.Beneath as beneath
@@ -16,11 +16,10 @@ use Rattle.q_model.specs.Node as spec
 use Rattle.q_model.specs.Step.{losses_in}
 use Rattle.q_model.specs.Tally.{Counts, counted, no_counts, no_totals}
 use Rattle.q_model.specs.Work.{losses_of}
-use Rattle.q_tree.specs.Arrivals.{plus}
-use Rattle.q_tree.specs.PutSteps.{IsQueued, rises_here}
-use Rattle.q_tree.specs.Seen.{discipline_seen}
+use Rattle.q_tree.specs.Arrivals.{plus, IsOutcome}
+use Rattle.q_tree.specs.PutSteps.{IsQueued, rises_here, after_here, loss_here}
+use Rattle.q_tree.specs.Seen.{discipline_seen, children_seen, places_seen}
 use Rattle.q_tree.specs.declared.node.Discipline.{Discipline}
-use Rattle.q_tree.specs.declared.node.Discipline.TheVariants.{FqCodel}
 use Rattle.q_tree.specs.declared.outcome.Outcome.{Outcome}
 use Rattle.q_tree.proofs.FlowCounts.{packets-all, packets-bare, told-losses}
 
@@ -42,34 +41,34 @@ nothing-more t =
     let bytes : 0 + t.bytes ≡ t.bytes = omega arith in
     λ i. record { packets = packets i; bytes = bytes i }
 
-pub queued-flow : (now : ℕ) (p : Descriptor) (refusal : Option Cause) (before : Discipline) (q q2 : FqView) (o : Outcome) → refusal ≡ None → before ≡ FqCodel q
-    → q2.state ≡ after_put q.state p now → q2.places ≡ q.places → o.loss ≡ (if is_lost_itself q.state p now then Some FatFlow else None) → o.refused ≡ no_totals
-    → o.dropped ≡ totals_in (beneath.packets_of (lost_by_put q.state p now)) → IsQueued now p refusal before (FqCodel q2) o
-queued-flow now p refusal before q q2 o none is state places loss refused dropped =
-    let drops = drops-counted no_counts (beneath.packets_of (lost_by_put q.state p now)) in
-    subst (λ (r : Option Cause). IsQueued now p r before (FqCodel q2) o) (sym none)
-    (subst (λ (d : Discipline). IsQueued now p None d (FqCodel q2) o) (sym is) (record {
-      discipline = ap spec.FqCodel state;
-      children = refl;
+pub queued-flow : (now : ℕ) (p : Descriptor) (refusal : Option Cause) (before after : Discipline) (s s2 : FqState) (o : Outcome) → refusal ≡ None
+    → discipline_seen before ≡ spec.FqCodel s → discipline_seen after ≡ spec.FqCodel s2 → children_seen after ≡ children_seen before → places_seen after ≡ places_seen before
+    → s2 ≡ after_put s p now → o.loss ≡ (if is_lost_itself s p now then Some FatFlow else None) → o.refused ≡ no_totals
+    → o.dropped ≡ totals_in (beneath.packets_of (lost_by_put s p now)) → IsQueued now p refusal before after o
+queued-flow now p refusal before after s s2 o none is becomes children places state loss refused dropped =
+    let drops = drops-counted no_counts (beneath.packets_of (lost_by_put s p now)) in
+    subst (λ (r : Option Cause). IsQueued now p r before after o) (sym none) (record {
+      discipline = becomes ∙ ap spec.FqCodel state ∙ sym (ap (after_here now p None) is);
+      children = children;
       places = places;
-      outcome = record {
+      outcome = subst (λ (d : spec.Discipline). IsOutcome (loss_here now p None d) (rises_here now p None d) o) (sym is) (record {
         loss = loss;
         refused = refused ∙ sym (ap (λ (c : Counts). c.refused) drops);
-        dropped = dropped ∙ sym (nothing-more (totals_in (beneath.packets_of (lost_by_put q.state p now)))) ∙ sym (ap (λ (c : Counts). c.dropped) drops);
-      };
-    }))
+        dropped = dropped ∙ sym (nothing-more (totals_in (beneath.packets_of (lost_by_put s p now)))) ∙ sym (ap (λ (c : Counts). c.dropped) drops);
+      });
+    })
 
 -- what the sink is told of them
-pub told-here : (now : ℕ) (p : Descriptor) (refusal : Option Cause) (d : Discipline) (q : FqView) → refusal ≡ None → d ≡ FqCodel q
-    → losses_in (rises_here now p refusal (discipline_seen d)) ≡ codel.losses_of FatFlow (lost_by_put q.state p now)
-told-here now p refusal d q none is =
+pub told-here : (now : ℕ) (p : Descriptor) (refusal : Option Cause) (d : Discipline) (s : FqState) → refusal ≡ None → discipline_seen d ≡ spec.FqCodel s
+    → losses_in (rises_here now p refusal (discipline_seen d)) ≡ codel.losses_of FatFlow (lost_by_put s p now)
+told-here now p refusal d s none is =
     ap (λ (r : Option Cause). losses_in (rises_here now p r (discipline_seen d))) none
-    ∙ ap (λ (d : Discipline). losses_in (rises_here now p None (discipline_seen d))) is
-    ∙ told-losses FatFlow (lost_by_put q.state p now)
+    ∙ ap (λ (d : spec.Discipline). losses_in (rises_here now p None d)) is
+    ∙ told-losses FatFlow (lost_by_put s p now)
 
 -- and the room that it needs
-pub flow-packets : (d : Discipline) (q : FqView) → d ≡ FqCodel q → length (beneath.packets_in (discipline_seen d)) ≡ packets_of q.state.flows
-flow-packets d q is =
-    ap (λ (d : Discipline). length (beneath.packets_in (discipline_seen d))) is
-    ∙ packets-bare (all_packets q.state.flows)
-    ∙ sym (packets-all q.state.flows)
+pub flow-packets : (d : Discipline) (s : FqState) → discipline_seen d ≡ spec.FqCodel s → length (beneath.packets_in (discipline_seen d)) ≡ packets_of s.flows
+flow-packets d s is =
+    ap (λ (d : spec.Discipline). length (beneath.packets_in d)) is
+    ∙ packets-bare (all_packets s.flows)
+    ∙ sym (packets-all s.flows)

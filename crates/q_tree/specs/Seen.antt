@@ -15,14 +15,14 @@ discipline_seen (Fifo f) = spec.Fifo f.limit f.packets
 discipline_seen (Prio priomap bands) = spec.Prio priomap
 discipline_seen (Tbf bucket limit child) = spec.Tbf bucket limit
 discipline_seen (Drr active classes) = spec.Drr active
-discipline_seen (FqCodel q) = spec.FqCodel q.state
+discipline_seen (FqCodel q) = spec.FqCodel q.value.state
 
 abbrev pub places_seen : Discipline → ℕ
 places_seen (Fifo f) = f.places
 places_seen (Prio priomap bands) = 0
 places_seen (Tbf bucket limit child) = 0
 places_seen (Drr active classes) = 0
-places_seen (FqCodel q) = q.places
+places_seen (FqCodel q) = q.value.places
 
 abbrev pub children_seen : Discipline → List (spec.Node Kept)
 children_seen (Fifo f) = []

@@ -1,4 +1,5 @@
 ghost use Rattle.std.specs.Prelude.{◌≡◌, ◌≤◌, ◌*◌, IfOk, None, OnErr, Some, replicate, unwrap_or};
+ghost use Rattle.q_fqcodel.specs.FqState.{first_state};
 ghost use Rattle.q_model.specs.Make.{implicit_pfifo, limit_bytes, made, with_options};
 ghost use Rattle.q_tree.specs.Making.{AreNew, IsNewDiscipline, IsNewNode, IsNewTbf, NeedsMemory};
 
@@ -80,9 +81,17 @@ fn new_discipline(
         }
         Kind::FqCodel(options) => {
             let settings = with_options(options, Settings::defaults(link.mtu));
-            return Ok(Discipline::FqCodel(FqCodel::new(alloc, settings)?));
+            return Ok(Discipline::FqCodel(new_queue(alloc, settings)?));
         }
     }
+}
+
+// The queue of an fq_codel with these settings.
+fn new_queue(alloc: Global, settings: Settings) -> Result<Box<FqCodel>, AllocError>
+    ensures { IfOk result (λ q. q.value.state ≡ first_state settings) }
+{
+    let queue = FqCodel::new(alloc, settings)?;
+    Ok(Box::new(alloc, queue)?)
 }
 
 // A tbf with its bucket, over an implicit bfifo of so many bytes.

@@ -9,6 +9,7 @@ use Rattle.q_bucket.specs.Level.{allows}
 use Rattle.q_drr.specs.Schedule.{turned, quantum_of}
 use Rattle.q_drr.specs.Take.{need}
 use Rattle.q_drr.proofs.TakeLemmas.{front_is, front_quantum, covers, falls_short, empty_front, measure_falls}
+use Rattle.q_fqcodel.specs.FqState.{FqView}
 use Rattle.q_model.specs.Ask.{ask}
 use Rattle.q_model.specs.Node as spec
 use Rattle.q_model.specs.Node.{Node, shape, side_by_side}
@@ -315,25 +316,32 @@ node::Discipline::ask-returns-in-Drr-clause-told g t c = λ handle filters.
 
 pub node::Discipline::ask-take_from_flows-requires :
     goal.node::Discipline::ask-take_from_flows-requires
-node::Discipline::ask-take_from_flows-requires g t c = record { none = c.requires.none; sink = omega (arith, c.requires.sink, own-room c.args.self.now, flow-packets c.args.self.now c.in-FqCodel.queue c.in-FqCodel.is) }
+node::Discipline::ask-take_from_flows-requires g t c =
+    let is = ap discipline_seen c.in-FqCodel.is ∙ ap (λ (q : FqView). spec.FqCodel q.state) (sym c.deref_mut-in-FqCodel.ensures.value) in
+    record { none = c.requires.none; sink = omega (arith, c.requires.sink, own-room c.args.self.now, flow-packets c.args.self.now c.deref_mut-in-FqCodel.result.now.state is) }
 
 pub node::Discipline::ask-returns-in-FqCodel-clause-after :
     goal.node::Discipline::ask-returns-in-FqCodel-clause-after
 node::Discipline::ask-returns-in-FqCodel-clause-after g t c = λ handle filters.
     let e = c.take_from_flows.ensures in
-    let own = own_of handle filters (spec.FqCodel c.in-FqCodel.queue.state) in
-    asked-in c.args.now handle filters c.args.self.now (code.FqCodel c.take_from_flows.new.queue) (spec.FqCodel c.in-FqCodel.queue.state) (spec.FqCodel c.take_from_flows.new.queue.state) [] [] c.take_from_flows.result
-    (ap discipline_seen c.in-FqCodel.is) (ap children_seen c.in-FqCodel.is) refl refl (e.places ∙ sym (ap places_seen c.in-FqCodel.is)) (ap spec.FqCodel e.after)
+    let state = c.deref_mut-in-FqCodel.result.now.state in
+    let own = own_of handle filters (spec.FqCodel state) in
+    let is = ap discipline_seen c.in-FqCodel.is ∙ ap (λ (q : FqView). spec.FqCodel q.state) (sym c.deref_mut-in-FqCodel.ensures.value) in
+    let places = e.places ∙ ap (λ (q : FqView). q.places) c.deref_mut-in-FqCodel.ensures.value ∙ sym (ap places_seen c.in-FqCodel.is) in
+    asked-in c.args.now handle filters c.args.self.now (code.FqCodel (with_value c.in-FqCodel.queue c.take_from_flows.new.queue)) (spec.FqCodel state) (spec.FqCodel c.take_from_flows.new.queue.state) [] [] c.take_from_flows.result
+    is (ap children_seen c.in-FqCodel.is) refl refl places (ap spec.FqCodel e.after)
     (record { long = refl; nodes = refl; within = λ t h. h; shown = e.shown own [] })
 
 pub node::Discipline::ask-returns-in-FqCodel-clause-told :
     goal.node::Discipline::ask-returns-in-FqCodel-clause-told
 node::Discipline::ask-returns-in-FqCodel-clause-told g t c = λ handle filters.
     let e = c.take_from_flows.ensures in
-    let own = own_of handle filters (spec.FqCodel c.in-FqCodel.queue.state) in
-    told-in c.args.now handle filters c.args.self.now (spec.FqCodel c.in-FqCodel.queue.state) [] (g.S.Sink.losses c.args.sink.now) (g.S.Sink.losses c.take_from_flows.new.sink) (g.S.Sink.room c.args.sink.now) (g.S.Sink.room c.take_from_flows.new.sink)
-    (ap discipline_seen c.in-FqCodel.is) (ap children_seen c.in-FqCodel.is)
-    (flow-told c.args.now c.in-FqCodel.queue.state own [] (g.S.Sink.losses c.args.sink.now) (g.S.Sink.losses c.take_from_flows.new.sink) (g.S.Sink.room c.args.sink.now) (g.S.Sink.room c.take_from_flows.new.sink) e.lost e.room)
+    let state = c.deref_mut-in-FqCodel.result.now.state in
+    let own = own_of handle filters (spec.FqCodel state) in
+    let is = ap discipline_seen c.in-FqCodel.is ∙ ap (λ (q : FqView). spec.FqCodel q.state) (sym c.deref_mut-in-FqCodel.ensures.value) in
+    told-in c.args.now handle filters c.args.self.now (spec.FqCodel state) [] (g.S.Sink.losses c.args.sink.now) (g.S.Sink.losses c.take_from_flows.new.sink) (g.S.Sink.room c.args.sink.now) (g.S.Sink.room c.take_from_flows.new.sink)
+    is (ap children_seen c.in-FqCodel.is)
+    (flow-told c.args.now state own [] (g.S.Sink.losses c.args.sink.now) (g.S.Sink.losses c.take_from_flows.new.sink) (g.S.Sink.room c.args.sink.now) (g.S.Sink.room c.take_from_flows.new.sink) e.lost e.room)
 
 pub node::Node::peek-returns-then-is_some-clause-after :
     goal.node::Node::peek-returns-then-is_some-clause-after

@@ -2,8 +2,8 @@ use Rattle.std.proofs.Common.{◌≡◌, ◌∙◌, ◌∷◌, ◌++◌, length,
 use Rattle.std.specs.Option.{option_to_list}
 use Rattle.std.specs.Vec.Iter.{into_iter_items}
 use Rattle.q_model.specs.Beneath.{packets_in, packets_of}
-use Rattle.q_model.specs.Node.{side_by_side}
-use Rattle.q_fqcodel.specs.FqState.{all_packets}
+use Rattle.q_model.specs.Node.{FqCodel, side_by_side}
+use Rattle.q_fqcodel.specs.FqState.{FqView, all_packets}
 use Rattle.q_tree.specs.NodeCode.{forest_size}
 use Rattle.q_tree.specs.Purging.{purged}
 use Rattle.q_tree.specs.PutSteps.{packets_beneath}
@@ -22,17 +22,26 @@ node::Node::purge-returns-in-Fifo-clause-lost g t c =
 
 pub node::Node::purge-purge-requires-in-FqCodel : goal.node::Node::purge-purge-requires-in-FqCodel
 node::Node::purge-purge-requires-in-FqCodel g t c =
-    omega (arith, c.requires, c.purge_held.ensures.room, own-count c.self.inside c.args.self c.self.view_is, ap (λ d. length (packets_in (discipline_seen d))) c.in-FqCodel.is, flows-count c.in-FqCodel.queue.state.flows)
+    omega (
+      arith,
+      c.requires,
+      c.purge_held.ensures.room,
+      own-count c.self.inside c.args.self c.self.view_is,
+      ap (λ d. length (packets_in (discipline_seen d))) c.in-FqCodel.is,
+      ap (λ (q : FqView). length (packets_in (FqCodel q.state))) c.deref_mut.ensures.value,
+      flows-count c.deref_mut.result.now.state.flows,
+    )
 
 pub node::Node::purge-returns-in-FqCodel-clause-lost :
     goal.node::Node::purge-returns-in-FqCodel-clause-lost
 node::Node::purge-returns-in-FqCodel-clause-lost g t c =
-    let flows = c.in-FqCodel.queue.state.flows in
+    let flows = c.deref_mut.result.now.state.flows in
     then-purged (g.S.Sink.losses c.args.sink.now) (g.S.Sink.losses c.purge_held.new.sink) (g.S.Sink.losses c.purge-in-FqCodel.new.sink) (option_to_list c.self.inside.held) (packets_of (all_packets flows))
     c.purge_held.ensures.lost (c.purge-in-FqCodel.ensures.lost ∙ ap (λ ls. g.S.Sink.losses c.purge_held.new.sink ++ ls) (queue-purged (all_packets flows)))
     ∙ ap (λ ps. g.S.Sink.losses c.args.sink.now ++ purged ps)
     (sym (own-beneath c.self.inside c.args.self c.self.view_is ∙ ap (λ d. option_to_list c.self.inside.held ++ packets_in (discipline_seen d) ++ packets_beneath (children_seen d)) c.in-FqCodel.is
-    ∙ append-nil (option_to_list c.self.inside.held ++ packets_of (all_packets flows))))
+    ∙ append-nil (option_to_list c.self.inside.held ++ packets_of (all_packets c.in-FqCodel.queue.value.state.flows))
+    ∙ ap (λ (q : FqView). option_to_list c.self.inside.held ++ packets_of (all_packets q.state.flows)) (sym c.deref_mut.ensures.value)))
 
 pub node::Node::purge-returns-in-FqCodel-clause-room :
     goal.node::Node::purge-returns-in-FqCodel-clause-room
@@ -44,7 +53,8 @@ node::Node::purge-returns-in-FqCodel-clause-room g t c =
       own-count c.self.inside c.args.self c.self.view_is,
       ap (λ d. length (packets_in (discipline_seen d))) c.in-FqCodel.is,
       ap (λ d. length (packets_beneath (children_seen d))) c.in-FqCodel.is,
-      flows-count c.in-FqCodel.queue.state.flows,
+      ap (λ (q : FqView). length (packets_in (FqCodel q.state))) c.deref_mut.ensures.value,
+      flows-count c.deref_mut.result.now.state.flows,
     )
 
 pub node::Node::purge-purge_each-requires : goal.node::Node::purge-purge_each-requires

@@ -21,7 +21,7 @@ returns-in-Prio-clause-new c =
 pub returns-in-FqCodel-clause-new : goal.returns-in-FqCodel-clause-new
 returns-in-FqCodel-clause-new c =
     let d : Device = record { mtu = c.args.link.mtu; txqueuelen = c.args.link.txqueuelen } in
-    subst (λ k. IsNewDiscipline (FqCodel c.in_ok-new-in-FqCodel.field-0) (made d c.args.now None k)) (sym c.in-FqCodel.is) (record {
-      discipline = ap spec.FqCodel (c.in_ok-new-in-FqCodel.ensures ∙ ap first_state (c.with_options-settings.ensures ∙ ap (with_options c.in-FqCodel.options) c.defaults.ensures));
+    subst (λ k. IsNewDiscipline (FqCodel c.in_ok-new_queue-in-FqCodel.field-0) (made d c.args.now None k)) (sym c.in-FqCodel.is) (record {
+      discipline = ap spec.FqCodel (c.in_ok-new_queue-in-FqCodel.ensures ∙ ap first_state (c.with_options-settings.ensures ∙ ap (with_options c.in-FqCodel.options) c.defaults.ensures));
       leaves = refl;
     })
