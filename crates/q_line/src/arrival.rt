@@ -1,14 +1,15 @@
 use q_packet::{Ecn, FlowKey};
 
-/// A packet that arrives at the device, as a `pkt` line says it.
+/// A packet that arrives at the device, as a `pkt` line says it. The widest fields stand first, since fields are laid out in this
+/// order.
 #[derive(Clone, Copy, PartialEq, Eq, Debug)]
 pub struct Arrival {
+    pub key: FlowKey,
+    /// The hash of its key, where the line gives one.
+    pub hash: Option<u32>,
     /// Its length in bytes, 1 to 65535.
     pub len: u16,
-    pub key: FlowKey,
     /// Its priority, 0 to 15.
     pub prio: u8,
     pub ecn: Ecn,
-    /// The hash of its key, where the line gives one.
-    pub hash: Option<u32>,
 }

@@ -5,15 +5,16 @@ use crate::filter_prio::FilterPrio;
 use crate::minor::Minor;
 use crate::protocol::Protocol;
 
-/// A filter of a node: which packets it takes, and into which class of that node.
+/// A filter of a node: which packets it takes, and into which class of that node. The widest field stands first, since
+/// fields are laid out in this order.
 #[derive(Clone, Copy, PartialEq, Eq, Debug)]
 pub struct Filter {
+    pub keys: FilterKeys,
     /// Its priority; a lower one is asked first.
     pub prio: FilterPrio,
-    pub protocol: Protocol,
-    pub keys: FilterKeys,
     /// The minor number of the class.
     pub minor: Minor,
+    pub protocol: Protocol,
 }
 
 impl Filter {

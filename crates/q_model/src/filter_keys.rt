@@ -5,15 +5,16 @@ ghost use Rattle.q_model.specs.Options.{IsPrefix};
 use crate::ip_prefix::IpPrefix;
 use crate::ranges::{byte_ranges, port_ranges, prefix_ranges};
 
-/// The keys of a flower filter (tc-flower(8)). A packet has to agree with each that is given.
+/// The keys of a flower filter (tc-flower(8)). A packet has to agree with each that is given. The widest stand first, since
+/// fields are laid out in this order.
 #[derive(Clone, Copy, PartialEq, Eq, Debug)]
 pub struct FilterKeys {
-    /// The number of the protocol above IP.
-    pub ip_proto: Option<u8>,
     pub src_ip: Option<IpPrefix>,
     pub dst_ip: Option<IpPrefix>,
     pub src_port: Option<u16>,
     pub dst_port: Option<u16>,
+    /// The number of the protocol above IP.
+    pub ip_proto: Option<u8>,
 }
 
 impl FilterKeys {

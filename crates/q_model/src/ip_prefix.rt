@@ -6,14 +6,16 @@ use std::marker::Model;
 
 /// Addresses that begin alike (tc-flower(8), `src_ip PREFIX`). A contract sees it as the record `Prefix` of its fields.
 ///
+/// The widest fields stand first, since fields are laid out in this order.
+///
 /// An IPv4 address stands in the low 32 bits of `address`: code that would leave a bit above them there, or a length past
 /// the end of an address, is refused. Bits past the length are kept for show, and not compared.
 #[derive(Clone, Copy, PartialEq, Eq, Debug)]
 pub struct IpPrefix {
-    pub version: IpVersion,
     pub address: u128,
     /// How many bits are compared, at most 32 or 128.
     pub len: u8,
+    pub version: IpVersion,
 }
 
 impl Model for IpPrefix {
