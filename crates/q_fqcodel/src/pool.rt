@@ -118,13 +118,7 @@ impl Pool {
 
     /// Loses the packet in front of the flow `from`, and appends another to a flow, in the node of the first.
     #[inline(always)]
-    pub(crate) fn replace<S: Sink>(
-        &mut self,
-        from: u32,
-        flow: u32,
-        stamped: Stamped,
-        sink: &mut S,
-    )
+    pub(crate) fn replace<S: Sink>(&mut self, from: u32, flow: u32, stamped: Stamped, sink: &mut S)
         requires in_range { flow < length self.old.queues }
         requires own { stamped.packet.hash % length self.old.queues ≡ flow }
         requires some { 0 < count (get_or self.old.queues from []) }
@@ -135,12 +129,13 @@ impl Pool {
         ensures room { S.room sink.new + 1 ≡ S.room sink.old }
         ensures kept { S.keeps sink.old sink.new }
     {
-        let list = list_of(&self.lists, from);
-        let (gone, rest) = split_head(&self.nodes, list);
-        let less = gone.packet;
-        let more = stamped.packet;
-        // It is told before its node is written, so that the packet is copied once.
+        // It is told before anything is written, so that the packet is copied once, and all else is read after.
+        let gone = self.head_of(from).unwrap();
         sink.lost(gone.packet, Cause::FatFlow);
+        let list = list_of(&self.lists, from);
+        let (first, rest) = split_head(&self.nodes, list);
+        let less = first.packet;
+        let more = stamped.packet;
         self.lists[from as usize] = rest;
         let own = list_of(&self.lists, flow);
         let longer = append_at(&mut self.nodes, list.head, own, stamped);

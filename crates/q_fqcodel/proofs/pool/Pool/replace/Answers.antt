@@ -1,4 +1,4 @@
-use Rattle.std.proofs.Common.{◌≡◌, ℕ, ◌-◌, ◌%◌, ◌<◌, ◌≤◌, List, [], ◌∷◌, ◌++◌, length, get_or, set, take, drop, Option, sym, ap, ap₂, ◌∙◌, arith, subst}
+use Rattle.std.proofs.Common.{◌≡◌, ℕ, ◌-◌, ◌%◌, ◌<◌, ◌≤◌, List, [], ◌∷◌, ◌++◌, length, get_or, set, take, drop, Option, sym, ap, ap₂, ◌∙◌, arith, subst, append-nil, IsSome}
 use Rattle.std.proofs.lemmas.List.{length-set}
 use Rattle.slab.specs.Slab.{get, slab_len}
 use Rattle.q_packet.specs.Descriptor.{Descriptor}
@@ -10,6 +10,8 @@ use Rattle.q_fqcodel.specs.Pool.{PoolState, queues_in, IsPool}
 use Rattle.q_fqcodel.specs.declared.node.Node.{Node}
 use Rattle.q_fqcodel.specs.declared.flow_list.FlowList.{FlowList}
 use Rattle.q_fqcodel.proofs.PoolLemmas.{length-queues, list_read, count_read, few_read, some_read, within_read, queue_read, written, pool_after, bytes_le, all_bytes_few}
+use Rattle.q_fqcodel.proofs.SentLemmas.{slice_there}
+use Rattle.q_fqcodel.proofs.ShedLemmas.{lost_one}
 use Rattle.q_fqcodel.proofs.pool.Pool.replace.Goals as goal
 use Rattle.q_fqcodel.proofs.pool.Pool.replace.Goals.{After-list_of-own, After-self-4-1}
 
@@ -154,10 +156,14 @@ invariant_of-self g c =
       omega (arith, c.self.invariant.1, c.append_at-longer.ensures.capacity),
     )
 
+pub unwrap-gone-requires : goal.unwrap-gone-requires
+unwrap-gone-requires g c =
+    subst (λ (o : Option Stamped). IsSome o) (sym c.head_of.ensures) (slice_there (get_or c.args.self.now.queues c.args.from []) 0 c.requires.some)
+
 pub returns-clause-lost : goal.returns-clause-lost
 returns-clause-lost g c =
-    c.lost.ensures.losses
-    ∙ ap (λ (q : List Stamped). g.S.Sink.losses c.args.sink.now ++ losses_of FatFlow (take 1 q)) (sym (split g (goal.at.returns-clause-lost g c).After-list_of-own))
+    lost_one (g.S.Sink.losses c.args.sink.now) (g.S.Sink.losses c.args.sink.now) (g.S.Sink.losses c.lost.new.self) FatFlow (get_or c.args.self.now.queues c.args.from []) 0 c.unwrap-gone.result
+    (sym (append-nil (g.S.Sink.losses c.args.sink.now))) c.lost.ensures.losses (sym c.head_of.ensures ∙ c.unwrap-gone.ensures)
 
 pub returns-clause-queues : goal.returns-clause-queues
 returns-clause-queues g c =
