@@ -132,12 +132,12 @@ impl Pool {
         // It is told before anything is written, so that the packet is copied once, and all else is read after.
         let gone = self.head_of(from).unwrap();
         sink.lost(gone.packet, Cause::FatFlow);
-        let list = list_of(&self.lists, from);
+        let list = list_at(&self.lists, from);
         let (first, rest) = split_head(&self.nodes, list);
         let less = first.packet;
         let more = stamped.packet;
         self.lists[from as usize] = rest;
-        let own = list_of(&self.lists, flow);
+        let own = list_at(&self.lists, flow);
         let longer = append_at(&mut self.nodes, list.head, own, stamped);
         self.lists[flow as usize] = longer;
         self.bytes -= less.len as u64;
@@ -183,4 +183,12 @@ fn list_of(lists: &Vec<FlowList>, flow: u32) -> FlowList
         Some(list) => *list,
         None => FlowList::new(),
     }
+}
+
+// The list of a flow that is there.
+fn list_at(lists: &Vec<FlowList>, flow: u32) -> FlowList
+    requires { flow < length lists.now.items }
+    ensures { result ≡ get_or lists.now.items flow no_list }
+{
+    lists[flow as usize]
 }
