@@ -1,10 +1,9 @@
-use Rattle.std.proofs.Common.{◌≡◌, ℕ, ◌-◌, ◌%◌, ◌<◌, ◌≤◌, List, [], ◌∷◌, ◌++◌, length, get_or, set, take, drop, Option, sym, ap, ap₂, ◌∙◌, arith, subst, append-nil, IsSome}
+use Rattle.std.proofs.Common.{◌≡◌, ℕ, ◌-◌, ◌%◌, ◌<◌, ◌≤◌, List, [], ◌∷◌, ◌++◌, length, get_or, set, drop, Option, sym, ap, ap₂, ◌∙◌, arith, subst, append-nil, IsSome}
 use Rattle.std.proofs.lemmas.List.{length-set}
 use Rattle.slab.specs.Slab.{get, slab_len}
 use Rattle.q_packet.specs.Descriptor.{Descriptor}
 use Rattle.q_packet.specs.declared.stamped.Stamped.{Stamped}
 use Rattle.q_packet.specs.declared.cause.Cause.TheVariants.{FatFlow}
-use Rattle.q_codel.specs.Losses.{losses_of}
 use Rattle.q_fqcodel.specs.Chain.{queue_in, without, IsList, KeepsOthers}
 use Rattle.q_fqcodel.specs.Pool.{PoolState, queues_in, IsPool}
 use Rattle.q_fqcodel.specs.declared.node.Node.{Node}
