@@ -1,12 +1,13 @@
 -- The packets of a flow as linked nodes: what keeps them, one more at the end, and the first taken out.
 use Rattle.std.proofs.Common.{◌≡◌, ◌≢◌, ℕ, zero, suc, ◌+◌, ◌*◌, ◌%◌, ◌<◌, ◌≤◌, List, [], ◌∷◌, ◌++◌, Option, Some, None, refl, sym, ap, ◌∙◌, arith, subst}
-use Rattle.std.specs.Prelude.{IsSome, ◌-◌}
+use Rattle.std.specs.Prelude.{IsSome, ◌-◌, ◌==◌}
+use Rattle.std.proofs.lemmas.Bool.{cond-true, cond-false, eq-eqb, ne_eqb}
 use Rattle.slab.specs.Slab.{Slab, get, with_value, Updates}
 use Rattle.slab.proofs.SlabLemmas.{Updates-with_value}
 use Rattle.q_packet.specs.Totals.{count, size}
 use Rattle.q_packet.specs.declared.stamped.Stamped.{Stamped}
 use Rattle.q_packet.proofs.TotalsLemmas.{size-cons, size_push}
-use Rattle.q_fqcodel.specs.Chain.{stamped_of, packets, led_to, queue_in, IsNode, IsList, KeepsOthers}
+use Rattle.q_fqcodel.specs.Chain.{stamped_of, packets, led_to, queue_in, without, IsNode, IsList, KeepsOthers}
 use Rattle.q_fqcodel.specs.Linked.{chain, IsChain, IsAppended}
 use Rattle.q_fqcodel.specs.declared.node.Node.{Node}
 use Rattle.q_fqcodel.specs.declared.flow_list.FlowList.{FlowList}
@@ -141,6 +142,39 @@ appended_next s s1 tail key new x y vacant u there read =
       stored = w.others key (λ e. apart (sym e)) ∙ u.changed;
       led = λ z e. let p : Some y ≡ Some z = sym read ∙ u.others tail apart ∙ e in let q : y ≡ z = cc in w.changed ∙ ap (λ (v : Node). Some (record v { next = key })) q;
       same = λ j a b. w.others j a ∙ u.others j b;
+    }
+
+-- ---- in the place of a node that is in no list
+
+pub without-own : (at : ℕ → Option Node) (key : ℕ) → without key at key ≡ None
+without-own at key = cond-true (key == key) None (at key) (eq-eqb key key refl)
+
+pub without-other : (at : ℕ → Option Node) (key j : ℕ) → j ≢ key → without key at j ≡ at j
+without-other at key j ne = cond-false (j == key) None (at j) (ne_eqb j key ne)
+
+pub placed_first : (s s2 : Slab Node) (key : ℕ) (new : Node) → Updates s s2 key (Some new) → IsAppended led_to (without key (get s)) (get s2) key key new
+placed_first s s2 key new u = record {
+  vacant = without-own (get s) key;
+  stored = u.changed;
+  led = λ x e. let p : Some x ≡ None = sym e ∙ without-own (get s) key in absurd cc;
+  same = λ j _ away. u.others j away ∙ sym (without-other (get s) key j away);
+}
+
+-- a node of a list is not the one that is in none
+pub placed_apart : (at : ℕ → Option Node) (key j : ℕ) (x : Node) → without key at j ≡ Some x → j ≢ key
+placed_apart at key j x there e = let p : Some x ≡ None = sym there ∙ ap (without key at) e ∙ without-own at key in absurd cc
+
+pub placed_next : (s s1 : Slab Node) (tail key : ℕ) (new x y : Node) → Updates s s1 key (Some new) → without key (get s) tail ≡ Some x → get s1 tail ≡ Some y
+    → IsAppended led_to (without key (get s)) (get (with_value s1 tail (record y { next = key }))) tail key new
+placed_next s s1 tail key new x y u there read =
+    let apart : tail ≢ key = placed_apart (get s) key tail x there in
+    let kept : get s1 tail ≡ without key (get s) tail = u.others tail apart ∙ sym (without-other (get s) key tail apart) in
+    let w = Updates-with_value s1 tail (record y { next = key }) (subst (λ (o : Option Node). IsSome o) (sym read) refl) in
+    record {
+      vacant = without-own (get s) key;
+      stored = w.others key (λ e. apart (sym e)) ∙ u.changed;
+      led = λ z e. let p : Some y ≡ Some z = sym read ∙ kept ∙ e in let q : y ≡ z = cc in w.changed ∙ ap (λ (v : Node). Some (record v { next = key })) q;
+      same = λ j a b. w.others j a ∙ u.others j b ∙ sym (without-other (get s) key j b);
     }
 
 -- ---- the first of a list is taken

@@ -12,6 +12,7 @@ pub mod LawLemmas
 pub mod LawfulLemmas
 pub mod ListsLemmas
 pub mod LostLemmas
+pub mod MovedLemmas
 pub mod NewFlowLemmas
 pub mod OrderLemmas
 pub mod PoolLemmas

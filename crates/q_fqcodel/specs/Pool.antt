@@ -1,6 +1,6 @@
 -- The packets of all flows in one slab of nodes, and the queue of each flow as a list that is linked through it.
 -- This is how the crate keeps them; nothing public names it.
-use Rattle.std.specs.Prelude.{◌≡◌, ℕ, ◌≤◌, ◌^◌, List, [], ◌∷◌, length, map, set, get_or, sum_by, Option}
+use Rattle.std.specs.Prelude.{◌≡◌, ℕ, ◌≤◌, ◌^◌, List, [], ◌∷◌, ◌++◌, length, map, set, drop, get_or, sum_by, Option}
 use Rattle.q_packet.specs.Totals.{count, size}
 use Rattle.q_packet.specs.declared.stamped.Stamped.{Stamped}
 use Rattle.q_codel.specs.Codel.{CodelState, CodelParams, CodelVars, joined, at_first}
@@ -39,6 +39,12 @@ pub record IsPool (at : ℕ → Option Node) (nodes : ℕ) (lists : List FlowLis
   pub counted : nodes ≡ sum_by (λ (l : FlowList). l.count) lists
   pub summed : bytes ≡ sum_by (λ (l : FlowList). l.bytes) lists
   pub few : nodes ≤ 2 ^ 32
+
+-- the queues once the first packet of one has left, and another has come to a second, or to the same
+abbrev pub moved : ℕ → ℕ → Stamped → List (List Stamped) → List (List Stamped)
+moved from flow stamped qs =
+    let rest = set qs from (drop 1 (get_or qs from [])) in
+    set rest flow (get_or rest flow [] ++ stamped ∷ [])
 
 -- the same queues of every flow but this one
 abbrev pub SameBeside : ℕ → List (List Stamped) → List (List Stamped) → Type 0

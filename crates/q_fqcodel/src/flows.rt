@@ -1,4 +1,4 @@
-ghost use Rattle.std.specs.Prelude.{◌≡◌, ◌+◌, ◌*◌, ◌<◌, ◌≤◌, ◌%◌, ◌^◌, [], ◌++◌, ◌&&◌, ◌==◌, nat_le, length, map, replicate, take, drop, set, slice_get, get_or, ◌↔◌, IsSome, IfSome, IsOk, IfOk, OnOk, OnErr};
+ghost use Rattle.std.specs.Prelude.{◌≡◌, ◌+◌, ◌*◌, ◌<◌, ◌≤◌, ◌%◌, ◌^◌, [], ◌++◌, ◌&&◌, ◌==◌, true, nat_le, length, map, replicate, take, drop, set, slice_get, get_or, ◌↔◌, IsSome, IfSome, IsOk, IfOk, OnOk, OnErr};
 ghost use Rattle.q_packet.specs.Totals.{count};
 ghost use Rattle.q_codel.specs.Codel.{joined as together, drops, taken, left, after};
 ghost use Rattle.q_codel.specs.Losses.{losses_of};
@@ -212,6 +212,41 @@ impl Flows {
         self.winners.renew(flow, kept);
     }
 
+    // Whether a flow has a packet, and a batch is of one.
+    fn sheds_one(&self, fat: u32, batch: u32) -> bool
+        ensures one { result ≡ true → batch ≡ 1 }
+        ensures held { result ≡ true → 0 < count (queue_of self.now.flows fat) }
+    {
+        if batch != 1 {
+            return false;
+        }
+        self.count_of(fat) > 0
+    }
+
+    // Appends a packet to a flow, and loses the first packet of the fat one, whose node the new packet takes.
+    #[inline(always)]
+    fn swap<S: Sink>(&mut self, flow: u32, stamped: Stamped, fat: u32, sink: &mut S)
+        requires in_range { flow < length self.old.flows }
+        requires own { stamped.packet.hash % length self.old.flows ≡ flow }
+        requires held { 0 < count (queue_of self.old.flows fat) }
+        requires room { 1 ≤ S.room sink.old }
+        ensures flows { self.new.flows ≡ adjust (shortened 1) fat (adjust (joined stamped) flow self.old.flows) }
+        ensures places { self.new.places ≡ self.old.places }
+        ensures lost { S.losses sink.new ≡ S.losses sink.old
+            ++ losses_of Cause.FatFlow (take 1 (queue_of (adjust (joined stamped) flow self.old.flows) fat)) }
+        ensures room { S.room sink.new + 1 ≡ S.room sink.old }
+        ensures kept { S.keeps sink.old sink.new }
+    {
+        self.pool.replace(fat, flow, stamped, sink);
+        let own = self.pool.bytes_of(flow);
+        self.winners.renew(flow, own);
+        if fat == flow {
+            return;
+        }
+        let rest = self.pool.bytes_of(fat);
+        self.winners.renew(fat, rest);
+    }
+
     /// Appends a packet to a flow where the limit is passed with it: the fat flow then loses packets from its front. Says
     /// whether the packet that was put is itself among them.
     #[inline(always)]
@@ -240,6 +275,10 @@ impl Flows {
     {
         let packet = stamped.packet;
         let fat = self.fattest_with(flow, packet.len);
+        if self.sheds_one(fat, batch) {
+            self.swap(flow, stamped, fat, sink);
+            return false;
+        }
         if fat != flow {
             self.push(flow, stamped);
             let lost = self.shed_count(fat, batch);

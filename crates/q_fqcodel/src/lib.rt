@@ -39,6 +39,7 @@ mod links;
 mod node;
 mod place;
 mod pool;
+mod reuse;
 mod settings;
 mod winners;
 

@@ -1,11 +1,14 @@
-ghost use Rattle.std.specs.Prelude.{ℕ, ◌≡◌, ◌+◌, ◌*◌, ◌<◌, ◌≤◌, ◌%◌, ◌^◌, [], ◌∷◌, ◌++◌, length, slice_get, get_or, drop, set, replicate, IsOk, IfOk, OnOk, OnErr};
+ghost use Rattle.std.specs.Prelude.{ℕ, ◌≡◌, ◌+◌, ◌*◌, ◌<◌, ◌≤◌, ◌%◌, ◌^◌, [], ◌∷◌, ◌++◌, length, slice_get, get_or, take, drop, set, replicate, IsOk, IfOk, OnOk, OnErr};
 ghost use Rattle.q_packet.specs.Totals.{count, size};
-ghost use Rattle.q_fqcodel.specs.Pool.{packets_in, bytes_in, no_list, SameBeside};
+ghost use Rattle.q_codel.specs.Losses.{losses_of};
+ghost use Rattle.q_fqcodel.specs.Pool.{packets_in, bytes_in, no_list, moved, SameBeside};
 
 use crate::chain::{append, take_head};
 use crate::flow_list::FlowList;
 use crate::node::Node;
-use q_packet::Stamped;
+use crate::reuse::{append_at, split_head};
+use q_codel::Sink;
+use q_packet::{Cause, Stamped};
 use slab::Slab;
 use std::alloc::{AllocError, Global};
 use std::marker::Model;
@@ -113,6 +116,34 @@ impl Pool {
         Some(stamped)
     }
 
+    /// Loses the packet in front of the flow `from`, and appends another to a flow, in the node of the first.
+    #[inline(always)]
+    pub(crate) fn replace<S: Sink>(&mut self, from: u32, flow: u32, stamped: Stamped, sink: &mut S)
+        requires in_range { flow < length self.old.queues }
+        requires own { stamped.packet.hash % length self.old.queues ≡ flow }
+        requires some { 0 < count (get_or self.old.queues from []) }
+        requires room { 1 ≤ S.room sink.old }
+        ensures queues { self.new.queues ≡ moved from flow stamped self.old.queues }
+        ensures places { self.new.places ≡ self.old.places }
+        ensures lost { S.losses sink.new ≡ S.losses sink.old ++ losses_of Cause.FatFlow (take 1 (get_or self.old.queues from [])) }
+        ensures room { S.room sink.new + 1 ≡ S.room sink.old }
+        ensures kept { S.keeps sink.old sink.new }
+    {
+        // It is told before anything is written, so that the packet is copied once, and all else is read after.
+        let gone = self.head_of(from).unwrap();
+        sink.lost(gone.packet, Cause::FatFlow);
+        let list = list_at(&self.lists, from);
+        let (first, rest) = split_head(&self.nodes, list);
+        let less = first.packet;
+        let more = stamped.packet;
+        self.lists[from as usize] = rest;
+        let own = list_at(&self.lists, flow);
+        let longer = append_at(&mut self.nodes, list.head, own, stamped);
+        self.lists[flow as usize] = longer;
+        self.bytes -= less.len as u64;
+        self.bytes += more.len as u64;
+    }
+
     /// The number of packets in a flow.
     pub(crate) fn count_of(&self, flow: u32) -> u64
         ensures { result ≡ count (get_or self.now.queues flow []) }
@@ -152,4 +183,12 @@ fn list_of(lists: &Vec<FlowList>, flow: u32) -> FlowList
         Some(list) => *list,
         None => FlowList::new(),
     }
+}
+
+// The list of a flow that is there.
+fn list_at(lists: &Vec<FlowList>, flow: u32) -> FlowList
+    requires { flow < length lists.now.items }
+    ensures { result ≡ get_or lists.now.items flow no_list }
+{
+    lists[flow as usize]
 }

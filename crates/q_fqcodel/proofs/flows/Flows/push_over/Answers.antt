@@ -1,16 +1,17 @@
-use Rattle.std.proofs.Common.{◌≡◌, ℕ, ◌+◌, ◌-◌, ◌&&◌, min, nat_le, Bool, List, [], ◌∷◌, ◌++◌, take, sym, ap, ap₂, ◌∙◌, arith, length-append}
-use Rattle.std.proofs.lemmas.Bool.{eq-eqb}
+use Rattle.std.proofs.Common.{◌≡◌, ◌≢◌, ℕ, ◌+◌, ◌-◌, ◌<◌, ◌≤◌, ◌==◌, ◌&&◌, min, nat_le, Bool, true, false, length, ⊎_elim, List, [], ◌∷◌, ◌++◌, take, sym, ap, ap₂, ◌∙◌, arith, length-append}
+use Rattle.std.proofs.lemmas.Bool.{cases_eq, eq-eqb, ne_eqb, lt-leb, and_right}
 use Rattle.q_packet.specs.Totals.{count}
 use Rattle.q_packet.specs.Descriptor.{Descriptor}
+use Rattle.q_packet.specs.declared.stamped.Stamped.{Stamped}
 use Rattle.q_packet.specs.declared.cause.Cause.TheVariants.{FatFlow}
 use Rattle.q_codel.specs.Losses.{losses_of}
 use Rattle.q_fqcodel.specs.Cleared.{adjust}
 use Rattle.q_fqcodel.specs.FqState.{Flow, queue_of, packets_of}
 use Rattle.q_fqcodel.specs.Put.{joined, fattest, shed_count, shortened}
 use Rattle.q_fqcodel.proofs.FlowLemmas.{packets-at}
-use Rattle.q_fqcodel.proofs.PutLemmas.{own_queue, packets-joined, shed-within}
+use Rattle.q_fqcodel.proofs.PutLemmas.{own_queue, own_some, other_queue, packets-joined, shed-within}
 use Rattle.q_fqcodel.proofs.flows.Flows.push_over.Goals as goal
-use Rattle.q_fqcodel.proofs.flows.Flows.push_over.Goals.{After-fattest_with-fat, After-min-lost}
+use Rattle.q_fqcodel.proofs.flows.Flows.push_over.Goals.{After-fattest_with-fat, After-sheds_one, After-min-lost}
 
 -- the flows once the packet has joined
 abbrev fuller : (g : _) → After-fattest_with-fat g → List Flow
@@ -21,6 +22,63 @@ fat_is g c = c.fattest_with-fat.ensures.value c.args.stamped (sym (ap (λ (p : D
 
 more : (g : _) (c : After-fattest_with-fat g) → packets_of (fuller g c) ≡ packets_of c.args.self.now.flows + 1
 more g c = packets-joined c.args.stamped c.args.flow c.args.self.now.flows c.requires.in_range
+
+-- ---- a batch of one, of a flow that had a packet
+
+one_shed : (flows : List Flow) (s : Stamped) (n fat batch : ℕ) → n < length flows → fat ≡ fattest (adjust (joined s) n flows) → 0 < count (queue_of flows fat) → batch ≡ 1
+    → shed_count (adjust (joined s) n flows) batch ≡ 1
+unfolding shed_count
+one_shed flows s n fat batch within is some one =
+    let a : List Flow = adjust (joined s) n flows in
+    let has : 1 ≤ count (queue_of a fat) = ⊎_elim
+    (λ (e : fat ≡ n). omega (arith, ap (λ (m : ℕ). count (queue_of a m)) e, own_some s n flows within))
+    (λ (ne : fat ≢ n). omega (arith, some, ap count (other_queue (joined s) n fat flows ne)))
+    (cases_eq fat n) in
+    omega (arith, has, ap (λ (m : ℕ). count (queue_of a m)) is, packets-joined s n flows within, packets-at fat flows, some, one)
+
+one_is : (g : _) (c : After-sheds_one g) → c.sheds_one.result ≡ true → shed_count (adjust (joined c.args.stamped) c.args.flow c.args.self.now.flows) c.args.batch ≡ 1
+one_is g c single =
+    one_shed c.args.self.now.flows c.args.stamped c.args.flow c.fattest_with-fat.result c.args.batch c.requires.in_range
+    (c.fattest_with-fat.ensures.value c.args.stamped (sym (ap (λ (p : Descriptor). p.len) c.packet.view_is))) (c.sheds_one.ensures.held single) (c.sheds_one.ensures.one single)
+
+pub swap-requires-clause-room : goal.swap-requires-clause-room
+swap-requires-clause-room g c = omega (arith, one_is g (goal.at.swap-requires-clause-room g c).After-sheds_one c.if-sheds_one.true, c.requires.room)
+
+-- what a flow has that was not empty is more than one
+answer_one : (flows : List Flow) (s : Stamped) (n fat lost : ℕ) → n < length flows → fat ≡ fattest (adjust (joined s) n flows) → 0 < count (queue_of flows fat) → lost ≡ 1
+    → ((fattest (adjust (joined s) n flows) == n) && nat_le (count (queue_of (adjust (joined s) n flows) n)) lost) ≡ false
+answer_one flows s n fat lost within is some one =
+    let a : List Flow = adjust (joined s) n flows in
+    ⊎_elim
+    (λ (e : fat ≡ n).
+    let two : lost < count (queue_of a n) =
+    omega (arith, one, some, ap (λ (m : ℕ). count (queue_of flows m)) e, ap count (own_queue s n flows within), length-append (queue_of flows n) (s ∷ [])) in
+    and_right (fattest a == n) (nat_le (count (queue_of a n)) lost) (lt-leb (count (queue_of a n)) lost two))
+    (λ (ne : fat ≢ n). ap (λ (t : Bool). t && nat_le (count (queue_of a n)) lost) (ne_eqb (fattest a) n (λ e. ne (is ∙ e))))
+    (cases_eq fat n)
+
+pub returns-then-sheds_one-clause-answer : goal.returns-then-sheds_one-clause-answer
+returns-then-sheds_one-clause-answer g c =
+    let d = (goal.at.returns-then-sheds_one-clause-answer g c).After-sheds_one in
+    let e = (goal.at.returns-then-sheds_one-clause-answer g c).After-fattest_with-fat in
+    sym (answer_one c.args.self.now.flows c.args.stamped c.args.flow c.fattest_with-fat.result _ c.requires.in_range (fat_is g e) (c.sheds_one.ensures.held c.if-sheds_one.true) (one_is g d c.if-sheds_one.true))
+
+pub returns-then-sheds_one-clause-flows : goal.returns-then-sheds_one-clause-flows
+returns-then-sheds_one-clause-flows g c =
+    let d = (goal.at.returns-then-sheds_one-clause-flows g c).After-sheds_one in
+    let e = (goal.at.returns-then-sheds_one-clause-flows g c).After-fattest_with-fat in
+    let a : List Flow = adjust (joined c.args.stamped) c.args.flow c.args.self.now.flows in
+    c.swap.ensures.flows ∙ ap₂ (λ (l m : ℕ). adjust (shortened l) m a) (sym (one_is g d c.if-sheds_one.true)) (fat_is g e)
+
+pub returns-then-sheds_one-clause-lost : goal.returns-then-sheds_one-clause-lost
+returns-then-sheds_one-clause-lost g c =
+    let d = (goal.at.returns-then-sheds_one-clause-lost g c).After-sheds_one in
+    let e = (goal.at.returns-then-sheds_one-clause-lost g c).After-fattest_with-fat in
+    let a : List Flow = adjust (joined c.args.stamped) c.args.flow c.args.self.now.flows in
+    c.swap.ensures.lost ∙ ap₂ (λ (l m : ℕ). g.S.Sink.losses c.args.sink.now ++ losses_of FatFlow (take l (queue_of a m))) (sym (one_is g d c.if-sheds_one.true)) (fat_is g e)
+
+pub returns-then-sheds_one-clause-room : goal.returns-then-sheds_one-clause-room
+returns-then-sheds_one-clause-room g c = omega (arith, c.swap.ensures.room, one_is g (goal.at.returns-then-sheds_one-clause-room g c).After-sheds_one c.if-sheds_one.true)
 
 -- ---- another flow is the fat one
 
