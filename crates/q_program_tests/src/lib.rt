@@ -1,0 +1,20 @@
+//! Tests of the whole program: scripts with their reports, drives with what they come to, command lines with their answers, show texts
+//! of a tree, and readers and writers that are slow or fail. Drives start threads.
+//!
+//! They stand here so that `q_session`, `q_drive` and `q_options` are proved once. The crate exports nothing.
+#![tactic(auto)]
+
+#[cfg(test)]
+mod answers;
+#[cfg(test)]
+mod drives;
+#[cfg(test)]
+mod lines;
+#[cfg(test)]
+mod options;
+#[cfg(test)]
+mod runs;
+#[cfg(test)]
+mod shows;
+#[cfg(test)]
+mod streams;
