@@ -1,0 +1,82 @@
+//! What the tests share: a device, packets, and a drain over both.
+ghost use Rattle.std.specs.Prelude.{◌≡◌, ◌<◌, length, map, All, IfSome};
+ghost use Rattle.q_model.specs.Tally.{no_totals};
+ghost use Rattle.q_ports.specs.Placed.{ring_of_port};
+ghost use Rattle.q_ports.specs.Rings.{ring_id};
+ghost use Rattle.q_ports.specs.Rows.{FrontSeen};
+
+use q_device::{Device, Settings, Totals};
+use q_packet::{Ecn, FlowKey, Packet};
+use q_ports::{Booked, Drain, Full, Gauge, Port, open_ports};
+use std::alloc::Global;
+use std::process::Abort;
+use std::sync::ledger::{Blank, Ledger};
+use std::sync::{Mutex, Wait};
+
+/// A device with the default settings at which nothing has arrived, which records so many events. `None` where memory is refused.
+pub fn device(alloc: Global, recorded: u32) -> Option<Device>
+    ensures { IfSome result (λ d. d.device.tree.top.arrived ≡ no_totals) }
+{
+    Device::open(alloc, Settings::new(1514, 1000, recorded)?).ok()
+}
+
+/// A packet of 100 bytes with this number.
+pub fn packet(number: u64) -> Option<Packet> {
+    let key = FlowKey::new(0, 0, 0, 0, 0, 0)?;
+    Packet::new(7, number, 0, 100, key, 0, 0, Ecn::NotEct)
+}
+
+/// So many packets of 100 bytes.
+pub fn hundreds(packets: u64) -> Totals {
+    Totals {
+        packets,
+        bytes: packets.saturating_mul(100),
+    }
+}
+
+/// A drain over a new book of the device, with so many ports and gauges, and rings of so many packets.
+pub fn opened<P: Ledger, B: Ledger, R: Wait + Abort>(
+    rt: &R,
+    alloc: Global,
+    device: Device,
+    counts: (usize, usize, usize),
+    packets: Blank,
+    bytes: Blank,
+) -> (Mutex<Booked<P, B>>, Drain<P, B>, Vec<Port>, Vec<Gauge>)
+    requires nothing { device.device.tree.top.arrived ≡ no_totals }
+    requires packets { (packets.name ≡ P.name) × (packets.parts ≡ P.parts) × (P.parts ≡ 65) }
+    requires bytes { (bytes.name ≡ B.name) × (bytes.parts ≡ B.parts) × (B.parts ≡ 65) }
+    ensures rings { map ring_of_port result.2.items ≡ map ring_id result.1.rings }
+    ensures ports { length result.2.items ≡ counts.0 }
+    ensures gauges { length result.3.items ≡ counts.2 }
+    ensures book { All (λ (g : FrontSeen). g ≡ result.1.board) result.3.items }
+{
+    let (ports, ring, gauges) = counts;
+    assert!(rt; 1 <= ports && ports <= 64);
+    assert!(rt; 1 <= ring && ring <= 65_536);
+    assert!(rt; gauges <= 16);
+    let (booked, seat) = Booked::<P, B>::new(device, packets, bytes);
+    match open_ports(rt, alloc, seat, ports, ring, gauges) {
+        Ok((drain, ports, gauges)) => (Mutex::new(booked), drain, ports, gauges),
+        Err(_) => panic!(rt; "memory"),
+    }
+}
+
+/// Offers a packet at one of the ports.
+pub fn offer_at(ports: &mut Vec<Port>, at: usize, packet: Packet) -> Result<(), Full>
+    requires { at < length ports.old.items }
+    ensures rings { map ring_of_port ports.new.items ≡ map ring_of_port ports.old.items }
+    ensures count { length ports.new.items ≡ length ports.old.items }
+{
+    offer(&mut ports[at], packet)
+}
+
+// Offers a packet, which leaves the port its ring.
+fn offer(port: &mut Port, packet: Packet) -> Result<(), Full>
+    ensures { ring_of_port port.new ≡ ring_of_port port.old }
+{
+    match port.offer(packet) {
+        Ok(()) => Ok(()),
+        Err(full) => Err(full),
+    }
+}

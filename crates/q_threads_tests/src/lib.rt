@@ -1,0 +1,16 @@
+//! Tests of `q_ports` that no clause can stand for: that offers are taken, that turns go round the ports, that gauges go on, that
+//! senders run at the same time, and that what was refused memory succeeds later. They start threads.
+#![tactic(auto)]
+
+#[cfg(test)]
+mod common;
+#[cfg(test)]
+mod meeting;
+#[cfg(test)]
+mod pair;
+#[cfg(test)]
+mod ports;
+#[cfg(test)]
+mod refused;
+#[cfg(test)]
+mod senders;

@@ -1,0 +1,224 @@
+//! Ports, the drain and gauges on one thread.
+ghost use Rattle.std.specs.Prelude.{◌≡◌, ◌≤◌, ◌<◌, length, map};
+ghost use Rattle.q_model.specs.Tally.{no_totals};
+ghost use Rattle.q_ports.specs.Placed.{ring_of_port};
+ghost use Rattle.q_ports.specs.Rings.{ring_id};
+
+use crate::common::{device, hundreds, offer_at, opened, packet};
+use q_device::{Device, Polled};
+use q_packet::{Moment, Packet};
+use q_ports::{Booked, Drain, Full, Gauge, Port, Turn};
+use std::alloc::Global;
+use std::marker::Brand;
+use std::process::Abort;
+use std::sync::ledger::{Blank, Ledger};
+use std::sync::{Mutex, Wait};
+use std::test::Fail;
+
+#[test]
+fn ports_on_one_thread(rt: HostRuntime) -> Result<(), Fail> {
+    let alloc = rt.alloc();
+    let given = packet(77).ok_or("a packet")?;
+    let first = device(alloc, 0).ok_or("memory")?;
+    ring_of_one::<Brand, Brand, _>(&rt, alloc, first, given, Blank::new(65), Blank::new(65));
+    for count in [2usize, 4] {
+        let device = device(alloc, 0).ok_or("memory")?;
+        let (packets, bytes) = (Blank::new(65), Blank::new(65));
+        going_round::<Brand, Brand, _>(&rt, alloc, device, count, given, packets, bytes);
+    }
+    Ok(())
+}
+
+// A ring of one gives the second packet back as it was given, and takes it after a turn. The gauge reads the opening row, and
+// once it has learnt of the turn the row after it.
+fn ring_of_one<P: Ledger, B: Ledger, R: Wait + Abort>(
+    rt: &R,
+    alloc: Global,
+    device: Device,
+    given: Packet,
+    packets: Blank,
+    bytes: Blank,
+)
+    requires nothing { device.device.tree.top.arrived ≡ no_totals }
+    requires packets { (packets.name ≡ P.name) × (packets.parts ≡ P.parts) × (P.parts ≡ 65) }
+    requires bytes { (bytes.name ≡ B.name) × (bytes.parts ≡ B.parts) × (B.parts ≡ 65) }
+{
+    let (booked, drain, ports, gauges) = opened::<P, B, R>(
+        rt,
+        alloc,
+        device,
+        (1, 1, 1),
+        packets,
+        bytes,
+    );
+    let (mut drain, mut ports, mut gauges) = (drain, ports, gauges);
+    let Some(mut gauge) = gauges.pop() else {
+        panic!(rt; "a gauge");
+    };
+    assert_shows(rt, &mut gauge, 0);
+    offer_under_lock(rt, &booked, &mut ports, 0, given);
+    assert_eq!(rt; offer_at(&mut ports, 0, given), Err(Full(given)));
+    turn_and_learn(rt, alloc, &booked, &mut drain, &mut gauge);
+    assert_shows(rt, &mut gauge, 1);
+    offer_under_lock(rt, &booked, &mut ports, 0, given);
+    match drain.settle(rt, &booked, ports, Moment::zero()) {
+        Ok(settled) => assert_eq!(rt; settled.share(), hundreds(2)),
+        Err(unsettled) => {
+            unsettled.drain.end(rt);
+            panic!(rt; "memory")
+        }
+    }
+    assert_left(rt, &booked);
+}
+
+// Of two packets the first was sent, and the second is queued.
+fn assert_left<P: Ledger, B: Ledger, R: Wait + Abort>(rt: &R, booked: &Mutex<Booked<P, B>>) {
+    let mut locked = booked.lock(rt);
+    let row = locked.totals();
+    let one = hundreds(1);
+    assert_eq!(rt;
+        (row.arrived, row.sent, row.queued),
+        (hundreds(2), one, one)
+    );
+    let Polled::Packet(second) = locked.poll(Moment::zero()) else {
+        panic!(rt; "a packet waits");
+    };
+    assert_eq!(rt; second.number, 2);
+}
+
+// A packet is placed while the test holds the lock.
+fn offer_under_lock<P: Ledger, B: Ledger, R: Wait + Abort>(
+    rt: &R,
+    booked: &Mutex<Booked<P, B>>,
+    ports: &mut Vec<Port>,
+    at: usize,
+    given: Packet,
+)
+    requires { at < length ports.old.items }
+    ensures rings { map ring_of_port ports.new.items ≡ map ring_of_port ports.old.items }
+    ensures count { length ports.new.items ≡ length ports.old.items }
+{
+    let _locked = booked.lock(rt);
+    assert!(rt; offer_at(ports, at, given).is_ok());
+}
+
+// The gauge reads a row in which so many packets have arrived and were sent.
+fn assert_shows<R: Abort>(rt: &R, gauge: &mut Gauge, packets: u64)
+    ensures { gauge.new.book ≡ gauge.old.book }
+{
+    let row = gauge.read().expect(rt, "a row");
+    let shown = hundreds(packets);
+    assert_eq!(rt; (row.arrived, row.sent), (shown, shown));
+}
+
+// A turn takes and sends the one packet that waits, and the gauge learns of it.
+fn turn_and_learn<P: Ledger, B: Ledger, R: Wait + Abort>(
+    rt: &R,
+    alloc: Global,
+    booked: &Mutex<Booked<P, B>>,
+    drain: &mut Drain<P, B>,
+    gauge: &mut Gauge,
+)
+    requires { gauge.old.book ≡ drain.old.board.book }
+    ensures rings { map ring_id drain.new.rings ≡ map ring_id drain.old.rings }
+{
+    let Ok(turn) = drain.turn(rt, alloc, booked, Moment::zero(), 1) else {
+        panic!(rt; "memory");
+    };
+    assert_sends(rt, &turn, &[(0, 1)]);
+    let Turn { told, .. } = turn;
+    match told {
+        Some(told) => gauge.learn(told),
+        None => panic!(rt; "told"),
+    }
+}
+
+// A turn has taken and sent these packets: of each the port, and its number there.
+fn assert_sends<R: Abort>(rt: &R, turn: &Turn, wanted: &[(u32, u64)]) {
+    assert_eq!(rt; (turn.taken, turn.memory), (wanted.len(), false));
+    assert_eq!(rt; turn.sent.len(), wanted.len());
+    for at in 0..wanted.len() {
+        let packet = turn.sent.get(at).expect(rt, "a packet");
+        assert_eq!(rt; (packet.port, packet.number), wanted[at]);
+    }
+}
+
+// Ports 0 and 1 with two packets each: a turn of three takes one from each in turn, and the next turn the last. Then each of
+// 100 turns tells, and a gauge that learns nothing goes on all the same.
+fn going_round<P: Ledger, B: Ledger, R: Wait + Abort>(
+    rt: &R,
+    alloc: Global,
+    device: Device,
+    count: usize,
+    given: Packet,
+    packets: Blank,
+    bytes: Blank,
+)
+    requires nothing { device.device.tree.top.arrived ≡ no_totals }
+    requires packets { (packets.name ≡ P.name) × (packets.parts ≡ P.parts) × (P.parts ≡ 65) }
+    requires bytes { (bytes.name ≡ B.name) × (bytes.parts ≡ B.parts) × (B.parts ≡ 65) }
+{
+    let (booked, drain, ports, gauges) = opened::<P, B, R>(
+        rt,
+        alloc,
+        device,
+        (count, 4, 1),
+        packets,
+        bytes,
+    );
+    let (mut drain, mut ports, mut gauges) = (drain, ports, gauges);
+    let Some(mut gauge) = gauges.pop() else {
+        panic!(rt; "a gauge");
+    };
+    offer_at_each(rt, &mut ports, 2, given);
+    offer_at_each(rt, &mut ports, 2, given);
+    assert_turn(rt, alloc, &booked, &mut drain, 3, &[(0, 1), (1, 1), (0, 2)]);
+    assert_turn(rt, alloc, &booked, &mut drain, 1, &[(1, 2)]);
+    let mut shown = 4u64;
+    for _turn in 0..100 {
+        offer_at_each(rt, &mut ports, count, given);
+        shown = shown.saturating_add(count as u64);
+        assert_tells(rt, alloc, &booked, &mut drain, count);
+        assert_shows(rt, &mut gauge, shown);
+    }
+    drain.end(rt);
+}
+
+// Places a packet at each of the first ports.
+fn offer_at_each<R: Abort>(rt: &R, ports: &mut Vec<Port>, count: usize, given: Packet) {
+    for at in 0..count {
+        assert!(rt; at < ports.len() && offer_at(ports, at, given).is_ok());
+    }
+}
+
+// A turn takes so many packets, and tells.
+fn assert_tells<P: Ledger, B: Ledger, R: Wait + Abort>(
+    rt: &R,
+    alloc: Global,
+    booked: &Mutex<Booked<P, B>>,
+    drain: &mut Drain<P, B>,
+    count: usize,
+) {
+    let Ok(turn) = drain.turn(rt, alloc, booked, Moment::zero(), 64) else {
+        panic!(rt; "memory");
+    };
+    assert_eq!(rt; (turn.taken, turn.sent.len()), (count, count));
+    assert!(rt; turn.told.is_some());
+}
+
+// A turn takes and sends these packets.
+fn assert_turn<P: Ledger, B: Ledger, R: Wait + Abort>(
+    rt: &R,
+    alloc: Global,
+    booked: &Mutex<Booked<P, B>>,
+    drain: &mut Drain<P, B>,
+    most: usize,
+    wanted: &[(u32, u64)],
+)
+    requires { (1 ≤ most) × (most ≤ 1024) }
+{
+    let Ok(turn) = drain.turn(rt, alloc, booked, Moment::zero(), most) else {
+        panic!(rt; "memory");
+    };
+    assert_sends(rt, &turn, wanted);
+}

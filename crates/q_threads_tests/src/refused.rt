@@ -1,0 +1,135 @@
+//! Calls that are refused memory, and called again.
+//!
+//! `rt try --test --fail-alloc N` refuses the Nth allocation of the tests. This one passes for every N: what was refused succeeds
+//! at the second call, and nothing is lost.
+ghost use Rattle.std.specs.Prelude.{◌≡◌, ◌<◌, length, map};
+ghost use Rattle.q_model.specs.Tally.{no_totals};
+ghost use Rattle.q_ports.specs.Held.{held};
+ghost use Rattle.q_ports.specs.Placed.{ring_of_port};
+ghost use Rattle.q_ports.specs.Rings.{ring_id};
+
+use crate::common::{device, hundreds, offer_at, packet};
+use q_device::Device;
+use q_packet::{Moment, Packet};
+use q_ports::{Booked, Drain, Gauge, Port, Seat, Settled, Unsettled, open_ports};
+use std::alloc::Global;
+use std::marker::Brand;
+use std::process::Abort;
+use std::sync::ledger::{Blank, Ledger};
+use std::sync::{Mutex, Wait};
+use std::test::Fail;
+
+/// How many packets wait in the ring.
+const PACKETS: u64 = 100;
+
+#[test]
+fn what_was_refused_succeeds_later(rt: HostRuntime) -> Result<(), Fail> {
+    let alloc = rt.alloc();
+    let given = packet(5).ok_or("a packet")?;
+    let device = match device(alloc, 4) {
+        Some(device) => device,
+        None => device(alloc, 4).ok_or("memory")?,
+    };
+    refused::<Brand, Brand, _>(&rt, alloc, device, given, Blank::new(65), Blank::new(65));
+    Ok(())
+}
+
+// Opens a port, fills its ring, takes a turn and settles.
+fn refused<P: Ledger, B: Ledger, R: Wait + Abort>(
+    rt: &R,
+    alloc: Global,
+    device: Device,
+    given: Packet,
+    packets: Blank,
+    bytes: Blank,
+)
+    requires nothing { device.device.tree.top.arrived ≡ no_totals }
+    requires packets { (packets.name ≡ P.name) × (packets.parts ≡ P.parts) × (P.parts ≡ 65) }
+    requires bytes { (bytes.name ≡ B.name) × (bytes.parts ≡ B.parts) × (B.parts ≡ 65) }
+{
+    let (booked, seat) = Booked::<P, B>::new(device, packets, bytes);
+    let booked = Mutex::new(booked);
+    let (drain, ports, mut gauges) = open_one(rt, alloc, seat);
+    let (mut drain, mut ports) = (drain, ports);
+    fill(rt, &mut ports, given);
+    let Some(gauge) = gauges.get_mut(0) else {
+        panic!(rt; "a gauge");
+    };
+    turn(rt, alloc, &booked, &mut drain, gauge);
+    let settled = settle(rt, &booked, drain, ports);
+    assert_eq!(rt; settled.share(), hundreds(PACKETS));
+    assert_eq!(rt; booked.lock(rt).totals().arrived, hundreds(PACKETS));
+}
+
+// A drain with a port and a gauge, at the second call where memory was refused.
+fn open_one<P: Ledger, B: Ledger, R: Wait + Abort>(
+    rt: &R,
+    alloc: Global,
+    seat: Seat<P, B>,
+) -> (Drain<P, B>, Vec<Port>, Vec<Gauge>)
+    requires { seat ≡ held 65 0 0 }
+    ensures ports { map ring_of_port result.1.items ≡ map ring_id result.0.rings }
+    ensures one { length result.1.items ≡ 1 }
+{
+    let seat = match open_ports(rt, alloc, seat, 1, 128, 1) {
+        Ok(opened) => return opened,
+        Err((seat, _)) => seat,
+    };
+    match open_ports(rt, alloc, seat, 1, 128, 1) {
+        Ok(opened) => opened,
+        Err(_) => panic!(rt; "refused twice"),
+    }
+}
+
+// Fills the ring of the first port.
+fn fill<R: Abort>(rt: &R, ports: &mut Vec<Port>, given: Packet)
+    requires { 0 < length ports.old.items }
+    ensures { map ring_of_port ports.new.items ≡ map ring_of_port ports.old.items }
+{
+    for _offer in 0..PACKETS {
+        assert!(rt; offer_at(ports, 0, given).is_ok());
+    }
+}
+
+// A turn of four, at the second call where memory was refused. The gauge reads what arrived, unless nothing was told.
+fn turn<P: Ledger, B: Ledger, R: Wait + Abort>(
+    rt: &R,
+    alloc: Global,
+    booked: &Mutex<Booked<P, B>>,
+    drain: &mut Drain<P, B>,
+    gauge: &mut Gauge,
+)
+    ensures { map ring_id drain.new.rings ≡ map ring_id drain.old.rings }
+{
+    let now = Moment::zero();
+    let turn = match drain.turn(rt, alloc, booked, now, 4) {
+        Ok(turn) => turn,
+        Err(_) => drain.turn(rt, alloc, booked, now, 4).expect(rt, "memory"),
+    };
+    assert!(rt; turn.memory || turn.taken == 4);
+    let arrived = gauge.read().expect(rt, "a row").arrived;
+    assert!(rt; turn.told.is_none() || arrived.packets == turn.taken as u64);
+}
+
+// Settles, at the second call where memory was refused.
+fn settle<P: Ledger, B: Ledger, R: Wait + Abort>(
+    rt: &R,
+    booked: &Mutex<Booked<P, B>>,
+    drain: Drain<P, B>,
+    ports: Vec<Port>,
+) -> Settled<P, B>
+    requires parts { (P.parts ≡ 65) × (B.parts ≡ 65) }
+    requires ports { map ring_of_port ports.items ≡ map ring_id drain.rings }
+{
+    let Unsettled { drain, ports } = match drain.settle(rt, booked, ports, Moment::zero()) {
+        Ok(settled) => return settled,
+        Err(unsettled) => unsettled,
+    };
+    match drain.settle(rt, booked, ports, Moment::zero()) {
+        Ok(settled) => settled,
+        Err(unsettled) => {
+            unsettled.drain.end(rt);
+            panic!(rt; "refused twice")
+        }
+    }
+}
