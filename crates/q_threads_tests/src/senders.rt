@@ -17,12 +17,8 @@ use std::thread;
 use std::thread::{JoinHandle, Threads};
 
 #[test]
-fn four_senders_over_short_rings(rt: HostRuntime) -> Result<(), Fail> {
-    senders_place_all(&rt, rt.alloc(), (4, 1000, 16), 1)
-}
-
-#[test]
-fn sixty_four_senders_place_a_million(rt: HostRuntime) -> Result<(), Fail> {
+fn senders_meet_and_place_all(rt: HostRuntime) -> Result<(), Fail> {
+    senders_place_all(&rt, rt.alloc(), (4, 1000, 16), 1)?;
     senders_place_all(&rt, rt.alloc(), (64, 15_625, 16_384), 0)
 }
 
