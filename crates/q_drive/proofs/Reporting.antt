@@ -35,20 +35,20 @@ told_is s script starved told None e = refl
 told_is s script starved told (Some d) e = e
 
 both : (s : Drive) (script : List ℕ) (driven : Option Driven) (told : Outcome) (old mid new : Option (List ℕ)) (first : SessionSeen) → first ≡ opened s.device → IfSome driven (HasDriven s)
-    → Appends mid new (ending_text driven) → IsRun effect_of is_refused script first told old mid → IsDriven s script (outcome_with driven told) old new
+    → Appends mid new (ending_text s.show driven) → IsRun effect_of is_refused script first told old mid → IsDriven s script (outcome_with driven told) old new
 both s script driven told old mid new first is has ending h =
     let r = subst (λ x. IsRun effect_of is_refused script x told old mid) is h in
     record {
       starved = r.starved;
       driven = driven;
       has_driven = has;
-      text = Appends-trans old mid new (set_up s script r.starved).text (ending_text driven) r.text ending;
+      text = Appends-trans old mid new (set_up s script r.starved).text (ending_text s.show driven) r.text ending;
       outcome_is = told_is s script r.starved told driven r.outcome_is;
     }
 
 -- the senders' text was not written whole
 ending_failed : (s : Drive) (script : List ℕ) (driven : Option Driven) (told : Outcome) (old mid new : Option (List ℕ)) (first : SessionSeen) → first ≡ opened s.device → IfSome driven (HasDriven s)
-    → AppendsFront mid new (ending_text driven) → IsRun effect_of is_refused script first told old mid → IsPartlyDriven s script old new
+    → AppendsFront mid new (ending_text s.show driven) → IsRun effect_of is_refused script first told old mid → IsPartlyDriven s script old new
 ending_failed s script driven told old mid new first is has ending h =
     let r = subst (λ x. IsRun effect_of is_refused script x told old mid) is h in
     let ahead = (set_up s script r.starved).text in
@@ -56,7 +56,7 @@ ending_failed s script driven told old mid new first is has ending h =
       starved = r.starved;
       driven = driven;
       has_driven = has;
-      text = front-of old mid new (ending_text driven) (ahead ++ ending_text driven) (ahead, r.text, refl) ending;
+      text = front-of old mid new (ending_text s.show driven) (ahead ++ ending_text s.show driven) (ahead, r.text, refl) ending;
     }
 
 -- nor that of the lines
@@ -67,7 +67,7 @@ lines_failed s script old new first is h =
       starved = r.0;
       driven = None;
       has_driven = tt;
-      text = front-longer old new (set_up s script r.0).text (ending_text None) r.1;
+      text = front-longer old new (set_up s script r.0).text (ending_text s.show None) r.1;
     }
 
 -- where it is known what the reader had
@@ -76,12 +76,12 @@ known P Q f None h = tt
 known P Q f (Some all) h = f all h
 
 pub told-whole : (had : Option (List ℕ)) (s : Drive) (driven : Option Driven) (told : Outcome) (old mid new : Option (List ℕ)) (first : SessionSeen) → first ≡ opened s.device → IfSome driven (HasDriven s)
-    → Appends mid new (ending_text driven) → IfSome had (λ all. IsRun effect_of is_refused all first told old mid) → IfSome had (λ all. IsDriven s all (outcome_with driven told) old new)
+    → Appends mid new (ending_text s.show driven) → IfSome had (λ all. IsRun effect_of is_refused all first told old mid) → IfSome had (λ all. IsDriven s all (outcome_with driven told) old new)
 told-whole had s driven told old mid new first is has ending =
     known (λ all. IsRun effect_of is_refused all first told old mid) (λ all. IsDriven s all (outcome_with driven told) old new) (λ all. both s all driven told old mid new first is has ending) had
 
 pub told-ending : (had : Option (List ℕ)) (s : Drive) (driven : Option Driven) (told : Outcome) (old mid new : Option (List ℕ)) (first : SessionSeen) → first ≡ opened s.device → IfSome driven (HasDriven s)
-    → AppendsFront mid new (ending_text driven) → IfSome had (λ all. IsRun effect_of is_refused all first told old mid) → IfSome had (λ all. IsPartlyDriven s all old new)
+    → AppendsFront mid new (ending_text s.show driven) → IfSome had (λ all. IsRun effect_of is_refused all first told old mid) → IfSome had (λ all. IsPartlyDriven s all old new)
 told-ending had s driven told old mid new first is has ending =
     known (λ all. IsRun effect_of is_refused all first told old mid) (λ all. IsPartlyDriven s all old new) (λ all. ending_failed s all driven told old mid new first is has ending) had
 

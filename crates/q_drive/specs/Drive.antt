@@ -1,14 +1,16 @@
 -- The settings of a drive, and their ranges, which are this project's own.
-use Rattle.std.specs.Prelude.{ℕ, ◌≤◌}
+use Rattle.std.specs.Prelude.{ℕ, ◌≤◌, Bool}
 use Rattle.q_script.specs.Settings.{Settings}
 
--- The device. So many senders, each with a load of so many packets of so many bytes, and a ring of so many places.
+-- The device. So many senders, each with a load of so many packets of so many bytes, and a ring of so many places. Whether the
+-- qdiscs are shown at the end.
 pub record Drive : Type 0 where
   pub device : Settings
   pub senders : ℕ
   pub count : ℕ
   pub len : ℕ
   pub ring : ℕ
+  pub show : Bool
 
 pub record IsInRange (d : Drive) : Type 0 where
   pub senders : (1 ≤ d.senders) × (d.senders ≤ 64)

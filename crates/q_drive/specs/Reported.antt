@@ -18,7 +18,7 @@ set_up s script starved = run_of effect_of starved script (opened s.device)
 
 -- all that is written, where the senders come to this, or to nothing for want of memory
 abbrev pub report : Drive → List ℕ → List ℕ → Option Driven → List ℕ
-report s script starved driven = (set_up s script starved).text ++ ending_text driven
+report s script starved driven = (set_up s script starved).text ++ ending_text s.show driven
 
 -- Refused where a line was faulty or turned down, or memory was refused to the senders
 abbrev pub outcome : Drive → List ℕ → List ℕ → Option Driven → Outcome

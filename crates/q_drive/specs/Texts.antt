@@ -1,9 +1,13 @@
--- What a drive writes behind what standard input came to: three lines, or that memory was refused.
+-- What a drive writes behind what standard input came to: three lines and perhaps the qdiscs, or that memory was refused.
 -- The texts are this project's own.
-use Rattle.std.specs.Prelude.{ℕ, List, ◌++◌, codes, decimal, Option, Some, None}
+use Rattle.std.specs.Prelude.{ℕ, Bool, true, List, [], ◌++◌, if◌then◌else◌, codes, decimal, Option, Some, None}
+use Rattle.q_line.specs.declared.object.Object.TheVariants.{Qdisc}
+use Rattle.q_line.specs.declared.show.Show.{Show}
 use Rattle.q_model.specs.Refusal.{refusal_text}
+use Rattle.q_model.specs.Tally.{totals}
 use Rattle.q_model.specs.declared.refusal.Refusal.TheVariants.{Memory}
 use Rattle.q_model.specs.declared.totals.Totals.{Totals}
+use Rattle.q_report.specs.Report.{show_text}
 use Rattle.q_script.specs.Script.{newline}
 use Rattle.q_drive.specs.declared.driven.Driven.{Driven}
 
@@ -23,10 +27,21 @@ given_up_line n = codes "given up " ++ decimal n ++ newline
 abbrev pub memory_line : List ℕ
 memory_line = refusal_text Memory ++ newline
 
--- the settled share, what the device counts as arrived, and the packets that were given up
-abbrev pub driven_text : Driven → List ℕ
-driven_text d = settled_line d.settled ++ arrived_line d.arrived ++ given_up_line d.given_up
+-- as `tc -s qdisc show` asks
+abbrev pub qdiscs : Show
+qdiscs = record { object = Qdisc; counters = true }
 
-abbrev pub ending_text : Option Driven → List ℕ
-ending_text None = memory_line
-ending_text (Some d) = driven_text d
+abbrev pub shown_text : Bool → Driven → List ℕ
+shown_text show d = if show then show_text totals qdiscs d.device.device else []
+
+-- the settled share, what the device counts as arrived, and the packets that were given up
+abbrev pub driven_lines : Driven → List ℕ
+driven_lines d = settled_line d.settled ++ arrived_line d.device.device.tree.top.arrived ++ given_up_line d.given_up
+
+-- and the qdiscs if they are asked for
+abbrev pub driven_text : Bool → Driven → List ℕ
+driven_text show d = driven_lines d ++ shown_text show d
+
+abbrev pub ending_text : Bool → Option Driven → List ℕ
+ending_text show None = memory_line
+ending_text show (Some d) = driven_text show d

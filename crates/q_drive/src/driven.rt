@@ -1,9 +1,9 @@
-use q_device::Totals;
+use q_device::{Device, Totals};
 
-/// What the senders came to: the settled share, what the device counts as arrived, and how many packets of the loads no try placed.
-#[derive(Clone, Copy, PartialEq, Eq, Debug)]
+/// What the senders came to: the settled share, how many packets of the loads no try placed, and the device.
+#[derive(Drop)]
 pub struct Driven {
     pub settled: Totals,
-    pub arrived: Totals,
     pub given_up: u64,
+    pub device: Device,
 }

@@ -1,4 +1,5 @@
 ghost use Rattle.std.specs.Prelude.{◌≡◌, IfSome};
+ghost use Rattle.q_device.specs.DeviceLaws.{IsLawfulDevice, IsReplayed};
 ghost use Rattle.q_drive.specs.Driven.{HasDriven};
 ghost use Rattle.q_model.specs.Tally.{no_totals};
 
@@ -8,7 +9,7 @@ use crate::loads::loads;
 use crate::settings::DriveSettings;
 use q_device::Device;
 use q_packet::Moment;
-use q_ports::laws::settled;
+use q_ports::laws::{booked_is_lawful, booked_is_replayed, settled};
 use q_ports::{Booked, Settled, Unsettled, drive, open_ports};
 use std::alloc::Global;
 use std::marker::Brand;
@@ -86,13 +87,17 @@ fn ended<P: Ledger, B: Ledger>(booked: Booked<P, B>, share: Settled<P, B>, given
     requires { (P.parts ≡ 65) × (B.parts ≡ 65) }
     ensures settled { result.settled ≡ share }
     ensures given_up { result.given_up ≡ given_up }
-    ensures arrived { result.arrived ≡ share }
+    ensures arrived { result.device.device.tree.top.arrived ≡ share }
+    ensures lawful { IsLawfulDevice result.device }
+    ensures replayed { IsReplayed result.device }
 {
     let (mut booked, mut share) = (booked, share);
     let settled = settled(&mut booked, &mut share);
+    booked_is_lawful(&booked);
+    booked_is_replayed(&booked);
     Driven {
         settled,
-        arrived: booked.totals().arrived,
         given_up,
+        device: booked.into_device(),
     }
 }

@@ -1,55 +1,74 @@
 //! What a drive writes at its end.
 ghost use Rattle.std.specs.Prelude.{◌≡◌, ◌++◌, [], OnOk, OnErr, IfErr};
 ghost use Rattle.std.specs.Io.KnownBytes.{Appends};
-ghost use Rattle.q_script.specs.Lengths.{HasRoom};
+ghost use Rattle.q_model.specs.Tally.{totals};
+ghost use Rattle.q_report.specs.Report.{show_text};
+ghost use Rattle.q_script.specs.Lengths.{HasRoom, most_step};
 ghost use Rattle.q_show.specs.Lengths.{GrowsBy};
 ghost use Rattle.q_show.specs.Writes.{MayWrite, WriteFailed};
-ghost use Rattle.q_show.specs.Written.{AppendsFront};
+ghost use Rattle.q_show.specs.Written.{AppendsFront, IsBuffered};
 ghost use Rattle.q_drive.specs.Lengths.{most_amount, most_amount_line, most_driven, most_given_up};
-ghost use Rattle.q_drive.specs.Texts.{amount_text, arrived_line, driven_text, ending_text, given_up_line, memory_line, settled_line};
+ghost use Rattle.q_drive.specs.Texts.{amount_text, arrived_line, driven_lines, driven_text, ending_text, given_up_line, memory_line, qdiscs, settled_line, shown_text};
 
 use crate::driven::Driven;
-use q_device::{Refusal, Totals};
+use q_device::{Device, Refusal, Totals};
+use q_line::{Object, Show};
 use q_script::Output;
+use q_session::put_show;
 use q_show::{Target, WriteFault};
 use std::io::Write;
 
-/// Writes what the senders came to; or that memory was refused to them.
+/// Writes what the senders came to, and the qdiscs where they are to be shown; or that memory was refused to them.
 pub fn write_ending<W: Write>(
-    driven: Option<Driven>,
+    driven: &Option<Driven>,
+    show: bool,
     output: &mut Output,
     target: &mut Target<'_, W>,
 ) -> Result<(), WriteFault>
     requires empty { output.old ≡ [] }
     requires going { MayWrite target.old.writes }
     ensures same_writer { target.new.writer.ghost_name ≡ target.old.writer.ghost_name }
-    ensures ok { OnOk result (Appends (W.contents target.old.writer.now) (W.contents target.new.writer.now) (ending_text driven)) }
-    ensures err { OnErr result (AppendsFront (W.contents target.old.writer.now) (W.contents target.new.writer.now) (ending_text driven)) }
+    ensures ok { OnOk result (Appends (W.contents target.old.writer.now) (W.contents target.new.writer.now) (ending_text show driven.now)) }
+    ensures err { OnErr result (AppendsFront (W.contents target.old.writer.now) (W.contents target.new.writer.now) (ending_text show driven.now)) }
     ensures going { OnOk result (MayWrite target.new.writes) }
     ensures failed { IfErr result (λ fault. WriteFailed target.new.writes fault.kind) }
 {
-    put_ending(driven, output);
-    output.flush(target)
-}
-
-/// What the senders came to; or that memory was refused to them.
-fn put_ending(driven: Option<Driven>, output: &mut Output)
-    requires { HasRoom output.old most_driven }
-    ensures { output.new ≡ output.old ++ ending_text driven }
-{
     match driven {
-        Some(driven) => put_driven(driven, output),
-        None => put_memory(output),
+        Some(driven) => write_driven(driven, show, output, target),
+        None => {
+            put_memory(output);
+            output.flush(target)
+        }
     }
 }
 
+/// Writes what the senders came to.
+fn write_driven<W: Write>(
+    driven: &Driven,
+    show: bool,
+    output: &mut Output,
+    target: &mut Target<'_, W>,
+) -> Result<(), WriteFault>
+    requires empty { output.old ≡ [] }
+    requires going { MayWrite target.old.writes }
+    ensures same_writer { target.new.writer.ghost_name ≡ target.old.writer.ghost_name }
+    ensures ok { OnOk result (Appends (W.contents target.old.writer.now) (W.contents target.new.writer.now) (driven_text show driven.now)) }
+    ensures err { OnErr result (AppendsFront (W.contents target.old.writer.now) (W.contents target.new.writer.now) (driven_text show driven.now)) }
+    ensures going { OnOk result (MayWrite target.new.writes) }
+    ensures failed { IfErr result (λ fault. WriteFailed target.new.writes fault.kind) }
+{
+    put_driven(driven, output);
+    put_shown(driven, show, output, target)?;
+    output.flush(target)
+}
+
 /// The three lines: the settled share, what the device counts as arrived, and how many packets were given up.
-fn put_driven(driven: Driven, output: &mut Output)
+fn put_driven(driven: &Driven, output: &mut Output)
     requires { HasRoom output.old most_driven }
-    ensures { output.new ≡ output.old ++ driven_text driven }
+    ensures { output.new ≡ output.old ++ driven_lines driven.now }
 {
     put_settled(output, driven.settled);
-    put_arrived(output, driven.arrived);
+    put_arrived(output, driven.device.totals().arrived);
     put_given_up(output, driven.given_up);
 }
 
@@ -98,7 +117,7 @@ fn put_given_up(output: &mut Output, given_up: u64)
 
 /// The line on memory that was refused.
 fn put_memory(output: &mut Output)
-    requires { HasRoom output.old most_driven }
+    requires { HasRoom output.old most_step }
     ensures { output.new ≡ output.old ++ memory_line }
 {
     let refusal = Refusal::Memory;
@@ -107,4 +126,51 @@ fn put_memory(output: &mut Output)
     output.put(b" ");
     output.put(refusal.name().as_bytes());
     output.put(b"\n");
+}
+
+/// What `tc -s qdisc show` asks for.
+const QDISCS: Show = Show {
+    object: Object::Qdisc,
+    counters: true,
+};
+
+/// The qdiscs, where they are to be shown.
+fn put_shown<W: Write>(
+    driven: &Driven,
+    show: bool,
+    output: &mut Output,
+    target: &mut Target<'_, W>,
+) -> Result<(), WriteFault>
+    requires going { MayWrite target.old.writes }
+    ensures same_writer { target.new.writer.ghost_name ≡ target.old.writer.ghost_name }
+    ensures ok { OnOk result (IsBuffered (W.contents target.old.writer.now) (W.contents target.new.writer.now) output.new
+        (output.old ++ shown_text show driven.now)) }
+    ensures err { OnErr result (AppendsFront (W.contents target.old.writer.now) (W.contents target.new.writer.now)
+        (output.old ++ shown_text show driven.now)) }
+    ensures going { OnOk result (MayWrite target.new.writes) }
+    ensures failed { IfErr result (λ fault. WriteFailed target.new.writes fault.kind) }
+{
+    if show {
+        put_qdiscs(&driven.device, output, target)
+    } else {
+        Ok(())
+    }
+}
+
+/// The qdiscs with their counters.
+fn put_qdiscs<W: Write>(
+    device: &Device,
+    output: &mut Output,
+    target: &mut Target<'_, W>,
+) -> Result<(), WriteFault>
+    requires going { MayWrite target.old.writes }
+    ensures same_writer { target.new.writer.ghost_name ≡ target.old.writer.ghost_name }
+    ensures ok { OnOk result (IsBuffered (W.contents target.old.writer.now) (W.contents target.new.writer.now) output.new
+        (output.old ++ show_text totals qdiscs device.now.device)) }
+    ensures err { OnErr result (AppendsFront (W.contents target.old.writer.now) (W.contents target.new.writer.now)
+        (output.old ++ show_text totals qdiscs device.now.device)) }
+    ensures going { OnOk result (MayWrite target.new.writes) }
+    ensures failed { IfErr result (λ fault. WriteFailed target.new.writes fault.kind) }
+{
+    put_show(device.tree(), QDISCS, output, target)
 }

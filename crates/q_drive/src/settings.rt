@@ -11,6 +11,7 @@ pub struct DriveSettings {
     count: u32,
     len: u16,
     ring: u32,
+    show: bool,
 }
 
 impl Model for DriveSettings {
@@ -18,11 +19,11 @@ impl Model for DriveSettings {
 
     ghost Value = { Drive };
 
-    ghost view = { λ s. record { device = s.device; senders = s.senders; count = s.count; len = s.len; ring = s.ring } };
+    ghost view = { λ s. record { device = s.device; senders = s.senders; count = s.count; len = s.len; ring = s.ring; show = s.show } };
 
-    ghost invariant = { λ s. IsInRange (record { device = s.device; senders = s.senders; count = s.count; len = s.len; ring = s.ring }) };
+    ghost invariant = { λ s. IsInRange (record { device = s.device; senders = s.senders; count = s.count; len = s.len; ring = s.ring; show = s.show }) };
 
-    ghost inverse = { λ s. record { device = s.device; senders = s.senders; count = s.count; len = s.len; ring = s.ring } };
+    ghost inverse = { λ s. record { device = s.device; senders = s.senders; count = s.count; len = s.len; ring = s.ring; show = s.show } };
 }
 
 impl DriveSettings {
@@ -39,16 +40,17 @@ impl DriveSettings {
 
     /// Settings with the device's, 1 to [`DriveSettings::MAX_SENDERS`] senders, a load of at most [`DriveSettings::MAX_COUNT`]
     /// packets for each, packets of at least 1 byte, and a ring of 1 to [`DriveSettings::MAX_RING`] places for each; `None`
-    /// outside these ranges.
+    /// outside these ranges. `show` is whether the qdiscs are shown at the end.
     pub fn new(
         device: RunSettings,
         senders: u8,
         count: u32,
         len: u16,
         ring: u32,
+        show: bool,
     ) -> Option<DriveSettings>
-        ensures in_range { IsSome result ↔ IsInRange (record { device = device; senders = senders; count = count; len = len; ring = ring }) }
-        ensures value { IfSome result (λ s. s ≡ record { device = device; senders = senders; count = count; len = len; ring = ring }) }
+        ensures in_range { IsSome result ↔ IsInRange (record { device = device; senders = senders; count = count; len = len; ring = ring; show = show }) }
+        ensures value { IfSome result (λ s. s ≡ record { device = device; senders = senders; count = count; len = len; ring = ring; show = show }) }
     {
         let senders_fit = senders >= 1 && senders <= DriveSettings::MAX_SENDERS;
         let ring_fits = ring >= 1 && ring <= DriveSettings::MAX_RING;
@@ -59,6 +61,7 @@ impl DriveSettings {
                 count,
                 len,
                 ring,
+                show,
             })
         } else {
             None
@@ -105,5 +108,12 @@ impl DriveSettings {
         ensures { result ≡ self.now.ring }
     {
         self.ring as usize
+    }
+
+    /// Whether the qdiscs are shown at the end, with their counters.
+    pub fn show(&self) -> bool
+        ensures { result ≡ self.now.show }
+    {
+        self.show
     }
 }

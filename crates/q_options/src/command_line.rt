@@ -1,17 +1,17 @@
 ghost use Rattle.std.specs.Prelude.{codes, IfSome};
 ghost use Rattle.clap.specs.Words.{found_of};
-ghost use Rattle.q_options.specs.CommandLine.{HasOptionsOf, IsGiven, IsNumber};
+ghost use Rattle.q_options.specs.CommandLine.{HasOptionsOf, IsFlag, IsGiven, IsNumber};
 
 use crate::options::Options;
 use clap::error::ErrorKind;
-use clap::{Arg, ArgMatches, Command, Error, value_parser};
+use clap::{Arg, ArgAction, ArgMatches, Command, Error, value_parser};
 use q_drive::DriveSettings;
 use q_script::RunSettings;
 use std::alloc::{AllocError, Global};
 use std::convert::AsStr;
 
 /// The version of this program, and the kit that it is proved with.
-const VERSION: &str = "0.1.0, proved with rattle-kit-13b";
+const VERSION: &str = "0.1.0, proved with rattle-kit-13f";
 
 const EXAMPLE: &str = "Example:
   printf 'tc qdisc add dev eth0 root pfifo limit 2\\npkt 1500\\npoll\\n' | qtree play";
@@ -66,7 +66,13 @@ fn drive<'a>(alloc: Global) -> Result<Command<'a>, AllocError> {
         ).range(1..)))?
         .arg(needed(alloc, "ring", "Places of each sender's ring, 65536 at most").value_parser(
             value_parser!(u32).range(1..=65_536),
-        ))?;
+        ))?
+        .arg(
+            Arg::new(alloc, "show")
+                .long("show")
+                .action(ArgAction::SetTrue)
+                .help("Show the qdiscs with their counters at the end"),
+        )?;
     with_device(alloc, drive)
 }
 
@@ -119,6 +125,7 @@ fn drive_settings_of(drive: &ArgMatches) -> Option<DriveSettings>
     ensures count { IfSome result (λ s. IsGiven (found_of drive.now) (codes "count") s.count) }
     ensures len { IfSome result (λ s. IsGiven (found_of drive.now) (codes "len") s.len) }
     ensures ring { IfSome result (λ s. IsGiven (found_of drive.now) (codes "ring") s.ring) }
+    ensures show { IfSome result (λ s. IsFlag (found_of drive.now) (codes "show") s.show) }
 {
     let device = settings_of(drive)?;
     let senders = needed_of(drive, "senders")?;
@@ -131,6 +138,7 @@ fn drive_settings_of(drive: &ArgMatches) -> Option<DriveSettings>
         count,
         u16::try_from(len).ok()?,
         ring,
+        drive.get_flag("show"),
     )
 }
 

@@ -158,6 +158,18 @@ impl<P: Ledger, B: Ledger> Booked<P, B> {
         self.device.events()
     }
 
+    /// The device, when its book is closed.
+    pub fn into_device(self) -> Device
+        ensures { result ≡ self }
+    {
+        let Booked {
+            device,
+            packets: _packets,
+            bytes: _bytes,
+        } = self;
+        device
+    }
+
     // The device, for the laws.
     pub(crate) fn device(&self) -> &Device
         ensures { result.now ≡ self.now }

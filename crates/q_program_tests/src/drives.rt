@@ -8,10 +8,17 @@ use std::sync::Wait;
 use std::test::Fail;
 use std::thread::Threads;
 
-/// A device with defaults, senders, their packets, the length of each, and the places of a ring.
-pub fn settings(senders: u8, count: u32, len: u16, ring: u32) -> Result<DriveSettings, Fail> {
+/// A device with defaults, senders, their packets, the length of each, and the places of a ring. `show` is whether the qdiscs are
+/// shown at the end.
+pub fn settings(
+    senders: u8,
+    count: u32,
+    len: u16,
+    ring: u32,
+    show: bool,
+) -> Result<DriveSettings, Fail> {
     let device = RunSettings::defaults();
-    Ok(DriveSettings::new(device, senders, count, len, ring).ok_or("settings in range")?)
+    Ok(DriveSettings::new(device, senders, count, len, ring, show).ok_or("settings in range")?)
 }
 
 /// What standard input and settings come to: the outcome and all that is written.
@@ -35,7 +42,7 @@ fn four_senders_over_the_first_root(rt: HostRuntime) -> Result<(), Fail> {
         &rt,
         rt.alloc(),
         b"",
-        settings(4, 16, 100, 16)?,
+        settings(4, 16, 100, 16, false)?,
         Outcome::Clean,
         "settled 64p 6400b\narrived 64p 6400b\ngiven up 0\n",
     );
@@ -46,16 +53,16 @@ fn four_senders_over_the_first_root(rt: HostRuntime) -> Result<(), Fail> {
 fn loads_that_are_empty_or_longer_than_their_ring(rt: HostRuntime) -> Result<(), Fail> {
     for (asked, report) in [
         (
-            settings(64, 0, 1, 1)?,
+            settings(64, 0, 1, 1, false)?,
             "settled 0p 0b\narrived 0p 0b\ngiven up 0\n",
         ),
         (
-            settings(1, 1000, 1, 1)?,
+            settings(1, 1000, 1, 1, false)?,
             "settled 1000p 1000b\narrived 1000p 1000b\ngiven up 0\n",
         ),
         // Packets longer than the mtu arrive and are refused.
         (
-            settings(2, 3, 65535, 65536)?,
+            settings(2, 3, 65535, 65536, false)?,
             "settled 6p 393210b\narrived 6p 393210b\ngiven up 0\n",
         ),
     ] {
@@ -72,16 +79,20 @@ tc filter add dev eth0 parent 1: prio 1 flower src_port 1 classid 1:1
 ";
 
 #[test]
-fn every_packet_refused(rt: HostRuntime) -> Result<(), Fail> {
+fn every_packet_refused_and_the_qdiscs_shown(rt: HostRuntime) -> Result<(), Fail> {
     assert_drives(
         &rt,
         rt.alloc(),
         REFUSING,
-        settings(4, 1000, 100, 16)?,
+        settings(4, 1000, 100, 16, true)?,
         Outcome::Clean,
         "settled 4000p 400000b
 arrived 4000p 400000b
 given up 0
+qdisc drr 1: root
+ arrived 4000p 400000b sent 0p 0b refused 4000p 400000b dropped 0p 0b queued 0p 0b
+qdisc fq_codel 10: parent 1:1 limit 10240p flows 1024 quantum 1514 target 5000000ns interval 100000000ns ecn drop_batch 1
+ arrived 0p 0b sent 0p 0b refused 0p 0b dropped 0p 0b queued 0p 0b marked 0p 0b
 ",
     );
     Ok(())
@@ -115,9 +126,11 @@ impl Write for Narrow {
 #[test]
 fn writers_that_fail_at_each_byte(rt: HostRuntime) -> Result<(), Fail> {
     let alloc = rt.alloc();
-    let input = b"poll\n";
-    let report = "line 1: fault 1 UnknownWord word 1\nsettled 2p 14b\narrived 2p 14b\ngiven up 0\n";
-    let asked = settings(1, 2, 7, 1)?;
+    let input = b"tc qdisc add dev eth0 root handle 1: pfifo limit 0\npoll\n";
+    // A limit of 0 packets refuses all, so that the counters are known.
+    let report =
+        "line 2: fault 1 UnknownWord word 1\nsettled 2p 14b\narrived 2p 14b\ngiven up 0\nqdisc pfifo 1: root limit 0p\n arrived 2p 14b sent 0p 0b refused 2p 14b dropped 0p 0b queued 0p 0b\n";
+    let asked = settings(1, 2, 7, 1, true)?;
     for room in 0..report.len() {
         let mut reader: &[u8] = input;
         let written = Vec::new(alloc);

@@ -33,7 +33,7 @@ fn lines_that_are_not_those_of_tc(rt: HostRuntime) -> Result<(), Fail> {
         ),
     ] {
         let report = format!(in alloc; "{told}{ONE}")?;
-        let asked = settings(1, 1, 100, 1)?;
+        let asked = settings(1, 1, 100, 1, false)?;
         assert_drives(&rt, alloc, line, asked, Outcome::Refused, report.as_str());
     }
     Ok(())
@@ -53,7 +53,7 @@ qdisc pfifo 1: root limit 0p
  arrived 0p 0b sent 0p 0b refused 0p 0b dropped 0p 0b queued 0p 0b
 {ONE}"
     )?;
-    let asked = settings(1, 1, 100, 1)?;
+    let asked = settings(1, 1, 100, 1, false)?;
     assert_drives(&rt, alloc, input, asked, Outcome::Clean, report.as_str());
     Ok(())
 }

@@ -16,4 +16,6 @@ returns-in-Ok-drive g c =
       all = rw (ended.settled, ended.given_up) a.all;
       bytes = rw (ended.settled) a.bytes;
       arrived = ended.arrived ∙ sym ended.settled;
+      lawful = ended.lawful;
+      replayed = ended.replayed;
     }

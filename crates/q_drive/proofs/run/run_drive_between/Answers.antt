@@ -1,4 +1,4 @@
-use Rattle.std.proofs.Common.{◌≡◌, ◌∙◌, Option, Some, None, Result, Ok, Err, sym, ap, subst}
+use Rattle.std.proofs.Common.{◌≡◌, ◌∙◌, Bool, IfSome, Option, Some, None, Result, Ok, Err, sym, ap, subst}
 use Rattle.std.specs.Io.KnownBytes.{Appends}
 use Rattle.std.specs.Result.{IsErrAnd}
 use Rattle.std.specs.declared.io.ErrorKind.{ErrorKind}
@@ -6,6 +6,8 @@ use Rattle.q_script.specs.declared.outcome.Outcome.{Outcome}
 use Rattle.q_script.specs.declared.run_fault.RunFault.{RunFault}
 use Rattle.q_script.specs.declared.run_fault.RunFault.TheVariants.{Write}
 use Rattle.q_session.specs.Session.{opened}
+use Rattle.q_show.specs.Written.{AppendsFront}
+use Rattle.q_drive.specs.Driven.{HasDriven}
 use Rattle.q_drive.specs.Texts.{ending_text}
 use Rattle.q_drive.specs.declared.driven.Driven.{Driven}
 use Rattle.q_drive.proofs.Reporting.{told-ending, told-lines, told-whole}
@@ -23,22 +25,28 @@ returns-in_err-outcome-clause-partly g c = λ kind told.
 
 pub returns-in-Err-clause-partly : goal.returns-in-Err-clause-partly
 returns-in-Err-clause-partly g c = λ kind told.
-    told-ending (g.R.Read.remaining c.args.source.now.reader.now) c.args.settings c.drive_device-driven.result c.in_ok-outcome.outcome (g.W.Write.contents c.args.target.now.writer.now)
-    (g.W.Write.contents c.run_between.new.target.writer.now) (g.W.Write.contents c.write_ending.new.target.writer.now)
-    c.in-Ok-open.set_up (c.in-Ok-open.ensures.new ∙ ap opened c.device.ensures) c.drive_device-driven.ensures c.in-Err.ensures.err c.in_ok-outcome.ensures.report
+    let driven = c.drive_device-driven.result in
+    let mid = g.W.Write.contents c.run_between.new.target.writer.now in
+    let new = g.W.Write.contents c.write_ending.new.target.writer.now in
+    let ending = subst (λ (b : Bool). AppendsFront mid new (ending_text b driven)) c.show.ensures c.in-Err.ensures.err in
+    told-ending (g.R.Read.remaining c.args.source.now.reader.now) c.args.settings driven c.in_ok-outcome.outcome (g.W.Write.contents c.args.target.now.writer.now) mid new
+    c.in-Ok-open.set_up (c.in-Ok-open.ensures.new ∙ ap opened c.device.ensures) c.drive_device-driven.ensures ending c.in_ok-outcome.ensures.report
 
 pub returns-in-Some-clause-report : goal.returns-in-Some-clause-report
 returns-in-Some-clause-report g c =
     let mid = g.W.Write.contents c.run_between.new.target.writer.now in
     let new = g.W.Write.contents c.write_ending.new.target.writer.now in
+    let asked = subst (λ (b : Bool). Appends mid new (ending_text b c.drive_device-driven.result)) c.show.ensures c.in_default-write_ending.ensures.ok in
     told-whole (g.R.Read.remaining c.args.source.now.reader.now) c.args.settings (Some c.in-Some.field-0) c.in_ok-outcome.outcome (g.W.Write.contents c.args.target.now.writer.now) mid new
-    c.in-Ok-open.set_up (c.in-Ok-open.ensures.new ∙ ap opened c.device.ensures) c.in-Some.ensures
-    (subst (λ (d : Option Driven). Appends mid new (ending_text d)) c.in-Some.is c.in_default-write_ending.ensures.ok) c.in_ok-outcome.ensures.report
+    c.in-Ok-open.set_up (c.in-Ok-open.ensures.new ∙ ap opened c.device.ensures)
+    (subst (λ (d : Option Driven). IfSome d (HasDriven c.args.settings)) c.in-Some.is c.drive_device-driven.ensures)
+    (subst (λ (d : Option Driven). Appends mid new (ending_text c.args.settings.show d)) c.in-Some.is asked) c.in_ok-outcome.ensures.report
 
 pub returns-clause-report : goal.returns-clause-report
 returns-clause-report g c =
     let mid = g.W.Write.contents c.run_between.new.target.writer.now in
     let new = g.W.Write.contents c.write_ending.new.target.writer.now in
+    let asked = subst (λ (b : Bool). Appends mid new (ending_text b c.drive_device-driven.result)) c.show.ensures c.in_default-write_ending.ensures.ok in
     told-whole (g.R.Read.remaining c.args.source.now.reader.now) c.args.settings None c.in_ok-outcome.outcome (g.W.Write.contents c.args.target.now.writer.now) mid new
     c.in-Ok-open.set_up (c.in-Ok-open.ensures.new ∙ ap opened c.device.ensures) tt
-    (subst (λ (d : Option Driven). Appends mid new (ending_text d)) c.in-None.is c.in_default-write_ending.ensures.ok) c.in_ok-outcome.ensures.report
+    (subst (λ (d : Option Driven). Appends mid new (ending_text c.args.settings.show d)) c.in-None.is asked) c.in_ok-outcome.ensures.report
