@@ -4,7 +4,7 @@ use Rattle.std.specs.Prelude.{All, is_some, not, nat_lt, unwrap_or, ◌==◌, �
 use Rattle.std.specs.List.{enumerate_from, flat_map, list_any, sum}
 use Rattle.std.proofs.lemmas.Bool.{cases_lt, eqb-true, not-false}
 use Rattle.std.proofs.lemmas.List.Elements.{All-cons, All-nil}
-use Rattle.std.proofs.lemmas.List.{drop-map, drop_all, length-map, length-replicate, map-append, take_all, take_min}
+use Rattle.std.proofs.lemmas.List.{drop-map, drop_all, length-map, length-replicate, take_all, take_min}
 use Rattle.q_codel.specs.declared.limit.Limit.TheVariants.{Packets, Bytes}
 use Rattle.q_bucket.specs.Level.{TokenBucket, after_change}
 use Rattle.q_fqcodel.specs.FqState as flows
@@ -28,7 +28,6 @@ use Rattle.q_model.specs.Options.{FqOptions, PrioSettings}
 use Rattle.q_model.specs.QdiscCommands.{at_target, bands_check, leaf_of_tbf, rebanded, relimited, retuned, reshaped, target}
 use Rattle.q_model.specs.Ranges.{IsCommand}
 use Rattle.q_model.specs.Refusals.{Check, done_unless, most_nodes, refuse}
-use Rattle.q_model.specs.Tally.{Counts, totals}
 use Rattle.q_model.specs.TreeState.{plan}
 use Rattle.q_sound.proofs.EditChildren.{any-append, gone_is, gone_past, kept_above, kept_from, kept_there, kids, kids-append, kids_all, kids_kept, kids_new, new_keeps}
 use Rattle.q_sound.proofs.EditMade.{new_leaf}
@@ -45,16 +44,14 @@ use Rattle.q_tree.specs.Commands.{IsBounded, IsPlannedFor, IsRefused, takes_none
 use Rattle.q_tree.specs.Finding.{reached}
 use Rattle.q_tree.specs.Kept as own_kept
 use Rattle.q_tree.specs.Making.{AreNew, IsNewNode}
-use Rattle.q_tree.specs.Places.{unplaced}
 use Rattle.q_tree.specs.PutSteps.{packets_beneath}
 use Rattle.q_tree.specs.Reshaping.{AreReady, IsFresh, TakesMore, bands_going, bands_staying, children_after, discipline_after, leaf_limited, leaves_limited, limited, lost_with, rebucketed, remapped, reoptioned}
 use Rattle.q_tree.specs.declared.edit.Edit.TheVariants.{Reshape}
 use Rattle.q_tree.specs.declared.planned.Planned.{Planned}
 use Rattle.q_tree.specs.declared.reshape.Reshape as shapes
 use Rattle.q_tree.specs.declared.reshape.Reshape.TheVariants.{Nothing, SetLimit, SetBucket, SetOptions}
-use Rattle.q_tree.proofs.ClassPlans.{kept-nodes}
 use Rattle.q_tree.proofs.MakingLemmas.{new-counts, nothing-beneath}
-use Rattle.q_tree.proofs.Plans.{all-passed, all-stay, few, length-unplaced, remade-planned, reshape-does, same-refusal, shallow}
+use Rattle.q_tree.proofs.Plans.{all-passed, all-stay, few, remade-planned, reshape-does, same-refusal, shallow}
 use Rattle.q_tree.proofs.TargetLemmas.{reached-at, target-none, target-some}
 
 abbrev Counting : Type 0
@@ -63,8 +60,8 @@ Counting = Node own_kept.Kept
 -- ---- other settings alone
 
 module _ (n : Counting) (plans : List ℕ → Result model.Edit Refusal) (r : shapes.Reshape) (to : Discipline) where
-  kids-stay : map unplaced (children n) ≡ kids totals (children (unplaced n)) (kept_from 0 (length (children (shape n))))
-  kids-stay = sym (kept-nodes n) ∙ sym (kids_all totals (children (unplaced n)) (length (children (shape n))) (length-unplaced n))
+  kids-stay : children n ≡ kids own_kept.kept (children n) (kept_from 0 (length (children (shape n))))
+  kids-stay = sym (kids_all own_kept.kept (children n) (length (children (shape n))) (length-shape n))
 
   retuned-is : ((path : List ℕ) → plans path ≡ Ok (retuned (shape n) path to)) → discipline_after r n.own.discipline (children n) ≡ to
       → children_after r n.own.discipline (children n) ≡ children n → lost_with r n.own.discipline (children n) ≡ [] → AreReady r → IsRemade plans n r
@@ -73,7 +70,7 @@ module _ (n : Counting) (plans : List ℕ → Result model.Edit Refusal) (r : sh
     below = kept_from 0 (length (children (shape n)));
     planned = planned;
     own_is = ap (λ d. record n.own { discipline = d }) becomes;
-    kids_is = ap (map unplaced) stay ∙ kids-stay;
+    kids_is = stay ∙ kids-stay;
     lost_is = none ∙ sym (all-stay n);
     ready = ready;
   }
@@ -84,10 +81,10 @@ module _ (bytes : ℕ) where
   abbrev with_limit : Own → Own
   with_limit own = record own { discipline = relimited bytes own.discipline }
 
-  leaf-alone : (cs : List Counting) → length cs ≡ 1 → map unplaced (map (leaf_limited bytes) cs) ≡ kids totals (map unplaced cs) (map (leaf_of_tbf bytes) (map shape cs))
+  leaf-alone : (cs : List Counting) → length cs ≡ 1 → map (leaf_limited bytes) cs ≡ kids own_kept.kept cs (map (leaf_of_tbf bytes) (map shape cs))
   leaf-alone [] e = absurd (omega (arith, e))
   leaf-alone (c ∷ []) e = by (is_some c.own.handle) where
-    by : (t : Bool) → unplaced (if t then c else record c { own = with_limit c.own }) ∷ [] ≡ kids totals (unplaced c ∷ []) ((if t then Kept 0 else Retuned 0 (with_limit c.own)) ∷ [])
+    by : (t : Bool) → (if t then c else record c { own = with_limit c.own }) ∷ [] ≡ kids own_kept.kept (c ∷ []) ((if t then Kept 0 else Retuned 0 (with_limit c.own)) ∷ [])
     by true = refl
     by false = refl
   leaf-alone (c ∷ d ∷ cs) e = absurd (omega (arith, e))
@@ -102,10 +99,10 @@ module _ (bytes : ℕ) where
   none-gone (s ∷ t ∷ ss) e = absurd (omega (arith, e))
 
   module _ (n : Counting) (one : length (children (shape n)) ≡ 1) where
-    kids-limited : map unplaced (map (leaf_limited bytes) (children n)) ≡ kids totals (children (unplaced n)) (map (leaf_of_tbf bytes) (children (shape n)))
+    kids-limited : map (leaf_limited bytes) (children n) ≡ kids own_kept.kept (children n) (map (leaf_of_tbf bytes) (children (shape n)))
     kids-limited =
         leaf-alone (children n) (omega (arith, one, length-shape n))
-        ∙ ap₂ (λ us ss. kids totals us (map (leaf_of_tbf bytes) ss)) (sym (kept-nodes n)) (sym (children-shape n))
+        ∙ ap (λ ss. kids own_kept.kept (children n) (map (leaf_of_tbf bytes) ss)) (sym (children-shape n))
 
 -- ---- each kind but prio
 
@@ -191,7 +188,7 @@ module _ (d : Device) (now : ℕ) (root : Shape) (n : Counting) where
           below = map (leaf_of_tbf bytes) (children (shape n));
           planned = λ path. refl;
           own_is = ap (λ x. record n.own { discipline = rebucketed new bytes x }) is;
-          kids_is = ap (λ x. map unplaced (leaves_limited bytes x (children n))) is ∙ kids-limited bytes n one;
+          kids_is = ap (λ x. leaves_limited bytes x (children n)) is ∙ kids-limited bytes n one;
           lost_is = sym (none-gone bytes (children (shape n)) one);
           ready = tt;
         },
@@ -227,11 +224,6 @@ drop-front zero (x ∷ xs) [] e = append-nil (x ∷ xs)
 drop-front zero (x ∷ xs) (y ∷ ys) e = absurd (omega (arith, e))
 drop-front (suc k) (x ∷ xs) ys e = drop-front k xs ys (omega (arith, e))
 
-take-map : {A B : Type 0} (f : A → B) (k : ℕ) (xs : List A) → map f (take k xs) ≡ take k (map f xs)
-take-map f zero xs = refl
-take-map f (suc k) [] = refl
-take-map f (suc k) (x ∷ xs) = ap (λ ys. f x ∷ ys) (take-map f k xs)
-
 map-replicate : {A B : Type 0} (f : A → B) (k : ℕ) (x : A) → map f (replicate k x) ≡ replicate k (f x)
 map-replicate f zero x = refl
 map-replicate f (suc k) x = ap (λ ys. f x ∷ ys) (map-replicate f k x)
@@ -249,10 +241,10 @@ counts-shape (c ∷ cs) = ap₂ (λ k ks. k ∷ ks) (count-shape c) (counts-shap
 
 -- new leaves have counted nothing
 new-first : (l : Counting) (ls : List Counting) (s : Shape) (ss : List Shape) → AreNew (l ∷ ls) (s ∷ ss) → IsNewNode l s
-new-first l ls s ss new = ap (λ (xs : List (Node Counts)). get_or xs 0 (unplaced l)) new
+new-first l ls s ss new = ap (λ (xs : List Counting). get_or xs 0 l) new
 
 new-rest : (l : Counting) (ls : List Counting) (s : Shape) (ss : List Shape) → AreNew (l ∷ ls) (s ∷ ss) → AreNew ls ss
-new-rest l ls s ss new = ap (λ (xs : List (Node Counts)). drop 1 xs) new
+new-rest l ls s ss new = ap (λ (xs : List Counting). drop 1 xs) new
 
 fresh : (d : Device) (ls : List Counting) (k : ℕ) → AreNew ls (replicate k (implicit_pfifo d)) → All IsFresh ls
 fresh d [] k new = All-nil IsFresh
@@ -276,20 +268,17 @@ module _ (d : Device) (n : Counting) (s : PrioSettings) (ls : List Counting) whe
 
   module _ (new : AreNew ls (replicate (s.bands - old) leaf)) where
     many : length ls ≡ s.bands - length (children n)
-    many = omega (arith, ap length new, length-map ls unplaced, length-map (replicate (s.bands - old) leaf) (blank totals), length-replicate (s.bands - old) leaf, length-shape n)
+    many = omega (arith, ap length new, length-map (replicate (s.bands - old) leaf) (blank own_kept.kept), length-replicate (s.bands - old) leaf, length-shape n)
 
-    kids-rebanded : map unplaced (take s.bands (children n ++ ls)) ≡ kids totals (children (unplaced n)) (front ++ behind)
+    kids-rebanded : take s.bands (children n ++ ls) ≡ kids own_kept.kept (children n) (front ++ behind)
     kids-rebanded =
-        ap (map unplaced) (take-front s.bands (children n) ls many)
-        ∙ map-append unplaced (take s.bands (children n)) ls
+        take-front s.bands (children n) ls many
         ∙ ap₂ (λ xs ys. xs ++ ys)
-        (take-map unplaced s.bands (children n)
-        ∙ ap (take s.bands) (sym (kept-nodes n))
-        ∙ sym (take_min s.bands (children (unplaced n)))
-        ∙ ap (λ k. take k (children (unplaced n))) {x = min s.bands (length (children (unplaced n)))} {y = min old s.bands} (omega (arith, length-unplaced n))
-        ∙ sym (kids_kept totals (children (unplaced n)) 0 (min old s.bands)))
-        (new ∙ map-replicate (blank totals) (s.bands - old) leaf ∙ sym (kids_new totals (children (unplaced n)) leaf (s.bands - old)))
-        ∙ sym (kids-append totals (children (unplaced n)) front behind)
+        (sym (take_min s.bands (children n))
+        ∙ ap (λ k. take k (children n)) {x = min s.bands (length (children n))} {y = min old s.bands} (omega (arith, length-shape n))
+        ∙ sym (kids_kept own_kept.kept (children n) 0 (min old s.bands)))
+        (new ∙ map-replicate (blank own_kept.kept) (s.bands - old) leaf ∙ sym (kids_new own_kept.kept (children n) leaf (s.bands - old)))
+        ∙ sym (kids-append own_kept.kept (children n) front behind)
 
     gone-rebanded : packets_beneath (drop s.bands (children n ++ ls)) ≡ beneath_removed (front ++ behind) (shape n)
     gone-rebanded =
@@ -310,7 +299,7 @@ module _ (d : Device) (n : Counting) (s : PrioSettings) (ls : List Counting) whe
         below = front ++ behind;
         planned = planned;
         own_is = ap (λ x. record n.own { discipline = x }) (becomes ∙ ap (remapped s.priomap) is);
-        kids_is = ap (map unplaced) (stay ∙ ap (λ x. bands_staying s.bands ls x (children n)) is) ∙ kids-rebanded;
+        kids_is = stay ∙ ap (λ x. bands_staying s.bands ls x (children n)) is ∙ kids-rebanded;
         lost_is = go ∙ ap (λ x. packets_beneath (bands_going s.bands ls x (children n))) is ∙ gone-rebanded;
         ready = ready (fresh d ls (s.bands - old) new);
       }

@@ -17,11 +17,9 @@ use Rattle.q_model.specs.Node.{Discipline, Fifo, Prio, Tbf, Drr, FqCodel, Own, N
 use Rattle.q_model.specs.Options.{FqOptions}
 use Rattle.q_model.specs.QdiscCommands.{bands_check, burst_check, flows_check}
 use Rattle.q_model.specs.Refusals.{done_unless}
-use Rattle.q_model.specs.Tally.{totals}
 use Rattle.q_sound.proofs.SizeChecks.{numbers}
 use Rattle.q_tree.specs.Commands.{IsRefused}
-use Rattle.q_tree.specs.Kept.{Kept}
-use Rattle.q_tree.specs.Places.{unplaced}
+use Rattle.q_tree.specs.Kept.{Kept, kept}
 use Rattle.q_tree.specs.Reshaping.{AreReady, TakesMore, children_after, discipline_after, lost_with}
 use Rattle.q_tree.specs.declared.reshape.Reshape.{Reshape}
 use Rattle.q_tree.specs.declared.reshape.Reshape.TheVariants.{Nothing, SetLimit, SetBucket, SetOptions}
@@ -95,7 +93,7 @@ pub record IsRemade (plan : List ℕ → Result model.Edit Refusal) (n : Node Ke
   pub below : List Child
   pub planned : (path : List ℕ) → plan path ≡ Ok (Remake path own below)
   pub own_is : ◌≡◌ {A = Own} (record n.own { discipline = discipline_after r n.own.discipline (children n) }) own
-  pub kids_is : map unplaced (children_after r n.own.discipline (children n)) ≡ flat_map (child_of totals (children (unplaced n))) below
+  pub kids_is : children_after r n.own.discipline (children n) ≡ flat_map (child_of kept (children n)) below
   pub lost_is : lost_with r n.own.discipline (children n) ≡ beneath_removed below (shape n)
   pub ready : AreReady r
 

@@ -88,7 +88,8 @@ fn new_discipline(
 
 // The queue of an fq_codel with these settings.
 fn new_queue(alloc: Global, settings: Settings) -> Result<Box<FqCodel>, AllocError>
-    ensures { IfOk result (λ q. q.value.state ≡ first_state settings) }
+    ensures state { IfOk result (λ q. q.value.state ≡ first_state settings) }
+    ensures places { IfOk result (λ q. q.value.places ≡ 0) }
 {
     let queue = FqCodel::new(alloc, settings)?;
     Ok(Box::new(alloc, queue)?)

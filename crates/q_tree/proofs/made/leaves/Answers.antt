@@ -1,12 +1,11 @@
-use Rattle.std.proofs.Common.{◌≡◌, ◌+◌, sym, ap, subst, map, replicate, arith}
+use Rattle.std.proofs.Common.{◌≡◌, ◌+◌, sym, subst, replicate, arith}
 use Rattle.q_model.specs.Make.{implicit_pfifo}
 use Rattle.q_tree.specs.Making.{AreNew}
-use Rattle.q_tree.specs.Places.{unplaced}
 use Rattle.q_tree.proofs.MakingLemmas.{more-new}
 use Rattle.q_tree.proofs.made.leaves.Goals as goal
 
 pub loop-init : goal.loop-init
-loop-init c = ap (map unplaced) c.in_ok-nodes.ensures.items
+loop-init c = c.in_ok-nodes.ensures.items
 
 pub loop-preserved : goal.loop-preserved
 loop-preserved c =
