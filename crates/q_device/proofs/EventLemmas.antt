@@ -18,6 +18,7 @@ use Rattle.q_model.proofs.ShrinkLemmas.{each-each_memory, shape-with_memory}
 use Rattle.q_tree.specs.Kept.{Kept, kept}
 use Rattle.q_tree.specs.Commands.{IsDone, IsRefused, plan_of, told}
 use Rattle.q_tree.specs.TreeSeen.{numbers, tree_numbers}
+use Rattle.q_tree.proofs.Plans.{done-numbers}
 use Rattle.q_tree.proofs.TreeLemmas.{stands}
 use Rattle.q_device.specs.declared.device.Device.TheInside.{Inside}
 use Rattle.q_device.specs.Counters.{HasNotFallen}
@@ -122,7 +123,7 @@ module _ (x : DeviceState Kept) (clock now at : ℕ) (is : at ≡ max clock now)
     pub done-device : numbers_at at y ≡ (step totals seen (event.Command c now)).device
     done-device = by (plan_of c at x) done_is ∙ sym (ap (λ (s : Step Counts). s.device) step-is) where
       by : (p : Result Edit Refusal) → IsDone at p x y → numbers_at at y ≡ (answered totals p at seen).device
-      by (Ok edit) h = ap (λ (n : DeviceState Counts). record n { clock = at }) h
+      by (Ok edit) h = ap (λ (n : DeviceState Counts). record n { clock = at }) (done-numbers at edit x y h)
       by (Err refusal) h = absurd h
 
     pub done-reply : reply.Done (Ok tt) ≡ (step totals seen (event.Command c now)).reply
@@ -140,7 +141,7 @@ module _ (x : DeviceState Kept) (clock now at : ℕ) (is : at ≡ max clock now)
     pub done-clock : y.clock ≡ at
     done-clock = by (plan_of c at x) done_is where
       by : (p : Result Edit Refusal) → IsDone at p x y → y.clock ≡ at
-      by (Ok edit) h = ap (λ (n : DeviceState Counts). n.clock) h
+      by (Ok edit) h = ap (λ (n : DeviceState Kept). n.clock) h
       by (Err refusal) h = absurd h
 
   pub refused-reply : (memory : Type 0) (refusal : Refusal) → IsRefused memory (plan_of c at x) refusal → IsRefusal memory (step totals seen (event.Command c now)).reply refusal

@@ -1,14 +1,14 @@
-use Rattle.std.proofs.Common.{List, Option, ◌∙◌, ◌++◌, length, refl, sym, ap, subst, arith}
+use Rattle.std.proofs.Common.{List, ◌∙◌, ◌++◌, length, refl, sym, ap, subst, arith}
 use Rattle.q_codel.specs.Losses.{LossList}
 use Rattle.q_packet.specs.Descriptor.{Descriptor}
 use Rattle.q_model.specs.declared.event.Event.TheVariants as event
 use Rattle.q_model.specs.declared.reply.Reply.TheVariants as reply
 use Rattle.q_model.specs.Node.{shape}
-use Rattle.q_model.specs.Route.{Route}
 use Rattle.q_model.specs.Step.{DeviceState, fate_of, losses_in, step}
 use Rattle.q_model.specs.Tally.{Counts, totals, with_packet}
 use Rattle.q_model.specs.TreeState.{noted_by_put, own_loss}
 use Rattle.q_tree.specs.Kept.{Kept}
+use Rattle.q_tree.specs.RouteSeen.{RouteSeen}
 use Rattle.q_tree.specs.TreeSeen.{CanArrive}
 use Rattle.q_device.specs.Counters.{HasNotFallen}
 use Rattle.q_device.specs.DeviceSeen.{DeviceSeen, HasRoomFor, with_event}
@@ -90,5 +90,5 @@ returns-in_default-clause-succeeds c there =
     let a = c.self.inside in
     let room = subst (HasRoomFor c.args.packet) (sym c.self.view_is) there in
     c.in_default.ensures.succeeds
-    (subst (λ (route : Option Route). CanArrive route a.tree) (sym c.route-route.ensures) room.tree)
+    (subst (λ (route : RouteSeen). CanArrive route a.tree) (sym c.route-route.ensures) room.tree)
     (omega (arith, room.losses, ap (λ (ps : List Descriptor). length ps) (waits-numbers a.tree)))
