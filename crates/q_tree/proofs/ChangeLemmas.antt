@@ -1,8 +1,8 @@
 -- What the model plans of a change of a qdisc, and that the reshaping of the code is this plan.
-use Rattle.std.proofs.Common.{◌≡◌, ℕ, zero, suc, ◌+◌, ◌-◌, ◌≤◌, ◌∙◌, min, Bool, true, false, List, [], ◌∷◌, ◌++◌, append-nil, length, map, take, drop, get_or, replicate, refl, sym, ap, ap₂, subst, Option, Some, None, option_map, Result, Ok, Err, inl, inr, arith}
-use Rattle.std.specs.Prelude.{All, is_some, not, nat_lt, unwrap_or, ◌==◌, ◌||◌, if◌then◌else◌}
+use Rattle.std.proofs.Common.{◌≡◌, ℕ, zero, suc, ◌+◌, ◌-◌, ◌<◌, ◌≤◌, ◌∙◌, min, Bool, true, false, List, [], ◌∷◌, ◌++◌, append-nil, length, map, take, drop, get_or, replicate, refl, sym, ap, ap₂, subst, Option, Some, None, option_map, Result, Ok, Err, inl, inr, arith}
+use Rattle.std.specs.Prelude.{All, IsTrue, is_some, not, nat_lt, unwrap_or, ◌==◌, ◌||◌, if◌then◌else◌}
 use Rattle.std.specs.List.{enumerate_from, flat_map, list_any, sum}
-use Rattle.std.proofs.lemmas.Bool.{cases_lt, eqb-true, not-false}
+use Rattle.std.proofs.lemmas.Bool.{cases_lt, eqb-true, not-false, or_right}
 use Rattle.std.proofs.lemmas.List.Elements.{All-cons, All-nil}
 use Rattle.std.proofs.lemmas.List.{drop-map, drop_all, length-map, length-replicate, take_all, take_min}
 use Rattle.q_codel.specs.declared.limit.Limit.TheVariants.{Packets, Bytes}
@@ -39,7 +39,7 @@ use Rattle.q_sound.proofs.Kept.{IsLawfulRoot}
 use Rattle.q_sound.proofs.MadeSizes.{count-shape}
 use Rattle.q_sound.proofs.SizeChecks.{numbers}
 use Rattle.q_sound.proofs.SizedChanges.{change_sized, length-below, node-lawful, nodes_rebanded, plan-qdisc_change}
-use Rattle.q_tree.specs.Changing.{IsChange, IsRemade, bfifo_answer, drr_same, fq_codel_answer, leaves_answer, nodes_from, pfifo_answer, tbf_answer}
+use Rattle.q_tree.specs.Changing.{IsChange, IsRemade, is_new, bfifo_answer, drr_same, fq_codel_answer, leaves_answer, nodes_from, pfifo_answer, tbf_answer}
 use Rattle.q_tree.specs.Commands.{IsBounded, IsPlannedFor, IsRefused, takes_none}
 use Rattle.q_tree.specs.Finding.{reached}
 use Rattle.q_tree.specs.Kept as own_kept
@@ -110,38 +110,38 @@ module _ (d : Device) (now : ℕ) (root : Shape) (n : Counting) where
   abbrev pub plans_of : Kind → Discipline → List ℕ → Result model.Edit Refusal
   plans_of k was path = change_sized d now root (shape n) path was k
 
-  pub pfifo-is : (limit : Option ℕ) → IsChange takes_none (plans_of (kind.Pfifo limit) n.own.discipline) n (pfifo_answer limit n.own.discipline)
+  pub pfifo-is : (limit : Option ℕ) → IsChange (λ plan. takes_none) (plans_of (kind.Pfifo limit) n.own.discipline) n (pfifo_answer limit n.own.discipline)
   pfifo-is limit = by n.own.discipline refl where
-    by : (was : Discipline) → n.own.discipline ≡ was → IsChange takes_none (plans_of (kind.Pfifo limit) was) n (pfifo_answer limit was)
+    by : (was : Discipline) → n.own.discipline ≡ was → IsChange (λ plan. takes_none) (plans_of (kind.Pfifo limit) was) n (pfifo_answer limit was)
     by (Fifo (Packets old) queue) is =
         let new = Packets (unwrap_or limit old) in
-        (retuned-is n (plans_of (kind.Pfifo limit) (Fifo (Packets old) queue)) (SetLimit new) (Fifo new queue) (λ path. refl) (ap (limited new) is) refl refl tt, λ t. t)
+        (retuned-is n (plans_of (kind.Pfifo limit) (Fifo (Packets old) queue)) (SetLimit new) (Fifo new queue) (λ path. refl) (ap (limited new) is) refl refl tt, λ path t. t)
     by (Fifo (Bytes old) queue) is = λ path. refl
     by (Prio priomap) is = λ path. refl
     by (Tbf bucket old) is = λ path. refl
     by (Drr s) is = λ path. refl
     by (FqCodel s) is = λ path. refl
 
-  pub bfifo-is : (limit : Option ℕ) → IsChange takes_none (plans_of (kind.Bfifo limit) n.own.discipline) n (bfifo_answer limit n.own.discipline)
+  pub bfifo-is : (limit : Option ℕ) → IsChange (λ plan. takes_none) (plans_of (kind.Bfifo limit) n.own.discipline) n (bfifo_answer limit n.own.discipline)
   bfifo-is limit = by n.own.discipline refl where
-    by : (was : Discipline) → n.own.discipline ≡ was → IsChange takes_none (plans_of (kind.Bfifo limit) was) n (bfifo_answer limit was)
+    by : (was : Discipline) → n.own.discipline ≡ was → IsChange (λ plan. takes_none) (plans_of (kind.Bfifo limit) was) n (bfifo_answer limit was)
     by (Fifo (Packets old) queue) is = λ path. refl
     by (Fifo (Bytes old) queue) is =
         let new = Bytes (unwrap_or limit old) in
-        (retuned-is n (plans_of (kind.Bfifo limit) (Fifo (Bytes old) queue)) (SetLimit new) (Fifo new queue) (λ path. refl) (ap (limited new) is) refl refl tt, λ t. t)
+        (retuned-is n (plans_of (kind.Bfifo limit) (Fifo (Bytes old) queue)) (SetLimit new) (Fifo new queue) (λ path. refl) (ap (limited new) is) refl refl tt, λ path t. t)
     by (Prio priomap) is = λ path. refl
     by (Tbf bucket old) is = λ path. refl
     by (Drr s) is = λ path. refl
     by (FqCodel s) is = λ path. refl
 
-  pub drr-is : IsChange takes_none (plans_of kind.Drr n.own.discipline) n (drr_same n.own.discipline)
+  pub drr-is : IsChange (λ plan. takes_none) (plans_of kind.Drr n.own.discipline) n (drr_same n.own.discipline)
   drr-is = by n.own.discipline refl where
-    by : (was : Discipline) → n.own.discipline ≡ was → IsChange takes_none (plans_of kind.Drr was) n (drr_same was)
+    by : (was : Discipline) → n.own.discipline ≡ was → IsChange (λ plan. takes_none) (plans_of kind.Drr was) n (drr_same was)
     by (Fifo (Packets most) queue) is = λ path. refl
     by (Fifo (Bytes most) queue) is = λ path. refl
     by (Prio priomap) is = λ path. refl
     by (Tbf bucket old) is = λ path. refl
-    by (Drr s) is = (retuned-is n (plans_of kind.Drr (Drr s)) Nothing (Drr s) (λ path. refl) is refl refl tt, λ t. t)
+    by (Drr s) is = (retuned-is n (plans_of kind.Drr (Drr s)) Nothing (Drr s) (λ path. refl) is refl refl tt, λ path t. t)
     by (FqCodel s) is = λ path. refl
 
   module _ (o : FqOptions) (s : FqState) (is : n.own.discipline ≡ FqCodel s) where
@@ -149,19 +149,19 @@ module _ (d : Device) (now : ℕ) (root : Shape) (n : Counting) where
     resettled_to = FqCodel (flows.after_change s (with_options o s.settings))
 
     flows-by : (other : Bool) → not (unwrap_or o.flows s.settings.flows == s.settings.flows) ≡ other
-        → IsChange takes_none (λ path. done_unless (refuse CannotChange other ∷ []) (retuned (shape n) path resettled_to)) n (done_unless (refuse CannotChange other ∷ []) (SetOptions o))
+        → IsChange (λ plan. takes_none) (λ path. done_unless (refuse CannotChange other ∷ []) (retuned (shape n) path resettled_to)) n (done_unless (refuse CannotChange other ∷ []) (SetOptions o))
     flows-by true e = λ path. refl
     flows-by false e =
         let same : unwrap_or o.flows s.settings.flows ≡ s.settings.flows =
         eqb-true (unwrap_or o.flows s.settings.flows) s.settings.flows (not-false (unwrap_or o.flows s.settings.flows == s.settings.flows) e) in (
           retuned-is n (λ path. Ok (retuned (shape n) path resettled_to)) (SetOptions o) resettled_to (λ path. refl)
               (ap (reoptioned o) is ∙ sym (ap (λ k. FqCodel (flows.after_change s (record (with_options o s.settings) { flows = k }))) same)) refl refl tt,
-          λ t. t,
+          λ path t. t,
         )
 
-  pub fq_codel-is : (o : FqOptions) → IsChange takes_none (plans_of (kind.FqCodel o) n.own.discipline) n (fq_codel_answer o n.own.discipline)
+  pub fq_codel-is : (o : FqOptions) → IsChange (λ plan. takes_none) (plans_of (kind.FqCodel o) n.own.discipline) n (fq_codel_answer o n.own.discipline)
   fq_codel-is o = by n.own.discipline refl where
-    by : (was : Discipline) → n.own.discipline ≡ was → IsChange takes_none (plans_of (kind.FqCodel o) was) n (fq_codel_answer o was)
+    by : (was : Discipline) → n.own.discipline ≡ was → IsChange (λ plan. takes_none) (plans_of (kind.FqCodel o) was) n (fq_codel_answer o was)
     by (Fifo (Packets most) queue) is = λ path. refl
     by (Fifo (Bytes most) queue) is = λ path. refl
     by (Prio priomap) is = λ path. refl
@@ -180,7 +180,7 @@ module _ (d : Device) (now : ℕ) (root : Shape) (n : Counting) where
       abbrev new : TokenBucket
       new = after_change b rate burst now
 
-      burst-by : (small : Bool) → IsChange takes_none (λ path. done_unless (refuse SmallBurst small ∷ []) (reshaped now (shape n) path b rate burst bytes)) n (done_unless (refuse SmallBurst small ∷ []) (SetBucket new bytes))
+      burst-by : (small : Bool) → IsChange (λ plan. takes_none) (λ path. done_unless (refuse SmallBurst small ∷ []) (reshaped now (shape n) path b rate burst bytes)) n (done_unless (refuse SmallBurst small ∷ []) (SetBucket new bytes))
       burst-by true = λ path. refl
       burst-by false = (
         record {
@@ -192,12 +192,12 @@ module _ (d : Device) (now : ℕ) (root : Shape) (n : Counting) where
           lost_is = sym (none-gone bytes (children (shape n)) one);
           ready = tt;
         },
-        λ t. t,
+        λ path t. t,
       )
 
-    pub tbf-is : IsChange takes_none (plans_of (kind.Tbf rate burst limit) n.own.discipline) n (tbf_answer d.mtu now rate burst limit n.own.discipline)
+    pub tbf-is : IsChange (λ plan. takes_none) (plans_of (kind.Tbf rate burst limit) n.own.discipline) n (tbf_answer d.mtu now rate burst limit n.own.discipline)
     tbf-is = by n.own.discipline refl where
-      by : (was : Discipline) → n.own.discipline ≡ was → IsChange takes_none (plans_of (kind.Tbf rate burst limit) was) n (tbf_answer d.mtu now rate burst limit was)
+      by : (was : Discipline) → n.own.discipline ≡ was → IsChange (λ plan. takes_none) (plans_of (kind.Tbf rate burst limit) was) n (tbf_answer d.mtu now rate burst limit was)
       by (Fifo (Packets most) queue) is = λ path. refl
       by (Fifo (Bytes most) queue) is = λ path. refl
       by (Prio priomap) is = λ path. refl
@@ -227,6 +227,10 @@ drop-front (suc k) (x ∷ xs) ys e = drop-front k xs ys (omega (arith, e))
 map-replicate : {A B : Type 0} (f : A → B) (k : ℕ) (x : A) → map f (replicate k x) ≡ replicate k (f x)
 map-replicate f zero x = refl
 map-replicate f (suc k) x = ap (λ ys. f x ∷ ys) (map-replicate f k x)
+
+new-among : (k : ℕ) (s : Shape) → 0 < k → list_any is_new (replicate k (New s)) ≡ true
+new-among zero s some = absurd (omega (arith, some))
+new-among (suc k) s some = refl
 
 -- what is past the lesser of a number and the length is past the number
 drop-min : {A : Type 0} (k : ℕ) (xs : List A) → drop (min (length xs) k) xs ≡ drop k xs
@@ -266,6 +270,9 @@ module _ (d : Device) (n : Counting) (s : PrioSettings) (ls : List Counting) whe
   abbrev behind : List Child
   behind = replicate (s.bands - old) (New leaf)
 
+  pub bands-made-of : 0 < s.bands - old → IsTrue (list_any is_new (front ++ behind))
+  bands-made-of some = any-append is_new front behind ∙ or_right (list_any is_new front) (list_any is_new behind) (new-among (s.bands - old) leaf some)
+
   module _ (new : AreNew ls (replicate (s.bands - old) leaf)) where
     many : length ls ≡ s.bands - length (children n)
     many = omega (arith, ap length new, length-map (replicate (s.bands - old) leaf) (blank own_kept.kept), length-replicate (s.bands - old) leaf, length-shape n)
@@ -290,6 +297,10 @@ module _ (d : Device) (n : Counting) (s : PrioSettings) (ls : List Counting) whe
         (λ j le lt. any-append (keeps j) front behind ∙ ap (λ t. t || list_any (keeps j) behind) (kept_there j 0 (min old s.bands) le lt))
         (λ j le. any-append (keeps j) front behind ∙ ap₂ (λ a b. a || b) (kept_above j 0 (min old s.bands) le) (new_keeps j leaf (s.bands - old))))
 
+    -- bands more are new children
+    pub more-made : 0 < length ls → IsTrue (list_any is_new (front ++ behind))
+    more-made some = bands-made-of (omega (arith, some, many, length-shape n))
+
     module _ (plans : List ℕ → Result model.Edit Refusal) (r : shapes.Reshape) (priomap : List ℕ) (is : n.own.discipline ≡ Prio priomap) (planned : (path : List ℕ) → plans path ≡ Ok (rebanded d (shape n) path s.bands s.priomap)) where
       -- r is the edit of these bands
       pub rebanded-is : discipline_after r n.own.discipline (children n) ≡ remapped s.priomap n.own.discipline → children_after r n.own.discipline (children n) ≡ bands_staying s.bands ls n.own.discipline (children n)
@@ -303,6 +314,10 @@ module _ (d : Device) (n : Counting) (s : PrioSettings) (ls : List Counting) whe
         lost_is = go ∙ ap (λ x. packets_beneath (bands_going s.bands ls x (children n))) is ∙ gone-rebanded;
         ready = ready (fresh d ls (s.bands - old) new);
       }
+
+pub bands-made : (d : Device) (n : Counting) (s : PrioSettings) (leaves : ℕ) → leaves ≡ s.bands - length (children (shape n)) → 0 < leaves
+    → IsTrue (list_any is_new (kept_from 0 (min (length (children (shape n))) s.bands) ++ replicate (s.bands - length (children (shape n))) (New (implicit_pfifo d))))
+bands-made d n s leaves is some = bands-made-of d n s [] (omega (arith, is, some))
 
 -- the answer of a prio, once it is known whether a filter names a band that would go, and whether the nodes would be too many
 pub leaves-by : (n : Counting) (bands nodes : ℕ) (priomap : List ℕ) → n.own.discipline ≡ Prio priomap → (filters : List Filter) → n.own.filters ≡ filters → (busy over : Bool)
@@ -398,13 +413,13 @@ module _ (root : Counting) (bounded : IsBounded root) (d : Device) (now mtu : �
     pub change-within : count_nodes n ≤ count_nodes root
     change-within = omega (arith, (sized-within path (shape root) (shape n) there).1, count-shape root, count-shape n)
 
-    pub change-refused : (memory : Type 0) (refusal : Refusal) → IsRefused memory (change_at path (shape n)) refusal → IsRefused memory whole refusal
-    change-refused memory refusal h = subst (λ q. IsRefused memory q refusal) (sym at-node) h
+    pub change-refused : (memory : Result model.Edit Refusal → Type 0) (refusal : Refusal) → IsRefused (memory (change_at path (shape n))) (change_at path (shape n)) refusal → IsRefused (memory whole) whole refusal
+    change-refused memory refusal h = subst (λ q. IsRefused (memory q) q refusal) (sym at-node) h
 
-    pub change-planned : (memory : Type 0) (r : shapes.Reshape) → IsRemade (λ way. change_at way (shape n)) n r × (TakesMore r → memory) → (p : Planned) → p.path.items ≡ path → p.edit ≡ Reshape r → IsCommand (QdiscChange place handle k)
-        → IsPlannedFor memory (QdiscChange place handle k) p now d root
+    pub change-planned : (memory : Result model.Edit Refusal → Type 0) (r : shapes.Reshape) → IsRemade (λ way. change_at way (shape n)) n r × ((way : List ℕ) → TakesMore r → memory (change_at way (shape n))) → (p : Planned) → p.path.items ≡ path → p.edit ≡ Reshape r → IsCommand (QdiscChange place handle k)
+        → IsPlannedFor (memory whole) (QdiscChange place handle k) p now d root
     change-planned memory r h p way edit ranges =
-        subst (λ (q : Planned). IsPlannedFor memory (QdiscChange place handle k) q now d root) (λ i. record p { edit = sym edit i })
+        subst (λ (q : Planned). IsPlannedFor (memory whole) (QdiscChange place handle k) q now d root) (λ i. record p { edit = sym edit i })
         (remade-planned d root (record p { edit = Reshape r }) h.0.ready n (subst (λ x. node_at x root ≡ Some n) (sym way) (reached-at root found_at path n found).there) h.0.own h.0.below h.0.lost_is
         (reshape-does r n h.0.own h.0.below h.0.own_is h.0.kids_is) (QdiscChange place handle k) ranges now
-        (at-node ∙ ap (λ x. change_at x (shape n)) (sym way) ∙ h.0.planned p.path.items) memory h.1)
+        (at-node ∙ ap (λ x. change_at x (shape n)) (sym way) ∙ h.0.planned p.path.items) (memory whole) (λ takes. subst memory (sym at-node) (h.1 path takes)))

@@ -13,8 +13,8 @@ loop-preserved c =
     subst (λ xs. AreNew xs (replicate (c.loop.counter + 1) leaf)) (sym c.in_ok-push.ensures.items)
     (more-new c.loop.nodes.items c.implicit_pfifo.result leaf c.loop.counter c.loop.invariant c.implicit_pfifo.ensures)
 
-pub returns : goal.returns
-returns c =
+pub returns-clause-new : goal.returns-clause-new
+returns-clause-new c =
     let leaf = implicit_pfifo (record { mtu = c.args.link.mtu; txqueuelen = c.args.link.txqueuelen }) in
     let last : c.loop.counter ≡ c.args.count = omega (arith, c.loop-test.false, c.loop.auto.counter-end) in
     subst (λ k. AreNew c.loop.nodes.items (replicate k leaf)) last c.loop.invariant

@@ -16,7 +16,7 @@ returns-in-Prio-clause-new c =
       discipline = ap (λ (o : PrioSettings). spec.Prio o.priomap) c.options.view_is;
       places = refl;
       leaves = subst (λ xs. AreNew c.in_ok-bands-in-Prio.bands.items xs) (sym (nodes-side (replicate c.in-Prio.options.bands leaf)))
-          (subst (λ k. AreNew c.in_ok-bands-in-Prio.bands.items (replicate k leaf)) (c.from.ensures ∙ ap (λ (o : PrioSettings). o.bands) c.options.view_is) c.in_ok-bands-in-Prio.ensures);
+          (subst (λ k. AreNew c.in_ok-bands-in-Prio.bands.items (replicate k leaf)) (c.from.ensures ∙ ap (λ (o : PrioSettings). o.bands) c.options.view_is) c.in_ok-bands-in-Prio.ensures.new);
     })
 
 pub returns-in-FqCodel-clause-new : goal.returns-in-FqCodel-clause-new
