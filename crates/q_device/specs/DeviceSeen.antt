@@ -15,7 +15,8 @@ use Rattle.q_model.specs.Settings.{DeviceSettings}
 use Rattle.q_model.specs.Step.{DeviceState, new_device, counts_at, step}
 use Rattle.q_model.specs.Tally.{Counts, totals}
 use Rattle.q_model.specs.TreeState.{take_packet}
-use Rattle.q_tree.specs.Commands.{IsDone, plan_of}
+use Rattle.q_tree.specs.Commanding.{WantsMemory}
+use Rattle.q_tree.specs.Commands.{IsDone, IsRefused, plan_of}
 use Rattle.q_tree.specs.Kept.{Kept, kept}
 use Rattle.q_tree.specs.Places.{places_at}
 use Rattle.q_tree.specs.RouteSeen.{route_seen}
@@ -86,6 +87,12 @@ HasNoFewerPlaces before after = (path : List ℕ) → places_at path before.tree
 -- it had, and a new one none.
 abbrev pub IsCommanded : Command → ℕ → Memory → Memory → Type 0
 IsCommanded command now before after = IsDone now (plan_of command now before.tree) before.tree after.tree
+
+-- A command is refused for the first reason of its plan; or, where the plan does it, for want of memory, of a plan that takes some.
+abbrev pub IsRefusedAt : Command → ℕ → DeviceSeen → Refusal → Type 0
+IsRefusedAt command now d refusal =
+    let plan = plan_of command (counts_at now d.device) d.memory.tree in
+    IsRefused (WantsMemory command plan) plan refusal
 
 -- The memory after a poll at this moment: the packets that it took have left the tree, and every place is still there.
 abbrev pub polled_memory : ℕ → Memory → Memory

@@ -15,7 +15,7 @@ ghost use Rattle.q_tree.specs.RouteSeen.{RouteSeen};
 ghost use Rattle.q_tree.specs.TreeSeen.{numbers, tree_numbers, CanArrive, IsRouteIn};
 ghost use Rattle.q_device.specs.Counters.{HasNotFallen};
 ghost use Rattle.q_device.specs.DeviceLaws.{HasItsMemory, IsReplayed};
-ghost use Rattle.q_device.specs.DeviceSeen.{IsRefusal, as_counted, most_events, opened, polled_memory, reaped, with_event, with_recorded, HasNoFewerPlaces, HasRoomFor, IsCommanded};
+ghost use Rattle.q_device.specs.DeviceSeen.{IsRefusal, as_counted, most_events, opened, polled_memory, reaped, with_event, with_recorded, HasNoFewerPlaces, HasRoomFor, IsCommanded, IsRefusedAt};
 
 use q_codel::{Loss as Lost, Losses};
 use q_model::{Command, Event, Fate, Place, Polled, Refusal, Row, Settings, packet_ranges};
@@ -150,13 +150,15 @@ impl Device {
     ///
     /// # Errors
     ///
-    /// The first refusal of the command that holds; `Memory` where none holds, the command may take memory, and it is refused.
+    /// The first refusal of the command that holds; `Memory` where none holds, the command takes memory, and it is refused. A change
+    /// of a prio takes memory only where it gets more bands.
     /// Nothing has changed then, and there was no event.
     pub fn command(&mut self, command: Command, now: Moment) -> Result<(), Refusal>
         ensures event { OnOk result (self.new ≡ record (with_event (event.Command command now) self.old) { memory = self.new.memory }) }
         ensures moment { OnOk result (as_counted self.old.device (event.Command command now) ≡ event.Command command self.new.device.clock) }
         ensures reply { OnOk result (reply.Done (Ok (record {})) ≡ (step totals self.old.device (event.Command command now)).reply) }
         ensures refused { IfErr result (IsRefusal (MayTakeMemory command) (step totals self.old.device (event.Command command now)).reply) }
+        ensures memory { IfErr result (IsRefusedAt command now self.old) }
         ensures same { OnErr result (self.new ≡ self.old) }
         ensures places { self.new.memory.losses ≡ self.old.memory.losses }
         ensures queues { OnOk result (IsCommanded command self.new.device.clock self.old.memory self.new.memory) }
