@@ -47,9 +47,10 @@ impl Fifo {
     pub fn new(alloc: Global, limit: Limit) -> Fifo
         ensures empty { result.packets ≡ [] }
         ensures limit { result.limit ≡ limit }
+        ensures places { result.places ≡ 0 }
     {
         Fifo {
-            packets: VecDeque::new(alloc),
+            packets: VecDeque::from_vec(Vec::new(alloc)),
             bytes: 0,
             limit,
         }

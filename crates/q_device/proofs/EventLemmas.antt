@@ -5,6 +5,8 @@ use Rattle.q_codel.specs.declared.loss.Loss.{Loss}
 use Rattle.q_packet.specs.Descriptor.{Descriptor}
 use Rattle.q_model.specs.Beneath.{beneath, beneath_own}
 use Rattle.q_model.specs.declared.command.Command.{Command}
+use Rattle.q_model.specs.declared.command.Command.TheVariants as command
+use Rattle.q_model.specs.declared.kind.Kind.TheVariants as kind
 use Rattle.q_model.specs.declared.event.Event.{Event}
 use Rattle.q_model.specs.declared.event.Event.TheVariants as event
 use Rattle.q_model.specs.declared.refusal.Refusal.{Refusal}
@@ -16,8 +18,10 @@ use Rattle.q_model.specs.Tally.{Counts, totals}
 use Rattle.q_model.specs.TreeState.{noted_by_put, noted_by_take, plan, put, take_packet}
 use Rattle.q_model.proofs.ShrinkLemmas.{each-each_memory, shape-with_memory}
 use Rattle.q_tree.specs.Kept.{Kept, kept}
+use Rattle.q_tree.specs.Commanding.{MayTakeMemory, WantsMemory}
 use Rattle.q_tree.specs.Commands.{IsDone, IsRefused, plan_of, told}
 use Rattle.q_tree.specs.TreeSeen.{numbers, tree_numbers}
+use Rattle.q_tree.proofs.Plans.{done-numbers}
 use Rattle.q_tree.proofs.TreeLemmas.{stands}
 use Rattle.q_device.specs.declared.device.Device.TheInside.{Inside}
 use Rattle.q_device.specs.Counters.{HasNotFallen}
@@ -122,7 +126,7 @@ module _ (x : DeviceState Kept) (clock now at : ℕ) (is : at ≡ max clock now)
     pub done-device : numbers_at at y ≡ (step totals seen (event.Command c now)).device
     done-device = by (plan_of c at x) done_is ∙ sym (ap (λ (s : Step Counts). s.device) step-is) where
       by : (p : Result Edit Refusal) → IsDone at p x y → numbers_at at y ≡ (answered totals p at seen).device
-      by (Ok edit) h = ap (λ (n : DeviceState Counts). record n { clock = at }) h
+      by (Ok edit) h = ap (λ (n : DeviceState Counts). record n { clock = at }) (done-numbers at edit x y h)
       by (Err refusal) h = absurd h
 
     pub done-reply : reply.Done (Ok tt) ≡ (step totals seen (event.Command c now)).reply
@@ -140,7 +144,7 @@ module _ (x : DeviceState Kept) (clock now at : ℕ) (is : at ≡ max clock now)
     pub done-clock : y.clock ≡ at
     done-clock = by (plan_of c at x) done_is where
       by : (p : Result Edit Refusal) → IsDone at p x y → y.clock ≡ at
-      by (Ok edit) h = ap (λ (n : DeviceState Counts). n.clock) h
+      by (Ok edit) h = ap (λ (n : DeviceState Kept). n.clock) h
       by (Err refusal) h = absurd h
 
   pub refused-reply : (memory : Type 0) (refusal : Refusal) → IsRefused memory (plan_of c at x) refusal → IsRefusal memory (step totals seen (event.Command c now)).reply refusal
@@ -148,6 +152,26 @@ module _ (x : DeviceState Kept) (clock now at : ℕ) (is : at ≡ max clock now)
     by : (p : Result Edit Refusal) → IsRefused memory p refusal → IsRefusal memory (answered totals p at seen).reply refusal
     by (Ok edit) e = (e.0, e.1)
     by (Err first) e = e
+
+-- a plan that wants memory is of a command that may take some
+may-want : (c : Command) (p : Result Edit Refusal) → WantsMemory c p → MayTakeMemory c
+may-want (command.QdiscAdd place handle k) p h = h
+may-want (command.QdiscChange place handle (kind.Pfifo limit)) p h = h
+may-want (command.QdiscChange place handle (kind.Bfifo limit)) p h = h
+may-want (command.QdiscChange place handle (kind.Prio options)) p h = tt
+may-want (command.QdiscChange place handle (kind.Tbf rate burst limit)) p h = h
+may-want (command.QdiscChange place handle kind.Drr) p h = h
+may-want (command.QdiscChange place handle (kind.FqCodel options)) p h = h
+may-want (command.QdiscDel place handle) p h = h
+may-want (command.ClassAdd parent class quantum) p h = h
+may-want (command.ClassChange parent class quantum) p h = h
+may-want (command.ClassDel parent class) p h = h
+may-want (command.FilterAdd parent major filter) p h = h
+may-want (command.FilterDel parent prio) p h = h
+
+pub may-be-refused : (c : Command) (p : Result Edit Refusal) (refusal : Refusal) → IsRefused (WantsMemory c p) p refusal → IsRefused (MayTakeMemory c) p refusal
+may-be-refused c (Ok edit) refusal h = (h.0, may-want c (Ok edit) h.1)
+may-be-refused c (Err first) refusal h = h
 
 -- a refused command tells of no loss
 pub told-nothing : (p : Result Edit Refusal) (root : Shape) (refusal : Refusal) → told p root (Err refusal) ≡ []

@@ -1,6 +1,6 @@
 -- A device of the code keeps its invariant, whatever happens to it.
 use Rattle.std.proofs.Common.{◌≡◌, ℕ, ◌+◌, ◌<◌, ◌≤◌, ◌^◌, List, [], ◌∷◌, ◌++◌, length, take, drop, refl, sym, ap, subst, Some, None, arith, ◌∙◌}
-use Rattle.std.specs.Prelude.{slice_get, vec_capacity}
+use Rattle.std.specs.Prelude.{Option, slice_get, vec_capacity}
 use Rattle.std.proofs.lemmas.List.{length-append, length-drop}
 use Rattle.std.proofs.lemmas.List.Elements.{All-nil, All-cons, All-append}
 use Rattle.q_codel.specs.Losses.{LossList}
@@ -12,15 +12,17 @@ use Rattle.q_model.specs.declared.totals.Totals.{Totals}
 use Rattle.q_model.specs.Beneath.{beneath}
 use Rattle.q_model.specs.Events.{IsEvent}
 use Rattle.q_model.specs.Lawful.{IsLawfulTree}
+use Rattle.q_model.specs.Route.{Route, device_route}
 use Rattle.q_model.specs.Settings.{DeviceSettings, IsInRange}
 use Rattle.q_model.specs.Step.{DeviceState, new_device, step}
 use Rattle.q_model.specs.Tally.{Counts, totals}
 use Rattle.q_sound.proofs.Replays.{not-after}
 use Rattle.q_tree.specs.Kept.{Kept}
-use Rattle.q_tree.specs.TreeSeen.{numbers}
+use Rattle.q_tree.specs.RouteSeen.{RouteSeen, route_seen}
+use Rattle.q_tree.specs.TreeSeen.{CanArrive, numbers}
 use Rattle.q_device.specs.declared.device.Device.TheInside.{Inside}
 use Rattle.q_device.specs.Counters.{arrived_after}
-use Rattle.q_device.specs.DeviceSeen.{DeviceSeen, opened, as_counted, reaped, with_event}
+use Rattle.q_device.specs.DeviceSeen.{DeviceSeen, HasRoomFor, opened, as_counted, reaped, with_event}
 use Rattle.q_device.specs.Keeping.{device_seen, numbers_at, IsKeptDevice}
 use Rattle.q_device.specs.Replayed.{IsReplayOf}
 use Rattle.q_device.proofs.EventLemmas.{waits-numbers, waits-same, same-at, Happened, event-seen}
@@ -157,3 +159,12 @@ module _ (a : Inside) (k : IsKeptDevice a) where
     recorder = k.recorder;
     arrivals = omega (arith, k.arrivals, ap (λ (d : DeviceState Counts). d.tree.top.arrived.packets) same);
   }
+
+-- what there was room for there is room for still, where places were made alone
+pub room-still : (a : Inside) (x : DeviceState Kept) (l : LossList) → numbers x ≡ numbers a.tree
+    → ((p : Descriptor) → device_route p x.tree.device.mtu x.tree.root ≡ device_route p a.tree.tree.device.mtu a.tree.tree.root) → ((r : RouteSeen) → CanArrive r a.tree → CanArrive r x)
+    → l ≡ record a.losses { places = l.places } → a.losses.places ≤ l.places → (p : Descriptor) → HasRoomFor p (device_seen a) → HasRoomFor p (device_seen (record a { tree = x; losses = l }))
+room-still a x l same routes keeps is grows p h = record {
+  tree = subst (λ (r : Option Route). CanArrive (record { len = p.len; route = r }) x) (sym (routes p)) (keeps (route_seen p a.tree.tree.device.mtu a.tree.tree.root) h.tree);
+  losses = omega (arith, h.losses, grows, ap (λ (q : LossList). length q.waiting) is, ap (λ (d : DeviceState Counts). length (beneath d.tree.root)) same);
+}

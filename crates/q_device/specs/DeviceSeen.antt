@@ -3,19 +3,23 @@
 use Rattle.std.specs.Prelude.{◌≡◌, Ok, Err, ℕ, ◌+◌, ◌-◌, ◌^◌, ◌≤◌, min, if◌then◌else◌, nat_lt, List, [], ◌∷◌, ◌++◌, length, take, drop}
 use Rattle.q_packet.specs.Descriptor.{Descriptor}
 use Rattle.q_codel.specs.declared.loss.Loss.{Loss}
+use Rattle.q_model.specs.declared.command.Command.{Command}
 use Rattle.q_model.specs.declared.event.Event.{Event}
-use Rattle.q_model.specs.declared.event.Event.TheVariants.{Arrive, Poll, Command}
+use Rattle.q_model.specs.declared.event.Event.TheVariants as event
 use Rattle.q_model.specs.declared.refusal.Refusal.{Refusal}
 use Rattle.q_model.specs.declared.refusal.Refusal.TheVariants as refusals
 use Rattle.q_model.specs.declared.reply.Reply.{Reply}
 use Rattle.q_model.specs.declared.reply.Reply.TheVariants as reply
 use Rattle.q_model.specs.Beneath.{beneath}
-use Rattle.q_model.specs.Route.{device_route}
 use Rattle.q_model.specs.Settings.{DeviceSettings}
 use Rattle.q_model.specs.Step.{DeviceState, new_device, counts_at, step}
 use Rattle.q_model.specs.Tally.{Counts, totals}
 use Rattle.q_model.specs.TreeState.{take_packet}
+use Rattle.q_tree.specs.Commanding.{WantsMemory}
+use Rattle.q_tree.specs.Commands.{IsDone, IsRefused, plan_of}
 use Rattle.q_tree.specs.Kept.{Kept, kept}
+use Rattle.q_tree.specs.Places.{places_at}
+use Rattle.q_tree.specs.RouteSeen.{route_seen}
 use Rattle.q_tree.specs.TreeSeen.{CanArrive}
 
 -- The memory of a device, at which no rule looks: its tree as the code has it, whose queues have places, and the places of its
@@ -42,9 +46,9 @@ opened settings memory = record { settings = settings; device = new_device total
 
 -- an event with the moment at which it counts
 abbrev pub as_counted : DeviceState Counts → Event → Event
-as_counted d (Arrive p moment) = Arrive p (counts_at moment d)
-as_counted d (Poll moment) = Poll (counts_at moment d)
-as_counted d (Command c moment) = Command c (counts_at moment d)
+as_counted d (event.Arrive p moment) = event.Arrive p (counts_at moment d)
+as_counted d (event.Poll moment) = event.Poll (counts_at moment d)
+as_counted d (event.Command c moment) = event.Command c (counts_at moment d)
 
 -- one event more, while there is room
 abbrev pub with_recorded : {A : Type 0} → ℕ → A → List A → List A
@@ -72,8 +76,23 @@ reaped d = record d { waiting = drop 1 d.waiting; handed_out = d.handed_out + le
 -- A packet can arrive without memory: where it is not refused its queue has a place, the device can count it, and the lost list
 -- has a place more than the losses that wait and the packets that are queued.
 pub record HasRoomFor (p : Descriptor) (d : DeviceSeen) : Type 0 where
-  pub tree : CanArrive (device_route p d.memory.tree.tree.device.mtu d.memory.tree.tree.root) d.memory.tree
+  pub tree : CanArrive (route_seen p d.memory.tree.tree.device.mtu d.memory.tree.tree.root) d.memory.tree
   pub losses : length d.waiting + length (beneath d.device.tree.root) + 1 ≤ d.memory.losses
+
+-- No queue of the tree has fewer places than it had, whatever way leads to it.
+abbrev pub HasNoFewerPlaces : Memory → Memory → Type 0
+HasNoFewerPlaces before after = (path : List ℕ) → places_at path before.tree.tree.root ≤ places_at path after.tree.tree.root
+
+-- The memory after a command at this moment: the tree is as the command's plan says, in which a queue that stays has the places that
+-- it had, and a new one none.
+abbrev pub IsCommanded : Command → ℕ → Memory → Memory → Type 0
+IsCommanded command now before after = IsDone now (plan_of command now before.tree) before.tree after.tree
+
+-- A command is refused for the first reason of its plan; or, where the plan does it, for want of memory, of a plan that takes some.
+abbrev pub IsRefusedAt : Command → ℕ → DeviceSeen → Refusal → Type 0
+IsRefusedAt command now d refusal =
+    let plan = plan_of command (counts_at now d.device) d.memory.tree in
+    IsRefused (WantsMemory command plan) plan refusal
 
 -- The memory after a poll at this moment: the packets that it took have left the tree, and every place is still there.
 abbrev pub polled_memory : ℕ → Memory → Memory

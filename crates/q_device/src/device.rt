@@ -1,4 +1,4 @@
-ghost use Rattle.std.specs.Prelude.{◌≡◌, ◌≤◌, ◌+◌, ◌^◌, Ok, IsOk, IfOk, OnOk, OnErr, IfErr, max, min, length, slice_get, vec_capacity};
+ghost use Rattle.std.specs.Prelude.{ℕ, List, ◌≡◌, ◌≤◌, ◌+◌, ◌^◌, Ok, IsOk, IfOk, OnOk, OnErr, IfErr, max, min, length, slice_get, vec_capacity};
 ghost use Rattle.q_model.specs.Beneath.{beneath, is_empty, row_of};
 ghost use Rattle.q_model.specs.Node.{shape};
 ghost use Rattle.q_model.specs.Route.{device_route};
@@ -10,10 +10,12 @@ ghost use Rattle.q_model.specs.declared.event.Event.TheVariants as event;
 ghost use Rattle.q_model.specs.declared.reply.Reply.TheVariants as reply;
 ghost use Rattle.q_packet.specs.Descriptor.{Descriptor};
 ghost use Rattle.q_tree.specs.Commanding.{MayTakeMemory};
+ghost use Rattle.q_tree.specs.Places.{places_at};
+ghost use Rattle.q_tree.specs.RouteSeen.{RouteSeen};
 ghost use Rattle.q_tree.specs.TreeSeen.{numbers, tree_numbers, CanArrive, IsRouteIn};
 ghost use Rattle.q_device.specs.Counters.{HasNotFallen};
 ghost use Rattle.q_device.specs.DeviceLaws.{HasItsMemory, IsReplayed};
-ghost use Rattle.q_device.specs.DeviceSeen.{IsRefusal, as_counted, most_events, opened, polled_memory, reaped, with_event, with_recorded, HasRoomFor};
+ghost use Rattle.q_device.specs.DeviceSeen.{IsRefusal, as_counted, most_events, opened, polled_memory, reaped, with_event, with_recorded, HasNoFewerPlaces, HasRoomFor, IsCommanded, IsRefusedAt};
 
 use q_codel::{Loss as Lost, Losses};
 use q_model::{Command, Event, Fate, Place, Polled, Refusal, Row, Settings, packet_ranges};
@@ -89,7 +91,8 @@ impl Device {
     /// # Errors
     ///
     /// The packet and `AllocError` where memory is refused, or one packet more could overflow what the device counts of
-    /// arrivals; never where there is room for the packet already. Nothing has changed then but for places, and there was no event.
+    /// arrivals; never where there is room for the packet already. Nothing has changed then but for places, and there was no event:
+    /// what there was room for there is room for still.
     pub fn arrive(&mut self, packet: Packet, now: Moment) -> Result<Fate, (Packet, AllocError)>
         ensures event { OnOk result (self.new ≡ record (with_event (event.Arrive packet now) self.old) { memory = self.new.memory }) }
         ensures moment { OnOk result (as_counted self.old.device (event.Arrive packet now) ≡ event.Arrive packet self.new.device.clock) }
@@ -98,6 +101,8 @@ impl Device {
         ensures same { OnErr result (self.new ≡ record self.old { memory = self.new.memory }) }
         ensures succeeds { HasRoomFor packet self.old → IsOk result }
         ensures places { self.old.memory.losses ≤ self.new.memory.losses }
+        ensures queues { HasNoFewerPlaces self.old.memory self.new.memory }
+        ensures keeps { OnErr result ((other : Descriptor) → HasRoomFor other self.old → HasRoomFor other self.new) }
         ensures recorder { self.new.memory.events ≡ self.old.memory.events }
         ensures back { IfErr result (λ refused. refused.0 ≡ packet) }
         ensures counters { HasNotFallen self.old.device.tree.top self.new.device.tree.top }
@@ -145,15 +150,18 @@ impl Device {
     ///
     /// # Errors
     ///
-    /// The first refusal of the command that holds; `Memory` where none holds, the command may take memory, and it is refused.
+    /// The first refusal of the command that holds; `Memory` where none holds, the command takes memory, and it is refused. A change
+    /// of a prio takes memory only where it gets more bands.
     /// Nothing has changed then, and there was no event.
     pub fn command(&mut self, command: Command, now: Moment) -> Result<(), Refusal>
         ensures event { OnOk result (self.new ≡ record (with_event (event.Command command now) self.old) { memory = self.new.memory }) }
         ensures moment { OnOk result (as_counted self.old.device (event.Command command now) ≡ event.Command command self.new.device.clock) }
         ensures reply { OnOk result (reply.Done (Ok (record {})) ≡ (step totals self.old.device (event.Command command now)).reply) }
         ensures refused { IfErr result (IsRefusal (MayTakeMemory command) (step totals self.old.device (event.Command command now)).reply) }
+        ensures memory { IfErr result (IsRefusedAt command now self.old) }
         ensures same { OnErr result (self.new ≡ self.old) }
         ensures places { self.new.memory.losses ≡ self.old.memory.losses }
+        ensures queues { OnOk result (IsCommanded command self.new.device.clock self.old.memory self.new.memory) }
         ensures recorder { self.new.memory.events ≡ self.old.memory.events }
         ensures arrived { self.new.device.tree.top.arrived ≡ self.old.device.tree.top.arrived }
         ensures counters { HasNotFallen self.old.device.tree.top self.new.device.tree.top }
@@ -173,6 +181,7 @@ impl Device {
     pub fn reap(&mut self) -> Option<Lost>
         ensures oldest { result ≡ slice_get self.old.waiting 0 }
         ensures rest { self.new ≡ reaped self.old }
+        ensures keeps { (packet : Descriptor) → HasRoomFor packet self.old → HasRoomFor packet self.new }
     {
         let Some(lost) = self.losses.reap() else {
             return None;
@@ -243,12 +252,14 @@ fn later(clock: Moment, now: Moment) -> Moment
 }
 
 // Makes the place that a packet on this route needs, and a place for a loss more than there are packets queued. It succeeds
-// where both are there already.
+// where both are there already, and takes no place away.
 fn make_room(tree: &mut Tree, losses: &mut Losses, route: &Route) -> Result<(), AllocError>
     requires route { IsRouteIn route.now tree.old }
     requires counted { length (beneath tree.old.tree.root) ≤ tree.old.tree.top.counts.arrived.packets }
     ensures same { numbers tree.new ≡ numbers tree.old }
     ensures routes { (p : Descriptor) → device_route p tree.new.tree.device.mtu tree.new.tree.root ≡ device_route p tree.old.tree.device.mtu tree.old.tree.root }
+    ensures queues { (path : List ℕ) → places_at path tree.old.tree.root ≤ places_at path tree.new.tree.root }
+    ensures keeps { (other : RouteSeen) → CanArrive other tree.old → CanArrive other tree.new }
     ensures ready { OnOk result (CanArrive route.now tree.new) }
     ensures losses { losses.new ≡ record losses.old { places = losses.new.places } }
     ensures grows { losses.old.places ≤ losses.new.places }

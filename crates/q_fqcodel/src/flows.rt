@@ -49,7 +49,8 @@ impl Model for Flows {
 impl Flows {
     /// Empty flows, as many as the settings tell and with CoDel as they tell.
     pub(crate) fn new(alloc: Global, settings: Settings) -> Result<Flows, AllocError>
-        ensures { IfOk result (λ f. f.flows ≡ replicate settings.flows (first_flow settings)) }
+        ensures flows { IfOk result (λ f. f.flows ≡ replicate settings.flows (first_flow settings)) }
+        ensures places { IfOk result (λ f. f.places ≡ 0) }
     {
         let pool = Pool::new(alloc, settings.flows)?;
         let states = vec![in alloc; ControlState::new(); settings.flows as usize]?;

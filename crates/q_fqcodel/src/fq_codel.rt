@@ -111,9 +111,10 @@ impl FqCodel {
         self.flows.reserve()
     }
 
-    /// An fq_codel with these settings and without packets. It takes all memory but the places for packets.
+    /// An fq_codel with these settings and without packets. It takes all memory but the places for packets, of which it has none.
     pub fn new(alloc: Global, settings: Settings) -> Result<FqCodel, AllocError>
-        ensures { IfOk result (λ q. q.state ≡ first_state settings) }
+        ensures state { IfOk result (λ q. q.state ≡ first_state settings) }
+        ensures places { IfOk result (λ q. q.places ≡ 0) }
     {
         let flows = Flows::new(alloc, settings)?;
         let lists = ActiveLists::new(alloc, settings.flows)?;

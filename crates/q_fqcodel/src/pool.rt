@@ -39,7 +39,8 @@ impl Model for Pool {
 impl Pool {
     /// So many flows without packets.
     pub(crate) fn new(alloc: Global, flows: u32) -> Result<Pool, AllocError>
-        ensures { IfOk result (λ p. p.queues ≡ replicate flows []) }
+        ensures queues { IfOk result (λ p. p.queues ≡ replicate flows []) }
+        ensures places { IfOk result (λ p. p.places ≡ 0) }
     {
         let lists = vec![in alloc; FlowList::new(); flows as usize]?;
         Ok(Pool {

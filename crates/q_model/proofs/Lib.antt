@@ -1,3 +1,4 @@
 pub mod ClassesAsked
+pub mod PacketFields
 pub mod ShrinkLemmas
 pub mod ShrinkSteps

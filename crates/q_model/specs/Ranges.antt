@@ -1,8 +1,8 @@
 -- The ranges of a command's fields and of a packet's, as their types keep them.
 -- Those of its numbers one by one stand in specs/Numbers.antt, with their sources.
-use Rattle.std.specs.Prelude.{ℕ, ◌≤◌, ◌<◌, ◌^◌, IfSome}
+use Rattle.std.specs.Prelude.{ℕ, ◌≤◌, ◌<◌, ◌^◌, IfSome, IsTrue}
 use Rattle.q_packet.specs.Descriptor.{Descriptor}
-use Rattle.q_packet.specs.Key.{IsKey}
+use Rattle.q_packet.specs.Key.{Key, IsKey, is_family}
 use Rattle.q_model.specs.declared.class_id.ClassId.{ClassId}
 use Rattle.q_model.specs.declared.command.Command.{Command}
 use Rattle.q_model.specs.declared.command.Command.TheVariants.{QdiscAdd, QdiscChange, QdiscDel, ClassAdd, ClassChange, ClassDel, FilterAdd, FilterDel}
@@ -67,5 +67,24 @@ pub record IsPacket (p : Descriptor) : Type 0 where
   pub buf : p.buf ≤ most_u32
   pub len : IsWithin 1 65535 p.len
   pub key : IsKey p.key
+  pub hash : p.hash ≤ most_u32
+  pub prio : p.prio ≤ 15
+
+-- The fields of a key, each in the range of its type: an address may have 128 bits in every family, also in IPv4.
+pub record HasKeyFields (k : Key) : Type 0 where
+  pub family : IsTrue (is_family k.family)
+  pub proto : k.proto < 2 ^ 8
+  pub src : k.src < 2 ^ 128
+  pub dst : k.dst < 2 ^ 128
+  pub sport : k.sport < 2 ^ 16
+  pub dport : k.dport < 2 ^ 16
+
+-- The fields of a packet, each in the range of its type. The laws over events ask no more; `IsPacket` is a part of this.
+pub record HasPacketFields (p : Descriptor) : Type 0 where
+  pub port : p.port ≤ most_u32
+  pub number : p.number < 2 ^ 64
+  pub buf : p.buf ≤ most_u32
+  pub len : IsWithin 1 65535 p.len
+  pub key : HasKeyFields p.key
   pub hash : p.hash ≤ most_u32
   pub prio : p.prio ≤ 15

@@ -3,7 +3,8 @@
 ghost use Rattle.std.specs.Prelude.{IfSome};
 ghost use Rattle.q_model.specs.Numbers.{IsHandle, IsQuantum, IsWithin, most_u32};
 ghost use Rattle.q_model.specs.Options.{IsPrefix};
-ghost use Rattle.q_model.specs.Ranges.{IsClassId, IsFilter, IsKind, IsPacket, IsPlace};
+ghost use Rattle.q_model.specs.Ranges.{HasPacketFields, IsClassId, IsFilter, IsKind, IsPacket, IsPlace};
+ghost use Rattle.q_packet.specs.Descriptor.{Descriptor};
 
 use crate::class_id::ClassId;
 use crate::filter::Filter;
@@ -95,7 +96,14 @@ pub(crate) fn port_ranges(port: Option<u16>)
 /// The numbers of a packet fit their fields; its length is not 0, and its priority at most 15, which the type keeps. It does
 /// nothing: its clause is for the laws of other crates.
 pub fn packet_ranges(packet: Packet)
-    ensures { IsPacket packet }
+    ensures packet { IsPacket packet }
+    ensures fields { HasPacketFields packet }
 {
     let _ = &packet.key.family;
+    laws_take_every_packet();
 }
+
+/// The range of packets that the laws over events have: every packet in the ranges of its type is in it. It does nothing.
+pub fn laws_take_every_packet()
+    ensures { (p : Descriptor) → IsPacket p → HasPacketFields p }
+{}

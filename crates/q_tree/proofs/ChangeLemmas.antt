@@ -1,10 +1,10 @@
 -- What the model plans of a change of a qdisc, and that the reshaping of the code is this plan.
-use Rattle.std.proofs.Common.{◌≡◌, ℕ, zero, suc, ◌+◌, ◌-◌, ◌≤◌, ◌∙◌, min, Bool, true, false, List, [], ◌∷◌, ◌++◌, append-nil, length, map, take, drop, get_or, replicate, refl, sym, ap, ap₂, subst, Option, Some, None, option_map, Result, Ok, Err, inl, inr, arith}
-use Rattle.std.specs.Prelude.{All, is_some, not, nat_lt, unwrap_or, ◌==◌, ◌||◌, if◌then◌else◌}
+use Rattle.std.proofs.Common.{◌≡◌, ℕ, zero, suc, ◌+◌, ◌-◌, ◌<◌, ◌≤◌, ◌∙◌, min, Bool, true, false, List, [], ◌∷◌, ◌++◌, append-nil, length, map, take, drop, get_or, replicate, refl, sym, ap, ap₂, subst, Option, Some, None, option_map, Result, Ok, Err, inl, inr, arith}
+use Rattle.std.specs.Prelude.{All, IsTrue, is_some, not, nat_lt, unwrap_or, ◌==◌, ◌||◌, if◌then◌else◌}
 use Rattle.std.specs.List.{enumerate_from, flat_map, list_any, sum}
-use Rattle.std.proofs.lemmas.Bool.{cases_lt, eqb-true, not-false}
+use Rattle.std.proofs.lemmas.Bool.{cases_lt, eqb-true, not-false, or_right}
 use Rattle.std.proofs.lemmas.List.Elements.{All-cons, All-nil}
-use Rattle.std.proofs.lemmas.List.{drop-map, drop_all, length-map, length-replicate, map-append, take_all, take_min}
+use Rattle.std.proofs.lemmas.List.{drop-map, drop_all, length-map, length-replicate, take_all, take_min}
 use Rattle.q_codel.specs.declared.limit.Limit.TheVariants.{Packets, Bytes}
 use Rattle.q_bucket.specs.Level.{TokenBucket, after_change}
 use Rattle.q_fqcodel.specs.FqState as flows
@@ -28,7 +28,6 @@ use Rattle.q_model.specs.Options.{FqOptions, PrioSettings}
 use Rattle.q_model.specs.QdiscCommands.{at_target, bands_check, leaf_of_tbf, rebanded, relimited, retuned, reshaped, target}
 use Rattle.q_model.specs.Ranges.{IsCommand}
 use Rattle.q_model.specs.Refusals.{Check, done_unless, most_nodes, refuse}
-use Rattle.q_model.specs.Tally.{Counts, totals}
 use Rattle.q_model.specs.TreeState.{plan}
 use Rattle.q_sound.proofs.EditChildren.{any-append, gone_is, gone_past, kept_above, kept_from, kept_there, kids, kids-append, kids_all, kids_kept, kids_new, new_keeps}
 use Rattle.q_sound.proofs.EditMade.{new_leaf}
@@ -40,21 +39,19 @@ use Rattle.q_sound.proofs.Kept.{IsLawfulRoot}
 use Rattle.q_sound.proofs.MadeSizes.{count-shape}
 use Rattle.q_sound.proofs.SizeChecks.{numbers}
 use Rattle.q_sound.proofs.SizedChanges.{change_sized, length-below, node-lawful, nodes_rebanded, plan-qdisc_change}
-use Rattle.q_tree.specs.Changing.{IsChange, IsRemade, bfifo_answer, drr_same, fq_codel_answer, leaves_answer, nodes_from, pfifo_answer, tbf_answer}
+use Rattle.q_tree.specs.Changing.{IsChange, IsRemade, is_new, bfifo_answer, drr_same, fq_codel_answer, leaves_answer, nodes_from, pfifo_answer, tbf_answer}
 use Rattle.q_tree.specs.Commands.{IsBounded, IsPlannedFor, IsRefused, takes_none}
 use Rattle.q_tree.specs.Finding.{reached}
 use Rattle.q_tree.specs.Kept as own_kept
 use Rattle.q_tree.specs.Making.{AreNew, IsNewNode}
-use Rattle.q_tree.specs.Places.{unplaced}
 use Rattle.q_tree.specs.PutSteps.{packets_beneath}
 use Rattle.q_tree.specs.Reshaping.{AreReady, IsFresh, TakesMore, bands_going, bands_staying, children_after, discipline_after, leaf_limited, leaves_limited, limited, lost_with, rebucketed, remapped, reoptioned}
 use Rattle.q_tree.specs.declared.edit.Edit.TheVariants.{Reshape}
 use Rattle.q_tree.specs.declared.planned.Planned.{Planned}
 use Rattle.q_tree.specs.declared.reshape.Reshape as shapes
 use Rattle.q_tree.specs.declared.reshape.Reshape.TheVariants.{Nothing, SetLimit, SetBucket, SetOptions}
-use Rattle.q_tree.proofs.ClassPlans.{kept-nodes}
 use Rattle.q_tree.proofs.MakingLemmas.{new-counts, nothing-beneath}
-use Rattle.q_tree.proofs.Plans.{all-passed, all-stay, few, length-unplaced, remade-planned, reshape-does, same-refusal, shallow}
+use Rattle.q_tree.proofs.Plans.{all-passed, all-stay, few, remade-planned, reshape-does, same-refusal, shallow}
 use Rattle.q_tree.proofs.TargetLemmas.{reached-at, target-none, target-some}
 
 abbrev Counting : Type 0
@@ -63,8 +60,8 @@ Counting = Node own_kept.Kept
 -- ---- other settings alone
 
 module _ (n : Counting) (plans : List ℕ → Result model.Edit Refusal) (r : shapes.Reshape) (to : Discipline) where
-  kids-stay : map unplaced (children n) ≡ kids totals (children (unplaced n)) (kept_from 0 (length (children (shape n))))
-  kids-stay = sym (kept-nodes n) ∙ sym (kids_all totals (children (unplaced n)) (length (children (shape n))) (length-unplaced n))
+  kids-stay : children n ≡ kids own_kept.kept (children n) (kept_from 0 (length (children (shape n))))
+  kids-stay = sym (kids_all own_kept.kept (children n) (length (children (shape n))) (length-shape n))
 
   retuned-is : ((path : List ℕ) → plans path ≡ Ok (retuned (shape n) path to)) → discipline_after r n.own.discipline (children n) ≡ to
       → children_after r n.own.discipline (children n) ≡ children n → lost_with r n.own.discipline (children n) ≡ [] → AreReady r → IsRemade plans n r
@@ -73,7 +70,7 @@ module _ (n : Counting) (plans : List ℕ → Result model.Edit Refusal) (r : sh
     below = kept_from 0 (length (children (shape n)));
     planned = planned;
     own_is = ap (λ d. record n.own { discipline = d }) becomes;
-    kids_is = ap (map unplaced) stay ∙ kids-stay;
+    kids_is = stay ∙ kids-stay;
     lost_is = none ∙ sym (all-stay n);
     ready = ready;
   }
@@ -84,10 +81,10 @@ module _ (bytes : ℕ) where
   abbrev with_limit : Own → Own
   with_limit own = record own { discipline = relimited bytes own.discipline }
 
-  leaf-alone : (cs : List Counting) → length cs ≡ 1 → map unplaced (map (leaf_limited bytes) cs) ≡ kids totals (map unplaced cs) (map (leaf_of_tbf bytes) (map shape cs))
+  leaf-alone : (cs : List Counting) → length cs ≡ 1 → map (leaf_limited bytes) cs ≡ kids own_kept.kept cs (map (leaf_of_tbf bytes) (map shape cs))
   leaf-alone [] e = absurd (omega (arith, e))
   leaf-alone (c ∷ []) e = by (is_some c.own.handle) where
-    by : (t : Bool) → unplaced (if t then c else record c { own = with_limit c.own }) ∷ [] ≡ kids totals (unplaced c ∷ []) ((if t then Kept 0 else Retuned 0 (with_limit c.own)) ∷ [])
+    by : (t : Bool) → (if t then c else record c { own = with_limit c.own }) ∷ [] ≡ kids own_kept.kept (c ∷ []) ((if t then Kept 0 else Retuned 0 (with_limit c.own)) ∷ [])
     by true = refl
     by false = refl
   leaf-alone (c ∷ d ∷ cs) e = absurd (omega (arith, e))
@@ -102,10 +99,10 @@ module _ (bytes : ℕ) where
   none-gone (s ∷ t ∷ ss) e = absurd (omega (arith, e))
 
   module _ (n : Counting) (one : length (children (shape n)) ≡ 1) where
-    kids-limited : map unplaced (map (leaf_limited bytes) (children n)) ≡ kids totals (children (unplaced n)) (map (leaf_of_tbf bytes) (children (shape n)))
+    kids-limited : map (leaf_limited bytes) (children n) ≡ kids own_kept.kept (children n) (map (leaf_of_tbf bytes) (children (shape n)))
     kids-limited =
         leaf-alone (children n) (omega (arith, one, length-shape n))
-        ∙ ap₂ (λ us ss. kids totals us (map (leaf_of_tbf bytes) ss)) (sym (kept-nodes n)) (sym (children-shape n))
+        ∙ ap (λ ss. kids own_kept.kept (children n) (map (leaf_of_tbf bytes) ss)) (sym (children-shape n))
 
 -- ---- each kind but prio
 
@@ -113,38 +110,38 @@ module _ (d : Device) (now : ℕ) (root : Shape) (n : Counting) where
   abbrev pub plans_of : Kind → Discipline → List ℕ → Result model.Edit Refusal
   plans_of k was path = change_sized d now root (shape n) path was k
 
-  pub pfifo-is : (limit : Option ℕ) → IsChange takes_none (plans_of (kind.Pfifo limit) n.own.discipline) n (pfifo_answer limit n.own.discipline)
+  pub pfifo-is : (limit : Option ℕ) → IsChange (λ plan. takes_none) (plans_of (kind.Pfifo limit) n.own.discipline) n (pfifo_answer limit n.own.discipline)
   pfifo-is limit = by n.own.discipline refl where
-    by : (was : Discipline) → n.own.discipline ≡ was → IsChange takes_none (plans_of (kind.Pfifo limit) was) n (pfifo_answer limit was)
+    by : (was : Discipline) → n.own.discipline ≡ was → IsChange (λ plan. takes_none) (plans_of (kind.Pfifo limit) was) n (pfifo_answer limit was)
     by (Fifo (Packets old) queue) is =
         let new = Packets (unwrap_or limit old) in
-        (retuned-is n (plans_of (kind.Pfifo limit) (Fifo (Packets old) queue)) (SetLimit new) (Fifo new queue) (λ path. refl) (ap (limited new) is) refl refl tt, λ t. t)
+        (retuned-is n (plans_of (kind.Pfifo limit) (Fifo (Packets old) queue)) (SetLimit new) (Fifo new queue) (λ path. refl) (ap (limited new) is) refl refl tt, λ path t. t)
     by (Fifo (Bytes old) queue) is = λ path. refl
     by (Prio priomap) is = λ path. refl
     by (Tbf bucket old) is = λ path. refl
     by (Drr s) is = λ path. refl
     by (FqCodel s) is = λ path. refl
 
-  pub bfifo-is : (limit : Option ℕ) → IsChange takes_none (plans_of (kind.Bfifo limit) n.own.discipline) n (bfifo_answer limit n.own.discipline)
+  pub bfifo-is : (limit : Option ℕ) → IsChange (λ plan. takes_none) (plans_of (kind.Bfifo limit) n.own.discipline) n (bfifo_answer limit n.own.discipline)
   bfifo-is limit = by n.own.discipline refl where
-    by : (was : Discipline) → n.own.discipline ≡ was → IsChange takes_none (plans_of (kind.Bfifo limit) was) n (bfifo_answer limit was)
+    by : (was : Discipline) → n.own.discipline ≡ was → IsChange (λ plan. takes_none) (plans_of (kind.Bfifo limit) was) n (bfifo_answer limit was)
     by (Fifo (Packets old) queue) is = λ path. refl
     by (Fifo (Bytes old) queue) is =
         let new = Bytes (unwrap_or limit old) in
-        (retuned-is n (plans_of (kind.Bfifo limit) (Fifo (Bytes old) queue)) (SetLimit new) (Fifo new queue) (λ path. refl) (ap (limited new) is) refl refl tt, λ t. t)
+        (retuned-is n (plans_of (kind.Bfifo limit) (Fifo (Bytes old) queue)) (SetLimit new) (Fifo new queue) (λ path. refl) (ap (limited new) is) refl refl tt, λ path t. t)
     by (Prio priomap) is = λ path. refl
     by (Tbf bucket old) is = λ path. refl
     by (Drr s) is = λ path. refl
     by (FqCodel s) is = λ path. refl
 
-  pub drr-is : IsChange takes_none (plans_of kind.Drr n.own.discipline) n (drr_same n.own.discipline)
+  pub drr-is : IsChange (λ plan. takes_none) (plans_of kind.Drr n.own.discipline) n (drr_same n.own.discipline)
   drr-is = by n.own.discipline refl where
-    by : (was : Discipline) → n.own.discipline ≡ was → IsChange takes_none (plans_of kind.Drr was) n (drr_same was)
+    by : (was : Discipline) → n.own.discipline ≡ was → IsChange (λ plan. takes_none) (plans_of kind.Drr was) n (drr_same was)
     by (Fifo (Packets most) queue) is = λ path. refl
     by (Fifo (Bytes most) queue) is = λ path. refl
     by (Prio priomap) is = λ path. refl
     by (Tbf bucket old) is = λ path. refl
-    by (Drr s) is = (retuned-is n (plans_of kind.Drr (Drr s)) Nothing (Drr s) (λ path. refl) is refl refl tt, λ t. t)
+    by (Drr s) is = (retuned-is n (plans_of kind.Drr (Drr s)) Nothing (Drr s) (λ path. refl) is refl refl tt, λ path t. t)
     by (FqCodel s) is = λ path. refl
 
   module _ (o : FqOptions) (s : FqState) (is : n.own.discipline ≡ FqCodel s) where
@@ -152,19 +149,19 @@ module _ (d : Device) (now : ℕ) (root : Shape) (n : Counting) where
     resettled_to = FqCodel (flows.after_change s (with_options o s.settings))
 
     flows-by : (other : Bool) → not (unwrap_or o.flows s.settings.flows == s.settings.flows) ≡ other
-        → IsChange takes_none (λ path. done_unless (refuse CannotChange other ∷ []) (retuned (shape n) path resettled_to)) n (done_unless (refuse CannotChange other ∷ []) (SetOptions o))
+        → IsChange (λ plan. takes_none) (λ path. done_unless (refuse CannotChange other ∷ []) (retuned (shape n) path resettled_to)) n (done_unless (refuse CannotChange other ∷ []) (SetOptions o))
     flows-by true e = λ path. refl
     flows-by false e =
         let same : unwrap_or o.flows s.settings.flows ≡ s.settings.flows =
         eqb-true (unwrap_or o.flows s.settings.flows) s.settings.flows (not-false (unwrap_or o.flows s.settings.flows == s.settings.flows) e) in (
           retuned-is n (λ path. Ok (retuned (shape n) path resettled_to)) (SetOptions o) resettled_to (λ path. refl)
               (ap (reoptioned o) is ∙ sym (ap (λ k. FqCodel (flows.after_change s (record (with_options o s.settings) { flows = k }))) same)) refl refl tt,
-          λ t. t,
+          λ path t. t,
         )
 
-  pub fq_codel-is : (o : FqOptions) → IsChange takes_none (plans_of (kind.FqCodel o) n.own.discipline) n (fq_codel_answer o n.own.discipline)
+  pub fq_codel-is : (o : FqOptions) → IsChange (λ plan. takes_none) (plans_of (kind.FqCodel o) n.own.discipline) n (fq_codel_answer o n.own.discipline)
   fq_codel-is o = by n.own.discipline refl where
-    by : (was : Discipline) → n.own.discipline ≡ was → IsChange takes_none (plans_of (kind.FqCodel o) was) n (fq_codel_answer o was)
+    by : (was : Discipline) → n.own.discipline ≡ was → IsChange (λ plan. takes_none) (plans_of (kind.FqCodel o) was) n (fq_codel_answer o was)
     by (Fifo (Packets most) queue) is = λ path. refl
     by (Fifo (Bytes most) queue) is = λ path. refl
     by (Prio priomap) is = λ path. refl
@@ -183,7 +180,7 @@ module _ (d : Device) (now : ℕ) (root : Shape) (n : Counting) where
       abbrev new : TokenBucket
       new = after_change b rate burst now
 
-      burst-by : (small : Bool) → IsChange takes_none (λ path. done_unless (refuse SmallBurst small ∷ []) (reshaped now (shape n) path b rate burst bytes)) n (done_unless (refuse SmallBurst small ∷ []) (SetBucket new bytes))
+      burst-by : (small : Bool) → IsChange (λ plan. takes_none) (λ path. done_unless (refuse SmallBurst small ∷ []) (reshaped now (shape n) path b rate burst bytes)) n (done_unless (refuse SmallBurst small ∷ []) (SetBucket new bytes))
       burst-by true = λ path. refl
       burst-by false = (
         record {
@@ -191,16 +188,16 @@ module _ (d : Device) (now : ℕ) (root : Shape) (n : Counting) where
           below = map (leaf_of_tbf bytes) (children (shape n));
           planned = λ path. refl;
           own_is = ap (λ x. record n.own { discipline = rebucketed new bytes x }) is;
-          kids_is = ap (λ x. map unplaced (leaves_limited bytes x (children n))) is ∙ kids-limited bytes n one;
+          kids_is = ap (λ x. leaves_limited bytes x (children n)) is ∙ kids-limited bytes n one;
           lost_is = sym (none-gone bytes (children (shape n)) one);
           ready = tt;
         },
-        λ t. t,
+        λ path t. t,
       )
 
-    pub tbf-is : IsChange takes_none (plans_of (kind.Tbf rate burst limit) n.own.discipline) n (tbf_answer d.mtu now rate burst limit n.own.discipline)
+    pub tbf-is : IsChange (λ plan. takes_none) (plans_of (kind.Tbf rate burst limit) n.own.discipline) n (tbf_answer d.mtu now rate burst limit n.own.discipline)
     tbf-is = by n.own.discipline refl where
-      by : (was : Discipline) → n.own.discipline ≡ was → IsChange takes_none (plans_of (kind.Tbf rate burst limit) was) n (tbf_answer d.mtu now rate burst limit was)
+      by : (was : Discipline) → n.own.discipline ≡ was → IsChange (λ plan. takes_none) (plans_of (kind.Tbf rate burst limit) was) n (tbf_answer d.mtu now rate burst limit was)
       by (Fifo (Packets most) queue) is = λ path. refl
       by (Fifo (Bytes most) queue) is = λ path. refl
       by (Prio priomap) is = λ path. refl
@@ -227,14 +224,13 @@ drop-front zero (x ∷ xs) [] e = append-nil (x ∷ xs)
 drop-front zero (x ∷ xs) (y ∷ ys) e = absurd (omega (arith, e))
 drop-front (suc k) (x ∷ xs) ys e = drop-front k xs ys (omega (arith, e))
 
-take-map : {A B : Type 0} (f : A → B) (k : ℕ) (xs : List A) → map f (take k xs) ≡ take k (map f xs)
-take-map f zero xs = refl
-take-map f (suc k) [] = refl
-take-map f (suc k) (x ∷ xs) = ap (λ ys. f x ∷ ys) (take-map f k xs)
-
 map-replicate : {A B : Type 0} (f : A → B) (k : ℕ) (x : A) → map f (replicate k x) ≡ replicate k (f x)
 map-replicate f zero x = refl
 map-replicate f (suc k) x = ap (λ ys. f x ∷ ys) (map-replicate f k x)
+
+new-among : (k : ℕ) (s : Shape) → 0 < k → list_any is_new (replicate k (New s)) ≡ true
+new-among zero s some = absurd (omega (arith, some))
+new-among (suc k) s some = refl
 
 -- what is past the lesser of a number and the length is past the number
 drop-min : {A : Type 0} (k : ℕ) (xs : List A) → drop (min (length xs) k) xs ≡ drop k xs
@@ -249,10 +245,10 @@ counts-shape (c ∷ cs) = ap₂ (λ k ks. k ∷ ks) (count-shape c) (counts-shap
 
 -- new leaves have counted nothing
 new-first : (l : Counting) (ls : List Counting) (s : Shape) (ss : List Shape) → AreNew (l ∷ ls) (s ∷ ss) → IsNewNode l s
-new-first l ls s ss new = ap (λ (xs : List (Node Counts)). get_or xs 0 (unplaced l)) new
+new-first l ls s ss new = ap (λ (xs : List Counting). get_or xs 0 l) new
 
 new-rest : (l : Counting) (ls : List Counting) (s : Shape) (ss : List Shape) → AreNew (l ∷ ls) (s ∷ ss) → AreNew ls ss
-new-rest l ls s ss new = ap (λ (xs : List (Node Counts)). drop 1 xs) new
+new-rest l ls s ss new = ap (λ (xs : List Counting). drop 1 xs) new
 
 fresh : (d : Device) (ls : List Counting) (k : ℕ) → AreNew ls (replicate k (implicit_pfifo d)) → All IsFresh ls
 fresh d [] k new = All-nil IsFresh
@@ -274,22 +270,22 @@ module _ (d : Device) (n : Counting) (s : PrioSettings) (ls : List Counting) whe
   abbrev behind : List Child
   behind = replicate (s.bands - old) (New leaf)
 
+  pub bands-made-of : 0 < s.bands - old → IsTrue (list_any is_new (front ++ behind))
+  bands-made-of some = any-append is_new front behind ∙ or_right (list_any is_new front) (list_any is_new behind) (new-among (s.bands - old) leaf some)
+
   module _ (new : AreNew ls (replicate (s.bands - old) leaf)) where
     many : length ls ≡ s.bands - length (children n)
-    many = omega (arith, ap length new, length-map ls unplaced, length-map (replicate (s.bands - old) leaf) (blank totals), length-replicate (s.bands - old) leaf, length-shape n)
+    many = omega (arith, ap length new, length-map (replicate (s.bands - old) leaf) (blank own_kept.kept), length-replicate (s.bands - old) leaf, length-shape n)
 
-    kids-rebanded : map unplaced (take s.bands (children n ++ ls)) ≡ kids totals (children (unplaced n)) (front ++ behind)
+    kids-rebanded : take s.bands (children n ++ ls) ≡ kids own_kept.kept (children n) (front ++ behind)
     kids-rebanded =
-        ap (map unplaced) (take-front s.bands (children n) ls many)
-        ∙ map-append unplaced (take s.bands (children n)) ls
+        take-front s.bands (children n) ls many
         ∙ ap₂ (λ xs ys. xs ++ ys)
-        (take-map unplaced s.bands (children n)
-        ∙ ap (take s.bands) (sym (kept-nodes n))
-        ∙ sym (take_min s.bands (children (unplaced n)))
-        ∙ ap (λ k. take k (children (unplaced n))) {x = min s.bands (length (children (unplaced n)))} {y = min old s.bands} (omega (arith, length-unplaced n))
-        ∙ sym (kids_kept totals (children (unplaced n)) 0 (min old s.bands)))
-        (new ∙ map-replicate (blank totals) (s.bands - old) leaf ∙ sym (kids_new totals (children (unplaced n)) leaf (s.bands - old)))
-        ∙ sym (kids-append totals (children (unplaced n)) front behind)
+        (sym (take_min s.bands (children n))
+        ∙ ap (λ k. take k (children n)) {x = min s.bands (length (children n))} {y = min old s.bands} (omega (arith, length-shape n))
+        ∙ sym (kids_kept own_kept.kept (children n) 0 (min old s.bands)))
+        (new ∙ map-replicate (blank own_kept.kept) (s.bands - old) leaf ∙ sym (kids_new own_kept.kept (children n) leaf (s.bands - old)))
+        ∙ sym (kids-append own_kept.kept (children n) front behind)
 
     gone-rebanded : packets_beneath (drop s.bands (children n ++ ls)) ≡ beneath_removed (front ++ behind) (shape n)
     gone-rebanded =
@@ -301,6 +297,10 @@ module _ (d : Device) (n : Counting) (s : PrioSettings) (ls : List Counting) whe
         (λ j le lt. any-append (keeps j) front behind ∙ ap (λ t. t || list_any (keeps j) behind) (kept_there j 0 (min old s.bands) le lt))
         (λ j le. any-append (keeps j) front behind ∙ ap₂ (λ a b. a || b) (kept_above j 0 (min old s.bands) le) (new_keeps j leaf (s.bands - old))))
 
+    -- bands more are new children
+    pub more-made : 0 < length ls → IsTrue (list_any is_new (front ++ behind))
+    more-made some = bands-made-of (omega (arith, some, many, length-shape n))
+
     module _ (plans : List ℕ → Result model.Edit Refusal) (r : shapes.Reshape) (priomap : List ℕ) (is : n.own.discipline ≡ Prio priomap) (planned : (path : List ℕ) → plans path ≡ Ok (rebanded d (shape n) path s.bands s.priomap)) where
       -- r is the edit of these bands
       pub rebanded-is : discipline_after r n.own.discipline (children n) ≡ remapped s.priomap n.own.discipline → children_after r n.own.discipline (children n) ≡ bands_staying s.bands ls n.own.discipline (children n)
@@ -310,10 +310,14 @@ module _ (d : Device) (n : Counting) (s : PrioSettings) (ls : List Counting) whe
         below = front ++ behind;
         planned = planned;
         own_is = ap (λ x. record n.own { discipline = x }) (becomes ∙ ap (remapped s.priomap) is);
-        kids_is = ap (map unplaced) (stay ∙ ap (λ x. bands_staying s.bands ls x (children n)) is) ∙ kids-rebanded;
+        kids_is = stay ∙ ap (λ x. bands_staying s.bands ls x (children n)) is ∙ kids-rebanded;
         lost_is = go ∙ ap (λ x. packets_beneath (bands_going s.bands ls x (children n))) is ∙ gone-rebanded;
         ready = ready (fresh d ls (s.bands - old) new);
       }
+
+pub bands-made : (d : Device) (n : Counting) (s : PrioSettings) (leaves : ℕ) → leaves ≡ s.bands - length (children (shape n)) → 0 < leaves
+    → IsTrue (list_any is_new (kept_from 0 (min (length (children (shape n))) s.bands) ++ replicate (s.bands - length (children (shape n))) (New (implicit_pfifo d))))
+bands-made d n s leaves is some = bands-made-of d n s [] (omega (arith, is, some))
 
 -- the answer of a prio, once it is known whether a filter names a band that would go, and whether the nodes would be too many
 pub leaves-by : (n : Counting) (bands nodes : ℕ) (priomap : List ℕ) → n.own.discipline ≡ Prio priomap → (filters : List Filter) → n.own.filters ≡ filters → (busy over : Bool)
@@ -409,13 +413,13 @@ module _ (root : Counting) (bounded : IsBounded root) (d : Device) (now mtu : �
     pub change-within : count_nodes n ≤ count_nodes root
     change-within = omega (arith, (sized-within path (shape root) (shape n) there).1, count-shape root, count-shape n)
 
-    pub change-refused : (memory : Type 0) (refusal : Refusal) → IsRefused memory (change_at path (shape n)) refusal → IsRefused memory whole refusal
-    change-refused memory refusal h = subst (λ q. IsRefused memory q refusal) (sym at-node) h
+    pub change-refused : (memory : Result model.Edit Refusal → Type 0) (refusal : Refusal) → IsRefused (memory (change_at path (shape n))) (change_at path (shape n)) refusal → IsRefused (memory whole) whole refusal
+    change-refused memory refusal h = subst (λ q. IsRefused (memory q) q refusal) (sym at-node) h
 
-    pub change-planned : (memory : Type 0) (r : shapes.Reshape) → IsRemade (λ way. change_at way (shape n)) n r × (TakesMore r → memory) → (p : Planned) → p.path.items ≡ path → p.edit ≡ Reshape r → IsCommand (QdiscChange place handle k)
-        → IsPlannedFor memory (QdiscChange place handle k) p now d root
+    pub change-planned : (memory : Result model.Edit Refusal → Type 0) (r : shapes.Reshape) → IsRemade (λ way. change_at way (shape n)) n r × ((way : List ℕ) → TakesMore r → memory (change_at way (shape n))) → (p : Planned) → p.path.items ≡ path → p.edit ≡ Reshape r → IsCommand (QdiscChange place handle k)
+        → IsPlannedFor (memory whole) (QdiscChange place handle k) p now d root
     change-planned memory r h p way edit ranges =
-        subst (λ (q : Planned). IsPlannedFor memory (QdiscChange place handle k) q now d root) (λ i. record p { edit = sym edit i })
+        subst (λ (q : Planned). IsPlannedFor (memory whole) (QdiscChange place handle k) q now d root) (λ i. record p { edit = sym edit i })
         (remade-planned d root (record p { edit = Reshape r }) h.0.ready n (subst (λ x. node_at x root ≡ Some n) (sym way) (reached-at root found_at path n found).there) h.0.own h.0.below h.0.lost_is
         (reshape-does r n h.0.own h.0.below h.0.own_is h.0.kids_is) (QdiscChange place handle k) ranges now
-        (at-node ∙ ap (λ x. change_at x (shape n)) (sym way) ∙ h.0.planned p.path.items) memory h.1)
+        (at-node ∙ ap (λ x. change_at x (shape n)) (sym way) ∙ h.0.planned p.path.items) (memory whole) (λ takes. subst memory (sym at-node) (h.1 path takes)))

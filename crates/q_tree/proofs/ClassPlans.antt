@@ -4,7 +4,7 @@ use Rattle.std.specs.Prelude.{Bool, true, false, not, is_some, slice_get, ◌==�
 use Rattle.std.specs.List.{list_any, remove}
 use Rattle.std.specs.Option.{option_map_or}
 use Rattle.std.proofs.lemmas.Bool.{not-false, or_left}
-use Rattle.std.proofs.lemmas.List.{length-map, map-append}
+use Rattle.std.proofs.lemmas.List.{length-map}
 use Rattle.std.proofs.lemmas.Option.{none-some, same_Some, slice_get-map}
 use Rattle.q_drr.specs.Schedule as schedule
 use Rattle.q_drr.specs.Schedule.{Schedule, added, has_class, with_quantum}
@@ -21,20 +21,17 @@ use Rattle.q_model.specs.Make.{Device, implicit_pfifo}
 use Rattle.q_model.specs.Node.{Discipline, Fifo, Prio, Tbf, Drr, FqCodel, Own, Node, Shape, blank, children, shape}
 use Rattle.q_model.specs.QdiscCommands.{all_kept, at_target, retuned}
 use Rattle.q_model.specs.Refusals.{Check, done_unless, is_so, refuse}
-use Rattle.q_model.specs.Tally.{totals}
-use Rattle.q_model.proofs.ShrinkLemmas.{nodes_in-each_memory}
 use Rattle.q_sound.proofs.EditChildren.{any-append, gone, gone_is, gone_none, kept_there, kids, kids-append, kids_all, kids_removed, removed_goes, removed_keeps}
 use Rattle.q_sound.proofs.EditClasses.{class_known}
-use Rattle.q_sound.proofs.EditSuits.{beneath-children, check_passed, done_is}
+use Rattle.q_sound.proofs.EditSuits.{beneath-children, check_passed, done_is, length-shape}
 use Rattle.q_sound.proofs.MadeSizes.{count-shape}
 use Rattle.q_sound.proofs.SizeChecks.{sizes}
 use Rattle.q_tree.specs.Commands.{class_add_sized, drr_answer}
-use Rattle.q_tree.specs.Kept.{Kept}
+use Rattle.q_tree.specs.Kept.{Kept, kept}
 use Rattle.q_tree.specs.Making.{IsNewNode}
-use Rattle.q_tree.specs.Places.{unplaced}
 use Rattle.q_tree.specs.Reshaping.{can_join, children_after, class_child, discipline_after, lost_with, place_in, requantum, rescheduled}
 use Rattle.q_tree.specs.declared.reshape.Reshape.TheVariants.{AddClass, RemoveClass}
-use Rattle.q_tree.proofs.Plans.{all-passed, length-unplaced, same-refusal}
+use Rattle.q_tree.proofs.Plans.{all-passed, same-refusal}
 
 -- ---- the drr whose class it is
 
@@ -97,9 +94,6 @@ change-done class quantum path n e =
 
 -- ---- a class more
 
-pub kept-nodes : (n : Node Kept) → children (unplaced n) ≡ map unplaced (children n)
-kept-nodes n = nodes_in-each_memory (λ (k : Kept). k.counts) n.below
-
 module _ (n : Node Kept) (s : Schedule) (is : n.own.discipline ≡ Drr s) (class quantum : ℕ) (leaf : Node Kept) (d : Device) (new : IsNewNode leaf (implicit_pfifo d)) (absent : has_class class s.classes ≡ false) where
   abbrev pub one_more : List model.Child
   one_more = all_kept (shape n) ++ New (implicit_pfifo d) ∷ []
@@ -112,13 +106,12 @@ module _ (n : Node Kept) (s : Schedule) (is : n.own.discipline ≡ Drr s) (class
       ap (λ b. record n.own { discipline = if b then rescheduled (added class quantum) n.own.discipline else n.own.discipline }) joins
       ∙ ap (λ x. record n.own { discipline = rescheduled (added class quantum) x }) is
 
-  pub kids-joined : map unplaced (children_after (AddClass class quantum leaf) n.own.discipline (children n)) ≡ kids totals (children (unplaced n)) one_more
+  pub kids-joined : children_after (AddClass class quantum leaf) n.own.discipline (children n) ≡ kids kept (children n) one_more
   kids-joined =
-      ap (λ b. map unplaced (if b then children n ++ leaf ∷ [] else children n)) joins
-      ∙ map-append unplaced (children n) (leaf ∷ [])
-      ∙ ap₂ (λ xs x. xs ++ x ∷ []) (sym (kept-nodes n)) new
-      ∙ sym (kids-append totals (children (unplaced n)) (all_kept (shape n)) (New (implicit_pfifo d) ∷ [])
-      ∙ ap (λ xs. xs ++ blank totals (implicit_pfifo d) ∷ []) (kids_all totals (children (unplaced n)) (length (children (shape n))) (length-unplaced n)))
+      ap (λ b. if b then children n ++ leaf ∷ [] else children n) joins
+      ∙ ap (λ x. children n ++ x ∷ []) new
+      ∙ sym (kids-append kept (children n) (all_kept (shape n)) (New (implicit_pfifo d) ∷ [])
+      ∙ ap (λ xs. xs ++ blank kept (implicit_pfifo d) ∷ []) (kids_all kept (children n) (length (children (shape n))) (length-shape n)))
 
   pub none-lost : ◌≡◌ {A = List Descriptor} [] (beneath_removed one_more (shape n))
   none-lost = sym (gone_is (λ j. list_any (keeps j) one_more) 0 (children (shape n))
@@ -129,12 +122,6 @@ module _ (n : Node Kept) (s : Schedule) (is : n.own.discipline ≡ Drr s) (class
       (kept_there j 0 (length (children (shape n))) le (omega (arith, lt, length-map (children (shape n)) beneath)))))
 
 -- ---- a class less
-
-map-removed : {A B : Type 0} (f : A → B) (xs : List A) (i : ℕ) → map f (remove xs i) ≡ remove (map f xs) i
-map-removed f [] zero = refl
-map-removed f [] (suc i) = refl
-map-removed f (x ∷ xs) zero = refl
-map-removed f (x ∷ xs) (suc i) = ap (λ ys. f x ∷ ys) (map-removed f xs i)
 
 -- one of them alone goes
 gone_only : (keep : ℕ → Bool) (a i : ℕ) (below : List (List Descriptor)) (ps : List Descriptor) → slice_get below i ≡ Some ps
@@ -162,12 +149,10 @@ module _ (n : Node Kept) (s : Schedule) (is : n.own.discipline ≡ Drr s) (class
       ap (λ o. record n.own { discipline = option_map_or (λ (x : ℕ × Node Kept). rescheduled (schedule.removed class) n.own.discipline) o n.own.discipline }) found
       ∙ ap (λ x. record n.own { discipline = rescheduled (schedule.removed class) x }) is
 
-  pub kids-left : map unplaced (children_after (RemoveClass class) n.own.discipline (children n)) ≡ kids totals (children (unplaced n)) one_less
+  pub kids-left : children_after (RemoveClass class) n.own.discipline (children n) ≡ kids kept (children n) one_less
   kids-left =
-      ap (λ o. map unplaced (option_map_or (λ (x : ℕ × Node Kept). remove (children n) x.0) o (children n))) found
-      ∙ map-removed unplaced (children n) i
-      ∙ ap (λ xs. remove xs i) (sym (kept-nodes n))
-      ∙ sym (kids_removed totals (children (unplaced n)) (length (children (shape n))) i (length-unplaced n) within)
+      ap (λ o. option_map_or (λ (x : ℕ × Node Kept). remove (children n) x.0) o (children n)) found
+      ∙ sym (kids_removed kept (children n) (length (children (shape n))) i (length-shape n) within)
 
   pub one-lost : lost_with (RemoveClass class) n.own.discipline (children n) ≡ beneath_removed one_less (shape n)
   one-lost =

@@ -228,8 +228,8 @@ module _ (memory : Type 0) (device : Device) (root : Node Kept) (p : Planned) (n
       edit = model.Graft p.path.items s;
       planned = plan-is;
       lost = removed-is;
-      same = edited_at-stands kept totals (λ (k : Kept). k.counts) stands (notes_of (Graft new) p.path.items root) (λ n. new) (λ n. blank totals s) (λ n. is) p.path.items root
-          ∙ ap (λ ps. model.edited_at totals (losses_of Purged ps) (λ n. blank totals s) p.path.items (unplaced root)) removed-is;
+      same = ap (λ m. model.edited_at kept (notes_of (Graft new) p.path.items root) (λ n. m) p.path.items root) is
+          ∙ ap (λ ps. model.edited_at kept (losses_of Purged ps) (λ n. blank kept s) p.path.items root) removed-is;
       there = there;
       ready = record { counts = new-counts new s is; alone = nothing-beneath new s is mtu clock fresh made };
     };

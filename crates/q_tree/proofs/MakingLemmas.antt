@@ -2,7 +2,7 @@
 use Rattle.std.proofs.Common.{◌≡◌, ℕ, ◌+◌, ◌<◌, ◌≤◌, ◌^◌, ◌∙◌, List, [], ◌∷◌, ◌++◌, map, refl, sym, ap, ap₂, subst, Option, None, replicate, arith}
 use Rattle.std.specs.Prelude.{All}
 use Rattle.std.proofs.lemmas.List.{map-append, replicate_more}
-use Rattle.std.proofs.lemmas.List.Elements.{All-cons, All-head, All-nil, All-tail}
+use Rattle.std.proofs.lemmas.List.Elements.{All-cons, All-nil}
 use Rattle.q_model.proofs.ShrinkLemmas.{each-each_memory, side_by_side-map}
 use Rattle.q_model.specs.declared.kind.Kind.{Kind}
 use Rattle.q_model.specs.declared.kind.Kind.TheVariants as kind
@@ -12,63 +12,52 @@ use Rattle.q_model.specs.Conserved.{held_beneath, held_own}
 use Rattle.q_model.specs.Make.{Device, made}
 use Rattle.q_model.specs.Node.{Forest, Node, Own, Shape, blank, children, side_by_side}
 use Rattle.q_model.specs.Ranges.{IsKind}
-use Rattle.q_model.specs.Tally.{Counts, history, no_counts, no_totals, totals}
+use Rattle.q_model.specs.Tally.{history, no_counts, no_totals}
 use Rattle.q_sound.proofs.EditMade.{new_made}
 use Rattle.q_sound.proofs.EditNew.{IsNew, new_beneath, new_held}
 use Rattle.q_sound.proofs.Forests.{side-nodes}
-use Rattle.q_tree.specs.Kept.{Kept}
+use Rattle.q_tree.specs.Kept.{Kept, kept}
 use Rattle.q_tree.specs.Making.{AreNew, IsNewDiscipline, IsNewNode}
-use Rattle.q_tree.specs.Places.{unplaced}
 use Rattle.q_tree.specs.Seen.{IsCountedWithin, IsKept, children_seen, seen}
 use Rattle.q_tree.specs.declared.node.Node.TheInside.{Inside}
 
 -- one new node more
 pub more-new : (ns : List (Node Kept)) (n : Node Kept) (s : Shape) (k : ℕ) → AreNew ns (replicate k s) → IsNewNode n s → AreNew (ns ++ n ∷ []) (replicate (k + 1) s)
 more-new ns n s k old new =
-    map-append unplaced ns (n ∷ [])
-    ∙ ap₂ (λ xs x. xs ++ x ∷ []) old new
-    ∙ sym (map-append (blank totals) (replicate k s) (s ∷ []))
-    ∙ ap (map (blank totals)) (replicate_more k s)
+    ap₂ (λ xs x. xs ++ x ∷ []) old new
+    ∙ sym (map-append (blank kept) (replicate k s) (s ∷ []))
+    ∙ ap (map (blank kept)) (replicate_more k s)
 
 module _ (n : Node Kept) (s : Shape) (new : IsNewNode n s) where
   pub new-own : n.own ≡ s.own
-  new-own = ap (λ (m : Node Counts). m.own) new
+  new-own = ap (λ (m : Node Kept). m.own) new
 
   pub new-counts : n.memory.counts ≡ no_counts
-  new-counts = ap (λ (m : Node Counts). m.memory) new
+  new-counts = ap (λ (m : Node Kept). m.memory.counts) new
 
   module _ (mtu clock : ℕ) (fresh : Option ℕ) (is : IsNew mtu clock fresh s) where
     pub nothing-beneath : beneath n ≡ []
     nothing-beneath =
-        sym (ap (beneath_own n.own) (each-each_memory beneath_own (λ (k : Kept). k.counts) n.below))
-        ∙ ap beneath new
-        ∙ ap (beneath_own s.own) (each-each_memory beneath_own (λ u. no_counts) s.below ∙ sym (each-each_memory beneath_own (λ u. history.none) s.below))
+        ap beneath new
+        ∙ ap (beneath_own s.own) (each-each_memory beneath_own (λ u. kept.none) s.below ∙ sym (each-each_memory beneath_own (λ u. history.none) s.below))
         ∙ new_beneath mtu clock fresh s is
 
     pub nothing-held : held_beneath n ≡ []
     nothing-held =
-        sym (ap (held_own n.own) (each-each_memory held_own (λ (k : Kept). k.counts) n.below))
-        ∙ ap held_beneath new
-        ∙ ap (held_own s.own) (each-each_memory held_own (λ u. no_counts) s.below ∙ sym (each-each_memory held_own (λ u. history.none) s.below))
+        ap held_beneath new
+        ∙ ap (held_own s.own) (each-each_memory held_own (λ u. kept.none) s.below ∙ sym (each-each_memory held_own (λ u. history.none) s.below))
         ∙ new_held mtu clock fresh s is
 
 -- new children have counted no arrival
-abbrev Within : Counts → Type 0
-Within c = IsCountedWithin c.arrived no_totals
+abbrev Within : Node Kept → Type 0
+Within n = IsCountedWithin n.memory.counts.arrived no_totals
 
-none-counted : (shapes : List Shape) → All Within (map (λ (m : Node Counts). m.memory) (map (blank totals) shapes))
+none-counted : (shapes : List Shape) → All Within (map (blank kept) shapes)
 none-counted [] = All-nil Within
-none-counted (s ∷ shapes) =
-    All-cons Within no_counts (map (λ (m : Node Counts). m.memory) (map (blank totals) shapes)) (record { packets = omega arith; bytes = omega arith }) (none-counted shapes)
+none-counted (s ∷ shapes) = All-cons Within (blank kept s) (map (blank kept) shapes) (record { packets = omega arith; bytes = omega arith }) (none-counted shapes)
 
-each-within : (ns : List (Node Kept)) → All Within (map (λ (m : Node Counts). m.memory) (map unplaced ns)) → All (λ (n : Node Kept). Within n.memory.counts) ns
-each-within [] h = All-nil (λ (n : Node Kept). Within n.memory.counts)
-each-within (n ∷ ns) h =
-    let rest : List Counts = map (λ (m : Node Counts). m.memory) (map unplaced ns) in
-    All-cons (λ (n : Node Kept). Within n.memory.counts) n ns (All-head Within n.memory.counts rest h) (each-within ns (All-tail Within n.memory.counts rest h))
-
-pub children-within : (ns : List (Node Kept)) (shapes : List Shape) → AreNew ns shapes → All (λ (n : Node Kept). IsCountedWithin n.memory.counts.arrived no_totals) ns
-children-within ns shapes new = each-within ns (subst (λ xs. All Within (map (λ (m : Node Counts). m.memory) xs)) (sym new) (none-counted shapes))
+pub children-within : (ns : List (Node Kept)) (shapes : List Shape) → AreNew ns shapes → All Within ns
+children-within ns shapes new = subst (All Within) (sym new) (none-counted shapes)
 
 -- a qdisc of this kind
 abbrev pub no_row : Row
@@ -98,18 +87,17 @@ module _ (d : Device) (now : ℕ) (handle : Option ℕ) (k : Kind) (a : Inside) 
       ∙ sym (ap (λ (o : Own). record o { handle = handle }) (empty-own d now k))
       ∙ sym (ap (λ (s : Shape). s.own) (handed d now handle k))
 
-  below-is : (unplaced (seen a)).below ≡ (blank totals (made d now handle k)).below
+  below-is : (seen a).below ≡ (blank kept (made d now handle k)).below
   below-is =
-      side_by_side-map (λ (m : Kept). m.counts) (children_seen a.discipline)
-      ∙ ap side_by_side is.leaves
-      ∙ sym (side_by_side-map (λ u. no_counts) (children (made d now None k)))
-      ∙ ap (λ (x : Forest (Unit {0})). (blank totals (record (made d now None k) { below = x })).below) (side-nodes (made d now None k).below)
-      ∙ sym (ap (λ (s : Shape). (blank totals s).below) (handed d now handle k))
+      ap side_by_side is.leaves
+      ∙ sym (side_by_side-map (λ u. kept.none) (children (made d now None k)))
+      ∙ ap (λ (x : Forest (Unit {0})). (blank kept (record (made d now None k) { below = x })).below) (side-nodes (made d now None k).below)
+      ∙ sym (ap (λ (s : Shape). (blank kept s).below) (handed d now handle k))
 
   pub made-is : IsNewNode (seen a) (made d now handle k)
   made-is = λ i. record {
     own = own-is i;
-    memory = ap (λ (r : Row). record { arrived = r.arrived; sent = r.sent; refused = r.refused; dropped = r.dropped; marked = r.marked }) row i;
+    memory = record { counts = ap (λ (r : Row). record { arrived = r.arrived; sent = r.sent; refused = r.refused; dropped = r.dropped; marked = r.marked }) row i; places = is.places i };
     below = below-is i;
   }
 

@@ -1,19 +1,25 @@
--- A node that stands off the packet's route is as it was before the put.
+-- A node that stands off the packet's route is as it was before the put, and one off the way of a command as it was before that.
+-- A put leaves all places.
 use Rattle.std.proofs.Common.{◌≡◌, ℕ, zero, suc, ◌∙◌, List, [], ◌∷◌, ◌++◌, map, set, refl, sym, ap, Option, Some, None, option_map, option_and_then}
 use Rattle.std.specs.Prelude.{◌≢◌, if◌then◌else◌, nat_lt, slice_get}
 use Rattle.std.specs.Option.{option_map_or}
-use Rattle.std.proofs.lemmas.Option.{none-some, slice_get-map}
+use Rattle.std.proofs.lemmas.Option.{none-some, same_Some, slice_get-map}
 use Rattle.q_packet.specs.Descriptor.{Descriptor}
 use Rattle.q_packet.specs.declared.cause.Cause.{Cause}
+use Rattle.q_model.specs.Edit.{Edit, Graft, Remake, above, edited_at, lost_by, remade}
 use Rattle.q_model.specs.Find.{node_at}
-use Rattle.q_model.specs.Node.{Node, Shape, nodes_in, side_by_side, children, shape}
+use Rattle.q_model.specs.Node.{Node, Shape, blank, nodes_in, side_by_side, children, shape}
 use Rattle.q_model.specs.Put.{put_along, put_here, put_beneath}
+use Rattle.q_model.specs.Tally.{Note}
 use Rattle.q_model.specs.TreeState.{put_on}
 use Rattle.q_model.specs.Work.{Worked, quiet, each_booked, booked}
 use Rattle.q_sound.proofs.Forests.{nodes-side, side-nodes}
 use Rattle.q_tree.specs.Kept.{Kept, kept}
-use Rattle.q_tree.specs.Laws.{PutLeavesOtherSubtrees}
-use Rattle.q_tree.proofs.Forms.{children-shape, side-quiet, side-booked}
+use Rattle.q_tree.specs.Laws.{EditLeavesOtherSubtrees, PutKeepsPlaces, PutLeavesOtherSubtrees}
+use Rattle.q_tree.specs.Places.{places_at, places_under}
+use Rattle.q_model.specs.Route.{Route, device_route}
+use Rattle.q_tree.proofs.Forms.{children-shape, noted-kept, side-quiet, side-booked}
+use Rattle.q_tree.proofs.TreePuts.{still}
 use Rattle.q_tree.proofs.Puts.{same-way}
 
 other-set : {A : Type 0} (xs : List A) (i j : ℕ) (x : A) → i ≢ j → slice_get (set xs i x) j ≡ slice_get xs j
@@ -84,3 +90,55 @@ put-leaves now p s r shared rest below i j route path differ =
     ap (λ o. node_at (shared ++ j ∷ below) (booked kept s.root (put_on now p o (shape s.root)).node)) (ap (λ way. if nat_lt s.device.mtu p.len then None else Some way) (same-way p s.root) ∙ route)
     ∙ ap (λ way. node_at (shared ++ j ∷ below) (booked kept s.root (put_along now p r.refusal way (shape s.root)).node)) path
     ∙ along now p r.refusal shared rest below i j s.root differ
+
+-- ---- places
+
+-- among the children of which one has worked
+same-places : (ns : List (Node Kept)) (i : ℕ) (c after : Node Kept) → slice_get ns i ≡ Some c → ((way : List ℕ) → places_at way after ≡ places_at way c) → (way : List ℕ) (j : ℕ) → places_under way j (set ns i after) ≡ places_under way j ns
+same-places [] i c after e same way j = refl
+same-places (n ∷ ns) zero c after e same way zero = same way ∙ ap (places_at way) (sym (same_Some n c e))
+same-places (n ∷ ns) zero c after e same way (suc j) = refl
+same-places (n ∷ ns) (suc i) c after e same way zero = refl
+same-places (n ∷ ns) (suc i) c after e same way (suc j) = same-places ns i c after e same way j
+
+along-places : (now : ℕ) (p : Descriptor) (refusal : Option Cause) (path way : List ℕ) (n : Node Kept) → places_at way (booked kept n (put_along now p refusal path (shape n)).node) ≡ places_at way n
+along-places now p refusal path [] n = ap (λ (k : Kept). k.places) (noted-kept n.memory (put_along now p refusal path (shape n)).node.memory)
+along-places now p refusal [] (j ∷ way) n = ap (places_under way j) (here-children now p refusal n)
+along-places now p refusal (i ∷ path) (j ∷ way) n = by (slice_get (children n) i) refl (λ c w. along-places now p refusal path w c) where
+  by : (o : Option (Node Kept)) → slice_get (children n) i ≡ o → ((c : Node Kept) (w : List ℕ) → places_at w (booked kept c (put_along now p refusal path (shape c)).node) ≡ places_at w c)
+      → places_under way j (children (booked kept n (put_along now p refusal (i ∷ path) (shape n)).node)) ≡ places_under way j (children n)
+  by None e on = ap (places_under way j) (nobody-there now p refusal i path n e)
+  by (Some c) e on = ap (places_under way j) (child-there now p refusal i path n c e) ∙ same-places (children n) i c (booked kept c (put_along now p refusal path (shape c)).node) e (on c) way j
+
+pub put-places : PutKeepsPlaces
+put-places now p s way = by (device_route p s.device.mtu (shape s.root)) where
+  by : (o : Option Route) → places_at way (booked kept s.root (put_on now p o (shape s.root)).node) ≡ places_at way s.root
+  by None = ap (places_at way) (still s.root)
+  by (Some r) = along-places now p r.refusal r.path way s.root
+
+-- ---- commands
+
+edited-along : (notes : List Note) (f : Node Kept → Node Kept) (shared rest below : List ℕ) (i j : ℕ) (n : Node Kept) → i ≢ j → node_at (shared ++ j ∷ below) (edited_at kept notes f (shared ++ i ∷ rest) n) ≡ node_at (shared ++ j ∷ below) n
+edited-along notes f [] rest below i j n differ = by (slice_get (children n) i) where
+  by : (o : Option (Node Kept)) → option_and_then (node_at below) (slice_get (children (option_map_or (λ child. above kept notes i (edited_at kept notes f rest child) n) o n)) j) ≡ option_and_then (node_at below) (slice_get (children n) j)
+  by None = refl
+  by (Some c) =
+      ap (λ ns. option_and_then (node_at below) (slice_get ns j)) (nodes-side (set (children n) i (edited_at kept notes f rest c)))
+      ∙ ap (option_and_then (node_at below)) (other-set (children n) i j (edited_at kept notes f rest c) differ)
+edited-along notes f (k ∷ shared) rest below i j n differ = by (slice_get (children n) k) refl (λ c. edited-along notes f shared rest below i j c differ) where
+  by : (o : Option (Node Kept)) → slice_get (children n) k ≡ o → ((c : Node Kept) → node_at (shared ++ j ∷ below) (edited_at kept notes f (shared ++ i ∷ rest) c) ≡ node_at (shared ++ j ∷ below) c)
+      → option_and_then (node_at (shared ++ j ∷ below)) (slice_get (children (option_map_or (λ child. above kept notes k (edited_at kept notes f (shared ++ i ∷ rest) child) n) o n)) k) ≡ option_and_then (node_at (shared ++ j ∷ below)) (slice_get (children n) k)
+  by None e on = refl
+  by (Some c) e on =
+      ap (λ ns. option_and_then (node_at (shared ++ j ∷ below)) (slice_get ns k)) (nodes-side (set (children n) k (edited_at kept notes f (shared ++ i ∷ rest) c)))
+      ∙ ap (option_and_then (node_at (shared ++ j ∷ below))) (own-set (children n) k (edited_at kept notes f (shared ++ i ∷ rest) c) c e)
+      ∙ on c
+      ∙ sym (ap (option_and_then (node_at (shared ++ j ∷ below))) e)
+
+pub edit-leaves : EditLeavesOtherSubtrees
+edit-leaves (Graft path new) s shared rest below i j way differ =
+    let notes = lost_by (Graft path new) (shape s.root) in
+    ap (λ w. node_at (shared ++ j ∷ below) (edited_at kept notes (λ old. blank kept new) w s.root)) way ∙ edited-along notes (λ old. blank kept new) shared rest below i j s.root differ
+edit-leaves (Remake path own children_of) s shared rest below i j way differ =
+    let notes = lost_by (Remake path own children_of) (shape s.root) in
+    ap (λ w. node_at (shared ++ j ∷ below) (edited_at kept notes (remade kept own children_of notes) w s.root)) way ∙ edited-along notes (remade kept own children_of notes) shared rest below i j s.root differ

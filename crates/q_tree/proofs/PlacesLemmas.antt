@@ -1,8 +1,9 @@
 -- A tree in which one queue has more places is the same tree but for its memory.
-use Rattle.std.proofs.Common.{◌≡◌, ℕ, zero, suc, ◌<◌, ◌∙◌, List, [], ◌∷◌, map, set, length, refl, sym, ap, ap₂, subst, arith, Option, Some, None, Result, Ok, Err, option_and_then}
+use Rattle.std.proofs.Common.{◌≡◌, ℕ, zero, suc, ◌<◌, ◌≤◌, ◌∙◌, List, [], ◌∷◌, map, set, length, refl, sym, ap, ap₂, subst, arith, Option, Some, None, Result, Ok, Err, option_and_then, option_map}
 use Rattle.std.specs.Prelude.{All, IfSome, IsSome, OnOk, slice_get, slice_index_or}
 use Rattle.std.proofs.lemmas.List.Elements.{All-nil, All-cons, All-head, All-tail}
-use Rattle.std.proofs.lemmas.Option.{slice_get_within}
+use Rattle.std.specs.Option.{option_map_or}
+use Rattle.std.proofs.lemmas.Option.{same_Some, slice_get_within}
 use Rattle.std.proofs.lemmas.Bool.{false≢true}
 use Rattle.q_model.specs.declared.totals.Totals.{Totals}
 use Rattle.q_model.specs.Beneath.{beneath, beneath_own, totals_in}
@@ -11,12 +12,12 @@ use Rattle.q_model.specs.Find.{node_at}
 use Rattle.q_model.specs.Node as spec
 use Rattle.q_model.specs.Node.{Node, Forest, children, side_by_side, each, each_memory}
 use Rattle.q_model.specs.Tally.{Counts}
-use Rattle.q_model.proofs.ShrinkLemmas.{each-each_memory}
+use Rattle.q_model.proofs.ShrinkLemmas.{child-with_memory, each-each_memory}
 use Rattle.q_sound.proofs.Forests.{nodes-side, each-side}
 use Rattle.q_tree.specs.Arrivals.{HasPlace, HasPlaceIn}
 use Rattle.q_tree.specs.Kept.{Kept}
-use Rattle.q_tree.specs.Places.{unplaced, Leads, HasPlaceAt}
-use Rattle.q_tree.specs.Seen.{seen, discipline_seen, children_seen, IsKept, IsCountedWithin}
+use Rattle.q_tree.specs.Places.{unplaced, places_at, places_under, Leads, HasPlaceAt}
+use Rattle.q_tree.specs.Seen.{seen, discipline_seen, children_seen, places_seen, IsKept, IsCountedWithin}
 use Rattle.q_tree.specs.declared.node.Discipline.{Discipline}
 use Rattle.q_tree.specs.declared.node.Node.TheInside.{Inside}
 use Rattle.q_tree.proofs.Puts.{same-child}
@@ -126,3 +127,51 @@ pub place-off : (i : ℕ) (rest path : List ℕ) (a : Inside) (n : Node Kept) �
 place-off i rest path a n view e h =
     subst (λ xs. IfSome (option_and_then (node_at rest) (slice_get xs i)) (λ (end : Node Kept). HasPlaceIn end.memory.places end.own.discipline)) (nodes-side (children_seen a.discipline))
     (subst (λ (m : Node Kept). HasPlace (i ∷ rest) m) (sym view) (subst (λ p. HasPlace p n) e h))
+
+-- ---- no queue has fewer places
+
+-- among the children of which one has changed
+pub set-places : (ns : List (Node Kept)) (i : ℕ) (x x2 : Node Kept) → x ≡ slice_index_or ns i x → ((way : List ℕ) → places_at way x ≤ places_at way x2) → (way : List ℕ) (j : ℕ) → places_under way j ns ≤ places_under way j (set ns i x2)
+set-places [] i x x2 is grow way j = omega arith
+set-places (n ∷ ns) zero x x2 is grow way zero = omega (arith, grow way, ap (places_at way) is)
+set-places (n ∷ ns) zero x x2 is grow way (suc j) = omega arith
+set-places (n ∷ ns) (suc i) x x2 is grow way zero = omega arith
+set-places (n ∷ ns) (suc i) x x2 is grow way (suc j) = set-places ns i x x2 is grow way j
+
+pub only-places : (x x2 : Node Kept) → ((way : List ℕ) → places_at way x ≤ places_at way x2) → (way : List ℕ) (j : ℕ) → places_under way j (x ∷ []) ≤ places_under way j (x2 ∷ [])
+only-places x x2 grow way zero = grow way
+only-places x x2 grow way (suc j) = omega arith
+
+-- at a node and beneath it
+pub seen-places : (a : Inside) (d : Discipline) → places_seen a.discipline ≤ places_seen d → ((way : List ℕ) (i : ℕ) → places_under way i (children_seen a.discipline) ≤ places_under way i (children_seen d))
+    → (n : Node Kept) → seen a ≡ n → (way : List ℕ) → places_at way n ≤ places_at way (seen (record a { discipline = d }))
+seen-places a d here under n view [] = subst (λ (m : Node Kept). m.memory.places ≤ places_seen d) view here
+seen-places a d here under n view (i ∷ way) =
+    subst (λ (m : Node Kept). places_at (i ∷ way) m ≤ places_at (i ∷ way) (seen (record a { discipline = d }))) view
+    (subst (λ xs. places_under way i xs ≤ places_under way i (spec.nodes_in (side_by_side (children_seen d)))) (sym (nodes-side (children_seen a.discipline)))
+    (subst (λ ys. places_under way i (children_seen a.discipline) ≤ places_under way i ys) (sym (nodes-side (children_seen d))) (under way i)))
+
+-- a queue that has a place has it among more
+more-places : (d : spec.Discipline) (k m : ℕ) → k ≤ m → HasPlaceIn k d → HasPlaceIn m d
+more-places (spec.Fifo limit queue) k m le h = omega (arith, le, h)
+more-places (spec.FqCodel s) k m le h = omega (arith, le, h)
+more-places (spec.Prio priomap) k m le h = tt
+more-places (spec.Tbf bucket limit) k m le h = tt
+more-places (spec.Drr s) k m le h = tt
+
+pub node_at-unplaced : (path : List ℕ) (n : Node Kept) → node_at path (unplaced n) ≡ option_map unplaced (node_at path n)
+node_at-unplaced [] n = refl
+node_at-unplaced (i ∷ path) n = ap (option_and_then (node_at path)) (child-with_memory (λ (k : Kept). k.counts) n i) ∙ beneath-child (slice_get (children n) i) (node_at-unplaced path) where
+  beneath-child : (o : Option (Node Kept)) → ((c : Node Kept) → node_at path (unplaced c) ≡ option_map unplaced (node_at path c)) → option_and_then (node_at path) (option_map unplaced o) ≡ option_map unplaced (option_and_then (node_at path) o)
+  beneath-child None rec = refl
+  beneath-child (Some c) rec = rec c
+
+pub place-stays : (path : List ℕ) (n m : Node Kept) → unplaced m ≡ unplaced n → places_at path n ≤ places_at path m → HasPlace path n → HasPlace path m
+place-stays path n m same grow h = by (node_at path n) (node_at path m) (sym (node_at-unplaced path m) ∙ ap (node_at path) same ∙ node_at-unplaced path n) grow h where
+  by : (o o2 : Option (Node Kept)) → option_map unplaced o2 ≡ option_map unplaced o → option_map_or (λ (end : Node Kept). end.memory.places) o 0 ≤ option_map_or (λ (end : Node Kept). end.memory.places) o2 0
+      → IfSome o (λ (end : Node Kept). HasPlaceIn end.memory.places end.own.discipline) → IfSome o2 (λ (end : Node Kept). HasPlaceIn end.memory.places end.own.discipline)
+  by None None e le is = tt
+  by (Some x) None e le is = tt
+  by None (Some y) e le is = absurd cc
+  by (Some x) (Some y) e le is =
+      subst (HasPlaceIn y.memory.places) (ap (λ (z : Node Counts). z.own.discipline) (sym (same_Some (unplaced y) (unplaced x) e))) (more-places x.own.discipline x.memory.places y.memory.places le is)

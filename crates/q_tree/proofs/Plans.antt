@@ -22,8 +22,8 @@ use Rattle.q_model.specs.Find.{count_nodes, depth, node_at}
 use Rattle.q_model.specs.Node.{Discipline, Own, Node, Shape, children, shape, side_by_side}
 use Rattle.q_model.specs.Make.{Device}
 use Rattle.q_model.specs.QdiscCommands.{all_kept}
-use Rattle.q_model.proofs.ShrinkLemmas.{child-with_memory, noted-stands, shape-with_memory, side_by_side-map}
-use Rattle.q_model.proofs.ShrinkSteps.{edited_at-stands}
+use Rattle.q_model.proofs.ShrinkLemmas.{shape-with_memory}
+use Rattle.q_model.proofs.ShrinkSteps.{with_edit-stands}
 use Rattle.q_model.specs.Refusals.{Check, done_unless, first_refusal, most_levels, most_nodes, refuse}
 use Rattle.q_model.specs.Step.{DeviceState, losses_in}
 use Rattle.q_model.specs.Tally.{Note, Tally, noted, totals}
@@ -37,7 +37,6 @@ use Rattle.q_sound.proofs.MadeSizes.{count-shape, depth-shape}
 use Rattle.q_tree.specs.Commands.{IsAnswered, IsBounded, IsDone, IsPlanned, IsPlannedFor, IsPlanOf, IsRefused, device_edited, told}
 use Rattle.q_tree.specs.Editing.{IsReady, LosesNothing, TakesMemory, edited_by, effect, removed, removed_at}
 use Rattle.q_tree.specs.Reshaping.{KeepsAll, children_after, discipline_after, lost_with}
-use Rattle.q_tree.specs.Places.{unplaced}
 use Rattle.q_tree.specs.Kept.{Kept, kept}
 use Rattle.q_tree.specs.TreeSeen.{IsKeptDevice, numbers, tree_numbers}
 use Rattle.q_tree.specs.declared.edit.Edit.{Edit}
@@ -52,26 +51,20 @@ use Rattle.q_tree.proofs.TreePuts.{levels}
 
 -- ---- the answer
 
--- the numbers of a device that was edited
-numbers-edited : (e : Edit) (path : List ℕ) (now : ℕ) (d : DeviceState Kept) (p : IsPlanned e path now d.tree.device d.tree.root)
-    → numbers (device_edited e path now d) ≡ record { clock = now; tree = with_edit totals p.edit (tree_numbers d.tree) }
-numbers-edited e path now d p =
-    (λ i. record {
-      clock = now;
-      tree = record {
-        device = d.tree.device;
-        top = (noted-stands kept totals (λ (k : Kept). k.counts) stands d.tree.top (losses_of Purged (removed_at e path d.tree.root)) ∙ ap (λ ps. noted totals d.tree.top.counts (losses_of Purged ps)) p.lost) i;
-        root = p.same i;
-      };
-    })
-    ∙ sym (ap (λ (r : Shape). record {
-      clock = now;
-      tree = record { device = d.tree.device; top = noted totals d.tree.top.counts (lost_by p.edit r); root = model.edited totals (lost_by p.edit r) p.edit (unplaced d.tree.root) };
-    }) (shape-with_memory (λ (k : Kept). k.counts) d.tree.root))
+-- a device that was edited is the one of the plan
+edited-is : (e : Edit) (path : List ℕ) (now : ℕ) (d : DeviceState Kept) (p : IsPlanned e path now d.tree.device d.tree.root) → device_edited e path now d ≡ record { clock = now; tree = with_edit kept p.edit d.tree }
+edited-is e path now d p = λ i. record {
+  clock = now;
+  tree = record { device = d.tree.device; top = ap (λ ps. noted kept d.tree.top (losses_of Purged ps)) p.lost i; root = p.same i };
+}
+
+-- and its numbers are those of the plan
+pub done-numbers : (now : ℕ) (edit : model.Edit) (d after : DeviceState Kept) → after ≡ record { clock = now; tree = with_edit kept edit d.tree } → numbers after ≡ record { clock = now; tree = with_edit totals edit (tree_numbers d.tree) }
+done-numbers now edit d after is = ap numbers is ∙ ap (λ t. record { clock = now; tree = t }) (with_edit-stands kept totals (λ (k : Kept). k.counts) stands edit d.tree)
 
 pub numbers-after : (e : Edit) (path : List ℕ) (now : ℕ) (d after : DeviceState Kept) (p : IsPlanned e path now d.tree.device d.tree.root) → after ≡ device_edited e path now d
     → numbers after ≡ record { clock = now; tree = with_edit totals p.edit (tree_numbers d.tree) }
-numbers-after e path now d after p is = ap numbers is ∙ numbers-edited e path now d p
+numbers-after e path now d after p is = done-numbers now p.edit d after (is ∙ edited-is e path now d p)
 
 module _ (memory : Type 0) (command : Command) (d : DeviceState Kept) (now : ℕ) (root : Node Kept) (root_is : root ≡ d.tree.root) (answer : Result Planned Refusal)
     (plan_of : IsPlanOf memory command now d.tree.device root answer) where
@@ -94,7 +87,7 @@ module _ (memory : Type 0) (command : Command) (d : DeviceState Kept) (now : ℕ
 
     pub tree-answered : (after : DeviceState Kept) (result : Result (Unit {0}) Refusal) → OnOk result (after ≡ device_edited p.edit p.path.items now d)
         → IfErr result (λ why. (why ≡ Memory) × TakesMemory p.edit) → OnErr result (after ≡ d) → IsAnswered memory now planned d after result
-    tree-answered after (Ok done) edited memory_refused unchanged = subst (λ q. IsDone now q d after) (sym tree-plan) (numbers-after p.edit p.path.items now d after tree-planned.planned edited)
+    tree-answered after (Ok done) edited memory_refused unchanged = subst (λ q. IsDone now q d after) (sym tree-plan) (edited ∙ edited-is p.edit p.path.items now d tree-planned.planned)
     tree-answered after (Err why) edited memory_refused unchanged =
         (subst (λ q. IsRefused memory q why) (sym tree-plan) (memory_refused.0, tree-planned.takes memory_refused.1), unchanged)
 
@@ -160,17 +153,10 @@ edited-end {M} t notes f g (i ∷ path) root n at same = by (slice_get (children
   by None there on = refl
   by (Some c) there on = ap (λ x. above t notes i x root) (on c there)
 
-node_at-unplaced : (path : List ℕ) (n : Node Kept) → node_at path (unplaced n) ≡ option_map unplaced (node_at path n)
-node_at-unplaced [] n = refl
-node_at-unplaced (i ∷ path) n = ap (option_and_then (node_at path)) (child-with_memory (λ (k : Kept). k.counts) n i) ∙ beneath-child (slice_get (children n) i) (node_at-unplaced path) where
-  beneath-child : (o : Option (Node Kept)) → ((c : Node Kept) → node_at path (unplaced c) ≡ option_map unplaced (node_at path c)) → option_and_then (node_at path) (option_map unplaced o) ≡ option_map unplaced (option_and_then (node_at path) o)
-  beneath-child None rec = refl
-  beneath-child (Some c) rec = rec c
-
 -- an edit that gives the node at the end of its way other settings and children
 module _ (device : Device) (root : Node Kept) (p : Planned) (ready : IsReady p.edit) (n : Node Kept) (there : node_at p.path.items root ≡ Some n) (own : Own) (below : List model.Child)
     (lost_is : removed p.edit n ≡ beneath_removed below (shape n))
-    (does : unplaced (effect p.edit n) ≡ remade totals own below (losses_of Purged (removed p.edit n)) (unplaced n))
+    (does : effect p.edit n ≡ remade kept own below (losses_of Purged (removed p.edit n)) n)
     (command : Command) (ranges : IsCommand command) (now : ℕ)
     (plan-is : plan device now command (shape root) ≡ Ok (Remake p.path.items own below)) where
   abbrev remake : model.Edit
@@ -185,13 +171,10 @@ module _ (device : Device) (root : Node Kept) (p : Planned) (ready : IsReady p.e
   remade-lost : removed_at p.edit p.path.items root ≡ packets_removed remake (shape root)
   remade-lost = here ∙ lost_is ∙ sym (ap (λ o. option_map_or (beneath_removed below) o []) (node_at-shape p.path.items root ∙ ap (option_map shape) there))
 
-  remade-same : unplaced (edited_by p.edit p.path.items root) ≡ model.edited totals (lost_by remake (shape root)) remake (unplaced root)
+  remade-same : edited_by p.edit p.path.items root ≡ model.edited kept (lost_by remake (shape root)) remake root
   remade-same =
-      ap unplaced (edited-end kept notes (effect p.edit) (λ m. effect p.edit n) p.path.items root n there refl)
-      ∙ edited_at-stands kept totals (λ (k : Kept). k.counts) stands notes (λ m. effect p.edit n) (λ m. unplaced (effect p.edit n)) (λ m. refl) p.path.items root
-      ∙ edited-end totals notes (λ m. unplaced (effect p.edit n)) (remade totals own below notes) p.path.items (unplaced root) (unplaced n)
-      (node_at-unplaced p.path.items root ∙ ap (option_map unplaced) there) (does ∙ ap (λ ps. remade totals own below (losses_of Purged ps) (unplaced n)) (sym here))
-      ∙ ap (λ ps. edited_at totals (losses_of Purged ps) (remade totals own below (losses_of Purged ps)) p.path.items (unplaced root)) remade-lost
+      edited-end kept notes (effect p.edit) (remade kept own below notes) p.path.items root n there (does ∙ ap (λ ps. remade kept own below (losses_of Purged ps) n) (sym here))
+      ∙ ap (λ ps. edited_at kept (losses_of Purged ps) (remade kept own below (losses_of Purged ps)) p.path.items root) remade-lost
 
   pub remade-planned : (memory : Type 0) → (TakesMemory p.edit → memory) → IsPlannedFor memory command p now device root
   remade-planned memory takes = record {
@@ -217,17 +200,14 @@ module _ (n : Node Kept) where
       ∙ gone_none (λ j. list_any (keeps j) (all_kept (shape n))) 0 (map beneath (children (shape n)))
       (λ j le lt. kept_there j 0 (length (children (shape n))) le (omega (arith, lt, length-map (children (shape n)) beneath)))
 
-  pub length-unplaced : length (children (shape n)) ≡ length (children (unplaced n))
-  length-unplaced = ap (λ (s : Shape). length (children s)) (sym (shape-with_memory (λ (k : Kept). k.counts) n)) ∙ length-shape (unplaced n)
-
   pub own-lost : (e : Edit) → removed e n ≡ [] → removed e n ≡ beneath_removed (all_kept (shape n)) (shape n)
   own-lost e nothing_lost = nothing_lost ∙ sym all-stay
 
-  pub own-does : (e : Edit) (own : Own) → effect e n ≡ record n { own = own } → removed e n ≡ [] → unplaced (effect e n) ≡ remade totals own (all_kept (shape n)) (losses_of Purged (removed e n)) (unplaced n)
-  own-does e own does nothing_lost = ap unplaced does ∙ sym (λ i. record {
+  pub own-does : (e : Edit) (own : Own) → effect e n ≡ record n { own = own } → removed e n ≡ [] → effect e n ≡ remade kept own (all_kept (shape n)) (losses_of Purged (removed e n)) n
+  own-does e own does nothing_lost = does ∙ sym (λ i. record {
     own = own;
-    memory = noted totals n.memory.counts (losses_of Purged (nothing_lost i));
-    below = (ap side_by_side (kids_all totals (children (unplaced n)) (length (children (shape n))) length-unplaced) ∙ side-nodes (unplaced n).below) i;
+    memory = noted kept n.memory (losses_of Purged (nothing_lost i));
+    below = (ap side_by_side (kids_all kept (children n) (length (children (shape n))) (length-shape n)) ∙ side-nodes n.below) i;
   })
 
 -- ---- the bounds of a tree
@@ -287,12 +267,11 @@ own-kept r n nothing_lost all = λ i. record {
 
 -- children that are named by what becomes of them
 pub reshape-does : (r : shapes.Reshape) (n : Node Kept) (own : Own) (below : List model.Child) → ◌≡◌ {A = Own} (record n.own { discipline = discipline_after r n.own.discipline (children n) }) own
-    → map unplaced (children_after r n.own.discipline (children n)) ≡ kids totals (children (unplaced n)) below
-    → unplaced (effect (Reshape r) n) ≡ remade totals own below (losses_of Purged (removed (Reshape r) n)) (unplaced n)
+    → children_after r n.own.discipline (children n) ≡ kids kept (children n) below → effect (Reshape r) n ≡ remade kept own below (losses_of Purged (removed (Reshape r) n)) n
 reshape-does r n own below own_is kids_is = λ i. record {
   own = own_is i;
-  memory = noted-stands kept totals (λ (k : Kept). k.counts) stands n.memory (losses_of Purged (lost_with r n.own.discipline (children n))) i;
-  below = (side_by_side-map (λ (k : Kept). k.counts) (children_after r n.own.discipline (children n)) ∙ ap side_by_side kids_is) i;
+  memory = noted kept n.memory (losses_of Purged (lost_with r n.own.discipline (children n)));
+  below = side_by_side (kids_is i);
 }
 
 pub own-planned : (device : Device) (root : Node Kept) (p : Planned) → IsReady p.edit → (n : Node Kept) → node_at p.path.items root ≡ Some n → (own : Own) → effect p.edit n ≡ record n { own = own } → removed p.edit n ≡ []

@@ -24,14 +24,16 @@ use Rattle.q_sound.proofs.Kept.{IsKeptTree}
 use Rattle.q_sound.proofs.Puts.{put-kept}
 use Rattle.q_sound.proofs.Ways.{route-goes}
 use Rattle.q_sound.proofs.Weights.{arrived-nil, arrived-cons, sent-nil, sent-cons, lost-nil, lost-cons, marked-nil, marked-cons}
-use Rattle.q_tree.specs.Arrivals.{CanPut, IsOutcome, IsLostOf, with_arrival}
+use Rattle.q_tree.specs.Arrivals.{CanPut, HasPlace, IsOutcome, IsLostOf, with_arrival}
 use Rattle.q_tree.specs.Kept.{Kept, kept}
-use Rattle.q_tree.specs.Places.{unplaced}
+use Rattle.q_tree.specs.Places.{unplaced, places_at}
+use Rattle.q_tree.specs.RouteSeen.{RouteSeen, route_seen}
 use Rattle.q_tree.specs.Seen.{IsCountedWithin}
-use Rattle.q_tree.specs.TreeSeen.{tree_seen, tree_numbers, IsKeptDevice, CanArrive, IsArrived, IsRouteIn}
+use Rattle.q_tree.specs.TreeSeen.{tree_seen, numbers, tree_numbers, IsKeptDevice, CanArrive, IsArrived, IsRouteIn}
 use Rattle.q_tree.specs.declared.outcome.Outcome.{Outcome}
 use Rattle.q_tree.specs.declared.tree.Tree.TheInside.{Inside}
 use Rattle.q_tree.proofs.Forms.{booked-quiet, noted-kept}
+use Rattle.q_tree.proofs.PlacesLemmas.{place-stays}
 use Rattle.q_tree.proofs.Puts.{same-way, are-losses, shifted}
 use Rattle.q_tree.proofs.Rows.{counts_in_row, AreLosses, IsShifted, counted-arrival, outcome-weighs, lost-of, queued-after}
 use Rattle.q_tree.proofs.TreeLemmas.{stands, lawful-root}
@@ -55,9 +57,9 @@ reaches p mtu root r e = by (nat_lt mtu p.len) refl e
     by true h e = cc
     by false h e = record { short = ltb-false mtu p.len h; is = sym (same_Some r (route p root) e) }
 
-pub route-leads : (route : Option Route) (r : Route) (d : DeviceState Kept) → route ≡ Some r → IsRouteIn route d → IsSome (node_at r.path d.tree.root)
+pub route-leads : (route : RouteSeen) (r : Route) (d : DeviceState Kept) → route.route ≡ Some r → IsRouteIn route d → IsSome (node_at r.path d.tree.root)
 route-leads route r d e h =
-    let on = reaches h.packet d.tree.device.mtu d.tree.root r (sym e ∙ h.is) in
+    let on = reaches h.packet d.tree.device.mtu d.tree.root r (sym e ∙ ap (λ (x : RouteSeen). x.route) h.is) in
     leads h.packet r.path r.refusal d.tree.root on.is
 
 -- the route looks at no memory
@@ -70,6 +72,21 @@ same-routes p n m mtu e =
 -- a root that a packet never reaches
 pub still : (n : Node Kept) → booked kept n (quiet (shape n)) ≡ n
 still n = ap (λ b. record { own = n.own; memory = n.memory; below = b }) (booked-quiet kept n.below)
+
+-- a packet that can arrive on its own route
+pub ready-for : (r : RouteSeen) (p : Descriptor) (mtu : ℕ) (root : Node Kept) (d e : DeviceState Kept) → r ≡ route_seen p mtu root → d ≡ e → CanArrive r e → CanArrive (record { len = p.len; route = r.route }) d
+ready-for r p mtu root d e is same h = subst (λ n. CanArrive (record { len = n; route = r.route }) d) (ap (λ (x : RouteSeen). x.len) is) (subst (CanArrive r) (sym same) h)
+
+-- what could arrive can arrive where the numbers are the same and no queue has fewer places
+pub arrives-still : (r : RouteSeen) (d e : DeviceState Kept) → numbers e ≡ numbers d → ((path : List ℕ) → places_at path d.tree.root ≤ places_at path e.tree.root) → CanArrive r d → CanArrive r e
+arrives-still r d e same grow h = record {
+  place = by r.route h.place;
+  packets = omega (arith, h.packets, ap (λ (x : DeviceState Counts). x.tree.top.arrived.packets) same);
+  bytes = omega (arith, h.bytes, ap (λ (x : DeviceState Counts). x.tree.top.arrived.bytes) same);
+} where
+  by : (o : Option Route) → IfSome o (λ (way : Route). way.refusal ≡ None → HasPlace way.path d.tree.root) → IfSome o (λ (way : Route). way.refusal ≡ None → HasPlace way.path e.tree.root)
+  by None is = tt
+  by (Some way) is = λ goes. place-stays way.path d.tree.root e.tree.root (ap (λ (x : DeviceState Counts). x.tree.root) same) (grow way.path) (is goes)
 
 module _ (a : Inside) (k : IsKeptDevice a) where
   pub levels : depth a.root ≤ 8
@@ -91,11 +108,11 @@ module _ (a : Inside) (k : IsKeptDevice a) where
         within = subst (λ (t : Totals). IsCountedWithin t a.top.arrived) (ap (λ (n : Node Counts). n.memory.arrived) (sym e)) k.within;
       }
 
-  module _ (p : Descriptor) (now : ℕ) (later : a.clock ≤ now) (low : now ≤ 2 ^ 62) (byte : 1 ≤ p.len) (r : Option Route) (is : r ≡ device_route p a.mtu a.root) (ready : CanArrive r (tree_seen a)) where
+  module _ (p : Descriptor) (now : ℕ) (later : a.clock ≤ now) (low : now ≤ 2 ^ 62) (byte : 1 ≤ p.len) (r : Option Route) (is : r ≡ device_route p a.mtu a.root) (ready : CanArrive (record { len = p.len; route = r }) (tree_seen a)) where
     pub can-put : IfSome r (λ (x : Route). CanPut now p x.path x.refusal a.root)
     can-put = by r is ready
       where
-        by : (o : Option Route) → o ≡ device_route p a.mtu a.root → CanArrive o (tree_seen a) → IfSome o (λ (x : Route). CanPut now p x.path x.refusal a.root)
+        by : (o : Option Route) → o ≡ device_route p a.mtu a.root → CanArrive (record { len = p.len; route = o }) (tree_seen a) → IfSome o (λ (x : Route). CanPut now p x.path x.refusal a.root)
         by None e h = tt
         by (Some x) e h =
             let on = reaches p a.mtu a.root x e in
@@ -107,7 +124,7 @@ module _ (a : Inside) (k : IsKeptDevice a) where
               place = h.place;
               counts = record {
                 packets = omega (arith, k.within.packets, h.packets);
-                bytes = omega (arith, k.within.bytes, h.bytes, on.short, k.keeps.most_mtu, ap (λ (s : TreeState Counts). s.device.mtu) k.same);
+                bytes = omega (arith, k.within.bytes, h.bytes);
               };
             }
 

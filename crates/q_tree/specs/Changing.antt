@@ -1,7 +1,7 @@
 -- What a change makes of a qdisc of the same kind (tc(8), `change`; tc-pfifo(8), tc-prio(8), tc-tbf(8), tc-fq_codel(8)), or
 -- the first refusal that holds.
-use Rattle.std.specs.Prelude.{◌≡◌, ℕ, ◌+◌, ◌-◌, List, ◌++◌, drop, length, map, unwrap_or, Option, Result, Ok, Err}
-use Rattle.std.specs.List.{flat_map, sum}
+use Rattle.std.specs.Prelude.{◌≡◌, ℕ, ◌+◌, ◌-◌, Bool, true, false, IsTrue, List, ◌++◌, drop, length, map, unwrap_or, Option, Result, Ok, Err}
+use Rattle.std.specs.List.{flat_map, list_any, sum}
 use Rattle.q_codel.specs.declared.limit.Limit.TheVariants.{Packets, Bytes}
 use Rattle.q_bucket.specs.Level.{after_change}
 use Rattle.q_model.specs.declared.kind.Kind.{Kind}
@@ -17,11 +17,9 @@ use Rattle.q_model.specs.Node.{Discipline, Fifo, Prio, Tbf, Drr, FqCodel, Own, N
 use Rattle.q_model.specs.Options.{FqOptions}
 use Rattle.q_model.specs.QdiscCommands.{bands_check, burst_check, flows_check}
 use Rattle.q_model.specs.Refusals.{done_unless}
-use Rattle.q_model.specs.Tally.{totals}
 use Rattle.q_sound.proofs.SizeChecks.{numbers}
 use Rattle.q_tree.specs.Commands.{IsRefused}
-use Rattle.q_tree.specs.Kept.{Kept}
-use Rattle.q_tree.specs.Places.{unplaced}
+use Rattle.q_tree.specs.Kept.{Kept, kept}
 use Rattle.q_tree.specs.Reshaping.{AreReady, TakesMore, children_after, discipline_after, lost_with}
 use Rattle.q_tree.specs.declared.reshape.Reshape.{Reshape}
 use Rattle.q_tree.specs.declared.reshape.Reshape.TheVariants.{Nothing, SetLimit, SetBucket, SetOptions}
@@ -80,14 +78,26 @@ leaves_answer bands nodes n (Tbf bucket limit) = Err CannotChange
 leaves_answer bands nodes n (Drr s) = Err CannotChange
 leaves_answer bands nodes n (FqCodel s) = Err CannotChange
 
--- the change of bands alone takes memory
-abbrev pub NeedsMore : Kind → Type 0
-NeedsMore (kind.Pfifo limit) = ⊥
-NeedsMore (kind.Bfifo limit) = ⊥
-NeedsMore (kind.Prio options) = Unit {0}
-NeedsMore (kind.Tbf rate burst limit) = ⊥
-NeedsMore kind.Drr = ⊥
-NeedsMore (kind.FqCodel options) = ⊥
+-- whether a child is new
+abbrev pub is_new : Child → Bool
+is_new (model.Kept i) = false
+is_new (model.Retuned i own) = false
+is_new (model.New s) = true
+
+-- the plan gives a qdisc a child that it did not have
+abbrev pub MakesChildren : Result model.Edit Refusal → Type 0
+MakesChildren (Ok (model.Graft path new)) = ⊥
+MakesChildren (Ok (Remake path own below)) = IsTrue (list_any is_new below)
+MakesChildren (Err refusal) = ⊥
+
+-- of the changes that of a prio alone takes memory, and that where it gets more bands
+abbrev pub NeedsMore : Kind → Result model.Edit Refusal → Type 0
+NeedsMore (kind.Pfifo limit) plan = ⊥
+NeedsMore (kind.Bfifo limit) plan = ⊥
+NeedsMore (kind.Prio options) plan = MakesChildren plan
+NeedsMore (kind.Tbf rate burst limit) plan = ⊥
+NeedsMore kind.Drr plan = ⊥
+NeedsMore (kind.FqCodel options) plan = ⊥
 
 -- a reshaping of this node is the remaking that the model plans for it, whichever way leads there
 pub record IsRemade (plan : List ℕ → Result model.Edit Refusal) (n : Node Kept) (r : Reshape) : Type 0 where
@@ -95,11 +105,11 @@ pub record IsRemade (plan : List ℕ → Result model.Edit Refusal) (n : Node Ke
   pub below : List Child
   pub planned : (path : List ℕ) → plan path ≡ Ok (Remake path own below)
   pub own_is : ◌≡◌ {A = Own} (record n.own { discipline = discipline_after r n.own.discipline (children n) }) own
-  pub kids_is : map unplaced (children_after r n.own.discipline (children n)) ≡ flat_map (child_of totals (children (unplaced n))) below
+  pub kids_is : children_after r n.own.discipline (children n) ≡ flat_map (child_of kept (children n)) below
   pub lost_is : lost_with r n.own.discipline (children n) ≡ beneath_removed below (shape n)
   pub ready : AreReady r
 
--- the reshaping that the model plans, or the refusal; memory last
-abbrev pub IsChange : Type 0 → (List ℕ → Result model.Edit Refusal) → Node Kept → Result Reshape Refusal → Type 0
-IsChange memory plan n (Ok r) = IsRemade plan n r × (TakesMore r → memory)
-IsChange memory plan n (Err refusal) = (path : List ℕ) → IsRefused memory (plan path) refusal
+-- the reshaping that the model plans, or the refusal; memory last, of a plan that takes some
+abbrev pub IsChange : (Result model.Edit Refusal → Type 0) → (List ℕ → Result model.Edit Refusal) → Node Kept → Result Reshape Refusal → Type 0
+IsChange memory plan n (Ok r) = IsRemade plan n r × ((path : List ℕ) → TakesMore r → memory (plan path))
+IsChange memory plan n (Err refusal) = (path : List ℕ) → IsRefused (memory (plan path)) (plan path) refusal

@@ -13,13 +13,11 @@ use Rattle.q_model.specs.Node.{Discipline, Fifo, Prio, Tbf, Drr, FqCodel, Node, 
 use Rattle.q_model.specs.Ranges.{IsCommand}
 use Rattle.q_model.specs.Refusals.{Check, done_unless, most_levels, most_nodes}
 use Rattle.q_model.specs.Step.{DeviceState, losses_in}
-use Rattle.q_model.specs.Tally.{noted, totals}
+use Rattle.q_model.specs.Tally.{noted}
 use Rattle.q_model.specs.TreeState.{plan, with_edit}
 use Rattle.q_sound.proofs.SizeChecks.{sizes}
 use Rattle.q_tree.specs.Editing.{removed_at, notes_of, edited_by, IsReady, TakesMemory}
 use Rattle.q_tree.specs.Kept.{Kept, kept}
-use Rattle.q_tree.specs.Places.{unplaced}
-use Rattle.q_tree.specs.TreeSeen.{numbers, tree_numbers}
 use Rattle.q_tree.specs.declared.edit.Edit.{Edit}
 use Rattle.q_tree.specs.declared.planned.Planned.{Planned}
 
@@ -39,9 +37,9 @@ abbrev pub IsRefused : Type 0 → Result model.Edit Refusal → Refusal → Type
 IsRefused memory (Err first) refusal = refusal ≡ first
 IsRefused memory (Ok edit) refusal = (refusal ≡ Memory) × memory
 
--- the edit of the plan is done, but for the places of queues, which are memory and mean nothing to the rules
+-- The edit of the plan is done. A queue that stays has the places that it had, and a new one has none.
 abbrev pub IsDone : ℕ → Result model.Edit Refusal → DeviceState Kept → DeviceState Kept → Type 0
-IsDone now (Ok edit) before after = numbers after ≡ record { clock = now; tree = with_edit totals edit (tree_numbers before.tree) }
+IsDone now (Ok edit) before after = after ≡ record { clock = now; tree = with_edit kept edit before.tree }
 IsDone now (Err refusal) before after = ⊥
 
 -- a command that is refused changes nothing
@@ -69,7 +67,7 @@ pub record IsPlanned (e : Edit) (path : List ℕ) (now : ℕ) (device : Device) 
   pub edit : model.Edit
   pub planned : plan device now command (shape root) ≡ Ok edit
   pub lost : removed_at e path root ≡ model.packets_removed edit (shape root)
-  pub same : unplaced (edited_by e path root) ≡ model.edited totals (model.lost_by edit (shape root)) edit (unplaced root)
+  pub same : edited_by e path root ≡ model.edited kept (model.lost_by edit (shape root)) edit root
   pub there : IsSome (node_at path root)
   pub ready : IsReady e
 

@@ -17,6 +17,7 @@ pub mod PopSteps
 pub mod Purging
 pub mod PutSteps
 pub mod Reshaping
+pub mod RouteSeen
 pub mod Seen
 pub mod Showing
 pub mod Shown

@@ -1,4 +1,4 @@
--- A node of the code that was made anew is the model's, of which nothing was noted, but for the places of its queue.
+-- A node of the code that was made anew is the model's, of which nothing was noted, and its queues have no places.
 -- Nothing here is of a standard.
 use Rattle.std.specs.Prelude.{◌≡◌, ℕ, List, [], ◌∷◌, map}
 use Rattle.q_bucket.specs.Level.{TokenBucket}
@@ -7,26 +7,26 @@ use Rattle.q_model.specs.declared.kind.Kind.TheVariants as kind
 use Rattle.q_model.specs.Make.{implicit_bfifo}
 use Rattle.q_model.specs.Node as spec
 use Rattle.q_model.specs.Node.{Node, Shape, blank, children}
-use Rattle.q_model.specs.Tally.{totals}
-use Rattle.q_tree.specs.Kept.{Kept}
-use Rattle.q_tree.specs.Places.{unplaced}
-use Rattle.q_tree.specs.Seen.{children_seen, discipline_seen}
+use Rattle.q_tree.specs.Kept.{Kept, kept}
+use Rattle.q_tree.specs.Seen.{children_seen, discipline_seen, places_seen}
 use Rattle.q_tree.specs.declared.node.Discipline.{Discipline}
 
 abbrev pub IsNewNode : Node Kept → Shape → Type 0
-IsNewNode n s = unplaced n ≡ blank totals s
+IsNewNode n s = n ≡ blank kept s
 
 abbrev pub AreNew : List (Node Kept) → List Shape → Type 0
-AreNew ns shapes = map unplaced ns ≡ map (blank totals) shapes
+AreNew ns shapes = ns ≡ map (blank kept) shapes
 
 -- the discipline of a new qdisc, with its implicit leaves
 pub record IsNewDiscipline (d : Discipline) (s : Shape) : Type 0 where
   pub discipline : discipline_seen d ≡ s.own.discipline
+  pub places : places_seen d ≡ 0
   pub leaves : AreNew (children_seen d) (children s)
 
 -- a new tbf with this bucket, over an implicit bfifo of so many bytes
 pub record IsNewTbf (d : Discipline) (bucket : TokenBucket) (limit : ℕ) : Type 0 where
   pub discipline : discipline_seen d ≡ spec.Tbf bucket limit
+  pub places : places_seen d ≡ 0
   pub leaf : AreNew (children_seen d) (implicit_bfifo limit ∷ [])
 
 -- the kinds that need memory of their own, for bands, an implicit leaf or flows

@@ -1,6 +1,6 @@
 -- What a command makes of a discipline and of its children, and what is lost with the children that go
 -- (tc-prio(8), tc-tbf(8), tc-drr(8), tc-fq_codel(8)). An edit that is not for this discipline changes nothing.
-use Rattle.std.specs.Prelude.{◌≡◌, ℕ, ◌<◌, ◌^◌, Bool, false, not, List, [], ◌∷◌, ◌++◌, map, take, drop, Option, None, Some, is_some, option_and_then, option_map, slice_get, All, if◌then◌else◌}
+use Rattle.std.specs.Prelude.{◌≡◌, ℕ, ◌<◌, ◌^◌, Bool, false, not, List, [], ◌∷◌, ◌++◌, map, take, drop, length, Option, None, Some, is_some, option_and_then, option_map, slice_get, All, if◌then◌else◌}
 use Rattle.std.specs.List.{remove}
 use Rattle.std.specs.Option.{option_map_or}
 use Rattle.q_codel.specs.declared.limit.Limit.{Limit}
@@ -170,11 +170,11 @@ AreReady (AddClass class quantum leaf) = IsFresh leaf
 AreReady (SetQuantum class quantum) = Unit {0}
 AreReady (RemoveClass class) = Unit {0}
 
--- those that take memory: for a child more
+-- those that take memory: for children more
 abbrev pub TakesMore : Reshape → Type 0
 TakesMore Nothing = ⊥
 TakesMore (SetLimit limit) = ⊥
-TakesMore (SetBands options leaves) = Unit {0}
+TakesMore (SetBands options leaves) = 0 < length leaves.items
 TakesMore (SetBucket bucket limit) = ⊥
 TakesMore (SetOptions options) = ⊥
 TakesMore (AddClass class quantum leaf) = Unit {0}

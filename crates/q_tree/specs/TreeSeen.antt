@@ -1,11 +1,11 @@
 -- What a contract sees of a tree of the code: the model's device, whose nodes remember what they counted and their places.
 -- The counters are those of `tc -s qdisc show` (tc(8)).
-use Rattle.std.specs.Prelude.{◌≡◌, ◌<◌, ◌≤◌, ◌+◌, ◌^◌, List, Option, None, IfSome}
+use Rattle.std.specs.Prelude.{◌≡◌, ◌<◌, ◌+◌, ◌^◌, List, None, IfSome}
 use mathlib.Core.Logic.{◌⊎◌}
 use Rattle.q_packet.specs.Descriptor.{Descriptor}
 use Rattle.q_model.specs.Beneath.{beneath, totals_in}
 use Rattle.q_model.specs.Node.{Node}
-use Rattle.q_model.specs.Route.{Route, device_route}
+use Rattle.q_model.specs.Route.{Route}
 use Rattle.q_model.specs.Shrink.{remembering, shrunk}
 use Rattle.q_model.specs.Step.{DeviceState}
 use Rattle.q_model.specs.Tally.{Note, Counts, with_packet}
@@ -13,6 +13,7 @@ use Rattle.q_model.specs.TreeState.{TreeState}
 use Rattle.q_sound.proofs.Kept.{IsKeptTree}
 use Rattle.q_tree.specs.Arrivals.{HasPlace}
 use Rattle.q_tree.specs.Kept.{Kept}
+use Rattle.q_tree.specs.RouteSeen.{RouteSeen, route_seen}
 use Rattle.q_tree.specs.Seen.{IsCountedWithin}
 use Rattle.q_tree.specs.declared.tree.Tree.TheInside.{Inside}
 
@@ -46,16 +47,16 @@ pub record IsKeptDevice (a : Inside) : Type 0 where
   pub within : IsCountedWithin a.root.memory.counts.arrived a.top.arrived
 
 -- the route of some packet in this tree
-pub record IsRouteIn (route : Option Route) (d : DeviceState Kept) : Type 0 where
+pub record IsRouteIn (r : RouteSeen) (d : DeviceState Kept) : Type 0 where
   pub packet : Descriptor
-  pub is : route ≡ device_route packet d.tree.device.mtu d.tree.root
+  pub is : r ≡ route_seen packet d.tree.device.mtu d.tree.root
 
--- A packet may arrive on this route: the queue at its end has a place where it is not refused, and however long the packet
--- is, the device can count it.
-pub record CanArrive (route : Option Route) (d : DeviceState Kept) : Type 0 where
-  pub place : IfSome route (λ (r : Route). r.refusal ≡ None → HasPlace r.path d.tree.root)
+-- A packet may arrive on this route: the queue at its end has a place where it is not refused, and the device can count a
+-- packet of this length.
+pub record CanArrive (r : RouteSeen) (d : DeviceState Kept) : Type 0 where
+  pub place : IfSome r.route (λ (way : Route). way.refusal ≡ None → HasPlace way.path d.tree.root)
   pub packets : d.tree.top.counts.arrived.packets + 1 < 2 ^ 64
-  pub bytes : d.tree.top.counts.arrived.bytes + 2 ^ 16 ≤ 2 ^ 64
+  pub bytes : d.tree.top.counts.arrived.bytes + r.len < 2 ^ 64
 
 -- the root has counted the packet, or it never came there
 abbrev pub IsArrived : Descriptor → Node Kept → Node Kept → Type 0

@@ -1,8 +1,9 @@
 ghost use Rattle.std.specs.Prelude.{◌≡◌, ◌≤◌, ◌+◌, ◌++◌, length};
 ghost use Rattle.q_model.specs.Beneath.{beneath};
 ghost use Rattle.q_model.specs.Node.{shape};
+ghost use Rattle.q_model.specs.TreeState.{plan};
 ghost use Rattle.q_sound.proofs.Kept.{IsLawfulRoot};
-ghost use Rattle.q_tree.specs.Commanding.{MayTakeMemory};
+ghost use Rattle.q_tree.specs.Commanding.{WantsMemory};
 ghost use Rattle.q_tree.specs.Commands.{IsAnswered, IsBounded, IsPlanOf, plan_of, told};
 
 use crate::link::Link;
@@ -22,7 +23,7 @@ impl Tree {
     ///
     /// # Errors
     ///
-    /// The first refusal of the command that holds, memory last. The tree is as it was.
+    /// The first refusal of the command that holds, memory last, and only of a command that takes some. The tree is as it was.
     pub fn command<S: Sink>(
         &mut self,
         alloc: Global,
@@ -32,7 +33,7 @@ impl Tree {
     ) -> Result<(), Refusal>
         requires order { self.old.clock ≤ now }
         requires sink { length (beneath self.old.tree.root) ≤ S.room sink.old }
-        ensures answer { IsAnswered (MayTakeMemory command) now (plan_of command now self.old) self.old self.new result }
+        ensures answer { IsAnswered (WantsMemory command (plan_of command now self.old)) now (plan_of command now self.old) self.old self.new result }
         ensures lost { S.losses sink.new ≡ S.losses sink.old ++ told (plan_of command now self.old) (shape self.old.tree.root) result }
         ensures room { S.room sink.new + length (told (plan_of command now self.old) (shape self.old.tree.root) result) ≡ S.room sink.old }
         ensures kept { S.keeps sink.old sink.new }
@@ -58,7 +59,7 @@ impl Node {
         requires bounded { IsBounded self.now }
         requires lawful { IsLawfulRoot link.mtu now self.now }
         requires mtu { 1 ≤ link.mtu }
-        ensures plan { IsPlanOf (MayTakeMemory command.now) command.now now (record { mtu = link.mtu; txqueuelen = link.txqueuelen }) self.now result }
+        ensures plan { IsPlanOf (WantsMemory command.now (plan (record { mtu = link.mtu; txqueuelen = link.txqueuelen }) now command.now (shape self.now))) command.now now (record { mtu = link.mtu; txqueuelen = link.txqueuelen }) self.now result }
     {
         match command {
             Command::QdiscAdd {

@@ -4,7 +4,7 @@ ghost use Rattle.q_model.specs.Lawful.{IsLawfulTree};
 ghost use Rattle.q_model.specs.Tally.{totals};
 ghost use Rattle.q_model.specs.TreeState.{given, noted_by_take, peek_packet, take_packet};
 ghost use Rattle.q_tree.specs.Kept.{kept};
-ghost use Rattle.q_tree.specs.Laws.{PutLeavesOtherSubtrees, PutCountsItsLosses, PeekCountsItsLosses, TakeCountsItsLosses};
+ghost use Rattle.q_tree.specs.Laws.{EditLeavesOtherSubtrees, PutKeepsPlaces, PutLeavesOtherSubtrees, PutCountsItsLosses, PeekCountsItsLosses, TakeCountsItsLosses};
 ghost use Rattle.q_tree.specs.TreeSeen.{tree_numbers};
 
 use crate::tree::Tree;
@@ -50,6 +50,17 @@ pub fn take_gives_what_peek_shows(tree: &Tree, now: Moment)
 /// counters.
 pub fn put_leaves_other_subtrees()
     ensures { PutLeavesOtherSubtrees }
+{}
+
+/// A put leaves every queue the places that it had. The packet has one of those that [`Tree::prepare`] has made.
+pub fn put_keeps_places()
+    ensures { PutKeepsPlaces }
+{}
+
+/// A command changes the node that it names, and counters above it. Whatever stands beneath another child is as it was, with its
+/// counters and the places of its queues.
+pub fn command_leaves_other_subtrees()
+    ensures { EditLeavesOtherSubtrees }
 {}
 
 /// What a call tells of lost packets is what the device's counters show of it: refused grows by those that were refused, and

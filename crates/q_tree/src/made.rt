@@ -1,4 +1,4 @@
-ghost use Rattle.std.specs.Prelude.{◌≡◌, ◌≤◌, ◌*◌, IfOk, None, OnErr, Some, replicate, unwrap_or};
+ghost use Rattle.std.specs.Prelude.{◌≡◌, ◌<◌, ◌≤◌, ◌*◌, IfOk, None, OnErr, Some, replicate, unwrap_or};
 ghost use Rattle.q_fqcodel.specs.FqState.{first_state};
 ghost use Rattle.q_model.specs.Make.{implicit_pfifo, limit_bytes, made, with_options};
 ghost use Rattle.q_tree.specs.Making.{AreNew, IsNewDiscipline, IsNewNode, IsNewTbf, NeedsMemory};
@@ -88,7 +88,8 @@ fn new_discipline(
 
 // The queue of an fq_codel with these settings.
 fn new_queue(alloc: Global, settings: Settings) -> Result<Box<FqCodel>, AllocError>
-    ensures { IfOk result (λ q. q.value.state ≡ first_state settings) }
+    ensures state { IfOk result (λ q. q.value.state ≡ first_state settings) }
+    ensures places { IfOk result (λ q. q.value.places ≡ 0) }
 {
     let queue = FqCodel::new(alloc, settings)?;
     Ok(Box::new(alloc, queue)?)
@@ -109,7 +110,8 @@ fn new_tbf(alloc: Global, bucket: Bucket, limit: u64) -> Result<Discipline, Allo
 
 // So many implicit pfifos, each of the device's queue length.
 pub(crate) fn leaves(alloc: Global, link: Link, count: usize) -> Result<Vec<Node>, AllocError>
-    ensures { IfOk result (λ v. AreNew v.items (replicate count (implicit_pfifo (record { mtu = link.mtu; txqueuelen = link.txqueuelen })))) }
+    ensures new { IfOk result (λ v. AreNew v.items (replicate count (implicit_pfifo (record { mtu = link.mtu; txqueuelen = link.txqueuelen })))) }
+    ensures memory { OnErr result (0 < count) }
 {
     let mut nodes = Vec::with_capacity(alloc, count)?;
     for _ in 0..count {

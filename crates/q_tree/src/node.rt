@@ -100,6 +100,7 @@ impl Node {
     pub(crate) fn fifo(alloc: Global, handle: Option<Handle>, limit: Limit) -> Node
         ensures own { result.own ≡ (node_of handle (spec.Fifo limit []) []).own }
         ensures counts { result.memory.counts ≡ no_counts }
+        ensures places { result.memory.places ≡ 0 }
         ensures alone { result.below ≡ spec.none }
     {
         Node {

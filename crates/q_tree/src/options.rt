@@ -72,6 +72,7 @@ impl Discipline {
         ensures totals { OnOk result (result ≡ Ok (totals_in (lost_with (SetBands options leaves) (discipline_seen self.old) (children_seen self.old)))) }
         ensures lost { OnOk result (S.losses sink.new ≡ S.losses sink.old ++ purged (lost_with (SetBands options leaves) (discipline_seen self.old) (children_seen self.old))) }
         ensures room { OnOk result (S.room sink.new + length (lost_with (SetBands options leaves) (discipline_seen self.old) (children_seen self.old)) ≡ S.room sink.old) }
+        ensures memory { OnErr result (0 < length leaves.items) }
         ensures same { OnErr result (IsUnchanged self.old self.new) }
         ensures not_lost { OnErr result ((S.losses sink.new ≡ S.losses sink.old) × (S.room sink.new ≡ S.room sink.old)) }
         ensures kept { S.keeps sink.old sink.new }

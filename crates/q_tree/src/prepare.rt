@@ -1,7 +1,7 @@
-ghost use Rattle.std.specs.Prelude.{◌≡◌, ◌∷◌, map, IsSome, IsOk, OnOk};
+ghost use Rattle.std.specs.Prelude.{◌≡◌, ◌≤◌, ◌∷◌, ℕ, List, map, IsSome, IsOk, OnOk};
 ghost use Rattle.q_model.specs.Find.{node_at};
 ghost use Rattle.q_tree.specs.Arrivals.{HasPlace, HasPlaceIn};
-ghost use Rattle.q_tree.specs.Places.{unplaced, Leads, HasPlaceAt};
+ghost use Rattle.q_tree.specs.Places.{unplaced, places_at, places_under, Leads, HasPlaceAt};
 ghost use Rattle.q_tree.specs.Seen.{discipline_seen, children_seen, places_seen};
 
 use crate::node::{Discipline, Node};
@@ -9,11 +9,12 @@ use std::alloc::AllocError;
 
 impl Node {
     /// Makes a place for one packet more in the queue where this way ends, if it ends in one. The places are all that
-    /// changes, also where memory is refused; it succeeds where there is a place already.
+    /// changes, also where memory is refused, and no queue has fewer; it succeeds where there is a place already.
     #[cycle(prepare)]
     pub(crate) fn prepare(&mut self, path: &[usize]) -> Result<(), AllocError>
         requires { IsSome (node_at path.now self.old) }
         ensures same { unplaced self.new ≡ unplaced self.old }
+        ensures places { (way : List ℕ) → places_at way self.old ≤ places_at way self.new }
         ensures ok { OnOk result (HasPlace path.now self.new) }
         ensures succeeds { HasPlace path.now self.old → IsOk result }
     {
@@ -29,6 +30,7 @@ impl Discipline {
     fn reserve(&mut self) -> Result<(), AllocError>
         ensures discipline { discipline_seen self.new ≡ discipline_seen self.old }
         ensures children { children_seen self.new ≡ children_seen self.old }
+        ensures grows { places_seen self.old ≤ places_seen self.new }
         ensures ok { OnOk result (HasPlaceIn (places_seen self.new) (discipline_seen self.new)) }
         ensures succeeds { HasPlaceIn (places_seen self.old) (discipline_seen self.old) → IsOk result }
     {
@@ -48,6 +50,7 @@ impl Discipline {
         ensures discipline { discipline_seen self.new ≡ discipline_seen self.old }
         ensures places { places_seen self.new ≡ places_seen self.old }
         ensures children { map unplaced (children_seen self.new) ≡ map unplaced (children_seen self.old) }
+        ensures grow { (way : List ℕ) (i : ℕ) → places_under way i (children_seen self.old) ≤ places_under way i (children_seen self.new) }
         ensures ok { OnOk result (HasPlaceAt rest.now place (children_seen self.new)) }
         ensures succeeds { HasPlaceAt rest.now place (children_seen self.old) → IsOk result }
     {

@@ -8,10 +8,11 @@ ghost use Rattle.q_model.specs.Find.{count_nodes};
 ghost use Rattle.q_model.specs.Node.{Shape, shape};
 ghost use Rattle.q_model.specs.Ranges.{IsCommand, IsKind};
 ghost use Rattle.q_model.specs.Refusals.{most_nodes};
+ghost use Rattle.q_model.specs.TreeState.{plan};
 ghost use Rattle.q_sound.proofs.Kept.{IsLawfulRoot};
 ghost use Rattle.q_sound.proofs.SizedChanges.{change_sized};
-ghost use Rattle.q_tree.specs.Changing.{IsChange, NeedsMore, bfifo_answer, drr_same, fq_codel_answer, leaves_answer, nodes_from, pfifo_answer, tbf_answer};
-ghost use Rattle.q_tree.specs.Commands.{IsAnswered, IsBounded, IsPlanOf, plan_of, takes_memory, told};
+ghost use Rattle.q_tree.specs.Changing.{IsChange, MakesChildren, NeedsMore, bfifo_answer, drr_same, fq_codel_answer, leaves_answer, nodes_from, pfifo_answer, tbf_answer};
+ghost use Rattle.q_tree.specs.Commands.{IsAnswered, IsBounded, IsPlanOf, plan_of, told};
 
 use crate::counting::MOST_NODES;
 use crate::edit::Edit;
@@ -40,8 +41,8 @@ impl Tree {
     ///
     /// `NoQdisc` where no qdisc is named so. `CannotChange` where it is of another kind, or an fq_codel would have another number of
     /// flows. `SmallBurst` where a tbf's burst would fall below both what it was and the mtu. Of a prio the first that holds: `Busy`
-    /// where a filter names a band that would go; `TooMany` beyond 256 nodes, implicit leaves among them; `Memory`. The tree is as it
-    /// was.
+    /// where a filter names a band that would go; `TooMany` beyond 256 nodes, implicit leaves among them; `Memory`, where it gets more
+    /// bands. The tree is as it was.
     pub fn change<S: Sink>(
         &mut self,
         alloc: Global,
@@ -53,7 +54,7 @@ impl Tree {
     ) -> Result<(), Refusal>
         requires order { self.old.clock ≤ now }
         requires sink { length (beneath self.old.tree.root) ≤ S.room sink.old }
-        ensures answer { IsAnswered (NeedsMore kind) now (plan_of (QdiscChange place handle kind) now self.old) self.old self.new result }
+        ensures answer { IsAnswered (NeedsMore kind (plan_of (QdiscChange place handle kind) now self.old)) now (plan_of (QdiscChange place handle kind) now self.old) self.old self.new result }
         ensures lost { S.losses sink.new ≡ S.losses sink.old ++ told (plan_of (QdiscChange place handle kind) now self.old) (shape self.old.tree.root) result }
         ensures room { S.room sink.new + length (told (plan_of (QdiscChange place handle kind) now self.old) (shape self.old.tree.root) result) ≡ S.room sink.old }
         ensures kept { S.keeps sink.old sink.new }
@@ -80,7 +81,7 @@ impl Node {
     ) -> Result<Planned, Refusal>
         requires bounded { IsBounded self.now }
         requires lawful { IsLawfulRoot link.mtu now self.now }
-        ensures plan { IsPlanOf (NeedsMore kind.now) (QdiscChange place handle kind.now) now (record { mtu = link.mtu; txqueuelen = link.txqueuelen }) self.now result }
+        ensures plan { IsPlanOf (NeedsMore kind.now (plan (record { mtu = link.mtu; txqueuelen = link.txqueuelen }) now (QdiscChange place handle kind.now) (shape self.now))) (QdiscChange place handle kind.now) now (record { mtu = link.mtu; txqueuelen = link.txqueuelen }) self.now result }
     {
         change_ranges(&place, &handle, kind);
         let Some((path, node)) = self.target(place, handle) else {
@@ -159,7 +160,7 @@ impl Node {
     ) -> Result<Reshape, Refusal>
         requires within { count_nodes self.now ≤ nodes }
         requires few { nodes ≤ most_nodes }
-        ensures { (root : Shape) (now : ℕ) → count_nodes root ≡ nodes → IsChange takes_memory (λ path. change_sized (record { mtu = link.mtu; txqueuelen = link.txqueuelen }) now root (shape self.now) path self.now.own.discipline (kind.Prio options.now)) self.now result }
+        ensures { (root : Shape) (now : ℕ) → count_nodes root ≡ nodes → IsChange MakesChildren (λ path. change_sized (record { mtu = link.mtu; txqueuelen = link.txqueuelen }) now root (shape self.now) path self.now.own.discipline (kind.Prio options.now)) self.now result }
     {
         let more = match self.leaves_needed(options.bands, nodes) {
             Err(refusal) => return Err(refusal),

@@ -1,4 +1,4 @@
-ghost use Rattle.std.specs.Prelude.{◌≡◌, ◌≤◌, ◌+◌, ◌++◌, length, IfSome, IfErr, IsOk, OnOk, OnErr, option_map, slice_get};
+ghost use Rattle.std.specs.Prelude.{ℕ, List, ◌≡◌, ◌≤◌, ◌+◌, ◌++◌, length, IfSome, IfErr, IsOk, OnOk, OnErr, option_map, slice_get};
 ghost use Rattle.q_packet.specs.Descriptor.{Descriptor};
 ghost use Rattle.q_model.specs.Beneath.{beneath, row_of};
 ghost use Rattle.q_model.specs.Node.{shape};
@@ -14,7 +14,9 @@ ghost use Rattle.q_tree.specs.Arrivals.{CanPut, IsOutcome};
 ghost use Rattle.q_tree.specs.Commands.{IsPlanned, device_edited};
 ghost use Rattle.q_tree.specs.Editing.{removed_at, TakesMemory};
 ghost use Rattle.q_tree.specs.Kept.{kept};
+ghost use Rattle.q_tree.specs.Places.{places_at};
 ghost use Rattle.q_tree.specs.Purging.{purged};
+ghost use Rattle.q_tree.specs.RouteSeen.{RouteSeen, route_seen};
 ghost use Rattle.q_tree.specs.Showing.{IsNumbered, standing};
 ghost use Rattle.q_tree.specs.TreeSeen.{CanArrive, IsArrived, IsRouteIn, numbers};
 
@@ -189,11 +191,12 @@ impl Tree {
 
     /// The route of a packet: at most eight children, each the one that a filter, a band or a class names. It takes no memory.
     pub fn route(&self, packet: &Packet) -> Route
-        ensures { result ≡ device_route packet.now self.now.tree.device.mtu self.now.tree.root }
+        ensures { result ≡ route_seen packet.now self.now.tree.device.mtu self.now.tree.root }
     {
         // A way has 80 bytes, so that it is made where it stands.
         let mut route = Route {
             way: Way::new(),
+            len: packet.len,
             is_too_long: packet.len > self.mtu,
         };
         if !route.is_too_long {
@@ -207,17 +210,19 @@ impl Tree {
     ///
     /// # Errors
     ///
-    /// `AllocError` where memory is refused, or one packet more could overflow what the device counts of arrivals. The tree is
-    /// as it was, but for places.
+    /// `AllocError` where memory is refused, or the packet would take what the device counts of arrivals past 2^64 - 1, in packets
+    /// or in bytes. The tree is as it was, but for places, of which no queue has fewer.
     pub fn prepare(&mut self, route: &Route) -> Result<(), AllocError>
         requires { IsRouteIn route.now self.old }
         ensures same { numbers self.new ≡ numbers self.old }
         ensures routes { (p : Descriptor) → device_route p self.new.tree.device.mtu self.new.tree.root ≡ device_route p self.old.tree.device.mtu self.old.tree.root }
+        ensures places { (path : List ℕ) → places_at path self.old.tree.root ≤ places_at path self.new.tree.root }
+        ensures keeps { (other : RouteSeen) → CanArrive other self.old → CanArrive other self.new }
         ensures ok { OnOk result (CanArrive route.now self.new) }
         ensures succeeds { CanArrive route.now self.old → IsOk result }
     {
         let arrived = self.top.arrived;
-        if arrived.packets == u64::MAX || arrived.bytes > u64::MAX - u64::from(u16::MAX) {
+        if arrived.packets == u64::MAX || arrived.bytes > u64::MAX - u64::from(route.len) {
             return Err(AllocError);
         }
         if route.is_too_long {
@@ -235,7 +240,7 @@ impl Tree {
     /// It takes no memory. What is lost for it goes to `sink`, which needs room for what is queued and one packet more.
     pub fn put<S: Sink>(&mut self, route: &Route, packet: Packet, now: Moment, sink: &mut S) -> Fate
         requires order { self.old.clock ≤ now }
-        requires route { route.now ≡ device_route packet self.old.tree.device.mtu self.old.tree.root }
+        requires route { route.now ≡ route_seen packet self.old.tree.device.mtu self.old.tree.root }
         requires ready { CanArrive route.now self.old }
         requires sink { length (beneath self.old.tree.root) + 1 ≤ S.room sink.old }
         ensures fate { result ≡ fate_of (own_loss now packet self.old.tree.device (shape self.old.tree.root)) }
@@ -323,13 +328,13 @@ fn put_on<S: Sink>(
     now: Moment,
     sink: &mut S,
 ) -> Outcome
-    requires ready { IfSome route.now (λ r. CanPut now packet.now r.path r.refusal root.old) }
+    requires ready { IfSome route.now.route (λ r. CanPut now packet.now r.path r.refusal root.old) }
     requires sink { length (beneath root.old) + 1 ≤ S.room sink.old }
-    ensures after { root.new ≡ booked kept root.old (put_on now packet.now route.now (shape root.old)).node }
+    ensures after { root.new ≡ booked kept root.old (put_on now packet.now route.now.route (shape root.old)).node }
     ensures arrived { IsArrived packet.now root.old root.new }
-    ensures outcome { IsOutcome (loss_on now packet.now route.now (shape root.old)) (put_on now packet.now route.now (shape root.old)).rises result }
-    ensures lost { S.losses sink.new ≡ S.losses sink.old ++ losses_in (put_on now packet.now route.now (shape root.old)).rises }
-    ensures room { S.room sink.new + length (losses_in (put_on now packet.now route.now (shape root.old)).rises) ≡ S.room sink.old }
+    ensures outcome { IsOutcome (loss_on now packet.now route.now.route (shape root.old)) (put_on now packet.now route.now.route (shape root.old)).rises result }
+    ensures lost { S.losses sink.new ≡ S.losses sink.old ++ losses_in (put_on now packet.now route.now.route (shape root.old)).rises }
+    ensures room { S.room sink.new + length (losses_in (put_on now packet.now route.now.route (shape root.old)).rises) ≡ S.room sink.old }
     ensures kept { S.keeps sink.old sink.new }
 {
     if route.is_too_long {

@@ -1,7 +1,7 @@
-use Rattle.std.proofs.Common.{◌∙◌, map, sym, ap, arith}
-use Rattle.q_tree.specs.Places.{unplaced}
+use Rattle.std.proofs.Common.{◌≤◌, ◌∙◌, map, set, sym, ap, subst, arith}
+use Rattle.q_tree.specs.Places.{unplaced, places_under}
 use Rattle.q_tree.specs.Seen.{children_seen}
-use Rattle.q_tree.proofs.PlacesLemmas.{set-unplaced, within-led, leads-on, has-place, kept-places, same-places, way-on, place-on, place-off}
+use Rattle.q_tree.proofs.PlacesLemmas.{set-places, only-places, seen-places, set-unplaced, within-led, leads-on, has-place, kept-places, same-places, way-on, place-on, place-off}
 use Rattle.q_tree.proofs.node.+prepare.Goals as goal
 
 pub Discipline::prepare_beneath-returns-in-Prio-clause-children :
@@ -57,3 +57,24 @@ Node::prepare-returns-clause-ok t c =
 pub Node::prepare-returns-clause-succeeds : goal.Node::prepare-returns-clause-succeeds
 Node::prepare-returns-clause-succeeds t c = λ there.
     c.prepare_beneath.ensures.succeeds (place-off c.in-Some.field-0-0.now c.in-Some.rest.now c.args.path.now c.self.inside c.args.self.now c.self.view_is c.in-Some.ensures.cases.0 there)
+
+pub Discipline::prepare_beneath-returns-in-Prio-clause-grow :
+    goal.Discipline::prepare_beneath-returns-in-Prio-clause-grow
+Discipline::prepare_beneath-returns-in-Prio-clause-grow t c = λ way i.
+    subst (λ ns. places_under way i ns ≤ places_under way i (set c.in-Prio.bands.items c.args.place c.prepare.new.self)) (sym (ap children_seen c.in-Prio.is))
+    (set-places c.in-Prio.bands.items c.args.place c.index_mut.result.now c.prepare.new.self c.index_mut.ensures.value c.prepare.ensures.places way i)
+
+pub Discipline::prepare_beneath-returns-in-Drr-clause-grow :
+    goal.Discipline::prepare_beneath-returns-in-Drr-clause-grow
+Discipline::prepare_beneath-returns-in-Drr-clause-grow t c = λ way i.
+    subst (λ ns. places_under way i ns ≤ places_under way i (set c.in-Drr.classes.items c.args.place c.prepare-in-Drr.new.self)) (sym (ap children_seen c.in-Drr.is))
+    (set-places c.in-Drr.classes.items c.args.place c.index_mut-in-Drr.result.now c.prepare-in-Drr.new.self c.index_mut-in-Drr.ensures.value c.prepare-in-Drr.ensures.places way i)
+
+pub Node::prepare-returns-clause-places : goal.Node::prepare-returns-clause-places
+Node::prepare-returns-clause-places t c =
+    seen-places c.self.inside c.prepare_beneath.new.self (omega (arith, c.prepare_beneath.ensures.places)) c.prepare_beneath.ensures.grow c.args.self.now c.self.view_is
+
+pub Node::prepare-returns-in_default-clause-places :
+    goal.Node::prepare-returns-in_default-clause-places
+Node::prepare-returns-in_default-clause-places t c =
+    seen-places c.self.inside c.reserve.new.self c.reserve.ensures.grows (λ way i. subst (λ ns. places_under way i ns ≤ places_under way i (children_seen c.reserve.new.self)) c.reserve.ensures.children (omega arith)) c.args.self.now c.self.view_is

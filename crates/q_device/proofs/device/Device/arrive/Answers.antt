@@ -1,20 +1,22 @@
-use Rattle.std.proofs.Common.{List, Option, ◌∙◌, ◌++◌, length, refl, sym, ap, subst, arith}
+use Rattle.std.proofs.Common.{List, ◌∙◌, ◌++◌, length, refl, sym, ap, subst, arith}
 use Rattle.q_codel.specs.Losses.{LossList}
 use Rattle.q_packet.specs.Descriptor.{Descriptor}
 use Rattle.q_model.specs.declared.event.Event.TheVariants as event
 use Rattle.q_model.specs.declared.reply.Reply.TheVariants as reply
 use Rattle.q_model.specs.Node.{shape}
-use Rattle.q_model.specs.Route.{Route}
 use Rattle.q_model.specs.Step.{DeviceState, fate_of, losses_in, step}
 use Rattle.q_model.specs.Tally.{Counts, totals, with_packet}
 use Rattle.q_model.specs.TreeState.{noted_by_put, own_loss}
 use Rattle.q_tree.specs.Kept.{Kept}
+use Rattle.q_tree.specs.Places.{places_at}
+use Rattle.q_tree.specs.RouteSeen.{RouteSeen}
 use Rattle.q_tree.specs.TreeSeen.{CanArrive}
+use Rattle.q_tree.proofs.OtherSubtrees.{put-places}
 use Rattle.q_device.specs.Counters.{HasNotFallen}
 use Rattle.q_device.specs.DeviceSeen.{DeviceSeen, HasRoomFor, with_event}
 use Rattle.q_device.specs.Keeping.{device_seen, numbers_at}
 use Rattle.q_device.proofs.EventLemmas.{arrived, event-rises, event-seen, reply-step, same-at, waits-numbers, waits-same}
-use Rattle.q_device.proofs.KeptLemmas.{event-kept, kept-arrived, queued-arrived, room-kept}
+use Rattle.q_device.proofs.KeptLemmas.{event-kept, kept-arrived, queued-arrived, room-kept, room-still}
 use Rattle.q_device.proofs.device.Device.arrive.Goals as goal
 
 pub make_room-requires-clause-counted : goal.make_room-requires-clause-counted
@@ -35,7 +37,7 @@ invariant_of-self-2 c =
     let b = record a { clock = c.later-at.result; tree = c.put-fate.new.self; losses = c.put-fate.new.sink; recorded = c.record.new.recorded; events = c.record.new.events } in
     let h = arrived a b x c.args.packet c.args.now c.later-at.result c.make_room.ensures.same c.later-at.ensures refl refl c.put-fate.ensures.after lost refl c.record.ensures.items c.record.ensures.capacity c.record.ensures.counted in
     let e = event.Arrive c.args.packet c.args.now in
-    event-kept a c.self.invariant e b h (c.packet_ranges.ensures, c.moment_range.ensures) (omega (arith, ap (λ (d : DeviceState Kept). d.clock) c.put-fate.ensures.after))
+    event-kept a c.self.invariant e b h (c.packet_ranges.ensures.fields, c.moment_range.ensures) (omega (arith, ap (λ (d : DeviceState Kept). d.clock) c.put-fate.ensures.after))
     (omega (arith, c.in-Ok.ensures.ready.packets, ap (λ (d : DeviceState Counts). d.tree.top.arrived.packets) c.make_room.ensures.same))
     (omega (arith, c.in-Ok.ensures.room, ap (λ (l : LossList). l.places) c.put-fate.ensures.kept))
 
@@ -71,7 +73,7 @@ returns-clause-arrived c =
     let h = arrived a b x c.args.packet c.args.now c.later-at.result c.make_room.ensures.same c.later-at.ensures refl refl c.put-fate.ensures.after lost refl c.record.ensures.items c.record.ensures.capacity c.record.ensures.counted in
     let e = event.Arrive c.args.packet c.args.now in
     ap (λ (d : DeviceSeen). d.device.tree.top.arrived) (event-seen a e b h)
-    ∙ kept-arrived a c.self.invariant e (c.packet_ranges.ensures, c.moment_range.ensures)
+    ∙ kept-arrived a c.self.invariant e (c.packet_ranges.ensures.fields, c.moment_range.ensures)
     ∙ ap (λ (d : DeviceSeen). with_packet d.device.tree.top.arrived c.args.packet) c.self.view_is
 
 pub returns-clause-counters : goal.returns-clause-counters
@@ -90,5 +92,14 @@ returns-in_default-clause-succeeds c there =
     let a = c.self.inside in
     let room = subst (HasRoomFor c.args.packet) (sym c.self.view_is) there in
     c.in_default.ensures.succeeds
-    (subst (λ (route : Option Route). CanArrive route a.tree) (sym c.route-route.ensures) room.tree)
+    (subst (λ (route : RouteSeen). CanArrive route a.tree) (sym c.route-route.ensures) room.tree)
     (omega (arith, room.losses, ap (λ (ps : List Descriptor). length ps) (waits-numbers a.tree)))
+
+pub returns-in_default-clause-keeps : goal.returns-in_default-clause-keeps
+returns-in_default-clause-keeps c other there =
+    let made = c.make_room.ensures in
+    room-still c.self.inside c.make_room.new.tree c.make_room.new.losses made.same made.routes made.keeps made.losses made.grows other (subst (HasRoomFor other) (sym c.self.view_is) there)
+
+pub returns-clause-queues : goal.returns-clause-queues
+returns-clause-queues c = λ path.
+    omega (arith, c.make_room.ensures.queues path, put-places c.later-at.result c.args.packet c.make_room.new.tree.tree path, ap (λ (d : DeviceState Kept). places_at path d.tree.root) c.put-fate.ensures.after, ap (λ (d : DeviceSeen). places_at path d.memory.tree.tree.root) c.self.view_is)

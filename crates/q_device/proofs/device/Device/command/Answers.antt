@@ -8,12 +8,12 @@ use Rattle.q_model.specs.declared.refusal.Refusal.{Refusal}
 use Rattle.q_model.specs.Node.{shape}
 use Rattle.q_model.specs.Step.{step}
 use Rattle.q_model.specs.Tally.{totals}
-use Rattle.q_tree.specs.Commands.{plan_of}
-use Rattle.q_tree.specs.Commanding.{MayTakeMemory}
+use Rattle.q_tree.specs.Commands.{IsRefused, plan_of}
+use Rattle.q_tree.specs.Commanding.{MayTakeMemory, WantsMemory}
 use Rattle.q_device.specs.Counters.{HasNotFallen}
-use Rattle.q_device.specs.DeviceSeen.{DeviceSeen, IsRefusal, with_event}
+use Rattle.q_device.specs.DeviceSeen.{DeviceSeen, IsRefusal, IsRefusedAt, with_event}
 use Rattle.q_device.specs.Keeping.{device_seen, numbers_at, IsKeptDevice}
-use Rattle.q_device.proofs.EventLemmas.{commanded, done-clock, done-reply, event-rises, event-seen, refused-reply, told-nothing}
+use Rattle.q_device.proofs.EventLemmas.{commanded, done-clock, done-reply, event-rises, may-be-refused, event-seen, refused-reply, told-nothing}
 use Rattle.q_device.proofs.KeptLemmas.{event-kept, kept-arrived}
 use Rattle.q_device.proofs.device.Device.command.Goals as goal
 
@@ -33,9 +33,17 @@ pub returns-in_err-command-clause-refused : goal.returns-in_err-command-clause-r
 returns-in_err-command-clause-refused c =
     let a = c.self.inside in
     let e = event.Command c.args.command c.args.now in
-    let refused = refused-reply a.tree a.clock c.args.now c.later-at.result c.later-at.ensures c.args.command (MayTakeMemory c.args.command) c.in_err-command.field-0.0 c.in_err-command.ensures.answer.0 in
+    let refused = refused-reply a.tree a.clock c.args.now c.later-at.result c.later-at.ensures c.args.command (MayTakeMemory c.args.command) c.in_err-command.field-0.0
+    (may-be-refused c.args.command (plan_of c.args.command c.later-at.result a.tree) c.in_err-command.field-0.0 c.in_err-command.ensures.answer.0) in
     subst (λ (d : DeviceSeen). IfErr c.from_residual.result (λ (r : Refusal). IsRefusal (MayTakeMemory c.args.command) (step totals d.device e).reply r)) c.self.view_is
     (passed_on c.from_residual.result c.in_err-command.field-0.0 (IsRefusal (MayTakeMemory c.args.command) (step totals (numbers_at a.clock a.tree) e).reply) c.from_residual.ensures.1 refused)
+
+pub returns-in_err-command-clause-memory : goal.returns-in_err-command-clause-memory
+returns-in_err-command-clause-memory c =
+    let a = c.self.inside in
+    let refused = subst (λ t. IsRefused (WantsMemory c.args.command (plan_of c.args.command t a.tree)) (plan_of c.args.command t a.tree) c.in_err-command.field-0.0) c.later-at.ensures c.in_err-command.ensures.answer.0 in
+    subst (λ (d : DeviceSeen). IfErr c.from_residual.result (IsRefusedAt c.args.command c.args.now d)) c.self.view_is
+    (passed_on c.from_residual.result c.in_err-command.field-0.0 (IsRefusedAt c.args.command c.args.now (device_seen a)) c.from_residual.ensures.1 refused)
 
 pub invariant_of-self-2 : goal.invariant_of-self-2
 invariant_of-self-2 c =

@@ -16,18 +16,18 @@ pub invariant_of-result : goal.invariant_of-result
 invariant_of-result c =
     let n : ℕ = c.settings.inside.flows in
     let items = states (goal.at.invariant_of-result c).After-parameters_of in
-    let queues = ap length c.in_ok-pool.ensures ∙ length-replicate n [] in
+    let queues = ap length c.in_ok-pool.ensures.queues ∙ length-replicate n [] in
     let all = ap length items ∙ length-replicate n vars_at_first in (
       queues ∙ sym all ∙ sym (length-codels c.parameters_of.result c.in_ok-states.states.items),
       omega (arith, all, c.settings.invariant.flows_high),
-      c.in_ok-winners.ensures ∙ sym (sizes-first n) ∙ ap sizes (sym c.in_ok-pool.ensures),
+      c.in_ok-winners.ensures ∙ sym (sizes-first n) ∙ ap sizes (sym c.in_ok-pool.ensures.queues),
       ap (λ (p : CodelParams). p.mtu) c.parameters_of.ensures ∙ sym (ap (λ (s : FqSettings). s.mtu) c.settings-2.view_is),
     )
 
-pub returns : goal.returns
-returns c =
+pub returns-clause-flows : goal.returns-clause-flows
+returns-clause-flows c =
     let n : ℕ = c.settings.inside.flows in
     let r : CodelParams = c.parameters_of.result in
-    ap₂ (λ (q : List (List Stamped)) (l : List CodelState). flows_from q l) c.in_ok-pool.ensures (ap (codels_in r) (states (goal.at.returns c).After-parameters_of) ∙ codels_first r n)
+    ap₂ (λ (q : List (List Stamped)) (l : List CodelState). flows_from q l) c.in_ok-pool.ensures.queues (ap (codels_in r) (states (goal.at.returns-clause-flows c).After-parameters_of) ∙ codels_first r n)
     ∙ flows-first (joined r vars_at_first) n
     ∙ ap₂ (λ (m : ℕ) (k : CodelParams). replicate m (record { queue = []; codel = joined k vars_at_first })) (ap (λ (s : FqSettings). s.flows) c.settings.view_is) c.parameters_of.ensures

@@ -11,7 +11,7 @@ use Rattle.q_fqcodel.proofs.fq_codel.FqCodel.new.Goals.{In_ok-lists}
 made : (c : In_ok-lists) → state_of c.args.settings c.in_ok-flows.flows c.in_ok-lists.lists.fresh c.in_ok-lists.lists.stale ≡ first_state c.args.settings
 made c =
     let settings : FqSettings = c.args.settings in
-    ap (λ (f : List Flow). record { settings = settings; flows = f; fresh = c.in_ok-lists.lists.fresh; stale = c.in_ok-lists.lists.stale }) c.in_ok-flows.ensures
+    ap (λ (f : List Flow). record { settings = settings; flows = f; fresh = c.in_ok-lists.lists.fresh; stale = c.in_ok-lists.lists.stale }) c.in_ok-flows.ensures.flows
     ∙ ap (λ (v : ListsState). record { settings = settings; flows = replicate settings.flows (first_flow settings); fresh = v.fresh; stale = v.stale }) c.in_ok-lists.ensures
 
 pub invariant_of-result : goal.invariant_of-result
@@ -21,5 +21,5 @@ invariant_of-result c =
       ap (λ (v : ListsState). v.room) c.in_ok-lists.ensures ∙ ap (λ (x : FqSettings). x.flows) c.settings.view_is,
     )
 
-pub returns : goal.returns
-returns c = made (goal.at.returns c).In_ok-lists
+pub returns-clause-state : goal.returns-clause-state
+returns-clause-state c = made (goal.at.returns-clause-state c).In_ok-lists

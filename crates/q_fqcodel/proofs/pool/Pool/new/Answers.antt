@@ -16,5 +16,5 @@ invariant_of-result c =
       omega arith,
     )
 
-pub returns : goal.returns
-returns c = ap (queues_in (get c.new-2.result)) (items (goal.at.returns c).After-new-2) ∙ queues_first (get c.new-2.result) c.args.flows
+pub returns-clause-queues : goal.returns-clause-queues
+returns-clause-queues c = ap (queues_in (get c.new-2.result)) (items (goal.at.returns-clause-queues c).After-new-2) ∙ queues_first (get c.new-2.result) c.args.flows

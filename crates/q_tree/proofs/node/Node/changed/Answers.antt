@@ -17,7 +17,7 @@ returns-in_default c =
     let d : Device = record { mtu = c.args.link.mtu; txqueuelen = c.args.link.txqueuelen } in
     let k = c.args.kind.now in
     record {
-      plan = refused-plan (NeedsMore k) (plan d c.args.now (QdiscChange c.args.place c.args.handle k) (shape root)) NoQdisc
+      plan = refused-plan (NeedsMore k (plan d c.args.now (QdiscChange c.args.place c.args.handle k) (shape root))) (plan d c.args.now (QdiscChange c.args.place c.args.handle k) (shape root)) NoQdisc
           (change-nowhere root c.requires.bounded d c.args.now d.mtu c.requires.lawful c.args.place c.args.handle k (sym c.target.ensures ∙ ap (option_map (λ x. (x.0.items, x.1.now))) c.in_default.is));
     }
 

@@ -1,0 +1,5 @@
+use Rattle.q_tree.proofs.OtherSubtrees.{put-places}
+use Rattle.q_tree.proofs.laws.put_keeps_places.Goals as goal
+
+pub returns : goal.returns
+returns c = put-places
