@@ -7,7 +7,7 @@ use Rattle.q_ports.specs.Collected.{Collects}
 use Rattle.q_ports.specs.Events.{with_memory}
 use Rattle.q_ports.specs.Polls.{given_by, polled}
 use Rattle.q_ports.specs.Rings.{received_from, AreSeenEmpty, RingSeen}
-use Rattle.q_ports.specs.Rows.{FrontSeen}
+use Rattle.q_ports.specs.Rows.{BoardSeen}
 
 -- So many packets, `most` at most, were received from the rings and arrived, which makes the device that stands between. Where they
 -- are fewer and no allocation was refused, nothing waited in any ring as it was looked at last. Then come the polls.
@@ -19,10 +19,10 @@ pub record Turned (now most : ℕ) (before after : List RingSeen) (device device
   pub gives : sent ≡ given_by most now between
   pub leaves : device' ≡ with_memory device'.memory (polled most now between)
 
--- what a contract sees of a drain: its rings, and the history of the rows that it handed over for publication
+-- what a contract sees of a drain: its rings, and its board
 pub record DrainSeen : Type 0 where
   pub rings : List RingSeen
-  pub board : FrontSeen
+  pub board : BoardSeen
 
-abbrev pub drain_seen : List RingSeen → FrontSeen → DrainSeen
+abbrev pub drain_seen : List RingSeen → BoardSeen → DrainSeen
 drain_seen rings board = record { rings = rings; board = board }

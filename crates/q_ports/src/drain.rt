@@ -1,6 +1,7 @@
 ghost use Rattle.std.specs.Prelude.{◌≡◌, ◌≤◌, map, IfOk, IfErr, IfSome, OnErr};
 ghost use Rattle.q_ports.specs.Placed.{placed_by, ring_of_port, share_of};
 ghost use Rattle.q_ports.specs.Rings.{received_from, ring_id, AreBeginnings};
+ghost use Rattle.q_ports.specs.Rows.{shown_on};
 
 use crate::booked::Booked;
 use crate::intake::Intake;
@@ -18,8 +19,8 @@ use std::sync::{Mutex, Wait};
 
 /// The one who feeds the device: it holds the other ends of the rings, the whole seat, and the gauges' writer.
 ///
-/// It is not `Drop`: end it by `settle` or `end`. A contract sees it as its rings, with what it received from each, and the history
-/// of the rows that it handed over for publication.
+/// It is not `Drop`: end it by `settle` or `end`. A contract sees it as its rings, with what it received from each, and its board:
+/// the rows that it handed over for publication, and those that gauges see.
 pub struct Drain<P: Ledger, B: Ledger> {
     pub(crate) intake: Intake<P, B>,
     pub(crate) publisher: Publisher,
@@ -53,7 +54,7 @@ impl<P: Ledger, B: Ledger> Drain<P, B> {
         ensures rings { map ring_id self.new.rings ≡ map ring_id self.old.rings }
         ensures few { IfOk result (λ t. t.taken ≤ most) }
         ensures book { self.new.board.book ≡ self.old.board.book }
-        ensures told { IfOk result (λ t. IfSome t.told (λ f. f ≡ self.new.board)) }
+        ensures told { IfOk result (λ t. IfSome t.told (λ f. f ≡ shown_on self.new.board)) }
         ensures same { OnErr result (self.new ≡ self.old) }
     {
         let mut locked = booked.lock(rt);

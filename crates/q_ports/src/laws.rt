@@ -5,6 +5,7 @@ ghost use Rattle.q_ports.specs.Collected.{CollectsSome};
 ghost use Rattle.q_ports.specs.Events.{device_row};
 ghost use Rattle.q_ports.specs.Placed.{placed_by, ring_of_port, share_of};
 ghost use Rattle.q_ports.specs.Rings.{received_from, ring_id, AreBeginnings};
+ghost use Rattle.q_ports.specs.Rows.{shown_on, Publishes, Withholds};
 ghost use Rattle.q_ports.specs.Turned.{Turned};
 
 use crate::booked::Booked;
@@ -68,7 +69,7 @@ pub fn book_is_arrived<P: Ledger, B: Ledger>(booked: &mut Booked<P, B>, seat: &m
 /// The work of [`Drain::turn`], with the locked value in hand. It may wait for gauges.
 ///
 /// The device is changed by one arrival for each packet that was received, in the order of each ring, and then by the polls up to
-/// `most`, or to the first that gives no packet; `sent` is what they gave. `told` carries the row after the turn.
+/// `most`, or to the first that gives no packet; `sent` is what they gave. `told` is there where the board then shows the row after the turn.
 ///
 /// # Errors
 ///
@@ -85,8 +86,9 @@ pub fn turn_on<P: Ledger, B: Ledger, R: Wait>(
     ensures rings { map ring_id drain.new.rings ≡ map ring_id drain.old.rings }
     ensures turned { IfOk result (λ t. Turned now most drain.old.rings drain.new.rings booked.old booked.new t.taken t.memory t.sent.items) }
     ensures book { drain.new.board.book ≡ drain.old.board.book }
-    ensures told { IfOk result (λ t. IfSome t.told (λ f. (f ≡ drain.new.board) × (f.rows ≡ drain.old.board.rows ++ device_row booked.new ∷ []))) }
-    ensures untold { IfOk result (λ t. IfNone t.told ((drain.new.board.rows ≡ drain.old.board.rows) ⊎ (drain.new.board.rows ≡ drain.old.board.rows ++ device_row booked.new ∷ []))) }
+    ensures told { IfOk result (λ t. IfSome t.told (λ f. f ≡ shown_on drain.new.board)) }
+    ensures published { IfOk result (λ t. IfSome t.told (λ f. Publishes drain.old.board (device_row booked.new) drain.new.board)) }
+    ensures untold { IfOk result (λ t. IfNone t.told (Withholds drain.old.board (device_row booked.new) drain.new.board)) }
     ensures same { OnErr result (drain.new ≡ drain.old) }
     ensures same_device { OnErr result (booked.new ≡ booked.old) }
 {

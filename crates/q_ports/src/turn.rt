@@ -1,9 +1,10 @@
-ghost use Rattle.std.specs.Prelude.{◌≡◌, ◌≤◌, ◌++◌, ◌∷◌, ◌⊎◌, [], map, vec_capacity, IfOk, IfSome, IfNone, OnErr};
+ghost use Rattle.std.specs.Prelude.{◌≡◌, ◌≤◌, [], map, vec_capacity, IfOk, IfSome, IfNone, OnErr};
 ghost use Rattle.q_device.specs.Laws.{given_in};
 ghost use Rattle.q_model.specs.declared.reply.Reply.TheVariants as reply;
 ghost use Rattle.q_ports.specs.Events.{device_row, with_memory};
 ghost use Rattle.q_ports.specs.Polls.{given_by, polled};
 ghost use Rattle.q_ports.specs.Rings.{ring_id};
+ghost use Rattle.q_ports.specs.Rows.{shown_on, Publishes, Withholds};
 ghost use Rattle.q_ports.specs.Turned.{Turned};
 
 use crate::booked::Booked;
@@ -25,7 +26,7 @@ pub struct Turn {
     pub sent: Vec<Packet>,
     /// Whether a refused allocation ended the collecting.
     pub memory: bool,
-    /// What the drain tells of the row after the turn; `None` where memory for the publication was refused, or the row is lower
+    /// A note that the row after the turn was published; `None` where memory for the publication was refused, or the row is lower
     /// than the last one that was handed over.
     pub told: Option<Told>,
 }
@@ -43,8 +44,9 @@ pub(crate) fn turn_parts<P: Ledger, B: Ledger, R: Wait>(
     ensures rings { map ring_id intake.new ≡ map ring_id intake.old }
     ensures ok { IfOk result (λ t. Turned now most intake.old intake.new booked.old booked.new t.taken t.memory t.sent.items) }
     ensures book { publisher.new.book ≡ publisher.old.book }
-    ensures told { IfOk result (λ t. IfSome t.told (λ f. (f ≡ publisher.new) × (f.rows ≡ publisher.old.rows ++ device_row booked.new ∷ []))) }
-    ensures untold { IfOk result (λ t. IfNone t.told ((publisher.new.rows ≡ publisher.old.rows) ⊎ (publisher.new.rows ≡ publisher.old.rows ++ device_row booked.new ∷ []))) }
+    ensures told { IfOk result (λ t. IfSome t.told (λ f. f ≡ shown_on publisher.new)) }
+    ensures published { IfOk result (λ t. IfSome t.told (λ f. Publishes publisher.old (device_row booked.new) publisher.new)) }
+    ensures untold { IfOk result (λ t. IfNone t.told (Withholds publisher.old (device_row booked.new) publisher.new)) }
     ensures same { OnErr result ((intake.new ≡ intake.old) × (publisher.new ≡ publisher.old)) }
     ensures same_device { OnErr result (booked.new ≡ booked.old) }
 {
