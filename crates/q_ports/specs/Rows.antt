@@ -1,6 +1,6 @@
 -- Histories of a device's row: which are legal, and what a contract sees of a beginning of one.
 -- The counters are those of `tc -s qdisc show` (tc(8)), which never fall; the rest is this project's own.
-use Rattle.std.specs.Prelude.{◌≡◌, ℕ, List, [], ◌∷◌, ◌++◌, ◌⊎◌, All}
+use Rattle.std.specs.Prelude.{◌≡◌, ℕ, List, [], ◌∷◌, ◌++◌, ◌⊎◌}
 use mathlib.Core.List.{IsPrefix}
 use Rattle.logbook.specs.Pages.{Book}
 use Rattle.q_device.specs.Counters.{IsNotBelow}

@@ -1,5 +1,6 @@
-ghost use Rattle.std.specs.Prelude.{◌≡◌, ◌≤◌, [], map, vec_capacity, IfOk, IfSome, IfNone, OnErr};
+ghost use Rattle.std.specs.Prelude.{◌≡◌, ◌≤◌, [], length, map, vec_capacity, IfOk, IfSome, IfNone, OnOk, OnErr};
 ghost use Rattle.q_device.specs.Laws.{given_in};
+ghost use Rattle.q_model.specs.Conserved.{IsBalanced};
 ghost use Rattle.q_model.specs.declared.reply.Reply.TheVariants as reply;
 ghost use Rattle.q_ports.specs.Events.{device_row, with_memory};
 ghost use Rattle.q_ports.specs.Polls.{given_by, polled};
@@ -43,6 +44,8 @@ pub(crate) fn turn_parts<P: Ledger, B: Ledger, R: Wait>(
 ) -> Result<Turn, AllocError>
     ensures rings { map ring_id intake.new ≡ map ring_id intake.old }
     ensures ok { IfOk result (λ t. Turned now most intake.old intake.new booked.old booked.new t.taken t.memory t.sent.items) }
+    ensures few_sent { IfOk result (λ t. length t.sent.items ≤ most) }
+    ensures balanced { OnOk result (IsBalanced (device_row booked.new)) }
     ensures book { publisher.new.book ≡ publisher.old.book }
     ensures told { IfOk result (λ t. IfSome t.told (λ f. f ≡ shown_on publisher.new)) }
     ensures published { IfOk result (λ t. IfSome t.told (λ f. Publishes publisher.old (device_row booked.new) publisher.new)) }
@@ -71,6 +74,7 @@ fn poll_all<P: Ledger, B: Ledger>(
 )
     requires { (sent.old.items ≡ []) × (most ≤ vec_capacity sent.old) }
     ensures sent { sent.new.items ≡ given_by most now booked.old }
+    ensures few { length sent.new.items ≤ most }
     ensures polled { booked.new ≡ with_memory booked.new.memory (polled most now booked.old) }
 {
     for _poll in 0..most {
