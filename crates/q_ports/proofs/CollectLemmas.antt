@@ -1,5 +1,5 @@
 -- Collecting, packet by packet.
-use Rattle.std.proofs.Common.{◌≡◌, ℕ, ◌+◌, ◌<◌, List, [], ◌∷◌, ◌++◌, length, get_or, refl, sym, ap, ◌∙◌, subst, arith, length-append, All}
+use Rattle.std.proofs.Common.{◌≡◌, ℕ, ◌+◌, ◌<◌, List, [], ◌∷◌, ◌++◌, length, get_or, map, refl, sym, ap, ◌∙◌, subst, arith, length-append, All}
 use Rattle.std.proofs.lemmas.List.{length-set, length_push}
 use Rattle.std.proofs.lemmas.List.Elements.{All-nil, All-push, All-append}
 use Rattle.std.proofs.lemmas.List.Sums.{fold_push, fold-append}
@@ -8,8 +8,10 @@ use Rattle.q_packet.specs.Descriptor.{Descriptor}
 use Rattle.q_model.specs.declared.event.Event.TheVariants.{Arrive}
 use Rattle.q_device.specs.DeviceSeen.{DeviceSeen, Memory}
 use Rattle.q_ports.specs.declared.take.Take.{Take}
-use Rattle.q_ports.specs.Collected.{received_one, arrived_one, Collects}
+use Rattle.q_ports.specs.Collected.{received_one, arrived_one, Collects, HasReceived}
 use Rattle.q_ports.specs.Events.{with_memory}
+use Rattle.q_ports.specs.Rings.{RingSeen, received_from}
+use Rattle.q_ports.specs.Stopped.{HasNoRoomForNext, Stops}
 use Rattle.q_ports.proofs.EventLemmas.{after-memory}
 
 pub length-received : (rs : List (List Descriptor)) (ts : List Take) → length (fold received_one rs ts) ≡ length rs
@@ -64,3 +66,31 @@ collects-then now rs rs1 rs2 d d1 d2 n m a b =
 pub collects-same : (now : ℕ) (a a' b b' : List (List Descriptor)) (d e e' : DeviceSeen) (n : ℕ) → a ≡ a' → b ≡ b' → e ≡ e' → Collects now a b d e n → Collects now a' b' d e' n
 collects-same now a a' b b' d e e' n p q r c =
     subst (λ (x : List (List Descriptor)). Collects now x b' d e' n) p (subst (λ (x : List (List Descriptor)). Collects now a x d e' n) q (subst (λ (x : DeviceSeen). Collects now a b d x n) r c))
+
+-- ---- where want of memory ends it
+
+-- a packet that was refused after some were collected
+pub stops-here : (now : ℕ) (before : List (List Descriptor)) (rings rings' : List RingSeen) (device full device' : DeviceSeen) (taken : ℕ) → Collects now before (map received_from rings) device full taken → (taken ≡ 0 → full ≡ device)
+    → map received_from rings' ≡ map received_from rings → HasNoRoomForNext full rings' → device' ≡ with_memory device'.memory full → Stops now before rings' device device' taken
+stops-here now before rings rings' device full device' taken collected first same next stays = record {
+  full = full;
+  collected = subst (λ (rs : List (List Descriptor)). Collects now before rs device full taken) (sym same) collected;
+  first = first;
+  next = next;
+  stays = stays;
+}
+
+-- the same behind others that were collected
+pub stops-then : (now : ℕ) (before middle : List (List Descriptor)) (rings : List RingSeen) (device device1 device' : DeviceSeen) (n m : ℕ) → Collects now before middle device device1 n → (n ≡ 0 → device1 ≡ device)
+    → Stops now middle rings device1 device' m → Stops now before rings device device' (n + m)
+stops-then now before middle rings device device1 device' n m collected first s = record {
+  full = s.full;
+  collected = collects-then now before middle (map received_from rings) device device1 s.full n m collected s.collected;
+  first = λ e. s.first (omega (arith, e)) ∙ first (omega (arith, e));
+  next = s.next;
+  stays = s.stays;
+}
+
+-- what was received, of what was collected
+pub received-of : (now : ℕ) (before after : List (List Descriptor)) (device device' : DeviceSeen) (n : ℕ) → Collects now before after device device' n → HasReceived before after n
+received-of now before after device device' n c = record { takes = c.takes; counted = c.counted; rings = c.rings; received = c.received }

@@ -28,6 +28,17 @@ pub record Collects (now : ℕ) (before after : List (List Descriptor)) (device 
   pub received : after ≡ fold received_one before takes
   pub arrived : device' ≡ with_memory device'.memory (fold (arrived_one now) device takes)
 
+-- So many packets were received, in some order of the rings, each after those that were received from its ring before.
+pub record HasReceived (before after : List (List Descriptor)) (count : ℕ) : Type 0 where
+  pub takes : List Take
+  pub counted : length takes ≡ count
+  pub rings : All (λ (t : Take). t.ring < length before) takes
+  pub received : after ≡ fold received_one before takes
+
 -- the same of some number of packets
 abbrev pub CollectsSome : ℕ → List (List Descriptor) → List (List Descriptor) → DeviceSeen → DeviceSeen → Type 0
 CollectsSome now before after device device' = (count : ℕ) × Collects now before after device device' count
+
+-- the same, and where no packet was received nothing at all has happened to the device
+abbrev pub CollectsOnly : ℕ → List (List Descriptor) → List (List Descriptor) → DeviceSeen → DeviceSeen → Type 0
+CollectsOnly now before after device device' = (count : ℕ) × Collects now before after device device' count × (count ≡ 0 → device' ≡ device)

@@ -1,6 +1,6 @@
 -- What driving does: a sender for each port offers its load, while the drain takes turns.
 -- Nothing here is of a standard.
-use Rattle.std.specs.Prelude.{◌≡◌, ℕ, ◌<◌, ◌≤◌, ◌^◌, List, [], length, map, sum_by, get_or, vec_capacity, IfOk, IfErr, Vec}
+use Rattle.std.specs.Prelude.{◌≡◌, ℕ, ◌<◌, ◌≤◌, ◌-◌, ◌^◌, min, List, [], length, map, sum_by, get_or, vec_capacity, IfOk, IfErr, Vec}
 use Rattle.std.specs.declared.alloc.Global.{Global}
 use Rattle.q_packet.specs.Descriptor.{Descriptor}
 use Rattle.q_model.specs.declared.totals.Totals.{Totals}
@@ -46,13 +46,13 @@ pub record Drove (before : List PortSeen) (loads : List (List Descriptor)) (afte
   pub count : length after ≡ length before
   pub each : AllOffered before loads after
 
--- The senders handed back these, the settled share is over what their ports placed, and so many packets were given up in all, where
--- their number can be counted.
+-- The senders handed back these, the settled share is over what their ports placed, and so many packets were given up in all: the
+-- number stays at 2^64 - 1 once there.
 pub record HasDriven (before : List PortSeen) (loads : List (List Descriptor)) (share : Totals) (given_up : ℕ) : Type 0 where
   pub after : List Sent
   pub drove : Drove before loads after
   pub settled : share ≡ share_of (map placed_by (map port_in after))
-  pub rest : sum_by rest_of after < 2 ^ 64 → given_up ≡ sum_by rest_of after
+  pub rest : given_up ≡ min (sum_by rest_of after) (2 ^ 64 - 1)
 
 -- of the load some packets were placed, behind what the port had placed before, and the others were given up
 pub record OfferedSome (before : PortSeen) (load : List Descriptor) (after : PortSeen) : Type 0 where

@@ -8,5 +8,6 @@ pub mod Polls
 pub mod Rings
 pub mod Rows
 pub mod Rules
+pub mod Stopped
 pub mod Turned
 pub mod Views

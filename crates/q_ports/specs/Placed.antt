@@ -1,6 +1,6 @@
 -- A port: its index, its ring, and what it placed there, in order.
 -- The fields `port` and `number` of a placed packet are the port's own. Nothing here is of a standard.
-use Rattle.std.specs.Prelude.{ℕ, ◌+◌, List, [], ◌∷◌, ◌++◌, length, sum_by}
+use Rattle.std.specs.Prelude.{◌≡◌, ℕ, ◌+◌, List, [], ◌∷◌, ◌++◌, length, sum_by}
 use Rattle.std.specs.declared.alloc.Global.{Global}
 use denote.RawPtr.{Ptr}
 use Rattle.rtrb.specs.declared.producer.Producer.{Producer}
@@ -14,6 +14,10 @@ pub record RingId : Type 0 where
   pub slots : Ptr
   pub names : ℕ × (ℕ × ℕ)
   pub heap : Global
+
+-- how many packets fit in it
+abbrev pub ring_length : RingId → ℕ
+ring_length r = r.names.0
 
 module _ {T P : Type 0} where
   -- the ring of an end that pushes
@@ -35,6 +39,10 @@ port_seen index ring placed = record { index = index; ring = ring; placed = plac
 
 abbrev pub ring_of_port : PortSeen → RingId
 ring_of_port v = v.ring
+
+-- the ring of the port has so many places
+abbrev pub HasRing : ℕ → PortSeen → Type 0
+HasRing places v = ring_length v.ring ≡ places
 
 abbrev pub placed_by : PortSeen → List Descriptor
 placed_by v = v.placed

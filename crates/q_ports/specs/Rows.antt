@@ -1,6 +1,7 @@
 -- Histories of a device's row: which are legal, and what a contract sees of a beginning of one.
 -- The counters are those of `tc -s qdisc show` (tc(8)), which never fall; the rest is this project's own.
-use Rattle.std.specs.Prelude.{◌≡◌, List, [], ◌∷◌, All}
+use Rattle.std.specs.Prelude.{◌≡◌, ℕ, List, [], ◌∷◌, ◌++◌, ◌⊎◌}
+use mathlib.Core.List.{IsPrefix}
 use Rattle.logbook.specs.Pages.{Book}
 use Rattle.q_device.specs.Counters.{IsNotBelow}
 use Rattle.q_model.specs.declared.row.Row.{Row}
@@ -48,6 +49,57 @@ pub record FrontSeen : Type 0 where
 abbrev pub front_seen : Book → List Row → FrontSeen
 front_seen book rows = record { book = book; rows = rows }
 
--- all are beginnings of one book's history
-abbrev pub AreOf : Book → List FrontSeen → Type 0
-AreOf book fronts = All (λ (f : FrontSeen). f.book ≡ book) fronts
+-- one beginning of a book's history, and a later one
+pub record Continues (before after : FrontSeen) : Type 0 where
+  pub book : after.book ≡ before.book
+  pub rows : IsPrefix before.rows after.rows
+
+-- The board of a drain: the rows that were handed over for publication, in order, and those of them that it shows.
+pub record BoardSeen : Type 0 where
+  pub book : Book
+  pub rows : List Row
+  pub shown : List Row
+
+abbrev pub board_seen : FrontSeen → List Row → BoardSeen
+board_seen front shown = record { book = front.book; rows = front.rows; shown = shown }
+
+-- what the board shows
+abbrev pub shown_on : BoardSeen → FrontSeen
+shown_on b = front_seen b.book b.shown
+
+-- the row was handed over, and the board shows all rows
+abbrev pub publishing : BoardSeen → Row → BoardSeen
+publishing b r = record { book = b.book; rows = b.rows ++ r ∷ []; shown = b.rows ++ r ∷ [] }
+
+-- the row was handed over, and the board shows what it showed
+abbrev pub handing_over : BoardSeen → Row → BoardSeen
+handing_over b r = record b { rows = b.rows ++ r ∷ [] }
+
+-- the row may come next, and was published
+pub record Publishes (before : BoardSeen) (r : Row) (after : BoardSeen) : Type 0 where
+  pub follows : MayFollow before.rows r
+  pub published : after ≡ publishing before r
+
+-- the row is lower than the last one in some counter, and nothing has changed; or memory for the publication was refused, and the
+-- row waits for the next one
+abbrev pub Withholds : BoardSeen → Row → BoardSeen → Type 0
+Withholds before r after = (¬ IsNotLower (last_of before.rows) r × (after ≡ before)) ⊎ (after ≡ handing_over before r)
+
+-- Whose rows a gauge reads. The rows that the board showed when the gauge read it last, in order, and those that the gauge has learnt
+-- of. How often it has read the board.
+pub record GaugeSeen : Type 0 where
+  pub book : Book
+  pub rows : List Row
+  pub learnt : List Row
+  pub reads : ℕ
+
+abbrev pub gauge_seen : FrontSeen → List Row → ℕ → GaugeSeen
+gauge_seen shown learnt reads = record { book = shown.book; rows = shown.rows; learnt = learnt; reads = reads }
+
+-- a gauge that has read nothing, and knows these rows to be on the board
+abbrev pub new_gauge : FrontSeen → GaugeSeen
+new_gauge shown = gauge_seen shown shown.rows 0
+
+-- the gauge has learnt of these rows
+abbrev pub learning : GaugeSeen → List Row → GaugeSeen
+learning g rows = record g { learnt = rows }

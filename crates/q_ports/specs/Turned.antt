@@ -1,28 +1,49 @@
 -- What a turn of the drain does: packets that wait in the rings arrive at the device, and then it is polled.
 -- Nothing here is of a standard.
-use Rattle.std.specs.Prelude.{◌≡◌, ℕ, ◌<◌, ◌≤◌, Bool, false, List, map}
+use Rattle.std.specs.Prelude.{◌≡◌, ℕ, ◌<◌, ◌≤◌, Bool, true, false, List, map, IfSome, IfNone}
 use Rattle.q_packet.specs.Descriptor.{Descriptor}
 use Rattle.q_device.specs.DeviceSeen.{DeviceSeen}
+use Rattle.q_model.specs.Conserved.{IsBalanced}
+use Rattle.q_model.specs.declared.row.Row.{Row}
 use Rattle.q_ports.specs.Collected.{Collects}
-use Rattle.q_ports.specs.Events.{with_memory}
+use Rattle.q_ports.specs.Events.{device_row, with_memory}
 use Rattle.q_ports.specs.Polls.{given_by, polled}
 use Rattle.q_ports.specs.Rings.{received_from, AreSeenEmpty, RingSeen}
-use Rattle.q_ports.specs.Rows.{FrontSeen}
+use Rattle.q_ports.specs.Rows.{BoardSeen, FrontSeen, Publishes, Withholds}
+use Rattle.q_ports.specs.Stopped.{Stops}
+use Rattle.q_ports.specs.declared.turn.Turn.{Turn}
 
 -- So many packets, `most` at most, were received from the rings and arrived, which makes the device that stands between. Where they
--- are fewer and no allocation was refused, nothing waited in any ring as it was looked at last. Then come the polls.
+-- are fewer and no allocation was refused, nothing waited in any ring as it was looked at last. One was refused only for a packet for
+-- which the device had no room. Then come the polls.
 pub record Turned (now most : ℕ) (before after : List RingSeen) (device device' : DeviceSeen) (taken : ℕ) (refused : Bool) (sent : List Descriptor) : Type 0 where
   pub between : DeviceSeen
   pub collected : Collects now (map received_from before) (map received_from after) device between taken
   pub few : taken ≤ most
   pub whole : refused ≡ false → taken < most → AreSeenEmpty after
+  pub stopped : refused ≡ true → Stops now (map received_from before) after device between taken
   pub gives : sent ≡ given_by most now between
   pub leaves : device' ≡ with_memory device'.memory (polled most now between)
 
--- what a contract sees of a drain: its rings, and the history of the rows that it handed over for publication
+-- what a contract sees of a drain: its rings, and its board
 pub record DrainSeen : Type 0 where
   pub rings : List RingSeen
-  pub board : FrontSeen
+  pub board : BoardSeen
 
-abbrev pub drain_seen : List RingSeen → FrontSeen → DrainSeen
+abbrev pub drain_seen : List RingSeen → BoardSeen → DrainSeen
 drain_seen rings board = record { rings = rings; board = board }
+
+-- The turn was all this to some device, which the lock held, and so made of it another.
+pub record TurnedSome (now most : ℕ) (before after : DrainSeen) (t : Turn) : Type 0 where
+  pub device : DeviceSeen
+  pub device' : DeviceSeen
+  pub turned : Turned now most before.rings after.rings device device' t.taken t.memory t.sent.items
+  pub published : IfSome t.told (λ (f : FrontSeen). Publishes before.board (device_row device') after.board)
+  pub untold : IfNone t.told (Withholds before.board (device_row device') after.board)
+
+-- some balanced row was published, or was not
+abbrev pub PublishesSome : BoardSeen → BoardSeen → Type 0
+PublishesSome before after = (r : Row) × Publishes before r after
+
+abbrev pub WithholdsSome : BoardSeen → BoardSeen → Type 0
+WithholdsSome before after = (r : Row) × IsBalanced r × Withholds before r after

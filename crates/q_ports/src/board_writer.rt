@@ -1,10 +1,12 @@
-ghost use Rattle.std.specs.Prelude.{◌≡◌, ◌≤◌, [], true, drop, length, All, IsOk, IfOk};
+ghost use Rattle.std.specs.Prelude.{◌≡◌, ◌≤◌, [], true, drop, length, All, IsOk, IfOk, MatchBool};
 ghost use Rattle.left_right.specs.Sides.{view as view_of};
-ghost use Rattle.q_ports.specs.Rows.{AreOf, FrontSeen};
+ghost use Rattle.q_ports.specs.Rows.{gauge_seen, Continues, GaugeSeen};
+ghost use Rattle.q_ports.specs.Views.{appending, last_front, newest, showing, writer_seen, AreContinued};
 
 use crate::board::Board;
 use crate::front::Front;
 use crate::gauge::Gauge;
+use crate::note::Note;
 use crate::view::{Notes, Published, Reads, View};
 use left_right::writer::Writer;
 use std::alloc::{AllocError, Global};
@@ -16,7 +18,7 @@ pub type RuledWriter = Writer<Board, Front, View, Published>;
 
 /// What the drain writes the board with. It is not `Drop`: end it by `end`.
 ///
-/// A contract sees it as the book whose rows are on the board.
+/// A contract sees it as the record `WriterSeen` of what the board shows, and of what was appended since.
 pub struct BoardWriter {
     writer: RuledWriter,
 }
@@ -24,16 +26,13 @@ pub struct BoardWriter {
 impl Model for BoardWriter {
     ghost use Rattle.std.specs.Prelude.{◌≡◌, drop, true};
     ghost use Rattle.left_right.specs.Sides.{view as view_of};
-    ghost use Rattle.logbook.specs.Pages.{Book, book_coded};
-    ghost use Rattle.q_ports.specs.Rows.{AreOf};
+    ghost use Rattle.q_ports.specs.Views.{writer_seen, AreContinued, WriterSeen};
 
-    ghost Value = { Book };
+    ghost Value = { WriterSeen };
 
-    ghost coded = { book_coded };
+    ghost view = { λ w. writer_seen w.writer.desk.shown.value.front (drop w.writer.behind w.writer.log.items) };
 
-    ghost view = { λ w. w.writer.desk.shown.value.front.book };
-
-    ghost invariant = { λ w. ((view_of w.writer.desk.place).known ≡ true) × ((view_of w.writer.desk.place).front.book ≡ w.writer.desk.shown.value.front.book) × AreOf w.writer.desk.shown.value.front.book (drop w.writer.behind w.writer.log.items) };
+    ghost invariant = { λ w. ((view_of w.writer.desk.place).known ≡ true) × ((view_of w.writer.desk.place).front ≡ w.writer.desk.shown.value.front) × AreContinued w.writer.desk.shown.value.front (drop w.writer.behind w.writer.log.items) };
 }
 
 impl BoardWriter {
@@ -45,7 +44,7 @@ impl BoardWriter {
         gauges: usize,
     ) -> Result<BoardWriter, AllocError>
         requires { gauges ≤ 16 }
-        ensures { IfOk result (λ w. w ≡ front.now.book) }
+        ensures { IfOk result (λ w. w ≡ writer_seen front.now []) }
     {
         let writer = begin(rt, alloc, front, gauges)?;
         Ok(BoardWriter { writer })
@@ -53,36 +52,36 @@ impl BoardWriter {
 
     /// Takes in a history to be shown; `false` where memory is refused.
     pub(crate) fn append(&mut self, front: Front) -> bool
-        requires { front.book ≡ self.old }
-        ensures { self.new ≡ self.old }
+        requires { Continues (newest self.old) front }
+        ensures { MatchBool result (self.new ≡ appending self.old front) (self.new ≡ self.old) }
     {
         self.writer.append(front).is_ok()
     }
 
     /// Shows all that was taken in. It may wait for gauges.
     pub(crate) fn show<R: Wait>(self, rt: &R) -> BoardWriter
-        ensures { result ≡ self }
+        ensures { result ≡ showing self }
     {
         let BoardWriter { writer } = self;
         let (writer, _shown) = show(rt, writer);
         BoardWriter { writer }
     }
 
-    /// So many gauges of the board.
+    /// So many gauges of the board, which have learnt of this.
     pub(crate) fn gauges(
         &mut self,
         alloc: Global,
-        front: &Front,
+        note: &Note,
         count: usize,
     ) -> Result<Vec<Gauge>, AllocError>
-        requires { front.now.book ≡ self.old }
+        requires { note.now.book ≡ self.old.shown.book }
         ensures same { self.new ≡ self.old }
         ensures count { IfOk result (λ all. length all.items ≡ count) }
-        ensures gauges { IfOk result (λ all. All (λ (g : FrontSeen). g ≡ front.now) all.items) }
+        ensures gauges { IfOk result (λ all. All (λ (g : GaugeSeen). g ≡ gauge_seen self.old.shown note.now.rows 0) all.items) }
     {
         let mut all = Vec::with_capacity(alloc, count)?;
         for _gauge in 0..count {
-            match self.gauge(front) {
+            match self.gauge(note) {
                 Ok(gauge) => all.push_reserved(gauge),
                 Err(error) => return Err(error),
             }
@@ -90,13 +89,13 @@ impl BoardWriter {
         Ok(all)
     }
 
-    // A gauge of the board.
-    fn gauge(&mut self, front: &Front) -> Result<Gauge, AllocError>
-        requires { front.now.book ≡ self.old }
+    // A gauge of the board, which has learnt of this.
+    fn gauge(&mut self, note: &Note) -> Result<Gauge, AllocError>
+        requires { note.now.book ≡ self.old.shown.book }
         ensures same { self.new ≡ self.old }
-        ensures gauge { IfOk result (λ g. g ≡ front.now) }
+        ensures gauge { IfOk result (λ g. g ≡ gauge_seen self.old.shown note.now.rows 0) }
     {
-        gauge(&mut self.writer, front)
+        gauge(&mut self.writer, note)
     }
 
     /// Ends it. It may wait for gauges.
@@ -114,8 +113,8 @@ fn begin<R: Wait>(
     gauges: usize,
 ) -> Result<RuledWriter, AllocError>
     requires { gauges ≤ 16 }
-    ensures book { IfOk result (λ w. w.desk.shown.value.front.book ≡ front.now.book) }
-    ensures known { IfOk result (λ w. ((view_of w.desk.place).known ≡ true) × ((view_of w.desk.place).front.book ≡ front.now.book)) }
+    ensures shown { IfOk result (λ w. w.desk.shown.value.front ≡ front.now) }
+    ensures known { IfOk result (λ w. ((view_of w.desk.place).known ≡ true) × ((view_of w.desk.place).front ≡ front.now)) }
     ensures pending { IfOk result (λ w. drop w.behind w.log.items ≡ []) }
 {
     let first = Board {
@@ -131,19 +130,19 @@ fn begin<R: Wait>(
 
 // Shows all that is pending. It may wait for gauges.
 fn show<R: Wait>(rt: &R, writer: RuledWriter) -> (RuledWriter, Result<(), AllocError>)
-    requires { AreOf writer.desk.shown.value.front.book (drop writer.behind writer.log.items) }
+    requires { AreContinued writer.desk.shown.value.front (drop writer.behind writer.log.items) }
     ensures succeeds { IsOk result.1 }
-    ensures book { result.0.desk.shown.value.front.book ≡ writer.desk.shown.value.front.book }
-    ensures known { ((view_of result.0.desk.place).known ≡ true) × ((view_of result.0.desk.place).front.book ≡ writer.desk.shown.value.front.book) }
+    ensures shown { result.0.desk.shown.value.front ≡ last_front writer.desk.shown.value.front (drop writer.behind writer.log.items) }
+    ensures known { ((view_of result.0.desk.place).known ≡ true) × ((view_of result.0.desk.place).front ≡ result.0.desk.shown.value.front) }
     ensures pending { drop result.0.behind result.0.log.items ≡ [] }
 {
     writer.publish_as::<Reads, R>(rt)
 }
 
-// A gauge of the board.
-fn gauge(writer: &mut RuledWriter, front: &Front) -> Result<Gauge, AllocError>
-    requires known { ((view_of writer.old.desk.place).known ≡ true) × ((view_of writer.old.desk.place).front.book ≡ front.now.book) }
-    ensures gauge { IfOk result (λ g. g ≡ front.now) }
+// A gauge of the board, which has learnt of this.
+fn gauge(writer: &mut RuledWriter, note: &Note) -> Result<Gauge, AllocError>
+    requires known { ((view_of writer.old.desk.place).known ≡ true) × (note.now.book ≡ (view_of writer.old.desk.place).front.book) }
+    ensures gauge { IfOk result (λ g. g ≡ gauge_seen (view_of writer.old.desk.place).front note.now.rows 0) }
     ensures shown { writer.new.desk.shown ≡ writer.old.desk.shown }
     ensures pending { drop writer.new.behind writer.new.log.items ≡ drop writer.old.behind writer.old.log.items }
     ensures view { view_of writer.new.desk.place ≡ view_of writer.old.desk.place }
@@ -152,6 +151,6 @@ fn gauge(writer: &mut RuledWriter, front: &Front) -> Result<Gauge, AllocError>
     reader.learn::<Notes>(writer.tell::<Notes>());
     Ok(Gauge {
         reader,
-        mine: front.again(),
+        learnt: note.again(),
     })
 }

@@ -1,4 +1,4 @@
-ghost use Rattle.std.specs.Prelude.{◌≡◌, ◌≤◌, ◌<◌, Ok, IsOk, IfOk, OnOk, OnErr, IfErr, slice_get};
+ghost use Rattle.std.specs.Prelude.{◌≡◌, ◌≤◌, Ok, IsOk, IfOk, OnOk, OnErr, IfErr, slice_get};
 ghost use Rattle.q_model.specs.Conserved.{IsBalanced};
 ghost use Rattle.q_model.specs.Tally.{no_totals};
 ghost use Rattle.q_model.specs.TreeState.{stats};
@@ -79,7 +79,6 @@ impl<P: Ledger, B: Ledger> Booked<P, B> {
         packet: Packet,
         now: Moment,
     ) -> Result<Fate, (Packet, AllocError)>
-        requires { 0 < seat.old.parts }
         ensures event { OnOk result (self.new ≡ with_memory self.new.memory (after_event (event.Arrive packet now) self.old)) }
         ensures fate { IfOk result (λ fate. reply.Fate fate ≡ reply_to (event.Arrive packet now) self.old) }
         ensures seat { OnOk result (seat.new ≡ booking seat.old packet) }

@@ -1,6 +1,9 @@
-ghost use Rattle.std.specs.Prelude.{◌≡◌, ◌≤◌, map, IfOk, IfErr, IfSome, OnErr};
+ghost use Rattle.std.specs.Prelude.{◌≡◌, ◌≤◌, ◌<◌, false, length, map, IfOk, IfErr, IfSome, IfNone, OnErr};
+ghost use Rattle.q_ports.specs.Collected.{HasReceived};
 ghost use Rattle.q_ports.specs.Placed.{placed_by, ring_of_port, share_of};
-ghost use Rattle.q_ports.specs.Rings.{received_from, ring_id, AreBeginnings};
+ghost use Rattle.q_ports.specs.Rings.{received_from, ring_id, AreBeginnings, AreSeenEmpty};
+ghost use Rattle.q_ports.specs.Rows.{shown_on};
+ghost use Rattle.q_ports.specs.Turned.{PublishesSome, TurnedSome, WithholdsSome};
 
 use crate::booked::Booked;
 use crate::intake::Intake;
@@ -18,8 +21,8 @@ use std::sync::{Mutex, Wait};
 
 /// The one who feeds the device: it holds the other ends of the rings, the whole seat, and the gauges' writer.
 ///
-/// It is not `Drop`: end it by `settle` or `end`. A contract sees it as its rings, with what it received from each, and the history
-/// of the rows that it handed over for publication.
+/// It is not `Drop`: end it by `settle` or `end`. A contract sees it as its rings, with what it received from each, and its board:
+/// the rows that it handed over for publication, and those that gauges see.
 pub struct Drain<P: Ledger, B: Ledger> {
     pub(crate) intake: Intake<P, B>,
     pub(crate) publisher: Publisher,
@@ -52,8 +55,14 @@ impl<P: Ledger, B: Ledger> Drain<P, B> {
         requires { (1 ≤ most) × (most ≤ 1024) }
         ensures rings { map ring_id self.new.rings ≡ map ring_id self.old.rings }
         ensures few { IfOk result (λ t. t.taken ≤ most) }
+        ensures received { IfOk result (λ t. HasReceived (map received_from self.old.rings) (map received_from self.new.rings) t.taken) }
+        ensures whole { IfOk result (λ t. t.memory ≡ false → t.taken < most → AreSeenEmpty self.new.rings) }
+        ensures few_sent { IfOk result (λ t. length t.sent.items ≤ most) }
         ensures book { self.new.board.book ≡ self.old.board.book }
-        ensures told { IfOk result (λ t. IfSome t.told (λ f. f ≡ self.new.board)) }
+        ensures told { IfOk result (λ t. IfSome t.told (λ f. f ≡ shown_on self.new.board)) }
+        ensures published { IfOk result (λ t. IfSome t.told (λ f. PublishesSome self.old.board self.new.board)) }
+        ensures untold { IfOk result (λ t. IfNone t.told (WithholdsSome self.old.board self.new.board)) }
+        ensures turned { IfOk result (λ t. TurnedSome now most self.old self.new t) }
         ensures same { OnErr result (self.new ≡ self.old) }
     {
         let mut locked = booked.lock(rt);

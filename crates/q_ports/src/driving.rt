@@ -1,8 +1,8 @@
-ghost use Rattle.std.specs.Prelude.{◌≡◌, ◌≤◌, ◌<◌, ◌+◌, ◌*◌, ◌^◌, min, [], length, map, sum_by, vec_capacity, All, IfOk, IfErr};
+ghost use Rattle.std.specs.Prelude.{◌≡◌, ◌≤◌, ◌+◌, ◌-◌, ◌*◌, ◌^◌, min, [], length, map, sum_by, vec_capacity, All, IfOk, IfErr};
 ghost use Rattle.q_ports.specs.Driven.{packets_of, port_in, promised_load, promised_port, rest_of, AllOffered, AreBack, Drove, HasDriven, HasKept, IsRoomFor};
 ghost use Rattle.q_ports.specs.Offered.{Offered};
-ghost use Rattle.q_ports.specs.Placed.{ring_of_port};
-ghost use Rattle.q_ports.specs.Rings.{ring_id};
+ghost use Rattle.q_ports.specs.Placed.{placed_by, ring_of_port};
+ghost use Rattle.q_ports.specs.Rings.{received_from, ring_id, AreBeginnings};
 
 use crate::booked::Booked;
 use crate::drain::Drain;
@@ -64,16 +64,14 @@ pub fn drive<
     ensures rings { IfErr result (λ u. map ring_id u.drain.rings ≡ map ring_id drain.rings) }
     ensures again { IfErr result (λ u. map ring_of_port u.ports.items ≡ map ring_id u.drain.rings) }
     ensures back { IfErr result (λ u. AreBack ports.items (map packets_of loads.items) u.ports.items) }
+    ensures beginnings { IfErr result (λ u. AreBeginnings (map received_from u.drain.rings) (map placed_by u.ports.items)) }
 {
     let Drain {
         intake,
         mut publisher,
     } = drain;
     let Ok((room, mut back)) = rooms(alloc, ports.len()) else {
-        return Err(Unsettled {
-            drain: Drain { intake, publisher },
-            ports,
-        });
+        return Err(unsettled(intake, publisher, ports));
     };
     let pace = Pace { start, step };
     let (intake, sent, all_ran) = run(
@@ -89,14 +87,33 @@ pub fn drive<
         pace,
         tries,
     );
-    let drain = Drain { intake, publisher };
     let given_up = give_back(sent, &mut back);
     if !all_ran {
-        return Err(Unsettled { drain, ports: back });
+        return Err(unsettled(intake, publisher, back));
     }
+    let drain = Drain { intake, publisher };
     match drain.settle(rt, booked, back, start) {
         Ok(settled) => Ok(Driven { settled, given_up }),
         Err(unsettled) => Err(unsettled),
+    }
+}
+
+// What is handed back by a drain that does not settle. It looks at the rings, of which it has both ends.
+fn unsettled<P: Ledger, B: Ledger>(
+    intake: Intake<P, B>,
+    publisher: Publisher,
+    ports: Vec<Port>,
+) -> Unsettled<P, B>
+    requires { map ring_of_port ports.items ≡ map ring_id intake }
+    ensures rings { map ring_id result.drain.rings ≡ map ring_id intake }
+    ensures ports { result.ports.items ≡ ports.items }
+    ensures beginnings { AreBeginnings (map received_from result.drain.rings) (map placed_by ports.items) }
+{
+    let (mut intake, mut ports) = (intake, ports);
+    intake.look_all(&mut ports);
+    Unsettled {
+        drain: Drain { intake, publisher },
+        ports,
     }
 }
 
@@ -154,7 +171,7 @@ fn run<P: Ledger + Send + Sync, B: Ledger + Send + Sync, G: Gate + Sync, R: Thre
 fn give_back(sent: Vec<Sent>, back: &mut Vec<Port>) -> u64
     requires { (back.old.items ≡ []) × (length sent.items ≤ vec_capacity back.old) }
     ensures ports { back.new.items ≡ map port_in sent.items }
-    ensures given_up { sum_by rest_of sent.items < 2 ^ 64 → result ≡ sum_by rest_of sent.items }
+    ensures given_up { result ≡ min (sum_by rest_of sent.items) (2 ^ 64 - 1) }
 {
     let mut given_up = 0u64;
     for sender in sent {

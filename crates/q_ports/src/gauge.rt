@@ -1,12 +1,11 @@
-ghost use Rattle.std.specs.Prelude.{◌≡◌, true, IfSome, IfNone};
+ghost use Rattle.std.specs.Prelude.{◌≡◌, ◌+◌, ◌<◌, ◌⊎◌, length, true, IfSome, IfNone};
 ghost use mathlib.Core.List.{IsPrefix};
 ghost use Rattle.left_right.specs.Sides.{view as view_of};
-ghost use Rattle.q_model.specs.Conserved.{IsBalanced};
-ghost use Rattle.q_ports.specs.Rows.{last_of, IsLegal, IsNotLower};
-ghost use Rattle.q_ports.specs.Views.{knows};
+ghost use Rattle.q_ports.specs.Rows.{last_of, learning, Continues, IsLegal, IsNotLower};
 
 use crate::board::Board;
 use crate::front::Front;
+use crate::note::Note;
 use crate::told::Told;
 use crate::view::{Published, Reads, View};
 use core::mem::replace_with;
@@ -19,49 +18,57 @@ pub type BoardReader = Reader<Board, View, Published>;
 
 /// A reader of the device's row, which never waits. It may move to a thread of its own.
 ///
-/// A contract sees it as the history of the rows that it has read or learnt.
+/// A contract sees it as the record `GaugeSeen`: the rows that the board showed when the gauge read it last, those that it has
+/// learnt of, and how often it has read the board. It keeps no row.
 #[derive(Drop)]
 pub struct Gauge {
     pub(crate) reader: BoardReader,
-    pub(crate) mine: Front,
+    pub(crate) learnt: Note,
 }
 
 impl Model for Gauge {
     ghost use Rattle.std.specs.Prelude.{◌≡◌, true};
     ghost use Rattle.left_right.specs.Sides.{view as view_of};
-    ghost use Rattle.q_ports.specs.Rows.{FrontSeen};
+    ghost use Rattle.q_ports.specs.Rows.{gauge_seen, GaugeSeen};
 
-    ghost Value = { FrontSeen };
+    ghost Value = { GaugeSeen };
 
-    ghost view = { λ g. g.mine };
+    ghost view = { λ g. gauge_seen (view_of g.reader.place).front g.learnt.rows (view_of g.reader.place).reads };
 
-    ghost invariant = { λ g. ((view_of g.reader.place).known ≡ true) × ((view_of g.reader.place).front.book ≡ g.mine.book) };
+    ghost invariant = { λ g. ((view_of g.reader.place).known ≡ true) × (g.learnt.book ≡ (view_of g.reader.place).front.book) };
 }
 
 impl Gauge {
-    /// A row of the device as it was after some turn: the last of those published, or one that the gauge has learnt of since.
-    /// It is balanced, and in no counter lower than a row that was read or learnt before. It waits for nobody and takes no memory.
+    /// The last row that the board shows, which is the device's as it was after some turn. It is balanced, and in no counter lower
+    /// than a row that was read or learnt of before. It waits for nobody and takes no memory.
     ///
-    /// `None`, and nothing has changed, where the entry is refused, as it may be once the drain has ended.
+    /// `None`, and nothing has changed, where the entry is refused, as it may be once the drain has ended. It is `None` too where
+    /// the board shows fewer rows than the gauge has learnt of, which never is so.
     pub fn read(&mut self) -> Option<Row>
-        ensures rows { IfSome result (λ r. IsPrefix self.old.rows self.new.rows × (r ≡ last_of self.new.rows) × IsLegal self.new.rows) }
-        ensures not_lower { IfSome result (λ r. IsNotLower (last_of self.old.rows) r) }
-        ensures book { self.new.book ≡ self.old.book }
-        ensures none { IfNone result (self.new ≡ self.old) }
+        ensures row { IfSome result (λ r. r ≡ last_of self.new.rows) }
+        ensures reads { IfSome result (λ r. self.new.reads ≡ self.old.reads + 1) }
+        ensures rows { IsPrefix self.old.rows self.new.rows }
+        ensures learnt { IfSome result (λ r. IsPrefix self.old.learnt self.new.rows) }
+        ensures legal { IfSome result (λ r. IsLegal self.new.rows) }
+        ensures not_lower { IfSome result (λ r. IsNotLower (last_of self.old.rows) r × IsNotLower (last_of self.old.learnt) r) }
+        ensures same { (self.new.book ≡ self.old.book) × (self.new.learnt ≡ self.old.learnt) }
+        ensures none { IfNone result ((self.new ≡ self.old) ⊎ (length self.new.rows < length self.new.learnt)) }
     {
         let front = replace_with(&mut self.reader, (), |reader, _nothing| look(reader))?;
-        self.mine = self.mine.longer(&front);
-        Some(self.mine.last())
+        if !self.learnt.begins(&front.note()) {
+            return None;
+        }
+        Some(front.last())
     }
 
     /// Takes in what the drain told of a turn: a row that is read from now on is that turn's or a later one.
     pub fn learn(&mut self, told: Told)
         requires { told.book ≡ self.old.book }
-        ensures old { IsPrefix self.old.rows self.new.rows }
-        ensures told { IsPrefix told.rows self.new.rows }
-        ensures book { self.new.book ≡ self.old.book }
+        ensures old { IsPrefix self.old.learnt self.new.learnt }
+        ensures told { IsPrefix told.rows self.new.learnt }
+        ensures same { self.new ≡ learning self.old self.new.learnt }
     {
-        self.mine = self.mine.longer(&told.front);
+        self.learnt = self.learnt.longer(&told.note);
     }
 }
 
@@ -69,8 +76,10 @@ impl Gauge {
 fn look(reader: BoardReader) -> (BoardReader, Option<Front>)
     requires { (view_of reader.place).known ≡ true }
     ensures known { (view_of result.0.place).known ≡ true }
-    ensures same { (view_of result.0.place).front.book ≡ (view_of reader.place).front.book }
-    ensures book { IfSome result.1 (λ f. f.book ≡ (view_of reader.place).front.book) }
+    ensures continues { Continues (view_of reader.place).front (view_of result.0.place).front }
+    ensures front { IfSome result.1 (λ f. f ≡ (view_of result.0.place).front) }
+    ensures reads { IfSome result.1 (λ f. (view_of result.0.place).reads ≡ (view_of reader.place).reads + 1) }
+    ensures none { IfNone result.1 (view_of result.0.place ≡ view_of reader.place) }
 {
     match reader.enter_as::<Reads>() {
         Ok(reading) => {

@@ -1,10 +1,11 @@
-ghost use Rattle.std.specs.Prelude.{◌≡◌, ◌≢◌, ◌≤◌, ◌<◌, ℕ, false, [], length, get_or, map, replicate, IfOk, IfSome, IfNone, OnOk, OnErr};
+ghost use Rattle.std.specs.Prelude.{◌≡◌, ◌≢◌, ◌≤◌, ◌<◌, ℕ, true, false, [], length, get_or, map, replicate, IfOk, IfSome, IfNone, OnOk, OnErr};
 ghost use Rattle.q_model.specs.declared.event.Event.TheVariants as event;
-ghost use Rattle.q_ports.specs.Collected.{arrived_one, received_one, take, Collects, CollectsSome};
+ghost use Rattle.q_ports.specs.Collected.{arrived_one, received_one, take, Collects, CollectsOnly, CollectsSome};
 ghost use Rattle.q_ports.specs.Held.{held};
 ghost use Rattle.q_ports.specs.Events.{after_event, with_memory};
 ghost use Rattle.q_ports.specs.Placed.{placed_by, ring_of_port, share_of};
 ghost use Rattle.q_ports.specs.Rings.{all_of, ring_id, received_from, ring_seen, AreEmptyWithin, AreSameFrom, AreSeenEmpty, Looks, LooksBeside, Receives, RingSeen};
+ghost use Rattle.q_ports.specs.Stopped.{HasNoRoomForNext, Stops, StopsSome};
 
 use crate::booked::Booked;
 use crate::port::Port;
@@ -83,6 +84,7 @@ impl<P: Ledger, B: Ledger> Intake<P, B> {
         ensures arrived { IfOk result (λ p. booked.new ≡ with_memory booked.new.memory (after_event (event.Arrive p now) booked.old)) }
         ensures same { OnErr result (self.new ≡ self.old) }
         ensures same_device { OnErr result (booked.new ≡ with_memory booked.new.memory booked.old) }
+        ensures refused { OnErr result (HasNoRoomForNext booked.old self.new) }
     {
         let Intake { seat, rings, .. } = self;
         let ring = &mut rings[at];
@@ -111,6 +113,7 @@ impl<P: Ledger, B: Ledger> Intake<P, B> {
         ensures none_device { IfOk result (λ taken. IfNone taken (booked.new ≡ booked.old)) }
         ensures err { OnErr result (map received_from self.new ≡ map received_from self.old) }
         ensures err_device { OnErr result (booked.new ≡ with_memory booked.new.memory booked.old) }
+        ensures refused { OnErr result (HasNoRoomForNext booked.old self.new) }
     {
         if self.is_empty(at) {
             return Ok(None);
@@ -138,6 +141,7 @@ impl<P: Ledger, B: Ledger> Intake<P, B> {
         ensures none_device { IfOk result (λ taken. IfNone taken (booked.new ≡ booked.old)) }
         ensures err { OnErr result (map received_from self.new ≡ map received_from self.old) }
         ensures err_device { OnErr result (booked.new ≡ with_memory booked.new.memory booked.old) }
+        ensures refused { OnErr result (HasNoRoomForNext booked.old self.new) }
     {
         for at in from..to {
             match self.take_at(at, booked, now) {
@@ -180,6 +184,7 @@ impl<P: Ledger, B: Ledger> Intake<P, B> {
         ensures none_device { IfOk result (λ taken. IfNone taken (booked.new ≡ booked.old)) }
         ensures err { OnErr result (map received_from self.new ≡ map received_from self.old) }
         ensures err_device { OnErr result (booked.new ≡ with_memory booked.new.memory booked.old) }
+        ensures refused { OnErr result (HasNoRoomForNext booked.old self.new) }
     {
         let start = self.start();
         let count = self.count();
@@ -213,6 +218,7 @@ impl<P: Ledger, B: Ledger> Intake<P, B> {
         ensures collected { Collects now (map received_from self.old) (map received_from self.new) booked.old booked.new result.0 }
         ensures few { result.0 ≤ most }
         ensures whole { result.1 ≡ false → result.0 < most → AreSeenEmpty self.new }
+        ensures stopped { result.1 ≡ true → Stops now (map received_from self.old) self.new booked.old booked.new result.0 }
     {
         for taken in 0..most {
             match self.take_next(booked, now) {
@@ -268,6 +274,8 @@ impl<P: Ledger, B: Ledger> Intake<P, B> {
         ensures others { (k : ℕ) (d : RingSeen) → k ≢ at → get_or self.new k d ≡ get_or self.old k d }
         ensures collected { CollectsSome now (map received_from self.old) (map received_from self.new) booked.old booked.new }
         ensures empty { OnOk result ((d : RingSeen) → (get_or self.new at d).known ≡ []) }
+        ensures only { OnOk result (CollectsOnly now (map received_from self.old) (map received_from self.new) booked.old booked.new) }
+        ensures stopped { OnErr result (StopsSome now (map received_from self.old) self.new booked.old booked.new) }
     {
         for _left in 0..self.known(at) {
             match self.take_known(at, booked, now) {
@@ -288,6 +296,7 @@ impl<P: Ledger, B: Ledger> Intake<P, B> {
         ensures all { map all_of self.new ≡ map all_of self.old }
         ensures collected { CollectsSome now (map received_from self.old) (map received_from self.new) booked.old booked.new }
         ensures empty { OnOk result (AreSeenEmpty self.new) }
+        ensures stopped { OnErr result (StopsSome now (map received_from self.old) self.new booked.old booked.new) }
     {
         for at in 0..self.count() {
             match self.empty_at(at, booked, now) {

@@ -1,10 +1,13 @@
 //! What is true of every book, and of the calls that take the lock, with the locked value in hand.
-ghost use Rattle.std.specs.Prelude.{◌≡◌, ◌≤◌, ◌++◌, ◌∷◌, ◌⊎◌, [], map, IfOk, IfErr, IfSome, IfNone, OnOk, OnErr};
+ghost use Rattle.std.specs.Prelude.{◌≡◌, ◌≤◌, length, map, IfOk, IfErr, IfSome, IfNone, OnOk, OnErr};
 ghost use Rattle.q_device.specs.DeviceLaws.{HasItsMemory, IsLawfulDevice, IsReplayed, IsReplayOfRecorded, TellsItsLosses};
+ghost use Rattle.q_model.specs.Conserved.{IsBalanced};
 ghost use Rattle.q_ports.specs.Collected.{CollectsSome};
 ghost use Rattle.q_ports.specs.Events.{device_row};
 ghost use Rattle.q_ports.specs.Placed.{placed_by, ring_of_port, share_of};
 ghost use Rattle.q_ports.specs.Rings.{received_from, ring_id, AreBeginnings};
+ghost use Rattle.q_ports.specs.Rows.{shown_on, Publishes, Withholds};
+ghost use Rattle.q_ports.specs.Stopped.{StopsSome};
 ghost use Rattle.q_ports.specs.Turned.{Turned};
 
 use crate::booked::Booked;
@@ -68,7 +71,7 @@ pub fn book_is_arrived<P: Ledger, B: Ledger>(booked: &mut Booked<P, B>, seat: &m
 /// The work of [`Drain::turn`], with the locked value in hand. It may wait for gauges.
 ///
 /// The device is changed by one arrival for each packet that was received, in the order of each ring, and then by the polls up to
-/// `most`, or to the first that gives no packet; `sent` is what they gave. `told` carries the row after the turn.
+/// `most`, or to the first that gives no packet; `sent` is what they gave. `told` is there where the board then shows the row after the turn.
 ///
 /// # Errors
 ///
@@ -84,9 +87,12 @@ pub fn turn_on<P: Ledger, B: Ledger, R: Wait>(
     requires { (1 ≤ most) × (most ≤ 1024) }
     ensures rings { map ring_id drain.new.rings ≡ map ring_id drain.old.rings }
     ensures turned { IfOk result (λ t. Turned now most drain.old.rings drain.new.rings booked.old booked.new t.taken t.memory t.sent.items) }
+    ensures few_sent { IfOk result (λ t. length t.sent.items ≤ most) }
+    ensures balanced { OnOk result (IsBalanced (device_row booked.new)) }
     ensures book { drain.new.board.book ≡ drain.old.board.book }
-    ensures told { IfOk result (λ t. IfSome t.told (λ f. (f ≡ drain.new.board) × (f.rows ≡ drain.old.board.rows ++ device_row booked.new ∷ []))) }
-    ensures untold { IfOk result (λ t. IfNone t.told ((drain.new.board.rows ≡ drain.old.board.rows) ⊎ (drain.new.board.rows ≡ drain.old.board.rows ++ device_row booked.new ∷ []))) }
+    ensures told { IfOk result (λ t. IfSome t.told (λ f. f ≡ shown_on drain.new.board)) }
+    ensures published { IfOk result (λ t. IfSome t.told (λ f. Publishes drain.old.board (device_row booked.new) drain.new.board)) }
+    ensures untold { IfOk result (λ t. IfNone t.told (Withholds drain.old.board (device_row booked.new) drain.new.board)) }
     ensures same { OnErr result (drain.new ≡ drain.old) }
     ensures same_device { OnErr result (booked.new ≡ booked.old) }
 {
@@ -100,7 +106,8 @@ pub fn turn_on<P: Ledger, B: Ledger, R: Wait>(
 ///
 /// # Errors
 ///
-/// The drain and its ports, for want of memory. What was received is then a beginning of what was placed.
+/// The drain and its ports, for want of memory: the device has no room for a packet that waits. What was received is then a
+/// beginning of what was placed.
 pub fn settle_on<P: Ledger, B: Ledger, R: Wait>(
     drain: Drain<P, B>,
     rt: &R,
@@ -115,6 +122,7 @@ pub fn settle_on<P: Ledger, B: Ledger, R: Wait>(
     ensures rings { IfErr result (λ u. map ring_id u.drain.rings ≡ map ring_id drain.rings) }
     ensures ports { IfErr result (λ u. u.ports.items ≡ ports.items) }
     ensures taken { IfErr result (λ u. CollectsSome now (map received_from drain.rings) (map received_from u.drain.rings) booked.old booked.new) }
+    ensures stopped { IfErr result (λ u. StopsSome now (map received_from drain.rings) u.drain.rings booked.old booked.new) }
     ensures beginnings { IfErr result (λ u. AreBeginnings (map received_from u.drain.rings) (map placed_by ports.items)) }
     ensures board { IfErr result (λ u. u.drain.board ≡ drain.board) }
 {

@@ -15,6 +15,7 @@ mod gauge;
 mod intake;
 mod law;
 pub mod laws;
+mod note;
 mod open;
 mod pace;
 mod port;

@@ -1,9 +1,9 @@
 ghost use Rattle.std.specs.Prelude.{◌≡◌, ◌≤◌, ◌<◌, ℕ, [], length, get_or, map, replicate, All, IfOk, IfErr};
 ghost use Rattle.q_packet.specs.Descriptor.{Descriptor};
 ghost use Rattle.q_ports.specs.Held.{held};
-ghost use Rattle.q_ports.specs.Placed.{placed_by, ring_of_port, PortSeen};
+ghost use Rattle.q_ports.specs.Placed.{placed_by, ring_of_port, HasRing, PortSeen};
 ghost use Rattle.q_ports.specs.Rings.{received_from, ring_id, ring_seen};
-ghost use Rattle.q_ports.specs.Rows.{FrontSeen};
+ghost use Rattle.q_ports.specs.Rows.{new_gauge, shown_on, GaugeSeen};
 
 use crate::drain::Drain;
 use crate::gauge::Gauge;
@@ -39,11 +39,12 @@ pub fn open_ports<P: Ledger, B: Ledger, R: Wait>(
     ensures ports { IfOk result (λ r. map ring_of_port r.1.items ≡ map ring_id r.0.rings) }
     ensures count { IfOk result (λ r. length r.1.items ≡ count) }
     ensures indexes { IfOk result (λ r. (k : ℕ) (d : PortSeen) → k < count → (get_or r.1.items k d).index ≡ k) }
+    ensures lengths { IfOk result (λ r. All (HasRing ring) r.1.items) }
     ensures placed { IfOk result (λ r. map placed_by r.1.items ≡ replicate count []) }
     ensures received { IfOk result (λ r. map received_from r.0.rings ≡ replicate count []) }
     ensures gauges { IfOk result (λ r. length r.2.items ≡ gauges) }
-    ensures book { IfOk result (λ r. All (λ (g : FrontSeen). g ≡ r.0.board) r.2.items) }
-    ensures rows { IfOk result (λ r. r.0.board.rows ≡ []) }
+    ensures book { IfOk result (λ r. All (λ (g : GaugeSeen). g ≡ new_gauge (shown_on r.0.board)) r.2.items) }
+    ensures rows { IfOk result (λ r. (r.0.board.rows ≡ []) × (r.0.board.shown ≡ [])) }
     ensures err { IfErr result (λ e. e.0 ≡ seat) }
 {
     let Ok((rings, ports)) = make_rings(alloc, count, ring) else {
@@ -66,6 +67,7 @@ fn make_rings(
     ensures ports { IfOk result (λ r. map ring_of_port r.1.items ≡ map ring_id (map ring_seen r.0.items)) }
     ensures count { IfOk result (λ r. (length r.0.items ≡ count) × (length r.1.items ≡ count)) }
     ensures indexes { IfOk result (λ r. (k : ℕ) (d : PortSeen) → k < count → (get_or r.1.items k d).index ≡ k) }
+    ensures lengths { IfOk result (λ r. All (HasRing ring) r.1.items) }
     ensures placed { IfOk result (λ r. map placed_by r.1.items ≡ replicate count []) }
     ensures received { IfOk result (λ r. map received_from (map ring_seen r.0.items) ≡ replicate count []) }
 {

@@ -1,8 +1,8 @@
-ghost use Rattle.std.specs.Prelude.{◌≡◌, ◌++◌, [], OnOk, IfErr, IfSome};
+ghost use Rattle.std.specs.Prelude.{◌≡◌, ◌≤◌, ◌+◌, ◌^◌, ◌++◌, ◌⊎◌, [], length, OnOk, OnErr, IfErr, IfSome, IfNone};
 ghost use Rattle.q_model.specs.Beneath.{totals_in};
 ghost use Rattle.q_model.specs.Tally.{with_packet};
-ghost use Rattle.q_ports.specs.Placed.{placed_by, placing, port_seen, ring_at, ring_of, ring_of_port};
-ghost use Rattle.rtrb.specs.Ring.{known_items, received, sent, ConsumerLooked};
+ghost use Rattle.q_ports.specs.Placed.{bytes_in, placed_by, placing, port_seen, ring_at, ring_length, ring_of, ring_of_port, HasRing};
+ghost use Rattle.rtrb.specs.Ring.{known_items, producer_capacity, received, sent, ConsumerLooked};
 
 use crate::full::Full;
 use q_device::Totals as Share;
@@ -38,7 +38,8 @@ impl Port {
     /// A port of a ring in which nothing was placed.
     pub(crate) fn new(index: u32, ring: Producer<Packet>) -> Port
         requires { sent ring ≡ [] }
-        ensures { result ≡ port_seen index (ring_of ring) [] }
+        ensures port { result ≡ port_seen index (ring_of ring) [] }
+        ensures length { HasRing (producer_capacity ring) result }
     {
         Port {
             index,
@@ -56,10 +57,11 @@ impl Port {
     /// # Errors
     ///
     /// `Full` with the packet as it was given where the ring is full, or where the bytes placed would pass 2^64 - 1. Nothing has
-    /// changed then.
+    /// changed then. A ring in which fewer packets were placed in all than it has places is not full.
     pub fn offer(&mut self, packet: Packet) -> Result<(), Full>
         ensures ok { OnOk result (self.new ≡ placing self.old packet) }
         ensures full { IfErr result (λ full. (full.0 ≡ packet) × (self.new ≡ self.old)) }
+        ensures only { OnErr result ((ring_length self.old.ring ≤ length self.old.placed) ⊎ (2 ^ 64 ≤ bytes_in self.old.placed + packet.len)) }
     {
         let Some(share) = with_packet(&self.share, &packet) else {
             return Err(Full(packet));
@@ -103,7 +105,8 @@ impl Port {
 
 // What was placed, with a packet more; `None` where a count would overflow.
 fn with_packet(share: &Share, packet: &Packet) -> Option<Share>
-    ensures { IfSome result (λ s. s ≡ with_packet share.now packet.now) }
+    ensures some { IfSome result (λ s. s ≡ with_packet share.now packet.now) }
+    ensures none { IfNone result ((2 ^ 64 ≤ share.now.packets + 1) ⊎ (2 ^ 64 ≤ share.now.bytes + packet.now.len)) }
 {
     Some(Share {
         packets: share.packets.checked_add(1)?,

@@ -1,4 +1,4 @@
-ghost use Rattle.std.specs.Prelude.{◌≡◌, ◌<◌, ◌-◌};
+ghost use Rattle.std.specs.Prelude.{◌≡◌, ◌<◌, ◌≤◌, ◌-◌};
 ghost use Rattle.q_ports.specs.Held.{held, joined};
 
 use std::marker::Model;
@@ -6,7 +6,7 @@ use std::sync::ledger::{Ledger, Share};
 
 /// The right to let packets into a device, and what was let in with it.
 ///
-/// The seats of one book have 65 parts in all. A contract sees a seat as the record `Held` of its parts and of the packets and
+/// The seats of one book have 65 parts in all, and each has at least one. A contract sees a seat as the record `Held` of its parts and of the packets and
 /// bytes that were let in with it. Which book it is of, its type says: `P` is the book's ledger of packets, and `B` that of
 /// bytes.
 #[derive(Drop)]
@@ -17,20 +17,21 @@ pub struct Seat<P: Ledger, B: Ledger> {
 }
 
 impl<P: Ledger, B: Ledger> Model for Seat<P, B> {
-    ghost use Rattle.std.specs.Prelude.{◌≡◌};
+    ghost use Rattle.std.specs.Prelude.{◌≡◌, ◌≤◌};
     ghost use Rattle.q_ports.specs.Held.{Held, held};
 
     ghost Value = { Held };
 
     ghost view = { λ s. held s.parts s.packets.amount s.bytes.amount };
 
-    ghost invariant = { λ s. (s.packets.parts ≡ s.parts) × (s.bytes.parts ≡ s.parts) };
+    ghost invariant = { λ s. (s.packets.parts ≡ s.parts) × (s.bytes.parts ≡ s.parts) × (1 ≤ s.parts) };
 }
 
 impl<P: Ledger, B: Ledger> Seat<P, B> {
-    /// How many of the book's 65 parts it has; 65 for a whole one.
+    /// How many of the book's 65 parts it has: at least one, and 65 for a whole one.
     pub fn parts(&self) -> u64
-        ensures { result ≡ self.now.parts }
+        ensures parts { result ≡ self.now.parts }
+        ensures some { 1 ≤ result }
     {
         self.parts
     }

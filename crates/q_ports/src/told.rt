@@ -1,12 +1,12 @@
-use crate::front::Front;
+use crate::note::Note;
 use std::marker::Model;
 
-/// The rows that were published up to one turn. A gauge that has learnt it reads no older row.
+/// A note of the rows that the board showed after one turn. A gauge that has learnt it reads no older row.
 ///
-/// A contract sees it as the history up to that row.
+/// It has no row. A contract sees it as the history up to there.
 #[derive(Drop)]
 pub struct Told {
-    pub(crate) front: Front,
+    pub(crate) note: Note,
 }
 
 impl Model for Told {
@@ -14,5 +14,5 @@ impl Model for Told {
 
     ghost Value = { FrontSeen };
 
-    ghost view = { λ t. t.front };
+    ghost view = { λ t. t.note };
 }

@@ -1,9 +1,11 @@
-ghost use Rattle.std.specs.Prelude.{◌≡◌, ◌≤◌, ◌++◌, ◌∷◌, ◌⊎◌, [], map, vec_capacity, IfOk, IfSome, IfNone, OnErr};
+ghost use Rattle.std.specs.Prelude.{◌≡◌, ◌≤◌, [], length, map, vec_capacity, IfOk, IfSome, IfNone, OnOk, OnErr};
 ghost use Rattle.q_device.specs.Laws.{given_in};
+ghost use Rattle.q_model.specs.Conserved.{IsBalanced};
 ghost use Rattle.q_model.specs.declared.reply.Reply.TheVariants as reply;
 ghost use Rattle.q_ports.specs.Events.{device_row, with_memory};
 ghost use Rattle.q_ports.specs.Polls.{given_by, polled};
 ghost use Rattle.q_ports.specs.Rings.{ring_id};
+ghost use Rattle.q_ports.specs.Rows.{shown_on, Publishes, Withholds};
 ghost use Rattle.q_ports.specs.Turned.{Turned};
 
 use crate::booked::Booked;
@@ -25,7 +27,7 @@ pub struct Turn {
     pub sent: Vec<Packet>,
     /// Whether a refused allocation ended the collecting.
     pub memory: bool,
-    /// What the drain tells of the row after the turn; `None` where memory for the publication was refused, or the row is lower
+    /// A note that the row after the turn was published; `None` where memory for the publication was refused, or the row is lower
     /// than the last one that was handed over.
     pub told: Option<Told>,
 }
@@ -42,9 +44,12 @@ pub(crate) fn turn_parts<P: Ledger, B: Ledger, R: Wait>(
 ) -> Result<Turn, AllocError>
     ensures rings { map ring_id intake.new ≡ map ring_id intake.old }
     ensures ok { IfOk result (λ t. Turned now most intake.old intake.new booked.old booked.new t.taken t.memory t.sent.items) }
+    ensures few_sent { IfOk result (λ t. length t.sent.items ≤ most) }
+    ensures balanced { OnOk result (IsBalanced (device_row booked.new)) }
     ensures book { publisher.new.book ≡ publisher.old.book }
-    ensures told { IfOk result (λ t. IfSome t.told (λ f. (f ≡ publisher.new) × (f.rows ≡ publisher.old.rows ++ device_row booked.new ∷ []))) }
-    ensures untold { IfOk result (λ t. IfNone t.told ((publisher.new.rows ≡ publisher.old.rows) ⊎ (publisher.new.rows ≡ publisher.old.rows ++ device_row booked.new ∷ []))) }
+    ensures told { IfOk result (λ t. IfSome t.told (λ f. f ≡ shown_on publisher.new)) }
+    ensures published { IfOk result (λ t. IfSome t.told (λ f. Publishes publisher.old (device_row booked.new) publisher.new)) }
+    ensures untold { IfOk result (λ t. IfNone t.told (Withholds publisher.old (device_row booked.new) publisher.new)) }
     ensures same { OnErr result ((intake.new ≡ intake.old) × (publisher.new ≡ publisher.old)) }
     ensures same_device { OnErr result (booked.new ≡ booked.old) }
 {
@@ -69,6 +74,7 @@ fn poll_all<P: Ledger, B: Ledger>(
 )
     requires { (sent.old.items ≡ []) × (most ≤ vec_capacity sent.old) }
     ensures sent { sent.new.items ≡ given_by most now booked.old }
+    ensures few { length sent.new.items ≤ most }
     ensures polled { booked.new ≡ with_memory booked.new.memory (polled most now booked.old) }
 {
     for _poll in 0..most {

@@ -3,13 +3,14 @@ use crate::front::Front;
 use atomic_table::{Join, Split};
 use crossbeam_utils::rule::{Outcome, Protocol};
 
-/// What the drain or a gauge knows of the board. No value of it is made.
+/// What the drain or a gauge knows of the board: what it showed, and how often it was read. No value of it is made.
 pub struct View {
     pub known: bool,
+    pub reads: u64,
     pub front: Front,
 }
 
-/// The rule of the board: whoever knows its book knows the right one.
+/// The rule of the board: what is known of it is a beginning of what it shows.
 pub struct Published;
 
 impl Protocol<Board, View> for Published {
@@ -41,7 +42,7 @@ impl Split<View> for Notes {
 impl Join<View> for Notes {
     ghost use Rattle.q_ports.specs.Views.{newcomer};
 
-    ghost both = { λ v w. w };
+    ghost both = { λ v w. record w { reads = v.reads } };
 
     ghost spent = { newcomer };
 }

@@ -7,18 +7,33 @@ use Rattle.q_ports.proofs.DriveLemmas.{back-again, none-sent, sent-back}
 use Rattle.q_ports.proofs.driving.drive.Goals as goal
 
 pub returns-in_default-clause-back : goal.returns-in_default-clause-back
-returns-in_default-clause-back g c = none-sent c.args.ports.items (map packets_of c.args.loads.items)
+returns-in_default-clause-back g c =
+    let before = c.args.ports.items in
+    let loads = map packets_of c.args.loads.items in
+    subst (λ (ps : List PortSeen). AreBack before loads ps) (sym c.unsettled.ensures.ports) (none-sent before loads)
+
+pub unsettled-requires-then-not-all_ran : goal.unsettled-requires-then-not-all_ran
+unsettled-requires-then-not-all_ran g c =
+    let ran = c.run-intake in
+    let back = c.give_back-given_up in
+    let same = ran.ensures.rings ∙ ap (λ (d : DrainSeen). map ring_id d.rings) c.drain.view_is in
+    back-again c.args.ports.items (map packets_of c.args.loads.items) ran.result.1.items back.new.back.items c.args.drain.rings ran.result.0 ran.ensures.drove back.ensures.ports c.requires.ports same
 
 pub returns-then-not-all_ran-clause-again : goal.returns-then-not-all_ran-clause-again
 returns-then-not-all_ran-clause-again g c =
     let ran = c.run-intake in
     let back = c.give_back-given_up in
     let same = ran.ensures.rings ∙ ap (λ (d : DrainSeen). map ring_id d.rings) c.drain.view_is in
-    back-again c.args.ports.items (map packets_of c.args.loads.items) ran.result.1.items back.new.back.items c.args.drain.rings ran.result.0 ran.ensures.drove back.ensures.ports c.requires.ports same
+    ap (λ (ps : List PortSeen). map ring_of_port ps) c.unsettled-then-not-all_ran.ensures.ports
+    ∙ (back-again c.args.ports.items (map packets_of c.args.loads.items) ran.result.1.items back.new.back.items c.args.drain.rings ran.result.0 ran.ensures.drove back.ensures.ports c.requires.ports same
+    ∙ sym c.unsettled-then-not-all_ran.ensures.rings)
 
 pub returns-then-not-all_ran-clause-back : goal.returns-then-not-all_ran-clause-back
 returns-then-not-all_ran-clause-back g c =
-    sent-back c.args.ports.items (map packets_of c.args.loads.items) c.run-intake.result.1.items c.give_back-given_up.new.back.items c.run-intake.ensures.drove.each c.give_back-given_up.ensures.ports
+    let before = c.args.ports.items in
+    let loads = map packets_of c.args.loads.items in
+    subst (λ (ps : List PortSeen). AreBack before loads ps) (sym c.unsettled-then-not-all_ran.ensures.ports)
+    (sent-back before loads c.run-intake.result.1.items c.give_back-given_up.new.back.items c.run-intake.ensures.drove.each c.give_back-given_up.ensures.ports)
 
 pub settle-requires-clause-ports : goal.settle-requires-clause-ports
 settle-requires-clause-ports g c =

@@ -43,5 +43,6 @@ returns-in-None g c =
     let last : polled (c.args.most - c.loop-poll._poll) now d ≡ _ = ap (λ (k : ℕ). polled k now d) left ∙ polled-none n now d none in
     record {
       sent = sym (append-nil items) ∙ (ap (λ (xs : List Descriptor). items ++ xs) (sym (ap (λ (k : ℕ). given_by k now d) left ∙ given-none n now d none)) ∙ inv.sent);
+      few = omega (arith, inv.count, c.loop-poll.sent.ok.0, c.loop-poll-test.true);
       polled = c.poll.ensures.event ∙ (ap (λ (x : DeviceSeen). with_memory d'.memory x) (sym last) ∙ ap (λ (x : DeviceSeen). with_memory d'.memory x) inv.polled);
     }

@@ -1,10 +1,14 @@
-use Rattle.std.proofs.Common.{sym, subst}
+use Rattle.std.proofs.Common.{rules, sym, subst, List}
+use mathlib.Core.List.{IsPrefix}
 use Rattle.q_model.specs.declared.row.Row.{Row}
-use Rattle.q_ports.specs.Rows.{FrontSeen, opening, last_of, IsNotLower}
+use Rattle.q_ports.specs.Rows.{opening, last_of, IsNotLower}
 use Rattle.q_ports.proofs.Rising.{rising-prefix}
 use Rattle.q_ports.proofs.gauge.Gauge.read.Goals as goal
 
 pub returns-clause-not_lower : goal.returns-clause-not_lower
 returns-clause-not_lower c =
-    let a = rising-prefix opening c.self.inside.mine.rows c.longer.result.rows c.longer.ensures.this c.last.ensures.legal in
-    subst (λ (r : Row). IsNotLower (last_of c.args.self.now.rows) r) (sym c.last.ensures.last) (subst (λ (f : FrontSeen). IsNotLower (last_of f.rows) (last_of c.longer.result.rows)) c.self.view_is a)
+    let now = c.in_ok-front.front.rows in
+    let not_lower : (rows : List Row) → IsPrefix rows now → IsNotLower (last_of rows) c.last.result = λ rows begins. subst (λ (r : Row). IsNotLower (last_of rows) r) (sym c.last.ensures.last) (rising-prefix opening rows now begins c.last.ensures.legal) in
+    let old : IsPrefix c.args.self.now.rows now = search rules in
+    let learnt : IsPrefix c.args.self.now.learnt now = search rules in
+    (not_lower c.args.self.now.rows old, not_lower c.args.self.now.learnt learnt)

@@ -1,9 +1,9 @@
-use Rattle.std.proofs.Common.{◌∙◌, ◌<◌, refl, ap, arith, length, map, List}
+use Rattle.std.proofs.Common.{◌≡◌, ◌∙◌, ◌<◌, refl, ap, arith, length, map, List}
 use Rattle.std.proofs.lemmas.List.{length-map}
 use Rattle.q_packet.specs.Descriptor.{Descriptor}
 use Rattle.q_ports.specs.Collected.{take}
-use Rattle.q_ports.specs.Rings.{received_from}
-use Rattle.q_ports.proofs.CollectLemmas.{collects-more, collects-none}
+use Rattle.q_ports.specs.Rings.{RingSeen, received_from}
+use Rattle.q_ports.proofs.CollectLemmas.{collects-more, collects-none, stops-here}
 use Rattle.q_ports.proofs.RingLemmas.{ids-length, receives-all, receives-ids, receives-known, receives-others, receives-received}
 use Rattle.q_ports.proofs.intake.Intake.empty_at.Goals as goal
 
@@ -14,6 +14,7 @@ loop-left-init g c = record {
   others = λ k d other. refl;
   left = λ d. omega arith;
   collected = collects-none c.args.now (map received_from c.args.self.now) c.args.booked.now;
+  same = λ e. refl;
 }
 
 pub take_known-requires : goal.take_known-requires
@@ -38,4 +39,14 @@ loop-left-preserved g c =
       collected =
           collects-more c.args.now (map received_from c.args.self.now) (map received_from before) (map received_from after) c.args.booked.now c.loop-left.booked c.take_known.new.booked c.loop-left._left (take c.args.at p)
           inv.collected (omega (arith, here, length-map before received_from)) (receives-received c.args.at before after p taken here) c.in-Ok.ensures.arrived;
+      same = λ e. absurd (omega (arith, e));
     }
+
+pub returns-in-Err-clause-stopped : goal.returns-in-Err-clause-stopped
+returns-in-Err-clause-stopped g c =
+    let inv = c.loop-left.invariant in
+    let same : map received_from c.take_known.new.self ≡ map received_from c.loop-left.self = ap (λ (xs : List RingSeen). map received_from xs) c.in-Err.ensures.same in (
+      c.loop-left._left,
+      stops-here c.args.now (map received_from c.args.self.now) c.loop-left.self c.take_known.new.self c.args.booked.now c.loop-left.booked c.take_known.new.booked c.loop-left._left
+          inv.collected inv.same same c.in-Err.ensures.refused c.in-Err.ensures.same_device,
+    )

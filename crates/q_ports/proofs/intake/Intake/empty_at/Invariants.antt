@@ -10,4 +10,5 @@ invariant-loop-left g l = record {
   others : (k : ℕ) (d : RingSeen) → k ≢ l.at → get_or l.self k d ≡ get_or l.initial.self k d;
   left : (d : RingSeen) → length (get_or l.self l.at d).known + l._left ≡ length (get_or l.initial.self l.at d).known;
   collected : Collects l.now (map received_from l.initial.self) (map received_from l.self) l.initial.booked l.booked l._left;
+  same : l._left ≡ 0 → l.booked ≡ l.initial.booked;
 }

@@ -1,10 +1,13 @@
-use Rattle.std.proofs.Common.{◌≡◌, ◌<◌, ◌++◌, ◌∷◌, [], ◌∙◌, sym, ap, subst, arith, length, drop, List}
-use Rattle.std.proofs.lemmas.List.{length-set}
+use Rattle.std.proofs.Common.{◌≡◌, ◌<◌, ◌++◌, ◌∷◌, [], ◌∙◌, sym, ap, subst, arith, length, drop, get_or, map, set, List}
+use Rattle.std.proofs.lemmas.Bool.{false≢true}
+use Rattle.std.proofs.lemmas.List.{length-set, set-get_or}
+use Rattle.rtrb.specs.declared.AnyItems.{AnyItems}
 use Rattle.rtrb.specs.Ring as ends
-use Rattle.q_ports.specs.Rings.{RingSeen, seat_for}
+use Rattle.q_ports.specs.Rings.{RingSeen, ring_seen, seat_for}
+use Rattle.q_ports.specs.Stopped.{HasNoRoomForNext}
 use Rattle.q_ports.specs.Held.{Held, booking}
 use Rattle.q_packet.specs.Descriptor.{Descriptor}
-use Rattle.q_ports.proofs.RingLemmas.{known-there, no_ring, popped-rings, seat-popped}
+use Rattle.q_ports.proofs.RingLemmas.{Ring, known-there, no_ring, popped-rings, seat-popped}
 use Rattle.q_ports.proofs.intake.Intake.take_known.Goals as goal
 
 pub peek_known-packet-requires : goal.peek_known-packet-requires
@@ -46,3 +49,22 @@ returns-clause-taken g c =
           let e = known-there items now c.args.at a c.self.view_is c.requires.at c.index_mut-ring.ensures.value d ∙ known in
           e ∙ ap (λ (ks : List Descriptor). p ∷ drop 1 ks) (sym e);
     }
+
+pub returns-in_default-clause-refused : goal.returns-in_default-clause-refused
+returns-in_default-clause-refused g c =
+    let items = c.self.inside.rings.items in
+    let now = c.args.self.now in
+    let p = c.peek_known-packet.result.now in
+    let a = c.index_mut-ring.result.now in
+    let first = c.peek_known-packet.ensures in
+    let there : (d : RingSeen) → (get_or now c.args.at d).known ≡ p ∷ first.0 = λ d. known-there items now c.args.at a c.self.view_is c.requires.at c.index_mut-ring.ensures.value d ∙ sym first.1 in
+    let back : set items c.args.at a ≡ items = ap (λ (r : Ring). set items c.args.at r) c.index_mut-ring.ensures.value ∙ set-get_or items c.args.at a in
+    let seen : map (ring_seen {P = AnyItems}) (set items c.args.at a) ≡ now = ap (λ (rs : List Ring). map (ring_seen {P = AnyItems}) rs) back ∙ c.self.view_is in
+    subst (HasNoRoomForNext c.args.booked.now) (sym seen)
+    (record {
+      ring = c.args.at;
+      within = c.requires.at;
+      packet = p;
+      waits = λ d. there d ∙ ap (λ (ks : List Descriptor). p ∷ drop 1 ks) (sym (there d));
+      room = λ h. false≢true (c.in_default.ensures.succeeds h);
+    })
