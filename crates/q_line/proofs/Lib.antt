@@ -20,3 +20,4 @@ pub mod OptionEntries
 pub mod OptionSteps
 pub mod MovedBands
 pub mod OptionOrder
+pub mod OptionNames

@@ -30,17 +30,17 @@ use Rattle.q_line.proofs.Steps.{continued, rest_of-cons}
 abbrev pub goods : List (List ℕ) → Bool
 goods ws = list_all (λ w. is_utf8 w && is_numeral 10 w) ws
 
-abbrev more : Bands → ℕ → Bands
+abbrev pub more : Bands → ℕ → Bands
 more b n = record b { numbers = b.numbers ++ n ∷ [] }
 
 -- with these numbers
-abbrev with_map : OptionDraft → Bands → OptionDraft
+abbrev pub with_map : OptionDraft → Bands → OptionDraft
 with_map o b = record o { priomap = Some b }
 
-abbrev next_of : QdiscVerb → HeadDraft → KindName → OptionDraft → Bands → Position
+abbrev pub next_of : QdiscVerb → HeadDraft → KindName → OptionDraft → Bands → Position
 next_of v h k o b = if length b.numbers == 16 then Positions.options v h k (with_map o b) else Positions.priomap v h k (with_map o b)
 
-abbrev stepped : QdiscVerb → HeadDraft → KindName → OptionDraft → Bands → List ℕ → Result Position Wrong
+abbrev pub stepped : QdiscVerb → HeadDraft → KindName → OptionDraft → Bands → List ℕ → Result Position Wrong
 stepped v h k o b w = if is_numeral 10 w then Ok (next_of v h k o (more b (band_number w))) else Err wrong.BadNumber
 
 fits_numbers : (v : QdiscVerb) (h : HeadDraft) (k : KindName) (o : OptionDraft) (i : ℕ) (w : List ℕ)
@@ -106,7 +106,7 @@ walk_numbers v h k o b i (w ∷ u ∷ ws) rest good some many =
     ∙ ap (λ m. rest_of (options v h k (with_map o (record b { numbers = (b.numbers ++ n ∷ []) ++ map band_number (u ∷ ws) }))) m rest) index
     ∙ ap (λ ns. rest_of (options v h k (with_map o (record b { numbers = ns }))) (i + length (w ∷ u ∷ ws)) rest) (append_assoc b.numbers (n ∷ []) (map band_number (u ∷ ws)))
 
-numeral_of : (t : Bool) (p q : Position) → (if t then Ok p else Err wrong.BadNumber) ≡ Ok q → (t ≡ true) × (p ≡ q)
+pub numeral_of : (t : Bool) (p q : Position) → (if t then Ok p else Err wrong.BadNumber) ≡ Ok q → (t ≡ true) × (p ≡ q)
 numeral_of true p q e = (refl, cc)
 numeral_of false p q e = absurd (let k : Err wrong.BadNumber ≡ Ok q = e in cc)
 
@@ -147,7 +147,7 @@ pub data Spot : Type 0 where
   value_at : OptionValue → Spot
   bands_at : Spot
 
-abbrev at : Spot → QdiscVerb → HeadDraft → KindName → OptionDraft → Position
+abbrev pub at : Spot → QdiscVerb → HeadDraft → KindName → OptionDraft → Position
 at list v h k o = Positions.options v h k o
 at (value_at x) v h k o = Positions.option_value x v h k o
 at bands_at v h k o = Positions.priomap v h k o

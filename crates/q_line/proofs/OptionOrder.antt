@@ -211,11 +211,11 @@ reached_reads p q i (w ∷ before) ws e = by_word (λ next. reached_reads next q
     by_word more (Err x) t = absurd (
         let led : Err x ≡ Ok q = sym (ap (λ r. elim r as (λ _. Result Position Wrong) [ Ok next ↦ reached next (suc i) before | Err x ↦ Err x ]) t) ∙ e in cc)
 
-abbrev commented : List ℕ → Bool
+abbrev pub commented : List ℕ → Bool
 commented [] = false
 commented (b ∷ bytes) = b == 35
 
-begins : (w : List ℕ) (ws : List (List ℕ)) → is_blank_line (w ∷ ws) ≡ commented w
+pub begins : (w : List ℕ) (ws : List (List ℕ)) → is_blank_line (w ∷ ws) ≡ commented w
 begins [] ws = refl
 begins (b ∷ bytes) ws = refl
 
