@@ -1,18 +1,15 @@
 -- The numbers of a priomap: sixteen of them lead back to the options, and a line that has said them says the same wherever they
 -- stood.
-use Rattle.std.proofs.Common.{◌≡◌, ◌∙◌, ℕ, zero, suc, ◌+◌, ◌<◌, ◌≤◌, ◌==◌, ◌&&◌, Bool, true, false, List, [], ◌∷◌, ◌++◌, length, map, Option, Some, None, is_some, option_map, option_and_then, unwrap_or, Result, Ok, Err, refl, sym, ap, subst, arith, if◌then◌else◌, append_assoc, length-append, nat_le}
+use Rattle.std.proofs.Common.{◌≡◌, ◌∙◌, ℕ, suc, ◌+◌, ◌<◌, ◌==◌, ◌&&◌, Bool, true, false, List, [], ◌∷◌, ◌++◌, length, map, Option, Some, None, is_some, option_map, unwrap_or, Result, Ok, Err, refl, sym, ap, arith, if◌then◌else◌, append_assoc, length-append, nat_le}
 use Rattle.std.specs.List.{list_all, position}
-use Rattle.std.specs.Option.{option_map_or}
 use Rattle.std.specs.Str.{is_utf8}
 use Rattle.std.proofs.lemmas.Bool.{eqb-true}
-use Rattle.q_model.specs.declared.kind.Kind.{Kind}
 use Rattle.q_words.specs.Values.{is_numeral}
 use Rattle.q_words.specs.declared.line_fault.LineFault.{LineFault}
 use Rattle.q_words.specs.declared.line_fault.LineFault.TheVariants as fault
 use Rattle.q_words.specs.declared.wrong.Wrong.{Wrong}
 use Rattle.q_words.specs.declared.wrong.Wrong.TheVariants as wrong
-use Rattle.q_line.specs.Drafts.{Bands, OptionDraft, Verb, of_qdisc, bad_band, band_number, bands_of, kind_of, qdisc_line, whole_priomap}
-use Rattle.q_line.specs.Grammar
+use Rattle.q_line.specs.Drafts.{Bands, OptionDraft, band_number, bands_of}
 use Rattle.q_line.specs.Grammar.{after, ended, ends, fits, late_fault, rest_of, said, value}
 use Rattle.q_line.specs.Positions
 use Rattle.q_line.specs.Positions.{OptionValue, Position, once, options}
@@ -20,10 +17,9 @@ use Rattle.q_line.specs.declared.head_draft.HeadDraft.{HeadDraft}
 use Rattle.q_line.specs.declared.kind_name.KindName.{KindName}
 use Rattle.q_line.specs.declared.kind_name.KindName.TheVariants as kind_name
 use Rattle.q_line.specs.declared.line.Line.{Line}
-use Rattle.q_line.specs.declared.line.Line.TheVariants as line
 use Rattle.q_line.specs.declared.qdisc_verb.QdiscVerb.{QdiscVerb}
 use Rattle.q_line.proofs.OptionEntries.{Entry, valued, flag, numbers, Value, number, entries, entry_in, entered, found, has, behind, says, over, reading, option_fits_as}
-use Rattle.q_line.proofs.OptionSteps.{Fitted, Named, name_leads, named, utf8_after, word_fits, word_fitted}
+use Rattle.q_line.proofs.OptionSteps.{named, utf8_after, word_fits, word_fitted}
 use Rattle.q_line.proofs.Steps.{continued, rest_of-cons}
 
 -- words that are numbers
@@ -58,7 +54,7 @@ started v h k o i [] g = ap (λ (m : Option Bands). ended (Positions.priomap v h
 started v h k o i (w ∷ ws) g =
     let empty : Bands = record { from = i; numbers = [] } in
     let same : after i (Positions.priomap v h k o) w ≡ after i (Positions.priomap v h k (with_map o empty)) w =
-        ap (λ (m : Option Bands). if is_utf8 w then stepped v h k o (unwrap_or m empty) w else Err wrong.BadUtf8) (not_some o.priomap g) in
+    ap (λ (m : Option Bands). if is_utf8 w then stepped v h k o (unwrap_or m empty) w else Err wrong.BadUtf8) (not_some o.priomap g) in
     rest_of-cons (Positions.priomap v h k o) i w ws ∙ ap (λ r. continued r i ws) same ∙ sym (rest_of-cons (Positions.priomap v h k (with_map o empty)) i w ws)
 
 append_false : (n : ℕ) → (n ≡ 16 → ⊥) → (n == 16) ≡ false
@@ -130,9 +126,9 @@ good_numbers v h k o b i (w ∷ u ∷ ws) rest l many e =
     let not_yet : (length (b.numbers ++ n ∷ []) == 16) ≡ false = append_false (length (b.numbers ++ n ∷ [])) (λ same. omega arith) in
     let leads : next_of v h k o (more b n) ≡ Positions.priomap v h k (with_map o (more b n)) = ap (λ (t : Bool). if t then options v h k (with_map o (more b n)) else Positions.priomap v h k (with_map o (more b n))) not_yet in
     let rest_is : rest_of (Positions.priomap v h k (with_map o (more b n))) (suc i) ((u ∷ ws) ++ rest) ≡ Ok l =
-        ap (λ q. rest_of q (suc i) ((u ∷ ws) ++ rest)) (sym leads ∙ number.1) ∙ fit.rest in
+    ap (λ q. rest_of q (suc i) ((u ∷ ws) ++ rest)) (sym leads ∙ number.1) ∙ fit.rest in
     true_both (is_utf8 w && is_numeral 10 w) (goods (u ∷ ws)) (true_both (is_utf8 w) (is_numeral 10 w) fit.text number.0)
-        (good_numbers v h k o (more b n) (suc i) (u ∷ ws) rest l (omega arith) rest_is)
+    (good_numbers v h k o (more b n) (suc i) (u ∷ ws) rest l (omega arith) rest_is)
 
 -- a draft whose priomap stood elsewhere
 abbrev begun : ℕ → Bands → Bands

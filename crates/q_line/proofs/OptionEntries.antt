@@ -9,7 +9,7 @@ use Rattle.q_words.specs.Values.{number_in}
 use Rattle.q_words.specs.declared.wrong.Wrong.{Wrong}
 use Rattle.q_words.specs.declared.wrong.Wrong.TheVariants as wrong
 use Rattle.q_line.specs.Drafts.{Bands, OptionDraft, no_options}
-use Rattle.q_line.specs.Grammar.{limit_fits, longest, most, option_fits, row_of, value}
+use Rattle.q_line.specs.Grammar.{longest, most, option_fits, row_of, value}
 use Rattle.q_line.specs.Positions
 use Rattle.q_line.specs.Positions.{OptionValue, Position, Row, once, option_rows}
 use Rattle.q_line.specs.declared.head_draft.HeadDraft.{HeadDraft}

@@ -1,30 +1,28 @@
 -- An option by another of its names leads to the same; and an option that was given is still given at any later place, where each
 -- of its names is a fault.
-use Rattle.std.proofs.Common.{◌≡◌, ◌∙◌, ℕ, suc, ◌+◌, ◌||◌, ◌&&◌, ◌==◌, Bool, true, false, List, [], ◌∷◌, ◌++◌, length, Option, Some, None, is_some, unwrap_or, Result, Ok, Err, refl, sym, ap, subst, arith, codes, if◌then◌else◌, append_assoc}
+use Rattle.std.proofs.Common.{◌≡◌, ◌∙◌, ℕ, suc, ◌+◌, ◌||◌, ◌&&◌, ◌==◌, Bool, true, false, List, [], ◌∷◌, ◌++◌, length, Some, None, is_some, unwrap_or, Result, Ok, Err, refl, sym, ap, subst, arith, codes, if◌then◌else◌}
 use Rattle.std.specs.List.{AllByRecursion, list_any}
 use Rattle.std.specs.Str.{bytes_eq, is_utf8}
 use Rattle.std.proofs.lemmas.Slice.Eq.{bytes_eq-Decides}
 use Rattle.q_words.specs.Values.{is_numeral}
-use Rattle.q_words.specs.declared.line_fault.LineFault.{LineFault}
 use Rattle.q_words.specs.declared.line_fault.LineFault.TheVariants as fault
 use Rattle.q_words.specs.declared.wrong.Wrong.{Wrong}
 use Rattle.q_words.specs.declared.wrong.Wrong.TheVariants as wrong
-use Rattle.q_line.specs.Drafts.{Bands, OptionDraft, of_filter, band_number}
-use Rattle.q_line.specs.Grammar.{after, fits, line_of_words, numbered, rest_of, row_of, value}
+use Rattle.q_line.specs.Drafts.{Bands, OptionDraft, band_number}
+use Rattle.q_line.specs.Grammar.{after, fits, line_of_words, rest_of, row_of, value}
 use Rattle.q_line.specs.Laws.{reached}
-use Rattle.q_line.specs.OtherSpellings.{IsBeforeOption, NamesAreFree, OptionsStandOnce, SaysTheSame, names_of, names_one}
+use Rattle.q_line.specs.OtherSpellings.{NamesAreFree, OptionsStandOnce, SaysTheSame, names_of}
 use Rattle.q_line.specs.Positions
 use Rattle.q_line.specs.Positions.{OptionValue, Position, Row, first, once, options, table}
 use Rattle.q_line.specs.declared.head_draft.HeadDraft.{HeadDraft}
 use Rattle.q_line.specs.declared.kind_name.KindName.{KindName}
 use Rattle.q_line.specs.declared.kind_name.KindName.TheVariants as kind_name
-use Rattle.q_line.specs.declared.line.Line.{Line}
 use Rattle.q_line.specs.declared.line.Line.TheVariants.{Blank}
 use Rattle.q_line.specs.declared.qdisc_verb.QdiscVerb.{QdiscVerb}
 use Rattle.q_line.proofs.MovedBands.{Spot, list, value_at, bands_at, at, next_of, more, numeral_of, stepped, with_map}
 use Rattle.q_line.proofs.OptionEntries.{Entry, valued, flag, numbers, Value, number, entries, entry_in, entered, found, has, behind, says, over, reading, option_fits_as, has_over}
 use Rattle.q_line.proofs.OptionOrder.{begins, commented, reached_reads, read_from}
-use Rattle.q_line.proofs.OptionSteps.{name_leads, named, utf8_after}
+use Rattle.q_line.proofs.OptionSteps.{named, utf8_after}
 use Rattle.q_line.proofs.SpelledWords.{utf8_from_ascii}
 use Rattle.q_line.proofs.Steps.{continued, rest_of-cons}
 
@@ -36,7 +34,7 @@ same_word before p a b at away t u same ws =
     let read = read_from before p at away in
     let i = 1 + length before in
     let step : rest_of p i (a ∷ ws) ≡ rest_of p i (b ∷ ws) =
-        rest_of-cons p i a ws ∙ ap (λ r. continued r i ws) (utf8_after i p a t ∙ same i ∙ sym (utf8_after i p b u)) ∙ sym (rest_of-cons p i b ws) in
+    rest_of-cons p i a ws ∙ ap (λ r. continued r i ws) (utf8_after i p a t ∙ same i ∙ sym (utf8_after i p b u)) ∙ sym (rest_of-cons p i b ws) in
     read.1 (a ∷ ws) ∙ ap (λ r. if read.0 then Ok Blank else r) step ∙ sym (read.1 (b ∷ ws))
 
 pub names_are_free : NamesAreFree
@@ -69,26 +67,54 @@ abbrev AllTell : KindName → List (List ℕ) → Type 0
 AllTell k names = (told : OptionDraft → Bool) × AllByRecursion (Tells k told) names
 
 tells : (k : KindName) → AllByRecursion (AllTell k) (names_of k)
-tells kind_name.Pfifo = ((λ o. is_some o.limit, (record { entry = valued Positions.limit; is = refl; text = utf8_from_ascii (codes "limit") refl; has_is = λ o. refl }, tt)),
-    tt)
-tells kind_name.Bfifo = ((λ o. is_some o.limit, (record { entry = valued Positions.limit; is = refl; text = utf8_from_ascii (codes "limit") refl; has_is = λ o. refl }, tt)),
-    tt)
-tells kind_name.Prio = ((λ o. is_some o.bands, (record { entry = valued Positions.bands; is = refl; text = utf8_from_ascii (codes "bands") refl; has_is = λ o. refl }, tt)),
-    ((λ o. is_some o.priomap, (record { entry = numbers; is = refl; text = utf8_from_ascii (codes "priomap") refl; has_is = λ o. refl }, tt)),
-    tt))
-tells kind_name.Tbf = ((λ o. is_some o.rate, (record { entry = valued Positions.rate; is = refl; text = utf8_from_ascii (codes "rate") refl; has_is = λ o. refl }, tt)),
-    ((λ o. is_some o.burst, (record { entry = valued Positions.burst; is = refl; text = utf8_from_ascii (codes "burst") refl; has_is = λ o. refl }, (record { entry = valued Positions.burst; is = refl; text = utf8_from_ascii (codes "buffer") refl; has_is = λ o. refl }, (record { entry = valued Positions.burst; is = refl; text = utf8_from_ascii (codes "maxburst") refl; has_is = λ o. refl }, tt)))),
-    ((λ o. is_some o.tbf_limit, (record { entry = valued Positions.limit; is = refl; text = utf8_from_ascii (codes "limit") refl; has_is = λ o. refl }, (record { entry = valued Positions.latency; is = refl; text = utf8_from_ascii (codes "latency") refl; has_is = λ o. refl }, tt))),
-    tt)))
+tells kind_name.Pfifo = (
+  (λ o. is_some o.limit, (record { entry = valued Positions.limit; is = refl; text = utf8_from_ascii (codes "limit") refl; has_is = λ o. refl }, tt)),
+  tt,
+)
+tells kind_name.Bfifo = (
+  (λ o. is_some o.limit, (record { entry = valued Positions.limit; is = refl; text = utf8_from_ascii (codes "limit") refl; has_is = λ o. refl }, tt)),
+  tt,
+)
+tells kind_name.Prio = (
+  (λ o. is_some o.bands, (record { entry = valued Positions.bands; is = refl; text = utf8_from_ascii (codes "bands") refl; has_is = λ o. refl }, tt)),
+  (
+    (λ o. is_some o.priomap, (record { entry = numbers; is = refl; text = utf8_from_ascii (codes "priomap") refl; has_is = λ o. refl }, tt)),
+    tt,
+  ),
+)
+tells kind_name.Tbf = (
+  (λ o. is_some o.rate, (record { entry = valued Positions.rate; is = refl; text = utf8_from_ascii (codes "rate") refl; has_is = λ o. refl }, tt)),
+  (
+    (λ o. is_some o.burst, (record { entry = valued Positions.burst; is = refl; text = utf8_from_ascii (codes "burst") refl; has_is = λ o. refl }, (record { entry = valued Positions.burst; is = refl; text = utf8_from_ascii (codes "buffer") refl; has_is = λ o. refl }, (record { entry = valued Positions.burst; is = refl; text = utf8_from_ascii (codes "maxburst") refl; has_is = λ o. refl }, tt)))),
+    (
+      (λ o. is_some o.tbf_limit, (record { entry = valued Positions.limit; is = refl; text = utf8_from_ascii (codes "limit") refl; has_is = λ o. refl }, (record { entry = valued Positions.latency; is = refl; text = utf8_from_ascii (codes "latency") refl; has_is = λ o. refl }, tt))),
+      tt,
+    ),
+  ),
+)
 tells kind_name.Drr = tt
-tells kind_name.FqCodel = ((λ o. is_some o.fq_codel.limit, (record { entry = valued Positions.limit; is = refl; text = utf8_from_ascii (codes "limit") refl; has_is = λ o. refl }, tt)),
-    ((λ o. is_some o.fq_codel.flows, (record { entry = valued Positions.flows; is = refl; text = utf8_from_ascii (codes "flows") refl; has_is = λ o. refl }, tt)),
-    ((λ o. is_some o.fq_codel.quantum, (record { entry = valued Positions.quantum; is = refl; text = utf8_from_ascii (codes "quantum") refl; has_is = λ o. refl }, tt)),
-    ((λ o. is_some o.fq_codel.target, (record { entry = valued Positions.target; is = refl; text = utf8_from_ascii (codes "target") refl; has_is = λ o. refl }, tt)),
-    ((λ o. is_some o.fq_codel.interval, (record { entry = valued Positions.interval; is = refl; text = utf8_from_ascii (codes "interval") refl; has_is = λ o. refl }, tt)),
-    ((λ o. is_some o.fq_codel.drop_batch, (record { entry = valued Positions.drop_batch; is = refl; text = utf8_from_ascii (codes "drop_batch") refl; has_is = λ o. refl }, tt)),
-    ((λ o. is_some o.fq_codel.ecn, (record { entry = flag true; is = refl; text = utf8_from_ascii (codes "ecn") refl; has_is = λ o. refl }, (record { entry = flag false; is = refl; text = utf8_from_ascii (codes "noecn") refl; has_is = λ o. refl }, tt))),
-    tt)))))))
+tells kind_name.FqCodel = (
+  (λ o. is_some o.fq_codel.limit, (record { entry = valued Positions.limit; is = refl; text = utf8_from_ascii (codes "limit") refl; has_is = λ o. refl }, tt)),
+  (
+    (λ o. is_some o.fq_codel.flows, (record { entry = valued Positions.flows; is = refl; text = utf8_from_ascii (codes "flows") refl; has_is = λ o. refl }, tt)),
+    (
+      (λ o. is_some o.fq_codel.quantum, (record { entry = valued Positions.quantum; is = refl; text = utf8_from_ascii (codes "quantum") refl; has_is = λ o. refl }, tt)),
+      (
+        (λ o. is_some o.fq_codel.target, (record { entry = valued Positions.target; is = refl; text = utf8_from_ascii (codes "target") refl; has_is = λ o. refl }, tt)),
+        (
+          (λ o. is_some o.fq_codel.interval, (record { entry = valued Positions.interval; is = refl; text = utf8_from_ascii (codes "interval") refl; has_is = λ o. refl }, tt)),
+          (
+            (λ o. is_some o.fq_codel.drop_batch, (record { entry = valued Positions.drop_batch; is = refl; text = utf8_from_ascii (codes "drop_batch") refl; has_is = λ o. refl }, tt)),
+            (
+              (λ o. is_some o.fq_codel.ecn, (record { entry = flag true; is = refl; text = utf8_from_ascii (codes "ecn") refl; has_is = λ o. refl }, (record { entry = flag false; is = refl; text = utf8_from_ascii (codes "noecn") refl; has_is = λ o. refl }, tt))),
+              tt,
+            ),
+          ),
+        ),
+      ),
+    ),
+  ),
+)
 
 both_true : (a b : Bool) → (a && b) ≡ true → (a ≡ true) × (b ≡ true)
 both_true true b h = (refl, h)
@@ -284,6 +310,6 @@ options_stand_once k before between behind_it given again x y one =
     let again_has : has same.other.entry k y.2 ≡ true = same.other.has_is y.2 ∙ sym (same.one.has_is y.2) ∙ ap (λ e. has e k y.2) (sym same_entry) ∙ has_it in
     let j = 1 + length words in
     let twice : after j q again ≡ Err wrong.Twice =
-        utf8_after j q again same.other.text ∙ found y.0 y.1 k y.2 again ∙ ap (entered y.0 y.1 k y.2) same.other.is ∙ ap (λ (b : Bool). once b (behind same.other.entry y.0 y.1 k y.2)) again_has in
+    utf8_after j q again same.other.text ∙ found y.0 y.1 k y.2 again ∙ ap (entered y.0 y.1 k y.2) same.other.is ∙ ap (λ (b : Bool). once b (behind same.other.entry y.0 y.1 k y.2)) again_has in
     let index : j ≡ suc (length words) = omega arith in
     read_plain words (again ∷ behind_it) q y.3 (λ e. cc) ∙ rest_of-cons q j again behind_it ∙ ap (λ r. continued r j behind_it) twice ∙ ap (λ n. Err (fault.Twice n)) index

@@ -1,18 +1,15 @@
 -- Two options may change places: each says the same of the draft before it and of the one behind it.
-use Rattle.std.proofs.Common.{◌≡◌, ◌∙◌, ℕ, zero, suc, ◌+◌, ◌==◌, ◌<◌, ◌≤◌, ◌||◌, Bool, true, false, List, [], ◌∷◌, ◌++◌, length, map, Option, Some, None, is_some, Result, Ok, Err, refl, sym, ap, subst, arith, codes, if◌then◌else◌, append_assoc, length-append}
+use Rattle.std.proofs.Common.{◌≡◌, ◌∙◌, ℕ, suc, ◌+◌, ◌==◌, ◌||◌, Bool, true, false, List, [], ◌∷◌, ◌++◌, length, map, Some, None, Result, Ok, Err, refl, sym, ap, subst, arith, if◌then◌else◌}
 use Rattle.std.specs.List.{AllByRecursion}
 use Rattle.std.specs.Str.{bytes_eq, is_utf8}
 use Rattle.std.proofs.lemmas.Slice.Eq.{bytes_eq-Decides}
 use Rattle.q_words.specs.Words.{is_blank_line}
-use Rattle.q_words.specs.declared.line_fault.LineFault.{LineFault}
-use Rattle.q_words.specs.declared.line_fault.LineFault.TheVariants as fault
 use Rattle.q_words.specs.declared.wrong.Wrong.{Wrong}
-use Rattle.q_words.specs.declared.wrong.Wrong.TheVariants as wrong
-use Rattle.q_line.specs.Drafts.{Bands, OptionDraft, band_number}
+use Rattle.q_line.specs.Drafts.{OptionDraft, band_number}
 use Rattle.q_line.specs.Grammar.{after, fits, line_of_words, numbered, rest_of, option_fits, value}
 use Rattle.q_line.specs.Grammar
 use Rattle.q_line.specs.Laws.{reached}
-use Rattle.q_line.specs.OtherSpellings.{IsBeforeOption, IsOption, OptionsChangePlaces, values_of}
+use Rattle.q_line.specs.OtherSpellings.{IsOption, OptionsChangePlaces, values_of}
 use Rattle.q_line.specs.Positions
 use Rattle.q_line.specs.Positions.{OptionValue, Position, first, once, options}
 use Rattle.q_line.specs.declared.head_draft.HeadDraft.{HeadDraft}
@@ -21,8 +18,8 @@ use Rattle.q_line.specs.declared.kind_name.KindName.TheVariants as kind_name
 use Rattle.q_line.specs.declared.line.Line.{Line}
 use Rattle.q_line.specs.declared.line.Line.TheVariants.{Blank}
 use Rattle.q_line.specs.declared.qdisc_verb.QdiscVerb.{QdiscVerb}
-use Rattle.q_line.proofs.OptionEntries.{Entry, valued, flag, numbers, Value, number, entries, entry_in, entered, found, has, behind, says, over, reading, option_fits_as, has_over, says_apart, said_apart, over_either}
-use Rattle.q_line.proofs.OptionSteps.{Fitted, Named, name_leads, named, utf8_after, word_fits, word_fitted}
+use Rattle.q_line.proofs.OptionEntries.{Entry, valued, flag, numbers, Value, number, entries, entry_in, has, behind, says, over, reading, option_fits_as, has_over, says_apart, said_apart, over_either}
+use Rattle.q_line.proofs.OptionSteps.{name_leads, named, utf8_after, word_fits, word_fitted}
 use Rattle.q_line.proofs.MovedBands.{goods, moved_reads, walk_numbers, good_numbers, started}
 
 -- an option of a kind, and what it says where its first word has this index
@@ -223,9 +220,11 @@ begins (b ∷ bytes) ws = refl
 pub read_from : (before : List (List ℕ)) (p : Position) → reached first 1 before ≡ Ok p → (p ≡ first → ⊥)
     → (b : Bool) × ((ws : List (List ℕ)) → line_of_words (before ++ ws) ≡ (if b then Ok Blank else rest_of p (1 + length before) ws))
 read_from [] p e away = absurd (away (let both : Ok first ≡ Ok p = e in cc))
-read_from (w ∷ before) p e away =
-    (commented w, λ ws. ap (λ (b : Bool). if b then Ok Blank else rest_of first 1 (w ∷ (before ++ ws))) (begins w (before ++ ws))
-        ∙ ap (λ r. if commented w then Ok Blank else r) (reached_reads first p 1 (w ∷ before) ws e))
+read_from (w ∷ before) p e away = (
+  commented w,
+  λ ws. ap (λ (b : Bool). if b then Ok Blank else rest_of first 1 (w ∷ (before ++ ws))) (begins w (before ++ ws))
+      ∙ ap (λ r. if commented w then Ok Blank else r) (reached_reads first p 1 (w ∷ before) ws e),
+)
 
 pub options_change_places : OptionsChangePlaces
 options_change_places k before one other behind line at a b e =
