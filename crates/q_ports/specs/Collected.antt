@@ -42,3 +42,7 @@ CollectsSome now before after device device' = (count : ℕ) × Collects now bef
 -- the same, and where no packet was received nothing at all has happened to the device
 abbrev pub CollectsOnly : ℕ → List (List Descriptor) → List (List Descriptor) → DeviceSeen → DeviceSeen → Type 0
 CollectsOnly now before after device device' = (count : ℕ) × Collects now before after device device' count × (count ≡ 0 → device' ≡ device)
+
+-- some device, which the lock held, so became another
+abbrev pub CollectedBySome : ℕ → List (List Descriptor) → List (List Descriptor) → Type 0
+CollectedBySome now before after = (device : DeviceSeen) × (device' : DeviceSeen) × CollectsSome now before after device device'

@@ -27,3 +27,7 @@ pub record Stops (now : ℕ) (before : List (List Descriptor)) (rings : List Rin
 -- the same of some number of packets
 abbrev pub StopsSome : ℕ → List (List Descriptor) → List RingSeen → DeviceSeen → DeviceSeen → Type 0
 StopsSome now before rings device device' = (taken : ℕ) × Stops now before rings device device' taken
+
+-- some device, which the lock held, so became another
+abbrev pub StoppedAtSome : ℕ → List (List Descriptor) → List RingSeen → Type 0
+StoppedAtSome now before rings = (device : DeviceSeen) × (device' : DeviceSeen) × StopsSome now before rings device device'

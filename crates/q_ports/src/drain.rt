@@ -1,8 +1,9 @@
-ghost use Rattle.std.specs.Prelude.{◌≡◌, ◌≤◌, ◌<◌, false, length, map, IfOk, IfErr, IfSome, IfNone, OnErr};
-ghost use Rattle.q_ports.specs.Collected.{HasReceived};
+ghost use Rattle.std.specs.Prelude.{◌≡◌, ◌≤◌, ◌<◌, false, length, map, IfOk, IfErr, IfSome, IfNone, OnOk, OnErr};
+ghost use Rattle.q_ports.specs.Collected.{CollectedBySome, HasReceived};
 ghost use Rattle.q_ports.specs.Placed.{placed_by, ring_of_port, share_of};
 ghost use Rattle.q_ports.specs.Rings.{received_from, ring_id, AreBeginnings, AreSeenEmpty};
 ghost use Rattle.q_ports.specs.Rows.{shown_on};
+ghost use Rattle.q_ports.specs.Stopped.{StoppedAtSome};
 ghost use Rattle.q_ports.specs.Turned.{PublishesSome, TurnedSome, WithholdsSome};
 
 use crate::booked::Booked;
@@ -85,9 +86,11 @@ impl<P: Ledger, B: Ledger> Drain<P, B> {
         requires parts { (P.parts ≡ 65) × (B.parts ≡ 65) }
         requires ports { map ring_of_port ports.items ≡ map ring_id self.rings }
         ensures share { IfOk result (λ s. s ≡ share_of (map placed_by ports.items)) }
+        ensures collected { OnOk result (CollectedBySome now (map received_from self.rings) (map placed_by ports.items)) }
         ensures rings { IfErr result (λ u. map ring_id u.drain.rings ≡ map ring_id self.rings) }
         ensures ports { IfErr result (λ u. u.ports.items ≡ ports.items) }
         ensures beginnings { IfErr result (λ u. AreBeginnings (map received_from u.drain.rings) (map placed_by ports.items)) }
+        ensures stopped { IfErr result (λ u. StoppedAtSome now (map received_from self.rings) u.drain.rings) }
         ensures board { IfErr result (λ u. u.drain.board ≡ self.board) }
     {
         let mut locked = booked.lock(rt);

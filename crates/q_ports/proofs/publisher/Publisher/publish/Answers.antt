@@ -10,8 +10,9 @@ pub invariant_of-self-2 : goal.invariant_of-self-2
 invariant_of-self-2 g c =
     let head = c.self.invariant.0 ∙ ap (λ (b : Book). head_of b) (sym c.add.ensures.book) in
     let before = c.self.inside.writer in
-    let front = c.again.result in
+    let front = c.add.new.self in
+    let appended : c.append.new.self ≡ appending before front = search rules in
     let shows : c.replace_with.new.dest ≡ showing c.append.new.self = search rules in
-    let after : c.replace_with.new.dest ≡ writer_seen front [] = shows ∙ ap (λ (w : WriterSeen). showing w) (c.if-not-append.ensures {u = tt} ∙ ap (λ (w : WriterSeen). appending w front) c.self.invariant.1) in
-    let shown : c.replace_with.new.dest.shown ≡ c.add.new.self = ap (λ (w : WriterSeen). w.shown) after ∙ c.again.ensures in
-    (head, after ∙ sym (ap (λ (w : WriterSeen). writer_seen w.shown []) after), subst (λ (f : FrontSeen). Continues f c.add.new.self) (sym shown) (continues-self c.add.new.self))
+    let after : c.replace_with.new.dest ≡ writer_seen front [] = shows ∙ ap (λ (w : WriterSeen). showing w) (appended ∙ ap (λ (w : WriterSeen). appending w front) c.self.invariant.1) in
+    let shown : c.replace_with.new.dest.shown ≡ front = ap (λ (w : WriterSeen). w.shown) after in
+    (head, after ∙ sym (ap (λ (w : WriterSeen). writer_seen w.shown []) after), subst (λ (f : FrontSeen). Continues f front) (sym shown) (continues-self front))
