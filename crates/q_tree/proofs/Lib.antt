@@ -34,6 +34,7 @@ pub mod SettleLemmas
 pub mod ShowLemmas
 pub mod StatsLemmas
 pub mod TakeCounts
+pub mod TakePlaces
 pub mod TargetLemmas
 pub mod TreeEdits
 pub mod TreeLemmas

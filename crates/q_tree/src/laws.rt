@@ -1,10 +1,11 @@
 //! Laws of a tree and of its calls. Each function does nothing: its contract is the law.
-ghost use Rattle.std.specs.Prelude.{◌≡◌, ◌≤◌, []};
+ghost use Rattle.std.specs.Prelude.{ℕ, List, ◌≡◌, ◌≤◌, []};
 ghost use Rattle.q_model.specs.Lawful.{IsLawfulTree};
 ghost use Rattle.q_model.specs.Tally.{totals};
 ghost use Rattle.q_model.specs.TreeState.{given, noted_by_take, peek_packet, take_packet};
 ghost use Rattle.q_tree.specs.Kept.{kept};
 ghost use Rattle.q_tree.specs.Laws.{EditLeavesOtherSubtrees, PutKeepsPlaces, PutLeavesOtherSubtrees, PutCountsItsLosses, PeekCountsItsLosses, TakeCountsItsLosses};
+ghost use Rattle.q_tree.specs.Places.{places_at};
 ghost use Rattle.q_tree.specs.TreeSeen.{tree_numbers};
 
 use crate::tree::Tree;
@@ -56,6 +57,19 @@ pub fn put_leaves_other_subtrees()
 pub fn put_keeps_places()
     ensures { PutKeepsPlaces }
 {}
+
+/// A peek and a take leave every queue the places that it had. The place of a packet that goes stays.
+///
+/// `now` is at or after the latest moment that the tree was given.
+pub fn take_keeps_places(tree: &Tree, now: Moment)
+    requires { tree.now.clock ≤ now }
+    ensures peek { (way : List ℕ) → places_at way (peek_packet kept now tree.now.tree).root ≡ places_at way tree.now.tree.root }
+    ensures take { (way : List ℕ) → places_at way (take_packet kept now tree.now.tree).root ≡ places_at way tree.now.tree.root }
+{
+    // The tree is lawful, and a moment is at most 2^62 nanoseconds.
+    let _ = &tree.mtu;
+    let _ = now.ns();
+}
 
 /// A command changes the node that it names, and counters above it. Whatever stands beneath another child is as it was, with its
 /// counters and the places of its queues.
