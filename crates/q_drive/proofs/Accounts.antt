@@ -113,6 +113,5 @@ accounted s ports loads share given_up range long none asked d =
     let count : length d.after ≡ s.senders = d.drove.count ∙ long in
     let few : s.senders * s.count ≤ 64 * 1000000 = mul-le-mul range.senders.1 range.count in
     let all : (share_of (lists d.after)).packets + sum_by rest_of d.after ≡ s.senders * s.count = sent.all ∙ ap (λ n. n * s.count) count in
-    let bound : sum_by rest_of d.after < 2 ^ 64 = omega (arith, all, few) in
-    let rest = d.rest bound in
+    let rest : given_up ≡ sum_by rest_of d.after = omega (arith, d.rest, all, few) in
     subst (λ (t : Totals). IsAccounted s t given_up) (sym d.settled) (record { all = omega (arith, all, rest); bytes = sent.bytes })
