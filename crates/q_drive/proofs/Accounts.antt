@@ -1,5 +1,5 @@
 -- What senders with equal loads come to: each packet was placed or given up, and all have one length.
-use Rattle.std.proofs.Common.{◌≡◌, ◌∙◌, ℕ, zero, suc, ◌+◌, ◌*◌, ◌<◌, ◌≤◌, ◌^◌, Bool, true, false, List, [], ◌∷◌, ◌++◌, length, get_or, map, replicate, refl, sym, ap, ap₂, subst, arith, add-mul, suc-mul, mul-le-mul, zero-mul}
+use Rattle.std.proofs.Common.{◌≡◌, ◌∙◌, ℕ, zero, suc, ◌+◌, ◌*◌, ◌<◌, ◌≤◌, Bool, true, false, List, [], ◌∷◌, ◌++◌, length, get_or, map, replicate, refl, sym, ap, ap₂, subst, arith, add-mul, suc-mul, mul-le-mul, zero-mul}
 use Rattle.std.proofs.lemmas.List.{get_or-map, get_or-replicate, length-map, length-replicate, length_push}
 use Rattle.std.proofs.lemmas.List.Sums.{sum_by-cons, sum_by_push}
 use Rattle.std.specs.Prelude.{sum_by}
@@ -113,6 +113,5 @@ accounted s ports loads share given_up range long none asked d =
     let count : length d.after ≡ s.senders = d.drove.count ∙ long in
     let few : s.senders * s.count ≤ 64 * 1000000 = mul-le-mul range.senders.1 range.count in
     let all : (share_of (lists d.after)).packets + sum_by rest_of d.after ≡ s.senders * s.count = sent.all ∙ ap (λ n. n * s.count) count in
-    let bound : sum_by rest_of d.after < 2 ^ 64 = omega (arith, all, few) in
-    let rest = d.rest bound in
+    let rest : given_up ≡ sum_by rest_of d.after = omega (arith, d.rest, all, few) in
     subst (λ (t : Totals). IsAccounted s t given_up) (sym d.settled) (record { all = omega (arith, all, rest); bytes = sent.bytes })

@@ -1,5 +1,5 @@
 ghost use Rattle.std.specs.Prelude.{◌≡◌, IfSome};
-ghost use Rattle.q_device.specs.DeviceLaws.{IsLawfulDevice, IsReplayed};
+ghost use Rattle.q_device.specs.DeviceLaws.{IsLawfulDevice, IsReplayed, IsReplayOfRecorded};
 ghost use Rattle.q_drive.specs.Driven.{HasDriven};
 ghost use Rattle.q_model.specs.Tally.{no_totals};
 
@@ -90,6 +90,7 @@ fn ended<P: Ledger, B: Ledger>(booked: Booked<P, B>, share: Settled<P, B>, given
     ensures arrived { result.device.device.tree.top.arrived ≡ share }
     ensures lawful { IsLawfulDevice result.device }
     ensures replayed { IsReplayed result.device }
+    ensures recorded { IsReplayOfRecorded result.device }
 {
     let (mut booked, mut share) = (booked, share);
     let settled = settled(&mut booked, &mut share);

@@ -3,7 +3,7 @@ ghost use Rattle.std.specs.Prelude.{◌≡◌, ◌<◌, length, map, All, IfSome
 ghost use Rattle.q_model.specs.Tally.{no_totals};
 ghost use Rattle.q_ports.specs.Placed.{ring_of_port};
 ghost use Rattle.q_ports.specs.Rings.{ring_id};
-ghost use Rattle.q_ports.specs.Rows.{FrontSeen};
+ghost use Rattle.q_ports.specs.Rows.{new_gauge, shown_on, GaugeSeen};
 
 use q_device::{Device, Settings, Totals};
 use q_packet::{Ecn, FlowKey, Packet};
@@ -49,7 +49,7 @@ pub fn opened<P: Ledger, B: Ledger, R: Wait + Abort>(
     ensures rings { map ring_of_port result.2.items ≡ map ring_id result.1.rings }
     ensures ports { length result.2.items ≡ counts.0 }
     ensures gauges { length result.3.items ≡ counts.2 }
-    ensures book { All (λ (g : FrontSeen). g ≡ result.1.board) result.3.items }
+    ensures book { All (λ (g : GaugeSeen). g ≡ new_gauge (shown_on result.1.board)) result.3.items }
 {
     let (ports, ring, gauges) = counts;
     assert!(rt; 1 <= ports && ports <= 64);

@@ -7,6 +7,8 @@ mod common;
 #[cfg(test)]
 mod meeting;
 #[cfg(test)]
+mod open_gate;
+#[cfg(test)]
 mod pair;
 #[cfg(test)]
 mod ports;

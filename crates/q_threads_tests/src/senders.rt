@@ -4,6 +4,7 @@ ghost use Rattle.q_model.specs.Tally.{no_totals};
 
 use crate::common::{device, hundreds, opened, packet};
 use crate::meeting::{Meeting, READS};
+use crate::open_gate::OpenGate;
 use q_device::{Device, Event};
 use q_packet::{Moment, Packet};
 use q_ports::{Gauge, drive};
@@ -20,6 +21,61 @@ use std::thread::{JoinHandle, Threads};
 fn senders_meet_and_place_all(rt: HostRuntime) -> Result<(), Fail> {
     senders_place_all(&rt, rt.alloc(), (4, 1000, 16), 1)?;
     senders_place_all(&rt, rt.alloc(), (64, 15_625, 16_384), 0)
+}
+
+// No packet is placed where none may be tried, and each at the first try where its ring has room for the whole load.
+#[test]
+fn a_packet_is_tried_as_often_as_asked_for(rt: HostRuntime) -> Result<(), Fail> {
+    let alloc = rt.alloc();
+    let given = packet(5).ok_or("a packet")?;
+    for tries in [0u64, 1] {
+        let loads = loads(alloc, 2, 8, given)?;
+        let device = device(alloc, 0).ok_or("memory")?;
+        let (packets, bytes) = (Blank::new(65), Blank::new(65));
+        tried::<Brand, Brand, _>(&rt, alloc, device, loads, tries, packets, bytes);
+    }
+    Ok(())
+}
+
+// Drives the device with two loads of eight packets, which are all given up, or all placed.
+fn tried<P: Ledger + Send + Sync, B: Ledger + Send + Sync, R: Threads + Wait + Sync + Abort>(
+    rt: &R,
+    alloc: Global,
+    device: Device,
+    loads: Vec<Vec<Packet>>,
+    tries: u64,
+    packets: Blank,
+    bytes: Blank,
+)
+    requires nothing { device.device.tree.top.arrived ≡ no_totals }
+    requires packets { (packets.name ≡ P.name) × (packets.parts ≡ P.parts) × (P.parts ≡ 65) }
+    requires bytes { (bytes.name ≡ B.name) × (bytes.parts ≡ B.parts) × (B.parts ≡ 65) }
+{
+    assert!(rt; loads.len() == 2);
+    let (booked, drain, ports, _gauges) = opened::<P, B, R>(
+        rt,
+        alloc,
+        device,
+        (2, 8, 0),
+        packets,
+        bytes,
+    );
+    let start = Moment::zero();
+    match drive(
+        rt, alloc, &booked, drain, ports, loads, &OpenGate, start, STEP, tries,
+    ) {
+        Ok(driven) => {
+            let (placed, given_up) = if tries == 0 { (0, 16) } else { (16, 0) };
+            assert_eq!(rt;
+                (driven.settled.share(), driven.given_up),
+                (hundreds(placed), given_up)
+            );
+        }
+        Err(unsettled) => {
+            unsettled.drain.end(rt);
+            panic!(rt; "not settled")
+        }
+    }
 }
 
 // So many senders place so many packets each over rings of so many. Half way so many have arrived at least.

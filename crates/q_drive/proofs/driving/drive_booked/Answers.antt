@@ -18,4 +18,5 @@ returns-in-Ok-drive g c =
       arrived = ended.arrived ∙ sym ended.settled;
       lawful = ended.lawful;
       replayed = ended.replayed;
+      recorded = ended.recorded;
     }
