@@ -36,8 +36,11 @@ const STEP: u32 = 100;
 /// The same where a rate is to let every packet pass.
 const SLOW_STEP: u32 = 1000;
 
-/// The same where every packet waits for too long.
-const LATE_STEP: u32 = 200_000_000;
+/// The same where every packet waits for too long, and CoDel is at each poll due to mark.
+const LATE_STEP: u32 = INTERVAL as u32;
+
+/// The passes with that step: the kernel's clock for CoDel goes round after 4398 seconds.
+const LATE_PASSES: u32 = 2;
 
 pub fn all() -> Vec<Row> {
     let mut rows = vec![harness()];
@@ -90,7 +93,7 @@ fn lossy() -> Vec<Row> {
     let even = || vec![STEP; 50 * TURNS];
     vec![
         losses("CoDel, one drop each", one, TAKES, due),
-        pairs_of("CoDel, one mark each", one, LATE_STEP, true),
+        pairs_of("CoDel, one mark each", one, LATE_STEP, LATE_PASSES, true),
         losses("fq_codel at its limit, drop_batch 1", full(1), 50 * TURNS, even),
         losses("fq_codel at its limit, drop_batch 64", full(64), 50 * TURNS, even),
     ]
@@ -100,16 +103,16 @@ fn lossy() -> Vec<Row> {
 const TURNS: usize = 1000;
 
 fn pairs(name: &str, tree: Tree, step: u32) -> Row {
-    pairs_of(name, tree, step, false)
+    pairs_of(name, tree, step, 50, false)
 }
 
 /// An arrival and a poll; with `ecn` of packets that can be marked.
-fn pairs_of(name: &str, tree: Tree, step: u32, ecn: bool) -> Row {
+fn pairs_of(name: &str, tree: Tree, step: u32, passes: u32, ecn: bool) -> Row {
     Row {
         name: name.to_string(),
         unit: "pair",
         ops: PACKETS.into(),
-        passes: 50,
+        passes,
         sides: Box::new(move || {
             let plan = Rc::new(inputs::plan(tree.flows, ecn));
             let lines = Lines::of(&lines(&tree, ecn));

@@ -6,6 +6,7 @@ mod kernel;
 mod line_rows;
 mod plain;
 mod play;
+mod ports;
 mod rattle;
 mod rows;
 mod table;
@@ -16,7 +17,7 @@ use std::error::Error;
 use std::process::ExitCode;
 
 const USAGE: &str = "usage: q_bench table ROUNDS [WORD] | times ROUNDS [WORD] | instructions [WORD]
-       | one ROW rattle|plain|kernel PASSES | scripts FOLDER
+       | one ROW rattle|plain|kernel PASSES | ports PROGRAM ROUNDS | scripts FOLDER
        | play QTREE FOLDER ROUNDS | plain-play <SCRIPT";
 
 fn main() -> ExitCode {
@@ -40,6 +41,7 @@ fn start(args: &[&str]) -> Result<(), Box<dyn Error>> {
         ["instructions"] => table::print(0, true, ""),
         ["instructions", word] => table::print(0, true, word),
         ["one", name, side, passes] => run_one(name, side, passes.parse()?),
+        ["ports", program, rounds] => Ok(ports::print(program, rounds.parse()?)?),
         ["scripts", folder] => Ok(play::write_scripts(folder.as_ref())?),
         ["play", qtree, folder, rounds] => Ok(play::print_play(qtree, folder.as_ref(), rounds.parse()?)?),
         ["plain-play"] => Ok(plain::player::play()?),

@@ -114,18 +114,21 @@ impl FqCodel {
             flow.credits = self.quantum.into();
             self.fresh.append(&mut self.table, index as u16, Listed::Fresh);
         }
-        self.winners.renew(index, bytes);
         if self.pool.count <= self.limit {
+            self.winners.renew(index, bytes);
             return Put::Kept;
         }
-        self.shed(index, toll)
+        self.shed(index, bytes, toll)
     }
 
-    /// Drops a batch of the fat flow's packets, after a put into this flow.
+    /// Drops a batch of the fat flow's packets, after a put into this flow, which has so many bytes then.
     #[cold]
     #[inline(never)]
-    fn shed(&mut self, flow: u32, toll: &mut Toll) -> Put {
-        let fat = self.winners.top();
+    fn shed(&mut self, flow: u32, bytes: u64, toll: &mut Toll) -> Put {
+        let fat = self.winners.top_with(flow, bytes);
+        if fat != flow {
+            self.winners.renew(flow, bytes);
+        }
         let list = &mut at_mut(&mut self.table, fat as usize).list;
         let held = list.count;
         let batch = held.min(self.pool.count - 1).min(self.drop_batch);

@@ -17,6 +17,8 @@ pub mod packet;
 mod place;
 pub mod player;
 pub mod pool;
+pub mod ports;
+mod ring;
 pub mod row;
 pub mod setup;
 pub mod toll;

@@ -105,7 +105,11 @@ impl Player {
 
     fn poll(&mut self, output: &mut impl Write) -> io::Result<()> {
         match self.device.poll(self.at, &mut self.sent) {
-            Polled::Packet => writeln!(output, "sent {} {}", self.sent.number, self.sent.len),
+            Polled::Packet => {
+                let Packet { number, len, ecn, .. } = self.sent;
+                let mark = if ecn == Ecn::Ce { " ce" } else { "" };
+                writeln!(output, "sent {number} {len}{mark}")
+            }
             Polled::Idle => output.write_all(b"idle\n"),
             Polled::Later => output.write_all(b"later\n"),
         }

@@ -24,9 +24,9 @@ impl Winners {
         Winners { ranks }
     }
 
-    /// The flow with the most bytes.
-    pub fn top(&self) -> u32 {
-        65535 - (self.ranks[1] % 65536) as u32
+    /// The flow with the most bytes, if this one had so many: as many as it has, or more.
+    pub fn top_with(&self, flow: u32, bytes: u64) -> u32 {
+        65535 - (rank_of(flow, bytes).max(self.ranks[1]) % 65536) as u32
     }
 
     #[inline(always)]
