@@ -23,11 +23,21 @@ pub enum Shape {
 #[derive(Clone, Copy)]
 pub struct Tree {
     pub shape: Shape,
-    /// Of each fq_codel; and so many flows have the packets of one that is the root.
+    /// Of each fq_codel.
     pub flows: u32,
     pub drop_batch: u32,
     /// The packets that wait before the work begins, and then at each arrival.
     pub queued: u32,
+}
+
+impl Tree {
+    /// The flows that packets have: all of them, or 64 where eight fq_codels share the packets.
+    fn met(&self) -> u32 {
+        match self.shape {
+            Shape::DrrOfFqCodels => 64,
+            _ => self.flows,
+        }
+    }
 }
 
 /// The nanoseconds from one packet to the next, at which CoDel drops nothing.
@@ -114,7 +124,7 @@ fn pairs_of(name: &str, tree: Tree, step: u32, passes: u32, ecn: bool) -> Row {
         ops: PACKETS.into(),
         passes,
         sides: Box::new(move || {
-            let plan = Rc::new(inputs::plan(tree.flows, ecn));
+            let plan = Rc::new(inputs::plan(tree.met(), ecn));
             let lines = Lines::of(&lines(&tree, ecn));
             let (for_rattle, for_plain) = (Rc::clone(&plan), Rc::clone(&plan));
             Sides {
@@ -134,7 +144,7 @@ fn losses(name: &str, tree: Tree, polls: usize, waits: fn() -> Vec<u32>) -> Row 
         ops: TURNS as u64,
         passes: (polls / TURNS) as u32,
         sides: Box::new(move || {
-            let inputs = Rc::new((inputs::plan(tree.flows, false), waits()));
+            let inputs = Rc::new((inputs::plan(tree.met(), false), waits()));
             let lines = Lines::of(&lines(&tree, false));
             let (for_rattle, for_plain) = (Rc::clone(&inputs), Rc::clone(&inputs));
             let first = |passes: u32| ..passes as usize * TURNS;

@@ -65,9 +65,9 @@ pub fn all() -> Vec<Row> {
     rows.extend([2, 64, 1000].map(turn));
     for count in [1, 64, 1024, 65536] {
         rows.push(flows(count, "put and take", 1 << 20, 1, true));
-        rows.push(flows(count, "put below the limit", 1 << 20, 1, false));
-        rows.push(flows(count, "put at the limit", FULL, 1, false));
-        rows.push(flows(count, "put at the limit, batches of 64", FULL, 64, false));
+        rows.push(flows(count, "put", 1 << 20, 1, false));
+        rows.push(flows(count, "put at limit", FULL, 1, false));
+        rows.push(flows(count, "put at limit by 64", FULL, 64, false));
     }
     rows.extend(line_rows::all());
     rows

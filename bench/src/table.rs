@@ -26,7 +26,7 @@ fn print_heads(has_times: bool, has_counts: bool) {
         for _ in 0..3 {
             line += "    least  median";
         }
-        line += &format!(" {:>12}", "Rattle/plain");
+        line += &format!(" {:>11} ", "to plain");
     }
     if has_counts {
         above += &format!(" {:>26}", "instructions");
@@ -63,13 +63,14 @@ pub fn timed(times: &Times) -> String {
     let mark = if ratio.median <= MOST { ' ' } else { '!' };
     let figures = [Some(&times.rattle), Some(&times.plain), times.kernel.as_ref()];
     let figures: String = figures.into_iter().map(figure).collect();
-    format!("{figures}  {:6.2} ±{:2.0}%{mark}", ratio.median, 100.0 * ratio.spread)
+    let ratio = format!("{:.2}±{:.0}%", ratio.median, 100.0 * ratio.spread);
+    format!("{figures} {ratio:>11}{mark}")
 }
 
 fn figure(figure: Option<&Figure>) -> String {
     match figure {
         Some(figure) => format!(" {:8.2} {:7.2}", figure.least, figure.median),
-        None => format!(" {:>8} {:>7}", "-", "-"),
+        None => format!(" {:>16}", "-"),
     }
 }
 
