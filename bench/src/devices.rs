@@ -120,7 +120,6 @@ fn pairs(name: &str, tree: Tree, step: u32) -> Row {
 fn pairs_of(name: &str, tree: Tree, step: u32, passes: u32, ecn: bool) -> Row {
     Row {
         name: name.to_string(),
-        unit: "pair",
         ops: PACKETS.into(),
         passes,
         sides: Box::new(move || {
@@ -140,7 +139,6 @@ fn pairs_of(name: &str, tree: Tree, step: u32, passes: u32, ecn: bool) -> Row {
 fn losses(name: &str, tree: Tree, polls: usize, waits: fn() -> Vec<u32>) -> Row {
     Row {
         name: name.to_string(),
-        unit: "poll",
         ops: TURNS as u64,
         passes: (polls / TURNS) as u32,
         sides: Box::new(move || {
@@ -167,7 +165,6 @@ fn losses(name: &str, tree: Tree, polls: usize, waits: fn() -> Vec<u32>) -> Row 
 fn harness() -> Row {
     Row {
         name: "the harness alone".to_string(),
-        unit: "pair",
         ops: PACKETS.into(),
         passes: 200,
         sides: Box::new(|| {

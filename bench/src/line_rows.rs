@@ -89,7 +89,6 @@ fn ipv6(random: &mut Xorshift) -> u128 {
 fn read_line(name: &str, line: impl FnMut(&mut Xorshift) -> String + Clone + 'static) -> Row {
     Row {
         name: format!("read_line, {name}"),
-        unit: "line",
         ops: 8192,
         passes: 20,
         sides: Box::new(move || {

@@ -32,7 +32,7 @@ pub fn print(program: &str, rounds: usize) -> io::Result<()> {
             kernel: None,
             ratio: Figure::of(ratios.collect()),
         };
-        println!("{}{}", table::head(name, "packet"), table::timed(&times));
+        println!("{}{}", table::head(name), table::timed(&times));
     }
     Ok(())
 }

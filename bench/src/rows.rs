@@ -9,8 +9,6 @@ pub type Work = Box<dyn Fn(u32) -> u64>;
 
 pub struct Row {
     pub name: String,
-    /// What is counted as one operation.
-    pub unit: &'static str,
     /// Operations of one pass.
     pub ops: u64,
     /// Passes of one round.
@@ -76,7 +74,6 @@ pub fn all() -> Vec<Row> {
 fn read_head() -> Row {
     Row {
         name: "read_head".to_string(),
-        unit: "head",
         ops: 8192,
         passes: 100,
         sides: Box::new(|| {
@@ -93,7 +90,6 @@ fn read_head() -> Row {
 fn hash() -> Row {
     Row {
         name: "OneAtATime::hash".to_string(),
-        unit: "key",
         ops: 512,
         passes: 300,
         sides: Box::new(|| {
@@ -110,7 +106,6 @@ fn hash() -> Row {
 fn fifo(queued: u32) -> Row {
     Row {
         name: format!("Fifo put and take, {queued} queued"),
-        unit: "pair",
         ops: 4096,
         passes: 200,
         sides: Box::new(move || {
@@ -127,7 +122,6 @@ fn fifo(queued: u32) -> Row {
 fn codel(name: &str, queued: u32, moments: fn() -> Vec<u64>) -> Row {
     Row {
         name: name.to_string(),
-        unit: "take",
         ops: 1000,
         passes: TAKES as u32 / 1000,
         sides: Box::new(move || {
@@ -145,7 +139,6 @@ fn codel(name: &str, queued: u32, moments: fn() -> Vec<u64>) -> Row {
 fn gap(name: &str, first: u32, passes: u32) -> Row {
     Row {
         name: name.to_string(),
-        unit: "gap",
         ops: 64,
         passes,
         sides: Box::new(move || {
@@ -163,7 +156,6 @@ fn spend(name: &str, rate: u64, brought: u64) -> Row {
     let burst = 7570;
     Row {
         name: name.to_string(),
-        unit: "spend",
         ops: 1 << 17,
         passes: 10,
         sides: Box::new(move || {
@@ -179,7 +171,6 @@ fn spend(name: &str, rate: u64, brought: u64) -> Row {
 fn turn(classes: u16) -> Row {
     Row {
         name: format!("Active::turn, {classes} active"),
-        unit: "turn",
         ops: 1 << 17,
         passes: 10,
         sides: Box::new(move || {
@@ -205,7 +196,6 @@ fn flows(count: u32, name: &str, limit: u32, drop_batch: u32, takes: bool) -> Ro
     };
     Row {
         name: format!("FqCodel {name}, {count} flows"),
-        unit: if takes { "pair" } else { "put" },
         ops: 1 << 15,
         passes: 20,
         sides: Box::new(move || {

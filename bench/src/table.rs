@@ -17,7 +17,7 @@ pub fn print(rounds: usize, counts: bool, word: &str) -> Result<(), Box<dyn std:
 }
 
 fn print_heads(has_times: bool, has_counts: bool) {
-    let (mut above, mut line) = (head("", ""), head("row", "one"));
+    let (mut above, mut line) = (head(""), head("row"));
     if has_times {
         above += &format!(
             " {:>16} {:>16} {:>16} {:>11} ",
@@ -37,7 +37,7 @@ fn print_heads(has_times: bool, has_counts: bool) {
 
 fn print_row(row: &Row, rounds: usize, counts: bool) -> Result<(), Box<dyn std::error::Error>> {
     let has_kernel = (row.sides)().kernel.is_some();
-    let mut line = head(&row.name, row.unit);
+    let mut line = head(&row.name);
     if rounds > 0 {
         line += &timed(&timing::times(row, rounds)?);
     }
@@ -54,8 +54,8 @@ fn print_row(row: &Row, rounds: usize, counts: bool) -> Result<(), Box<dyn std::
     Ok(())
 }
 
-pub fn head(name: &str, unit: &str) -> String {
-    format!("{name:43} {unit:8}")
+pub fn head(name: &str) -> String {
+    format!("{name:43}")
 }
 
 pub fn timed(times: &Times) -> String {
