@@ -1,46 +1,215 @@
-//! The rows over a device: an arrival and a poll, for trees of every kind. `crates/q_bench/src/trees.rt` has each tree as
-//! commands, and plain Rust reads the lines of tc that stand here.
+//! The rows over a device: an arrival and a poll of packets that were made before, for trees of every kind.
+//! `crates/q_bench/src/trees.rt` has each tree as commands, and plain Rust reads the lines of tc that stand here.
 
-use crate::inputs::{self, FIRST_PORT, Lines};
+use crate::inputs::{self, FIRST_PORT, Lines, PACKETS};
+use crate::kernel;
 use crate::plain::device_work;
-use crate::rattle::{self, Shape};
-use crate::rows::Row;
+use crate::rattle;
+use crate::rows::{INTERVAL, Row, Sides, TAKES};
+use std::rc::Rc;
 
-/// The packets that wait in a device before the work begins, and then at each arrival.
-const QUEUED: u32 = 1000;
+/// The disciplines of a tree, by the numbers that they have in `crates/q_bench` and in `bench/kernel.c`.
+#[derive(Clone, Copy)]
+pub enum Shape {
+    Pfifo = 0,
+    Prio = 1,
+    Tbf = 2,
+    DrrOfPfifos = 3,
+    FqCodel = 4,
+    DrrOfFqCodels = 5,
+    Deep = 6,
+}
 
-/// The packets of one pass.
-const PACKETS: u32 = 8192;
+#[derive(Clone, Copy)]
+pub struct Tree {
+    pub shape: Shape,
+    /// Of each fq_codel.
+    pub flows: u32,
+    pub drop_batch: u32,
+    /// The packets that wait before the work begins, and then at each arrival.
+    pub queued: u32,
+}
+
+impl Tree {
+    /// The flows that packets have: all of them, or 64 where eight fq_codels share the packets.
+    fn met(&self) -> u32 {
+        match self.shape {
+            Shape::DrrOfFqCodels => 64,
+            _ => self.flows,
+        }
+    }
+}
+
+/// The nanoseconds from one packet to the next, at which CoDel drops nothing.
+const STEP: u32 = 100;
+
+/// The same where a rate is to let every packet pass.
+const SLOW_STEP: u32 = 1000;
+
+/// The same where every packet waits for too long, and CoDel is at each poll due to mark.
+const LATE_STEP: u32 = INTERVAL as u32;
+
+/// The passes with that step: the kernel's clock for CoDel goes round after 4398 seconds.
+const LATE_PASSES: u32 = 2;
 
 pub fn all() -> Vec<Row> {
-    let tbf = root("tbf rate 34gbit burst 1gb limit 1gb");
-    let prio = root("prio bands 3 priomap 1 2 2 2 1 2 0 0 1 1 1 1 1 1 1 1");
-    let mut rows = vec![
-        device("root pfifo", Shape::Pfifo, 1, &root("pfifo limit 20000")),
-        device("prio of 3 pfifos", Shape::Prio, 1, &prio),
-        device("tbf that never waits", Shape::Tbf, 1, &tbf),
-        device("drr of 8 pfifos, filters", Shape::DrrOfPfifos, 1, &drr()),
-    ];
-    rows.extend([1, 64, 1024].map(|flows| {
-        let name = format!("fq_codel of {flows}");
-        device(&name, Shape::FqCodel, flows, &root(&fq_codel(flows)))
+    let mut rows = vec![harness()];
+    rows.extend([0, 1000, 100_000].map(|queued| {
+        let name = format!("root pfifo, {queued} queued");
+        pairs(&name, tree(Shape::Pfifo, queued), STEP)
     }));
-    let mut lines = drr();
-    lines.extend((1..=8).map(|class| {
-        let leaf = fq_codel(1024);
-        format!("tc qdisc add dev eth0 parent 1:{class} handle 1{class}: {leaf}")
-    }));
-    let name = "drr of 8 fq_codels, filters";
-    rows.push(device(name, Shape::DrrOfFqCodels, 64, &lines));
+    rows.extend([
+        pairs("prio of 3 pfifos", tree(Shape::Prio, 1000), STEP),
+        pairs("tbf that never waits", tree(Shape::Tbf, 1000), SLOW_STEP),
+        pairs("drr of 8 pfifos, filters", tree(Shape::DrrOfPfifos, 1000), STEP),
+        pairs("drr of 8 fq_codels, filters", tree(Shape::DrrOfFqCodels, 1000), STEP),
+    ]);
+    for queued in [0, 10_000] {
+        rows.extend([1, 64, 1024, 65536].map(|flows| {
+            let name = format!("fq_codel, {flows} flows, {queued} queued");
+            let tree = Tree {
+                flows,
+                ..tree(Shape::FqCodel, queued)
+            };
+            pairs(&name, tree, STEP)
+        }));
+    }
+    rows.extend(lossy());
+    rows.push(pairs("path of 8 qdiscs", tree(Shape::Deep, 1000), STEP));
     rows
+}
+
+/// A tree whose fq_codels have 1024 flows.
+fn tree(shape: Shape, queued: u32) -> Tree {
+    Tree {
+        shape,
+        flows: 1024,
+        drop_batch: 64,
+        queued,
+    }
+}
+
+/// The rows in which packets are dropped or marked.
+fn lossy() -> Vec<Row> {
+    let one = Tree {
+        flows: 1,
+        ..tree(Shape::FqCodel, 1000)
+    };
+    let full = |drop_batch| Tree {
+        drop_batch,
+        ..tree(Shape::FqCodel, 10_240)
+    };
+    let due = || inputs::drop_waits(TAKES, INTERVAL);
+    let even = || vec![STEP; 50 * TURNS];
+    vec![
+        losses("CoDel, one drop each", one, TAKES, due),
+        pairs_of("CoDel, one mark each", one, LATE_STEP, LATE_PASSES, true),
+        losses("fq_codel at its limit, drop_batch 1", full(1), 50 * TURNS, even),
+        losses("fq_codel at its limit, drop_batch 64", full(64), 50 * TURNS, even),
+    ]
+}
+
+/// The polls of one pass of [`losses`].
+const TURNS: usize = 1000;
+
+fn pairs(name: &str, tree: Tree, step: u32) -> Row {
+    pairs_of(name, tree, step, 50, false)
+}
+
+/// An arrival and a poll; with `ecn` of packets that can be marked.
+fn pairs_of(name: &str, tree: Tree, step: u32, passes: u32, ecn: bool) -> Row {
+    Row {
+        name: name.to_string(),
+        ops: PACKETS.into(),
+        passes,
+        sides: Box::new(move || {
+            let plan = Rc::new(inputs::plan(tree.met(), ecn));
+            let lines = Lines::of(&lines(&tree, ecn));
+            let (for_rattle, for_plain) = (Rc::clone(&plan), Rc::clone(&plan));
+            Sides {
+                rattle: Box::new(move |passes| rattle::pairs(&tree, &for_rattle, step, passes)),
+                plain: Box::new(move |passes| device_work::pairs(&lines, &for_plain, tree.queued, step, passes)),
+                kernel: kernel::pairs(tree, plan, step),
+            }
+        }),
+    }
+}
+
+/// For each poll two arrivals before it, and the reaping of what is lost.
+fn losses(name: &str, tree: Tree, polls: usize, waits: fn() -> Vec<u32>) -> Row {
+    Row {
+        name: name.to_string(),
+        ops: TURNS as u64,
+        passes: (polls / TURNS) as u32,
+        sides: Box::new(move || {
+            let inputs = Rc::new((inputs::plan(tree.met(), false), waits()));
+            let lines = Lines::of(&lines(&tree, false));
+            let (for_rattle, for_plain) = (Rc::clone(&inputs), Rc::clone(&inputs));
+            let first = |passes: u32| ..passes as usize * TURNS;
+            Sides {
+                rattle: Box::new(move |passes| {
+                    let (plan, waits) = &*for_rattle;
+                    rattle::losses(&tree, plan, &waits[first(passes)])
+                }),
+                plain: Box::new(move |passes| {
+                    let (plan, waits) = &*for_plain;
+                    device_work::losses(&lines, plan, tree.queued, &waits[first(passes)])
+                }),
+                kernel: kernel::losses(tree, inputs, TURNS),
+            }
+        }),
+    }
+}
+
+/// The loop of [`pairs`] without a device.
+fn harness() -> Row {
+    Row {
+        name: "the harness alone".to_string(),
+        ops: PACKETS.into(),
+        passes: 200,
+        sides: Box::new(|| {
+            let plan = Rc::new(inputs::plan(1, false));
+            let same = Rc::clone(&plan);
+            let other = Rc::clone(&plan);
+            Sides {
+                rattle: Box::new(move |passes| rattle::harness(&plan, STEP, passes)),
+                plain: Box::new(move |passes| device_work::harness(&same, STEP, passes)),
+                kernel: kernel::harness(other),
+            }
+        }),
+    }
+}
+
+/// The lines that set the tree up.
+fn lines(tree: &Tree, ecn: bool) -> Vec<String> {
+    match tree.shape {
+        Shape::Pfifo => root("pfifo limit 200000"),
+        Shape::Prio => root("prio bands 3 priomap 1 2 2 2 1 2 0 0 1 1 1 1 1 1 1 1"),
+        Shape::Tbf => root("tbf rate 34gbit burst 1gb limit 1gb"),
+        Shape::DrrOfPfifos => drr(),
+        Shape::FqCodel => root(&fq_codel(tree, ecn)),
+        Shape::DrrOfFqCodels => {
+            let mut lines = drr();
+            lines.extend((1..=8).map(|class| {
+                let leaf = fq_codel(tree, ecn);
+                format!("tc qdisc add dev eth0 parent 1:{class} handle 1{class}: {leaf}")
+            }));
+            lines
+        }
+        Shape::Deep => deep(),
+    }
 }
 
 fn root(kind: &str) -> Vec<String> {
     vec![format!("tc qdisc add dev eth0 root handle 1: {kind}")]
 }
 
-fn fq_codel(flows: u32) -> String {
-    format!("fq_codel limit 10240 flows {flows} noecn drop_batch 64")
+fn fq_codel(tree: &Tree, ecn: bool) -> String {
+    let ecn = if ecn { "ecn" } else { "noecn" };
+    format!(
+        "fq_codel limit 10240 flows {} {ecn} drop_batch {}",
+        tree.flows, tree.drop_batch
+    )
 }
 
 /// A drr of eight classes, with a filter for each by its port.
@@ -58,17 +227,10 @@ fn drr() -> Vec<String> {
     lines
 }
 
-/// A row whose packets have so many flows.
-fn device(name: &str, shape: Shape, flows: u32, lines: &[String]) -> Row {
-    let lines = Lines::of(lines);
-    let plan = inputs::plan(PACKETS, flows);
-    let same = plan.clone();
-    Row {
-        name: format!("Device, {name}"),
-        unit: "pair",
-        ops: PACKETS.into(),
-        passes: 50,
-        rattle: Box::new(move |passes| rattle::device(shape, flows, &plan, QUEUED, passes)),
-        plain: Box::new(move |passes| device_work::device(&lines, &same, QUEUED, passes)),
-    }
+/// Seven prios, each in the first band of the one above, to which all packets go.
+fn deep() -> Vec<String> {
+    let prio = "prio bands 3 priomap 0 0 0 0 0 0 0 0 0 0 0 0 0 0 0 0";
+    let mut lines = root(prio);
+    lines.extend((1..=6).map(|major| format!("tc qdisc add dev eth0 parent {major}:1 handle {}: {prio}", major + 1)));
+    lines
 }

@@ -148,24 +148,39 @@ pub fn lines(count: usize, mut line: impl FnMut(&mut Xorshift) -> String) -> Lin
     Lines::of(&lines)
 }
 
-/// Packets that arrive at a device: of each its hash, its priority and its port of destination.
+/// Packets that arrive at a device: of each its hash, its priority and its port of destination, and whether they can be
+/// marked.
 #[derive(Clone)]
 pub struct Plan {
     pub hashes: Vec<u32>,
     pub prios: Vec<u8>,
     pub ports: Vec<u16>,
+    pub ecn: bool,
 }
 
 /// The first port of destination.
 pub const FIRST_PORT: u16 = 5000;
 
-/// Packets of each flow in turn, with a random priority and a random port of eight.
-pub fn plan(count: u32, flows: u32) -> Plan {
+/// The packets of one pass, which all are made before.
+pub const PACKETS: u32 = 8192;
+
+/// Packets of each flow in turn, or of so many that lie evenly among them, with a random priority and a random port of eight.
+pub fn plan(flows: u32, ecn: bool) -> Plan {
     let mut random = Xorshift::new();
     let mut random = |end| (random.next() >> 20) % end;
+    let apart = (flows / PACKETS).max(1);
     Plan {
-        hashes: (0..count).map(|number| number % flows).collect(),
-        prios: (0..count).map(|_| random(16) as u8).collect(),
-        ports: (0..count).map(|_| FIRST_PORT + random(8) as u16).collect(),
+        hashes: (0..PACKETS).map(|number| number * apart % flows).collect(),
+        prios: (0..PACKETS).map(|_| random(16) as u8).collect(),
+        ports: (0..PACKETS).map(|_| FIRST_PORT + random(8) as u16).collect(),
+        ecn,
     }
+}
+
+/// The nanoseconds from poll to poll at which one flow that stands loses exactly one packet each, once CoDel has begun to drop.
+pub fn drop_waits(count: usize, interval: u64) -> Vec<u32> {
+    let moments = drop_moments(count, interval);
+    let first = moments[0] as u32;
+    let waits = moments.windows(2).map(|pair| (pair[1] - pair[0]) as u32);
+    std::iter::once(first).chain(waits).collect()
 }

@@ -1,15 +1,16 @@
-//! `qtree play` over a long script, beside a player in plain Rust.
+//! `qtree play` over long scripts, beside a player in plain Rust.
 
-use crate::inputs::Xorshift;
+use crate::inputs::{self, SLOT, Xorshift};
 use crate::timing::Figure;
 use std::env;
 use std::ffi::OsStr;
 use std::fs::{self, File};
 use std::io::{self, BufWriter, Write};
+use std::path::Path;
 use std::process::{Command, Stdio};
 use std::time::Instant;
 
-/// Lines of the script.
+/// Lines of a script.
 const LINES: u64 = 1_000_000;
 
 /// The most memory that `qtree play` is to take beside the script's length, in bytes.
@@ -18,24 +19,78 @@ const MEMORY: u64 = 64 << 20;
 /// The least number of lines a second that `qtree play` is to do.
 const SPEED: f64 = 3_000_000.0;
 
-/// Writes a script: one root pfifo, and then packets and polls with a new moment here and there.
-pub fn write_script(path: &str) -> io::Result<()> {
-    let mut random = Xorshift::new();
-    let mut script = BufWriter::new(File::create(path)?);
-    writeln!(script, "tc qdisc add dev eth0 root handle 1: pfifo limit 1000")?;
-    let mut moment = 0;
-    for _ in 1..LINES {
-        match random.below(20) {
-            0 => {
-                moment += random.below(1_000_000);
-                writeln!(script, "at {moment}")?;
+/// The scripts by their names: each sets a tree up, and then packets arrive, polls are made, and some lines name a new moment.
+pub const SCRIPTS: [(&str, fn(&mut Script) -> io::Result<()>); 3] = [
+    ("pfifo", |script| {
+        script.line("tc qdisc add dev eth0 root handle 1: pfifo limit 1000")?;
+        script.rest(1_000_000, |random| format!("pkt {}", 60 + random.below(1454)))
+    }),
+    // A byte takes whole nanoseconds, so that a bucket that rounds to them gives the same answers.
+    ("fq_codel beneath a tbf", |script| {
+        script.line("tc qdisc add dev eth0 root handle 1: tbf rate 800mbit burst 15140 limit 1mb")?;
+        script.line("tc qdisc add dev eth0 parent 1:1 handle 10: fq_codel limit 1000 flows 1024")?;
+        script.rest(200_000, |random| {
+            format!("pkt {} hash {}", 60 + random.below(1454), random.below(200))
+        })
+    }),
+    ("frames", |script| {
+        script.line("tc qdisc add dev eth0 root handle 1: pfifo limit 1000")?;
+        let heads = inputs::heads(1 << 14);
+        script.rest(1_000_000, move |random| {
+            let at = random.below(1 << 14) as usize * SLOT;
+            let head = &heads[at..at + SLOT];
+            let mut line = format!("frame {} ", 60 + random.below(1454));
+            for byte in &head[..head[SLOT - 1].into()] {
+                line += &format!("{byte:02x}");
             }
-            1..=10 => writeln!(script, "pkt {}", 60 + random.below(1454))?,
-            11 => writeln!(script, "poll 2")?,
-            _ => writeln!(script, "poll")?,
-        }
+            line
+        })
+    }),
+];
+
+pub struct Script {
+    output: BufWriter<File>,
+    lines: u64,
+}
+
+impl Script {
+    fn line(&mut self, line: &str) -> io::Result<()> {
+        self.lines += 1;
+        writeln!(self.output, "{line}")
     }
-    script.flush()
+
+    /// Of 20 lines one names a new moment, up to so many nanoseconds later, ten are packets, and nine are polls.
+    fn rest(&mut self, later: u64, mut packet: impl FnMut(&mut Xorshift) -> String) -> io::Result<()> {
+        let mut random = Xorshift::new();
+        let mut moment = 0;
+        while self.lines < LINES {
+            match random.below(20) {
+                0 => {
+                    moment += random.below(later);
+                    self.line(&format!("at {moment}"))?;
+                }
+                1..=10 => {
+                    let packet = packet(&mut random);
+                    self.line(&packet)?;
+                }
+                11 => self.line("poll 2")?,
+                _ => self.line("poll")?,
+            }
+        }
+        self.output.flush()
+    }
+}
+
+/// Writes the scripts into a folder, each under its place among them.
+pub fn write_scripts(folder: &Path) -> io::Result<()> {
+    for (number, (_, write)) in SCRIPTS.iter().enumerate() {
+        let file = File::create(folder.join(format!("script{number}")))?;
+        write(&mut Script {
+            output: BufWriter::new(file),
+            lines: 0,
+        })?;
+    }
+    Ok(())
 }
 
 struct Run {
@@ -44,46 +99,59 @@ struct Run {
     memory: u64,
 }
 
-/// Times both players in turns, and prints their lines a second and their memory.
+/// Checks that both players write the same, times them in turns, and prints lines a second and memory for each script.
 ///
 /// This process stays small, since what it has counts as its children's until they run a program of their own.
-pub fn print_play(qtree: &str, script: &str, rounds: usize) -> io::Result<()> {
+pub fn print_play(qtree: &str, folder: &Path, rounds: usize) -> io::Result<()> {
+    println!(
+        "{:30} {:>20} {:>20} {:>14}  {:>26}",
+        "qtree play, million", "Rattle", "plain Rust", "", "peak memory beside script"
+    );
+    println!(
+        "{:30} {:>20} {:>20} {:>14}  {:>13} {:>12}",
+        "lines a second, over", "most   median", "most   median", "ratio of times", "Rattle", "plain, MB"
+    );
+    for (number, (name, _)) in SCRIPTS.iter().enumerate() {
+        let script = folder.join(format!("script{number}"));
+        print_script(name, qtree.as_ref(), &script, rounds)?;
+    }
+    Ok(())
+}
+
+fn print_script(name: &str, qtree: &OsStr, script: &Path, rounds: usize) -> io::Result<()> {
     let myself = env::current_exe()?;
     let (mut rattle, mut plain) = (Vec::new(), Vec::new());
     for _ in 0..rounds {
-        rattle.push(run(qtree.as_ref(), "play", script)?);
+        rattle.push(run(qtree, "play", script)?);
         plain.push(run(myself.as_ref(), "plain-play", script)?);
     }
     let length = fs::metadata(script)?.len();
     let memory = |runs: &[Run]| runs.iter().map(|run| run.memory).max().unwrap_or(0);
-    let speed = |runs: &[Run]| Figure::of(runs.iter().map(|run| LINES as f64 / run.seconds).collect());
-    let ratio = rattle.iter().zip(&plain).map(|(a, b)| a.seconds / b.seconds);
-    let ratio = Figure::of(ratio.collect());
-    let (ours, theirs) = (speed(&rattle), speed(&plain));
-    println!("| qtree play, {LINES} lines | Rattle | Plain Rust | Ratio of times |");
-    println!("|---|---|---|---|");
+    let seconds = |runs: &[Run]| Figure::of(runs.iter().map(|run| run.seconds).collect());
+    let speed = |seconds: f64| LINES as f64 / seconds / 1e6;
+    let ratios = rattle.iter().zip(&plain).map(|(a, b)| a.seconds / b.seconds);
+    let ratio = Figure::of(ratios.collect());
+    let (ours, theirs) = (seconds(&rattle), seconds(&plain));
+    let beside = |runs: &[Run]| (memory(runs) as f64 - length as f64) / 1e6;
     println!(
-        "| lines a second | {:.0} ±{:.0}% | {:.0} ±{:.0}% | {:.2} ±{:.0}% |",
-        ours.median,
-        100.0 * ours.spread,
-        theirs.median,
-        100.0 * theirs.spread,
+        "{name:30} {:12.2} {:7.2} {:12.2} {:7.2} {:8.2} ±{:2.0}%  {:12.1} {:12.1}",
+        speed(ours.least),
+        speed(ours.median),
+        speed(theirs.least),
+        speed(theirs.median),
         ratio.median,
         100.0 * ratio.spread,
+        beside(&rattle),
+        beside(&plain),
     );
-    println!(
-        "| peak memory, bytes; the script has {length} | {} | {} | |",
-        memory(&rattle),
-        memory(&plain),
-    );
-    if ours.median < SPEED || memory(&rattle) > length + MEMORY {
+    if name == SCRIPTS[0].0 && (speed(ours.median) * 1e6 < SPEED || memory(&rattle) > length + MEMORY) {
         return Err(io::Error::other("qtree play is slower or larger than is wanted"));
     }
     Ok(())
 }
 
 /// Runs a player, with the script for its standard input.
-fn run(program: &OsStr, word: &str, script: &str) -> io::Result<Run> {
+fn run(program: &OsStr, word: &str, script: &Path) -> io::Result<Run> {
     let mut command = Command::new(program);
     command.arg(word).stdin(File::open(script)?).stdout(Stdio::null());
     let start = Instant::now();

@@ -1,5 +1,6 @@
 //! The workloads of `crates/q_bench`, which `rt lib` builds as a static library.
 
+use crate::devices::Tree;
 use crate::inputs::{Lines, Plan};
 use crate::plain::work::FlowLoad;
 
@@ -9,7 +10,7 @@ unsafe extern "C" {
     fn q_bench_read_head(table: *const u8, len: usize, passes: u32) -> u64;
     fn q_bench_hash(table: *const u8, len: usize, passes: u32) -> u64;
     fn q_bench_fifo(queued: u32, lens: *const u16, len: usize, passes: u32) -> u64;
-    fn q_bench_codel(queued: u32, moments: *const u64, len: usize) -> u64;
+    fn q_bench_codel(queued: u32, lens: *const u16, lens_len: usize, moments: *const u64, moments_len: usize) -> u64;
     safe fn q_bench_gap(interval: u64, first: u32, counts: u32, passes: u32) -> u64;
     fn q_bench_spend(
         rate: u64,
@@ -31,16 +32,12 @@ unsafe extern "C" {
         passes: u32,
     ) -> u64;
     fn q_bench_turn(classes: u16, quantum: u32, lens: *const u16, len: usize, passes: u32) -> u64;
-    fn q_bench_read_line(
-        text: *const u8,
-        text_len: usize,
-        ends: *const u32,
-        ends_len: usize,
-        passes: u32,
-    ) -> u64;
-    fn q_bench_device(
+    fn q_bench_read_line(text: *const u8, text_len: usize, ends: *const u32, ends_len: usize, passes: u32) -> u64;
+    fn q_bench_pairs(
         shape: u32,
         flows: u32,
+        drop_batch: u32,
+        ecn: bool,
         queued: u32,
         hashes: *const u32,
         hashes_len: usize,
@@ -48,19 +45,34 @@ unsafe extern "C" {
         prios_len: usize,
         ports: *const u16,
         ports_len: usize,
+        step: u32,
         passes: u32,
     ) -> u64;
-}
-
-/// The trees of `crates/q_bench/src/trees.rt`, by the same numbers.
-#[derive(Clone, Copy)]
-pub enum Shape {
-    Pfifo = 0,
-    Prio = 1,
-    Tbf = 2,
-    DrrOfPfifos = 3,
-    FqCodel = 4,
-    DrrOfFqCodels = 5,
+    fn q_bench_losses(
+        shape: u32,
+        flows: u32,
+        drop_batch: u32,
+        ecn: bool,
+        queued: u32,
+        hashes: *const u32,
+        hashes_len: usize,
+        prios: *const u8,
+        prios_len: usize,
+        ports: *const u16,
+        ports_len: usize,
+        waits: *const u32,
+        waits_len: usize,
+    ) -> u64;
+    fn q_bench_harness(
+        hashes: *const u32,
+        hashes_len: usize,
+        prios: *const u8,
+        prios_len: usize,
+        ports: *const u16,
+        ports_len: usize,
+        step: u32,
+        passes: u32,
+    ) -> u64;
 }
 
 // SAFETY, of every call below: each pointer and length are those of one slice, which is borrowed for the call, and the
@@ -78,8 +90,8 @@ pub fn fifo(queued: u32, lens: &[u16], passes: u32) -> u64 {
     unsafe { q_bench_fifo(queued, lens.as_ptr(), lens.len(), passes) }
 }
 
-pub fn codel(queued: u32, moments: &[u64]) -> u64 {
-    unsafe { q_bench_codel(queued, moments.as_ptr(), moments.len()) }
+pub fn codel(queued: u32, lens: &[u16], moments: &[u64]) -> u64 {
+    unsafe { q_bench_codel(queued, lens.as_ptr(), lens.len(), moments.as_ptr(), moments.len()) }
 }
 
 pub fn gap(interval: u64, first: u32, counts: u32, passes: u32) -> u64 {
@@ -131,18 +143,56 @@ pub fn read_line(lines: &Lines, passes: u32) -> u64 {
     }
 }
 
-pub fn device(shape: Shape, flows: u32, plan: &Plan, queued: u32, passes: u32) -> u64 {
+pub fn pairs(tree: &Tree, plan: &Plan, step: u32, passes: u32) -> u64 {
     unsafe {
-        q_bench_device(
-            shape as u32,
-            flows,
-            queued,
+        q_bench_pairs(
+            tree.shape as u32,
+            tree.flows,
+            tree.drop_batch,
+            plan.ecn,
+            tree.queued,
             plan.hashes.as_ptr(),
             plan.hashes.len(),
             plan.prios.as_ptr(),
             plan.prios.len(),
             plan.ports.as_ptr(),
             plan.ports.len(),
+            step,
+            passes,
+        )
+    }
+}
+
+pub fn losses(tree: &Tree, plan: &Plan, waits: &[u32]) -> u64 {
+    unsafe {
+        q_bench_losses(
+            tree.shape as u32,
+            tree.flows,
+            tree.drop_batch,
+            plan.ecn,
+            tree.queued,
+            plan.hashes.as_ptr(),
+            plan.hashes.len(),
+            plan.prios.as_ptr(),
+            plan.prios.len(),
+            plan.ports.as_ptr(),
+            plan.ports.len(),
+            waits.as_ptr(),
+            waits.len(),
+        )
+    }
+}
+
+pub fn harness(plan: &Plan, step: u32, passes: u32) -> u64 {
+    unsafe {
+        q_bench_harness(
+            plan.hashes.as_ptr(),
+            plan.hashes.len(),
+            plan.prios.as_ptr(),
+            plan.prios.len(),
+            plan.ports.as_ptr(),
+            plan.ports.len(),
+            step,
             passes,
         )
     }

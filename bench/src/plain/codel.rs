@@ -1,37 +1,43 @@
-use super::fifo::{Fifo, Packet, Stamped};
+//! CoDel as RFC 8289, section 5, gives it. It decides on the head where that stands.
+
 use super::gap::gap;
 use super::head::Ecn;
-use std::collections::VecDeque;
+use super::packet::{Packet, Stamped};
+use super::toll::Toll;
 
 /// What CoDel asks of a queue.
 pub trait Queue {
-    fn take(&mut self) -> Option<Stamped>;
+    fn head(&self) -> Option<&Stamped>;
+
+    /// The bytes of all packets, the head's among them.
     fn bytes(&self) -> u64;
+
+    /// Loses the head. There is one.
+    fn drop_head(&mut self, toll: &mut Toll);
+
+    /// The length of the head, which is given; 0 for none.
+    fn take_into(&mut self, out: &mut Packet) -> u16;
 }
 
-impl Queue for Fifo {
+/// What is set of CoDel, for all flows of an fq_codel alike.
+pub struct Law {
+    pub target: u64,
+    pub interval: u64,
+    pub mtu: u64,
+    pub ecn: bool,
+}
+
+impl Law {
+    /// Whether the head waits for too long with more than one packet's bytes behind it.
     #[inline(always)]
-    fn take(&mut self) -> Option<Stamped> {
-        Fifo::take(self)
-    }
-
-    #[inline(always)]
-    fn bytes(&self) -> u64 {
-        Fifo::bytes(self)
+    fn stands(&self, head: &Stamped, bytes: u64, now: u64) -> bool {
+        let behind = bytes - u64::from(head.packet.len);
+        now.saturating_sub(head.at) >= self.target && behind > self.mtu
     }
 }
 
-pub struct Taken {
-    pub packet: Packet,
-    pub marked: bool,
-}
-
-/// CoDel as RFC 8289, section 5, gives it.
+#[derive(Clone, Copy, Default)]
 pub struct Codel {
-    target: u64,
-    interval: u64,
-    mtu: u64,
-    ecn: bool,
     above: u64,
     drop_next: u64,
     pub count: u32,
@@ -40,105 +46,97 @@ pub struct Codel {
 }
 
 impl Codel {
-    pub fn new(target: u64, interval: u64, mtu: u16, ecn: bool) -> Codel {
-        Codel {
-            target,
-            interval,
-            mtu: mtu.into(),
-            ecn,
-            above: 0,
-            drop_next: 0,
-            count: 0,
-            lastcount: 0,
-            dropping: false,
-        }
-    }
-
-    pub fn take(&mut self, queue: &mut impl Queue, now: u64, lost: &mut VecDeque<Packet>) -> Option<Taken> {
-        let Some(first) = queue.take() else {
-            self.above = 0;
-            self.dropping = false;
-            return None;
-        };
-        let (head, marked) = self.choose(first, queue, now, lost);
-        if !self.is_standing(&head, queue, now) {
-            self.above = 0;
-        } else if self.above == 0 {
-            self.above = now + self.interval;
-        }
-        let mut packet = head.packet;
-        if marked {
-            packet.ecn = Ecn::Ce;
-        }
-        Some(Taken { packet, marked })
-    }
-
     /// What a take from an empty queue leaves.
+    #[inline(always)]
     pub fn rest(&mut self) {
         self.above = 0;
         self.dropping = false;
     }
 
-    fn choose(
-        &mut self,
-        first: Stamped,
-        queue: &mut impl Queue,
-        now: u64,
-        lost: &mut VecDeque<Packet>,
-    ) -> (Stamped, bool) {
-        if !self.is_late(&first, queue, now) {
-            self.dropping = false;
-            return (first, false);
+    /// The length of the packet that is given, 0 for none.
+    #[inline(always)]
+    pub fn take_into(&mut self, law: &Law, queue: &mut impl Queue, now: u64, toll: &mut Toll, out: &mut Packet) -> u16 {
+        let Some(head) = queue.head() else {
+            self.rest();
+            return 0;
+        };
+        let stands = law.stands(head, queue.bytes(), now);
+        if self.is_late(stands, now) {
+            return self.take_late(law, queue, now, toll, out);
         }
-        if self.dropping {
-            return self.go_on(first, queue, now, lost);
+        self.dropping = false;
+        self.watch(law, stands, now);
+        queue.take_into(out)
+    }
+
+    /// Whether the queue has stood for an interval.
+    #[inline(always)]
+    fn is_late(&self, stands: bool, now: u64) -> bool {
+        stands && self.above > 0 && self.above <= now
+    }
+
+    #[inline(always)]
+    fn watch(&mut self, law: &Law, stands: bool, now: u64) {
+        if !stands {
+            self.above = 0;
+        } else if self.above == 0 {
+            self.above = now + law.interval;
         }
+    }
+
+    #[cold]
+    #[inline(never)]
+    fn take_late(&mut self, law: &Law, queue: &mut impl Queue, now: u64, toll: &mut Toll, out: &mut Packet) -> u16 {
+        let is_marked = if self.dropping {
+            self.go_on(law, queue, now, toll)
+        } else {
+            self.begin(law, queue, now, toll)
+        };
+        let stands = queue.head().is_some_and(|head| law.stands(head, queue.bytes(), now));
+        self.watch(law, stands, now);
+        let len = queue.take_into(out);
+        if is_marked {
+            out.ecn = Ecn::Ce;
+            toll.mark(len);
+        }
+        len
+    }
+
+    /// Begins to drop: loses the head, unless it can be marked.
+    fn begin(&mut self, law: &Law, queue: &mut impl Queue, now: u64, toll: &mut Toll) -> bool {
         let delta = self.count - self.lastcount;
-        let is_recent = now < self.drop_next + 16 * self.interval;
+        let is_recent = now < self.drop_next + 16 * law.interval;
         self.count = if delta > 1 && is_recent { delta } else { 1 };
         self.lastcount = self.count;
         self.dropping = true;
-        self.drop_next = now + gap(self.interval, self.count);
-        if self.is_markable(&first) {
-            return (first, true);
+        self.drop_next = now + gap(law.interval, self.count);
+        if is_markable(law, queue) {
+            return true;
         }
-        lost.push_back(first.packet);
-        (queue.take().expect("a late head has packets behind it"), false)
+        queue.drop_head(toll);
+        false
     }
 
-    fn go_on(
-        &mut self,
-        mut head: Stamped,
-        queue: &mut impl Queue,
-        now: u64,
-        lost: &mut VecDeque<Packet>,
-    ) -> (Stamped, bool) {
+    /// Loses as many heads as are due, up to one that can be marked.
+    fn go_on(&mut self, law: &Law, queue: &mut impl Queue, now: u64, toll: &mut Toll) -> bool {
         while self.drop_next <= now {
             self.count = self.count.saturating_add(1);
-            if self.is_markable(&head) {
-                self.drop_next += gap(self.interval, self.count);
-                return (head, true);
+            if is_markable(law, queue) {
+                self.drop_next += gap(law.interval, self.count);
+                return true;
             }
-            lost.push_back(head.packet);
-            head = queue.take().expect("a late head has packets behind it");
-            if !self.is_late(&head, queue, now) {
+            queue.drop_head(toll);
+            let stands = queue.head().is_some_and(|head| law.stands(head, queue.bytes(), now));
+            if !self.is_late(stands, now) {
                 self.dropping = false;
                 break;
             }
-            self.drop_next += gap(self.interval, self.count);
+            self.drop_next += gap(law.interval, self.count);
         }
-        (head, false)
+        false
     }
+}
 
-    fn is_standing(&self, head: &Stamped, queue: &impl Queue, now: u64) -> bool {
-        now.saturating_sub(head.at) >= self.target && queue.bytes() > self.mtu
-    }
-
-    fn is_late(&self, head: &Stamped, queue: &impl Queue, now: u64) -> bool {
-        self.is_standing(head, queue, now) && self.above > 0 && self.above <= now
-    }
-
-    fn is_markable(&self, head: &Stamped) -> bool {
-        self.ecn && head.packet.ecn != Ecn::NotEct
-    }
+fn is_markable(law: &Law, queue: &impl Queue) -> bool {
+    law.ecn && queue.head().is_some_and(|head| head.packet.ecn != Ecn::NotEct)
 }

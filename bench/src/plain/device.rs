@@ -1,9 +1,10 @@
 //! A device: a tree of qdiscs under a clock, with what it counted, lost and recorded.
 
-use super::counters::{Cause, Put, Row, Toll};
-use super::fifo::{Limit, Packet};
+use super::fifo::Limit;
+use super::packet::{Cause, Lost, Packet, Put};
+use super::row::Row;
+use super::toll::Toll;
 use super::tree::Node;
-use std::collections::VecDeque;
 
 #[allow(dead_code, reason = "nothing here reads what was recorded")]
 pub enum Event {
@@ -11,83 +12,97 @@ pub enum Event {
     Poll(u64),
 }
 
+/// What a poll is answered; a packet stands in the place that was given.
 pub enum Polled {
-    Packet(Packet),
+    Packet,
     Idle,
     Later,
 }
 
 pub struct Device {
+    clock: u64,
     pub mtu: u16,
     pub txqueuelen: u32,
+    events: u64,
     pub top: Row,
+    toll: Toll,
     pub root: Node,
-    clock: u64,
-    lost: VecDeque<Packet>,
     /// The first events, so many at most.
     recorded: Vec<Event>,
     recorder: usize,
-    events: u64,
 }
 
 impl Device {
     pub fn new(mtu: u16, txqueuelen: u32, recorder: usize) -> Device {
         Device {
+            clock: 0,
             mtu,
             txqueuelen,
+            events: 0,
             top: Row::default(),
+            toll: Toll::default(),
             root: Node::fifo(Limit::Packets(txqueuelen.into())),
-            clock: 0,
-            lost: VecDeque::new(),
             recorded: Vec::with_capacity(recorder),
             recorder,
-            events: 0,
         }
     }
 
-    /// `None` where memory is refused, and then nothing has changed. There is room for the loss of all that is queued.
-    pub fn arrive(&mut self, packet: Packet, now: u64) -> Option<Put> {
+    /// There is room for the loss of all that is queued.
+    #[inline(never)]
+    pub fn arrive(&mut self, packet: &Packet, now: u64) -> Put {
         let now = self.clock.max(now);
-        let queued = self.top.queued.packets as usize;
-        self.lost.try_reserve(queued + 1).ok()?;
+        if self.toll.reserve(self.top.queued() as usize + 1).is_none() {
+            return Put::NoMemory;
+        }
         let put = if packet.len > self.mtu {
-            self.lost.push_back(packet);
-            Put::Refused(Cause::TooLong)
+            self.toll.refuse(packet, Cause::TooLong)
         } else {
-            self.root.put(&packet, now, &mut self.lost)?
+            self.root.put(packet, now, &mut self.toll)
         };
-        self.top.book_put(&packet, &put);
-        self.clock = now;
-        self.record(|| Event::Arrive(packet, now));
-        Some(put)
+        if matches!(put, Put::NoMemory) {
+            return put;
+        }
+        self.top.arrive(packet.len);
+        self.settle(now);
+        if self.recorded.len() < self.recorder {
+            self.recorded.push(Event::Arrive(*packet, now));
+        }
+        put
     }
 
-    pub fn poll(&mut self, now: u64) -> Polled {
+    #[inline(never)]
+    pub fn poll(&mut self, now: u64, out: &mut Packet) -> Polled {
         let now = self.clock.max(now);
-        let mut toll = Toll::default();
-        let packet = self.root.take(now, &mut self.lost, &mut toll);
-        self.top.book_toll(&toll);
-        self.clock = now;
-        self.record(|| Event::Poll(now));
-        match packet {
-            Some(packet) => {
-                self.top.book_sent(&packet);
-                Polled::Packet(packet)
-            }
-            None if self.top.queued.packets == 0 => Polled::Idle,
-            None => Polled::Later,
+        let len = self.root.take_into(now, &mut self.toll, out);
+        self.settle(now);
+        if self.recorded.len() < self.recorder {
+            self.recorded.push(Event::Poll(now));
         }
+        if len == 0 {
+            return if self.top.queued() == 0 {
+                Polled::Idle
+            } else {
+                Polled::Later
+            };
+        }
+        self.top.send(len);
+        Polled::Packet
+    }
+
+    /// Books what a call lost and marked.
+    #[inline(always)]
+    fn settle(&mut self, now: u64) {
+        if self.toll.any {
+            self.top.book(&self.toll.sums);
+            self.toll.clean();
+        }
+        self.clock = now;
+        self.events = self.events.saturating_add(1);
     }
 
     /// The oldest loss that was not handed out yet.
-    pub fn reap(&mut self) -> Option<Packet> {
-        self.lost.pop_front()
-    }
-
-    fn record(&mut self, event: impl FnOnce() -> Event) {
-        self.events = self.events.saturating_add(1);
-        if self.recorded.len() < self.recorder {
-            self.recorded.push(event());
-        }
+    #[inline(always)]
+    pub fn reap(&mut self) -> Option<Lost> {
+        self.toll.lost.pop_front()
     }
 }

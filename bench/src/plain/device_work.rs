@@ -1,20 +1,25 @@
-//! The workload of `crates/q_bench/src/devices.rt`, over the plain device.
+//! The workloads of `crates/q_bench/src/devices.rt`, over the plain device.
 
-use super::counters::{Put, Row, Totals};
 use super::device::{Device, Polled};
-use super::fifo::Packet;
 use super::head::{Ecn, FlowKey};
 use super::line::{Line, read_line};
+use super::packet::{Packet, Put};
+use super::row::Row;
 use crate::inputs::{Lines, Plan};
 
 const MTU: u16 = 1514;
 const LEN: u16 = 1000;
-const TXQUEUELEN: u32 = 100_000;
-const STEP: u64 = 1000;
+const TXQUEUELEN: u32 = 200_000;
+const STEP: u64 = 100;
 const LATEST: u64 = 1 << 62;
 
 fn with(sum: u64, value: u64) -> u64 {
     sum.rotate_left(5).wrapping_add(value)
+}
+
+/// The packets of a plan in their order; `None` where a number is out of range.
+fn made(plan: &Plan) -> Option<Vec<Packet>> {
+    (0..plan.hashes.len()).map(|i| packet_at(plan, i)).collect()
 }
 
 fn packet_at(plan: &Plan, i: usize) -> Option<Packet> {
@@ -38,17 +43,96 @@ fn packet_at(plan: &Plan, i: usize) -> Option<Packet> {
         key,
         hash: *plan.hashes.get(i)?,
         prio,
-        ecn: Ecn::NotEct,
+        ecn: if plan.ecn { Ecn::Ect0 } else { Ecn::NotEct },
     })
 }
 
+/// A device in which packets are queued, and where its clock and the checksum are then.
+struct Ready {
+    device: Device,
+    now: u64,
+    sum: u64,
+}
+
 #[inline(never)]
-pub fn device(lines: &Lines, plan: &Plan, queued: u32, passes: u32) -> u64 {
-    let mut device = Device::new(MTU, TXQUEUELEN, 0);
-    if set_up(&mut device, lines).is_none() {
-        return 0;
+pub fn pairs(lines: &Lines, plan: &Plan, queued: u32, step: u32, passes: u32) -> u64 {
+    pass_pairs(lines, plan, queued, step, passes).unwrap_or(0)
+}
+
+fn pass_pairs(lines: &Lines, plan: &Plan, queued: u32, step: u32, passes: u32) -> Option<u64> {
+    let made = made(plan)?;
+    let Ready {
+        mut device,
+        mut now,
+        mut sum,
+    } = ready(lines, &made, queued)?;
+    let mut out = Packet::NONE;
+    for _ in 0..passes {
+        for packet in &made {
+            now = later(now, step.into())?;
+            sum = with(sum, arrive(&mut device, packet, now)?);
+            sum = with(sum, polled(&mut device, now, &mut out));
+        }
     }
-    pass_through(&mut device, plan, queued, passes).unwrap_or(0)
+    Some(with_counts(&mut device, sum))
+}
+
+#[inline(never)]
+pub fn losses(lines: &Lines, plan: &Plan, queued: u32, waits: &[u32]) -> u64 {
+    pass_losses(lines, plan, queued, waits).unwrap_or(0)
+}
+
+fn pass_losses(lines: &Lines, plan: &Plan, queued: u32, waits: &[u32]) -> Option<u64> {
+    let made = made(plan)?;
+    let Ready {
+        mut device,
+        mut now,
+        mut sum,
+    } = ready(lines, &made, queued)?;
+    let mut out = Packet::NONE;
+    let mut next = 0;
+    for wait in waits {
+        now = later(now, (*wait).into())?;
+        sum = with(sum, arrive(&mut device, made.get(next)?, now)?);
+        sum = with(sum, arrive(&mut device, made.get(next + 1)?, now)?);
+        sum = with(sum, polled(&mut device, now, &mut out));
+        while let Some(lost) = device.reap() {
+            sum = with(sum, lost.packet.number ^ (lost.cause as u64) << 32);
+        }
+        next = if next + 3 < made.len() { next + 2 } else { 0 };
+    }
+    Some(with_counts(&mut device, sum))
+}
+
+#[inline(never)]
+pub fn harness(plan: &Plan, step: u32, passes: u32) -> u64 {
+    let Some(made) = made(plan) else {
+        return 0;
+    };
+    pass_wire(&made, step, passes).unwrap_or(0)
+}
+
+fn pass_wire(made: &[Packet], step: u32, passes: u32) -> Option<u64> {
+    let (mut now, mut sum) = (0, 1);
+    for _ in 0..passes {
+        for packet in made {
+            now = later(now, step.into())?;
+            sum = with(sum, now);
+            sum = with(sum, summary(packet));
+        }
+    }
+    Some(sum)
+}
+
+fn ready(lines: &Lines, made: &[Packet], queued: u32) -> Option<Ready> {
+    let mut device = Device::new(MTU, TXQUEUELEN, 0);
+    set_up(&mut device, lines)?;
+    let (mut now, mut sum) = (0, 1);
+    for (_, packet) in (0..queued).zip(made.iter().cycle()) {
+        now = later(now, STEP)?;
+        sum = with(sum, arrive(&mut device, packet, now)?);
+    }
+    Some(Ready { device, now, sum })
 }
 
 fn set_up(device: &mut Device, lines: &Lines) -> Option<()> {
@@ -64,46 +148,33 @@ fn set_up(device: &mut Device, lines: &Lines) -> Option<()> {
     Some(())
 }
 
-fn pass_through(device: &mut Device, plan: &Plan, queued: u32, passes: u32) -> Option<u64> {
-    let mut now = 0;
-    let mut sum = 1;
-    for i in 0..queued {
-        now = later(now)?;
-        sum = with(sum, arrive(device, packet_at(plan, i as usize)?, now)?);
-    }
-    for _ in 0..passes {
-        for i in 0..plan.hashes.len() {
-            now = later(now)?;
-            sum = with(sum, arrive(device, packet_at(plan, i)?, now)?);
-            sum = with(sum, polled(&device.poll(now)));
-            while let Some(packet) = device.reap() {
-                sum = with(sum, packet.number);
-            }
-        }
-    }
-    Some(with_counts(device, sum))
-}
-
-fn later(now: u64) -> Option<u64> {
-    Some(now + STEP).filter(|next| *next <= LATEST)
+#[inline(always)]
+fn later(now: u64, step: u64) -> Option<u64> {
+    Some(now + step).filter(|next| *next <= LATEST)
 }
 
 /// The number of the cause where the packet is lost, else 0.
-fn arrive(device: &mut Device, packet: Packet, now: u64) -> Option<u64> {
-    match device.arrive(packet, now)? {
-        Put::Kept | Put::Dropped(_, None) => Some(0),
-        Put::Refused(cause) | Put::Dropped(_, Some(cause)) => Some(cause as u64),
+#[inline(always)]
+fn arrive(device: &mut Device, packet: &Packet, now: u64) -> Option<u64> {
+    match device.arrive(packet, now) {
+        Put::Kept => Some(0),
+        Put::Lost(cause) => Some(cause as u64),
+        Put::NoMemory => None,
     }
 }
 
-fn polled(polled: &Polled) -> u64 {
-    match polled {
-        Polled::Packet(packet) => {
-            packet.number ^ u64::from(packet.hash) << 24 ^ u64::from(packet.len) << 40
-        }
+#[inline(always)]
+fn polled(device: &mut Device, now: u64, out: &mut Packet) -> u64 {
+    match device.poll(now, out) {
+        Polled::Packet => summary(out),
         Polled::Idle => 1 << 60,
         Polled::Later => 2 << 60,
     }
+}
+
+#[inline(always)]
+fn summary(packet: &Packet) -> u64 {
+    packet.number ^ u64::from(packet.hash) << 16 ^ u64::from(packet.len) << 32 ^ (packet.ecn as u64) << 48
 }
 
 /// The checksum with what was counted at the device, the root and the class 1:1.
@@ -117,14 +188,6 @@ fn with_counts(device: &mut Device, sum: u64) -> u64 {
 }
 
 fn with_row(sum: u64, row: &Row) -> u64 {
-    let totals = [
-        row.arrived,
-        row.sent,
-        row.refused,
-        row.dropped,
-        row.queued,
-        row.marked,
-    ];
-    let with_totals = |sum, totals: &Totals| with(with(sum, totals.packets), totals.bytes);
-    totals.iter().fold(sum, with_totals)
+    let with_totals = |sum, totals: &super::row::Totals| with(with(sum, totals.packets), totals.bytes);
+    row.totals().iter().fold(sum, with_totals)
 }

@@ -1,23 +1,9 @@
-use super::head::{Ecn, FlowKey};
-use std::collections::VecDeque;
+//! A ring of packets. One is copied once where it is put, and once where it is taken.
 
-#[derive(Clone, Copy)]
-pub struct Packet {
-    pub port: u32,
-    pub number: u64,
-    pub buf: u32,
-    pub len: u16,
-    pub key: FlowKey,
-    pub hash: u32,
-    pub prio: u8,
-    pub ecn: Ecn,
-}
-
-#[derive(Clone, Copy)]
-pub struct Stamped {
-    pub packet: Packet,
-    pub at: u64,
-}
+use super::codel::Queue;
+use super::packet::{Cause, Packet, Put, Stamped};
+use super::place::{at, at_mut};
+use super::toll::Toll;
 
 pub enum Limit {
     Packets(u64),
@@ -25,7 +11,9 @@ pub enum Limit {
 }
 
 pub struct Fifo {
-    packets: VecDeque<Stamped>,
+    ring: Vec<Stamped>,
+    first: usize,
+    count: usize,
     bytes: u64,
     limit: Limit,
 }
@@ -33,59 +21,123 @@ pub struct Fifo {
 impl Fifo {
     pub fn new(limit: Limit) -> Fifo {
         Fifo {
-            packets: VecDeque::new(),
+            ring: Vec::new(),
+            first: 0,
+            count: 0,
             bytes: 0,
             limit,
         }
     }
 
-    pub fn fits(&self, len: u16) -> bool {
+    pub fn count(&self) -> u64 {
+        self.count as u64
+    }
+
+    #[inline(always)]
+    fn fits(&self, len: u16) -> bool {
         match self.limit {
-            Limit::Packets(most) => (self.packets.len() as u64) < most,
+            Limit::Packets(most) => (self.count as u64) < most,
             Limit::Bytes(most) => self.bytes + u64::from(len) <= most,
         }
     }
 
-    /// `None` where memory is refused or the limit is reached.
     #[inline(always)]
-    pub fn put(&mut self, stamped: Stamped) -> Option<()> {
-        self.reserve()?;
-        if !self.fits(stamped.packet.len) {
-            return None;
+    pub fn put(&mut self, packet: &Packet, now: u64, toll: &mut Toll) -> Put {
+        if !self.fits(packet.len) {
+            return toll.refuse(packet, Cause::OverLimit);
         }
-        self.push(stamped);
+        if self.count == self.ring.len() && self.grow().is_none() {
+            return Put::NoMemory;
+        }
+        let last = self.place(self.count);
+        let stamped = at_mut(&mut self.ring, last);
+        stamped.packet = *packet;
+        stamped.at = now;
+        self.count += 1;
+        self.bytes += u64::from(packet.len);
+        Put::Kept
+    }
+
+    /// The length of the first packet, 0 for none.
+    #[inline(always)]
+    pub fn head_len(&self) -> u16 {
+        if self.count == 0 {
+            return 0;
+        }
+        at(&self.ring, self.first).packet.len
+    }
+
+    /// The length of the packet that is given, 0 for none.
+    #[inline(always)]
+    pub fn take_into(&mut self, out: &mut Packet) -> u16 {
+        if self.count == 0 {
+            return 0;
+        }
+        let packet = &at(&self.ring, self.first).packet;
+        *out = *packet;
+        let len = packet.len;
+        self.step(len);
+        len
+    }
+
+    #[inline(always)]
+    fn step(&mut self, len: u16) {
+        self.first = self.place(1);
+        self.count -= 1;
+        self.bytes -= u64::from(len);
+    }
+
+    /// The place so many behind the first.
+    #[inline(always)]
+    fn place(&self, behind: usize) -> usize {
+        let place = self.first + behind;
+        if place >= self.ring.len() {
+            place - self.ring.len()
+        } else {
+            place
+        }
+    }
+
+    /// A ring of twice as many places, from its first; `None` where memory is refused.
+    #[cold]
+    #[inline(never)]
+    fn grow(&mut self) -> Option<()> {
+        let places = (2 * self.ring.len()).max(4);
+        let mut ring = Vec::new();
+        ring.try_reserve_exact(places).ok()?;
+        ring.extend_from_slice(&self.ring[self.first..]);
+        ring.extend_from_slice(&self.ring[..self.first]);
+        ring.resize(places, Stamped::NONE);
+        self.ring = ring;
+        self.first = 0;
         Some(())
     }
+}
 
-    /// `None` where memory is refused.
+impl Queue for Fifo {
     #[inline(always)]
-    pub fn reserve(&mut self) -> Option<()> {
-        self.packets.try_reserve(1).ok()
+    fn head(&self) -> Option<&Stamped> {
+        if self.count == 0 {
+            None
+        } else {
+            Some(at(&self.ring, self.first))
+        }
     }
 
     #[inline(always)]
-    pub fn push(&mut self, stamped: Stamped) {
-        self.bytes += u64::from(stamped.packet.len);
-        self.packets.push_back(stamped);
-    }
-
-    #[inline(always)]
-    pub fn head(&self) -> Option<&Stamped> {
-        self.packets.front()
-    }
-
-    #[inline(always)]
-    pub fn take(&mut self) -> Option<Stamped> {
-        let stamped = self.packets.pop_front()?;
-        self.bytes -= u64::from(stamped.packet.len);
-        Some(stamped)
-    }
-
-    pub fn bytes(&self) -> u64 {
+    fn bytes(&self) -> u64 {
         self.bytes
     }
 
-    pub fn count(&self) -> u64 {
-        self.packets.len() as u64
+    fn drop_head(&mut self, toll: &mut Toll) {
+        let packet = &self.ring[self.first].packet;
+        let len = packet.len;
+        toll.drop(packet, Cause::Codel);
+        self.step(len);
+    }
+
+    #[inline(always)]
+    fn take_into(&mut self, out: &mut Packet) -> u16 {
+        Fifo::take_into(self, out)
     }
 }

@@ -2,6 +2,7 @@
 
 use super::head::FlowKey;
 use super::line::{Keys, Prefix, Protocol, bits};
+use super::place::at;
 use std::net::IpAddr;
 
 /// The addresses of one family with the same first bits.
@@ -31,48 +32,88 @@ impl Network {
     }
 }
 
-pub struct Filter {
-    pub prio: u16,
+/// What a filter asks of ports, protocol and family, which are compared as one number.
+#[derive(Clone, Copy)]
+struct Word {
+    mask: u64,
+    value: u64,
+}
+
+#[inline(always)]
+fn word_of(sport: u16, dport: u16, proto: u8, family: u8) -> u64 {
+    u64::from(sport) | u64::from(dport) << 16 | u64::from(proto) << 32 | u64::from(family) << 40
+}
+
+#[derive(Clone, Copy)]
+struct Rest {
+    prio: u16,
     /// The place of its class among the node's children.
-    pub place: usize,
-    family: Option<u8>,
-    proto: Option<u8>,
+    place: u16,
     src: Option<Network>,
     dst: Option<Network>,
-    sport: Option<u16>,
-    dport: Option<u16>,
 }
 
-impl Filter {
-    pub fn new(prio: u16, protocol: Protocol, keys: &Keys, place: usize) -> Filter {
-        Filter {
+/// The filters in their order, the words of all beside one another.
+#[derive(Default)]
+pub struct Filters {
+    words: Vec<Word>,
+    rest: Vec<Rest>,
+}
+
+impl Filters {
+    pub fn add(&mut self, prio: u16, protocol: Protocol, keys: &Keys, place: u16) {
+        let family = match protocol {
+            Protocol::All => None,
+            Protocol::Ip => Some(4),
+            Protocol::Ipv6 => Some(6),
+        };
+        let all = |is_asked: bool| if is_asked { u16::MAX } else { 0 };
+        let (sport, dport) = (keys.src_port, keys.dst_port);
+        let word = Word {
+            mask: word_of(
+                all(sport.is_some()),
+                all(dport.is_some()),
+                all(keys.ip_proto.is_some()) as u8,
+                all(family.is_some()) as u8,
+            ),
+            value: word_of(
+                sport.unwrap_or(0),
+                dport.unwrap_or(0),
+                keys.ip_proto.unwrap_or(0),
+                family.unwrap_or(0),
+            ),
+        };
+        let rest = Rest {
             prio,
             place,
-            family: match protocol {
-                Protocol::All => None,
-                Protocol::Ip => Some(4),
-                Protocol::Ipv6 => Some(6),
-            },
-            proto: keys.ip_proto,
             src: keys.src_ip.map(Network::of),
             dst: keys.dst_ip.map(Network::of),
-            sport: keys.src_port,
-            dport: keys.dst_port,
-        }
+        };
+        let index = self.rest.partition_point(|other| other.prio <= prio);
+        self.words.insert(index, word);
+        self.rest.insert(index, rest);
     }
 
-    fn takes(&self, key: &FlowKey) -> bool {
-        self.family.is_none_or(|family| family == key.family)
-            && self.proto.is_none_or(|proto| proto == key.proto)
-            && self.src.is_none_or(|net| net.has(key.family, key.src))
-            && self.dst.is_none_or(|net| net.has(key.family, key.dst))
-            && self.sport.is_none_or(|port| port == key.sport)
-            && self.dport.is_none_or(|port| port == key.dport)
+    /// The place of the class that the filters name.
+    #[inline(always)]
+    pub fn place_of(&self, key: &FlowKey) -> Option<u16> {
+        let word = word_of(key.sport, key.dport, key.proto, key.family);
+        for (index, filter) in self.words.iter().enumerate() {
+            if (word ^ filter.value) & filter.mask == 0 {
+                let rest = at(&self.rest, index);
+                if (rest.src.is_none() && rest.dst.is_none()) || rest.has(key) {
+                    return Some(rest.place);
+                }
+            }
+        }
+        None
     }
 }
 
-/// The place of the class that the filters name.
-pub fn named_place(filters: &[Filter], key: &FlowKey) -> Option<usize> {
-    let filter = filters.iter().find(|filter| filter.takes(key))?;
-    Some(filter.place)
+impl Rest {
+    #[inline(never)]
+    fn has(&self, key: &FlowKey) -> bool {
+        self.src.is_none_or(|net| net.has(key.family, key.src))
+            && self.dst.is_none_or(|net| net.has(key.family, key.dst))
+    }
 }

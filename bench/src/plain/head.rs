@@ -1,14 +1,25 @@
+/// The fields as Rattle lays them out.
+#[repr(C)]
 #[derive(Clone, Copy, Default)]
 pub struct FlowKey {
-    pub family: u8,
-    pub proto: u8,
     pub src: u128,
     pub dst: u128,
     pub sport: u16,
     pub dport: u16,
+    pub proto: u8,
+    pub family: u8,
 }
 
 impl FlowKey {
+    pub const NONE: FlowKey = FlowKey {
+        src: 0,
+        dst: 0,
+        sport: 0,
+        dport: 0,
+        proto: 0,
+        family: 0,
+    };
+
     pub fn bytes(&self) -> [u8; 38] {
         let mut bytes = [0; 38];
         bytes[0] = self.family;
@@ -22,6 +33,7 @@ impl FlowKey {
 }
 
 #[derive(Clone, Copy, Default, PartialEq, Eq)]
+#[repr(u8)]
 pub enum Ecn {
     #[default]
     NotEct,
@@ -100,9 +112,7 @@ fn read_ipv6(packet: &[u8]) -> Option<Head> {
 
 fn read_ports(proto: u8, payload: &[u8]) -> (u16, u16) {
     match (proto, payload) {
-        (6 | 17 | 132, [a, b, c, d, ..]) => {
-            (u16::from_be_bytes([*a, *b]), u16::from_be_bytes([*c, *d]))
-        }
+        (6 | 17 | 132, [a, b, c, d, ..]) => (u16::from_be_bytes([*a, *b]), u16::from_be_bytes([*c, *d])),
         _ => (0, 0),
     }
 }

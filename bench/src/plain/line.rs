@@ -1,5 +1,6 @@
 //! A reader of every line of the language, by `split_ascii_whitespace`, `parse` and the addresses of `std::net`.
 
+use super::head::{Head, read_head};
 use std::net::{IpAddr, Ipv6Addr};
 use std::str::SplitAsciiWhitespace;
 
@@ -11,6 +12,7 @@ pub enum Line {
     Show { object: Object, counters: bool },
     At(u64),
     Pkt(Arrival),
+    Frame { len: u16, head: Head },
     Poll(u32),
     Reap,
     Totals,
@@ -55,21 +57,10 @@ pub struct FqCodel {
 #[derive(Clone, Copy)]
 #[allow(dead_code, reason = "the checksum does not have every field")]
 pub enum Kind {
-    Pfifo {
-        limit: Option<u32>,
-    },
-    Bfifo {
-        limit: Option<u32>,
-    },
-    Prio {
-        bands: u8,
-        priomap: [u8; 16],
-    },
-    Tbf {
-        rate: u64,
-        burst: u32,
-        limit: TbfLimit,
-    },
+    Pfifo { limit: Option<u32> },
+    Bfifo { limit: Option<u32> },
+    Prio { bands: u8, priomap: [u8; 16] },
+    Tbf { rate: u64, burst: u32, limit: TbfLimit },
     Drr,
     FqCodel(FqCodel),
 }
@@ -263,13 +254,7 @@ impl<'a> Words<'a> {
     }
 
     /// A number with a unit, rounded down.
-    pub fn united<T: TryFrom<u64>>(
-        &self,
-        word: &str,
-        units: &[(&str, u64)],
-        low: u64,
-        high: u64,
-    ) -> Read<T> {
+    pub fn united<T: TryFrom<u64>>(&self, word: &str, units: &[(&str, u64)], low: u64, high: u64) -> Read<T> {
         let end = word
             .bytes()
             .position(|byte| !byte.is_ascii_digit() && byte != b'.')
@@ -362,6 +347,7 @@ pub fn read_line(line: &[u8]) -> Read<Line> {
                 words.ended(Line::Poll(polls))
             }
         },
+        "frame" => read_frame(words),
         "at" => {
             let word = words.needed()?;
             let ns = words.number(word, 0, 1 << 62)?;
@@ -456,5 +442,32 @@ pub fn bits(address: IpAddr) -> u128 {
     match address {
         IpAddr::V4(it) => it.to_bits().into(),
         IpAddr::V6(it) => Ipv6Addr::to_bits(it),
+    }
+}
+
+/// The most bytes that a head is read from.
+const HEAD_BYTES: usize = 64;
+
+fn read_frame(mut words: Words) -> Read<Line> {
+    let word = words.needed()?;
+    let len = words.number(word, 1, 65535)?;
+    let digits = words.needed()?.as_bytes();
+    if digits.len() % 2 != 0 || !digits.iter().all(u8::is_ascii_hexdigit) {
+        return Err(words.bad());
+    }
+    let mut bytes = [0; HEAD_BYTES];
+    let (pairs, _) = digits.as_chunks::<2>();
+    for (byte, [high, low]) in bytes.iter_mut().zip(pairs) {
+        *byte = nibble(*high) << 4 | nibble(*low);
+    }
+    let head = read_head(&bytes[..pairs.len().min(HEAD_BYTES)]);
+    words.ended(Line::Frame { len, head })
+}
+
+fn nibble(digit: u8) -> u8 {
+    if digit <= b'9' {
+        digit - b'0'
+    } else {
+        (digit | 0x20) - b'a' + 10
     }
 }

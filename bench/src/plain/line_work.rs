@@ -1,8 +1,7 @@
 //! The workload of `crates/q_bench/src/lines.rt`, over the plain reader.
 
 use super::line::{
-    Arrival, ClassId, Command, FqCodel, Keys, Kind, Line, Place, Prefix, TbfLimit, bits,
-    read_line as read,
+    Arrival, ClassId, Command, FqCodel, Keys, Kind, Line, Place, Prefix, TbfLimit, bits, read_line as read,
 };
 use crate::inputs::Lines;
 
@@ -50,11 +49,9 @@ fn of_address(address: u128) -> u64 {
 
 fn of_command(command: &Command) -> u64 {
     match *command {
-        Command::QdiscAdd {
-            place,
-            handle,
-            kind,
-        } => of_place(place) << 4 ^ u64::from(handle.unwrap_or(0)) << 40 ^ of_kind(&kind),
+        Command::QdiscAdd { place, handle, kind } => {
+            of_place(place) << 4 ^ u64::from(handle.unwrap_or(0)) << 40 ^ of_kind(&kind)
+        }
         Command::FilterAdd {
             parent,
             prio,
@@ -104,10 +101,7 @@ fn of_fq_codel(options: &FqCodel) -> u64 {
 
 fn of_keys(keys: &Keys) -> u64 {
     let ports = u64::from(keys.src_port.unwrap_or(0)) << 20 ^ u64::from(keys.dst_port.unwrap_or(0));
-    u64::from(keys.ip_proto.unwrap_or(0)) << 4
-        ^ ports
-        ^ of_prefix(keys.src_ip)
-        ^ of_prefix(keys.dst_ip) << 1
+    u64::from(keys.ip_proto.unwrap_or(0)) << 4 ^ ports ^ of_prefix(keys.src_ip) ^ of_prefix(keys.dst_ip) << 1
 }
 
 fn of_prefix(prefix: Option<Prefix>) -> u64 {

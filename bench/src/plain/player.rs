@@ -2,9 +2,9 @@
 //! beside this module.
 
 use super::device::{Device, Polled};
-use super::fifo::Packet;
-use super::head::{Ecn, FlowKey, one_at_a_time};
+use super::head::{Ecn, FlowKey, Head, one_at_a_time};
 use super::line::{Arrival, Line, read_line};
+use super::packet::{Packet, Put};
 use std::io::{self, BufWriter, Read, Write};
 
 /// What `qtree play` gives a device where its options say nothing.
@@ -16,6 +16,7 @@ struct Player {
     device: Device,
     packets: u32,
     at: u64,
+    sent: Packet,
 }
 
 /// Plays the script on standard input and writes its report to standard output. A line that is refused, or that asks for a
@@ -28,6 +29,7 @@ pub fn play() -> io::Result<()> {
         device: Device::new(MTU, TXQUEUELEN, RECORDER),
         packets: 0,
         at: 0,
+        sent: Packet::NONE,
     };
     for line in script.split(|byte| *byte == b'\n') {
         player.run_line(line, &mut output)?;
@@ -46,12 +48,15 @@ impl Player {
             }
             Ok(Line::Pkt(arrival)) => {
                 let packet = self.numbered(&arrival);
-                let put = self.device.arrive(packet, self.at);
-                put.ok_or(io::ErrorKind::OutOfMemory)?;
+                self.arrive(&packet)?;
+            }
+            Ok(Line::Frame { len, head }) => {
+                let packet = self.framed(len, &head);
+                self.arrive(&packet)?;
             }
             Ok(Line::Poll(polls)) => {
                 for _ in 0..polls {
-                    write_polled(&self.device.poll(self.at), output)?;
+                    self.poll(output)?;
                 }
             }
             Ok(_) | Err(_) => return Err(io::ErrorKind::InvalidData.into()),
@@ -59,8 +64,14 @@ impl Player {
         Ok(())
     }
 
+    fn arrive(&mut self, packet: &Packet) -> io::Result<()> {
+        match self.device.arrive(packet, self.at) {
+            Put::Kept | Put::Lost(_) => Ok(()),
+            Put::NoMemory => Err(io::ErrorKind::OutOfMemory.into()),
+        }
+    }
+
     fn numbered(&mut self, arrival: &Arrival) -> Packet {
-        self.packets += 1;
         let key = FlowKey {
             family: arrival.family,
             proto: arrival.proto,
@@ -69,25 +80,38 @@ impl Player {
             sport: arrival.sport,
             dport: arrival.dport,
         };
+        let (prio, ecn) = (arrival.prio, Ecn::from_bits(arrival.ecn));
+        let hash = arrival.hash.unwrap_or_else(|| one_at_a_time(0, &key.bytes()));
+        self.packet(arrival.len, &Head { key, prio, ecn }, hash)
+    }
+
+    fn framed(&mut self, len: u16, head: &Head) -> Packet {
+        self.packet(len, head, one_at_a_time(0, &head.key.bytes()))
+    }
+
+    fn packet(&mut self, len: u16, head: &Head, hash: u32) -> Packet {
+        self.packets += 1;
         Packet {
             port: 0,
             number: self.packets.into(),
             buf: self.packets,
-            len: arrival.len,
-            key,
-            hash: arrival
-                .hash
-                .unwrap_or_else(|| one_at_a_time(0, &key.bytes())),
-            prio: arrival.prio,
-            ecn: Ecn::from_bits(arrival.ecn),
+            len,
+            key: head.key,
+            hash,
+            prio: head.prio,
+            ecn: head.ecn,
         }
     }
-}
 
-fn write_polled(polled: &Polled, output: &mut impl Write) -> io::Result<()> {
-    match polled {
-        Polled::Packet(packet) => writeln!(output, "sent {} {}", packet.number, packet.len),
-        Polled::Idle => output.write_all(b"idle\n"),
-        Polled::Later => output.write_all(b"later\n"),
+    fn poll(&mut self, output: &mut impl Write) -> io::Result<()> {
+        match self.device.poll(self.at, &mut self.sent) {
+            Polled::Packet => {
+                let Packet { number, len, ecn, .. } = self.sent;
+                let mark = if ecn == Ecn::Ce { " ce" } else { "" };
+                writeln!(output, "sent {number} {len}{mark}")
+            }
+            Polled::Idle => output.write_all(b"idle\n"),
+            Polled::Later => output.write_all(b"later\n"),
+        }
     }
 }

@@ -4,27 +4,18 @@ use super::active::Active;
 use super::bucket::Bucket;
 use super::device::Device;
 use super::fifo::{Fifo, Limit};
-use super::filter::Filter;
-use super::fq_codel::{FqCodel, Settings};
+use super::flows::{FqCodel, Settings};
 use super::line::{Command, FqCodel as Options, Kind, Place, TbfLimit};
 use super::tree::{Discipline, Node};
 
 impl Device {
     pub fn command(&mut self, command: &Command) -> Option<()> {
         match *command {
-            Command::QdiscAdd {
-                place,
-                handle,
-                kind,
-            } => {
+            Command::QdiscAdd { place, handle, kind } => {
                 let made = self.made(handle, &kind);
                 *self.at(place)? = made;
             }
-            Command::ClassAdd {
-                parent,
-                class,
-                quantum,
-            } => self.add_class(parent, class.minor, quantum)?,
+            Command::ClassAdd { parent, class, quantum } => self.add_class(parent, class.minor, quantum)?,
             Command::FilterAdd {
                 parent,
                 prio,
@@ -33,9 +24,8 @@ impl Device {
                 class,
             } => {
                 let node = find(&mut self.root, parent)?;
-                let filter = Filter::new(prio, protocol, &keys, node.place_of(class.minor)?);
-                let index = node.filters.partition_point(|other| other.prio <= prio);
-                node.filters.insert(index, filter);
+                let place = node.place_of(class.minor)?;
+                node.filters.add(prio, protocol, &keys, place as u16);
             }
             _ => return None,
         }
@@ -100,13 +90,11 @@ impl Device {
                 }
             }
             Kind::Drr => Discipline::Drr {
-                active: Active::new(),
+                active: Active::default(),
                 minors: Vec::new(),
                 classes: Vec::new(),
             },
-            Kind::FqCodel(options) => {
-                Discipline::FqCodel(FqCodel::new(settings(&options, self.mtu)))
-            }
+            Kind::FqCodel(options) => Discipline::FqCodel(Box::new(FqCodel::new(&settings(&options, self.mtu)))),
         };
         Node::new(handle, discipline)
     }
@@ -129,9 +117,7 @@ fn find(node: &mut Node, handle: u16) -> Option<&mut Node> {
     if node.handle == Some(handle) {
         return Some(node);
     }
-    node.children()
-        .iter_mut()
-        .find_map(|child| find(child, handle))
+    node.children().iter_mut().find_map(|child| find(child, handle))
 }
 
 impl Node {

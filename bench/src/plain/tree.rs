@@ -1,20 +1,24 @@
-//! A tree of qdiscs. A packet goes down to its leaf and is counted on the way back. A qdisc that was asked for its next
-//! packet, and may not give another one then, holds it, as Linux's `qdisc_peek_dequeued` does.
+//! A tree of qdiscs. A packet goes down by reference in one walk, is copied once where it is queued and once where it
+//! leaves, and is counted on the way back. A leaf is inlined where it is asked, and a node with classes is one call. A qdisc
+//! that was asked for its next packet, and may not give another one then, holds it, as Linux's `qdisc_peek_dequeued` does.
 
 use super::active::{Active, Turn};
 use super::bucket::Bucket;
-use super::counters::{Cause, Put, Row, Toll, Totals};
-use super::fifo::{Fifo, Limit, Packet, Stamped};
-use super::filter::{Filter, named_place};
-use super::fq_codel::FqCodel;
-use std::collections::VecDeque;
+use super::fifo::{Fifo, Limit};
+use super::filter::Filters;
+use super::flows::FqCodel;
+use super::packet::{Cause, Packet, Put};
+use super::place::at_mut;
+use super::row::Row;
+use super::toll::{Sums, Toll};
 
 pub struct Node {
-    pub handle: Option<u16>,
-    pub filters: Vec<Filter>,
     pub row: Row,
+    holds: bool,
+    pub handle: Option<u16>,
+    pub filters: Filters,
     pub discipline: Discipline,
-    held: Option<Packet>,
+    held: Packet,
 }
 
 pub enum Discipline {
@@ -34,17 +38,18 @@ pub enum Discipline {
         minors: Vec<u16>,
         classes: Vec<Node>,
     },
-    FqCodel(FqCodel),
+    FqCodel(Box<FqCodel>),
 }
 
 impl Node {
     pub fn new(handle: Option<u16>, discipline: Discipline) -> Node {
         Node {
-            handle,
-            filters: Vec::new(),
             row: Row::default(),
+            holds: false,
+            handle,
+            filters: Filters::default(),
             discipline,
-            held: None,
+            held: Packet::NONE,
         }
     }
 
@@ -52,199 +57,207 @@ impl Node {
         Node::new(None, Discipline::Fifo(Fifo::new(limit)))
     }
 
-    pub fn is_empty(&self) -> bool {
-        self.row.queued.packets == 0
+    #[inline(always)]
+    pub fn put(&mut self, packet: &Packet, now: u64, toll: &mut Toll) -> Put {
+        let put = match &mut self.discipline {
+            Discipline::Fifo(fifo) => fifo.put(packet, now, toll),
+            Discipline::FqCodel(queue) => queue.put(packet, now, toll),
+            _ => self.put_beneath(packet, now, toll),
+        };
+        if matches!(put, Put::NoMemory) {
+            return put;
+        }
+        self.row.arrive(packet.len);
+        if toll.any {
+            self.row.book(&toll.sums);
+        }
+        put
     }
 
-    /// `None` where memory is refused, and then nothing has changed.
-    pub fn put(&mut self, packet: &Packet, now: u64, lost: &mut VecDeque<Packet>) -> Option<Put> {
-        let put = match &mut self.discipline {
-            Discipline::Fifo(fifo) => put_last(fifo, packet, now, lost)?,
-            Discipline::FqCodel(queue) => put_in_flow(queue, packet, now, lost)?,
+    #[inline(never)]
+    fn put_beneath(&mut self, packet: &Packet, now: u64, toll: &mut Toll) -> Put {
+        match &mut self.discipline {
             Discipline::Prio { priomap, bands } => {
-                let place = named_place(&self.filters, &packet.key);
-                let place = place.unwrap_or_else(|| priomap[usize::from(packet.prio)].into());
-                match bands.get_mut(place) {
-                    Some(band) => band.put(packet, now, lost)?,
-                    None => refuse(packet, Cause::NoClass, lost),
+                let place = self.filters.place_of(&packet.key);
+                let place = place.unwrap_or_else(|| priomap[usize::from(packet.prio & 15)].into());
+                match bands.get_mut(usize::from(place)) {
+                    Some(band) => band.put(packet, now, toll),
+                    None => toll.refuse(packet, Cause::NoClass),
                 }
             }
             Discipline::Tbf { burst, child, .. } => {
                 if u32::from(packet.len) > *burst {
-                    refuse(packet, Cause::TooLong, lost)
-                } else {
-                    child.put(packet, now, lost)?
+                    return toll.refuse(packet, Cause::TooLong);
                 }
+                child.put(packet, now, toll)
             }
-            Discipline::Drr {
-                active, classes, ..
-            } => match named_place(&self.filters, &packet.key) {
-                Some(place) => {
-                    let put = classes[place].put(packet, now, lost)?;
-                    settle(active, place, classes[place].is_empty());
-                    put
+            Discipline::Drr { active, classes, .. } => {
+                let Some(place) = self.filters.place_of(&packet.key) else {
+                    return toll.refuse(packet, Cause::NoClass);
+                };
+                let class = at_mut(classes, place.into());
+                let put = class.put(packet, now, toll);
+                if matches!(put, Put::NoMemory) {
+                    return put;
                 }
-                None => refuse(packet, Cause::NoClass, lost),
-            },
-        };
-        self.row.book_put(packet, &put);
-        Some(put)
+                if toll.any && class.row.queued() == 0 {
+                    active.sleep(place);
+                } else {
+                    active.wake(place);
+                }
+                put
+            }
+            Discipline::Fifo(_) | Discipline::FqCodel(_) => unreachable!(),
+        }
     }
 
-    /// The length of the packet that [`Node::take`] gives next.
-    fn peek(&mut self, now: u64, lost: &mut VecDeque<Packet>, above: &mut Toll) -> Option<u16> {
-        if let Some(packet) = &self.held {
-            return Some(packet.len);
-        }
+    /// The length of the packet that [`Node::take_into`] gives next, 0 for none.
+    #[inline(always)]
+    fn peek(&mut self, now: u64, toll: &mut Toll) -> u16 {
         if let Discipline::Fifo(fifo) = &self.discipline {
-            return fifo.head().map(|stamped| stamped.packet.len);
+            return fifo.head_len();
         }
-        let mut toll = Toll::default();
-        let len = if let Discipline::Prio { bands, .. } = &mut self.discipline {
-            let mut bands = bands.iter_mut();
-            bands.find_map(|band| band.peek(now, lost, &mut toll))
-        } else {
-            self.held = self.discipline.take(now, lost, &mut toll);
-            self.held.as_ref().map(|packet| packet.len)
+        if self.holds {
+            return self.held.len;
+        }
+        self.hold(now, toll)
+    }
+
+    /// Asks for the next packet, so that it is at hand: at a prio, in its band.
+    #[inline(never)]
+    fn hold(&mut self, now: u64, toll: &mut Toll) -> u16 {
+        let len = match &mut self.discipline {
+            Discipline::Prio { bands, .. } => {
+                let mut before = None;
+                let len = first_of(bands, toll, &mut before, |band, toll| band.peek(now, toll));
+                gather(toll, &mut before);
+                len
+            }
+            discipline => {
+                let len = discipline.take_into(now, toll, &mut self.held);
+                self.holds = len != 0;
+                len
+            }
         };
-        self.book_toll(&toll, above);
+        if toll.any {
+            self.row.book(&toll.sums);
+        }
         len
     }
 
-    pub fn take(
-        &mut self,
-        now: u64,
-        lost: &mut VecDeque<Packet>,
-        above: &mut Toll,
-    ) -> Option<Packet> {
-        let packet = match self.held.take() {
-            Some(packet) => packet,
-            None => {
-                let mut toll = Toll::default();
-                let packet = self.discipline.take(now, lost, &mut toll);
-                self.book_toll(&toll, above);
-                packet?
+    /// The length of the packet that is given, 0 for none.
+    #[inline(always)]
+    pub fn take_into(&mut self, now: u64, toll: &mut Toll, out: &mut Packet) -> u16 {
+        let len = if self.holds {
+            self.holds = false;
+            *out = self.held;
+            self.held.len
+        } else {
+            let len = self.discipline.take_into(now, toll, out);
+            if toll.any {
+                self.row.book(&toll.sums);
             }
+            len
         };
-        self.row.book_sent(&packet);
-        Some(packet)
-    }
-
-    fn book_toll(&mut self, toll: &Toll, above: &mut Toll) {
-        self.row.book_toll(toll);
-        above.dropped += toll.dropped;
-        above.marked += toll.marked;
+        if len != 0 {
+            self.row.send(len);
+        }
+        len
     }
 }
 
 impl Discipline {
-    fn take(&mut self, now: u64, lost: &mut VecDeque<Packet>, toll: &mut Toll) -> Option<Packet> {
+    #[inline(always)]
+    fn take_into(&mut self, now: u64, toll: &mut Toll, out: &mut Packet) -> u16 {
         match self {
-            Discipline::Fifo(fifo) => fifo.take().map(|stamped| stamped.packet),
-            Discipline::FqCodel(queue) => take_from_flows(queue, now, lost, toll),
-            Discipline::Prio { bands, .. } => {
-                bands.iter_mut().find_map(|band| band.take(now, lost, toll))
-            }
-            Discipline::Tbf { bucket, child, .. } => {
-                let len = child.peek(now, lost, toll)?;
-                if !bucket.spend(now, len) {
-                    return None;
-                }
-                child.take(now, lost, toll)
-            }
-            Discipline::Drr {
-                active, classes, ..
-            } => serve(active, classes, now, lost, toll),
+            Discipline::Fifo(fifo) => fifo.take_into(out),
+            Discipline::FqCodel(queue) => queue.take_into(now, toll, out),
+            _ => self.take_beneath(now, toll, out),
         }
     }
-}
 
-fn refuse(packet: &Packet, cause: Cause, lost: &mut VecDeque<Packet>) -> Put {
-    lost.push_back(*packet);
-    Put::Refused(cause)
-}
-
-fn put_last(
-    fifo: &mut Fifo,
-    packet: &Packet,
-    now: u64,
-    lost: &mut VecDeque<Packet>,
-) -> Option<Put> {
-    if !fifo.fits(packet.len) {
-        return Some(refuse(packet, Cause::OverLimit, lost));
+    #[inline(never)]
+    fn take_beneath(&mut self, now: u64, toll: &mut Toll, out: &mut Packet) -> u16 {
+        let mut before = None;
+        let len = match self {
+            Discipline::Prio { bands, .. } => {
+                first_of(bands, toll, &mut before, |band, toll| band.take_into(now, toll, out))
+            }
+            Discipline::Tbf { bucket, child, .. } => {
+                let len = child.peek(now, toll);
+                if len != 0 && bucket.spend(now, len) {
+                    part(toll, &mut before);
+                    child.take_into(now, toll, out)
+                } else {
+                    0
+                }
+            }
+            Discipline::Drr { active, classes, .. } => serve(active, classes, now, toll, &mut before, out),
+            Discipline::Fifo(_) | Discipline::FqCodel(_) => unreachable!(),
+        };
+        gather(toll, &mut before);
+        len
     }
-    fifo.reserve()?;
-    fifo.push(Stamped {
-        packet: *packet,
-        at: now,
-    });
-    Some(Put::Kept)
 }
 
-fn put_in_flow(
-    queue: &mut FqCodel,
-    packet: &Packet,
-    now: u64,
-    lost: &mut VecDeque<Packet>,
-) -> Option<Put> {
-    queue.reserve()?;
-    let (packets, bytes) = queue.queued();
-    let is_lost = queue.put(*packet, now, lost);
-    let (packets_after, bytes_after) = queue.queued();
-    if packets_after > packets {
-        return Some(Put::Kept);
+/// Cleans the sums for the next node that is asked.
+#[inline(always)]
+fn part(toll: &mut Toll, before: &mut Option<Sums>) {
+    if toll.any {
+        toll.fold(before);
     }
-    let dropped = Totals {
-        packets: packets + 1 - packets_after,
-        bytes: bytes + u64::from(packet.len) - bytes_after,
-    };
-    Some(Put::Dropped(dropped, is_lost.then_some(Cause::FatFlow)))
 }
 
-fn take_from_flows(
-    queue: &mut FqCodel,
-    now: u64,
-    lost: &mut VecDeque<Packet>,
+/// The sums of all nodes that were asked.
+#[inline(always)]
+fn gather(toll: &mut Toll, before: &mut Option<Sums>) {
+    if before.is_some() {
+        toll.unfold(before);
+    }
+}
+
+/// The first length that is not 0, of the bands in their order.
+#[inline(always)]
+fn first_of(
+    bands: &mut [Node],
     toll: &mut Toll,
-) -> Option<Packet> {
-    let (packets, bytes) = queue.queued();
-    let taken = queue.take(now, lost)?;
-    let (packets_after, bytes_after) = queue.queued();
-    let one = Totals::one(&taken.packet);
-    toll.dropped += Totals {
-        packets: packets - packets_after - 1,
-        bytes: bytes - bytes_after - one.bytes,
-    };
-    if taken.marked {
-        toll.marked += one;
+    before: &mut Option<Sums>,
+    mut ask: impl FnMut(&mut Node, &mut Toll) -> u16,
+) -> u16 {
+    for band in bands {
+        let len = ask(band, toll);
+        if len != 0 {
+            return len;
+        }
+        part(toll, before);
     }
-    Some(taken.packet)
+    0
 }
 
 /// The packet of the class whose turn it is.
+#[inline(always)]
 fn serve(
     active: &mut Active,
     classes: &mut [Node],
     now: u64,
-    lost: &mut VecDeque<Packet>,
     toll: &mut Toll,
-) -> Option<Packet> {
-    while let Some(class) = active.front() {
-        let node = &mut classes[usize::from(class)];
-        let len = node.peek(now, lost, toll)?;
+    before: &mut Option<Sums>,
+    out: &mut Packet,
+) -> u16 {
+    while let Some(place) = active.front() {
+        let class = at_mut(classes, place.into());
+        let len = class.peek(now, toll);
+        if len == 0 {
+            return 0;
+        }
+        part(toll, before);
         if active.turn(len) == Turn::Send {
-            let packet = node.take(now, lost, toll);
-            settle(active, class.into(), node.is_empty());
-            return packet;
+            let len = class.take_into(now, toll, out);
+            if class.row.queued() == 0 {
+                active.sleep(place);
+            }
+            return len;
         }
     }
-    None
-}
-
-fn settle(active: &mut Active, place: usize, is_empty: bool) {
-    if is_empty {
-        active.sleep(place as u16);
-    } else {
-        active.wake(place as u16);
-    }
+    0
 }

@@ -2,12 +2,13 @@
 
 use super::active::{Active, Turn};
 use super::bucket::Bucket;
-use super::codel::Codel;
-use super::fifo::{Fifo, Limit, Packet, Stamped};
-use super::fq_codel::{FqCodel, Settings};
+use super::codel::{Codel, Law};
+use super::fifo::{Fifo, Limit};
+use super::flows::{FqCodel, Settings};
 use super::gap;
 use super::head::{Ecn, FlowKey, Head, one_at_a_time, read_head as read};
-use std::collections::VecDeque;
+use super::packet::{Packet, Put};
+use super::toll::Toll;
 
 /// The latest moment, in nanoseconds.
 const LATEST: u64 = 1 << 62;
@@ -103,68 +104,106 @@ pub fn fifo(queued: u32, lens: &[u16], passes: u32) -> u64 {
 }
 
 fn pass_through(queue: &mut Fifo, queued: u32, lens: &[u16], passes: u32) -> Option<u64> {
-    for number in 0..queued {
-        queue.put(packet_of(number.into(), MTU, 0)?)?;
-    }
-    let mut sum = 0;
+    let made = sized(lens)?;
+    let mut toll = Toll::default();
+    fill(queue, queued, &made, &mut toll)?;
+    let mut out = Packet::NONE;
+    let mut sum = 1;
     for _ in 0..passes {
-        for (number, len) in lens.iter().enumerate() {
-            queue.put(packet_of(number as u64, *len, 0)?)?;
-            let packet = queue.take()?.packet;
-            sum = with(sum, packet_summary(&packet));
+        for packet in &made {
+            put(queue, packet, 0, &mut toll)?;
+            if queue.take_into(&mut out) == 0 {
+                return None;
+            }
+            sum = with(sum, packet_summary(&out));
         }
     }
     Some(sum)
 }
 
 #[inline(never)]
-pub fn codel(queued: u32, moments: &[u64]) -> u64 {
+pub fn codel(queued: u32, lens: &[u16], moments: &[u64]) -> u64 {
     let mut queue = Fifo::new(Limit::Packets(u64::from(queued) + 1));
-    let mut lost = VecDeque::with_capacity(queued as usize);
-    take_at(&mut queue, &mut lost, queued, moments).unwrap_or(0)
+    let mut toll = Toll::default();
+    toll.lost.reserve(queued as usize);
+    take_at(&mut queue, &mut toll, queued, lens, moments).unwrap_or(0)
 }
 
-fn take_at(
-    queue: &mut Fifo,
-    lost: &mut VecDeque<Packet>,
-    queued: u32,
-    moments: &[u64],
-) -> Option<u64> {
-    for number in 0..queued {
-        queue.put(packet_of(number.into(), MTU, 0)?)?;
-    }
-    let mut codel = Codel::new(5_000_000, 100_000_000, MTU, false);
-    let mut sum = 0;
+fn take_at(queue: &mut Fifo, toll: &mut Toll, queued: u32, lens: &[u16], moments: &[u64]) -> Option<u64> {
+    let made = sized(lens)?;
+    fill(queue, queued, &made, toll)?;
+    let law = Law {
+        target: 5_000_000,
+        interval: 100_000_000,
+        mtu: MTU.into(),
+        ecn: false,
+    };
+    let mut codel = Codel::default();
+    let mut out = Packet::NONE;
+    let (mut next, mut sum) = (0, 1);
     for moment in moments {
-        if *moment > LATEST || queue.count() > (lost.capacity() - lost.len()) as u64 {
+        let now = *moment;
+        if now > LATEST || queue.count() > (toll.lost.capacity() - toll.lost.len()) as u64 {
             return None;
         }
-        let taken = codel.take(queue, *moment, lost)?;
-        sum = with(sum, packet_summary(&taken.packet));
-        queue.put(packet_of(*moment, MTU, *moment)?)?;
-        for packet in lost.drain(..) {
-            sum = with(sum, packet_summary(&packet));
-            queue.put(packet_of(*moment, MTU, *moment)?)?;
+        if codel.take_into(&law, queue, now, toll, &mut out) == 0 {
+            return None;
         }
+        sum = with(sum, packet_summary(&out));
+        let packet = made.get(next)?;
+        put(queue, packet, now, toll)?;
+        while let Some(lost) = toll.lost.pop_front() {
+            sum = with(sum, packet_summary(&lost.packet));
+            put(queue, packet, now, toll)?;
+        }
+        next = if next + 1 < made.len() { next + 1 } else { 0 };
     }
     Some(with(sum, codel.count.into()))
 }
 
-fn packet_of(number: u64, len: u16, at: u64) -> Option<Stamped> {
+/// Puts so many packets at moment 0, round and round.
+fn fill(queue: &mut Fifo, queued: u32, made: &[Packet], toll: &mut Toll) -> Option<()> {
+    for (_, packet) in (0..queued).zip(made.iter().cycle()) {
+        put(queue, packet, 0, toll)?;
+    }
+    Some(())
+}
+
+/// `None` where memory is refused or the limit is reached.
+#[inline(always)]
+fn put(queue: &mut Fifo, packet: &Packet, now: u64, toll: &mut Toll) -> Option<()> {
+    match queue.put(packet, now, toll) {
+        Put::Kept => Some(()),
+        Put::Lost(_) | Put::NoMemory => None,
+    }
+}
+
+fn sized(lens: &[u16]) -> Option<Vec<Packet>> {
+    let lens = lens.iter().enumerate();
+    lens.map(|(number, len)| packet_of(number as u64, *len, 3)).collect()
+}
+
+fn hashed(hashes: &[u32]) -> Option<Vec<Packet>> {
+    let hashes = hashes.iter().enumerate();
+    hashes
+        .map(|(number, hash)| packet_of(number as u64, (60 + hash % 1400) as u16, *hash))
+        .collect()
+}
+
+fn packet_of(number: u64, len: u16, hash: u32) -> Option<Packet> {
     if len == 0 {
         return None;
     }
-    let packet = Packet {
+    Some(Packet {
         port: 1,
         number,
         buf: 2,
         len,
         key: FlowKey::default(),
-        hash: 3,
+        hash,
         prio: 4,
         ecn: Ecn::NotEct,
-    };
-    Some(Stamped { packet, at })
+    })
 }
 
 fn packet_summary(packet: &Packet) -> u64 {
@@ -175,7 +214,7 @@ fn packet_summary(packet: &Packet) -> u64 {
 
 #[inline(never)]
 pub fn turn(classes: u16, quantum: u32, lens: &[u16], passes: u32) -> u64 {
-    let mut active = Active::new();
+    let mut active = Active::default();
     for class in 0..classes {
         active.add(class, quantum);
         active.wake(class);
@@ -196,7 +235,7 @@ pub fn turn(classes: u16, quantum: u32, lens: &[u16], passes: u32) -> u64 {
 /// Packets into an fq_codel that holds `queued` before, and one taken after each with `takes`.
 #[inline(never)]
 pub fn flows(load: &FlowLoad, hashes: &[u32], passes: u32) -> u64 {
-    let mut fq = FqCodel::new(Settings {
+    let mut fq = FqCodel::new(&Settings {
         limit: load.limit,
         flows: load.flows,
         quantum: 1514,
@@ -206,32 +245,29 @@ pub fn flows(load: &FlowLoad, hashes: &[u32], passes: u32) -> u64 {
         drop_batch: load.drop_batch,
         mtu: MTU,
     });
-    let mut lost = VecDeque::new();
-    for number in 0..load.queued {
-        if put_flow(&mut fq, &mut lost, number.into(), number, load.drop_batch).is_none() {
-            return 0;
-        }
-    }
-    pass_flows(&mut fq, &mut lost, load, hashes, passes).unwrap_or(0)
+    pass_flows(&mut fq, load, hashes, passes).unwrap_or(0)
 }
 
-fn pass_flows(
-    fq: &mut FqCodel,
-    lost: &mut VecDeque<Packet>,
-    load: &FlowLoad,
-    hashes: &[u32],
-    passes: u32,
-) -> Option<u64> {
+fn pass_flows(fq: &mut FqCodel, load: &FlowLoad, hashes: &[u32], passes: u32) -> Option<u64> {
+    let made = hashed(hashes)?;
+    let mut toll = Toll::default();
+    for (_, packet) in (0..load.queued).zip(made.iter().cycle()) {
+        put_flow(fq, &mut toll, packet, load.drop_batch)?;
+    }
+    let mut out = Packet::NONE;
     let mut sum = 1;
     for _ in 0..passes {
-        for (number, hash) in hashes.iter().enumerate() {
-            sum = with(sum, put_flow(fq, lost, number as u64, *hash, load.drop_batch)?);
+        for packet in &made {
+            sum = with(sum, put_flow(fq, &mut toll, packet, load.drop_batch)?);
             if load.takes {
-                lost.try_reserve(fq.queued().0 as usize).ok()?;
-                sum = with(sum, fq.take(0, lost)?.packet.number);
+                toll.reserve(fq.queued().0 as usize)?;
+                if fq.take_into(0, &mut toll, &mut out) == 0 {
+                    return None;
+                }
+                sum = with(sum, out.number);
             }
-            while let Some(packet) = lost.pop_front() {
-                sum = with(sum, packet.number);
+            while let Some(lost) = toll.lost.pop_front() {
+                sum = with(sum, lost.packet.number);
             }
         }
     }
@@ -239,16 +275,13 @@ fn pass_flows(
     Some(with(with(sum, packets), bytes))
 }
 
-fn put_flow(
-    fq: &mut FqCodel,
-    lost: &mut VecDeque<Packet>,
-    number: u64,
-    hash: u32,
-    drop_batch: u32,
-) -> Option<u64> {
-    let mut packet = packet_of(number, (60 + hash % 1400) as u16, 0)?.packet;
-    packet.hash = hash;
-    fq.reserve()?;
-    lost.try_reserve(drop_batch as usize).ok()?;
-    Some(fq.put(packet, 0, lost).into())
+/// 1 where the packet that is put is itself lost, else 0.
+#[inline(always)]
+fn put_flow(fq: &mut FqCodel, toll: &mut Toll, packet: &Packet, drop_batch: u32) -> Option<u64> {
+    toll.reserve(drop_batch as usize)?;
+    match fq.put(packet, 0, toll) {
+        Put::Kept => Some(0),
+        Put::Lost(_) => Some(1),
+        Put::NoMemory => None,
+    }
 }

@@ -1,91 +1,183 @@
 use crate::checksum;
-use crate::trees::{Shape, set_up};
+use crate::packets::Plan;
+use crate::trees::{Shape, Tree, set_up};
 use q_device::{Device, Fate, Polled, Row, Settings, Totals};
 use q_model::{ClassId, Handle, Minor, Place};
-use q_packet::{Ecn, FlowKey, Moment, Packet};
+use q_packet::{Moment, Packet};
 use std::alloc::Global;
 
 /// The longest packet, in bytes.
 const MTU: u16 = 1514;
 
-/// The length of each packet, in bytes.
-const LEN: u16 = 1000;
-
 /// The packets that fit a pfifo of which no line says more.
-const TXQUEUELEN: u32 = 100_000;
+const TXQUEUELEN: u32 = 200_000;
 
-/// The nanoseconds between one packet and the next.
-const STEP: u64 = 1000;
+/// The nanoseconds between the packets that are queued at first.
+const STEP: u32 = 100;
 
-/// The most losses of one packet and one poll.
+/// The most losses of two packets and one poll.
 const MOST_LOST: u32 = 1000;
 
-/// The packets that arrive: of each its hash, its priority and its port of destination.
-#[derive(Clone, Copy)]
-struct Plan<'a> {
-    hashes: &'a [u32],
-    prios: &'a [u8],
-    ports: &'a [u16],
+/// A device with a tree, in which so many packets are queued, and where its clock and the checksum are then.
+#[derive(Drop)]
+struct Ready {
+    device: Device,
+    now: Moment,
+    sum: u64,
 }
 
-impl<'a> Plan<'a> {
-    fn packet(self, i: usize) -> Option<Packet> {
-        let port = *self.ports.get(i)?;
-        let key = FlowKey::new(4, 17, 0x0a00_0001, 0x0a00_0002, 1000, port)?;
-        let (hash, prio) = (*self.hashes.get(i)?, *self.prios.get(i)?);
-        Packet::new(1, i as u64, 2, LEN, key, hash, prio, Ecn::NotEct)
-    }
-}
-
-/// Opens a device, sets this tree up there, and lets the first `queued` packets of the plan arrive. Then each of its
-/// packets arrives and the device is polled after it, so many times over.
+/// Sets a tree up on a device, and lets `queued` packets arrive there. Then each packet of the plan arrives, so many
+/// nanoseconds after the one before, and the device is polled after it, so many times over. Nothing may be lost.
 #[unsafe(no_mangle)]
-pub extern "C" fn q_bench_device(
+pub extern "C" fn q_bench_pairs(
     alloc: Global,
     shape: u32,
     flows: u32,
+    drop_batch: u32,
+    ecn: bool,
     queued: u32,
     hashes: &[u32],
     prios: &[u8],
     ports: &[u16],
+    step: u32,
     passes: u32,
 ) -> u64 {
-    let Some(settings) = Settings::new(MTU, TXQUEUELEN, 0) else {
-        return 0;
-    };
-    let Ok(mut device) = Device::open(alloc, settings) else {
-        return 0;
-    };
-    let Some(shape) = Shape::of(shape) else {
-        return 0;
-    };
-    if set_up(&mut device, shape, flows).is_none() {
-        return 0;
-    }
     let plan = Plan {
         hashes,
         prios,
         ports,
+        ecn,
     };
-    pass_through(&mut device, plan, queued, passes).unwrap_or(0)
+    let Some(made) = plan.made(alloc) else {
+        return 0;
+    };
+    let tree = Tree {
+        flows,
+        drop_batch,
+        ecn,
+    };
+    let Some(mut ready) = queued_up(alloc, shape, tree, queued, made.as_slice()) else {
+        return 0;
+    };
+    pass_pairs(&mut ready, made.as_slice(), step, passes).unwrap_or(0)
 }
 
-fn pass_through(device: &mut Device, plan: Plan, queued: u32, passes: u32) -> Option<u64> {
-    let mut now = Moment::zero();
-    let mut sum = 1;
-    for i in 0..queued {
-        now = Moment::new(now.ns() + STEP)?;
-        sum = checksum::with(sum, arrive(device, plan.packet(i as usize)?, now)?);
-    }
+fn pass_pairs(ready: &mut Ready, made: &[Packet], step: u32, passes: u32) -> Option<u64> {
+    let mut now = ready.now;
+    let mut sum = ready.sum;
+    let device = &mut ready.device;
     for _ in 0..passes {
-        for i in 0..plan.hashes.len() {
-            now = Moment::new(now.ns() + STEP)?;
-            sum = checksum::with(sum, arrive(device, plan.packet(i)?, now)?);
+        for packet in made {
+            now = Moment::new(now.ns() + u64::from(step))?;
+            sum = checksum::with(sum, arrive(device, *packet, now)?);
             sum = checksum::with(sum, polled(&device.poll(now)));
-            sum = reap(device, sum);
         }
     }
     with_counts(device, sum)
+}
+
+/// The same, but two packets arrive before each poll, and what is lost is reaped after it. Of each poll `waits` says how
+/// many nanoseconds it is after the one before.
+#[unsafe(no_mangle)]
+pub extern "C" fn q_bench_losses(
+    alloc: Global,
+    shape: u32,
+    flows: u32,
+    drop_batch: u32,
+    ecn: bool,
+    queued: u32,
+    hashes: &[u32],
+    prios: &[u8],
+    ports: &[u16],
+    waits: &[u32],
+) -> u64 {
+    let plan = Plan {
+        hashes,
+        prios,
+        ports,
+        ecn,
+    };
+    let Some(made) = plan.made(alloc) else {
+        return 0;
+    };
+    let tree = Tree {
+        flows,
+        drop_batch,
+        ecn,
+    };
+    let Some(mut ready) = queued_up(alloc, shape, tree, queued, made.as_slice()) else {
+        return 0;
+    };
+    pass_losses(&mut ready, made.as_slice(), waits).unwrap_or(0)
+}
+
+fn pass_losses(ready: &mut Ready, made: &[Packet], waits: &[u32]) -> Option<u64> {
+    let mut now = ready.now;
+    let mut sum = ready.sum;
+    let device = &mut ready.device;
+    let mut next = 0;
+    for wait in waits {
+        now = Moment::new(now.ns() + u64::from(*wait))?;
+        sum = checksum::with(sum, arrive(device, *made.get(next)?, now)?);
+        sum = checksum::with(sum, arrive(device, *made.get(next + 1)?, now)?);
+        sum = checksum::with(sum, polled(&device.poll(now)));
+        sum = reap(device, sum);
+        next = if next + 3 < made.len() { next + 2 } else { 0 };
+    }
+    with_counts(device, sum)
+}
+
+/// The loop of [`q_bench_pairs`] without a device: what it would answer of each packet is what it would answer of a wire.
+#[unsafe(no_mangle)]
+pub extern "C" fn q_bench_harness(
+    alloc: Global,
+    hashes: &[u32],
+    prios: &[u8],
+    ports: &[u16],
+    step: u32,
+    passes: u32,
+) -> u64 {
+    let plan = Plan {
+        hashes,
+        prios,
+        ports,
+        ecn: false,
+    };
+    let Some(made) = plan.made(alloc) else {
+        return 0;
+    };
+    pass_wire(made.as_slice(), step, passes).unwrap_or(0)
+}
+
+fn pass_wire(made: &[Packet], step: u32, passes: u32) -> Option<u64> {
+    let mut now = Moment::zero();
+    let mut sum = 1;
+    for _ in 0..passes {
+        for packet in made {
+            now = Moment::new(now.ns() + u64::from(step))?;
+            sum = checksum::with(sum, now.ns());
+            sum = checksum::with(sum, summary(packet));
+        }
+    }
+    Some(sum)
+}
+
+/// A device with this tree, at which the first packets have arrived, round and round.
+fn queued_up(alloc: Global, shape: u32, tree: Tree, queued: u32, made: &[Packet]) -> Option<Ready> {
+    let settings = Settings::new(MTU, TXQUEUELEN, 0)?;
+    let Ok(mut device) = Device::open(alloc, settings) else {
+        return None;
+    };
+    set_up(&mut device, Shape::of(shape)?, tree)?;
+    let mut now = Moment::zero();
+    let mut sum = 1;
+    let mut next = 0;
+    for _ in 0..queued {
+        now = Moment::new(now.ns() + u64::from(STEP))?;
+        sum = checksum::with(sum, arrive(&mut device, *made.get(next)?, now)?);
+        next = if next + 1 < made.len() { next + 1 } else { 0 };
+    }
+    Some(Ready { device, now, sum })
 }
 
 /// The number of the cause where the packet is lost, else 0.
@@ -99,22 +191,30 @@ fn arrive(device: &mut Device, packet: Packet, now: Moment) -> Option<u64> {
 
 fn polled(polled: &Polled) -> u64 {
     match polled {
-        Polled::Packet(packet) => {
-            packet.number ^ u64::from(packet.hash) << 24 ^ u64::from(packet.len) << 40
-        }
+        Polled::Packet(packet) => summary(packet),
         Polled::Idle => 1 << 60,
         Polled::Later => 2 << 60,
     }
 }
 
-/// The checksum with the number of each packet that was lost.
+fn summary(packet: &Packet) -> u64 {
+    packet.number
+        ^ u64::from(packet.hash) << 16
+        ^ u64::from(packet.len) << 32
+        ^ u64::from(packet.ecn.bits()) << 48
+}
+
+/// The checksum with the number of each packet that was lost, and why.
 fn reap(device: &mut Device, sum: u64) -> u64 {
     let mut sum = sum;
     for _ in 0..MOST_LOST {
         let Some(lost) = device.reap() else {
             return sum;
         };
-        sum = checksum::with(sum, lost.packet.number);
+        sum = checksum::with(
+            sum,
+            lost.packet.number ^ u64::from(lost.cause.number()) << 32,
+        );
     }
     sum
 }

@@ -1,7 +1,8 @@
 use crate::checksum;
+use crate::packets::hashed;
 use q_codel::Losses;
 use q_fqcodel::{FqCodel, Settings};
-use q_packet::{Ecn, FlowKey, Moment, Packet};
+use q_packet::{Moment, Packet};
 use std::alloc::Global;
 
 /// Puts a packet of each of these hashes into an fq_codel of so many flows, so many times over; with `takes` it takes one
@@ -33,25 +34,33 @@ pub extern "C" fn q_bench_flows(
         return 0;
     };
     let mut losses = Losses::new(alloc);
-    for number in 0..queued {
-        if put(&mut fq, &mut losses, u64::from(number), number).is_none() {
+    let Some(made) = hashed(alloc, hashes) else {
+        return 0;
+    };
+    let mut next = 0;
+    for _ in 0..queued {
+        let Some(packet) = made.get(next) else {
+            return 0;
+        };
+        if put(&mut fq, &mut losses, *packet).is_none() {
             return 0;
         }
+        next = if next + 1 < made.len() { next + 1 } else { 0 };
     }
-    pass_through(&mut fq, &mut losses, takes, hashes, passes).unwrap_or(0)
+    pass_through(&mut fq, &mut losses, takes, made.as_slice(), passes).unwrap_or(0)
 }
 
 fn pass_through(
     fq: &mut FqCodel,
     losses: &mut Losses,
     takes: bool,
-    hashes: &[u32],
+    made: &[Packet],
     passes: u32,
 ) -> Option<u64> {
     let mut sum = 1;
     for _ in 0..passes {
-        for (number, hash) in hashes.iter().enumerate() {
-            sum = checksum::with(sum, put(fq, losses, number as u64, *hash)?);
+        for packet in made {
+            sum = checksum::with(sum, put(fq, losses, *packet)?);
             if takes {
                 sum = checksum::with(sum, take(fq, losses)?);
             }
@@ -67,9 +76,7 @@ fn pass_through(
 }
 
 /// 1 where the packet that is put is itself lost, else 0.
-fn put(fq: &mut FqCodel, losses: &mut Losses, number: u64, hash: u32) -> Option<u64> {
-    let len = (60 + hash % 1400) as u16;
-    let packet = Packet::new(1, number, 2, len, FlowKey::zero(), hash, 4, Ecn::NotEct)?;
+fn put(fq: &mut FqCodel, losses: &mut Losses, packet: Packet) -> Option<u64> {
     let settings = fq.settings();
     if fq.reserve().is_err() || losses.reserve(settings.drop_batch as usize).is_err() {
         return None;

@@ -1,6 +1,7 @@
 use crate::checksum;
+use crate::packets::sized;
 use q_codel::{Codel, Fifo, Limit, Losses};
-use q_packet::{Ecn, FlowKey, Moment, Packet, Stamped};
+use q_packet::{Moment, Packet, Stamped};
 use std::alloc::Global;
 
 /// CoDel's target, in nanoseconds.
@@ -15,20 +16,24 @@ const MTU: u16 = 1514;
 /// Puts a packet into a fifo of `queued` packets and takes one out, for each of `lens`, so many times over.
 #[unsafe(no_mangle)]
 pub extern "C" fn q_bench_fifo(alloc: Global, queued: u32, lens: &[u16], passes: u32) -> u64 {
+    let Some(made) = sized(alloc, lens) else {
+        return 0;
+    };
     let most = u64::from(queued) + 1;
     let mut queue = Fifo::new(alloc, Limit::Packets(most));
-    pass_through(&mut queue, queued, lens, passes).unwrap_or(0)
+    if fill(&mut queue, queued, made.as_slice()).is_none() {
+        return 0;
+    }
+    pass_through(&mut queue, made.as_slice(), passes).unwrap_or(0)
 }
 
-fn pass_through(queue: &mut Fifo, queued: u32, lens: &[u16], passes: u32) -> Option<u64> {
-    let now = Moment::zero();
-    for number in 0..queued {
-        put(queue, packet_of(u64::from(number), MTU, now)?)?;
-    }
-    let mut sum = 0;
+fn pass_through(queue: &mut Fifo, made: &[Packet], passes: u32) -> Option<u64> {
+    let at = Moment::zero();
+    let mut sum = 1;
     for _ in 0..passes {
-        for (number, len) in lens.iter().enumerate() {
-            put(queue, packet_of(number as u64, *len, now)?)?;
+        for given in made {
+            let packet = *given;
+            put(queue, Stamped { packet, at })?;
             let Stamped { packet, .. } = queue.take()?;
             sum = checksum::with(sum, summary(&packet));
         }
@@ -36,44 +41,58 @@ fn pass_through(queue: &mut Fifo, queued: u32, lens: &[u16], passes: u32) -> Opt
     Some(sum)
 }
 
-/// Takes from a fifo of `queued` packets by CoDel, at each of `moments`, and puts a packet there for each that left.
+/// Takes from a fifo of `queued` packets by CoDel, at each of `moments`, and puts a packet there for each that left, of
+/// these lengths round and round.
 #[unsafe(no_mangle)]
-pub extern "C" fn q_bench_codel(alloc: Global, queued: u32, moments: &[u64]) -> u64 {
+pub extern "C" fn q_bench_codel(alloc: Global, queued: u32, lens: &[u16], moments: &[u64]) -> u64 {
+    let Some(made) = sized(alloc, lens) else {
+        return 0;
+    };
     let most = u64::from(queued) + 1;
     let mut queue = Fifo::new(alloc, Limit::Packets(most));
     let mut losses = Losses::new(alloc);
     if losses.reserve(queued as usize).is_err() {
         return 0;
     }
-    take_at(&mut queue, &mut losses, queued, moments).unwrap_or(0)
+    if fill(&mut queue, queued, made.as_slice()).is_none() {
+        return 0;
+    }
+    take_at(&mut queue, &mut losses, made.as_slice(), moments).unwrap_or(0)
 }
 
-fn take_at(queue: &mut Fifo, losses: &mut Losses, queued: u32, moments: &[u64]) -> Option<u64> {
-    for number in 0..queued {
-        put(queue, packet_of(u64::from(number), MTU, Moment::zero())?)?;
-    }
+fn take_at(queue: &mut Fifo, losses: &mut Losses, made: &[Packet], moments: &[u64]) -> Option<u64> {
     let mut codel = Codel::new(TARGET, INTERVAL, MTU, false);
-    let mut sum = 0;
+    let mut next = 0;
+    let mut sum = 1;
     for moment in moments {
-        let now = Moment::new(*moment)?;
+        let at = Moment::new(*moment)?;
         if queue.count() > losses.room() {
             return None;
         }
-        let taken = codel.take(queue, now, losses)?;
+        let taken = codel.take(queue, at, losses)?;
         sum = checksum::with(sum, summary(&taken.packet));
-        put(queue, packet_of(*moment, MTU, now)?)?;
+        let packet = *made.get(next)?;
+        put(queue, Stamped { packet, at })?;
         for _ in 0..losses.count() {
             let loss = losses.reap()?;
             sum = checksum::with(sum, summary(&loss.packet));
-            put(queue, packet_of(*moment, MTU, now)?)?;
+            put(queue, Stamped { packet, at })?;
         }
+        next = if next + 1 < made.len() { next + 1 } else { 0 };
     }
     Some(checksum::with(sum, u64::from(codel.count())))
 }
 
-fn packet_of(number: u64, len: u16, at: Moment) -> Option<Stamped> {
-    let packet = Packet::new(1, number, 2, len, FlowKey::zero(), 3, 4, Ecn::NotEct)?;
-    Some(Stamped { packet, at })
+/// Puts so many packets at moment 0, round and round.
+fn fill(queue: &mut Fifo, queued: u32, made: &[Packet]) -> Option<()> {
+    let at = Moment::zero();
+    let mut next = 0;
+    for _ in 0..queued {
+        let packet = *made.get(next)?;
+        put(queue, Stamped { packet, at })?;
+        next = if next + 1 < made.len() { next + 1 } else { 0 };
+    }
+    Some(())
 }
 
 fn summary(packet: &Packet) -> u64 {

@@ -20,7 +20,10 @@ const MAJOR_BEFORE: u16 = 0x10;
 /// The classes of a drr, by their minor numbers.
 const CLASSES: [u16; 8] = [1, 2, 3, 4, 5, 6, 7, 8];
 
-/// A tree that is timed.
+/// The prios of the deep tree that have another beneath them, by their major numbers.
+const INNER: [u16; 6] = [1, 2, 3, 4, 5, 6];
+
+/// The disciplines of a tree that is timed.
 #[derive(Clone, Copy)]
 pub enum Shape {
     Pfifo,
@@ -29,10 +32,11 @@ pub enum Shape {
     DrrOfPfifos,
     FqCodel,
     DrrOfFqCodels,
+    Deep,
 }
 
 impl Shape {
-    /// The tree that the caller of the library gives this number.
+    /// The disciplines to which the caller of the library gives this number.
     pub fn of(number: u32) -> Option<Shape> {
         match number {
             0 => Some(Shape::Pfifo),
@@ -41,31 +45,59 @@ impl Shape {
             3 => Some(Shape::DrrOfPfifos),
             4 => Some(Shape::FqCodel),
             5 => Some(Shape::DrrOfFqCodels),
+            6 => Some(Shape::Deep),
             _ => None,
         }
     }
 }
 
+/// What is set of each fq_codel.
+#[derive(Clone, Copy)]
+pub struct Tree {
+    pub flows: u32,
+    pub drop_batch: u32,
+    pub ecn: bool,
+}
+
 /// Sets the tree up on a new device; `None` where a command is refused.
-pub fn set_up(device: &mut Device, shape: Shape, flows: u32) -> Option<()> {
+pub fn set_up(device: &mut Device, shape: Shape, tree: Tree) -> Option<()> {
     match shape {
         Shape::Pfifo => pfifo(device),
-        Shape::Prio => prio(device),
+        Shape::Prio => prio(device, Place::Root, 1, PRIOMAP),
         Shape::Tbf => tbf(device),
         Shape::DrrOfPfifos => drr(device),
-        Shape::FqCodel => fq_codel(device, Place::Root, 1, flows),
-        Shape::DrrOfFqCodels => drr_of_fq_codels(device),
+        Shape::FqCodel => fq_codel(device, Place::Root, 1, tree),
+        Shape::DrrOfFqCodels => drr_of_fq_codels(device, tree),
+        Shape::Deep => deep(device),
     }
 }
 
 fn pfifo(device: &mut Device) -> Option<()> {
-    let limit = Some(20_000);
+    let limit = Some(200_000);
     graft(device, Place::Root, 1, Kind::Pfifo { limit })
 }
 
-fn prio(device: &mut Device) -> Option<()> {
-    let options = PrioOptions::new(3, PRIOMAP)?;
-    graft(device, Place::Root, 1, Kind::Prio(options))
+fn prio(device: &mut Device, place: Place, major: u16, priomap: [u8; 16]) -> Option<()> {
+    let options = PrioOptions::new(3, priomap)?;
+    graft(device, place, major, Kind::Prio(options))
+}
+
+/// Seven prios, each in the first band of the one above, to which all packets go; with its pfifo the path has eight qdiscs.
+fn deep(device: &mut Device) -> Option<()> {
+    prio(device, Place::Root, 1, [0; 16])?;
+    for major in INNER {
+        let above = ClassId {
+            major: Handle::new(major)?,
+            minor: Minor::new(1)?,
+        };
+        prio(
+            device,
+            Place::Class(above),
+            major.saturating_add(1),
+            [0; 16],
+        )?;
+    }
+    Some(())
 }
 
 /// A tbf that is faster than the packets come.
@@ -76,24 +108,24 @@ fn tbf(device: &mut Device) -> Option<()> {
     graft(device, Place::Root, 1, Kind::Tbf { rate, burst, limit })
 }
 
-fn fq_codel(device: &mut Device, place: Place, major: u16, flows: u32) -> Option<()> {
+fn fq_codel(device: &mut Device, place: Place, major: u16, tree: Tree) -> Option<()> {
     let options = FqCodelOptions::new(
         Some(10_240),
-        Some(flows),
+        Some(tree.flows),
         None,
         None,
         None,
-        Some(false),
-        Some(64),
+        Some(tree.ecn),
+        Some(tree.drop_batch),
     )?;
     graft(device, place, major, Kind::FqCodel(options))
 }
 
-fn drr_of_fq_codels(device: &mut Device) -> Option<()> {
+fn drr_of_fq_codels(device: &mut Device, tree: Tree) -> Option<()> {
     drr(device)?;
     for minor in CLASSES {
         let place = Place::Class(class(minor)?);
-        fq_codel(device, place, MAJOR_BEFORE.saturating_add(minor), 1024)?;
+        fq_codel(device, place, MAJOR_BEFORE.saturating_add(minor), tree)?;
     }
     Some(())
 }

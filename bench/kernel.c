@@ -1,0 +1,305 @@
+/* The workloads of src/devices.rs over the kernel's own qdiscs, in user space. `kpeer.h` is that of a kernel bench, a folder
+ * beside this repository (docs/PERFORMANCE.md): it puts the source files of Linux's qdiscs under a thin stand-in for the rest
+ * of the kernel. A packet is a pointer here. Its fields are written at each arrival, since buffers go round. */
+#include "kpeer.h"
+
+/* As `Load` in src/kernel.rs. */
+struct load {
+	const u32 *hashes;
+	const u8 *prios;
+	const u16 *ports;
+	u32 packets, shape, flows, drop_batch, queued;
+	bool ecn;
+};
+enum { PFIFO, PRIO, TBF, DRR_OF_PFIFOS, FQ_CODEL, DRR_OF_FQ_CODELS, DEEP };
+
+#define BUFFERS (1 << 17)
+#define CLASSES 8
+#define FIRST_PORT 5000
+#define STEP 100
+static struct sk_buff *buffers;
+static struct sk_buff **spare;
+static u32 spares;
+
+static struct net_device dev;
+static struct attrs at;
+static unsigned long class_of[CLASSES];
+
+static inline void give_back(struct sk_buff *skb)
+{
+	spare[spares++] = skb;
+}
+
+static void shim_lost(struct sk_buff *skb)
+{
+	give_back(skb);
+}
+
+static int by_mark(struct sk_buff *skb, struct tcf_proto *tp, struct tcf_result *res)
+{
+	(void)tp;
+	res->class = class_of[skb->mark];
+	res->classid = 0x10000 | (skb->mark + 1);
+	return 0;
+}
+static struct tcf_proto mark_filter = { .classify = by_mark };
+
+static struct Qdisc *make(const struct Qdisc_ops *ops, u32 parent, u32 handle, struct nlattr *options)
+{
+	int error;
+	struct Qdisc *q = shim_create(&dev, ops, parent, handle, options, &error, NULL);
+
+	if (!q) {
+		fprintf(stderr, "kernel.c: %s: %d\n", ops->id, error);
+		exit(1);
+	}
+	return q;
+}
+
+static struct nlattr *options_of(const void *bytes, int len)
+{
+	memcpy(at.b + 4, bytes, len);
+	at.len = 4 + len;
+	return at_end(&at);
+}
+
+static struct Qdisc *fq_codel(const struct load *load, u32 parent, u32 handle)
+{
+	at_start(&at);
+	at_u32(&at, TCA_FQ_CODEL_LIMIT, 10240);
+	at_u32(&at, TCA_FQ_CODEL_FLOWS, load->flows);
+	at_u32(&at, TCA_FQ_CODEL_ECN, load->ecn);
+	at_u32(&at, TCA_FQ_CODEL_DROP_BATCH_SIZE, load->drop_batch);
+	return make(&fq_codel_qdisc_ops, parent, handle, at_end(&at));
+}
+
+static struct Qdisc *pfifo(void)
+{
+	struct tc_fifo_qopt options = { 200000 };
+
+	return make(&pfifo_qdisc_ops, TC_H_ROOT, 0x10000, options_of(&options, sizeof(options)));
+}
+
+static struct Qdisc *prio(u32 parent, u32 handle, bool deep)
+{
+	struct tc_prio_qopt options = { 3, { 1, 2, 2, 2, 1, 2, 0, 0, 1, 1, 1, 1, 1, 1, 1, 1 } };
+
+	if (deep)
+		memset(options.priomap, 0, sizeof(options.priomap));
+	return make(&prio_qdisc_ops, parent, handle, options_of(&options, sizeof(options)));
+}
+
+/* Seven prios, each in the first band of the one above. */
+static struct Qdisc *path(void)
+{
+	struct Qdisc *root = prio(TC_H_ROOT, 0x10000, true), *above = root, *old;
+
+	for (u32 major = 2; major <= 7; major++) {
+		struct Qdisc *q = prio(((major - 1) << 16) | 1, major << 16, true);
+
+		prio_graft(above, 1, q, &old, NULL);
+		qdisc_put(old);
+		above = q;
+	}
+	return root;
+}
+
+/* 34 Gbit/s, at which nothing waits. */
+static struct Qdisc *tbf(void)
+{
+	struct tc_tbf_qopt options = { 0 };
+
+	options.limit = 1u << 30;
+	options.rate.rate = 0xffffffff;
+	options.rate.linklayer = TC_LINKLAYER_ETHERNET;
+	at_start(&at);
+	at_u32(&at, TCA_TBF_BURST, 1u << 30);
+	at_put(&at, TCA_TBF_PARMS, &options, sizeof(options));
+	return make(&tbf_qdisc_ops, TC_H_ROOT, 0x10000, at_end(&at));
+}
+
+/* A drr whose one filter reads the class from a mark. */
+static struct Qdisc *drr(const struct load *load, bool has_flows)
+{
+	struct Qdisc *q = make(&drr_qdisc_ops, TC_H_ROOT, 0x10000, NULL), *old;
+	struct nlattr *attributes[16] = { 0 };
+	struct drr_sched *sched = qdisc_priv(q);
+
+	for (int i = 0; i < CLASSES; i++) {
+		unsigned long class = 0;
+
+		at_start(&at);
+		attributes[TCA_OPTIONS] = at_end(&at);
+		if (drr_change_class(q, 0x10001 + i, 0x10000, attributes, &class, NULL))
+			exit(1);
+		class_of[i] = class;
+		if (has_flows) {
+			drr_graft_class(q, class, fq_codel(load, 0x10001 + i, (0x10 + i) << 16), &old, NULL);
+			qdisc_put(old);
+		}
+	}
+	sched->filter_list = &mark_filter;
+	return q;
+}
+
+static struct Qdisc *tree(const struct load *load)
+{
+	switch (load->shape) {
+	case PFIFO: return pfifo();
+	case PRIO: return prio(TC_H_ROOT, 0x10000, false);
+	case TBF: return tbf();
+	case DRR_OF_PFIFOS: return drr(load, false);
+	case FQ_CODEL: return fq_codel(load, TC_H_ROOT, 0x10000);
+	case DRR_OF_FQ_CODELS: return drr(load, true);
+	default: return path();
+	}
+}
+
+/* A packet, made before: what is written into a buffer when it arrives. */
+struct made { u32 hash, mark, prio, id; };
+
+static struct made *made_of(const struct load *load)
+{
+	struct made *made = malloc(load->packets * sizeof(*made));
+	u64 flows = load->flows;
+
+	for (u32 i = 0; i < load->packets; i++) {
+		u64 flow = load->hashes[i];
+
+		/* The kernel takes the high bits of a hash for the flow. */
+		made[i].hash = ((flow << 32) + flows - 1) / flows;
+		made[i].mark = load->ports[i] - FIRST_PORT;
+		made[i].prio = load->prios[i];
+		made[i].id = i;
+	}
+	return made;
+}
+
+static inline u64 with(u64 sum, u64 value)
+{
+	return (sum << 5 | sum >> 59) + value;
+}
+
+static inline struct sk_buff *written(const struct made *made, bool ecn)
+{
+	struct sk_buff *skb = spare[--spares];
+
+	skb->next = NULL;
+	skb->hash = made->hash;
+	skb->mark = made->mark;
+	skb->priority = made->prio;
+	skb->id = made->id;
+	skb->ect = ecn ? 2 : 0;
+	skb->truesize = 2304;
+	qdisc_skb_cb(skb)->pkt_len = 1000;
+	return skb;
+}
+
+static inline u64 summary(const struct sk_buff *skb)
+{
+	return skb->id ^ (u64)skb->hash << 16 ^ (u64)qdisc_skb_cb(skb)->pkt_len << 32 ^ (u64)skb->ect << 48;
+}
+
+static inline u64 arrive(struct Qdisc *q, const struct made *made, bool ecn)
+{
+	struct sk_buff *to_free = NULL;
+	int fate = q->enqueue(written(made, ecn), q, &to_free);
+
+	while (unlikely(to_free)) {
+		struct sk_buff *next = to_free->next;
+
+		give_back(to_free);
+		to_free = next;
+	}
+	return fate;
+}
+
+static inline u64 poll(struct Qdisc *q)
+{
+	struct sk_buff *skb = q->dequeue(q);
+	u64 value;
+
+	if (!skb)
+		return 1ull << 60;
+	value = summary(skb);
+	give_back(skb);
+	return value;
+}
+
+/* The tree with the packets that are queued at first. */
+static struct Qdisc *ready(const struct load *load, const struct made *made)
+{
+	struct Qdisc *q;
+
+	if (!buffers) {
+		buffers = aligned_alloc(64, sizeof(*buffers) * BUFFERS);
+		memset(buffers, 0, sizeof(*buffers) * BUFFERS);
+		spare = malloc(sizeof(*spare) * BUFFERS);
+	}
+	for (spares = 0; spares < BUFFERS; spares++)
+		spare[spares] = &buffers[BUFFERS - 1 - spares];
+	shim_device(&dev, 1514, 200000);
+	shim_now = 1000000000;
+	q = tree(load);
+	for (u32 i = 0; i < load->queued; i++) {
+		shim_now += STEP;
+		arrive(q, &made[i % load->packets], load->ecn);
+	}
+	return q;
+}
+
+u64 kernel_pairs(const struct load *load, u32 step, u32 passes)
+{
+	struct made *made = made_of(load);
+	struct Qdisc *q = ready(load, made);
+	u64 sum = 1;
+
+	for (u32 pass = 0; pass < passes; pass++)
+		for (u32 i = 0; i < load->packets; i++) {
+			shim_now += step;
+			sum = with(sum, arrive(q, &made[i], load->ecn));
+			sum = with(sum, poll(q));
+		}
+	qdisc_put(q);
+	free(made);
+	return sum;
+}
+
+u64 kernel_losses(const struct load *load, const u32 *waits, size_t polls)
+{
+	struct made *made = made_of(load);
+	struct Qdisc *q = ready(load, made);
+	u64 sum = 1;
+	u32 next = 0;
+
+	for (size_t i = 0; i < polls; i++) {
+		shim_now += waits[i];
+		sum = with(sum, arrive(q, &made[next], load->ecn));
+		sum = with(sum, arrive(q, &made[next + 1], load->ecn));
+		sum = with(sum, poll(q));
+		next = next + 3 < load->packets ? next + 2 : 0;
+	}
+	qdisc_put(q);
+	free(made);
+	return sum;
+}
+
+u64 kernel_harness(const struct load *load, u32 passes)
+{
+	struct made *made = made_of(load);
+	struct Qdisc *q = ready(load, made);
+	u64 sum = 1;
+
+	for (u32 pass = 0; pass < passes; pass++)
+		for (u32 i = 0; i < load->packets; i++) {
+			struct sk_buff *skb = written(&made[i], load->ecn);
+
+			shim_now += STEP;
+			sum = with(sum, shim_now);
+			sum = with(sum, summary(skb));
+			give_back(skb);
+		}
+	qdisc_put(q);
+	free(made);
+	return sum;
+}

@@ -1,0 +1,55 @@
+//! The rows over ports: `crates/q_ports_bench`, a program, beside the same in plain Rust. Neither is counted in instructions,
+//! since senders and the drainer wait for one another.
+
+use crate::plain::ports;
+use crate::table;
+use crate::timing::{Figure, Times};
+use std::io;
+use std::process::Command;
+
+/// The rows, in the order in which both sides give them.
+const ROWS: [&str; 5] = [
+    "ports: an offer",
+    "ports: a turn of 64, for each",
+    "ports: drive, 1 sender, for each",
+    "ports: drive, 4 senders, for each",
+    "ports: drive, 16 senders, for each",
+];
+
+/// Times both sides in turns, and prints the rows.
+pub fn print(program: &str, rounds: usize) -> io::Result<()> {
+    let (mut rattle, mut plain) = (Vec::new(), Vec::new());
+    for _ in 0..rounds {
+        rattle.push(run(program)?);
+        plain.push(ports::timed().ok_or_else(|| io::Error::other("the plain ports failed"))?);
+    }
+    for (at, name) in ROWS.iter().enumerate() {
+        let figure = |side: &[[f64; 5]]| Figure::of(side.iter().map(|times| times[at]).collect());
+        let ratios = rattle.iter().zip(&plain).map(|(ours, theirs)| ours[at] / theirs[at]);
+        let times = Times {
+            rattle: figure(&rattle),
+            plain: figure(&plain),
+            kernel: None,
+            ratio: Figure::of(ratios.collect()),
+        };
+        println!("{}{}", table::head(name), table::timed(&times));
+    }
+    Ok(())
+}
+
+/// One round of the program.
+fn run(program: &str) -> io::Result<[f64; 5]> {
+    let output = Command::new(program).arg("times").output()?;
+    let text = String::from_utf8_lossy(&output.stdout);
+    let figures: Vec<f64> = text.lines().filter_map(each).collect();
+    match <[f64; 5]>::try_from(figures) {
+        Ok(times) if times.iter().all(|time| *time > 0.0) => Ok(times),
+        _ => Err(io::Error::other(format!("{program}: {text}"))),
+    }
+}
+
+/// The nanoseconds of one packet, of a line with those of so many.
+fn each(line: &str) -> Option<f64> {
+    let (span, packets) = line.split_once(' ')?;
+    Some(span.parse::<f64>().ok()? / packets.parse::<f64>().ok()?)
+}

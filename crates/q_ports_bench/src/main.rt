@@ -1,0 +1,66 @@
+//! Times the ports for the benchmark in `bench/`: given the word `times`, it prints five lines, each with a number of
+//! nanoseconds and of packets; else it does nothing.
+//!
+//! They are those of an offer, of a turn of 64, and of `drive` with 1, 4 and 16 senders, all into a root pfifo. A static
+//! library may not wait, so that these are timed here, and not beside the other workloads (`q_bench`). The time is 0 where
+//! memory or a thread was refused, or a packet did not arrive.
+//!
+//! - [`one_port`]: offers and turns on one thread.
+//! - [`senders`]: a thread for each port, and the drain.
+#![tactic(auto)]
+
+ghost use Rattle.std.specs.Prelude.{◌≡◌, IfSome};
+ghost use Rattle.q_model.specs.Tally.{no_totals};
+
+mod one_port;
+mod senders;
+
+use crate::one_port::{PACKETS, offers_and_turns};
+use crate::senders::drive_all;
+use q_device::{Device, Settings};
+use q_packet::{Ecn, FlowKey, Packet};
+use std::alloc::Global;
+use std::time::{Clock, Instant};
+use std::{env, io};
+
+/// The packets of all senders together.
+const SENT: usize = 262_144;
+
+fn main(rt: HostRuntime) -> io::Result<()> {
+    let words: Vec<String> = env::args(&rt)?.collect(rt.alloc())?;
+    if words.len() != 2 {
+        return Ok(());
+    }
+    let alloc = rt.alloc();
+    let (mut offers, mut turns) = (0, 0);
+    if let (Some(device), Some(given)) = (device(alloc), packet()) {
+        (offers, turns) = offers_and_turns(&rt, alloc, device, given)?;
+    }
+    println!(rt; "{offers} {PACKETS}")?;
+    println!(rt; "{turns} {PACKETS}")?;
+    for senders in [1, 4, 16] {
+        let mut span = 0;
+        if let (Some(device), Some(given)) = (device(alloc), packet()) {
+            span = drive_all(&rt, alloc, device, given, senders, SENT / senders)?;
+        }
+        println!(rt; "{span} {SENT}")?;
+    }
+    Ok(())
+}
+
+/// A device with a root pfifo at which nothing has arrived, in which all packets fit.
+fn device(alloc: Global) -> Option<Device>
+    ensures { IfSome result (λ d. d.device.tree.top.arrived ≡ no_totals) }
+{
+    Device::open(alloc, Settings::new(1514, 1_000_000, 0)?).ok()
+}
+
+fn packet() -> Option<Packet> {
+    let key = FlowKey::new(4, 17, 0x0a00_0001, 0x0a00_0002, 1000, 5000)?;
+    Packet::new(0, 0, 2, 1000, key, 3, 0, Ecn::NotEct)
+}
+
+/// The nanoseconds since then.
+pub fn span_since<C: Clock>(clock: &C, start: &Instant) -> io::Result<u64> {
+    Ok(u64::try_from(start.elapsed(clock)?.as_nanos()).unwrap_or(0))
+}

@@ -1,0 +1,115 @@
+ghost use Rattle.std.specs.Prelude.{◌≡◌};
+ghost use Rattle.q_model.specs.Tally.{no_totals};
+
+use crate::span_since;
+use q_device::Device;
+use q_packet::{Moment, Packet};
+use q_ports::{Booked, Gate, Unsettled, drive, open_ports};
+use std::alloc::{AllocError, Global};
+use std::io;
+use std::marker::Brand;
+use std::sync::ledger::{Blank, Ledger};
+use std::sync::{Mutex, Wait};
+use std::thread::Threads;
+use std::time::{Clock, Instant};
+
+/// The packets that fit each ring.
+const RING: usize = 1024;
+
+/// The nanoseconds between two turns.
+const STEP: u64 = 1000;
+
+/// How often a packet is offered.
+const TRIES: u64 = 1_000_000_000;
+
+/// A gate that holds nobody up.
+struct FreeGate;
+
+impl Gate for FreeGate {
+    fn before_offer(&self, _port: u32, _nth: u64) {}
+
+    fn after_offer(&self, _port: u32, _nth: u64) {}
+}
+
+/// The nanoseconds in which so many senders, 1 to 64, place so many packets each; 0 for other numbers, and where one is
+/// given up.
+pub fn drive_all<R: Threads + Wait + Sync + Clock>(
+    rt: &R,
+    alloc: Global,
+    device: Device,
+    given: Packet,
+    senders: usize,
+    each: usize,
+) -> io::Result<u64>
+    requires { device.device.tree.top.arrived ≡ no_totals }
+{
+    let (packets, bytes) = (Blank::new(65), Blank::new(65));
+    match loads(alloc, given, senders, each) {
+        Ok(loads) => booked::<Brand, Brand, R>(rt, alloc, device, loads, packets, bytes),
+        Err(_) => Ok(0),
+    }
+}
+
+/// A load for each sender.
+fn loads(
+    alloc: Global,
+    given: Packet,
+    senders: usize,
+    each: usize,
+) -> Result<Vec<Vec<Packet>>, AllocError> {
+    let mut loads = Vec::new(alloc);
+    for _sender in 0..senders {
+        loads.push(vec![in alloc; given; each]?)?;
+    }
+    Ok(loads)
+}
+
+fn booked<P: Ledger + Send + Sync, B: Ledger + Send + Sync, R: Threads + Wait + Sync + Clock>(
+    rt: &R,
+    alloc: Global,
+    device: Device,
+    loads: Vec<Vec<Packet>>,
+    packets: Blank,
+    bytes: Blank,
+) -> io::Result<u64>
+    requires nothing { device.device.tree.top.arrived ≡ no_totals }
+    requires packets { (packets.name ≡ P.name) × (packets.parts ≡ P.parts) × (P.parts ≡ 65) }
+    requires bytes { (bytes.name ≡ B.name) × (bytes.parts ≡ B.parts) × (B.parts ≡ 65) }
+{
+    let count = loads.len();
+    if count < 1 || count > 64 {
+        return Ok(0);
+    }
+    let (booked, seat) = Booked::<P, B>::new(device, packets, bytes);
+    let from = Instant::now(rt)?;
+    let Ok((drain, ports, _gauges)) = open_ports(rt, alloc, seat, count, RING, 0) else {
+        return Ok(0);
+    };
+    let lock = Mutex::new(booked);
+    match drive(
+        rt,
+        alloc,
+        &lock,
+        drain,
+        ports,
+        loads,
+        &FreeGate,
+        Moment::zero(),
+        STEP,
+        TRIES,
+    ) {
+        Ok(driven) => {
+            let span = span_since(rt, &from)?;
+            Ok(if driven.given_up == 0 { span } else { 0 })
+        }
+        Err(
+            Unsettled {
+                drain,
+                ports: _ports,
+            },
+        ) => {
+            drain.end(rt);
+            Ok(0)
+        }
+    }
+}
