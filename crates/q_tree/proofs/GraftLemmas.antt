@@ -23,10 +23,8 @@ use Rattle.q_model.specs.Node.{Node, Shape, blank, shape}
 use Rattle.q_model.specs.QdiscCommands.{leaf_at, new_qdisc, place_checks, qdisc_add_checks, way_to_parent}
 use Rattle.q_model.specs.Ranges.{IsCommand, IsKind}
 use Rattle.q_model.specs.Refusals.{Check, done_unless, first_refusal, is_classless, is_so, most_nodes, refuse}
-use Rattle.q_model.specs.Tally.{totals}
 use Rattle.q_model.specs.TreeState.{plan}
 use Rattle.q_model.specs.Work.{losses_of}
-use Rattle.q_model.proofs.ShrinkSteps.{edited_at-stands}
 use Rattle.q_codel.specs.declared.limit.Limit.TheVariants.{Packets}
 use Rattle.q_sound.proofs.EditMade.{new_implicit, new_leaf}
 use Rattle.q_sound.proofs.EditNew.{IsNew}
@@ -43,7 +41,6 @@ use Rattle.q_tree.specs.Finding.{reached}
 use Rattle.q_tree.specs.Grafting.{graft_checks, nodes_at}
 use Rattle.q_tree.specs.Kept.{Kept, kept}
 use Rattle.q_tree.specs.Making.{IsNewNode}
-use Rattle.q_tree.specs.Places.{unplaced}
 use Rattle.q_tree.specs.Showing.{IsNumbered}
 use Rattle.q_tree.specs.declared.edit.Edit.TheVariants.{Graft}
 use Rattle.q_tree.specs.declared.planned.Planned.{Planned}
@@ -51,7 +48,6 @@ use Rattle.q_tree.proofs.MakingLemmas.{new-counts, nothing-beneath}
 use Rattle.q_tree.proofs.FindLemmas.{take-front}
 use Rattle.q_tree.proofs.Plans.{all-passed, few, same-refusal, shallow}
 use Rattle.q_tree.proofs.TargetLemmas.{IsReached, class-shape, explicit-shape, reached-at}
-use Rattle.q_tree.proofs.TreeLemmas.{stands}
 
 -- a node of a tree has no more nodes than the tree may have
 pub at-few : (path : List ℕ) (root n : Node Kept) → node_at path root ≡ Some n → IsBounded root → count_nodes n ≤ most_nodes

@@ -6,7 +6,7 @@ use Rattle.std.specs.Option.{option_map_or}
 use Rattle.std.proofs.lemmas.Option.{none-some, same_Some, slice_get-map}
 use Rattle.q_packet.specs.Descriptor.{Descriptor}
 use Rattle.q_packet.specs.declared.cause.Cause.{Cause}
-use Rattle.q_model.specs.Edit.{Edit, Graft, Remake, above, edited_at, lost_by, remade}
+use Rattle.q_model.specs.Edit.{Graft, Remake, above, edited_at, lost_by, remade}
 use Rattle.q_model.specs.Find.{node_at}
 use Rattle.q_model.specs.Node.{Node, Shape, blank, nodes_in, side_by_side, children, shape}
 use Rattle.q_model.specs.Put.{put_along, put_here, put_beneath}

@@ -22,7 +22,6 @@ use Rattle.q_model.specs.Find.{count_nodes, depth, node_at}
 use Rattle.q_model.specs.Node.{Discipline, Own, Node, Shape, children, shape, side_by_side}
 use Rattle.q_model.specs.Make.{Device}
 use Rattle.q_model.specs.QdiscCommands.{all_kept}
-use Rattle.q_model.proofs.ShrinkLemmas.{shape-with_memory}
 use Rattle.q_model.proofs.ShrinkSteps.{with_edit-stands}
 use Rattle.q_model.specs.Refusals.{Check, done_unless, first_refusal, most_levels, most_nodes, refuse}
 use Rattle.q_model.specs.Step.{DeviceState, losses_in}

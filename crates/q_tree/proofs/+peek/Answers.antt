@@ -1,10 +1,9 @@
-use Rattle.std.proofs.Common.{ℕ, ◌∙◌, ◌<◌, ◌≤◌, [], ◌∷◌, set, length, add-one, refl, sym, ap, subst, arith}
+use Rattle.std.proofs.Common.{◌∙◌, ◌<◌, ◌≤◌, [], ◌∷◌, set, length, add-one, refl, sym, ap, subst, arith}
 use Rattle.std.specs.Prelude.{slice_index_or}
 use Rattle.std.specs.List.{sum_by}
 use Rattle.std.proofs.lemmas.List.{length-set}
 use Rattle.std.specs.Box.{with_value}
 use Rattle.std.specs.Vec.{with_items}
-use Rattle.q_packet.specs.Descriptor.{Descriptor}
 use Rattle.q_bucket.specs.Level.{allows}
 use Rattle.q_drr.specs.Schedule.{turned, quantum_of}
 use Rattle.q_drr.specs.Take.{need}

@@ -1,4 +1,4 @@
-use Rattle.std.proofs.Common.{◌∙◌, ◌-◌, [], length, ap, sym, Some, option_to_list, arith}
+use Rattle.std.proofs.Common.{◌∙◌, ◌-◌, [], length, ap, sym, option_to_list, arith}
 use Rattle.std.proofs.lemmas.List.Sums.{sum_by-cons}
 use Rattle.q_packet.specs.Descriptor.{Descriptor}
 use Rattle.q_fqcodel.specs.FqState.{FqState, packets_of, bytes_of}

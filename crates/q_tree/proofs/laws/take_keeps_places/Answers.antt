@@ -1,7 +1,6 @@
 use Rattle.std.proofs.Common.{◌≡◌, ◌≤◌, ◌^◌, ℕ, List, ap, subst, arith}
 use Rattle.q_model.specs.Step.{DeviceState}
 use Rattle.q_model.specs.TreeState.{peek_packet, take_packet}
-use Rattle.q_sound.proofs.Kept.{IsLawfulRoot}
 use Rattle.q_tree.specs.Kept.{Kept, kept}
 use Rattle.q_tree.specs.Places.{places_at}
 use Rattle.q_tree.specs.TreeSeen.{tree_seen}
