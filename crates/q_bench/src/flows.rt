@@ -37,17 +37,20 @@ pub extern "C" fn q_bench_flows(
     let Some(made) = hashed(alloc, hashes) else {
         return 0;
     };
-    let mut next = 0;
-    for _ in 0..queued {
-        let Some(packet) = made.get(next) else {
-            return 0;
-        };
-        if put(&mut fq, &mut losses, *packet).is_none() {
-            return 0;
-        }
-        next = if next + 1 < made.len() { next + 1 } else { 0 };
+    if fill(&mut fq, &mut losses, queued, made.as_slice()).is_none() {
+        return 0;
     }
     pass_through(&mut fq, &mut losses, takes, made.as_slice(), passes).unwrap_or(0)
+}
+
+/// Puts so many packets, round and round.
+fn fill(fq: &mut FqCodel, losses: &mut Losses, queued: u32, made: &[Packet]) -> Option<()> {
+    let mut next = 0;
+    for _ in 0..queued {
+        put(fq, losses, *made.get(next)?)?;
+        next = if next + 1 < made.len() { next + 1 } else { 0 };
+    }
+    Some(())
 }
 
 fn pass_through(

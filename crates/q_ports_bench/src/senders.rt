@@ -80,23 +80,15 @@ fn booked<P: Ledger + Send + Sync, B: Ledger + Send + Sync, R: Threads + Wait + 
     if count < 1 || count > 64 {
         return Ok(0);
     }
-    let (booked, seat) = Booked::<P, B>::new(device, packets, bytes);
     let from = Instant::now(rt)?;
+    let (booked, seat) = Booked::<P, B>::new(device, packets, bytes);
     let Ok((drain, ports, _gauges)) = open_ports(rt, alloc, seat, count, RING, 0) else {
         return Ok(0);
     };
     let lock = Mutex::new(booked);
+    let start = Moment::zero();
     match drive(
-        rt,
-        alloc,
-        &lock,
-        drain,
-        ports,
-        loads,
-        &FreeGate,
-        Moment::zero(),
-        STEP,
-        TRIES,
+        rt, alloc, &lock, drain, ports, loads, &FreeGate, start, STEP, TRIES,
     ) {
         Ok(driven) => {
             let span = span_since(rt, &from)?;
