@@ -16,3 +16,10 @@ pub mod SpelledFilters
 pub mod SpelledCommands
 pub mod SpelledLines
 pub mod PacketRanges
+pub mod OptionEntries
+pub mod OptionSteps
+pub mod MovedBands
+pub mod OptionOrder
+pub mod OptionNames
+pub mod KeyOrder
+pub mod PacketOrder

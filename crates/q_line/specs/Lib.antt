@@ -1,6 +1,7 @@
 pub mod Drafts
 pub mod Grammar
 pub mod Laws
+pub mod OtherSpellings
 pub mod Positions
 pub mod Ranges
 pub mod Reading
