@@ -1,10 +1,16 @@
-ghost use Rattle.std.specs.Prelude.{◌≡◌, ◌≢◌, ◌≤◌, ◌⊎◌, IfErr};
+ghost use Rattle.std.specs.Prelude.{◌≡◌, ◌≢◌, ◌≤◌, ◌⊎◌, IfErr, IfOk, map, string_bytes};
 ghost use Rattle.std.specs.Io.KnownBytes.{Keeps};
 ghost use Rattle.std.specs.IoError.{error_kind};
-ghost use Rattle.q_options.specs.Answer.{IsDriveAnswered, IsPlayed, IsShown, IsTold};
+ghost use Rattle.clap.specs.Words.{kind_of as clap_kind};
+ghost use Rattle.clap.specs.declared.error.kind.ErrorKind.TheVariants.{DisplayHelp, DisplayVersion};
+ghost use Rattle.q_options.specs.Answer.{IsDriveAnswered, IsPlayed, IsShown, IsTold, IsTurnedDown};
+ghost use Rattle.q_options.specs.CommandLine.{IsAsked};
+ghost use Rattle.q_options.specs.declared.options.Options.{Options as Asked};
 ghost use Rattle.q_drive.specs.Drive.{Drive};
 ghost use Rattle.q_options.specs.declared.fault.Fault.{Fault as SomeFault};
+ghost use Rattle.q_script.specs.Reads.{no_reads};
 ghost use Rattle.q_script.specs.Settings.{Settings};
+ghost use Rattle.q_show.specs.Writes.{no_writes, WriteFailed};
 
 use crate::command_line::read_options;
 use crate::driving::drive;
@@ -12,7 +18,8 @@ use crate::fault::Fault;
 use crate::options::Options;
 use crate::playing::{FAULT, play};
 use crate::telling::tell;
-use q_script::RunFault;
+use q_script::{RunFault, Source};
+use q_show::Target;
 use std::alloc::Global;
 use std::io::{Error, ErrorKind, Read, Write};
 use std::sync::Wait;
@@ -21,20 +28,31 @@ use std::thread::Threads;
 /// Does what a command line asks for, the program's name first, and answers the exit status: that of [`play`] or of [`drive`]; 0
 /// where help or the version was asked for and is written to the output; 2, with lines on the error output, where nothing that can
 /// be done was asked for. Standard input is read only to play or to drive. It waits for the threads of `drive`.
+///
+/// The source and the target are new. What their reads and writes came to says which answer this is: no fault of a read or a
+/// write is told but that it came, and none that came is left untold.
 pub fn answer<H: Threads + Wait + Sync, R: Read, W: Write, E: Write>(
     rt: &H,
     alloc: Global,
     words: Result<Vec<String>, Error>,
-    reader: &mut R,
-    writer: &mut W,
+    source: &mut Source<'_, R>,
+    target: &mut Target<'_, W>,
     errors: &mut E,
 ) -> u8
+    requires unread { source.old.reads ≡ no_reads }
+    requires unwritten { target.old.writes ≡ no_writes }
+    ensures same_reader { source.new.reader.ghost_name ≡ source.old.reader.ghost_name }
+    ensures same_writer { target.new.writer.ghost_name ≡ target.old.writer.ghost_name }
     ensures statuses { result ≤ 2 }
-    ensures answer { IsShown reader.old reader.new writer.old writer.new (E.contents errors.old) (E.contents errors.new) result
-        ⊎ ((settings : Settings) × IsPlayed settings (R.remaining reader.old)
-        (W.contents writer.old) (W.contents writer.new) (E.contents errors.old) (E.contents errors.new) result)
-        ⊎ ((settings : Drive) × IsDriveAnswered settings (R.remaining reader.old)
-        (W.contents writer.old) (W.contents writer.new) (E.contents errors.old) (E.contents errors.new) result) }
+    // The settings are those of the words.
+    ensures answer { (IsShown source.old source.new target.old target.new (E.contents errors.old) (E.contents errors.new) target.new.writes result
+        × IfOk words (λ all. IsTurnedDown (map string_bytes all.items) result))
+        ⊎ ((settings : Settings) × IfOk words (λ all. IsAsked (map string_bytes all.items) (Asked.Play settings)) × IsPlayed settings (R.remaining source.old.reader.now)
+        (W.contents target.old.writer.now) (W.contents target.new.writer.now)
+        (E.contents errors.old) (E.contents errors.new) source.new.reads target.new.writes result)
+        ⊎ ((settings : Drive) × IfOk words (λ all. IsAsked (map string_bytes all.items) (Asked.Drive settings)) × IsDriveAnswered settings (R.remaining source.old.reader.now)
+        (W.contents target.old.writer.now) (W.contents target.new.writer.now)
+        (E.contents errors.old) (E.contents errors.new) source.new.reads target.new.writes result) }
     // The words of the command line could not be had: one is not UTF-8, or there is no memory for them.
     ensures not_utf8 { IfErr words (λ error. error_kind error ≡ ErrorKind.InvalidData →
         IsTold SomeFault.Argument (E.contents errors.old) (E.contents errors.new)) }
@@ -50,19 +68,28 @@ pub fn answer<H: Threads + Wait + Sync, R: Read, W: Write, E: Write>(
     };
     let options = match read_options(alloc, &words) {
         Ok(options) => options,
-        Err(error) => return show(&error, writer, errors),
+        Err(error) => return show(alloc, &error, target, errors),
     };
     match options {
-        Options::Play(settings) => play(alloc, settings, reader, writer, errors),
-        Options::Drive(settings) => drive(rt, alloc, settings, reader, writer, errors),
+        Options::Play(settings) => play(alloc, settings, source, target, errors),
+        Options::Drive(settings) => drive(rt, alloc, settings, source, target, errors),
     }
 }
 
 /// Writes what clap has to say: help and the version to the output, with status 0; all else to the error output.
-fn show<W: Write, E: Write>(error: &clap::Error, writer: &mut W, errors: &mut E) -> u8
+fn show<W: Write, E: Write>(
+    alloc: Global,
+    error: &clap::Error,
+    target: &mut Target<'_, W>,
+    errors: &mut E,
+) -> u8
+    requires unwritten { target.old.writes ≡ no_writes }
+    ensures same_writer { target.new.writer.ghost_name ≡ target.old.writer.ghost_name }
     ensures status { (result ≡ 0) ⊎ (result ≡ 2) }
+    ensures shown { result ≡ 0 → (clap_kind error.now ≡ DisplayHelp) ⊎ (clap_kind error.now ≡ DisplayVersion) }
     ensures silent { result ≡ 0 → Keeps (E.contents errors.old) (E.contents errors.new) }
-    ensures kept { result ≡ 2 → (writer.new ≡ writer.old) ⊎ ((kind : ErrorKind) × IsTold (SomeFault.Help kind) (E.contents errors.old) (E.contents errors.new)) }
+    ensures kept { result ≡ 2 → (target.new ≡ target.old) ⊎ ((kind : ErrorKind) × IsTold (SomeFault.Help kind) (E.contents errors.old) (E.contents errors.new)
+        × WriteFailed target.new.writes kind) }
 {
     if error.kind() == clap::error::ErrorKind::OutOfMemory {
         tell(Fault::Run(RunFault::Memory), errors);
@@ -72,10 +99,14 @@ fn show<W: Write, E: Write>(error: &clap::Error, writer: &mut W, errors: &mut E)
         let _ = write!(errors, "{error}");
         return FAULT;
     }
-    match write!(writer, "{error}") {
+    let Ok(text) = format!(in alloc; "{error}") else {
+        tell(Fault::Run(RunFault::Memory), errors);
+        return FAULT;
+    };
+    match target.write_whole(text.as_bytes()) {
         Ok(()) => 0,
         Err(failed) => {
-            tell(Fault::Help(failed.kind()), errors);
+            tell(Fault::Help(failed.kind), errors);
             FAULT
         }
     }

@@ -1,10 +1,14 @@
-ghost use Rattle.std.specs.Prelude.{◌≤◌};
+ghost use Rattle.std.specs.Prelude.{◌≡◌, ◌≤◌};
 ghost use Rattle.q_options.specs.Answer.{IsDriveAnswered};
+ghost use Rattle.q_script.specs.Reads.{no_reads};
+ghost use Rattle.q_show.specs.Writes.{no_writes};
 
 use crate::fault::Fault;
 use crate::playing::FAULT;
 use crate::telling::tell;
-use q_drive::{DriveSettings, run_drive};
+use q_drive::{DriveSettings, run_drive_between};
+use q_script::Source;
+use q_show::Target;
 use std::alloc::Global;
 use std::io::{Read, Write};
 use std::sync::Wait;
@@ -12,20 +16,25 @@ use std::thread::Threads;
 
 /// Reads tc's lines, lets the senders run, writes what all of it came to, and answers the exit status of `qtree drive`: 0; 1 where a
 /// line had a fault or was refused, or memory was refused to the senders; 2 where nothing was run or the report not written, with
-/// one line on the error output that says why. It waits for the threads.
+/// one line on the error output that says why. The source and the target are new. It waits for the threads.
 pub fn drive<H: Threads + Wait + Sync, R: Read, W: Write, E: Write>(
     rt: &H,
     alloc: Global,
     settings: DriveSettings,
-    reader: &mut R,
-    writer: &mut W,
+    source: &mut Source<'_, R>,
+    target: &mut Target<'_, W>,
     errors: &mut E,
 ) -> u8
+    requires unread { source.old.reads ≡ no_reads }
+    requires unwritten { target.old.writes ≡ no_writes }
+    ensures same_reader { source.new.reader.ghost_name ≡ source.old.reader.ghost_name }
+    ensures same_writer { target.new.writer.ghost_name ≡ target.old.writer.ghost_name }
     ensures statuses { result ≤ 2 }
-    ensures driven { IsDriveAnswered settings (R.remaining reader.old) (W.contents writer.old) (W.contents writer.new)
-        (E.contents errors.old) (E.contents errors.new) result }
+    ensures driven { IsDriveAnswered settings (R.remaining source.old.reader.now)
+        (W.contents target.old.writer.now) (W.contents target.new.writer.now)
+        (E.contents errors.old) (E.contents errors.new) source.new.reads target.new.writes result }
 {
-    match run_drive(rt, alloc, reader, writer, settings) {
+    match run_drive_between(rt, alloc, source, target, settings) {
         Ok(outcome) => outcome.status(),
         Err(fault) => {
             tell(Fault::Run(fault), errors);

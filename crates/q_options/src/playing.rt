@@ -1,10 +1,13 @@
-ghost use Rattle.std.specs.Prelude.{◌≤◌};
+ghost use Rattle.std.specs.Prelude.{◌≡◌, ◌≤◌};
 ghost use Rattle.q_options.specs.Answer.{IsPlayed};
+ghost use Rattle.q_script.specs.Reads.{no_reads};
+ghost use Rattle.q_show.specs.Writes.{no_writes};
 
 use crate::fault::Fault;
 use crate::telling::tell;
-use q_script::{Outcome, RunFault, RunSettings};
-use q_session::run::run;
+use q_script::{Outcome, RunFault, RunSettings, Source};
+use q_session::run::run_between;
+use q_show::Target;
 use std::alloc::Global;
 use std::io::{Read, Write};
 
@@ -12,19 +15,25 @@ use std::io::{Read, Write};
 pub const FAULT: u8 = 2;
 
 /// Reads a script, writes its report, and answers the exit status of `qtree play`: 0; 1 where a line had a fault or was
-/// refused; 2 where nothing was run or the report not written, with one line on the error output that says why.
+/// refused; 2 where nothing was run or the report not written, with one line on the error output that says why. The source and
+/// the target are new.
 pub fn play<R: Read, W: Write, E: Write>(
     alloc: Global,
     settings: RunSettings,
-    reader: &mut R,
-    writer: &mut W,
+    source: &mut Source<'_, R>,
+    target: &mut Target<'_, W>,
     errors: &mut E,
 ) -> u8
+    requires unread { source.old.reads ≡ no_reads }
+    requires unwritten { target.old.writes ≡ no_writes }
+    ensures same_reader { source.new.reader.ghost_name ≡ source.old.reader.ghost_name }
+    ensures same_writer { target.new.writer.ghost_name ≡ target.old.writer.ghost_name }
     ensures statuses { result ≤ 2 }
-    ensures played { IsPlayed settings (R.remaining reader.old) (W.contents writer.old) (W.contents writer.new)
-        (E.contents errors.old) (E.contents errors.new) result }
+    ensures played { IsPlayed settings (R.remaining source.old.reader.now)
+        (W.contents target.old.writer.now) (W.contents target.new.writer.now)
+        (E.contents errors.old) (E.contents errors.new) source.new.reads target.new.writes result }
 {
-    match run(alloc, reader, writer, settings) {
+    match run_between(alloc, source, target, settings) {
         Ok(outcome) => outcome.status(),
         Err(fault) => {
             tell(Fault::Run(fault), errors);

@@ -1,7 +1,8 @@
 //! What the program answers to a command line: its status, and what it writes where.
 use crate::runs::{TWO_OF_THREE, TWO_OF_THREE_REPORT};
 use q_options::{Options, answer, read_options};
-use q_script::RunSettings;
+use q_script::{RunSettings, Source};
+use q_show::Target;
 use std::alloc::Global;
 use std::io::{Error, ErrorKind, Read, Result as IoResult, Write};
 use std::process::Abort;
@@ -30,7 +31,8 @@ fn assert_answers<R: Abort + Threads + Wait + Sync>(
 ) -> Result<(), Fail> {
     let (mut reader, mut written, mut errors) = (script, Vec::new(alloc), Vec::new(alloc));
     let words = Ok(words(alloc, line)?);
-    let answered = answer(rt, alloc, words, &mut reader, &mut written, &mut errors);
+    let (mut source, mut target) = (Source::new(&mut reader), Target::new(&mut written));
+    let answered = answer(rt, alloc, words, &mut source, &mut target, &mut errors);
     assert_eq!(rt; answered, status, "{line}");
     assert_eq!(rt; written.as_slice(), report.as_bytes(), "{line}");
     assert_eq!(rt; errors.as_slice(), told.as_bytes(), "{line}");

@@ -1,7 +1,8 @@
 //! The options of `qtree drive`, and what the program answers.
 use q_drive::DriveSettings;
 use q_options::{Options, answer, read_options};
-use q_script::RunSettings;
+use q_script::{RunSettings, Source};
+use q_show::Target;
 use std::alloc::Global;
 use std::test::Fail;
 
@@ -98,7 +99,8 @@ fn statuses_of_drives(rt: HostRuntime) -> Result<(), Fail> {
     ] {
         let (mut reader, mut written, mut errors) = (input, Vec::new(alloc), Vec::new(alloc));
         let words = Ok(words(alloc, line)?);
-        let answered = answer(&rt, alloc, words, &mut reader, &mut written, &mut errors);
+        let (mut source, mut target) = (Source::new(&mut reader), Target::new(&mut written));
+        let answered = answer(&rt, alloc, words, &mut source, &mut target, &mut errors);
         assert_eq!(rt; answered, status);
         assert_eq!(rt; written.as_slice(), report.as_bytes());
         assert!(rt; errors.is_empty());

@@ -2,9 +2,10 @@
 use crate::runs::{TWO_OF_THREE, TWO_OF_THREE_REPORT};
 use crate::shows::{QDISCS, device};
 use q_options::play;
-use q_script::{MAX_LENGTH, Outcome, RunFault, RunSettings};
+use q_script::{MAX_LENGTH, Outcome, RunFault, RunSettings, Source};
 use q_session::run::run;
 use q_session::{ShowFault, show_qdiscs};
+use q_show::Target;
 use std::alloc::Global;
 use std::io::{Error, ErrorKind, Read, Result as IoResult, Write};
 use std::process::Abort;
@@ -218,8 +219,8 @@ fn failures_are_told(rt: HostRuntime) {
     let status = play(
         alloc,
         RunSettings::defaults(),
-        &mut reader,
-        &mut written,
+        &mut Source::new(&mut reader),
+        &mut Target::new(&mut written),
         &mut errors,
     );
     assert_eq!(rt; status, 2);
@@ -243,8 +244,8 @@ fn failures_are_told(rt: HostRuntime) {
         let status = play(
             alloc,
             RunSettings::defaults(),
-            &mut reader,
-            &mut writer,
+            &mut Source::new(&mut reader),
+            &mut Target::new(&mut writer),
             &mut errors,
         );
         assert_eq!(rt; status, 2);

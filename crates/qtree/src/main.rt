@@ -2,22 +2,26 @@
 //! device by tc's lines on standard input, drives it from many threads, and writes what came of it.
 //!
 //! - [`q_options::answer`] does what a command line asks for, and answers the exit status.
-//!   What stands behind it is `run` of `q_session`, whose contract is the program's theorem: what was written is the report
-//!   of the whole model's replay; and `run_drive` of `q_drive`.
+//!   What stands behind it is `run_between` of `q_session`, whose contract is the program's theorem: what was written is the
+//!   report of the whole model's replay, or a read or a write failed and that is told; and `run_drive_between` of `q_drive`.
 #![tactic(auto)]
 
 use q_options::answer;
+use q_script::Source;
+use q_show::Target;
 use std::process::ExitCode;
 use std::{env, io};
 
 fn main(rt: HostRuntime) -> ExitCode {
-    let (mut output, mut errors) = (io::writer(&rt), rt.stderr());
+    let (mut input, mut output, mut errors) = (rt.reader(), io::writer(&rt), rt.stderr());
+    let mut source = Source::new(&mut input);
+    let mut target = Target::new(&mut output);
     ExitCode::from(answer(
         &rt,
         rt.alloc(),
         words(&rt),
-        &mut rt.reader(),
-        &mut output,
+        &mut source,
+        &mut target,
         &mut errors,
     ))
 }
