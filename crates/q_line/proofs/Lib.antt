@@ -21,3 +21,5 @@ pub mod OptionSteps
 pub mod MovedBands
 pub mod OptionOrder
 pub mod OptionNames
+pub mod KeyOrder
+pub mod PacketOrder

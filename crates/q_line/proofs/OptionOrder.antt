@@ -147,11 +147,11 @@ option_found v h k o i name values ws line whole e =
     by_entry t (flag b) is g many e = by_flag b values t is g many
     by_entry t numbers is g many e = numbers_found v h k o (suc i) name values ws line t is g many e
 
-left_false : (a b : Bool) → (a || b) ≡ false → a ≡ false
+pub left_false : (a b : Bool) → (a || b) ≡ false → a ≡ false
 left_false true b h = h
 left_false false b h = refl
 
-right_false : (a b : Bool) → (a || b) ≡ false → b ≡ false
+pub right_false : (a b : Bool) → (a || b) ≡ false → b ≡ false
 right_false true b h = absurd (let k : true ≡ false = h in cc)
 right_false false b h = h
 

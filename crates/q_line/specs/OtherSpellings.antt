@@ -8,18 +8,23 @@ use Rattle.q_words.specs.declared.line_fault.LineFault.TheVariants.{Twice}
 use Rattle.q_line.specs.Drafts.{OptionDraft, of_filter}
 use Rattle.q_line.specs.Grammar.{line_of_words}
 use Rattle.q_line.specs.Laws.{reached}
-use Rattle.q_line.specs.Positions.{Position, first, options, head, keys, qdisc, class, filter}
+use Rattle.q_line.specs.Positions.{Position, first, options, head, keys, packet, qdisc, class, filter}
 use Rattle.q_line.specs.declared.filter_verb.FilterVerb.{FilterVerb}
 use Rattle.q_line.specs.declared.head_draft.HeadDraft.{HeadDraft}
 use Rattle.q_line.specs.declared.key_draft.KeyDraft.{KeyDraft}
 use Rattle.q_line.specs.declared.kind_name.KindName.{KindName}
 use Rattle.q_line.specs.declared.kind_name.KindName.TheVariants.{Pfifo, Bfifo, Prio, Tbf, Drr, FqCodel}
 use Rattle.q_line.specs.declared.line.Line.{Line}
+use Rattle.q_line.specs.declared.packet_draft.PacketDraft.{PacketDraft}
 use Rattle.q_line.specs.declared.qdisc_verb.QdiscVerb.{QdiscVerb}
+
+-- the words fit, and lead to this position
+abbrev pub Reaches : List (List ℕ) → Position → Type 0
+Reaches words position = reached first 1 words ≡ Ok position
 
 -- the words fit, and an option of this kind may stand behind them
 abbrev pub IsBeforeOption : KindName → List (List ℕ) → Type 0
-IsBeforeOption k words = (v : QdiscVerb) × (h : HeadDraft) × (o : OptionDraft) × (reached first 1 words ≡ Ok (options v h k o))
+IsBeforeOption k words = (v : QdiscVerb) × (h : HeadDraft) × (o : OptionDraft) × Reaches words (options v h k o)
 
 -- how many words stand behind the name of an option: 16 numbers, none behind a flag, else a value
 abbrev pub values_of : List ℕ → ℕ
@@ -38,13 +43,25 @@ OptionsChangePlaces =
     (k : KindName) (before one other behind : List (List ℕ)) (line : Line) → IsBeforeOption k before → IsOption one → IsOption other
     → line_of_words (before ++ (one ++ (other ++ behind))) ≡ Ok line → line_of_words (before ++ (other ++ (one ++ behind))) ≡ Ok line
 
+-- a word and its value
+abbrev pub IsPair : List (List ℕ) → Type 0
+IsPair words = (name : List ℕ) × (value : List ℕ) × (words ≡ name ∷ value ∷ [])
+
+-- two keys of a filter may change places, its class among them
+abbrev pub KeysChangePlaces : Type 0
+KeysChangePlaces =
+    (h : HeadDraft) (d : KeyDraft) (before one other behind : List (List ℕ)) (line : Line) → Reaches before (keys h d) → IsPair one → IsPair other
+    → line_of_words (before ++ (one ++ (other ++ behind))) ≡ Ok line → line_of_words (before ++ (other ++ (one ++ behind))) ≡ Ok line
+
+-- two options of a packet may change places
+abbrev pub FieldsChangePlaces : Type 0
+FieldsChangePlaces =
+    (d : PacketDraft) (before one other behind : List (List ℕ)) (line : Line) → Reaches before (packet d) → IsPair one → IsPair other
+    → line_of_words (before ++ (one ++ (other ++ behind))) ≡ Ok line → line_of_words (before ++ (other ++ (one ++ behind))) ≡ Ok line
+
 -- whatever stands behind it, either word makes the same line behind these words
 abbrev pub SaysTheSame : List (List ℕ) → List ℕ → List ℕ → Type 0
 SaysTheSame before word other = (behind : List (List ℕ)) → line_of_words (before ++ word ∷ behind) ≡ line_of_words (before ++ other ∷ behind)
-
--- the words fit, and lead to this position
-abbrev pub Reaches : List (List ℕ) → Position → Type 0
-Reaches words position = reached first 1 words ≡ Ok position
 
 -- an option, a word of a head or a verb by another of its names
 pub record NamesAreFree : Type 0 where

@@ -1,7 +1,7 @@
 //! What holds of the grammar as a whole. A law is the contract of a function that does nothing.
 
 ghost use Rattle.q_line.specs.Laws.{FaultsAreLeftmost, SpellingsAreRead};
-ghost use Rattle.q_line.specs.OtherSpellings.{NamesAreFree, OptionsChangePlaces, OptionsStandOnce};
+ghost use Rattle.q_line.specs.OtherSpellings.{FieldsChangePlaces, KeysChangePlaces, NamesAreFree, OptionsChangePlaces, OptionsStandOnce};
 
 /// A fault is at the leftmost word that does not fit, and is the same whatever stands behind that word. Where every word
 /// fits, a number of the line's priomap that names no band is the fault; else the fault is a word that is missing at the end.
@@ -19,6 +19,17 @@ pub fn spellings_are_read()
 /// says the same. An option is its name with its value, a flag alone, or `priomap` with its 16 numbers.
 pub fn options_change_places()
     ensures { OptionsChangePlaces }
+{}
+
+/// Two keys of a filter may change places, its class among them, and so may as many as there are: the line says the same. Two
+/// addresses are of one version in either order.
+pub fn keys_change_places()
+    ensures { KeysChangePlaces }
+{}
+
+/// Two options of a packet may change places, and so may as many as there are: the line says the same.
+pub fn fields_change_places()
+    ensures { FieldsChangePlaces }
 {}
 
 /// An option, a word of a head or a verb may be written by any of its names, and the line says the same, be that a fault:

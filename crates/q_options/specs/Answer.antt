@@ -7,6 +7,10 @@ use Rattle.q_drive.specs.Drive.{Drive}
 use Rattle.q_drive.specs.Reported.{IsDriven, IsPartlyDriven}
 use Rattle.q_options.specs.declared.fault.Fault.{Fault}
 use Rattle.q_options.specs.declared.fault.Fault.TheVariants.{Argument, Help, Run}
+use Rattle.clap.specs.Words.{Text}
+use Rattle.clap.specs.declared.error.kind.ErrorKind.{ErrorKind as Kind}
+use Rattle.clap.specs.declared.error.kind.ErrorKind.TheVariants.{DisplayHelp, DisplayVersion}
+use Rattle.q_options.specs.CommandLine.{IsRefused}
 use Rattle.q_script.specs.Ended.{Ended}
 use Rattle.q_script.specs.declared.reads.Reads.{Reads}
 use Rattle.q_script.specs.declared.run_fault.RunFault.{RunFault}
@@ -79,3 +83,8 @@ pub record IsShown {S T : Type 0} (source source_new : S) (target target_new : T
   pub shown_or_refused : (status ≡ 0) ⊎ (status ≡ 2)
   pub silent : status ≡ 0 → Keeps errors_old errors_new
   pub kept : status ≡ 2 → (target_new ≡ target) ⊎ ((kind : ErrorKind) × IsTold (Help kind) errors_old errors_new × WriteFailed writes kind)
+
+-- The words ask for no run: by clap's kind they ask for help or the version, or have a fault, or memory was refused. The status is 0
+-- for help and the version alone.
+abbrev pub IsTurnedDown : List Text → ℕ → Type 0
+IsTurnedDown words status = (kind : Kind) × IsRefused words kind × (status ≡ 0 → (kind ≡ DisplayHelp) ⊎ (kind ≡ DisplayVersion))

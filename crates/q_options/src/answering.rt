@@ -1,7 +1,11 @@
-ghost use Rattle.std.specs.Prelude.{◌≡◌, ◌≢◌, ◌≤◌, ◌⊎◌, IfErr};
+ghost use Rattle.std.specs.Prelude.{◌≡◌, ◌≢◌, ◌≤◌, ◌⊎◌, IfErr, IfOk, map, string_bytes};
 ghost use Rattle.std.specs.Io.KnownBytes.{Keeps};
 ghost use Rattle.std.specs.IoError.{error_kind};
-ghost use Rattle.q_options.specs.Answer.{IsDriveAnswered, IsPlayed, IsShown, IsTold};
+ghost use Rattle.clap.specs.Words.{kind_of as clap_kind};
+ghost use Rattle.clap.specs.declared.error.kind.ErrorKind.TheVariants.{DisplayHelp, DisplayVersion};
+ghost use Rattle.q_options.specs.Answer.{IsDriveAnswered, IsPlayed, IsShown, IsTold, IsTurnedDown};
+ghost use Rattle.q_options.specs.CommandLine.{IsAsked};
+ghost use Rattle.q_options.specs.declared.options.Options.{Options as Asked};
 ghost use Rattle.q_drive.specs.Drive.{Drive};
 ghost use Rattle.q_options.specs.declared.fault.Fault.{Fault as SomeFault};
 ghost use Rattle.q_script.specs.Reads.{no_reads};
@@ -40,11 +44,13 @@ pub fn answer<H: Threads + Wait + Sync, R: Read, W: Write, E: Write>(
     ensures same_reader { source.new.reader.ghost_name ≡ source.old.reader.ghost_name }
     ensures same_writer { target.new.writer.ghost_name ≡ target.old.writer.ghost_name }
     ensures statuses { result ≤ 2 }
-    ensures answer { IsShown source.old source.new target.old target.new (E.contents errors.old) (E.contents errors.new) target.new.writes result
-        ⊎ ((settings : Settings) × IsPlayed settings (R.remaining source.old.reader.now)
+    // The settings are those of the words.
+    ensures answer { (IsShown source.old source.new target.old target.new (E.contents errors.old) (E.contents errors.new) target.new.writes result
+        × IfOk words (λ all. IsTurnedDown (map string_bytes all.items) result))
+        ⊎ ((settings : Settings) × IfOk words (λ all. IsAsked (map string_bytes all.items) (Asked.Play settings)) × IsPlayed settings (R.remaining source.old.reader.now)
         (W.contents target.old.writer.now) (W.contents target.new.writer.now)
         (E.contents errors.old) (E.contents errors.new) source.new.reads target.new.writes result)
-        ⊎ ((settings : Drive) × IsDriveAnswered settings (R.remaining source.old.reader.now)
+        ⊎ ((settings : Drive) × IfOk words (λ all. IsAsked (map string_bytes all.items) (Asked.Drive settings)) × IsDriveAnswered settings (R.remaining source.old.reader.now)
         (W.contents target.old.writer.now) (W.contents target.new.writer.now)
         (E.contents errors.old) (E.contents errors.new) source.new.reads target.new.writes result) }
     // The words of the command line could not be had: one is not UTF-8, or there is no memory for them.
@@ -80,6 +86,7 @@ fn show<W: Write, E: Write>(
     requires unwritten { target.old.writes ≡ no_writes }
     ensures same_writer { target.new.writer.ghost_name ≡ target.old.writer.ghost_name }
     ensures status { (result ≡ 0) ⊎ (result ≡ 2) }
+    ensures shown { result ≡ 0 → (clap_kind error.now ≡ DisplayHelp) ⊎ (clap_kind error.now ≡ DisplayVersion) }
     ensures silent { result ≡ 0 → Keeps (E.contents errors.old) (E.contents errors.new) }
     ensures kept { result ≡ 2 → (target.new ≡ target.old) ⊎ ((kind : ErrorKind) × IsTold (SomeFault.Help kind) (E.contents errors.old) (E.contents errors.new)
         × WriteFailed target.new.writes kind) }

@@ -1,6 +1,8 @@
-ghost use Rattle.std.specs.Prelude.{codes, IfSome};
-ghost use Rattle.clap.specs.Words.{found_of};
-ghost use Rattle.q_options.specs.CommandLine.{HasOptionsOf, IsFlag, IsGiven, IsNumber};
+ghost use Rattle.std.specs.Prelude.{◌≡◌, ◌≤◌, ◌⊎◌, IfOk, IfErr, IfSome, IsNone, Some, codes, pos, map, true, false};
+ghost use Rattle.clap.specs.Words.{app_of, found_of, kind_of, new_app, one_text, rule_of, subcommand_rows_of, with_rule, NarrowsTo};
+ghost use Rattle.q_options.specs.CommandLine.{HasBadDriveOption, HasBadOption, HasDriveOptionsOf, HasOptionsOf, IsAsked, IsAskedBy, IsBad, IsFlag, IsGiven, IsNotGood, IsNumber, IsRefused, IsUnreadable, drive_app, flag_rule, number_named, play_app, program};
+ghost use Rattle.clap.specs.declared.Command.TheViews.{out-Command as fields_of};
+ghost use Rattle.q_options.specs.CommandLine as spec;
 
 use crate::options::Options;
 use clap::error::ErrorKind;
@@ -21,7 +23,10 @@ const DRIVE_EXAMPLE: &str = "Example:
 
 /// Reads a command line, the program's name first. An error is clap's: it has the usage, the help or the version that it
 /// prints.
-pub fn read_options<S: AsStr>(alloc: Global, words: &[S]) -> Result<Options, Error> {
+pub fn read_options<S: AsStr>(alloc: Global, words: &[S]) -> Result<Options, Error>
+    ensures asked { IfOk result (λ options. IsAsked (map S.text words.now) options) }
+    ensures refused { IfErr result (λ error. IsRefused (map S.text words.now) (kind_of error)) }
+{
     let mut qtree = qtree(alloc)?;
     let matches = qtree.try_get_matches_from_mut(words)?;
     match options_of(&matches) {
@@ -32,7 +37,9 @@ pub fn read_options<S: AsStr>(alloc: Global, words: &[S]) -> Result<Options, Err
 }
 
 /// The program: its commands, without which it shows its help.
-fn qtree<'a>(alloc: Global) -> Result<Command<'a>, AllocError> {
+fn qtree<'a>(alloc: Global) -> Result<Command<'a>, AllocError>
+    ensures { IfOk result (λ command. app_of command ≡ program) }
+{
     Command::new(alloc, "qtree")
         .about("A packet scheduler with the behaviour of Linux traffic control")
         .version(VERSION)
@@ -43,7 +50,10 @@ fn qtree<'a>(alloc: Global) -> Result<Command<'a>, AllocError> {
 }
 
 /// The command that runs a script.
-fn play<'a>(alloc: Global) -> Result<Command<'a>, AllocError> {
+fn play<'a>(alloc: Global) -> Result<Command<'a>, AllocError>
+    ensures app { IfOk result (λ command. app_of command ≡ play_app) }
+    ensures local { IfOk result (λ command. (fields_of command).has_globals ≡ false) }
+{
     let play = Command::new(alloc, "play")
         .about("Reads a script on standard input and writes its report on standard output")
         .after_help(EXAMPLE);
@@ -51,10 +61,34 @@ fn play<'a>(alloc: Global) -> Result<Command<'a>, AllocError> {
 }
 
 /// The command that lets senders run over a device.
-fn drive<'a>(alloc: Global) -> Result<Command<'a>, AllocError> {
+fn drive<'a>(alloc: Global) -> Result<Command<'a>, AllocError>
+    ensures app { IfOk result (λ command. app_of command ≡ drive_app) }
+    ensures local { IfOk result (λ command. (fields_of command).has_globals ≡ false) }
+{
     let drive = Command::new(alloc, "drive")
         .about("Sets up a device by tc's lines on standard input, and drives it from many threads")
-        .after_help(DRIVE_EXAMPLE)
+        .after_help(DRIVE_EXAMPLE);
+    let drive = with_load(alloc, drive)?.arg(show(alloc))?;
+    with_device(alloc, drive)
+}
+
+/// Whether the qdiscs are shown.
+fn show<'a>(alloc: Global) -> Arg<'a>
+    ensures rule { rule_of result ≡ flag_rule (codes "show") }
+    ensures local { result.global ≡ false }
+{
+    Arg::new(alloc, "show")
+        .long("show")
+        .action(ArgAction::SetTrue)
+        .help("Show the qdiscs with their counters at the end")
+}
+
+/// A command with the options of its senders.
+fn with_load<'a>(alloc: Global, command: Command<'a>) -> Result<Command<'a>, AllocError>
+    ensures app { IfOk result (λ r. app_of r ≡ spec.with_load (app_of command.entry)) }
+    ensures local { IfOk result (λ r. (fields_of r).has_globals ≡ (fields_of command.entry).has_globals) }
+{
+    command
         .arg(needed(alloc, "senders", "Senders, 64 at most").value_parser(value_parser!(u8).range(
             1..=64,
         )))?
@@ -66,18 +100,14 @@ fn drive<'a>(alloc: Global) -> Result<Command<'a>, AllocError> {
         ).range(1..)))?
         .arg(needed(alloc, "ring", "Places of each sender's ring, 65536 at most").value_parser(
             value_parser!(u32).range(1..=65_536),
-        ))?
-        .arg(
-            Arg::new(alloc, "show")
-                .long("show")
-                .action(ArgAction::SetTrue)
-                .help("Show the qdiscs with their counters at the end"),
-        )?;
-    with_device(alloc, drive)
+        ))
 }
 
 /// A command with the options of its device.
-fn with_device<'a>(alloc: Global, command: Command<'a>) -> Result<Command<'a>, AllocError> {
+fn with_device<'a>(alloc: Global, command: Command<'a>) -> Result<Command<'a>, AllocError>
+    ensures app { IfOk result (λ r. app_of r ≡ spec.with_device (app_of command.entry)) }
+    ensures local { IfOk result (λ r. (fields_of r).has_globals ≡ (fields_of command.entry).has_globals) }
+{
     command
         .arg(number(alloc, "mtu", "Most bytes of a packet [default: 1514]").value_parser(
             value_parser!(u16).range(1..),
@@ -100,17 +130,26 @@ fn with_device<'a>(alloc: Global, command: Command<'a>) -> Result<Command<'a>, A
 }
 
 /// An option with a number.
-fn number<'a>(alloc: Global, name: &'a str, help: &'a str) -> Arg<'a> {
+fn number<'a>(alloc: Global, name: &'a str, help: &'a str) -> Arg<'a>
+    ensures rule { rule_of result ≡ number_named name.entry.now }
+    ensures local { result.global ≡ false }
+{
     Arg::new(alloc, name).long(name).value_name("N").help(help)
 }
 
 /// An option with a number, which has to be given.
-fn needed<'a>(alloc: Global, name: &'a str, help: &'a str) -> Arg<'a> {
+fn needed<'a>(alloc: Global, name: &'a str, help: &'a str) -> Arg<'a>
+    ensures rule { rule_of result ≡ record (number_named name.entry.now) { required = true } }
+    ensures local { result.global ≡ false }
+{
     number(alloc, name, help).required(true)
 }
 
 /// What was asked for; `None` where a text is no number, or one out of range.
-fn options_of(matches: &ArgMatches) -> Option<Options> {
+fn options_of(matches: &ArgMatches) -> Option<Options>
+    ensures asked { IfSome result (IsAskedBy (subcommand_rows_of matches.now)) }
+    ensures refused { IsNone result → IsUnreadable (subcommand_rows_of matches.now) }
+{
     if let Some(play) = matches.subcommand_matches("play") {
         return Some(Options::Play(settings_of(play)?));
     }
@@ -120,12 +159,8 @@ fn options_of(matches: &ArgMatches) -> Option<Options> {
 
 /// The settings of a drive that were given; `None` where a text is no number, or one out of range, or is not there.
 fn drive_settings_of(drive: &ArgMatches) -> Option<DriveSettings>
-    ensures device { IfSome result (λ s. HasOptionsOf (found_of drive.now) s.device) }
-    ensures senders { IfSome result (λ s. IsGiven (found_of drive.now) (codes "senders") s.senders) }
-    ensures count { IfSome result (λ s. IsGiven (found_of drive.now) (codes "count") s.count) }
-    ensures len { IfSome result (λ s. IsGiven (found_of drive.now) (codes "len") s.len) }
-    ensures ring { IfSome result (λ s. IsGiven (found_of drive.now) (codes "ring") s.ring) }
-    ensures show { IfSome result (λ s. IsFlag (found_of drive.now) (codes "show") s.show) }
+    ensures given { IfSome result (HasDriveOptionsOf (one_text (found_of drive.now))) }
+    ensures refused { IsNone result → HasBadDriveOption (one_text (found_of drive.now)) }
 {
     let device = settings_of(drive)?;
     let senders = needed_of(drive, "senders")?;
@@ -145,7 +180,8 @@ fn drive_settings_of(drive: &ArgMatches) -> Option<DriveSettings>
 /// The settings of the device that were given, and the defaults of the others; `None` where a text is no number, or one out of
 /// range.
 fn settings_of(command: &ArgMatches) -> Option<RunSettings>
-    ensures { IfSome result (HasOptionsOf (found_of command.now)) }
+    ensures given { IfSome result (HasOptionsOf (one_text (found_of command.now))) }
+    ensures refused { IsNone result → HasBadOption (one_text (found_of command.now)) }
 {
     let defaults = RunSettings::defaults();
     let mtu = number_of(command, "mtu", u32::from(defaults.mtu()))?;
@@ -157,7 +193,8 @@ fn settings_of(command: &ArgMatches) -> Option<RunSettings>
 
 /// The number that an option was given, or its default; `None` where its text is no number.
 fn number_of(command: &ArgMatches, name: &str, default: u32) -> Option<u32>
-    ensures { IfSome result (IsNumber (found_of command.now) name.now default) }
+    ensures given { IfSome result (IsNumber (one_text (found_of command.now) name.now) default) }
+    ensures refused { IsNone result → IsBad (one_text (found_of command.now) name.now) 0 4294967295 }
 {
     match command.try_get_one(name) {
         Ok(Some(number)) => Some(number),
@@ -168,7 +205,8 @@ fn number_of(command: &ArgMatches, name: &str, default: u32) -> Option<u32>
 
 /// The number that an option was given; `None` where it was not given, or its text is no number.
 fn needed_of(command: &ArgMatches, name: &str) -> Option<u32>
-    ensures { IfSome result (IsGiven (found_of command.now) name.now) }
+    ensures given { IfSome result (IsGiven (one_text (found_of command.now) name.now)) }
+    ensures refused { IsNone result → IsNotGood (one_text (found_of command.now) name.now) 0 4294967295 }
 {
     match command.try_get_one(name) {
         Ok(number) => number,
