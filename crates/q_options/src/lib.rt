@@ -6,7 +6,7 @@
 //!   that tells of a [`Fault`].
 //! - [`read_options`] reads what the command line asks for, as [`Options`].
 //!
-//! `specs/Answer.antt` says what is answered. What clap reads and prints is in no contract.
+//! `specs/Answer.antt` says what is answered. What clap prints is in no contract.
 #![tactic(auto)]
 
 mod answering;
