@@ -1,5 +1,6 @@
-ghost use Rattle.std.specs.Prelude.{ℕ, ◌≡◌, ◌+◌, ◌*◌, ◌<◌, ◌≤◌, ◌%◌, ◌^◌, [], ◌∷◌, ◌++◌, length, slice_get, get_or, take, drop, set, replicate, IsOk, IfOk, OnOk, OnErr};
+ghost use Rattle.std.specs.Prelude.{ℕ, ◌≡◌, ◌+◌, ◌*◌, ◌<◌, ◌≤◌, ◌%◌, ◌^◌, [], ◌∷◌, ◌++◌, length, option_map, slice_get, get_or, take, drop, set, replicate, IsOk, IfOk, OnOk, OnErr};
 ghost use Rattle.q_packet.specs.Totals.{count, size};
+ghost use Rattle.q_codel.specs.Front.{front_of};
 ghost use Rattle.q_codel.specs.Losses.{losses_of};
 ghost use Rattle.q_fqcodel.specs.Pool.{packets_in, bytes_in, no_list, moved, SameBeside};
 
@@ -7,7 +8,7 @@ use crate::chain::{append, take_head};
 use crate::flow_list::FlowList;
 use crate::node::Node;
 use crate::reuse::{append_at, split_head};
-use q_codel::Sink;
+use q_codel::{Front, Sink};
 use q_packet::{Cause, Stamped};
 use slab::Slab;
 use std::alloc::{AllocError, Global};
@@ -97,6 +98,18 @@ impl Pool {
             return None;
         }
         Some(self.nodes[list.head].stamped())
+    }
+
+    /// What CoDel looks at of the packet in front of a flow.
+    pub(crate) fn front_of(&self, flow: u32) -> Option<Front>
+        ensures { result ≡ option_map front_of (slice_get (get_or self.now.queues flow []) 0) }
+    {
+        let list = list_of(&self.lists, flow);
+        if list.count == 0 {
+            return None;
+        }
+        let node = &self.nodes[list.head];
+        Some(node.front())
     }
 
     /// Takes the packet in front of a flow.
