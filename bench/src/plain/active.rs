@@ -7,21 +7,21 @@ pub enum Turn {
 }
 
 #[derive(Clone, Copy, Default)]
-struct Class {
-    deficit: u64,
+pub struct Class {
+    pub deficit: u64,
     granted: u64,
-    quantum: u32,
-    next: u16,
-    before: u16,
-    is_active: bool,
+    pub quantum: u32,
+    pub next: u16,
+    pub before: u16,
+    pub is_active: bool,
 }
 
 /// The active list of deficit round robin, linked in a ring through its classes by number.
 #[derive(Default)]
 pub struct Active {
-    classes: Vec<Class>,
-    front: u16,
-    count: u32,
+    pub classes: Vec<Class>,
+    pub front: u16,
+    pub count: u32,
     turns: u64,
 }
 

@@ -20,12 +20,12 @@ pub enum Polled {
 }
 
 pub struct Device {
-    clock: u64,
+    pub clock: u64,
     pub mtu: u16,
     pub txqueuelen: u32,
     events: u64,
     pub top: Row,
-    toll: Toll,
+    pub toll: Toll,
     pub root: Node,
     /// The first events, so many at most.
     recorded: Vec<Event>,

@@ -15,7 +15,7 @@ pub struct Fifo {
     first: usize,
     count: usize,
     bytes: u64,
-    limit: Limit,
+    pub limit: Limit,
 }
 
 impl Fifo {

@@ -7,10 +7,10 @@ use std::net::IpAddr;
 
 /// The addresses of one family with the same first bits.
 #[derive(Clone, Copy)]
-struct Network {
-    family: u8,
-    address: u128,
-    rest: u32,
+pub struct Network {
+    pub family: u8,
+    pub address: u128,
+    pub rest: u32,
 }
 
 impl Network {
@@ -34,9 +34,9 @@ impl Network {
 
 /// What a filter asks of ports, protocol and family, which are compared as one number.
 #[derive(Clone, Copy)]
-struct Word {
-    mask: u64,
-    value: u64,
+pub struct Word {
+    pub mask: u64,
+    pub value: u64,
 }
 
 #[inline(always)]
@@ -45,19 +45,19 @@ fn word_of(sport: u16, dport: u16, proto: u8, family: u8) -> u64 {
 }
 
 #[derive(Clone, Copy)]
-struct Rest {
-    prio: u16,
+pub struct Rest {
+    pub prio: u16,
     /// The place of its class among the node's children.
-    place: u16,
-    src: Option<Network>,
-    dst: Option<Network>,
+    pub place: u16,
+    pub src: Option<Network>,
+    pub dst: Option<Network>,
 }
 
 /// The filters in their order, the words of all beside one another.
 #[derive(Default)]
 pub struct Filters {
-    words: Vec<Word>,
-    rest: Vec<Rest>,
+    pub words: Vec<Word>,
+    pub rest: Vec<Rest>,
 }
 
 impl Filters {

@@ -21,8 +21,8 @@ pub struct Settings {
 
 /// One line of the cache.
 #[derive(Clone, Copy)]
-struct Flow {
-    list: List,
+pub struct Flow {
+    pub list: List,
     credits: i64,
     codel: Codel,
 }
@@ -52,18 +52,18 @@ impl Ends {
 }
 
 pub struct FqCodel {
-    limit: u32,
-    flows: u32,
+    pub limit: u32,
+    pub flows: u32,
     /// In place of a division, where the number of flows is a power of two.
     mask: Option<u32>,
-    quantum: u32,
-    drop_batch: u32,
-    law: Law,
-    table: Vec<Flow>,
+    pub quantum: u32,
+    pub drop_batch: u32,
+    pub law: Law,
+    pub table: Vec<Flow>,
     winners: Winners,
     fresh: Ends,
     stale: Ends,
-    pool: Pool,
+    pub pool: Pool,
 }
 
 impl FqCodel {

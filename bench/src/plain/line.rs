@@ -1,8 +1,8 @@
-//! A reader of every line of the language, by `split_ascii_whitespace`, `parse` and the addresses of `std::net`.
+//! A reader of every line of the language, by `parse` and the addresses of `std::net`.
 
 use super::head::{Head, read_head};
+use super::words::Words;
 use std::net::{IpAddr, Ipv6Addr};
-use std::str::SplitAsciiWhitespace;
 
 #[derive(Clone, Copy)]
 #[allow(dead_code, reason = "the checksum does not have every field")]
@@ -154,193 +154,19 @@ pub enum Fault {
     BadNumber(usize),
     OutOfRange(usize),
     Twice(usize),
-    BadUtf8,
+    BadUtf8(usize),
 }
 
 type Read<T> = Result<T, Fault>;
 
-pub struct Words<'a> {
-    words: SplitAsciiWhitespace<'a>,
-    pub taken: usize,
-}
-
-impl<'a> Words<'a> {
-    pub fn next(&mut self) -> Option<&'a str> {
-        self.taken += 1;
-        self.words.next()
-    }
-
-    pub fn needed(&mut self) -> Read<&'a str> {
-        self.next().ok_or(Fault::Missing(self.taken))
-    }
-
-    /// The word behind an option, which may be given once.
-    pub fn option<T>(&mut self, given: &Option<T>) -> Read<&'a str> {
-        self.once(given.is_some())?;
-        self.needed()
-    }
-
-    pub fn once(&self, given: bool) -> Read<()> {
-        if given {
-            return Err(Fault::Twice(self.taken));
-        }
-        Ok(())
-    }
-
-    pub fn ended(&mut self, line: Line) -> Read<Line> {
-        match self.next() {
-            None => Ok(line),
-            Some(_) => Err(self.unknown()),
-        }
-    }
-
-    pub fn unknown(&self) -> Fault {
-        Fault::UnknownWord(self.taken)
-    }
-
-    pub fn missing(&self) -> Fault {
-        Fault::Missing(self.taken)
-    }
-
-    fn bad(&self) -> Fault {
-        Fault::BadNumber(self.taken)
-    }
-
-    fn out_of_range(&self) -> Fault {
-        Fault::OutOfRange(self.taken)
-    }
-
-    fn within<T: TryFrom<u64>>(&self, number: u64, low: u64, high: u64) -> Read<T> {
-        if number < low || number > high {
-            return Err(self.out_of_range());
-        }
-        T::try_from(number).map_err(|_| self.out_of_range())
-    }
-
-    pub fn number<T: TryFrom<u64>>(&self, word: &str, low: u64, high: u64) -> Read<T> {
-        if word.is_empty() || !word.bytes().all(|byte| byte.is_ascii_digit()) {
-            return Err(self.bad());
-        }
-        let number = word.parse().map_err(|_| self.out_of_range())?;
-        self.within(number, low, high)
-    }
-
-    fn hexadecimal(&self, word: &str, digits: usize, low: u64, high: u64) -> Read<u16> {
-        if word.is_empty() || !word.bytes().all(|byte| byte.is_ascii_hexdigit()) {
-            return Err(self.bad());
-        }
-        if word.len() > digits {
-            return Err(self.out_of_range());
-        }
-        let number = u64::from_str_radix(word, 16).map_err(|_| self.bad())?;
-        self.within(number, low, high)
-    }
-
-    pub fn handle(&self, word: &str) -> Read<u16> {
-        let (major, minor) = word.split_once(':').unwrap_or((word, ""));
-        let number = self.hexadecimal(major, 4, 1, 0xfffe)?;
-        if !minor.is_empty() && self.hexadecimal(minor, 1, 0, 0)? != 0 {
-            return Err(self.out_of_range());
-        }
-        Ok(number)
-    }
-
-    pub fn class(&self, word: &str) -> Read<ClassId> {
-        let (major, minor) = word.split_once(':').ok_or_else(|| self.bad())?;
-        Ok(ClassId {
-            major: self.hexadecimal(major, 4, 1, 0xfffe)?,
-            minor: self.hexadecimal(minor, 4, 1, 0xffff)?,
-        })
-    }
-
-    /// A number with a unit, rounded down.
-    pub fn united<T: TryFrom<u64>>(&self, word: &str, units: &[(&str, u64)], low: u64, high: u64) -> Read<T> {
-        let end = word
-            .bytes()
-            .position(|byte| !byte.is_ascii_digit() && byte != b'.')
-            .unwrap_or(word.len());
-        let (number, suffix) = word.split_at(end);
-        let (whole, places) = match number.split_once('.') {
-            Some((_, "")) => return Err(self.bad()),
-            Some(parts) => parts,
-            None => (number, ""),
-        };
-        let is_number = |text: &str| text.bytes().all(|byte| byte.is_ascii_digit());
-        if whole.is_empty() || places.len() > 9 || !is_number(whole) || !is_number(places) {
-            return Err(self.bad());
-        }
-        let (_, factor) = units
-            .iter()
-            .find(|(unit, _)| unit.eq_ignore_ascii_case(suffix))
-            .ok_or_else(|| self.bad())?;
-        let whole: u64 = whole.parse().map_err(|_| self.out_of_range())?;
-        let mut value = u128::from(whole) * u128::from(*factor);
-        if !places.is_empty() {
-            let behind: u64 = places.parse().map_err(|_| self.bad())?;
-            value += u128::from(behind) * u128::from(*factor) / 10_u128.pow(places.len() as u32);
-        }
-        let value = u64::try_from(value).map_err(|_| self.out_of_range())?;
-        self.within(value, low, high)
-    }
-
-    pub fn address(&self, word: &str, wanted: Option<IpAddr>) -> Read<IpAddr> {
-        let address = if word.contains(':') {
-            word.parse().map(IpAddr::V6)
-        } else {
-            word.parse().map(IpAddr::V4)
-        };
-        match address {
-            Ok(it) if wanted.is_none_or(|other| it.is_ipv4() == other.is_ipv4()) => Ok(it),
-            Ok(_) => Err(self.out_of_range()),
-            Err(_) => Err(self.bad()),
-        }
-    }
-
-    pub fn prefix(&self, word: &str, wanted: Option<IpAddr>) -> Read<Prefix> {
-        let (address, len) = match word.split_once('/') {
-            Some((address, len)) => (address, Some(len)),
-            None => (word, None),
-        };
-        let address = self.address(address, wanted)?;
-        let bits = if address.is_ipv4() { 32 } else { 128 };
-        let len = match len {
-            Some(len) => self.number(len, 0, bits)?,
-            None => bits as u8,
-        };
-        Ok(Prefix { address, len })
-    }
-
-    pub fn ip_proto(&self, word: &str) -> Read<u8> {
-        match word {
-            "tcp" => Ok(6),
-            "udp" => Ok(17),
-            "sctp" => Ok(132),
-            "icmp" => Ok(1),
-            "icmpv6" => Ok(58),
-            _ => Ok(self.hexadecimal(word, usize::MAX, 0, 0xff)? as u8),
-        }
-    }
-
-    pub fn named(&mut self) -> Read<()> {
-        if self.needed()?.len() > 15 {
-            return Err(self.out_of_range());
-        }
-        Ok(())
-    }
-}
-
 pub fn read_line(line: &[u8]) -> Read<Line> {
-    let line = str::from_utf8(line).map_err(|_| Fault::BadUtf8)?;
-    let mut words = Words {
-        words: line.split_ascii_whitespace(),
-        taken: 0,
-    };
-    let Some(first) = words.next() else {
+    let mut words = Words::of(line);
+    let Some(first) = words.next()? else {
         return Ok(Line::Blank);
     };
     match first {
         "pkt" => read_packet(words),
-        "poll" => match words.next() {
+        "poll" => match words.next()? {
             None => Ok(Line::Poll(1)),
             Some(word) => {
                 let polls = words.number(word, 1, 100_000)?;
@@ -378,7 +204,7 @@ fn read_packet(mut words: Words) -> Read<Line> {
     let word = words.needed()?;
     let len = words.number(word, 1, u16::MAX.into())?;
     let mut fields = Fields::default();
-    while let Some(word) = words.next() {
+    while let Some(word) = words.next()? {
         match word {
             "hash" => {
                 let word = words.option(&fields.hash)?;

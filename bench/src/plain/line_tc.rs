@@ -1,8 +1,7 @@
 //! The `tc` lines of the language.
 
-use super::line::{
-    ClassId, Command, Fault, FqCodel, Keys, Kind, Line, Object, Place, Protocol, TbfLimit, Words,
-};
+use super::line::{ClassId, Command, Fault, FqCodel, Keys, Kind, Line, Object, Place, Protocol, TbfLimit};
+use super::words::Words;
 
 type Read<T> = Result<T, Fault>;
 
@@ -85,7 +84,7 @@ pub fn read_tc(mut words: Words) -> Read<Line> {
 
 fn read_show(mut words: Words, object: Object, counters: bool) -> Read<Line> {
     let mut named = false;
-    while let Some(word) = words.next() {
+    while let Some(word) = words.next()? {
         if word != "dev" {
             return Err(words.unknown());
         }
@@ -105,7 +104,7 @@ struct QdiscHead {
 
 fn read_qdisc(mut words: Words, verb: Verb) -> Read<Line> {
     let mut head = QdiscHead::default();
-    while let Some(word) = words.next() {
+    while let Some(word) = words.next()? {
         match word {
             "dev" => {
                 words.once(head.named)?;
@@ -125,20 +124,15 @@ fn read_qdisc(mut words: Words, verb: Verb) -> Read<Line> {
                 head.handle = Some(words.handle(word)?);
             }
             "pfifo" | "bfifo" | "prio" | "tbf" | "drr" | "fq_codel" if verb == Verb::Del => {
-                let line = qdisc_removed(&words, &head);
-                return match words.next() {
-                    None => line,
-                    Some(_) => Err(words.unknown()),
-                };
+                words.ended(())?;
+                return qdisc_removed(&words, &head);
             }
             "pfifo" => {
                 let limit = read_limit(&mut words, |words, word| words.number(word, 0, MOST))?;
                 return qdisc_made(&words, verb, &head, Kind::Pfifo { limit });
             }
             "bfifo" => {
-                let limit = read_limit(&mut words, |words, word| {
-                    words.united(word, &SIZES, 0, MOST)
-                })?;
+                let limit = read_limit(&mut words, |words, word| words.united(word, &SIZES, 0, MOST))?;
                 return qdisc_made(&words, verb, &head, Kind::Bfifo { limit });
             }
             "prio" => {
@@ -150,10 +144,8 @@ fn read_qdisc(mut words: Words, verb: Verb) -> Read<Line> {
                 return qdisc_made(&words, verb, &head, kind);
             }
             "drr" => {
-                return match words.next() {
-                    None => qdisc_made(&words, verb, &head, Kind::Drr),
-                    Some(_) => Err(words.unknown()),
-                };
+                words.ended(())?;
+                return qdisc_made(&words, verb, &head, Kind::Drr);
             }
             "fq_codel" => {
                 let kind = Kind::FqCodel(read_fq_codel(&mut words)?);
@@ -178,17 +170,9 @@ fn qdisc_made(words: &Words, verb: Verb, head: &QdiscHead, kind: Kind) -> Read<L
         return Err(words.missing());
     };
     match (verb, place) {
-        (Verb::Add, Some(place)) => Ok(Line::Tc(Command::QdiscAdd {
-            place,
-            handle,
-            kind,
-        })),
+        (Verb::Add, Some(place)) => Ok(Line::Tc(Command::QdiscAdd { place, handle, kind })),
         (Verb::Change, _) if place.is_some() || handle.is_some() => {
-            Ok(Line::Tc(Command::QdiscChange {
-                place,
-                handle,
-                kind,
-            }))
+            Ok(Line::Tc(Command::QdiscChange { place, handle, kind }))
         }
         _ => Err(words.missing()),
     }
@@ -204,7 +188,7 @@ fn qdisc_removed(words: &Words, head: &QdiscHead) -> Read<Line> {
 
 fn read_limit(words: &mut Words, read: impl Fn(&Words, &str) -> Read<u32>) -> Read<Option<u32>> {
     let mut limit = None;
-    while let Some(word) = words.next() {
+    while let Some(word) = words.next()? {
         if word != "limit" {
             return Err(words.unknown());
         }
@@ -214,40 +198,79 @@ fn read_limit(words: &mut Words, read: impl Fn(&Words, &str) -> Read<u32>) -> Re
     Ok(limit)
 }
 
+/// The numbers of a priomap that stand in the line, and the word of the first.
+#[derive(Default)]
+struct Priomap {
+    first: usize,
+    numbers: [u64; 16],
+    count: usize,
+}
+
+/// A number that is not below the bands is a fault only once the line is read, as the bands may stand behind it.
 fn read_prio(words: &mut Words) -> Read<Kind> {
     let (mut bands, mut map) = (None, None);
-    let mut from = 0;
-    while let Some(word) = words.next() {
+    let mut is_ended = false;
+    while let Some(word) = words.next()? {
         match word {
             "bands" => {
-                let word = words.option(&bands)?;
+                words.once(bands.is_some())?;
+                let Some(word) = words.next()? else {
+                    is_ended = true;
+                    break;
+                };
                 bands = Some(words.number(word, 2, 16)?);
             }
             "priomap" => {
                 words.once(map.is_some())?;
-                from = words.taken + 1;
-                let mut numbers = [0; 16];
-                for number in &mut numbers {
-                    let word = words.needed()?;
-                    *number = words.number::<u64>(word, 0, u64::MAX)?.min(16) as u8;
+                let read = read_priomap(words)?;
+                is_ended = read.count < 16;
+                map = Some(read);
+                if is_ended {
+                    break;
                 }
-                map = Some(numbers);
             }
             _ => return Err(words.unknown()),
         }
     }
-    let bands = bands.unwrap_or(3);
-    let priomap = map.unwrap_or([1, 2, 2, 2, 1, 2, 0, 0, 1, 1, 1, 1, 1, 1, 1, 1]);
-    match priomap.iter().position(|number| *number >= bands) {
-        None => Ok(Kind::Prio { bands, priomap }),
-        Some(place) if map.is_some() => Err(Fault::OutOfRange(from + place)),
-        Some(_) => Err(words.missing()),
+    prio(words, bands.unwrap_or(3), map, is_ended)
+}
+
+/// The prio of what was read; something is missing where the line ended too early, and a priomap for two bands.
+fn prio(words: &Words, bands: u64, map: Option<Priomap>, is_ended: bool) -> Read<Kind> {
+    let is_missing = is_ended || map.is_none() && bands < 3;
+    let mut priomap = [1, 2, 2, 2, 1, 2, 0, 0, 1, 1, 1, 1, 1, 1, 1, 1];
+    if let Some(map) = map {
+        let mut numbers = map.numbers[..map.count].iter();
+        if let Some(place) = numbers.position(|number| *number >= bands) {
+            return Err(Fault::OutOfRange(map.first + place));
+        }
+        priomap = map.numbers.map(|number| number as u8);
     }
+    if is_missing {
+        return Err(words.missing());
+    }
+    let bands = bands as u8;
+    Ok(Kind::Prio { bands, priomap })
+}
+
+fn read_priomap(words: &mut Words) -> Read<Priomap> {
+    let mut map = Priomap {
+        first: words.taken + 1,
+        ..Priomap::default()
+    };
+    while map.count < 16 {
+        let Some(word) = words.next()? else {
+            break;
+        };
+        map.numbers[map.count] = words.any_number(word)?;
+        map.count += 1;
+    }
+    Ok(map)
 }
 
 fn read_tbf(words: &mut Words) -> Read<Kind> {
     let (mut rate, mut burst, mut limit) = (None, None, None);
-    while let Some(word) = words.next() {
+    while let Some(word) = words.next()? {
         match word {
             "rate" => {
                 let word = words.option(&rate)?;
@@ -276,7 +299,7 @@ fn read_tbf(words: &mut Words) -> Read<Kind> {
 
 fn read_fq_codel(words: &mut Words) -> Read<FqCodel> {
     let mut options = FqCodel::default();
-    while let Some(word) = words.next() {
+    while let Some(word) = words.next()? {
         match word {
             "limit" => {
                 let word = words.option(&options.limit)?;
@@ -315,7 +338,7 @@ fn read_fq_codel(words: &mut Words) -> Read<FqCodel> {
 fn read_class(mut words: Words, verb: Verb) -> Read<Line> {
     let (mut named, mut parent, mut class) = (false, None, None);
     let mut quantum = None;
-    while let Some(word) = words.next() {
+    while let Some(word) = words.next()? {
         match word {
             "dev" => {
                 words.once(named)?;
@@ -341,16 +364,8 @@ fn read_class(mut words: Words, verb: Verb) -> Read<Line> {
         return Err(words.missing());
     };
     match (verb, parent, quantum) {
-        (Verb::Add, Some(parent), Some(quantum)) => Ok(Line::Tc(Command::ClassAdd {
-            parent,
-            class,
-            quantum,
-        })),
-        (Verb::Change, parent, Some(quantum)) => Ok(Line::Tc(Command::ClassChange {
-            parent,
-            class,
-            quantum,
-        })),
+        (Verb::Add, Some(parent), Some(quantum)) => Ok(Line::Tc(Command::ClassAdd { parent, class, quantum })),
+        (Verb::Change, parent, Some(quantum)) => Ok(Line::Tc(Command::ClassChange { parent, class, quantum })),
         (Verb::Del, parent, None) => Ok(Line::Tc(Command::ClassDel { parent, class })),
         _ => Err(words.missing()),
     }
@@ -358,7 +373,7 @@ fn read_class(mut words: Words, verb: Verb) -> Read<Line> {
 
 fn read_quantum(words: &mut Words) -> Read<Option<u32>> {
     let mut quantum = None;
-    while let Some(word) = words.next() {
+    while let Some(word) = words.next()? {
         if word != "quantum" {
             return Err(words.unknown());
         }
@@ -371,7 +386,7 @@ fn read_quantum(words: &mut Words) -> Read<Option<u32>> {
 fn read_filter(mut words: Words, verb: Verb) -> Read<Line> {
     let (mut named, mut parent, mut prio, mut protocol) = (false, None, None, None);
     let mut flower = None;
-    while let Some(word) = words.next() {
+    while let Some(word) = words.next()? {
         match word {
             "dev" => {
                 words.once(named)?;
@@ -398,10 +413,10 @@ fn read_filter(mut words: Words, verb: Verb) -> Read<Line> {
                 flower = Some(read_flower(&mut words, protocol)?);
                 break;
             }
-            "flower" => match words.next() {
-                None => break,
-                Some(_) => return Err(words.unknown()),
-            },
+            "flower" => {
+                words.ended(())?;
+                break;
+            }
             _ => return Err(words.unknown()),
         }
     }
@@ -429,7 +444,7 @@ fn read_flower(words: &mut Words, protocol: Option<Protocol>) -> Read<(Keys, Opt
         Some(Protocol::Ipv6) => Some([0; 16].into()),
         _ => None,
     };
-    while let Some(word) = words.next() {
+    while let Some(word) = words.next()? {
         match word {
             "ip_proto" => {
                 let word = words.option(&keys.ip_proto)?;

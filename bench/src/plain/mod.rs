@@ -24,4 +24,5 @@ pub mod setup;
 pub mod toll;
 pub mod tree;
 mod winners;
+pub mod words;
 pub mod work;

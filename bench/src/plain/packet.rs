@@ -57,6 +57,8 @@ pub enum Cause {
     OverLimit = 3,
     Codel = 4,
     FatFlow = 5,
+    #[allow(dead_code, reason = "the benchmark removes nothing")]
+    Purged = 6,
 }
 
 pub struct Lost {

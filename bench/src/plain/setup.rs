@@ -62,7 +62,7 @@ impl Device {
         Some(())
     }
 
-    fn made(&self, handle: Option<u16>, kind: &Kind) -> Node {
+    pub fn made(&self, handle: Option<u16>, kind: &Kind) -> Node {
         let txqueuelen = u64::from(self.txqueuelen);
         let packets = |limit: Option<u32>| Limit::Packets(limit.map_or(txqueuelen, u64::from));
         let discipline = match *kind {
@@ -86,6 +86,7 @@ impl Device {
                 Discipline::Tbf {
                     bucket: Bucket::new(rate, burst),
                     burst,
+                    limit: bytes,
                     child: Box::new(Node::fifo(Limit::Bytes(bytes))),
                 }
             }
@@ -113,7 +114,7 @@ fn settings(options: &Options, mtu: u16) -> Settings {
     }
 }
 
-fn find(node: &mut Node, handle: u16) -> Option<&mut Node> {
+pub fn find(node: &mut Node, handle: u16) -> Option<&mut Node> {
     if node.handle == Some(handle) {
         return Some(node);
     }
@@ -121,7 +122,7 @@ fn find(node: &mut Node, handle: u16) -> Option<&mut Node> {
 }
 
 impl Node {
-    fn children(&mut self) -> &mut [Node] {
+    pub fn children(&mut self) -> &mut [Node] {
         match &mut self.discipline {
             Discipline::Fifo(_) | Discipline::FqCodel(_) => &mut [],
             Discipline::Prio { bands, .. } => bands,
@@ -131,7 +132,7 @@ impl Node {
     }
 
     /// The place of a class among the node's children.
-    fn place_of(&self, minor: u16) -> Option<usize> {
+    pub fn place_of(&self, minor: u16) -> Option<usize> {
         match &self.discipline {
             Discipline::Drr { minors, .. } => minors.iter().position(|other| *other == minor),
             _ => usize::from(minor).checked_sub(1),

@@ -14,11 +14,11 @@ use super::toll::{Sums, Toll};
 
 pub struct Node {
     pub row: Row,
-    holds: bool,
+    pub holds: bool,
     pub handle: Option<u16>,
     pub filters: Filters,
     pub discipline: Discipline,
-    held: Packet,
+    pub held: Packet,
 }
 
 pub enum Discipline {
@@ -30,6 +30,8 @@ pub enum Discipline {
     Tbf {
         bucket: Bucket,
         burst: u32,
+        #[allow(dead_code, reason = "the benchmark gives a tbf no other child")]
+        limit: u64,
         child: Box<Node>,
     },
     /// The classes with their minor numbers, active by their places.

@@ -76,13 +76,6 @@ impl Codel {
         self.state.rest();
     }
 
-    /// The state as it was at first, with the settings of now.
-    pub fn reset(&mut self)
-        ensures { self.new ≡ at_first self.old.target self.old.interval self.old.mtu self.old.ecn }
-    {
-        self.state = ControlState::new();
-    }
-
     /// The moment of the next drop or mark while dropping, in nanoseconds; else that of the last time.
     pub fn drop_next(&self) -> u64
         ensures { result ≡ self.now.drop_next }

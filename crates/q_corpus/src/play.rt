@@ -1,7 +1,7 @@
 use crate::case::Case;
 use anyhow::{Context, Result, bail};
 use q_script::RunSettings;
-use q_session::run::run;
+use q_session::run;
 use std::alloc::Global;
 
 /// How a script went, beside what is known of it.

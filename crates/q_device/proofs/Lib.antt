@@ -7,6 +7,7 @@ pub mod FlowStretches
 pub mod KeptLemmas
 pub mod LawfulLemmas
 pub mod PlayLemmas
+pub mod ReadyNumbers
 pub mod ReplayLemmas
 pub mod ReplayedLemmas
 pub mod ShrinkLemmas

@@ -1,16 +1,17 @@
-ghost use Rattle.std.specs.Prelude.{ℕ, List, ◌≡◌, ◌≤◌, ◌+◌, ◌^◌, Ok, IsOk, IfOk, OnOk, OnErr, IfErr, max, min, length, slice_get, vec_capacity};
+ghost use Rattle.std.specs.Prelude.{ℕ, List, ◌≡◌, ◌<◌, ◌≤◌, ◌+◌, ◌^◌, true, None, IsSome, IfSome, IfNone, Ok, IsOk, IfOk, OnOk, OnErr, IfErr, max, min, length, slice_get, vec_capacity};
 ghost use Rattle.q_model.specs.Beneath.{beneath, is_empty, row_of};
 ghost use Rattle.q_model.specs.Node.{shape};
 ghost use Rattle.q_model.specs.Route.{device_route};
 ghost use Rattle.q_model.specs.Settings.{IsInRange};
 ghost use Rattle.q_model.specs.Step.{polled_of, step};
 ghost use Rattle.q_model.specs.Tally.{no_counts, totals, with_packet};
-ghost use Rattle.q_model.specs.TreeState.{stats};
+ghost use Rattle.q_model.specs.TreeState.{given, stats};
 ghost use Rattle.q_model.specs.declared.event.Event.TheVariants as event;
 ghost use Rattle.q_model.specs.declared.reply.Reply.TheVariants as reply;
 ghost use Rattle.q_packet.specs.Descriptor.{Descriptor};
 ghost use Rattle.q_tree.specs.Commanding.{MayTakeMemory};
 ghost use Rattle.q_tree.specs.Places.{places_at};
+ghost use Rattle.q_tree.specs.ReadyAt.{is_sure, ready_at};
 ghost use Rattle.q_tree.specs.RouteSeen.{RouteSeen};
 ghost use Rattle.q_tree.specs.TreeSeen.{numbers, tree_numbers, CanArrive, IsRouteIn};
 ghost use Rattle.q_device.specs.Counters.{HasNotFallen};
@@ -141,6 +142,21 @@ impl Device {
         let event = Event::Poll(at);
         record(&mut self.recorded, &mut self.events, &self.settings, event);
         polled_of(taken, &self.tree)
+    }
+
+    /// The moment before which no poll gives a packet, as long as nothing arrives and no command comes; `None` where none ever will:
+    /// nothing is queued, or no bucket will ever hold what waits for it. It is the clock where a poll may give one at once.
+    ///
+    /// A poll at that moment gives a packet where the length that each tbf waits for is known: that of what its child has at
+    /// hand. It changes nothing and takes no memory, and looks at each node of the tree once at most.
+    pub fn ready_at(&self) -> Option<Moment>
+        ensures value { result ≡ ready_at self.now.device.clock self.now.device.tree.root }
+        ensures from { IfSome result (λ at. self.now.device.clock ≤ at) }
+        ensures early { IfSome result (λ at. (t : ℕ) → self.now.device.clock ≤ t → t < at → given t self.now.device.tree ≡ None) }
+        ensures some { is_sure self.now.device.clock self.now.device.tree.root ≡ true → IfSome result (λ at. IsSome (given at self.now.device.tree)) }
+        ensures never { IfNone result ((t : ℕ) → self.now.device.clock ≤ t → t ≤ 2 ^ 62 → given t self.now.device.tree ≡ None) }
+    {
+        self.tree.ready_at(self.clock)
     }
 
     /// Does what a line of tc asks for, or refuses it. What is removed is lost, and waits for [`Device::reap`].

@@ -2,11 +2,13 @@
 //! the laws of its replays.
 //!
 //! - [`Device`] takes packets in, is polled for them, and does commands on its tree or refuses them.
-//! - [`play`] gives the replies to a list of events, by a device of its own.
+//! - [`play`] gives the [`Replies`] to a list of events, by a device of its own.
 //! - [`Settings`] are a device's mtu, queue length and recorder.
 //! - An [`Event`] is an arrival, a poll or a command, with its moment. A [`Reply`] is what it is answered: a [`Fate`], a
 //!   [`Polled`], or whether the command was done, else the [`Refusal`]. They are those of `q_model`.
 //! - A [`Lost`] is a packet that was lost, with the cause.
+//! - A [`Command`] and its settings, places, views and rows are those of [`Tree`], which is `q_tree`'s. A [`Packet`] with its
+//!   key and hash is `q_packet`'s. So a program that embeds a device needs this crate alone.
 //!
 //! What an event makes of a device is defined in `q_model` (`specs/Step.antt`), and what a list of them does
 //! (`specs/Replay.antt`). A device is the replay of all that happened to it (`specs/Replayed.antt`). [`laws`] carries what is
@@ -17,9 +19,17 @@
 
 mod device;
 pub mod laws;
-pub mod play;
+mod playing;
 
 pub use crate::device::Device;
+pub use playing::{Replies, play};
 pub use q_codel::Loss as Lost;
-pub use q_model::{Command, Event, Fate, Place, Polled, Refusal, Reply, Row, Settings, Totals};
-pub use q_tree::Tree;
+pub use q_model::{Event, Fate, Polled, Reply, Settings};
+pub use q_packet::{
+    Cause, Ecn, FlowHash, FlowKey, Head, Moment, OneAtATime, Packet, one_at_a_time, read_head,
+};
+pub use q_tree::{
+    Burst, ClassId, ClassKind, ClassView, Command, Filter, FilterKeys, FilterPrio, FilterView,
+    FqCodelOptions, Handle, IpPrefix, IpVersion, Kind, Latency, Minor, NodeView, Place,
+    PrioOptions, Protocol, QdiscView, Quantum, Rate, Refusal, Route, Row, TbfLimit, Totals, Tree,
+};

@@ -1,5 +1,6 @@
 -- The most bytes of the lines at the end, each the sum of the most that stands in it.
 use Rattle.std.specs.Prelude.{ℕ, ◌+◌}
+use Rattle.q_session.specs.Lengths.{most_device}
 use Rattle.q_show.specs.Lengths.{most_decimal}
 
 -- `Pp Bb`, and the end of the line
@@ -15,4 +16,4 @@ abbrev pub most_given_up : ℕ
 most_given_up = 9 + most_decimal + 1
 
 abbrev pub most_driven : ℕ
-most_driven = most_amount_line + most_amount_line + most_given_up
+most_driven = most_amount_line + most_amount_line + most_given_up + most_device

@@ -1,13 +1,16 @@
--- What a drive writes behind what standard input came to: three lines and perhaps the qdiscs, or that memory was refused.
+-- What a drive writes behind what standard input came to: three lines, and perhaps the device's counters and the qdiscs; or
+-- that memory was refused.
 -- The texts are this project's own.
 use Rattle.std.specs.Prelude.{ℕ, Bool, true, List, [], ◌++◌, if◌then◌else◌, codes, decimal, Option, Some, None}
 use Rattle.q_line.specs.declared.object.Object.TheVariants.{Qdisc}
 use Rattle.q_line.specs.declared.show.Show.{Show}
+use Rattle.q_model.specs.Beneath.{beneath, row_of}
 use Rattle.q_model.specs.Refusal.{refusal_text}
 use Rattle.q_model.specs.Tally.{totals}
 use Rattle.q_model.specs.declared.refusal.Refusal.TheVariants.{Memory}
 use Rattle.q_model.specs.declared.totals.Totals.{Totals}
 use Rattle.q_report.specs.Report.{show_text}
+use Rattle.q_report.specs.Text.{device_line}
 use Rattle.q_script.specs.Script.{newline}
 use Rattle.q_drive.specs.declared.driven.Driven.{Driven}
 
@@ -34,13 +37,20 @@ qdiscs = record { object = Qdisc; counters = true }
 abbrev pub shown_text : Bool → Driven → List ℕ
 shown_text show d = if show then show_text totals qdiscs d.device.device else []
 
--- the settled share, what the device counts as arrived, and the packets that were given up
-abbrev pub driven_lines : Driven → List ℕ
-driven_lines d = settled_line d.settled ++ arrived_line d.device.device.tree.top.arrived ++ given_up_line d.given_up
+-- what the device itself counts, as `totals` writes it: a packet longer than the mtu is lost there, above the root
+abbrev pub totals_line : Bool → Driven → List ℕ
+totals_line show d =
+    if show then device_line (row_of d.device.device.tree.top (beneath d.device.device.tree.root)) else []
+
+-- the settled share, what the device counts as arrived, and the packets that were given up; and all that the device counts, if
+-- it is asked for
+abbrev pub driven_lines : Bool → Driven → List ℕ
+driven_lines show d =
+    settled_line d.settled ++ arrived_line d.device.device.tree.top.arrived ++ given_up_line d.given_up ++ totals_line show d
 
 -- and the qdiscs if they are asked for
 abbrev pub driven_text : Bool → Driven → List ℕ
-driven_text show d = driven_lines d ++ shown_text show d
+driven_text show d = driven_lines show d ++ shown_text show d
 
 abbrev pub ending_text : Bool → Option Driven → List ℕ
 ending_text show None = memory_line

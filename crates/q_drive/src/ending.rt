@@ -14,11 +14,12 @@ use crate::driven::Driven;
 use q_device::{Device, Refusal, Totals};
 use q_line::{Object, Show};
 use q_script::Output;
-use q_session::put_show;
+use q_session::{put_device, put_show};
 use q_show::{Target, WriteFault};
 use std::io::Write;
 
-/// Writes what the senders came to, and the qdiscs where they are to be shown; or that memory was refused to them.
+/// Writes what the senders came to, and the device's counters and the qdiscs where they are to be shown; or that memory was
+/// refused to them.
 pub fn write_ending<W: Write>(
     driven: &Option<Driven>,
     show: bool,
@@ -57,19 +58,23 @@ fn write_driven<W: Write>(
     ensures going { OnOk result (MayWrite target.new.writes) }
     ensures failed { IfErr result (λ fault. WriteFailed target.new.writes fault.kind) }
 {
-    put_driven(driven, output);
+    put_driven(driven, show, output);
     put_shown(driven, show, output, target)?;
     output.flush(target)
 }
 
-/// The three lines: the settled share, what the device counts as arrived, and how many packets were given up.
-fn put_driven(driven: &Driven, output: &mut Output)
+/// The three lines: the settled share, what the device counts as arrived, and how many packets were given up. And all that
+/// the device counts, where it is to be shown.
+fn put_driven(driven: &Driven, show: bool, output: &mut Output)
     requires { HasRoom output.old most_driven }
-    ensures { output.new ≡ output.old ++ driven_lines driven.now }
+    ensures { output.new ≡ output.old ++ driven_lines show driven.now }
 {
     put_settled(output, driven.settled);
     put_arrived(output, driven.device.totals().arrived);
     put_given_up(output, driven.given_up);
+    if show {
+        put_device(output, &driven.device.totals());
+    }
 }
 
 /// Packets and bytes, and the end of the line.
@@ -108,7 +113,8 @@ fn put_arrived(output: &mut Output, arrived: Totals)
 /// The line on the packets that were given up.
 fn put_given_up(output: &mut Output, given_up: u64)
     requires { HasRoom output.old most_given_up }
-    ensures { output.new ≡ output.old ++ given_up_line given_up }
+    ensures text { output.new ≡ output.old ++ given_up_line given_up }
+    ensures short { GrowsBy output.old output.new most_given_up }
 {
     output.put(b"given up ");
     output.put_number(given_up);

@@ -48,7 +48,7 @@ pub fn run_drive_between<H: Threads + Wait + Sync, R: Read, W: Write>(
     let Ok(mut set_up) = SetUp::open(alloc, &settings.device()) else {
         return Err(RunFault::Memory);
     };
-    let outcome = q_script::run::run_between(alloc, source, target, &mut set_up)?;
+    let outcome = q_script::run_between(alloc, source, target, &mut set_up)?;
     let driven = drive_device(rt, alloc, set_up.into_device(), &settings);
     if let Err(fault) = write_ending(&driven, settings.show(), &mut output, target) {
         return Err(RunFault::Write(fault.kind));

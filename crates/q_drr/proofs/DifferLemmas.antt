@@ -3,7 +3,7 @@ use Rattle.std.proofs.Common.{◌≡◌, ◌≢◌, ℕ, zero, suc, ◌<◌, fal
 use Rattle.std.specs.Prelude.{◌==◌, slice_index_or}
 use Rattle.std.specs.List.{AllPairs, list_any}
 use Rattle.std.proofs.lemmas.Bool.{ne_eqb, false≢true, or_parts, or_from}
-use Rattle.q_drr.specs.declared.class_state.ClassState.{ClassState}
+use Rattle.q_drr.specs.States.{NamedState}
 use Rattle.q_drr.specs.Schedule.{Class, Entry}
 
 abbrev pub Differ : {X : Type 0} → (X → ℕ) → List X → Type 0
@@ -38,7 +38,7 @@ module _ {X : Type 0} (key : X → ℕ) where
 abbrev pub AllDiffer : List ℕ → Type 0
 AllDiffer ns = Differ (λ n. n) ns
 
-abbrev pub StatesDiffer : List ClassState → Type 0
+abbrev pub StatesDiffer : List NamedState → Type 0
 StatesDiffer states = Differ (λ c. c.name) states
 
 abbrev pub ClassesDiffer : List Class → Type 0
@@ -50,7 +50,7 @@ EntriesDiffer active = Differ (λ e. e.class) active
 pub numbers_apart : (ns : List ℕ) → AllPairs (λ m n. m ≢ n) ns → AllDiffer ns
 numbers_apart ns h = differ-from_pairs (λ n. n) ns h
 
-pub states_apart : (states : List ClassState) → AllPairs (λ a b. a.name ≢ b.name) states → StatesDiffer states
+pub states_apart : (states : List NamedState) → AllPairs (λ a b. a.name ≢ b.name) states → StatesDiffer states
 states_apart states h = differ-from_pairs (λ c. c.name) states h
 
 pub entries_apart : (active : List Entry) → AllPairs (λ a b. a.class ≢ b.class) active → EntriesDiffer active
@@ -59,5 +59,5 @@ entries_apart active h = differ-from_pairs (λ e. e.class) active h
 pub numbers_differ-from : (ns : List ℕ) → AllDiffer ns → AllPairs (λ m n. m ≢ n) ns
 numbers_differ-from ns h = pairs-from_differ (λ n. n) ns h
 
-pub states_differ-from : (states : List ClassState) → StatesDiffer states → AllPairs (λ a b. a.name ≢ b.name) states
+pub states_differ-from : (states : List NamedState) → StatesDiffer states → AllPairs (λ a b. a.name ≢ b.name) states
 states_differ-from states h = pairs-from_differ (λ c. c.name) states h

@@ -4,15 +4,14 @@ use Rattle.std.proofs.Common.{◌≡◌, ℕ, Bool, true, false, cond, eqb, List
 use Rattle.std.specs.Prelude.{◌==◌, unwrap_or}
 use Rattle.std.specs.List.{find}
 use Rattle.std.specs.Option.{option_map_or}
-use Rattle.q_drr.specs.declared.class_state.ClassState.{ClassState}
 use Rattle.q_drr.specs.Schedule.{Class, Entry, quantum_of, deficit_of, granted_of}
-use Rattle.q_drr.specs.States.{no_state, state_of}
+use Rattle.q_drr.specs.States.{NamedState, no_state, state_of}
 
-pub state-here : (n : ℕ) (c : ClassState) (cs : List ClassState) → eqb n c.name ≡ true → state_of n (c ∷ cs) ≡ c
-state-here n c cs e = ap (λ (t : Bool). unwrap_or (cond t (Some c) (find (λ (c : ClassState). n == c.name) cs)) no_state) e
+pub state-here : (n : ℕ) (c : NamedState) (cs : List NamedState) → eqb n c.name ≡ true → state_of n (c ∷ cs) ≡ c
+state-here n c cs e = ap (λ (t : Bool). unwrap_or (cond t (Some c) (find (λ (c : NamedState). n == c.name) cs)) no_state) e
 
-pub state-behind : (n : ℕ) (c : ClassState) (cs : List ClassState) → eqb n c.name ≡ false → state_of n (c ∷ cs) ≡ state_of n cs
-state-behind n c cs e = ap (λ (t : Bool). unwrap_or (cond t (Some c) (find (λ (c : ClassState). n == c.name) cs)) no_state) e
+pub state-behind : (n : ℕ) (c : NamedState) (cs : List NamedState) → eqb n c.name ≡ false → state_of n (c ∷ cs) ≡ state_of n cs
+state-behind n c cs e = ap (λ (t : Bool). unwrap_or (cond t (Some c) (find (λ (c : NamedState). n == c.name) cs)) no_state) e
 
 pub quantum-here : (n : ℕ) (c : Class) (cs : List Class) → eqb n c.name ≡ true → quantum_of n (c ∷ cs) ≡ c.quantum
 quantum-here n c cs e = ap (λ (t : Bool). option_map_or (λ (c : Class). c.quantum) (cond t (Some c) (find (λ (c : Class). n == c.name) cs)) 0) e

@@ -5,17 +5,16 @@ use Rattle.std.specs.List.{All}
 use Rattle.std.proofs.lemmas.List.Elements.{All-head}
 use Rattle.std.proofs.lemmas.Bool.{le-leb, lt-leb}
 use Rattle.std.proofs.lemmas.List.{map-append}
-use Rattle.q_drr.specs.declared.class_state.ClassState.{ClassState}
 use Rattle.q_drr.specs.Links.{is_among}
 use Rattle.q_drr.specs.declared.turn.Turn.TheVariants.{Send, Granted}
-use Rattle.q_drr.specs.States.{has_state, state_of, with_state, class_in, entry_in}
+use Rattle.q_drr.specs.States.{NamedState, has_state, state_of, with_state, class_in, entry_in}
 use Rattle.q_drr.specs.Schedule.{quantum_of, after_grants, turn_answer, turned, counted}
 use Rattle.q_drr.specs.Kept.{shown}
 use Rattle.q_drr.proofs.DifferLemmas.{AllDiffer, StatesDiffer}
 use Rattle.q_drr.proofs.ScheduleLemmas.{quantum_in, classes_with, entries_with, entry_put, same_entry, same_schedule}
 
 -- `turn`
-pub sent_shown : (max_len turns len : ℕ) (states : List ClassState) (n : ℕ) (order : List ℕ) (new : ClassState) → StatesDiffer states → has_state n states ≡ true → is_among n order ≡ false
+pub sent_shown : (max_len turns len : ℕ) (states : List NamedState) (n : ℕ) (order : List ℕ) (new : NamedState) → StatesDiffer states → has_state n states ≡ true → is_among n order ≡ false
     → len ≤ (state_of n states).deficit → new.name ≡ n → new.quantum ≡ (state_of n states).quantum → new.deficit ≡ (state_of n states).deficit - len → new.granted ≡ (state_of n states).granted
     → shown max_len (counted (turns + 1)) (with_state new states) (n ∷ order) ≡ turned len (shown max_len turns states (n ∷ order))
 sent_shown max_len turns len states n order new differ there absent covers name quantum deficit granted =
@@ -26,7 +25,7 @@ sent_shown max_len turns len states n order new differ there absent covers name 
     (e ∙ sym (ap (λ (t : Bool). if t then record (entry_in states n) { deficit = (state_of n states).deficit - len } ∷ map (entry_in states) order
     else map (entry_in states) order ++ after_grants (quantum_of n (map class_in states)) 1 (entry_in states n) ∷ []) (le-leb len (state_of n states).deficit covers))) refl
 
-pub granted_shown : (max_len turns len : ℕ) (states : List ClassState) (n : ℕ) (order : List ℕ) (new : ClassState) → StatesDiffer states → has_state n states ≡ true → is_among n order ≡ false
+pub granted_shown : (max_len turns len : ℕ) (states : List NamedState) (n : ℕ) (order : List ℕ) (new : NamedState) → StatesDiffer states → has_state n states ≡ true → is_among n order ≡ false
     → (state_of n states).deficit < len → new.name ≡ n → new.quantum ≡ (state_of n states).quantum → new.deficit ≡ (state_of n states).deficit + (state_of n states).quantum
     → new.granted ≡ counted ((state_of n states).granted + (state_of n states).quantum)
     → shown max_len (counted (turns + 1)) (with_state new states) (order ++ n ∷ []) ≡ turned len (shown max_len turns states (n ∷ order))
@@ -45,16 +44,16 @@ granted_shown max_len turns len states n order new differ there absent short nam
     else map (entry_in states) order ++ after_grants (quantum_of n (map class_in states)) 1 (entry_in states n) ∷ []) (lt-leb len (state_of n states).deficit short))) refl
 
 -- the class in front
-pub front_there : (states : List ClassState) (order : List ℕ) (n : ℕ) → slice_get order 0 ≡ Some n → All (λ m. has_state m states ≡ true) order → has_state n states ≡ true
+pub front_there : (states : List NamedState) (order : List ℕ) (n : ℕ) → slice_get order 0 ≡ Some n → All (λ m. has_state m states ≡ true) order → has_state n states ≡ true
 front_there states [] n front known = cc
 front_there states (m ∷ order) n front known = let e : m ≡ n = cc in ap (λ k. has_state k states) (sym e) ∙ All-head (λ m. has_state m states ≡ true) m order known
 
-pub front_deficit : (max_len turns : ℕ) (states : List ClassState) (order : List ℕ) (n len : ℕ) → slice_get order 0 ≡ Some n
+pub front_deficit : (max_len turns : ℕ) (states : List NamedState) (order : List ℕ) (n len : ℕ) → slice_get order 0 ≡ Some n
     → turn_answer len (shown max_len turns states order).active ≡ (if nat_le len (state_of n states).deficit then Send else Granted)
 front_deficit max_len turns states [] n len front = cc
 front_deficit max_len turns states (m ∷ order) n len front = let e : m ≡ n = cc in ap (λ k. if nat_le len (state_of k states).deficit then Send else Granted) e
 
-pub sent_front : (max_len turns len : ℕ) (states : List ClassState) (order : List ℕ) (n : ℕ) (new : ClassState) → slice_get order 0 ≡ Some n → AllDiffer order → StatesDiffer states → has_state n states ≡ true
+pub sent_front : (max_len turns len : ℕ) (states : List NamedState) (order : List ℕ) (n : ℕ) (new : NamedState) → slice_get order 0 ≡ Some n → AllDiffer order → StatesDiffer states → has_state n states ≡ true
     → len ≤ (state_of n states).deficit → new.name ≡ n → new.quantum ≡ (state_of n states).quantum → new.deficit ≡ (state_of n states).deficit - len → new.granted ≡ (state_of n states).granted
     → shown max_len (counted (turns + 1)) (with_state new states) order ≡ turned len (shown max_len turns states order)
 sent_front max_len turns len states [] n new front apart differ there covers name quantum deficit granted = cc
@@ -63,7 +62,7 @@ sent_front max_len turns len states (m ∷ order) n new front apart differ there
     subst (λ k. shown max_len (counted (turns + 1)) (with_state new states) (k ∷ order) ≡ turned len (shown max_len turns states (k ∷ order))) e
     (sent_shown max_len turns len states n order new differ there (ap (λ k. is_among k order) e ∙ apart.0) covers name quantum deficit granted)
 
-pub granted_front : (max_len turns len : ℕ) (states : List ClassState) (order : List ℕ) (n : ℕ) (new : ClassState) → slice_get order 0 ≡ Some n → AllDiffer order → StatesDiffer states → has_state n states ≡ true
+pub granted_front : (max_len turns len : ℕ) (states : List NamedState) (order : List ℕ) (n : ℕ) (new : NamedState) → slice_get order 0 ≡ Some n → AllDiffer order → StatesDiffer states → has_state n states ≡ true
     → (state_of n states).deficit < len → new.name ≡ n → new.quantum ≡ (state_of n states).quantum → new.deficit ≡ (state_of n states).deficit + (state_of n states).quantum
     → new.granted ≡ counted ((state_of n states).granted + (state_of n states).quantum)
     → shown max_len (counted (turns + 1)) (with_state new states) (drop 1 order ++ take 1 order) ≡ turned len (shown max_len turns states order)

@@ -1,6 +1,6 @@
 -- A circular list of numbers, kept by the links of each to the next and the one before.
--- It holds the active classes of deficit round robin (tc-drr(8)), front first.
-use Rattle.std.specs.Prelude.{◌≡◌, ◌≢◌, ℕ, zero, suc, ◌<◌, ◌≤◌, ◌^◌, Bool, false, not, ◌==◌, nat_eq, List, [], ◌∷◌, length, slice_index_or, if◌then◌else◌}
+-- It holds the places of the active classes of deficit round robin (tc-drr(8)), front first.
+use Rattle.std.specs.Prelude.{◌≡◌, ◌≢◌, ℕ, zero, suc, ◌<◌, ◌≤◌, ◌^◌, Bool, false, not, ◌==◌, nat_eq, nat_lt, ◌-◌, List, [], ◌∷◌, length, slice_index_or, if◌then◌else◌}
 use Rattle.std.specs.List.{list_any, filter, All, AllPairs}
 use Rattle.q_drr.specs.declared.ring.Link.{Link}
 
@@ -14,6 +14,10 @@ is_among n ns = list_any (nat_eq n) ns
 
 abbrev pub without : ℕ → List ℕ → List ℕ
 without n ns = filter (λ m. not (n == m)) ns
+
+-- where a number stands once there is no such number as the gap, and those above it have moved down by one
+abbrev pub moved_down : ℕ → ℕ → ℕ
+moved_down gap n = if nat_lt gap n then n - 1 else n
 
 abbrev pub no_link : Link
 no_link = record { next = 0; before = 0; here = false }
@@ -63,3 +67,10 @@ pub record IsMarked (old new : List Link) (a : ℕ) (here : Bool) : Type 0 where
   pub next : (n : ℕ) → next_of new n ≡ next_of old n
   pub before : (n : ℕ) → before_of new n ≡ before_of old n
   pub changed : (n : ℕ) → here_of new n ≡ (if n == a then here else here_of old n)
+
+-- each link leads to where its neighbours stand once a gap is closed
+pub record HaveMovedDown (gap : ℕ) (old new : List Link) : Type 0 where
+  pub len : length new ≡ length old
+  pub next : (n : ℕ) → n < length old → next_of new n ≡ moved_down gap (next_of old n)
+  pub before : (n : ℕ) → n < length old → before_of new n ≡ moved_down gap (before_of old n)
+  pub here : (n : ℕ) → n < length old → here_of new n ≡ here_of old n

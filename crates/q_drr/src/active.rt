@@ -1,4 +1,4 @@
-ghost use Rattle.std.specs.Prelude.{◌≡◌, ◌<◌, ◌≤◌, ◌+◌, IsTrue, OnOk, OnErr, false, length, ◌^◌};
+ghost use Rattle.std.specs.Prelude.{◌≡◌, ℕ, ◌<◌, ◌≤◌, ◌+◌, IsTrue, OnOk, OnErr, false, length, is_some, option_and_then, ◌^◌};
 ghost use Rattle.q_drr.specs.Schedule.{Schedule, no_classes, has_class, place_of, name_at, quantum_of, is_active, deficit_of, granted_of, added, woken, asleep, removed, with_quantum, front_of, turn_answer, turned, IsLawful};
 
 use crate::class_state::ClassState;
@@ -11,8 +11,8 @@ use std::marker::Model;
 /// The classes of a deficit round robin (M. Shreedhar and G. Varghese, "Efficient Fair Queuing Using Deficit
 /// Round-Robin", 1995; tc-drr(8)), and the list of those that are active.
 ///
-/// A class is named by a number of 16 bits. The table is as long as the greatest name, so names that lie close together
-/// keep it short.
+/// A class is named by a number of 16 bits, and stands at a place, its number in order of adding from 0. What is kept of
+/// a class takes as much memory whatever its name is.
 ///
 /// A contract sees the record `Schedule`: the classes with their quanta in order of adding and, for those active, their
 /// place, deficit and grants.
@@ -30,8 +30,9 @@ impl Model for Active {
     ghost Value = { Schedule };
 
     ghost use Rattle.q_drr.specs.Kept.{shown, IsSound};
+    ghost use Rattle.q_drr.specs.States.{names_in};
 
-    ghost view = { λ a. shown a.max_len a.turns a.table a.ring.order };
+    ghost view = { λ a. shown a.max_len a.turns a.table (names_in a.table a.ring.order) };
 
     ghost invariant = { λ a. IsSound a.max_len a.turns a.table a.ring };
 }
@@ -94,13 +95,15 @@ impl Active {
         ensures ok { OnOk result (self.new ≡ added class quantum self.old) }
         ensures err { OnErr result (self.new ≡ self.old) }
     {
-        self.ring.reserve(class)?;
-        self.table.add(ClassState {
-            name: class,
-            quantum,
-            deficit: 0,
-            granted: 0,
-        })?;
+        self.ring.reserve(self.table.count())?;
+        self.table.add(
+            class,
+            ClassState {
+                quantum,
+                deficit: 0,
+                granted: 0,
+            },
+        )?;
         Ok(())
     }
 
@@ -109,10 +112,12 @@ impl Active {
         requires { IsTrue (has_class class self.old.classes) }
         ensures { self.new ≡ removed class self.old }
     {
-        if self.ring.contains(class) {
-            self.ring.remove(class);
+        let place = self.table.find(class);
+        if self.ring.contains(place) {
+            self.ring.remove(place);
         }
-        self.table.remove(class);
+        self.ring.close_gap(place);
+        self.table.remove(place);
     }
 
     /// Puts a class at the end of the active list, with a deficit of one quantum. One that is active stays as it is.
@@ -120,16 +125,28 @@ impl Active {
         requires { IsTrue (has_class class self.old.classes) }
         ensures { self.new ≡ woken class self.old }
     {
-        if self.ring.contains(class) {
+        let place = self.table.find(class);
+        self.wake_at(place);
+    }
+
+    /// `wake` of the class in a place in order of adding, with no look-up of its name.
+    pub fn wake_at(&mut self, place: usize)
+        requires { place < length self.old.classes }
+        ensures { (class : ℕ) → name_at place self.old.classes ≡ Some class → self.new ≡ woken class self.old }
+    {
+        if self.ring.contains(place) {
             return;
         }
-        let state = self.table.get(class);
-        self.table.put(ClassState {
-            deficit: u64::from(state.quantum),
-            granted: 0,
-            ..state
-        });
-        self.ring.push(class);
+        let state = self.table.get(place);
+        self.table.put(
+            place,
+            ClassState {
+                deficit: u64::from(state.quantum),
+                granted: 0,
+                ..state
+            },
+        );
+        self.ring.push(place);
     }
 
     /// Takes a class out of the active list. One that is asleep stays so.
@@ -137,14 +154,33 @@ impl Active {
         requires { IsTrue (has_class class self.old.classes) }
         ensures { self.new ≡ asleep class self.old }
     {
-        if self.ring.contains(class) {
-            self.ring.remove(class);
+        let place = self.table.find(class);
+        self.sleep_at(place);
+    }
+
+    /// `sleep` of the class in a place in order of adding, with no look-up of its name.
+    pub fn sleep_at(&mut self, place: usize)
+        requires { place < length self.old.classes }
+        ensures { (class : ℕ) → name_at place self.old.classes ≡ Some class → self.new ≡ asleep class self.old }
+    {
+        if self.ring.contains(place) {
+            self.ring.remove(place);
         }
     }
 
     /// The class whose turn it is; `None` where none is active.
     pub fn front(&self) -> Option<u16>
         ensures front { result ≡ front_of self.now }
+        ensures lawful { IsLawful self.now }
+    {
+        self.table.name_at(self.ring.front()?)
+    }
+
+    /// The place in order of adding of the class whose turn it is, with no look-up of its name; `None` where none is
+    /// active.
+    pub fn front_place(&self) -> Option<usize>
+        ensures place { result ≡ option_and_then (λ class. place_of class self.now.classes) (front_of self.now) }
+        ensures found { is_some result ≡ is_some (front_of self.now) }
         ensures lawful { IsLawful self.now }
     {
         self.ring.front()
@@ -169,24 +205,30 @@ impl Active {
         ensures after { self.new ≡ turned head_len self.old }
     {
         self.turns = self.turns.saturating_add(1);
-        let Some(class) = self.ring.front() else {
+        let Some(place) = self.ring.front() else {
             unreachable!()
         };
-        let state = self.table.get(class);
+        let state = self.table.get(place);
         let head_len = u64::from(head_len);
         if head_len <= state.deficit {
-            self.table.put(ClassState {
-                deficit: state.deficit - head_len,
-                ..state
-            });
+            self.table.put(
+                place,
+                ClassState {
+                    deficit: state.deficit - head_len,
+                    ..state
+                },
+            );
             return Turn::Send;
         }
         let quantum = u64::from(state.quantum);
-        self.table.put(ClassState {
-            deficit: state.deficit + quantum,
-            granted: state.granted.saturating_add(quantum),
-            ..state
-        });
+        self.table.put(
+            place,
+            ClassState {
+                deficit: state.deficit + quantum,
+                granted: state.granted.saturating_add(quantum),
+                ..state
+            },
+        );
         self.ring.rotate();
         Turn::Granted
     }
@@ -197,13 +239,17 @@ impl Active {
         requires positive { 1 ≤ quantum }
         ensures { self.new ≡ with_quantum class quantum self.old }
     {
-        let state = self.table.get(class);
+        let place = self.table.find(class);
+        let state = self.table.get(place);
         let most = u64::from(quantum) + u64::from(self.max_len) - 1;
-        self.table.put(ClassState {
-            quantum,
-            deficit: state.deficit.min(most),
-            ..state
-        });
+        self.table.put(
+            place,
+            ClassState {
+                quantum,
+                deficit: state.deficit.min(most),
+                ..state
+            },
+        );
     }
 
     /// The bytes of one grant.
@@ -211,7 +257,7 @@ impl Active {
         requires { IsTrue (has_class class self.now.classes) }
         ensures { result ≡ quantum_of class self.now.classes }
     {
-        self.table.get(class).quantum
+        self.table.get(self.table.find(class)).quantum
     }
 
     /// Whether a class is in the active list.
@@ -219,7 +265,7 @@ impl Active {
         requires { IsTrue (has_class class self.now.classes) }
         ensures { result ≡ is_active class self.now.active }
     {
-        self.ring.contains(class)
+        self.ring.contains(self.table.find(class))
     }
 
     /// The bytes that a class may send before its next grant; 0 where it is asleep.
@@ -228,8 +274,9 @@ impl Active {
         ensures value { result ≡ deficit_of class self.now.active }
         ensures bound { result < quantum_of class self.now.classes + self.now.max_len }
     {
-        if self.ring.contains(class) {
-            self.table.get(class).deficit
+        let place = self.table.find(class);
+        if self.ring.contains(place) {
+            self.table.get(place).deficit
         } else {
             0
         }
@@ -241,8 +288,9 @@ impl Active {
         requires { IsTrue (has_class class self.now.classes) }
         ensures { result ≡ granted_of class self.now.active }
     {
-        if self.ring.contains(class) {
-            self.table.get(class).granted
+        let place = self.table.find(class);
+        if self.ring.contains(place) {
+            self.table.get(place).granted
         } else {
             0
         }

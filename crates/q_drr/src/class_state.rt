@@ -1,7 +1,6 @@
-/// What is kept of a class. Deficit and grants have a meaning only while the class is active.
+/// What is kept of a class beside its name. Deficit and grants have a meaning only while the class is active.
 #[derive(Clone, Copy)]
 pub(crate) struct ClassState {
-    pub(crate) name: u16,
     /// Bytes of one grant.
     pub(crate) quantum: u32,
     /// Bytes that it may send before its next grant.

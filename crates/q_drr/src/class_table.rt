@@ -1,31 +1,27 @@
-ghost use Rattle.std.specs.Prelude.{◌≡◌, ◌<◌, ◌≤◌, ◌^◌, length, List, [], ◌∷◌, ◌++◌, slice_get, option_map, IsTrue, OnOk, OnErr, false};
-ghost use Rattle.q_drr.specs.declared.class_state.ClassState.{ClassState};
-ghost use Rattle.q_drr.specs.States.{has_state, place_of_state, state_of, with_state, without_state, IsIndex, IsIndexUpTo};
+ghost use Rattle.std.specs.Prelude.{◌≡◌, ◌<◌, length, [], ◌∷◌, ◌++◌, slice_get, slice_set, slice_index_or, option_map, Some, IsTrue, OnOk, OnErr, false};
+ghost use Rattle.std.specs.List.{remove};
+ghost use Rattle.q_drr.specs.States.{no_state, has_state, place_of_state, named, kept_of, name_in};
 
 use crate::class_state::ClassState;
+use indexmap::IndexMap;
 use std::alloc::{AllocError, Global};
 use std::marker::Model;
 
-/// The classes in order of adding, each found by its name in one step.
+/// The classes in order of adding. A look-up by name takes one hash, and one by place none.
 ///
-/// A contract sees the list of their states.
+/// A contract sees the list of their states, each with its name.
 #[derive(Drop)]
 pub(crate) struct ClassTable {
-    states: Vec<ClassState>,
-    /// Where the class of each name stands in `states`. What stands at a name that no class has means nothing.
-    places: Vec<u16>,
+    states: IndexMap<u16, ClassState>,
 }
 
 impl Model for ClassTable {
-    ghost use Rattle.std.specs.Prelude.{List, ◌≤◌, ◌^◌, length};
-    ghost use Rattle.q_drr.specs.declared.class_state.ClassState.{ClassState};
-    ghost use Rattle.q_drr.specs.States.{IsIndex};
+    ghost use Rattle.std.specs.Prelude.{List, map};
+    ghost use Rattle.q_drr.specs.States.{NamedState, named_entry};
 
-    ghost Value = { List ClassState };
+    ghost Value = { List NamedState };
 
-    ghost view = { λ t. t.states.items };
-
-    ghost invariant = { λ t. IsIndex t.places.items t.states.items };
+    ghost view = { λ t. map named_entry t.states.entries };
 }
 
 impl ClassTable {
@@ -33,14 +29,12 @@ impl ClassTable {
         ensures { result ≡ [] }
     {
         ClassTable {
-            states: Vec::new(alloc),
-            places: Vec::new(alloc),
+            states: IndexMap::new(alloc),
         }
     }
 
     pub(crate) fn count(&self) -> usize
-        ensures value { result ≡ length self.now }
-        ensures bound { result ≤ 2 ^ 16 }
+        ensures { result ≡ length self.now }
     {
         self.states.len()
     }
@@ -48,19 +42,13 @@ impl ClassTable {
     pub(crate) fn place_of(&self, name: u16) -> Option<usize>
         ensures { result ≡ place_of_state name self.now }
     {
-        let place = *self.places.get(name as usize)? as usize;
-        let state = self.states.get(place)?;
-        if state.name == name {
-            Some(place)
-        } else {
-            None
-        }
+        self.states.get_index_of(&name)
     }
 
     pub(crate) fn name_at(&self, place: usize) -> Option<u16>
         ensures { result ≡ option_map (λ state. state.name) (slice_get self.now place) }
     {
-        Some(self.states.get(place)?.name)
+        Some(*self.states.get_index(place)?.0)
     }
 
     pub(crate) fn has(&self, name: u16) -> bool
@@ -69,68 +57,48 @@ impl ClassTable {
         self.place_of(name).is_some()
     }
 
-    pub(crate) fn get(&self, name: u16) -> ClassState
+    /// The place of a class that is there.
+    pub(crate) fn find(&self, name: u16) -> usize
         requires { IsTrue (has_state name self.now) }
-        ensures { result ≡ state_of name self.now }
+        ensures { place_of_state name self.now ≡ Some result }
     {
-        let place = self.places[name as usize];
-        // With its name given, a `put` of it goes to the same place with no second look at the state's memory.
-        ClassState {
-            name,
-            ..self.states[place as usize]
+        match self.place_of(name) {
+            Some(place) => place,
+            None => unreachable!(),
         }
     }
 
-    /// Puts this state in the place of the one under its name.
-    pub(crate) fn put(&mut self, state: ClassState)
-        requires { IsTrue (has_state state.name self.old) }
-        ensures { self.new ≡ with_state state self.old }
+    pub(crate) fn get(&self, place: usize) -> ClassState
+        requires { place < length self.now }
+        ensures { result ≡ kept_of (slice_index_or self.now place no_state) }
     {
-        let place = self.places[state.name as usize];
-        self.states[place as usize] = state;
+        self.states[place]
     }
 
-    pub(crate) fn add(&mut self, state: ClassState) -> Result<(), AllocError>
-        requires { has_state state.name self.old ≡ false }
-        ensures ok { OnOk result (self.new ≡ self.old ++ state ∷ []) }
+    /// The class in this place keeps its name, and nothing else of what it was.
+    pub(crate) fn put(&mut self, place: usize, state: ClassState)
+        requires { place < length self.old }
+        ensures { self.new ≡ slice_set self.old place (named (name_in self.old place) state) }
+    {
+        self.states[place] = state;
+    }
+
+    pub(crate) fn add(&mut self, name: u16, state: ClassState) -> Result<(), AllocError>
+        requires { has_state name self.old ≡ false }
+        ensures ok { OnOk result (self.new ≡ self.old ++ named name state ∷ []) }
         ensures err { OnErr result (self.new ≡ self.old) }
     {
-        make_place(&mut self.places, state.name)?;
-        let place = self.states.len() as u16;
-        self.states.push(state)?;
-        self.places[state.name as usize] = place;
+        let Ok(_) = self.states.insert(name, state) else {
+            return Err(AllocError);
+        };
         Ok(())
     }
 
-    /// Takes a class away. Those added after it move up by one place.
-    pub(crate) fn remove(&mut self, name: u16)
-        requires { IsTrue (has_state name self.old) }
-        ensures { self.new ≡ without_state name self.old }
+    /// Takes a class away. Those added after it move down by one place.
+    pub(crate) fn remove(&mut self, place: usize)
+        requires { place < length self.old }
+        ensures { self.new ≡ remove self.old place }
     {
-        let place = self.places[name as usize];
-        self.states.remove(place as usize);
-        renumber(&mut self.places, &self.states, place as usize);
-    }
-}
-
-/// Makes the index long enough for a name.
-fn make_place(places: &mut Vec<u16>, name: u16) -> Result<(), AllocError>
-    ensures ok { OnOk result (name < length places.new.items) }
-    ensures index { (states : List ClassState) → IsIndex places.old.items states → IsIndex places.new.items states }
-{
-    if places.len() <= name as usize {
-        places.resize(name as usize + 1, 0)?;
-    }
-    Ok(())
-}
-
-/// Sets the places of the states from one place on.
-fn renumber(places: &mut [u16], states: &[ClassState], from: usize)
-    requires within { from ≤ length states.now }
-    requires shifted { IsIndexUpTo places.old states.now from }
-    ensures { IsIndex places.new states.now }
-{
-    for place in from..states.len() {
-        places[states[place].name as usize] = place as u16;
+        self.states.shift_remove_index(place);
     }
 }

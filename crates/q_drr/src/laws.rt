@@ -1,7 +1,11 @@
-//! Laws of the definitions that the contracts cite. Each function does nothing: its contract is the law.
+//! Laws of the definitions that the contracts cite. Each function does nothing: its contract is the law. [`take_by_turns`] alone
+//! does something: it leads from turns to a whole take.
 ghost use Rattle.q_drr.specs.Changes.{EmptyIsLawful, AddedIsLawful, RemovedIsLawful, WokenIsLawful, AsleepIsLawful, WithQuantumIsLawful, TurnedIsLawful, ServedIsLawful};
 ghost use Rattle.q_drr.specs.Stretch.{EachSendsItsShare, GrantsAreEven, SharesAreFair};
 ghost use Rattle.q_drr.specs.Turns.{TakesAreTurns, LeastNeedIsMet, ChosenIsMet, TurnsGrantWhereShort, TakesGrantWhereShort};
+
+pub use crate::met::Met;
+pub use crate::take::take_by_turns;
 
 /// Over any stretch of turns each class that is active sends, in bytes, its grants times its quantum and the deficit that
 /// it had at first, less the deficit that it has at last.

@@ -5,17 +5,18 @@
 //!   [`Active::set_quantum`] changes a quantum; [`Active::quantum`] shows it. [`Active::has`] tells whether a class is
 //!   there, [`Active::place_of`] at which place in order of adding, and [`Active::count`] how many there are.
 //! - [`Active::wake`] puts a class at the end of the active list, [`Active::sleep`] takes it out, [`Active::is_active`]
-//!   tells. [`Active::front`] is the class whose turn it is.
+//!   tells. [`Active::front`] is the class whose turn it is. [`Active::wake_at`], [`Active::sleep_at`] and
+//!   [`Active::front_place`] do the same by a class's place.
 //! - [`Active::turn`] is one turn of that class: a [`Turn`], `Send` or `Granted`. [`Active::deficit`],
 //!   [`Active::granted`] and [`Active::turns`] show what came of it.
-//! - [`serve`] gives turns until a class is [`Met`] whose head may be sent, or that shows none.
 //! - [`laws`] states what holds over every list of turns, of every take, and after every change.
 //!
 //! Each contract says what a call makes of a plain list of classes, and of those active their place, deficit and grants
 //! (`specs/Schedule.antt`). That no two classes have one name, that no class is twice in the list and that every deficit is
-//! below a quantum and a longest packet is `IsLawful`, which [`Active::front`], [`Active::has`], [`Active::place_of`] and
-//! [`Active::count`] ensure of every list. [`serve`] carries the whole take (`specs/Take.antt`): the class met by the least
-//! number of grants, what each class is granted until then, and that the turns end.
+//! below a quantum and a longest packet is `IsLawful`, which [`Active::front`], [`Active::front_place`], [`Active::has`],
+//! [`Active::place_of`], [`Active::class_at`] and [`Active::count`] ensure of every list. [`laws::take_by_turns`] carries the whole take
+//! (`specs/Take.antt`): the class met by the least number of grants, what each class is granted until then, and that the
+//! turns end.
 //!
 //! [`laws`] carries the shares: [`laws::each_sends_its_share`], [`laws::grants_are_even`] and [`laws::shares_are_fair`], over
 //! every list of turns (`specs/Stretch.antt`). They reach takes by [`laws::takes_are_turns`]; [`laws::least_need_is_met`]
@@ -23,8 +24,10 @@
 //! head (`specs/Turns.antt`). [`laws::changes_stay_lawful`] says of each change that it keeps `IsLawful`
 //! (`specs/Changes.antt`).
 //!
-//! Only [`Active::add`] takes memory, and but for it and [`Active::remove`] each call takes the same few steps however many
-//! classes there are: a table finds a class by its name, and links lead from each active class to its neighbours.
+//! Only [`Active::add`] takes memory, as much for a class of a large name as for one of a small. But for it and
+//! [`Active::remove`] each call takes the same few steps however many classes there are: a map in order of adding has what
+//! is kept of a class at its place, and links lead from the place of each active class to its neighbours. A name is hashed
+//! only where a call is given one: a turn, and what is done by place, hash nothing.
 #![tactic(auto)]
 
 mod active;
@@ -37,6 +40,4 @@ mod take;
 mod turn;
 
 pub use active::Active;
-pub use met::Met;
-pub use take::serve;
 pub use turn::Turn;

@@ -1,10 +1,10 @@
-ghost use Rattle.std.specs.Prelude.{◌≡◌, ℕ, List, ◌<◌, ◌≤◌, ◌+◌, [], ◌∷◌, ◌++◌, IsTrue, OnOk, OnErr, true, false, length, slice_get, take, drop};
-ghost use Rattle.q_drr.specs.Links.{Circle, is_among, without, next_of, before_of, IsCircle, IsJoined, IsMarked};
+ghost use Rattle.std.specs.Prelude.{◌≡◌, ℕ, List, ◌<◌, ◌≤◌, ◌-◌, ◌^◌, map, [], ◌∷◌, ◌++◌, IsTrue, OnOk, OnErr, true, false, length, slice_get, take, drop};
+ghost use Rattle.q_drr.specs.Links.{Circle, is_among, without, moved_down, next_of, before_of, IsCircle, IsJoined, IsMarked, HaveMovedDown};
 
 use std::alloc::{AllocError, Global};
 use std::marker::Model;
 
-/// The neighbours of a class in the ring, and whether it is in it.
+/// The neighbours of a place in the ring, and whether it is in it.
 #[derive(Clone, Copy)]
 pub(crate) struct Link {
     next: u16,
@@ -12,14 +12,14 @@ pub(crate) struct Link {
     here: bool,
 }
 
-/// Class names in a circle. Whether a name is in it, the end, the front and any place are reached in one step.
+/// Places of classes in a circle. Whether a place is in it, the end, the front and any member are reached in one step.
 ///
-/// A contract sees the names in order, front first, and the bound below which there is room for a name.
+/// A contract sees the members in order, front first, and the bound below which there is room for a place.
 #[derive(Drop)]
 pub(crate) struct Ring {
-    /// The links of each name, below the room.
+    /// The links of each place, below the room.
     links: Vec<Link>,
-    /// The first name, where there is one.
+    /// The first member, where there is one.
     front: u16,
     count: u32,
 }
@@ -48,19 +48,20 @@ impl Ring {
         }
     }
 
-    /// Makes room for a name.
-    pub(crate) fn reserve(&mut self, name: u16) -> Result<(), AllocError>
+    /// Makes room for a place.
+    pub(crate) fn reserve(&mut self, place: usize) -> Result<(), AllocError>
+        requires { place < 2 ^ 16 }
         ensures order { self.new.order ≡ self.old.order }
         ensures grows { self.old.room ≤ self.new.room }
-        ensures ok { OnOk result (name < self.new.room) }
+        ensures ok { OnOk result (place < self.new.room) }
     {
-        if self.links.len() <= name as usize {
+        if self.links.len() <= place {
             let asleep = Link {
                 next: 0,
                 before: 0,
                 here: false,
             };
-            self.links.resize(name as usize + 1, asleep)?;
+            self.links.resize(place + 1, asleep)?;
         }
         Ok(())
     }
@@ -71,36 +72,36 @@ impl Ring {
         self.count as usize
     }
 
-    pub(crate) fn contains(&self, name: u16) -> bool
-        requires { name < self.now.room }
-        ensures { result ≡ is_among name self.now.order }
+    pub(crate) fn contains(&self, place: usize) -> bool
+        requires { place < self.now.room }
+        ensures { result ≡ is_among place self.now.order }
     {
-        self.links[name as usize].here
+        self.links[place].here
     }
 
-    pub(crate) fn front(&self) -> Option<u16>
+    pub(crate) fn front(&self) -> Option<usize>
         ensures { result ≡ slice_get self.now.order 0 }
     {
         if self.count == 0 {
             None
         } else {
-            Some(self.front)
+            Some(self.front as usize)
         }
     }
 
-    /// Puts a name at the end.
-    pub(crate) fn push(&mut self, name: u16)
-        requires room { name < self.old.room }
-        requires fresh { is_among name self.old.order ≡ false }
-        ensures { self.new ≡ record self.old { order = self.old.order ++ name ∷ [] } }
+    /// Puts a place at the end.
+    pub(crate) fn push(&mut self, place: usize)
+        requires room { place < self.old.room }
+        requires fresh { is_among place self.old.order ≡ false }
+        ensures { self.new ≡ record self.old { order = self.old.order ++ place ∷ [] } }
     {
         if self.count == 0 {
-            start(&mut self.links, name);
-            self.front = name;
+            self.front = place as u16;
             self.count = 1;
+            start(&mut self.links, self.front);
             return;
         }
-        append(&mut self.links, self.front, name);
+        append(&mut self.links, self.front, place as u16);
         self.count += 1;
     }
 
@@ -112,58 +113,87 @@ impl Ring {
         self.front = self.links[self.front as usize].next;
     }
 
-    /// Takes a name out; the others keep their order.
-    pub(crate) fn remove(&mut self, name: u16)
-        requires { IsTrue (is_among name self.old.order) }
-        ensures { self.new ≡ record self.old { order = without name self.old.order } }
+    /// Takes a place out; the others keep their order.
+    pub(crate) fn remove(&mut self, place: usize)
+        requires { IsTrue (is_among place self.old.order) }
+        ensures { self.new ≡ record self.old { order = without place self.old.order } }
     {
-        let next = detach(&mut self.links, name);
+        let next = detach(&mut self.links, place as u16);
         self.count -= 1;
-        if self.front == name {
+        if self.front as usize == place {
             self.front = next;
         }
     }
+
+    /// Moves the places above a gap, which is no member, down by one, and takes away its room.
+    pub(crate) fn close_gap(&mut self, gap: usize)
+        requires inside { gap < self.old.room }
+        requires empty { is_among gap self.old.order ≡ false }
+        ensures { self.new ≡ record { order = map (moved_down gap) self.old.order; room = self.old.room - 1 } }
+    {
+        self.links.remove(gap);
+        let gap = gap as u16;
+        move_links_down(&mut self.links, gap);
+        self.front = move_down(self.front, gap);
+    }
 }
 
-/// Makes a name the only one in the circle.
-fn start(links: &mut [Link], name: u16)
-    requires { name < length links.old }
-    ensures len { length links.new ≡ length links.old }
-    ensures circle { IsCircle links.old [] → IsCircle links.new (name ∷ []) }
+/// The place where one stands once a gap is closed.
+fn move_down(place: u16, gap: u16) -> u16
+    ensures { result ≡ moved_down gap place }
 {
-    join(links, name, name);
-    mark(links, name, true);
+    if gap < place { place - 1 } else { place }
 }
 
-/// Puts a name before the first, which is behind the last.
-fn append(links: &mut [Link], first: u16, name: u16)
+/// Lets each link lead to where its neighbours stand once a gap is closed.
+fn move_links_down(links: &mut [Link], gap: u16)
+    ensures { HaveMovedDown gap links.old links.new }
+{
+    for link in links.iter_mut() {
+        link.next = move_down(link.next, gap);
+        link.before = move_down(link.before, gap);
+    }
+}
+
+/// Makes a place the only one in the circle.
+fn start(links: &mut [Link], place: u16)
+    requires { place < length links.old }
+    ensures len { length links.new ≡ length links.old }
+    ensures circle { IsCircle links.old [] → IsCircle links.new (place ∷ []) }
+{
+    join(links, place, place);
+    mark(links, place, true);
+}
+
+/// Puts a place before the first, which is behind the last.
+fn append(links: &mut [Link], first: u16, place: u16)
     requires first { first < length links.old }
     requires last { before_of links.old first < length links.old }
-    requires inside { name < length links.old }
+    requires inside { place < length links.old }
     ensures len { length links.new ≡ length links.old }
-    ensures circle { (names : List ℕ)
-        → IsCircle links.old (first ∷ names)
-        → is_among name (first ∷ names) ≡ false
-        → IsCircle links.new (first ∷ names ++ name ∷ []) }
+    ensures circle { (others : List ℕ)
+        → IsCircle links.old (first ∷ others)
+        → is_among place (first ∷ others) ≡ false
+        → IsCircle links.new (first ∷ others ++ place ∷ []) }
 {
     let last = links[first as usize].before;
-    join(links, last, name);
-    join(links, name, first);
-    mark(links, name, true);
+    join(links, last, place);
+    join(links, place, first);
+    mark(links, place, true);
 }
 
-/// Takes a name out, and answers the one after it.
-fn detach(links: &mut [Link], name: u16) -> u16
-    requires inside { name < length links.old }
-    requires next { next_of links.old name < length links.old }
-    requires before { before_of links.old name < length links.old }
-    ensures next { result ≡ next_of links.old name }
+/// Takes a place out, and answers the one after it.
+fn detach(links: &mut [Link], place: u16) -> u16
+    requires inside { place < length links.old }
+    requires next { next_of links.old place < length links.old }
+    requires before { before_of links.old place < length links.old }
+    ensures next { result ≡ next_of links.old place }
     ensures len { length links.new ≡ length links.old }
-    ensures circle { (names : List ℕ) → IsCircle links.old (name ∷ names) → IsCircle links.new names }
+    ensures circle { (others : List ℕ) → IsCircle links.old (place ∷ others) → IsCircle links.new others }
 {
-    let Link { next, before, .. } = links[name as usize];
+    let Link { next, before, .. } = links[place as usize];
     join(links, before, next);
-    mark(links, name, false);
+    mark(links, place, false);
     next
 }
 
@@ -177,10 +207,10 @@ fn join(links: &mut [Link], a: u16, b: u16)
     links[b as usize].before = a;
 }
 
-/// Says whether a name is in the circle.
-fn mark(links: &mut [Link], name: u16, here: bool)
-    requires { name < length links.old }
-    ensures { IsMarked links.old links.new name here }
+/// Says whether a place is in the circle.
+fn mark(links: &mut [Link], place: u16, here: bool)
+    requires { place < length links.old }
+    ensures { IsMarked links.old links.new place here }
 {
-    links[name as usize].here = here;
+    links[place as usize].here = here;
 }

@@ -9,7 +9,7 @@ use crate::turn::Turn;
 /// `heads` has what each class shows, by its name.
 ///
 /// The answer is `None` where no class is active. The contract says at once which class is met and what each is granted.
-pub fn serve(active: &mut Active, heads: &[Option<u16>]) -> Option<Met>
+pub fn take_by_turns(active: &mut Active, heads: &[Option<u16>]) -> Option<Met>
     requires named { All (λ e. e.class < length heads.now) active.old.active }
     requires in_range { All (λ head. IfSome head (λ len. len ≤ active.old.max_len)) heads.now }
     ensures met { result ≡ met (head_at heads.now) active.old }

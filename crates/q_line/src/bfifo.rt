@@ -11,7 +11,7 @@ use crate::qdisc_made::qdisc_made;
 use crate::qdisc_verb::QdiscVerb;
 use crate::words::Words;
 use q_model::Kind;
-use q_words::{LineFault, read_size};
+use q_words::{LineFault, size_within};
 
 /// Behind `bfifo`: its options.
 pub fn bfifo_line(words: &mut Words, verb: QdiscVerb, head: HeadDraft) -> Result<Line, LineFault>
@@ -22,7 +22,7 @@ pub fn bfifo_line(words: &mut Words, verb: QdiscVerb, head: HeadDraft) -> Result
         match word {
             "limit" => {
                 let word = words.option(limit.is_some())?;
-                let bytes = words.placed(read_size(word.as_bytes(), 0, u64::from(u32::MAX)))?;
+                let bytes = words.placed(size_within(word.as_bytes(), 0, u64::from(u32::MAX)))?;
                 limit = Some(bytes as u32);
             }
             _ => return Err(words.unknown()),

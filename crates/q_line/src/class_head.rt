@@ -9,7 +9,7 @@ use crate::head_draft::HeadDraft;
 use crate::line::Line;
 use crate::words::Words;
 use q_model::{Command, Quantum};
-use q_words::{LineFault, class, handle, name, read_size};
+use q_words::{LineFault, class, handle, name, size_within};
 
 /// Behind `class add`, `change` or `del`: the head, then the kind.
 pub fn class_head(words: &mut Words, verb: ClassVerb) -> Result<Line, LineFault>
@@ -56,7 +56,7 @@ fn quantum_line(words: &mut Words, verb: ClassVerb, head: HeadDraft) -> Result<L
         match word {
             "quantum" => {
                 let word = words.option(quantum.is_some())?;
-                let bytes = words.placed(read_size(word.as_bytes(), 1, u64::from(u32::MAX)))?;
+                let bytes = words.placed(size_within(word.as_bytes(), 1, u64::from(u32::MAX)))?;
                 quantum = Some(Quantum::new(bytes as u32).unwrap());
             }
             _ => return Err(words.unknown()),

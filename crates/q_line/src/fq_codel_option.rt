@@ -7,7 +7,7 @@ ghost use Rattle.q_line.specs.declared.kind_name.KindName.TheVariants.{FqCodel};
 ghost use Rattle.q_line.specs.declared.qdisc_verb.QdiscVerb.{QdiscVerb};
 
 use q_model::FqCodelOptions;
-use q_words::{Wrong, number, read_size, read_time};
+use q_words::{Wrong, number, size_within, time_within};
 
 /// The longest target and interval: 1000 s, in nanoseconds.
 const LONGEST: u64 = 1_000_000_000_000;
@@ -51,9 +51,9 @@ impl FqCodelOption {
         match self {
             FqCodelOption::Limit => options.limit = Some(number(word, 1, MOST)? as u32),
             FqCodelOption::Flows => options.flows = Some(number(word, 1, 65_536)? as u32),
-            FqCodelOption::Quantum => options.quantum = Some(read_size(word, 1, MOST)? as u32),
-            FqCodelOption::Target => options.target = Some(read_time(word, 0, LONGEST)?),
-            FqCodelOption::Interval => options.interval = Some(read_time(word, 1000, LONGEST)?),
+            FqCodelOption::Quantum => options.quantum = Some(size_within(word, 1, MOST)? as u32),
+            FqCodelOption::Target => options.target = Some(time_within(word, 0, LONGEST)?),
+            FqCodelOption::Interval => options.interval = Some(time_within(word, 1000, LONGEST)?),
             FqCodelOption::DropBatch => options.drop_batch = Some(number(word, 1, 65_536)? as u32),
         }
         Ok(())

@@ -4,7 +4,7 @@
 //!   its tables of words stand in `specs/Positions.antt`, what the words have said so far in `specs/Drafts.antt`, and the words
 //!   and values in `q_words`.
 //! - [`read_line`] reads a line as the grammar says, and allocates nothing. It has one reader for the head of each object and
-//!   one for each kind.
+//!   one for each kind. A [`Command`] and its settings are those of `q_model`.
 //! - `specs/Ranges.antt` says what a line may say, and `specs/Spelling.antt` has one way to write each such line; [`laws`] says
 //!   that it is read as itself, and where the fault of any other lies. By `proofs/PacketRanges.antt`
 //!   each packet that is read has a length of 1 to 65535 and a priority of at most 15.
@@ -50,6 +50,10 @@ mod words;
 pub use arrival::Arrival;
 pub use line::Line;
 pub use object::Object;
-pub use q_words::{LineFault, Wrong, read_rate, read_size, read_time};
+pub use q_model::{
+    Burst, ClassId, Command, Filter, FilterKeys, FilterPrio, FqCodelOptions, Handle, IpPrefix,
+    IpVersion, Kind, Latency, Minor, Place, PrioOptions, Protocol, Quantum, Rate, TbfLimit,
+};
+pub use q_words::{LineFault, Wrong, read_rate, read_size, read_time, size_within, time_within};
 pub use reading::read_line;
 pub use show::Show;

@@ -11,7 +11,7 @@ use crate::qdisc_made::qdisc_made;
 use crate::qdisc_verb::QdiscVerb;
 use crate::words::Words;
 use q_model::{Burst, Kind, Latency, Rate, TbfLimit};
-use q_words::{LineFault, read_rate, read_size, read_time};
+use q_words::{LineFault, read_rate, size_within, time_within};
 
 /// The longest latency: 1000 s, in nanoseconds.
 const LONGEST: u64 = 1_000_000_000_000;
@@ -29,17 +29,17 @@ pub fn tbf_line(words: &mut Words, verb: QdiscVerb, head: HeadDraft) -> Result<L
             }
             "burst" | "buffer" | "maxburst" => {
                 let word = words.option(burst.is_some())?;
-                let bytes = words.placed(read_size(word.as_bytes(), 1, u64::from(u32::MAX)))?;
+                let bytes = words.placed(size_within(word.as_bytes(), 1, u64::from(u32::MAX)))?;
                 burst = Some(Burst::new(bytes as u32).unwrap());
             }
             "limit" => {
                 let word = words.option(limit.is_some())?;
-                let bytes = words.placed(read_size(word.as_bytes(), 0, u64::from(u32::MAX)))?;
+                let bytes = words.placed(size_within(word.as_bytes(), 0, u64::from(u32::MAX)))?;
                 limit = Some(TbfLimit::Bytes(bytes as u32));
             }
             "latency" => {
                 let word = words.option(limit.is_some())?;
-                let ns = words.placed(read_time(word.as_bytes(), 0, LONGEST))?;
+                let ns = words.placed(time_within(word.as_bytes(), 0, LONGEST))?;
                 limit = Some(TbfLimit::Latency(Latency::new(ns).unwrap()));
             }
             _ => return Err(words.unknown()),

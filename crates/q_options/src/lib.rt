@@ -5,6 +5,9 @@
 //! - [`play`] is the part of it that runs a script, and [`drive`] the one that drives a device: the status, the report, and the line
 //!   that tells of a [`Fault`].
 //! - [`read_options`] reads what the command line asks for, as [`Options`].
+//! - [`run`] runs a script with [`RunSettings`], and [`run_drive`] drives a device with [`DriveSettings`], from any reader to any
+//!   writer: what a program calls that has no command line. They answer an [`Outcome`] or a [`RunFault`], and stand in q_session
+//!   and q_drive.
 //!
 //! `specs/Answer.antt` says what is answered. What clap prints is in no contract.
 #![tactic(auto)]
@@ -23,3 +26,6 @@ pub use driving::drive;
 pub use fault::Fault;
 pub use options::Options;
 pub use playing::play;
+pub use q_drive::{DriveSettings, run_drive};
+pub use q_script::{Outcome, RunFault, RunSettings};
+pub use q_session::run;

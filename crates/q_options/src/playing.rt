@@ -6,7 +6,7 @@ ghost use Rattle.q_show.specs.Writes.{no_writes};
 use crate::fault::Fault;
 use crate::telling::tell;
 use q_script::{Outcome, RunFault, RunSettings, Source};
-use q_session::run::run_between;
+use q_session::run_between;
 use q_show::Target;
 use std::alloc::Global;
 use std::io::{Read, Write};

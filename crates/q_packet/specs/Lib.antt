@@ -2,7 +2,6 @@ pub mod Cause
 pub mod Choice
 pub mod Descriptor
 pub mod Ecn
-pub mod Fnv
 pub mod Head
 pub mod Key
 pub mod Least

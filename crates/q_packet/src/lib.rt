@@ -5,7 +5,7 @@
 //! - [`FlowKey`] is what tells flows apart, with its 38 bytes for a hash. [`Ecn`] is the packet's ECN codepoint.
 //! - [`Cause`] says why a packet was lost.
 //! - [`read_head`] reads a packet's key, priority and ECN codepoint from its first bytes, as a [`Head`].
-//! - [`FlowHash`] hashes keys to 32 bits. [`OneAtATime`] is [`one_at_a_time`] over a key's bytes; [`Fnv1a`] is a second one.
+//! - [`FlowHash`] hashes keys to 32 bits. [`OneAtATime`] is [`one_at_a_time`] over a key's bytes.
 //!
 //! What the contracts carry:
 //!
@@ -25,7 +25,6 @@ mod cause;
 mod ecn;
 mod flow_hash;
 mod flow_key;
-mod fnv;
 mod head;
 mod jenkins;
 mod moment;
@@ -36,7 +35,6 @@ pub use cause::Cause;
 pub use ecn::Ecn;
 pub use flow_hash::FlowHash;
 pub use flow_key::FlowKey;
-pub use fnv::Fnv1a;
 pub use head::{Head, read_head};
 pub use jenkins::{OneAtATime, one_at_a_time};
 pub use moment::Moment;

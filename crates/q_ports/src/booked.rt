@@ -1,12 +1,13 @@
-ghost use Rattle.std.specs.Prelude.{◌≡◌, ◌≤◌, Ok, IsOk, IfOk, OnOk, OnErr, IfErr, slice_get};
+ghost use Rattle.std.specs.Prelude.{ℕ, ◌≡◌, ◌<◌, ◌≤◌, ◌^◌, true, None, IfNone, IfSome, IsSome, Ok, IsOk, IfOk, OnOk, OnErr, IfErr, slice_get};
 ghost use Rattle.q_model.specs.Conserved.{IsBalanced};
 ghost use Rattle.q_model.specs.Tally.{no_totals};
-ghost use Rattle.q_model.specs.TreeState.{stats};
+ghost use Rattle.q_model.specs.TreeState.{given, stats};
 ghost use Rattle.q_model.specs.Tally.{totals};
 ghost use Rattle.q_model.specs.declared.event.Event.TheVariants as event;
 ghost use Rattle.q_model.specs.declared.reply.Reply.TheVariants as reply;
 ghost use Rattle.q_device.specs.DeviceSeen.{polled_memory, reaped, HasRoomFor, IsRefusal};
 ghost use Rattle.q_tree.specs.Commanding.{MayTakeMemory};
+ghost use Rattle.q_tree.specs.ReadyAt.{is_sure, ready_at};
 ghost use Rattle.q_ports.specs.Events.{after_event, device_row, reply_to, with_memory};
 ghost use Rattle.q_ports.specs.Held.{booking, held};
 
@@ -100,6 +101,16 @@ impl<P: Ledger, B: Ledger> Booked<P, B> {
         ensures reply { reply.Polled result ≡ reply_to (event.Poll now) self.old }
     {
         self.device.poll(now)
+    }
+
+    /// The moment before which no poll gives a packet, as [`Device::ready_at`].
+    pub fn ready_at(&self) -> Option<Moment>
+        ensures value { result ≡ ready_at self.now.device.clock self.now.device.tree.root }
+        ensures early { IfSome result (λ at. (t : ℕ) → self.now.device.clock ≤ t → t < at → given t self.now.device.tree ≡ None) }
+        ensures some { is_sure self.now.device.clock self.now.device.tree.root ≡ true → IfSome result (λ at. IsSome (given at self.now.device.tree)) }
+        ensures never { IfNone result ((t : ℕ) → self.now.device.clock ≤ t → t ≤ 2 ^ 62 → given t self.now.device.tree ≡ None) }
+    {
+        self.device.ready_at()
     }
 
     /// Does what a line of tc asks for, or refuses it, as [`Device::command`]. Nothing arrives by it.

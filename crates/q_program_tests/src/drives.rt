@@ -89,6 +89,7 @@ fn every_packet_refused_and_the_qdiscs_shown(rt: HostRuntime) -> Result<(), Fail
         "settled 4000p 400000b
 arrived 4000p 400000b
 given up 0
+device arrived 4000p 400000b sent 0p 0b refused 4000p 400000b dropped 0p 0b queued 0p 0b
 qdisc drr 1: root
  arrived 4000p 400000b sent 0p 0b refused 4000p 400000b dropped 0p 0b queued 0p 0b
 qdisc fq_codel 10: parent 1:1 limit 10240p flows 1024 quantum 1514 target 5000000ns interval 100000000ns ecn drop_batch 1
@@ -129,7 +130,7 @@ fn writers_that_fail_at_each_byte(rt: HostRuntime) -> Result<(), Fail> {
     let input = b"tc qdisc add dev eth0 root handle 1: pfifo limit 0\npoll\n";
     // A limit of 0 packets refuses all, so that the counters are known.
     let report =
-        "line 2: fault 1 UnknownWord word 1\nsettled 2p 14b\narrived 2p 14b\ngiven up 0\nqdisc pfifo 1: root limit 0p\n arrived 2p 14b sent 0p 0b refused 2p 14b dropped 0p 0b queued 0p 0b\n";
+        "line 2: fault 1 UnknownWord word 1\nsettled 2p 14b\narrived 2p 14b\ngiven up 0\ndevice arrived 2p 14b sent 0p 0b refused 2p 14b dropped 0p 0b queued 0p 0b\nqdisc pfifo 1: root limit 0p\n arrived 2p 14b sent 0p 0b refused 2p 14b dropped 0p 0b queued 0p 0b\n";
     let asked = settings(1, 2, 7, 1, true)?;
     for room in 0..report.len() {
         let mut reader: &[u8] = input;
@@ -140,5 +141,24 @@ fn writers_that_fail_at_each_byte(rt: HostRuntime) -> Result<(), Fail> {
         assert_eq!(rt; writer.written.as_slice(), &report.as_bytes()[..room]);
     }
     assert_drives(&rt, alloc, input, asked, Outcome::Refused, report);
+    Ok(())
+}
+
+#[test]
+fn packets_longer_than_the_mtu_are_seen_at_the_device(rt: HostRuntime) -> Result<(), Fail> {
+    assert_drives(
+        &rt,
+        rt.alloc(),
+        b"",
+        settings(1, 2, 1515, 1, true)?,
+        Outcome::Clean,
+        "settled 2p 3030b
+arrived 2p 3030b
+given up 0
+device arrived 2p 3030b sent 0p 0b refused 2p 3030b dropped 0p 0b queued 0p 0b
+qdisc pfifo 0: root limit 1000p
+ arrived 0p 0b sent 0p 0b refused 0p 0b dropped 0p 0b queued 0p 0b
+",
+    );
     Ok(())
 }

@@ -7,11 +7,11 @@
 #[cfg(test)]
 mod answers;
 #[cfg(test)]
+mod command_lines;
+#[cfg(test)]
 mod drives;
 #[cfg(test)]
 mod lines;
-#[cfg(test)]
-mod options;
 #[cfg(test)]
 mod runs;
 #[cfg(test)]

@@ -1,6 +1,6 @@
 //! Whole runs: scripts with the reports that follow from docs/LANGUAGE.md.
+use q_options::run;
 use q_script::{Outcome, RunFault, RunSettings};
-use q_session::run::run;
 use std::alloc::Global;
 use std::process::Abort;
 use std::test::Fail;

@@ -1,12 +1,12 @@
 //! Runs a script: from its bytes to the bytes of its report, whatever its lines mean.
 //!
-//! - [`run::run`] reads a script from any reader, cuts it into lines, lets a [`Session`] run each of them in turn and writes
+//! - [`run`] reads a script from any reader, cuts it into lines, lets a [`Session`] run each of them in turn and writes
 //!   what they report to any writer. Its contract says what was written, for every script and every session: the report
 //!   `run_of` of `specs/Step.antt`, for some list of lines at which memory was refused, and nothing else; that the outcome is
 //!   `Refused` if and only if the session is refused at the end; and what each `RunFault` leaves.
 //! - [`Session`] is what runs a line. It says by its `effect` what a line writes and what it leaves, and writes through an
 //!   [`Output`], which buffers the report's text.
-//! - [`run::run_between`] does the same from a [`Source`] to a `Target` of `q_show`, which are a reader and a writer that keep
+//! - [`run_between`] does the same from a [`Source`] to a `Target` of `q_show`, which are a reader and a writer that keep
 //!   what their reads and writes came to. Its contract says when each fault comes: how many reads are made, that `Read` and
 //!   `Write` tell of every read and write that failed and of nothing else, and that an outcome means that none did. A source
 //!   is not read, nor a target written, after one that failed.
@@ -23,8 +23,8 @@ mod lines;
 mod outcome;
 mod output;
 mod reads;
-pub mod run;
 mod run_fault;
+mod running;
 mod script;
 mod script_fault;
 mod session;
@@ -35,6 +35,7 @@ pub use outcome::Outcome;
 pub use output::Output;
 pub use reads::Reads;
 pub use run_fault::RunFault;
+pub use running::{run, run_between};
 pub use script::MAX_LENGTH;
 pub use session::Session;
 pub use settings::RunSettings;

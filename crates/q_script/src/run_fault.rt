@@ -1,21 +1,24 @@
 ghost use Rattle.std.specs.Prelude.{◌≡◌};
 ghost use Rattle.q_script.specs.RunFault.{fault_kind, fault_number, fault_text};
 
-use std::error::Error;
-use std::fmt;
 use std::io::ErrorKind;
+use thiserror::Error;
 
 /// Why a script was not run, or its report not written.
-#[derive(Clone, Copy, PartialEq, Eq, Debug)]
+#[derive(Clone, Copy, PartialEq, Eq, Debug, Error)]
 pub enum RunFault {
     /// The script could not be read: a read failed in this way, or was interrupted once too often. Nothing was written.
+    #[error("the script cannot be read: {0}")]
     Read(ErrorKind),
     /// The script is longer than 16,777,216 bytes. Nothing was written.
+    #[error("the script is longer than 16777216 bytes")]
     TooLong,
     /// The report could not be written: a write failed in this way (`WriteZero`: it took no byte), or was interrupted once
     /// too often. A front of the report may be written.
+    #[error("the report cannot be written: {0}")]
     Write(ErrorKind),
     /// There was no memory to start with. Nothing was written.
+    #[error("memory is refused")]
     Memory,
 }
 
@@ -54,15 +57,3 @@ impl RunFault {
         }
     }
 }
-
-impl fmt::Display for RunFault {
-    fn fmt<W: fmt::Write>(&self, f: &mut fmt::Formatter<W>) -> fmt::Result {
-        f.write_str(self.what())?;
-        match self.kind() {
-            Some(kind) => write!(f, ": {kind}"),
-            None => Ok(()),
-        }
-    }
-}
-
-impl Error for RunFault {}

@@ -1,16 +1,17 @@
 //! Runs a script over a whole device: from its bytes to the bytes of its report.
 //!
-//! - [`run::run`] reads a script from any reader and writes its report to any writer. Its contract is the theorem of the program:
+//! - [`run`] reads a script from any reader and writes its report to any writer. Its contract is the theorem of the program:
 //!   what was written is `report settings script starved` of `specs/Reported.antt`, for some list of lines at which memory was
 //!   refused, and nothing else; the outcome is `Refused` if and only if some line was faulty or turned down; and each
 //!   `RunFault` says what was written.
-//! - [`run::run_between`] does the same from a `Source` of `q_script` to a `Target` of `q_show`, which keep what their reads and
+//! - [`run_between`] does the same from a `Source` of `q_script` to a `Target` of `q_show`, which keep what their reads and
 //!   writes came to. Its contract says when each fault comes: `Read` and `Write` tell of every read and write that failed and of
 //!   nothing else, and an outcome means that none did.
 //! - [`DeviceSession`] is the [`Session`](q_script::Session) of `q_script` that runs each line over a `Device` of `q_device`:
 //!   arrivals, polls, commands, show texts, losses and counters, as the report of `q_report` says.
 //! - [`show_qdiscs`], [`show_classes`] and [`show_filters`] write what tc's show lines print of a `Tree` of `q_tree`, and
-//!   [`ShowFault`] is why they did not. [`put_show`] puts such a text into an `Output` of `q_script`.
+//!   [`ShowFault`] is why they did not. [`put_show`] puts such a text into an `Output` of `q_script`, and
+//!   [`put_device`] the line on a device's counters.
 //!
 //! `specs/Session.antt` says what a line does to a session, by `q_report`'s definitions with totals; `proofs/Reported.antt` that
 //! the report over totals is the one over whole histories.
@@ -18,13 +19,15 @@
 
 mod device_session;
 mod listed;
-pub mod run;
+mod running;
 mod show;
 mod show_fault;
 mod showing;
 mod text;
 
 pub use device_session::DeviceSession;
+pub use running::{run, run_between};
 pub use show::{show_classes, show_filters, show_qdiscs};
 pub use show_fault::ShowFault;
 pub use showing::put_show;
+pub use text::put_device;

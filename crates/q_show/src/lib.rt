@@ -1,14 +1,13 @@
-//! What `tc qdisc show`, `tc class show` and `tc filter show` print, as a text or written to any writer.
+//! What `tc qdisc show`, `tc class show` and `tc filter show` print of one node, class or filter, and whole writes to any writer.
 //!
 //! - [`qdisc_text`] is a node with its settings, and its counters where they are asked for, [`class_text`] a class and
 //!   [`filter_text`] a filter; [`counters_text`] is what a node has counted. Each takes a view of `q_model`, and answers a
 //!   [`Text`], which allocates nothing.
-//! - [`show_qdisc`], [`show_class`] and [`show_filter`] write such a text to a writer.
 //! - [`write_whole`] writes bytes to any writer, and [`Target`] does so time after time to one writer, keeping what the
 //!   writes came to: none is made after one that failed. [`Hexadecimal`] is a number's digits. `q_script` writes its reports by
 //!   them.
-//! - `specs/ShowText.antt` has the texts, and `specs/Writes.antt` what writes come to. Each function appends exactly the text of
-//!   its view, or stops at the writer's failure with a front of it written.
+//! - `specs/ShowText.antt` has the texts, and `specs/Writes.antt` what writes come to. A write appends exactly its bytes, or stops
+//!   at the writer's failure with a front of them written.
 #![tactic(auto)]
 
 mod class;
@@ -22,9 +21,7 @@ mod write_fault;
 mod writes;
 
 pub use hexadecimal::Hexadecimal;
-pub use showing::{
-    class_text, counters_text, filter_text, qdisc_text, show_class, show_filter, show_qdisc,
-};
+pub use showing::{class_text, counters_text, filter_text, qdisc_text};
 pub use target::Target;
 pub use text::Text;
 pub use write_fault::{WriteFault, write_whole};

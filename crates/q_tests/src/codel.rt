@@ -55,7 +55,6 @@ enum Call {
     // The target, the interval, and whether packets are marked.
     SetParams(u64, u64, bool),
     Rest,
-    Reset,
     Dropping(bool),
     Count(u32),
     DropNext(u64),
@@ -168,10 +167,6 @@ impl Bench {
             Call::SetParams(target, interval, ecn) => Ok(self.set_params(target, interval, ecn)),
             Call::Rest => {
                 self.codel.rest();
-                Ok(true)
-            }
-            Call::Reset => {
-                self.codel.reset();
                 Ok(true)
             }
             Call::Dropping(drops) => Ok(self.codel.is_dropping() == drops),
@@ -444,9 +439,6 @@ fn settings_change_and_state_is_put_aside(rt: HostRuntime) -> Result<(), Fail> {
             Call::Rest,
             Call::Dropping(false),
             Call::Count(1),
-            Call::Reset,
-            Call::DropNext(0),
-            Call::Count(0),
         ],
     )
 }

@@ -13,6 +13,8 @@ mod drr;
 #[cfg(test)]
 mod fifo;
 #[cfg(test)]
+mod fnv;
+#[cfg(test)]
 mod fq_codel;
 #[cfg(test)]
 mod fq_codel_twins;

@@ -1,5 +1,6 @@
 //! Packet descriptors, keys and hashes.
-use q_packet::{Cause, Ecn, FlowHash, FlowKey, Fnv1a, Moment, OneAtATime, Packet, one_at_a_time};
+use crate::fnv::Fnv1a;
+use q_packet::{Cause, Ecn, FlowHash, FlowKey, Moment, OneAtATime, Packet, one_at_a_time};
 use std::test::Fail;
 
 #[test]

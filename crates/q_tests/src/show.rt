@@ -5,7 +5,7 @@ use q_model::{
     ClassId, ClassKind, ClassView, Filter, FilterKeys, FilterPrio, FilterView, Handle, IpPrefix,
     IpVersion, Minor, NodeView, Place, Protocol, QdiscView, Row, Totals,
 };
-use q_show::{WriteFault, show_class, show_filter, show_qdisc, write_whole};
+use q_show::{Text, WriteFault, class_text, filter_text, qdisc_text, write_whole};
 use std::alloc::Global;
 use std::io::{Error, ErrorKind, Result as IoResult, Write};
 use std::process::Abort;
@@ -57,6 +57,10 @@ impl Write for Sipping {
     }
 }
 
+fn write_text<W: Write>(writer: &mut W, text: &Text) -> Result<(), WriteFault> {
+    write_whole(writer, text.as_bytes())
+}
+
 fn totals(packets: u64, bytes: u64) -> Totals {
     Totals { packets, bytes }
 }
@@ -97,11 +101,11 @@ const FQ_CODEL: &str =
 
 fn assert_qdisc(rt: &impl Abort, alloc: Global, node: &NodeView, line: &str) -> Result<(), Fail> {
     let mut plain = Vec::new(alloc);
-    assert_eq!(rt; show_qdisc(&mut plain, node, false), Ok(()));
+    assert_eq!(rt; write_text(&mut plain, &qdisc_text(node, false)), Ok(()));
     assert_eq!(rt; plain.as_slice(), line.as_bytes(), "{line}");
 
     let mut counted = Vec::new(alloc);
-    assert_eq!(rt; show_qdisc(&mut counted, node, true), Ok(()));
+    assert_eq!(rt; write_text(&mut counted, &qdisc_text(node, true)), Ok(()));
     let whole = format!(in alloc; "{line}{COUNTERS}")?;
     assert_eq!(rt; counted.as_slice(), whole.as_bytes(), "{line}");
     Ok(())
@@ -144,7 +148,7 @@ fn shows_marks_of_an_fq_codel(rt: HostRuntime) -> Result<(), Fail> {
     let alloc = rt.alloc();
     let node = root(QdiscView::FqCodel(Settings::defaults(1514)));
     let mut written = Vec::new(alloc);
-    assert_eq!(rt; show_qdisc(&mut written, &node, true), Ok(()));
+    assert_eq!(rt; write_text(&mut written, &qdisc_text(&node, true)), Ok(()));
     let counters =
         " arrived 7p 700b sent 1p 60b refused 2p 140b dropped 3p 400b queued 1p 100b marked 4p 18446744073709551615b\n";
     let whole = format!(in alloc; "{FQ_CODEL}{counters}")?;
@@ -198,7 +202,7 @@ fn shows_classes(rt: HostRuntime) -> Result<(), Fail> {
             kind,
         };
         let mut written = Vec::new(alloc);
-        assert_eq!(rt; show_class(&mut written, &view), Ok(()));
+        assert_eq!(rt; write_text(&mut written, &class_text(&view)), Ok(()));
         assert_eq!(rt; written.as_slice(), line.as_bytes());
     }
     Ok(())
@@ -227,7 +231,7 @@ fn filter(prio: u16, protocol: Protocol, keys: FilterKeys) -> Result<FilterView,
 
 fn assert_filter(rt: &impl Abort, alloc: Global, view: &FilterView, line: &str) {
     let mut written = Vec::new(alloc);
-    assert_eq!(rt; show_filter(&mut written, view), Ok(()));
+    assert_eq!(rt; write_text(&mut written, &filter_text(view)), Ok(()));
     assert_eq!(rt; written.as_slice(), line.as_bytes());
 }
 
@@ -275,7 +279,7 @@ fn writers_that_take_a_few_bytes_a_time(rt: HostRuntime) {
     for step in 1..FQ_CODEL.len() {
         let mut writer = Sipping::new(alloc, step, usize::MAX);
         writer.interrupts = step % 3;
-        assert_eq!(rt; show_qdisc(&mut writer, &node, false), Ok(()));
+        assert_eq!(rt; write_text(&mut writer, &qdisc_text(&node, false)), Ok(()));
         assert_eq!(rt;
             writer.written.as_slice(),
             FQ_CODEL.as_bytes(),
@@ -295,7 +299,7 @@ fn writers_that_fail(rt: HostRuntime) -> Result<(), Fail> {
     let node = root(QdiscView::FqCodel(Settings::defaults(1514)));
     for room in 0..FQ_CODEL.len() {
         let mut writer = Sipping::new(alloc, 7, room);
-        assert_eq!(rt; show_qdisc(&mut writer, &node, false), FULL);
+        assert_eq!(rt; write_text(&mut writer, &qdisc_text(&node, false)), FULL);
         assert!(rt; Some(writer.written.as_slice()) == FQ_CODEL.as_bytes().get(..room));
     }
 
@@ -305,12 +309,12 @@ fn writers_that_fail(rt: HostRuntime) -> Result<(), Fail> {
         kind: ClassKind::Prio,
     };
     let mut writer = Sipping::new(alloc, 4, 6);
-    assert_eq!(rt; show_class(&mut writer, &view), FULL);
+    assert_eq!(rt; write_text(&mut writer, &class_text(&view)), FULL);
     assert!(rt; Some(writer.written.as_slice()) == line.as_bytes().get(..6));
 
     let view = filter(1, Protocol::All, NO_KEYS)?;
     let mut writer = Sipping::new(alloc, 4, 6);
-    assert_eq!(rt; show_filter(&mut writer, &view), FULL);
+    assert_eq!(rt; write_text(&mut writer, &filter_text(&view)), FULL);
     assert_eq!(rt; writer.written.as_slice(), "filter".as_bytes());
     Ok(())
 }

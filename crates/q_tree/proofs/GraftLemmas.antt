@@ -1,5 +1,5 @@
 -- A new qdisc in a place, and the implicit leaf that comes back: what the model plans, and that the edit of the code is that plan.
-use Rattle.std.proofs.Common.{◌≡◌, ℕ, ◌+◌, ◌-◌, ◌≤◌, ◌∙◌, List, [], ◌∷◌, ◌++◌, append_assoc, take, length, refl, sym, ap, ap₂, Option, Some, None, option_map, option_and_then, Result, Ok, Err, arith}
+use Rattle.std.proofs.Common.{◌≡◌, ℕ, ◌+◌, ◌-◌, ◌<◌, ◌≤◌, ◌∙◌, List, [], ◌∷◌, ◌++◌, append_assoc, take, length, refl, sym, ap, ap₂, Option, Some, None, option_map, option_and_then, Result, Ok, Err, arith}
 use Rattle.std.specs.List.{list_any}
 use Rattle.std.proofs.lemmas.List.{length-append}
 use Rattle.std.proofs.lemmas.Option.{same_Some}
@@ -11,6 +11,7 @@ use Rattle.q_model.specs.declared.class_id.ClassId.{ClassId}
 use Rattle.q_model.specs.declared.command.Command.{Command}
 use Rattle.q_model.specs.declared.command.Command.TheVariants.{QdiscAdd}
 use Rattle.q_model.specs.declared.kind.Kind.{Kind}
+use Rattle.q_model.specs.declared.kind.Kind.TheVariants as kind
 use Rattle.q_model.specs.declared.refusal.Refusal.{Refusal}
 use Rattle.q_model.specs.declared.refusal.Refusal.TheVariants.{NoParent, NotClassful, NoClass, Exists, HandleTaken}
 use Rattle.q_model.specs.declared.place.Place.{Place}
@@ -18,8 +19,8 @@ use Rattle.q_model.specs.declared.place.Place.TheVariants as place
 use Rattle.q_model.specs.Beneath.{beneath}
 use Rattle.q_model.specs.Edit as model
 use Rattle.q_model.specs.Find.{Address, addresses_own, class_place, count_nodes, free_handle, has_handle, is_explicit, node_at, path_of, place_path}
-use Rattle.q_model.specs.Make.{Device, implicit_beneath, implicit_pfifo}
-use Rattle.q_model.specs.Node.{Node, Shape, blank, shape}
+use Rattle.q_model.specs.Make.{Device, implicit_beneath, implicit_pfifo, made}
+use Rattle.q_model.specs.Node.{Discipline, Fifo, Prio, Tbf, Drr, FqCodel, Node, Shape, blank, children, shape}
 use Rattle.q_model.specs.QdiscCommands.{leaf_at, new_qdisc, place_checks, qdisc_add_checks, way_to_parent}
 use Rattle.q_model.specs.Ranges.{IsCommand, IsKind}
 use Rattle.q_model.specs.Refusals.{Check, done_unless, first_refusal, is_classless, is_so, most_nodes, refuse}
@@ -40,7 +41,7 @@ use Rattle.q_tree.specs.Editing.{notes_of, removed, removed_at}
 use Rattle.q_tree.specs.Finding.{reached}
 use Rattle.q_tree.specs.Grafting.{graft_checks, nodes_at}
 use Rattle.q_tree.specs.Kept.{Kept, kept}
-use Rattle.q_tree.specs.Making.{IsNewNode}
+use Rattle.q_tree.specs.Making.{IsNewNode, NeedsMemory}
 use Rattle.q_tree.specs.Showing.{IsNumbered}
 use Rattle.q_tree.specs.declared.edit.Edit.TheVariants.{Graft}
 use Rattle.q_tree.specs.declared.planned.Planned.{Planned}
@@ -216,8 +217,8 @@ module _ (memory : Type 0) (device : Device) (root : Node Kept) (p : Planned) (n
     by None = refl
     by (Some n) = sym (beneath-shape n)
 
-  pub graft-planned-for : IsPlannedFor memory command (record p { edit = Graft new }) now device root
-  graft-planned-for = record {
+  pub graft-planned-for : (0 < length (children new) → memory) → IsPlannedFor memory command (record p { edit = Graft new }) now device root
+  graft-planned-for takes = record {
     planned = record {
       command = command;
       ranges = ranges;
@@ -230,7 +231,7 @@ module _ (memory : Type 0) (device : Device) (root : Node Kept) (p : Planned) (n
       ready = record { counts = new-counts new s is; alone = nothing-beneath new s is mtu clock fresh made };
     };
     asked = refl;
-    takes = λ h. absurd h;
+    takes = takes;
   }
 
 -- the implicit leaf of a place is new
@@ -240,3 +241,27 @@ leaf-new mtu clock d (i ∷ path) root = of_parent (node_at (way_to_parent (i �
   of_parent : (o : Option Shape) → IsNew mtu clock None (option_map_or (λ (parent : Shape). implicit_beneath d parent.own.discipline) o (implicit_pfifo d))
   of_parent None = new_leaf mtu clock None (Packets d.txqueuelen)
   of_parent (Some parent) = new_implicit mtu clock d parent.own.discipline
+
+-- nothing stands beneath it
+pub leaf-alone : (d : Device) (path : List ℕ) (root new : Node Kept) → IsNewNode new (leaf_at d path (shape root)) → 0 < length (children new) → ⊥
+leaf-alone d [] root new is more = omega (arith, more, ap (λ (n : Node Kept). length (children n)) is)
+leaf-alone d (i ∷ path) root new is more = of_parent (node_at (way_to_parent (i ∷ path)) (shape root)) is where
+  by : (x : Discipline) → new ≡ blank kept (implicit_beneath d x) → ⊥
+  by (Fifo limit queue) e = omega (arith, more, ap (λ (n : Node Kept). length (children n)) e)
+  by (Prio priomap) e = omega (arith, more, ap (λ (n : Node Kept). length (children n)) e)
+  by (Tbf bucket limit) e = omega (arith, more, ap (λ (n : Node Kept). length (children n)) e)
+  by (Drr s) e = omega (arith, more, ap (λ (n : Node Kept). length (children n)) e)
+  by (FqCodel s) e = omega (arith, more, ap (λ (n : Node Kept). length (children n)) e)
+
+  of_parent : (o : Option Shape) → new ≡ blank kept (option_map_or (λ (parent : Shape). implicit_beneath d parent.own.discipline) o (implicit_pfifo d)) → ⊥
+  of_parent None e = omega (arith, more, ap (λ (n : Node Kept). length (children n)) e)
+  of_parent (Some parent) e = by parent.own.discipline e
+
+-- nor beneath a new qdisc of a kind that needs no memory
+pub made-takes : (k : Kind) (d : Device) (now : ℕ) (handle : Option ℕ) (new : Node Kept) → IsNewNode new (made d now handle k) → 0 < length (children new) → NeedsMemory k
+made-takes (kind.Pfifo limit) d now handle new is more = absurd (omega (arith, more, ap (λ (n : Node Kept). length (children n)) is))
+made-takes (kind.Bfifo limit) d now handle new is more = absurd (omega (arith, more, ap (λ (n : Node Kept). length (children n)) is))
+made-takes (kind.Prio options) d now handle new is more = tt
+made-takes (kind.Tbf rate burst limit) d now handle new is more = tt
+made-takes kind.Drr d now handle new is more = absurd (omega (arith, more, ap (λ (n : Node Kept). length (children n)) is))
+made-takes (kind.FqCodel options) d now handle new is more = tt

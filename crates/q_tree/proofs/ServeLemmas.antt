@@ -1,6 +1,6 @@
 -- The classes of a drr that are asked in turn, until one is met that can send its packet, or shows none.
 use Rattle.std.proofs.Common.{◌≡◌, ℕ, zero, suc, ◌-◌, ◌≤◌, ◌<◌, ◌∙◌, List, [], ◌∷◌, ◌++◌, take, set, length, refl, sym, ap, ap₂, subst, inl, inr, ◌||◌, eq-eqb, Option, Some, None, option_and_then, option_map, arith}
-use Rattle.std.specs.Prelude.{true, false, nat_lt, ◌==◌, slice_get, slice_index_or}
+use Rattle.std.specs.Prelude.{true, false, is_some, nat_lt, ◌==◌, slice_get, slice_index_or}
 use Rattle.std.specs.List.{All}
 use Rattle.std.specs.Option.{option_map_or}
 use Rattle.std.proofs.lemmas.Bool.{cases_lt, cases_Bool, eqb-true, ltb-true, ltb-false, false≢true}
@@ -10,7 +10,7 @@ use Rattle.std.proofs.lemmas.Option.{same_Some, slice_get-map, slice_get_within,
 use Rattle.q_packet.specs.Descriptor.{Descriptor}
 use Rattle.q_codel.specs.declared.loss.Loss.{Loss}
 use Rattle.q_drr.specs.Schedule as drr
-use Rattle.q_drr.specs.Schedule.{Entry, Schedule, has_class, place_of, is_active, quantum_of, turned, turn_answer, IsEntry}
+use Rattle.q_drr.specs.Schedule.{Entry, Schedule, has_class, place_of, front_of, is_active, quantum_of, turned, turn_answer, IsEntry}
 use Rattle.q_drr.specs.Take.{choice_of, prepared}
 use Rattle.q_drr.specs.declared.met.Met.{Met}
 use Rattle.q_drr.proofs.ServingLemmas.{IsServing, IsCome, serving-start, serving-front, serving-granted, serving-ends, serving-nobody}
@@ -106,6 +106,26 @@ front-known s n law f =
     let is : IsEntry s.max_len s.classes f.first = All-head (IsEntry s.max_len s.classes) f.first f.rest (subst (All (IsEntry s.max_len s.classes)) f.is law.entries) in
     ap (λ m. has_class m s.classes) (sym f.class) ∙ is.there
 
+-- the class in front, by its place
+pub record IsFrontAt (s : Schedule) (place : ℕ) : Type 0 where
+  pub class : ℕ
+  pub front : Some class ≡ front_of s
+  pub found : Some place ≡ place_of class s.classes
+
+pub front-at : (s : Schedule) (place : ℕ) → Some place ≡ option_and_then (λ n. place_of n s.classes) (front_of s) → IsFrontAt s place
+front-at s place e = by (front_of s) refl e
+  where
+    by : (o : Option ℕ) → front_of s ≡ o → Some place ≡ option_and_then (λ n. place_of n s.classes) o → IsFrontAt s place
+    by None is at = cc
+    by (Some n) is at = record { class = n; front = sym is; found = at }
+
+pub nobody-at : (s : Schedule) (r : Option ℕ) → r ≡ None → is_some r ≡ is_some (front_of s) → None ≡ front_of s
+nobody-at s r gone same = by (front_of s) refl (ap is_some (sym gone) ∙ same)
+  where
+    by : (o : Option ℕ) → front_of s ≡ o → is_some {T = ℕ} None ≡ is_some o → None ≡ front_of s
+    by None is e = sym is
+    by (Some n) is e = absurd (false≢true e)
+
 module _ (now : ℕ) (first s : Schedule) (ns ms : List (Node Kept)) (unasked : ℕ) (so_far : Shown) (k : SinkTold) (can : CanServe now first ns) (h : AreClassesAsked now first s ns ms unasked so_far k) (n : ℕ) (law : drr.IsLawful s) (f : Front n s) where
   in-front : (i : ℕ) × IsInFront now first ns n i
   in-front =
@@ -116,9 +136,6 @@ module _ (now : ℕ) (first s : Schedule) (ns ms : List (Node Kept)) (unasked : 
 
   same-place : place_of n s.classes ≡ class_at n first
   same-place = ap (place_of n) h.serving.classes
-
-  pub class-there : None ≡ place_of n s.classes → ⊥
-  class-there e = let is = in-front.1.at_place in let none : None ≡ Some in-front.0 = e ∙ same-place ∙ is in cc
 
   pub place-within : (place : ℕ) → IsInFront now first ns n place → place < length ms
   place-within place p = omega (arith, slice_get_within ns place p.child p.there, h.asking.long)

@@ -1,6 +1,6 @@
 -- What an edit of a tree makes of the node at the end of its way, and of the nodes above it (tc(8), `add`, `change`, `del`).
 -- Each node above counts what is lost as dropped, and a class of a drr that is thereby empty leaves the active list.
-use Rattle.std.specs.Prelude.{◌≡◌, ℕ, ◌<◌, ◌≤◌, ◌^◌, ◌==◌, not, List, [], set}
+use Rattle.std.specs.Prelude.{◌≡◌, ℕ, ◌<◌, ◌≤◌, ◌^◌, ◌==◌, Bool, false, not, nat_lt, List, [], length, set}
 use Rattle.std.specs.List.{filter}
 use Rattle.std.specs.Option.{option_map_or}
 use Rattle.q_packet.specs.Descriptor.{Descriptor}
@@ -17,7 +17,7 @@ use Rattle.q_model.specs.Tally.{Note, noted}
 use Rattle.q_model.specs.Work.{losses_of, settled_in}
 use Rattle.q_tree.specs.Arrivals.{plus, minus}
 use Rattle.q_tree.specs.Kept.{Kept, kept}
-use Rattle.q_tree.specs.Reshaping.{AreReady, IsFresh, KeepsAll, TakesMore, children_after, discipline_after, lost_with}
+use Rattle.q_tree.specs.Reshaping.{AreReady, IsFresh, KeepsAll, TakesMore, adds_children, children_after, discipline_after, lost_with}
 use Rattle.q_tree.specs.declared.reshape.Reshape as shapes
 use Rattle.q_tree.specs.Seen.{children_seen, discipline_seen, places_seen}
 use Rattle.q_tree.specs.declared.edit.Edit.{Edit}
@@ -63,9 +63,16 @@ LosesNothing (AddFilter f) = Unit {0}
 LosesNothing (RemoveFilters prio) = Unit {0}
 LosesNothing (Reshape r) = KeepsAll r
 
--- the edits that take memory: for a filter or a child more
+-- whether it brings nodes beneath another, for whose handles there has to be room
+abbrev pub adds_nodes : Edit → Bool
+adds_nodes (Graft new) = nat_lt 0 (length (children new))
+adds_nodes (AddFilter f) = false
+adds_nodes (RemoveFilters prio) = false
+adds_nodes (Reshape r) = adds_children r
+
+-- the edits that take memory: for a filter or a child more, or for the handles where there were none beneath the root
 abbrev pub TakesMemory : Edit → Type 0
-TakesMemory (Graft new) = ⊥
+TakesMemory (Graft new) = 0 < length (children new)
 TakesMemory (AddFilter f) = Unit {0}
 TakesMemory (RemoveFilters prio) = ⊥
 TakesMemory (Reshape r) = TakesMore r

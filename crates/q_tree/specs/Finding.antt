@@ -1,6 +1,6 @@
 -- The qdisc with a handle, and the node in one of its classes, among a node and those beneath it (tc(8), "NAMING").
-use Rattle.std.specs.Prelude.{ℕ, List, map, Option, option_and_then, option_map, slice_get}
-use Rattle.q_model.specs.Find.{Address, addresses, path_of, node_at, class_place}
+use Rattle.std.specs.Prelude.{ℕ, List, Option, option_and_then, option_map, slice_get}
+use Rattle.q_model.specs.Find.{path_of, node_at, class_place}
 use Rattle.q_model.specs.Node.{Node, children}
 
 abbrev pub qdisc_with : {M : Type 0} → ℕ → Node M → Option (Node M)
@@ -13,7 +13,3 @@ class_with minor n = option_and_then (slice_get (children n)) (class_place minor
 -- the node at the end of a way that was found, with the way
 abbrev pub reached : {M : Type 0} → Node M → Option (List ℕ) → Option (List ℕ × Node M)
 reached root found = option_and_then (λ path. option_map (λ n. (path, n)) (node_at path root)) found
-
--- the handles of a node and of those beneath it, in the order in which show has them
-abbrev pub handles_in : {M : Type 0} → Node M → List ℕ
-handles_in n = map (λ (a : Address). a.handle) (addresses n)

@@ -7,6 +7,8 @@ pub mod Commands
 pub mod Editing
 pub mod Finding
 pub mod Grafting
+pub mod Index
+pub mod IndexSeen
 pub mod Kept
 pub mod Laws
 pub mod Making
@@ -16,6 +18,7 @@ pub mod Places
 pub mod PopSteps
 pub mod Purging
 pub mod PutSteps
+pub mod ReadyAt
 pub mod Reshaping
 pub mod RouteSeen
 pub mod Seen

@@ -1,6 +1,6 @@
 -- What a command makes of a discipline and of its children, and what is lost with the children that go
 -- (tc-prio(8), tc-tbf(8), tc-drr(8), tc-fq_codel(8)). An edit that is not for this discipline changes nothing.
-use Rattle.std.specs.Prelude.{◌≡◌, ℕ, ◌<◌, ◌^◌, Bool, false, not, List, [], ◌∷◌, ◌++◌, map, take, drop, length, Option, None, Some, is_some, option_and_then, option_map, slice_get, All, if◌then◌else◌}
+use Rattle.std.specs.Prelude.{◌≡◌, ℕ, ◌<◌, ◌^◌, Bool, true, false, not, nat_lt, List, [], ◌∷◌, ◌++◌, map, take, drop, length, Option, None, Some, is_some, option_and_then, option_map, slice_get, All, if◌then◌else◌}
 use Rattle.std.specs.List.{remove}
 use Rattle.std.specs.Option.{option_map_or}
 use Rattle.q_codel.specs.declared.limit.Limit.{Limit}
@@ -169,6 +169,17 @@ AreReady (SetOptions options) = Unit {0}
 AreReady (AddClass class quantum leaf) = IsFresh leaf
 AreReady (SetQuantum class quantum) = Unit {0}
 AreReady (RemoveClass class) = Unit {0}
+
+-- whether it brings children
+abbrev pub adds_children : Reshape → Bool
+adds_children Nothing = false
+adds_children (SetLimit limit) = false
+adds_children (SetBands options leaves) = nat_lt 0 (length leaves.items)
+adds_children (SetBucket bucket limit) = false
+adds_children (SetOptions options) = false
+adds_children (AddClass class quantum leaf) = true
+adds_children (SetQuantum class quantum) = false
+adds_children (RemoveClass class) = false
 
 -- those that take memory: for children more
 abbrev pub TakesMore : Reshape → Type 0

@@ -1,10 +1,12 @@
 -- What a contract sees of a tree of the code: the model's device, whose nodes remember what they counted and their places.
 -- The counters are those of `tc -s qdisc show` (tc(8)).
-use Rattle.std.specs.Prelude.{◌≡◌, ◌<◌, ◌+◌, ◌^◌, List, None, IfSome}
+use Rattle.std.specs.Prelude.{◌≡◌, ◌<◌, ◌≤◌, ◌+◌, ◌^◌, List, None, IfSome}
 use mathlib.Core.Logic.{◌⊎◌}
 use Rattle.q_packet.specs.Descriptor.{Descriptor}
 use Rattle.q_model.specs.Beneath.{beneath, totals_in}
+use Rattle.q_model.specs.Find.{addresses, count_nodes}
 use Rattle.q_model.specs.Node.{Node}
+use Rattle.q_model.specs.Refusals.{most_nodes}
 use Rattle.q_model.specs.Route.{Route}
 use Rattle.q_model.specs.Shrink.{remembering, shrunk}
 use Rattle.q_model.specs.Step.{DeviceState}
@@ -45,6 +47,12 @@ pub record IsKeptDevice (a : Inside) : Type 0 where
   pub same : tree_numbers (tree_seen a).tree ≡ shrunk history
   pub queued : a.top.queued ≡ totals_in (beneath a.root)
   pub within : IsCountedWithin a.root.memory.counts.arrived a.top.arrived
+
+-- and its index has the addresses of its tree, with room for those of every tree once a node stands beneath the root
+pub record IsIndexedDevice (a : Inside) : Type 0 where
+  pub device : IsKeptDevice a
+  pub handles : a.handles.addresses ≡ addresses a.root
+  pub room : 1 < count_nodes a.root → most_nodes ≤ a.handles.room + 1
 
 -- the route of some packet in this tree
 pub record IsRouteIn (r : RouteSeen) (d : DeviceState Kept) : Type 0 where

@@ -5,6 +5,7 @@ ghost use Rattle.q_model.specs.declared.filter.Filter.{Filter};
 ghost use Rattle.q_model.specs.Beneath.{beneath};
 ghost use Rattle.q_model.specs.ClassCommands.{class_change_checks, class_del_checks};
 ghost use Rattle.q_model.specs.Filters.{names_class};
+ghost use Rattle.q_model.specs.Find.{addresses};
 ghost use Rattle.q_model.specs.Make.{Device};
 ghost use Rattle.q_model.specs.Node.{shape};
 ghost use Rattle.q_model.specs.Ranges.{IsCommand};
@@ -15,6 +16,7 @@ ghost use Rattle.q_tree.specs.Showing.{IsNumbered};
 
 use crate::counting::{MOST_LEVELS, MOST_NODES};
 use crate::edit::Edit;
+use crate::handles::Handles;
 use crate::link::Link;
 use crate::made::implicit_pfifo;
 use crate::node::{Discipline, Node};
@@ -47,7 +49,7 @@ impl Tree {
     {
         match self
             .root
-            .class_added(alloc, self.link(), parent, class, quantum)
+            .class_added(&self.handles, alloc, self.link(), parent, class, quantum)
         {
             Err(refusal) => return Err(refusal),
             Ok(planned) => return self.edit(planned, self.clock, &mut OneLoss { told: None }),
@@ -75,7 +77,7 @@ impl Tree {
         ensures room { S.room sink.new + length (told (plan_of (ClassDel parent class) self.old.clock self.old) (shape self.old.tree.root) result) ≡ S.room sink.old }
         ensures kept { S.keeps sink.old sink.new }
     {
-        match self.root.class_removed(parent, class) {
+        match self.root.class_removed(&self.handles, parent, class) {
             Err(refusal) => return Err(refusal),
             Ok(planned) => return self.edit(planned, self.clock, sink),
         }
@@ -97,7 +99,10 @@ impl Tree {
     ) -> Result<(), Refusal>
         ensures { IsAnswered takes_none self.old.clock (plan_of (ClassChange parent class quantum) self.old.clock self.old) self.old self.new result }
     {
-        match self.root.class_changed(parent, class, quantum) {
+        match self
+            .root
+            .class_changed(&self.handles, parent, class, quantum)
+        {
             Err(refusal) => return Err(refusal),
             Ok(planned) => return self.edit(planned, self.clock, &mut OneLoss { told: None }),
         }
@@ -108,12 +113,14 @@ impl Node {
     // The edit that adds a class, or the first refusal that holds.
     pub(crate) fn class_added(
         &self,
+        handles: &Handles,
         alloc: Global,
         link: Link,
         parent: Handle,
         class: ClassId,
         quantum: Option<Quantum>,
     ) -> Result<Planned, Refusal>
+        requires index { handles.now.addresses ≡ addresses self.now }
         requires bounded { IsBounded self.now }
         requires mtu { 1 ≤ link.mtu }
         ensures plan { (now : ℕ) → IsPlanOf takes_memory (ClassAdd parent class quantum) now (record { mtu = link.mtu; txqueuelen = link.txqueuelen }) self.now result }
@@ -124,7 +131,7 @@ impl Node {
         if names_another(&parent, &class) {
             return Err(Refusal::NoParent);
         }
-        let Some((path, node)) = self.qdisc(class.major) else {
+        let Some((path, node)) = self.qdisc(handles, class.major) else {
             return Err(Refusal::NoQdisc);
         };
         if let Err(refusal) = self.can_add_class(path.len(), node, &class) {
@@ -139,9 +146,11 @@ impl Node {
     // The edit that removes a class, or the first refusal that holds.
     pub(crate) fn class_removed(
         &self,
+        handles: &Handles,
         parent: Option<Handle>,
         class: ClassId,
     ) -> Result<Planned, Refusal>
+        requires index { handles.now.addresses ≡ addresses self.now }
         requires bounded { IsBounded self.now }
         requires lawful { IsNumbered self.now }
         ensures plan { (device : Device) (now : ℕ) → IsPlanOf takes_none (ClassDel parent class) now device self.now result }
@@ -150,7 +159,7 @@ impl Node {
         if names_another(&parent, &class) {
             return Err(Refusal::NoParent);
         }
-        let Some((path, node)) = self.qdisc(class.major) else {
+        let Some((path, node)) = self.qdisc(handles, class.major) else {
             return Err(Refusal::NoQdisc);
         };
         if let Err(refusal) = node.can_remove_class(&class) {
@@ -163,11 +172,13 @@ impl Node {
     // The edit that gives a class another quantum, or the first refusal that holds.
     pub(crate) fn class_changed(
         &self,
+        handles: &Handles,
         parent: Option<Handle>,
         class: ClassId,
         quantum: Option<Quantum>,
     ) -> Result<Planned, Refusal>
-        requires { IsBounded self.now }
+        requires index { handles.now.addresses ≡ addresses self.now }
+        requires bounded { IsBounded self.now }
         ensures plan { (device : Device) (now : ℕ) → IsPlanOf takes_none (ClassChange parent class quantum) now device self.now result }
         ensures quiet { IfOk result (λ p. LosesNothing p.edit) }
     {
@@ -175,7 +186,7 @@ impl Node {
         if names_another(&parent, &class) {
             return Err(Refusal::NoParent);
         }
-        let Some((path, node)) = self.qdisc(class.major) else {
+        let Some((path, node)) = self.qdisc(handles, class.major) else {
             return Err(Refusal::NoQdisc);
         };
         if let Err(refusal) = node.can_change_class(&class) {

@@ -1,11 +1,13 @@
 ghost use Rattle.std.specs.Prelude.{◌≡◌, ◌≤◌, ◌+◌, ◌++◌, length};
 ghost use Rattle.q_model.specs.Beneath.{beneath};
+ghost use Rattle.q_model.specs.Find.{addresses};
 ghost use Rattle.q_model.specs.Node.{shape};
 ghost use Rattle.q_model.specs.TreeState.{plan};
 ghost use Rattle.q_sound.proofs.Kept.{IsLawfulRoot};
 ghost use Rattle.q_tree.specs.Commanding.{WantsMemory};
 ghost use Rattle.q_tree.specs.Commands.{IsAnswered, IsBounded, IsPlanOf, plan_of, told};
 
+use crate::handles::Handles;
 use crate::link::Link;
 use crate::node::Node;
 use crate::planned::Planned;
@@ -40,7 +42,10 @@ impl Tree {
     {
         // A moment is at most 2^62 nanoseconds.
         let _ = now.ns();
-        match self.root.planned(alloc, self.link(), &command, now) {
+        match self
+            .root
+            .planned(&self.handles, alloc, self.link(), &command, now)
+        {
             Err(refusal) => return Err(refusal),
             Ok(planned) => return self.edit(planned, now, sink),
         }
@@ -51,11 +56,13 @@ impl Node {
     // The edit that a command asks for, or the first refusal that holds.
     fn planned(
         &self,
+        handles: &Handles,
         alloc: Global,
         link: Link,
         command: &Command,
         now: Moment,
     ) -> Result<Planned, Refusal>
+        requires index { handles.now.addresses ≡ addresses self.now }
         requires bounded { IsBounded self.now }
         requires lawful { IsLawfulRoot link.mtu now self.now }
         requires mtu { 1 ≤ link.mtu }
@@ -66,30 +73,36 @@ impl Node {
                 place,
                 handle,
                 kind,
-            } => return self.grafted(alloc, link, *place, *handle, kind, now),
+            } => return self.grafted(handles, alloc, link, *place, *handle, kind, now),
             Command::QdiscChange {
                 place,
                 handle,
                 kind,
-            } => return self.changed(alloc, link, *place, *handle, kind, now),
-            Command::QdiscDel { place, handle } => return self.pruned(alloc, link, *place, *handle),
+            } => return self.changed(handles, alloc, link, *place, *handle, kind, now),
+            Command::QdiscDel { place, handle } => return self.pruned(
+                handles, alloc, link, *place, *handle,
+            ),
             Command::ClassAdd {
                 parent,
                 class,
                 quantum,
-            } => return self.class_added(alloc, link, *parent, *class, *quantum),
+            } => return self.class_added(handles, alloc, link, *parent, *class, *quantum),
             Command::ClassChange {
                 parent,
                 class,
                 quantum,
-            } => return self.class_changed(*parent, *class, *quantum),
-            Command::ClassDel { parent, class } => return self.class_removed(*parent, *class),
+            } => return self.class_changed(handles, *parent, *class, *quantum),
+            Command::ClassDel { parent, class } => return self.class_removed(
+                handles, *parent, *class,
+            ),
             Command::FilterAdd {
                 parent,
                 major,
                 filter,
-            } => return self.filter_added(*parent, *major, *filter),
-            Command::FilterDel { parent, prio } => return self.filters_removed(*parent, *prio),
+            } => return self.filter_added(handles, *parent, *major, *filter),
+            Command::FilterDel { parent, prio } => return self.filters_removed(
+                handles, *parent, *prio,
+            ),
         }
     }
 }

@@ -36,10 +36,7 @@ pub(crate) fn serve<S: Sink>(
     let mut shown = Shown::at_hand(&None);
     // In the first round each class is asked once; in a later one it has at hand what it showed.
     let mut unasked = active.active_count();
-    while let Some(class) = active.front() {
-        let Some(place) = active.place_of(class) else {
-            unreachable!()
-        };
+    while let Some(place) = active.front_place() {
         shown = ask_class(&mut classes[place], unasked > 0, shown, now, sink);
         unasked = unasked.saturating_sub(1);
         let Some(len) = shown.packet_len() else {
@@ -95,12 +92,12 @@ fn give(active: &mut Active, classes: &mut [Node], place: usize) -> Option<Packe
 pub(crate) fn settle(active: &mut Active, place: usize, is_empty: bool)
     ensures { active.new ≡ settled_class place is_empty active.old }
 {
-    let Some(class) = active.class_at(place) else {
+    if place >= active.count() {
         return;
-    };
+    }
     if is_empty {
-        active.sleep(class);
+        active.sleep_at(place);
     } else {
-        active.wake(class);
+        active.wake_at(place);
     }
 }

@@ -5,7 +5,7 @@ ghost use Rattle.q_model.specs.Beneath.{totals_in};
 ghost use Rattle.q_model.specs.Filters.{with_filter};
 ghost use Rattle.q_model.specs.Find.{node_at};
 ghost use Rattle.q_model.specs.Node as spec;
-ghost use Rattle.q_tree.specs.Editing.{effect, removed, removed_at, edited_by, IsReady, TakesMemory, IsEditedBeneath};
+ghost use Rattle.q_tree.specs.Editing.{adds_nodes, effect, removed, removed_at, edited_by, IsReady, TakesMemory, IsEditedBeneath};
 ghost use Rattle.q_tree.specs.Kept.{Kept};
 ghost use Rattle.q_tree.specs.Places.{Leads};
 ghost use Rattle.q_tree.specs.Purging.{purged};
@@ -21,6 +21,7 @@ use q_model::{Filter, FilterPrio, Totals};
 use std::alloc::AllocError;
 
 /// What a command makes of the node at the end of its way.
+#[derive(Drop)]
 pub(crate) enum Edit {
     /// This new node stands in its place.
     Graft(Node),
@@ -30,6 +31,19 @@ pub(crate) enum Edit {
     RemoveFilters(FilterPrio),
     /// Its discipline and its children are reshaped.
     Reshape(Reshape),
+}
+
+impl Edit {
+    /// Whether it brings nodes beneath another.
+    pub(crate) fn adds_nodes(&self) -> bool
+        ensures { result ≡ adds_nodes self.now }
+    {
+        match self {
+            Edit::Graft(node) => return !node.children().is_empty(),
+            Edit::AddFilter(_) | Edit::RemoveFilters(_) => return false,
+            Edit::Reshape(reshape) => return reshape.adds_children(),
+        }
+    }
 }
 
 impl Node {

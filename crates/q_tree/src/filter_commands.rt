@@ -2,6 +2,7 @@ ghost use Rattle.std.specs.Prelude.{◌≡◌, ℕ, IfOk};
 ghost use Rattle.std.specs.List.{list_any};
 ghost use Rattle.q_model.specs.declared.command.Command.TheVariants.{FilterAdd, FilterDel};
 ghost use Rattle.q_model.specs.FilterCommands.{filter_add_checks, filter_del_checks, has_prio};
+ghost use Rattle.q_model.specs.Find.{addresses};
 ghost use Rattle.q_model.specs.Make.{Device};
 ghost use Rattle.q_model.specs.Node.{shape};
 ghost use Rattle.q_model.specs.Refusals.{done_unless, has_filters};
@@ -9,6 +10,7 @@ ghost use Rattle.q_tree.specs.Editing.{LosesNothing};
 ghost use Rattle.q_tree.specs.Commands.{IsAnswered, IsBounded, IsPlanOf, plan_of, takes_memory, takes_none};
 
 use crate::edit::Edit;
+use crate::handles::Handles;
 use crate::node::{Discipline, Node};
 use crate::one_loss::OneLoss;
 use crate::planned::Planned;
@@ -34,7 +36,7 @@ impl Tree {
     ) -> Result<(), Refusal>
         ensures { IsAnswered takes_memory self.old.clock (plan_of (FilterAdd parent major filter) self.old.clock self.old) self.old self.new result }
     {
-        match self.root.filter_added(parent, major, filter) {
+        match self.root.filter_added(&self.handles, parent, major, filter) {
             Err(refusal) => return Err(refusal),
             Ok(planned) => return self.edit(planned, self.clock, &mut OneLoss { told: None }),
         }
@@ -49,7 +51,7 @@ impl Tree {
     pub fn filter_del(&mut self, parent: Handle, prio: FilterPrio) -> Result<(), Refusal>
         ensures { IsAnswered takes_none self.old.clock (plan_of (FilterDel parent prio) self.old.clock self.old) self.old self.new result }
     {
-        match self.root.filters_removed(parent, prio) {
+        match self.root.filters_removed(&self.handles, parent, prio) {
             Err(refusal) => return Err(refusal),
             Ok(planned) => return self.edit(planned, self.clock, &mut OneLoss { told: None }),
         }
@@ -60,17 +62,19 @@ impl Node {
     // The edit that adds a filter, or the first refusal that holds.
     pub(crate) fn filter_added(
         &self,
+        handles: &Handles,
         parent: Handle,
         major: Handle,
         filter: Filter,
     ) -> Result<Planned, Refusal>
-        requires { IsBounded self.now }
+        requires index { handles.now.addresses ≡ addresses self.now }
+        requires bounded { IsBounded self.now }
         ensures plan { (device : Device) (now : ℕ) → IsPlanOf takes_memory (FilterAdd parent major filter) now device self.now result }
         ensures quiet { IfOk result (λ p. LosesNothing p.edit) }
     {
         filter.ranges();
         let _ = (parent.major(), major.major());
-        let Some((path, node)) = self.qdisc(parent) else {
+        let Some((path, node)) = self.qdisc(handles, parent) else {
             return Err(Refusal::NoQdisc);
         };
         if let Err(refusal) = node.can_add_filter(parent, major, &filter) {
@@ -83,15 +87,17 @@ impl Node {
     // The edit that removes filters, or the first refusal that holds.
     pub(crate) fn filters_removed(
         &self,
+        handles: &Handles,
         parent: Handle,
         prio: FilterPrio,
     ) -> Result<Planned, Refusal>
-        requires { IsBounded self.now }
+        requires index { handles.now.addresses ≡ addresses self.now }
+        requires bounded { IsBounded self.now }
         ensures plan { (device : Device) (now : ℕ) → IsPlanOf takes_none (FilterDel parent prio) now device self.now result }
         ensures quiet { IfOk result (λ p. LosesNothing p.edit) }
     {
         let _ = (parent.major(), prio.number());
-        let Some((path, node)) = self.qdisc(parent) else {
+        let Some((path, node)) = self.qdisc(handles, parent) else {
             return Err(Refusal::NoQdisc);
         };
         if let Err(refusal) = node.can_remove_filters(prio) {

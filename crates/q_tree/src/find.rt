@@ -1,10 +1,11 @@
-ghost use Rattle.std.specs.Prelude.{◌≡◌, ◌≤◌, ◌+◌, ◌++◌, [], is_some, length, option_copied, option_map, unwrap_or};
+ghost use Rattle.std.specs.Prelude.{◌≡◌, option_copied, option_map};
 ghost use Rattle.q_model.specs.Beneath.{row};
-ghost use Rattle.q_model.specs.Find.{class_place, depth, node_at, path_of};
+ghost use Rattle.q_model.specs.Find.{addresses, class_place, node_at, path_of};
 ghost use Rattle.q_model.specs.Node.{children};
 ghost use Rattle.q_tree.specs.Finding.{qdisc_with, class_with};
 ghost use Rattle.q_tree.specs.Kept.{kept};
 
+use crate::handles::Handles;
 use crate::node::{Discipline, Node, child_at};
 use arrayvec::ArrayVec;
 use q_model::{Handle, Minor, Row};
@@ -63,36 +64,12 @@ impl Node {
         self.children().get(self.class_place(minor)?)
     }
 
-    /// The way to the qdisc with this handle, at the node or beneath it.
-    pub(crate) fn path_to(&self, handle: Handle) -> Option<Path>
-        requires { depth self.now ≤ 8 }
+    /// The way to the qdisc with this handle, at the node or beneath it, of whose handles this is the index.
+    pub(crate) fn path_to(&self, handles: &Handles, handle: Handle) -> Option<Path>
+        requires { handles.now.addresses ≡ addresses self.now }
         ensures { option_map (λ p. p.items) result ≡ path_of handle self.now }
     {
-        let mut path = Path::new();
-        if self.leads_to(handle, &mut path) {
-            Some(path)
-        } else {
-            None
-        }
-    }
-
-    // Whether it is there; the way is then behind the one that has come here.
-    fn leads_to(&self, handle: Handle, path: &mut Path) -> bool
-        requires { length path.old.items + depth self.now ≤ 8 }
-        ensures found { result ≡ is_some (path_of handle self.now) }
-        ensures way { path.new.items ≡ path.old.items ++ unwrap_or (path_of handle self.now) [] }
-    {
-        if self.handle == Some(handle) {
-            return true;
-        }
-        for (place, child) in self.children().iter().enumerate() {
-            path.push(place);
-            if child.leads_to(handle, path) {
-                return true;
-            }
-            path.pop();
-        }
-        false
+        handles.path_to(handle)
     }
 
     /// The node at the end of this way.
@@ -106,11 +83,11 @@ impl Node {
     }
 
     /// The qdisc with this handle, at the node or beneath it.
-    pub(crate) fn find(&self, handle: Handle) -> Option<&Node>
-        requires { depth self.now ≤ 8 }
+    pub(crate) fn find(&self, handles: &Handles, handle: Handle) -> Option<&Node>
+        requires { handles.now.addresses ≡ addresses self.now }
         ensures { option_copied result ≡ qdisc_with handle self.now }
     {
-        let path = self.path_to(handle)?;
+        let path = self.path_to(handles, handle)?;
         self.at(&path)
     }
 }

@@ -34,8 +34,8 @@ pub(crate) struct Node {
     pub(crate) discipline: Discipline,
 }
 
-// What a packet reads at each node of its way: a path of four nodes is some twenty lines of a cache.
-const _: () = prove!(size_of::<Node>() <= 352);
+// What a packet reads at each node of its way: a path of four nodes is 26 lines of a cache at most.
+const _: () = prove!(size_of::<Node>() <= 416);
 
 /// What a qdisc does, with its own queue and its children in class order.
 #[cycle(node)]

@@ -4,7 +4,7 @@ ghost use Rattle.q_model.specs.declared.command.Command.TheVariants.{QdiscChange
 ghost use Rattle.q_model.specs.declared.filter.Filter.{Filter};
 ghost use Rattle.q_model.specs.declared.kind.Kind.TheVariants as kind;
 ghost use Rattle.q_model.specs.Beneath.{beneath};
-ghost use Rattle.q_model.specs.Find.{count_nodes};
+ghost use Rattle.q_model.specs.Find.{addresses, count_nodes};
 ghost use Rattle.q_model.specs.Node.{Shape, shape};
 ghost use Rattle.q_model.specs.Ranges.{IsCommand, IsKind};
 ghost use Rattle.q_model.specs.Refusals.{most_nodes};
@@ -16,6 +16,7 @@ ghost use Rattle.q_tree.specs.Commands.{IsAnswered, IsBounded, IsPlanOf, plan_of
 
 use crate::counting::MOST_NODES;
 use crate::edit::Edit;
+use crate::handles::Handles;
 use crate::link::Link;
 use crate::made::{leaves, limit_bytes};
 use crate::node::{Discipline, Node};
@@ -72,6 +73,7 @@ impl Node {
     // The edit that gives a qdisc other settings, or the first refusal that holds.
     pub(crate) fn changed(
         &self,
+        handles: &Handles,
         alloc: Global,
         link: Link,
         place: Option<Place>,
@@ -79,12 +81,13 @@ impl Node {
         kind: &Kind,
         now: Moment,
     ) -> Result<Planned, Refusal>
+        requires index { handles.now.addresses ≡ addresses self.now }
         requires bounded { IsBounded self.now }
         requires lawful { IsLawfulRoot link.mtu now self.now }
         ensures plan { IsPlanOf (NeedsMore kind.now (plan (record { mtu = link.mtu; txqueuelen = link.txqueuelen }) now (QdiscChange place handle kind.now) (shape self.now))) (QdiscChange place handle kind.now) now (record { mtu = link.mtu; txqueuelen = link.txqueuelen }) self.now result }
     {
         change_ranges(&place, &handle, kind);
-        let Some((path, node)) = self.target(place, handle) else {
+        let Some((path, node)) = self.target(handles, place, handle) else {
             return Err(Refusal::NoQdisc);
         };
         match node.reshape_to(alloc, link, self.count_nodes(), kind, now) {

@@ -2,7 +2,7 @@ ghost use Rattle.std.specs.Prelude.{◌≡◌, ◌≤◌, ◌+◌, ◌++◌, ℕ
 ghost use Rattle.std.specs.Result.{result_map_both};
 ghost use Rattle.q_model.specs.declared.command.Command.TheVariants.{QdiscAdd, QdiscDel};
 ghost use Rattle.q_model.specs.Beneath.{beneath};
-ghost use Rattle.q_model.specs.Find.{depth, free_handle, has_handle, node_at, place_path};
+ghost use Rattle.q_model.specs.Find.{addresses, depth, free_handle, has_handle, node_at, place_path};
 ghost use Rattle.q_model.specs.Make.{implicit_beneath};
 ghost use Rattle.q_model.specs.Node.{shape};
 ghost use Rattle.q_model.specs.QdiscCommands.{leaf_at, place_checks};
@@ -16,6 +16,7 @@ ghost use Rattle.q_tree.specs.Showing.{IsNumbered};
 use crate::counting::{MOST_LEVELS, MOST_NODES, levels_made, nodes_made};
 use crate::edit::Edit;
 use crate::find::Path;
+use crate::handles::Handles;
 use crate::link::Link;
 use crate::made::implicit_pfifo;
 use crate::node::{Discipline, Node};
@@ -91,6 +92,7 @@ impl Node {
     // The edit that puts a new qdisc into a place, or the first refusal that holds.
     pub(crate) fn grafted(
         &self,
+        handles: &Handles,
         alloc: Global,
         link: Link,
         place: Place,
@@ -98,20 +100,21 @@ impl Node {
         kind: &Kind,
         now: Moment,
     ) -> Result<Planned, Refusal>
+        requires index { handles.now.addresses ≡ addresses self.now }
         requires bounded { IsBounded self.now }
         requires lawful { IsNumbered self.now }
         requires mtu { 1 ≤ link.mtu }
         ensures plan { IsPlanOf (NeedsMemory kind.now) (QdiscAdd place handle kind.now) now (record { mtu = link.mtu; txqueuelen = link.txqueuelen }) self.now result }
     {
         add_ranges(&place, &handle, kind);
-        let path = match self.way_in(place) {
+        let path = match self.way_in(handles, place) {
             Err(refusal) => return Err(refusal),
             Ok(path) => path,
         };
-        if let Err(refusal) = self.can_graft(&path, &handle, kind) {
+        if let Err(refusal) = self.can_graft(handles, &path, &handle, kind) {
             return Err(refusal);
         }
-        let handle = self.handle_or_free(&handle);
+        let handle = self.handle_or_free(handles, &handle);
         let Ok(node) = Node::made(alloc, link, now, handle, kind) else {
             return Err(Refusal::Memory);
         };
@@ -122,16 +125,18 @@ impl Node {
     // The edit that removes a qdisc, or the refusal where there is none.
     pub(crate) fn pruned(
         &self,
+        handles: &Handles,
         alloc: Global,
         link: Link,
         place: Option<Place>,
         handle: Option<Handle>,
     ) -> Result<Planned, Refusal>
-        requires { IsBounded self.now }
+        requires index { handles.now.addresses ≡ addresses self.now }
+        requires bounded { IsBounded self.now }
         ensures plan { (now : ℕ) → IsPlanOf takes_none (QdiscDel place handle) now (record { mtu = link.mtu; txqueuelen = link.txqueuelen }) self.now result }
     {
         del_ranges(&place, &handle);
-        let Some((path, _)) = self.target(place, handle) else {
+        let Some((path, _)) = self.target(handles, place, handle) else {
             return Err(Refusal::NoQdisc);
         };
         let leaf = self.leaf_at(alloc, link, &path);
@@ -140,8 +145,9 @@ impl Node {
     }
 
     // The way to a place for a new qdisc, or why there is none.
-    fn way_in(&self, place: Place) -> Result<Path, Refusal>
-        requires { depth self.now ≤ 8 }
+    fn way_in(&self, handles: &Handles, place: Place) -> Result<Path, Refusal>
+        requires levels { depth self.now ≤ 8 }
+        requires index { handles.now.addresses ≡ addresses self.now }
         ensures { result_map_both (λ p. p.items) (λ e. e) result ≡ done_unless (place_checks place (shape self.now)) (unwrap_or (place_path place (shape self.now)) []) }
     {
         let class = match place {
@@ -149,7 +155,7 @@ impl Node {
             Place::Root => return Ok(Path::new()),
             Place::Class(class) => class,
         };
-        let Some((path, parent)) = self.qdisc(class.major) else {
+        let Some((path, parent)) = self.qdisc(handles, class.major) else {
             return Err(Refusal::NoParent);
         };
         if parent.is_classless() {
@@ -164,7 +170,14 @@ impl Node {
     }
 
     // Whether a new qdisc may stand at the end of this way.
-    fn can_graft(&self, path: &[usize], handle: &Option<Handle>, kind: &Kind) -> Result<(), Refusal>
+    fn can_graft(
+        &self,
+        handles: &Handles,
+        path: &[usize],
+        handle: &Option<Handle>,
+        kind: &Kind,
+    ) -> Result<(), Refusal>
+        requires index { handles.now.addresses ≡ addresses self.now }
         requires bounded { IsBounded self.now }
         requires there { IsSome (node_at path.now self.now) }
         ensures { result ≡ done_unless (graft_checks handle.now kind.now path.now self.now) (record {}) }
@@ -172,7 +185,7 @@ impl Node {
         if self.is_explicit(path) {
             return Err(Refusal::Exists);
         }
-        if self.is_taken(handle) {
+        if self.is_taken(handles, handle) {
             return Err(Refusal::HandleTaken);
         }
         if path.len() + levels_made(kind) > MOST_LEVELS {
@@ -197,23 +210,24 @@ impl Node {
     }
 
     // Whether a handle is given that a qdisc has.
-    fn is_taken(&self, handle: &Option<Handle>) -> bool
-        requires { IsBounded self.now }
+    fn is_taken(&self, handles: &Handles, handle: &Option<Handle>) -> bool
+        requires { handles.now.addresses ≡ addresses self.now }
         ensures { result ≡ is_so (λ h. has_handle h self.now) handle.now }
     {
         match handle {
             None => return false,
-            Some(handle) => return self.has_handle(*handle),
+            Some(handle) => return handles.has(*handle),
         }
     }
 
     // The handle that is given, or the least free one.
-    fn handle_or_free(&self, handle: &Option<Handle>) -> Handle
-        requires { IsBounded self.now }
+    fn handle_or_free(&self, handles: &Handles, handle: &Option<Handle>) -> Handle
+        requires index { handles.now.addresses ≡ addresses self.now }
+        requires bounded { IsBounded self.now }
         ensures { result ≡ unwrap_or handle.now (free_handle self.now) }
     {
         match handle {
-            None => return self.free_handle(),
+            None => return handles.least_free(),
             Some(handle) => return *handle,
         }
     }

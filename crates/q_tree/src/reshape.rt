@@ -1,7 +1,7 @@
 ghost use Rattle.std.specs.Prelude.{◌≡◌, ◌≤◌, ◌+◌, ◌++◌, Ok, OnOk, OnErr, length};
 ghost use Rattle.q_model.specs.Beneath.{totals_in};
 ghost use Rattle.q_tree.specs.Purging.{purged};
-ghost use Rattle.q_tree.specs.Reshaping.{FitsCounters, IsReshaped, IsUnchanged, TakesMore, lost_with};
+ghost use Rattle.q_tree.specs.Reshaping.{adds_children, FitsCounters, IsReshaped, IsUnchanged, TakesMore, lost_with};
 ghost use Rattle.q_tree.specs.Seen.{children_seen, discipline_seen};
 
 use crate::booking::NOTHING;
@@ -12,6 +12,7 @@ use q_model::{FqCodelOptions, Minor, PrioOptions, Quantum, Totals};
 use std::alloc::AllocError;
 
 /// What a command makes of a discipline and of its children. What is not for a discipline leaves it as it is.
+#[derive(Drop)]
 pub(crate) enum Reshape {
     /// Everything stays.
     Nothing,
@@ -29,6 +30,21 @@ pub(crate) enum Reshape {
     SetQuantum(Minor, Option<Quantum>),
     /// A drr has no such class.
     RemoveClass(Minor),
+}
+
+impl Reshape {
+    /// Whether it brings children.
+    pub(crate) fn adds_children(&self) -> bool
+        ensures { result ≡ adds_children self.now }
+    {
+        match self {
+            Reshape::SetBands(_, leaves) => return !leaves.is_empty(),
+            Reshape::AddClass(..) => return true,
+            Reshape::Nothing | Reshape::SetLimit(_) | Reshape::SetBucket(..) => return false,
+            Reshape::SetOptions(_) | Reshape::SetQuantum(..) | Reshape::RemoveClass(_) =>
+                return false,
+        }
+    }
 }
 
 impl Discipline {

@@ -1,4 +1,8 @@
+ghost use Rattle.std.specs.Prelude.{◌≡◌};
+ghost use Rattle.q_tree.specs.RouteSeen.{path_seen, refusal_seen};
+
 use crate::way::Way;
+use q_packet::Cause;
 use std::marker::Model;
 
 /// The route of a packet, as [`Tree::route`](crate::Tree::route) found it, and the tree was then.
@@ -20,4 +24,28 @@ impl Model for Route {
     ghost Value = { RouteSeen };
 
     ghost view = { λ r. record { len = r.len; route = if r.is_too_long then None else Some r.way } };
+}
+
+impl Route {
+    /// The place of the child, in class order, that the packet goes to at each node from the root down: at most eight. None where
+    /// the packet is longer than the mtu.
+    pub fn path(&self) -> &[usize]
+        ensures { result.now ≡ path_seen self.now.route }
+    {
+        if self.is_too_long {
+            return &[];
+        }
+        self.way.places()
+    }
+
+    /// The cause where the packet is refused: `TooLong` above the root, or what holds at the node where its path ends. `None`
+    /// where it is queued there.
+    pub fn refusal(&self) -> Option<Cause>
+        ensures { result ≡ refusal_seen self.now.route }
+    {
+        if self.is_too_long {
+            return Some(Cause::TooLong);
+        }
+        self.way.refusal()
+    }
 }

@@ -21,6 +21,7 @@ ghost use Rattle.q_tree.specs.Showing.{IsNumbered, standing};
 ghost use Rattle.q_tree.specs.TreeSeen.{CanArrive, IsArrived, IsRouteIn, numbers};
 
 use crate::booking::{book_arrival, book_dropped, book_sent, book_shown};
+use crate::handles::Handles;
 use crate::link::Link;
 use crate::node::{NOTHING_COUNTED, Node};
 use crate::outcome::{Outcome, refuse};
@@ -37,7 +38,7 @@ use std::marker::Model;
 ///
 /// A contract sees the device of the model, whose nodes remember what they counted and the places of their queues. The type
 /// keeps all that holds of every device after any events: what each node counted is what it has passed on, lost and has still,
-/// every discipline is lawful, and a tree has at most eight levels.
+/// every discipline is lawful, a tree has at most eight levels, and the index has its handles and no others, each with the way there.
 #[derive(Drop)]
 pub struct Tree {
     pub(crate) mtu: u16,
@@ -46,6 +47,8 @@ pub struct Tree {
     pub(crate) clock: Moment,
     top: Row,
     pub(crate) root: Node,
+    /// The ways to the handles beneath the root, by which commands find their qdiscs.
+    pub(crate) handles: Handles,
 }
 
 impl Model for Tree {
@@ -57,11 +60,11 @@ impl Model for Tree {
 
     ghost coded = { device_code };
 
-    ghost use Rattle.q_tree.specs.TreeSeen.{tree_seen, IsKeptDevice};
+    ghost use Rattle.q_tree.specs.TreeSeen.{tree_seen, IsIndexedDevice};
 
     ghost view = { tree_seen };
 
-    ghost invariant = { IsKeptDevice };
+    ghost invariant = { IsIndexedDevice };
 }
 
 impl Tree {
@@ -76,6 +79,7 @@ impl Tree {
             clock: Moment::zero(),
             top: NOTHING_COUNTED,
             root: Node::fifo(alloc, None, Limit::Packets(u64::from(txqueuelen))),
+            handles: Handles::new(alloc),
         }
     }
 
@@ -100,7 +104,12 @@ impl Tree {
         match place {
             Place::Top => return Some(self.top),
             Place::Root => return Some(self.root.row()),
-            Place::Class(id) => return Some(self.root.find(id.major)?.class(id.minor)?.row()),
+            Place::Class(id) => return Some(
+                self.root
+                    .find(&self.handles, id.major)?
+                    .class(id.minor)?
+                    .row(),
+            ),
         }
     }
 
@@ -170,11 +179,15 @@ impl Tree {
         // A moment is at most 2^62 nanoseconds.
         let _ = now.ns();
         let Planned { path, edit } = planned;
+        let Ok(()) = self.handles.make_room_for(&edit) else {
+            return Err(Refusal::Memory);
+        };
         let Ok(lost) = self.root.edit(&path, edit, sink) else {
             return Err(Refusal::Memory);
         };
         book_dropped(&mut self.top, lost);
         self.clock = now;
+        self.handles.renew(&self.root);
         Ok(())
     }
 

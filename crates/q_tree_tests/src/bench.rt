@@ -46,6 +46,8 @@ pub enum New {
     Flows(u32),
     // The burst; the rate is 1 mbit a second, and the limit 10,000 bytes.
     Tbf(u32),
+    // The rate in bits a second and the burst; the limit is 1,000,000 bytes.
+    Shaper(u64, u32),
     // It has no classes yet.
     Drr,
 }
@@ -60,14 +62,17 @@ impl New {
             New::Flows(count) => Ok(Kind::FqCodel(fq_codel(None, count)?)),
             New::Prio(bands) => Ok(Kind::Prio(prio(bands)?)),
             New::Drr => Ok(Kind::Drr),
-            New::Tbf(burst) => {
-                let rate = Rate::new(1_000_000).ok_or("rate")?;
-                let burst = Burst::new(burst).ok_or("burst")?;
-                let limit = TbfLimit::Bytes(10_000);
-                Ok(Kind::Tbf { rate, burst, limit })
-            }
+            New::Tbf(burst) => tbf(1_000_000, burst, 10_000),
+            New::Shaper(rate, burst) => tbf(rate, burst, 1_000_000),
         }
     }
+}
+
+fn tbf(rate: u64, burst: u32, limit: u32) -> Result<Kind, Fail> {
+    let rate = Rate::new(rate).ok_or("rate")?;
+    let burst = Burst::new(burst).ok_or("burst")?;
+    let limit = TbfLimit::Bytes(limit);
+    Ok(Kind::Tbf { rate, burst, limit })
 }
 
 fn prio(bands: u8) -> Result<PrioOptions, Fail> {

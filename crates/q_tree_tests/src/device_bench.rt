@@ -4,8 +4,9 @@
 //! and the tests pass for every N: an event that was refused has changed nothing that is seen, and the same event with memory is
 //! then answered as it has to be.
 use crate::bench::{New, Spot, class, every_packet, packet};
-use q_device::play::play;
-use q_device::{Command, Device, Event, Fate, Place, Polled, Refusal, Reply, Row, Settings, Tree};
+use q_device::{
+    Command, Device, Event, Fate, Place, Polled, Refusal, Reply, Row, Settings, Tree, play,
+};
 use q_model::{ClassView, FilterView, Handle, NodeView, Quantum};
 use q_packet::{Cause, Moment};
 use std::alloc::Global;
@@ -109,6 +110,10 @@ pub enum Call {
     Poll(u64, u64),
     // The moment of a poll that gives no packet, though one is queued.
     Later(u64),
+    // The moment before which no poll gives a packet.
+    Ready(u64),
+    // No poll gives one, however late.
+    NeverReady,
     // The number of the packet that was lost, and why.
     Reap(u64, Cause),
     // No loss waits.
@@ -321,6 +326,8 @@ impl Bench {
                 Some(lost) => Ok(lost.packet.number == number && lost.cause == cause),
                 None => Ok(false),
             },
+            Call::Ready(ns) => Ok(self.device.ready_at() == Some(at(ns)?)),
+            Call::NeverReady => Ok(self.device.ready_at().is_none()),
             Call::ReapNone => Ok(self.device.reap().is_none()),
             Call::Recorded(i, ask, ns) => self.is_recorded(i, ask, ns),
             Call::Events(recorded, events) => {

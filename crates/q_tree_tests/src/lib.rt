@@ -15,6 +15,10 @@ mod device_calls;
 #[cfg(test)]
 mod device_commands;
 #[cfg(test)]
+mod device_ready;
+#[cfg(test)]
+mod device_scripts;
+#[cfg(test)]
 mod sharing;
 #[cfg(test)]
 mod tree;
@@ -26,6 +30,8 @@ mod tree_classes;
 mod tree_commands;
 #[cfg(test)]
 mod tree_filters;
+#[cfg(test)]
+mod tree_handles;
 #[cfg(test)]
 mod tree_refusals;
 #[cfg(test)]

@@ -34,6 +34,6 @@ pub use ip_address::IpAddress;
 pub use line_fault::LineFault;
 pub use prefixes::prefix;
 pub use protocols::{ip_proto, protocol};
-pub use units::{read_rate, read_size, read_time};
+pub use units::{read_rate, read_size, read_time, size_within, time_within};
 pub use values::{handle, name, number, numeral};
 pub use wrong::Wrong;

@@ -13,6 +13,9 @@ use crate::wrong::Wrong;
 /// The greatest rate, in bits a second.
 const MAX_RATE: u64 = 1_000_000_000_000;
 
+/// The greatest value that is read where no option has a range of its own. A decimal above 64 bits counts as 2^64 - 1.
+const MOST: u64 = u64::MAX - 1;
+
 /// RATE: a decimal with a unit, rounded down to bits a second, 1 to 10^12.
 ///
 /// Another form is `BadNumber`, a value outside the range `OutOfRange`.
@@ -24,10 +27,20 @@ pub fn read_rate(word: &[u8]) -> Result<u64, Wrong>
     in_units(number, rate_factor(suffix), 1, MAX_RATE)
 }
 
-/// SIZE: a decimal with a unit, rounded down to bytes, from `low` to `high`.
+/// SIZE: a decimal with a unit, rounded down to bytes, at most 2^64 - 2.
+///
+/// Another form is `BadNumber`, a greater value `OutOfRange`.
+pub fn read_size(word: &[u8]) -> Result<u64, Wrong>
+    ensures value { result ≡ size_in 0 (2 ^ 64 - 2) word.now }
+    ensures in_range { IfOk result (IsWithin 0 (2 ^ 64 - 2)) }
+{
+    size_within(word, 0, MOST)
+}
+
+/// SIZE as [`read_size`] reads it, from `low` to `high`.
 ///
 /// Another form is `BadNumber`, a value outside the range `OutOfRange`.
-pub fn read_size(word: &[u8], low: u64, high: u64) -> Result<u64, Wrong>
+pub fn size_within(word: &[u8], low: u64, high: u64) -> Result<u64, Wrong>
     requires { high < 2 ^ 64 - 1 }
     ensures value { result ≡ size_in low high word.now }
     ensures in_range { IfOk result (IsWithin low high) }
@@ -36,10 +49,20 @@ pub fn read_size(word: &[u8], low: u64, high: u64) -> Result<u64, Wrong>
     in_units(number, size_factor(suffix), low, high)
 }
 
-/// TIME: a decimal with a unit, rounded down to nanoseconds, from `low` to `high`.
+/// TIME: a decimal with a unit, rounded down to nanoseconds, at most 2^64 - 2.
+///
+/// Another form is `BadNumber`, a greater value `OutOfRange`.
+pub fn read_time(word: &[u8]) -> Result<u64, Wrong>
+    ensures value { result ≡ time_in 0 (2 ^ 64 - 2) word.now }
+    ensures in_range { IfOk result (IsWithin 0 (2 ^ 64 - 2)) }
+{
+    time_within(word, 0, MOST)
+}
+
+/// TIME as [`read_time`] reads it, from `low` to `high`.
 ///
 /// Another form is `BadNumber`, a value outside the range `OutOfRange`.
-pub fn read_time(word: &[u8], low: u64, high: u64) -> Result<u64, Wrong>
+pub fn time_within(word: &[u8], low: u64, high: u64) -> Result<u64, Wrong>
     requires { high < 2 ^ 64 - 1 }
     ensures value { result ≡ time_in low high word.now }
     ensures in_range { IfOk result (IsWithin low high) }

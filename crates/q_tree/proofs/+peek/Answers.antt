@@ -22,7 +22,7 @@ use Rattle.q_tree.proofs.AskOnce.{fits-beside, told-nothing, told-then}
 use Rattle.q_tree.proofs.AtHandLemmas.{none-held, some-held, shown-len}
 use Rattle.q_tree.proofs.HereLemmas.{flow-packets}
 use Rattle.q_tree.proofs.Peeks.{asked-in, told-in, each-of, room-of, own-room, items-are, serve-of, holding-after, can-in, enough, can-book, peeked-done, shown-here, told-here, tbf-gave, tbf-none, hand-asked}
-use Rattle.q_tree.proofs.ServeLemmas.{AreClassesAsked, SinkTold, heads_of, classes-start, class-there, class-in-front, place-within, class-size, class-once, class-shown, short-enough, nothing-schedule, nothing-asked, nothing-told, offered-head, given-packet, given-schedule, given-asked, given-told, classes-go-on, idle-schedule, idle-asked, idle-told}
+use Rattle.q_tree.proofs.ServeLemmas.{AreClassesAsked, SinkTold, heads_of, classes-start, front-at, nobody-at, class-in-front, place-within, class-size, class-once, class-shown, short-enough, nothing-schedule, nothing-asked, nothing-told, offered-head, given-packet, given-schedule, given-asked, given-told, classes-go-on, idle-schedule, idle-asked, idle-told}
 use Rattle.q_tree.proofs.RouteLemmas.{child-size, children-size}
 use Rattle.q_tree.proofs.TakeCounts.{flow-told}
 use Rattle.q_tree.proofs.+peek.Goals as goal
@@ -43,217 +43,225 @@ pub drr::ask_class-then-requires-clause-marked_bytes :
     goal.drr::ask_class-then-requires-clause-marked_bytes
 drr::ask_class-then-requires-clause-marked_bytes g t c = (fits-beside c.args.now c.args.class.now c.args.so_far c.peek.result (g.S.Sink.room c.args.sink.now) (c.requires.ready c.if-is_unasked.true) c.peek.ensures.shown).marked_bytes
 
-pub drr::serve-loop-class-init : goal.drr::serve-loop-class-init
-drr::serve-loop-class-init g t c = (
+pub drr::serve-loop-place-init : goal.drr::serve-loop-place-init
+drr::serve-loop-place-init g t c = (
   classes-start c.args.now c.args.active.now c.args.classes.now c.active_count-unasked.result c.at_hand-shown.result (g.S.Sink.losses c.args.sink.now) (g.S.Sink.room c.args.sink.now) c.requires.ready c.active_count-unasked.ensures
       (record { dropped = ap (λ (s : Shown). s.dropped) c.at_hand-shown.ensures; marked = ap (λ (s : Shown). s.marked) c.at_hand-shown.ensures }),
   g.met.S.Sink.keeps_same c.args.sink.now,
   c.requires.none,
 )
 
-pub drr::serve-unreachable-requires : goal.drr::serve-unreachable-requires
-drr::serve-unreachable-requires g t c =
-    let told : SinkTold = record { losses = g.S.Sink.losses c.args.sink.now; losses_now = g.S.Sink.losses c.loop-class.sink; room = g.S.Sink.room c.args.sink.now; room_now = g.S.Sink.room c.loop-class.sink } in
-    let front = front_is c.in-Some.class c.loop-class.active (sym c.in-Some.is ∙ c.front.ensures.front) in
-    class-there c.args.now c.args.active.now c.loop-class.active c.args.classes.now c.loop-class.classes c.loop-class.unasked c.loop-class.shown told c.requires.ready c.loop-class.invariant.0 c.in-Some.class c.front.ensures.lawful front (sym c.in_default-place_of.is ∙ c.place_of.ensures.value)
-
 pub drr::serve-offset_bounds-classes-place : goal.drr::serve-offset_bounds-classes-place
 drr::serve-offset_bounds-classes-place g t c =
-    let told : SinkTold = record { losses = g.S.Sink.losses c.args.sink.now; losses_now = g.S.Sink.losses c.loop-class.sink; room = g.S.Sink.room c.args.sink.now; room_now = g.S.Sink.room c.loop-class.sink } in
-    let front = front_is c.in-Some.class c.loop-class.active (sym c.in-Some.is ∙ c.front.ensures.front) in
-    let place = class-in-front c.args.now c.args.active.now c.loop-class.active c.args.classes.now c.loop-class.classes c.loop-class.unasked c.loop-class.shown told c.requires.ready c.loop-class.invariant.0 c.in-Some.class c.front.ensures.lawful front c.in-Some-place_of.place (sym c.in-Some-place_of.is ∙ c.place_of.ensures.value) in
-    omega (arith, place-within c.args.now c.args.active.now c.loop-class.active c.args.classes.now c.loop-class.classes c.loop-class.unasked c.loop-class.shown told c.requires.ready c.loop-class.invariant.0 c.in-Some.class c.front.ensures.lawful front c.in-Some-place_of.place place, c.loop-class.auto.classes)
+    let told : SinkTold = record { losses = g.S.Sink.losses c.args.sink.now; losses_now = g.S.Sink.losses c.loop-place.sink; room = g.S.Sink.room c.args.sink.now; room_now = g.S.Sink.room c.loop-place.sink } in
+    let at = front-at c.loop-place.active c.in-Some.place (sym c.in-Some.is ∙ c.front_place.ensures.place) in
+    let front = front_is at.class c.loop-place.active at.front in
+    let place = class-in-front c.args.now c.args.active.now c.loop-place.active c.args.classes.now c.loop-place.classes c.loop-place.unasked c.loop-place.shown told c.requires.ready c.loop-place.invariant.0 at.class c.front_place.ensures.lawful front c.in-Some.place at.found in
+    omega (arith, place-within c.args.now c.args.active.now c.loop-place.active c.args.classes.now c.loop-place.classes c.loop-place.unasked c.loop-place.shown told c.requires.ready c.loop-place.invariant.0 at.class c.front_place.ensures.lawful front c.in-Some.place place, c.loop-place.auto.classes)
 
 pub drr::serve-bounds-classes-place : goal.drr::serve-bounds-classes-place
 drr::serve-bounds-classes-place g t c =
-    let told : SinkTold = record { losses = g.S.Sink.losses c.args.sink.now; losses_now = g.S.Sink.losses c.loop-class.sink; room = g.S.Sink.room c.args.sink.now; room_now = g.S.Sink.room c.loop-class.sink } in
-    let front = front_is c.in-Some.class c.loop-class.active (sym c.in-Some.is ∙ c.front.ensures.front) in
-    let place = class-in-front c.args.now c.args.active.now c.loop-class.active c.args.classes.now c.loop-class.classes c.loop-class.unasked c.loop-class.shown told c.requires.ready c.loop-class.invariant.0 c.in-Some.class c.front.ensures.lawful front c.in-Some-place_of.place (sym c.in-Some-place_of.is ∙ c.place_of.ensures.value) in
-    place-within c.args.now c.args.active.now c.loop-class.active c.args.classes.now c.loop-class.classes c.loop-class.unasked c.loop-class.shown told c.requires.ready c.loop-class.invariant.0 c.in-Some.class c.front.ensures.lawful front c.in-Some-place_of.place place
+    let told : SinkTold = record { losses = g.S.Sink.losses c.args.sink.now; losses_now = g.S.Sink.losses c.loop-place.sink; room = g.S.Sink.room c.args.sink.now; room_now = g.S.Sink.room c.loop-place.sink } in
+    let at = front-at c.loop-place.active c.in-Some.place (sym c.in-Some.is ∙ c.front_place.ensures.place) in
+    let front = front_is at.class c.loop-place.active at.front in
+    let place = class-in-front c.args.now c.args.active.now c.loop-place.active c.args.classes.now c.loop-place.classes c.loop-place.unasked c.loop-place.shown told c.requires.ready c.loop-place.invariant.0 at.class c.front_place.ensures.lawful front c.in-Some.place at.found in
+    place-within c.args.now c.args.active.now c.loop-place.active c.args.classes.now c.loop-place.classes c.loop-place.unasked c.loop-place.shown told c.requires.ready c.loop-place.invariant.0 at.class c.front_place.ensures.lawful front c.in-Some.place place
 
 pub drr::serve-ask_class-shown-requires : goal.drr::serve-ask_class-shown-requires
 drr::serve-ask_class-shown-requires g t c κs within =
-    let told : SinkTold = record { losses = g.S.Sink.losses c.args.sink.now; losses_now = g.S.Sink.losses c.loop-class.sink; room = g.S.Sink.room c.args.sink.now; room_now = g.S.Sink.room c.loop-class.sink } in
-    let front = front_is c.in-Some.class c.loop-class.active (sym c.in-Some.is ∙ c.front.ensures.front) in
-    let place = class-in-front c.args.now c.args.active.now c.loop-class.active c.args.classes.now c.loop-class.classes c.loop-class.unasked c.loop-class.shown told c.requires.ready c.loop-class.invariant.0 c.in-Some.class c.front.ensures.lawful front c.in-Some-place_of.place (sym c.in-Some-place_of.is ∙ c.place_of.ensures.value) in
-    let inside = place-within c.args.now c.args.active.now c.loop-class.active c.args.classes.now c.loop-class.classes c.loop-class.unasked c.loop-class.shown told c.requires.ready c.loop-class.invariant.0 c.in-Some.class c.front.ensures.lawful front c.in-Some-place_of.place place in (
-      omega (arith, class-size c.args.now c.args.active.now c.loop-class.active c.args.classes.now c.loop-class.classes c.loop-class.unasked c.loop-class.shown told c.requires.ready c.loop-class.invariant.0 c.in-Some.class c.front.ensures.lawful front c.in-Some-place_of.place c.index-classes-place.result inside, c.decreases),
-      (within, λ some. class-once c.args.now c.args.active.now c.loop-class.active c.args.classes.now c.loop-class.classes c.loop-class.unasked c.loop-class.shown told c.requires.ready c.loop-class.invariant.0 c.in-Some.class c.front.ensures.lawful front c.in-Some-place_of.place place c.index-classes-place.result some c.requires.sink),
+    let told : SinkTold = record { losses = g.S.Sink.losses c.args.sink.now; losses_now = g.S.Sink.losses c.loop-place.sink; room = g.S.Sink.room c.args.sink.now; room_now = g.S.Sink.room c.loop-place.sink } in
+    let at = front-at c.loop-place.active c.in-Some.place (sym c.in-Some.is ∙ c.front_place.ensures.place) in
+    let front = front_is at.class c.loop-place.active at.front in
+    let place = class-in-front c.args.now c.args.active.now c.loop-place.active c.args.classes.now c.loop-place.classes c.loop-place.unasked c.loop-place.shown told c.requires.ready c.loop-place.invariant.0 at.class c.front_place.ensures.lawful front c.in-Some.place at.found in
+    let inside = place-within c.args.now c.args.active.now c.loop-place.active c.args.classes.now c.loop-place.classes c.loop-place.unasked c.loop-place.shown told c.requires.ready c.loop-place.invariant.0 at.class c.front_place.ensures.lawful front c.in-Some.place place in (
+      omega (arith, class-size c.args.now c.args.active.now c.loop-place.active c.args.classes.now c.loop-place.classes c.loop-place.unasked c.loop-place.shown told c.requires.ready c.loop-place.invariant.0 at.class c.front_place.ensures.lawful front c.in-Some.place c.index-classes-place.result inside, c.decreases),
+      (within, λ some. class-once c.args.now c.args.active.now c.loop-place.active c.args.classes.now c.loop-place.classes c.loop-place.unasked c.loop-place.shown told c.requires.ready c.loop-place.invariant.0 at.class c.front_place.ensures.lawful front c.in-Some.place place c.index-classes-place.result some c.requires.sink),
     )
 
 pub drr::serve-returns-in_default-packet_len-clause-active : goal.drr::serve-returns-in_default-packet_len-clause-active
 drr::serve-returns-in_default-packet_len-clause-active g t c =
-    let told : SinkTold = record { losses = g.S.Sink.losses c.args.sink.now; losses_now = g.S.Sink.losses c.loop-class.sink; room = g.S.Sink.room c.args.sink.now; room_now = g.S.Sink.room c.loop-class.sink } in
-    let front = front_is c.in-Some.class c.loop-class.active (sym c.in-Some.is ∙ c.front.ensures.front) in
-    let place = class-in-front c.args.now c.args.active.now c.loop-class.active c.args.classes.now c.loop-class.classes c.loop-class.unasked c.loop-class.shown told c.requires.ready c.loop-class.invariant.0 c.in-Some.class c.front.ensures.lawful front c.in-Some-place_of.place (sym c.in-Some-place_of.is ∙ c.place_of.ensures.value) in
-    let class_shows = class-shown c.args.now c.args.active.now c.loop-class.active c.args.classes.now c.loop-class.classes c.loop-class.unasked c.loop-class.shown told c.requires.ready c.loop-class.invariant.0 c.in-Some.class c.front.ensures.lawful front c.in-Some-place_of.place place c.index-classes-place.result c.ask_class-shown.new.class c.ask_class-shown.result (g.S.Sink.losses c.ask_class-shown.new.sink) (g.S.Sink.room c.ask_class-shown.new.sink)
+    let told : SinkTold = record { losses = g.S.Sink.losses c.args.sink.now; losses_now = g.S.Sink.losses c.loop-place.sink; room = g.S.Sink.room c.args.sink.now; room_now = g.S.Sink.room c.loop-place.sink } in
+    let at = front-at c.loop-place.active c.in-Some.place (sym c.in-Some.is ∙ c.front_place.ensures.place) in
+    let front = front_is at.class c.loop-place.active at.front in
+    let place = class-in-front c.args.now c.args.active.now c.loop-place.active c.args.classes.now c.loop-place.classes c.loop-place.unasked c.loop-place.shown told c.requires.ready c.loop-place.invariant.0 at.class c.front_place.ensures.lawful front c.in-Some.place at.found in
+    let class_shows = class-shown c.args.now c.args.active.now c.loop-place.active c.args.classes.now c.loop-place.classes c.loop-place.unasked c.loop-place.shown told c.requires.ready c.loop-place.invariant.0 at.class c.front_place.ensures.lawful front c.in-Some.place place c.index-classes-place.result c.ask_class-shown.new.class c.ask_class-shown.result (g.S.Sink.losses c.ask_class-shown.new.sink) (g.S.Sink.room c.ask_class-shown.new.sink)
     c.ask_class-shown.ensures.asked c.ask_class-shown.ensures.told c.ask_class-shown.ensures.at_hand c.ask_class-shown.ensures.not_lost in
-    λ own. nothing-schedule c.args.now c.args.active.now c.loop-class.active c.args.classes.now c.loop-class.classes c.loop-class.unasked c.loop-class.shown told c.requires.ready c.loop-class.invariant.0 c.in-Some.class c.front.ensures.lawful front c.in-Some-place_of.place place
+    λ own. nothing-schedule c.args.now c.args.active.now c.loop-place.active c.args.classes.now c.loop-place.classes c.loop-place.unasked c.loop-place.shown told c.requires.ready c.loop-place.invariant.0 at.class c.front_place.ensures.lawful front c.in-Some.place place
     c.ask_class-shown.new.class c.ask_class-shown.result (g.S.Sink.losses c.ask_class-shown.new.sink) (g.S.Sink.room c.ask_class-shown.new.sink) class_shows (c.packet_len.ensures.none c.in_default-packet_len.is) own
 
 pub drr::serve-returns-in_default-packet_len-clause-after : goal.drr::serve-returns-in_default-packet_len-clause-after
 drr::serve-returns-in_default-packet_len-clause-after g t c =
-    let told : SinkTold = record { losses = g.S.Sink.losses c.args.sink.now; losses_now = g.S.Sink.losses c.loop-class.sink; room = g.S.Sink.room c.args.sink.now; room_now = g.S.Sink.room c.loop-class.sink } in
-    let front = front_is c.in-Some.class c.loop-class.active (sym c.in-Some.is ∙ c.front.ensures.front) in
-    let place = class-in-front c.args.now c.args.active.now c.loop-class.active c.args.classes.now c.loop-class.classes c.loop-class.unasked c.loop-class.shown told c.requires.ready c.loop-class.invariant.0 c.in-Some.class c.front.ensures.lawful front c.in-Some-place_of.place (sym c.in-Some-place_of.is ∙ c.place_of.ensures.value) in
-    let class_shows = class-shown c.args.now c.args.active.now c.loop-class.active c.args.classes.now c.loop-class.classes c.loop-class.unasked c.loop-class.shown told c.requires.ready c.loop-class.invariant.0 c.in-Some.class c.front.ensures.lawful front c.in-Some-place_of.place place c.index-classes-place.result c.ask_class-shown.new.class c.ask_class-shown.result (g.S.Sink.losses c.ask_class-shown.new.sink) (g.S.Sink.room c.ask_class-shown.new.sink)
+    let told : SinkTold = record { losses = g.S.Sink.losses c.args.sink.now; losses_now = g.S.Sink.losses c.loop-place.sink; room = g.S.Sink.room c.args.sink.now; room_now = g.S.Sink.room c.loop-place.sink } in
+    let at = front-at c.loop-place.active c.in-Some.place (sym c.in-Some.is ∙ c.front_place.ensures.place) in
+    let front = front_is at.class c.loop-place.active at.front in
+    let place = class-in-front c.args.now c.args.active.now c.loop-place.active c.args.classes.now c.loop-place.classes c.loop-place.unasked c.loop-place.shown told c.requires.ready c.loop-place.invariant.0 at.class c.front_place.ensures.lawful front c.in-Some.place at.found in
+    let class_shows = class-shown c.args.now c.args.active.now c.loop-place.active c.args.classes.now c.loop-place.classes c.loop-place.unasked c.loop-place.shown told c.requires.ready c.loop-place.invariant.0 at.class c.front_place.ensures.lawful front c.in-Some.place place c.index-classes-place.result c.ask_class-shown.new.class c.ask_class-shown.result (g.S.Sink.losses c.ask_class-shown.new.sink) (g.S.Sink.room c.ask_class-shown.new.sink)
     c.ask_class-shown.ensures.asked c.ask_class-shown.ensures.told c.ask_class-shown.ensures.at_hand c.ask_class-shown.ensures.not_lost in
-    λ own. nothing-asked c.args.now c.args.active.now c.loop-class.active c.args.classes.now c.loop-class.classes c.loop-class.unasked c.loop-class.shown told c.requires.ready c.loop-class.invariant.0 c.in-Some.class c.front.ensures.lawful front c.in-Some-place_of.place place
+    λ own. nothing-asked c.args.now c.args.active.now c.loop-place.active c.args.classes.now c.loop-place.classes c.loop-place.unasked c.loop-place.shown told c.requires.ready c.loop-place.invariant.0 at.class c.front_place.ensures.lawful front c.in-Some.place place
     c.ask_class-shown.new.class c.ask_class-shown.result (g.S.Sink.losses c.ask_class-shown.new.sink) (g.S.Sink.room c.ask_class-shown.new.sink) class_shows (c.packet_len.ensures.none c.in_default-packet_len.is) own
 
 pub drr::serve-returns-in_default-packet_len-clause-told : goal.drr::serve-returns-in_default-packet_len-clause-told
 drr::serve-returns-in_default-packet_len-clause-told g t c =
-    let told : SinkTold = record { losses = g.S.Sink.losses c.args.sink.now; losses_now = g.S.Sink.losses c.loop-class.sink; room = g.S.Sink.room c.args.sink.now; room_now = g.S.Sink.room c.loop-class.sink } in
-    let front = front_is c.in-Some.class c.loop-class.active (sym c.in-Some.is ∙ c.front.ensures.front) in
-    let place = class-in-front c.args.now c.args.active.now c.loop-class.active c.args.classes.now c.loop-class.classes c.loop-class.unasked c.loop-class.shown told c.requires.ready c.loop-class.invariant.0 c.in-Some.class c.front.ensures.lawful front c.in-Some-place_of.place (sym c.in-Some-place_of.is ∙ c.place_of.ensures.value) in
-    let class_shows = class-shown c.args.now c.args.active.now c.loop-class.active c.args.classes.now c.loop-class.classes c.loop-class.unasked c.loop-class.shown told c.requires.ready c.loop-class.invariant.0 c.in-Some.class c.front.ensures.lawful front c.in-Some-place_of.place place c.index-classes-place.result c.ask_class-shown.new.class c.ask_class-shown.result (g.S.Sink.losses c.ask_class-shown.new.sink) (g.S.Sink.room c.ask_class-shown.new.sink)
+    let told : SinkTold = record { losses = g.S.Sink.losses c.args.sink.now; losses_now = g.S.Sink.losses c.loop-place.sink; room = g.S.Sink.room c.args.sink.now; room_now = g.S.Sink.room c.loop-place.sink } in
+    let at = front-at c.loop-place.active c.in-Some.place (sym c.in-Some.is ∙ c.front_place.ensures.place) in
+    let front = front_is at.class c.loop-place.active at.front in
+    let place = class-in-front c.args.now c.args.active.now c.loop-place.active c.args.classes.now c.loop-place.classes c.loop-place.unasked c.loop-place.shown told c.requires.ready c.loop-place.invariant.0 at.class c.front_place.ensures.lawful front c.in-Some.place at.found in
+    let class_shows = class-shown c.args.now c.args.active.now c.loop-place.active c.args.classes.now c.loop-place.classes c.loop-place.unasked c.loop-place.shown told c.requires.ready c.loop-place.invariant.0 at.class c.front_place.ensures.lawful front c.in-Some.place place c.index-classes-place.result c.ask_class-shown.new.class c.ask_class-shown.result (g.S.Sink.losses c.ask_class-shown.new.sink) (g.S.Sink.room c.ask_class-shown.new.sink)
     c.ask_class-shown.ensures.asked c.ask_class-shown.ensures.told c.ask_class-shown.ensures.at_hand c.ask_class-shown.ensures.not_lost in
-    λ own. nothing-told c.args.now c.args.active.now c.loop-class.active c.args.classes.now c.loop-class.classes c.loop-class.unasked c.loop-class.shown told c.requires.ready c.loop-class.invariant.0 c.in-Some.class c.front.ensures.lawful front c.in-Some-place_of.place place
+    λ own. nothing-told c.args.now c.args.active.now c.loop-place.active c.args.classes.now c.loop-place.classes c.loop-place.unasked c.loop-place.shown told c.requires.ready c.loop-place.invariant.0 at.class c.front_place.ensures.lawful front c.in-Some.place place
     c.ask_class-shown.new.class c.ask_class-shown.result (g.S.Sink.losses c.ask_class-shown.new.sink) (g.S.Sink.room c.ask_class-shown.new.sink) class_shows (c.packet_len.ensures.none c.in_default-packet_len.is) own
 
 pub drr::serve-returns-in_default-packet_len-clause-kept : goal.drr::serve-returns-in_default-packet_len-clause-kept
 drr::serve-returns-in_default-packet_len-clause-kept g t c =
-    g.met.S.Sink.keeps_on c.args.sink.now c.loop-class.sink c.ask_class-shown.new.sink c.loop-class.invariant.1 c.ask_class-shown.ensures.kept
+    g.met.S.Sink.keeps_on c.args.sink.now c.loop-place.sink c.ask_class-shown.new.sink c.loop-place.invariant.1 c.ask_class-shown.ensures.kept
 
 pub drr::serve-turn-requires-clause-in_range : goal.drr::serve-turn-requires-clause-in_range
 drr::serve-turn-requires-clause-in_range g t c =
-    let told : SinkTold = record { losses = g.S.Sink.losses c.args.sink.now; losses_now = g.S.Sink.losses c.loop-class.sink; room = g.S.Sink.room c.args.sink.now; room_now = g.S.Sink.room c.loop-class.sink } in
-    let front = front_is c.in-Some.class c.loop-class.active (sym c.in-Some.is ∙ c.front.ensures.front) in
-    let place = class-in-front c.args.now c.args.active.now c.loop-class.active c.args.classes.now c.loop-class.classes c.loop-class.unasked c.loop-class.shown told c.requires.ready c.loop-class.invariant.0 c.in-Some.class c.front.ensures.lawful front c.in-Some-place_of.place (sym c.in-Some-place_of.is ∙ c.place_of.ensures.value) in
-    let class_shows = class-shown c.args.now c.args.active.now c.loop-class.active c.args.classes.now c.loop-class.classes c.loop-class.unasked c.loop-class.shown told c.requires.ready c.loop-class.invariant.0 c.in-Some.class c.front.ensures.lawful front c.in-Some-place_of.place place c.index-classes-place.result c.ask_class-shown.new.class c.ask_class-shown.result (g.S.Sink.losses c.ask_class-shown.new.sink) (g.S.Sink.room c.ask_class-shown.new.sink)
+    let told : SinkTold = record { losses = g.S.Sink.losses c.args.sink.now; losses_now = g.S.Sink.losses c.loop-place.sink; room = g.S.Sink.room c.args.sink.now; room_now = g.S.Sink.room c.loop-place.sink } in
+    let at = front-at c.loop-place.active c.in-Some.place (sym c.in-Some.is ∙ c.front_place.ensures.place) in
+    let front = front_is at.class c.loop-place.active at.front in
+    let place = class-in-front c.args.now c.args.active.now c.loop-place.active c.args.classes.now c.loop-place.classes c.loop-place.unasked c.loop-place.shown told c.requires.ready c.loop-place.invariant.0 at.class c.front_place.ensures.lawful front c.in-Some.place at.found in
+    let class_shows = class-shown c.args.now c.args.active.now c.loop-place.active c.args.classes.now c.loop-place.classes c.loop-place.unasked c.loop-place.shown told c.requires.ready c.loop-place.invariant.0 at.class c.front_place.ensures.lawful front c.in-Some.place place c.index-classes-place.result c.ask_class-shown.new.class c.ask_class-shown.result (g.S.Sink.losses c.ask_class-shown.new.sink) (g.S.Sink.room c.ask_class-shown.new.sink)
     c.ask_class-shown.ensures.asked c.ask_class-shown.ensures.told c.ask_class-shown.ensures.at_hand c.ask_class-shown.ensures.not_lost in
     let offer = shown-len c.ask_class-shown.result.packet c.packet_len.result c.in-Some-packet_len.len c.packet_len.ensures.some c.in-Some-packet_len.is in
     let len = sym offer.2 in
-    omega (arith, short-enough c.args.now c.args.active.now c.loop-class.active c.args.classes.now c.loop-class.classes c.loop-class.unasked c.loop-class.shown told c.requires.ready c.loop-class.invariant.0 c.in-Some.class c.front.ensures.lawful front c.in-Some-place_of.place place offer.0 (sym class_shows.shown ∙ offer.1), len)
+    omega (arith, short-enough c.args.now c.args.active.now c.loop-place.active c.args.classes.now c.loop-place.classes c.loop-place.unasked c.loop-place.shown told c.requires.ready c.loop-place.invariant.0 at.class c.front_place.ensures.lawful front c.in-Some.place place offer.0 (sym class_shows.shown ∙ offer.1), len)
 
 pub drr::serve-give-requires : goal.drr::serve-give-requires
 drr::serve-give-requires g t c =
-    let told : SinkTold = record { losses = g.S.Sink.losses c.args.sink.now; losses_now = g.S.Sink.losses c.loop-class.sink; room = g.S.Sink.room c.args.sink.now; room_now = g.S.Sink.room c.loop-class.sink } in
-    let front = front_is c.in-Some.class c.loop-class.active (sym c.in-Some.is ∙ c.front.ensures.front) in
-    let place = class-in-front c.args.now c.args.active.now c.loop-class.active c.args.classes.now c.loop-class.classes c.loop-class.unasked c.loop-class.shown told c.requires.ready c.loop-class.invariant.0 c.in-Some.class c.front.ensures.lawful front c.in-Some-place_of.place (sym c.in-Some-place_of.is ∙ c.place_of.ensures.value) in
-    omega (arith, place-within c.args.now c.args.active.now c.loop-class.active c.args.classes.now c.loop-class.classes c.loop-class.unasked c.loop-class.shown told c.requires.ready c.loop-class.invariant.0 c.in-Some.class c.front.ensures.lawful front c.in-Some-place_of.place place, length-set c.loop-class.classes c.in-Some-place_of.place c.ask_class-shown.new.class)
+    let told : SinkTold = record { losses = g.S.Sink.losses c.args.sink.now; losses_now = g.S.Sink.losses c.loop-place.sink; room = g.S.Sink.room c.args.sink.now; room_now = g.S.Sink.room c.loop-place.sink } in
+    let at = front-at c.loop-place.active c.in-Some.place (sym c.in-Some.is ∙ c.front_place.ensures.place) in
+    let front = front_is at.class c.loop-place.active at.front in
+    let place = class-in-front c.args.now c.args.active.now c.loop-place.active c.args.classes.now c.loop-place.classes c.loop-place.unasked c.loop-place.shown told c.requires.ready c.loop-place.invariant.0 at.class c.front_place.ensures.lawful front c.in-Some.place at.found in
+    omega (arith, place-within c.args.now c.args.active.now c.loop-place.active c.args.classes.now c.loop-place.classes c.loop-place.unasked c.loop-place.shown told c.requires.ready c.loop-place.invariant.0 at.class c.front_place.ensures.lawful front c.in-Some.place place, length-set c.loop-place.classes c.in-Some.place c.ask_class-shown.new.class)
 
 pub drr::serve-returns-in-Send-clause-active : goal.drr::serve-returns-in-Send-clause-active
 drr::serve-returns-in-Send-clause-active g t c =
-    let told : SinkTold = record { losses = g.S.Sink.losses c.args.sink.now; losses_now = g.S.Sink.losses c.loop-class.sink; room = g.S.Sink.room c.args.sink.now; room_now = g.S.Sink.room c.loop-class.sink } in
-    let front = front_is c.in-Some.class c.loop-class.active (sym c.in-Some.is ∙ c.front.ensures.front) in
-    let place = class-in-front c.args.now c.args.active.now c.loop-class.active c.args.classes.now c.loop-class.classes c.loop-class.unasked c.loop-class.shown told c.requires.ready c.loop-class.invariant.0 c.in-Some.class c.front.ensures.lawful front c.in-Some-place_of.place (sym c.in-Some-place_of.is ∙ c.place_of.ensures.value) in
-    let class_shows = class-shown c.args.now c.args.active.now c.loop-class.active c.args.classes.now c.loop-class.classes c.loop-class.unasked c.loop-class.shown told c.requires.ready c.loop-class.invariant.0 c.in-Some.class c.front.ensures.lawful front c.in-Some-place_of.place place c.index-classes-place.result c.ask_class-shown.new.class c.ask_class-shown.result (g.S.Sink.losses c.ask_class-shown.new.sink) (g.S.Sink.room c.ask_class-shown.new.sink)
+    let told : SinkTold = record { losses = g.S.Sink.losses c.args.sink.now; losses_now = g.S.Sink.losses c.loop-place.sink; room = g.S.Sink.room c.args.sink.now; room_now = g.S.Sink.room c.loop-place.sink } in
+    let at = front-at c.loop-place.active c.in-Some.place (sym c.in-Some.is ∙ c.front_place.ensures.place) in
+    let front = front_is at.class c.loop-place.active at.front in
+    let place = class-in-front c.args.now c.args.active.now c.loop-place.active c.args.classes.now c.loop-place.classes c.loop-place.unasked c.loop-place.shown told c.requires.ready c.loop-place.invariant.0 at.class c.front_place.ensures.lawful front c.in-Some.place at.found in
+    let class_shows = class-shown c.args.now c.args.active.now c.loop-place.active c.args.classes.now c.loop-place.classes c.loop-place.unasked c.loop-place.shown told c.requires.ready c.loop-place.invariant.0 at.class c.front_place.ensures.lawful front c.in-Some.place place c.index-classes-place.result c.ask_class-shown.new.class c.ask_class-shown.result (g.S.Sink.losses c.ask_class-shown.new.sink) (g.S.Sink.room c.ask_class-shown.new.sink)
     c.ask_class-shown.ensures.asked c.ask_class-shown.ensures.told c.ask_class-shown.ensures.at_hand c.ask_class-shown.ensures.not_lost in
     let offer = shown-len c.ask_class-shown.result.packet c.packet_len.result c.in-Some-packet_len.len c.packet_len.ensures.some c.in-Some-packet_len.is in
     let len = sym offer.2 in
-    let pays = subst (λ m. m ≤ front.first.deficit) len (covers c.loop-class.active c.in-Some.class c.in-Some-packet_len.len front (sym c.in-Send.is ∙ c.turn.ensures.answer)) in
-    let turn = c.turn.ensures.after ∙ ap (λ m. turned m c.loop-class.active) len in
-    λ own. given-schedule c.args.now c.args.active.now c.loop-class.active c.args.classes.now c.loop-class.classes c.loop-class.unasked c.loop-class.shown told c.requires.ready c.loop-class.invariant.0 c.in-Some.class c.front.ensures.lawful front c.in-Some-place_of.place place
+    let pays = subst (λ m. m ≤ front.first.deficit) len (covers c.loop-place.active at.class c.in-Some-packet_len.len front (sym c.in-Send.is ∙ c.turn.ensures.answer)) in
+    let turn = c.turn.ensures.after ∙ ap (λ m. turned m c.loop-place.active) len in
+    λ own. given-schedule c.args.now c.args.active.now c.loop-place.active c.args.classes.now c.loop-place.classes c.loop-place.unasked c.loop-place.shown told c.requires.ready c.loop-place.invariant.0 at.class c.front_place.ensures.lawful front c.in-Some.place place
     c.ask_class-shown.new.class c.ask_class-shown.result (g.S.Sink.losses c.ask_class-shown.new.sink) (g.S.Sink.room c.ask_class-shown.new.sink) class_shows offer.0 offer.1 pays c.give.new.active c.give.new.classes
-    (λ class at. subst (λ s. IsGivenBy c.in-Some-place_of.place class s c.give.new.active (set c.loop-class.classes c.in-Some-place_of.place c.ask_class-shown.new.class) c.give.new.classes) turn (c.give.ensures.given class at)) own
+    (λ class at. subst (λ s. IsGivenBy c.in-Some.place class s c.give.new.active (set c.loop-place.classes c.in-Some.place c.ask_class-shown.new.class) c.give.new.classes) turn (c.give.ensures.given class at)) own
 
 pub drr::serve-returns-in-Send-clause-after : goal.drr::serve-returns-in-Send-clause-after
 drr::serve-returns-in-Send-clause-after g t c =
-    let told : SinkTold = record { losses = g.S.Sink.losses c.args.sink.now; losses_now = g.S.Sink.losses c.loop-class.sink; room = g.S.Sink.room c.args.sink.now; room_now = g.S.Sink.room c.loop-class.sink } in
-    let front = front_is c.in-Some.class c.loop-class.active (sym c.in-Some.is ∙ c.front.ensures.front) in
-    let place = class-in-front c.args.now c.args.active.now c.loop-class.active c.args.classes.now c.loop-class.classes c.loop-class.unasked c.loop-class.shown told c.requires.ready c.loop-class.invariant.0 c.in-Some.class c.front.ensures.lawful front c.in-Some-place_of.place (sym c.in-Some-place_of.is ∙ c.place_of.ensures.value) in
-    let class_shows = class-shown c.args.now c.args.active.now c.loop-class.active c.args.classes.now c.loop-class.classes c.loop-class.unasked c.loop-class.shown told c.requires.ready c.loop-class.invariant.0 c.in-Some.class c.front.ensures.lawful front c.in-Some-place_of.place place c.index-classes-place.result c.ask_class-shown.new.class c.ask_class-shown.result (g.S.Sink.losses c.ask_class-shown.new.sink) (g.S.Sink.room c.ask_class-shown.new.sink)
+    let told : SinkTold = record { losses = g.S.Sink.losses c.args.sink.now; losses_now = g.S.Sink.losses c.loop-place.sink; room = g.S.Sink.room c.args.sink.now; room_now = g.S.Sink.room c.loop-place.sink } in
+    let at = front-at c.loop-place.active c.in-Some.place (sym c.in-Some.is ∙ c.front_place.ensures.place) in
+    let front = front_is at.class c.loop-place.active at.front in
+    let place = class-in-front c.args.now c.args.active.now c.loop-place.active c.args.classes.now c.loop-place.classes c.loop-place.unasked c.loop-place.shown told c.requires.ready c.loop-place.invariant.0 at.class c.front_place.ensures.lawful front c.in-Some.place at.found in
+    let class_shows = class-shown c.args.now c.args.active.now c.loop-place.active c.args.classes.now c.loop-place.classes c.loop-place.unasked c.loop-place.shown told c.requires.ready c.loop-place.invariant.0 at.class c.front_place.ensures.lawful front c.in-Some.place place c.index-classes-place.result c.ask_class-shown.new.class c.ask_class-shown.result (g.S.Sink.losses c.ask_class-shown.new.sink) (g.S.Sink.room c.ask_class-shown.new.sink)
     c.ask_class-shown.ensures.asked c.ask_class-shown.ensures.told c.ask_class-shown.ensures.at_hand c.ask_class-shown.ensures.not_lost in
     let offer = shown-len c.ask_class-shown.result.packet c.packet_len.result c.in-Some-packet_len.len c.packet_len.ensures.some c.in-Some-packet_len.is in
     let len = sym offer.2 in
-    let pays = subst (λ m. m ≤ front.first.deficit) len (covers c.loop-class.active c.in-Some.class c.in-Some-packet_len.len front (sym c.in-Send.is ∙ c.turn.ensures.answer)) in
-    let turn = c.turn.ensures.after ∙ ap (λ m. turned m c.loop-class.active) len in
-    λ own. given-asked c.args.now c.args.active.now c.loop-class.active c.args.classes.now c.loop-class.classes c.loop-class.unasked c.loop-class.shown told c.requires.ready c.loop-class.invariant.0 c.in-Some.class c.front.ensures.lawful front c.in-Some-place_of.place place
+    let pays = subst (λ m. m ≤ front.first.deficit) len (covers c.loop-place.active at.class c.in-Some-packet_len.len front (sym c.in-Send.is ∙ c.turn.ensures.answer)) in
+    let turn = c.turn.ensures.after ∙ ap (λ m. turned m c.loop-place.active) len in
+    λ own. given-asked c.args.now c.args.active.now c.loop-place.active c.args.classes.now c.loop-place.classes c.loop-place.unasked c.loop-place.shown told c.requires.ready c.loop-place.invariant.0 at.class c.front_place.ensures.lawful front c.in-Some.place place
     c.ask_class-shown.new.class c.ask_class-shown.result (g.S.Sink.losses c.ask_class-shown.new.sink) (g.S.Sink.room c.ask_class-shown.new.sink) class_shows offer.0 offer.1 pays c.give.new.active c.give.new.classes
-    (λ class at. subst (λ s. IsGivenBy c.in-Some-place_of.place class s c.give.new.active (set c.loop-class.classes c.in-Some-place_of.place c.ask_class-shown.new.class) c.give.new.classes) turn (c.give.ensures.given class at)) own
+    (λ class at. subst (λ s. IsGivenBy c.in-Some.place class s c.give.new.active (set c.loop-place.classes c.in-Some.place c.ask_class-shown.new.class) c.give.new.classes) turn (c.give.ensures.given class at)) own
 
 pub drr::serve-returns-in-Send-clause-held : goal.drr::serve-returns-in-Send-clause-held
 drr::serve-returns-in-Send-clause-held g t c =
-    let told : SinkTold = record { losses = g.S.Sink.losses c.args.sink.now; losses_now = g.S.Sink.losses c.loop-class.sink; room = g.S.Sink.room c.args.sink.now; room_now = g.S.Sink.room c.loop-class.sink } in
-    let front = front_is c.in-Some.class c.loop-class.active (sym c.in-Some.is ∙ c.front.ensures.front) in
-    let place = class-in-front c.args.now c.args.active.now c.loop-class.active c.args.classes.now c.loop-class.classes c.loop-class.unasked c.loop-class.shown told c.requires.ready c.loop-class.invariant.0 c.in-Some.class c.front.ensures.lawful front c.in-Some-place_of.place (sym c.in-Some-place_of.is ∙ c.place_of.ensures.value) in
-    let class_shows = class-shown c.args.now c.args.active.now c.loop-class.active c.args.classes.now c.loop-class.classes c.loop-class.unasked c.loop-class.shown told c.requires.ready c.loop-class.invariant.0 c.in-Some.class c.front.ensures.lawful front c.in-Some-place_of.place place c.index-classes-place.result c.ask_class-shown.new.class c.ask_class-shown.result (g.S.Sink.losses c.ask_class-shown.new.sink) (g.S.Sink.room c.ask_class-shown.new.sink)
+    let told : SinkTold = record { losses = g.S.Sink.losses c.args.sink.now; losses_now = g.S.Sink.losses c.loop-place.sink; room = g.S.Sink.room c.args.sink.now; room_now = g.S.Sink.room c.loop-place.sink } in
+    let at = front-at c.loop-place.active c.in-Some.place (sym c.in-Some.is ∙ c.front_place.ensures.place) in
+    let front = front_is at.class c.loop-place.active at.front in
+    let place = class-in-front c.args.now c.args.active.now c.loop-place.active c.args.classes.now c.loop-place.classes c.loop-place.unasked c.loop-place.shown told c.requires.ready c.loop-place.invariant.0 at.class c.front_place.ensures.lawful front c.in-Some.place at.found in
+    let class_shows = class-shown c.args.now c.args.active.now c.loop-place.active c.args.classes.now c.loop-place.classes c.loop-place.unasked c.loop-place.shown told c.requires.ready c.loop-place.invariant.0 at.class c.front_place.ensures.lawful front c.in-Some.place place c.index-classes-place.result c.ask_class-shown.new.class c.ask_class-shown.result (g.S.Sink.losses c.ask_class-shown.new.sink) (g.S.Sink.room c.ask_class-shown.new.sink)
     c.ask_class-shown.ensures.asked c.ask_class-shown.ensures.told c.ask_class-shown.ensures.at_hand c.ask_class-shown.ensures.not_lost in
     c.give.ensures.packet c.ask_class-shown.new.class class_shows.stored
-    ∙ given-packet c.args.now c.args.active.now c.loop-class.active c.args.classes.now c.loop-class.classes c.loop-class.unasked c.loop-class.shown told c.requires.ready c.loop-class.invariant.0 c.in-Some.class c.front.ensures.lawful front c.in-Some-place_of.place place
+    ∙ given-packet c.args.now c.args.active.now c.loop-place.active c.args.classes.now c.loop-place.classes c.loop-place.unasked c.loop-place.shown told c.requires.ready c.loop-place.invariant.0 at.class c.front_place.ensures.lawful front c.in-Some.place place
     c.ask_class-shown.new.class c.ask_class-shown.result (g.S.Sink.losses c.ask_class-shown.new.sink) (g.S.Sink.room c.ask_class-shown.new.sink) class_shows
 
 pub drr::serve-returns-in_default-packet_len-clause-held : goal.drr::serve-returns-in_default-packet_len-clause-held
-drr::serve-returns-in_default-packet_len-clause-held g t c = c.loop-class.invariant.2 ∙ sym (c.packet_len.ensures.none c.in_default-packet_len.is)
+drr::serve-returns-in_default-packet_len-clause-held g t c = c.loop-place.invariant.2 ∙ sym (c.packet_len.ensures.none c.in_default-packet_len.is)
 
 pub drr::serve-returns-clause-held : goal.drr::serve-returns-clause-held
-drr::serve-returns-clause-held g t c = c.loop-class.invariant.2 ∙ sym (ap (λ (s : Shown). s.packet) c.at_hand.ensures)
+drr::serve-returns-clause-held g t c = c.loop-place.invariant.2 ∙ sym (ap (λ (s : Shown). s.packet) c.at_hand.ensures)
 
 pub drr::serve-returns-in-Send-clause-told : goal.drr::serve-returns-in-Send-clause-told
 drr::serve-returns-in-Send-clause-told g t c =
-    let told : SinkTold = record { losses = g.S.Sink.losses c.args.sink.now; losses_now = g.S.Sink.losses c.loop-class.sink; room = g.S.Sink.room c.args.sink.now; room_now = g.S.Sink.room c.loop-class.sink } in
-    let front = front_is c.in-Some.class c.loop-class.active (sym c.in-Some.is ∙ c.front.ensures.front) in
-    let place = class-in-front c.args.now c.args.active.now c.loop-class.active c.args.classes.now c.loop-class.classes c.loop-class.unasked c.loop-class.shown told c.requires.ready c.loop-class.invariant.0 c.in-Some.class c.front.ensures.lawful front c.in-Some-place_of.place (sym c.in-Some-place_of.is ∙ c.place_of.ensures.value) in
-    let class_shows = class-shown c.args.now c.args.active.now c.loop-class.active c.args.classes.now c.loop-class.classes c.loop-class.unasked c.loop-class.shown told c.requires.ready c.loop-class.invariant.0 c.in-Some.class c.front.ensures.lawful front c.in-Some-place_of.place place c.index-classes-place.result c.ask_class-shown.new.class c.ask_class-shown.result (g.S.Sink.losses c.ask_class-shown.new.sink) (g.S.Sink.room c.ask_class-shown.new.sink)
+    let told : SinkTold = record { losses = g.S.Sink.losses c.args.sink.now; losses_now = g.S.Sink.losses c.loop-place.sink; room = g.S.Sink.room c.args.sink.now; room_now = g.S.Sink.room c.loop-place.sink } in
+    let at = front-at c.loop-place.active c.in-Some.place (sym c.in-Some.is ∙ c.front_place.ensures.place) in
+    let front = front_is at.class c.loop-place.active at.front in
+    let place = class-in-front c.args.now c.args.active.now c.loop-place.active c.args.classes.now c.loop-place.classes c.loop-place.unasked c.loop-place.shown told c.requires.ready c.loop-place.invariant.0 at.class c.front_place.ensures.lawful front c.in-Some.place at.found in
+    let class_shows = class-shown c.args.now c.args.active.now c.loop-place.active c.args.classes.now c.loop-place.classes c.loop-place.unasked c.loop-place.shown told c.requires.ready c.loop-place.invariant.0 at.class c.front_place.ensures.lawful front c.in-Some.place place c.index-classes-place.result c.ask_class-shown.new.class c.ask_class-shown.result (g.S.Sink.losses c.ask_class-shown.new.sink) (g.S.Sink.room c.ask_class-shown.new.sink)
     c.ask_class-shown.ensures.asked c.ask_class-shown.ensures.told c.ask_class-shown.ensures.at_hand c.ask_class-shown.ensures.not_lost in
     let offer = shown-len c.ask_class-shown.result.packet c.packet_len.result c.in-Some-packet_len.len c.packet_len.ensures.some c.in-Some-packet_len.is in
     let len = sym offer.2 in
-    let pays = subst (λ m. m ≤ front.first.deficit) len (covers c.loop-class.active c.in-Some.class c.in-Some-packet_len.len front (sym c.in-Send.is ∙ c.turn.ensures.answer)) in
-    let turn = c.turn.ensures.after ∙ ap (λ m. turned m c.loop-class.active) len in
-    λ own. given-told c.args.now c.args.active.now c.loop-class.active c.args.classes.now c.loop-class.classes c.loop-class.unasked c.loop-class.shown told c.requires.ready c.loop-class.invariant.0 c.in-Some.class c.front.ensures.lawful front c.in-Some-place_of.place place
+    let pays = subst (λ m. m ≤ front.first.deficit) len (covers c.loop-place.active at.class c.in-Some-packet_len.len front (sym c.in-Send.is ∙ c.turn.ensures.answer)) in
+    let turn = c.turn.ensures.after ∙ ap (λ m. turned m c.loop-place.active) len in
+    λ own. given-told c.args.now c.args.active.now c.loop-place.active c.args.classes.now c.loop-place.classes c.loop-place.unasked c.loop-place.shown told c.requires.ready c.loop-place.invariant.0 at.class c.front_place.ensures.lawful front c.in-Some.place place
     c.ask_class-shown.new.class c.ask_class-shown.result (g.S.Sink.losses c.ask_class-shown.new.sink) (g.S.Sink.room c.ask_class-shown.new.sink) class_shows offer.0 offer.1 pays c.give.new.active c.give.new.classes
-    (λ class at. subst (λ s. IsGivenBy c.in-Some-place_of.place class s c.give.new.active (set c.loop-class.classes c.in-Some-place_of.place c.ask_class-shown.new.class) c.give.new.classes) turn (c.give.ensures.given class at)) own
+    (λ class at. subst (λ s. IsGivenBy c.in-Some.place class s c.give.new.active (set c.loop-place.classes c.in-Some.place c.ask_class-shown.new.class) c.give.new.classes) turn (c.give.ensures.given class at)) own
 
 pub drr::serve-returns-in-Send-clause-kept : goal.drr::serve-returns-in-Send-clause-kept
 drr::serve-returns-in-Send-clause-kept g t c =
-    g.met.S.Sink.keeps_on c.args.sink.now c.loop-class.sink c.ask_class-shown.new.sink c.loop-class.invariant.1 c.ask_class-shown.ensures.kept
+    g.met.S.Sink.keeps_on c.args.sink.now c.loop-place.sink c.ask_class-shown.new.sink c.loop-place.invariant.1 c.ask_class-shown.ensures.kept
 
-pub drr::serve-loop-class-smaller : goal.drr::serve-loop-class-smaller
-drr::serve-loop-class-smaller g t c =
-    let told : SinkTold = record { losses = g.S.Sink.losses c.args.sink.now; losses_now = g.S.Sink.losses c.loop-class.sink; room = g.S.Sink.room c.args.sink.now; room_now = g.S.Sink.room c.loop-class.sink } in
-    let front = front_is c.in-Some.class c.loop-class.active (sym c.in-Some.is ∙ c.front.ensures.front) in
-    let place = class-in-front c.args.now c.args.active.now c.loop-class.active c.args.classes.now c.loop-class.classes c.loop-class.unasked c.loop-class.shown told c.requires.ready c.loop-class.invariant.0 c.in-Some.class c.front.ensures.lawful front c.in-Some-place_of.place (sym c.in-Some-place_of.is ∙ c.place_of.ensures.value) in
-    let class_shows = class-shown c.args.now c.args.active.now c.loop-class.active c.args.classes.now c.loop-class.classes c.loop-class.unasked c.loop-class.shown told c.requires.ready c.loop-class.invariant.0 c.in-Some.class c.front.ensures.lawful front c.in-Some-place_of.place place c.index-classes-place.result c.ask_class-shown.new.class c.ask_class-shown.result (g.S.Sink.losses c.ask_class-shown.new.sink) (g.S.Sink.room c.ask_class-shown.new.sink)
+pub drr::serve-loop-place-smaller : goal.drr::serve-loop-place-smaller
+drr::serve-loop-place-smaller g t c =
+    let told : SinkTold = record { losses = g.S.Sink.losses c.args.sink.now; losses_now = g.S.Sink.losses c.loop-place.sink; room = g.S.Sink.room c.args.sink.now; room_now = g.S.Sink.room c.loop-place.sink } in
+    let at = front-at c.loop-place.active c.in-Some.place (sym c.in-Some.is ∙ c.front_place.ensures.place) in
+    let front = front_is at.class c.loop-place.active at.front in
+    let place = class-in-front c.args.now c.args.active.now c.loop-place.active c.args.classes.now c.loop-place.classes c.loop-place.unasked c.loop-place.shown told c.requires.ready c.loop-place.invariant.0 at.class c.front_place.ensures.lawful front c.in-Some.place at.found in
+    let class_shows = class-shown c.args.now c.args.active.now c.loop-place.active c.args.classes.now c.loop-place.classes c.loop-place.unasked c.loop-place.shown told c.requires.ready c.loop-place.invariant.0 at.class c.front_place.ensures.lawful front c.in-Some.place place c.index-classes-place.result c.ask_class-shown.new.class c.ask_class-shown.result (g.S.Sink.losses c.ask_class-shown.new.sink) (g.S.Sink.room c.ask_class-shown.new.sink)
     c.ask_class-shown.ensures.asked c.ask_class-shown.ensures.told c.ask_class-shown.ensures.at_hand c.ask_class-shown.ensures.not_lost in
     let offer = shown-len c.ask_class-shown.result.packet c.packet_len.result c.in-Some-packet_len.len c.packet_len.ensures.some c.in-Some-packet_len.is in
     let len = sym offer.2 in
-    let short = subst (λ m. front.first.deficit < m) len (falls_short c.loop-class.active c.in-Some.class c.in-Some-packet_len.len front (sym c.in-Granted.is ∙ c.turn.ensures.answer)) in
-    let turn = c.turn.ensures.after ∙ ap (λ m. turned m c.loop-class.active) len in
-    subst (λ s. sum_by (need (λ m. quantum_of m s.classes) (heads_of c.args.now c.args.active.now c.args.classes.now)) s.active < sum_by (need (λ m. quantum_of m c.loop-class.active.classes) (heads_of c.args.now c.args.active.now c.args.classes.now)) c.loop-class.active.active) (sym turn)
-    (measure_falls (heads_of c.args.now c.args.active.now c.args.classes.now) c.loop-class.active c.in-Some.class offer.0.len front (offered-head c.args.now c.args.active.now c.loop-class.active c.args.classes.now c.loop-class.classes c.loop-class.unasked c.loop-class.shown told c.requires.ready c.loop-class.invariant.0 c.in-Some.class c.front.ensures.lawful front c.in-Some-place_of.place place
-    c.ask_class-shown.new.class c.ask_class-shown.result (g.S.Sink.losses c.ask_class-shown.new.sink) (g.S.Sink.room c.ask_class-shown.new.sink) class_shows offer.0 offer.1) (front_quantum c.loop-class.active c.in-Some.class front c.front.ensures.lawful) short)
+    let short = subst (λ m. front.first.deficit < m) len (falls_short c.loop-place.active at.class c.in-Some-packet_len.len front (sym c.in-Granted.is ∙ c.turn.ensures.answer)) in
+    let turn = c.turn.ensures.after ∙ ap (λ m. turned m c.loop-place.active) len in
+    subst (λ s. sum_by (need (λ m. quantum_of m s.classes) (heads_of c.args.now c.args.active.now c.args.classes.now)) s.active < sum_by (need (λ m. quantum_of m c.loop-place.active.classes) (heads_of c.args.now c.args.active.now c.args.classes.now)) c.loop-place.active.active) (sym turn)
+    (measure_falls (heads_of c.args.now c.args.active.now c.args.classes.now) c.loop-place.active at.class offer.0.len front (offered-head c.args.now c.args.active.now c.loop-place.active c.args.classes.now c.loop-place.classes c.loop-place.unasked c.loop-place.shown told c.requires.ready c.loop-place.invariant.0 at.class c.front_place.ensures.lawful front c.in-Some.place place
+    c.ask_class-shown.new.class c.ask_class-shown.result (g.S.Sink.losses c.ask_class-shown.new.sink) (g.S.Sink.room c.ask_class-shown.new.sink) class_shows offer.0 offer.1) (front_quantum c.loop-place.active at.class front c.front_place.ensures.lawful) short)
 
-pub drr::serve-loop-class-preserved : goal.drr::serve-loop-class-preserved
-drr::serve-loop-class-preserved g t c =
-    let told : SinkTold = record { losses = g.S.Sink.losses c.args.sink.now; losses_now = g.S.Sink.losses c.loop-class.sink; room = g.S.Sink.room c.args.sink.now; room_now = g.S.Sink.room c.loop-class.sink } in
-    let front = front_is c.in-Some.class c.loop-class.active (sym c.in-Some.is ∙ c.front.ensures.front) in
-    let place = class-in-front c.args.now c.args.active.now c.loop-class.active c.args.classes.now c.loop-class.classes c.loop-class.unasked c.loop-class.shown told c.requires.ready c.loop-class.invariant.0 c.in-Some.class c.front.ensures.lawful front c.in-Some-place_of.place (sym c.in-Some-place_of.is ∙ c.place_of.ensures.value) in
-    let class_shows = class-shown c.args.now c.args.active.now c.loop-class.active c.args.classes.now c.loop-class.classes c.loop-class.unasked c.loop-class.shown told c.requires.ready c.loop-class.invariant.0 c.in-Some.class c.front.ensures.lawful front c.in-Some-place_of.place place c.index-classes-place.result c.ask_class-shown.new.class c.ask_class-shown.result (g.S.Sink.losses c.ask_class-shown.new.sink) (g.S.Sink.room c.ask_class-shown.new.sink)
+pub drr::serve-loop-place-preserved : goal.drr::serve-loop-place-preserved
+drr::serve-loop-place-preserved g t c =
+    let told : SinkTold = record { losses = g.S.Sink.losses c.args.sink.now; losses_now = g.S.Sink.losses c.loop-place.sink; room = g.S.Sink.room c.args.sink.now; room_now = g.S.Sink.room c.loop-place.sink } in
+    let at = front-at c.loop-place.active c.in-Some.place (sym c.in-Some.is ∙ c.front_place.ensures.place) in
+    let front = front_is at.class c.loop-place.active at.front in
+    let place = class-in-front c.args.now c.args.active.now c.loop-place.active c.args.classes.now c.loop-place.classes c.loop-place.unasked c.loop-place.shown told c.requires.ready c.loop-place.invariant.0 at.class c.front_place.ensures.lawful front c.in-Some.place at.found in
+    let class_shows = class-shown c.args.now c.args.active.now c.loop-place.active c.args.classes.now c.loop-place.classes c.loop-place.unasked c.loop-place.shown told c.requires.ready c.loop-place.invariant.0 at.class c.front_place.ensures.lawful front c.in-Some.place place c.index-classes-place.result c.ask_class-shown.new.class c.ask_class-shown.result (g.S.Sink.losses c.ask_class-shown.new.sink) (g.S.Sink.room c.ask_class-shown.new.sink)
     c.ask_class-shown.ensures.asked c.ask_class-shown.ensures.told c.ask_class-shown.ensures.at_hand c.ask_class-shown.ensures.not_lost in
     let offer = shown-len c.ask_class-shown.result.packet c.packet_len.result c.in-Some-packet_len.len c.packet_len.ensures.some c.in-Some-packet_len.is in
     let len = sym offer.2 in
-    let short = subst (λ m. front.first.deficit < m) len (falls_short c.loop-class.active c.in-Some.class c.in-Some-packet_len.len front (sym c.in-Granted.is ∙ c.turn.ensures.answer)) in
-    let turn = c.turn.ensures.after ∙ ap (λ m. turned m c.loop-class.active) len in
+    let short = subst (λ m. front.first.deficit < m) len (falls_short c.loop-place.active at.class c.in-Some-packet_len.len front (sym c.in-Granted.is ∙ c.turn.ensures.answer)) in
+    let turn = c.turn.ensures.after ∙ ap (λ m. turned m c.loop-place.active) len in
     let told_after : SinkTold = record { losses = g.S.Sink.losses c.args.sink.now; losses_now = g.S.Sink.losses c.ask_class-shown.new.sink; room = g.S.Sink.room c.args.sink.now; room_now = g.S.Sink.room c.ask_class-shown.new.sink } in (
-      subst (λ s. AreClassesAsked c.args.now c.args.active.now s c.args.classes.now (set c.loop-class.classes c.in-Some-place_of.place c.ask_class-shown.new.class) c.saturating_sub-unasked.result c.ask_class-shown.result told_after) (sym turn)
-          (classes-go-on c.args.now c.args.active.now c.loop-class.active c.args.classes.now c.loop-class.classes c.loop-class.unasked c.loop-class.shown told c.requires.ready c.loop-class.invariant.0 c.in-Some.class c.front.ensures.lawful front c.in-Some-place_of.place place
+      subst (λ s. AreClassesAsked c.args.now c.args.active.now s c.args.classes.now (set c.loop-place.classes c.in-Some.place c.ask_class-shown.new.class) c.saturating_sub-unasked.result c.ask_class-shown.result told_after) (sym turn)
+          (classes-go-on c.args.now c.args.active.now c.loop-place.active c.args.classes.now c.loop-place.classes c.loop-place.unasked c.loop-place.shown told c.requires.ready c.loop-place.invariant.0 at.class c.front_place.ensures.lawful front c.in-Some.place place
           c.ask_class-shown.new.class c.ask_class-shown.result (g.S.Sink.losses c.ask_class-shown.new.sink) (g.S.Sink.room c.ask_class-shown.new.sink) class_shows offer.0 offer.1 short c.saturating_sub-unasked.result c.saturating_sub-unasked.ensures),
-      g.met.S.Sink.keeps_on c.args.sink.now c.loop-class.sink c.ask_class-shown.new.sink c.loop-class.invariant.1 c.ask_class-shown.ensures.kept,
-      c.loop-class.invariant.2,
+      g.met.S.Sink.keeps_on c.args.sink.now c.loop-place.sink c.ask_class-shown.new.sink c.loop-place.invariant.1 c.ask_class-shown.ensures.kept,
+      c.loop-place.invariant.2,
     )
 
 pub drr::serve-returns-clause-active : goal.drr::serve-returns-clause-active
 drr::serve-returns-clause-active g t c =
-    let told : SinkTold = record { losses = g.S.Sink.losses c.args.sink.now; losses_now = g.S.Sink.losses c.loop-class.sink; room = g.S.Sink.room c.args.sink.now; room_now = g.S.Sink.room c.loop-class.sink } in
-    let nobody = empty_front c.loop-class.active (sym c.in_default.is ∙ c.front.ensures.front) in
-    λ own. idle-schedule c.args.now c.args.active.now c.loop-class.active c.args.classes.now c.loop-class.classes c.loop-class.unasked c.loop-class.shown told c.requires.ready c.loop-class.invariant.0 c.front.ensures.lawful nobody own
+    let told : SinkTold = record { losses = g.S.Sink.losses c.args.sink.now; losses_now = g.S.Sink.losses c.loop-place.sink; room = g.S.Sink.room c.args.sink.now; room_now = g.S.Sink.room c.loop-place.sink } in
+    let nobody = empty_front c.loop-place.active (nobody-at c.loop-place.active _ c.in_default.is c.front_place.ensures.found) in
+    λ own. idle-schedule c.args.now c.args.active.now c.loop-place.active c.args.classes.now c.loop-place.classes c.loop-place.unasked c.loop-place.shown told c.requires.ready c.loop-place.invariant.0 c.front_place.ensures.lawful nobody own
 
 pub drr::serve-returns-clause-after : goal.drr::serve-returns-clause-after
 drr::serve-returns-clause-after g t c =
-    let told : SinkTold = record { losses = g.S.Sink.losses c.args.sink.now; losses_now = g.S.Sink.losses c.loop-class.sink; room = g.S.Sink.room c.args.sink.now; room_now = g.S.Sink.room c.loop-class.sink } in
-    let nobody = empty_front c.loop-class.active (sym c.in_default.is ∙ c.front.ensures.front) in
-    λ own. idle-asked c.args.now c.args.active.now c.loop-class.active c.args.classes.now c.loop-class.classes c.loop-class.unasked c.loop-class.shown told c.requires.ready c.loop-class.invariant.0 c.front.ensures.lawful nobody c.at_hand.result (ap (λ (s : Shown). s.packet) c.at_hand.ensures)
+    let told : SinkTold = record { losses = g.S.Sink.losses c.args.sink.now; losses_now = g.S.Sink.losses c.loop-place.sink; room = g.S.Sink.room c.args.sink.now; room_now = g.S.Sink.room c.loop-place.sink } in
+    let nobody = empty_front c.loop-place.active (nobody-at c.loop-place.active _ c.in_default.is c.front_place.ensures.found) in
+    λ own. idle-asked c.args.now c.args.active.now c.loop-place.active c.args.classes.now c.loop-place.classes c.loop-place.unasked c.loop-place.shown told c.requires.ready c.loop-place.invariant.0 c.front_place.ensures.lawful nobody c.at_hand.result (ap (λ (s : Shown). s.packet) c.at_hand.ensures)
     (record { dropped = ap (λ (s : Shown). s.dropped) c.at_hand.ensures; marked = ap (λ (s : Shown). s.marked) c.at_hand.ensures }) own
 
 pub drr::serve-returns-clause-told : goal.drr::serve-returns-clause-told
 drr::serve-returns-clause-told g t c =
-    let told : SinkTold = record { losses = g.S.Sink.losses c.args.sink.now; losses_now = g.S.Sink.losses c.loop-class.sink; room = g.S.Sink.room c.args.sink.now; room_now = g.S.Sink.room c.loop-class.sink } in
-    let nobody = empty_front c.loop-class.active (sym c.in_default.is ∙ c.front.ensures.front) in
-    λ own. idle-told c.args.now c.args.active.now c.loop-class.active c.args.classes.now c.loop-class.classes c.loop-class.unasked c.loop-class.shown told c.requires.ready c.loop-class.invariant.0 c.front.ensures.lawful nobody own
+    let told : SinkTold = record { losses = g.S.Sink.losses c.args.sink.now; losses_now = g.S.Sink.losses c.loop-place.sink; room = g.S.Sink.room c.args.sink.now; room_now = g.S.Sink.room c.loop-place.sink } in
+    let nobody = empty_front c.loop-place.active (nobody-at c.loop-place.active _ c.in_default.is c.front_place.ensures.found) in
+    λ own. idle-told c.args.now c.args.active.now c.loop-place.active c.args.classes.now c.loop-place.classes c.loop-place.unasked c.loop-place.shown told c.requires.ready c.loop-place.invariant.0 c.front_place.ensures.lawful nobody own
 
 pub drr::serve-returns-clause-kept : goal.drr::serve-returns-clause-kept
-drr::serve-returns-clause-kept g t c = c.loop-class.invariant.1
+drr::serve-returns-clause-kept g t c = c.loop-place.invariant.1
 
 pub node::Discipline::ask-ask_bands-requires : goal.node::Discipline::ask-ask_bands-requires
 node::Discipline::ask-ask_bands-requires g t c κs within =

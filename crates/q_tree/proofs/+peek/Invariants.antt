@@ -10,16 +10,16 @@ use Rattle.q_tree.proofs.AskBands.{AreBandsAsked, told_to}
 use Rattle.q_tree.proofs.ServeLemmas.{AreClassesAsked, heads_of}
 use Rattle.q_tree.proofs.+peek.Given as goal
 
-abbrev pub invariant-drr::serve-loop-class : goal.invariant-drr::serve-loop-class
-invariant-drr::serve-loop-class g l =
+abbrev pub invariant-drr::serve-loop-place : goal.invariant-drr::serve-loop-place
+invariant-drr::serve-loop-place g l =
     AreClassesAsked l.fn.now l.fn.active l.active l.fn.classes l.classes l.unasked l.shown
     (record { losses = g.S.Sink.losses l.fn.sink; losses_now = g.S.Sink.losses l.sink; room = g.S.Sink.room l.fn.sink; room_now = g.S.Sink.room l.sink })
     × g.S.Sink.keeps l.fn.sink l.sink
     × (l.held ≡ None)
 
 -- each grant lowers one class's need of grants by one
-abbrev pub decreases-drr::serve-loop-class : goal.decreases-drr::serve-loop-class
-decreases-drr::serve-loop-class g l = sum_by (need (λ m. quantum_of m l.active.classes) (heads_of l.fn.now l.fn.active l.fn.classes)) l.active.active
+abbrev pub decreases-drr::serve-loop-place : goal.decreases-drr::serve-loop-place
+decreases-drr::serve-loop-place g l = sum_by (need (λ m. quantum_of m l.active.classes) (heads_of l.fn.now l.fn.active l.fn.classes)) l.active.active
 
 abbrev pub invariant-prio::ask_bands-loop-place : goal.invariant-prio::ask_bands-loop-place
 invariant-prio::ask_bands-loop-place g l =

@@ -2,20 +2,38 @@ use Rattle.std.proofs.Common.{◌≡◌, ◌∙◌, Bool, IfSome, Option, Some, 
 use Rattle.std.specs.Io.KnownBytes.{Appends}
 use Rattle.std.specs.Result.{IsErrAnd}
 use Rattle.std.specs.declared.io.ErrorKind.{ErrorKind}
+use Rattle.q_script.specs.Ended.{Ended}
 use Rattle.q_script.specs.declared.outcome.Outcome.{Outcome}
+use Rattle.q_script.specs.declared.reads.Reads.{Reads}
 use Rattle.q_script.specs.declared.run_fault.RunFault.{RunFault}
 use Rattle.q_script.specs.declared.run_fault.RunFault.TheVariants.{Write}
 use Rattle.q_session.specs.Session.{opened}
 use Rattle.q_show.specs.Written.{AppendsFront}
+use Rattle.q_show.specs.declared.writes.Writes.{Writes}
 use Rattle.q_drive.specs.Driven.{HasDriven}
 use Rattle.q_drive.specs.Texts.{ending_text}
 use Rattle.q_drive.specs.declared.driven.Driven.{Driven}
-use Rattle.q_drive.proofs.Reporting.{told-ending, told-lines, told-whole}
+use Rattle.q_drive.proofs.Reporting.{ended-failed, ended-ok, told-ending, told-lines, told-whole}
 use Rattle.q_drive.proofs.run.run_drive_between.Goals as goal
 
 passed_on : (r : Result Outcome RunFault) (x : RunFault) (kind : ErrorKind) → IsErrAnd r (λ q. q ≡ x) → r ≡ Err (Write kind) → x ≡ Write kind
 passed_on (Ok told) x kind same told' = absurd same
 passed_on (Err q) x kind same told = let is : q ≡ Write kind = cc in sym same ∙ is
+
+ended_on : (r : Result Outcome RunFault) (x : RunFault) (reads : Reads) (writes : Writes) → IsErrAnd r (λ q. q ≡ x) → Ended (Err x) reads writes → Ended r reads writes
+ended_on (Ok told) x reads writes same e = absurd same
+ended_on (Err q) x reads writes same e = subst (λ (y : RunFault). Ended (Err y) reads writes) (sym same) e
+
+pub returns-in_err-outcome-clause-ended : goal.returns-in_err-outcome-clause-ended
+returns-in_err-outcome-clause-ended g c =
+    ended_on c.from_residual.result c.in_err-outcome.field-0.0 _ _ c.from_residual.ensures.1 c.in_err-outcome.ensures.ended
+
+pub returns-in-Err-clause-ended : goal.returns-in-Err-clause-ended
+returns-in-Err-clause-ended g c = ended-failed c.in_ok-outcome.outcome _ _ _ _ c.in_ok-outcome.ensures.ended c.in-Err.ensures.failed
+
+pub returns-in-Some-clause-ended : goal.returns-in-Some-clause-ended
+returns-in-Some-clause-ended g c =
+    ended-ok c.in_ok-outcome.outcome c.in_ok-outcome.outcome _ _ _ c.in_ok-outcome.ensures.ended c.in_default-write_ending.ensures.going
 
 pub returns-in_err-outcome-clause-partly : goal.returns-in_err-outcome-clause-partly
 returns-in_err-outcome-clause-partly g c = λ kind told.

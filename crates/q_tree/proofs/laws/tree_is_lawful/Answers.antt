@@ -8,4 +8,4 @@ use Rattle.q_tree.proofs.TreeLemmas.{lawful-tree}
 use Rattle.q_tree.proofs.laws.tree_is_lawful.Goals as goal
 
 pub returns : goal.returns
-returns c = subst (λ (d : DeviceState Kept). IsLawfulTree totals d.clock (tree_numbers d.tree)) c.tree.view_is (lawful-tree c.tree.inside c.tree.invariant)
+returns c = subst (λ (d : DeviceState Kept). IsLawfulTree totals d.clock (tree_numbers d.tree)) c.tree.view_is (lawful-tree c.tree.inside c.tree.invariant.device)

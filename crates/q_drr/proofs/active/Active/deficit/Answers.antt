@@ -1,31 +1,32 @@
-use Rattle.std.proofs.Common.{◌≡◌, true, sym, ap, ◌∙◌, arith}
+use Rattle.std.proofs.Common.{sym, ap, ◌∙◌, arith}
 use Rattle.q_drr.specs.Schedule.{deficit_of, quantum_of}
-use Rattle.q_drr.specs.States.{has_state}
-use Rattle.q_drr.proofs.ScheduleLemmas.{there_of, room_for, state_kept, quantum_in, deficit_in, deficit_asleep}
-use Rattle.q_drr.proofs.active.Active.deficit.Goals.{After-self}
+use Rattle.q_drr.specs.States.{names_in}
+use Rattle.q_drr.proofs.ScheduleLemmas.{there_of, quantum_in, deficit_in, deficit_asleep}
+use Rattle.q_drr.proofs.SoundLemmas.{stands_found, state_at, among, fits}
 use Rattle.q_drr.proofs.active.Active.deficit.Goals as goal
 
-there : (c : After-self) → has_state c.args.class c.self.inside.table ≡ true
-there c = there_of _ _ _ _ _ c.args.class c.self.view_is c.requires
-
-pub contains-requires : goal.contains-requires
-contains-requires c = room_for _ _ _ c.args.class c.self.invariant.kept (there c)
-
-pub get-requires : goal.get-requires
-get-requires c = there (goal.at.get-requires c).After-self
+pub find-place-requires : goal.find-place-requires
+find-place-requires c = there_of _ _ _ _ _ c.args.class c.self.view_is c.requires
 
 pub returns-then-contains-clause-value : goal.returns-then-contains-clause-value
 returns-then-contains-clause-value c =
     let s = c.self.inside in
-    ap (λ r. r.deficit) c.get.ensures ∙ sym (deficit_in c.args.class s.table s.ring.order (sym c.if-contains.ensures)) ∙ ap (λ v. deficit_of c.args.class v.active) c.self.view_is
+    let stands = stands_found s.max_len s.turns s.table s.ring c.self.invariant c.args.class c.find-place.result c.find-place.ensures in
+    ap (λ k. k.deficit) (state_at s.max_len s.turns s.table s.ring c.self.invariant c.find-place.result c.args.class _ stands c.get.ensures)
+    ∙ sym (deficit_in c.args.class s.table (names_in s.table s.ring.order) (among s.max_len s.turns s.table s.ring c.self.invariant c.find-place.result c.args.class stands ∙ sym c.if-contains.ensures))
+    ∙ ap (λ v. deficit_of c.args.class v.active) c.self.view_is
 
 pub returns-then-contains-clause-bound : goal.returns-then-contains-clause-bound
 returns-then-contains-clause-bound c =
     let s = c.self.inside in
-    let kept = state_kept _ _ _ c.args.class c.self.invariant.kept (there (goal.at.returns-then-contains-clause-bound c).After-self) in
-    omega (arith, kept.bounded, ap (λ r. r.deficit) c.get.ensures, quantum_in c.args.class s.table, ap (λ v. quantum_of c.args.class v.classes) c.self.view_is, ap (λ v. v.max_len) c.self.view_is)
+    let stands = stands_found s.max_len s.turns s.table s.ring c.self.invariant c.args.class c.find-place.result c.find-place.ensures in
+    let kept = fits s.max_len s.turns s.table s.ring c.self.invariant c.args.class stands.there in
+    let read = ap (λ k. k.deficit) (state_at s.max_len s.turns s.table s.ring c.self.invariant c.find-place.result c.args.class _ stands c.get.ensures) in
+    omega (arith, kept.bounded, read, quantum_in c.args.class s.table, ap (λ v. quantum_of c.args.class v.classes) c.self.view_is, ap (λ v. v.max_len) c.self.view_is)
 
 pub returns-else-contains-clause-value : goal.returns-else-contains-clause-value
 returns-else-contains-clause-value c =
     let s = c.self.inside in
-    sym (deficit_asleep c.args.class s.table s.ring.order (sym c.if-contains.ensures)) ∙ ap (λ v. deficit_of c.args.class v.active) c.self.view_is
+    let stands = stands_found s.max_len s.turns s.table s.ring c.self.invariant c.args.class c.find-place.result c.find-place.ensures in
+    sym (deficit_asleep c.args.class s.table (names_in s.table s.ring.order) (among s.max_len s.turns s.table s.ring c.self.invariant c.find-place.result c.args.class stands ∙ sym c.if-contains.ensures))
+    ∙ ap (λ v. deficit_of c.args.class v.active) c.self.view_is

@@ -1,12 +1,14 @@
-use Rattle.std.proofs.Common.{sym, ap, ◌∙◌}
-use Rattle.q_drr.specs.Schedule.{front_of}
-use Rattle.q_drr.proofs.ScheduleLemmas.{front_in, lawful_view}
+use Rattle.std.proofs.Common.{sym, ◌∙◌}
+use Rattle.q_drr.proofs.SoundLemmas.{lawful, front_name}
 use Rattle.q_drr.proofs.active.Active.front.Goals as goal
 
+pub returns-in_err-front-clause-lawful : goal.returns-in_err-front-clause-lawful
+returns-in_err-front-clause-lawful c = let s = c.self.inside in lawful s.max_len s.turns s.table s.ring c.self.invariant c.args.self.now c.self.view_is
+
 pub returns-clause-front : goal.returns-clause-front
-returns-clause-front c = c.front.ensures ∙ sym (front_in c.self.inside.table c.self.inside.ring.order) ∙ ap front_of c.self.view_is
+returns-clause-front c =
+    let s = c.self.inside in
+    c.name_at.ensures ∙ front_name s.max_len s.turns s.table s.ring c.self.invariant c.args.self.now c.in_ok-front.field-0 c.self.view_is (sym c.front.ensures ∙ c.in_ok-front.was)
 
 pub returns-clause-lawful : goal.returns-clause-lawful
-returns-clause-lawful c =
-    let s = c.self.inside in
-    lawful_view s.max_len s.turns s.table s.ring c.args.self.now c.self.view_is c.self.invariant.counted_turns c.self.invariant.kept
+returns-clause-lawful c = let s = c.self.inside in lawful s.max_len s.turns s.table s.ring c.self.invariant c.args.self.now c.self.view_is

@@ -1,25 +1,24 @@
-use Rattle.std.proofs.Common.{◌≡◌, true, sym, ap, ◌∙◌}
+use Rattle.std.proofs.Common.{sym, ap, ◌∙◌}
 use Rattle.q_drr.specs.Schedule.{granted_of}
-use Rattle.q_drr.specs.States.{has_state}
-use Rattle.q_drr.proofs.ScheduleLemmas.{there_of, room_for, granted_in, granted_asleep}
-use Rattle.q_drr.proofs.active.Active.granted.Goals.{After-self}
+use Rattle.q_drr.specs.States.{names_in}
+use Rattle.q_drr.proofs.ScheduleLemmas.{there_of, granted_in, granted_asleep}
+use Rattle.q_drr.proofs.SoundLemmas.{stands_found, state_at, among}
 use Rattle.q_drr.proofs.active.Active.granted.Goals as goal
 
-there : (c : After-self) → has_state c.args.class c.self.inside.table ≡ true
-there c = there_of _ _ _ _ _ c.args.class c.self.view_is c.requires
-
-pub contains-requires : goal.contains-requires
-contains-requires c = room_for _ _ _ c.args.class c.self.invariant.kept (there c)
-
-pub get-requires : goal.get-requires
-get-requires c = there (goal.at.get-requires c).After-self
+pub find-place-requires : goal.find-place-requires
+find-place-requires c = there_of _ _ _ _ _ c.args.class c.self.view_is c.requires
 
 pub returns-then-contains : goal.returns-then-contains
 returns-then-contains c =
     let s = c.self.inside in
-    ap (λ r. r.granted) c.get.ensures ∙ sym (granted_in c.args.class s.table s.ring.order (sym c.if-contains.ensures)) ∙ ap (λ v. granted_of c.args.class v.active) c.self.view_is
+    let stands = stands_found s.max_len s.turns s.table s.ring c.self.invariant c.args.class c.find-place.result c.find-place.ensures in
+    ap (λ k. k.granted) (state_at s.max_len s.turns s.table s.ring c.self.invariant c.find-place.result c.args.class _ stands c.get.ensures)
+    ∙ sym (granted_in c.args.class s.table (names_in s.table s.ring.order) (among s.max_len s.turns s.table s.ring c.self.invariant c.find-place.result c.args.class stands ∙ sym c.if-contains.ensures))
+    ∙ ap (λ v. granted_of c.args.class v.active) c.self.view_is
 
 pub returns-else-contains : goal.returns-else-contains
 returns-else-contains c =
     let s = c.self.inside in
-    sym (granted_asleep c.args.class s.table s.ring.order (sym c.if-contains.ensures)) ∙ ap (λ v. granted_of c.args.class v.active) c.self.view_is
+    let stands = stands_found s.max_len s.turns s.table s.ring c.self.invariant c.args.class c.find-place.result c.find-place.ensures in
+    sym (granted_asleep c.args.class s.table (names_in s.table s.ring.order) (among s.max_len s.turns s.table s.ring c.self.invariant c.find-place.result c.args.class stands ∙ sym c.if-contains.ensures))
+    ∙ ap (λ v. granted_of c.args.class v.active) c.self.view_is

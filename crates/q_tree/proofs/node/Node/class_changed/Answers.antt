@@ -19,7 +19,7 @@ use Rattle.q_tree.proofs.node.Node.class_changed.Goals as goal
 pub returns-in_default-clause-plan : goal.returns-in_default-clause-plan
 returns-in_default-clause-plan c = λ device now.
     let root = c.args.self.now in
-    let planned = plan-class_change (shape root) (shallow root c.requires) (few root c.requires) device now c.args.parent c.args.class c.args.quantum ∙ at-class c.args.parent c.args.class (class_changed c.args.class c.args.quantum) (shape root) (sym c.names_another.ensures ∙ c.if-names_another.false) in
+    let planned = plan-class_change (shape root) (shallow root c.requires.bounded) (few root c.requires.bounded) device now c.args.parent c.args.class c.args.quantum ∙ at-class c.args.parent c.args.class (class_changed c.args.class c.args.quantum) (shape root) (sym c.names_another.ensures ∙ c.if-names_another.false) in
     refused-plan takes_none (plan device now (ClassChange c.args.parent c.args.class c.args.quantum) (shape root)) NoQdisc
     (planned ∙ target-none root (path_of c.args.class.major (shape root)) NoQdisc (λ path n. of_schedule (class_changed c.args.class c.args.quantum path n) n.own.discipline) (sym c.qdisc.ensures ∙ ap (option_map (λ x. (x.0.items, x.1.now))) c.in_default.is))
 
@@ -28,7 +28,7 @@ returns-in-Err-clause-plan c = λ device now.
     let root = c.args.self.now in
     let n = c.in-Some.node.now in
     let path = c.in-Some.path.items in
-    let planned = plan-class_change (shape root) (shallow root c.requires) (few root c.requires) device now c.args.parent c.args.class c.args.quantum ∙ at-class c.args.parent c.args.class (class_changed c.args.class c.args.quantum) (shape root) (sym c.names_another.ensures ∙ c.if-names_another.false) in
+    let planned = plan-class_change (shape root) (shallow root c.requires.bounded) (few root c.requires.bounded) device now c.args.parent c.args.class c.args.quantum ∙ at-class c.args.parent c.args.class (class_changed c.args.class c.args.quantum) (shape root) (sym c.names_another.ensures ∙ c.if-names_another.false) in
     let found = target-some root (path_of c.args.class.major (shape root)) NoQdisc (λ path n. of_schedule (class_changed c.args.class c.args.quantum path n) n.own.discipline) path n (sym c.qdisc.ensures ∙ ap (option_map (λ x. (x.0.items, x.1.now))) c.in-Some.is) in
     refused-plan takes_none (plan device now (ClassChange c.args.parent c.args.class c.args.quantum) (shape root)) c.in-Err.refusal
     (planned ∙ found ∙ drr-refused (class_change_checks c.args.class (shape n)) (λ s. retuned (shape n) path (Drr (with_new_quantum c.args.class c.args.quantum s))) c.in-Err.refusal n.own.discipline (sym c.can_change_class.ensures ∙ c.in-Err.is))
@@ -38,7 +38,7 @@ returns-clause-plan c = λ device now.
     let root = c.args.self.now in
     let n = c.in-Some.node.now in
     let path = c.in-Some.path.items in
-    let planned = plan-class_change (shape root) (shallow root c.requires) (few root c.requires) device now c.args.parent c.args.class c.args.quantum ∙ at-class c.args.parent c.args.class (class_changed c.args.class c.args.quantum) (shape root) (sym c.names_another.ensures ∙ c.if-names_another.false) in
+    let planned = plan-class_change (shape root) (shallow root c.requires.bounded) (few root c.requires.bounded) device now c.args.parent c.args.class c.args.quantum ∙ at-class c.args.parent c.args.class (class_changed c.args.class c.args.quantum) (shape root) (sym c.names_another.ensures ∙ c.if-names_another.false) in
     let reached = sym c.qdisc.ensures ∙ ap (option_map (λ x. (x.0.items, x.1.now))) c.in-Some.is in
     let found = target-some root (path_of c.args.class.major (shape root)) NoQdisc (λ path n. of_schedule (class_changed c.args.class c.args.quantum path n) n.own.discipline) path n reached in
     own-planned device root (record { path = c.in-Some.path; edit = Reshape (SetQuantum c.args.class.minor c.args.quantum) }) tt n (reached-at root (path_of c.args.class.major (shape root)) path n reached).there

@@ -7,4 +7,4 @@ pub push-requires : goal.push-requires
 push-requires c =
     let there : node_at c.in_ok-path.path.items c.args.self.now ≡ Some c.in_ok-at.field-0.now =
     ap (λ p. node_at p c.args.self.now) (sym c.deref.ensures.0) ∙ sym c.at.ensures ∙ ap option_copied c.in_ok-at.was in
-    (omega arith, path-short c.in_ok-path.path.items c.args.self.now c.in_ok-at.field-0.now there c.requires)
+    (omega arith, path-short c.in_ok-path.path.items c.args.self.now c.in_ok-at.field-0.now there c.requires.levels)

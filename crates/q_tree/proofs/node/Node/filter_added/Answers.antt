@@ -17,7 +17,7 @@ use Rattle.q_tree.proofs.node.Node.filter_added.Goals as goal
 pub returns-in_default-clause-plan : goal.returns-in_default-clause-plan
 returns-in_default-clause-plan c = λ device now.
     let root = c.args.self.now in
-    let planned = plan-filter_add (shape root) (shallow root c.requires) (few root c.requires) device now c.args.parent c.args.major c.args.filter in
+    let planned = plan-filter_add (shape root) (shallow root c.requires.bounded) (few root c.requires.bounded) device now c.args.parent c.args.major c.args.filter in
     refused-plan takes_memory (plan device now (FilterAdd c.args.parent c.args.major c.args.filter) (shape root)) NoQdisc
     (planned ∙ target-none root (path_of c.args.parent (shape root)) NoQdisc (filter_added c.args.parent c.args.major c.args.filter) (sym c.qdisc.ensures ∙ ap (option_map (λ x. (x.0.items, x.1.now))) c.in_default.is))
 
@@ -26,7 +26,7 @@ returns-in-Err-clause-plan c = λ device now.
     let root = c.args.self.now in
     let n = c.in-Some.node.now in
     let path = c.in-Some.path.items in
-    let planned = plan-filter_add (shape root) (shallow root c.requires) (few root c.requires) device now c.args.parent c.args.major c.args.filter in
+    let planned = plan-filter_add (shape root) (shallow root c.requires.bounded) (few root c.requires.bounded) device now c.args.parent c.args.major c.args.filter in
     let found = target-some root (path_of c.args.parent (shape root)) NoQdisc (filter_added c.args.parent c.args.major c.args.filter) path n (sym c.qdisc.ensures ∙ ap (option_map (λ x. (x.0.items, x.1.now))) c.in-Some.is) in
     refused-plan takes_memory (plan device now (FilterAdd c.args.parent c.args.major c.args.filter) (shape root)) c.in-Err.refusal
     (planned ∙ found ∙ same-refusal (filter_add_checks c.args.parent c.args.major c.args.filter (shape n)) tt (with_filters path (shape n) (with_filter c.args.filter n.own.filters)) c.in-Err.refusal (sym c.can_add_filter.ensures ∙ c.in-Err.is))
@@ -36,7 +36,7 @@ returns-clause-plan c = λ device now.
     let root = c.args.self.now in
     let n = c.in-Some.node.now in
     let path = c.in-Some.path.items in
-    let planned = plan-filter_add (shape root) (shallow root c.requires) (few root c.requires) device now c.args.parent c.args.major c.args.filter in
+    let planned = plan-filter_add (shape root) (shallow root c.requires.bounded) (few root c.requires.bounded) device now c.args.parent c.args.major c.args.filter in
     let reached = sym c.qdisc.ensures ∙ ap (option_map (λ x. (x.0.items, x.1.now))) c.in-Some.is in
     let found = target-some root (path_of c.args.parent (shape root)) NoQdisc (filter_added c.args.parent c.args.major c.args.filter) path n reached in
     own-planned device root (record { path = c.in-Some.path; edit = AddFilter c.args.filter }) tt n (reached-at root (path_of c.args.parent (shape root)) path n reached).there

@@ -19,7 +19,7 @@ use Rattle.q_tree.proofs.node.Node.filters_removed.Goals as goal
 pub returns-in_default-clause-plan : goal.returns-in_default-clause-plan
 returns-in_default-clause-plan c = λ device now.
     let root = c.args.self.now in
-    let planned = plan-filter_del (shape root) (shallow root c.requires) (few root c.requires) device now c.args.parent c.args.prio in
+    let planned = plan-filter_del (shape root) (shallow root c.requires.bounded) (few root c.requires.bounded) device now c.args.parent c.args.prio in
     refused-plan takes_none (plan device now (FilterDel c.args.parent c.args.prio) (shape root)) NoQdisc
     (planned ∙ target-none root (path_of c.args.parent (shape root)) NoQdisc (filters_removed c.args.prio) (sym c.qdisc.ensures ∙ ap (option_map (λ x. (x.0.items, x.1.now))) c.in_default.is))
 
@@ -28,7 +28,7 @@ returns-in-Err-clause-plan c = λ device now.
     let root = c.args.self.now in
     let n = c.in-Some.node.now in
     let path = c.in-Some.path.items in
-    let planned = plan-filter_del (shape root) (shallow root c.requires) (few root c.requires) device now c.args.parent c.args.prio in
+    let planned = plan-filter_del (shape root) (shallow root c.requires.bounded) (few root c.requires.bounded) device now c.args.parent c.args.prio in
     let found = target-some root (path_of c.args.parent (shape root)) NoQdisc (filters_removed c.args.prio) path n (sym c.qdisc.ensures ∙ ap (option_map (λ x. (x.0.items, x.1.now))) c.in-Some.is) in
     refused-plan takes_none (plan device now (FilterDel c.args.parent c.args.prio) (shape root)) c.in-Err.refusal
     (planned ∙ found ∙ same-refusal (filter_del_checks c.args.prio (shape n)) tt (with_filters path (shape n) (filter (λ (f : Filter). not (f.prio == c.args.prio)) n.own.filters)) c.in-Err.refusal (sym c.can_remove_filters.ensures ∙ c.in-Err.is))
@@ -38,7 +38,7 @@ returns-clause-plan c = λ device now.
     let root = c.args.self.now in
     let n = c.in-Some.node.now in
     let path = c.in-Some.path.items in
-    let planned = plan-filter_del (shape root) (shallow root c.requires) (few root c.requires) device now c.args.parent c.args.prio in
+    let planned = plan-filter_del (shape root) (shallow root c.requires.bounded) (few root c.requires.bounded) device now c.args.parent c.args.prio in
     let reached = sym c.qdisc.ensures ∙ ap (option_map (λ x. (x.0.items, x.1.now))) c.in-Some.is in
     let found = target-some root (path_of c.args.parent (shape root)) NoQdisc (filters_removed c.args.prio) path n reached in
     own-planned device root (record { path = c.in-Some.path; edit = RemoveFilters c.args.prio }) tt n (reached-at root (path_of c.args.parent (shape root)) path n reached).there

@@ -16,7 +16,7 @@ use Rattle.q_tree.specs.Commands.{IsRefused}
 use Rattle.q_tree.specs.Grafting.{graft_checks}
 use Rattle.q_tree.specs.Making.{IsNewNode, NeedsMemory}
 use Rattle.q_tree.specs.declared.edit.Edit.TheVariants.{Graft}
-use Rattle.q_tree.proofs.GraftLemmas.{free-shape, graft-planned, graft-planned-for, graft-refused, place-refused, there}
+use Rattle.q_tree.proofs.GraftLemmas.{free-shape, graft-planned, graft-planned-for, graft-refused, made-takes, place-refused, there}
 use Rattle.q_tree.proofs.Plans.{refused-plan}
 use Rattle.q_tree.proofs.node.Node.grafted.Goals as goal
 
@@ -86,5 +86,6 @@ returns c =
       plan = graft-planned-for (NeedsMemory k) d root (record { path = c.in-Ok.path; edit = Graft c.in-Ok-made.node }) c.in-Ok-made.node (new_qdisc d c.args.now c.args.handle k (shape root)) new d.mtu c.args.now (Some h)
           (new_made d c.args.now (Some h) k c.requires.mtu small c.add_ranges.ensures.2) (QdiscAdd c.args.place c.args.handle k) c.add_ranges.ensures c.args.now
           (planned ∙ ap (λ p. Ok (model.Graft p (new_qdisc d c.args.now c.args.handle k (shape root)))) way_is)
-          (subst (λ p. is_some (node_at p root) ≡ true) way_is (there root c.requires.bounded c.requires.lawful d c.args.now c.args.place c.args.handle k c.add_ranges.ensures.2));
+          (subst (λ p. is_some (node_at p root) ≡ true) way_is (there root c.requires.bounded c.requires.lawful d c.args.now c.args.place c.args.handle k c.add_ranges.ensures.2))
+          (made-takes k d c.args.now (Some c.handle_or_free-handle.result) c.in-Ok-made.node c.in-Ok-made.ensures.new);
     }

@@ -11,7 +11,7 @@ use Rattle.q_sound.proofs.SizedPlans.{plan-qdisc_del}
 use Rattle.q_tree.specs.Commands.{takes_none}
 use Rattle.q_tree.specs.Making.{IsNewNode}
 use Rattle.q_tree.specs.declared.edit.Edit.TheVariants.{Graft}
-use Rattle.q_tree.proofs.GraftLemmas.{graft-planned-for, leaf-new}
+use Rattle.q_tree.proofs.GraftLemmas.{graft-planned-for, leaf-alone, leaf-new}
 use Rattle.q_tree.proofs.Plans.{few, refused-plan, shallow}
 use Rattle.q_tree.proofs.TargetLemmas.{reached-at, target-none, target-some}
 use Rattle.q_tree.proofs.node.Node.pruned.Goals as goal
@@ -23,7 +23,7 @@ returns-in_default c =
     record {
       plan = λ now.
           refused-plan takes_none (plan d now (QdiscDel c.args.place c.args.handle) (shape root)) NoQdisc
-          (plan-qdisc_del (shape root) (shallow root c.requires) (few root c.requires) d now c.args.place c.args.handle
+          (plan-qdisc_del (shape root) (shallow root c.requires.bounded) (few root c.requires.bounded) d now c.args.place c.args.handle
           ∙ target-none root (target c.args.place c.args.handle (shape root)) NoQdisc (λ path n. Ok (model.Graft path (leaf_at d path (shape root)))) (sym c.target.ensures ∙ ap (option_map (λ x. (x.0.items, x.1.now))) c.in_default.is));
     }
 
@@ -39,7 +39,8 @@ returns c =
       plan = λ now.
           graft-planned-for takes_none d root (record { path = c.in-Some.path; edit = Graft c.leaf_at-leaf.result }) c.leaf_at-leaf.result (leaf_at d path (shape root)) new d.mtu now None
           (leaf-new d.mtu now d path root) (QdiscDel c.args.place c.args.handle) c.del_ranges.ensures now
-          (plan-qdisc_del (shape root) (shallow root c.requires) (few root c.requires) d now c.args.place c.args.handle
+          (plan-qdisc_del (shape root) (shallow root c.requires.bounded) (few root c.requires.bounded) d now c.args.place c.args.handle
           ∙ target-some root (target c.args.place c.args.handle (shape root)) NoQdisc (λ path n. Ok (model.Graft path (leaf_at d path (shape root)))) path n found)
-          (ap is_some (reached-at root (target c.args.place c.args.handle (shape root)) path n found).there);
+          (ap is_some (reached-at root (target c.args.place c.args.handle (shape root)) path n found).there)
+          (leaf-alone d path root c.leaf_at-leaf.result new);
     }

@@ -33,7 +33,7 @@ pub push-requires : goal.push-requires
 push-requires c =
     let root = c.args.self.now in
     let is = reached-at root (path_of c.in-Class.class.major (shape root)) c.in-Some.path.items c.in-Some.parent.now (sym c.qdisc.ensures ∙ ap (option_map (λ x. (x.0.items, x.1.now))) c.in-Some.is) in
-    (omega arith, path-short c.in-Some.path.items root c.in-Some.parent.now is.there c.requires)
+    (omega arith, path-short c.in-Some.path.items root c.in-Some.parent.now is.there c.requires.levels)
 
 pub returns : goal.returns
 returns c =

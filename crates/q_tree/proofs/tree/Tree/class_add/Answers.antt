@@ -9,8 +9,11 @@ use Rattle.q_tree.specs.Kept.{Kept}
 use Rattle.q_tree.proofs.Plans.{bounded, quiet-removed, tree-answered, tree-planned, tree-refused}
 use Rattle.q_tree.proofs.tree.Tree.class_add.Goals as goal
 
+pub class_added-requires-clause-index : goal.class_added-requires-clause-index
+class_added-requires-clause-index c = c.self.invariant.handles
+
 pub class_added-requires-clause-bounded : goal.class_added-requires-clause-bounded
-class_added-requires-clause-bounded c = bounded c.self.inside c.self.invariant
+class_added-requires-clause-bounded c = bounded c.self.inside c.self.invariant.device
 
 pub returns-in-Err : goal.returns-in-Err
 returns-in-Err c =

@@ -8,8 +8,11 @@ use Rattle.q_tree.specs.Kept.{Kept}
 use Rattle.q_tree.proofs.Plans.{bounded, quiet-removed, tree-answered, tree-planned, tree-refused}
 use Rattle.q_tree.proofs.tree.Tree.class_change.Goals as goal
 
-pub class_changed-requires : goal.class_changed-requires
-class_changed-requires c = bounded c.self.inside c.self.invariant
+pub class_changed-requires-clause-index : goal.class_changed-requires-clause-index
+class_changed-requires-clause-index c = c.self.invariant.handles
+
+pub class_changed-requires-clause-bounded : goal.class_changed-requires-clause-bounded
+class_changed-requires-clause-bounded c = bounded c.self.inside c.self.invariant.device
 
 pub returns-in-Err : goal.returns-in-Err
 returns-in-Err c =

@@ -8,11 +8,14 @@ use Rattle.q_tree.specs.Kept.{Kept}
 use Rattle.q_tree.proofs.Plans.{bounded, numbered, tree-answered, tree-lost, tree-planned, tree-refused, tree-room, tree-room-for}
 use Rattle.q_tree.proofs.tree.Tree.class_del.Goals as goal
 
+pub class_removed-requires-clause-index : goal.class_removed-requires-clause-index
+class_removed-requires-clause-index g c = c.self.invariant.handles
+
 pub class_removed-requires-clause-bounded : goal.class_removed-requires-clause-bounded
-class_removed-requires-clause-bounded g c = bounded c.self.inside c.self.invariant
+class_removed-requires-clause-bounded g c = bounded c.self.inside c.self.invariant.device
 
 pub class_removed-requires-clause-lawful : goal.class_removed-requires-clause-lawful
-class_removed-requires-clause-lawful g c = numbered c.self.inside c.self.invariant
+class_removed-requires-clause-lawful g c = numbered c.self.inside c.self.invariant.device
 
 pub returns-in-Err-clause-answer : goal.returns-in-Err-clause-answer
 returns-in-Err-clause-answer g c =

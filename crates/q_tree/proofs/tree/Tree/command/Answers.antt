@@ -21,15 +21,18 @@ planned-at command now d device root answer device_is root_is h =
     subst (λ n. IsPlanOf (WantsMemory command (plan d.tree.device now command (shape n))) command now d.tree.device n answer) root_is
     (subst (λ v. IsPlanOf (WantsMemory command (plan v now command (shape root))) command now v root answer) device_is h)
 
+pub planned-requires-clause-index : goal.planned-requires-clause-index
+planned-requires-clause-index g c = c.self.invariant.handles
+
 pub planned-requires-clause-bounded : goal.planned-requires-clause-bounded
-planned-requires-clause-bounded g c = bounded c.self.inside c.self.invariant
+planned-requires-clause-bounded g c = bounded c.self.inside c.self.invariant.device
 
 pub planned-requires-clause-lawful : goal.planned-requires-clause-lawful
 planned-requires-clause-lawful g c =
     let d = c.args.self.now in
     let now_is : c.self.inside.clock ≡ d.clock = ap (λ (x : DeviceState Kept). x.clock) c.self.view_is in
     let mtu_is : c.self.inside.mtu ≡ c.link.result.mtu = ap (λ (x : DeviceState Kept). x.tree.device.mtu) c.self.view_is ∙ sym c.link.ensures.mtu in
-    subst (λ m. IsLawfulRoot m c.args.now c.self.inside.root) mtu_is (lawful-root c.self.inside c.self.invariant c.args.now (omega (arith, now_is, c.requires.order)) (omega (arith, c.ns.ensures.in_range)))
+    subst (λ m. IsLawfulRoot m c.args.now c.self.inside.root) mtu_is (lawful-root c.self.inside c.self.invariant.device c.args.now (omega (arith, now_is, c.requires.order)) (omega (arith, c.ns.ensures.in_range)))
 
 pub edit-requires-clause-sink : goal.edit-requires-clause-sink
 edit-requires-clause-sink g c =

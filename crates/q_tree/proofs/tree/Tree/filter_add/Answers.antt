@@ -8,8 +8,11 @@ use Rattle.q_tree.specs.Kept.{Kept}
 use Rattle.q_tree.proofs.Plans.{bounded, quiet-removed, tree-answered, tree-planned, tree-refused}
 use Rattle.q_tree.proofs.tree.Tree.filter_add.Goals as goal
 
-pub filter_added-requires : goal.filter_added-requires
-filter_added-requires c = bounded c.self.inside c.self.invariant
+pub filter_added-requires-clause-index : goal.filter_added-requires-clause-index
+filter_added-requires-clause-index c = c.self.invariant.handles
+
+pub filter_added-requires-clause-bounded : goal.filter_added-requires-clause-bounded
+filter_added-requires-clause-bounded c = bounded c.self.inside c.self.invariant.device
 
 pub returns-in-Err : goal.returns-in-Err
 returns-in-Err c =

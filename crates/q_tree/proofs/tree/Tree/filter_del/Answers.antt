@@ -8,8 +8,11 @@ use Rattle.q_tree.specs.Kept.{Kept}
 use Rattle.q_tree.proofs.Plans.{bounded, quiet-removed, tree-answered, tree-planned, tree-refused}
 use Rattle.q_tree.proofs.tree.Tree.filter_del.Goals as goal
 
-pub filters_removed-requires : goal.filters_removed-requires
-filters_removed-requires c = bounded c.self.inside c.self.invariant
+pub filters_removed-requires-clause-index : goal.filters_removed-requires-clause-index
+filters_removed-requires-clause-index c = c.self.invariant.handles
+
+pub filters_removed-requires-clause-bounded : goal.filters_removed-requires-clause-bounded
+filters_removed-requires-clause-bounded c = bounded c.self.inside c.self.invariant.device
 
 pub returns-in-Err : goal.returns-in-Err
 returns-in-Err c =

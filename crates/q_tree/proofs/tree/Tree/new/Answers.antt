@@ -1,11 +1,14 @@
 use Rattle.std.proofs.Common.{◌≡◌, ◌∙◌, ◌<◌, ◌^◌, [], sym, ap, ap₂, subst, arith}
-use Rattle.std.specs.Prelude.{None}
+use Rattle.std.specs.Prelude.{None, suc}
+use Rattle.std.specs.List.{sum}
 use Rattle.q_codel.specs.declared.limit.Limit.TheVariants.{Packets}
 use Rattle.q_model.specs.Beneath.{beneath, beneath_own, totals_in}
+use Rattle.q_model.specs.Find.{addresses_own}
 use Rattle.q_model.specs.Make.{Device}
 use Rattle.q_model.specs.Node as spec
 use Rattle.q_model.specs.Node.{Own, Forest, each, each_memory}
 use Rattle.q_model.specs.Tally.{Counts, no_totals}
+use Rattle.q_sound.proofs.EditSizes.{nodes_own}
 use Rattle.q_tree.specs.Kept.{Kept}
 use Rattle.q_tree.specs.Seen.{IsCountedWithin}
 use Rattle.q_tree.proofs.TreeLemmas.{new-device}
@@ -18,7 +21,12 @@ invariant_of-result c =
     c.fifo.ensures.own ∙ ap (λ n. record { handle = None; discipline = spec.Fifo (Packets n) []; held = None; filters = [] }) c.from.ensures in
     let empty : beneath c.fifo.result ≡ [] = ap₂ (λ (o : Own) (x : Forest Kept). beneath_own o (each beneath_own x)) own c.fifo.ensures.alone in
     let most : c.args.mtu < 2 ^ 16 = omega (arith, c.ranges) in
-    new-device d _ c.requires most c.zero.ensures
-    (λ i. record { device = d; top = record { arrived = no_totals; sent = no_totals; refused = no_totals; dropped = no_totals; marked = no_totals }; root = record { own = own i; memory = c.fifo.ensures.counts i; below = each_memory (λ (k : Kept). k.counts) (c.fifo.ensures.alone i) } })
-    (sym (ap totals_in empty))
-    (subst (λ (k : Counts). IsCountedWithin k.arrived no_totals) (sym c.fifo.ensures.counts) (record { packets = omega arith; bytes = omega arith }))
+    record {
+      device =
+          new-device d _ c.requires most c.zero.ensures
+          (λ i. record { device = d; top = record { arrived = no_totals; sent = no_totals; refused = no_totals; dropped = no_totals; marked = no_totals }; root = record { own = own i; memory = c.fifo.ensures.counts i; below = each_memory (λ (k : Kept). k.counts) (c.fifo.ensures.alone i) } })
+          (sym (ap totals_in empty))
+          (subst (λ (k : Counts). IsCountedWithin k.arrived no_totals) (sym c.fifo.ensures.counts) (record { packets = omega arith; bytes = omega arith }));
+      handles = c.new.ensures ∙ sym (ap₂ (λ (o : Own) (x : Forest Kept). addresses_own o (each addresses_own x)) own c.fifo.ensures.alone);
+      room = λ more. absurd (omega (arith, more, ap (λ (x : Forest Kept). suc (sum (each nodes_own x))) c.fifo.ensures.alone));
+    }

@@ -6,5 +6,5 @@ pub nth-requires : goal.nth-requires
 nth-requires c = record {
   mtu = c.self.inside.mtu;
   clock = c.self.inside.clock;
-  lawful = lawful-root c.self.inside c.self.invariant c.self.inside.clock (omega arith) c.self.invariant.keeps.moment;
+  lawful = lawful-root c.self.inside c.self.invariant.device c.self.inside.clock (omega arith) c.self.invariant.device.keeps.moment;
 }

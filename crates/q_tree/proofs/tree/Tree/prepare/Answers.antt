@@ -1,4 +1,4 @@
-use Rattle.std.proofs.Common.{◌∙◌, List, ℕ, sym, ap, subst}
+use Rattle.std.proofs.Common.{◌∙◌, List, ℕ, refl, sym, ap, subst}
 use Rattle.std.specs.Prelude.{IsSome, Some, None, if◌then◌else◌}
 use Rattle.q_model.specs.Find.{node_at}
 use Rattle.q_model.specs.Route.{device_route}
@@ -6,6 +6,7 @@ use Rattle.q_model.specs.Step.{DeviceState}
 use Rattle.q_tree.specs.Kept.{Kept}
 use Rattle.q_tree.specs.RouteSeen.{RouteSeen}
 use Rattle.q_tree.specs.TreeSeen.{CanArrive, IsRouteIn, tree_seen}
+use Rattle.q_tree.proofs.TreeIndex.{placed-form, still-indexed}
 use Rattle.q_tree.proofs.TreePuts.{arrives-still, route-leads, prepared-kept, same-routes}
 use Rattle.q_tree.proofs.tree.Tree.prepare.Goals as goal
 
@@ -15,7 +16,9 @@ prepare-requires c =
     subst (λ (path : List ℕ). IsSome (node_at path c.self.inside.root)) (sym c.places.ensures) way
 
 pub invariant_of-self : goal.invariant_of-self
-invariant_of-self c = prepared-kept c.self.inside c.self.invariant c.prepare.new.self c.prepare.ensures.same
+invariant_of-self c =
+    still-indexed c.self.inside (record c.self.inside { root = c.prepare.new.self }) c.self.invariant (prepared-kept c.self.inside c.self.invariant.device c.prepare.new.self c.prepare.ensures.same)
+    refl (placed-form c.self.inside.root c.prepare.new.self c.prepare.ensures.same)
 
 pub returns-clause-routes : goal.returns-clause-routes
 returns-clause-routes c = λ p.

@@ -5,11 +5,10 @@ use Rattle.q_model.specs.TreeState.{stats}
 use Rattle.q_tree.specs.Kept.{Kept, kept}
 use Rattle.q_tree.specs.TreeSeen.{tree_seen}
 use Rattle.q_tree.proofs.StatsLemmas.{class-stats}
-use Rattle.q_tree.proofs.TreePuts.{levels}
 use Rattle.q_tree.proofs.tree.Tree.stats.Goals as goal
 
 pub find-requires : goal.find-requires
-find-requires c = levels c.self.inside c.self.invariant
+find-requires c = c.self.invariant.handles
 
 pub returns-in_err-class-in-Class : goal.returns-in_err-class-in-Class
 returns-in_err-class-in-Class c =

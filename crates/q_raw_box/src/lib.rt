@@ -1,0 +1,37 @@
+//! A box as the address of its value, for a caller that is not Rattle.
+#![tactic(auto)]
+
+ghost use Rattle.std.specs.Prelude.{◌≡◌};
+ghost use Rattle.std_alloc.specs.Box.Ownership.{box_owns};
+
+use std::alloc::Allocator;
+use std::marker::Model;
+
+/// A box as its address.
+pub struct RawBox<T, A: Allocator> {
+    pub at: *mut T,
+    pub alloc: A,
+    pub ghost value: { T },
+}
+
+impl<T, A: Allocator> Model for RawBox<T, A> {
+    ghost also_owns = { λ l. box_owns (A.dealloc_token l.alloc) T.row l.at l.value };
+}
+
+impl<T: Drop, A: Allocator> RawBox<T, A> {
+    /// The address of the box's value.
+    pub fn of(value: Box<T, A>) -> RawBox<T, A>
+        ensures { result.value ≡ value.value }
+    {
+        let (at, alloc) = Box::into_raw_with_allocator(value);
+        RawBox { at, alloc }
+    }
+
+    /// The box again.
+    pub fn into_box(self) -> Box<T, A>
+        ensures { result.value ≡ self.value }
+    {
+        let RawBox { at, alloc } = self;
+        unsafe { Box::from_raw(alloc, at) }
+    }
+}

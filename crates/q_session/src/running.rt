@@ -1,0 +1,77 @@
+ghost use Rattle.std.specs.Prelude.{◌≡◌, ◌≤◌, ◌<◌, length, IfOk, IfSome, OnOk, Err};
+ghost use Rattle.std.specs.Io.KnownBytes.{Keeps};
+ghost use Rattle.q_show.specs.Writes.{no_writes};
+ghost use Rattle.q_script.specs.Ended.{Ended};
+ghost use Rattle.q_script.specs.Reads.{no_reads};
+ghost use Rattle.q_session.specs.Reported.{IsReported, IsPartlyReported};
+
+use crate::device_session::DeviceSession;
+use q_script::{Outcome, RunFault, RunSettings, Source};
+use q_show::Target;
+use std::alloc::Global;
+use std::io::{ErrorKind, Read, Write};
+
+/// Runs a script as [`run`] does, from a source of which no read was made to a target on which no write was made. What their
+/// reads and writes came to says which answer this is:
+///
+/// - An outcome: the reads came to the end, and no read or write failed.
+/// - `Read`: the last read failed, or all of the 16,777,218 reads were made, some of which were interrupted.
+/// - `Write`: the last write failed or took no byte, or it was interrupted once more than a text's writes may be.
+///
+/// No read or write fails but it is told by this answer, with its kind.
+pub fn run_between<R: Read, W: Write>(
+    alloc: Global,
+    source: &mut Source<'_, R>,
+    target: &mut Target<'_, W>,
+    settings: RunSettings,
+) -> Result<Outcome, RunFault>
+    requires unread { source.old.reads ≡ no_reads }
+    requires unwritten { target.old.writes ≡ no_writes }
+    ensures same_reader { source.new.reader.ghost_name ≡ source.old.reader.ghost_name }
+    ensures same_writer { target.new.writer.ghost_name ≡ target.old.writer.ghost_name }
+    ensures report { IfOk result (λ outcome. IfSome (R.remaining source.old.reader.now) (λ script.
+        IsReported settings script outcome (W.contents target.old.writer.now) (W.contents target.new.writer.now))) }
+    ensures short { OnOk result (IfSome (R.remaining source.old.reader.now) (λ script. length script ≤ 16777216)) }
+    ensures too_long_only { result ≡ Err RunFault.TooLong → IfSome (R.remaining source.old.reader.now) (λ script. 16777216 < length script) }
+    ensures partly { (kind : ErrorKind) → result ≡ Err (RunFault.Write kind) → IfSome (R.remaining source.old.reader.now) (λ script.
+        IsPartlyReported settings script (W.contents target.old.writer.now) (W.contents target.new.writer.now)) }
+
+    // What the reads and writes came to, and what was written where no report was.
+    ensures ended { Ended result source.new.reads target.new.writes }
+    ensures read_unwritten { (kind : ErrorKind) → result ≡ Err (RunFault.Read kind) → target.new ≡ target.old }
+    ensures too_long_unwritten { result ≡ Err RunFault.TooLong → target.new ≡ target.old }
+    ensures memory_unwritten { result ≡ Err RunFault.Memory → target.new ≡ target.old }
+{
+    let Ok(mut session) = DeviceSession::open(alloc, &settings) else {
+        return Err(RunFault::Memory);
+    };
+    q_script::run_between(alloc, source, target, &mut session)
+}
+
+/// Reads a script of at most 16,777,216 bytes and writes its report. No line is run before the whole script was read. The
+/// reader is asked 16,777,218 times at most; a read that was interrupted counts as one.
+///
+/// After `Read`, `TooLong` and `Memory` nothing was written, and after `Write` (any error of a write, or one that takes no
+/// byte) a front of a report, and not all of it. [`run_between`] says when each of them comes.
+pub fn run<R: Read, W: Write>(
+    alloc: Global,
+    reader: &mut R,
+    writer: &mut W,
+    settings: RunSettings,
+) -> Result<Outcome, RunFault>
+    // What was written is the report of what the reader had, and nothing else.
+    ensures report { IfOk result (λ outcome. IfSome (R.remaining reader.old) (λ script.
+        IsReported settings script outcome (W.contents writer.old) (W.contents writer.new))) }
+    ensures short { OnOk result (IfSome (R.remaining reader.old) (λ script. length script ≤ 16777216)) }
+
+    ensures read { (kind : ErrorKind) → result ≡ Err (RunFault.Read kind) → Keeps (W.contents writer.old) (W.contents writer.new) }
+    ensures too_long { result ≡ Err RunFault.TooLong → Keeps (W.contents writer.old) (W.contents writer.new) }
+    ensures too_long_only { result ≡ Err RunFault.TooLong → IfSome (R.remaining reader.old) (λ script. 16777216 < length script) }
+    ensures memory { result ≡ Err RunFault.Memory → Keeps (W.contents writer.old) (W.contents writer.new) }
+    ensures write { (kind : ErrorKind) → result ≡ Err (RunFault.Write kind) → IfSome (R.remaining reader.old) (λ script.
+        IsPartlyReported settings script (W.contents writer.old) (W.contents writer.new)) }
+{
+    let mut source = Source::new(reader);
+    let mut target = Target::new(writer);
+    run_between(alloc, &mut source, &mut target, settings)
+}

@@ -1,0 +1,198 @@
+//! From which moment on a device may give its next packet, as long as nothing arrives and no command comes.
+use crate::bench::{New, Spot};
+use crate::device_bench::{Ask, Call, called};
+use q_device::Fate;
+use std::test::Fail;
+
+const KEPT: Fate = Fate::Kept;
+
+const SECOND: u64 = 1_000_000_000;
+
+// The latest moment.
+const LATEST: u64 = 1 << 62;
+
+// 8000 bits a second bring a byte in a millisecond.
+const SLOW: New = New::Shaper(8_000, 1_500);
+
+#[test]
+fn a_fifo_is_ready_at_once_while_it_has_a_packet(rt: HostRuntime) -> Result<(), Fail> {
+    called(
+        rt.alloc(),
+        &[
+            Call::NeverReady,
+            Call::Arrive(1, 1_000, 0, 5, KEPT),
+            Call::Ready(5),
+            Call::Poll(5, 1),
+            Call::NeverReady,
+        ],
+    )
+}
+
+#[test]
+fn a_tbf_is_ready_once_its_level_covers_the_head(rt: HostRuntime) -> Result<(), Fail> {
+    called(
+        rt.alloc(),
+        &[
+            Call::Do(Ask::Graft(Spot::Root, 1, SLOW), 0, None),
+            Call::Arrive(1, 1_000, 0, 0, KEPT),
+            Call::Arrive(2, 1_000, 0, 0, KEPT),
+            Call::Ready(0),
+            Call::Poll(0, 1),
+            Call::Later(0),
+            Call::Ready(500_000_000),
+            Call::Later(499_999_999),
+            Call::Ready(500_000_000),
+            Call::Poll(500_000_000, 2),
+            Call::NeverReady,
+        ],
+    )
+}
+
+// What an fq_codel would show is known once it was asked: before that its moment is the least that it can be.
+#[test]
+fn a_tbf_waits_for_what_the_first_band_has_at_hand(rt: HostRuntime) -> Result<(), Fail> {
+    called(
+        rt.alloc(),
+        &[
+            Call::Do(Ask::Graft(Spot::Root, 1, SLOW), 0, None),
+            Call::Do(Ask::Graft(Spot::Class(1, 1), 2, New::Prio(2)), 0, None),
+            Call::Do(Ask::Graft(Spot::Class(2, 1), 3, New::Flows(4)), 0, None),
+            Call::Do(Ask::Graft(Spot::Class(2, 2), 4, New::Flows(4)), 0, None),
+            Call::Arrive(1, 1_000, 0, 0, KEPT),
+            Call::Arrive(2, 1_000, 0, 0, KEPT),
+            Call::Arrive(3, 1_000, 1, 0, KEPT),
+            Call::Poll(0, 1),
+            Call::Ready(0),
+            Call::Later(0),
+            Call::Ready(500_000_000),
+            Call::Later(499_999_999),
+            Call::Poll(500_000_000, 2),
+            Call::Ready(500_000_000),
+            Call::Later(500_000_000),
+            Call::Ready(1_500_000_000),
+            Call::Later(1_499_999_999),
+            Call::Poll(1_500_000_000, 3),
+            Call::NeverReady,
+        ],
+    )
+}
+
+#[test]
+fn a_prio_is_ready_as_soon_as_one_of_its_bands(rt: HostRuntime) -> Result<(), Fail> {
+    called(
+        rt.alloc(),
+        &[
+            Call::Do(Ask::Graft(Spot::Root, 1, New::Prio(2)), 0, None),
+            Call::Do(Ask::Graft(Spot::Class(1, 1), 2, SLOW), 0, None),
+            Call::Arrive(1, 1_000, 0, 0, KEPT),
+            Call::Arrive(2, 1_000, 0, 0, KEPT),
+            Call::Poll(0, 1),
+            Call::Later(0),
+            Call::Ready(500_000_000),
+            Call::Arrive(3, 100, 1, 7, KEPT),
+            Call::Ready(7),
+            Call::Poll(7, 3),
+            Call::Ready(500_000_000),
+            Call::Later(499_999_999),
+            Call::Poll(500_000_000, 2),
+            Call::NeverReady,
+        ],
+    )
+}
+
+#[test]
+fn a_drr_is_ready_when_its_front_class_is(rt: HostRuntime) -> Result<(), Fail> {
+    called(
+        rt.alloc(),
+        &[
+            Call::Do(Ask::Graft(Spot::Root, 1, New::Drr), 0, None),
+            Call::Do(Ask::AddClass(1, 1, 1_500), 0, None),
+            Call::Do(Ask::AddClass(1, 2, 1_500), 0, None),
+            Call::Do(Ask::Match(1, 1, 1), 0, None),
+            Call::Do(Ask::Match(1, 2, 2), 0, None),
+            Call::Do(Ask::Graft(Spot::Class(1, 1), 2, SLOW), 0, None),
+            Call::Arrive(1, 1_000, 1, 0, KEPT),
+            Call::Arrive(2, 1_000, 1, 0, KEPT),
+            Call::Poll(0, 1),
+            Call::Arrive(3, 100, 2, 0, KEPT),
+            Call::Later(0),
+            Call::Ready(500_000_000),
+            Call::Later(499_999_999),
+            Call::Poll(500_000_000, 3),
+            Call::Ready(500_000_000),
+            Call::Poll(500_000_000, 2),
+            Call::NeverReady,
+        ],
+    )
+}
+
+// The later of the two moments counts, whichever bucket has it.
+#[test]
+fn of_two_tbfs_the_later_one_decides(rt: HostRuntime) -> Result<(), Fail> {
+    for (outer, inner) in [(8_000, 4_000), (4_000, 8_000)] {
+        called(
+            rt.alloc(),
+            &[
+                Call::Do(
+                    Ask::Graft(Spot::Root, 1, New::Shaper(outer, 1_500)),
+                    0,
+                    None,
+                ),
+                Call::Do(
+                    Ask::Graft(Spot::Class(1, 1), 2, New::Shaper(inner, 1_500)),
+                    0,
+                    None,
+                ),
+                Call::Arrive(1, 1_000, 0, 0, KEPT),
+                Call::Arrive(2, 1_000, 0, 0, KEPT),
+                Call::Poll(0, 1),
+                Call::Later(0),
+                Call::Ready(SECOND),
+                Call::Later(SECOND - 1),
+                Call::Poll(SECOND, 2),
+                Call::NeverReady,
+            ],
+        )?;
+    }
+    Ok(())
+}
+
+#[test]
+fn a_packet_as_long_as_the_burst_waits_until_the_bucket_is_full(
+    rt: HostRuntime,
+) -> Result<(), Fail> {
+    called(
+        rt.alloc(),
+        &[
+            Call::Do(
+                Ask::Graft(Spot::Root, 1, New::Shaper(8_000, 1_000)),
+                0,
+                None,
+            ),
+            Call::Arrive(1, 1_000, 0, 0, KEPT),
+            Call::Arrive(2, 1_000, 0, 0, KEPT),
+            Call::Poll(0, 1),
+            Call::Later(0),
+            Call::Ready(SECOND),
+            Call::Later(SECOND - 1),
+            Call::Poll(SECOND, 2),
+        ],
+    )
+}
+
+#[test]
+fn no_moment_is_past_the_latest_one(rt: HostRuntime) -> Result<(), Fail> {
+    called(
+        rt.alloc(),
+        &[
+            Call::Do(Ask::Graft(Spot::Root, 1, SLOW), 0, None),
+            Call::Arrive(1, 1_000, 0, 0, KEPT),
+            Call::Arrive(2, 1_000, 0, 0, KEPT),
+            Call::Poll(LATEST - 1, 1),
+            Call::Later(LATEST - 1),
+            Call::NeverReady,
+            Call::Later(LATEST),
+            Call::NeverReady,
+        ],
+    )
+}

@@ -1,0 +1,87 @@
+-- Packets that arrive in order, after so many of them.
+use Rattle.std.proofs.Common.{◌≡◌, ℕ, suc, ◌+◌, ◌<◌, ◌≤◌, List, [], ◌∷◌, ◌++◌, refl, sym, ap, ap₂, subst, ◌∙◌, arith}
+use Rattle.std.specs.Prelude.{All, drop, length, set, take}
+use Rattle.std.proofs.lemmas.List.Elements.{All-append, All-cons, All-nil, All-same}
+use Rattle.q_device.specs.DeviceSeen.{DeviceSeen}
+use Rattle.qtree_c.specs.Calls.{IsArrival}
+use Rattle.qtree_c.specs.Codes.{reply_number}
+use Rattle.qtree_c.specs.Events.{after_event, reply_to, with_memory}
+use Rattle.qtree_c.specs.Folds.{arrival, arrived_by, fates_by, IsArrivals}
+use Rattle.qtree_c.specs.Structs.{IsPacket}
+use Rattle.qtree_c.specs.declared.c_packet.CPacket.{CPacket}
+use Rattle.qtree_c.proofs.EventLemmas.{after-memory, reply-memory}
+use Rattle.qtree_c.proofs.PlaceLemmas.{filled-more, length-front}
+
+-- the first `i` packets arrived, and the numbers of their fates stand in the first places
+pub record IsArriving (i now : ℕ) (packets : List CPacket) (before after : List ℕ) (d d' : DeviceSeen) : Type 0 where
+  pub arrived : d' ≡ with_memory d'.memory (arrived_by now (take i packets) d)
+  pub fates : after ≡ fates_by now (take i packets) d ++ drop i before
+  pub in_range : All IsPacket (take i packets)
+
+-- ---- one packet more
+
+arrived-more : (now : ℕ) (cs : List CPacket) (c : CPacket) (d : DeviceSeen) → arrived_by now (cs ++ c ∷ []) d ≡ after_event (arrival now c) (arrived_by now cs d)
+arrived-more now [] c d = refl
+arrived-more now (x ∷ cs) c d = arrived-more now cs c (after_event (arrival now x) d)
+
+fates-more : (now : ℕ) (cs : List CPacket) (c : CPacket) (d : DeviceSeen)
+    → fates_by now (cs ++ c ∷ []) d ≡ fates_by now cs d ++ reply_number (reply_to (arrival now c) (arrived_by now cs d)) ∷ []
+fates-more now [] c d = refl
+fates-more now (x ∷ cs) c d = ap (λ ns. reply_number (reply_to (arrival now x) d) ∷ ns) (fates-more now cs c (after_event (arrival now x) d))
+
+fates-length : (now : ℕ) (cs : List CPacket) (d : DeviceSeen) → length (fates_by now cs d) ≡ length cs
+fates-length now [] d = refl
+fates-length now (x ∷ cs) d = ap suc (fates-length now cs (after_event (arrival now x) d))
+
+pub arriving-begins : (now : ℕ) (packets : List CPacket) (before : List ℕ) (d : DeviceSeen) → IsArriving 0 now packets before before d d
+arriving-begins now packets before d = record { arrived = refl; fates = refl; in_range = All-nil IsPacket }
+
+pub arriving-more : (i now code : ℕ) (packets : List CPacket) (before after : List ℕ) (d d' d'' : DeviceSeen) (c : CPacket)
+    → IsArriving i now packets before after d d' → i < length packets → length packets ≤ length before → take (i + 1) packets ≡ take i packets ++ c ∷ []
+    → IsArrival c now code d' d'' → code ≤ 6 → IsArriving (i + 1) now packets before (set after i code) d d''
+arriving-more i now code packets before after d d' d'' c inv lt room more did few =
+    let next : suc i ≡ i + 1 = omega arith in
+    let firsts = take i packets in
+    let x = arrived_by now firsts d in
+    let counted : length (fates_by now firsts d) ≡ i = fates-length now firsts d ∙ length-front i packets (omega (arith, lt)) in
+    let told : code ≡ reply_number (reply_to (arrival now c) x) =
+    did.fate few ∙ (ap (λ (y : DeviceSeen). reply_number (reply_to (arrival now c) y)) inv.arrived ∙ ap (λ r. reply_number r) (reply-memory (arrival now c) d'.memory x)) in
+    record {
+      arrived = did.arrived few
+          ∙ (ap (λ (y : DeviceSeen). with_memory d''.memory (after_event (arrival now c) y)) inv.arrived
+          ∙ (ap (λ (y : DeviceSeen). with_memory d''.memory y) (after-memory (arrival now c) d'.memory x)
+          ∙ ap (λ (y : DeviceSeen). with_memory d''.memory y) (sym (ap (λ (cs : List CPacket). arrived_by now cs d) more ∙ arrived-more now firsts c d))));
+      fates = ap (λ (ns : List ℕ). set ns i code) inv.fates
+          ∙ (subst (λ (k : ℕ). set (fates_by now firsts d ++ drop k before) k code ≡ (fates_by now firsts d ++ code ∷ []) ++ drop (suc k) before) counted
+          (filled-more (fates_by now firsts d) before code (omega (arith, counted, lt, room)))
+          ∙ ap₂ (λ (ns : List ℕ) (k : ℕ). ns ++ drop k before)
+          (ap (λ (n : ℕ). fates_by now firsts d ++ n ∷ []) told ∙ sym (ap (λ (cs : List CPacket). fates_by now cs d) more ∙ fates-more now firsts c d)) next);
+      in_range = All-same IsPacket (take (i + 1) packets) (firsts ++ c ∷ []) more
+          (All-append IsPacket firsts (c ∷ []) inv.in_range (All-cons IsPacket c [] (did.in_range (λ e. absurd (omega (arith, few, e)))) (All-nil IsPacket)));
+    }
+
+-- all of them arrived
+pub arriving-ends : (i now : ℕ) (packets : List CPacket) (before after : List ℕ) (d d' : DeviceSeen)
+    → IsArriving i now packets before after d d' → i ≡ length packets → IsArrivals now packets 0 i before after d d'
+arriving-ends i now packets before after d d' inv end = record {
+  arrived = inv.arrived;
+  fates = inv.fates;
+  in_range = inv.in_range;
+  most = omega (arith, end);
+  all = λ _. end;
+  stopped = λ ne. absurd (ne refl);
+  out_of_range = λ ne. absurd (ne refl);
+}
+
+-- the next one did not
+pub arriving-stops : (i now code : ℕ) (packets : List CPacket) (before after : List ℕ) (d d' d'' : DeviceSeen) (c : CPacket)
+    → IsArriving i now packets before after d d' → i < length packets → IsArrival c now code d' d'' → 6 < code → IsArrivals now packets code i before after d d''
+arriving-stops i now code packets before after d d' d'' c inv lt did many = record {
+  arrived = did.nothing many ∙ ap (λ (y : DeviceSeen). with_memory d''.memory y) inv.arrived;
+  fates = inv.fates;
+  in_range = inv.in_range;
+  most = omega (arith, lt);
+  all = λ e. absurd (omega (arith, many, e));
+  stopped = λ _. lt;
+  out_of_range = λ _ ne. did.memory many ne;
+}

@@ -1,0 +1,10 @@
+use Rattle.qtree_c.specs.Events.{after_event, reply_to}
+use Rattle.qtree_c.proofs.steps.arrive.Goals as goal
+
+pub returns-in-Ok-clause-event : goal.returns-in-Ok-clause-event
+unfolding after_event
+returns-in-Ok-clause-event c = c.in-Ok.ensures.event
+
+pub returns-in-Ok-clause-fate : goal.returns-in-Ok-clause-fate
+unfolding reply_to
+returns-in-Ok-clause-fate c = c.in-Ok.ensures.fate

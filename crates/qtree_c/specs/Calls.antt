@@ -1,0 +1,81 @@
+-- What each call from C does to an open device, and what it answers.
+-- The calls are this project's own; what their events do stands in q_model's specs/Step.antt.
+use Rattle.std.specs.Prelude.{◌≡◌, ◌≢◌, ℕ, ◌<◌, ◌≤◌, length, slice_get, Option, Some, None}
+use Rattle.q_codel.specs.declared.loss.Loss.{Loss}
+use Rattle.q_model.specs.declared.event.Event.{Event}
+use Rattle.q_model.specs.declared.event.Event.TheVariants as event
+use Rattle.q_model.specs.declared.place.Place.{Place}
+use Rattle.q_model.specs.declared.row.Row.{Row}
+use Rattle.q_model.specs.Tally.{totals}
+use Rattle.q_model.specs.TreeState.{stats}
+use Rattle.q_device.specs.DeviceSeen.{DeviceSeen, HasRoomFor, reaped}
+use Rattle.qtree_c.specs.Codes.{reply_number}
+use Rattle.qtree_c.specs.Events.{after_event, reply_to, with_memory}
+use Rattle.qtree_c.specs.Structs.{IsPacket, descriptor, event_of, given_or, loss_of, row_of}
+use Rattle.qtree_c.specs.declared.c_event.CEvent.{CEvent}
+use Rattle.qtree_c.specs.declared.c_loss.CLoss.{CLoss}
+use Rattle.qtree_c.specs.declared.c_packet.CPacket.{CPacket}
+use Rattle.qtree_c.specs.declared.c_row.CRow.{CRow}
+
+-- A call on a place. A closed one stays closed, and 50 is answered; an open one stays open, and the call does this to its device.
+abbrev pub Calls : (DeviceSeen → DeviceSeen → Type 0) → ℕ → Option DeviceSeen → Option DeviceSeen → Type 0
+Calls does code None new = (code ≡ 50) × (new ≡ None)
+Calls does code (Some d) None = ⊥
+Calls does code (Some d) (Some n) = does d n
+
+-- A packet arrived, and its fate is answered; or a field is out of its range, or memory is refused, and nothing happened.
+pub record IsArrival (c : CPacket) (now : ℕ) (code : ℕ) (d n : DeviceSeen) : Type 0 where
+  pub arrived : code ≤ 6 → n ≡ with_memory n.memory (after_event (event.Arrive (descriptor c) now) d)
+  pub fate : code ≤ 6 → code ≡ reply_number (reply_to (event.Arrive (descriptor c) now) d)
+  pub nothing : 6 < code → n ≡ with_memory n.memory d
+  pub in_range : code ≢ 42 → IsPacket c
+  pub out_of_range : IsPacket c → code ≢ 42
+  pub memory : 6 < code → code ≢ 42 → code ≡ 90
+  pub succeeds : IsPacket c → HasRoomFor (descriptor c) d → code ≤ 6
+
+-- a poll, and the packet that it gives where one stood before
+pub record IsPoll (now code : ℕ) (before after : CPacket) (d n : DeviceSeen) : Type 0 where
+  pub polled : n ≡ with_memory n.memory (after_event (event.Poll now) d)
+  pub answer : code ≡ reply_number (reply_to (event.Poll now) d)
+  pub packet : after ≡ given_or before (reply_to (event.Poll now) d)
+
+-- the answer where one may be there, and what then stands in the place of what stood there before
+abbrev pub found_number : {A : Type 0} → Option A → ℕ
+found_number None = 32
+found_number (Some x) = 0
+
+abbrev pub loss_or : CLoss → Option Loss → CLoss
+loss_or before None = before
+loss_or before (Some l) = loss_of l
+
+abbrev pub row_or : CRow → Option Row → CRow
+row_or before None = before
+row_or before (Some r) = row_of r
+
+-- the oldest loss is handed out
+pub record IsReap (code : ℕ) (before after : CLoss) (d n : DeviceSeen) : Type 0 where
+  pub rest : n ≡ reaped d
+  pub answer : code ≡ found_number (slice_get d.waiting 0)
+  pub loss : after ≡ loss_or before (slice_get d.waiting 0)
+
+-- what was counted at a node
+pub record IsRow (place : Place) (code : ℕ) (before after : CRow) (d n : DeviceSeen) : Type 0 where
+  pub same : n ≡ d
+  pub answer : code ≡ found_number (stats totals place d.device.tree)
+  pub row : after ≡ row_or before (stats totals place d.device.tree)
+
+-- the event that is told, where it is recorded
+abbrev pub event_or : CEvent → Option Event → CEvent
+event_or before None = before
+event_or before (Some e) = event_of e
+
+pub record IsRecorded (index code : ℕ) (before after : CEvent) (d n : DeviceSeen) : Type 0 where
+  pub same : n ≡ d
+  pub answer : code ≡ found_number (slice_get d.recorded index)
+  pub event : after ≡ event_or before (slice_get d.recorded index)
+
+pub record IsCountOfEvents (code events recorded : ℕ) (d n : DeviceSeen) : Type 0 where
+  pub same : n ≡ d
+  pub answer : code ≡ 0
+  pub happened : events ≡ d.events
+  pub kept : recorded ≡ length d.recorded

@@ -1,0 +1,83 @@
+-- What calls in a row do: each is the single call, up to the first that stops them.
+-- The calls are this project's own.
+use Rattle.std.specs.Prelude.{◌≡◌, ◌≢◌, ℕ, zero, suc, ◌+◌, ◌<◌, ◌≤◌, List, [], ◌∷◌, ◌++◌, All, map, take, drop, length, Option, Some, None, option_map}
+use Rattle.q_model.specs.declared.event.Event.{Event}
+use Rattle.q_model.specs.declared.event.Event.TheVariants.{Arrive, Poll}
+use Rattle.q_device.specs.DeviceSeen.{DeviceSeen}
+use Rattle.q_device.specs.Laws.{given_in}
+use Rattle.qtree_c.specs.Codes.{reply_number}
+use Rattle.qtree_c.specs.Events.{after_event, reply_to, with_memory}
+use Rattle.qtree_c.specs.Structs.{IsPacket, descriptor, loss_of, packet_of}
+use Rattle.qtree_c.specs.declared.c_loss.CLoss.{CLoss}
+use Rattle.qtree_c.specs.declared.c_packet.CPacket.{CPacket}
+
+-- ---- polls
+
+-- the packet that a poll gives, if any
+abbrev pub given_at : ℕ → DeviceSeen → Option CPacket
+given_at now d = option_map packet_of (given_in (reply_to (Poll now) d))
+
+-- what follows a packet, and nothing where none was given
+abbrev pub and_then : Option CPacket → List CPacket → List CPacket
+and_then (Some p) rest = p ∷ rest
+and_then None rest = []
+
+-- what comes of the polls that follow a packet; the last one's, where it gave none
+abbrev pub or_last : {A : Type 0} → Option CPacket → A → A → A
+or_last (Some p) last rest = rest
+or_last None last rest = last
+
+-- the packets that so many polls at most give, the device after them, and the answer to the last
+abbrev pub given_by : ℕ → ℕ → DeviceSeen → List CPacket
+given_by zero now d = []
+given_by (suc n) now d = and_then (given_at now d) (given_by n now (after_event (Poll now) d))
+
+abbrev pub polled_by : ℕ → ℕ → DeviceSeen → DeviceSeen
+polled_by zero now d = d
+polled_by (suc n) now d = or_last (given_at now d) (after_event (Poll now) d) (polled_by n now (after_event (Poll now) d))
+
+abbrev pub answer_by : ℕ → ℕ → DeviceSeen → ℕ
+answer_by zero now d = 0
+answer_by (suc n) now d = or_last (given_at now d) (reply_number (reply_to (Poll now) d)) (answer_by n now (after_event (Poll now) d))
+
+-- polls into lent places, of which those behind the last packet stay as they were
+pub record IsPolls (now code count : ℕ) (before after : List CPacket) (d n : DeviceSeen) : Type 0 where
+  pub polled : n ≡ with_memory n.memory (polled_by (length before) now d)
+  pub answer : code ≡ answer_by (length before) now d
+  pub given : count ≡ length (given_by (length before) now d)
+  pub packets : after ≡ given_by (length before) now d ++ drop count before
+
+-- ---- arrivals
+
+abbrev pub arrival : ℕ → CPacket → Event
+arrival now c = Arrive (descriptor c) now
+
+-- the device after packets arrived in order, and the number of the fate of each
+abbrev pub arrived_by : ℕ → List CPacket → DeviceSeen → DeviceSeen
+arrived_by now [] d = d
+arrived_by now (c ∷ cs) d = arrived_by now cs (after_event (arrival now c) d)
+
+abbrev pub fates_by : ℕ → List CPacket → DeviceSeen → List ℕ
+fates_by now [] d = []
+fates_by now (c ∷ cs) d = reply_number (reply_to (arrival now c) d) ∷ fates_by now cs (after_event (arrival now c) d)
+
+-- The first packets arrived, to the end, or to one that is out of its range (42) or for which memory is refused (90). What
+-- stands behind the numbers of their fates stays as it was.
+pub record IsArrivals (now : ℕ) (packets : List CPacket) (code done : ℕ) (before after : List ℕ) (d n : DeviceSeen) : Type 0 where
+  pub arrived : n ≡ with_memory n.memory (arrived_by now (take done packets) d)
+  pub fates : after ≡ fates_by now (take done packets) d ++ drop done before
+  pub in_range : All IsPacket (take done packets)
+  pub most : done ≤ length packets
+  pub all : code ≡ 0 → done ≡ length packets
+  pub stopped : code ≢ 0 → done < length packets
+  pub out_of_range : code ≢ 0 → code ≢ 42 → code ≡ 90
+
+-- ---- losses
+
+-- the oldest losses are handed out, as many as wait or as there are places; those that stay behind are as they were
+pub record IsReaps (code count : ℕ) (before after : List CLoss) (d n : DeviceSeen) : Type 0 where
+  pub most : count ≤ length d.waiting
+  pub losses : after ≡ map loss_of (take count d.waiting) ++ drop count before
+  pub rest : n ≡ record d { waiting = drop count d.waiting; handed_out = d.handed_out + count }
+  pub all : code ≡ 0 → count ≡ length before
+  pub none_left : code ≢ 0 → (code ≡ 32) × (count < length before) × (count ≡ length d.waiting)

@@ -1,0 +1,34 @@
+-- Structs whose fields are 1, 2, 3 .. in the order of their declarations.
+-- Nothing here is of a standard.
+use Rattle.std.specs.Prelude.{ℕ}
+use Rattle.qtree_c.specs.declared.c_packet.CPacket.{CPacket}
+use Rattle.qtree_c.specs.declared.c_row.CRow.{CRow}
+
+abbrev pub sample_packet : CPacket
+sample_packet = record {
+  src_high = 1;
+  src_low = 2;
+  dst_high = 3;
+  dst_low = 4;
+  number = 5;
+  port = 6;
+  buf = 7;
+  hash = 8;
+  len = 9;
+  sport = 10;
+  dport = 11;
+  proto = 12;
+  family = 13;
+  prio = 14;
+  ecn = 15;
+}
+
+abbrev pub sample_row : CRow
+sample_row = record {
+  arrived = record { packets = 1; bytes = 2 };
+  sent = record { packets = 3; bytes = 4 };
+  refused = record { packets = 5; bytes = 6 };
+  dropped = record { packets = 7; bytes = 8 };
+  queued = record { packets = 9; bytes = 10 };
+  marked = record { packets = 11; bytes = 12 };
+}

@@ -1,0 +1,141 @@
+-- What the structs of C say, and how packets, losses and counters are written into them.
+-- The layout is this project's own.
+use Rattle.std.specs.Prelude.{◌≡◌, ℕ, ◌*◌, ◌+◌, ◌/◌, ◌%◌, ◌^◌, ◌≤◌, ◌==◌, if◌then◌else◌}
+use Rattle.q_packet.specs.Cause.{cause_number}
+use Rattle.q_packet.specs.Descriptor.{Descriptor}
+use Rattle.q_packet.specs.Ecn.{codepoint, ecn_of}
+use Rattle.q_packet.specs.declared.head.Head.{Head}
+use Rattle.q_packet.specs.Key.{Key, IsKey, key_bytes}
+use Rattle.q_packet.specs.OneAtATime.{one_at_a_time}
+use Rattle.q_codel.specs.declared.loss.Loss.{Loss}
+use Rattle.q_model.specs.Numbers.{IsHandle, IsMinor}
+use Rattle.q_model.specs.Settings.{DeviceSettings}
+use Rattle.q_model.specs.declared.event.Event.{Event}
+use Rattle.q_model.specs.declared.event.Event.TheVariants as event
+use Rattle.q_model.specs.declared.place.Place.{Place}
+use Rattle.q_model.specs.declared.place.Place.TheVariants as place
+use Rattle.q_model.specs.declared.polled.Polled.TheVariants as polled
+use Rattle.q_model.specs.declared.reply.Reply.{Reply}
+use Rattle.q_model.specs.declared.reply.Reply.TheVariants as reply
+use Rattle.q_model.specs.declared.row.Row.{Row}
+use Rattle.q_model.specs.declared.totals.Totals.{Totals}
+use Rattle.qtree_c.specs.declared.c_count.CCount.{CCount}
+use Rattle.qtree_c.specs.declared.c_event.CEvent.{CEvent}
+use Rattle.qtree_c.specs.declared.c_loss.CLoss.{CLoss}
+use Rattle.qtree_c.specs.declared.c_packet.CPacket.{CPacket}
+use Rattle.qtree_c.specs.declared.c_row.CRow.{CRow}
+use Rattle.qtree_c.specs.declared.c_settings.CSettings.{CSettings}
+
+-- the flow key that C's fields say
+abbrev pub key_of : CPacket → Key
+key_of c = record {
+  family = c.family;
+  proto = c.proto;
+  src = c.src_high * 2 ^ 64 + c.src_low;
+  dst = c.dst_high * 2 ^ 64 + c.dst_low;
+  sport = c.sport;
+  dport = c.dport;
+}
+
+-- the descriptor that they say
+abbrev pub descriptor : CPacket → Descriptor
+descriptor c = record { port = c.port; number = c.number; buf = c.buf; len = c.len; key = key_of c; hash = c.hash; prio = c.prio; ecn = ecn_of c.ecn }
+
+-- each field is within its range
+pub record IsPacket (c : CPacket) : Type 0 where
+  pub key : IsKey (key_of c)
+  pub len : 1 ≤ c.len
+  pub prio : c.prio ≤ 15
+  pub ecn : c.ecn ≤ 3
+
+-- a descriptor as C has it
+abbrev pub packet_of : Descriptor → CPacket
+packet_of p = record {
+  src_high = p.key.src / 2 ^ 64;
+  src_low = p.key.src % 2 ^ 64;
+  dst_high = p.key.dst / 2 ^ 64;
+  dst_low = p.key.dst % 2 ^ 64;
+  number = p.number;
+  port = p.port;
+  buf = p.buf;
+  hash = p.hash;
+  len = p.len;
+  sport = p.key.sport;
+  dport = p.key.dport;
+  proto = p.key.proto;
+  family = p.key.family;
+  prio = p.prio;
+  ecn = codepoint p.ecn;
+}
+
+-- the packet that a poll gives, as C has it; what stood in its place where it gives none
+abbrev pub given_or : CPacket → Reply → CPacket
+given_or c (reply.Polled (polled.Packet p)) = packet_of p
+given_or c (reply.Polled polled.Idle) = c
+given_or c (reply.Polled polled.Later) = c
+given_or c (reply.Fate fate) = c
+given_or c (reply.Done result) = c
+
+abbrev pub loss_of : Loss → CLoss
+loss_of l = record { packet = packet_of l.packet; cause = cause_number l.cause }
+
+abbrev pub count_of : Totals → CCount
+count_of t = record { packets = t.packets; bytes = t.bytes }
+
+abbrev pub row_of : Row → CRow
+row_of r = record { arrived = count_of r.arrived; sent = count_of r.sent; refused = count_of r.refused; dropped = count_of r.dropped; queued = count_of r.queued; marked = count_of r.marked }
+
+-- the settings that C's fields say
+abbrev pub settings_of : CSettings → DeviceSettings
+settings_of s = record { mtu = s.mtu; txqueuelen = s.txqueuelen; recorder = s.recorder }
+
+-- the place that numbers name: 0 the device, 1 its root, 2 a class
+abbrev pub place_of : ℕ → ℕ → ℕ → Place
+place_of n major minor =
+    if n == 0 then place.Top else if n == 1 then place.Root else place.Class (record { major = major; minor = minor })
+
+pub record IsPlaceOf (place major minor : ℕ) : Type 0 where
+  pub known : place ≤ 2
+  pub handle : place ≡ 2 → IsHandle major
+  pub class : place ≡ 2 → IsMinor minor
+
+abbrev pub zero_packet : CPacket
+zero_packet = record {
+  src_high = 0;
+  src_low = 0;
+  dst_high = 0;
+  dst_low = 0;
+  number = 0;
+  port = 0;
+  buf = 0;
+  hash = 0;
+  len = 0;
+  sport = 0;
+  dport = 0;
+  proto = 0;
+  family = 0;
+  prio = 0;
+  ecn = 0;
+}
+
+-- an event as C has it: 0 for an arrival, 1 for a poll, 2 for a command
+abbrev pub event_of : Event → CEvent
+event_of (event.Arrive p moment) = record { packet = packet_of p; moment = moment; kind = 0 }
+event_of (event.Poll moment) = record { packet = zero_packet; moment = moment; kind = 1 }
+event_of (event.Command c moment) = record { packet = zero_packet; moment = moment; kind = 2 }
+
+-- a packet of which the head was read, and whose flow has the hash with this seed
+abbrev pub with_head : ℕ → Head → CPacket → CPacket
+with_head seed h c = record c {
+  src_high = h.key.src / 2 ^ 64;
+  src_low = h.key.src % 2 ^ 64;
+  dst_high = h.key.dst / 2 ^ 64;
+  dst_low = h.key.dst % 2 ^ 64;
+  hash = one_at_a_time seed (key_bytes h.key);
+  sport = h.key.sport;
+  dport = h.key.dport;
+  proto = h.key.proto;
+  family = h.key.family;
+  prio = h.prio;
+  ecn = codepoint h.ecn;
+}

@@ -1,0 +1,110 @@
+//! Packets arrive.
+ghost use Rattle.std.specs.Prelude.{◌≡◌, ◌≤◌, ◌<◌, ◌^◌, length};
+ghost use Rattle.qtree_c.specs.Calls.{Calls, IsArrival};
+ghost use Rattle.qtree_c.specs.Folds.{IsArrivals};
+ghost use Rattle.qtree_c.specs.Codes.{fate_number};
+
+use crate::c_device::CDevice;
+use crate::c_packet::CPacket;
+use crate::codes::{DONE, IS_CLOSED, MEMORY, OUT_OF_RANGE, ROOM};
+use crate::steps;
+use q_device::{Device, Fate};
+use q_packet::Moment;
+use std::alloc::Global;
+
+/// A packet arrives.
+#[unsafe(no_mangle)]
+pub extern "C" fn qtree_arrive(
+    alloc: Global,
+    device: &mut CDevice,
+    packet: &CPacket,
+    now: u64,
+) -> u32
+    ensures arrival { now ≤ 2 ^ 62 → Calls (IsArrival packet.now now result) result device.old.held.device device.new.held.device }
+    ensures moment { 2 ^ 62 < now → (result ≡ 42) × (device.new.held.device ≡ device.old.held.device) }
+{
+    let Some(now) = Moment::new(now) else {
+        return OUT_OF_RANGE;
+    };
+    let Some(mut opened) = device.take(alloc) else {
+        return IS_CLOSED;
+    };
+    let code = arrive(&mut opened, packet, now);
+    device.put(opened);
+    code
+}
+
+/// Packets arrive in order at one moment, to the first that is out of its range or for which memory is refused.
+#[unsafe(no_mangle)]
+pub extern "C" fn qtree_arrive_many(
+    alloc: Global,
+    device: &mut CDevice,
+    packets: &[CPacket],
+    codes: &mut [u8],
+    done: &mut usize,
+    now: u64,
+) -> u32
+    ensures arrivals { now ≤ 2 ^ 62 → length packets.now ≤ length codes.old →
+        Calls (IsArrivals now packets.now result done.new codes.old codes.new) result device.old.held.device device.new.held.device }
+    ensures moment { 2 ^ 62 < now → (result ≡ 42) × (done.new ≡ 0) × (device.new.held.device ≡ device.old.held.device) }
+    ensures room { now ≤ 2 ^ 62 → length codes.old < length packets.now → (result ≡ 43) × (done.new ≡ 0) × (device.new.held.device ≡ device.old.held.device) }
+{
+    *done = 0;
+    let Some(now) = Moment::new(now) else {
+        return OUT_OF_RANGE;
+    };
+    if codes.len() < packets.len() {
+        return ROOM;
+    }
+    let Some(mut opened) = device.take(alloc) else {
+        return IS_CLOSED;
+    };
+    let (arrived, code) = arrive_many(&mut opened, packets, codes, now);
+    *done = arrived;
+    device.put(opened);
+    code
+}
+
+/// A packet arrives at an open device.
+fn arrive(device: &mut Device, packet: &CPacket, now: Moment) -> u32
+    ensures { IsArrival packet.now now result device.old device.new }
+{
+    let Some(packet) = packet.packet() else {
+        return OUT_OF_RANGE;
+    };
+    match steps::arrive(device, packet, now) {
+        Ok(fate) => number(fate),
+        Err(_) => MEMORY,
+    }
+}
+
+/// Packets arrive at an open device.
+fn arrive_many(
+    device: &mut Device,
+    packets: &[CPacket],
+    codes: &mut [u8],
+    now: Moment,
+) -> (usize, u32)
+    requires { length packets.now ≤ length codes.old }
+    ensures { IsArrivals now packets.now result.1 result.0 codes.old codes.new device.old device.new }
+{
+    for i in 0..packets.len() {
+        let code = arrive(device, &packets[i], now);
+        if code > 6 {
+            return (i, code);
+        }
+        codes[i] = code as u8;
+    }
+    (packets.len(), DONE)
+}
+
+/// The number of a fate: 0, or the cause's.
+fn number(fate: Fate) -> u32
+    ensures value { result ≡ fate_number fate }
+    ensures few { result ≤ 6 }
+{
+    match fate {
+        Fate::Kept => DONE,
+        Fate::Lost(cause) => cause.number() as u32,
+    }
+}

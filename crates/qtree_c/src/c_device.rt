@@ -1,0 +1,66 @@
+//! The place in C's memory in which a device stands.
+ghost use Rattle.std.specs.Prelude.{◌≡◌, ◌<◌, true, false, Some, None, IfSome, IfNone, IsSome};
+ghost use Rattle.qtree_c.specs.Holding.{IsClosed, IsClosed-prop};
+
+use crate::held_device::HeldDevice;
+use q_device::Device;
+use q_raw_box::RawBox;
+use std::alloc::Global;
+use std::mem;
+
+/// A place for a device. One whose bytes are all 0 is closed. `held.device` is the device for contracts, or `None` where it is closed.
+#[repr(C)]
+#[derive(Drop)]
+pub struct CDevice {
+    held: HeldDevice,
+    /// 0 where it is closed, else 1.
+    state: u64,
+    ghost closed: { IsClosed state held.device } by { IsClosed-prop _ _ },
+    ghost open: { 0 < state → IsSome held.device },
+}
+
+impl CDevice {
+    /// A closed place.
+    fn closed() -> CDevice
+        ensures state { result.state ≡ 0 }
+        ensures device { result.held.device ≡ None }
+    {
+        CDevice {
+            held: HeldDevice::empty(),
+            state: 0,
+        }
+    }
+
+    /// Whether a device stands here.
+    pub fn is_open(&self) -> bool
+        ensures open { result ≡ true → IsSome self.now.held.device }
+        ensures closed { result ≡ false → self.now.held.device ≡ None }
+    {
+        self.state != 0
+    }
+
+    /// The device, which leaves the place closed; `None` where it was.
+    pub fn take(&mut self, alloc: Global) -> Option<Box<Device>>
+        ensures closed { self.new.held.device ≡ None }
+        ensures state { self.new.state ≡ 0 }
+        ensures some { IfSome result (λ device. self.old.held.device ≡ Some device.value) }
+        ensures none { IfNone result (self.old.held.device ≡ None) }
+    {
+        if self.state == 0 {
+            return None;
+        }
+        let held = mem::replace(self, CDevice::closed()).held;
+        Some(held.into_raw(alloc).into_box())
+    }
+
+    /// Puts a device into a closed place.
+    pub fn put(&mut self, device: Box<Device>)
+        requires { self.old.held.device ≡ None }
+        ensures { self.new.held.device ≡ Some device.value }
+    {
+        *self = CDevice {
+            held: HeldDevice::of(RawBox::of(device)),
+            state: 1,
+        };
+    }
+}

@@ -1,0 +1,28 @@
+//! The numbers that the functions answer beside those of causes (1 to 6).
+
+/// It was done.
+pub const DONE: u32 = 0;
+
+/// No packet is given, and none is queued.
+pub const IDLE: u32 = 30;
+
+/// No packet is given, though one is queued.
+pub const LATER: u32 = 31;
+
+/// No loss waits, no node stands there, or there is no such event.
+pub const NOTHING: u32 = 32;
+
+/// An argument is out of its range.
+pub const OUT_OF_RANGE: u32 = 42;
+
+/// The memory that the caller lends is too small.
+pub const ROOM: u32 = 43;
+
+/// The device is closed.
+pub const IS_CLOSED: u32 = 50;
+
+/// The device is open already.
+pub const IS_OPEN: u32 = 51;
+
+/// Memory is refused.
+pub const MEMORY: u32 = 90;

@@ -1,0 +1,44 @@
+//! Heads of packets, and hashes of their flows.
+ghost use Rattle.std.specs.Prelude.{◌≡◌, ◌≢◌};
+ghost use Rattle.q_packet.specs.Head.{head};
+ghost use Rattle.q_packet.specs.Key.{IsKey, key_bytes};
+ghost use Rattle.q_packet.specs.OneAtATime.{one_at_a_time};
+ghost use Rattle.qtree_c.specs.Structs.{key_of, with_head};
+
+use crate::c_packet::{CPacket, high, low};
+use crate::codes::{DONE, OUT_OF_RANGE};
+use q_packet::{FlowHash, OneAtATime, read_head};
+
+/// Fills in what the first bytes of a packet say of it, and the hash of its flow.
+#[unsafe(no_mangle)]
+pub extern "C" fn qtree_read_head(bytes: &[u8], seed: u32, packet: &mut CPacket)
+    ensures { packet.new ≡ with_head seed (head bytes.now) packet.old }
+{
+    let head = read_head(bytes);
+    packet.src_high = high(head.key.src);
+    packet.src_low = low(head.key.src);
+    packet.dst_high = high(head.key.dst);
+    packet.dst_low = low(head.key.dst);
+    packet.sport = head.key.sport;
+    packet.dport = head.key.dport;
+    packet.proto = head.key.proto;
+    packet.family = head.key.family;
+    packet.prio = head.prio;
+    packet.ecn = head.ecn.bits();
+    packet.hash = OneAtATime { seed }.hash(&head.key);
+}
+
+/// Fills in the hash of a packet's flow.
+#[unsafe(no_mangle)]
+pub extern "C" fn qtree_hash(seed: u32, packet: &mut CPacket) -> u32
+    ensures hash { result ≡ 0 → packet.new ≡ record packet.old { hash = one_at_a_time seed (key_bytes (key_of packet.old)) } }
+    ensures in_range { IsKey (key_of packet.old) → result ≡ 0 }
+    ensures out_of_range { result ≢ 0 → (result ≡ 42) × (packet.new ≡ packet.old) }
+    ensures key { result ≡ 0 → IsKey (key_of packet.old) }
+{
+    let Some(key) = packet.key() else {
+        return OUT_OF_RANGE;
+    };
+    packet.hash = OneAtATime { seed }.hash(&key);
+    DONE
+}

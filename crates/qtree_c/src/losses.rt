@@ -1,0 +1,73 @@
+//! Losses are handed out.
+ghost use Rattle.std.specs.Prelude.{◌≡◌, ◌≤◌};
+ghost use Rattle.qtree_c.specs.Calls.{Calls, IsReap};
+ghost use Rattle.qtree_c.specs.Folds.{IsReaps};
+
+use crate::c_device::CDevice;
+use crate::c_loss::CLoss;
+use crate::codes::{DONE, IS_CLOSED, NOTHING};
+use q_device::Device;
+use std::alloc::Global;
+
+/// Hands out the oldest loss.
+#[unsafe(no_mangle)]
+pub extern "C" fn qtree_reap(alloc: Global, device: &mut CDevice, loss: &mut CLoss) -> u32
+    ensures reap { Calls (IsReap result loss.old loss.new) result device.old.held.device device.new.held.device }
+    ensures kept { result ≡ 50 → loss.new ≡ loss.old }
+{
+    let Some(mut opened) = device.take(alloc) else {
+        return IS_CLOSED;
+    };
+    let code = reap(&mut opened, loss);
+    device.put(opened);
+    code
+}
+
+/// Hands out losses until there are as many as places, or none waits any more.
+#[unsafe(no_mangle)]
+pub extern "C" fn qtree_reap_many(
+    alloc: Global,
+    device: &mut CDevice,
+    losses: &mut [CLoss],
+    count: &mut usize,
+) -> u32
+    ensures reaps { Calls (IsReaps result count.new losses.old losses.new) result device.old.held.device device.new.held.device }
+    ensures kept { result ≡ 50 → (losses.new ≡ losses.old) × (count.new ≡ 0) }
+{
+    *count = 0;
+    let Some(mut opened) = device.take(alloc) else {
+        return IS_CLOSED;
+    };
+    let (handed_out, code) = reap_many(&mut opened, losses);
+    *count = handed_out;
+    device.put(opened);
+    code
+}
+
+/// Hands out the oldest loss of an open device.
+fn reap(device: &mut Device, loss: &mut CLoss) -> u32
+    ensures reap { IsReap result loss.old loss.new device.old device.new }
+    ensures codes { result ≤ 32 }
+{
+    match device.reap() {
+        Some(oldest) => {
+            *loss = CLoss::of(&oldest);
+            DONE
+        }
+        None => NOTHING,
+    }
+}
+
+/// Hands out losses of an open device, until there are as many as places, or none waits any more.
+fn reap_many(device: &mut Device, losses: &mut [CLoss]) -> (usize, u32)
+    ensures reaps { IsReaps result.1 result.0 losses.old losses.new device.old device.new }
+    ensures codes { result.1 ≤ 32 }
+{
+    for i in 0..losses.len() {
+        match device.reap() {
+            Some(oldest) => losses[i] = CLoss::of(&oldest),
+            None => return (i, NOTHING),
+        }
+    }
+    (losses.len(), DONE)
+}

@@ -1,0 +1,112 @@
+//! The device is polled.
+ghost use Rattle.std.specs.Prelude.{◌≡◌, ◌≤◌, ◌<◌, ◌^◌, Some, None, OnErr, IfOk, IfErr};
+ghost use Rattle.q_model.specs.declared.event.Event.TheVariants as event;
+ghost use Rattle.qtree_c.specs.Calls.{Calls, IsPoll};
+ghost use Rattle.qtree_c.specs.Codes.{reply_number};
+ghost use Rattle.qtree_c.specs.Events.{after_event, reply_to, with_memory};
+ghost use Rattle.qtree_c.specs.Folds.{given_at, IsPolls};
+
+use crate::c_device::CDevice;
+use crate::c_packet::CPacket;
+use crate::codes::{DONE, IDLE, IS_CLOSED, LATER, OUT_OF_RANGE};
+use crate::steps;
+use q_device::{Device, Polled};
+use q_packet::Moment;
+use std::alloc::Global;
+
+/// Takes the packet whose turn it is.
+#[unsafe(no_mangle)]
+pub extern "C" fn qtree_poll(
+    alloc: Global,
+    device: &mut CDevice,
+    now: u64,
+    packet: &mut CPacket,
+) -> u32
+    ensures poll { now ≤ 2 ^ 62 → Calls (IsPoll now result packet.old packet.new) result device.old.held.device device.new.held.device }
+    ensures moment { 2 ^ 62 < now → (result ≡ 42) × (device.new.held.device ≡ device.old.held.device) }
+    ensures kept { 42 ≤ result → packet.new ≡ packet.old }
+{
+    let Some(now) = Moment::new(now) else {
+        return OUT_OF_RANGE;
+    };
+    let Some(mut opened) = device.take(alloc) else {
+        return IS_CLOSED;
+    };
+    let code = poll(&mut opened, now, packet);
+    device.put(opened);
+    code
+}
+
+/// Polls until there are as many packets as places, or to the first poll that gives none.
+#[unsafe(no_mangle)]
+pub extern "C" fn qtree_poll_many(
+    alloc: Global,
+    device: &mut CDevice,
+    now: u64,
+    packets: &mut [CPacket],
+    count: &mut usize,
+) -> u32
+    ensures polls { now ≤ 2 ^ 62 → Calls (IsPolls now result count.new packets.old packets.new) result device.old.held.device device.new.held.device }
+    ensures moment { 2 ^ 62 < now → (result ≡ 42) × (device.new.held.device ≡ device.old.held.device) }
+    ensures kept { 42 ≤ result → (packets.new ≡ packets.old) × (count.new ≡ 0) }
+{
+    *count = 0;
+    let Some(now) = Moment::new(now) else {
+        return OUT_OF_RANGE;
+    };
+    let Some(mut opened) = device.take(alloc) else {
+        return IS_CLOSED;
+    };
+    let (given, code) = poll_many(&mut opened, packets, now);
+    *count = given;
+    device.put(opened);
+    code
+}
+
+/// An open device is polled.
+fn poll(device: &mut Device, now: Moment, packet: &mut CPacket) -> u32
+    ensures poll { IsPoll now result packet.old packet.new device.old device.new }
+    ensures codes { result ≤ 31 }
+{
+    match steps::poll(device, now) {
+        Polled::Packet(given) => {
+            *packet = CPacket::of(&given);
+            DONE
+        }
+        Polled::Idle => IDLE,
+        Polled::Later => LATER,
+    }
+}
+
+/// An open device is polled until there are as many packets as places, or to the first poll that gives none.
+fn poll_many(device: &mut Device, packets: &mut [CPacket], now: Moment) -> (usize, u32)
+    ensures polls { IsPolls now result.1 result.0 packets.old packets.new device.old device.new }
+    ensures codes { result.1 ≤ 31 }
+{
+    for i in 0..packets.len() {
+        match next(device, now) {
+            Ok(packet) => packets[i] = packet,
+            Err(code) => return (i, code),
+        }
+    }
+    (packets.len(), DONE)
+}
+
+/// The packet that a poll gives.
+///
+/// # Errors
+///
+/// What the poll is answered where it gives none.
+fn next(device: &mut Device, now: Moment) -> Result<CPacket, u32>
+    ensures event { device.new ≡ with_memory device.new.memory (after_event (event.Poll now) device.old) }
+    ensures given { IfOk result (λ packet. given_at now device.old ≡ Some packet) }
+    ensures none { OnErr result (given_at now device.old ≡ None) }
+    ensures answer { IfErr result (λ code. code ≡ reply_number (reply_to (event.Poll now) device.old)) }
+    ensures codes { IfErr result (λ code. code ≤ 31) }
+{
+    match steps::poll(device, now) {
+        Polled::Packet(packet) => Ok(CPacket::of(&packet)),
+        Polled::Idle => Err(IDLE),
+        Polled::Later => Err(LATER),
+    }
+}

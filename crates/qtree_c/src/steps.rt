@@ -1,0 +1,35 @@
+//! The events of a device, in the words of this crate's contracts.
+ghost use Rattle.std.specs.Prelude.{◌≡◌, IfOk, IsOk, OnOk, OnErr};
+ghost use Rattle.q_device.specs.DeviceSeen.{HasRoomFor};
+ghost use Rattle.q_model.specs.declared.event.Event.TheVariants as event;
+ghost use Rattle.q_model.specs.declared.reply.Reply.TheVariants as reply;
+ghost use Rattle.qtree_c.specs.Events.{after_event, reply_to, with_memory};
+
+use q_device::{Device, Fate, Polled};
+use q_packet::{Moment, Packet};
+use std::alloc::AllocError;
+
+/// A packet arrives, as at [`Device::arrive`].
+///
+/// # Errors
+///
+/// `AllocError` where memory is refused. Nothing has changed then but for places.
+pub fn arrive(device: &mut Device, packet: Packet, now: Moment) -> Result<Fate, AllocError>
+    ensures event { OnOk result (device.new ≡ with_memory device.new.memory (after_event (event.Arrive packet now) device.old)) }
+    ensures fate { IfOk result (λ fate. reply.Fate fate ≡ reply_to (event.Arrive packet now) device.old) }
+    ensures same { OnErr result (device.new ≡ with_memory device.new.memory device.old) }
+    ensures succeeds { HasRoomFor packet device.old → IsOk result }
+{
+    match device.arrive(packet, now) {
+        Ok(fate) => Ok(fate),
+        Err(_) => Err(AllocError),
+    }
+}
+
+/// The device is polled, as at [`Device::poll`].
+pub fn poll(device: &mut Device, now: Moment) -> Polled
+    ensures event { device.new ≡ with_memory device.new.memory (after_event (event.Poll now) device.old) }
+    ensures reply { reply.Polled result ≡ reply_to (event.Poll now) device.old }
+{
+    device.poll(now)
+}

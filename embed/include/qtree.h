@@ -1,0 +1,200 @@
+/* qtree: a packet scheduler with the behaviour of Linux's tc, proved in Rattle (crates/qtree_c).
+ *
+ * A device stands in a qtree_device, which the program places where it likes and begins with QTREE_CLOSED (all bytes 0).
+ * What each function does to it, and what it answers, is proved for every call that keeps to these rules, which no proof sees:
+ *
+ *   - Every pointer is aligned, not null, and leads to memory of the program that no other pointer of the same call overlaps.
+ *     Where a length is 0 its pointer may be null. A bool is false or true.
+ *   - A qtree_device is read and written by these functions alone. It may be moved (copied, the old one never used again), but
+ *     of two copies of an open one only one may be used. It is closed before its memory is let go.
+ *   - One call at a time uses a qtree_device, calls that only read too. Devices are independent of each other. A device may go
+ *     from one thread to another, where a lock, a thread's start or join, or a sequentially consistent atomic orders the calls.
+ *   - No function is called from a signal handler, or in the child of a fork of a program with threads. A thread that calls
+ *     has 64 KB of stack left at least.
+ *   - malloc, realloc and free are the C library's or behave as they have to.
+ *
+ * No function waits, prints, aborts or calls back. A poll and a reap take no memory, and neither do those that read heads and
+ * counters.
+ *
+ * A moment is nanoseconds since some moment of the program's choice, QTREE_MOMENT_MAX at most. One before an earlier one counts
+ * as that.
+ */
+#ifndef QTREE_H
+#define QTREE_H
+
+#include <stdbool.h>
+#include <stddef.h>
+#include <stdint.h>
+
+#ifdef __cplusplus
+extern "C" {
+#endif
+
+/* The version that this header is of. Within one major number functions and numbers are only added, and no struct changes. */
+#define QTREE_VERSION_MAJOR 1
+#define QTREE_VERSION_MINOR 0
+
+/* That of the library: the major number in the high 16 bits, the minor one in the low 16. */
+uint32_t qtree_version(void);
+
+#define QTREE_MOMENT_MAX (UINT64_C(1) << 62)
+
+/* What a function answers. QTREE_DONE and the causes of a loss: it did what it was called for. QTREE_IDLE, QTREE_LATER and
+ * QTREE_NOTHING: it did, and has nothing to hand out. Otherwise nothing has changed, and nothing is written but a count of 0.
+ * Causes have the numbers that qtree's reports write. */
+typedef uint32_t qtree_code;
+enum {
+    QTREE_DONE = 0,
+    /* Why a packet is lost. The first three refuse it on arrival. */
+    QTREE_LOST_TOO_LONG = 1,
+    QTREE_LOST_NO_CLASS = 2,
+    QTREE_LOST_OVER_LIMIT = 3,
+    QTREE_LOST_CODEL = 4,
+    QTREE_LOST_FAT_FLOW = 5,
+    QTREE_LOST_PURGED = 6,
+    /* A poll gives no packet: none is queued; or some are, and their time has not come. */
+    QTREE_IDLE = 30,
+    QTREE_LATER = 31,
+    /* No loss waits, no node stands there, or there is no such event. */
+    QTREE_NOTHING = 32,
+    /* An argument is out of its range; the memory that the program lends is too small. */
+    QTREE_OUT_OF_RANGE = 42,
+    QTREE_ROOM = 43,
+    /* The device is closed; it is open already. */
+    QTREE_IS_CLOSED = 50,
+    QTREE_IS_OPEN = 51,
+    /* Memory is refused. */
+    QTREE_MEMORY = 90
+};
+
+typedef struct qtree_device {
+    void *at;
+    uint64_t state;
+} qtree_device;
+#define QTREE_CLOSED { 0, 0 }
+
+typedef struct qtree_settings {
+    uint32_t txqueuelen; /* what a pfifo without a limit holds, in packets */
+    uint32_t recorder;   /* the first events that are kept, 0 to 1000000 */
+    uint16_t mtu;        /* the longest packet that is taken, 1 to 65535 bytes */
+} qtree_settings;
+
+/* A packet's descriptor; its bytes stay with the program. What a packet lacks is 0. */
+typedef struct qtree_packet {
+    uint64_t src_high; /* addresses; one of IPv4 stands in the low 32 bits, and no other bit is set */
+    uint64_t src_low;
+    uint64_t dst_high;
+    uint64_t dst_low;
+    uint64_t number; /* the packet's number among those of its port */
+    uint32_t port;   /* the sender's port */
+    uint32_t buf;    /* the program's own number, which comes back with the packet */
+    uint32_t hash;   /* by which fq_codel chooses the flow */
+    uint16_t len;    /* 1 to 65535 bytes */
+    uint16_t sport;
+    uint16_t dport;
+    uint8_t proto;
+    uint8_t family; /* 0 (not IP), 4 or 6 */
+    uint8_t prio;   /* 0 to 15, as skb->priority */
+    uint8_t ecn;    /* 0 to 3, the ECN codepoint; 3 in a packet that is given: the program writes it into the packet's head */
+} qtree_packet;
+
+typedef struct qtree_loss {
+    qtree_packet packet;
+    qtree_code cause; /* QTREE_LOST_.. */
+} qtree_loss;
+
+typedef struct qtree_count {
+    uint64_t packets;
+    uint64_t bytes;
+} qtree_count;
+
+/* What tc -s prints: what arrived was sent, refused, dropped or is queued. */
+typedef struct qtree_row {
+    qtree_count arrived;
+    qtree_count sent;
+    qtree_count refused;
+    qtree_count dropped;
+    qtree_count queued;
+    qtree_count marked;
+} qtree_row;
+
+/* Opens a device in a closed place, with its recorder's memory.
+ * QTREE_DONE, QTREE_OUT_OF_RANGE, QTREE_IS_OPEN, QTREE_MEMORY. */
+qtree_code qtree_open(qtree_device *device, const qtree_settings *settings);
+
+/* Closes the device and frees its memory. What is queued is forgotten, and no loss. Nothing happens to a closed one. */
+void qtree_close(qtree_device *device);
+
+/* Fills in family, proto, addresses, ports, prio and ecn from the first bytes of a packet that begins with its IP head, and
+ * hash, which has this seed. number, port, buf and len stay. */
+void qtree_read_head(const uint8_t *bytes, size_t count, uint32_t seed, qtree_packet *packet);
+
+/* Fills in hash, with this seed, from family, proto, addresses and ports. QTREE_DONE, QTREE_OUT_OF_RANGE. */
+qtree_code qtree_hash(uint32_t seed, qtree_packet *packet);
+
+/* A packet arrives: QTREE_DONE where it is queued, else the cause for which it is lost, by which it is also to be reaped.
+ * QTREE_DONE, QTREE_LOST_.., QTREE_OUT_OF_RANGE, QTREE_IS_CLOSED, QTREE_MEMORY. */
+qtree_code qtree_arrive(qtree_device *device, const qtree_packet *packet, uint64_t now);
+
+/* Packets arrive in order, to the first that is out of range or for which memory is refused, which the answer tells. done is
+ * how many arrived, and codes[i] what the ith of them was answered: codes_len is count at least, else QTREE_ROOM.
+ * QTREE_DONE, QTREE_OUT_OF_RANGE, QTREE_ROOM, QTREE_IS_CLOSED, QTREE_MEMORY. */
+qtree_code qtree_arrive_many(qtree_device *device, const qtree_packet *packets, size_t count, uint8_t *codes,
+                             size_t codes_len, size_t *done, uint64_t now);
+
+/* Takes the packet whose turn it is.
+ * QTREE_DONE, QTREE_IDLE, QTREE_LATER, QTREE_OUT_OF_RANGE, QTREE_IS_CLOSED. */
+qtree_code qtree_poll(qtree_device *device, uint64_t now, qtree_packet *packet);
+
+/* Polls until there are room packets, or to the first poll that gives none, which the answer tells. count is how many there are.
+ * QTREE_DONE, QTREE_IDLE, QTREE_LATER, QTREE_OUT_OF_RANGE, QTREE_IS_CLOSED. */
+qtree_code qtree_poll_many(qtree_device *device, uint64_t now, qtree_packet *packets, size_t room, size_t *count);
+
+/* Hands out the oldest loss that was not handed out yet. A program that needs no losses reaps too: those that wait keep memory.
+ * QTREE_DONE, QTREE_NOTHING, QTREE_IS_CLOSED. */
+qtree_code qtree_reap(qtree_device *device, qtree_loss *loss);
+
+/* Hands out losses until there are room of them, or none waits any more (QTREE_NOTHING). count is how many there are.
+ * QTREE_DONE, QTREE_NOTHING, QTREE_IS_CLOSED. */
+qtree_code qtree_reap_many(qtree_device *device, qtree_loss *losses, size_t room, size_t *count);
+
+/* What was counted at a node: the device itself, its root, or what stands in the class major:minor, 1 to 0xfffe and 1 to 0xffff.
+ * major and minor are read for a class alone.
+ * QTREE_DONE, QTREE_NOTHING, QTREE_OUT_OF_RANGE, QTREE_IS_CLOSED. */
+enum { QTREE_TOP = 0, QTREE_ROOT = 1, QTREE_CLASS = 2 };
+qtree_code qtree_stats(qtree_device *device, uint32_t place, uint16_t major, uint16_t minor, qtree_row *row);
+
+/* What the device itself counted. QTREE_DONE, QTREE_IS_CLOSED. */
+qtree_code qtree_totals(qtree_device *device, qtree_row *row);
+
+/* The number of arrivals, polls and commands that happened, and of those that the recorder has, which are the first of them.
+ * QTREE_DONE, QTREE_IS_CLOSED. */
+qtree_code qtree_events(qtree_device *device, uint64_t *events, size_t *recorded);
+
+/* The index-th recorded event, counted from 0, with the moment at which it counted; packet is that of an arrival, else all 0.
+ * QTREE_DONE, QTREE_NOTHING, QTREE_IS_CLOSED. */
+enum { QTREE_ARRIVED = 0, QTREE_POLLED = 1, QTREE_COMMANDED = 2 };
+typedef struct qtree_event {
+    qtree_packet packet;
+    uint64_t moment;
+    uint32_t kind;
+} qtree_event;
+qtree_code qtree_recorded(qtree_device *device, size_t index, qtree_event *event);
+
+/* For a test that this header and the library agree: the bytes of each struct, and structs whose fields are 1, 2, 3 .. in the
+ * order of their declarations, those of a struct in a struct too. */
+typedef struct qtree_layout {
+    size_t device;
+    size_t settings;
+    size_t packet;
+    size_t loss;
+    size_t row;
+    size_t event;
+} qtree_layout;
+void qtree_layout_of(qtree_layout *layout);
+void qtree_sample(qtree_settings *settings, qtree_loss *loss, qtree_row *row, qtree_event *event);
+
+#ifdef __cplusplus
+}
+#endif
+#endif
