@@ -2,7 +2,6 @@
 use Rattle.std.proofs.Common.{◌≡◌, ℕ, ◌*◌, List, [], ◌∷◌, drop, take, refl}
 use Rattle.std.specs.Prelude.{nat_le}
 use Rattle.q_packet.specs.Ecn.{ecn_of}
-use Rattle.q_packet.specs.Fnv.{fnv1a, fnv_mixed}
 use Rattle.q_packet.specs.Head.{head, ipv4_head, zero_head}
 use Rattle.q_packet.specs.Key.{key_bytes, zero_key}
 use Rattle.q_packet.specs.Least.{least}
@@ -28,19 +27,6 @@ hash_of_nothing = refl
 hash_of_zero_key : one_at_a_time 0 (key_bytes zero_key) ≡ 0
 unfolding one_at_a_time mixed finished key_bytes
 hash_of_zero_key = refl
-
-fnv_of_a : fnv1a (97 ∷ []) ≡ 0xe40c292c
-unfolding fnv1a fnv_mixed
-fnv_of_a = refl
-
-fnv_of_nothing : fnv1a [] ≡ 0x811c9dc5
-unfolding fnv1a fnv_mixed
-fnv_of_nothing = refl
-
--- the bytes of 'foobar'
-fnv_of_foobar : fnv1a (102 ∷ 111 ∷ 111 ∷ 98 ∷ 97 ∷ 114 ∷ []) ≡ 0xbf9cf968
-unfolding fnv1a fnv_mixed
-fnv_of_foobar = refl
 
 -- a datagram of IPv4 from 10.0.0.1 port 53 to 10.0.0.2 port 54
 datagram : List ℕ
