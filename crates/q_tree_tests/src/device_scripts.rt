@@ -127,8 +127,9 @@ impl Script {
     fn step(&mut self, number: u64, dice: &mut Dice) -> Result<(), Fail> {
         if dice.below(2) == 0 {
             self.now = self.now.saturating_add(dice.below(400_000_000));
-            let len = 64u16.saturating_add(dice.below(1_400) as u16);
-            let packet = packet(number, len, dice.below(3) as u8)?;
+            let len = u16::try_from(dice.below(1_400)).unwrap_or(0);
+            let prio = u8::try_from(dice.below(3)).unwrap_or(0);
+            let packet = packet(number, len.saturating_add(64), prio)?;
             if self.device.arrive(packet, at(self.now)?).is_err() {
                 return Err(Fail::from("memory"));
             }
