@@ -5,17 +5,17 @@ ghost use Rattle.clap.specs.Words.{kind_of as clap_kind};
 ghost use Rattle.clap.specs.declared.error.kind.ErrorKind.TheVariants.{DisplayHelp, DisplayVersion};
 ghost use Rattle.q_options.specs.Answer.{IsDriveAnswered, IsPlayed, IsShown, IsTold, IsTurnedDown};
 ghost use Rattle.q_options.specs.CommandLine.{IsAsked};
-ghost use Rattle.q_options.specs.declared.options.Options.{Options as Asked};
+ghost use Rattle.q_options.specs.declared.program_options.Options.{Options as Asked};
 ghost use Rattle.q_drive.specs.Drive.{Drive};
 ghost use Rattle.q_options.specs.declared.fault.Fault.{Fault as SomeFault};
 ghost use Rattle.q_script.specs.Reads.{no_reads};
 ghost use Rattle.q_script.specs.Settings.{Settings};
 ghost use Rattle.q_show.specs.Writes.{no_writes, WriteFailed};
 
-use crate::command_line::read_options;
+use crate::command_line::options;
 use crate::driving::drive;
 use crate::fault::Fault;
-use crate::options::Options;
+use crate::program_options::Options;
 use crate::playing::{FAULT, play};
 use crate::telling::tell;
 use q_script::{RunFault, Source};
@@ -66,7 +66,7 @@ pub fn answer<H: Threads + Wait + Sync, R: Read, W: Write, E: Write>(
             return FAULT;
         }
     };
-    let options = match read_options(alloc, &words) {
+    let options = match options(alloc, &words) {
         Ok(options) => options,
         Err(error) => return show(alloc, &error, target, errors),
     };

@@ -4,7 +4,7 @@ ghost use Rattle.q_options.specs.CommandLine.{HasBadDriveOption, HasBadOption, H
 ghost use Rattle.clap.specs.declared.Command.TheViews.{out-Command as fields_of};
 ghost use Rattle.q_options.specs.CommandLine as spec;
 
-use crate::options::Options;
+use crate::program_options::Options;
 use clap::error::ErrorKind;
 use clap::{Arg, ArgAction, ArgMatches, Command, Error, value_parser};
 use q_drive::DriveSettings;
@@ -23,7 +23,7 @@ const DRIVE_EXAMPLE: &str = "Example:
 
 /// Reads a command line, the program's name first. An error is clap's: it has the usage, the help or the version that it
 /// prints.
-pub fn read_options<S: AsStr>(alloc: Global, words: &[S]) -> Result<Options, Error>
+pub fn options<S: AsStr>(alloc: Global, words: &[S]) -> Result<Options, Error>
     ensures asked { IfOk result (λ options. IsAsked (map S.text words.now) options) }
     ensures refused { IfErr result (λ error. IsRefused (map S.text words.now) (kind_of error)) }
 {

@@ -4,7 +4,7 @@
 //!   status. `main` calls it and nothing else.
 //! - [`play`] is the part of it that runs a script, and [`drive`] the one that drives a device: the status, the report, and the line
 //!   that tells of a [`Fault`].
-//! - [`read_options`] reads what the command line asks for, as [`Options`].
+//! - [`options`] reads what the command line asks for, as [`Options`].
 //! - [`run`] runs a script with [`RunSettings`], and [`run_drive`] drives a device with [`DriveSettings`], from any reader to any
 //!   writer: what a program calls that has no command line. They answer an [`Outcome`] or a [`RunFault`], and stand in q_session
 //!   and q_drive.
@@ -16,16 +16,16 @@ mod answering;
 mod command_line;
 mod driving;
 mod fault;
-mod options;
 mod playing;
+mod program_options;
 mod telling;
 
 pub use answering::answer;
-pub use command_line::read_options;
+pub use command_line::options;
 pub use driving::drive;
 pub use fault::Fault;
-pub use options::Options;
 pub use playing::play;
+pub use program_options::Options;
 pub use q_drive::{DriveSettings, run_drive};
 pub use q_script::{Outcome, RunFault, RunSettings};
 pub use q_session::run;

@@ -1,6 +1,6 @@
 //! What the program answers to a command line: its status, and what it writes where.
 use crate::runs::{TWO_OF_THREE, TWO_OF_THREE_REPORT};
-use q_options::{Options, answer, read_options};
+use q_options::{Options, answer, options};
 use q_script::{RunSettings, Source};
 use q_show::Target;
 use std::alloc::Global;
@@ -88,7 +88,7 @@ fn options_of_play(rt: HostRuntime) -> Result<(), Fail> {
         ),
     ] {
         assert_eq!(rt;
-            read_options(alloc, &words(alloc, line)?)?,
+            options(alloc, &words(alloc, line)?)?,
             Options::Play(asked),
             "{line}"
         );
@@ -108,7 +108,7 @@ fn options_of_play(rt: HostRuntime) -> Result<(), Fail> {
         "qtree play --record 1k",
     ] {
         assert!(rt;
-            read_options(alloc, &words(alloc, line)?).is_err(),
+            options(alloc, &words(alloc, line)?).is_err(),
             "{line}"
         );
     }

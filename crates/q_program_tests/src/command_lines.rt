@@ -1,6 +1,6 @@
 //! The options of `qtree drive`, and what the program answers.
 use q_drive::DriveSettings;
-use q_options::{Options, answer, read_options};
+use q_options::{Options, answer, options};
 use q_script::{RunSettings, Source};
 use q_show::Target;
 use std::alloc::Global;
@@ -37,7 +37,7 @@ fn options_at_their_bounds(rt: HostRuntime) -> Result<(), Fail> {
         ),
     ] {
         assert_eq!(rt;
-            read_options(alloc, &words(alloc, line)?)?,
+            options(alloc, &words(alloc, line)?)?,
             Options::Drive(asked.ok_or("in range")?),
             "{line}"
         );
@@ -49,7 +49,7 @@ fn options_at_their_bounds(rt: HostRuntime) -> Result<(), Fail> {
 fn options_past_their_bounds(rt: HostRuntime) -> Result<(), Fail> {
     let alloc = rt.alloc();
     let whole = "qtree drive --senders 1 --count 1 --len 1 --ring 1";
-    assert!(rt; read_options(alloc, &words(alloc, whole)?).is_ok());
+    assert!(rt; options(alloc, &words(alloc, whole)?).is_ok());
     for line in [
         "qtree drive",
         "qtree drive --count 1 --len 1 --ring 1",
@@ -74,7 +74,7 @@ fn options_past_their_bounds(rt: HostRuntime) -> Result<(), Fail> {
         "qtree play --show",
     ] {
         assert!(rt;
-            read_options(alloc, &words(alloc, line)?).is_err(),
+            options(alloc, &words(alloc, line)?).is_err(),
             "{line}"
         );
     }

@@ -11,6 +11,8 @@ mod command_lines;
 #[cfg(test)]
 mod drives;
 #[cfg(test)]
+mod imports;
+#[cfg(test)]
 mod lines;
 #[cfg(test)]
 mod runs;

@@ -10,20 +10,20 @@ returns-in-Err-clause-not_utf8 g c = rw (c.in-Err.is) (λ kind. subst (λ fault.
 pub returns-in-Err-clause-no_memory : goal.returns-in-Err-clause-no_memory
 returns-in-Err-clause-no_memory g c = rw (c.in-Err.is) (λ kind. subst (λ fault. IsTold fault (g.E.Write.contents c.args.errors.now) (g.E.Write.contents c.tell.new.errors)) (c.of_words.ensures.memory (λ same. kind (search rules))) c.tell.ensures)
 
-pub returns-in-Err-read_options-clause-answer : goal.returns-in-Err-read_options-clause-answer
-returns-in-Err-read_options-clause-answer g c =
-    let refused = subst (λ words. IsRefused (map string_bytes words) (clap_kind c.in-Err-read_options.error)) c.deref.ensures.value c.in-Err-read_options.ensures.refused in
+pub returns-in-Err-options-clause-answer : goal.returns-in-Err-options-clause-answer
+returns-in-Err-options-clause-answer g c =
+    let refused = subst (λ words. IsRefused (map string_bytes words) (clap_kind c.in-Err-options.error)) c.deref.ensures.value c.in-Err-options.ensures.refused in
     inl (
       record { unread = refl; shown_or_refused = c.show.ensures.status; silent = c.show.ensures.silent; kept = c.show.ensures.kept },
-      rw (c.in-Ok.is) (clap_kind c.in-Err-read_options.error, refused, c.show.ensures.shown),
+      rw (c.in-Ok.is) (clap_kind c.in-Err-options.error, refused, c.show.ensures.shown),
     )
 
 pub returns-in-Play-clause-answer : goal.returns-in-Play-clause-answer
 returns-in-Play-clause-answer g c =
-    let asked = subst (λ words. IsAsked (map string_bytes words) c.in-Ok-read_options.options) c.deref.ensures.value c.in-Ok-read_options.ensures.asked in
+    let asked = subst (λ words. IsAsked (map string_bytes words) c.in-Ok-options.options) c.deref.ensures.value c.in-Ok-options.ensures.asked in
     inr (inl (c.in-Play.settings, rw (c.in-Ok.is) (subst (λ options. IsAsked (map string_bytes c.in-Ok.words.items) options) c.in-Play.is asked), c.play.ensures.played))
 
 pub returns-clause-answer : goal.returns-clause-answer
 returns-clause-answer g c =
-    let asked = subst (λ words. IsAsked (map string_bytes words) c.in-Ok-read_options.options) c.deref.ensures.value c.in-Ok-read_options.ensures.asked in
+    let asked = subst (λ words. IsAsked (map string_bytes words) c.in-Ok-options.options) c.deref.ensures.value c.in-Ok-options.ensures.asked in
     inr (inr (c.in-Drive.settings, rw (c.in-Ok.is) (subst (λ options. IsAsked (map string_bytes c.in-Ok.words.items) options) c.in-Drive.is asked), c.drive.ensures.driven))

@@ -2,7 +2,7 @@ use Rattle.std.proofs.Common.{rules, refl, ap, subst, map, ◌≡◌, ◌∙◌,
 use Rattle.clap.specs.Words.{HasKind, app_of, fault_of, is_simple, is_simple_and_free, kind_of, subcommand_of, subcommand_rows_of}
 use Rattle.q_options.specs.CommandLine.{IsAskedBy, IsRefused, IsUnreadable, program}
 use Rattle.q_options.proofs.FoundOptions.{options_refused, program_is_free, program_is_simple, passed_on, words_refused}
-use Rattle.q_options.proofs.command_line.read_options.Goals as goal
+use Rattle.q_options.proofs.command_line.options.Goals as goal
 
 pub returns-in_err-matches-clause-refused : goal.returns-in_err-matches-clause-refused
 returns-in_err-matches-clause-refused g c =
