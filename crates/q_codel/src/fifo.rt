@@ -1,4 +1,4 @@
-ghost use Rattle.std.specs.Prelude.{◌≡◌, ◌≤◌, ◌<◌, ◌+◌, [], ◌∷◌, ◌++◌, drop, slice_get, option_map, IsTrue, OnOk, OnErr};
+ghost use Rattle.std.specs.Prelude.{◌≡◌, ◌≤◌, ◌<◌, ◌↔◌, ◌+◌, [], ◌∷◌, ◌++◌, drop, slice_get, option_map, IsTrue, OnOk, OnErr};
 ghost use Rattle.q_packet.specs.Totals.{count, size};
 ghost use Rattle.q_codel.specs.Front.{front_of};
 ghost use Rattle.q_codel.specs.Losses.{losses_of};
@@ -144,18 +144,21 @@ impl Fifo {
 
     /// The length in bytes of the packet in front; 0 where the queue is empty, since every packet has a byte.
     pub fn head_len(&self) -> u16
-        ensures { result ≡ option_map_or (λ (s : Stamped). s.packet.len) (slice_get self.now.packets 0) 0 }
+        ensures value { result ≡ option_map_or (λ (s : Stamped). s.packet.len) (slice_get self.now.packets 0) 0 }
+        ensures some { (0 < result) ↔ (0 < count self.now.packets) }
     {
-        match self.packets.front() {
-            Some(front) => front.packet.len,
-            None => 0,
-        }
+        let Some(front) = self.packets.front() else {
+            return 0;
+        };
+        let packet = &front.packet;
+        packet.len
     }
 
     /// Takes the packet in front into `out`, and answers its length in bytes; 0 where the queue is empty, and `out` stays
     /// then. The packet is copied once. Its place stays reserved.
     pub fn take_into(&mut self, out: &mut Packet) -> u16
         ensures len { result ≡ option_map_or (λ (s : Stamped). s.packet.len) (slice_get self.old.packets 0) 0 }
+        ensures some { (0 < result) ↔ (0 < count self.old.packets) }
         ensures given { out.new ≡ option_map_or (λ (s : Stamped). s.packet) (slice_get self.old.packets 0) out.old }
         ensures rest { self.new ≡ record self.old { packets = drop 1 self.old.packets } }
     {
