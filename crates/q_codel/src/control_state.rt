@@ -186,6 +186,7 @@ impl ControlState {
     }
 
     // Drops heads as the law says, until the one to be sent is in front, and answers whether it is to be marked.
+    #[inline(always)]
     fn choose<Q: Queue, S: Sink>(
         &mut self,
         parameters: &Parameters,
@@ -213,6 +214,34 @@ impl ControlState {
             self.dropping = false;
             return false;
         }
+        self.choose_late(parameters, front, queue, now, sink)
+    }
+
+    // The same where the head is late: a function of its own, so that the common way saves no registers for it.
+    #[cold]
+    #[inline(never)]
+    fn choose_late<Q: Queue, S: Sink>(
+        &mut self,
+        parameters: &Parameters,
+        front: Front,
+        queue: &mut Q,
+        now: Moment,
+        sink: &mut S,
+    ) -> bool
+        requires front { IsFront front (Q.packets queue.old) }
+        requires room { count (Q.packets queue.old) ≤ S.room sink.old }
+        requires late { is_late (joined parameters.now self.old) now (Q.packets queue.old) ≡ true }
+        ensures chosen { (head : Stamped) (rest : List Stamped) → Q.packets queue.new ≡ head ∷ rest
+            → Chooses (joined parameters.now self.old) now (Q.packets queue.old) head result rest (joined parameters.now self.new) }
+        ensures some { 0 < count (Q.packets queue.new) }
+        ensures lost { let all = Q.packets queue.old in
+            S.losses sink.new ≡ S.losses sink.old
+            ++ losses_of Cause.CoDel (take (drops (joined parameters.now self.old) now all) all) }
+        ensures room { S.room sink.new + drops (joined parameters.now self.old) now (Q.packets queue.old)
+            ≡ S.room sink.old }
+        ensures kept { Q.keeps queue.old queue.new }
+        ensures sink_kept { S.keeps sink.old sink.new }
+    {
         if self.dropping {
             return self.go_on(parameters, front, queue, now, sink);
         }
