@@ -1,5 +1,6 @@
 -- The bytes of a queue of short packets are bounded by their number, so that 64 bits hold them.
-use Rattle.std.proofs.Common.{◌≡◌, ℕ, ◌+◌, ◌-◌, ◌*◌, ◌^◌, ◌<◌, ◌≤◌, List, ◌∷◌, length, arith, subst}
+use Rattle.std.proofs.Common.{◌≡◌, ℕ, ◌+◌, ◌-◌, ◌*◌, ◌^◌, ◌<◌, ◌≤◌, List, [], ◌∷◌, length, drop, slice_index_or, nat_lt, true, arith, ap, sym, ◌∙◌}
+use Rattle.std.proofs.lemmas.Bool.{false≢true}
 use Rattle.std.specs.List.{All}
 use Rattle.std.proofs.lemmas.List.Elements.{All-drop}
 use Rattle.q_packet.proofs.TotalsLemmas.{size-cons, size-le}
@@ -22,6 +23,9 @@ IsCounted-front bytes front queue h = record {
   few = let few = h.few in omega arith;
 }
 
-pub IsCounted-popped : (bytes : ℕ) (queue : List Stamped) (front : Stamped) (rest : List Stamped) (len : ℕ) → IsCounted bytes queue → queue ≡ front ∷ rest → len ≡ front.packet.len → IsCounted (bytes - len) rest
-IsCounted-popped bytes queue front rest len h is same =
-    rw same (IsCounted-front bytes front rest (subst (λ (q : List Stamped). IsCounted bytes q) is h))
+-- and so does what is read in front, before it is taken
+pub IsCounted-dropped : (bytes : ℕ) (queue : List Stamped) (front : Stamped) (rest : List Stamped) (len : ℕ)
+    → IsCounted bytes queue → true ≡ nat_lt 0 (length queue) → front ≡ slice_index_or queue 0 front → rest ≡ drop 1 queue → len ≡ front.packet.len → IsCounted (bytes - len) rest
+IsCounted-dropped bytes [] front rest len h some at rest_is same = absurd (false≢true (sym some))
+IsCounted-dropped bytes (s ∷ queue) front rest len h some at rest_is same =
+    rw rest_is (rw (same ∙ ap (λ (s : Stamped). s.packet.len) at) (IsCounted-front bytes s queue h))

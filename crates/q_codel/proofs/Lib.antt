@@ -1,4 +1,6 @@
+pub mod ChooseLemmas
 pub mod Counted
+pub mod FrontLemmas
 pub mod Law
 pub mod Promises
 pub mod RangeLaw

@@ -1,5 +1,6 @@
 pub mod Codel
 pub mod FifoState
+pub mod Front
 pub mod Gap
 pub mod Laws
 pub mod Losses

@@ -1,14 +1,18 @@
-ghost use Rattle.std.specs.Prelude.{◌≡◌, ◌≤◌, ◌<◌, ◌+◌, ◌^◌, ◌↔◌, ◌∷◌, ◌++◌, true, false, take, IsSome};
-ghost use Rattle.q_packet.specs.Totals.{count};
+ghost use Rattle.std.specs.Prelude.{◌≡◌, ◌≤◌, ◌<◌, ◌+◌, ◌^◌, ◌↔◌, ◌∷◌, ◌++◌, List, true, false, drop, take, option_map, IsSome};
+ghost use Rattle.std.specs.Option.{option_map_or};
+ghost use Rattle.q_packet.specs.Totals.{count, size};
+ghost use Rattle.q_packet.specs.declared.stamped.Stamped.{Stamped};
+ghost use Rattle.q_codel.specs.Front.{front_of, IsFront};
+ghost use Rattle.q_codel.specs.declared.taken.Taken.{Taken};
 ghost use Rattle.q_codel.specs.Losses.{losses_of};
 
-use crate::chosen::Chosen;
 use crate::control_law::gap;
+use crate::front::Front;
 use crate::parameters::Parameters;
 use crate::queue::Queue;
 use crate::sink::Sink;
 use crate::taken::Taken;
-use q_packet::{Cause, Ecn, Moment, Stamped};
+use q_packet::{Cause, Ecn, Moment, Packet};
 use std::marker::Model;
 
 /// The state of CoDel on one queue, without its settings: 32 bytes, so that many queues may each have one.
@@ -130,122 +134,177 @@ impl ControlState {
         ensures kept { Q.keeps queue.old queue.new }
         ensures sink_kept { S.keeps sink.old sink.new }
     {
-        let Some(first) = queue.take() else {
+        let Some(front) = queue.front() else {
             self.above = 0;
             self.dropping = false;
             return None;
         };
-        let Chosen { head, marked } = self.choose(parameters, first, queue, now, sink);
-        let mut packet = head.packet;
+        let marked = self.choose(parameters, front, queue, now, sink);
+        let mut packet = queue.take().unwrap().packet;
         if marked {
             packet.ecn = Ecn::Ce;
         }
         Some(Taken { packet, marked })
     }
 
-    // Drops heads as the law says, and chooses the one to be sent. `queue` is what stands behind `first`.
-    fn choose<Q: Queue, S: Sink>(
+    /// Does what [`ControlState::take`] does, and writes the packet into `out`, so that it is copied once. The answer is whether
+    /// it was marked; `None` where the queue is empty, and `out` stays then.
+    pub fn take_into<Q: Queue, S: Sink>(
         &mut self,
         parameters: &Parameters,
-        first: Stamped,
         queue: &mut Q,
         now: Moment,
         sink: &mut S,
-    ) -> Chosen
-        requires { count (Q.packets queue.old) < S.room sink.old }
-        ensures chosen { Chooses (joined parameters.now self.old) now (first ∷ Q.packets queue.old)
-            result.head result.marked (Q.packets queue.new) (joined parameters.now self.new) }
-        ensures lost { let all = first ∷ Q.packets queue.old in
+        out: &mut Packet,
+    ) -> Option<bool>
+        requires { count (Q.packets queue.old) ≤ S.room sink.old }
+        ensures marked { result ≡ option_map (λ (t : Taken). t.marked) (taken (joined parameters.now self.old) now (Q.packets queue.old)) }
+        ensures packet { out.new ≡ option_map_or (λ (t : Taken). t.packet) (taken (joined parameters.now self.old) now (Q.packets queue.old)) out.old }
+        ensures some { IsSome result ↔ (0 < count (Q.packets queue.old)) }
+        ensures left { Q.packets queue.new ≡ left (joined parameters.now self.old) now (Q.packets queue.old) }
+        ensures state { joined parameters.now self.new
+            ≡ after (joined parameters.now self.old) now (Q.packets queue.old) }
+        ensures lost { let all = Q.packets queue.old in
             S.losses sink.new ≡ S.losses sink.old
             ++ losses_of Cause.CoDel (take (drops (joined parameters.now self.old) now all) all) }
-        ensures room { S.room sink.new + drops (joined parameters.now self.old) now (first ∷ Q.packets queue.old)
+        ensures room { S.room sink.new + drops (joined parameters.now self.old) now (Q.packets queue.old)
             ≡ S.room sink.old }
         ensures kept { Q.keeps queue.old queue.new }
         ensures sink_kept { S.keeps sink.old sink.new }
     {
-        if !self.should_drop(parameters, &first, queue, now) {
+        let Some(front) = queue.front() else {
+            self.above = 0;
+            self.dropping = false;
+            return None;
+        };
+        let marked = self.choose(parameters, front, queue, now, sink);
+        queue.take_into(out);
+        if marked {
+            out.ecn = Ecn::Ce;
+        }
+        Some(marked)
+    }
+
+    // Drops heads as the law says, until the one to be sent is in front, and answers whether it is to be marked.
+    #[inline(always)]
+    fn choose<Q: Queue, S: Sink>(
+        &mut self,
+        parameters: &Parameters,
+        front: Front,
+        queue: &mut Q,
+        now: Moment,
+        sink: &mut S,
+    ) -> bool
+        requires front { IsFront front (Q.packets queue.old) }
+        requires room { count (Q.packets queue.old) ≤ S.room sink.old }
+        ensures chosen { (head : Stamped) (rest : List Stamped) → Q.packets queue.new ≡ head ∷ rest
+            → Chooses (joined parameters.now self.old) now (Q.packets queue.old) head result rest (joined parameters.now self.new) }
+        ensures some { 0 < count (Q.packets queue.new) }
+        ensures lost { let all = Q.packets queue.old in
+            S.losses sink.new ≡ S.losses sink.old
+            ++ losses_of Cause.CoDel (take (drops (joined parameters.now self.old) now all) all) }
+        ensures room { S.room sink.new + drops (joined parameters.now self.old) now (Q.packets queue.old)
+            ≡ S.room sink.old }
+        ensures kept { Q.keeps queue.old queue.new }
+        ensures sink_kept { S.keeps sink.old sink.new }
+    {
+        let behind = queue.bytes() - front.len as u64;
+        if !self.should_drop(parameters, &front, behind, now) {
             // What stood has drained, or has not stood for an interval: if dropping went on, it ends.
             self.dropping = false;
-            return Chosen {
-                head: first,
-                marked: false,
-            };
+            return false;
         }
+        self.choose_late(parameters, front, queue, now, sink)
+    }
+
+    // The same where the head is late: a function of its own, so that the common way saves no registers for it.
+    #[cold]
+    #[inline(never)]
+    fn choose_late<Q: Queue, S: Sink>(
+        &mut self,
+        parameters: &Parameters,
+        front: Front,
+        queue: &mut Q,
+        now: Moment,
+        sink: &mut S,
+    ) -> bool
+        requires front { IsFront front (Q.packets queue.old) }
+        requires room { count (Q.packets queue.old) ≤ S.room sink.old }
+        requires late { is_late (joined parameters.now self.old) now (Q.packets queue.old) ≡ true }
+        ensures chosen { (head : Stamped) (rest : List Stamped) → Q.packets queue.new ≡ head ∷ rest
+            → Chooses (joined parameters.now self.old) now (Q.packets queue.old) head result rest (joined parameters.now self.new) }
+        ensures some { 0 < count (Q.packets queue.new) }
+        ensures lost { let all = Q.packets queue.old in
+            S.losses sink.new ≡ S.losses sink.old
+            ++ losses_of Cause.CoDel (take (drops (joined parameters.now self.old) now all) all) }
+        ensures room { S.room sink.new + drops (joined parameters.now self.old) now (Q.packets queue.old)
+            ≡ S.room sink.old }
+        ensures kept { Q.keeps queue.old queue.new }
+        ensures sink_kept { S.keeps sink.old sink.new }
+    {
         if self.dropping {
-            return self.go_on(parameters, first, queue, now, sink);
+            return self.go_on(parameters, front, queue, now, sink);
         }
         self.begin(parameters, now);
-        if parameters.marks(&first.packet) {
+        if parameters.marks(front.ecn) {
             // By this project's choice a mark ends the call: its packet is the one that is sent.
-            return Chosen {
-                head: first,
-                marked: true,
-            };
+            return true;
         }
-        sink.lost(first.packet, Cause::CoDel);
-        // A late head has packets behind it.
-        let head = queue.take().unwrap();
+        let next = drop_head(queue, sink);
         // A second look, at the head that is sent in place of the dropped one. Late or not, it goes, since the next moment
         // is a gap away; but the time above the target goes by the head that leaves, and may end with it.
-        let _is_late = self.should_drop(parameters, &head, queue, now);
-        Chosen {
-            head,
-            marked: false,
-        }
+        let behind = queue.bytes() - next.len as u64;
+        let _is_late = self.should_drop(parameters, &next, behind, now);
+        false
     }
 
     // While dropping, with a late head: drops heads, or marks one, each at its moment, until one is to be sent.
     fn go_on<Q: Queue, S: Sink>(
         &mut self,
         parameters: &Parameters,
-        first: Stamped,
+        first: Front,
         queue: &mut Q,
         now: Moment,
         sink: &mut S,
-    ) -> Chosen
-        requires room { count (Q.packets queue.old) < S.room sink.old }
+    ) -> bool
+        requires front { IsFront first (Q.packets queue.old) }
+        requires room { count (Q.packets queue.old) ≤ S.room sink.old }
         requires counted { self.old.count < 2 ^ 32 }
         requires dropping { self.old.dropping ≡ true }
-        requires late { is_late (joined parameters.now self.old) now (first ∷ Q.packets queue.old) ≡ true }
-        ensures chosen { Chooses (joined parameters.now self.old) now (first ∷ Q.packets queue.old)
-            result.head result.marked (Q.packets queue.new) (joined parameters.now self.new) }
-        ensures lost { let all = first ∷ Q.packets queue.old in
+        requires late { is_late (joined parameters.now self.old) now (Q.packets queue.old) ≡ true }
+        ensures chosen { (head : Stamped) (rest : List Stamped) → Q.packets queue.new ≡ head ∷ rest
+            → Chooses (joined parameters.now self.old) now (Q.packets queue.old) head result rest (joined parameters.now self.new) }
+        ensures some { 0 < count (Q.packets queue.new) }
+        ensures lost { let all = Q.packets queue.old in
             S.losses sink.new ≡ S.losses sink.old
             ++ losses_of Cause.CoDel (take (drops (joined parameters.now self.old) now all) all) }
-        ensures room { S.room sink.new + drops (joined parameters.now self.old) now (first ∷ Q.packets queue.old)
+        ensures room { S.room sink.new + drops (joined parameters.now self.old) now (Q.packets queue.old)
             ≡ S.room sink.old }
         ensures kept { Q.keeps queue.old queue.new }
         ensures sink_kept { S.keeps sink.old sink.new }
     {
-        let mut head = first;
+        let mut front = first;
         // Each moment is reckoned from the one before and not from now. So one call drops what several would have dropped,
         // where none came for a while.
         while self.drop_next <= now.ns() {
             // By this project's choice the count stays at its ceiling, once there.
             self.count = self.count.saturating_add(1);
-            if parameters.marks(&head.packet) {
+            if parameters.marks(front.ecn) {
                 // By this project's choice a mark ends the call, also where the next moment has come.
                 self.drop_next += gap(parameters.interval, self.count);
-                return Chosen { head, marked: true };
+                return true;
             }
-            sink.lost(head.packet, Cause::CoDel);
-            // A late head has packets behind it.
-            head = queue.take().unwrap();
-            if !self.should_drop(parameters, &head, queue, now) {
+            front = drop_head(queue, sink);
+            let behind = queue.bytes() - front.len as u64;
+            if !self.should_drop(parameters, &front, behind, now) {
                 // The drop has drained the queue. The next moment is not set: dropping has no more of them.
                 self.dropping = false;
-                return Chosen {
-                    head,
-                    marked: false,
-                };
+                return false;
             }
             // TCP's throughput goes by the root of how much is lost, so that the gaps shrink by the root of the count.
             self.drop_next += gap(parameters.interval, self.count);
         }
-        Chosen {
-            head,
-            marked: false,
-        }
+        false
     }
 
     // Dropping begins at the moment `now`.
@@ -263,22 +322,23 @@ impl ControlState {
         self.drop_next = now.ns() + gap(parameters.interval, count);
     }
 
-    // Whether `head`, with `queue` behind it, is late. In the same step, so that each head is tested once, it notes since
-    // when the queue has stood.
-    fn should_drop<Q: Queue>(
+    // Whether a head is late that has so many bytes behind it. In the same step, so that each head is tested once, it notes
+    // since when the queue has stood.
+    fn should_drop(
         &mut self,
         parameters: &Parameters,
-        head: &Stamped,
-        queue: &Q,
+        front: &Front,
+        behind: u64,
         now: Moment,
     ) -> bool
-        ensures late { result ≡ is_late (joined parameters.now self.old) now (head.now ∷ Q.packets queue.now) }
-        ensures noted { self.new ≡ record self.old {
-          above = above_after (joined parameters.now self.old) now (head.now ∷ Q.packets queue.now);
-        } }
+        ensures kept { self.new ≡ record self.old { above = self.new.above } }
+        ensures late { (head : Stamped) (rest : List Stamped) → front.now ≡ front_of head → behind ≡ size rest
+            → result ≡ is_late (joined parameters.now self.old) now (head ∷ rest) }
+        ensures noted { (head : Stamped) (rest : List Stamped) → front.now ≡ front_of head → behind ≡ size rest
+            → self.new ≡ record self.old { above = above_after (joined parameters.now self.old) now (head ∷ rest) } }
     {
-        let sojourn = now.ns().saturating_sub(head.at.ns());
-        if sojourn < parameters.target || queue.bytes() <= parameters.mtu as u64 {
+        let sojourn = now.ns().saturating_sub(front.at.ns());
+        if sojourn < parameters.target || behind <= parameters.mtu as u64 {
             // One head below the target shows that the queue drains within an interval. With an mtu or less behind the
             // head, a drop would leave the link idle.
             self.above = 0;
@@ -291,4 +351,20 @@ impl ControlState {
         }
         self.above <= now.ns()
     }
+}
+
+// Drops the head of a queue that has a packet behind it, and answers what is in front then.
+fn drop_head<Q: Queue, S: Sink>(queue: &mut Q, sink: &mut S) -> Front
+    requires some { 1 < count (Q.packets queue.old) }
+    requires room { 1 ≤ S.room sink.old }
+    ensures front { IsFront result (Q.packets queue.new) }
+    ensures rest { Q.packets queue.new ≡ drop 1 (Q.packets queue.old) }
+    ensures lost { S.losses sink.new ≡ S.losses sink.old ++ losses_of Cause.CoDel (take 1 (Q.packets queue.old)) }
+    ensures room { S.room sink.new + 1 ≡ S.room sink.old }
+    ensures kept { Q.keeps queue.old queue.new }
+    ensures sink_kept { S.keeps sink.old sink.new }
+{
+    let head = queue.take().unwrap();
+    sink.lost(head.packet, Cause::CoDel);
+    queue.front().unwrap()
 }

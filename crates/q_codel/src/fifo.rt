@@ -1,11 +1,15 @@
-ghost use Rattle.std.specs.Prelude.{◌≡◌, ◌≤◌, ◌<◌, ◌+◌, [], ◌∷◌, ◌++◌, drop, slice_get, IsTrue, OnOk, OnErr};
+ghost use Rattle.std.specs.Prelude.{◌≡◌, ◌≤◌, ◌<◌, ◌↔◌, ◌+◌, [], ◌∷◌, ◌++◌, drop, slice_get, option_map, IsTrue, OnOk, OnErr};
 ghost use Rattle.q_packet.specs.Totals.{count, size};
+ghost use Rattle.q_codel.specs.Front.{front_of};
 ghost use Rattle.q_codel.specs.Losses.{losses_of};
+ghost use Rattle.q_packet.specs.declared.stamped.Stamped.{Stamped};
+ghost use Rattle.std.specs.Option.{option_map_or};
 
+use crate::front::Front;
 use crate::limit::Limit;
 use crate::queue::Queue;
 use crate::sink::Sink;
-use q_packet::{Cause, Stamped};
+use q_packet::{Cause, Moment, Packet, Stamped};
 use std::alloc::{AllocError, Global};
 use std::collections::VecDeque;
 use std::marker::Model;
@@ -87,9 +91,23 @@ impl Fifo {
         requires place { count self.old.packets < self.old.places }
         ensures { self.new ≡ record self.old { packets = self.old.packets ++ stamped ∷ [] } }
     {
-        let packet = stamped.packet;
-        self.bytes += packet.len as u64;
-        self.packets.push_back_reserved(stamped);
+        self.put_from(&stamped.packet, stamped.at);
+    }
+
+    /// Appends a packet from where it stands, queued at the moment `now`. There must be a place for it, and the limit must
+    /// allow it. The packet is copied once.
+    pub fn put_from(&mut self, packet: &Packet, now: Moment)
+        requires fits { IsTrue (takes self.old.limit self.old.packets packet.now.len) }
+        requires place { count self.old.packets < self.old.places }
+        ensures { self.new ≡ record self.old { packets = self.old.packets ++ record { packet = packet.now; at = now } ∷ [] } }
+    {
+        let len = packet.len;
+        let bytes = self.bytes + len as u64;
+        self.packets.push_back_reserved(Stamped {
+            packet: *packet,
+            at: now,
+        });
+        self.bytes = bytes;
     }
 
     /// The packet in front; `None` where the queue is empty.
@@ -104,10 +122,54 @@ impl Fifo {
         ensures front { result ≡ slice_get self.old.packets 0 }
         ensures rest { self.new ≡ record self.old { packets = drop 1 self.old.packets } }
     {
-        let stamped = self.packets.pop_front()?;
-        let packet = stamped.packet;
+        let front = self.packets.front()?;
+        let packet = front.packet;
+        // Counted where it stands, and given last: it is then copied once, to where the caller wants it.
         self.bytes -= packet.len as u64;
-        Some(stamped)
+        self.packets.pop_front()
+    }
+
+    /// What CoDel looks at of the packet in front; `None` where the queue is empty. No packet is copied.
+    pub fn front(&self) -> Option<Front>
+        ensures { result ≡ option_map front_of (slice_get self.now.packets 0) }
+    {
+        let front = self.packets.front()?;
+        let packet = &front.packet;
+        Some(Front {
+            at: front.at,
+            len: packet.len,
+            ecn: packet.ecn,
+        })
+    }
+
+    /// The length in bytes of the packet in front; 0 where the queue is empty, since every packet has a byte.
+    pub fn head_len(&self) -> u16
+        ensures value { result ≡ option_map_or (λ (s : Stamped). s.packet.len) (slice_get self.now.packets 0) 0 }
+        ensures some { (0 < result) ↔ (0 < count self.now.packets) }
+    {
+        let Some(front) = self.packets.front() else {
+            return 0;
+        };
+        let packet = &front.packet;
+        packet.len
+    }
+
+    /// Takes the packet in front into `out`, and answers its length in bytes; 0 where the queue is empty, and `out` stays
+    /// then. The packet is copied once. Its place stays reserved.
+    pub fn take_into(&mut self, out: &mut Packet) -> u16
+        ensures len { result ≡ option_map_or (λ (s : Stamped). s.packet.len) (slice_get self.old.packets 0) 0 }
+        ensures some { (0 < result) ↔ (0 < count self.old.packets) }
+        ensures given { out.new ≡ option_map_or (λ (s : Stamped). s.packet) (slice_get self.old.packets 0) out.old }
+        ensures rest { self.new ≡ record self.old { packets = drop 1 self.old.packets } }
+    {
+        let Some(front) = self.packets.front() else {
+            return 0;
+        };
+        let packet = front.packet;
+        *out = packet;
+        self.bytes -= packet.len as u64;
+        let _ = self.packets.pop_front();
+        packet.len
     }
 
     /// The bytes of all its packets. The number is kept, not summed.
@@ -167,6 +229,14 @@ impl Queue for Fifo {
 
     fn take(&mut self) -> Option<Stamped> {
         Fifo::take(self)
+    }
+
+    fn front(&self) -> Option<Front> {
+        Fifo::front(self)
+    }
+
+    fn take_into(&mut self, out: &mut Packet) {
+        let _ = Fifo::take_into(self, out);
     }
 
     fn bytes(&self) -> u64 {

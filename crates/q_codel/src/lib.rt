@@ -16,11 +16,11 @@
 //! - [`laws`] states what RFC 8289 promises, over those functions.
 #![tactic(auto)]
 
-mod chosen;
 mod codel;
 mod control_law;
 mod control_state;
 mod fifo;
+mod front;
 pub mod laws;
 mod limit;
 mod loss;
@@ -34,6 +34,7 @@ pub use codel::Codel;
 pub use control_law::gap;
 pub use control_state::ControlState;
 pub use fifo::Fifo;
+pub use front::Front;
 pub use limit::Limit;
 pub use loss::Loss;
 pub use losses::Losses;

@@ -1,6 +1,6 @@
 ghost use Rattle.std.specs.Prelude.{◌≡◌, ◌≤◌, ◌^◌, ◌↔◌, IfSome, IsSome};
 
-use q_packet::{Ecn, Packet};
+use q_packet::Ecn;
 use std::marker::Model;
 
 /// The settings of CoDel, which one struct may lend to the states of many queues (RFC 8289, section 4).
@@ -52,10 +52,10 @@ impl Parameters {
         }
     }
 
-    // Whether a packet is marked where it would be dropped.
-    pub(crate) fn marks(&self, packet: &Packet) -> bool
-        ensures { result ≡ (self.now.ecn && is_capable packet.now.ecn) }
+    // Whether a packet with this codepoint is marked where it would be dropped.
+    pub(crate) fn marks(&self, ecn: Ecn) -> bool
+        ensures { result ≡ (self.now.ecn && is_capable ecn) }
     {
-        self.ecn && packet.ecn != Ecn::NotEct
+        self.ecn && ecn != Ecn::NotEct
     }
 }

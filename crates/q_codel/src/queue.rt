@@ -1,8 +1,10 @@
-ghost use Rattle.std.specs.Prelude.{◌≡◌, List, slice_get, drop};
+ghost use Rattle.std.specs.Prelude.{◌≡◌, ◌<◌, List, Some, option_map, slice_get, drop};
 ghost use Rattle.q_packet.specs.Totals.{count, size};
 ghost use Rattle.q_packet.specs.declared.stamped.Stamped.{Stamped};
+ghost use Rattle.q_codel.specs.Front.{front_of};
 
-use q_packet::Stamped;
+use crate::front::Front;
+use q_packet::{Packet, Stamped};
 
 /// A queue that CoDel takes from: a list of stamped packets, front first.
 ///
@@ -20,6 +22,17 @@ pub trait Queue {
     /// Takes the packet in front; `None` where the queue is empty.
     fn take(&mut self) -> Option<Stamped>
         ensures front { result ≡ slice_get (packets self.old) 0 }
+        ensures rest { packets self.new ≡ drop 1 (packets self.old) }
+        ensures kept { keeps self.old self.new };
+
+    /// What CoDel looks at of the packet in front; `None` where the queue is empty. No packet is copied.
+    fn front(&self) -> Option<Front>
+        ensures { result ≡ option_map front_of (slice_get (packets self.now) 0) };
+
+    /// Takes the packet in front, which is there, into `out`: it is copied once.
+    fn take_into(&mut self, out: &mut Packet)
+        requires { 0 < count (packets self.old) }
+        ensures given { Some out.new ≡ option_map (λ (s : Stamped). s.packet) (slice_get (packets self.old) 0) }
         ensures rest { packets self.new ≡ drop 1 (packets self.old) }
         ensures kept { keeps self.old self.new };
 

@@ -111,6 +111,13 @@ packets-joined p n [] h = absurd (omega arith)
 packets-joined p zero (f ∷ fs) h = omega (arith, packets-cons f fs, packets-cons (joined p f) fs, length-append f.queue (p ∷ []))
 packets-joined p (suc n) (f ∷ fs) h = omega (arith, packets-cons f fs, packets-cons f (adjust (joined p) n fs), packets-joined p n fs (omega arith))
 
+-- also of a flow that is not there
+joined_most : (p : Stamped) (n : ℕ) (flows : List Flow) → packets_of (adjust (joined p) n flows) ≤ packets_of flows + 1
+unfolding adjust
+joined_most p n [] = omega arith
+joined_most p zero (f ∷ fs) = omega (arith, packets-cons f fs, packets-cons (joined p f) fs, length-append f.queue (p ∷ []))
+joined_most p (suc n) (f ∷ fs) = omega (arith, packets-cons f fs, packets-cons f (adjust (joined p) n fs), joined_most p n fs)
+
 pub packets-shortened : (k n : ℕ) (flows : List Flow) → k ≤ count (queue_of flows n) → packets_of (adjust (shortened k) n flows) + k ≡ packets_of flows
 unfolding adjust
 packets-shortened k n [] h = omega arith
@@ -272,3 +279,17 @@ module _ (s t : FqState) (n : ℕ) (lawful : IsLawful s) (settings : t.settings.
       (λ (w : (t.fresh ≡ s.fresh) × (1 ≤ times n (s.fresh ++ s.stale))). lawful_listed w.0 stale w.1)
       (λ (w : (t.fresh ≡ s.fresh ++ record { flow = n; credits = pos q } ∷ []) × (times n (s.fresh ++ s.stale) ≡ 0)). lawful_enlisted (record { flow = n; credits = pos q }) refl w.0 stale w.1)
       (enlisted_cases n q s.fresh t.fresh s.stale fresh)
+
+-- ---- where one packet more stays within the limit
+
+within_limit : (s : FqState) (packet : Descriptor) (now : ℕ) → packets_of s.flows < s.settings.limit → packets_of (appended s packet now).flows ≤ (appended s packet now).settings.limit
+unfolding appended
+within_limit s packet now h = omega (arith, h, joined_most (record { packet = packet; at = now }) (flow_of s packet) s.flows)
+
+pub none_lost_within : (s : FqState) (packet : Descriptor) (now : ℕ) → packets_of s.flows < s.settings.limit → shed (appended s packet now) ≡ []
+none_lost_within s packet now h = shed-none (appended s packet now) (within_limit s packet now h)
+
+pub stays_within : (s : FqState) (packet : Descriptor) (now : ℕ) → packets_of s.flows < s.settings.limit → flow_of s packet < length s.flows → is_lost_itself s packet now ≡ false
+unfolding appended
+stays_within s packet now h within =
+    lost-none s (appended s packet now) packet now (flow_of s packet) (record { packet = packet; at = now }) refl refl (within_limit s packet now h) refl within

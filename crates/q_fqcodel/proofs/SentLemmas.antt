@@ -1,11 +1,11 @@
 -- CoDel at one flow: it drops no more packets than the flow has, and an empty flow sends nothing.
-use Rattle.std.proofs.Common.{◌≡◌, ℕ, zero, suc, ◌<◌, ◌≤◌, Bool, true, false, cond, List, [], ◌∷◌, length, take, Option, Some, None, IsSome, option_map, ◌++◌, IfSome, option_and_then, unwrap_or, pos, ◌-ℤ◌, refl, sym, ap, ap₂, ◌∙◌, arith, subst, drop, set, ◌≢◌, ◌==◌, if◌then◌else◌, not}
+use Rattle.std.proofs.Common.{◌≡◌, ℕ, zero, suc, ◌+◌, ◌-◌, ◌<◌, ◌≤◌, nat_lt, Bool, true, false, cond, List, [], ◌∷◌, length, take, Option, Some, None, IsSome, option_map, ◌++◌, IfSome, option_and_then, unwrap_or, pos, ◌-ℤ◌, refl, sym, ap, ap₂, ◌∙◌, arith, subst, drop, set, ◌≢◌, ◌==◌, if◌then◌else◌, not}
 use Rattle.std.specs.Prelude.{slice_get}
-use Rattle.std.proofs.lemmas.Bool.{cond-false, ne_eqb, eqb-true, eqb-false, not-true, not-false}
+use Rattle.std.proofs.lemmas.Bool.{cond-false, lt-ltb, ne_eqb, eqb-true, eqb-false, not-true, not-false}
 use Rattle.std.proofs.lemmas.List.{length-take, length-drop, nil_from_length}
 use Rattle.q_packet.specs.Totals.{count}
 use Rattle.q_packet.specs.declared.stamped.Stamped.{Stamped}
-use Rattle.q_codel.specs.Codel.{CodelState, drops, taken}
+use Rattle.q_codel.specs.Codel.{CodelState, drops, taken, left}
 use Rattle.q_codel.specs.declared.taken.Taken.{Taken}
 use Rattle.q_fqcodel.specs.Cleared.{adjust}
 use Rattle.q_fqcodel.specs.FqState.{Flow, FqState}
@@ -35,9 +35,30 @@ drops_within s now (x ∷ xs) some =
     let within : drops s now (x ∷ xs) < length (x ∷ xs) = slice_within (x ∷ xs) (drops s now (x ∷ xs)) (mapped_some _ (slice_get (x ∷ xs) (drops s now (x ∷ xs))) (some (omega arith))) in
     omega (arith, within)
 
+-- and one fewer where it sends
+pub drops_below : (s : CodelState) (now : ℕ) (q : List Stamped) → IsSome (taken s now q) → drops s now q < count q
+drops_below s now q some = slice_within q (drops s now q) (mapped_some _ (slice_get q (drops s now q)) some)
+
+-- what the flow has then, and what it had
+pub rest_count : (held rest : ℕ) (s : CodelState) (now : ℕ) (q l : List Stamped) → held ≡ count q → rest ≡ count l → l ≡ left s now q → IsSome (taken s now q)
+    → rest + suc (drops s now q) ≡ held
+rest_count held rest s now q l h r is some =
+    omega (arith, h, r, ap count is, length-drop (suc (drops s now q)) q, drops_below s now q some)
+
+more_than_one : (n : ℕ) → nat_lt 1 (suc n) ≡ not (n == 0)
+more_than_one zero = refl
+more_than_one (suc n) = lt-ltb 1 (suc (suc n)) (omega arith) ∙ sym (ap not (ne_eqb (suc n) 0 (omega arith)))
+
 -- the packets dropped are so many
 pub count_dropped : (s : CodelState) (now : ℕ) (q : List Stamped) → (0 < count q → IsSome (taken s now q)) → count (take (drops s now q) q) ≡ drops s now q
 count_dropped s now q some = omega (arith, length-take (drops s now q) q, drops_within s now q some)
+
+-- more than one packet has left exactly where one was dropped
+pub drops_told : (held rest : ℕ) (s : CodelState) (now : ℕ) (q : List Stamped) → rest + suc (drops s now q) ≡ held → IsSome (taken s now q)
+    → nat_lt 1 (held - rest) ≡ not (count (take (drops s now q) q) == 0)
+drops_told held rest s now q h some =
+    let gone : held - rest ≡ suc (drops s now q) = omega (arith, h) in
+    ap (nat_lt 1) gone ∙ more_than_one (drops s now q) ∙ ap (λ (n : ℕ). not (n == 0)) (sym (count_dropped s now q (λ _. some)))
 
 -- ---- the flow in front sends
 

@@ -1,6 +1,7 @@
 -- What an fq_codel sends next, what CoDel drops before it, and the state after.
 -- RFC 8290, section 4.2, with CoDel as RFC 8289, section 5, has it.
-use Rattle.std.specs.Prelude.{ℕ, pos, ◌-ℤ◌, List, [], ◌∷◌, ◌++◌, take, Option, Some, None, option_map, option_and_then, slice_get, unwrap_or}
+use Rattle.std.specs.Prelude.{ℕ, Bool, pos, ◌-ℤ◌, List, [], ◌∷◌, ◌++◌, take, Option, Some, None, option_map, option_and_then, slice_get, unwrap_or}
+use Rattle.q_packet.specs.Descriptor.{Descriptor}
 use Rattle.q_packet.specs.declared.stamped.Stamped.{Stamped}
 use Rattle.q_codel.specs.Codel.{drops, taken, left, after}
 use Rattle.q_codel.specs.declared.taken.Taken.{Taken}
@@ -8,6 +9,10 @@ use Rattle.q_fqcodel.specs.Cleared.{adjust, clear}
 use Rattle.q_fqcodel.specs.Selection.{arranged}
 use Rattle.q_fqcodel.specs.FqState.{Flow, FqState, is_idle, rested_flow}
 use Rattle.q_fqcodel.specs.Entry.{Entry}
+
+-- this packet, marked or not
+abbrev pub taken_as : Descriptor → Bool → Option Taken
+taken_as packet marked = Some (record { packet = packet; marked = marked })
 
 -- the state once the flow that sends is in front, and before it sends
 unfoldable pub selected : FqState → FqState

@@ -1,11 +1,12 @@
 //! The packets of one flow in the slab of all: one appended, or the first taken.
-ghost use Rattle.std.specs.Prelude.{ℕ, ◌≡◌, ◌+◌, ◌<◌, ◌%◌, [], ◌∷◌, ◌++◌, ◌^◌};
+ghost use Rattle.std.specs.Prelude.{ℕ, ◌≡◌, ◌+◌, ◌<◌, ◌%◌, [], ◌∷◌, ◌++◌, ◌^◌, Some, drop, option_map, slice_get};
+ghost use Rattle.q_packet.specs.declared.stamped.Stamped.{Stamped};
 ghost use Rattle.slab.specs.Slab.{get, slab_len, HasRoomFor};
 ghost use Rattle.q_fqcodel.specs.Chain.{queue_in, IsList, KeepsOthers};
 
 use crate::flow_list::FlowList;
 use crate::node::Node;
-use q_packet::Stamped;
+use q_packet::{Packet, Stamped};
 use slab::Slab;
 
 /// Appends a packet to the list of its flow, however many flows there are.
@@ -66,4 +67,32 @@ pub(crate) fn take_head(nodes: &mut Slab<Node>, list: FlowList) -> (Stamped, Flo
         bytes: list.bytes - packet.len as u64,
     };
     (node.stamped(), rest)
+}
+
+/// Takes the first packet out of the list of a flow, into `out`: it is copied once.
+#[inline(always)]
+pub(crate) fn take_head_into(nodes: &mut Slab<Node>, list: FlowList, out: &mut Packet) -> FlowList
+    requires some { 0 < list.count }
+    requires linked { (flows : ℕ) × (flow : ℕ) × IsList (get nodes.old) flows flow list }
+    ensures given { Some out.new ≡ option_map (λ (s : Stamped). s.packet) (slice_get (queue_in (get nodes.old) list) 0) }
+    ensures queue { queue_in (get nodes.new) result ≡ drop 1 (queue_in (get nodes.old) list) }
+    ensures linked { (flows flow : ℕ) → IsList (get nodes.old) flows flow list → IsList (get nodes.new) flows flow result }
+    ensures others { (flows flow : ℕ) → IsList (get nodes.old) flows flow list
+        → KeepsOthers flows flow (get nodes.old) (get nodes.new) }
+    ensures count { result.count + 1 ≡ list.count }
+    ensures bytes { result.bytes + out.new.len ≡ list.bytes }
+    ensures len { slab_len nodes.new + 1 ≡ slab_len nodes.old }
+    ensures capacity { nodes.new.capacity ≡ nodes.old.capacity }
+{
+    let node = &nodes[list.head];
+    let packet = node.packet;
+    let next = node.next;
+    *out = packet;
+    nodes.remove(list.head);
+    FlowList {
+        head: next,
+        tail: list.tail,
+        count: list.count - 1,
+        bytes: list.bytes - packet.len as u64,
+    }
 }

@@ -4,8 +4,8 @@ ghost use Rattle.q_fqcodel.specs.Pool.{SameBeside};
 ghost use Rattle.q_fqcodel.specs.PoolKept.{kept_same, kept_on};
 
 use crate::pool::Pool;
-use q_codel::Queue;
-use q_packet::Stamped;
+use q_codel::{Front, Queue};
+use q_packet::{Packet, Stamped};
 
 /// The queue of one flow, as a view of the packets of all.
 #[derive(Drop)]
@@ -30,6 +30,14 @@ impl<'a> Queue for FlowQueue<'a> {
 
     fn take(&mut self) -> Option<Stamped> {
         self.pool.take_of(self.flow)
+    }
+
+    fn front(&self) -> Option<Front> {
+        self.pool.front_of(self.flow)
+    }
+
+    fn take_into(&mut self, out: &mut Packet) {
+        self.pool.take_of_into(self.flow, out);
     }
 
     fn bytes(&self) -> u64 {

@@ -1,5 +1,8 @@
-ghost use Rattle.std.specs.Prelude.{◌≡◌, ◌+◌, ◌<◌, ◌≤◌, ◌↔◌, ◌==◌, [], ◌∷◌, ◌++◌, length, set, slice_get, pos, true, false, if◌then◌else◌, IsSome, IsOk, IfOk, OnOk, OnErr};
+ghost use Rattle.std.specs.Prelude.{ℕ, ◌≡◌, ◌+◌, ◌<◌, nat_lt, ◌≤◌, ◌↔◌, ◌==◌, [], ◌∷◌, ◌++◌, length, set, slice_get, pos, true, false, if◌then◌else◌, IsSome, IsOk, IfOk, OnOk, OnErr};
+ghost use Rattle.std.specs.Option.{option_map_or};
 ghost use Rattle.q_packet.specs.Totals.{count};
+ghost use Rattle.q_packet.specs.Descriptor.{Descriptor};
+ghost use Rattle.q_codel.specs.declared.taken.Taken.{Taken};
 ghost use Rattle.q_codel.specs.Losses.{losses_of};
 
 use crate::active_lists::ActiveLists;
@@ -7,6 +10,7 @@ use crate::entry::Entry;
 use crate::flow_list::FlowList;
 use crate::flows::Flows;
 use crate::link::Link;
+use crate::sent::Sent;
 use crate::settings::Settings;
 use q_codel::{ControlState, Sink, Taken};
 use q_packet::{Cause, Moment, Packet, Stamped};
@@ -73,6 +77,25 @@ impl FqCodel {
         self.send_front(now, sink)
     }
 
+    /// Does what [`FqCodel::take`] does, and writes the packet into `out`, so that it is copied once; `out` stays where no flow
+    /// has a packet. The answer tells its length, and whether CoDel marked it or dropped packets before it.
+    pub fn take_into<S: Sink>(&mut self, now: Moment, out: &mut Packet, sink: &mut S) -> Sent
+        requires { packets_of self.old.state.flows ≤ S.room sink.old }
+        ensures len { result.len ≡ option_map_or (λ (t : Taken). t.packet.len) (sent_from now (selected self.old.state)) 0 }
+        ensures some { (0 < result.len) ↔ (0 < packets_of self.old.state.flows) }
+        ensures packet { out.new ≡ option_map_or (λ (t : Taken). t.packet) (sent_from now (selected self.old.state)) out.old }
+        ensures marked { result.marked ≡ option_map_or (λ (t : Taken). t.marked) (sent_from now (selected self.old.state)) false }
+        ensures dropped { result.dropped ≡ not (count (dropped_from now (selected self.old.state)) == 0) }
+        ensures after { self.new.state ≡ after_sending now (selected self.old.state) }
+        ensures places { self.new.places ≡ self.old.places }
+        ensures lost { S.losses sink.new ≡ S.losses sink.old ++ losses_of Cause.CoDel (dropped_from now (selected self.old.state)) }
+        ensures room { S.room sink.new + count (dropped_from now (selected self.old.state)) ≡ S.room sink.old }
+        ensures kept { S.keeps sink.old sink.new }
+    {
+        self.select();
+        self.send_front_into(now, out, sink)
+    }
+
     /// Puts a packet at the end of its flow, at the moment `now`: the flow with the index `hash mod flows`.
     ///
     /// Where the flows then hold more than `limit` packets, the fat flow loses `drop_batch` packets from its front, but no
@@ -88,16 +111,43 @@ impl FqCodel {
         ensures room { S.room sink.new + count (lost_by_put self.old.state packet now) ≡ S.room sink.old }
         ensures kept { S.keeps sink.old sink.new }
     {
+        self.put_from(&packet, now, sink)
+    }
+
+    /// Does what [`FqCodel::put`] does, with a packet that is read where it stands.
+    pub fn put_from<S: Sink>(&mut self, packet: &Packet, now: Moment, sink: &mut S) -> bool
+        requires place { packets_of self.old.state.flows < self.old.places }
+        requires room { min self.old.state.settings.drop_batch (packets_of self.old.state.flows + 1) ≤ S.room sink.old }
+        ensures answer { result ≡ is_lost_itself self.old.state packet.now now }
+        ensures after { self.new.state ≡ after_put self.old.state packet.now now }
+        ensures places { self.new.places ≡ self.old.places }
+        ensures lost { S.losses sink.new ≡ S.losses sink.old ++ losses_of Cause.FatFlow (lost_by_put self.old.state packet.now now) }
+        ensures room { S.room sink.new + count (lost_by_put self.old.state packet.now now) ≡ S.room sink.old }
+        ensures kept { S.keeps sink.old sink.new }
+    {
         let settings = self.settings;
         let flow = packet.hash % settings.flows;
         self.lists.enlist(flow, settings.quantum);
-        let stamped = Stamped { packet, at: now };
+        let stamped = Stamped {
+            packet: *packet,
+            at: now,
+        };
         if self.flows.count() < settings.limit as u64 {
             self.flows.push(flow, stamped);
             return false;
         }
         let batch = settings.drop_batch;
         self.flows.push_over(flow, stamped, batch, sink)
+    }
+
+    /// Whether one packet more stays within the limit: nothing is lost by a put then.
+    pub fn fits(&self) -> bool
+        ensures value { result ≡ nat_lt (packets_of self.now.state.flows) self.now.state.settings.limit }
+        ensures none_lost { result ≡ true → (packet : Descriptor) (now : ℕ) → lost_by_put self.now.state packet now ≡ [] }
+        ensures stays { result ≡ true → (packet : Descriptor) (now : ℕ) → is_lost_itself self.now.state packet now ≡ false }
+    {
+        let settings = self.settings;
+        self.flows.count() < settings.limit as u64
     }
 
     /// Makes a place for one packet more.
@@ -271,6 +321,34 @@ impl FqCodel {
         let packet = taken.packet;
         self.lists.write_front(front.charged(packet.len));
         Some(taken)
+    }
+
+    // Lets the flow in front send into `out` by CoDel's law, and pay for the packet.
+    fn send_front_into<S: Sink>(&mut self, now: Moment, out: &mut Packet, sink: &mut S) -> Sent
+        requires settled { IsSettled self.old.state }
+        requires room { packets_of self.old.state.flows ≤ S.room sink.old }
+        ensures len { result.len ≡ option_map_or (λ (t : Taken). t.packet.len) (sent_from now self.old.state) 0 }
+        ensures some { (0 < result.len) ↔ (0 < packets_of self.old.state.flows) }
+        ensures packet { out.new ≡ option_map_or (λ (t : Taken). t.packet) (sent_from now self.old.state) out.old }
+        ensures marked { result.marked ≡ option_map_or (λ (t : Taken). t.marked) (sent_from now self.old.state) false }
+        ensures dropped { result.dropped ≡ not (count (dropped_from now self.old.state) == 0) }
+        ensures after { self.new.state ≡ after_sending now self.old.state }
+        ensures places { self.new.places ≡ self.old.places }
+        ensures lost { S.losses sink.new ≡ S.losses sink.old ++ losses_of Cause.CoDel (dropped_from now self.old.state) }
+        ensures room { S.room sink.new + count (dropped_from now self.old.state) ≡ S.room sink.old }
+        ensures kept { S.keeps sink.old sink.new }
+    {
+        let Some(front) = self.front() else {
+            return Sent {
+                len: 0,
+                marked: false,
+                dropped: false,
+            };
+        };
+        let sent = self.flows.send_into(front.flow, now, out, sink);
+        // CoDel's drops cost the flow nothing: only what is sent does.
+        self.lists.write_front(front.charged(sent.len));
+        sent
     }
 
     // The flow in front: of the new list, or of the old one where the new one is empty.

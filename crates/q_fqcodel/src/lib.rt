@@ -40,8 +40,10 @@ mod node;
 mod place;
 mod pool;
 mod reuse;
+mod sent;
 mod settings;
 mod winners;
 
 pub use fq_codel::FqCodel;
+pub use sent::Sent;
 pub use settings::Settings;

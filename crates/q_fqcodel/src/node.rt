@@ -1,6 +1,8 @@
 ghost use Rattle.std.specs.Prelude.{◌≡◌};
+ghost use Rattle.q_codel.specs.Front.{front_of};
 ghost use Rattle.q_fqcodel.specs.Chain.{stamped_of};
 
+use q_codel::Front;
 use q_packet::{Moment, Packet, Stamped};
 
 /// A queued packet with the moment at which it was queued, and the key of the packet behind it in its flow.
@@ -36,6 +38,18 @@ impl Node {
         Stamped {
             packet: self.packet,
             at: self.at,
+        }
+    }
+
+    /// What CoDel looks at of the packet.
+    pub(crate) fn front(&self) -> Front
+        ensures { result ≡ front_of (stamped_of self.now) }
+    {
+        let packet = &self.packet;
+        Front {
+            at: self.at,
+            len: packet.len,
+            ecn: packet.ecn,
         }
     }
 }

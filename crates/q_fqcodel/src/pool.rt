@@ -1,14 +1,16 @@
-ghost use Rattle.std.specs.Prelude.{ℕ, ◌≡◌, ◌+◌, ◌*◌, ◌<◌, ◌≤◌, ◌%◌, ◌^◌, [], ◌∷◌, ◌++◌, length, slice_get, get_or, take, drop, set, replicate, IsOk, IfOk, OnOk, OnErr};
+ghost use Rattle.std.specs.Prelude.{ℕ, ◌≡◌, ◌+◌, ◌*◌, ◌<◌, ◌≤◌, ◌%◌, ◌^◌, [], ◌∷◌, ◌++◌, length, Some, option_map, slice_get, get_or, take, drop, set, replicate, IsOk, IfOk, OnOk, OnErr};
 ghost use Rattle.q_packet.specs.Totals.{count, size};
+ghost use Rattle.q_packet.specs.declared.stamped.Stamped.{Stamped};
+ghost use Rattle.q_codel.specs.Front.{front_of};
 ghost use Rattle.q_codel.specs.Losses.{losses_of};
 ghost use Rattle.q_fqcodel.specs.Pool.{packets_in, bytes_in, no_list, moved, SameBeside};
 
-use crate::chain::{append, take_head};
+use crate::chain::{append, take_head, take_head_into};
 use crate::flow_list::FlowList;
 use crate::node::Node;
 use crate::reuse::{append_at, split_head};
-use q_codel::Sink;
-use q_packet::{Cause, Stamped};
+use q_codel::{Front, Sink};
+use q_packet::{Cause, Packet, Stamped};
 use slab::Slab;
 use std::alloc::{AllocError, Global};
 use std::marker::Model;
@@ -100,6 +102,18 @@ impl Pool {
         Some(self.nodes[list.head].stamped())
     }
 
+    /// What CoDel looks at of the packet in front of a flow.
+    pub(crate) fn front_of(&self, flow: u32) -> Option<Front>
+        ensures { result ≡ option_map front_of (slice_get (get_or self.now.queues flow []) 0) }
+    {
+        let list = list_of(&self.lists, flow);
+        if list.count == 0 {
+            return None;
+        }
+        let node = &self.nodes[list.head];
+        Some(node.front())
+    }
+
     /// Takes the packet in front of a flow.
     pub(crate) fn take_of(&mut self, flow: u32) -> Option<Stamped>
         ensures front { result ≡ slice_get (get_or self.old.queues flow []) 0 }
@@ -115,6 +129,20 @@ impl Pool {
         self.lists[flow as usize] = rest;
         self.bytes -= packet.len as u64;
         Some(stamped)
+    }
+
+    /// Takes the packet in front of a flow, which has one, into `out`.
+    #[inline(always)]
+    pub(crate) fn take_of_into(&mut self, flow: u32, out: &mut Packet)
+        requires { 0 < count (get_or self.old.queues flow []) }
+        ensures given { Some out.new ≡ option_map (λ (s : Stamped). s.packet) (slice_get (get_or self.old.queues flow []) 0) }
+        ensures queues { self.new.queues ≡ set self.old.queues flow (drop 1 (get_or self.old.queues flow [])) }
+        ensures places { self.new.places ≡ self.old.places }
+    {
+        let list = list_at(&self.lists, flow);
+        let rest = take_head_into(&mut self.nodes, list, out);
+        self.lists[flow as usize] = rest;
+        self.bytes -= out.len as u64;
     }
 
     /// Loses the packet in front of the flow `from`, and appends another to a flow, in the node of the first.

@@ -1,17 +1,21 @@
-use Rattle.std.proofs.Common.{◌≡◌, ◌<◌, ◌+◌, ◌∷◌, ◌++◌, ℕ, take}
+use Rattle.std.proofs.Common.{◌≡◌, ◌≤◌, ◌+◌, ◌∷◌, ◌++◌, ℕ, List, take}
 use Rattle.q_packet.specs.Totals.{count}
 use Rattle.q_packet.specs.declared.cause.Cause.TheVariants.{CoDel}
+use Rattle.q_packet.specs.declared.stamped.Stamped.{Stamped}
 use Rattle.q_codel.specs.Losses.{losses_of}
 use Rattle.q_codel.specs.Codel.{joined}
+use Rattle.q_codel.specs.Front.{front_of}
 use Rattle.q_codel.proofs.Law.{OnTheWay}
 use Rattle.q_codel.proofs.control_state.ControlState.go_on.Given as goal
 
 abbrev pub invariant-loop-self : goal.invariant-loop-self
-invariant-loop-self g l = (j : ℕ) × record {
-  way : OnTheWay (joined l.parameters l.initial.self) l.now (l.fn.first ∷ g.Q.Queue.packets l.initial.queue) j (joined l.parameters l.self) l.head (g.Q.Queue.packets l.queue);
-  lost : g.S.Sink.losses l.sink ≡ g.S.Sink.losses l.initial.sink ++ losses_of CoDel (take j (l.fn.first ∷ g.Q.Queue.packets l.initial.queue));
+invariant-loop-self g l = (j : ℕ) × (head : Stamped) × (rest : List Stamped) × record {
+  packets : g.Q.Queue.packets l.queue ≡ head ∷ rest;
+  front : l.front ≡ front_of head;
+  way : OnTheWay (joined l.parameters l.initial.self) l.now (g.Q.Queue.packets l.initial.queue) j (joined l.parameters l.self) head rest;
+  lost : g.S.Sink.losses l.sink ≡ g.S.Sink.losses l.initial.sink ++ losses_of CoDel (take j (g.Q.Queue.packets l.initial.queue));
   room : g.S.Sink.room l.sink + j ≡ g.S.Sink.room l.initial.sink;
-  enough : count (g.Q.Queue.packets l.queue) < g.S.Sink.room l.sink;
+  enough : count (g.Q.Queue.packets l.queue) ≤ g.S.Sink.room l.sink;
   kept : g.Q.Queue.keeps l.initial.queue l.queue;
   sink_kept : g.S.Sink.keeps l.initial.sink l.sink;
 }

@@ -1,8 +1,10 @@
 use Rattle.std.proofs.Common.{ap}
 use Rattle.q_packet.specs.Descriptor.{Descriptor}
-use Rattle.q_codel.proofs.Counted.{IsCounted-popped}
+use Rattle.q_codel.proofs.Counted.{IsCounted-dropped}
 use Rattle.q_codel.proofs.fifo.Fifo.take.Goals as goal
 
-pub invariant_of-self-2 : goal.invariant_of-self-2
-invariant_of-self-2 c =
-    IsCounted-popped _ _ c.in_ok-stamped.stamped _ c.packet.inside.len c.self.invariant c.in_ok-stamped.ensures.items (ap (λ (p : Descriptor). p.len) c.packet.view_is)
+pub invariant_of-self : goal.invariant_of-self
+invariant_of-self c =
+    let h = c.in_ok-front.ensures in
+    IsCounted-dropped _ _ c.in_ok-front.front.now _ c.packet.inside.len c.self.invariant h.item.0 h.lookup c.pop_front.ensures.rest
+    (ap (λ (p : Descriptor). p.len) c.packet.view_is)

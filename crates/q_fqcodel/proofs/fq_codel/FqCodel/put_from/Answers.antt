@@ -14,8 +14,8 @@ use Rattle.q_fqcodel.specs.Put.{flow_of, joined, appended, fattest, shed_count, 
 use Rattle.q_fqcodel.specs.Ranges.{IsInRange}
 use Rattle.q_fqcodel.proofs.KeptLemmas.{lawful_after_put}
 use Rattle.q_fqcodel.proofs.PutLemmas.{place_for, listed-not, packets-joined, appended-is, cut-none, cut-some, shed-none, shed-some, lost-none, lost-some, shed-within, shed-batch}
-use Rattle.q_fqcodel.proofs.fq_codel.FqCodel.put.Goals as goal
-use Rattle.q_fqcodel.proofs.fq_codel.FqCodel.put.Goals.{After-enlist, After-count, After-push, After-push_over}
+use Rattle.q_fqcodel.proofs.fq_codel.FqCodel.put_from.Goals as goal
+use Rattle.q_fqcodel.proofs.fq_codel.FqCodel.put_from.Goals.{After-enlist, After-count, After-push, After-push_over}
 
 -- the state as it was opened
 abbrev opened : (g : _) → After-enlist g → FqState
@@ -27,7 +27,7 @@ opened_is g c = ap (λ (v : FqView). v.state) c.self.view_is
 abbrev own : (g : _) → After-enlist g → ℕ
 own g c = c.packet.inside.hash % c.settings.inside.flows
 
-own_is : (g : _) (c : After-enlist g) → own g c ≡ flow_of (opened g c) c.args.packet
+own_is : (g : _) (c : After-enlist g) → own g c ≡ flow_of (opened g c) c.args.packet.now
 own_is g c = ap₂ (λ (m n : ℕ). m % n) (ap (λ (p : Descriptor). p.hash) c.packet.view_is) (ap (λ (x : FqSettings). x.flows) c.settings.view_is)
 
 within : (g : _) (c : After-enlist g) → own g c < length c.self.inside.flows.flows
@@ -35,8 +35,21 @@ within g c =
     let count : c.settings.inside.flows ≡ c.self.inside.settings.flows = ap (λ (x : FqSettings). x.flows) c.settings.view_is in
     omega (arith, count, c.settings.invariant.flows_low, c.self.invariant.0.each_flow)
 
+-- the packet, as it is read
+abbrev seen : (g : _) → After-enlist g → Descriptor
+seen g c = record {
+  port = c.packet.inside.port;
+  number = c.packet.inside.number;
+  buf = c.packet.inside.buf;
+  len = c.packet.inside.len;
+  key = c.packet.inside.key;
+  hash = c.packet.inside.hash;
+  prio = c.packet.inside.prio;
+  ecn = c.packet.inside.ecn;
+}
+
 abbrev arrived : (g : _) → After-enlist g → Stamped
-arrived g c = record { packet = c.args.packet; at = c.args.now }
+arrived g c = record { packet = seen g c; at = c.args.now }
 
 -- the flows once the packet has joined its flow, and the state with them
 abbrev joins : (g : _) → After-enlist g → List Flow
@@ -45,13 +58,14 @@ joins g c = adjust (joined (arrived g c)) (own g c) c.self.inside.flows.flows
 abbrev fuller : (g : _) → After-enlist g → FqState
 fuller g c = record (opened g c) { flows = joins g c; fresh = c.enlist.new.self.fresh; stale = c.enlist.new.self.stale }
 
-fuller_is : (g : _) (c : After-enlist g) → fuller g c ≡ appended c.args.self.now.state c.args.packet c.args.now
+fuller_is : (g : _) (c : After-enlist g) → fuller g c ≡ appended c.args.self.now.state c.args.packet.now c.args.now
 fuller_is g c =
     let s = opened g c in
     ap (λ (v : ListsState). record s { flows = joins g c; fresh = c.enlist.new.self.fresh; stale = v.stale }) c.enlist.ensures
-    ∙ appended-is s c.args.packet c.args.now (own g c) c.settings.inside.quantum (joins g c) c.enlist.new.self.fresh (own_is g c)
-    (ap (λ (x : FqSettings). x.quantum) c.settings.view_is) refl (ap (λ (v : ListsState). v.fresh) c.enlist.ensures)
-    ∙ ap (λ (x : FqState). appended x c.args.packet c.args.now) (opened_is g c)
+    ∙ appended-is s c.args.packet.now c.args.now (own g c) c.settings.inside.quantum (joins g c) c.enlist.new.self.fresh (own_is g c)
+    (ap (λ (x : FqSettings). x.quantum) c.settings.view_is)
+    (ap (λ (p : Descriptor). adjust (joined (record { packet = p; at = c.args.now })) (own g c) c.self.inside.flows.flows) c.packet.view_is) (ap (λ (v : ListsState). v.fresh) c.enlist.ensures)
+    ∙ ap (λ (x : FqState). appended x c.args.packet.now c.args.now) (opened_is g c)
 
 -- one packet more than before
 more : (g : _) (c : After-enlist g) → packets_of (joins g c) ≡ packets_of c.self.inside.flows.flows + 1
@@ -80,10 +94,10 @@ enlist-requires-clause-few g c =
     omega (arith, place, count, c.settings.invariant.flows_high)
 
 -- the packet's flow, by the number of flows that there are
-own_flow : (g : _) (c : After-enlist g) → c.args.packet.hash % length c.self.inside.flows.flows ≡ own g c
+own_flow : (g : _) (c : After-enlist g) → c.packet.inside.hash % length c.self.inside.flows.flows ≡ own g c
 own_flow g c =
     let count : c.settings.inside.flows ≡ length c.self.inside.flows.flows = ap (λ (x : FqSettings). x.flows) c.settings.view_is ∙ sym c.self.invariant.0.each_flow in
-    ap₂ (λ (m n : ℕ). m % n) (ap (λ (p : Descriptor). p.hash) (sym c.packet.view_is)) (sym count)
+    ap (λ (n : ℕ). c.packet.inside.hash % n) (sym count)
 
 pub push-requires-clause-own : goal.push-requires-clause-own
 push-requires-clause-own g c = own_flow g (goal.at.push-requires-clause-own g c).After-enlist
@@ -97,13 +111,13 @@ in_limit : (g : _) (c : After-push g) → packets_of (joins g (before g c)) ≤ 
 unfolding before
 in_limit g c = omega (arith, c.if-count-settings.true, c.count.ensures, more g (before g c), ap (λ (x : FqSettings). x.limit) c.settings.view_is)
 
-stays : (g : _) (c : After-push g) → state_of c.self.inside.settings c.push.new.self c.enlist.new.self.fresh c.enlist.new.self.stale ≡ after_put c.args.self.now.state c.args.packet c.args.now
+stays : (g : _) (c : After-push g) → state_of c.self.inside.settings c.push.new.self c.enlist.new.self.fresh c.enlist.new.self.stale ≡ after_put c.args.self.now.state c.args.packet.now c.args.now
 unfolding before
 stays g c =
     let a = fuller g (before g c) in
     ap (λ (f : List Flow). record a { flows = f }) c.push.ensures.flows ∙ sym (cut-none a (in_limit g c)) ∙ ap cut_back (fuller_is g (before g c))
 
-none_lost : (g : _) (c : After-push g) → [] ≡ lost_by_put c.args.self.now.state c.args.packet c.args.now
+none_lost : (g : _) (c : After-push g) → [] ≡ lost_by_put c.args.self.now.state c.args.packet.now c.args.now
 unfolding before
 none_lost g c = sym (shed-none (fuller g (before g c)) (in_limit g c)) ∙ ap shed (fuller_is g (before g c))
 
@@ -112,7 +126,7 @@ unfolding before
 invariant_of-self g c =
     let at = before g c in (
       subst (λ (s : FqState). IsLawful s) (sym (stays g c))
-          (lawful_after_put c.args.self.now.state c.args.packet c.args.now (lawful g at) (ranges g at)
+          (lawful_after_put c.args.self.now.state c.args.packet.now c.args.now (lawful g at) (ranges g at)
           (λ over. absurd (omega (arith, over, in_limit g c, ap (λ (x : FqState). packets_of x.flows) (fuller_is g at), ap (λ (x : FqState). x.settings.limit) (opened_is g at))))),
       ap (λ (v : ListsState). v.room) c.enlist.ensures ∙ c.self.invariant.1,
     )
@@ -121,8 +135,8 @@ pub returns-then-count-settings-clause-answer : goal.returns-then-count-settings
 unfolding before
 returns-then-count-settings-clause-answer g c =
     let at = before g c in
-    sym (lost-none c.args.self.now.state (fuller g at) c.args.packet c.args.now (own g at) (arrived g at) (fuller_is g at)
-    (own_is g at ∙ ap (λ (x : FqState). flow_of x c.args.packet) (opened_is g at)) (in_limit g c)
+    sym (lost-none c.args.self.now.state (fuller g at) c.args.packet.now c.args.now (own g at) (arrived g at) (fuller_is g at)
+    (own_is g at ∙ ap (λ (x : FqState). flow_of x c.args.packet.now) (opened_is g at)) (in_limit g c)
     (ap (λ (x : FqState). adjust (joined (arrived g at)) (own g at) x.flows) (opened_is g at))
     (omega (arith, within g at, ap (λ (x : FqState). length x.flows) (opened_is g at))))
 
@@ -168,7 +182,7 @@ lost_is : (g : _) (c : After-push_over g) → shed_count (joins g (opening g c))
 unfolding opening
 lost_is g c = ap (shed_count (joins g (opening g c))) (batch g (opening g c))
 
-cut : (g : _) (c : After-push_over g) → record (fuller g (opening g c)) { flows = c.push_over.new.self.flows } ≡ after_put c.args.self.now.state c.args.packet c.args.now
+cut : (g : _) (c : After-push_over g) → record (fuller g (opening g c)) { flows = c.push_over.new.self.flows } ≡ after_put c.args.self.now.state c.args.packet.now c.args.now
 unfolding opening
 cut g c =
     let at = opening g c in
@@ -178,7 +192,7 @@ cut g c =
     ∙ ap cut_back (fuller_is g at)
 
 shed_is : (g : _) (c : After-push_over g)
-    → take (shed_count (joins g (opening g c)) c.settings.inside.drop_batch) (queue_of (joins g (opening g c)) (fattest (joins g (opening g c)))) ≡ lost_by_put c.args.self.now.state c.args.packet c.args.now
+    → take (shed_count (joins g (opening g c)) c.settings.inside.drop_batch) (queue_of (joins g (opening g c)) (fattest (joins g (opening g c)))) ≡ lost_by_put c.args.self.now.state c.args.packet.now c.args.now
 unfolding opening
 shed_is g c =
     let at = opening g c in
@@ -189,7 +203,7 @@ unfolding opening
 invariant_of-self-2 g c =
     let at = opening g c in (
       subst (λ (s : FqState). IsLawful s) (sym (cut g c))
-          (lawful_after_put c.args.self.now.state c.args.packet c.args.now (lawful g at) (ranges g at)
+          (lawful_after_put c.args.self.now.state c.args.packet.now c.args.now (lawful g at) (ranges g at)
           (λ _. subst (λ (x : FqState). 0 < count (queue_of x.flows (fattest x.flows))) (fuller_is g at) c.push_over.ensures.some)),
       ap (λ (v : ListsState). v.room) c.enlist.ensures ∙ c.self.invariant.1,
     )
@@ -199,8 +213,8 @@ unfolding opening
 returns-clause-answer g c =
     let at = opening g c in
     c.push_over.ensures.answer
-    ∙ sym (lost-some c.args.self.now.state (fuller g at) c.args.packet c.args.now (own g at) (fattest (joins g at)) (shed_count (joins g at) c.settings.inside.drop_batch) (fuller_is g at)
-    (own_is g at ∙ ap (λ (x : FqState). flow_of x c.args.packet) (opened_is g at)) (past_limit g c) refl (lost_is g c))
+    ∙ sym (lost-some c.args.self.now.state (fuller g at) c.args.packet.now c.args.now (own g at) (fattest (joins g at)) (shed_count (joins g at) c.settings.inside.drop_batch) (fuller_is g at)
+    (own_is g at ∙ ap (λ (x : FqState). flow_of x c.args.packet.now) (opened_is g at)) (past_limit g c) refl (lost_is g c))
 
 pub returns-clause-after : goal.returns-clause-after
 unfolding opening

@@ -1,0 +1,95 @@
+-- What is chosen without a drop, by a first drop, and by going on, in what the code holds: the settings p, the state u, and
+-- the state v after a look at the head.
+use Rattle.std.proofs.Common.{◌≡◌, ℕ, ◌-◌, ◌^◌, ◌<◌, Bool, true, false, not, ◌&&◌, nat_lt, nat_le, List, [], ◌∷◌, length, arith, refl, sym, ap, ◌∙◌, subst, inl, inr}
+use Rattle.std.specs.Prelude.{if◌then◌else◌}
+use Rattle.std.proofs.lemmas.Bool.{cases_Bool, cond-false, and_parts, ltb-true}
+use Rattle.q_packet.specs.Totals.{size}
+use Rattle.q_packet.specs.declared.stamped.Stamped.{Stamped}
+use Rattle.q_codel.specs.Codel.{CodelState, CodelParams, CodelVars, joined, is_standing, is_late, is_capable, is_markable, moment, begun, above_after, count_after, Chooses}
+use Rattle.q_codel.proofs.Law.{drops-is, stops-early, marks_at, Chooses-of, Chooses-at, above-late}
+
+-- a late head has a packet behind it
+pub late_has_two : (s : CodelState) (now : ℕ) (head : Stamped) (rest : List Stamped) → is_late s now (head ∷ rest) ≡ true → 0 < length rest
+late_has_two s now head [] late =
+    let standing = (and_parts (is_standing s now (head ∷ []) && nat_lt 0 s.above) (nat_le s.above now) late).0 in
+    let parts = and_parts (is_standing s now (head ∷ [])) (nat_lt 0 s.above) standing in
+    let behind = and_parts (nat_le s.target (now - head.at)) (nat_lt s.mtu (size [])) parts.0 in
+    let more : s.mtu < 0 = ltb-true s.mtu 0 behind.1 in
+    absurd (omega arith)
+late_has_two s now head (x ∷ rest) late = omega arith
+
+-- a look at a late head leaves the state as it is
+pub unmoved : (p : CodelParams) (u v : CodelVars) (now : ℕ) (head : Stamped) (rest : List Stamped) → is_late (joined p u) now (head ∷ rest) ≡ true
+    → v ≡ record u { above = above_after (joined p u) now (head ∷ rest) } → v ≡ u
+unmoved p u v now head rest late noted = noted ∙ ap (λ (a : ℕ). record u { above = a }) (above-late (joined p u) now head rest late)
+
+-- a head that is not late goes, and dropping ends
+module _ (p : CodelParams) (u v : CodelVars) (now : ℕ) (head : Stamped) (rest : List Stamped) (counted : u.count < 2 ^ 32) (early : is_late (joined p u) now (head ∷ rest) ≡ false) (noted : v ≡ record u { above = above_after (joined p u) now (head ∷ rest) }) where
+  s : CodelState
+  s = joined p u
+
+  all : List Stamped
+  all = head ∷ rest
+
+  ended : CodelState
+  ended = joined p (record u { above = above_after s now all; dropping = false })
+
+  unmarked : marks_at s now all 0 ≡ false
+  unfolding s all
+  unmarked = ap (λ (b : Bool). b && nat_le (moment s 0) now && is_markable s all) early
+
+  while_dropping : u.dropping ≡ true → Chooses s now all head false rest ended
+  unfolding s all ended
+  while_dropping dropping =
+      let same : count_after s 0 ≡ u.count = omega arith in
+      subst (λ (n : ℕ). Chooses s now all head false rest (record s { count = n; dropping = false; above = above_after s now all })) same
+      (Chooses-at s now all 0 head rest false false dropping
+      (drops-is s now all 0 dropping (omega arith) (λ i below. absurd (omega arith)) (stops-early s now all 0 early))
+      refl unmarked early)
+
+  at_rest : u.dropping ≡ false → Chooses s now all head false rest ended
+  unfolding s all ended
+  at_rest resting =
+      subst (λ (d : Bool). Chooses s now all head false rest (record s { above = above_after s now all; dropping = d })) resting
+      (Chooses-of s now all 0 head rest false s
+      (cond-false s.dropping _ _ resting ∙ ap (λ (b : Bool). if b && not (is_markable s all) then 1 else 0) early)
+      refl
+      (cond-false s.dropping _ _ resting ∙ ap (λ (b : Bool). b && is_markable s all) early)
+      (cond-false s.dropping _ _ resting ∙ ap (λ (b : Bool). if b then begun s now else s) early))
+
+  pub chosen_early : Chooses (joined p u) now (head ∷ rest) head false rest (joined p (record v { dropping = false }))
+  unfolding s all ended
+  chosen_early =
+      subst (λ (w : CodelVars). Chooses s now all head false rest (joined p (record w { dropping = false }))) (sym noted)
+      (elim (cases_Bool u.dropping) [ inl dropping ↦ while_dropping dropping | inr resting ↦ at_rest resting ])
+
+-- a late head that is not markable is dropped, where none was being dropped, and the next one goes
+pub chosen_behind : (p : CodelParams) (u v w x : CodelVars) (now : ℕ) (head : Stamped) (rest : List Stamped) (next : Stamped) (behind : List Stamped)
+    → u.dropping ≡ false → is_late (joined p u) now (head ∷ rest) ≡ true → v ≡ u → (p.ecn && is_capable head.packet.ecn) ≡ false
+    → joined p w ≡ begun (joined p v) now → rest ≡ next ∷ behind → x ≡ record w { above = above_after (joined p w) now (next ∷ behind) }
+    → Chooses (joined p u) now (head ∷ rest) next false behind (joined p x)
+chosen_behind p u v w x now head rest next behind resting late same plain begins rest_is noted =
+    subst (λ (t : CodelState). Chooses (joined p u) now (head ∷ rest) next false behind t) (sym last)
+    (Chooses-of (joined p u) now (head ∷ rest) 1 next behind false (begun (joined p u) now)
+    (cond-false u.dropping _ _ resting
+    ∙ ap (λ (b : Bool). if b && not (p.ecn && is_capable head.packet.ecn) then 1 else 0) late
+    ∙ ap (λ (b : Bool). if not b then 1 else 0) plain)
+    rest_is
+    (cond-false u.dropping _ _ resting
+    ∙ ap (λ (b : Bool). b && (p.ecn && is_capable head.packet.ecn)) late
+    ∙ plain)
+    (cond-false u.dropping _ _ resting ∙ ap (λ (b : Bool). if b then begun (joined p u) now else joined p u) late)) where
+      begun_there : joined p w ≡ begun (joined p u) now
+      begun_there = begins ∙ ap (λ (y : CodelVars). begun (joined p y) now) same
+
+      last : joined p x ≡ record (begun (joined p u) now) { above = above_after (joined p u) now (next ∷ behind) }
+      last =
+          ap (joined p) noted
+          ∙ ap (λ (y : CodelState). record y { above = above_after y now (next ∷ behind) }) begun_there
+
+-- what is chosen of a queue that is known by another name, and by a state that is
+pub chosen_in : (s : CodelState) (now : ℕ) (whole queue : List Stamped) (head : Stamped) (marked : Bool) (rest : List Stamped) (t : CodelState) → whole ≡ queue → Chooses s now queue head marked rest t → Chooses s now whole head marked rest t
+chosen_in s now whole queue head marked rest t is chosen = subst (λ (q : List Stamped). Chooses s now q head marked rest t) (sym is) chosen
+
+pub chosen_from : (p : CodelParams) (u v : CodelVars) (now : ℕ) (whole : List Stamped) (head : Stamped) (marked : Bool) (rest : List Stamped) (t : CodelState) → v ≡ u → Chooses (joined p v) now whole head marked rest t → Chooses (joined p u) now whole head marked rest t
+chosen_from p u v now whole head marked rest t same chosen = subst (λ (w : CodelVars). Chooses (joined p w) now whole head marked rest t) same chosen

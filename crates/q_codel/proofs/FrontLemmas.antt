@@ -1,0 +1,67 @@
+-- What the front of a queue tells of it: the head is there, and the bytes behind it are the others.
+use Rattle.std.proofs.Common.{◌≡◌, ℕ, ◌-◌, ◌^◌, ◌<◌, ◌≤◌, List, [], ◌∷◌, ◌++◌, Bool, true, take, drop, arith, refl, sym, ap, subst, ◌∙◌}
+use Rattle.std.specs.Prelude.{option_map, slice_get}
+use Rattle.std.proofs.lemmas.Option.{none-some, same_Some}
+use Rattle.q_packet.proofs.TotalsLemmas.{size-cons}
+use Rattle.q_packet.specs.Totals.{size}
+use Rattle.q_packet.specs.declared.stamped.Stamped.{Stamped}
+use Rattle.q_packet.specs.declared.cause.Cause.{Cause}
+use Rattle.q_codel.specs.declared.loss.Loss.{Loss}
+use Rattle.q_codel.specs.declared.front.Front.{Front}
+use Rattle.q_codel.specs.Codel.{CodelState, is_late, Chooses}
+use Rattle.q_codel.specs.Losses.{losses_of}
+use Rattle.q_codel.proofs.Law.{OnTheWay, OnTheWay-start}
+use Rattle.q_codel.specs.Front.{front_of, IsFront}
+
+-- a queue, split at its head
+pub record Split (front : Front) (queue : List Stamped) : Type 0 where
+  pub head : Stamped
+  pub rest : List Stamped
+  pub is : queue ≡ head ∷ rest
+  pub front_is : front ≡ front_of head
+
+pub split : (front : Front) (queue : List Stamped) → IsFront front queue → Split front queue
+split front [] h = absurd (none-some front (sym h))
+split front (s ∷ queue) h = record { head = s; rest = queue; is = refl; front_is = same_Some front (front_of s) h }
+
+-- at a head that is known by another way
+pub front_at : (front : Front) (queue : List Stamped) (head : Stamped) (rest : List Stamped) → IsFront front queue → queue ≡ head ∷ rest → front ≡ front_of head
+front_at front queue head rest h is = same_Some front (front_of head) (h ∙ ap (λ (q : List Stamped). option_map front_of (slice_get q 0)) is)
+
+-- the bytes behind a head
+pub behind_is : (bytes len : ℕ) (queue : List Stamped) (head : Stamped) (rest : List Stamped) → bytes ≡ size queue → queue ≡ head ∷ rest → len ≡ head.packet.len → bytes - len ≡ size rest
+behind_is bytes len queue head rest b is l = omega (arith, b, ap size is, size-cons head rest, l)
+
+pub len_within : (bytes len : ℕ) (queue : List Stamped) (head : Stamped) (rest : List Stamped) → bytes ≡ size queue → queue ≡ head ∷ rest → len ≡ head.packet.len → len ≤ bytes
+len_within bytes len queue head rest b is l = omega (arith, b, ap size is, size-cons head rest, l)
+
+-- what is in front once the head has gone
+pub record Next (front : Front) (queue rest : List Stamped) : Type 0 where
+  pub head : Stamped
+  pub behind : List Stamped
+  pub here : queue ≡ head ∷ behind
+  pub rest_is : rest ≡ head ∷ behind
+  pub front_is : front ≡ front_of head
+
+pub next : (front : Front) (before after : List Stamped) (head : Stamped) (rest : List Stamped) → before ≡ head ∷ rest → after ≡ drop 1 before → IsFront front after → Next front after rest
+next front before after head rest is gone h =
+    let s = split front after h in
+    record { head = s.head; behind = s.rest; here = s.is; rest_is = sym (gone ∙ ap (drop 1) is) ∙ s.is; front_is = s.front_is }
+
+-- the loss of a head
+pub head_lost : (old new : List Loss) (cause : Cause) (queue : List Stamped) (head : Stamped) (rest : List Stamped) → queue ≡ head ∷ rest
+    → new ≡ old ++ losses_of cause (take 1 queue) → new ≡ old ++ record { packet = head.packet; cause = cause } ∷ []
+head_lost old new cause queue head rest is e = e ∙ ap (λ (q : List Stamped). old ++ losses_of cause (take 1 q)) is
+
+-- what is chosen, at the head and the rest by which a caller knows the queue
+pub chosen_at : (s : CodelState) (now : ℕ) (all : List Stamped) (head : Stamped) (marked : Bool) (rest : List Stamped) (t : CodelState) (queue : List Stamped)
+    → Chooses s now all head marked rest t → queue ≡ head ∷ rest → (h : Stamped) (r : List Stamped) → queue ≡ h ∷ r → Chooses s now all h marked r t
+chosen_at s now all head marked rest t queue chosen is h r e =
+    let first : head ≡ h = cc in
+    let others : rest ≡ r = cc in
+    subst (λ (x : Stamped). Chooses s now all x marked r t) first (subst (λ (x : List Stamped). Chooses s now all head marked x t) others chosen)
+
+-- dropping goes on from the head of a queue that is late
+pub way_from : (s : CodelState) (now : ℕ) (queue : List Stamped) (head : Stamped) (rest : List Stamped) → queue ≡ head ∷ rest → s.count < 2 ^ 32 → is_late s now queue ≡ true → OnTheWay s now queue 0 s head rest
+way_from s now queue head rest is counted late =
+    subst (λ (q : List Stamped). OnTheWay s now q 0 s head rest) (sym is) (OnTheWay-start s now head rest counted (sym (ap (is_late s now) is) ∙ late))
