@@ -184,8 +184,8 @@ impl Flows {
             sink,
         );
         let rest = self.pool.count_of(flow);
-        let left = self.pool.bytes_of(flow);
-        self.winners.renew(flow, left);
+        let bytes = self.pool.bytes_of(flow);
+        self.winners.renew(flow, bytes);
         Sent {
             len: out.len,
             marked,

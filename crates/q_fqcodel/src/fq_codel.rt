@@ -1,4 +1,4 @@
-ghost use Rattle.std.specs.Prelude.{ℕ, ◌≡◌, ◌+◌, ◌<◌, nat_lt, ◌≤◌, ◌↔◌, ◌==◌, [], ◌∷◌, ◌++◌, length, set, slice_get, pos, true, false, if◌then◌else◌, IsSome, IsOk, IfOk, OnOk, OnErr};
+ghost use Rattle.std.specs.Prelude.{ℕ, ◌≡◌, ◌+◌, ◌%◌, ◌<◌, nat_lt, ◌≤◌, ◌↔◌, ◌==◌, [], ◌∷◌, ◌++◌, length, set, slice_get, pos, true, false, if◌then◌else◌, IsSome, IsOk, IfOk, OnOk, OnErr};
 ghost use Rattle.std.specs.Option.{option_map_or};
 ghost use Rattle.q_packet.specs.Totals.{count};
 ghost use Rattle.q_packet.specs.Descriptor.{Descriptor};
@@ -126,7 +126,7 @@ impl FqCodel {
         ensures kept { S.keeps sink.old sink.new }
     {
         let settings = self.settings;
-        let flow = packet.hash % settings.flows;
+        let flow = flow_by_hash(packet.hash, settings.flows);
         self.lists.enlist(flow, settings.quantum);
         let stamped = Stamped {
             packet: *packet,
@@ -361,4 +361,17 @@ impl FqCodel {
         }
         self.lists.first_old()
     }
+}
+
+// The flow of a packet with this hash: by a mask where the number of flows is a power of two, since a division takes longer.
+#[inline(always)]
+fn flow_by_hash(hash: u32, flows: u32) -> u32
+    requires { 1 ≤ flows }
+    ensures { result ≡ hash % flows }
+{
+    let bits = flows.trailing_zeros();
+    if bits < 32 && flows == 1 << bits {
+        return hash & (flows - 1);
+    }
+    hash % flows
 }

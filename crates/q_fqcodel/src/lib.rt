@@ -6,6 +6,8 @@
 //! - [`FqCodel::put`] puts a packet into its flow, `hash mod flows`. Past the limit the flow with the most bytes loses a batch
 //!   from its front; the answer says whether the packet that was put is itself lost.
 //! - [`FqCodel::take`] gives the next packet to send, with CoDel's drops and marks.
+//! - [`FqCodel::put_from`] and [`FqCodel::take_into`] do the same with a packet that stays, or is wanted, where the caller has
+//!   it, so that it is copied once. [`Sent`] says what a take did, and [`FqCodel::fits`] beforehand that a put loses nothing.
 //! - [`FqCodel::change`] replaces the settings, [`FqCodel::purge`] loses every packet, [`FqCodel::queued`] counts.
 //!
 //! A contract sees an fq_codel as the record `FqView` (`specs/FqState.antt`): its state, `FqState`, and how many packets there

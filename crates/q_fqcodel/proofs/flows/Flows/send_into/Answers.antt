@@ -146,7 +146,7 @@ invariant_of-self g c =
     let new : List (List Stamped) = c.send_from_into-marked.new.pool.queues in (
       ap length c.send_from_into-marked.ensures.others ∙ length-set qs n (get_or new n []) ∙ c.self.invariant.0 ∙ length-codels p vs ∙ sym (length-set vs n v) ∙ sym (length-codels p (set vs n v)),
       omega (arith, c.self.invariant.1, length-set vs n v),
-      sizes_renewed qs new n (get_or new n []) c.renew.new.self c.bytes_of-left.result c.send_from_into-marked.ensures.others (omega (arith, omega_within g d, c.self.invariant.0))
-          (c.renew.ensures ∙ ap (λ (l : List ℕ). set l n c.bytes_of-left.result) c.self.invariant.2) c.bytes_of-left.ensures.value,
+      sizes_renewed qs new n (get_or new n []) c.renew.new.self c.bytes_of-bytes.result c.send_from_into-marked.ensures.others (omega (arith, omega_within g d, c.self.invariant.0))
+          (c.renew.ensures ∙ ap (λ (l : List ℕ). set l n c.bytes_of-bytes.result) c.self.invariant.2) c.bytes_of-bytes.ensures.value,
       c.self.invariant.3,
     )

@@ -25,15 +25,15 @@ opened_is : (g : _) (c : After-enlist g) → opened g c ≡ c.args.self.now.stat
 opened_is g c = ap (λ (v : FqView). v.state) c.self.view_is
 
 abbrev own : (g : _) → After-enlist g → ℕ
-own g c = c.packet.inside.hash % c.settings.inside.flows
+own g c = c.flow_by_hash-flow.result
 
 own_is : (g : _) (c : After-enlist g) → own g c ≡ flow_of (opened g c) c.args.packet.now
-own_is g c = ap₂ (λ (m n : ℕ). m % n) (ap (λ (p : Descriptor). p.hash) c.packet.view_is) (ap (λ (x : FqSettings). x.flows) c.settings.view_is)
+own_is g c = c.flow_by_hash-flow.ensures ∙ ap₂ (λ (m n : ℕ). m % n) (ap (λ (p : Descriptor). p.hash) c.packet.view_is) (ap (λ (x : FqSettings). x.flows) c.settings.view_is)
 
 within : (g : _) (c : After-enlist g) → own g c < length c.self.inside.flows.flows
 within g c =
     let count : c.settings.inside.flows ≡ c.self.inside.settings.flows = ap (λ (x : FqSettings). x.flows) c.settings.view_is in
-    omega (arith, count, c.settings.invariant.flows_low, c.self.invariant.0.each_flow)
+    omega (arith, c.flow_by_hash-flow.ensures, count, c.settings.invariant.flows_low, c.self.invariant.0.each_flow)
 
 -- the packet, as it is read
 abbrev seen : (g : _) → After-enlist g → Descriptor
@@ -81,14 +81,14 @@ ranges g c = subst (λ (x : FqSettings). IsInRange x) (c.settings.view_is ∙ ap
 pub enlist-requires-clause-within : goal.enlist-requires-clause-within
 enlist-requires-clause-within g c =
     let count : c.settings.inside.flows ≡ c.self.inside.settings.flows = ap (λ (x : FqSettings). x.flows) c.settings.view_is in
-    omega (arith, count, c.settings.invariant.flows_low, c.self.invariant.1)
+    omega (arith, c.flow_by_hash-flow.ensures, count, c.settings.invariant.flows_low, c.self.invariant.1)
 
 pub enlist-requires-clause-few : goal.enlist-requires-clause-few
 enlist-requires-clause-few g c =
     let s : FqState = state_of c.self.inside.settings c.self.inside.flows c.self.inside.lists.fresh c.self.inside.lists.stale in
-    let n : ℕ = c.packet.inside.hash % c.settings.inside.flows in
+    let n : ℕ = c.flow_by_hash-flow.result in
     let count : c.settings.inside.flows ≡ s.settings.flows = ap (λ (x : FqSettings). x.flows) c.settings.view_is in
-    let low : n < s.settings.flows = omega (arith, count, c.settings.invariant.flows_low) in
+    let low : n < s.settings.flows = omega (arith, c.flow_by_hash-flow.ensures, count, c.settings.invariant.flows_low) in
     λ h.
     let place = place_for s n c.self.invariant.0 low (listed-not n (s.fresh ++ s.stale) h) in
     omega (arith, place, count, c.settings.invariant.flows_high)
@@ -97,7 +97,7 @@ enlist-requires-clause-few g c =
 own_flow : (g : _) (c : After-enlist g) → c.packet.inside.hash % length c.self.inside.flows.flows ≡ own g c
 own_flow g c =
     let count : c.settings.inside.flows ≡ length c.self.inside.flows.flows = ap (λ (x : FqSettings). x.flows) c.settings.view_is ∙ sym c.self.invariant.0.each_flow in
-    ap (λ (n : ℕ). c.packet.inside.hash % n) (sym count)
+    ap (λ (n : ℕ). c.packet.inside.hash % n) (sym count) ∙ sym c.flow_by_hash-flow.ensures
 
 pub push-requires-clause-own : goal.push-requires-clause-own
 push-requires-clause-own g c = own_flow g (goal.at.push-requires-clause-own g c).After-enlist
