@@ -34,6 +34,9 @@ pub mod ReshapeLemmas
 pub mod RouteLemmas
 pub mod Rows
 pub mod RowsOf
+pub mod SendBands
+pub mod SendForms
+pub mod SendLemmas
 pub mod ServeLemmas
 pub mod ShowLemmas
 pub mod StatsLemmas

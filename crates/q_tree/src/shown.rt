@@ -1,4 +1,4 @@
-ghost use Rattle.std.specs.Prelude.{◌≡◌, ◌<◌, ◌+◌, ◌^◌, None, is_some, option_map, IfSome, IsSomeAnd};
+ghost use Rattle.std.specs.Prelude.{◌≡◌, ◌<◌, ◌+◌, ◌^◌, Some, None, is_some, option_map, IfSome, IsSomeAnd};
 ghost use Rattle.q_packet.specs.Descriptor.{Descriptor};
 ghost use Rattle.q_model.specs.Tally.{no_totals};
 ghost use Rattle.q_tree.specs.Arrivals.{plus};
@@ -41,6 +41,19 @@ impl Shown {
         Shown {
             len: len_of(packet),
             packet: Snapshot::of(packet),
+            dropped,
+            marked,
+        }
+    }
+
+    /// A node sends this packet, after so much was dropped and marked.
+    #[inline(always)]
+    pub(crate) fn sending(packet: &Packet, dropped: Totals, marked: Totals) -> Shown
+        ensures { result ≡ record { packet = Some packet.now; dropped = dropped; marked = marked } }
+    {
+        Shown {
+            len: Some(packet.len),
+            packet: Snapshot::of(&Some(*packet)),
             dropped,
             marked,
         }
