@@ -29,6 +29,7 @@ pub mod Plans
 pub mod PopLemmas
 pub mod PurgeLemmas
 pub mod Puts
+pub mod Quiet
 pub mod ReadyLemmas
 pub mod ReshapeLemmas
 pub mod RouteLemmas

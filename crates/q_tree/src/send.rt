@@ -55,6 +55,7 @@ impl Node {
     /// What a tbf, a drr or an fq_codel dequeues goes straight to `out`, and is not held. It takes no memory. `sink` needs room
     /// for what is queued.
     #[cycle(send)]
+    #[inline(always)]
     pub(crate) fn send<S: Sink>(&mut self, now: Moment, out: &mut Packet, sink: &mut S) -> Shown
         requires ready { CanAsk now self.old }
         requires sink { length (beneath self.old) ≤ S.room sink.old }
@@ -85,6 +86,7 @@ impl Node {
 impl Discipline {
     // What a node with this discipline shows that holds no packet, and its packet in `out`.
     #[cycle(send)]
+    #[inline(always)]
     fn send<S: Sink>(&mut self, now: Moment, out: &mut Packet, sink: &mut S) -> Shown
         requires ready { CanAskIn now self.old }
         requires sink { length (packets_within self.old) ≤ S.room sink.old }
