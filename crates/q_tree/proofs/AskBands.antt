@@ -50,7 +50,7 @@ told-next (b ∷ below) (suc i) a e = append_assoc b.rises (told_to i below) a.r
 abbrev pub NoneBefore : ℕ → List Asked → Type 0
 NoneBefore i below = first_showing below ≡ i + first_showing (drop i below)
 
-first-here : (below : List Asked) (i : ℕ) (a : Asked) → slice_get below i ≡ Some a → is_some a.shown ≡ true → first_showing (drop i below) ≡ 0
+pub first-here : (below : List Asked) (i : ℕ) (a : Asked) → slice_get below i ≡ Some a → is_some a.shown ≡ true → first_showing (drop i below) ≡ 0
 first-here [] i a e s = cc
 first-here (b ∷ below) zero a e s = ap (λ (t : Bool). cond (not t) (1 + first_showing below) 0) (ap (λ (x : Asked). is_some x.shown) (same_Some b a e) ∙ s)
 first-here (b ∷ below) (suc i) a e s = first-here below i a e s
@@ -76,7 +76,7 @@ module _ (own : Own) (below : List Asked) (k : ℕ) (is : first_showing below �
   pub prio-rises : (ask_prio own below).rises ≡ told_to (suc k) below
   prio-rises = ap (λ n. told_to (suc n) below) is
 
-  prio-shown : (ask_prio own below).shown ≡ option_and_then (λ (a : Asked). a.shown) (slice_get below k)
+  pub prio-shown : (ask_prio own below).shown ≡ option_and_then (λ (a : Asked). a.shown) (slice_get below k)
   prio-shown = ap (λ n. option_and_then (λ (a : Asked). a.shown) (slice_get below n)) is
 
 -- the bands in the midst of it

@@ -29,11 +29,15 @@ pub mod Plans
 pub mod PopLemmas
 pub mod PurgeLemmas
 pub mod Puts
+pub mod Quiet
 pub mod ReadyLemmas
 pub mod ReshapeLemmas
 pub mod RouteLemmas
 pub mod Rows
 pub mod RowsOf
+pub mod SendBands
+pub mod SendForms
+pub mod SendLemmas
 pub mod ServeLemmas
 pub mod ShowLemmas
 pub mod StatsLemmas

@@ -43,7 +43,7 @@ use Rattle.q_tree.proofs.RowsOf.{IsRowOf, can-show, row-shown, row-popped}
 pub stands : StandsFor kept totals (λ (k : Kept). k.counts)
 stands = record { nothing = refl; one_more = λ m n. refl }
 
-noted-push : {M : Type 0} (t : Tally M) (m : M) (notes : List Note) (n : Note) → noted t m (notes ++ n ∷ []) ≡ t.more (noted t m notes) n
+pub noted-push : {M : Type 0} (t : Tally M) (m : M) (notes : List Note) (n : Note) → noted t m (notes ++ n ∷ []) ≡ t.more (noted t m notes) n
 noted-push t m [] n = refl
 noted-push t m (x ∷ notes) n = noted-push t (t.more m x) notes n
 
@@ -100,7 +100,7 @@ module _ (a : Inside) (k : IsKeptDevice a) where
     can-ask-root = record { mtu = a.mtu; least = least-mtu; moment = low; lawful = lawful-root }
 
     -- what a take leaves is kept
-    taken-kept : (b : Inside) → b.clock ≡ now → (tree_seen b).tree ≡ take_packet kept now (tree_seen a).tree → b.top.queued ≡ totals_in (beneath b.root) → IsCountedWithin b.root.memory.counts.arrived b.top.arrived → IsKeptDevice b
+    pub taken-kept : (b : Inside) → b.clock ≡ now → (tree_seen b).tree ≡ take_packet kept now (tree_seen a).tree → b.top.queued ≡ totals_in (beneath b.root) → IsCountedWithin b.root.memory.counts.arrived b.top.arrived → IsKeptDevice b
     taken-kept b clock tree queued within = record {
       history = take_packet history now k.history;
       keeps = subst (λ n. IsKeptTree n (take_packet history now k.history)) (sym clock) (take-kept a.clock now k.history k.keeps later low);

@@ -22,6 +22,7 @@ pub mod ReadyAt
 pub mod Reshaping
 pub mod RouteSeen
 pub mod Seen
+pub mod SendSteps
 pub mod Showing
 pub mod Shown
 pub mod TreeSeen

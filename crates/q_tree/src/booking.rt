@@ -59,6 +59,10 @@ pub(crate) fn book_shown(row: &mut Row, shown: &Shown)
     requires room { CanShow shown.now row.old }
     ensures { row.new ≡ with_shown shown.now row.old }
 {
+    // Mostly nothing was dropped or marked, and nothing is written then.
+    if shown.is_quiet() {
+        return;
+    }
     row.dropped = sum(row.dropped, shown.dropped());
     row.marked = sum(row.marked, shown.marked());
     row.queued = difference(row.queued, shown.dropped());

@@ -55,9 +55,9 @@ pub(crate) fn serve<S: Sink>(
     Shown::at_hand(&None)
 }
 
-// What a class shows: it is asked, or has its packet at hand. What was counted so far is counted on.
+/// What a class shows: it is asked, or has its packet at hand. What was counted so far is counted on.
 #[cycle(peek)]
-fn ask_class<S: Sink>(
+pub(crate) fn ask_class<S: Sink>(
     class: &mut Node,
     is_unasked: bool,
     so_far: Shown,

@@ -83,8 +83,8 @@ pub(crate) fn take_from_flows<S: Sink>(
     Shown::new(held, difference(gone, one), marked_by(&taken))
 }
 
-// The packet, where CoDel marked it.
-fn marked_by(taken: &Taken) -> Totals
+/// The packet, where CoDel marked it.
+pub(crate) fn marked_by(taken: &Taken) -> Totals
     ensures { result ≡ (if taken.now.marked then with_packet no_totals taken.now.packet else no_totals) }
 {
     if taken.marked {

@@ -70,9 +70,9 @@ impl Discipline {
     }
 }
 
-// The first band that has a packet at hand.
+/// The first band that has a packet at hand.
 #[cycle(has_packet)]
-fn ready_band(bands: &[Node]) -> Option<usize>
+pub(crate) fn ready_band(bands: &[Node]) -> Option<usize>
     ensures { IsFirstReady (map pop bands.now) result }
 {
     for place in 0..bands.len() {

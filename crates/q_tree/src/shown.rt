@@ -1,4 +1,4 @@
-ghost use Rattle.std.specs.Prelude.{◌≡◌, ◌<◌, ◌+◌, ◌^◌, None, is_some, option_map, IfSome, IsSomeAnd};
+ghost use Rattle.std.specs.Prelude.{◌≡◌, ◌<◌, ◌+◌, ◌^◌, Some, None, true, is_some, option_map, IfSome, IsSomeAnd};
 ghost use Rattle.q_packet.specs.Descriptor.{Descriptor};
 ghost use Rattle.q_model.specs.Tally.{no_totals};
 ghost use Rattle.q_tree.specs.Arrivals.{plus};
@@ -41,6 +41,19 @@ impl Shown {
         Shown {
             len: len_of(packet),
             packet: Snapshot::of(packet),
+            dropped,
+            marked,
+        }
+    }
+
+    /// A node sends this packet, after so much was dropped and marked.
+    #[inline(always)]
+    pub(crate) fn sending(packet: &Packet, dropped: Totals, marked: Totals) -> Shown
+        ensures { result ≡ record { packet = Some packet.now; dropped = dropped; marked = marked } }
+    {
+        Shown {
+            len: Some(packet.len),
+            packet: Snapshot::of(&Some(*packet)),
             dropped,
             marked,
         }
@@ -96,6 +109,14 @@ impl Shown {
         self.len.is_some()
     }
 
+    /// Whether nothing was dropped and nothing was marked.
+    #[inline(always)]
+    pub(crate) fn is_quiet(&self) -> bool
+        ensures { result ≡ true → (self.now.dropped ≡ no_totals) × (self.now.marked ≡ no_totals) }
+    {
+        is_nothing(&self.dropped) && is_nothing(&self.marked)
+    }
+
     /// What CoDel dropped.
     #[inline(always)]
     pub(crate) fn dropped(&self) -> Totals
@@ -111,6 +132,14 @@ impl Shown {
     {
         self.marked
     }
+}
+
+// Whether no packet was counted, and no byte.
+#[inline(always)]
+fn is_nothing(totals: &Totals) -> bool
+    ensures { result ≡ true → totals.now ≡ no_totals }
+{
+    totals.packets == 0 && totals.bytes == 0
 }
 
 // The length of a packet.

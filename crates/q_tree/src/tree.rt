@@ -45,7 +45,7 @@ pub struct Tree {
     txqueuelen: u32,
     /// The latest moment that it was given.
     pub(crate) clock: Moment,
-    top: Row,
+    pub(crate) top: Row,
     pub(crate) root: Node,
     /// The ways to the handles beneath the root, by which commands find their qdiscs.
     pub(crate) handles: Handles,

@@ -1,0 +1,332 @@
+use Rattle.std.proofs.Common.{◌∙◌, [], ◌∷◌, set, length, add-one, refl, sym, ap, subst, arith}
+use Rattle.std.specs.Prelude.{option_map, slice_index_or, unwrap_or}
+use Rattle.std.proofs.lemmas.Option.{slice_get-map}
+use Rattle.q_packet.specs.declared.stamped.Stamped.{Stamped}
+use Rattle.q_codel.specs.FifoState.{FifoState}
+use Rattle.std.specs.Box.{with_value}
+use Rattle.std.specs.Vec.{with_items}
+use Rattle.q_fqcodel.specs.FqState.{FqView}
+use Rattle.q_model.specs.declared.row.Row.{Row}
+use Rattle.q_model.specs.declared.totals.Totals.{Totals}
+use Rattle.q_model.specs.Ask.{ask, ask_prio}
+use Rattle.q_model.specs.Lawful.{CanHold}
+use Rattle.q_model.specs.Node as spec
+use Rattle.q_model.specs.Node.{Node, shape, side_by_side}
+use Rattle.q_model.specs.Pop.{pop}
+use Rattle.q_model.specs.Work.{Worked, booked}
+use Rattle.q_tree.specs.AskSteps.{IsToldOf, answers, own_of}
+use Rattle.q_tree.specs.Kept.{kept}
+use Rattle.q_tree.specs.NodeCode.{forest_size}
+use Rattle.q_tree.specs.Seen.{children_seen, discipline_seen, places_seen}
+use Rattle.q_tree.specs.declared.node.Discipline.TheVariants as code
+use Rattle.q_tree.specs.Shown.{Shown}
+use Rattle.q_tree.proofs.AskBands.{AreBandsAsked, told_to, band-at, band-once, band-passed, band-told, bands-start, bands-end, bands-rises}
+use Rattle.q_tree.proofs.AskOnce.{fits-beside, told-nothing, told-then}
+use Rattle.q_tree.proofs.AtHandLemmas.{none-held}
+use Rattle.q_tree.proofs.HereLemmas.{flow-packets}
+use Rattle.q_tree.proofs.Peeks.{asked-in, told-in, each-of, room-of, own-room, items-are, serve-of, holding-after, can-in, enough, told-here}
+use Rattle.q_tree.proofs.PopLemmas.{held-after}
+use Rattle.q_tree.proofs.RouteLemmas.{child-size, children-size}
+use Rattle.q_tree.proofs.SendBands.{asked-sent, band-sent, sent-rises}
+use Rattle.q_tree.proofs.SendForms.{asked-sent-in, sent-in, prio-left, fifo-sent, held-answer, held-shows, sent-shown, sent-fits, none-sent, sent-row, sent-queued, one-sent}
+use Rattle.q_tree.proofs.SendLemmas.{given-some, given-none, left-some, left-none, gave-asked}
+use Rattle.q_tree.proofs.TakeCounts.{flow-told}
+use Rattle.q_tree.proofs.+send.Goals as goal
+
+pub send::send_first-loop-place-init : goal.send::send_first-loop-place-init
+send::send_first-loop-place-init g t c = (
+  bands-start c.args.now c.args.bands.now c.at_hand-shown.result (record { dropped = ap (λ (s : Shown). s.dropped) c.at_hand-shown.ensures; marked = ap (λ (s : Shown). s.marked) c.at_hand-shown.ensures }) (ap (λ (s : Shown). s.packet) c.at_hand-shown.ensures),
+  told-nothing (g.S.Sink.losses c.args.sink.now) (g.S.Sink.room c.args.sink.now),
+  g.met.S.Sink.keeps_same c.args.sink.now,
+  refl,
+)
+
+pub send::send_first-send-requires : goal.send::send_first-send-requires
+send::send_first-send-requires g t c κs within =
+    let band = slice_index_or c.loop-place.bands c.loop-place.place c.index-bands-place.result in
+    let at = band-at c.args.now c.args.bands.now c.loop-place.bands c.loop-place.place c.loop-place.shown c.loop-place.invariant.0 c.index-bands-place.result c.loop-place-test.true in
+    let once = band-once c.args.now c.args.bands.now c.loop-place.bands c.loop-place.place c.loop-place.shown c.requires.ready c.loop-place.invariant.0 band at (g.S.Sink.losses c.args.sink.now) (g.S.Sink.losses c.loop-place.sink) (g.S.Sink.room c.args.sink.now) (g.S.Sink.room c.loop-place.sink) c.loop-place.invariant.1 c.requires.sink in
+    (omega (arith, child-size c.args.bands.now c.loop-place.place band at, c.decreases), (within, (once.ready, once.sink)))
+
+pub send::send_first-then-shown-requires-clause-dropped_packets : goal.send::send_first-then-shown-requires-clause-dropped_packets
+send::send_first-then-shown-requires-clause-dropped_packets g t c =
+    let band = slice_index_or c.loop-place.bands c.loop-place.place c.index-bands-place.result in
+    let at = band-at c.args.now c.args.bands.now c.loop-place.bands c.loop-place.place c.loop-place.shown c.loop-place.invariant.0 c.index-bands-place.result c.loop-place-test.true in
+    let once = band-once c.args.now c.args.bands.now c.loop-place.bands c.loop-place.place c.loop-place.shown c.requires.ready c.loop-place.invariant.0 band at (g.S.Sink.losses c.args.sink.now) (g.S.Sink.losses c.loop-place.sink) (g.S.Sink.room c.args.sink.now) (g.S.Sink.room c.loop-place.sink) c.loop-place.invariant.1 c.requires.sink in
+    (fits-beside c.args.now band c.loop-place.shown c.send.result (g.S.Sink.room c.loop-place.sink) once c.send.ensures.shown).dropped_packets
+
+pub send::send_first-then-shown-requires-clause-dropped_bytes : goal.send::send_first-then-shown-requires-clause-dropped_bytes
+send::send_first-then-shown-requires-clause-dropped_bytes g t c =
+    let band = slice_index_or c.loop-place.bands c.loop-place.place c.index-bands-place.result in
+    let at = band-at c.args.now c.args.bands.now c.loop-place.bands c.loop-place.place c.loop-place.shown c.loop-place.invariant.0 c.index-bands-place.result c.loop-place-test.true in
+    let once = band-once c.args.now c.args.bands.now c.loop-place.bands c.loop-place.place c.loop-place.shown c.requires.ready c.loop-place.invariant.0 band at (g.S.Sink.losses c.args.sink.now) (g.S.Sink.losses c.loop-place.sink) (g.S.Sink.room c.args.sink.now) (g.S.Sink.room c.loop-place.sink) c.loop-place.invariant.1 c.requires.sink in
+    (fits-beside c.args.now band c.loop-place.shown c.send.result (g.S.Sink.room c.loop-place.sink) once c.send.ensures.shown).dropped_bytes
+
+pub send::send_first-then-shown-requires-clause-marked_packets : goal.send::send_first-then-shown-requires-clause-marked_packets
+send::send_first-then-shown-requires-clause-marked_packets g t c =
+    let band = slice_index_or c.loop-place.bands c.loop-place.place c.index-bands-place.result in
+    let at = band-at c.args.now c.args.bands.now c.loop-place.bands c.loop-place.place c.loop-place.shown c.loop-place.invariant.0 c.index-bands-place.result c.loop-place-test.true in
+    let once = band-once c.args.now c.args.bands.now c.loop-place.bands c.loop-place.place c.loop-place.shown c.requires.ready c.loop-place.invariant.0 band at (g.S.Sink.losses c.args.sink.now) (g.S.Sink.losses c.loop-place.sink) (g.S.Sink.room c.args.sink.now) (g.S.Sink.room c.loop-place.sink) c.loop-place.invariant.1 c.requires.sink in
+    (fits-beside c.args.now band c.loop-place.shown c.send.result (g.S.Sink.room c.loop-place.sink) once c.send.ensures.shown).marked_packets
+
+pub send::send_first-then-shown-requires-clause-marked_bytes : goal.send::send_first-then-shown-requires-clause-marked_bytes
+send::send_first-then-shown-requires-clause-marked_bytes g t c =
+    let band = slice_index_or c.loop-place.bands c.loop-place.place c.index-bands-place.result in
+    let at = band-at c.args.now c.args.bands.now c.loop-place.bands c.loop-place.place c.loop-place.shown c.loop-place.invariant.0 c.index-bands-place.result c.loop-place-test.true in
+    let once = band-once c.args.now c.args.bands.now c.loop-place.bands c.loop-place.place c.loop-place.shown c.requires.ready c.loop-place.invariant.0 band at (g.S.Sink.losses c.args.sink.now) (g.S.Sink.losses c.loop-place.sink) (g.S.Sink.room c.args.sink.now) (g.S.Sink.room c.loop-place.sink) c.loop-place.invariant.1 c.requires.sink in
+    (fits-beside c.args.now band c.loop-place.shown c.send.result (g.S.Sink.room c.loop-place.sink) once c.send.ensures.shown).marked_bytes
+
+pub send::send_first-returns-then-has_packet-clause-after : goal.send::send_first-returns-then-has_packet-clause-after
+send::send_first-returns-then-has_packet-clause-after g t c =
+    let band = slice_index_or c.loop-place.bands c.loop-place.place c.index-bands-place.result in
+    let at = band-at c.args.now c.args.bands.now c.loop-place.bands c.loop-place.place c.loop-place.shown c.loop-place.invariant.0 c.index-bands-place.result c.loop-place-test.true in
+    let same = ap (λ (s : Shown). s.packet) c.then-shown.ensures in
+    let some = given-some c.then-shown.result.packet c.loop-place.out c.send.new.out (sym c.if-has_packet.ensures) (c.send.ensures.packet ∙ ap (λ o. unwrap_or o c.loop-place.out) (sym same)) in
+    let gone = c.send.ensures.after ∙ ap (λ (w : Worked). booked kept band w) (left-some c.args.now band c.send.new.out (sym c.send.ensures.shown.packet ∙ sym same ∙ some)) in
+    band-sent c.args.now c.args.bands.now c.loop-place.bands c.loop-place.place c.loop-place.shown c.requires.ready c.loop-place.invariant.0 band at c.send.new.self c.send.result c.then-shown.result c.send.new.out gone c.send.ensures.arrived c.send.ensures.shown
+    (ap (λ (s : Shown). s.dropped) c.then-shown.ensures) (ap (λ (s : Shown). s.marked) c.then-shown.ensures) same some
+
+pub send::send_first-returns-then-has_packet-clause-told : goal.send::send_first-returns-then-has_packet-clause-told
+send::send_first-returns-then-has_packet-clause-told g t c =
+    let band = slice_index_or c.loop-place.bands c.loop-place.place c.index-bands-place.result in
+    let at = band-at c.args.now c.args.bands.now c.loop-place.bands c.loop-place.place c.loop-place.shown c.loop-place.invariant.0 c.index-bands-place.result c.loop-place-test.true in
+    let same = ap (λ (s : Shown). s.packet) c.then-shown.ensures in
+    let some = given-some c.then-shown.result.packet c.loop-place.out c.send.new.out (sym c.if-has_packet.ensures) (c.send.ensures.packet ∙ ap (λ o. unwrap_or o c.loop-place.out) (sym same)) in
+    let gone = c.send.ensures.after ∙ ap (λ (w : Worked). booked kept band w) (left-some c.args.now band c.send.new.out (sym c.send.ensures.shown.packet ∙ sym same ∙ some)) in
+    λ own. subst (λ notes. IsToldOf notes (g.S.Sink.losses c.args.sink.now) (g.S.Sink.losses c.send.new.sink) (g.S.Sink.room c.args.sink.now) (g.S.Sink.room c.send.new.sink))
+    (sent-rises c.args.now c.args.bands.now c.loop-place.bands c.loop-place.place c.loop-place.shown c.requires.ready c.loop-place.invariant.0 band at c.send.new.self c.send.result c.then-shown.result c.send.new.out gone c.send.ensures.arrived c.send.ensures.shown
+    (ap (λ (s : Shown). s.dropped) c.then-shown.ensures) (ap (λ (s : Shown). s.marked) c.then-shown.ensures) same some own)
+    (told-then (told_to c.loop-place.place (answers c.args.now c.args.bands.now)) (ask c.args.now (shape band)).rises (g.S.Sink.losses c.args.sink.now) (g.S.Sink.losses c.loop-place.sink) (g.S.Sink.losses c.send.new.sink)
+    (g.S.Sink.room c.args.sink.now) (g.S.Sink.room c.loop-place.sink) (g.S.Sink.room c.send.new.sink) c.loop-place.invariant.1 (record { lost = c.send.ensures.lost; room_taken = c.send.ensures.room }))
+
+pub send::send_first-returns-then-has_packet-clause-kept : goal.send::send_first-returns-then-has_packet-clause-kept
+send::send_first-returns-then-has_packet-clause-kept g t c =
+    g.met.S.Sink.keeps_on c.args.sink.now c.loop-place.sink c.send.new.sink c.loop-place.invariant.2 c.send.ensures.kept
+
+pub send::send_first-returns-then-has_packet-clause-packet : goal.send::send_first-returns-then-has_packet-clause-packet
+send::send_first-returns-then-has_packet-clause-packet g t c =
+    let same = ap (λ (s : Shown). s.packet) c.then-shown.ensures in
+    c.send.ensures.packet ∙ ap (λ o. unwrap_or o c.loop-place.out) (sym same) ∙ ap (unwrap_or c.then-shown.result.packet) c.loop-place.invariant.3
+
+pub send::send_first-loop-place-preserved : goal.send::send_first-loop-place-preserved
+send::send_first-loop-place-preserved g t c =
+    let band = slice_index_or c.loop-place.bands c.loop-place.place c.index-bands-place.result in
+    let at = band-at c.args.now c.args.bands.now c.loop-place.bands c.loop-place.place c.loop-place.shown c.loop-place.invariant.0 c.index-bands-place.result c.loop-place-test.true in
+    let same = ap (λ (s : Shown). s.packet) c.then-shown.ensures in
+    let none = given-none c.then-shown.result.packet c.loop-place.out c.send.new.out (sym c.if-has_packet.ensures) (c.send.ensures.packet ∙ ap (λ o. unwrap_or o c.loop-place.out) (sym same)) in
+    let stays = c.send.ensures.after ∙ ap (λ (w : Worked). booked kept band w) (left-none c.args.now band (sym c.send.ensures.shown.packet ∙ sym same ∙ none.0)) in (
+      subst (λ n. AreBandsAsked c.args.now c.args.bands.now (set c.loop-place.bands c.loop-place.place c.send.new.self) n c.then-shown.result) (sym (add-one c.loop-place.place))
+          (band-passed c.args.now c.args.bands.now c.loop-place.bands c.loop-place.place c.loop-place.shown c.requires.ready c.loop-place.invariant.0 band at c.send.new.self c.send.result c.then-shown.result stays c.send.ensures.arrived c.send.ensures.shown
+          (ap (λ (s : Shown). s.dropped) c.then-shown.ensures) (ap (λ (s : Shown). s.marked) c.then-shown.ensures) same (sym c.if-has_packet.ensures)),
+      subst (λ n. IsToldOf (told_to n (answers c.args.now c.args.bands.now)) (g.S.Sink.losses c.args.sink.now) (g.S.Sink.losses c.send.new.sink) (g.S.Sink.room c.args.sink.now) (g.S.Sink.room c.send.new.sink)) (sym (add-one c.loop-place.place))
+          (subst (λ notes. IsToldOf notes (g.S.Sink.losses c.args.sink.now) (g.S.Sink.losses c.send.new.sink) (g.S.Sink.room c.args.sink.now) (g.S.Sink.room c.send.new.sink))
+          (band-told c.args.now c.args.bands.now c.loop-place.bands c.loop-place.place c.loop-place.shown c.requires.ready c.loop-place.invariant.0 band at)
+          (told-then (told_to c.loop-place.place (answers c.args.now c.args.bands.now)) (ask c.args.now (shape band)).rises (g.S.Sink.losses c.args.sink.now) (g.S.Sink.losses c.loop-place.sink) (g.S.Sink.losses c.send.new.sink)
+          (g.S.Sink.room c.args.sink.now) (g.S.Sink.room c.loop-place.sink) (g.S.Sink.room c.send.new.sink) c.loop-place.invariant.1 (record { lost = c.send.ensures.lost; room_taken = c.send.ensures.room }))),
+      g.met.S.Sink.keeps_on c.args.sink.now c.loop-place.sink c.send.new.sink c.loop-place.invariant.2 c.send.ensures.kept,
+      none.1 ∙ c.loop-place.invariant.3,
+    )
+
+pub send::send_first-returns-clause-after : goal.send::send_first-returns-clause-after
+send::send_first-returns-clause-after g t c =
+    λ own. let all = bands-end c.args.now c.args.bands.now c.loop-place.bands c.loop-place.place c.loop-place.shown c.loop-place.invariant.0 c.loop-place-test.false c.loop-place.auto.place-end own in asked-sent (ask_prio own (answers c.args.now c.args.bands.now)) c.args.bands.now c.loop-place.bands c.loop-place.shown (sym all.shown.packet ∙ c.loop-place.invariant.0.nothing) all
+
+pub send::send_first-returns-clause-told : goal.send::send_first-returns-clause-told
+send::send_first-returns-clause-told g t c =
+    λ own.
+    subst (λ notes. IsToldOf notes (g.S.Sink.losses c.args.sink.now) (g.S.Sink.losses c.loop-place.sink) (g.S.Sink.room c.args.sink.now) (g.S.Sink.room c.loop-place.sink)) (bands-rises c.args.now c.args.bands.now c.loop-place.bands c.loop-place.place c.loop-place.shown c.loop-place.invariant.0 c.loop-place-test.false c.loop-place.auto.place-end own) c.loop-place.invariant.1
+
+pub send::send_first-returns-clause-kept : goal.send::send_first-returns-clause-kept
+send::send_first-returns-clause-kept g t c =
+    c.loop-place.invariant.2
+
+pub send::send_first-returns-clause-packet : goal.send::send_first-returns-clause-packet
+send::send_first-returns-clause-packet g t c =
+    c.loop-place.invariant.3 ∙ ap (λ o. unwrap_or o c.args.out.now) (sym c.loop-place.invariant.0.nothing)
+
+pub node::Discipline::send-returns-in-Fifo-clause-after : goal.node::Discipline::send-returns-in-Fifo-clause-after
+node::Discipline::send-returns-in-Fifo-clause-after g t c =
+    λ handle filters.
+    let left = c.take.ensures.rest in
+    fifo-sent c.args.now handle filters c.args.self.now (code.Fifo c.take.new.self) c.in-Fifo.fifo.limit c.in-Fifo.fifo.packets c.sending.result (ap discipline_seen c.in-Fifo.is) (ap children_seen c.in-Fifo.is)
+    (ap (λ (f : FifoState). spec.Fifo f.limit f.packets) left) refl (ap (λ (f : FifoState). f.places) left ∙ sym (ap places_seen c.in-Fifo.is))
+    (ap (λ (s : Shown). s.packet) c.sending.ensures ∙ sym (slice_get-map (λ (s : Stamped). s.packet) c.in-Fifo.fifo.packets 0 ∙ ap (option_map (λ (s : Stamped). s.packet)) (sym c.take.ensures.front ∙ c.in-Some.is)))
+    (ap (λ (s : Shown). s.dropped) c.sending.ensures) (ap (λ (s : Shown). s.marked) c.sending.ensures)
+
+pub node::Discipline::send-send_first-requires : goal.node::Discipline::send-send_first-requires
+node::Discipline::send-send_first-requires g t c κs within =
+    let kids = c.deref_mut.ensures.value ∙ sym (ap children_seen c.in-Prio.is) in
+    (omega (arith, ap (λ xs. forest_size (side_by_side xs)) kids, c.decreases), (within, (each-of c.args.now c.args.self.now c.deref_mut.result.now c.requires.ready kids, omega (arith, c.requires.sink, room-of c.args.self.now c.deref_mut.result.now kids))))
+
+pub node::Discipline::send-returns-in-Prio-clause-after : goal.node::Discipline::send-returns-in-Prio-clause-after
+node::Discipline::send-returns-in-Prio-clause-after g t c =
+    λ handle filters.
+    let kids = sym (c.deref_mut.ensures.value ∙ sym (ap children_seen c.in-Prio.is)) in
+    let bands = c.send_first.ensures.after (own_of handle filters (spec.Prio c.in-Prio.priomap)) in
+    sent-in c.args.now handle filters c.args.self.now (code.Prio c.in-Prio.priomap (with_items c.in-Prio.bands c.send_first.new.bands)) (spec.Prio c.in-Prio.priomap) (spec.Prio c.in-Prio.priomap) c.deref_mut.result.now c.send_first.new.bands c.send_first.result
+    (ap discipline_seen c.in-Prio.is) kids refl (items-are c.in-Prio.bands.items c.send_first.new.bands c.in-Prio.bands.len (sym c.in-Prio.bands.ok.0) (bands.long ∙ ap (λ xs. length xs) c.deref_mut.ensures.value))
+    (sym (ap places_seen c.in-Prio.is)) (prio-left c.args.now handle filters (answers c.args.now c.deref_mut.result.now) c.in-Prio.priomap) bands
+
+pub node::Discipline::send-returns-in-Prio-clause-told : goal.node::Discipline::send-returns-in-Prio-clause-told
+node::Discipline::send-returns-in-Prio-clause-told g t c =
+    λ handle filters.
+    let kids = sym (c.deref_mut.ensures.value ∙ sym (ap children_seen c.in-Prio.is)) in
+    told-in c.args.now handle filters c.args.self.now (spec.Prio c.in-Prio.priomap) c.deref_mut.result.now (g.S.Sink.losses c.args.sink.now) (g.S.Sink.losses c.send_first.new.sink) (g.S.Sink.room c.args.sink.now) (g.S.Sink.room c.send_first.new.sink)
+    (ap discipline_seen c.in-Prio.is) kids (c.send_first.ensures.told (own_of handle filters (spec.Prio c.in-Prio.priomap)))
+
+pub node::Discipline::send-returns-in-Tbf-clause-after :
+    goal.node::Discipline::send-returns-in-Tbf-clause-after
+node::Discipline::send-returns-in-Tbf-clause-after g t c = λ handle filters.
+    let own = own_of handle filters (spec.Tbf c.in-Tbf.bucket c.in-Tbf.limit) in
+    let kids = ap children_seen c.in-Tbf.is ∙ ap (λ x. x ∷ []) (sym c.deref_mut-in-Tbf.ensures.value) in
+    asked-sent-in c.args.now handle filters c.args.self.now (code.Tbf c.dequeue_child.new.bucket c.in-Tbf.limit (with_value c.in-Tbf.child c.dequeue_child.new.child)) c.dequeue_child.result (subst CanHold (sym (ap discipline_seen c.in-Tbf.is)) tt)
+    (asked-in c.args.now handle filters c.args.self.now (code.Tbf c.dequeue_child.new.bucket c.in-Tbf.limit (with_value c.in-Tbf.child c.dequeue_child.new.child)) (spec.Tbf c.in-Tbf.bucket c.in-Tbf.limit) (spec.Tbf c.dequeue_child.new.bucket c.in-Tbf.limit) (c.deref_mut-in-Tbf.result.now ∷ []) (c.dequeue_child.new.child ∷ []) c.dequeue_child.result
+    (ap discipline_seen c.in-Tbf.is) kids refl refl (sym (ap places_seen c.in-Tbf.is)) (c.dequeue_child.ensures.bucket own c.in-Tbf.limit refl) (c.dequeue_child.ensures.after own c.in-Tbf.limit))
+
+pub node::Discipline::send-returns-in-Tbf-clause-told :
+    goal.node::Discipline::send-returns-in-Tbf-clause-told
+node::Discipline::send-returns-in-Tbf-clause-told g t c = λ handle filters.
+    let own = own_of handle filters (spec.Tbf c.in-Tbf.bucket c.in-Tbf.limit) in
+    let kids = ap children_seen c.in-Tbf.is ∙ ap (λ x. x ∷ []) (sym c.deref_mut-in-Tbf.ensures.value) in
+    told-in c.args.now handle filters c.args.self.now (spec.Tbf c.in-Tbf.bucket c.in-Tbf.limit) (c.deref_mut-in-Tbf.result.now ∷ []) (g.S.Sink.losses c.args.sink.now) (g.S.Sink.losses c.dequeue_child.new.sink) (g.S.Sink.room c.args.sink.now) (g.S.Sink.room c.dequeue_child.new.sink)
+    (ap discipline_seen c.in-Tbf.is) kids (c.dequeue_child.ensures.told own c.in-Tbf.limit)
+
+pub node::Discipline::send-dequeue_class-requires : goal.node::Discipline::send-dequeue_class-requires
+node::Discipline::send-dequeue_class-requires g t c =
+    let kids = c.deref_mut-in-Drr.ensures.value ∙ sym (ap children_seen c.in-Drr.is) in
+    (record { ready = serve-of c.args.now c.args.self.now c.in-Drr.active c.deref_mut-in-Drr.result.now c.requires.ready (ap discipline_seen c.in-Drr.is) kids; sink = omega (arith, c.requires.sink, room-of c.args.self.now c.deref_mut-in-Drr.result.now kids) })
+
+pub node::Discipline::send-returns-in-Drr-clause-after :
+    goal.node::Discipline::send-returns-in-Drr-clause-after
+node::Discipline::send-returns-in-Drr-clause-after g t c = λ handle filters.
+    let own = own_of handle filters (spec.Drr c.in-Drr.active) in
+    let kids = sym (c.deref_mut-in-Drr.ensures.value ∙ sym (ap children_seen c.in-Drr.is)) in
+    asked-sent-in c.args.now handle filters c.args.self.now (code.Drr c.dequeue_class.new.active (with_items c.in-Drr.classes c.dequeue_class.new.classes)) c.dequeue_class.result (subst CanHold (sym (ap discipline_seen c.in-Drr.is)) tt)
+    (asked-in c.args.now handle filters c.args.self.now (code.Drr c.dequeue_class.new.active (with_items c.in-Drr.classes c.dequeue_class.new.classes)) (spec.Drr c.in-Drr.active) (spec.Drr c.dequeue_class.new.active) c.deref_mut-in-Drr.result.now c.dequeue_class.new.classes c.dequeue_class.result
+    (ap discipline_seen c.in-Drr.is) kids refl (items-are c.in-Drr.classes.items c.dequeue_class.new.classes c.in-Drr.classes.len (sym c.in-Drr.classes.ok.0) ((c.dequeue_class.ensures.after own).long ∙ ap (λ xs. length xs) c.deref_mut-in-Drr.ensures.value))
+    (sym (ap places_seen c.in-Drr.is)) (c.dequeue_class.ensures.active own) (c.dequeue_class.ensures.after own))
+
+pub node::Discipline::send-returns-in-Drr-clause-told :
+    goal.node::Discipline::send-returns-in-Drr-clause-told
+node::Discipline::send-returns-in-Drr-clause-told g t c = λ handle filters.
+    let kids = sym (c.deref_mut-in-Drr.ensures.value ∙ sym (ap children_seen c.in-Drr.is)) in
+    told-in c.args.now handle filters c.args.self.now (spec.Drr c.in-Drr.active) c.deref_mut-in-Drr.result.now (g.S.Sink.losses c.args.sink.now) (g.S.Sink.losses c.dequeue_class.new.sink) (g.S.Sink.room c.args.sink.now) (g.S.Sink.room c.dequeue_class.new.sink)
+    (ap discipline_seen c.in-Drr.is) kids (c.dequeue_class.ensures.told (own_of handle filters (spec.Drr c.in-Drr.active)))
+
+pub node::Discipline::send-dequeue_flow-requires :
+    goal.node::Discipline::send-dequeue_flow-requires
+node::Discipline::send-dequeue_flow-requires g t c =
+    let is = ap discipline_seen c.in-FqCodel.is ∙ ap (λ (q : FqView). spec.FqCodel q.state) (sym c.deref_mut-in-FqCodel.ensures.value) in
+    omega (arith, c.requires.sink, own-room c.args.self.now, flow-packets c.args.self.now c.deref_mut-in-FqCodel.result.now.state is)
+
+pub node::Discipline::send-returns-in-FqCodel-clause-after :
+    goal.node::Discipline::send-returns-in-FqCodel-clause-after
+node::Discipline::send-returns-in-FqCodel-clause-after g t c = λ handle filters.
+    let e = c.dequeue_flow.ensures in
+    let state = c.deref_mut-in-FqCodel.result.now.state in
+    let own = own_of handle filters (spec.FqCodel state) in
+    let is = ap discipline_seen c.in-FqCodel.is ∙ ap (λ (q : FqView). spec.FqCodel q.state) (sym c.deref_mut-in-FqCodel.ensures.value) in
+    let places = e.places ∙ ap (λ (q : FqView). q.places) c.deref_mut-in-FqCodel.ensures.value ∙ sym (ap places_seen c.in-FqCodel.is) in
+    asked-sent-in c.args.now handle filters c.args.self.now (code.FqCodel (with_value c.in-FqCodel.queue c.dequeue_flow.new.queue)) c.dequeue_flow.result (subst CanHold (sym (ap discipline_seen c.in-FqCodel.is)) tt)
+    (asked-in c.args.now handle filters c.args.self.now (code.FqCodel (with_value c.in-FqCodel.queue c.dequeue_flow.new.queue)) (spec.FqCodel state) (spec.FqCodel c.dequeue_flow.new.queue.state) [] [] c.dequeue_flow.result
+    is (ap children_seen c.in-FqCodel.is) refl refl places (ap spec.FqCodel e.after)
+    (record { long = refl; nodes = refl; within = λ t h. h; shown = e.shown own [] }))
+
+pub node::Discipline::send-returns-in-FqCodel-clause-told :
+    goal.node::Discipline::send-returns-in-FqCodel-clause-told
+node::Discipline::send-returns-in-FqCodel-clause-told g t c = λ handle filters.
+    let e = c.dequeue_flow.ensures in
+    let state = c.deref_mut-in-FqCodel.result.now.state in
+    let own = own_of handle filters (spec.FqCodel state) in
+    let is = ap discipline_seen c.in-FqCodel.is ∙ ap (λ (q : FqView). spec.FqCodel q.state) (sym c.deref_mut-in-FqCodel.ensures.value) in
+    told-in c.args.now handle filters c.args.self.now (spec.FqCodel state) [] (g.S.Sink.losses c.args.sink.now) (g.S.Sink.losses c.dequeue_flow.new.sink) (g.S.Sink.room c.args.sink.now) (g.S.Sink.room c.dequeue_flow.new.sink)
+    is (ap children_seen c.in-FqCodel.is)
+    (flow-told c.args.now state own [] (g.S.Sink.losses c.args.sink.now) (g.S.Sink.losses c.dequeue_flow.new.sink) (g.S.Sink.room c.args.sink.now) (g.S.Sink.room c.dequeue_flow.new.sink) e.lost e.room)
+
+pub node::Node::send-returns-in-Some-clause-after : goal.node::Node::send-returns-in-Some-clause-after
+node::Node::send-returns-in-Some-clause-after g t c =
+    let stays = holding-after c.args.now c.self.inside c.args.self.now c.in-Some.packet c.self.view_is c.in-Some.is in
+    held-after c.self.inside c.in-Some.packet c.in-Some.is c.book_sent.new.row c.book_sent.ensures ∙ ap (λ n. booked kept n (pop n).after) c.self.view_is
+    ∙ gave-asked c.args.now c.args.self.now c.args.self.now c.in-Some.packet c.requires.ready stays (held-answer c.args.now c.self.inside c.args.self.now c.in-Some.packet c.self.view_is c.in-Some.is).packet
+
+pub node::Node::send-returns-in-Some-clause-shown : goal.node::Node::send-returns-in-Some-clause-shown
+node::Node::send-returns-in-Some-clause-shown g t c =
+    held-shows c.args.now c.self.inside c.args.self.now c.in-Some.packet c.self.view_is c.in-Some.is c.sending.result c.sending.ensures
+
+pub node::Node::send-returns-in-Some-clause-packet : goal.node::Node::send-returns-in-Some-clause-packet
+node::Node::send-returns-in-Some-clause-packet g t c =
+    ap (λ (s : Shown). unwrap_or s.packet c.args.out.now) (sym c.sending.ensures)
+
+pub node::Node::send-send-shown-requires : goal.node::Node::send-send-shown-requires
+node::Node::send-send-shown-requires g t c κs within = (
+  omega (arith, children-size c.self.inside c.args.self.now (children_seen c.self.inside.discipline) c.self.view_is refl, c.decreases),
+  (
+    within,
+    (
+      can-in c.args.now c.self.inside c.args.self.now c.self.invariant c.self.view_is c.requires.ready (omega (arith, c.self.ranges)) (omega (arith, c.self.ranges)),
+      enough c.args.now c.self.inside c.args.self.now c.self.invariant c.self.view_is c.requires.ready (g.S.Sink.room c.args.sink.now) c.requires.sink,
+    ),
+  ),
+)
+
+pub node::Node::send-book_shown-requires-clause-room : goal.node::Node::send-book_shown-requires-clause-room
+node::Node::send-book_shown-requires-clause-room g t c =
+    (sent-fits c.args.now c.self.inside c.args.self.now c.self.invariant c.self.view_is c.requires.ready c.in_default.is c.send-shown.new.self c.send-shown.result (c.send-shown.ensures.after c.self.inside.handle c.self.inside.filters.items) (omega (arith, c.self.ranges)) (omega (arith, c.self.ranges)))
+
+pub node::Node::send-invariant_of-self-then-not-has_packet : goal.node::Node::send-invariant_of-self-then-not-has_packet
+node::Node::send-invariant_of-self-then-not-has_packet g t c =
+    (none-sent c.args.now c.self.inside c.args.self.now c.self.invariant c.self.view_is c.requires.ready c.in_default.is c.send-shown.new.self c.send-shown.result (c.send-shown.ensures.after c.self.inside.handle c.self.inside.filters.items) c.book_shown.new.row (sent-fits c.args.now c.self.inside c.args.self.now c.self.invariant c.self.view_is c.requires.ready c.in_default.is c.send-shown.new.self c.send-shown.result (c.send-shown.ensures.after c.self.inside.handle c.self.inside.filters.items) (omega (arith, c.self.ranges)) (omega (arith, c.self.ranges))) c.book_shown.ensures (none-held c.send-shown.result.packet (sym c.if-not-has_packet.true ∙ c.has_packet.ensures))).stays
+
+pub node::Node::send-returns-then-not-has_packet-clause-after : goal.node::Node::send-returns-then-not-has_packet-clause-after
+node::Node::send-returns-then-not-has_packet-clause-after g t c =
+    (none-sent c.args.now c.self.inside c.args.self.now c.self.invariant c.self.view_is c.requires.ready c.in_default.is c.send-shown.new.self c.send-shown.result (c.send-shown.ensures.after c.self.inside.handle c.self.inside.filters.items) c.book_shown.new.row (sent-fits c.args.now c.self.inside c.args.self.now c.self.invariant c.self.view_is c.requires.ready c.in_default.is c.send-shown.new.self c.send-shown.result (c.send-shown.ensures.after c.self.inside.handle c.self.inside.filters.items) (omega (arith, c.self.ranges)) (omega (arith, c.self.ranges))) c.book_shown.ensures (none-held c.send-shown.result.packet (sym c.if-not-has_packet.true ∙ c.has_packet.ensures))).after
+
+pub node::Node::send-returns-then-not-has_packet-clause-shown : goal.node::Node::send-returns-then-not-has_packet-clause-shown
+node::Node::send-returns-then-not-has_packet-clause-shown g t c =
+    sent-shown c.args.now c.self.inside c.args.self.now c.self.invariant c.self.view_is c.requires.ready c.in_default.is c.send-shown.new.self c.send-shown.result (c.send-shown.ensures.after c.self.inside.handle c.self.inside.filters.items)
+
+pub node::Node::send-returns-clause-shown : goal.node::Node::send-returns-clause-shown
+node::Node::send-returns-clause-shown g t c =
+    sent-shown c.args.now c.self.inside c.args.self.now c.self.invariant c.self.view_is c.requires.ready c.in_default.is c.send-shown.new.self c.send-shown.result (c.send-shown.ensures.after c.self.inside.handle c.self.inside.filters.items)
+
+pub node::Node::send-returns-then-not-has_packet-clause-lost : goal.node::Node::send-returns-then-not-has_packet-clause-lost
+node::Node::send-returns-then-not-has_packet-clause-lost g t c =
+    (told-here c.args.now c.self.inside c.args.self.now c.self.invariant c.self.view_is c.requires.ready c.in_default.is (g.S.Sink.losses c.args.sink.now) (g.S.Sink.losses c.send-shown.new.sink) (g.S.Sink.room c.args.sink.now) (g.S.Sink.room c.send-shown.new.sink) (c.send-shown.ensures.told c.self.inside.handle c.self.inside.filters.items)).lost
+
+pub node::Node::send-returns-then-not-has_packet-clause-room : goal.node::Node::send-returns-then-not-has_packet-clause-room
+node::Node::send-returns-then-not-has_packet-clause-room g t c =
+    (told-here c.args.now c.self.inside c.args.self.now c.self.invariant c.self.view_is c.requires.ready c.in_default.is (g.S.Sink.losses c.args.sink.now) (g.S.Sink.losses c.send-shown.new.sink) (g.S.Sink.room c.args.sink.now) (g.S.Sink.room c.send-shown.new.sink) (c.send-shown.ensures.told c.self.inside.handle c.self.inside.filters.items)).room_taken
+
+pub node::Node::send-returns-clause-lost : goal.node::Node::send-returns-clause-lost
+node::Node::send-returns-clause-lost g t c =
+    (told-here c.args.now c.self.inside c.args.self.now c.self.invariant c.self.view_is c.requires.ready c.in_default.is (g.S.Sink.losses c.args.sink.now) (g.S.Sink.losses c.send-shown.new.sink) (g.S.Sink.room c.args.sink.now) (g.S.Sink.room c.send-shown.new.sink) (c.send-shown.ensures.told c.self.inside.handle c.self.inside.filters.items)).lost
+
+pub node::Node::send-returns-clause-room : goal.node::Node::send-returns-clause-room
+node::Node::send-returns-clause-room g t c =
+    (told-here c.args.now c.self.inside c.args.self.now c.self.invariant c.self.view_is c.requires.ready c.in_default.is (g.S.Sink.losses c.args.sink.now) (g.S.Sink.losses c.send-shown.new.sink) (g.S.Sink.room c.args.sink.now) (g.S.Sink.room c.send-shown.new.sink) (c.send-shown.ensures.told c.self.inside.handle c.self.inside.filters.items)).room_taken
+
+pub node::Node::send-book_sent-requires-2-clause-balanced : goal.node::Node::send-book_sent-requires-2-clause-balanced
+node::Node::send-book_sent-requires-2-clause-balanced g t c =
+    (sent-row c.args.now c.self.inside c.args.self.now c.self.invariant c.self.view_is c.requires.ready c.in_default.is c.send-shown.new.self c.send-shown.result (c.send-shown.ensures.after c.self.inside.handle c.self.inside.filters.items) c.book_shown.new.row (sent-fits c.args.now c.self.inside c.args.self.now c.self.invariant c.self.view_is c.requires.ready c.in_default.is c.send-shown.new.self c.send-shown.result (c.send-shown.ensures.after c.self.inside.handle c.self.inside.filters.items) (omega (arith, c.self.ranges)) (omega (arith, c.self.ranges))) c.book_shown.ensures c.send-shown.new.out (given-some c.send-shown.result.packet c.args.out.now c.send-shown.new.out (sym c.has_packet.ensures ∙ c.if-not-has_packet.false) c.send-shown.ensures.packet)).balanced
+
+pub node::Node::send-book_sent-requires-2-clause-among : goal.node::Node::send-book_sent-requires-2-clause-among
+node::Node::send-book_sent-requires-2-clause-among g t c =
+    sent-queued c.args.now c.self.inside c.args.self.now c.self.invariant c.self.view_is c.requires.ready c.in_default.is c.send-shown.new.self c.send-shown.result (c.send-shown.ensures.after c.self.inside.handle c.self.inside.filters.items) c.book_shown.new.row (sent-fits c.args.now c.self.inside c.args.self.now c.self.invariant c.self.view_is c.requires.ready c.in_default.is c.send-shown.new.self c.send-shown.result (c.send-shown.ensures.after c.self.inside.handle c.self.inside.filters.items) (omega (arith, c.self.ranges)) (omega (arith, c.self.ranges))) c.book_shown.ensures c.send-shown.new.out (given-some c.send-shown.result.packet c.args.out.now c.send-shown.new.out (sym c.has_packet.ensures ∙ c.if-not-has_packet.false) c.send-shown.ensures.packet)
+
+pub node::Node::send-book_sent-requires-2-clause-room : goal.node::Node::send-book_sent-requires-2-clause-room
+node::Node::send-book_sent-requires-2-clause-room g t c =
+    let row = sent-row c.args.now c.self.inside c.args.self.now c.self.invariant c.self.view_is c.requires.ready c.in_default.is c.send-shown.new.self c.send-shown.result (c.send-shown.ensures.after c.self.inside.handle c.self.inside.filters.items) c.book_shown.new.row (sent-fits c.args.now c.self.inside c.args.self.now c.self.invariant c.self.view_is c.requires.ready c.in_default.is c.send-shown.new.self c.send-shown.result (c.send-shown.ensures.after c.self.inside.handle c.self.inside.filters.items) (omega (arith, c.self.ranges)) (omega (arith, c.self.ranges))) c.book_shown.ensures c.send-shown.new.out (given-some c.send-shown.result.packet c.args.out.now c.send-shown.new.out (sym c.has_packet.ensures ∙ c.if-not-has_packet.false) c.send-shown.ensures.packet) in
+    let had = sent-queued c.args.now c.self.inside c.args.self.now c.self.invariant c.self.view_is c.requires.ready c.in_default.is c.send-shown.new.self c.send-shown.result (c.send-shown.ensures.after c.self.inside.handle c.self.inside.filters.items) c.book_shown.new.row (sent-fits c.args.now c.self.inside c.args.self.now c.self.invariant c.self.view_is c.requires.ready c.in_default.is c.send-shown.new.self c.send-shown.result (c.send-shown.ensures.after c.self.inside.handle c.self.inside.filters.items) (omega (arith, c.self.ranges)) (omega (arith, c.self.ranges))) c.book_shown.ensures c.send-shown.new.out (given-some c.send-shown.result.packet c.args.out.now c.send-shown.new.out (sym c.has_packet.ensures ∙ c.if-not-has_packet.false) c.send-shown.ensures.packet) in
+    let same = ap (λ (r : Row). r.arrived) c.book_shown.ensures in
+    record {
+      packets = omega (arith, row.balanced.packets, had.packets, ap (λ (t : Totals). t.packets) same, c.self.ranges);
+      bytes = omega (arith, row.balanced.bytes, had.bytes, ap (λ (t : Totals). t.bytes) same, c.self.ranges);
+    }
+
+pub node::Node::send-invariant_of-self-2 : goal.node::Node::send-invariant_of-self-2
+node::Node::send-invariant_of-self-2 g t c =
+    (one-sent c.args.now c.self.inside c.args.self.now c.self.invariant c.self.view_is c.requires.ready c.in_default.is c.send-shown.new.self c.send-shown.result (c.send-shown.ensures.after c.self.inside.handle c.self.inside.filters.items) c.book_shown.new.row (sent-fits c.args.now c.self.inside c.args.self.now c.self.invariant c.self.view_is c.requires.ready c.in_default.is c.send-shown.new.self c.send-shown.result (c.send-shown.ensures.after c.self.inside.handle c.self.inside.filters.items) (omega (arith, c.self.ranges)) (omega (arith, c.self.ranges))) c.book_shown.ensures c.send-shown.new.out (given-some c.send-shown.result.packet c.args.out.now c.send-shown.new.out (sym c.has_packet.ensures ∙ c.if-not-has_packet.false) c.send-shown.ensures.packet) c.book_sent-2.new.row c.book_sent-2.ensures).stays
+
+pub node::Node::send-returns-clause-after : goal.node::Node::send-returns-clause-after
+node::Node::send-returns-clause-after g t c =
+    (one-sent c.args.now c.self.inside c.args.self.now c.self.invariant c.self.view_is c.requires.ready c.in_default.is c.send-shown.new.self c.send-shown.result (c.send-shown.ensures.after c.self.inside.handle c.self.inside.filters.items) c.book_shown.new.row (sent-fits c.args.now c.self.inside c.args.self.now c.self.invariant c.self.view_is c.requires.ready c.in_default.is c.send-shown.new.self c.send-shown.result (c.send-shown.ensures.after c.self.inside.handle c.self.inside.filters.items) (omega (arith, c.self.ranges)) (omega (arith, c.self.ranges))) c.book_shown.ensures c.send-shown.new.out (given-some c.send-shown.result.packet c.args.out.now c.send-shown.new.out (sym c.has_packet.ensures ∙ c.if-not-has_packet.false) c.send-shown.ensures.packet) c.book_sent-2.new.row c.book_sent-2.ensures).after

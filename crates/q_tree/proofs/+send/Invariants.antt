@@ -1,0 +1,24 @@
+use Rattle.std.proofs.Common.{◌≡◌, ◌+◌, ◌*◌}
+use Rattle.q_model.specs.Node.{side_by_side}
+use Rattle.q_tree.specs.AskSteps.{IsToldOf, answers}
+use Rattle.q_tree.specs.NodeCode.{node_size, forest_size}
+use Rattle.q_tree.specs.Seen.{children_seen}
+use Rattle.q_tree.proofs.AskBands.{AreBandsAsked, told_to}
+use Rattle.q_tree.proofs.+send.Given as goal
+
+abbrev pub invariant-send::send_first-loop-place : goal.invariant-send::send_first-loop-place
+invariant-send::send_first-loop-place g l =
+    AreBandsAsked l.fn.now l.fn.bands l.bands l.place l.shown
+    × IsToldOf (told_to l.place (answers l.fn.now l.fn.bands)) (g.S.Sink.losses l.fn.sink) (g.S.Sink.losses l.sink) (g.S.Sink.room l.fn.sink) (g.S.Sink.room l.sink)
+    × g.S.Sink.keeps l.fn.sink l.sink
+    × (l.out ≡ l.fn.out)
+
+-- each call goes further down the tree
+abbrev pub decreases-node::Node::send : goal.decreases-node::Node::send
+decreases-node::Node::send g l = 3 * node_size l.self.now
+
+abbrev pub decreases-node::Discipline::send : goal.decreases-node::Discipline::send
+decreases-node::Discipline::send g l = 3 * forest_size (side_by_side (children_seen l.self.now)) + 2
+
+abbrev pub decreases-send::send_first : goal.decreases-send::send_first
+decreases-send::send_first g l = 3 * forest_size (side_by_side l.bands.now) + 1

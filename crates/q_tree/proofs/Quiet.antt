@@ -1,0 +1,22 @@
+-- A row in which nothing is booked that was dropped or marked.
+use Rattle.std.proofs.Common.{◌≡◌, ◌∙◌, sym, ap, arith}
+use Rattle.q_model.specs.declared.row.Row.{Row}
+use Rattle.q_model.specs.declared.totals.Totals.{Totals}
+use Rattle.q_model.specs.Tally.{no_totals}
+use Rattle.q_tree.specs.Arrivals.{plus, minus}
+use Rattle.q_tree.specs.AskSteps.{with_shown}
+use Rattle.q_tree.specs.Shown.{Shown}
+use Rattle.q_tree.proofs.Rows.{same-totals}
+
+plus-nothing : (t : Totals) → plus t no_totals ≡ t
+plus-nothing t = same-totals (plus t no_totals) t (omega arith) (omega arith)
+
+minus-nothing : (t : Totals) → minus t no_totals ≡ t
+minus-nothing t = same-totals (minus t no_totals) t (omega arith) (omega arith)
+
+pub shown-nothing : (s : Shown) (r : Row) → s.dropped ≡ no_totals → s.marked ≡ no_totals → r ≡ with_shown s r
+shown-nothing s r d m =
+    let dropped : plus r.dropped s.dropped ≡ r.dropped = ap (plus r.dropped) d ∙ plus-nothing r.dropped in
+    let marked : plus r.marked s.marked ≡ r.marked = ap (plus r.marked) m ∙ plus-nothing r.marked in
+    let queued : minus r.queued s.dropped ≡ r.queued = ap (minus r.queued) d ∙ minus-nothing r.queued in
+    sym (λ i. record { arrived = r.arrived; sent = r.sent; refused = r.refused; dropped = dropped i; queued = queued i; marked = marked i })

@@ -1,0 +1,136 @@
+//! What sends a packet straight to the caller's place, where a peek would dequeue and hold it.
+ghost use Rattle.std.specs.Prelude.{◌≡◌, ◌<◌, ◌≤◌, ◌+◌, ◌++◌, [], ◌∷◌, length, List, ℕ, Some, slice_get, is_some, unwrap_or};
+ghost use Rattle.q_codel.specs.Losses.{losses_of};
+ghost use Rattle.q_fqcodel.specs.FqState.{packets_of};
+ghost use Rattle.q_fqcodel.specs.Take.{selected, after_sending, dropped_from};
+ghost use Rattle.q_model.specs.Ask.{Asked, ask_drr, ask_fq_codel, ask_tbf};
+ghost use Rattle.q_model.specs.Beneath.{beneath};
+ghost use Rattle.q_model.specs.Node as spec;
+ghost use Rattle.q_model.specs.Node.{Own, Tbf};
+ghost use Rattle.q_model.specs.Pop.{pop};
+ghost use Rattle.q_tree.specs.AskSteps.{CanAsk, CanServe, AreAsked, IsGivenBy, IsShown, IsToldOf, answers};
+ghost use Rattle.q_tree.specs.Kept.{Kept};
+ghost use Rattle.q_tree.specs.PutSteps.{packets_beneath};
+
+use crate::booking::{difference, one_packet};
+use crate::drr::{ask_class, settle};
+use crate::fq_codel::marked_by;
+use crate::node::Node;
+use crate::shown::Shown;
+use q_bucket::Bucket;
+use q_codel::Sink;
+use q_drr::{Active, Turn};
+use q_fqcodel::FqCodel;
+use q_model::Totals;
+use q_packet::{Cause, Moment, Packet};
+
+/// Asks the classes of the active list in turn, as [`crate::drr::serve`] does, and gives the packet of the one that is met to
+/// `out` (tc-drr(8)).
+pub(crate) fn dequeue_class<S: Sink>(
+    active: &mut Active,
+    classes: &mut [Node],
+    out: &mut Packet,
+    now: Moment,
+    sink: &mut S,
+) -> Shown
+    requires ready { CanServe now active.old classes.old }
+    requires sink { length (packets_beneath classes.old) ≤ S.room sink.old }
+    ensures active { (own : Own) → spec.Drr active.new ≡ (ask_drr own (answers now classes.old) active.old).peeked.own.discipline }
+    ensures after { (own : Own) → AreAsked (ask_drr own (answers now classes.old) active.old) classes.old classes.new result }
+    ensures packet { out.new ≡ unwrap_or result.packet out.old }
+    ensures told { (own : Own) → IsToldOf (ask_drr own (answers now classes.old) active.old).rises (S.losses sink.old) (S.losses sink.new) (S.room sink.old) (S.room sink.new) }
+    ensures kept { S.keeps sink.old sink.new }
+{
+    let mut shown = Shown::at_hand(&None);
+    // In the first round each class is asked once; in a later one it has at hand what it showed.
+    let mut unasked = active.active_count();
+    while let Some(place) = active.front_place() {
+        shown = ask_class(&mut classes[place], unasked > 0, shown, now, sink);
+        unasked = unasked.saturating_sub(1);
+        let Some(len) = shown.packet_len() else {
+            return shown;
+        };
+        match active.turn(len) {
+            Turn::Send => {
+                // What is given is what was shown.
+                give_class(active, classes, place, out);
+                return shown;
+            }
+            Turn::Granted => {}
+        }
+    }
+    // No class was active, so nobody was asked.
+    Shown::at_hand(&None)
+}
+
+// The class in this place gives its packet, and sleeps where that was its last.
+fn give_class(active: &mut Active, classes: &mut [Node], place: usize, out: &mut Packet)
+    requires { place < length classes.old }
+    ensures packet { (c : spec.Node Kept) → slice_get classes.old place ≡ Some c → out.new ≡ unwrap_or (pop c).shown out.old }
+    ensures given { (c : spec.Node Kept) → slice_get classes.old place ≡ Some c → IsGivenBy place c active.old active.new classes.old classes.new }
+{
+    classes[place].give(out);
+    settle(active, place, classes[place].is_empty());
+}
+
+/// Asks the child of a tbf, as [`crate::tbf::ask_child`] does, and gives the packet that it shows to `out` where the bucket allows
+/// it (tc-tbf(8)).
+pub(crate) fn dequeue_child<S: Sink>(
+    bucket: &mut Bucket,
+    child: &mut Node,
+    out: &mut Packet,
+    now: Moment,
+    sink: &mut S,
+) -> Shown
+    requires ready { CanAsk now child.old }
+    requires order { bucket.old.last ≤ now }
+    requires sink { length (beneath child.old) ≤ S.room sink.old }
+    ensures bucket { (own : Own) (limit : ℕ) → own.discipline ≡ Tbf bucket.old limit → Tbf bucket.new limit ≡ (ask_tbf now own (answers now (child.old ∷ [])) bucket.old limit).peeked.own.discipline }
+    ensures after { (own : Own) (limit : ℕ) → AreAsked (ask_tbf now own (answers now (child.old ∷ [])) bucket.old limit) (child.old ∷ []) (child.new ∷ []) result }
+    ensures told { (own : Own) (limit : ℕ) → IsToldOf (ask_tbf now own (answers now (child.old ∷ [])) bucket.old limit).rises (S.losses sink.old) (S.losses sink.new) (S.room sink.old) (S.room sink.new) }
+    ensures packet { out.new ≡ unwrap_or result.packet out.old }
+    ensures kept { S.keeps sink.old sink.new }
+{
+    let shown = child.peek(now, sink);
+    let Some(len) = shown.packet_len() else {
+        return shown;
+    };
+    if !bucket.spend(now, len) {
+        return shown.showing(&None);
+    }
+    // What is given is what was shown.
+    child.give(out);
+    shown
+}
+
+/// Gives the packet that the flow in front sends (RFC 8290, section 4.2) to `out`, and counts what CoDel drops and marks.
+pub(crate) fn dequeue_flow<S: Sink>(
+    queue: &mut FqCodel,
+    out: &mut Packet,
+    now: Moment,
+    sink: &mut S,
+) -> Shown
+    requires sink { packets_of queue.old.state.flows ≤ S.room sink.old }
+    ensures after { queue.new.state ≡ after_sending now (selected queue.old.state) }
+    ensures places { queue.new.places ≡ queue.old.places }
+    ensures shown { (own : Own) (below : List Asked) → IsShown (ask_fq_codel now own below queue.old.state) result }
+    ensures packet { out.new ≡ unwrap_or result.packet out.old }
+    ensures lost { S.losses sink.new ≡ S.losses sink.old ++ losses_of Cause.CoDel (dropped_from now (selected queue.old.state)) }
+    ensures room { S.room sink.new + length (dropped_from now (selected queue.old.state)) ≡ S.room sink.old }
+    ensures kept { S.keeps sink.old sink.new }
+{
+    let (packets, bytes) = queue.queued();
+    let taken = queue.take(now, sink);
+    let (packets_after, bytes_after) = queue.queued();
+    let gone = Totals {
+        packets: packets - packets_after,
+        bytes: bytes - bytes_after,
+    };
+    // CoDel drops none of an empty fq_codel.
+    let Some(taken) = taken else {
+        return Shown::at_hand(&None);
+    };
+    let one = one_packet(&taken.packet);
+    *out = taken.packet;
+    Shown::sending(out, difference(gone, one), marked_by(&taken))
+}

@@ -1,0 +1,63 @@
+ghost use Rattle.std.specs.Prelude.{◌≡◌, is_some, unwrap_or};
+ghost use Rattle.q_model.specs.Pop.{pop};
+ghost use Rattle.q_model.specs.Work.{booked};
+ghost use Rattle.q_tree.specs.Kept.{kept};
+ghost use Rattle.q_tree.specs.PopSteps.{IsPoppedIn, popping_of};
+
+use crate::booking::book_sent;
+use crate::node::{Discipline, Node};
+use crate::pop::ready_band;
+use q_packet::Packet;
+
+impl Node {
+    /// Gives the packet that the node has at hand into `out`, as [`Node::pop`] takes it, and says whether there was one. Where
+    /// there was none, nothing changes.
+    #[cycle(give)]
+    pub(crate) fn give(&mut self, out: &mut Packet) -> bool
+        ensures given { result ≡ is_some (pop self.old).shown }
+        ensures packet { out.new ≡ unwrap_or (pop self.old).shown out.old }
+        ensures after { self.new ≡ booked kept self.old (pop self.old).after }
+        ensures arrived { self.new.memory.counts.arrived ≡ self.old.memory.counts.arrived }
+    {
+        if let Some(packet) = self.held {
+            self.held = None;
+            book_sent(&mut self.row, &packet);
+            *out = packet;
+            return true;
+        }
+        if !self.discipline.give(out) {
+            return false;
+        }
+        book_sent(&mut self.row, out);
+        true
+    }
+}
+
+impl Discipline {
+    // Gives a fifo's head, or the packet of a prio's first band that has one.
+    #[cycle(give)]
+    fn give(&mut self, out: &mut Packet) -> bool
+        ensures given { result ≡ is_some (popping_of self.old).shown }
+        ensures packet { out.new ≡ unwrap_or (popping_of self.old).shown out.old }
+        ensures after { IsPoppedIn self.old self.new }
+    {
+        match self {
+            Discipline::Fifo(fifo) => {
+                let Some(stamped) = fifo.take() else {
+                    return false;
+                };
+                *out = stamped.packet;
+                return true;
+            }
+            Discipline::Prio { bands, .. } => {
+                let Some(place) = ready_band(bands) else {
+                    return false;
+                };
+                return bands[place].give(out);
+            }
+            Discipline::Tbf { .. } => return false,
+            Discipline::Drr { .. } => return false,
+            Discipline::FqCodel(_) => return false,
+        }
+    }
+}

@@ -1,0 +1,136 @@
+ghost use Rattle.std.specs.Prelude.{◌≡◌, ◌≤◌, ◌+◌, ◌++◌, length, ℕ, List, Option, None, is_some, unwrap_or};
+ghost use Rattle.q_model.specs.Ask.{ask, ask_prio, take_from};
+ghost use Rattle.q_model.specs.Beneath.{beneath};
+ghost use Rattle.q_model.specs.Node.{Own, shape};
+ghost use Rattle.q_model.specs.Step.{losses_in};
+ghost use Rattle.q_model.specs.TreeState.{given, noted_by_take, take_packet};
+ghost use Rattle.q_model.specs.Work.{booked};
+ghost use Rattle.q_model.specs.declared.filter.Filter.{Filter};
+ghost use Rattle.q_tree.specs.AskSteps.{CanAsk, CanAskEach, CanAskIn, IsShown, IsToldOf, answer_of, answers, packets_within};
+ghost use Rattle.q_tree.specs.Kept.{kept};
+ghost use Rattle.q_tree.specs.PutSteps.{packets_beneath};
+ghost use Rattle.q_tree.specs.SendSteps.{AreSent, IsSentIn};
+
+use crate::booking::{NOTHING, book_sent, book_shown};
+use crate::dequeue::{dequeue_child, dequeue_class, dequeue_flow};
+use crate::node::{Discipline, Node};
+use crate::shown::Shown;
+use crate::tree::Tree;
+use q_codel::Sink;
+use q_packet::{Moment, Packet};
+
+impl Tree {
+    /// Takes the packet whose turn it is into `out`, as [`Tree::take`] does, and says whether there was one: `false`, and `out`
+    /// stays as it is, where none may go now. `now` is at or after the latest moment that the tree was given.
+    ///
+    /// The packet is written once, to the caller's place. It takes no memory. What CoDel drops on the way goes to `sink`, which
+    /// needs room for what is queued.
+    pub fn send<S: Sink>(&mut self, now: Moment, out: &mut Packet, sink: &mut S) -> bool
+        requires order { self.old.clock ≤ now }
+        requires sink { length (beneath self.old.tree.root) ≤ S.room sink.old }
+        ensures sent { result ≡ is_some (given now self.old.tree) }
+        ensures packet { out.new ≡ unwrap_or (given now self.old.tree) out.old }
+        ensures after { self.new ≡ record { clock = now; tree = take_packet kept now self.old.tree } }
+        ensures lost { S.losses sink.new ≡ S.losses sink.old ++ losses_in (noted_by_take now self.old.tree) }
+        ensures room { S.room sink.new + length (losses_in (noted_by_take now self.old.tree)) ≡ S.room sink.old }
+        ensures kept { S.keeps sink.old sink.new }
+    {
+        // A moment is at most 2^62 nanoseconds.
+        let _ = now.ns();
+        let shown = self.root.send(now, out, sink);
+        book_shown(&mut self.top, &shown);
+        self.clock = now;
+        if !shown.has_packet() {
+            return false;
+        }
+        book_sent(&mut self.top, out);
+        true
+    }
+}
+
+impl Node {
+    /// Asks the node for its packet and gives it into `out`, which is what a peek and a pop come to. Where the node shows none,
+    /// `out` stays as it is.
+    ///
+    /// What a tbf, a drr or an fq_codel dequeues goes straight to `out`, and is not held. It takes no memory. `sink` needs room
+    /// for what is queued.
+    #[cycle(send)]
+    #[inline(always)]
+    pub(crate) fn send<S: Sink>(&mut self, now: Moment, out: &mut Packet, sink: &mut S) -> Shown
+        requires ready { CanAsk now self.old }
+        requires sink { length (beneath self.old) ≤ S.room sink.old }
+        ensures after { self.new ≡ booked kept self.old (take_from now (shape self.old)).node }
+        ensures arrived { self.new.memory.counts.arrived ≡ self.old.memory.counts.arrived }
+        ensures shown { IsShown (ask now (shape self.old)) result }
+        ensures packet { out.new ≡ unwrap_or result.packet out.old }
+        ensures lost { S.losses sink.new ≡ S.losses sink.old ++ losses_in (ask now (shape self.old)).rises }
+        ensures room { S.room sink.new + length (losses_in (ask now (shape self.old)).rises) ≡ S.room sink.old }
+        ensures kept { S.keeps sink.old sink.new }
+    {
+        if let Some(packet) = self.held {
+            self.held = None;
+            book_sent(&mut self.row, &packet);
+            *out = packet;
+            return Shown::sending(&packet, NOTHING, NOTHING);
+        }
+        let shown = self.discipline.send(now, out, sink);
+        book_shown(&mut self.row, &shown);
+        if !shown.has_packet() {
+            return shown;
+        }
+        book_sent(&mut self.row, out);
+        shown
+    }
+}
+
+impl Discipline {
+    // What a node with this discipline shows that holds no packet, and its packet in `out`.
+    #[cycle(send)]
+    #[inline(always)]
+    fn send<S: Sink>(&mut self, now: Moment, out: &mut Packet, sink: &mut S) -> Shown
+        requires ready { CanAskIn now self.old }
+        requires sink { length (packets_within self.old) ≤ S.room sink.old }
+        ensures after { (handle : Option ℕ) (filters : List Filter) → IsSentIn (answer_of now handle filters self.old) self.old self.new result }
+        ensures packet { out.new ≡ unwrap_or result.packet out.old }
+        ensures told { (handle : Option ℕ) (filters : List Filter) → IsToldOf (answer_of now handle filters self.old).rises (S.losses sink.old) (S.losses sink.new) (S.room sink.old) (S.room sink.new) }
+        ensures kept { S.keeps sink.old sink.new }
+    {
+        match self {
+            Discipline::Fifo(fifo) => {
+                let Some(stamped) = fifo.take() else {
+                    return Shown::at_hand(&None);
+                };
+                *out = stamped.packet;
+                return Shown::sending(out, NOTHING, NOTHING);
+            }
+            Discipline::Prio { bands, .. } => return send_first(bands, now, out, sink),
+            Discipline::Tbf { bucket, child, .. } => {
+                return dequeue_child(bucket, child, out, now, sink);
+            }
+            Discipline::Drr { active, classes } => {
+                return dequeue_class(active, classes, out, now, sink);
+            }
+            Discipline::FqCodel(queue) => return dequeue_flow(queue, out, now, sink),
+        }
+    }
+}
+
+// Sends the packet of the first band that shows one; the bands before it are asked (tc-prio(8)).
+#[cycle(send)]
+fn send_first<S: Sink>(bands: &mut [Node], now: Moment, out: &mut Packet, sink: &mut S) -> Shown
+    requires ready { CanAskEach now bands.old }
+    requires sink { length (packets_beneath bands.old) ≤ S.room sink.old }
+    ensures after { (own : Own) → AreSent (ask_prio own (answers now bands.old)) bands.old bands.new result }
+    ensures packet { out.new ≡ unwrap_or result.packet out.old }
+    ensures told { (own : Own) → IsToldOf (ask_prio own (answers now bands.old)).rises (S.losses sink.old) (S.losses sink.new) (S.room sink.old) (S.room sink.new) }
+    ensures kept { S.keeps sink.old sink.new }
+{
+    let mut shown = Shown::at_hand(&None);
+    for place in 0..bands.len() {
+        shown = shown.then(bands[place].send(now, out, sink));
+        if shown.has_packet() {
+            return shown;
+        }
+    }
+    shown
+}
