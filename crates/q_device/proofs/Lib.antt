@@ -8,9 +8,14 @@ pub mod KeptLemmas
 pub mod LawfulLemmas
 pub mod PlayLemmas
 pub mod ReadyNumbers
+pub mod Renewed
+pub mod RenewedAsks
+pub mod RenewedBands
+pub mod RenewedTrees
 pub mod ReplayLemmas
 pub mod ReplayedLemmas
 pub mod ShrinkLemmas
 pub mod StatsStands
 pub mod StepStands
 pub mod ToldLemmas
+pub mod WaitingLemmas
