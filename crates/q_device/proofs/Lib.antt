@@ -4,8 +4,12 @@ pub mod CountLemmas
 pub mod DeviceLaws
 pub mod EventLemmas
 pub mod FlowStretches
+pub mod FlowsShow
 pub mod KeptLemmas
 pub mod LawfulLemmas
+pub mod Moved
+pub mod MovedAsks
+pub mod MovedTrees
 pub mod PlayLemmas
 pub mod ReadyNumbers
 pub mod Renewed

@@ -25,7 +25,7 @@ abbrev first_band : Outlook → Outlook → Outlook
 first_band a b = record a { least = min a.least b.least }
 
 module _ (a b : Outlook) where
-  band-cases : (P : Outlook → Type 0) → (a.at ≡ None → P b) → ((x : ℕ) → a.at ≡ Some x → b.at ≡ None → P a)
+  pub band-cases : (P : Outlook → Type 0) → (a.at ≡ None → P b) → ((x : ℕ) → a.at ≡ Some x → b.at ≡ None → P a)
       → ((x y : ℕ) → a.at ≡ Some x → b.at ≡ Some y → y < x → P (sooner_band a b x))
       → ((x y : ℕ) → a.at ≡ Some x → b.at ≡ Some y → x ≤ y → P (first_band a b)) → P (with_band a b)
   band-cases P none alone later first = by a.at refl
@@ -44,7 +44,7 @@ module _ (a b : Outlook) where
       by None e = none e
       by (Some x) e = once x e b.at refl
 
-  either : (z : ℕ) → Covers z (with_band a b).at → Covers z a.at ⊎ Covers z b.at
+  pub either : (z : ℕ) → Covers z (with_band a b).at → Covers z a.at ⊎ Covers z b.at
   either z = band-cases (λ s. Covers z s.at → Covers z a.at ⊎ Covers z b.at) (λ e c. inr c) (λ x e f c. inl c) (λ x y e f less c. inr c) (λ x y e f more c. inl c)
 
   from-first : (z : ℕ) → Covers z a.at → Covers z (with_band a b).at
@@ -61,7 +61,7 @@ module _ (a b : Outlook) where
   least-next : (z : ℕ) → Covers z b.at → (with_band a b).least ≤ b.least
   least-next z c = band-cases (λ s. s.least ≤ b.least) (λ e. omega arith) (λ x e f. absurd (never z b.at f c)) (λ x y e f less. omega arith) (λ x y e f more. omega arith)
 
-  band-formed : (t : ℕ) → Formed t a → Formed t b → Formed t (with_band a b)
+  pub band-formed : (t : ℕ) → Formed t a → Formed t b → Formed t (with_band a b)
   band-formed t fa fb = band-cases (Formed t) (λ e. fb) (λ x e f. fa)
       (λ x y e f less. record {
         from = fb.from;

@@ -22,7 +22,7 @@ use Rattle.q_device.proofs.Renewed.{Outlook, Renews}
 use Rattle.q_device.proofs.RenewedAsks.{IsRenewed, AreRenewed, asked-outlook, befores-renew, aged, asked-renews}
 
 module _ (mtu now t : ℕ) (least : 1 ≤ mtu) (low : t ≤ 2 ^ 62) (order : now ≤ t) where
-  own-renewed : (own : Own) (x : Forest (Unit {0})) → IsLawfulRoot mtu t (record { own = own; memory = tt; below = x }) → AreRenewed now t order (each (outlook_own now) x) (each (ask_own t) x)
+  pub own-renewed : (own : Own) (x : Forest (Unit {0})) → IsLawfulRoot mtu t (record { own = own; memory = tt; below = x }) → AreRenewed now t order (each (outlook_own now) x) (each (ask_own t) x)
       → IsRenewed now t order (outlook_own now own (each (outlook_own now) x)) (ask_own t own (each (ask_own t) x))
   own-renewed own x lawful all =
       let n : Shape = record { own = own; memory = tt; below = x } in
@@ -36,7 +36,7 @@ module _ (mtu now t : ℕ) (least : 1 ≤ mtu) (low : t ≤ 2 ^ 62) (order : now
         peeked = asked-renews now t order own.handle own.filters mtu own.held own.discipline os below (subst (IsLawfulOwn mtu t own) (sym (beneath-befores t x)) lawful.0) all sees;
       }
 
-  forest-renewed : (x : Forest (Unit {0})) → AllLawful mtu t x → AreRenewed now t order (each (outlook_own now) x) (each (ask_own t) x)
+  pub forest-renewed : (x : Forest (Unit {0})) → AllLawful mtu t x → AreRenewed now t order (each (outlook_own now) x) (each (ask_own t) x)
   forest-renewed none h = tt
   forest-renewed (more own m below others) h = (own-renewed own below (h.0, h.1) (forest-renewed below h.1), forest-renewed others h.2)
 
@@ -59,7 +59,7 @@ module _ {M : Type 0} (tally : Tally M) (now t : ℕ) (s : TreeState M) (least :
     abbrev after : TreeState M
     after = take_packet tally t s
 
-    left : {A : Type 0} (f : Own → List A → A) → (λ (n : Node M). f n.own (each f n.below)) after.root ≡ f (ask t root).peeked.own (each f (ask t root).peeked.below)
+    pub left : {A : Type 0} (f : Own → List A → A) → (λ (n : Node M). f n.own (each f n.below)) after.root ≡ f (ask t root).peeked.own (each f (ask t root).peeked.below)
     left f =
         ap (λ (b : Bool). (λ (n : Node M). f n.own (each f n.below)) (booked tally s.root (if b then (ask t root).taken else (ask t root).peeked))) (ap is_some silent)
         ∙ root-booked tally f s.root (ask t root).peeked (told tally t s least low lawful)

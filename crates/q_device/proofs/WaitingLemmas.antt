@@ -1,7 +1,7 @@
 -- Polls that come before a device is ready, one after another: none gives a packet, and the device is ready no sooner for them.
-use Rattle.std.proofs.Common.{◌≡◌, ℕ, ◌≤◌, ◌^◌, ◌∙◌, refl, sym, ap, ap₂, subst, arith, List, [], ◌∷◌, ◌++◌, map, length, Option, Some, None}
+use Rattle.std.proofs.Common.{◌≡◌, ℕ, ◌≤◌, ◌^◌, ◌∙◌, refl, sym, ap, ap₂, subst, arith, inl, inr, List, [], ◌∷◌, ◌++◌, map, length, Option, Some, None}
 use Rattle.std.specs.Prelude.{All, true, false, max, ◌==◌}
-use Rattle.std.proofs.lemmas.Bool.{lt-ltb, ltb-true, le-ltb, false≢true}
+use Rattle.std.proofs.lemmas.Bool.{cases_lt, lt-ltb, ltb-true, le-ltb, false≢true}
 use Rattle.std.proofs.lemmas.List.Elements.{All-nil, All-head, All-tail, All-push}
 use Rattle.q_packet.specs.Descriptor.{Descriptor}
 use Rattle.q_model.specs.declared.event.Event.{Event}
@@ -24,9 +24,11 @@ use Rattle.q_tree.specs.ReadyAt.{is_before, is_sure, outlook}
 use Rattle.q_tree.proofs.Foreseeing.{Foresees, Covers}
 use Rattle.q_device.specs.DeviceLaws.{IsReplayed}
 use Rattle.q_device.specs.DeviceSeen.{DeviceSeen}
-use Rattle.q_device.proofs.LawfulLemmas.{replay-lawful}
+use Rattle.q_device.proofs.LawfulLemmas.{replay-lawful, seen-lawful}
 use Rattle.q_device.proofs.ReplayLemmas.{replay_from-append}
-use Rattle.q_device.specs.Waiting.{ready, after_polls, IsTooEarly, empty_handed, EarlyPollsGiveNothing}
+use Rattle.q_device.specs.Waiting.{ready, after_polls, IsTooEarly, empty_handed, EarlyPollsGiveNothing, ReadyPassesEmptyPolls}
+use Rattle.q_device.proofs.Moved.{Moves}
+use Rattle.q_device.proofs.MovedTrees.{take-moves}
 use Rattle.q_device.proofs.Renewed.{Outlook, Renews, never, not-past, covers-in}
 use Rattle.q_device.proofs.RenewedTrees.{sees, take-renews, take-empty}
 
@@ -137,3 +139,21 @@ early-polls d r range moments all =
       same = λ sure. (h.exact sure).0;
       sure = λ sure. (h.exact sure).1;
     }
+
+-- ---- one poll that gave nothing
+
+still-ahead : (t : ℕ) (u : Option ℕ) → (Covers t u → ⊥) → is_before (Some t) u ≡ true
+still-ahead t None h = refl
+still-ahead t (Some x) h = elim (cases_lt t x) [
+  | inl less ↦ lt-ltb t x less
+  | inr past ↦ absurd (h (record { at = x; is = refl; past = past }))
+]
+
+pub empty-polls : (d : DeviceSeen) → IsReplayed d → IsInRange d.settings → ReadyPassesEmptyPolls d
+empty-polls d r range m within silent =
+    let x : DeviceState Counts = d.device in
+    let t : ℕ = counts_at m x in
+    let lawful : IsLawfulTree totals x.clock x.tree = seen-lawful r.happened d r.replayed range r.events in
+    let low : t ≤ 2 ^ 62 = not-after x.clock m (2 ^ 62) lawful.moment within in
+    let moves : Moves t None (outlook t (take_packet totals t x.tree).root) = take-moves totals t x.tree lawful.least_mtu low (lawful-shape totals x.clock t x.tree lawful (not-before x.clock m)) silent in
+    still-ahead t (outlook t (take_packet totals t x.tree).root).at (moves.hidden refl)

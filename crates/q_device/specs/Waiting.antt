@@ -6,8 +6,9 @@ use Rattle.q_model.specs.declared.reply.Reply.{Reply}
 use Rattle.q_model.specs.declared.reply.Reply.TheVariants as reply
 use Rattle.q_model.specs.Beneath.{is_empty}
 use Rattle.q_model.specs.Replay.{Replay, replay_from}
-use Rattle.q_model.specs.Step.{DeviceState, counts_at, polled_of}
+use Rattle.q_model.specs.Step.{DeviceState, counts_at, polled_of, step}
 use Rattle.q_model.specs.Tally.{Counts, totals}
+use Rattle.q_model.specs.TreeState.{given}
 use Rattle.q_tree.specs.ReadyAt.{is_before, is_sure, ready_at}
 use Rattle.q_device.specs.DeviceSeen.{DeviceSeen}
 
@@ -37,3 +38,9 @@ pub record HasWaited (d : DeviceState Counts) (r : Replay Counts) : Type 0 where
 -- However many polls come before the device is ready, and in whatever order.
 abbrev pub EarlyPollsGiveNothing : DeviceSeen → Type 0
 EarlyPollsGiveNothing d = (moments : List ℕ) → All (IsTooEarly d.device) moments → HasWaited d.device (after_polls moments d.device)
+
+-- Once a poll has given no packet the device is ready after that poll, if ever.
+abbrev pub ReadyPassesEmptyPolls : DeviceSeen → Type 0
+ReadyPassesEmptyPolls d =
+    (moment : ℕ) → moment ≤ 2 ^ 62 → given (counts_at moment d.device) d.device.tree ≡ None
+    → (let after = (step totals d.device (event.Poll moment)).device in is_before (Some after.clock) (ready after) ≡ true)
