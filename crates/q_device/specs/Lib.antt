@@ -6,3 +6,4 @@ pub mod Keeping
 pub mod Laws
 pub mod Replayed
 pub mod Sharing
+pub mod Waiting

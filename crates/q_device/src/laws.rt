@@ -2,6 +2,7 @@
 ghost use Rattle.q_device.specs.DeviceLaws.{ArrivesByArrivals, CountersNeverFall, EveryCounterIsCompared, HasItsMemory, IsLawfulDevice, IsReplayed, IsReplayOfRecorded, TellsItsLosses};
 ghost use Rattle.q_device.specs.Laws.{ReplayGoesOn, ShrinkCommutes, ReplayShrinks, EveryReplayIsSound, TotalsAreLawful, EveryReplayTellsAll};
 ghost use Rattle.q_device.specs.Sharing.{ClassesSendTheirShares, DeficitsAreBounded, GrantsComeWhereShort, ClassesWakeWithAQuantum, ClassesShareByQuanta, BucketsAreBounded, FlowsGiveTheirShares, FlowsBeginNew, FlowsAreGrantedEvenly};
+ghost use Rattle.q_device.specs.Waiting.{EarlyPollsGiveNothing, ReadyPassesEmptyPolls};
 
 use crate::device::Device;
 use q_model::Settings;
@@ -120,6 +121,25 @@ pub fn device_tells_its_losses(device: &Device)
 /// device's clock.
 pub fn device_has_its_memory(device: &Device)
     ensures { HasItsMemory device.now }
+{
+    device.kept();
+}
+
+/// Polls that come before a device is ready give no packet, however many come and in whatever order, and for them the device is ready
+/// no sooner. Where it was sure of its moment, that is its moment still.
+///
+/// A poll comes before where its moment, or the clock where that is later, is before the answer of [`Device::ready_at`], or where
+/// the answer was that no packet ever comes. Each of them is answered `Later` where something is queued, else `Idle`.
+pub fn early_polls_give_nothing(device: &Device)
+    ensures { EarlyPollsGiveNothing device.now }
+{
+    device.kept();
+}
+
+/// Once a poll has given no packet, a device is ready after that poll or never: whoever polls it at the moments that
+/// [`Device::ready_at`] answers, and at no others, polls at later and later ones.
+pub fn ready_passes_empty_polls(device: &Device)
+    ensures { ReadyPassesEmptyPolls device.now }
 {
     device.kept();
 }
