@@ -14,6 +14,7 @@ pub mod CountingLemmas
 pub mod EditLemmas
 pub mod FindLemmas
 pub mod FlowCounts
+pub mod GivenInto
 pub mod Foreseeing
 pub mod ForeseenAsks
 pub mod Forms

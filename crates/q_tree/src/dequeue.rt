@@ -1,6 +1,8 @@
 //! What sends a packet straight to the caller's place, where a peek would dequeue and hold it.
-ghost use Rattle.std.specs.Prelude.{◌≡◌, ◌<◌, ◌≤◌, ◌+◌, ◌++◌, [], ◌∷◌, length, List, ℕ, Some, slice_get, is_some, unwrap_or};
+ghost use Rattle.std.specs.Prelude.{◌≡◌, ◌<◌, ◌≤◌, ◌+◌, ◌++◌, [], ◌∷◌, length, List, ℕ, Some, slice_get, drop, option_map, is_some, unwrap_or};
 ghost use Rattle.q_codel.specs.Losses.{losses_of};
+ghost use Rattle.q_packet.specs.declared.stamped.Stamped.{Stamped};
+ghost use Rattle.q_model.specs.Tally.{no_totals};
 ghost use Rattle.q_fqcodel.specs.FqState.{packets_of};
 ghost use Rattle.q_fqcodel.specs.Take.{selected, after_sending, dropped_from};
 ghost use Rattle.q_model.specs.Ask.{Asked, ask_drr, ask_fq_codel, ask_tbf};
@@ -12,13 +14,13 @@ ghost use Rattle.q_tree.specs.AskSteps.{CanAsk, CanServe, AreAsked, IsGivenBy, I
 ghost use Rattle.q_tree.specs.Kept.{Kept};
 ghost use Rattle.q_tree.specs.PutSteps.{packets_beneath};
 
-use crate::booking::{difference, one_packet};
+use crate::booking::{NOTHING, difference, one_packet};
 use crate::drr::{ask_class, settle};
-use crate::fq_codel::marked_by;
+use crate::fq_codel::marking;
 use crate::node::Node;
 use crate::shown::Shown;
 use q_bucket::Bucket;
-use q_codel::Sink;
+use q_codel::{Fifo, Sink};
 use q_drr::{Active, Turn};
 use q_fqcodel::FqCodel;
 use q_model::Totals;
@@ -103,6 +105,21 @@ pub(crate) fn dequeue_child<S: Sink>(
     shown
 }
 
+/// Gives the head of a fifo to `out`.
+#[inline(always)]
+pub(crate) fn dequeue_head(fifo: &mut Fifo, out: &mut Packet) -> Shown
+    ensures shown { result.packet ≡ option_map (λ (s : Stamped). s.packet) (slice_get fifo.old.packets 0) }
+    ensures dropped { result.dropped ≡ no_totals }
+    ensures marked { result.marked ≡ no_totals }
+    ensures packet { out.new ≡ unwrap_or result.packet out.old }
+    ensures rest { fifo.new ≡ record fifo.old { packets = drop 1 fifo.old.packets } }
+{
+    if fifo.take_into(out) == 0 {
+        return Shown::at_hand(&None);
+    }
+    Shown::sending(out, NOTHING, NOTHING)
+}
+
 /// Gives the packet that the flow in front sends (RFC 8290, section 4.2) to `out`, and counts what CoDel drops and marks.
 pub(crate) fn dequeue_flow<S: Sink>(
     queue: &mut FqCodel,
@@ -120,17 +137,16 @@ pub(crate) fn dequeue_flow<S: Sink>(
     ensures kept { S.keeps sink.old sink.new }
 {
     let (packets, bytes) = queue.queued();
-    let taken = queue.take(now, sink);
+    let sent = queue.take_into(now, out, sink);
+    if sent.len == 0 {
+        // CoDel drops none of an empty fq_codel.
+        return Shown::at_hand(&None);
+    }
     let (packets_after, bytes_after) = queue.queued();
     let gone = Totals {
         packets: packets - packets_after,
         bytes: bytes - bytes_after,
     };
-    // CoDel drops none of an empty fq_codel.
-    let Some(taken) = taken else {
-        return Shown::at_hand(&None);
-    };
-    let one = one_packet(&taken.packet);
-    *out = taken.packet;
-    Shown::sending(out, difference(gone, one), marked_by(&taken))
+    let one = one_packet(out);
+    Shown::sending(out, difference(gone, one), marking(sent.marked, out))
 }

@@ -83,12 +83,19 @@ pub(crate) fn take_from_flows<S: Sink>(
     Shown::new(held, difference(gone, one), marked_by(&taken))
 }
 
-/// The packet, where CoDel marked it.
-pub(crate) fn marked_by(taken: &Taken) -> Totals
+// The packet, where CoDel marked it.
+fn marked_by(taken: &Taken) -> Totals
     ensures { result ≡ (if taken.now.marked then with_packet no_totals taken.now.packet else no_totals) }
 {
-    if taken.marked {
-        return one_packet(&taken.packet);
+    marking(taken.marked, &taken.packet)
+}
+
+/// The packet, where it was marked.
+pub(crate) fn marking(is_marked: bool, packet: &Packet) -> Totals
+    ensures { result ≡ (if is_marked then with_packet no_totals packet.now else no_totals) }
+{
+    if is_marked {
+        return one_packet(packet);
     }
     NOTHING
 }

@@ -5,6 +5,7 @@ ghost use Rattle.q_tree.specs.Kept.{kept};
 ghost use Rattle.q_tree.specs.PopSteps.{IsPoppedIn, popping_of};
 
 use crate::booking::book_sent;
+use crate::dequeue::dequeue_head;
 use crate::node::{Discipline, Node};
 use crate::pop::ready_band;
 use q_packet::Packet;
@@ -42,13 +43,7 @@ impl Discipline {
         ensures after { IsPoppedIn self.old self.new }
     {
         match self {
-            Discipline::Fifo(fifo) => {
-                let Some(stamped) = fifo.take() else {
-                    return false;
-                };
-                *out = stamped.packet;
-                return true;
-            }
+            Discipline::Fifo(fifo) => return dequeue_head(fifo, out).has_packet(),
             Discipline::Prio { bands, .. } => {
                 let Some(place) = ready_band(bands) else {
                     return false;

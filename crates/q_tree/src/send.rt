@@ -12,7 +12,7 @@ ghost use Rattle.q_tree.specs.PutSteps.{packets_beneath};
 ghost use Rattle.q_tree.specs.SendSteps.{AreSent, IsSentIn};
 
 use crate::booking::{NOTHING, book_sent, book_shown};
-use crate::dequeue::{dequeue_child, dequeue_class, dequeue_flow};
+use crate::dequeue::{dequeue_child, dequeue_class, dequeue_flow, dequeue_head};
 use crate::node::{Discipline, Node};
 use crate::shown::Shown;
 use crate::tree::Tree;
@@ -96,13 +96,7 @@ impl Discipline {
         ensures kept { S.keeps sink.old sink.new }
     {
         match self {
-            Discipline::Fifo(fifo) => {
-                let Some(stamped) = fifo.take() else {
-                    return Shown::at_hand(&None);
-                };
-                *out = stamped.packet;
-                return Shown::sending(out, NOTHING, NOTHING);
-            }
+            Discipline::Fifo(fifo) => return dequeue_head(fifo, out),
             Discipline::Prio { bands, .. } => return send_first(bands, now, out, sink),
             Discipline::Tbf { bucket, child, .. } => {
                 return dequeue_child(bucket, child, out, now, sink);

@@ -1,0 +1,31 @@
+-- A packet that a queue gave into the caller's place: what the call answered is what was queued.
+use Rattle.std.proofs.Common.{◌≡◌, ℕ, ◌<◌, List, [], ◌∷◌, Option, Some, None, option_map, option_to_list, length, refl, sym, ap, ap₂, ◌∙◌, arith}
+use Rattle.std.specs.Prelude.{Bool, false, slice_get}
+use Rattle.std.specs.Option.{option_map_or}
+use Rattle.q_packet.specs.Descriptor.{Descriptor}
+use Rattle.q_packet.specs.declared.stamped.Stamped.{Stamped}
+use Rattle.q_codel.specs.declared.taken.Taken.{Taken}
+use Rattle.q_tree.proofs.TakeCounts.{packet_of}
+
+-- a fifo that gave none is empty
+pub head-none : (xs : List Stamped) (len : ℕ) → len ≡ 0 → (0 < length xs → 0 < len) → option_map (λ (s : Stamped). s.packet) (slice_get xs 0) ≡ None
+head-none [] len none has = refl
+head-none (s ∷ xs) len none has = absurd (omega (arith, none, has (omega arith)))
+
+-- and one that gave a packet gave its head
+pub head-some : (xs : List Stamped) (old new : Descriptor) → 0 < length xs → new ≡ option_map_or (λ (s : Stamped). s.packet) (slice_get xs 0) old
+    → option_map (λ (s : Stamped). s.packet) (slice_get xs 0) ≡ Some new
+head-some [] old new some is = absurd (omega (arith, some))
+head-some (s ∷ xs) old new some is = ap Some (sym is)
+
+-- an fq_codel that gave a packet gave what it sends, marked or not
+pub sent-some : (sent : Option Taken) (len : ℕ) (marked : Bool) (old new : Descriptor) → 0 < len → len ≡ option_map_or (λ (t : Taken). t.packet.len) sent 0
+    → marked ≡ option_map_or (λ (t : Taken). t.marked) sent false → new ≡ option_map_or (λ (t : Taken). t.packet) sent old
+    → sent ≡ Some (record { packet = new; marked = marked })
+sent-some None len marked old new some l m p = absurd (omega (arith, some, l))
+sent-some (Some t) len marked old new some l m p = ap₂ (λ (packet : Descriptor) (marked : Bool). Some (record { packet = packet; marked = marked })) (sym p) (sym m)
+
+-- and one that gave none sends none: it has no packet to send
+pub sent-none : (sent : Option Taken) → length (option_to_list (packet_of sent)) ≡ 0 → sent ≡ None
+sent-none None none = refl
+sent-none (Some t) none = absurd (omega (arith, none))
