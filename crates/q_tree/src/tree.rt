@@ -45,7 +45,7 @@ pub struct Tree {
     txqueuelen: u32,
     /// The latest moment that it was given.
     pub(crate) clock: Moment,
-    top: Row,
+    pub(crate) top: Row,
     pub(crate) root: Node,
     /// The ways to the handles beneath the root, by which commands find their qdiscs.
     pub(crate) handles: Handles,
@@ -323,8 +323,8 @@ impl Tree {
     }
 }
 
-// What became of a packet that was lost for this cause, or was not lost.
-fn fate_of(loss: Option<Cause>) -> Fate
+/// What became of a packet that was lost for this cause, or was not lost.
+pub(crate) fn fate_of(loss: Option<Cause>) -> Fate
     ensures { result ≡ fate_of loss }
 {
     match loss {
