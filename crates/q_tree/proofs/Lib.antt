@@ -1,3 +1,5 @@
+pub mod ArrivedNodes
+pub mod Arriving
 pub mod AskBands
 pub mod AskForms
 pub mod AskOnce
@@ -45,6 +47,7 @@ pub mod StatsLemmas
 pub mod TakeCounts
 pub mod TakePlaces
 pub mod TargetLemmas
+pub mod TreeArrivals
 pub mod TreeEdits
 pub mod TreeIndex
 pub mod TreeLemmas

@@ -110,11 +110,12 @@ along-places now p refusal (i ∷ path) (j ∷ way) n = by (slice_get (children 
   by None e on = ap (places_under way j) (nobody-there now p refusal i path n e)
   by (Some c) e on = ap (places_under way j) (child-there now p refusal i path n c e) ∙ same-places (children n) i c (booked kept c (put_along now p refusal path (shape c)).node) e (on c) way j
 
+pub put-root-places : (now : ℕ) (p : Descriptor) (o : Option Route) (n : Node Kept) (way : List ℕ) → places_at way (booked kept n (put_on now p o (shape n)).node) ≡ places_at way n
+put-root-places now p None n way = ap (places_at way) (still n)
+put-root-places now p (Some r) n way = along-places now p r.refusal r.path way n
+
 pub put-places : PutKeepsPlaces
-put-places now p s way = by (device_route p s.device.mtu (shape s.root)) where
-  by : (o : Option Route) → places_at way (booked kept s.root (put_on now p o (shape s.root)).node) ≡ places_at way s.root
-  by None = ap (places_at way) (still s.root)
-  by (Some r) = along-places now p r.refusal r.path way s.root
+put-places now p s way = put-root-places now p (device_route p s.device.mtu (shape s.root)) s.root way
 
 -- ---- commands
 

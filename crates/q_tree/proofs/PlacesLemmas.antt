@@ -32,7 +32,7 @@ set-unplaced [] i x x2 is e = refl
 set-unplaced (n ∷ ns) zero x x2 is e = ap (λ (y : Node Counts). y ∷ map unplaced ns) (e ∙ ap unplaced is)
 set-unplaced (n ∷ ns) (suc i) x x2 is e = ap (λ (ys : List (Node Counts)). unplaced n ∷ ys) (set-unplaced ns i x x2 is e)
 
-set-there : (ns : List (Node Kept)) (i : ℕ) (x : Node Kept) → i < length ns → slice_get (set ns i x) i ≡ Some x
+pub set-there : (ns : List (Node Kept)) (i : ℕ) (x : Node Kept) → i < length ns → slice_get (set ns i x) i ≡ Some x
 set-there [] i x e = absurd (omega (arith, e))
 set-there (n ∷ ns) zero x e = refl
 set-there (n ∷ ns) (suc i) x e = set-there ns i x (omega (arith, e))

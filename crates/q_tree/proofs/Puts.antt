@@ -146,7 +146,7 @@ module _ (now : ℕ) (p : Descriptor) (a : Inside) (k : IsKept a) where
   own-bytes = part-bytes (option_to_list a.held) (packets_in (discipline_seen a.discipline)) deeper a.row.queued.bytes (ap (λ (t : Totals). t.bytes) k.queued)
 
   -- the queue at the end takes the packet
-  can-flow : (mtu : ℕ) (s : FqState) → discipline_seen a.discipline ≡ spec.FqCodel s → IsLawfulOwn mtu now (seen a).own (each beneath_own (seen a).below) → CanCount a.row.arrived p → CanFlow p s
+  pub can-flow : (mtu : ℕ) (s : FqState) → discipline_seen a.discipline ≡ spec.FqCodel s → IsLawfulOwn mtu now (seen a).own (each beneath_own (seen a).below) → CanCount a.row.arrived p → CanFlow p s
   can-flow mtu s e h counts =
       let lawful : IsLawfulOwn mtu now (record { handle = a.handle; discipline = spec.FqCodel s; held = a.held; filters = a.filters.items }) (each beneath_own (seen a).below) =
       subst (λ (d : spec.Discipline). IsLawfulOwn mtu now (record { handle = a.handle; discipline = d; held = a.held; filters = a.filters.items }) (each beneath_own (seen a).below)) e h in

@@ -52,7 +52,7 @@ lawful-back : {A B : Type 0} (mtu clock : ℕ) (f : A → B) (x : Forest A) → 
 lawful-back mtu clock f none h = tt
 lawful-back mtu clock f (more own m below others) h = (subst (IsLawfulOwn mtu clock own) (each-each_memory beneath_own f below) h.0, lawful-back mtu clock f below h.1, lawful-back mtu clock f others h.2)
 
-root-back : {A B : Type 0} (mtu clock : ℕ) (f : A → B) (n : Node A) → IsLawfulRoot mtu clock (with_memory f n) → IsLawfulRoot mtu clock n
+pub root-back : {A B : Type 0} (mtu clock : ℕ) (f : A → B) (n : Node A) → IsLawfulRoot mtu clock (with_memory f n) → IsLawfulRoot mtu clock n
 root-back mtu clock f n h = (subst (IsLawfulOwn mtu clock n.own) (each-each_memory beneath_own f n.below) h.0, lawful-back mtu clock f n.below h.1)
 
 -- a new tree

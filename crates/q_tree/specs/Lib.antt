@@ -1,5 +1,6 @@
 pub mod Ahead
 pub mod Arrivals
+pub mod ArriveSteps
 pub mod AskSteps
 pub mod Changing
 pub mod Commanding

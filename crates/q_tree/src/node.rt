@@ -194,8 +194,8 @@ pub(crate) fn child_at(children: &[Node], place: usize) -> Option<&Node>
     children.get(place)
 }
 
-// The band of a packet: the class that a filter names, else that of its priority (tc-prio(8)).
-fn band(filters: &[Filter], priomap: &[u8; 16], packet: &Packet) -> usize
+/// The band of a packet: the class that a filter names, else that of its priority (tc-prio(8)).
+pub(crate) fn band(filters: &[Filter], priomap: &[u8; 16], packet: &Packet) -> usize
     ensures { result ≡ option_map_or (λ minor. minor - 1) (named_class filters.now packet.now) (slice_index priomap.now packet.now.prio) }
 {
     match named_class(filters, packet) {
@@ -204,8 +204,8 @@ fn band(filters: &[Filter], priomap: &[u8; 16], packet: &Packet) -> usize
     }
 }
 
-// The place of the class that a filter names, if there is one (tc-drr(8)).
-fn class_place(active: &Active, filters: &[Filter], packet: &Packet) -> Option<usize>
+/// The place of the class that a filter names, if there is one (tc-drr(8)).
+pub(crate) fn class_place(active: &Active, filters: &[Filter], packet: &Packet) -> Option<usize>
     ensures { result ≡ option_and_then (λ minor. place_of minor active.now.classes) (named_class filters.now packet.now) }
 {
     let minor = named_class(filters, packet)?;

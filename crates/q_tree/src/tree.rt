@@ -323,8 +323,8 @@ impl Tree {
     }
 }
 
-// What became of a packet that was lost for this cause, or was not lost.
-fn fate_of(loss: Option<Cause>) -> Fate
+/// What became of a packet that was lost for this cause, or was not lost.
+pub(crate) fn fate_of(loss: Option<Cause>) -> Fate
     ensures { result ≡ fate_of loss }
 {
     match loss {

@@ -1,0 +1,107 @@
+-- What the arrival of a packet comes to at one node: a place is made where its route ends, if it is queued there, and the packet is
+-- put along that route. tc-prio(8), tc-drr(8), tc-tbf(8), tc-pfifo(8), tc-fq_codel(8).
+use Rattle.std.specs.Prelude.{◌≡◌, ℕ, ◌≤◌, List, [], ◌∷◌, map, slice_get, Option, Some, None, IfSome}
+use Rattle.q_packet.specs.Descriptor.{Descriptor}
+use Rattle.q_packet.specs.declared.cause.Cause.{Cause}
+use Rattle.q_codel.specs.declared.loss.Loss.{Loss}
+use Rattle.q_fqcodel.specs.FqState.{FqState}
+use Rattle.q_model.specs.declared.filter.Filter.{Filter}
+use Rattle.q_model.specs.Node as spec
+use Rattle.q_model.specs.Node.{shape}
+use Rattle.q_model.specs.Numbers.{IsWithin}
+use Rattle.q_model.specs.Put.{put_along}
+use Rattle.q_model.specs.Route.{Route, route, way, device_route}
+use Rattle.q_model.specs.Tally.{Note, with_packet}
+use Rattle.q_model.specs.TreeState.{loss_at_end, loss_on, put_on}
+use Rattle.q_model.specs.Work.{booked}
+use Rattle.q_sound.proofs.Kept.{IsLawfulRoot}
+use Rattle.q_tree.specs.Ahead.{ways}
+use Rattle.q_tree.specs.Arrivals.{CanCount, CanPut, HasPlace, HasPlaceIn, IsOutcome}
+use Rattle.q_tree.specs.AskSteps.{IsToldOf, own_of}
+use Rattle.q_tree.specs.Kept.{Kept, kept}
+use Rattle.q_tree.specs.Places.{unplaced, places_at, places_under, HasPlaceAt}
+use Rattle.q_tree.specs.PutSteps.{CanFlow, IsQueued, IsPutInto, rises_here}
+use Rattle.q_tree.specs.Seen.{discipline_seen, children_seen, places_seen}
+use Rattle.q_tree.specs.TreeSeen.{IsArrived}
+use Rattle.q_tree.specs.declared.node.Discipline.{Discipline}
+use Rattle.q_tree.specs.declared.outcome.Outcome.{Outcome}
+
+-- a packet can arrive at the node: the tree is lawful at `now`, where no packet is longer than some mtu, and the counters have room
+pub record CanCome (now : ℕ) (p : Descriptor) (n : spec.Node Kept) : Type 0 where
+  pub mtu : ℕ
+  pub fits : IsWithin 1 mtu p.len
+  pub lawful : IsLawfulRoot mtu now n
+  pub counts : CanCount n.memory.counts.arrived p
+
+-- and at a discipline: its own fq_codel, or each of its children, can take the packet
+pub record CanComeIn (now : ℕ) (p : Descriptor) (d : Discipline) : Type 0 where
+  pub flow : (s : FqState) → discipline_seen d ≡ spec.FqCodel s → CanFlow p s
+  pub child : (i : ℕ) (c : spec.Node Kept) → slice_get (children_seen d) i ≡ Some c → CanCome now p c
+
+-- places were made, and nothing else has changed: in a node, and in a discipline with its children
+pub record IsPlaced (before after : spec.Node Kept) : Type 0 where
+  pub same : unplaced after ≡ unplaced before
+  pub grows : (way : List ℕ) → places_at way before ≤ places_at way after
+
+pub record IsPlacedIn (before after : Discipline) : Type 0 where
+  pub discipline : discipline_seen after ≡ discipline_seen before
+  pub children : map unplaced (children_seen after) ≡ map unplaced (children_seen before)
+  pub places : places_seen before ≤ places_seen after
+  pub grows : (way : List ℕ) (i : ℕ) → places_under way i (children_seen before) ≤ places_under way i (children_seen after)
+
+-- what is told above the node of the packet's losses
+abbrev pub rises_along : ℕ → Descriptor → spec.Node Kept → List Note
+rises_along now p n = (put_along now p (route p n).refusal (route p n).path (shape n)).rises
+
+-- the packet came to the node: once its place was made, it was put along its route
+pub record HasCome (now : ℕ) (p : Descriptor) (before after : spec.Node Kept) (o : Outcome) : Type 0 where
+  pub placed : spec.Node Kept
+  pub is_placed : IsPlaced before placed
+  pub can : CanPut now p (route p before).path (route p before).refusal placed
+  pub becomes : after ≡ booked kept placed (put_along now p (route p before).refusal (route p before).path (shape placed)).node
+  pub arrived : after.memory.counts.arrived ≡ with_packet placed.memory.counts.arrived p
+  pub outcome : IsOutcome (loss_at_end now p (shape placed) (route p before)) (put_along now p (route p before).refusal (route p before).path (shape placed)).rises o
+
+-- the way from a discipline that has these filters
+abbrev pub way_in : Descriptor → List Filter → Discipline → Route
+way_in p filters d = way p (own_of None filters (discipline_seen d)) (ways p (children_seen d)) (discipline_seen d)
+
+-- there is a place at the end of a way from a discipline
+abbrev pub HasPlaceOn : List ℕ → Discipline → Type 0
+HasPlaceOn [] d = HasPlaceIn (places_seen d) (discipline_seen d)
+HasPlaceOn (i ∷ rest) d = HasPlaceAt rest i (children_seen d)
+
+-- the way ends in a discipline: the packet is queued in its own list, or refused
+pub record HasEnded (now : ℕ) (p : Descriptor) (refusal : Option Cause) (placed after : Discipline) (o : Outcome) (notes : List Note) : Type 0 where
+  pub place : refusal ≡ None → HasPlaceIn (places_seen placed) (discipline_seen placed)
+  pub queued : IsQueued now p refusal placed after o
+  pub notes_are : notes ≡ rises_here now p refusal (discipline_seen placed)
+
+-- or it goes on: the packet was put into the child
+pub record HasGone (now : ℕ) (p : Descriptor) (refusal : Option Cause) (i : ℕ) (rest : List ℕ) (placed after : Discipline) (o : Outcome) (notes : List Note) : Type 0 where
+  pub child : spec.Node Kept
+  pub there : slice_get (children_seen placed) i ≡ Some child
+  pub place : refusal ≡ None → HasPlace rest child
+  pub put : IsPutInto now p refusal rest i placed after child o
+  pub notes_are : notes ≡ (put_along now p refusal rest (shape child)).rises
+
+abbrev pub IsPutOn : ℕ → Descriptor → Option Cause → List ℕ → Discipline → Discipline → Outcome → List Note → Type 0
+IsPutOn now p refusal [] placed after o notes = HasEnded now p refusal placed after o notes
+IsPutOn now p refusal (i ∷ rest) placed after o notes = HasGone now p refusal i rest placed after o notes
+
+-- the packet came to a discipline, and a sink was told of its losses
+pub record HasComeIn (now : ℕ) (p : Descriptor) (filters : List Filter) (before after : Discipline) (o : Outcome) (losses losses_after : List Loss) (room room_after : ℕ) : Type 0 where
+  pub placed : Discipline
+  pub is_placed : IsPlacedIn before placed
+  pub notes : List Note
+  pub put : IsPutOn now p (way_in p filters before).refusal (way_in p filters before).path placed after o notes
+  pub told : IsToldOf notes losses losses_after room room_after
+
+-- the packet came to the root, or was refused above it
+pub record HasComeBelow (now : ℕ) (p : Descriptor) (r : Option Route) (before after : spec.Node Kept) (o : Outcome) : Type 0 where
+  pub placed : spec.Node Kept
+  pub is_placed : IsPlaced before placed
+  pub place : IfSome r (λ (x : Route). x.refusal ≡ None → HasPlace x.path placed)
+  pub becomes : after ≡ booked kept placed (put_on now p r (shape placed)).node
+  pub arrived : IsArrived p placed after
+  pub outcome : IsOutcome (loss_on now p r (shape placed)) (put_on now p r (shape placed)).rises o

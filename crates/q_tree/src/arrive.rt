@@ -1,0 +1,235 @@
+ghost use Rattle.std.specs.Prelude.{ℕ, List, ◌≡◌, ◌≤◌, ◌<◌, ◌+◌, ◌++◌, length, None, Some, true, IsOk, IfOk, OnOk, OnErr, if◌then◌else◌};
+ghost use Rattle.q_codel.specs.FifoState.{takes};
+ghost use Rattle.q_codel.specs.Losses.{losses_of};
+ghost use Rattle.q_fqcodel.specs.FqState.{packets_of};
+ghost use Rattle.q_fqcodel.specs.Put.{is_lost_itself, after_put, lost_by_put};
+ghost use Rattle.q_model.specs.Beneath as beneath;
+ghost use Rattle.q_model.specs.Beneath.{beneath};
+ghost use Rattle.q_model.specs.declared.filter.Filter.{Filter};
+ghost use Rattle.q_model.specs.Node.{shape};
+ghost use Rattle.q_model.specs.Route.{route, device_route};
+ghost use Rattle.q_model.specs.Step.{losses_in, fate_of};
+ghost use Rattle.q_model.specs.Tally.{no_totals, totals};
+ghost use Rattle.q_model.specs.TreeState.{put, put_on, own_loss, noted_by_put};
+ghost use Rattle.q_packet.specs.Descriptor.{Descriptor};
+ghost use Rattle.q_tree.specs.Arrivals.{CanCount, HasPlace};
+ghost use Rattle.q_tree.specs.ArriveSteps.{CanCome, CanComeIn, HasCome, HasComeBelow, HasComeIn, HasPlaceOn, IsPlaced, IsPlacedIn, rises_along, way_in};
+ghost use Rattle.q_tree.specs.AskSteps.{IsToldOf, packets_within};
+ghost use Rattle.q_tree.specs.Places.{places_at};
+ghost use Rattle.q_tree.specs.PutSteps.{CanFlow};
+ghost use Rattle.q_tree.specs.RouteSeen.{RouteSeen, route_seen};
+ghost use Rattle.q_tree.specs.TreeSeen.{CanArrive, numbers, tree_numbers};
+ghost use Rattle.q_tree.specs.declared.node.Discipline.TheVariants as code;
+
+use crate::booking::{NOTHING, book_arrival};
+use crate::drr::settle;
+use crate::fq_codel::put_in_flow;
+use crate::node::{Discipline, Node, band, class_place};
+use crate::outcome::{Outcome, refuse};
+use crate::tree::{Tree, fate_of};
+use q_codel::{Fifo, Sink};
+use q_fqcodel::FqCodel;
+use q_model::{Fate, Filter};
+use q_packet::{Cause, Moment, Packet, Stamped};
+use std::alloc::AllocError;
+
+impl Tree {
+    /// A packet arrives: in one walk down its route a place is made where it is queued, and it is put there, or lost. `now` is at
+    /// or after the latest moment that the tree was given. It is [`Tree::route`], [`Tree::prepare`] and [`Tree::put`] in one.
+    ///
+    /// What is lost for it goes to `sink`, which needs room for what is queued and one packet more. It takes memory for the place
+    /// alone, and none for a packet that is refused.
+    ///
+    /// # Errors
+    ///
+    /// `AllocError` where memory is refused, or the packet would take what the device counts of arrivals past 2^64 - 1, in packets
+    /// or in bytes; never where [`Tree::prepare`] has made the place. The tree is as it was, but for places, of which no queue has
+    /// fewer, and nothing is lost.
+    pub fn arrive<S: Sink>(
+        &mut self,
+        packet: &Packet,
+        now: Moment,
+        sink: &mut S,
+    ) -> Result<Fate, AllocError>
+        requires order { self.old.clock ≤ now }
+        requires sink { length (beneath self.old.tree.root) + 1 ≤ S.room sink.old }
+        ensures fate { IfOk result (λ fate. fate ≡ fate_of (own_loss now packet.now self.old.tree.device (shape self.old.tree.root))) }
+        ensures after { OnOk result (numbers self.new ≡ record { clock = now; tree = put totals now packet.now (tree_numbers self.old.tree) }) }
+        ensures lost { OnOk result (S.losses sink.new ≡ S.losses sink.old ++ losses_in (noted_by_put now packet.now self.old.tree)) }
+        ensures room { OnOk result (S.room sink.new + length (losses_in (noted_by_put now packet.now self.old.tree)) ≡ S.room sink.old) }
+        ensures counted { OnOk result (CanCount self.old.tree.top.counts.arrived packet.now) }
+        ensures same { OnErr result (numbers self.new ≡ numbers self.old) }
+        ensures not_lost { OnErr result ((S.losses sink.new ≡ S.losses sink.old) × (S.room sink.new ≡ S.room sink.old)) }
+        ensures routes { OnErr result ((p : Descriptor) → device_route p self.new.tree.device.mtu self.new.tree.root ≡ device_route p self.old.tree.device.mtu self.old.tree.root) }
+        ensures keeps { OnErr result ((other : RouteSeen) → CanArrive other self.old → CanArrive other self.new) }
+        ensures places { (path : List ℕ) → places_at path self.old.tree.root ≤ places_at path self.new.tree.root }
+        ensures succeeds { CanArrive (route_seen packet.now self.old.tree.device.mtu self.old.tree.root) self.old → IsOk result }
+        ensures kept { S.keeps sink.old sink.new }
+    {
+        // A moment is at most 2^62 nanoseconds, and a packet has a byte at least.
+        let _ = (now.ns(), packet.len);
+        let arrived = self.top.arrived;
+        if arrived.packets == u64::MAX || arrived.bytes > u64::MAX - u64::from(packet.len) {
+            return Err(AllocError);
+        }
+        let outcome = arrive_below(&mut self.root, self.mtu, packet, now, sink)?;
+        book_arrival(&mut self.top, packet, &outcome);
+        self.clock = now;
+        Ok(fate_of(outcome.loss))
+    }
+}
+
+// The packet arrives at the root, or is refused above it where it is longer than the mtu.
+fn arrive_below<S: Sink>(
+    root: &mut Node,
+    mtu: u16,
+    packet: &Packet,
+    now: Moment,
+    sink: &mut S,
+) -> Result<Outcome, AllocError>
+    requires ready { packet.now.len ≤ mtu → CanCome now packet.now root.old }
+    requires sink { length (beneath root.old) + 1 ≤ S.room sink.old }
+    ensures after { IfOk result (λ outcome. HasComeBelow now packet.now (device_route packet.now mtu root.old) root.old root.new outcome) }
+    ensures told { OnOk result (IsToldOf (put_on now packet.now (device_route packet.now mtu root.old) (shape root.old)).rises (S.losses sink.old) (S.losses sink.new) (S.room sink.old) (S.room sink.new)) }
+    ensures same { OnErr result (IsPlaced root.old root.new) }
+    ensures not_lost { OnErr result ((S.losses sink.new ≡ S.losses sink.old) × (S.room sink.new ≡ S.room sink.old)) }
+    ensures succeeds { (packet.now.len ≤ mtu → (route packet.now root.old).refusal ≡ None → HasPlace (route packet.now root.old).path root.old) → IsOk result }
+    ensures kept { S.keeps sink.old sink.new }
+{
+    if packet.len > mtu {
+        return Ok(refuse(*packet, Cause::TooLong, sink));
+    }
+    root.arrive(packet, now, sink)
+}
+
+impl Node {
+    /// A packet arrives at the node, and goes down its route: a place is made where it is queued, and it is put there, or lost. It
+    /// is booked at each node on the way back, and at none where memory is refused.
+    #[cycle(arrive)]
+    pub(crate) fn arrive<S: Sink>(
+        &mut self,
+        packet: &Packet,
+        now: Moment,
+        sink: &mut S,
+    ) -> Result<Outcome, AllocError>
+        requires ready { CanCome now packet.now self.old }
+        requires sink { length (beneath self.old) + 1 ≤ S.room sink.old }
+        ensures after { IfOk result (λ outcome. HasCome now packet.now self.old self.new outcome) }
+        ensures told { OnOk result (IsToldOf (rises_along now packet.now self.old) (S.losses sink.old) (S.losses sink.new) (S.room sink.old) (S.room sink.new)) }
+        ensures same { OnErr result (IsPlaced self.old self.new) }
+        ensures not_lost { OnErr result ((S.losses sink.new ≡ S.losses sink.old) × (S.room sink.new ≡ S.room sink.old)) }
+        ensures succeeds { ((route packet.now self.old).refusal ≡ None → HasPlace (route packet.now self.old).path self.old) → IsOk result }
+        ensures kept { S.keeps sink.old sink.new }
+    {
+        let outcome = self.discipline.arrive(&self.filters, packet, now, sink)?;
+        book_arrival(&mut self.row, packet, &outcome);
+        Ok(outcome)
+    }
+}
+
+impl Discipline {
+    // A packet arrives at a node with this discipline and these filters.
+    #[cycle(arrive)]
+    fn arrive<S: Sink>(
+        &mut self,
+        filters: &[Filter],
+        packet: &Packet,
+        now: Moment,
+        sink: &mut S,
+    ) -> Result<Outcome, AllocError>
+        requires ready { CanComeIn now packet.now self.old }
+        requires sink { length (packets_within self.old) + 1 ≤ S.room sink.old }
+        ensures after { IfOk result (λ outcome. HasComeIn now packet.now filters.now self.old self.new outcome (S.losses sink.old) (S.losses sink.new) (S.room sink.old) (S.room sink.new)) }
+        ensures same { OnErr result (IsPlacedIn self.old self.new) }
+        ensures not_lost { OnErr result ((S.losses sink.new ≡ S.losses sink.old) × (S.room sink.new ≡ S.room sink.old)) }
+        ensures succeeds { ((way_in packet.now filters.now self.old).refusal ≡ None → HasPlaceOn (way_in packet.now filters.now self.old).path self.old) → IsOk result }
+        ensures kept { S.keeps sink.old sink.new }
+    {
+        match self {
+            Discipline::Fifo(fifo) => return arrive_in_fifo(fifo, packet, now, sink),
+            Discipline::FqCodel(queue) => return arrive_in_flows(queue, packet, now, sink),
+            Discipline::Prio { priomap, .. } => {
+                let place = band(filters, priomap, packet);
+                let Discipline::Prio { bands, .. } = self else {
+                    unreachable!()
+                };
+                if place >= bands.len() {
+                    return Ok(refuse(*packet, Cause::NoClass, sink));
+                }
+                return bands[place].arrive(packet, now, sink);
+            }
+            Discipline::Tbf { bucket, child, .. } => {
+                if u32::from(packet.len) > bucket.burst() {
+                    return Ok(refuse(*packet, Cause::TooLong, sink));
+                }
+                return child.arrive(packet, now, sink);
+            }
+            Discipline::Drr { active, classes } => {
+                let Some(place) = class_place(active, filters, packet) else {
+                    return Ok(refuse(*packet, Cause::NoClass, sink));
+                };
+                if place >= classes.len() {
+                    return Ok(refuse(*packet, Cause::NoClass, sink));
+                }
+                let outcome = classes[place].arrive(packet, now, sink)?;
+                settle(active, place, classes[place].is_empty());
+                return Ok(outcome);
+            }
+        }
+    }
+}
+
+// The packet is queued behind the others, or refused at the limit (tc-pfifo(8)).
+fn arrive_in_fifo<S: Sink>(
+    fifo: &mut Fifo,
+    packet: &Packet,
+    now: Moment,
+    sink: &mut S,
+) -> Result<Outcome, AllocError>
+    requires sink { 1 ≤ S.room sink.old }
+    ensures after { (filters : List Filter) → IfOk result (λ outcome. HasComeIn now packet.now filters (code.Fifo fifo.old) (code.Fifo fifo.new) outcome (S.losses sink.old) (S.losses sink.new) (S.room sink.old) (S.room sink.new)) }
+    ensures same { OnErr result (IsPlacedIn (code.Fifo fifo.old) (code.Fifo fifo.new)) }
+    ensures not_lost { OnErr result ((S.losses sink.new ≡ S.losses sink.old) × (S.room sink.new ≡ S.room sink.old)) }
+    ensures succeeds { (takes fifo.old.limit fifo.old.packets packet.now.len ≡ true → length fifo.old.packets < fifo.old.places) → IsOk result }
+    ensures kept { S.keeps sink.old sink.new }
+{
+    if !fifo.fits(packet.len) {
+        return Ok(refuse(*packet, Cause::OverLimit, sink));
+    }
+    fifo.reserve()?;
+    fifo.put(Stamped {
+        packet: *packet,
+        at: now,
+    });
+    Ok(Outcome {
+        loss: None,
+        refused: NOTHING,
+        dropped: NOTHING,
+    })
+}
+
+// The packet is queued in its flow, and what the fattest flow loses is counted.
+fn arrive_in_flows<S: Sink>(
+    queue: &mut FqCodel,
+    packet: &Packet,
+    now: Moment,
+    sink: &mut S,
+) -> Result<Outcome, AllocError>
+    requires flow { CanFlow packet.now queue.old.state }
+    requires sink { packets_of queue.old.state.flows + 1 ≤ S.room sink.old }
+    ensures after { OnOk result (queue.new.state ≡ after_put queue.old.state packet.now now) }
+    ensures place { OnOk result (packets_of queue.old.state.flows < queue.new.places) }
+    ensures loss { IfOk result (λ outcome. outcome.loss ≡ (if is_lost_itself queue.old.state packet.now now then Some Cause.FatFlow else None)) }
+    ensures refused { IfOk result (λ outcome. outcome.refused ≡ no_totals) }
+    ensures dropped { IfOk result (λ outcome. outcome.dropped ≡ beneath.totals_in (beneath.packets_of (lost_by_put queue.old.state packet.now now))) }
+    ensures lost { OnOk result (S.losses sink.new ≡ S.losses sink.old ++ losses_of Cause.FatFlow (lost_by_put queue.old.state packet.now now)) }
+    ensures room { OnOk result (S.room sink.new + length (lost_by_put queue.old.state packet.now now) ≡ S.room sink.old) }
+    ensures same { OnErr result (queue.new.state ≡ queue.old.state) }
+    ensures not_lost { OnErr result ((S.losses sink.new ≡ S.losses sink.old) × (S.room sink.new ≡ S.room sink.old)) }
+    ensures grows { queue.old.places ≤ queue.new.places }
+    ensures succeeds { packets_of queue.old.state.flows < queue.old.places → IsOk result }
+    ensures kept { S.keeps sink.old sink.new }
+{
+    queue.reserve()?;
+    Ok(put_in_flow(queue, *packet, now, sink))
+}
