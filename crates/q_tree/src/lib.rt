@@ -11,6 +11,7 @@
 //! classes of a drr, [`Tree::filter_add`] and [`Tree::filter_del`] for filters.
 #![tactic(auto)]
 
+mod arrive;
 mod at_hand;
 mod booking;
 mod class_commands;
@@ -43,6 +44,7 @@ mod qdisc_commands;
 mod ready_at;
 mod reshape;
 mod route;
+mod send;
 mod show;
 mod shown;
 mod target;
