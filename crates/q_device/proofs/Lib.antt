@@ -8,6 +8,7 @@ pub mod KeptLemmas
 pub mod LawfulLemmas
 pub mod PlayLemmas
 pub mod ReadyNumbers
+pub mod RecorderLemmas
 pub mod ReplayLemmas
 pub mod ReplayedLemmas
 pub mod ShrinkLemmas
