@@ -15,7 +15,7 @@ use Rattle.q_model.specs.Edit.{Edit, lost_by}
 use Rattle.q_model.specs.Node.{Shape, shape}
 use Rattle.q_model.specs.Step.{DeviceState, Step, answered, losses_in, step}
 use Rattle.q_model.specs.Tally.{Counts, totals}
-use Rattle.q_model.specs.TreeState.{noted_by_put, noted_by_take, plan, put, take_packet}
+use Rattle.q_model.specs.TreeState.{TreeState, noted_by_put, noted_by_take, plan, put, take_packet}
 use Rattle.q_model.proofs.ShrinkLemmas.{each-each_memory, shape-with_memory}
 use Rattle.q_tree.specs.Kept.{Kept, kept}
 use Rattle.q_tree.specs.Commanding.{MayTakeMemory, WantsMemory}
@@ -89,19 +89,20 @@ polled a b now at is settings clock tree waiting handed_out recorded capacity ev
       events = events;
     }
 
--- an arrival, once places were made in the tree
-pub arrived : (a b : Inside) (x : DeviceState Kept) (p : Descriptor) (now at : ℕ) → numbers x ≡ numbers a.tree → at ≡ max a.clock now → b.settings ≡ a.settings → b.clock ≡ at → b.tree ≡ record { clock = at; tree = put kept at p x.tree }
-    → b.losses.waiting ≡ a.losses.waiting ++ losses_in (noted_by_put at p x.tree) → b.handed_out ≡ a.handed_out → b.recorded.items ≡ with_recorded a.settings.recorder (event.Arrive p at) a.recorded.items
+abbrev at_clock : ℕ → TreeState Counts → DeviceState Counts
+at_clock clock tree = record { clock = clock; tree = tree }
+
+-- an arrival, by what it made of the numbers of the tree
+pub arrived : (a b : Inside) (p : Descriptor) (now at : ℕ) → at ≡ max a.clock now → b.settings ≡ a.settings → b.clock ≡ at → numbers b.tree ≡ record { clock = at; tree = put totals at p (tree_numbers a.tree.tree) }
+    → b.losses.waiting ≡ a.losses.waiting ++ losses_in (noted_by_put at p a.tree.tree) → b.handed_out ≡ a.handed_out → b.recorded.items ≡ with_recorded a.settings.recorder (event.Arrive p at) a.recorded.items
     → vec_capacity b.recorded ≡ vec_capacity a.recorded → b.events ≡ min (a.events + 1) most_events → Happened a (event.Arrive p now) b
-arrived a b x p now at same is settings clock tree waiting handed_out recorded capacity events =
-    let d = numbers_at a.clock a.tree in
-    let y : DeviceState Kept = record x { clock = a.clock } in
-    let there : numbers y ≡ d = same-at a.clock x a.tree same in
+arrived a b p now at is settings clock tree waiting handed_out recorded capacity events =
+    let x : DeviceState Kept = record a.tree { clock = a.clock } in
     let e = event.Arrive p now in
     record {
       settings = settings;
-      device = ap₂ numbers_at clock tree ∙ ap (λ t. numbers (record { clock = t; tree = put kept t p x.tree })) is ∙ numbers-step d y there e;
-      waiting = waiting ∙ ap (λ t. a.losses.waiting ++ losses_in (noted_by_put t p x.tree)) is ∙ ap (λ (ls : List Loss). a.losses.waiting ++ ls) (losses-step d y there e);
+      device = ap₂ at_clock clock (ap (λ (d : DeviceState Counts). d.tree) tree) ∙ ap (λ t. at_clock t (put totals t p (tree_numbers a.tree.tree))) is;
+      waiting = waiting ∙ ap (λ t. a.losses.waiting ++ losses_in (noted_by_put t p a.tree.tree)) is ∙ ap (λ (ls : List Loss). a.losses.waiting ++ ls) (losses-step (numbers_at a.clock a.tree) x refl e);
       handed_out = handed_out;
       recorded = recorded ∙ ap (λ t. with_recorded a.settings.recorder (event.Arrive p t) a.recorded.items) is;
       capacity = capacity;

@@ -79,10 +79,6 @@ module _ (a : Inside) (k : IsKeptDevice a) where
   pub kept-lawful : IsLawfulTree totals (device_seen a).device.clock (device_seen a).device.tree
   kept-lawful = seen-lawful k.happened (device_seen a) k.replayed k.settings k.events
 
-  -- no more is queued than has arrived
-  pub queued-arrived : length (beneath a.tree.tree.root) ≤ a.tree.tree.top.counts.arrived.packets
-  queued-arrived = omega (arith, kept-lawful.device.packets, ap (λ (ps : List Descriptor). length ps) (waits-numbers a.tree))
-
   pub kept-arrived : (e : Event) → IsEvent e → (step totals (device_seen a).device e).device.tree.top.arrived ≡ arrived_after e (device_seen a).device.tree.top.arrived
   kept-arrived e is = seen-arrived k.happened (device_seen a) k.replayed k.settings k.events e is
 
@@ -159,6 +155,10 @@ module _ (a : Inside) (k : IsKeptDevice a) where
     recorder = k.recorder;
     arrivals = omega (arith, k.arrivals, ap (λ (d : DeviceState Counts). d.tree.top.arrived.packets) same);
   }
+
+-- nothing was lost where more places were made, or by a call that kept the places
+pub only-places : (before made after : LossList) → made ≡ record before { places = made.places } → after.waiting ≡ made.waiting → after ≡ record before { places = after.places }
+only-places before made after is none = λ i. record { waiting = (none ∙ ap (λ (l : LossList). l.waiting) is) i; places = after.places }
 
 -- what there was room for there is room for still, where places were made alone
 pub room-still : (a : Inside) (x : DeviceState Kept) (l : LossList) → numbers x ≡ numbers a.tree

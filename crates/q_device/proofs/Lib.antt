@@ -12,6 +12,7 @@ pub mod MovedAsks
 pub mod MovedTrees
 pub mod PlayLemmas
 pub mod ReadyNumbers
+pub mod RecorderLemmas
 pub mod Renewed
 pub mod RenewedAsks
 pub mod RenewedBands

@@ -2,6 +2,7 @@ pub mod Counters
 pub mod DeviceCode
 pub mod DeviceLaws
 pub mod DeviceSeen
+pub mod Giving
 pub mod Keeping
 pub mod Laws
 pub mod Replayed

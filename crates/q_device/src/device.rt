@@ -1,27 +1,27 @@
-ghost use Rattle.std.specs.Prelude.{ℕ, List, ◌≡◌, ◌<◌, ◌≤◌, ◌+◌, ◌^◌, true, None, IsSome, IfSome, IfNone, Ok, IsOk, IfOk, OnOk, OnErr, IfErr, max, min, length, slice_get, vec_capacity};
+ghost use Rattle.std.specs.Prelude.{ℕ, ◌≡◌, ◌<◌, ◌≤◌, ◌+◌, ◌^◌, true, None, IsSome, IfSome, IfNone, Ok, IsOk, IfOk, OnOk, OnErr, IfErr, max, length, slice_get, unwrap_or};
 ghost use Rattle.q_model.specs.Beneath.{beneath, is_empty, row_of};
 ghost use Rattle.q_model.specs.Node.{shape};
-ghost use Rattle.q_model.specs.Route.{device_route};
 ghost use Rattle.q_model.specs.Settings.{IsInRange};
-ghost use Rattle.q_model.specs.Step.{polled_of, step};
+ghost use Rattle.q_model.specs.Step.{step};
 ghost use Rattle.q_model.specs.Tally.{no_counts, totals, with_packet};
 ghost use Rattle.q_model.specs.TreeState.{given, stats};
 ghost use Rattle.q_model.specs.declared.event.Event.TheVariants as event;
 ghost use Rattle.q_model.specs.declared.reply.Reply.TheVariants as reply;
 ghost use Rattle.q_packet.specs.Descriptor.{Descriptor};
 ghost use Rattle.q_tree.specs.Commanding.{MayTakeMemory};
-ghost use Rattle.q_tree.specs.Places.{places_at};
 ghost use Rattle.q_tree.specs.ReadyAt.{is_sure, ready_at};
-ghost use Rattle.q_tree.specs.RouteSeen.{RouteSeen};
-ghost use Rattle.q_tree.specs.TreeSeen.{numbers, tree_numbers, CanArrive, IsRouteIn};
+ghost use Rattle.q_tree.specs.TreeSeen.{tree_numbers};
 ghost use Rattle.q_device.specs.Counters.{HasNotFallen};
 ghost use Rattle.q_device.specs.DeviceLaws.{HasItsMemory, IsReplayed};
-ghost use Rattle.q_device.specs.DeviceSeen.{IsRefusal, as_counted, most_events, opened, polled_memory, reaped, with_event, with_recorded, HasNoFewerPlaces, HasRoomFor, IsCommanded, IsRefusedAt};
+ghost use Rattle.q_device.specs.DeviceSeen.{IsRefusal, as_counted, opened, polled_memory, reaped, with_event, HasNoFewerPlaces, HasRoomFor, IsCommanded, IsRefusedAt};
+ghost use Rattle.q_device.specs.Giving.{given_of, polled_in};
 
+use crate::given::Given;
+use crate::recording::{record_arrival, record_command, record_poll};
 use q_codel::{Loss as Lost, Losses};
 use q_model::{Command, Event, Fate, Place, Polled, Refusal, Row, Settings, packet_ranges};
-use q_packet::{Moment, Packet};
-use q_tree::{Route, Tree};
+use q_packet::{Ecn, FlowKey, Moment, Packet};
+use q_tree::Tree;
 use std::alloc::{AllocError, Global};
 use std::marker::Model;
 
@@ -61,6 +61,25 @@ impl Model for Device {
     ghost invariant = { IsKeptDevice };
 }
 
+// What a place has before a packet was written there: any would do.
+const SOME_PACKET: Packet = Packet {
+    key: FlowKey {
+        family: 0,
+        proto: 0,
+        src: 0,
+        dst: 0,
+        sport: 0,
+        dport: 0,
+    },
+    number: 0,
+    port: 0,
+    buf: 0,
+    hash: 0,
+    len: 1,
+    prio: 0,
+    ecn: Ecn::NotEct,
+};
+
 impl Device {
     /// A new device with an implicit root, to which nothing has happened. The recorder's room is taken here.
     ///
@@ -94,6 +113,7 @@ impl Device {
     /// The packet and `AllocError` where memory is refused, or one packet more could overflow what the device counts of
     /// arrivals; never where there is room for the packet already. Nothing has changed then but for places, and there was no event:
     /// what there was room for there is room for still.
+    #[inline(always)]
     pub fn arrive(&mut self, packet: Packet, now: Moment) -> Result<Fate, (Packet, AllocError)>
         ensures event { OnOk result (self.new ≡ record (with_event (event.Arrive packet now) self.old) { memory = self.new.memory }) }
         ensures moment { OnOk result (as_counted self.old.device (event.Arrive packet now) ≡ event.Arrive packet self.new.device.clock) }
@@ -108,17 +128,48 @@ impl Device {
         ensures back { IfErr result (λ refused. refused.0 ≡ packet) }
         ensures counters { HasNotFallen self.old.device.tree.top self.new.device.tree.top }
     {
-        packet_ranges(packet);
+        match self.arrive_at(&packet, now) {
+            Ok(fate) => Ok(fate),
+            Err(refused) => Err((packet, refused)),
+        }
+    }
+
+    /// [`Device::arrive`] of a packet that stays where it is, and is copied once, to its queue.
+    ///
+    /// # Errors
+    ///
+    /// `AllocError` where [`Device::arrive`] gives it. Nothing has changed then but for places, and there was no event: what there
+    /// was room for there is room for still.
+    pub fn arrive_at(&mut self, packet: &Packet, now: Moment) -> Result<Fate, AllocError>
+        ensures event { OnOk result (self.new ≡ record (with_event (event.Arrive packet.now now) self.old) { memory = self.new.memory }) }
+        ensures moment { OnOk result (as_counted self.old.device (event.Arrive packet.now now) ≡ event.Arrive packet.now self.new.device.clock) }
+        ensures fate { IfOk result (λ fate. reply.Fate fate ≡ (step totals self.old.device (event.Arrive packet.now now)).reply) }
+        ensures arrived { OnOk result (self.new.device.tree.top.arrived ≡ with_packet self.old.device.tree.top.arrived packet.now) }
+        ensures same { OnErr result (self.new ≡ record self.old { memory = self.new.memory }) }
+        ensures succeeds { HasRoomFor packet.now self.old → IsOk result }
+        ensures places { self.old.memory.losses ≤ self.new.memory.losses }
+        ensures queues { HasNoFewerPlaces self.old.memory self.new.memory }
+        ensures keeps { OnErr result ((other : Descriptor) → HasRoomFor other self.old → HasRoomFor other self.new) }
+        ensures recorder { self.new.memory.events ≡ self.old.memory.events }
+        ensures counters { HasNotFallen self.old.device.tree.top self.new.device.tree.top }
+    {
+        packet_ranges(*packet);
         moment_range(now);
         let at = later(self.clock, now);
-        let route = self.tree.route(&packet);
-        let Ok(()) = make_room(&mut self.tree, &mut self.losses, &route) else {
-            return Err((packet, AllocError));
+        let Ok(()) = make_room(&self.tree, &mut self.losses) else {
+            return Err(AllocError);
         };
-        let fate = self.tree.put(&route, packet, at, &mut self.losses);
+        let Ok(fate) = self.tree.arrive(packet, at, &mut self.losses) else {
+            return Err(AllocError);
+        };
         self.clock = at;
-        let event = Event::Arrive(packet, at);
-        record(&mut self.recorded, &mut self.events, &self.settings, event);
+        record_arrival(
+            &mut self.recorded,
+            &mut self.events,
+            &self.settings,
+            packet,
+            at,
+        );
         Ok(fate)
     }
 
@@ -127,6 +178,7 @@ impl Device {
     ///
     /// A moment before the device's clock counts as the clock. The event is recorded at the moment that the clock shows
     /// after it.
+    #[inline(always)]
     pub fn poll(&mut self, now: Moment) -> Polled
         ensures event { self.new ≡ record (with_event (event.Poll now) self.old) { memory = self.new.memory } }
         ensures memory { self.new.memory ≡ polled_memory self.new.device.clock self.old.memory }
@@ -135,13 +187,31 @@ impl Device {
         ensures arrived { self.new.device.tree.top.arrived ≡ self.old.device.tree.top.arrived }
         ensures counters { HasNotFallen self.old.device.tree.top self.new.device.tree.top }
     {
+        let mut out = SOME_PACKET;
+        match self.poll_into(now, &mut out) {
+            Given::Packet => Polled::Packet(out),
+            Given::Idle => Polled::Idle,
+            Given::Later => Polled::Later,
+        }
+    }
+
+    /// [`Device::poll`] into the caller's place: the packet whose turn it is is written to `out`, which stays as it is where none
+    /// is given. It takes no memory.
+    pub fn poll_into(&mut self, now: Moment, out: &mut Packet) -> Given
+        ensures event { self.new ≡ record (with_event (event.Poll now) self.old) { memory = self.new.memory } }
+        ensures memory { self.new.memory ≡ polled_memory self.new.device.clock self.old.memory }
+        ensures moment { as_counted self.old.device (event.Poll now) ≡ event.Poll self.new.device.clock }
+        ensures reply { reply.Polled (polled_in out.new result) ≡ (step totals self.old.device (event.Poll now)).reply }
+        ensures packet { out.new ≡ unwrap_or (given self.new.device.clock self.old.device.tree) out.old }
+        ensures arrived { self.new.device.tree.top.arrived ≡ self.old.device.tree.top.arrived }
+        ensures counters { HasNotFallen self.old.device.tree.top self.new.device.tree.top }
+    {
         moment_range(now);
         let at = later(self.clock, now);
-        let taken = self.tree.take(at, &mut self.losses);
+        let sent = self.tree.send(at, out, &mut self.losses);
         self.clock = at;
-        let event = Event::Poll(at);
-        record(&mut self.recorded, &mut self.events, &self.settings, event);
-        polled_of(taken, &self.tree)
+        record_poll(&mut self.recorded, &mut self.events, &self.settings, at);
+        given_of(sent, &self.tree)
     }
 
     /// The moment before which no poll gives a packet, as long as nothing arrives and no command comes; `None` where none ever will:
@@ -188,8 +258,13 @@ impl Device {
         let alloc = *self.recorded.allocator();
         self.tree.command(alloc, command, at, &mut self.losses)?;
         self.clock = at;
-        let event = Event::Command(command, at);
-        record(&mut self.recorded, &mut self.events, &self.settings, event);
+        record_command(
+            &mut self.recorded,
+            &mut self.events,
+            &self.settings,
+            &command,
+            at,
+        );
         Ok(())
     }
 
@@ -267,51 +342,44 @@ fn later(clock: Moment, now: Moment) -> Moment
     clock.max(now)
 }
 
-// Makes the place that a packet on this route needs, and a place for a loss more than there are packets queued. It succeeds
-// where both are there already, and takes no place away.
-fn make_room(tree: &mut Tree, losses: &mut Losses, route: &Route) -> Result<(), AllocError>
-    requires route { IsRouteIn route.now tree.old }
-    requires counted { length (beneath tree.old.tree.root) ≤ tree.old.tree.top.counts.arrived.packets }
-    ensures same { numbers tree.new ≡ numbers tree.old }
-    ensures routes { (p : Descriptor) → device_route p tree.new.tree.device.mtu tree.new.tree.root ≡ device_route p tree.old.tree.device.mtu tree.old.tree.root }
-    ensures queues { (path : List ℕ) → places_at path tree.old.tree.root ≤ places_at path tree.new.tree.root }
-    ensures keeps { (other : RouteSeen) → CanArrive other tree.old → CanArrive other tree.new }
-    ensures ready { OnOk result (CanArrive route.now tree.new) }
-    ensures losses { losses.new ≡ record losses.old { places = losses.new.places } }
+// Makes a place for a loss more than there are packets queued. It succeeds where there is one, and takes no place away.
+#[inline(always)]
+fn make_room(tree: &Tree, losses: &mut Losses) -> Result<(), AllocError>
+    ensures same { losses.new ≡ record losses.old { places = losses.new.places } }
     ensures grows { losses.old.places ≤ losses.new.places }
-    ensures room { OnOk result (length losses.old.waiting + length (beneath tree.old.tree.root) + 1 ≤ losses.new.places) }
-    ensures succeeds { CanArrive route.now tree.old → length losses.old.waiting + length (beneath tree.old.tree.root) + 1 ≤ losses.old.places → IsOk result }
+    ensures room { OnOk result (length losses.old.waiting + length (beneath tree.now.tree.root) + 1 ≤ losses.new.places) }
+    ensures succeeds { length losses.old.waiting + length (beneath tree.now.tree.root) + 1 ≤ losses.old.places → IsOk result }
 {
-    tree.prepare(route)?;
     let queued = tree.totals().queued.packets;
+    if queued < losses.room() {
+        return Ok(());
+    }
+    reserve(losses, queued)
+}
+
+// Makes places for so many losses and one more beside those that wait, which an arrival seldom needs.
+#[cold]
+#[inline(never)]
+fn reserve(losses: &mut Losses, queued: u64) -> Result<(), AllocError>
+    ensures same { losses.new ≡ record losses.old { places = losses.new.places } }
+    ensures grows { losses.old.places ≤ losses.new.places }
+    ensures room { OnOk result (length losses.old.waiting + queued + 1 ≤ losses.new.places) }
+{
+    if queued == u64::MAX {
+        return Err(AllocError);
+    }
     losses.reserve(queued as usize + 1)
 }
 
-// Counts an event, and keeps it where there is room. It reads nothing of the event.
-fn record<E: Copy>(recorded: &mut Vec<E>, events: &mut u64, settings: &Settings, event: E)
-    requires { settings.now.recorder ≤ vec_capacity recorded.old }
-    ensures items { recorded.new.items ≡ with_recorded settings.now.recorder event recorded.old.items }
-    ensures capacity { vec_capacity recorded.new ≡ vec_capacity recorded.old }
-    ensures counted { events.new ≡ min (events.old + 1) most_events }
+// What a poll is answered that sent a packet or none, and left this tree.
+fn given_of(sent: bool, tree: &Tree) -> Given
+    ensures { result ≡ given_of sent (is_empty (shape tree.now.tree.root)) }
 {
-    *events = events.saturating_add(1);
-    if recorded.len() < settings.recorder as usize {
-        recorded.push_reserved(event);
+    if sent {
+        return Given::Packet;
     }
-}
-
-// What a poll is answered that took this, if any, and left this tree.
-fn polled_of(taken: Option<Packet>, tree: &Tree) -> Polled
-    ensures { result ≡ polled_of taken (is_empty (shape tree.now.tree.root)) }
-{
-    match taken {
-        Some(packet) => Polled::Packet(packet),
-        None => {
-            if tree.totals().queued.packets == 0 {
-                Polled::Idle
-            } else {
-                Polled::Later
-            }
-        }
+    if tree.totals().queued.packets == 0 {
+        return Given::Idle;
     }
+    Given::Later
 }

@@ -1,7 +1,8 @@
 //! A device: a tree of qdiscs with a clock, a recorder and a list of what it lost, the play of a list of events on one, and
 //! the laws of its replays.
 //!
-//! - [`Device`] takes packets in, is polled for them, and does commands on its tree or refuses them.
+//! - [`Device`] takes packets in, is polled for them, and does commands on its tree or refuses them. [`Device::arrive_at`] and
+//!   [`Device::poll_into`] take and give a packet where it stands; a [`Given`] is what such a poll answers.
 //! - [`play`] gives the [`Replies`] to a list of events, by a device of its own.
 //! - [`Settings`] are a device's mtu, queue length and recorder.
 //! - An [`Event`] is an arrival, a poll or a command, with its moment. A [`Reply`] is what it is answered: a [`Fate`], a
@@ -18,10 +19,13 @@
 #![tactic(auto)]
 
 mod device;
+mod given;
 pub mod laws;
 mod playing;
+mod recording;
 
 pub use crate::device::Device;
+pub use crate::given::Given;
 pub use playing::{Replies, play};
 pub use q_codel::Loss as Lost;
 pub use q_model::{Event, Fate, Polled, Reply, Settings};

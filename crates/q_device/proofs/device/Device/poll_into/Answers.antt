@@ -1,0 +1,87 @@
+use Rattle.std.proofs.Common.{◌≡◌, ◌∙◌, refl, sym, ap, ap₂, subst, Bool, true, false, Option, Some, None, arith}
+use Rattle.std.specs.Prelude.{is_some, unwrap_or}
+use Rattle.q_codel.specs.Losses.{LossList}
+use Rattle.q_packet.specs.Descriptor.{Descriptor}
+use Rattle.q_model.specs.declared.event.Event.TheVariants as event
+use Rattle.q_model.specs.declared.reply.Reply.TheVariants as reply
+use Rattle.q_model.specs.Beneath.{is_empty}
+use Rattle.q_model.specs.Node.{shape}
+use Rattle.q_model.specs.Step.{DeviceState, polled_of, step}
+use Rattle.q_model.specs.Tally.{totals}
+use Rattle.q_model.specs.TreeState.{given, take_packet}
+use Rattle.q_tree.specs.Kept.{Kept, kept}
+use Rattle.q_device.specs.Counters.{HasNotFallen}
+use Rattle.q_device.specs.DeviceSeen.{DeviceSeen, polled_memory, with_event}
+use Rattle.q_device.specs.Giving.{given_of, polled_in}
+use Rattle.q_device.specs.Keeping.{device_seen, numbers_at}
+use Rattle.q_device.proofs.EventLemmas.{event-rises, event-seen, polled, reply-step}
+use Rattle.q_device.proofs.KeptLemmas.{event-kept, kept-arrived}
+use Rattle.q_device.proofs.ReadyNumbers.{given-numbers}
+use Rattle.q_device.proofs.device.Device.poll_into.Goals as goal
+
+-- the place and the answer together say what a poll gives
+told-poll : (g : Option Descriptor) (before : Descriptor) (empty : Bool) → polled_in (unwrap_or g before) (given_of (is_some g) empty) ≡ polled_of g empty
+told-poll (Some p) before empty = refl
+told-poll None before true = refl
+told-poll None before false = refl
+
+pub invariant_of-self : goal.invariant_of-self
+invariant_of-self c =
+    let a = c.self.inside in
+    let b = record a { clock = c.later-at.result; tree = c.send-sent.new.self; losses = c.send-sent.new.sink; recorded = c.record_poll.new.recorded; events = c.record_poll.new.events } in
+    let h = polled a b c.args.now c.later-at.result c.later-at.ensures refl refl c.send-sent.ensures.after c.send-sent.ensures.lost refl c.record_poll.ensures.items c.record_poll.ensures.capacity c.record_poll.ensures.counted in
+    event-kept a c.self.invariant (event.Poll c.args.now) b h c.moment_range.ensures (omega (arith, ap (λ (d : DeviceState Kept). d.clock) c.send-sent.ensures.after)) c.self.invariant.arrivals
+    (omega (arith, c.self.invariant.room, ap (λ (l : LossList). l.places) c.send-sent.ensures.kept))
+
+pub returns-clause-event : goal.returns-clause-event
+returns-clause-event c =
+    let a = c.self.inside in
+    let b = record a { clock = c.later-at.result; tree = c.send-sent.new.self; losses = c.send-sent.new.sink; recorded = c.record_poll.new.recorded; events = c.record_poll.new.events } in
+    let h = polled a b c.args.now c.later-at.result c.later-at.ensures refl refl c.send-sent.ensures.after c.send-sent.ensures.lost refl c.record_poll.ensures.items c.record_poll.ensures.capacity c.record_poll.ensures.counted in
+    event-seen a (event.Poll c.args.now) b h ∙ ap (λ (d : DeviceSeen). record (with_event (event.Poll c.args.now) d) { memory = (device_seen b).memory }) c.self.view_is
+
+pub returns-clause-memory : goal.returns-clause-memory
+returns-clause-memory c =
+    let a = c.self.inside in
+    let at = c.later-at.result in
+    (λ i. record { tree = c.send-sent.ensures.after i; losses = ap (λ (l : LossList). l.places) c.send-sent.ensures.kept i; events = c.record_poll.ensures.capacity i })
+    ∙ ap (λ (d : DeviceSeen). polled_memory at d.memory) c.self.view_is
+
+pub returns-clause-moment : goal.returns-clause-moment
+returns-clause-moment c = ap (λ (d : DeviceSeen). event.Poll d.device.clock) (sym (returns-clause-event c))
+
+pub returns-clause-reply : goal.returns-clause-reply
+returns-clause-reply c =
+    let a = c.self.inside in
+    let tree = a.tree.tree in
+    let e = event.Poll c.args.now in
+    let left = ap (λ (d : DeviceState Kept). is_empty (shape d.tree.root)) c.send-sent.ensures.after in
+    ap (λ g. reply.Polled (polled_in c.send-sent.new.out g)) (c.given_of.ensures ∙ ap₂ given_of c.send-sent.ensures.sent left)
+    ∙ ap (λ (p : Descriptor). reply.Polled (polled_in p (given_of (is_some (given c.later-at.result tree)) (is_empty (shape (take_packet kept c.later-at.result tree).root))))) c.send-sent.ensures.packet
+    ∙ ap reply.Polled (told-poll (given c.later-at.result tree) c.args.out.now (is_empty (shape (take_packet kept c.later-at.result tree).root)))
+    ∙ ap (λ t. reply.Polled (polled_of (given t tree) (is_empty (shape (take_packet kept t tree).root)))) c.later-at.ensures
+    ∙ reply-step (numbers_at a.clock a.tree) (record a.tree { clock = a.clock }) refl e
+    ∙ ap (λ (d : DeviceSeen). (step totals d.device e).reply) c.self.view_is
+
+pub returns-clause-packet : goal.returns-clause-packet
+returns-clause-packet c =
+    let a = c.self.inside in
+    let at = c.later-at.result in
+    c.send-sent.ensures.packet
+    ∙ ap (λ (g : Option Descriptor). unwrap_or g c.args.out.now) (sym (given-numbers at a.tree.tree) ∙ ap (λ (d : DeviceSeen). given at d.device.tree) c.self.view_is)
+
+pub returns-clause-arrived : goal.returns-clause-arrived
+returns-clause-arrived c =
+    let a = c.self.inside in
+    let b = record a { clock = c.later-at.result; tree = c.send-sent.new.self; losses = c.send-sent.new.sink; recorded = c.record_poll.new.recorded; events = c.record_poll.new.events } in
+    let h = polled a b c.args.now c.later-at.result c.later-at.ensures refl refl c.send-sent.ensures.after c.send-sent.ensures.lost refl c.record_poll.ensures.items c.record_poll.ensures.capacity c.record_poll.ensures.counted in
+    ap (λ (d : DeviceSeen). d.device.tree.top.arrived) (event-seen a (event.Poll c.args.now) b h)
+    ∙ kept-arrived a c.self.invariant (event.Poll c.args.now) c.moment_range.ensures
+    ∙ ap (λ (d : DeviceSeen). d.device.tree.top.arrived) c.self.view_is
+
+pub returns-clause-counters : goal.returns-clause-counters
+returns-clause-counters c =
+    let a = c.self.inside in
+    let b = record a { clock = c.later-at.result; tree = c.send-sent.new.self; losses = c.send-sent.new.sink; recorded = c.record_poll.new.recorded; events = c.record_poll.new.events } in
+    let h = polled a b c.args.now c.later-at.result c.later-at.ensures refl refl c.send-sent.ensures.after c.send-sent.ensures.lost refl c.record_poll.ensures.items c.record_poll.ensures.capacity c.record_poll.ensures.counted in
+    subst (λ (d : DeviceSeen). HasNotFallen d.device.tree.top c.send-sent.new.self.tree.top.counts) c.self.view_is (event-rises a (event.Poll c.args.now) b h)
