@@ -30,7 +30,7 @@ use crate::tree::{Tree, fate_of};
 use q_codel::{Fifo, Sink};
 use q_fqcodel::FqCodel;
 use q_model::{Fate, Filter};
-use q_packet::{Cause, Moment, Packet, Stamped};
+use q_packet::{Cause, Moment, Packet};
 use std::alloc::AllocError;
 
 impl Tree {
@@ -197,10 +197,7 @@ fn arrive_in_fifo<S: Sink>(
         return Ok(refuse(*packet, Cause::OverLimit, sink));
     }
     fifo.reserve()?;
-    fifo.put(Stamped {
-        packet: *packet,
-        at: now,
-    });
+    fifo.put_from(packet, now);
     Ok(Outcome {
         loss: None,
         refused: NOTHING,
@@ -231,5 +228,5 @@ fn arrive_in_flows<S: Sink>(
     ensures kept { S.keeps sink.old sink.new }
 {
     queue.reserve()?;
-    Ok(put_in_flow(queue, *packet, now, sink))
+    Ok(put_in_flow(queue, packet, now, sink))
 }

@@ -21,24 +21,24 @@ use q_packet::{Cause, Moment, Packet};
 /// Puts a packet into its flow, and counts what the fattest flow loses.
 pub(crate) fn put_in_flow<S: Sink>(
     queue: &mut FqCodel,
-    packet: Packet,
+    packet: &Packet,
     now: Moment,
     sink: &mut S,
 ) -> Outcome
     requires place { packets_of queue.old.state.flows < queue.old.places }
-    requires flow { CanFlow packet queue.old.state }
+    requires flow { CanFlow packet.now queue.old.state }
     requires sink { packets_of queue.old.state.flows + 1 ≤ S.room sink.old }
-    ensures after { queue.new.state ≡ after_put queue.old.state packet now }
+    ensures after { queue.new.state ≡ after_put queue.old.state packet.now now }
     ensures places { queue.new.places ≡ queue.old.places }
-    ensures loss { result.loss ≡ (if is_lost_itself queue.old.state packet now then Some Cause.FatFlow else None) }
+    ensures loss { result.loss ≡ (if is_lost_itself queue.old.state packet.now now then Some Cause.FatFlow else None) }
     ensures refused { result.refused ≡ no_totals }
-    ensures dropped { result.dropped ≡ beneath.totals_in (beneath.packets_of (lost_by_put queue.old.state packet now)) }
-    ensures lost { S.losses sink.new ≡ S.losses sink.old ++ losses_of Cause.FatFlow (lost_by_put queue.old.state packet now) }
-    ensures room { S.room sink.new + length (lost_by_put queue.old.state packet now) ≡ S.room sink.old }
+    ensures dropped { result.dropped ≡ beneath.totals_in (beneath.packets_of (lost_by_put queue.old.state packet.now now)) }
+    ensures lost { S.losses sink.new ≡ S.losses sink.old ++ losses_of Cause.FatFlow (lost_by_put queue.old.state packet.now now) }
+    ensures room { S.room sink.new + length (lost_by_put queue.old.state packet.now now) ≡ S.room sink.old }
     ensures kept { S.keeps sink.old sink.new }
 {
     let (packets, bytes) = queue.queued();
-    let is_lost = queue.put(packet, now, sink);
+    let is_lost = queue.put_from(packet, now, sink);
     let (packets_after, bytes_after) = queue.queued();
     Outcome {
         loss: is_lost.then_some(Cause::FatFlow),

@@ -94,7 +94,7 @@ impl Discipline {
                     dropped: NOTHING,
                 };
             }
-            Discipline::FqCodel(queue) => return put_in_flow(queue, *packet, now, sink),
+            Discipline::FqCodel(queue) => return put_in_flow(queue, packet, now, sink),
             Discipline::Prio { .. } | Discipline::Tbf { .. } | Discipline::Drr { .. } => {
                 unreachable!()
             }
