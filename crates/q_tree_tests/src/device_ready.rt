@@ -126,6 +126,42 @@ fn a_drr_is_ready_when_its_front_class_is(rt: HostRuntime) -> Result<(), Fail> {
     )
 }
 
+// A front class that has to be granted before it can pay gives way to the next one, which may wait for longer.
+#[test]
+fn a_drr_is_ready_later_where_its_front_class_cannot_pay(rt: HostRuntime) -> Result<(), Fail> {
+    called(
+        rt.alloc(),
+        &[
+            Call::Do(Ask::Graft(Spot::Root, 1, New::Drr), 0, None),
+            Call::Do(Ask::AddClass(1, 1, 1_500), 0, None),
+            Call::Do(Ask::AddClass(1, 2, 1_500), 0, None),
+            Call::Do(Ask::Match(1, 1, 1), 0, None),
+            Call::Do(Ask::Match(1, 2, 2), 0, None),
+            Call::Do(Ask::Graft(Spot::Class(1, 1), 2, SLOW), 0, None),
+            Call::Do(
+                Ask::Graft(Spot::Class(1, 2), 3, New::Shaper(4_000, 1_500)),
+                0,
+                None,
+            ),
+            Call::Arrive(1, 1_000, 2, 0, KEPT),
+            Call::Poll(0, 1),
+            Call::Arrive(2, 1_000, 1, 0, KEPT),
+            Call::Arrive(3, 1_000, 1, 0, KEPT),
+            Call::Arrive(4, 1_000, 2, 0, KEPT),
+            Call::Poll(0, 2),
+            Call::Later(0),
+            Call::Ready(500_000_000),
+            Call::Later(500_000_000),
+            Call::Ready(SECOND),
+            Call::Later(SECOND - 1),
+            Call::Poll(SECOND, 4),
+            Call::Ready(SECOND),
+            Call::Poll(SECOND, 3),
+            Call::NeverReady,
+        ],
+    )
+}
+
 // The later of the two moments counts, whichever bucket has it.
 #[test]
 fn of_two_tbfs_the_later_one_decides(rt: HostRuntime) -> Result<(), Fail> {
