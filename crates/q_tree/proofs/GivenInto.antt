@@ -1,5 +1,5 @@
 -- A packet that a queue gave into the caller's place: what the call answered is what was queued.
-use Rattle.std.proofs.Common.{◌≡◌, ℕ, ◌<◌, List, [], ◌∷◌, Option, Some, None, option_map, option_to_list, length, refl, sym, ap, ap₂, ◌∙◌, arith}
+use Rattle.std.proofs.Common.{◌≡◌, ℕ, zero, suc, ◌<◌, List, [], ◌∷◌, Option, Some, None, option_map, option_to_list, length, refl, sym, ap, ap₂, ◌∙◌, arith}
 use Rattle.std.specs.Prelude.{Bool, false, slice_get}
 use Rattle.std.specs.Option.{option_map_or}
 use Rattle.q_packet.specs.Descriptor.{Descriptor}
@@ -29,3 +29,7 @@ sent-some (Some t) len marked old new some l m p = ap₂ (λ (packet : Descripto
 pub sent-none : (sent : Option Taken) → length (option_to_list (packet_of sent)) ≡ 0 → sent ≡ None
 sent-none None none = refl
 sent-none (Some t) none = absurd (omega (arith, none))
+
+pub none-there : (packets len : ℕ) → len ≡ 0 → (0 < packets → 0 < len) → packets ≡ 0
+none-there zero len none has = refl
+none-there (suc n) len none has = absurd (omega (arith, none, has (omega arith)))

@@ -147,11 +147,11 @@ send::send_first-returns-clause-packet g t c =
 pub node::Discipline::send-returns-in-Fifo-clause-after : goal.node::Discipline::send-returns-in-Fifo-clause-after
 node::Discipline::send-returns-in-Fifo-clause-after g t c =
     λ handle filters.
-    let left = c.take.ensures.rest in
-    fifo-sent c.args.now handle filters c.args.self.now (code.Fifo c.take.new.self) c.in-Fifo.fifo.limit c.in-Fifo.fifo.packets c.sending.result (ap discipline_seen c.in-Fifo.is) (ap children_seen c.in-Fifo.is)
+    let left = c.dequeue_head.ensures.rest in
+    fifo-sent c.args.now handle filters c.args.self.now (code.Fifo c.dequeue_head.new.fifo) c.in-Fifo.fifo.limit c.in-Fifo.fifo.packets c.dequeue_head.result (ap discipline_seen c.in-Fifo.is) (ap children_seen c.in-Fifo.is)
     (ap (λ (f : FifoState). spec.Fifo f.limit f.packets) left) refl (ap (λ (f : FifoState). f.places) left ∙ sym (ap places_seen c.in-Fifo.is))
-    (ap (λ (s : Shown). s.packet) c.sending.ensures ∙ sym (slice_get-map (λ (s : Stamped). s.packet) c.in-Fifo.fifo.packets 0 ∙ ap (option_map (λ (s : Stamped). s.packet)) (sym c.take.ensures.front ∙ c.in-Some.is)))
-    (ap (λ (s : Shown). s.dropped) c.sending.ensures) (ap (λ (s : Shown). s.marked) c.sending.ensures)
+    (c.dequeue_head.ensures.shown ∙ sym (slice_get-map (λ (s : Stamped). s.packet) c.in-Fifo.fifo.packets 0))
+    c.dequeue_head.ensures.dropped c.dequeue_head.ensures.marked
 
 pub node::Discipline::send-send_first-requires : goal.node::Discipline::send-send_first-requires
 node::Discipline::send-send_first-requires g t c κs within =

@@ -14,35 +14,35 @@ use Rattle.q_tree.proofs.RowsOf.{row-of, among}
 use Rattle.q_tree.proofs.SendLemmas.{given-some, given-none}
 use Rattle.q_tree.proofs.node.+give.Goals as goal
 
-pub Discipline::give-returns-in_default-ready_band-clause-after : goal.Discipline::give-returns-in_default-ready_band-clause-after
-Discipline::give-returns-in_default-ready_band-clause-after t c =
-    let none = subst (λ xs. first_ready (map pop xs) ≡ length (map pop xs)) c.deref.ensures.value c.in_default-ready_band.ensures in
+pub Discipline::give-returns-in_default-clause-after : goal.Discipline::give-returns-in_default-clause-after
+Discipline::give-returns-in_default-clause-after t c =
+    let none = subst (λ xs. first_ready (map pop xs) ≡ length (map pop xs)) c.deref.ensures.value c.in_default.ensures in
     prio-popped c.args.self.now (code.Prio c.in-Prio.priomap c.in-Prio.bands) c.in-Prio.bands.items c.in-Prio.bands.items c.in-Prio.priomap (ap discipline_seen c.in-Prio.is) refl
     (ap children_seen c.in-Prio.is) refl (sym (ap places_seen c.in-Prio.is)) (prio-kept c.in-Prio.bands.items none) (λ t h. h)
 
 pub Discipline::give-returns-in-Prio-clause-given : goal.Discipline::give-returns-in-Prio-clause-given
 Discipline::give-returns-in-Prio-clause-given t c =
-    let first = subst (λ xs. c.in-Some-ready_band.place ≡ first_ready (map pop xs)) c.deref.ensures.value c.in-Some-ready_band.ensures.0 in
-    let inside : c.in-Some-ready_band.place < length c.in-Prio.bands.items = omega (arith, c.in-Some-ready_band.ensures.1, length-map c.deref.result.now pop, ap (λ xs. length xs) c.deref.ensures.value) in
-    let there = there-at c.in-Prio.bands.items c.in-Some-ready_band.place c.index_mut.result.now inside c.index_mut.ensures.value in
-    c.give.ensures.given ∙ ap is_some (prio-gave c.in-Prio.bands.items c.in-Some-ready_band.place c.index_mut.result.now there first ∙ sym (ap (λ d. (popping_of d).shown) c.in-Prio.is))
+    let first = subst (λ xs. c.in-Some.place ≡ first_ready (map pop xs)) c.deref.ensures.value c.in-Some.ensures.0 in
+    let inside : c.in-Some.place < length c.in-Prio.bands.items = omega (arith, c.in-Some.ensures.1, length-map c.deref.result.now pop, ap (λ xs. length xs) c.deref.ensures.value) in
+    let there = there-at c.in-Prio.bands.items c.in-Some.place c.index_mut.result.now inside c.index_mut.ensures.value in
+    c.give.ensures.given ∙ ap is_some (prio-gave c.in-Prio.bands.items c.in-Some.place c.index_mut.result.now there first ∙ sym (ap (λ d. (popping_of d).shown) c.in-Prio.is))
 
 pub Discipline::give-returns-in-Prio-clause-packet : goal.Discipline::give-returns-in-Prio-clause-packet
 Discipline::give-returns-in-Prio-clause-packet t c =
-    let first = subst (λ xs. c.in-Some-ready_band.place ≡ first_ready (map pop xs)) c.deref.ensures.value c.in-Some-ready_band.ensures.0 in
-    let inside : c.in-Some-ready_band.place < length c.in-Prio.bands.items = omega (arith, c.in-Some-ready_band.ensures.1, length-map c.deref.result.now pop, ap (λ xs. length xs) c.deref.ensures.value) in
-    let there = there-at c.in-Prio.bands.items c.in-Some-ready_band.place c.index_mut.result.now inside c.index_mut.ensures.value in
-    c.give.ensures.packet ∙ ap (λ o. unwrap_or o c.args.out.now) (prio-gave c.in-Prio.bands.items c.in-Some-ready_band.place c.index_mut.result.now there first ∙ sym (ap (λ d. (popping_of d).shown) c.in-Prio.is))
+    let first = subst (λ xs. c.in-Some.place ≡ first_ready (map pop xs)) c.deref.ensures.value c.in-Some.ensures.0 in
+    let inside : c.in-Some.place < length c.in-Prio.bands.items = omega (arith, c.in-Some.ensures.1, length-map c.deref.result.now pop, ap (λ xs. length xs) c.deref.ensures.value) in
+    let there = there-at c.in-Prio.bands.items c.in-Some.place c.index_mut.result.now inside c.index_mut.ensures.value in
+    c.give.ensures.packet ∙ ap (λ o. unwrap_or o c.args.out.now) (prio-gave c.in-Prio.bands.items c.in-Some.place c.index_mut.result.now there first ∙ sym (ap (λ d. (popping_of d).shown) c.in-Prio.is))
 
 pub Discipline::give-returns-in-Prio-clause-after : goal.Discipline::give-returns-in-Prio-clause-after
 Discipline::give-returns-in-Prio-clause-after t c =
-    let first = subst (λ xs. c.in-Some-ready_band.place ≡ first_ready (map pop xs)) c.deref.ensures.value c.in-Some-ready_band.ensures.0 in
-    let inside : c.in-Some-ready_band.place < length c.in-Prio.bands.items = omega (arith, c.in-Some-ready_band.ensures.1, length-map c.deref.result.now pop, ap (λ xs. length xs) c.deref.ensures.value) in
-    let there = there-at c.in-Prio.bands.items c.in-Some-ready_band.place c.index_mut.result.now inside c.index_mut.ensures.value in
-    prio-popped c.args.self.now (code.Prio c.in-Prio.priomap (with_item c.in-Prio.bands c.in-Some-ready_band.place c.give.new.self)) c.in-Prio.bands.items (set c.in-Prio.bands.items c.in-Some-ready_band.place c.give.new.self) c.in-Prio.priomap
+    let first = subst (λ xs. c.in-Some.place ≡ first_ready (map pop xs)) c.deref.ensures.value c.in-Some.ensures.0 in
+    let inside : c.in-Some.place < length c.in-Prio.bands.items = omega (arith, c.in-Some.ensures.1, length-map c.deref.result.now pop, ap (λ xs. length xs) c.deref.ensures.value) in
+    let there = there-at c.in-Prio.bands.items c.in-Some.place c.index_mut.result.now inside c.index_mut.ensures.value in
+    prio-popped c.args.self.now (code.Prio c.in-Prio.priomap (with_item c.in-Prio.bands c.in-Some.place c.give.new.self)) c.in-Prio.bands.items (set c.in-Prio.bands.items c.in-Some.place c.give.new.self) c.in-Prio.priomap
     (ap discipline_seen c.in-Prio.is) refl (ap children_seen c.in-Prio.is) refl (sym (ap places_seen c.in-Prio.is))
-    (prio-children c.in-Prio.bands.items c.in-Some-ready_band.place c.index_mut.result.now c.give.new.self there first c.give.ensures.after)
-    (set-within c.in-Prio.bands.items c.in-Some-ready_band.place c.index_mut.result.now c.give.new.self there c.give.ensures.arrived)
+    (prio-children c.in-Prio.bands.items c.in-Some.place c.index_mut.result.now c.give.new.self there first c.give.ensures.after)
+    (set-within c.in-Prio.bands.items c.in-Some.place c.index_mut.result.now c.give.new.self there c.give.ensures.arrived)
 
 pub Discipline::give-returns-in-Tbf-clause-after : goal.Discipline::give-returns-in-Tbf-clause-after
 Discipline::give-returns-in-Tbf-clause-after t c =
