@@ -1,5 +1,4 @@
 use Rattle.std.proofs.Common.{◌∙◌, ◌<◌, length, sym, arith}
-use Rattle.std.specs.Prelude.{true}
 use Rattle.std.proofs.lemmas.Bool.{ltb-true}
 use Rattle.q_model.specs.declared.event.Event.TheVariants as event
 use Rattle.q_device.proofs.RecorderLemmas.{kept, not-kept}
