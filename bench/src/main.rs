@@ -3,6 +3,7 @@
 mod devices;
 mod inputs;
 mod kernel;
+mod lean;
 mod line_rows;
 mod plain;
 mod play;
@@ -44,7 +45,7 @@ fn start(args: &[&str]) -> Result<(), Box<dyn Error>> {
         ["ports", program, rounds] => Ok(ports::print(program, rounds.parse()?)?),
         ["scripts", folder] => Ok(play::write_scripts(folder.as_ref())?),
         ["play", qtree, folder, rounds] => Ok(play::print_play(qtree, folder.as_ref(), rounds.parse()?)?),
-        ["plain-play"] => Ok(plain::player::play()?),
+        ["plain-play"] => Ok(lean::player::play()?),
         _ => Err(USAGE.into()),
     }
 }

@@ -1,7 +1,7 @@
 //! The rows over ports: `crates/q_ports_bench`, a program, beside the same in plain Rust. Neither is counted in instructions,
 //! since senders and the drainer wait for one another.
 
-use crate::plain::ports;
+use crate::lean::ports;
 use crate::table;
 use crate::timing::{Figure, Times};
 use std::io;
