@@ -3,7 +3,7 @@
 
 use crate::lean::ports;
 use crate::table;
-use crate::timing::{Figure, Times};
+use crate::timing::{self, Figure, Times};
 use std::io;
 use std::process::Command;
 
@@ -24,13 +24,14 @@ pub fn print(program: &str, rounds: usize) -> io::Result<()> {
         plain.push(ports::timed().ok_or_else(|| io::Error::other("the plain ports failed"))?);
     }
     for (at, name) in ROWS.iter().enumerate() {
-        let figure = |side: &[[f64; 5]]| Figure::of(side.iter().map(|times| times[at]).collect());
-        let ratios = rattle.iter().zip(&plain).map(|(ours, theirs)| ours[at] / theirs[at]);
+        let of = |side: &[[f64; 5]]| -> Vec<f64> { side.iter().map(|times| times[at]).collect() };
+        let (ours, theirs) = (of(&rattle), of(&plain));
         let times = Times {
-            rattle: figure(&rattle),
-            plain: figure(&plain),
+            to_plain: timing::ratio(&ours, &theirs),
+            rattle: Figure::of(ours),
+            plain: Figure::of(theirs),
             kernel: None,
-            ratio: Figure::of(ratios.collect()),
+            to_kernel: None,
         };
         println!("{}{}", table::head(name), table::timed(&times));
     }
