@@ -19,9 +19,15 @@ const ROWS: [&str; 5] = [
 /// Times both sides in turns, and prints the rows.
 pub fn print(program: &str, rounds: usize) -> io::Result<()> {
     let (mut rattle, mut plain) = (Vec::new(), Vec::new());
-    for _ in 0..rounds {
-        rattle.push(run(program)?);
-        plain.push(ports::timed().ok_or_else(|| io::Error::other("the plain ports failed"))?);
+    for round in 0..rounds {
+        // Each goes first in half of the rounds.
+        for turn in [round, round + 1] {
+            if turn % 2 == 0 {
+                rattle.push(run(program)?);
+            } else {
+                plain.push(ports::timed().ok_or_else(|| io::Error::other("the plain ports failed"))?);
+            }
+        }
     }
     for (at, name) in ROWS.iter().enumerate() {
         let of = |side: &[[f64; 5]]| -> Vec<f64> { side.iter().map(|times| times[at]).collect() };
