@@ -3,7 +3,7 @@
 
 use crate::inputs::{self, FIRST_PORT, Lines, PACKETS};
 use crate::kernel;
-use crate::plain::device_work;
+use crate::lean::work;
 use crate::rattle;
 use crate::rows::{INTERVAL, Row, Sides, TAKES};
 use std::rc::Rc;
@@ -128,7 +128,7 @@ fn pairs_of(name: &str, tree: Tree, step: u32, passes: u32, ecn: bool) -> Row {
             let (for_rattle, for_plain) = (Rc::clone(&plan), Rc::clone(&plan));
             Sides {
                 rattle: Box::new(move |passes| rattle::pairs(&tree, &for_rattle, step, passes)),
-                plain: Box::new(move |passes| device_work::pairs(&lines, &for_plain, tree.queued, step, passes)),
+                plain: Box::new(move |passes| work::pairs(&lines, &for_plain, tree.queued, step, passes)),
                 kernel: kernel::pairs(tree, plan, step),
             }
         }),
@@ -153,7 +153,7 @@ fn losses(name: &str, tree: Tree, polls: usize, waits: fn() -> Vec<u32>) -> Row 
                 }),
                 plain: Box::new(move |passes| {
                     let (plan, waits) = &*for_plain;
-                    device_work::losses(&lines, plan, tree.queued, &waits[first(passes)])
+                    work::losses(&lines, plan, tree.queued, &waits[first(passes)])
                 }),
                 kernel: kernel::losses(tree, inputs, TURNS),
             }
@@ -173,7 +173,7 @@ fn harness() -> Row {
             let other = Rc::clone(&plan);
             Sides {
                 rattle: Box::new(move |passes| rattle::harness(&plan, STEP, passes)),
-                plain: Box::new(move |passes| device_work::harness(&same, STEP, passes)),
+                plain: Box::new(move |passes| work::harness(&same, STEP, passes)),
                 kernel: kernel::harness(other),
             }
         }),

@@ -3,6 +3,7 @@
 mod devices;
 mod inputs;
 mod kernel;
+mod lean;
 mod line_rows;
 mod plain;
 mod play;
@@ -12,11 +13,12 @@ mod rows;
 mod table;
 mod timing;
 
+use rows::Row;
 use std::env;
 use std::error::Error;
 use std::process::ExitCode;
 
-const USAGE: &str = "usage: q_bench table ROUNDS [WORD] | times ROUNDS [WORD] | instructions [WORD]
+const USAGE: &str = "usage: q_bench table|times devices|parts ROUNDS [WORD] | instructions devices|parts [WORD]
        | one ROW rattle|plain|kernel PASSES | ports PROGRAM ROUNDS | scripts FOLDER
        | play QTREE FOLDER ROUNDS | plain-play <SCRIPT";
 
@@ -34,24 +36,38 @@ fn main() -> ExitCode {
 
 fn start(args: &[&str]) -> Result<(), Box<dyn Error>> {
     match args {
-        ["table", rounds] => table::print(rounds.parse()?, true, ""),
-        ["table", rounds, word] => table::print(rounds.parse()?, true, word),
-        ["times", rounds] => table::print(rounds.parse()?, false, ""),
-        ["times", rounds, word] => table::print(rounds.parse()?, false, word),
-        ["instructions"] => table::print(0, true, ""),
-        ["instructions", word] => table::print(0, true, word),
+        ["table", of, rounds, rest @ ..] => table::print(rows_of(of)?, rounds.parse()?, true, word(rest)?),
+        ["times", of, rounds, rest @ ..] => table::print(rows_of(of)?, rounds.parse()?, false, word(rest)?),
+        ["instructions", of, rest @ ..] => table::print(rows_of(of)?, 0, true, word(rest)?),
         ["one", name, side, passes] => run_one(name, side, passes.parse()?),
         ["ports", program, rounds] => Ok(ports::print(program, rounds.parse()?)?),
         ["scripts", folder] => Ok(play::write_scripts(folder.as_ref())?),
         ["play", qtree, folder, rounds] => Ok(play::print_play(qtree, folder.as_ref(), rounds.parse()?)?),
-        ["plain-play"] => Ok(plain::player::play()?),
+        ["plain-play"] => Ok(lean::player::play()?),
+        _ => Err(USAGE.into()),
+    }
+}
+
+fn rows_of(name: &str) -> Result<Vec<Row>, Box<dyn Error>> {
+    match name {
+        "devices" => Ok(devices::all()),
+        "parts" => Ok(rows::parts()),
+        _ => Err(USAGE.into()),
+    }
+}
+
+fn word<'a>(rest: &[&'a str]) -> Result<&'a str, Box<dyn Error>> {
+    match rest {
+        [] => Ok(""),
+        [word] => Ok(word),
         _ => Err(USAGE.into()),
     }
 }
 
 /// Runs one side of one row, for valgrind and other tools that watch a process.
 fn run_one(name: &str, side: &str, passes: u32) -> Result<(), Box<dyn Error>> {
-    let rows = rows::all();
+    let mut rows = devices::all();
+    rows.extend(rows::parts());
     let row = rows.iter().find(|row| row.name == name).ok_or(USAGE)?;
     let sides = (row.sides)();
     let work = match side {

@@ -1,9 +1,9 @@
 //! The rows over ports: `crates/q_ports_bench`, a program, beside the same in plain Rust. Neither is counted in instructions,
 //! since senders and the drainer wait for one another.
 
-use crate::plain::ports;
+use crate::lean::ports;
 use crate::table;
-use crate::timing::{Figure, Times};
+use crate::timing::{self, Figure, Times};
 use std::io;
 use std::process::Command;
 
@@ -19,18 +19,25 @@ const ROWS: [&str; 5] = [
 /// Times both sides in turns, and prints the rows.
 pub fn print(program: &str, rounds: usize) -> io::Result<()> {
     let (mut rattle, mut plain) = (Vec::new(), Vec::new());
-    for _ in 0..rounds {
-        rattle.push(run(program)?);
-        plain.push(ports::timed().ok_or_else(|| io::Error::other("the plain ports failed"))?);
+    for round in 0..rounds {
+        // Each goes first in half of the rounds.
+        for turn in [round, round + 1] {
+            if turn % 2 == 0 {
+                rattle.push(run(program)?);
+            } else {
+                plain.push(ports::timed().ok_or_else(|| io::Error::other("the plain ports failed"))?);
+            }
+        }
     }
     for (at, name) in ROWS.iter().enumerate() {
-        let figure = |side: &[[f64; 5]]| Figure::of(side.iter().map(|times| times[at]).collect());
-        let ratios = rattle.iter().zip(&plain).map(|(ours, theirs)| ours[at] / theirs[at]);
+        let of = |side: &[[f64; 5]]| -> Vec<f64> { side.iter().map(|times| times[at]).collect() };
+        let (ours, theirs) = (of(&rattle), of(&plain));
         let times = Times {
-            rattle: figure(&rattle),
-            plain: figure(&plain),
+            to_plain: timing::ratio(&ours, &theirs),
+            rattle: Figure::of(ours),
+            plain: Figure::of(theirs),
             kernel: None,
-            ratio: Figure::of(ratios.collect()),
+            to_kernel: None,
         };
         println!("{}{}", table::head(name), table::timed(&times));
     }

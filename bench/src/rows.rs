@@ -1,7 +1,7 @@
-//! The rows of the table: each is one workload, in Rattle and in plain Rust.
+//! A row of the table, which is one workload, in Rattle and in plain Rust; and the rows over the parts of a device.
 
 use crate::plain::work::{self, FlowLoad};
-use crate::{devices, inputs, line_rows, rattle};
+use crate::{inputs, line_rows, rattle};
 use std::rc::Rc;
 
 /// A workload, run so many times over; answers its checksum.
@@ -47,9 +47,8 @@ pub const INTERVAL: u64 = 100_000_000;
 /// The takes of a round by CoDel.
 pub const TAKES: usize = 40_000;
 
-pub fn all() -> Vec<Row> {
-    let mut rows = devices::all();
-    rows.extend([read_head(), hash()]);
+pub fn parts() -> Vec<Row> {
+    let mut rows = vec![read_head(), hash()];
     rows.extend([1, 1000, 100_000].map(fifo));
     rows.push(codel("Codel::take, no drops", 100, || inputs::even_moments(TAKES)));
     rows.push(codel("Codel::take, one drop each", 1000, || {

@@ -2,9 +2,11 @@
 
 use crate::rows::{Row, Sides, Work};
 use std::env;
+use std::ffi::OsStr;
 use std::hint::black_box;
 use std::io;
 use std::process::Command;
+use std::sync::OnceLock;
 use std::time::Instant;
 
 /// The least and the median of some figures, and half the range in which their middle half lies, as a part of the median.
@@ -32,8 +34,9 @@ pub struct Times {
     pub rattle: Figure,
     pub plain: Figure,
     pub kernel: Option<Figure>,
-    /// Of the times of Rattle and plain Rust in one round, by which a slower stretch of the machine cancels out.
-    pub ratio: Figure,
+    /// Of the times of Rattle and of another side in one round, by which a slower stretch of the machine cancels out.
+    pub to_plain: Figure,
+    pub to_kernel: Option<Figure>,
 }
 
 /// Checks that both sides answer the same, and times all sides in turns.
@@ -59,18 +62,18 @@ pub fn times(row: &Row, rounds: usize) -> Result<Times, String> {
         }
     }
     let times: Vec<Vec<f64>> = spans.iter().map(|spans| spans.times(row)).collect();
-    let ratios = times[0].iter().zip(&times[1]).map(|(ours, theirs)| ours / theirs);
-    let ratio = Figure::of(ratios.collect());
-    let mut figures = times.into_iter().map(Figure::of);
-    let (Some(rattle), Some(plain)) = (figures.next(), figures.next()) else {
-        return Err("no side".to_string());
-    };
     Ok(Times {
-        rattle,
-        plain,
-        kernel: figures.next(),
-        ratio,
+        rattle: Figure::of(times[0].clone()),
+        plain: Figure::of(times[1].clone()),
+        kernel: times.get(2).cloned().map(Figure::of),
+        to_plain: ratio(&times[0], &times[1]),
+        to_kernel: times.get(2).map(|kernel| ratio(&times[0], kernel)),
     })
+}
+
+/// The ratio of our times to those of another side, round by round.
+pub fn ratio(ours: &[f64], theirs: &[f64]) -> Figure {
+    Figure::of(ours.iter().zip(theirs).map(|(ours, theirs)| ours / theirs).collect())
 }
 
 /// How long a side took, in nanoseconds, round by round: with no pass, and as a whole.
@@ -98,8 +101,7 @@ fn span(work: &Work, passes: u32) -> f64 {
 /// The operations that are counted, or somewhat more.
 const COUNTED: u64 = 1 << 14;
 
-/// Instructions for one operation on each side, counted by valgrind. What is done once is left out, as the difference of
-/// two runs.
+/// Instructions for one operation on each side. What is done once is left out, as the difference of two runs.
 pub fn instructions(row: &Row, side: &str) -> io::Result<f64> {
     let few = (COUNTED.div_ceil(row.ops) as u32).min(row.passes / 2);
     let once = collected(&row.name, side, few)?;
@@ -107,12 +109,39 @@ pub fn instructions(row: &Row, side: &str) -> io::Result<f64> {
     Ok((twice - once) as f64 / (row.ops * u64::from(few)) as f64)
 }
 
+/// The instructions of a run of this program, by the processor's own counter where perf may read it, else by valgrind.
 fn collected(name: &str, side: &str, passes: u32) -> io::Result<u64> {
-    let output = Command::new("valgrind")
+    static BY_PERF: OnceLock<bool> = OnceLock::new();
+    let myself = env::current_exe()?;
+    let passes = passes.to_string();
+    let words = [
+        myself.as_os_str(),
+        "one".as_ref(),
+        name.as_ref(),
+        side.as_ref(),
+        passes.as_ref(),
+    ];
+    if *BY_PERF.get_or_init(|| by_perf(&["true".as_ref()]).is_some()) {
+        return by_perf(&words).ok_or_else(|| io::Error::other("perf stat counts no longer"));
+    }
+    by_valgrind(&words)
+}
+
+fn by_perf(words: &[&OsStr]) -> Option<u64> {
+    let mut perf = Command::new("perf");
+    perf.args(["stat", "-x", ",", "-e", "instructions:u", "--"]).args(words);
+    let output = perf.output().ok()?;
+    let report = String::from_utf8_lossy(&output.stderr);
+    let counted = report.lines().find(|line| line.contains("instructions"))?;
+    counted.split(',').next()?.parse().ok()
+}
+
+fn by_valgrind(words: &[&OsStr]) -> io::Result<u64> {
+    let mut valgrind = Command::new("valgrind");
+    valgrind
         .args(["--tool=callgrind", "--callgrind-out-file=/dev/null"])
-        .arg(env::current_exe()?)
-        .args(["one", name, side, &passes.to_string()])
-        .output()?;
+        .args(words);
+    let output = valgrind.output()?;
     let report = String::from_utf8_lossy(&output.stderr);
     report
         .lines()

@@ -40,7 +40,7 @@ pub struct Word {
 }
 
 #[inline(always)]
-fn word_of(sport: u16, dport: u16, proto: u8, family: u8) -> u64 {
+pub fn word_of(sport: u16, dport: u16, proto: u8, family: u8) -> u64 {
     u64::from(sport) | u64::from(dport) << 16 | u64::from(proto) << 32 | u64::from(family) << 40
 }
 
@@ -112,7 +112,7 @@ impl Filters {
 
 impl Rest {
     #[inline(never)]
-    fn has(&self, key: &FlowKey) -> bool {
+    pub fn has(&self, key: &FlowKey) -> bool {
         self.src.is_none_or(|net| net.has(key.family, key.src))
             && self.dst.is_none_or(|net| net.has(key.family, key.dst))
     }

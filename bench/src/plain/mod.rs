@@ -1,11 +1,14 @@
 //! The same work in plain Rust, as one would write it for speed and without proofs.
+//!
+//! The device of this folder (`device.rs`, `setup.rs`, `tree.rs`) is that of `./disagree` alone, which compares reports: the
+//! benchmark has the one of `lean`.
 
 pub mod active;
 pub mod bucket;
 pub mod codel;
-pub mod device;
-pub mod device_work;
+#[allow(dead_code, reason = "the device of `./disagree` asks for all of it")]
 pub mod fifo;
+#[allow(dead_code, reason = "the device of `./disagree` asks for all of it")]
 pub mod filter;
 pub mod flows;
 pub mod gap;
@@ -14,15 +17,11 @@ pub mod line;
 pub mod line_tc;
 pub mod line_work;
 pub mod packet;
-mod place;
-pub mod player;
+pub mod place;
 pub mod pool;
-pub mod ports;
-mod ring;
+pub mod ring;
 pub mod row;
-pub mod setup;
 pub mod toll;
-pub mod tree;
 mod winners;
 pub mod words;
 pub mod work;

@@ -1,11 +1,11 @@
-//! The workloads of `crates/q_bench/src/devices.rt`, over the plain device.
+//! The workloads of `crates/q_bench/src/devices.rt`.
 
 use super::device::{Device, Polled};
-use super::head::{Ecn, FlowKey};
-use super::line::{Line, read_line};
-use super::packet::{Packet, Put};
-use super::row::Row;
 use crate::inputs::{Lines, Plan};
+use crate::plain::head::{Ecn, FlowKey};
+use crate::plain::line::{Line, read_line};
+use crate::plain::packet::{Packet, Put};
+use crate::plain::row::{Row, Totals};
 
 const MTU: u16 = 1514;
 const LEN: u16 = 1000;
@@ -188,6 +188,6 @@ fn with_counts(device: &mut Device, sum: u64) -> u64 {
 }
 
 fn with_row(sum: u64, row: &Row) -> u64 {
-    let with_totals = |sum, totals: &super::row::Totals| with(with(sum, totals.packets), totals.bytes);
+    let with_totals = |sum, totals: &Totals| with(with(sum, totals.packets), totals.bytes);
     row.totals().iter().fold(sum, with_totals)
 }

@@ -2,9 +2,9 @@
 //! beside this module.
 
 use super::device::{Device, Polled};
-use super::head::{Ecn, FlowKey, Head, one_at_a_time};
-use super::line::{Arrival, Line, read_line};
-use super::packet::{Packet, Put};
+use crate::plain::head::{Ecn, FlowKey, Head, one_at_a_time};
+use crate::plain::line::{Arrival, Line, read_line};
+use crate::plain::packet::{Packet, Put};
 use std::io::{self, BufWriter, Read, Write};
 
 /// What `qtree play` gives a device where its options say nothing.

@@ -1,9 +1,9 @@
 //! Ports over a device: senders place packets in rings, and one drainer takes turns. The workload of `crates/q_ports_bench`.
 
 use super::device::{Device, Polled};
-use super::head::{Ecn, FlowKey};
-use super::packet::{Packet, Put};
-use super::ring::{Receiver, Sender, ring};
+use crate::plain::head::{Ecn, FlowKey};
+use crate::plain::packet::{Packet, Put};
+use crate::plain::ring::{Receiver, Sender, ring};
 use std::sync::Mutex;
 use std::sync::atomic::{AtomicUsize, Ordering};
 use std::thread;

@@ -1,0 +1,136 @@
+//! A device: a tree of qdiscs under a clock, with what it counted, lost and recorded.
+
+use super::node::Node;
+use crate::plain::fifo::Limit;
+use crate::plain::packet::{Cause, Lost, Packet, Put};
+use crate::plain::row::Row;
+use crate::plain::toll::Toll;
+
+#[allow(dead_code, reason = "nothing here reads what was recorded")]
+enum Event {
+    Arrive(Packet, u64),
+    Poll(u64),
+}
+
+/// What a poll is answered; a packet stands in the place that was given.
+pub enum Polled {
+    Packet,
+    Idle,
+    Later,
+}
+
+pub struct Device {
+    clock: u64,
+    pub mtu: u16,
+    pub txqueuelen: u32,
+    events: u64,
+    pub top: Row,
+    toll: Toll,
+    pub root: Node,
+    /// The first events, so many at most.
+    recorded: Vec<Event>,
+    recorder: usize,
+}
+
+impl Device {
+    pub fn new(mtu: u16, txqueuelen: u32, recorder: usize) -> Device {
+        Device {
+            clock: 0,
+            mtu,
+            txqueuelen,
+            events: 0,
+            top: Row::default(),
+            toll: Toll::default(),
+            root: Node::fifo(Limit::Packets(txqueuelen.into())),
+            recorded: Vec::with_capacity(recorder),
+            recorder,
+        }
+    }
+
+    /// There is room for the loss of all that is queued.
+    #[inline(never)]
+    pub fn arrive(&mut self, packet: &Packet, now: u64) -> Put {
+        let now = self.clock.max(now);
+        if self.reserve().is_none() {
+            return Put::NoMemory;
+        }
+        let put = if packet.len > self.mtu {
+            self.toll.refuse(packet, Cause::TooLong)
+        } else {
+            self.root.put(packet, now, &mut self.toll)
+        };
+        if matches!(put, Put::NoMemory) {
+            return put;
+        }
+        self.top.arrive(packet.len);
+        self.settle(now);
+        if self.recorded.len() < self.recorder {
+            self.record_arrival(packet, now);
+        }
+        put
+    }
+
+    #[inline(never)]
+    pub fn poll(&mut self, now: u64, out: &mut Packet) -> Polled {
+        let now = self.clock.max(now);
+        let len = self.root.take_into(now, &mut self.toll, out);
+        self.settle(now);
+        if self.recorded.len() < self.recorder {
+            self.record_poll(now);
+        }
+        if len != 0 {
+            self.top.send(len);
+            Polled::Packet
+        } else if self.top.queued() == 0 {
+            Polled::Idle
+        } else {
+            Polled::Later
+        }
+    }
+
+    /// Room for the loss of the packets that are queued and of one more.
+    #[inline(always)]
+    fn reserve(&mut self) -> Option<()> {
+        let most = self.top.queued() as usize + 1;
+        let lost = &self.toll.lost;
+        if lost.capacity() - lost.len() >= most {
+            return Some(());
+        }
+        self.reserve_more(most)
+    }
+
+    #[cold]
+    #[inline(never)]
+    fn reserve_more(&mut self, packets: usize) -> Option<()> {
+        self.toll.lost.try_reserve(packets).ok()
+    }
+
+    /// Books what a call lost and marked.
+    #[inline(always)]
+    fn settle(&mut self, now: u64) {
+        if self.toll.any {
+            self.top.book(&self.toll.sums);
+            self.toll.clean();
+        }
+        self.clock = now;
+        self.events = self.events.saturating_add(1);
+    }
+
+    #[cold]
+    #[inline(never)]
+    fn record_arrival(&mut self, packet: &Packet, now: u64) {
+        self.recorded.push(Event::Arrive(*packet, now));
+    }
+
+    #[cold]
+    #[inline(never)]
+    fn record_poll(&mut self, now: u64) {
+        self.recorded.push(Event::Poll(now));
+    }
+
+    /// The oldest loss that was not handed out yet.
+    #[inline(always)]
+    pub fn reap(&mut self) -> Option<Lost> {
+        self.toll.lost.pop_front()
+    }
+}
