@@ -107,10 +107,7 @@ fn options_of_play(rt: HostRuntime) -> Result<(), Fail> {
         "qtree play --record 1000001",
         "qtree play --record 1k",
     ] {
-        assert!(rt;
-            options(alloc, &words(alloc, line)?).is_err(),
-            "{line}"
-        );
+        assert!(rt; options(alloc, &words(alloc, line)?).is_err(), "{line}");
     }
     Ok(())
 }

@@ -73,10 +73,7 @@ fn options_past_their_bounds(rt: HostRuntime) -> Result<(), Fail> {
         "qtree play --senders 1",
         "qtree play --show",
     ] {
-        assert!(rt;
-            options(alloc, &words(alloc, line)?).is_err(),
-            "{line}"
-        );
+        assert!(rt; options(alloc, &words(alloc, line)?).is_err(), "{line}");
     }
     Ok(())
 }
