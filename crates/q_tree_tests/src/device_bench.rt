@@ -254,6 +254,14 @@ fn settings() -> Result<Settings, Fail> {
     Ok(Settings::new(1500, 100, 3).ok_or("settings")?)
 }
 
+/// Does what a line asks for, before any packet arrives.
+pub fn set_up(device: &mut Device, ask: Ask) -> Result<(), Fail> {
+    match reply(device, Event::Command(ask.command()?, Moment::zero())) {
+        Some(Reply::Done(Ok(()))) => Ok(()),
+        _ => Err(Fail::from("a line was refused")),
+    }
+}
+
 impl Bench {
     pub fn new(alloc: Global) -> Result<Bench, Fail> {
         let settings = settings()?;

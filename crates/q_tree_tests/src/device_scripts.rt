@@ -2,7 +2,7 @@
 //! one goes a nanosecond before the moment that the device tells, and the next one at it. Of 53,480 polls at it 645 give none: what the
 //! moment was told for is not known then of an fq_codel, of a drr's front class, or beneath a tbf over a prio.
 use crate::bench::{New, Spot, packet};
-use crate::device_bench::Ask;
+use crate::device_bench::{Ask, set_up};
 use q_device::{Device, Polled, Settings};
 use q_packet::Moment;
 use std::alloc::Global;
@@ -110,9 +110,7 @@ impl Script {
         let kind = dice.below(7);
         for line in lines(kind, dice) {
             if let Some(ask) = line {
-                if device.command(ask.command()?, Moment::zero()).is_err() {
-                    return Err(Fail::from("a line was refused"));
-                }
+                set_up(&mut device, ask)?;
             }
         }
         let told = NOTHING_TOLD;
