@@ -13,8 +13,8 @@
  *     has 64 KB of stack left at least.
  *   - malloc, realloc and free are the C library's or behave as they have to.
  *
- * No function waits, prints, aborts or calls back. A poll and a reap take no memory, and neither do those that read heads and
- * counters.
+ * No function waits, prints, aborts or calls back. A poll and a reap take no memory, and neither do those that read heads,
+ * counters and moments.
  *
  * A moment is nanoseconds since some moment of the program's choice, QTREE_MOMENT_MAX at most. One before an earlier one counts
  * as that.
@@ -52,11 +52,27 @@ enum {
     QTREE_LOST_CODEL = 4,
     QTREE_LOST_FAT_FLOW = 5,
     QTREE_LOST_PURGED = 6,
+    /* Why a command is refused (Linux says EEXIST, ENOENT and the like); want of memory is QTREE_MEMORY. */
+    QTREE_REFUSED_NO_PARENT = 10,
+    QTREE_REFUSED_EXISTS = 11,
+    QTREE_REFUSED_NO_QDISC = 12,
+    QTREE_REFUSED_HANDLE_TAKEN = 13,
+    QTREE_REFUSED_NOT_CLASSFUL = 14,
+    QTREE_REFUSED_NO_CLASS = 15,
+    QTREE_REFUSED_BUSY = 16,
+    QTREE_REFUSED_CANNOT_CHANGE = 17,
+    QTREE_REFUSED_TOO_DEEP = 18,
+    QTREE_REFUSED_TOO_MANY = 19,
+    QTREE_REFUSED_SMALL_BURST = 20,
+    QTREE_REFUSED_NO_FILTER = 21,
     /* A poll gives no packet: none is queued; or some are, and their time has not come. */
     QTREE_IDLE = 30,
     QTREE_LATER = 31,
-    /* No loss waits, no node stands there, or there is no such event. */
+    /* No loss waits, no node stands there, there is no such event, or no poll will ever give a packet. */
     QTREE_NOTHING = 32,
+    /* The line is faulty, which a qtree_fault tells; it is a line of the language, and changes no tree. */
+    QTREE_FAULTY = 40,
+    QTREE_NO_COMMAND = 41,
     /* An argument is out of its range; the memory that the program lends is too small. */
     QTREE_OUT_OF_RANGE = 42,
     QTREE_ROOM = 43,
@@ -118,12 +134,32 @@ typedef struct qtree_row {
     qtree_count marked;
 } qtree_row;
 
+/* What is wrong with a line: the index of its word, counted from 1, and QTREE_FAULT_.. */
+typedef struct qtree_fault {
+    size_t word;
+    uint32_t number;
+} qtree_fault;
+enum {
+    QTREE_FAULT_UNKNOWN_WORD = 1,
+    QTREE_FAULT_MISSING = 2, /* a word that the line needs; word is one past the last one */
+    QTREE_FAULT_BAD_NUMBER = 3,
+    QTREE_FAULT_OUT_OF_RANGE = 4,
+    QTREE_FAULT_TWICE = 5,
+    QTREE_FAULT_BAD_UTF8 = 6
+};
+
 /* Opens a device in a closed place, with its recorder's memory.
  * QTREE_DONE, QTREE_OUT_OF_RANGE, QTREE_IS_OPEN, QTREE_MEMORY. */
 qtree_code qtree_open(qtree_device *device, const qtree_settings *settings);
 
 /* Closes the device and frees its memory. What is queued is forgotten, and no loss. Nothing happens to a closed one. */
 void qtree_close(qtree_device *device);
+
+/* Does what one line of tc asks for, as "tc qdisc add dev eth0 root handle 1: drr", of so many bytes without the newline. What it
+ * removes is lost, and waits to be reaped. The name of the device in the line means nothing. docs/LANGUAGE.md has the lines. fault
+ * is written for QTREE_FAULTY alone. A line of another kind, a show line too, changes nothing (QTREE_NO_COMMAND).
+ * QTREE_DONE, QTREE_REFUSED_.., QTREE_FAULTY, QTREE_NO_COMMAND, QTREE_OUT_OF_RANGE, QTREE_IS_CLOSED, QTREE_MEMORY. */
+qtree_code qtree_command(qtree_device *device, const uint8_t *line, size_t line_len, uint64_t now, qtree_fault *fault);
 
 /* Fills in family, proto, addresses, ports, prio and ecn from the first bytes of a packet that begins with its IP head, and
  * hash, which has this seed. number, port, buf and len stay. */
@@ -150,6 +186,12 @@ qtree_code qtree_poll(qtree_device *device, uint64_t now, qtree_packet *packet);
  * QTREE_DONE, QTREE_IDLE, QTREE_LATER, QTREE_OUT_OF_RANGE, QTREE_IS_CLOSED. */
 qtree_code qtree_poll_many(qtree_device *device, uint64_t now, qtree_packet *packets, size_t room, size_t *count);
 
+/* The moment before which no poll gives a packet, as long as none arrives and no command comes: a program sleeps till then. It is
+ * no earlier than the latest moment that counted. QTREE_NOTHING where none ever will: nothing is queued, or no token bucket will
+ * ever hold enough.
+ * QTREE_DONE, QTREE_NOTHING, QTREE_IS_CLOSED. */
+qtree_code qtree_ready_at(qtree_device *device, uint64_t *moment);
+
 /* Hands out the oldest loss that was not handed out yet. A program that needs no losses reaps too: those that wait keep memory.
  * QTREE_DONE, QTREE_NOTHING, QTREE_IS_CLOSED. */
 qtree_code qtree_reap(qtree_device *device, qtree_loss *loss);
@@ -166,6 +208,12 @@ qtree_code qtree_stats(qtree_device *device, uint32_t place, uint16_t major, uin
 
 /* What the device itself counted. QTREE_DONE, QTREE_IS_CLOSED. */
 qtree_code qtree_totals(qtree_device *device, qtree_row *row);
+
+/* What `tc qdisc show`, `tc -s qdisc show`, `tc class show` and `tc filter show` print, of which needed is the length in bytes; no
+ * zero byte ends it. Nothing is written where room is less than that (QTREE_ROOM); so a call with room 0 asks for the length.
+ * QTREE_DONE, QTREE_ROOM, QTREE_OUT_OF_RANGE, QTREE_IS_CLOSED, QTREE_MEMORY. */
+enum { QTREE_SHOW_QDISCS = 0, QTREE_SHOW_COUNTERS = 1, QTREE_SHOW_CLASSES = 2, QTREE_SHOW_FILTERS = 3 };
+qtree_code qtree_show(qtree_device *device, uint32_t what, uint8_t *text, size_t room, size_t *needed);
 
 /* The number of arrivals, polls and commands that happened, and of those that the recorder has, which are the first of them.
  * QTREE_DONE, QTREE_IS_CLOSED. */

@@ -1,13 +1,13 @@
 -- Packets that arrive in order, after so many of them.
 use Rattle.std.proofs.Common.{◌≡◌, ℕ, suc, ◌+◌, ◌<◌, ◌≤◌, List, [], ◌∷◌, ◌++◌, refl, sym, ap, ap₂, subst, ◌∙◌, arith}
-use Rattle.std.specs.Prelude.{All, drop, length, set, take}
+use Rattle.std.specs.Prelude.{All, drop, length, set, slice_index_or, take}
 use Rattle.std.proofs.lemmas.List.Elements.{All-append, All-cons, All-nil, All-same}
 use Rattle.q_device.specs.DeviceSeen.{DeviceSeen}
 use Rattle.qtree_c.specs.Calls.{IsArrival}
 use Rattle.qtree_c.specs.Codes.{reply_number}
 use Rattle.qtree_c.specs.Events.{after_event, reply_to, with_memory}
 use Rattle.qtree_c.specs.Folds.{arrival, arrived_by, fates_by, IsArrivals}
-use Rattle.qtree_c.specs.Structs.{IsPacket}
+use Rattle.qtree_c.specs.Structs.{IsPacket, zero_packet}
 use Rattle.qtree_c.specs.declared.c_packet.CPacket.{CPacket}
 use Rattle.qtree_c.proofs.EventLemmas.{after-memory, reply-memory}
 use Rattle.qtree_c.proofs.PlaceLemmas.{filled-more, length-front}
@@ -71,12 +71,14 @@ arriving-ends i now packets before after d d' inv end = record {
   all = λ _. end;
   stopped = λ ne. absurd (ne refl);
   out_of_range = λ ne. absurd (ne refl);
+  next = λ e. absurd (omega (arith, e));
 }
 
 -- the next one did not
 pub arriving-stops : (i now code : ℕ) (packets : List CPacket) (before after : List ℕ) (d d' d'' : DeviceSeen) (c : CPacket)
-    → IsArriving i now packets before after d d' → i < length packets → IsArrival c now code d' d'' → 6 < code → IsArrivals now packets code i before after d d''
-arriving-stops i now code packets before after d d' d'' c inv lt did many = record {
+    → IsArriving i now packets before after d d' → i < length packets → slice_index_or packets i zero_packet ≡ c
+    → IsArrival c now code d' d'' → 6 < code → IsArrivals now packets code i before after d d''
+arriving-stops i now code packets before after d d' d'' c inv lt is did many = record {
   arrived = did.nothing many ∙ ap (λ (y : DeviceSeen). with_memory d''.memory y) inv.arrived;
   fates = inv.fates;
   in_range = inv.in_range;
@@ -84,4 +86,5 @@ arriving-stops i now code packets before after d d' d'' c inv lt did many = reco
   all = λ e. absurd (omega (arith, many, e));
   stopped = λ _. lt;
   out_of_range = λ _ ne. did.memory many ne;
+  next = λ e fits. did.out_of_range (subst (λ (x : CPacket). IsPacket x) is fits) e;
 }

@@ -1,7 +1,9 @@
 pub mod Arriving
+pub mod Commanding
 pub mod EventLemmas
 pub mod HeldSteps
 pub mod PlaceLemmas
 pub mod PollLemmas
 pub mod Polling
+pub mod Readying
 pub mod Reaping

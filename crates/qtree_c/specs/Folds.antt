@@ -1,13 +1,13 @@
 -- What calls in a row do: each is the single call, up to the first that stops them.
 -- The calls are this project's own.
-use Rattle.std.specs.Prelude.{◌≡◌, ◌≢◌, ℕ, zero, suc, ◌+◌, ◌<◌, ◌≤◌, List, [], ◌∷◌, ◌++◌, All, map, take, drop, length, Option, Some, None, option_map}
+use Rattle.std.specs.Prelude.{◌≡◌, ◌≢◌, ℕ, zero, suc, ◌+◌, ◌<◌, ◌≤◌, List, [], ◌∷◌, ◌++◌, All, map, take, drop, length, slice_index_or, Option, Some, None, option_map}
 use Rattle.q_model.specs.declared.event.Event.{Event}
 use Rattle.q_model.specs.declared.event.Event.TheVariants.{Arrive, Poll}
 use Rattle.q_device.specs.DeviceSeen.{DeviceSeen}
 use Rattle.q_device.specs.Laws.{given_in}
 use Rattle.qtree_c.specs.Codes.{reply_number}
 use Rattle.qtree_c.specs.Events.{after_event, reply_to, with_memory}
-use Rattle.qtree_c.specs.Structs.{IsPacket, descriptor, loss_of, packet_of}
+use Rattle.qtree_c.specs.Structs.{IsPacket, descriptor, loss_of, packet_of, zero_packet}
 use Rattle.qtree_c.specs.declared.c_loss.CLoss.{CLoss}
 use Rattle.qtree_c.specs.declared.c_packet.CPacket.{CPacket}
 
@@ -71,6 +71,7 @@ pub record IsArrivals (now : ℕ) (packets : List CPacket) (code done : ℕ) (be
   pub all : code ≡ 0 → done ≡ length packets
   pub stopped : code ≢ 0 → done < length packets
   pub out_of_range : code ≢ 0 → code ≢ 42 → code ≡ 90
+  pub next : code ≡ 42 → IsPacket (slice_index_or packets done zero_packet) → ⊥
 
 -- ---- losses
 

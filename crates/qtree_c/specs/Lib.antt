@@ -3,5 +3,8 @@ pub mod Codes
 pub mod Events
 pub mod Folds
 pub mod Holding
+pub mod Lines
+pub mod Readiness
 pub mod Sample
+pub mod Showing
 pub mod Structs

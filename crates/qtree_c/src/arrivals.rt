@@ -1,5 +1,5 @@
 //! Packets arrive.
-ghost use Rattle.std.specs.Prelude.{◌≡◌, ◌≤◌, ◌<◌, ◌^◌, length};
+ghost use Rattle.std.specs.Prelude.{◌≡◌, ◌≢◌, ◌≤◌, ◌<◌, ◌^◌, length};
 ghost use Rattle.qtree_c.specs.Calls.{Calls, IsArrival};
 ghost use Rattle.qtree_c.specs.Folds.{IsArrivals};
 ghost use Rattle.qtree_c.specs.Codes.{fate_number};
@@ -48,6 +48,9 @@ pub extern "C" fn qtree_arrive_many(
         Calls (IsArrivals now packets.now result done.new codes.old codes.new) result device.old.held.device device.new.held.device }
     ensures moment { 2 ^ 62 < now → (result ≡ 42) × (done.new ≡ 0) × (device.new.held.device ≡ device.old.held.device) }
     ensures room { now ≤ 2 ^ 62 → length codes.old < length packets.now → (result ≡ 43) × (done.new ≡ 0) × (device.new.held.device ≡ device.old.held.device) }
+    ensures moment_kept { 2 ^ 62 < now → codes.new ≡ codes.old }
+    ensures room_kept { result ≡ 43 → codes.new ≡ codes.old }
+    ensures closed_kept { result ≡ 50 → (done.new ≡ 0) × (codes.new ≡ codes.old) }
 {
     *done = 0;
     let Some(now) = Moment::new(now) else {
@@ -67,7 +70,9 @@ pub extern "C" fn qtree_arrive_many(
 
 /// A packet arrives at an open device.
 fn arrive(device: &mut Device, packet: &CPacket, now: Moment) -> u32
-    ensures { IsArrival packet.now now result device.old device.new }
+    ensures arrival { IsArrival packet.now now result device.old device.new }
+    ensures codes { result ≢ 50 }
+    ensures room { result ≢ 43 }
 {
     let Some(packet) = packet.packet() else {
         return OUT_OF_RANGE;
@@ -86,7 +91,9 @@ fn arrive_many(
     now: Moment,
 ) -> (usize, u32)
     requires { length packets.now ≤ length codes.old }
-    ensures { IsArrivals now packets.now result.1 result.0 codes.old codes.new device.old device.new }
+    ensures arrivals { IsArrivals now packets.now result.1 result.0 codes.old codes.new device.old device.new }
+    ensures answer { result.1 ≢ 50 }
+    ensures room { result.1 ≢ 43 }
 {
     for i in 0..packets.len() {
         let code = arrive(device, &packets[i], now);

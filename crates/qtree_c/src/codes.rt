@@ -1,4 +1,4 @@
-//! The numbers that the functions answer beside those of causes (1 to 6).
+//! The numbers that the functions answer beside those of causes (1 to 6) and of refusals (10 to 21).
 
 /// It was done.
 pub const DONE: u32 = 0;
@@ -11,6 +11,12 @@ pub const LATER: u32 = 31;
 
 /// No loss waits, no node stands there, or there is no such event.
 pub const NOTHING: u32 = 32;
+
+/// The line is none of the language.
+pub const FAULTY: u32 = 40;
+
+/// The line changes no tree.
+pub const NO_COMMAND: u32 = 41;
 
 /// An argument is out of its range.
 pub const OUT_OF_RANGE: u32 = 42;

@@ -24,7 +24,9 @@ pub extern "C" fn qtree_version() -> u32
 
 /// The bytes of each struct.
 #[unsafe(no_mangle)]
-pub extern "C" fn qtree_layout_of(layout: &mut CLayout) {
+pub extern "C" fn qtree_layout_of(layout: &mut CLayout)
+    ensures { layout.new ≡ record { device = 16; settings = 12; packet = 64; loss = 72; row = 96; event = 80 } }
+{
     *layout = CLayout {
         device: size_of::<CDevice>(),
         settings: size_of::<CSettings>(),

@@ -1,11 +1,12 @@
 //! The events of a device, in the words of this crate's contracts.
-ghost use Rattle.std.specs.Prelude.{◌≡◌, IfOk, IsOk, OnOk, OnErr};
-ghost use Rattle.q_device.specs.DeviceSeen.{HasRoomFor};
+ghost use Rattle.std.specs.Prelude.{◌≡◌, IfErr, IfOk, IsOk, Ok, OnOk, OnErr};
+ghost use Rattle.q_device.specs.DeviceSeen.{HasRoomFor, IsRefusal};
 ghost use Rattle.q_model.specs.declared.event.Event.TheVariants as event;
 ghost use Rattle.q_model.specs.declared.reply.Reply.TheVariants as reply;
+ghost use Rattle.q_tree.specs.Commanding.{MayTakeMemory};
 ghost use Rattle.qtree_c.specs.Events.{after_event, reply_to, with_memory};
 
-use q_device::{Device, Fate, Polled};
+use q_device::{Command, Device, Fate, Polled, Refusal};
 use q_packet::{Moment, Packet};
 use std::alloc::AllocError;
 
@@ -32,4 +33,21 @@ pub fn poll(device: &mut Device, now: Moment) -> Polled
     ensures reply { reply.Polled result ≡ reply_to (event.Poll now) device.old }
 {
     device.poll(now)
+}
+
+/// A command is done, as at [`Device::command`].
+///
+/// # Errors
+///
+/// The refusal. Nothing has changed then.
+pub fn command(device: &mut Device, command: Command, now: Moment) -> Result<(), Refusal>
+    ensures event { OnOk result (device.new ≡ with_memory device.new.memory (after_event (event.Command command now) device.old)) }
+    ensures reply { OnOk result (reply.Done (Ok (record {})) ≡ reply_to (event.Command command now) device.old) }
+    ensures refused { IfErr result (IsRefusal (MayTakeMemory command) (reply_to (event.Command command now) device.old)) }
+    ensures same { OnErr result (device.new ≡ device.old) }
+{
+    match device.command(command, now) {
+        Ok(()) => Ok(()),
+        Err(refusal) => Err(refusal),
+    }
 }

@@ -1,0 +1,32 @@
+//! A device in a program with one thread, as docs/EMBEDDING.md shows it.
+#![tactic(auto)]
+
+use anyhow::{Context, Result};
+use q_device::{Device, FlowHash, Moment, OneAtATime, Packet, Polled, Settings, read_head};
+use q_line::{Line, read_line};
+
+const LINE: &[u8] = b"tc qdisc add dev wan root handle 1: tbf rate 8mbit burst 2000 latency 50ms";
+
+fn main(rt: HostRuntime) -> Result<()> {
+    let settings = Settings::new(1514, 1000, 0).context("a setting is out of its range")?;
+    let mut device = Device::open(rt.alloc(), settings)?;
+    if let Ok(Line::Tc(command)) = read_line(LINE) {
+        device.command(command, Moment::zero())?;
+    }
+    for buf in 0..3u32 {
+        let head = read_head(&[0x45, 0]);
+        let hash = OneAtATime { seed: 0 }.hash(&head.key);
+        let packet = Packet::new(0, 0, buf, 1000, head.key, hash, head.prio, head.ecn);
+        let packet = packet.context("a field is out of its range")?;
+        device
+            .arrive(packet, Moment::zero())
+            .map_err(|(_, refused)| refused)?;
+    }
+    for _ in 0..10 {
+        let Some(now) = device.ready_at() else { break };
+        if let Polled::Packet(packet) = device.poll(now) {
+            println!(rt; "{} at {}", packet.buf, now.ns())?;
+        }
+    }
+    Ok(())
+}

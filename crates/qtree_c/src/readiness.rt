@@ -1,0 +1,38 @@
+//! When a poll next gives a packet.
+ghost use Rattle.std.specs.Prelude.{◌≡◌, ◌≢◌};
+ghost use Rattle.qtree_c.specs.Calls.{Calls};
+ghost use Rattle.qtree_c.specs.Readiness.{IsReady};
+
+use crate::c_device::CDevice;
+use crate::codes::{DONE, IS_CLOSED, NOTHING};
+use q_device::Device;
+use std::alloc::Global;
+
+/// The moment before which no poll gives a packet, as things stand.
+#[unsafe(no_mangle)]
+pub extern "C" fn qtree_ready_at(alloc: Global, device: &mut CDevice, moment: &mut u64) -> u32
+    ensures ready { Calls (IsReady result moment.old moment.new) result device.old.held.device device.new.held.device }
+    ensures same { device.new.held.device ≡ device.old.held.device }
+    ensures kept { result ≢ 0 → moment.new ≡ moment.old }
+{
+    let Some(opened) = device.take(alloc) else {
+        return IS_CLOSED;
+    };
+    let code = ready_at(&opened, moment);
+    device.put(opened);
+    code
+}
+
+/// The moment before which no poll of an open device gives a packet.
+fn ready_at(device: &Device, moment: &mut u64) -> u32
+    ensures ready { IsReady result moment.old moment.new device.now device.now }
+    ensures kept { result ≢ 0 → moment.new ≡ moment.old }
+{
+    match device.ready_at() {
+        Some(at) => {
+            *moment = at.ns();
+            DONE
+        }
+        None => NOTHING,
+    }
+}

@@ -1,0 +1,30 @@
+#include "qtree.h"
+#include <stdio.h>
+#include <string.h>
+
+int main(void) {
+    static const char line[] = "tc qdisc add dev wan root handle 1: tbf rate 8mbit burst 2000 latency 50ms";
+    qtree_device device = QTREE_CLOSED;
+    qtree_fault fault;
+    if (qtree_open(&device, &(qtree_settings){ .txqueuelen = 1000, .mtu = 1514 }) != QTREE_DONE ||
+        qtree_command(&device, (const uint8_t *)line, strlen(line), 0, &fault) != QTREE_DONE) {
+        return 1;
+    }
+    for (uint32_t buf = 0; buf < 3; buf++) {
+        qtree_packet packet = { .len = 1000, .buf = buf };
+        qtree_arrive(&device, &packet, 0);
+    }
+    uint64_t now;
+    while (qtree_ready_at(&device, &now) == QTREE_DONE) {
+        qtree_packet packet;
+        if (qtree_poll(&device, now, &packet) == QTREE_DONE) {
+            printf("%u at %llu\n", packet.buf, (unsigned long long)now);
+        }
+    }
+    qtree_loss loss;
+    while (qtree_reap(&device, &loss) == QTREE_DONE) {
+        printf("%u lost, cause %u\n", loss.packet.buf, loss.cause);
+    }
+    qtree_close(&device);
+    return 0;
+}

@@ -1,0 +1,240 @@
+/* Calls every function of the header with what libFuzzer gives it, on two devices, and stops where an answer is none that the
+ * header names, memory beside what was lent is written, or the counters do not add up.
+ *
+ *     make fuzz                 100,000 calls or more
+ *     make fuzz RUNS=1000000    10,000,000 calls or more */
+#include "check.h"
+#include "qtree.h"
+
+#include <string.h>
+
+enum { PLACES = 8, GUARD = 0x5a, MOST_CALLS = 64 };
+
+/* What is left of the input. Behind its end stand zeros. */
+struct input {
+    const uint8_t *at;
+    size_t left;
+};
+
+static unsigned long long calls;
+
+static void tell_calls(void) { fprintf(stderr, "fuzz: %llu calls\n", calls); }
+
+static uint64_t take(struct input *input, size_t bytes) {
+    uint64_t value = 0;
+    for (; bytes > 0; bytes--) {
+        value = value << 8 | (input->left > 0 ? *input->at : 0);
+        input->at += input->left > 0 ? 1 : 0;
+        input->left -= input->left > 0 ? 1 : 0;
+    }
+    return value;
+}
+
+/* A moment, mostly a small one. */
+static uint64_t moment(struct input *input) {
+    switch (take(input, 1) % 8) {
+    case 0: return take(input, 8);
+    case 1: return QTREE_MOMENT_MAX + take(input, 1) - 1;
+    default: return take(input, 4);
+    }
+}
+
+static qtree_packet packet(struct input *input) {
+    qtree_packet made = { 0 };
+    uint64_t kind = take(input, 1);
+    if (kind % 8 == 0) {
+        for (size_t i = 0; i < sizeof made; i++) {
+            ((uint8_t *)&made)[i] = (uint8_t)take(input, 1);
+        }
+    } else {
+        made.len = (uint16_t)(1 + kind * 6);
+        made.family = kind % 2 == 0 ? 0 : 4;
+        made.src_low = kind % 2 == 0 ? 0 : 0x0a000000 + kind % 4;
+        made.prio = (uint8_t)take(input, 1) % 17;
+        made.ecn = (uint8_t)kind % 4;
+        made.hash = (uint32_t)take(input, 1);
+    }
+    return made;
+}
+
+static size_t known_line(struct input *input, char *line, size_t room) {
+    static const char *const forms[] = {
+        "tc qdisc add dev a root handle 1: prio bands %u",
+        "tc qdisc add dev a root handle 1: drr",
+        "tc qdisc add dev a root handle 1: tbf rate %ukbit burst 3000 latency 50ms",
+        "tc qdisc add dev a parent 1:%u handle 2: fq_codel limit 20 flows 4",
+        "tc qdisc add dev a parent 1:%u handle 3: pfifo limit 4",
+        "tc qdisc add dev a parent 1:%u handle 4: bfifo limit 4000",
+        "tc qdisc change dev a handle 2: fq_codel limit %u",
+        "tc class add dev a parent 1: classid 1:%u drr quantum 1500",
+        "tc class del dev a classid 1:%u",
+        "tc filter add dev a parent 1: prio %u flower src_ip 10.0.0.0/8 classid 1:1",
+        "tc filter del dev a parent 1: prio %u",
+        "tc qdisc del dev a parent 1:%u",
+        "tc qdisc del dev a root",
+        "tc qdisc show dev a %u",
+        "pkt %u",
+    };
+    unsigned number = (unsigned)take(input, 1) % 20;
+    int len = snprintf(line, room, forms[take(input, 1) % (sizeof forms / sizeof forms[0])], number);
+    return len < 0 ? 0 : (size_t)len;
+}
+
+static void command(qtree_device *device, struct input *input) {
+    char line[256];
+    size_t len = 0;
+    if (take(input, 1) % 4 == 0) {
+        len = (size_t)take(input, 1);
+        for (size_t i = 0; i < len; i++) {
+            line[i] = (char)take(input, 1);
+        }
+    } else {
+        len = known_line(input, line, sizeof line);
+        size_t spoilt = (size_t)take(input, 1);
+        if (spoilt < len) {
+            line[spoilt] = (char)take(input, 1);
+        }
+    }
+    qtree_fault fault = { 7, 7 };
+    qtree_code code = qtree_command(device, (const uint8_t *)line, len, moment(input), &fault);
+    CHECK(code == QTREE_DONE || (code >= QTREE_REFUSED_NO_PARENT && code <= QTREE_REFUSED_NO_FILTER) || code == QTREE_FAULTY ||
+          code == QTREE_NO_COMMAND || code == QTREE_OUT_OF_RANGE || code == QTREE_IS_CLOSED || code == QTREE_MEMORY);
+    CHECK(code == QTREE_FAULTY ? fault.number >= 1 && fault.number <= 6 && fault.word >= 1 : fault.number == 7 && fault.word == 7);
+}
+
+static void show(qtree_device *device, struct input *input) {
+    uint8_t text[600];
+    size_t room = (size_t)take(input, 2) % 512, needed = 7;
+    uint32_t what = (uint32_t)take(input, 1) % 5;
+    memset(text, GUARD, sizeof text);
+    qtree_code code = qtree_show(device, what, text, room, &needed);
+    CHECK(code == QTREE_DONE || code == QTREE_ROOM || code == QTREE_OUT_OF_RANGE || code == QTREE_IS_CLOSED || code == QTREE_MEMORY);
+    CHECK((code == QTREE_OUT_OF_RANGE) == (what > QTREE_SHOW_FILTERS));
+    CHECK(code != QTREE_DONE || needed <= room);
+    CHECK(code != QTREE_ROOM || needed > room);
+    for (size_t i = code == QTREE_DONE ? needed : 0; i < sizeof text; i++) {
+        CHECK(text[i] == GUARD);
+    }
+}
+
+static void arrive_many(qtree_device *device, struct input *input) {
+    qtree_packet packets[PLACES];
+    uint8_t codes[PLACES + 8];
+    size_t count = (size_t)take(input, 1) % (PLACES + 1), room = (size_t)take(input, 1) % (PLACES + 1), done = 99;
+    for (size_t i = 0; i < count; i++) {
+        packets[i] = packet(input);
+    }
+    memset(codes, GUARD, sizeof codes);
+    qtree_code code = qtree_arrive_many(device, packets, count, codes, room, &done, moment(input));
+    CHECK(code == QTREE_DONE || code == QTREE_OUT_OF_RANGE || code == QTREE_ROOM || code == QTREE_IS_CLOSED || code == QTREE_MEMORY);
+    CHECK(done <= count && (code != QTREE_DONE || done == count) && (code != QTREE_ROOM || room < count));
+    for (size_t i = 0; i < sizeof codes; i++) {
+        CHECK(i < done ? codes[i] <= QTREE_LOST_PURGED : codes[i] == GUARD);
+    }
+}
+
+static void poll_many(qtree_device *device, struct input *input) {
+    qtree_packet packets[PLACES + 1];
+    size_t room = (size_t)take(input, 1) % (PLACES + 1), count = 99;
+    memset(packets, GUARD, sizeof packets);
+    qtree_code code = qtree_poll_many(device, moment(input), packets, room, &count);
+    CHECK(code == QTREE_DONE || code == QTREE_IDLE || code == QTREE_LATER || code == QTREE_OUT_OF_RANGE || code == QTREE_IS_CLOSED);
+    CHECK(count <= room && (code != QTREE_DONE || count == room));
+    for (size_t i = count * sizeof packets[0]; i < sizeof packets; i++) {
+        CHECK(((uint8_t *)packets)[i] == GUARD);
+    }
+}
+
+static void reap(qtree_device *device, struct input *input) {
+    qtree_loss losses[PLACES + 1];
+    size_t room = (size_t)take(input, 1) % (PLACES + 1), count = 99;
+    memset(losses, GUARD, sizeof losses);
+    qtree_code code = qtree_reap_many(device, losses, room, &count);
+    CHECK(code == QTREE_DONE || code == QTREE_NOTHING || code == QTREE_IS_CLOSED);
+    CHECK(count <= room && (code != QTREE_DONE || count == room));
+    for (size_t i = 0; i < count; i++) {
+        CHECK(losses[i].cause >= QTREE_LOST_TOO_LONG && losses[i].cause <= QTREE_LOST_PURGED);
+    }
+    code = qtree_reap(device, losses);
+    CHECK(code == QTREE_DONE || code == QTREE_NOTHING || code == QTREE_IS_CLOSED);
+}
+
+/* One packet arrives, the next moment is told, and one packet is polled for. */
+static void single(qtree_device *device, struct input *input) {
+    qtree_packet one = packet(input);
+    uint64_t at = 7;
+    qtree_code code = qtree_arrive(device, &one, moment(input));
+    CHECK(code <= QTREE_LOST_OVER_LIMIT || code == QTREE_OUT_OF_RANGE || code == QTREE_IS_CLOSED || code == QTREE_MEMORY);
+    code = qtree_ready_at(device, &at);
+    CHECK(code == QTREE_DONE || code == QTREE_NOTHING || code == QTREE_IS_CLOSED);
+    CHECK(code == QTREE_DONE ? at <= QTREE_MOMENT_MAX : at == 7);
+    code = qtree_poll(device, moment(input), &one);
+    CHECK(code == QTREE_DONE || code == QTREE_IDLE || code == QTREE_LATER || code == QTREE_OUT_OF_RANGE || code == QTREE_IS_CLOSED);
+}
+
+static void open_or_close(qtree_device *device, struct input *input) {
+    qtree_settings settings = { (uint32_t)take(input, 1), (uint32_t)take(input, 1) % 64, (uint16_t)(take(input, 2) % 3000) };
+    if (take(input, 1) % 16 == 0) {
+        settings.recorder = (uint32_t)take(input, 4) | 1u << 31;
+    }
+    qtree_code code = qtree_open(device, &settings);
+    CHECK(code == QTREE_DONE || code == QTREE_IS_OPEN || code == QTREE_OUT_OF_RANGE || code == QTREE_MEMORY);
+    if (code == QTREE_IS_OPEN && take(input, 1) % 4 == 0) {
+        qtree_close(device);
+        CHECK(qtree_reap(device, &(qtree_loss){ 0 }) == QTREE_IS_CLOSED);
+    }
+}
+
+static void look(qtree_device *device, struct input *input) {
+    qtree_row row;
+    qtree_event event;
+    uint64_t events = 7;
+    size_t recorded = 7;
+    qtree_code code = qtree_stats(device, (uint32_t)take(input, 1) % 4, (uint16_t)take(input, 1), (uint16_t)take(input, 1), &row);
+    CHECK(code == QTREE_DONE || code == QTREE_NOTHING || code == QTREE_OUT_OF_RANGE || code == QTREE_IS_CLOSED);
+    code = qtree_events(device, &events, &recorded);
+    CHECK(code == QTREE_DONE ? recorded <= events : code == QTREE_IS_CLOSED && events == 0 && recorded == 0);
+    code = qtree_recorded(device, (size_t)take(input, 1), &event);
+    CHECK(code == QTREE_DONE ? event.kind <= QTREE_COMMANDED : code == QTREE_NOTHING || code == QTREE_IS_CLOSED);
+    qtree_packet one = packet(input);
+    uint8_t bytes[80];
+    size_t count = (size_t)take(input, 1) % sizeof bytes;
+    for (size_t i = 0; i < count; i++) {
+        bytes[i] = (uint8_t)take(input, 1);
+    }
+    code = qtree_hash((uint32_t)take(input, 1), &one);
+    CHECK(code == QTREE_DONE || code == QTREE_OUT_OF_RANGE);
+    qtree_read_head(bytes, count, 0, &one);
+    CHECK(one.prio <= 15 && one.ecn <= 3 && (one.family == 0 || one.family == 4 || one.family == 6));
+}
+
+/* What arrived was sent, refused or dropped, or is still queued. */
+static void adds_up(qtree_device *device) {
+    qtree_row row;
+    if (qtree_totals(device, &row) == QTREE_DONE) {
+        CHECK(row.arrived.packets == row.sent.packets + row.refused.packets + row.dropped.packets + row.queued.packets);
+        CHECK(row.arrived.bytes == row.sent.bytes + row.refused.bytes + row.dropped.bytes + row.queued.bytes);
+    }
+}
+
+int LLVMFuzzerTestOneInput(const uint8_t *data, size_t size);
+int LLVMFuzzerTestOneInput(const uint8_t *data, size_t size) {
+    static void (*const each[])(qtree_device *, struct input *) = { single, command, arrive_many, poll_many, reap, show, look, open_or_close };
+    static bool is_begun;
+    if (!is_begun) {
+        is_begun = true;
+        atexit(tell_calls);
+    }
+    struct input input = { data, size };
+    qtree_device devices[2] = { QTREE_CLOSED, QTREE_CLOSED };
+    CHECK(qtree_open(&devices[0], &(qtree_settings){ 100, 16, 1514 }) == QTREE_DONE);
+    for (int i = 0; i < MOST_CALLS && input.left > 0; i++, calls++) {
+        uint64_t which = take(&input, 1);
+        qtree_device *device = &devices[which / 64 == 0 ? 1 : 0];
+        each[which % (sizeof each / sizeof each[0])](device, &input);
+        adds_up(device);
+    }
+    qtree_close(&devices[0]);
+    qtree_close(&devices[1]);
+    return 0;
+}

@@ -1,0 +1,113 @@
+/* What each function answers, once on its way and once off it, and that the structs of the header are those of the library. */
+#include "check.h"
+#include "qtree.h"
+
+#include <string.h>
+
+static qtree_code tc(qtree_device *device, const char *line) {
+    qtree_fault fault;
+    return qtree_command(device, (const uint8_t *)line, strlen(line), 0, &fault);
+}
+
+static void layout(void) {
+    qtree_layout layout;
+    qtree_layout_of(&layout);
+    CHECK(layout.device == sizeof(qtree_device) && layout.settings == sizeof(qtree_settings));
+    CHECK(layout.packet == sizeof(qtree_packet) && layout.loss == sizeof(qtree_loss));
+    CHECK(layout.row == sizeof(qtree_row) && layout.event == sizeof(qtree_event));
+    qtree_settings settings;
+    qtree_loss loss;
+    qtree_row row;
+    qtree_event event;
+    qtree_sample(&settings, &loss, &row, &event);
+    CHECK(settings.txqueuelen == 1 && settings.recorder == 2 && settings.mtu == 3);
+    const qtree_packet packet = { 1, 2, 3, 4, 5, 6, 7, 8, 9, 10, 11, 12, 13, 14, 15 };
+    const size_t filled = offsetof(qtree_packet, ecn) + 1; /* no compiler fills what stands behind the last field */
+    CHECK(memcmp(&loss.packet, &packet, filled) == 0 && loss.cause == 16);
+    CHECK(memcmp(&event.packet, &packet, filled) == 0 && event.moment == 16 && event.kind == 17);
+    const qtree_row counts = { { 1, 2 }, { 3, 4 }, { 5, 6 }, { 7, 8 }, { 9, 10 }, { 11, 12 } };
+    CHECK(memcmp(&row, &counts, sizeof row) == 0);
+    CHECK(qtree_version() == (QTREE_VERSION_MAJOR << 16 | QTREE_VERSION_MINOR));
+}
+
+static void opening(void) {
+    qtree_device device = QTREE_CLOSED;
+    qtree_packet packet = { .len = 100 };
+    uint64_t at = 7;
+    size_t needed = 7;
+    CHECK(qtree_arrive(&device, &packet, 0) == QTREE_IS_CLOSED);
+    CHECK(tc(&device, "tc qdisc add dev a root handle 1: drr") == QTREE_IS_CLOSED);
+    CHECK(qtree_show(&device, QTREE_SHOW_QDISCS, NULL, 0, &needed) == QTREE_IS_CLOSED && needed == 0);
+    CHECK(qtree_ready_at(&device, &at) == QTREE_IS_CLOSED && at == 7);
+    CHECK(qtree_open(&device, &(qtree_settings){ 1000, 0, 0 }) == QTREE_OUT_OF_RANGE);
+    CHECK(qtree_open(&device, &(qtree_settings){ 1000, 1000001, 1514 }) == QTREE_OUT_OF_RANGE);
+    CHECK(qtree_open(&device, &(qtree_settings){ 1000, 8, 1514 }) == QTREE_DONE);
+    CHECK(qtree_open(&device, &(qtree_settings){ 1000, 8, 1514 }) == QTREE_IS_OPEN);
+    CHECK(qtree_arrive(&device, &packet, QTREE_MOMENT_MAX + 1) == QTREE_OUT_OF_RANGE);
+    packet.prio = 16;
+    CHECK(qtree_arrive(&device, &packet, 0) == QTREE_OUT_OF_RANGE);
+    qtree_close(&device);
+    qtree_close(&device);
+    CHECK(qtree_poll(&device, 0, &packet) == QTREE_IS_CLOSED);
+}
+
+static void commands(qtree_device *device) {
+    CHECK(tc(device, "tc qdisc add dev a root handle 1: tbf rate 8mbit burst 2000 latency 50ms") == QTREE_DONE);
+    CHECK(tc(device, "tc qdisc add dev a parent 1:1 handle 10: fq_codel limit 2") == QTREE_DONE);
+    CHECK(tc(device, "tc qdisc add dev a root handle 1: drr") == QTREE_REFUSED_EXISTS);
+    CHECK(tc(device, "tc qdisc show") == QTREE_NO_COMMAND && tc(device, "") == QTREE_NO_COMMAND && tc(device, "reap") == QTREE_NO_COMMAND);
+    const char line[] = "tc qdisc ad";
+    qtree_fault fault = { 0, 0 };
+    CHECK(qtree_command(device, (const uint8_t *)line, strlen(line), 0, &fault) == QTREE_FAULTY);
+    CHECK(fault.word == 3 && fault.number == QTREE_FAULT_UNKNOWN_WORD);
+    CHECK(qtree_command(device, (const uint8_t *)line, strlen(line), QTREE_MOMENT_MAX + 1, &fault) == QTREE_OUT_OF_RANGE);
+}
+
+static void shows(qtree_device *device) {
+    static const char wanted[] = "qdisc tbf 1: root rate 8000000bit burst 2000b limit 52000b\n";
+    uint8_t text[400];
+    size_t needed;
+    CHECK(qtree_show(device, QTREE_SHOW_QDISCS, text, 10, &needed) == QTREE_ROOM && needed > strlen(wanted));
+    CHECK(qtree_show(device, QTREE_SHOW_QDISCS, text, sizeof text, &needed) == QTREE_DONE);
+    CHECK(memcmp(text, wanted, strlen(wanted)) == 0);
+    CHECK(qtree_show(device, QTREE_SHOW_FILTERS, text, sizeof text, &needed) == QTREE_DONE && needed == 0);
+    CHECK(qtree_show(device, 4, text, sizeof text, &needed) == QTREE_OUT_OF_RANGE && needed == 0);
+}
+
+static void packets(qtree_device *device) {
+    uint8_t head[28] = { 0x45, 3, 0, 28, 0, 0, 0, 0, 64, 17, 0, 0, 10, 0, 0, 1, 10, 0, 0, 2, 0x10, 0, 0x13, 0x89, 0, 8, 0, 0 };
+    qtree_packet packet = { .len = 1500, .buf = 77 };
+    qtree_read_head(head, sizeof head, 0, &packet);
+    CHECK(packet.family == 4 && packet.proto == 17 && packet.src_low == 0x0a000001 && packet.dport == 5001 && packet.ecn == 3);
+    uint64_t at = 7;
+    CHECK(qtree_ready_at(device, &at) == QTREE_NOTHING && at == 7);
+    const qtree_packet all[] = { packet, packet, packet };
+    uint8_t codes[3] = { 9, 9, 9 };
+    size_t count;
+    CHECK(qtree_arrive_many(device, all, 3, codes, 2, &count, 0) == QTREE_ROOM && count == 0 && codes[0] == 9);
+    CHECK(qtree_arrive_many(device, all, 3, codes, 3, &count, 0) == QTREE_DONE && count == 3);
+    CHECK(codes[0] == 0 && codes[1] == 0 && codes[2] == 0);
+    CHECK(qtree_ready_at(device, &at) == QTREE_DONE && at == 0);
+    CHECK(qtree_poll(device, 0, &packet) == QTREE_DONE && packet.buf == 77);
+    CHECK(qtree_poll(device, 0, &packet) == QTREE_LATER && qtree_ready_at(device, &at) == QTREE_DONE && at == 1000000);
+    CHECK(qtree_poll(device, at - 1, &packet) == QTREE_LATER && qtree_poll(device, at, &packet) == QTREE_DONE);
+    CHECK(qtree_poll(device, at, &packet) == QTREE_IDLE);
+    qtree_loss loss;
+    CHECK(qtree_reap(device, &loss) == QTREE_DONE && loss.cause == QTREE_LOST_FAT_FLOW && qtree_reap(device, &loss) == QTREE_NOTHING);
+    qtree_row row;
+    CHECK(qtree_totals(device, &row) == QTREE_DONE && row.arrived.packets == 3 && row.sent.packets == 2 && row.dropped.packets == 1);
+    CHECK(qtree_stats(device, QTREE_CLASS, 1, 2, &row) == QTREE_NOTHING && qtree_stats(device, 3, 0, 0, &row) == QTREE_OUT_OF_RANGE);
+}
+
+int main(void) {
+    layout();
+    opening();
+    qtree_device device = QTREE_CLOSED;
+    CHECK(qtree_open(&device, &(qtree_settings){ 1000, 0, 1514 }) == QTREE_DONE);
+    commands(&device);
+    shows(&device);
+    packets(&device);
+    qtree_close(&device);
+    puts("test: every answer is right");
+    return 0;
+}

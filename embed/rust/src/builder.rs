@@ -1,0 +1,127 @@
+use crate::packet::Packet;
+use crate::sys;
+use core::net::IpAddr;
+
+/// Builds a [`Packet`] field by field. What is not given is 0.
+///
+/// ```
+/// let packet = qtree::Packet::builder(1500)
+///     .buf(7)
+///     .addresses([10, 0, 0, 1].into(), [10, 0, 0, 2].into())
+///     .proto(17)
+///     .ports(4096, 5001)
+///     .prio(3)
+///     .build();
+/// assert_eq!(packet.len(), 1500);
+/// ```
+#[derive(Clone, Copy)]
+pub struct PacketBuilder {
+    packet: sys::Packet,
+    seed: u32,
+    hash: Option<u32>,
+}
+
+impl PacketBuilder {
+    pub(crate) fn new(len: u16) -> PacketBuilder {
+        let packet = sys::Packet {
+            len,
+            ..sys::Packet::default()
+        };
+        PacketBuilder {
+            packet,
+            seed: 0,
+            hash: None,
+        }
+    }
+
+    /// The program's own number, which comes back with the packet.
+    pub fn buf(mut self, buf: u32) -> Self {
+        self.packet.buf = buf;
+        self
+    }
+
+    /// The packet's number among those of its port.
+    pub fn number(mut self, port: u32, number: u64) -> Self {
+        self.packet.port = port;
+        self.packet.number = number;
+        self
+    }
+
+    /// The addresses of its source and its destination. An IPv4 address beside one of IPv6 is written as IPv6 does (RFC 4291).
+    pub fn addresses(mut self, src: IpAddr, dst: IpAddr) -> Self {
+        if let (IpAddr::V4(src), IpAddr::V4(dst)) = (src, dst) {
+            self.packet.family = 4;
+            (self.packet.src_high, self.packet.src_low) = (0, u64::from(u32::from(src)));
+            (self.packet.dst_high, self.packet.dst_low) = (0, u64::from(u32::from(dst)));
+        } else {
+            self.packet.family = 6;
+            (self.packet.src_high, self.packet.src_low) = halves(src);
+            (self.packet.dst_high, self.packet.dst_low) = halves(dst);
+        }
+        self
+    }
+
+    /// The protocol above IP, 6 for TCP and 17 for UDP.
+    pub fn proto(mut self, proto: u8) -> Self {
+        self.packet.proto = proto;
+        self
+    }
+
+    /// The ports of its source and its destination.
+    pub fn ports(mut self, src: u16, dst: u16) -> Self {
+        (self.packet.sport, self.packet.dport) = (src, dst);
+        self
+    }
+
+    /// Its priority, 0 to 15, as `skb->priority`.
+    pub fn prio(mut self, prio: u8) -> Self {
+        self.packet.prio = prio;
+        self
+    }
+
+    /// Its ECN codepoint, 0 to 3.
+    pub fn ecn(mut self, ecn: u8) -> Self {
+        self.packet.ecn = ecn;
+        self
+    }
+
+    /// The seed of its hash, where no hash is given.
+    pub fn seed(mut self, seed: u32) -> Self {
+        self.seed = seed;
+        self
+    }
+
+    /// Its hash, by which an fq_codel chooses the flow.
+    pub fn hash(mut self, hash: u32) -> Self {
+        self.hash = Some(hash);
+        self
+    }
+
+    /// The packet, with the hash of its addresses, ports and protocol where none was given.
+    pub fn build(mut self) -> Packet {
+        match self.hash {
+            Some(hash) => self.packet.hash = hash,
+            None => {
+                // SAFETY: the packet is borrowed for the call.
+                unsafe { sys::qtree_hash(self.seed, &mut self.packet) };
+            }
+        }
+        Packet(self.packet)
+    }
+}
+
+fn halves(address: IpAddr) -> (u64, u64) {
+    let bits = match address {
+        IpAddr::V4(address) => address.to_ipv6_mapped().to_bits(),
+        IpAddr::V6(address) => address.to_bits(),
+    };
+    ((bits >> 64) as u64, bits as u64)
+}
+
+impl core::fmt::Debug for PacketBuilder {
+    fn fmt(&self, f: &mut core::fmt::Formatter<'_>) -> core::fmt::Result {
+        f.debug_tuple("PacketBuilder")
+            .field(&Packet(self.packet))
+            .finish()
+    }
+}

@@ -1,0 +1,51 @@
+use crate::fault::Fault;
+use crate::refusal::Refusal;
+use core::fmt;
+
+/// Why a call did not do what it was called for. Nothing has changed then.
+#[derive(Clone, Copy, Debug, PartialEq, Eq)]
+#[non_exhaustive]
+pub enum Error {
+    /// Memory is refused.
+    Memory,
+    /// A setting, a field of the packet or the moment is out of its range.
+    OutOfRange,
+    /// The command is refused.
+    Refused(Refusal),
+    /// The line is none of the language.
+    Faulty {
+        /// What is wrong.
+        fault: Fault,
+        /// The index of the word, counted from 1.
+        word: usize,
+    },
+    /// The line changes no tree: it is empty, asks for a show text or brings a packet.
+    NoCommand,
+}
+
+impl Error {
+    /// That of a code which tells of no success.
+    pub(crate) fn of(code: u32) -> Error {
+        match code {
+            90 => Error::Memory,
+            41 => Error::NoCommand,
+            _ => Refusal::of(code).map_or(Error::OutOfRange, Error::Refused),
+        }
+    }
+}
+
+impl fmt::Display for Error {
+    fn fmt(&self, f: &mut fmt::Formatter<'_>) -> fmt::Result {
+        match self {
+            Error::Memory => f.write_str("memory is refused"),
+            Error::OutOfRange => f.write_str("an argument is out of its range"),
+            Error::Refused(refusal) => write!(f, "the command is refused: {refusal}"),
+            Error::Faulty { fault, word } => {
+                write!(f, "the line is faulty at word {word}: {fault}")
+            }
+            Error::NoCommand => f.write_str("the line changes no tree"),
+        }
+    }
+}
+
+impl core::error::Error for Error {}

@@ -1,0 +1,38 @@
+use core::fmt;
+
+/// What is wrong with a word of a line.
+#[derive(Clone, Copy, Debug, PartialEq, Eq)]
+#[non_exhaustive]
+pub enum Fault {
+    /// It fits nowhere in such a line, or not here.
+    UnknownWord = 1,
+    /// The line needs one more.
+    Missing = 2,
+    /// It is not of the form of a number, a handle or the like.
+    BadNumber = 3,
+    /// It is outside its range.
+    OutOfRange = 4,
+    /// The option was given before.
+    Twice = 5,
+    /// It is not UTF-8.
+    BadUtf8 = 6,
+}
+
+impl Fault {
+    pub(crate) fn of(number: u32) -> Fault {
+        match number {
+            1 => Fault::UnknownWord,
+            2 => Fault::Missing,
+            3 => Fault::BadNumber,
+            4 => Fault::OutOfRange,
+            5 => Fault::Twice,
+            _ => Fault::BadUtf8,
+        }
+    }
+}
+
+impl fmt::Display for Fault {
+    fn fmt(&self, f: &mut fmt::Formatter<'_>) -> fmt::Result {
+        fmt::Debug::fmt(self, f)
+    }
+}

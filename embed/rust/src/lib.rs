@@ -1,0 +1,68 @@
+//! A packet scheduler in userspace with the behaviour of Linux traffic control: safe Rust over the library that is proved in
+//! Rattle.
+//!
+//! A [`Device`] is a tree of queueing disciplines, which lines of tc set up. Packets are descriptors; their bytes stay with the
+//! program, which finds them again by [`Packet::buf`]. Moments are nanoseconds since one of the program's choice.
+//!
+//! ```
+//! use qtree::{Device, Fate, Packet, Polled, Settings};
+//!
+//! let mut device = Device::open(Settings::default())?;
+//! device.command("tc qdisc add dev wan root handle 1: fq_codel limit 1000", 0)?;
+//! let packet = Packet::builder(1500).buf(7).build();
+//! assert_eq!(device.arrive(&packet, 0)?, Fate::Kept);
+//! match device.poll(10)? {
+//!     Polled::Packet(packet) => assert_eq!(packet.buf(), 7),
+//!     Polled::Idle | Polled::Later => unreachable!(),
+//! }
+//! # Ok::<(), qtree::Error>(())
+//! ```
+//!
+//! The library is linked statically: `build.rs` finds it where `make -C embed/c` leaves it, or in the folder that `QTREE_LIB`
+//! names.
+#![no_std]
+#![deny(missing_docs, unsafe_op_in_unsafe_fn)]
+
+extern crate alloc;
+
+mod builder;
+mod cause;
+mod device;
+mod error;
+mod fate;
+mod fault;
+mod loss;
+mod losses;
+mod packet;
+mod place;
+mod polled;
+mod refusal;
+mod row;
+mod settings;
+mod show;
+mod sys;
+
+pub use builder::PacketBuilder;
+pub use cause::Cause;
+pub use device::Device;
+pub use error::Error;
+pub use fate::Fate;
+pub use fault::Fault;
+pub use loss::Loss;
+pub use losses::Losses;
+pub use packet::Packet;
+pub use place::Place;
+pub use polled::Polled;
+pub use refusal::Refusal;
+pub use row::{Count, Row};
+pub use settings::Settings;
+pub use show::Show;
+
+/// The latest moment that a call takes: 2^62 nanoseconds.
+pub const MOMENT_MAX: u64 = 1 << 62;
+
+/// The version of the library that is linked: its major and its minor number.
+pub fn version() -> (u16, u16) {
+    let version = sys::qtree_version();
+    ((version >> 16) as u16, version as u16)
+}

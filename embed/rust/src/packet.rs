@@ -1,0 +1,115 @@
+use crate::builder::PacketBuilder;
+use crate::sys;
+use core::fmt;
+use core::net::{IpAddr, Ipv4Addr, Ipv6Addr};
+
+/// A packet's descriptor. Its bytes stay with the program, which finds them again by [`Packet::buf`].
+#[derive(Clone, Copy)]
+pub struct Packet(pub(crate) sys::Packet);
+
+impl Packet {
+    /// A packet of this length in bytes, whose other fields are given by name. One of length 0 is refused on arrival.
+    pub fn builder(len: u16) -> PacketBuilder {
+        PacketBuilder::new(len)
+    }
+
+    /// A packet of this length, whose first bytes, from its IP head on, say the rest. The seed is that of its hash.
+    ///
+    /// ```
+    /// let udp = [0x45, 0, 0, 28, 0, 0, 0, 0, 64, 17, 0, 0, 10, 0, 0, 1, 10, 0, 0, 2, 0x10, 0, 0x13, 0x89, 0, 8, 0, 0];
+    /// let packet = qtree::Packet::read(&udp, 28, 7, 0);
+    /// assert_eq!((packet.proto(), packet.ports(), packet.buf()), (17, (4096, 5001), 7));
+    /// assert_eq!(packet.src(), Some([10, 0, 0, 1].into()));
+    /// ```
+    pub fn read(bytes: &[u8], len: u16, buf: u32, seed: u32) -> Packet {
+        let mut packet = sys::Packet {
+            len,
+            buf,
+            ..sys::Packet::default()
+        };
+        // SAFETY: pointer and length are those of `bytes`, and `packet` is borrowed for the call.
+        unsafe { sys::qtree_read_head(bytes.as_ptr(), bytes.len(), seed, &mut packet) };
+        Packet(packet)
+    }
+
+    /// The program's own number.
+    pub fn buf(&self) -> u32 {
+        self.0.buf
+    }
+
+    /// Its length in bytes.
+    #[allow(clippy::len_without_is_empty)]
+    pub fn len(&self) -> u16 {
+        self.0.len
+    }
+
+    /// The protocol above IP.
+    pub fn proto(&self) -> u8 {
+        self.0.proto
+    }
+
+    /// The ports of its source and its destination.
+    pub fn ports(&self) -> (u16, u16) {
+        (self.0.sport, self.0.dport)
+    }
+
+    /// The address of its source, where it is one of IP.
+    pub fn src(&self) -> Option<IpAddr> {
+        address(self.0.family, self.0.src_high, self.0.src_low)
+    }
+
+    /// The address of its destination, where it is one of IP.
+    pub fn dst(&self) -> Option<IpAddr> {
+        address(self.0.family, self.0.dst_high, self.0.dst_low)
+    }
+
+    /// Its priority, 0 to 15.
+    pub fn prio(&self) -> u8 {
+        self.0.prio
+    }
+
+    /// Its ECN codepoint, 0 to 3. Where a poll gives 3 the program writes it into the packet's head (RFC 3168).
+    pub fn ecn(&self) -> u8 {
+        self.0.ecn
+    }
+}
+
+fn address(family: u8, high: u64, low: u64) -> Option<IpAddr> {
+    match family {
+        4 => Some(IpAddr::V4(Ipv4Addr::from(low as u32))),
+        6 => Some(IpAddr::V6(Ipv6Addr::from(
+            u128::from(high) << 64 | u128::from(low),
+        ))),
+        _ => None,
+    }
+}
+
+impl PartialEq for Packet {
+    fn eq(&self, other: &Packet) -> bool {
+        let fields = |p: &Packet| {
+            let c = p.0;
+            (
+                c.number, c.port, c.buf, c.hash, c.len, c.proto, c.prio, c.ecn,
+            )
+        };
+        fields(self) == fields(other)
+            && (self.src(), self.dst(), self.ports()) == (other.src(), other.dst(), other.ports())
+    }
+}
+
+impl Eq for Packet {}
+
+impl fmt::Debug for Packet {
+    fn fmt(&self, f: &mut fmt::Formatter<'_>) -> fmt::Result {
+        f.debug_struct("Packet")
+            .field("buf", &self.buf())
+            .field("len", &self.len())
+            .field("src", &self.src())
+            .field("dst", &self.dst())
+            .field("proto", &self.proto())
+            .field("ports", &self.ports())
+            .field("prio", &self.prio())
+            .field("ecn", &self.ecn())
+            .finish()
+    }
+}

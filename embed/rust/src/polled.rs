@@ -1,0 +1,12 @@
+use crate::packet::Packet;
+
+/// What a poll gives.
+#[derive(Clone, Copy, Debug, PartialEq, Eq)]
+pub enum Polled {
+    /// The packet whose turn it is.
+    Packet(Packet),
+    /// None, and none is queued.
+    Idle,
+    /// None, though some are queued: their time has not come.
+    Later,
+}

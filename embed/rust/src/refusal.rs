@@ -1,0 +1,57 @@
+use core::fmt;
+
+/// Why a command is refused.
+#[derive(Clone, Copy, Debug, PartialEq, Eq)]
+#[non_exhaustive]
+pub enum Refusal {
+    /// No qdisc has the parent's major number.
+    NoParent = 10,
+    /// A qdisc, or the class, is there already.
+    Exists = 11,
+    /// No qdisc is there that could be changed.
+    NoQdisc = 12,
+    /// Another qdisc has the handle.
+    HandleTaken = 13,
+    /// The parent has no classes, or no filters.
+    NotClassful = 14,
+    /// The parent has no such class.
+    NoClass = 15,
+    /// A filter names the class.
+    Busy = 16,
+    /// The qdisc is of another kind, or this of it does not change.
+    CannotChange = 17,
+    /// A qdisc would stand deeper than 8.
+    TooDeep = 18,
+    /// There would be more than 256 qdiscs, or filters of one qdisc.
+    TooMany = 19,
+    /// The burst would be below both the present one and the mtu.
+    SmallBurst = 20,
+    /// No filter has that priority.
+    NoFilter = 21,
+}
+
+impl Refusal {
+    pub(crate) fn of(code: u32) -> Option<Refusal> {
+        Some(match code {
+            10 => Refusal::NoParent,
+            11 => Refusal::Exists,
+            12 => Refusal::NoQdisc,
+            13 => Refusal::HandleTaken,
+            14 => Refusal::NotClassful,
+            15 => Refusal::NoClass,
+            16 => Refusal::Busy,
+            17 => Refusal::CannotChange,
+            18 => Refusal::TooDeep,
+            19 => Refusal::TooMany,
+            20 => Refusal::SmallBurst,
+            21 => Refusal::NoFilter,
+            _ => return None,
+        })
+    }
+}
+
+impl fmt::Display for Refusal {
+    fn fmt(&self, f: &mut fmt::Formatter<'_>) -> fmt::Result {
+        fmt::Debug::fmt(self, f)
+    }
+}

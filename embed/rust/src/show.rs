@@ -1,0 +1,12 @@
+/// What tc shows of a device.
+#[derive(Clone, Copy, Debug, PartialEq, Eq)]
+pub enum Show {
+    /// `tc qdisc show`.
+    Qdiscs = 0,
+    /// `tc -s qdisc show`: each qdisc with its counters.
+    Counters = 1,
+    /// `tc class show`.
+    Classes = 2,
+    /// `tc filter show`.
+    Filters = 3,
+}

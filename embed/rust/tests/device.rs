@@ -1,0 +1,77 @@
+//! A device from one thread to another, a shaped download, and every refusal that a program can meet.
+use qtree::{Cause, Device, Error, Fate, Packet, Place, Polled, Settings, Show};
+
+fn udp(len: u16, buf: u32) -> Packet {
+    Packet::builder(len)
+        .buf(buf)
+        .addresses([10, 0, 0, 1].into(), [10, 0, 0, 2].into())
+        .proto(17)
+        .ports(4096, 5001)
+        .build()
+}
+
+#[test]
+fn a_bucket_is_waited_for() -> Result<(), Error> {
+    let mut device = Device::open(Settings::default())?;
+    device.command(
+        "tc qdisc add dev wan root handle 1: tbf rate 8mbit burst 2000 latency 50ms",
+        0,
+    )?;
+    assert_eq!(device.ready_at(), None);
+    device.arrive(&udp(1500, 1), 0)?;
+    device.arrive(&udp(1500, 2), 0)?;
+    assert!(matches!(device.poll(0)?, Polled::Packet(packet) if packet.buf() == 1));
+    assert_eq!(device.poll(0)?, Polled::Later);
+    let at = device.ready_at().expect("a packet waits");
+    assert_eq!(at, 1_000_000);
+    assert_eq!(device.poll(at - 1)?, Polled::Later);
+    assert!(matches!(device.poll(at)?, Polled::Packet(packet) if packet.buf() == 2));
+    assert_eq!(device.poll(at)?, Polled::Idle);
+    Ok(())
+}
+
+#[test]
+fn it_goes_to_another_thread() -> Result<(), Error> {
+    let mut device = Device::open(Settings::default())?;
+    device.arrive(&udp(100, 1), 0)?;
+    let mut device = std::thread::spawn(move || {
+        device.arrive(&udp(200, 2), 1).expect("memory");
+        device
+    })
+    .join()
+    .expect("no panic");
+    let row = device.stats(Place::Top).expect("the device is there");
+    assert_eq!((row.arrived.packets, row.queued.bytes), (2, 300));
+    assert_eq!(device.stats(Place::Class(1, 1)), None);
+    assert!(device.show(Show::Counters)?.contains("queued 2p 300b"));
+    Ok(())
+}
+
+#[test]
+fn what_is_refused_changes_nothing() -> Result<(), Error> {
+    let mut device = Device::open(Settings {
+        mtu: 1000,
+        ..Settings::default()
+    })?;
+    assert_eq!(device.arrive(&udp(0, 1), 0), Err(Error::OutOfRange));
+    assert_eq!(
+        device.arrive(&udp(10, 1), qtree::MOMENT_MAX + 1),
+        Err(Error::OutOfRange)
+    );
+    assert_eq!(device.command("tc qdisc show", 0), Err(Error::NoCommand));
+    assert_eq!(
+        device.stats(Place::Top).map(|row| row.arrived.packets),
+        Some(0)
+    );
+    assert_eq!(device.arrive(&udp(1500, 9), 0)?, Fate::Lost(Cause::TooLong));
+    let loss = device.losses().next().expect("one is lost");
+    assert_eq!((loss.packet, loss.cause), (udp(1500, 9), Cause::TooLong));
+    assert!(device.losses().next().is_none());
+    let none = Device::open(Settings {
+        mtu: 0,
+        ..Settings::default()
+    });
+    assert_eq!(none.err(), Some(Error::OutOfRange));
+    assert_eq!(qtree::version().0, 1);
+    Ok(())
+}
