@@ -11,8 +11,8 @@ use Rattle.q_codel.proofs.Law.{drops-is, stops-early, marks_at, Chooses-of, Choo
 -- a late head has a packet behind it
 pub late_has_two : (s : CodelState) (now : ℕ) (head : Stamped) (rest : List Stamped) → is_late s now (head ∷ rest) ≡ true → 0 < length rest
 late_has_two s now head [] late =
-    let standing = (and_parts (is_standing s now (head ∷ []) && nat_lt 0 s.above) (nat_le s.above now) late).0 in
-    let parts = and_parts (is_standing s now (head ∷ [])) (nat_lt 0 s.above) standing in
+    let standing = (and_parts (is_standing s now (head ∷ []) && nat_lt 0 s.first_above_time) (nat_le s.first_above_time now) late).0 in
+    let parts = and_parts (is_standing s now (head ∷ [])) (nat_lt 0 s.first_above_time) standing in
     let behind = and_parts (nat_le s.target (now - head.at)) (nat_lt s.mtu (size [])) parts.0 in
     let more : s.mtu < 0 = ltb-true s.mtu 0 behind.1 in
     absurd (omega arith)
@@ -20,11 +20,11 @@ late_has_two s now head (x ∷ rest) late = omega arith
 
 -- a look at a late head leaves the state as it is
 pub unmoved : (p : CodelParams) (u v : CodelVars) (now : ℕ) (head : Stamped) (rest : List Stamped) → is_late (joined p u) now (head ∷ rest) ≡ true
-    → v ≡ record u { above = above_after (joined p u) now (head ∷ rest) } → v ≡ u
-unmoved p u v now head rest late noted = noted ∙ ap (λ (a : ℕ). record u { above = a }) (above-late (joined p u) now head rest late)
+    → v ≡ record u { first_above_time = above_after (joined p u) now (head ∷ rest) } → v ≡ u
+unmoved p u v now head rest late noted = noted ∙ ap (λ (a : ℕ). record u { first_above_time = a }) (above-late (joined p u) now head rest late)
 
 -- a head that is not late goes, and dropping ends
-module _ (p : CodelParams) (u v : CodelVars) (now : ℕ) (head : Stamped) (rest : List Stamped) (counted : u.count < 2 ^ 32) (early : is_late (joined p u) now (head ∷ rest) ≡ false) (noted : v ≡ record u { above = above_after (joined p u) now (head ∷ rest) }) where
+module _ (p : CodelParams) (u v : CodelVars) (now : ℕ) (head : Stamped) (rest : List Stamped) (counted : u.count < 2 ^ 32) (early : is_late (joined p u) now (head ∷ rest) ≡ false) (noted : v ≡ record u { first_above_time = above_after (joined p u) now (head ∷ rest) }) where
   s : CodelState
   s = joined p u
 
@@ -32,7 +32,7 @@ module _ (p : CodelParams) (u v : CodelVars) (now : ℕ) (head : Stamped) (rest 
   all = head ∷ rest
 
   ended : CodelState
-  ended = joined p (record u { above = above_after s now all; dropping = false })
+  ended = joined p (record u { first_above_time = above_after s now all; dropping = false })
 
   unmarked : marks_at s now all 0 ≡ false
   unfolding s all
@@ -42,7 +42,7 @@ module _ (p : CodelParams) (u v : CodelVars) (now : ℕ) (head : Stamped) (rest 
   unfolding s all ended
   while_dropping dropping =
       let same : count_after s 0 ≡ u.count = omega arith in
-      subst (λ (n : ℕ). Chooses s now all head false rest (record s { count = n; dropping = false; above = above_after s now all })) same
+      subst (λ (n : ℕ). Chooses s now all head false rest (record s { count = n; dropping = false; first_above_time = above_after s now all })) same
       (Chooses-at s now all 0 head rest false false dropping
       (drops-is s now all 0 dropping (omega arith) (λ i below. absurd (omega arith)) (stops-early s now all 0 early))
       refl unmarked early)
@@ -50,7 +50,7 @@ module _ (p : CodelParams) (u v : CodelVars) (now : ℕ) (head : Stamped) (rest 
   at_rest : u.dropping ≡ false → Chooses s now all head false rest ended
   unfolding s all ended
   at_rest resting =
-      subst (λ (d : Bool). Chooses s now all head false rest (record s { above = above_after s now all; dropping = d })) resting
+      subst (λ (d : Bool). Chooses s now all head false rest (record s { first_above_time = above_after s now all; dropping = d })) resting
       (Chooses-of s now all 0 head rest false s
       (cond-false s.dropping _ _ resting ∙ ap (λ (b : Bool). if b && not (is_markable s all) then 1 else 0) early)
       refl
@@ -66,7 +66,7 @@ module _ (p : CodelParams) (u v : CodelVars) (now : ℕ) (head : Stamped) (rest 
 -- a late head that is not markable is dropped, where none was being dropped, and the next one goes
 pub chosen_behind : (p : CodelParams) (u v w x : CodelVars) (now : ℕ) (head : Stamped) (rest : List Stamped) (next : Stamped) (behind : List Stamped)
     → u.dropping ≡ false → is_late (joined p u) now (head ∷ rest) ≡ true → v ≡ u → (p.ecn && is_capable head.packet.ecn) ≡ false
-    → joined p w ≡ begun (joined p v) now → rest ≡ next ∷ behind → x ≡ record w { above = above_after (joined p w) now (next ∷ behind) }
+    → joined p w ≡ begun (joined p v) now → rest ≡ next ∷ behind → x ≡ record w { first_above_time = above_after (joined p w) now (next ∷ behind) }
     → Chooses (joined p u) now (head ∷ rest) next false behind (joined p x)
 chosen_behind p u v w x now head rest next behind resting late same plain begins rest_is noted =
     subst (λ (t : CodelState). Chooses (joined p u) now (head ∷ rest) next false behind t) (sym last)
@@ -82,10 +82,10 @@ chosen_behind p u v w x now head rest next behind resting late same plain begins
       begun_there : joined p w ≡ begun (joined p u) now
       begun_there = begins ∙ ap (λ (y : CodelVars). begun (joined p y) now) same
 
-      last : joined p x ≡ record (begun (joined p u) now) { above = above_after (joined p u) now (next ∷ behind) }
+      last : joined p x ≡ record (begun (joined p u) now) { first_above_time = above_after (joined p u) now (next ∷ behind) }
       last =
           ap (joined p) noted
-          ∙ ap (λ (y : CodelState). record y { above = above_after y now (next ∷ behind) }) begun_there
+          ∙ ap (λ (y : CodelState). record y { first_above_time = above_after y now (next ∷ behind) }) begun_there
 
 -- what is chosen of a queue that is known by another name, and by a state that is
 pub chosen_in : (s : CodelState) (now : ℕ) (whole queue : List Stamped) (head : Stamped) (marked : Bool) (rest : List Stamped) (t : CodelState) → whole ≡ queue → Chooses s now queue head marked rest t → Chooses s now whole head marked rest t

@@ -67,17 +67,17 @@ marks-is s now all j head rest dropping count place =
     ∙ ap (λ (q : List Stamped). marks_at s now q j) place
 
 -- where k heads go, the next one is sent, and the control law leaves t: what is chosen
-pub Chooses-of : (s : CodelState) (now : ℕ) (all : List Stamped) (k : ℕ) (head : Stamped) (rest : List Stamped) (marked : Bool) (t : CodelState) → drops s now all ≡ k → drop k all ≡ head ∷ rest → marks s now all ≡ marked → control_after s now all ≡ t → Chooses s now all head marked rest (record t { above = above_after s now (head ∷ rest) })
+pub Chooses-of : (s : CodelState) (now : ℕ) (all : List Stamped) (k : ℕ) (head : Stamped) (rest : List Stamped) (marked : Bool) (t : CodelState) → drops s now all ≡ k → drop k all ≡ head ∷ rest → marks s now all ≡ marked → control_after s now all ≡ t → Chooses s now all head marked rest (record t { first_above_time = above_after s now (head ∷ rest) })
 Chooses-of s now all k head rest marked t count place mark control = record {
   head_is = slice_get-drop all k head rest place ∙ ap (λ (i : ℕ). slice_get all i) (sym count);
   marked_is = sym mark;
   rest_is = drop-behind all k head rest place ∙ ap (λ (i : ℕ). drop (suc i) all) (sym count);
-  state_is = sym (ap (λ (u : CodelState). record u { above = above_after s now (drop (drops s now all) all) }) control
-      ∙ ap (λ (q : List Stamped). record t { above = above_after s now q }) (ap (λ (i : ℕ). drop i all) count ∙ place));
+  state_is = sym (ap (λ (u : CodelState). record u { first_above_time = above_after s now (drop (drops s now all) all) }) control
+      ∙ ap (λ (q : List Stamped). record t { first_above_time = above_after s now q }) (ap (λ (i : ℕ). drop i all) count ∙ place));
 }
 
 -- while dropping, head j is sent, marked or not, late or not
-pub Chooses-at : (s : CodelState) (now : ℕ) (all : List Stamped) (j : ℕ) (head : Stamped) (rest : List Stamped) (marked late : Bool) → s.dropping ≡ true → drops s now all ≡ j → drop j all ≡ head ∷ rest → marks_at s now (head ∷ rest) j ≡ marked → is_late s now (head ∷ rest) ≡ late → Chooses s now all head marked rest (record (gone_on s j marked late) { above = above_after s now (head ∷ rest) })
+pub Chooses-at : (s : CodelState) (now : ℕ) (all : List Stamped) (j : ℕ) (head : Stamped) (rest : List Stamped) (marked late : Bool) → s.dropping ≡ true → drops s now all ≡ j → drop j all ≡ head ∷ rest → marks_at s now (head ∷ rest) j ≡ marked → is_late s now (head ∷ rest) ≡ late → Chooses s now all head marked rest (record (gone_on s j marked late) { first_above_time = above_after s now (head ∷ rest) })
 Chooses-at s now all j head rest marked late dropping count place mark is_so =
     Chooses-of s now all j head rest marked (gone_on s j marked late) count place same_mark
     (cond-true s.dropping _ _ dropping
@@ -89,12 +89,12 @@ Chooses-at s now all j head rest marked late dropping count place mark is_so =
       same_mark = marks-is s now all j head rest dropping count place ∙ mark
 
 -- a late head leaves the time above the target as it is
-pub above-late : (s : CodelState) (now : ℕ) (head : Stamped) (rest : List Stamped) → is_late s now (head ∷ rest) ≡ true → above_after s now (head ∷ rest) ≡ s.above
+pub above-late : (s : CodelState) (now : ℕ) (head : Stamped) (rest : List Stamped) → is_late s now (head ∷ rest) ≡ true → above_after s now (head ∷ rest) ≡ s.first_above_time
 above-late s now head rest late =
-    let standing : (is_standing s now (head ∷ rest) && nat_lt 0 s.above) ≡ true = (and_parts (is_standing s now (head ∷ rest) && nat_lt 0 s.above) (nat_le s.above now) late).0 in
-    let parts = and_parts (is_standing s now (head ∷ rest)) (nat_lt 0 s.above) standing in
-    let since : 0 < s.above = ltb-true 0 s.above parts.1 in
-    cond-true (is_standing s now (head ∷ rest)) _ 0 parts.0 ∙ cond-false (s.above == 0) (now + s.interval) s.above (ne_eqb s.above 0 (λ none. absurd (omega arith)))
+    let standing : (is_standing s now (head ∷ rest) && nat_lt 0 s.first_above_time) ≡ true = (and_parts (is_standing s now (head ∷ rest) && nat_lt 0 s.first_above_time) (nat_le s.first_above_time now) late).0 in
+    let parts = and_parts (is_standing s now (head ∷ rest)) (nat_lt 0 s.first_above_time) standing in
+    let since : 0 < s.first_above_time = ltb-true 0 s.first_above_time parts.1 in
+    cond-true (is_standing s now (head ∷ rest)) _ 0 parts.0 ∙ cond-false (s.first_above_time == 0) (now + s.interval) s.first_above_time (ne_eqb s.first_above_time 0 (λ none. absurd (omega arith)))
 
 -- stops, by its reasons
 pub stops-waiting : (s : CodelState) (now : ℕ) (all : List Stamped) (j : ℕ) → now < moment s j → stops s now all j ≡ true
@@ -120,7 +120,7 @@ pub record Ends (s : CodelState) (now : ℕ) (all : List Stamped) (j : ℕ) (hea
 pub OnTheWay-waits : (s : CodelState) (now : ℕ) (all : List Stamped) (j : ℕ) (t : CodelState) (head : Stamped) (rest : List Stamped) → s.dropping ≡ true → OnTheWay s now all j t head rest → now < t.drop_next → Ends s now all j head false rest t
 OnTheWay-waits s now all j t head rest dropping way waits = record {
   chosen = subst (λ (u : CodelState). Chooses s now all head false rest u) (sym way.state)
-      (subst (λ (a : ℕ). Chooses s now all head false rest (record s { count = count_after s j; drop_next = moment s j; above = a })) (above-late s now head rest way.late)
+      (subst (λ (a : ℕ). Chooses s now all head false rest (record s { count = count_after s j; drop_next = moment s j; first_above_time = a })) (above-late s now head rest way.late)
       (Chooses-at s now all j head rest false true dropping count way.place not_due way.late));
   count = count;
 } where
@@ -138,7 +138,7 @@ OnTheWay-waits s now all j t head rest dropping way waits = record {
 -- head j is due and markable
 pub OnTheWay-marks : (s : CodelState) (now : ℕ) (all : List Stamped) (j : ℕ) (t : CodelState) (head : Stamped) (rest : List Stamped) → s.dropping ≡ true → OnTheWay s now all j t head rest → t.drop_next ≤ now → (s.ecn && is_capable head.packet.ecn) ≡ true → Ends s now all j head true rest (record s { count = count_after s (suc j); drop_next = moment s (suc j) })
 OnTheWay-marks s now all j t head rest dropping way is_due markable = record {
-  chosen = subst (λ (a : ℕ). Chooses s now all head true rest (record s { count = count_after s (suc j); drop_next = moment s (suc j); above = a })) (above-late s now head rest way.late)
+  chosen = subst (λ (a : ℕ). Chooses s now all head true rest (record s { count = count_after s (suc j); drop_next = moment s (suc j); first_above_time = a })) (above-late s now head rest way.late)
       (Chooses-at s now all j head rest true true dropping count way.place mark way.late);
   count = count;
 } where
@@ -169,9 +169,9 @@ OnTheWay-more s now all j t head next rest behind way is_due plain behind_is lat
   due = let e : t.drop_next ≡ moment s j = ap (λ (u : CodelState). u.drop_next) way.state in omega arith
 
 -- head j goes, and the next one is not late
-pub OnTheWay-ends : (s : CodelState) (now : ℕ) (all : List Stamped) (j : ℕ) (t : CodelState) (head next : Stamped) (rest behind : List Stamped) → s.dropping ≡ true → OnTheWay s now all j t head rest → t.drop_next ≤ now → (s.ecn && is_capable head.packet.ecn) ≡ false → rest ≡ next ∷ behind → is_late s now (next ∷ behind) ≡ false → Ends s now all (suc j) next false behind (record s { count = count_after s (suc j); drop_next = moment s j; dropping = false; above = above_after s now (next ∷ behind) })
+pub OnTheWay-ends : (s : CodelState) (now : ℕ) (all : List Stamped) (j : ℕ) (t : CodelState) (head next : Stamped) (rest behind : List Stamped) → s.dropping ≡ true → OnTheWay s now all j t head rest → t.drop_next ≤ now → (s.ecn && is_capable head.packet.ecn) ≡ false → rest ≡ next ∷ behind → is_late s now (next ∷ behind) ≡ false → Ends s now all (suc j) next false behind (record s { count = count_after s (suc j); drop_next = moment s j; dropping = false; first_above_time = above_after s now (next ∷ behind) })
 OnTheWay-ends s now all j t head next rest behind dropping way is_due plain behind_is early = record {
-  chosen = subst (λ (n : ℕ). Chooses s now all next false behind (record s { count = count_after s (suc j); drop_next = moment s n; dropping = false; above = above_after s now (next ∷ behind) })) before
+  chosen = subst (λ (n : ℕ). Chooses s now all next false behind (record s { count = count_after s (suc j); drop_next = moment s n; dropping = false; first_above_time = above_after s now (next ∷ behind) })) before
       (Chooses-at s now all (suc j) next behind false false dropping count place unmarked early);
   count = count;
 } where
@@ -227,23 +227,23 @@ module _ (s : CodelState) (now : ℕ) (all : List Stamped) (j : ℕ) (t : CodelS
       subst (λ (x : CodelState). Ends s now all j head true rest x) (sym (next_state g length))
       (OnTheWay-marks s now all j t head rest dropping way is_due (same_ecn true markable))
 
-  module _ (x : CodelVars) (next : Stamped) (behind : List Stamped) (plain : (p.ecn && is_capable head.packet.ecn) ≡ false) (behind_is : rest ≡ next ∷ behind) (noted : x ≡ record u { count = m; above = above_after (joined p u) now (next ∷ behind) }) where
+  module _ (x : CodelVars) (next : Stamped) (behind : List Stamped) (plain : (p.ecn && is_capable head.packet.ecn) ≡ false) (behind_is : rest ≡ next ∷ behind) (noted : x ≡ record u { count = m; first_above_time = above_after (joined p u) now (next ∷ behind) }) where
     pub turn-ends : s.dropping ≡ true → is_late (joined p u) now (next ∷ behind) ≡ false → Ends s now all (suc j) next false behind (joined p (record x { dropping = false }))
     turn-ends dropping early =
         subst (λ (y : CodelState). Ends s now all (suc j) next false behind y) (sym last_state)
         (OnTheWay-ends s now all j t head next rest behind dropping way is_due (same_ecn false plain) behind_is (same_late next behind ∙ early)) where
-          last_state : joined p (record x { dropping = false }) ≡ record s { count = count_after s (suc j); drop_next = moment s j; dropping = false; above = above_after s now (next ∷ behind) }
+          last_state : joined p (record x { dropping = false }) ≡ record s { count = count_after s (suc j); drop_next = moment s j; dropping = false; first_above_time = above_after s now (next ∷ behind) }
           last_state =
               ap (λ (y : CodelVars). joined p (record y { dropping = false })) noted
-              ∙ ap (λ (y : CodelState). record y { count = m; dropping = false; above = above_after y now (next ∷ behind) }) held
-              ∙ ap (λ (c : ℕ). record s { count = c; drop_next = moment s j; dropping = false; above = above_after s now (next ∷ behind) }) next_count
+              ∙ ap (λ (y : CodelState). record y { count = m; dropping = false; first_above_time = above_after y now (next ∷ behind) }) held
+              ∙ ap (λ (c : ℕ). record s { count = c; drop_next = moment s j; dropping = false; first_above_time = above_after s now (next ∷ behind) }) next_count
 
     pub turn-goes_on : (g : ℕ) → g ≡ gap_of p.interval x.count → is_late (joined p u) now (next ∷ behind) ≡ true → OnTheWay s now all (suc j) (joined p (record x { drop_next = x.drop_next + g })) next behind
     turn-goes_on g length late =
         subst (λ (y : CodelState). OnTheWay s now all (suc j) y next behind) (sym more_state)
         (OnTheWay-more s now all j t head next rest behind way is_due (same_ecn false plain) behind_is (same_late next behind ∙ late)) where
           unmoved : x ≡ record u { count = m }
-          unmoved = noted ∙ ap (λ (a : ℕ). record u { count = m; above = a }) (above-late (joined p u) now next behind late)
+          unmoved = noted ∙ ap (λ (a : ℕ). record u { count = m; first_above_time = a }) (above-late (joined p u) now next behind late)
 
           more_state : joined p (record x { drop_next = x.drop_next + g }) ≡ record s { count = count_after s (suc j); drop_next = moment s (suc j) }
           more_state =

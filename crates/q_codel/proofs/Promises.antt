@@ -67,7 +67,7 @@ at_their_moments-holds s now queue dropping = record {
 -- a packet with nothing behind it is not late
 alone : (s : CodelState) (now : ℕ) (packet : Stamped) → is_late s now (packet ∷ []) ≡ false
 alone s now packet =
-    and_left _ (nat_le s.above now) (and_left _ (nat_lt 0 s.above) (and_right (nat_le s.target (now - packet.at)) (nat_lt s.mtu 0) (le-ltb s.mtu 0 (omega arith))))
+    and_left _ (nat_le s.first_above_time now) (and_left _ (nat_lt 0 s.first_above_time) (and_right (nat_le s.target (now - packet.at)) (nat_lt s.mtu 0) (le-ltb s.mtu 0 (omega arith))))
 
 last_is_not_late : (s : CodelState) (now : ℕ) (queue : List Stamped) (i : ℕ) → length queue ≡ suc i → is_late s now (drop i queue) ≡ false
 last_is_not_late s now [] i e = absurd (omega arith)

@@ -39,9 +39,9 @@ module _ (s : CodelState) (now : ℕ) (queue : List Stamped) (p : IsCodelParams 
   in_order n = omega (arith, v.count, v.lastcount)
 
   gone-in_range : (j : ℕ) (marked late : Bool) → ((i : ℕ) → i < j → moment s i ≤ now) → (marked ≡ true → moment s j ≤ now) → IsCodelVars (vars_of (gone_on s j marked late))
-  gone-in_range j true late dropped come = record { above = v.above; drop_next = later j (come refl); count = counted (suc j); lastcount = in_order (suc j) }
-  gone-in_range j false true dropped come = record { above = v.above; drop_next = come_to j dropped; count = counted j; lastcount = in_order j }
-  gone-in_range j false false dropped come = record { above = v.above; drop_next = ended_at j dropped; count = counted j; lastcount = in_order j }
+  gone-in_range j true late dropped come = record { first_above_time = v.first_above_time; drop_next = later j (come refl); count = counted (suc j); lastcount = in_order (suc j) }
+  gone-in_range j false true dropped come = record { first_above_time = v.first_above_time; drop_next = come_to j dropped; count = counted j; lastcount = in_order j }
+  gone-in_range j false false dropped come = record { first_above_time = v.first_above_time; drop_next = ended_at j dropped; count = counted j; lastcount = in_order j }
 
   gone-settings : (j : ℕ) (marked late : Bool) → params_of (gone_on s j marked late) ≡ params_of s
   gone-settings j true late = refl
@@ -54,7 +54,7 @@ module _ (s : CodelState) (now : ℕ) (queue : List Stamped) (p : IsCodelParams 
 
   begun-in_range : IsCodelVars (vars_of (begun s now))
   begun-in_range = record {
-    above = v.above;
+    first_above_time = v.first_above_time;
     drop_next = omega (arith, low, p.interval_high, gap-within s.interval (count_begun s now));
     count = begun-counted (nat_lt 1 (s.count - s.lastcount) && nat_lt now (s.drop_next + 16 * s.interval));
     lastcount = omega arith;
@@ -74,9 +74,9 @@ module _ (s : CodelState) (now : ℕ) (queue : List Stamped) (p : IsCodelParams 
   control-settings false true = refl
   control-settings false false = refl
 
-  above-in_range : (standing first : Bool) → (if standing then (if first then now + s.interval else s.above) else 0) ≤ bound
+  above-in_range : (standing first : Bool) → (if standing then (if first then now + s.interval else s.first_above_time) else 0) ≤ bound
   above-in_range true true = omega (arith, low, p.interval_high)
-  above-in_range true false = v.above
+  above-in_range true false = v.first_above_time
   above-in_range false first = omega arith
 
   pub stays : record {
@@ -88,7 +88,7 @@ module _ (s : CodelState) (now : ℕ) (queue : List Stamped) (p : IsCodelParams 
       record {
         settings = control-settings s.dropping (is_late s now queue);
         state = record {
-          above = above-in_range (is_standing s now (drop (drops s now queue) queue)) (s.above == 0);
+          first_above_time = above-in_range (is_standing s now (drop (drops s now queue) queue)) (s.first_above_time == 0);
           drop_next = control.drop_next;
           count = control.count;
           lastcount = control.lastcount;

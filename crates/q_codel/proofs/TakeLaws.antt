@@ -16,7 +16,7 @@ empty_queue_rests-holds s now range = by_dropping s.dropping where
   same = omega arith
 
   by_dropping : (b : Bool) → after (record s { dropping = b }) now [] ≡ rested (record s { dropping = b })
-  by_dropping true = ap (λ (n : ℕ). record s { above = 0; dropping = false; count = n }) same
+  by_dropping true = ap (λ (n : ℕ). record s { first_above_time = 0; dropping = false; count = n }) same
   by_dropping false = refl
 
 -- a list, cut before and behind any place
@@ -79,7 +79,7 @@ not_standing s now (head ∷ rest) (suc j) small = not_standing s now rest j sma
 
 -- nor is it late
 not_late : (s : CodelState) (now : ℕ) (queue : List Stamped) → is_standing s now queue ≡ false → is_late s now queue ≡ false
-not_late s now queue e = and_left _ (nat_le s.above now) (and_left (is_standing s now queue) (nat_lt 0 s.above) e)
+not_late s now queue e = and_left _ (nat_le s.first_above_time now) (and_left (is_standing s now queue) (nat_lt 0 s.first_above_time) e)
 
 pub one_mtu_left-holds : OneMtuLeft
 one_mtu_left-holds s now queue small = record {

@@ -11,15 +11,15 @@ use Rattle.q_packet.specs.declared.stamped.Stamped.{Stamped}
 use Rattle.q_codel.specs.Gap.{gap_of}
 use Rattle.q_codel.specs.declared.taken.Taken.{Taken}
 
--- The settings and the state of one queue's CoDel. Times are in nanoseconds and `mtu` in bytes; `above` is the moment
--- at which a standing queue becomes late, 0 where none stands (`first_above_time` in RFC 8289, section 5.2); `drop_next` is
--- the moment of the next drop or mark.
+-- The settings and the state of one queue's CoDel. Times are in nanoseconds and `mtu` in bytes; `first_above_time`
+-- is the moment at which a standing queue becomes late, 0 where none stands, and `drop_next` that of the next drop or mark, as
+-- in RFC 8289, section 5.2.
 pub record CodelState : Type 0 where
   pub target : ℕ
   pub interval : ℕ
   pub mtu : ℕ
   pub ecn : Bool
-  pub above : ℕ
+  pub first_above_time : ℕ
   pub drop_next : ℕ
   pub count : ℕ
   pub lastcount : ℕ
@@ -34,7 +34,7 @@ pub record CodelParams : Type 0 where
 
 -- The state alone, which each queue has for itself.
 pub record CodelVars : Type 0 where
-  pub above : ℕ
+  pub first_above_time : ℕ
   pub drop_next : ℕ
   pub count : ℕ
   pub lastcount : ℕ
@@ -47,7 +47,7 @@ joined p v = record {
   interval = p.interval;
   mtu = p.mtu;
   ecn = p.ecn;
-  above = v.above;
+  first_above_time = v.first_above_time;
   drop_next = v.drop_next;
   count = v.count;
   lastcount = v.lastcount;
@@ -59,7 +59,7 @@ params_of s = record { target = s.target; interval = s.interval; mtu = s.mtu; ec
 
 abbrev pub vars_of : CodelState → CodelVars
 vars_of s =
-    record { above = s.above; drop_next = s.drop_next; count = s.count; lastcount = s.lastcount; dropping = s.dropping }
+    record { first_above_time = s.first_above_time; drop_next = s.drop_next; count = s.count; lastcount = s.lastcount; dropping = s.dropping }
 
 -- count stays here once it is reached: 2^32 - 1
 abbrev pub count_max : ℕ
@@ -67,15 +67,15 @@ count_max = 2 ^ 32 - 1
 
 -- the state of a queue that has not sent yet, alone and with its settings
 abbrev pub vars_at_first : CodelVars
-vars_at_first = record { above = 0; drop_next = 0; count = 0; lastcount = 0; dropping = false }
+vars_at_first = record { first_above_time = 0; drop_next = 0; count = 0; lastcount = 0; dropping = false }
 
 abbrev pub at_first : ℕ → ℕ → ℕ → Bool → CodelState
 at_first target interval mtu ecn =
-    record { target = target; interval = interval; mtu = mtu; ecn = ecn; above = 0; drop_next = 0; count = 0; lastcount = 0; dropping = false }
+    record { target = target; interval = interval; mtu = mtu; ecn = ecn; first_above_time = 0; drop_next = 0; count = 0; lastcount = 0; dropping = false }
 
 -- what is left of the state where the queue is found empty
 abbrev pub rested : CodelState → CodelState
-rested s = record s { above = 0; dropping = false }
+rested s = record s { first_above_time = 0; dropping = false }
 
 -- the head has waited for the target or longer, and more than one mtu stands behind it (section 5.6, `dodequeue`)
 abbrev pub is_standing : CodelState → ℕ → List Stamped → Bool
@@ -84,7 +84,7 @@ is_standing s now (head ∷ rest) = nat_le s.target (now - head.at) && nat_lt s.
 
 -- the queue has stood for an interval (section 5.6, `ok_to_drop`)
 abbrev pub is_late : CodelState → ℕ → List Stamped → Bool
-is_late s now queue = is_standing s now queue && nat_lt 0 s.above && nat_le s.above now
+is_late s now queue = is_standing s now queue && nat_lt 0 s.first_above_time && nat_le s.first_above_time now
 
 -- whether a packet's transport understands a mark (RFC 3168, section 5)
 abbrev pub is_capable : Ecn → Bool
@@ -173,12 +173,12 @@ control_after s now queue =
 -- whether a standing queue has begun to stand, has stood, or does not stand, by the head that is sent (section 5.6)
 abbrev pub above_after : CodelState → ℕ → List Stamped → ℕ
 above_after s now queue =
-    if is_standing s now queue then (if s.above == 0 then now + s.interval else s.above) else 0
+    if is_standing s now queue then (if s.first_above_time == 0 then now + s.interval else s.first_above_time) else 0
 
 -- the state after a take
 abbrev pub after : CodelState → ℕ → List Stamped → CodelState
 after s now queue =
-    record (control_after s now queue) { above = above_after s now (drop (drops s now queue) queue) }
+    record (control_after s now queue) { first_above_time = above_after s now (drop (drops s now queue) queue) }
 
 -- what settings keep: their ranges
 pub record IsCodelParams (p : CodelParams) : Type 0 where
@@ -189,7 +189,7 @@ pub record IsCodelParams (p : CodelParams) : Type 0 where
 
 -- what every state keeps, whichever settings it had: moments that an interval can still be added to, and counts in order
 pub record IsCodelVars (v : CodelVars) : Type 0 where
-  pub above : v.above ≤ 2 ^ 62 + 10 ^ 12
+  pub first_above_time : v.first_above_time ≤ 2 ^ 62 + 10 ^ 12
   pub drop_next : v.drop_next ≤ 2 ^ 62 + 10 ^ 12
   pub count : v.count < 2 ^ 32
   pub lastcount : v.lastcount ≤ v.count

@@ -11,7 +11,7 @@ abbrev pub BelowTarget : Type 0
 BelowTarget = (s : CodelState) (now : ℕ) (head : Stamped) (rest : List Stamped) → now - head.at < s.target → record {
   nothing_dropped : drops s now (head ∷ rest) ≡ 0;
   nothing_marked : marks s now (head ∷ rest) ≡ false;
-  begins_anew : (after s now (head ∷ rest)).above ≡ 0;
+  begins_anew : (after s now (head ∷ rest)).first_above_time ≡ 0;
   ends : (after s now (head ∷ rest)).dropping ≡ false;
 }
 
@@ -73,7 +73,7 @@ DueHeadsGo = (s : CodelState) (now : ℕ) (queue : List Stamped) → record {
 -- that begins to drop is dropping after it all the same; the next one ends that.
 abbrev pub OneMtuLeft : Type 0
 OneMtuLeft = (s : CodelState) (now : ℕ) (queue : List Stamped) → size (left s now queue) ≤ s.mtu → record {
-  begins_anew : (after s now queue).above ≡ 0;
+  begins_anew : (after s now queue).first_above_time ≡ 0;
   ends : s.dropping ≡ true → (after s now queue).dropping ≡ false;
   does_not_begin : s.dropping ≡ false → drops s now queue ≡ 0 → (after s now queue).dropping ≡ false;
 }

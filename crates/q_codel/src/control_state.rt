@@ -21,8 +21,7 @@ use std::marker::Model;
 /// [`ControlState::take`] is lent the queue and the settings. The settings may differ from call to call.
 #[derive(Clone, Copy, PartialEq, Eq, Debug)]
 pub struct ControlState {
-    // RFC 8289 calls it `first_above_time`.
-    pub(crate) above: u64,
+    pub(crate) first_above_time: u64,
     pub(crate) drop_next: u64,
     pub(crate) count: u32,
     pub(crate) lastcount: u32,
@@ -37,7 +36,7 @@ impl Model for ControlState {
     ghost Value = { CodelVars };
 
     ghost view = { λ c. record {
-      above = c.above;
+      first_above_time = c.first_above_time;
       drop_next = c.drop_next;
       count = c.count;
       lastcount = c.lastcount;
@@ -45,7 +44,7 @@ impl Model for ControlState {
     } };
 
     ghost invariant = { λ c. IsCodelVars (record {
-      above = c.above;
+      first_above_time = c.first_above_time;
       drop_next = c.drop_next;
       count = c.count;
       lastcount = c.lastcount;
@@ -53,7 +52,7 @@ impl Model for ControlState {
     }) };
 
     ghost inverse = { λ c. record {
-      above = c.above;
+      first_above_time = c.first_above_time;
       drop_next = c.drop_next;
       count = c.count;
       lastcount = c.lastcount;
@@ -69,7 +68,7 @@ impl ControlState {
         ensures { result ≡ vars_at_first }
     {
         ControlState {
-            above: 0,
+            first_above_time: 0,
             drop_next: 0,
             count: 0,
             lastcount: 0,
@@ -79,9 +78,9 @@ impl ControlState {
 
     /// What a take from an empty queue leaves: nothing stands, and nothing is being dropped.
     pub fn rest(&mut self)
-        ensures { self.new ≡ record self.old { above = 0; dropping = false } }
+        ensures { self.new ≡ record self.old { first_above_time = 0; dropping = false } }
     {
-        self.above = 0;
+        self.first_above_time = 0;
         self.dropping = false;
     }
 
@@ -135,7 +134,7 @@ impl ControlState {
         ensures sink_kept { S.keeps sink.old sink.new }
     {
         let Some(front) = queue.front() else {
-            self.above = 0;
+            self.first_above_time = 0;
             self.dropping = false;
             return None;
         };
@@ -173,7 +172,7 @@ impl ControlState {
         ensures sink_kept { S.keeps sink.old sink.new }
     {
         let Some(front) = queue.front() else {
-            self.above = 0;
+            self.first_above_time = 0;
             self.dropping = false;
             return None;
         };
@@ -331,25 +330,25 @@ impl ControlState {
         behind: u64,
         now: Moment,
     ) -> bool
-        ensures kept { self.new ≡ record self.old { above = self.new.above } }
+        ensures kept { self.new ≡ record self.old { first_above_time = self.new.first_above_time } }
         ensures late { (head : Stamped) (rest : List Stamped) → front.now ≡ front_of head → behind ≡ size rest
             → result ≡ is_late (joined parameters.now self.old) now (head ∷ rest) }
         ensures noted { (head : Stamped) (rest : List Stamped) → front.now ≡ front_of head → behind ≡ size rest
-            → self.new ≡ record self.old { above = above_after (joined parameters.now self.old) now (head ∷ rest) } }
+            → self.new ≡ record self.old { first_above_time = above_after (joined parameters.now self.old) now (head ∷ rest) } }
     {
         let sojourn = now.ns().saturating_sub(front.at.ns());
         if sojourn < parameters.target || behind <= parameters.mtu as u64 {
             // One head below the target shows that the queue drains within an interval. With an mtu or less behind the
             // head, a drop would leave the link idle.
-            self.above = 0;
+            self.first_above_time = 0;
             return false;
         }
-        if self.above == 0 {
+        if self.first_above_time == 0 {
             // The first head above the target: a queue that still stands an interval from now is no burst.
-            self.above = now.ns() + parameters.interval;
+            self.first_above_time = now.ns() + parameters.interval;
             return false;
         }
-        self.above <= now.ns()
+        self.first_above_time <= now.ns()
     }
 }
 

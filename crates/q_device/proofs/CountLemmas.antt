@@ -19,11 +19,11 @@ use Rattle.q_model.specs.Route.{device_route}
 use Rattle.q_model.specs.Step.{DeviceState, answered, loss_in, losses_in, step}
 use Rattle.q_model.specs.Tally.{Note, Arrived, Sent, Lost, Marked, Granted, Spent, FlowGranted, FlowGave, Counts, counted, noted, totals}
 use Rattle.q_model.specs.TreeState.{plan, put_work, asked}
-use Rattle.q_sound.proofs.Answer.{one}
-use Rattle.q_sound.proofs.Counted.{bytes, all-more, lost-parts}
-use Rattle.q_sound.proofs.Replays.{not-before, not-after}
-use Rattle.q_sound.proofs.Shuffled.{weigh-arrivals}
-use Rattle.q_sound.proofs.Weights.{weigh, weigh-nil, arrived, lost, lost-nil, lost-cons}
+use Rattle.q_invariants.proofs.Answer.{one}
+use Rattle.q_invariants.proofs.Counted.{bytes, all-more, lost-parts}
+use Rattle.q_invariants.proofs.Replays.{not-before, not-after}
+use Rattle.q_invariants.proofs.Shuffled.{weigh-arrivals}
+use Rattle.q_invariants.proofs.Weights.{weigh, weigh-nil, arrived, lost, lost-nil, lost-cons}
 use Rattle.q_device.specs.Counters.{IsNotBelow, HasNotFallen, arrived_after}
 use Rattle.q_device.proofs.ToldLemmas.{AreLosses, losses-are, on-are}
 

@@ -36,21 +36,21 @@ cases-credits (pos (suc n)) = inr (omega (arith, ints))
 cases-credits (negsuc n) = inl (omega (arith, ints))
 
 module _ (s : FqState) (e : Entry) (rest : List Entry) (lawful : IsLawful s) (positive : 1 ≤ s.settings.quantum) (onward : Onward s) where
-  looks : (behind : List Entry) → s.fresh ++ s.stale ≡ e ∷ behind → Looks s s e e behind
+  looks : (behind : List Entry) → s.new_flows ++ s.old_flows ≡ e ∷ behind → Looks s s e e behind
   looks behind first = record { opened = refl; lawful = lawful; read = refl; first = first }
 
-  at-new : s.fresh ≡ e ∷ rest → IsSettled (selected s)
+  at-new : s.new_flows ≡ e ∷ rest → IsSettled (selected s)
   at-new new = ⊎_elim
       (λ (low : e.credits ≤ℤ pos 0). led-on s _ onward (fresh_granted s lawful e rest new positive low) positive)
       (λ (high : pos 0 <ℤ e.credits). ⊎_elim
       (λ (empty : is_idle s.flows e.flow ≡ true). led-on s _ onward (fresh_moves s lawful e rest new high empty) positive)
       (λ (busy : is_idle s.flows e.flow ≡ false).
       let chosen : selected s ≡ s = fresh_ready s lawful e rest new high busy in
-      stops s chosen (settled_at (looks (rest ++ s.stale) (ap (λ (es : List Entry). es ++ s.stale) new)) chosen high busy))
+      stops s chosen (settled_at (looks (rest ++ s.old_flows) (ap (λ (es : List Entry). es ++ s.old_flows) new)) chosen high busy))
       (cases_Bool (is_idle s.flows e.flow)))
       (cases-credits e.credits)
 
-  at-old : s.fresh ≡ [] → s.stale ≡ e ∷ rest → IsSettled (selected s)
+  at-old : s.new_flows ≡ [] → s.old_flows ≡ e ∷ rest → IsSettled (selected s)
   at-old none old = ⊎_elim
       (λ (low : e.credits ≤ℤ pos 0). led-on s _ onward (stale_granted s lawful e rest none old positive low) positive)
       (λ (high : pos 0 <ℤ e.credits). ⊎_elim
@@ -61,17 +61,17 @@ module _ (s : FqState) (e : Entry) (rest : List Entry) (lawful : IsLawful s) (po
       (cases_Bool (is_idle s.flows e.flow)))
       (cases-credits e.credits)
 
-at-front : (s : FqState) (fresh stale : List Entry) → s.fresh ≡ fresh → s.stale ≡ stale → IsLawful s
+at-front : (s : FqState) (new_flows old_flows : List Entry) → s.new_flows ≡ new_flows → s.old_flows ≡ old_flows → IsLawful s
     → 1 ≤ s.settings.quantum → Onward s → IsSettled (selected s)
 at-front s [] [] new old lawful positive onward = stops s (none_left s new old) (settled_none s new old)
 at-front s [] (e ∷ rest) new old lawful positive onward = at-old s e rest lawful positive onward new old
-at-front s (e ∷ rest) stale new old lawful positive onward = at-new s e rest lawful positive onward new
+at-front s (e ∷ rest) old_flows new old lawful positive onward = at-new s e rest lawful positive onward new
 
 -- with fewer looks left than k
 settled-within : (k : ℕ) (s : FqState) → turns s < k → IsLawful s → 1 ≤ s.settings.quantum → IsSettled (selected s)
 settled-within zero s h lawful positive = absurd (omega arith)
 settled-within (suc k) s h lawful positive =
-    at-front s s.fresh s.stale refl refl lawful positive (λ t on lawful' positive'. settled-within k t (omega (arith, h, on.fewer)) lawful' positive')
+    at-front s s.new_flows s.old_flows refl refl lawful positive (λ t on lawful' positive'. settled-within k t (omega (arith, h, on.fewer)) lawful' positive')
 
 settled-selected : (s : FqState) → IsLawful s → 1 ≤ s.settings.quantum → IsSettled (selected s)
 settled-selected s lawful positive = settled-within (suc (turns s)) s (omega arith) lawful positive
@@ -97,7 +97,7 @@ queue-at flows n f e =
 
 -- where nothing is sent, no flow is in front
 sends-none : (now : ℕ) (x : FqState) → IsLawful x → IsSettled x → given (sent_from now x) ≡ None
-    → (x.fresh ≡ []) × (x.stale ≡ [])
+    → (x.new_flows ≡ []) × (x.old_flows ≡ [])
 unfolding sent_from packet_sent
 sends-none now x lawful settled e = front-none x (by (front x) refl settled.busy)
   where
@@ -111,10 +111,10 @@ sends-none now x lawful settled e = front-none x (by (front x) refl settled.busy
     by : (o : Option Entry) → front x ≡ o → IfSome o (λ n. is_idle x.flows n.flow ≡ false) → o ≡ None
     by None first busy = refl
     by (Some n) first busy =
-        let listed : x.fresh ++ x.stale ≡ n ∷ drop 1 (x.fresh ++ x.stale) = front-is x n first in
-        let within : n.flow < length x.flows = omega (arith, front_within x n (drop 1 (x.fresh ++ x.stale)) lawful listed, lawful.each_flow) in
+        let listed : x.new_flows ++ x.old_flows ≡ n ∷ drop 1 (x.new_flows ++ x.old_flows) = front-is x n first in
+        let within : n.flow < length x.flows = omega (arith, front_within x n (drop 1 (x.new_flows ++ x.old_flows)) lawful listed, lawful.each_flow) in
         absurd (at n busy (slice_get x.flows n.flow) refl (slice_there x.flows n.flow within)
-        (ap (λ (o : Option Flow). given (option_and_then (packet_sent now) o)) (sym (sender-is x n (drop 1 (x.fresh ++ x.stale)) listed)) ∙ e))
+        (ap (λ (o : Option Flow). given (option_and_then (packet_sent now) o)) (sym (sender-is x n (drop 1 (x.new_flows ++ x.old_flows)) listed)) ∙ e))
 
 -- ---- so none waits
 

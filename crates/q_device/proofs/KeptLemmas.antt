@@ -16,7 +16,7 @@ use Rattle.q_model.specs.Route.{Route, device_route}
 use Rattle.q_model.specs.Settings.{DeviceSettings, IsInRange}
 use Rattle.q_model.specs.Step.{DeviceState, new_device, step}
 use Rattle.q_model.specs.Tally.{Counts, totals}
-use Rattle.q_sound.proofs.Replays.{not-after}
+use Rattle.q_invariants.proofs.Replays.{not-after}
 use Rattle.q_tree.specs.Kept.{Kept}
 use Rattle.q_tree.specs.RouteSeen.{RouteSeen, route_seen}
 use Rattle.q_tree.specs.TreeSeen.{CanArrive, numbers}

@@ -122,8 +122,8 @@ pub record GivesItsShare (flow quantum : ℕ) (first last : FqAt) : Type 0 where
   pub goes_on : last.noted ≡ first.noted ++ notes
   pub first_credits : ℤ
   pub last_credits : ℤ
-  pub at_first : credits_of flow (first.state.fresh ++ first.state.stale) ≡ Some first_credits
-  pub at_last : credits_of flow (last.state.fresh ++ last.state.stale) ≡ Some last_credits
+  pub at_first : credits_of flow (first.state.new_flows ++ first.state.old_flows) ≡ Some first_credits
+  pub at_last : credits_of flow (last.state.new_flows ++ last.state.old_flows) ≡ Some last_credits
   pub share : pos (bytes_given flow notes) +ℤ last_credits ≡ pos (flow_grants_to flow notes * quantum) +ℤ first_credits
 
 abbrev pub FlowsGiveTheirShares : DeviceSettings → Type 0
@@ -139,14 +139,14 @@ abbrev pub FlowsBeginNew : DeviceSettings → Type 0
 FlowsBeginNew settings =
     (events : List Event) (e : Event) (major flow : ℕ) (fq next : FqAt) → All IsEvent events → IsEvent e
     → fq_in major (device_after settings events) ≡ Some fq → fq_in major (device_after settings (events ++ e ∷ [])) ≡ Some next
-    → is_listed flow (fq.state.fresh ++ fq.state.stale) ≡ false → is_listed flow (next.state.fresh ++ next.state.stale) ≡ true
-    → credits_of flow next.state.fresh ≡ Some (pos next.state.settings.quantum)
+    → is_listed flow (fq.state.new_flows ++ fq.state.old_flows) ≡ false → is_listed flow (next.state.new_flows ++ next.state.old_flows) ≡ true
+    → credits_of flow next.state.new_flows ≡ Some (pos next.state.settings.quantum)
 
 -- ---- two flows of one fq_codel
 
 -- whether flow i stands before flow j in the new list followed by the old one
 abbrev pub flow_stands_first : ℕ → ℕ → FqState → Bool
-flow_stands_first i j s = order.stands_first i j (s.fresh ++ s.stale)
+flow_stands_first i j s = order.stands_first i j (s.new_flows ++ s.old_flows)
 
 -- Over a stretch the fq_codel noted these. Where both flows stand in the order that they had, they got equally many grants,
 -- else the one that had stood first got one more.

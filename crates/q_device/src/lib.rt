@@ -14,7 +14,7 @@
 //! What an event makes of a device is defined in `q_model` (`specs/Step.antt`), and what a list of them does
 //! (`specs/Replay.antt`). A device is the replay of all that happened to it (`specs/Replayed.antt`). [`laws`] carries what is
 //! true of every device and of every replay: that of a longer list is the step of the replay, and a device that keeps totals
-//! does what one does that keeps whole histories, with the same replies and losses. `q_rows` has worked scripts that compute
+//! does what one does that keeps whole histories, with the same replies and losses. `q_worked_examples` has worked scripts that compute
 //! these definitions from commands, arrivals and polls to replies, losses and rows.
 #![tactic(auto)]
 

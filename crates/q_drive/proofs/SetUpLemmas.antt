@@ -15,7 +15,7 @@ use Rattle.q_model.specs.TreeState.{plan}
 use Rattle.q_device.proofs.CountLemmas.{none-arrived}
 use Rattle.q_device.proofs.ToldLemmas.{losses-are}
 use Rattle.q_packet.specs.declared.cause.Cause.TheVariants.{Purged}
-use Rattle.q_report.specs.Report.{SessionState, commanded, planned}
+use Rattle.q_script_semantics.specs.Report.{SessionState, commanded, planned}
 use Rattle.q_session.specs.Session.{SessionSeen, seen}
 use Rattle.q_words.specs.Words.{is_blank_line, words_in}
 use Rattle.q_words.specs.declared.line_fault.LineFault.{LineFault}

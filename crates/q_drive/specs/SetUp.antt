@@ -6,8 +6,8 @@ use Rattle.q_line.specs.Grammar.{line_of_words}
 use Rattle.q_line.specs.declared.line.Line.{Line}
 use Rattle.q_line.specs.declared.line.Line.TheVariants as line
 use Rattle.q_model.specs.Tally.{Counts, no_totals, totals}
-use Rattle.q_report.specs.Report.{SessionState, commanded, refusing, show_text, silent}
-use Rattle.q_report.specs.Report as report
+use Rattle.q_script_semantics.specs.Report.{SessionState, commanded, refusing, show_text, silent}
+use Rattle.q_script_semantics.specs.Report as report
 use Rattle.q_script.specs.Script.{fault_line}
 use Rattle.q_script.specs.Step.{Effect}
 use Rattle.q_session.specs.Session.{SessionSeen, seen}

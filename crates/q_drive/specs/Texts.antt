@@ -9,8 +9,8 @@ use Rattle.q_model.specs.Refusal.{refusal_text}
 use Rattle.q_model.specs.Tally.{totals}
 use Rattle.q_model.specs.declared.refusal.Refusal.TheVariants.{Memory}
 use Rattle.q_model.specs.declared.totals.Totals.{Totals}
-use Rattle.q_report.specs.Report.{show_text}
-use Rattle.q_report.specs.Text.{device_line}
+use Rattle.q_script_semantics.specs.Report.{show_text}
+use Rattle.q_script_semantics.specs.Text.{device_line}
 use Rattle.q_script.specs.Script.{newline}
 use Rattle.q_drive.specs.declared.driven.Driven.{Driven}
 

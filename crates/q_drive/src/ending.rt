@@ -2,7 +2,7 @@
 ghost use Rattle.std.specs.Prelude.{◌≡◌, ◌++◌, [], OnOk, OnErr, IfErr};
 ghost use Rattle.std.specs.Io.KnownBytes.{Appends};
 ghost use Rattle.q_model.specs.Tally.{totals};
-ghost use Rattle.q_report.specs.Report.{show_text};
+ghost use Rattle.q_script_semantics.specs.Report.{show_text};
 ghost use Rattle.q_script.specs.Lengths.{HasRoom, most_step};
 ghost use Rattle.q_show.specs.Lengths.{GrowsBy};
 ghost use Rattle.q_show.specs.Writes.{MayWrite, WriteFailed};

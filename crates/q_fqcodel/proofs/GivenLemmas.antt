@@ -109,26 +109,26 @@ quanta-more z j k q = let m : (j + k) * q ≡ j * q + k * q = add-mul j k q in o
 
 -- ---- a whole selection, of lists that hold flow n at most once
 
-module _ (q n : ℕ) (idle : ℕ → Bool) (fresh stale : List Entry) (p : ℕ) (once : times n (fresh ++ stale) ≤ 1) (e : Entry) (listed : In e (fresh ++ stale)) (own : e.flow ≡ n) where
+module _ (q n : ℕ) (idle : ℕ → Bool) (new_flows old_flows : List Entry) (p : ℕ) (once : times n (new_flows ++ old_flows) ≤ 1) (e : Entry) (listed : In e (new_flows ++ old_flows)) (own : e.flow ≡ n) where
   over : List Entry
-  over = take p fresh
+  over = take p new_flows
 
   old : List Entry
-  old = stale ++ map (moved q) over
+  old = old_flows ++ map (moved q) over
 
-  at_most : times n (take p fresh) + times n (drop p fresh) + times n stale ≤ 1
-  at_most = omega (arith, once, times-append n fresh stale, times-split n p fresh)
+  at_most : times n (take p new_flows) + times n (drop p new_flows) + times n old_flows ≤ 1
+  at_most = omega (arith, once, times-append n new_flows old_flows, times-split n p new_flows)
 
   old_once : times n old ≤ 1
   unfolding old over
-  old_once = omega (arith, at_most, times-append n stale (map (moved q) (take p fresh)), times-moved q n (take p fresh))
+  old_once = omega (arith, at_most, times-append n old_flows (map (moved q) (take p new_flows)), times-moved q n (take p new_flows))
 
   -- an entry of flow n that the selection has not touched
-  untouched : (x : Entry) → In x (fresh ++ stale) → x.flow ≡ n → times n (take p fresh) ≡ 0 → x.credits ≡ e.credits +ℤ pos (quanta_in q n 1 over * q)
+  untouched : (x : Entry) → In x (new_flows ++ old_flows) → x.flow ≡ n → times n (take p new_flows) ≡ 0 → x.credits ≡ e.credits +ℤ pos (quanta_in q n 1 over * q)
   unfolding over
   untouched x h own' none =
-      let same : x ≡ e = same-entry n x e (fresh ++ stale) h listed own' own once in
-      let k : quanta_in q n 1 (take p fresh) ≡ 0 = in-none q n 1 (take p fresh) none in
+      let same : x ≡ e = same-entry n x e (new_flows ++ old_flows) h listed own' own once in
+      let k : quanta_in q n 1 (take p new_flows) ≡ 0 = in-none q n 1 (take p new_flows) none in
       let z : e.credits ≡ e.credits +ℤ pos (0 * q) = omega (arith, ints) in
       ap (λ (y : Entry). y.credits) same ∙ z ∙ ap (λ (k : ℕ). e.credits +ℤ pos (k * q)) (sym k)
 
@@ -137,20 +137,20 @@ module _ (q n : ℕ) (idle : ℕ → Bool) (fresh stale : List Entry) (p : ℕ) 
   unfolding old over
   old_credits x h own' =
       ⊎_elim
-      (λ (stayed : In x stale). untouched x (in-right x fresh stale stayed) own' (omega (arith, at_most, in-times n x stale stayed own')))
-      (λ (came : In x (map (moved q) (take p fresh))).
-      let r = in-map (moved q) x (take p fresh) came in
+      (λ (stayed : In x old_flows). untouched x (in-right x new_flows old_flows stayed) own' (omega (arith, at_most, in-times n x old_flows stayed own')))
+      (λ (came : In x (map (moved q) (take p new_flows))).
+      let r = in-map (moved q) x (take p new_flows) came in
       let y : Entry = r.0 in
       let own'' : y.flow ≡ n = sym (flow-moved q y) ∙ ap (λ (z : Entry). z.flow) r.2 ∙ own' in
-      let same : y ≡ e = same-entry n y e (fresh ++ stale) (in-left y fresh stale (in-take y p fresh r.1)) listed own'' own once in
-      let k : quanta_in q n 1 (take p fresh) ≡ min 1 (need q y) = in-once q n 1 y (take p fresh) r.1 own'' (omega (arith, at_most)) in
+      let same : y ≡ e = same-entry n y e (new_flows ++ old_flows) (in-left y new_flows old_flows (in-take y p new_flows r.1)) listed own'' own once in
+      let k : quanta_in q n 1 (take p new_flows) ≡ min 1 (need q y) = in-once q n 1 y (take p new_flows) r.1 own'' (omega (arith, at_most)) in
       ap (λ (z : Entry). z.credits) (sym r.2)
       ∙ credits-moved q y
       ∙ ap (λ (k : ℕ). y.credits +ℤ pos (k * q)) (sym k)
-      ∙ ap (λ (z : Entry). z.credits +ℤ pos (quanta_in q n 1 (take p fresh) * q)) same)
-      (in-append x stale (map (moved q) (take p fresh)) h)
+      ∙ ap (λ (z : Entry). z.credits +ℤ pos (quanta_in q n 1 (take p new_flows) * q)) same)
+      (in-append x old_flows (map (moved q) (take p new_flows)) h)
 
-  after_turn : (a : Entry) (o : Option Choice) → In a (turned q old o).stale → a.flow ≡ n → a.credits ≡ e.credits +ℤ pos ((quanta_in q n 1 over + quanta_turned q n old o) * q)
+  after_turn : (a : Entry) (o : Option Choice) → In a (turned q old o).old_flows → a.flow ≡ n → a.credits ≡ e.credits +ℤ pos ((quanta_in q n 1 over + quanta_turned q n old o) * q)
   unfolding turned
   after_turn a None h own' = absurd h
   after_turn a (Some c) h own' =
@@ -159,12 +159,12 @@ module _ (q n : ℕ) (idle : ℕ → Bool) (fresh stale : List Entry) (p : ℕ) 
       ∙ ap (λ (z : ℤ). z +ℤ pos (quanta_turned q n old (Some c) * q)) (old_credits r.0 r.1 r.2)
       ∙ quanta-more e.credits (quanta_in q n 1 over) (quanta_turned q n old (Some c)) q
 
-  no_fresh : (a : Entry) (o : Option Choice) → In a ((turned q old o).fresh ++ (turned q old o).stale) → In a (turned q old o).stale
+  no_fresh : (a : Entry) (o : Option Choice) → In a ((turned q old o).new_flows ++ (turned q old o).old_flows) → In a (turned q old o).old_flows
   unfolding turned
   no_fresh a None h = h
   no_fresh a (Some c) h = h
 
-  after_all : (a : Entry) (rest : List Entry) → drop p fresh ≡ rest → In a ((with_rest q idle rest old).fresh ++ (with_rest q idle rest old).stale) → a.flow ≡ n
+  after_all : (a : Entry) (rest : List Entry) → drop p new_flows ≡ rest → In a ((with_rest q idle rest old).new_flows ++ (with_rest q idle rest old).old_flows) → a.flow ≡ n
       → a.credits ≡ e.credits +ℤ pos ((quanta_in q n 1 over + quanta_old q idle n rest old) * q)
   unfolding with_rest quanta_old
   after_all a [] none h own' = after_turn a (chosen q idle old) (no_fresh a (chosen q idle old) h) own'
@@ -173,8 +173,8 @@ module _ (q n : ℕ) (idle : ℕ → Bool) (fresh stale : List Entry) (p : ℕ) 
       ap (λ (k : ℕ). e.credits +ℤ pos (k * q)) (let z : quanta_in q n 1 over ≡ quanta_in q n 1 over + 0 = omega arith in z) in
       ⊎_elim
       (λ (new : In a (r ∷ rs)).
-      let there : In a (drop p fresh) = subst (In a) (sym left) new in
-      untouched a (in-left a fresh stale (in-drop a p fresh there)) own' (omega (arith, at_most, in-times n a (drop p fresh) there own')) ∙ same)
+      let there : In a (drop p new_flows) = subst (In a) (sym left) new in
+      untouched a (in-left a new_flows old_flows (in-drop a p new_flows there)) own' (omega (arith, at_most, in-times n a (drop p new_flows) there own')) ∙ same)
       (λ (before : In a old). old_credits a before own' ∙ same)
       (in-append a (r ∷ rs) old h)
 
@@ -182,11 +182,11 @@ pub credits_by_quanta : CreditsByQuanta
 unfolding selected arranged quanta_given passed_over old_list over old
 credits_by_quanta s n before after lawful was is =
     let q : ℕ = s.settings.quantum in
-    let p : ℕ = first_ready q (is_idle s.flows) s.fresh in
-    let b = in-found n (s.fresh ++ s.stale) before was in
-    let a = in-found n ((selected s).fresh ++ (selected s).stale) after is in
+    let p : ℕ = first_ready q (is_idle s.flows) s.new_flows in
+    let b = in-found n (s.new_flows ++ s.old_flows) before was in
+    let a = in-found n ((selected s).new_flows ++ (selected s).old_flows) after is in
     sym a.3
-    ∙ after_all q n (is_idle s.flows) s.fresh s.stale p (lawful.once n) b.0 b.1 b.2 a.0 (drop p s.fresh) refl a.1 a.2
+    ∙ after_all q n (is_idle s.flows) s.new_flows s.old_flows p (lawful.once n) b.0 b.1 b.2 a.0 (drop p s.new_flows) refl a.1 a.2
     ∙ ap (λ (z : ℤ). z +ℤ pos (quanta_given s n * q)) b.3
 
 pub grants_are_some : GrantsAreSome
@@ -194,8 +194,8 @@ unfolding grants
 grants_are_some s =
     let is_some : Grant → Bool = λ g. nat_lt 0 g.quanta in
     let grant : Entry → Grant = λ e. record { flow = e.flow; quanta = quanta_given s e.flow } in
-    let all : List Grant = map grant (s.fresh ++ s.stale) in
-    let says : All (λ (g : Grant). g.quanta ≡ quanta_given s g.flow) all = All-map (λ (g : Grant). g.quanta ≡ quanta_given s g.flow) grant (s.fresh ++ s.stale) (λ k d within. refl) in
+    let all : List Grant = map grant (s.new_flows ++ s.old_flows) in
+    let says : All (λ (g : Grant). g.quanta ≡ quanta_given s g.flow) all = All-map (λ (g : Grant). g.quanta ≡ quanta_given s g.flow) grant (s.new_flows ++ s.old_flows) (λ k d within. refl) in
     λ k d within. (
       ltb-true 0 (slice_index_or (filter is_some all) k d).quanta (filter_passes is_some all k d within),
       All-filter is_some (λ (g : Grant). g.quanta ≡ quanta_given s g.flow) all says k d within,

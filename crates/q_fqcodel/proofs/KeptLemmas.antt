@@ -62,7 +62,7 @@ rested_twice f = refl
 pub selection_keeps_packets : SelectionKeepsPackets
 unfolding selected
 selection_keeps_packets s n =
-    let gone : List ℕ = (arranged s.settings.quantum (is_idle s.flows) s.fresh s.stale).gone in (
+    let gone : List ℕ = (arranged s.settings.quantum (is_idle s.flows) s.new_flows s.old_flows).gone in (
       ap (λ (qs : List (List Stamped)). get_or qs n []) (queues-clear (λ (_ : Stamped). 0) gone s.flows),
       clear_get rested_flow rested_twice gone n s.flows,
     )
@@ -84,7 +84,7 @@ cases_credits (pos zero) = inl (omega (arith, ints))
 cases_credits (pos (suc n)) = inr (omega (arith, ints))
 cases_credits (negsuc n) = inl (omega (arith, ints))
 
-at_new : (s : FqState) (e : Entry) (rest : List Entry) → s.fresh ≡ e ∷ rest → IsLawful s → 1 ≤ s.settings.quantum → Onward s → IsLawful (selected s)
+at_new : (s : FqState) (e : Entry) (rest : List Entry) → s.new_flows ≡ e ∷ rest → IsLawful s → 1 ≤ s.settings.quantum → Onward s → IsLawful (selected s)
 at_new s e rest front lawful positive onward =
     ⊎_elim
     (λ (low : e.credits ≤ℤ pos 0). led_on s _ onward (fresh_granted s lawful e rest front positive low) positive)
@@ -95,7 +95,7 @@ at_new s e rest front lawful positive onward =
     (cases_Bool (is_idle s.flows e.flow)))
     (cases_credits e.credits)
 
-at_old : (s : FqState) (e : Entry) (rest : List Entry) → s.fresh ≡ [] → s.stale ≡ e ∷ rest → IsLawful s → 1 ≤ s.settings.quantum → Onward s → IsLawful (selected s)
+at_old : (s : FqState) (e : Entry) (rest : List Entry) → s.new_flows ≡ [] → s.old_flows ≡ e ∷ rest → IsLawful s → 1 ≤ s.settings.quantum → Onward s → IsLawful (selected s)
 at_old s e rest none front lawful positive onward =
     ⊎_elim
     (λ (low : e.credits ≤ℤ pos 0). led_on s _ onward (stale_granted s lawful e rest none front positive low) positive)
@@ -106,16 +106,16 @@ at_old s e rest none front lawful positive onward =
     (cases_Bool (is_idle s.flows e.flow)))
     (cases_credits e.credits)
 
-at_front : (s : FqState) (fresh stale : List Entry) → s.fresh ≡ fresh → s.stale ≡ stale → IsLawful s → 1 ≤ s.settings.quantum → Onward s → IsLawful (selected s)
+at_front : (s : FqState) (new_flows old_flows : List Entry) → s.new_flows ≡ new_flows → s.old_flows ≡ old_flows → IsLawful s → 1 ≤ s.settings.quantum → Onward s → IsLawful (selected s)
 at_front s [] [] new old lawful positive onward = stops s lawful (none_left s new old)
 at_front s [] (e ∷ rest) new old lawful positive onward = at_old s e rest new old lawful positive onward
-at_front s (e ∷ rest) stale new old lawful positive onward = at_new s e rest new lawful positive onward
+at_front s (e ∷ rest) old_flows new old lawful positive onward = at_new s e rest new lawful positive onward
 
 -- with fewer looks left than k
 selected_within : (k : ℕ) (s : FqState) → turns s < k → IsLawful s → 1 ≤ s.settings.quantum → IsLawful (selected s)
 selected_within zero s h lawful positive = absurd (omega arith)
 selected_within (suc k) s h lawful positive =
-    at_front s s.fresh s.stale refl refl lawful positive (λ t on lawful' positive'. selected_within k t (omega (arith, h, on.fewer)) lawful' positive')
+    at_front s s.new_flows s.old_flows refl refl lawful positive (λ t on lawful' positive'. selected_within k t (omega (arith, h, on.fewer)) lawful' positive')
 
 lawful_selected : (s : FqState) → IsLawful s → 1 ≤ s.settings.quantum → IsLawful (selected s)
 lawful_selected s lawful positive = selected_within (suc (turns s)) s (omega arith) lawful positive
@@ -128,7 +128,7 @@ sent_with s now (Some e) h lawful =
     let m : Entry = paid (sent_from now s) e in
     let t : FqState = record s { flows = adjust (flow_after now) e.flow s.flows } in
     subst (λ (x : FqState). IsLawful x) (sym (after-written s e now h))
-    (lawful_written t e m (drop 1 (s.fresh ++ s.stale)) (set s.fresh 0 m) (written m s.fresh s.stale)
+    (lawful_written t e m (drop 1 (s.new_flows ++ s.old_flows)) (set s.new_flows 0 m) (written m s.new_flows s.old_flows)
     (lawful_shrunk s (flow_after now) (count-after now) e.flow lawful) (front-is s e h) (flow-paid (sent_from now s) e) (lists-written s m e h))
 
 pub lawful_after_sending : (s : FqState) (now : ℕ) → IsLawful s → IsLawful (after_sending now s)

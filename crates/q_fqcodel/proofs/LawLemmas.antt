@@ -94,7 +94,7 @@ module _ (w : Stamped → ℕ) where
   gone_parts now (Some f) = sum_by-append w (packets_dropped now f) (option_to_list (sent f.codel now f.queue))
 
   -- the flow in front sends
-  total-sent : (s : FqState) (e : Entry) (rest : List Entry) (now : ℕ) → s.fresh ++ s.stale ≡ e ∷ rest
+  total-sent : (s : FqState) (e : Entry) (rest : List Entry) (now : ℕ) → s.new_flows ++ s.old_flows ≡ e ∷ rest
       → total (adjust (flow_after now) e.flow s.flows) + sum_by w (dropped_from now s) + sum_by w (option_to_list (head_sent now s)) ≡ total s.flows
   unfolding dropped_from
   total-sent s e rest now at_front =
@@ -103,10 +103,10 @@ module _ (w : Stamped → ℕ) where
       let h = ap (λ (x : Option Flow). sum_by w (option_to_list (option_and_then (λ (f : Flow). sent f.codel now f.queue) x))) (sender-is s e rest at_front) in
       omega (arith, d, h, gone_parts now o, total-lost (flow_after now) (gone_from now) (gone_split now) e.flow s.flows)
 
-  sends_keep : (s : FqState) (fresh stale : List Entry) (now : ℕ) → s.fresh ≡ fresh → s.stale ≡ stale
-      → total (with_sent now s fresh stale).flows + sum_by w (dropped_from now s) + sum_by w (option_to_list (head_sent now s)) ≡ total s.flows
+  sends_keep : (s : FqState) (new_flows old_flows : List Entry) (now : ℕ) → s.new_flows ≡ new_flows → s.old_flows ≡ old_flows
+      → total (with_sent now s new_flows old_flows).flows + sum_by w (dropped_from now s) + sum_by w (option_to_list (head_sent now s)) ≡ total s.flows
   unfolding with_sent
-  sends_keep s (e ∷ es) stale now f l = total-sent s e (es ++ stale) now (ap₂ (λ (a b : List Entry). a ++ b) f l)
+  sends_keep s (e ∷ es) old_flows now f l = total-sent s e (es ++ old_flows) now (ap₂ (λ (a b : List Entry). a ++ b) f l)
   sends_keep s [] (e ∷ es) now f l = total-sent s e es now (ap₂ (λ (a b : List Entry). a ++ b) f l)
   sends_keep s [] [] now f l =
       omega (
@@ -127,13 +127,13 @@ module _ (w : Stamped → ℕ) where
   total-selected : (s : FqState) → total (selected s).flows ≡ total s.flows
   unfolding selected total
   total-selected s =
-      let gone : List ℕ = (arranged s.settings.quantum (is_idle s.flows) s.fresh s.stale).gone in
+      let gone : List ℕ = (arranged s.settings.quantum (is_idle s.flows) s.new_flows s.old_flows).gone in
       ap (sum_by w) (all_packets-queues (clear rested_flow gone s.flows) ∙ ap (flat_map (λ (q : List Stamped). q)) (queues-clear gone s.flows) ∙ sym (all_packets-queues s.flows))
 
   take_keeps : (s : FqState) (now : ℕ)
       → sum_by w (all_packets (after_sending now (selected s)).flows) + sum_by w (dropped_from now (selected s)) + sum_by w (option_to_list (head_sent now (selected s))) ≡ sum_by w (all_packets s.flows)
   unfolding after_sending total
-  take_keeps s now = sends_keep (selected s) (selected s).fresh (selected s).stale now refl refl ∙ total-selected s
+  take_keeps s now = sends_keep (selected s) (selected s).new_flows (selected s).old_flows now refl refl ∙ total-selected s
 
 pub put_keeps_all : PutKeepsAll
 put_keeps_all w s packet now within = put_keeps w s packet now within

@@ -32,9 +32,9 @@ one-other n e ne = cond-false (e.flow == n) 1 0 (ne_eqb e.flow n ne)
 
 -- fewer entries, but none fewer of a flow with packets
 pub IsLawful-from : (s t : FqState) → IsLawful s → t.settings.flows ≡ s.settings.flows → length t.flows ≡ length s.flows
-    → ((n : ℕ) → times n (t.fresh ++ t.stale) ≤ times n (s.fresh ++ s.stale))
-    → ((n : ℕ) → is_idle t.flows n ≡ false → (is_idle s.flows n ≡ false) × (times n (s.fresh ++ s.stale) ≤ times n (t.fresh ++ t.stale)))
-    → length t.fresh + length t.stale ≤ length s.fresh + length s.stale → packets_of t.flows ≤ packets_of s.flows → IsLawful t
+    → ((n : ℕ) → times n (t.new_flows ++ t.old_flows) ≤ times n (s.new_flows ++ s.old_flows))
+    → ((n : ℕ) → is_idle t.flows n ≡ false → (is_idle s.flows n ≡ false) × (times n (s.new_flows ++ s.old_flows) ≤ times n (t.new_flows ++ t.old_flows)))
+    → length t.new_flows + length t.old_flows ≤ length s.new_flows + length s.old_flows → packets_of t.flows ≤ packets_of s.flows → IsLawful t
 IsLawful-from s t lawful settings flows no_more no_fewer short packets = record {
   each_flow = flows ∙ lawful.each_flow ∙ sym settings;
   in_range = λ n h. omega (arith, no_more n, lawful.in_range n (omega (arith, h, settings)));
@@ -45,19 +45,19 @@ IsLawful-from s t lawful settings flows no_more no_fewer short packets = record 
 }
 
 -- the flow in front of either list is one of the flows
-pub front_within : (s : FqState) (e : Entry) (rest : List Entry) → IsLawful s → s.fresh ++ s.stale ≡ e ∷ rest → e.flow < s.settings.flows
+pub front_within : (s : FqState) (e : Entry) (rest : List Entry) → IsLawful s → s.new_flows ++ s.old_flows ≡ e ∷ rest → e.flow < s.settings.flows
 front_within s e rest lawful front =
     ⊎_elim (λ (h : e.flow < s.settings.flows). h)
     (λ (h : s.settings.flows ≤ e.flow).
-    let none : times e.flow (s.fresh ++ s.stale) ≡ 0 = lawful.in_range e.flow h in
-    let some : times e.flow (s.fresh ++ s.stale) ≡ one e.flow e + times e.flow rest = ap (times e.flow) front ∙ times-cons e.flow e rest in
+    let none : times e.flow (s.new_flows ++ s.old_flows) ≡ 0 = lawful.in_range e.flow h in
+    let some : times e.flow (s.new_flows ++ s.old_flows) ≡ one e.flow e + times e.flow rest = ap (times e.flow) front ∙ times-cons e.flow e rest in
     absurd (omega (arith, none, some, one-own e)))
     (cases_lt e.flow s.settings.flows)
 
 -- other lists of the same flows, each as often as before
-lawful_relisted : (s : FqState) (fresh stale : List Entry) → IsLawful s → ((n : ℕ) → times n (fresh ++ stale) ≡ times n (s.fresh ++ s.stale)) → length fresh + length stale ≤ length s.fresh + length s.stale → IsLawful (record s { fresh = fresh; stale = stale })
-lawful_relisted s fresh stale lawful even short =
-    IsLawful-from s (record s { fresh = fresh; stale = stale }) lawful refl refl (λ n. omega (arith, even n)) (λ n h. (h, omega (arith, even n))) short (omega arith)
+lawful_relisted : (s : FqState) (new_flows old_flows : List Entry) → IsLawful s → ((n : ℕ) → times n (new_flows ++ old_flows) ≡ times n (s.new_flows ++ s.old_flows)) → length new_flows + length old_flows ≤ length s.new_flows + length s.old_flows → IsLawful (record s { new_flows = new_flows; old_flows = old_flows })
+lawful_relisted s new_flows old_flows lawful even short =
+    IsLawful-from s (record s { new_flows = new_flows; old_flows = old_flows }) lawful refl refl (λ n. omega (arith, even n)) (λ n h. (h, omega (arith, even n))) short (omega arith)
 
 -- how often a flow is in two lists, of which one begins with e, or ends with m
 times-front : (n : ℕ) (e : Entry) (xs rest ys : List Entry) → xs ≡ e ∷ rest → times n (xs ++ ys) ≡ one n e + times n rest + times n ys
@@ -67,25 +67,25 @@ times-last : (n : ℕ) (m : Entry) (xs ys : List Entry) → times n (xs ++ (ys +
 times-last n m xs ys = omega (arith, times-append n xs (ys ++ m ∷ []), times-append n ys (m ∷ []), times-cons n m [])
 
 -- a flow leaves the front of the new list, and is then the last of the old one
-pub lawful_moved : (s : FqState) (e m : Entry) (rest : List Entry) → IsLawful s → s.fresh ≡ e ∷ rest → m.flow ≡ e.flow → IsLawful (record s { fresh = rest; stale = s.stale ++ m ∷ [] })
+pub lawful_moved : (s : FqState) (e m : Entry) (rest : List Entry) → IsLawful s → s.new_flows ≡ e ∷ rest → m.flow ≡ e.flow → IsLawful (record s { new_flows = rest; old_flows = s.old_flows ++ m ∷ [] })
 lawful_moved s e m rest lawful front same =
-    lawful_relisted s rest (s.stale ++ m ∷ []) lawful
-    (λ n. omega (arith, times-last n m rest s.stale, times-front n e s.fresh rest s.stale front, one-same n e m same))
-    (omega (arith, ap length front, length-append s.stale (m ∷ [])))
+    lawful_relisted s rest (s.old_flows ++ m ∷ []) lawful
+    (λ n. omega (arith, times-last n m rest s.old_flows, times-front n e s.new_flows rest s.old_flows front, one-same n e m same))
+    (omega (arith, ap length front, length-append s.old_flows (m ∷ [])))
 
 -- the front of the old list goes to its end
-pub lawful_turned : (s : FqState) (e m : Entry) (rest : List Entry) → IsLawful s → s.stale ≡ e ∷ rest → m.flow ≡ e.flow → IsLawful (record s { stale = rest ++ m ∷ [] })
+pub lawful_turned : (s : FqState) (e m : Entry) (rest : List Entry) → IsLawful s → s.old_flows ≡ e ∷ rest → m.flow ≡ e.flow → IsLawful (record s { old_flows = rest ++ m ∷ [] })
 lawful_turned s e m rest lawful front same =
-    lawful_relisted s s.fresh (rest ++ m ∷ []) lawful
-    (λ n. omega (arith, times-last n m s.fresh rest, times-append n s.fresh s.stale, ap (times n) front, times-cons n e rest, one-same n e m same))
+    lawful_relisted s s.new_flows (rest ++ m ∷ []) lawful
+    (λ n. omega (arith, times-last n m s.new_flows rest, times-append n s.new_flows s.old_flows, ap (times n) front, times-cons n e rest, one-same n e m same))
     (omega (arith, ap length front, length-append rest (m ∷ [])))
 
 -- an empty flow leaves the front of the old list
-pub lawful_left : (s : FqState) (e : Entry) (rest : List Entry) → IsLawful s → s.stale ≡ e ∷ rest → is_idle s.flows e.flow ≡ true → IsLawful (record s { stale = rest })
+pub lawful_left : (s : FqState) (e : Entry) (rest : List Entry) → IsLawful s → s.old_flows ≡ e ∷ rest → is_idle s.flows e.flow ≡ true → IsLawful (record s { old_flows = rest })
 lawful_left s e rest lawful front empty =
-    let t : FqState = record s { stale = rest } in
-    let less : (n : ℕ) → times n (s.fresh ++ s.stale) ≡ one n e + times n (s.fresh ++ rest) = λ n.
-    omega (arith, times-append n s.fresh rest, times-append n s.fresh s.stale, ap (times n) front, times-cons n e rest) in
+    let t : FqState = record s { old_flows = rest } in
+    let less : (n : ℕ) → times n (s.new_flows ++ s.old_flows) ≡ one n e + times n (s.new_flows ++ rest) = λ n.
+    omega (arith, times-append n s.new_flows rest, times-append n s.new_flows s.old_flows, ap (times n) front, times-cons n e rest) in
     IsLawful-from s t lawful refl refl (λ n. omega (arith, less n))
     (λ n h. (h, omega (arith, less n, one-other n e (λ same. true≢false (sym empty ∙ ap (is_idle s.flows) same ∙ h)))))
     (omega (arith, ap length front)) (omega arith)
@@ -107,17 +107,17 @@ lawful_shrunk s g fewer n lawful =
     (omega arith) (packets-shrunk g fewer n s.flows)
 
 -- the credits of the front change
-pub lawful_written : (s : FqState) (e m : Entry) (rest fresh stale : List Entry) → IsLawful s → s.fresh ++ s.stale ≡ e ∷ rest → m.flow ≡ e.flow → fresh ++ stale ≡ m ∷ rest → IsLawful (record s { fresh = fresh; stale = stale })
-lawful_written s e m rest fresh stale lawful front same written =
-    lawful_relisted s fresh stale lawful
+pub lawful_written : (s : FqState) (e m : Entry) (rest new_flows old_flows : List Entry) → IsLawful s → s.new_flows ++ s.old_flows ≡ e ∷ rest → m.flow ≡ e.flow → new_flows ++ old_flows ≡ m ∷ rest → IsLawful (record s { new_flows = new_flows; old_flows = old_flows })
+lawful_written s e m rest new_flows old_flows lawful front same written =
+    lawful_relisted s new_flows old_flows lawful
     (λ n. omega (arith, ap (times n) written, times-cons n m rest, ap (times n) front, times-cons n e rest, one-same n e m same))
-    (omega (arith, ap length written, ap length front, length-append fresh stale, length-append s.fresh s.stale))
+    (omega (arith, ap length written, ap length front, length-append new_flows old_flows, length-append s.new_flows s.old_flows))
 
 -- where both lists are empty no flow has a packet
-pub none_waits : (s : FqState) → IsLawful s → s.fresh ≡ [] → s.stale ≡ [] → packets_of s.flows ≡ 0
+pub none_waits : (s : FqState) → IsLawful s → s.new_flows ≡ [] → s.old_flows ≡ [] → packets_of s.flows ≡ 0
 none_waits s lawful no_fresh no_stale =
     packets-none s.flows (λ n. true_from_ne_false (is_idle s.flows n)
-    (λ busy. absurd (omega (arith, lawful.busy n busy, times-append n s.fresh s.stale, ap (times n) no_fresh, ap (times n) no_stale))))
+    (λ busy. absurd (omega (arith, lawful.busy n busy, times-append n s.new_flows s.old_flows, ap (times n) no_fresh, ap (times n) no_stale))))
 
 -- ---- a new fq_codel, and one with other settings
 

@@ -29,7 +29,7 @@ times-stay n q k (e ∷ es) =
     ))
     (cases_lt (need q e) k)
 
-times-turned : (n q : ℕ) (es : List Entry) (o : Option Choice) → times n ((turned q es o).fresh ++ (turned q es o).stale) ≤ times n es
+times-turned : (n q : ℕ) (es : List Entry) (o : Option Choice) → times n ((turned q es o).new_flows ++ (turned q es o).old_flows) ≤ times n es
 unfolding turned
 times-turned n q es None = omega arith
 times-turned n q es (Some c) =
@@ -41,34 +41,34 @@ times-turned n q es (Some c) =
       times-split n c.place es,
     )
 
-times-rest : (n q : ℕ) (idle : ℕ → Bool) (rest old : List Entry) → times n ((with_rest q idle rest old).fresh ++ (with_rest q idle rest old).stale) ≤ times n (rest ++ old)
+times-rest : (n q : ℕ) (idle : ℕ → Bool) (rest old : List Entry) → times n ((with_rest q idle rest old).new_flows ++ (with_rest q idle rest old).old_flows) ≤ times n (rest ++ old)
 unfolding with_rest
 times-rest n q idle [] old = times-turned n q old (chosen q idle old)
 times-rest n q idle (r ∷ rs) old = omega arith
 
-pub times-selected : (n : ℕ) (s : FqState) → times n ((selected s).fresh ++ (selected s).stale) ≤ times n (s.fresh ++ s.stale)
+pub times-selected : (n : ℕ) (s : FqState) → times n ((selected s).new_flows ++ (selected s).old_flows) ≤ times n (s.new_flows ++ s.old_flows)
 unfolding selected arranged
 times-selected n s =
     let q : ℕ = s.settings.quantum in
-    let p : ℕ = first_ready q (is_idle s.flows) s.fresh in
-    let old : List Entry = s.stale ++ map (moved q) (take p s.fresh) in
+    let p : ℕ = first_ready q (is_idle s.flows) s.new_flows in
+    let old : List Entry = s.old_flows ++ map (moved q) (take p s.new_flows) in
     omega (
       arith,
-      times-rest n q (is_idle s.flows) (drop p s.fresh) old,
-      times-append n (drop p s.fresh) old,
-      times-append n s.stale (map (moved q) (take p s.fresh)),
-      times-moved q n (take p s.fresh),
-      times-append n s.fresh s.stale,
-      times-split n p s.fresh,
+      times-rest n q (is_idle s.flows) (drop p s.new_flows) old,
+      times-append n (drop p s.new_flows) old,
+      times-append n s.old_flows (map (moved q) (take p s.new_flows)),
+      times-moved q n (take p s.new_flows),
+      times-append n s.new_flows s.old_flows,
+      times-split n p s.new_flows,
     )
 
-pub times-sent : (n now : ℕ) (s : FqState) → times n ((after_sending now s).fresh ++ (after_sending now s).stale) ≡ times n (s.fresh ++ s.stale)
+pub times-sent : (n now : ℕ) (s : FqState) → times n ((after_sending now s).new_flows ++ (after_sending now s).old_flows) ≡ times n (s.new_flows ++ s.old_flows)
 times-sent n now s = by (front s) refl
   where
-    by : (o : Option Entry) → front s ≡ o → times n ((after_sending now s).fresh ++ (after_sending now s).stale) ≡ times n (s.fresh ++ s.stale)
-    by None f = let none = front-none s f in ap (λ (t : FqState). times n (t.fresh ++ t.stale)) (after-none s now none.0 none.1)
+    by : (o : Option Entry) → front s ≡ o → times n ((after_sending now s).new_flows ++ (after_sending now s).old_flows) ≡ times n (s.new_flows ++ s.old_flows)
+    by None f = let none = front-none s f in ap (λ (t : FqState). times n (t.new_flows ++ t.old_flows)) (after-none s now none.0 none.1)
     by (Some e) f =
         let m : Entry = paid (sent_from now s) e in
-        let rest : List Entry = drop 1 (s.fresh ++ s.stale) in
-        let written : (after_sending now s).fresh ++ (after_sending now s).stale ≡ m ∷ rest = ap (λ (t : FqState). t.fresh ++ t.stale) (after-written s e now f) ∙ lists-written s m e f in
+        let rest : List Entry = drop 1 (s.new_flows ++ s.old_flows) in
+        let written : (after_sending now s).new_flows ++ (after_sending now s).old_flows ≡ m ∷ rest = ap (λ (t : FqState). t.new_flows ++ t.old_flows) (after-written s e now f) ∙ lists-written s m e f in
         omega (arith, ap (times n) written, times-cons n m rest, one-same n e m (flow-paid (sent_from now s) e), ap (times n) (front-is s e f), times-cons n e rest)

@@ -35,14 +35,14 @@ some_new n h = omega (arith, eqb-false n 0 (not-true (n == 0) h))
 pub none_new : (n : ℕ) → not (n == 0) ≡ false → n ≡ 0
 none_new n h = eqb-true n 0 (not-false (n == 0) h)
 
-pub written_new : (fresh stale : List Entry) (e : Entry) → not (length fresh == 0) ≡ true → stale ≡ (if length fresh == 0 then set stale 0 e else stale)
-written_new fresh stale e h = sym (cond-false (length fresh == 0) (set stale 0 e) stale (not-true (length fresh == 0) h))
+pub written_new : (new_flows old_flows : List Entry) (e : Entry) → not (length new_flows == 0) ≡ true → old_flows ≡ (if length new_flows == 0 then set old_flows 0 e else old_flows)
+written_new new_flows old_flows e h = sym (cond-false (length new_flows == 0) (set old_flows 0 e) old_flows (not-true (length new_flows == 0) h))
 
-pub written_old : (fresh stale : List Entry) (e : Entry) → not (length fresh == 0) ≡ false → (fresh ≡ set fresh 0 e) × (set stale 0 e ≡ (if length fresh == 0 then set stale 0 e else stale))
-written_old fresh stale e h =
-    let none : fresh ≡ [] = nil_from_length fresh (none_new (length fresh) h) in (
+pub written_old : (new_flows old_flows : List Entry) (e : Entry) → not (length new_flows == 0) ≡ false → (new_flows ≡ set new_flows 0 e) × (set old_flows 0 e ≡ (if length new_flows == 0 then set old_flows 0 e else old_flows))
+written_old new_flows old_flows e h =
+    let none : new_flows ≡ [] = nil_from_length new_flows (none_new (length new_flows) h) in (
       none ∙ sym (ap (λ (l : List Entry). set l 0 e) none),
-      sym (cond-true (length fresh == 0) (set stale 0 e) stale (not-false (length fresh == 0) h)),
+      sym (cond-true (length new_flows == 0) (set old_flows 0 e) old_flows (not-false (length new_flows == 0) h)),
     )
 
 pub fresh_or_stale : Fresh ≢ Stale
@@ -74,15 +74,15 @@ listed_right n (e ∷ es) fs h = or_yes (e.flow == n) (is_listed n (es ++ fs)) (
     or_yes true b e = refl
     or_yes false b e = e
 
-module _ (links : List Link) (fresh stale : Ends) (lists : IsLists links fresh stale) (n : ℕ) where
+module _ (links : List Link) (new_flows old_flows : Ends) (lists : IsLists links new_flows old_flows) (n : ℕ) where
   abbrev all : List Entry
-  all = entries_in links fresh ++ entries_in links stale
+  all = entries_in links new_flows ++ entries_in links old_flows
 
   pub not_listed : (link_of links n).place ≡ Unlisted → false ≡ is_listed n all
   not_listed free = sym (unless (is_listed n all) (λ h. ⊎_elim
-      (λ (a : is_listed n (entries_in links fresh) ≡ true). nowhere (listed_there (link_at links) Fresh fresh.tail fresh.count fresh.head n lists.new.linked a))
-      (λ (b : is_listed n (entries_in links stale) ≡ true). nowhere (listed_there (link_at links) Stale stale.tail stale.count stale.head n lists.old.linked b))
-      (listed-append n (entries_in links fresh) (entries_in links stale) h)))
+      (λ (a : is_listed n (entries_in links new_flows) ≡ true). nowhere (listed_there (link_at links) Fresh new_flows.tail new_flows.count new_flows.head n lists.new.linked a))
+      (λ (b : is_listed n (entries_in links old_flows) ≡ true). nowhere (listed_there (link_at links) Stale old_flows.tail old_flows.count old_flows.head n lists.old.linked b))
+      (listed-append n (entries_in links new_flows) (entries_in links old_flows) h)))
     where
       unless : (b : Bool) → (b ≡ true → false ≡ true) → b ≡ false
       unless true h = absurd (false≢true (h refl))
@@ -92,10 +92,10 @@ module _ (links : List Link) (fresh stale : Ends) (lists : IsLists links fresh s
       nowhere x = let p : None ≡ Some x.0 = sym (free_at links n free) ∙ x.1 in absurd cc
 
   pub listed_new : (link_of links n).place ≡ Fresh → true ≡ is_listed n all
-  listed_new at = sym (listed_left n (entries_in links fresh) (entries_in links stale) (lists.new.whole n (link_of links n) (ap (where_listed (link_of links n)) at) at))
+  listed_new at = sym (listed_left n (entries_in links new_flows) (entries_in links old_flows) (lists.new.whole n (link_of links n) (ap (where_listed (link_of links n)) at) at))
 
   pub listed_old : (link_of links n).place ≡ Stale → true ≡ is_listed n all
-  listed_old at = sym (listed_right n (entries_in links fresh) (entries_in links stale) (lists.old.whole n (link_of links n) (ap (where_listed (link_of links n)) at) at))
+  listed_old at = sym (listed_right n (entries_in links new_flows) (entries_in links old_flows) (lists.old.whole n (link_of links n) (ap (where_listed (link_of links n)) at) at))
 
 -- ---- no flow is listed
 
@@ -114,14 +114,14 @@ empty_line n place = record {
   whole = λ k x there own. let p : None ≡ Some x = sym (nothing_at n k) ∙ there in absurd cc;
 }
 
-pub empty_lists : (n : ℕ) (links : List Link) (fresh stale : Ends) → links ≡ replicate n no_link → fresh ≡ no_ends → stale ≡ no_ends → n ≤ 65536 → IsLists links fresh stale
-empty_lists n links fresh stale all new old few =
+pub empty_lists : (n : ℕ) (links : List Link) (new_flows old_flows : Ends) → links ≡ replicate n no_link → new_flows ≡ no_ends → old_flows ≡ no_ends → n ≤ 65536 → IsLists links new_flows old_flows
+empty_lists n links new_flows old_flows all new old few =
     rw (all, new, old) (record { room = omega (arith, few, length-replicate n no_link); new = empty_line n Fresh; old = empty_line n Stale })
 
-pub empty_state : (n : ℕ) (links : List Link) (fresh stale : Ends) → links ≡ replicate n no_link → fresh ≡ no_ends → stale ≡ no_ends
-    → ◌≡◌ {A = ListsState} (record { fresh = entries_in links fresh; stale = entries_in links stale; room = length links }) (record { fresh = []; stale = []; room = n })
-empty_state n links fresh stale all new old =
-    let a : entries_in links fresh ≡ [] = no_entries links fresh (ap (λ (e : Ends). e.count) new) in
-    let b : entries_in links stale ≡ [] = no_entries links stale (ap (λ (e : Ends). e.count) old) in
+pub empty_state : (n : ℕ) (links : List Link) (new_flows old_flows : Ends) → links ≡ replicate n no_link → new_flows ≡ no_ends → old_flows ≡ no_ends
+    → ◌≡◌ {A = ListsState} (record { new_flows = entries_in links new_flows; old_flows = entries_in links old_flows; room = length links }) (record { new_flows = []; old_flows = []; room = n })
+empty_state n links new_flows old_flows all new old =
+    let a : entries_in links new_flows ≡ [] = no_entries links new_flows (ap (λ (e : Ends). e.count) new) in
+    let b : entries_in links old_flows ≡ [] = no_entries links old_flows (ap (λ (e : Ends). e.count) old) in
     let c : length links ≡ n = ap length all ∙ length-replicate n no_link in
     cc

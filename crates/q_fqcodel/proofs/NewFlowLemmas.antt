@@ -22,7 +22,7 @@ use Rattle.q_fqcodel.proofs.LawfulLemmas.{times-cons, times-append, one-own}
 use Rattle.q_fqcodel.proofs.LawLemmas.{queues-clear, appended-packets}
 use Rattle.q_fqcodel.proofs.FlowLemmas.{idle_in}
 use Rattle.q_fqcodel.proofs.PutLemmas.{other_queue, own_some, listed-yes, cut-none}
-use Rattle.q_fqcodel.proofs.SentLemmas.{after-fresh, flow-paid}
+use Rattle.q_fqcodel.proofs.SentLemmas.{after-new_flows, flow-paid}
 
 -- of each entry
 abbrev Each : (ℕ → Type 0) → List Entry → Type 0
@@ -30,15 +30,15 @@ Each P [] = ⊤
 Each P (e ∷ es) = P e.flow × Each P es
 
 -- the first ready flow of a list, and what stands behind it
-record Ready (P : ℕ → Type 0) (n : ℕ) (fresh : List Entry) : Type 0 where
+record Ready (P : ℕ → Type 0) (n : ℕ) (new_flows : List Entry) : Type 0 where
   first : Entry
   behind : List Entry
-  is : fresh ≡ first ∷ behind
+  is : new_flows ≡ first ∷ behind
   good : P first.flow
   others : Each P behind
   still : (first.flow ≡ n) ⊎ HasCredits n behind
 
-ready_of : (P : ℕ → Type 0) (q n : ℕ) (idle : ℕ → Bool) → idle n ≡ false → (fresh : List Entry) → Each P fresh → HasCredits n fresh → Ready P n (drop (first_ready q idle fresh) fresh)
+ready_of : (P : ℕ → Type 0) (q n : ℕ) (idle : ℕ → Bool) → idle n ≡ false → (new_flows : List Entry) → Each P new_flows → HasCredits n new_flows → Ready P n (drop (first_ready q idle new_flows) new_flows)
 ready_of P q n idle busy [] each has = absurd has
 ready_of P q n idle busy (e ∷ es) each has =
     ⊎_elim
@@ -52,18 +52,18 @@ ready_of P q n idle busy (e ∷ es) each has =
     (first_passes q idle e es)
 
 -- the new list once the flow that sends is in front
-selected-fresh : (s : FqState) (e : Entry) (es : List Entry) → drop (first_ready s.settings.quantum (is_idle s.flows) s.fresh) s.fresh ≡ e ∷ es → (selected s).fresh ≡ e ∷ es
+selected-new_flows : (s : FqState) (e : Entry) (es : List Entry) → drop (first_ready s.settings.quantum (is_idle s.flows) s.new_flows) s.new_flows ≡ e ∷ es → (selected s).new_flows ≡ e ∷ es
 unfolding selected arranged with_rest
-selected-fresh s e es h =
-    ap (λ (l : List Entry). (with_rest s.settings.quantum (is_idle s.flows) l (s.stale ++ map (moved s.settings.quantum) (take (first_ready s.settings.quantum (is_idle s.flows) s.fresh) s.fresh))).fresh) h
+selected-new_flows s e es h =
+    ap (λ (l : List Entry). (with_rest s.settings.quantum (is_idle s.flows) l (s.old_flows ++ map (moved s.settings.quantum) (take (first_ready s.settings.quantum (is_idle s.flows) s.new_flows) s.new_flows))).new_flows) h
 
 selected-queues : (s : FqState) → queues (selected s).flows ≡ queues s.flows
 unfolding selected
-selected-queues s = queues-clear (λ (_ : Stamped). 0) (arranged s.settings.quantum (is_idle s.flows) s.fresh s.stale).gone s.flows
+selected-queues s = queues-clear (λ (_ : Stamped). 0) (arranged s.settings.quantum (is_idle s.flows) s.new_flows s.old_flows).gone s.flows
 
-front-is : (s : FqState) (e : Entry) (es : List Entry) → s.fresh ≡ e ∷ es → front s ≡ Some e
+front-is : (s : FqState) (e : Entry) (es : List Entry) → s.new_flows ≡ e ∷ es → front s ≡ Some e
 unfolding front
-front-is s e es h = ap (λ (l : List Entry). slice_get (l ++ s.stale) 0) h
+front-is s e es h = ap (λ (l : List Entry). slice_get (l ++ s.old_flows) 0) h
 
 served-step : (n m : ℕ) (P : ℕ → Type 0) (rest : List ℕ) → P m → (m ≢ n → All P (served_before n rest)) → All P (served_before n (m ∷ rest))
 served-step n m P rest good more =
@@ -73,57 +73,57 @@ served-step n m P rest good more =
     (cases_eq m n)
 
 -- as long as n has not sent, it stays new
-stays_new : (n now : ℕ) (s : FqState) (e : Entry) (es : List Entry) → (selected s).fresh ≡ e ∷ es → is_idle s.flows n ≡ false → n ≢ e.flow → is_idle (after_sending now (selected s)).flows n ≡ false
+stays_new : (n now : ℕ) (s : FqState) (e : Entry) (es : List Entry) → (selected s).new_flows ≡ e ∷ es → is_idle s.flows n ≡ false → n ≢ e.flow → is_idle (after_sending now (selected s)).flows n ≡ false
 stays_new n now s e es at busy other =
-    ap (λ (x : FqState). is_idle x.flows n) (after-fresh (selected s) e es now at)
+    ap (λ (x : FqState). is_idle x.flows n) (after-new_flows (selected s) e es now at)
     ∙ ap (λ (l : List Stamped). nat_eq (count l) 0) (other_queue (flow_after now) e.flow n (selected s).flows other)
     ∙ ap (λ (l : List (List Stamped)). idle_in l n) (selected-queues s)
     ∙ busy
 
-goes_on : (P : ℕ → Type 0) (n : ℕ) (nows : List ℕ) (s : FqState) → Each P s.fresh → HasCredits n s.fresh → is_idle s.flows n ≡ false → All P (served_before n (served nows s))
+goes_on : (P : ℕ → Type 0) (n : ℕ) (nows : List ℕ) (s : FqState) → Each P s.new_flows → HasCredits n s.new_flows → is_idle s.flows n ≡ false → All P (served_before n (served nows s))
 goes_on P n [] s each has busy = All-nil P
 goes_on P n (now ∷ nows) s each has busy =
-    let r = ready_of P s.settings.quantum n (is_idle s.flows) busy s.fresh each has in
+    let r = ready_of P s.settings.quantum n (is_idle s.flows) busy s.new_flows each has in
     let e : Entry = r.first in
     let es : List Entry = r.behind in
-    let at : (selected s).fresh ≡ e ∷ es = selected-fresh s e es r.is in
+    let at : (selected s).new_flows ≡ e ∷ es = selected-new_flows s e es r.is in
     let t : FqState = after_sending now (selected s) in
     let m : Entry = paid (sent_from now (selected s)) e in
-    let fresh : t.fresh ≡ m ∷ es = ap (λ (x : FqState). x.fresh) (after-fresh (selected s) e es now at) in
+    let new_flows : t.new_flows ≡ m ∷ es = ap (λ (x : FqState). x.new_flows) (after-new_flows (selected s) e es now at) in
     let first : served (now ∷ nows) s ≡ e.flow ∷ served nows t = ap (λ (o : Option Entry). map (λ (e : Entry). e.flow) (option_to_list o) ++ served nows t) (front-is (selected s) e es at) in
     subst (λ (l : List ℕ). All P (served_before n l)) (sym first)
     (served-step n e.flow P (served nows t) r.good
     (λ other.
     goes_on P n nows t
-    (subst (Each P) (sym fresh) (subst P (sym (flow-paid (sent_from now (selected s)) e)) r.good, r.others))
-    (subst (HasCredits n) (sym fresh) (inr (⊎_elim (λ (own : e.flow ≡ n). absurd (other own)) (λ (h : HasCredits n es). h) r.still)))
+    (subst (Each P) (sym new_flows) (subst P (sym (flow-paid (sent_from now (selected s)) e)) r.good, r.others))
+    (subst (HasCredits n) (sym new_flows) (inr (⊎_elim (λ (own : e.flow ≡ n). absurd (other own)) (λ (h : HasCredits n es). h) r.still)))
     (stays_new n now s e es at busy (λ same. other (sym same)))))
 
 -- a flow of the new list is not in the old one
-each_new : (stale fresh : List Entry) → ((n : ℕ) → times n fresh + times n stale ≤ 1) → Each (λ m. is_listed m stale ≡ false) fresh
-each_new stale [] once = tt
-each_new stale (e ∷ es) once = (
-  false_from_ne_true (is_listed e.flow stale) (λ listed. absurd (omega (arith, once e.flow, times-cons e.flow e es, one-own e, listed-yes e.flow stale listed))),
-  each_new stale es (λ n. omega (arith, once n, times-cons n e es)),
+each_new : (old_flows new_flows : List Entry) → ((n : ℕ) → times n new_flows + times n old_flows ≤ 1) → Each (λ m. is_listed m old_flows ≡ false) new_flows
+each_new old_flows [] once = tt
+each_new old_flows (e ∷ es) once = (
+  false_from_ne_true (is_listed e.flow old_flows) (λ listed. absurd (omega (arith, once e.flow, times-cons e.flow e es, one-own e, listed-yes e.flow old_flows listed))),
+  each_new old_flows es (λ n. omega (arith, once n, times-cons n e es)),
 )
 
 pub new_before_old : NewBeforeOld
 new_before_old s n lawful new nows =
-    goes_on (λ m. is_listed m s.stale ≡ false) n nows s
-    (each_new s.stale s.fresh (λ m. omega (arith, lawful.once m, times-append m s.fresh s.stale))) new.listed new.busy
+    goes_on (λ m. is_listed m s.old_flows ≡ false) n nows s
+    (each_new s.old_flows s.new_flows (λ m. omega (arith, lawful.once m, times-append m s.new_flows s.old_flows))) new.listed new.busy
 
 credits_last : (n : ℕ) (es : List Entry) (e : Entry) → e.flow ≡ n → pos 0 <ℤ e.credits → HasCredits n (es ++ e ∷ [])
 credits_last n [] e own high = inl (own, high)
 credits_last n (x ∷ xs) e own high = inr (credits_last n xs e own high)
 
-becomes_new' : (s : FqState) (packet : Descriptor) (now : ℕ) → 1 ≤ s.settings.quantum → flow_of s packet < length s.flows → is_listed (flow_of s packet) (s.fresh ++ s.stale) ≡ false → IsNew (flow_of s packet) (appended s packet now)
+becomes_new' : (s : FqState) (packet : Descriptor) (now : ℕ) → 1 ≤ s.settings.quantum → flow_of s packet < length s.flows → is_listed (flow_of s packet) (s.new_flows ++ s.old_flows) ≡ false → IsNew (flow_of s packet) (appended s packet now)
 unfolding appended
 becomes_new' s packet now positive within absent =
     let n : ℕ = flow_of s packet in
     let e : Entry = record { flow = n; credits = pos s.settings.quantum } in
     let p : Stamped = record { packet = packet; at = now } in
     record {
-      listed = subst (HasCredits n) (sym (cond-false (is_listed n (s.fresh ++ s.stale)) s.fresh (s.fresh ++ e ∷ []) absent)) (credits_last n s.fresh e refl (omega (arith, ints, positive)));
+      listed = subst (HasCredits n) (sym (cond-false (is_listed n (s.new_flows ++ s.old_flows)) s.new_flows (s.new_flows ++ e ∷ []) absent)) (credits_last n s.new_flows e refl (omega (arith, ints, positive)));
       busy = let some = own_some p n s.flows within in ne_eqb (count (queue_of (adjust (joined p) n s.flows) n)) 0 (λ none. absurd (omega (arith, some, none)));
     }
 

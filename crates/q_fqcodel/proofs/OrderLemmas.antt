@@ -257,7 +257,7 @@ module _ (i j q : ℕ) (idle : ℕ → Bool) (busy_i : idle i ≡ false) (busy_j
         omega (arith, turned-some q n es c, behind, before, all, spread, mul-suc (times n (take c.place es)) c.rounds)
 
     turned-even : times i es ≡ 1 → times j es ≡ 1
-        → quanta_turned q i es (Some c) + one_if (stands_first i j (turned q es (Some c)).stale) ≡ quanta_turned q j es (Some c) + one_if (stands_first i j es)
+        → quanta_turned q i es (Some c) + one_if (stands_first i j (turned q es (Some c)).old_flows) ≡ quanta_turned q j es (Some c) + one_if (stands_first i j es)
     unfolding turned
     turned-even once_i once_j =
         let before : List Entry = take c.place es in
@@ -269,44 +269,44 @@ module _ (i j q : ℕ) (idle : ℕ → Bool) (busy_i : idle i ≡ false) (busy_j
         ∙ order-front i j behind (stay q (suc c.rounds) before) before (order-stayed i j q (suc c.rounds) before (λ e h own. needs-before e h (busy e own))) in
         omega (arith, turned-times i busy_i once_i, turned-times j busy_j once_j, round, ap one_if kept, ap (λ (l : List Entry). one_if (stands_first i j l)) whole)
 
-  module _ (fresh stale : List Entry) (once_i : times i (fresh ++ stale) ≡ 1) (once_j : times j (fresh ++ stale) ≡ 1) where
+  module _ (new_flows old_flows : List Entry) (once_i : times i (new_flows ++ old_flows) ≡ 1) (once_j : times j (new_flows ++ old_flows) ≡ 1) where
     over : List Entry
-    over = take (first_ready q idle fresh) fresh
+    over = take (first_ready q idle new_flows) new_flows
 
     left : List Entry
-    left = drop (first_ready q idle fresh) fresh
+    left = drop (first_ready q idle new_flows) new_flows
 
     old : List Entry
-    old = stale ++ map (moved q) over
+    old = old_flows ++ map (moved q) over
 
-    whole : over ++ (left ++ stale) ≡ fresh ++ stale
+    whole : over ++ (left ++ old_flows) ≡ new_flows ++ old_flows
     unfolding over left
-    whole = sym (append_assoc over left stale) ∙ ap (λ (l : List Entry). l ++ stale) (take-append-drop (first_ready q idle fresh) fresh)
+    whole = sym (append_assoc over left old_flows) ∙ ap (λ (l : List Entry). l ++ old_flows) (take-append-drop (first_ready q idle new_flows) new_flows)
 
     passed-times : (n : ℕ) → idle n ≡ false → quanta_in q n 1 over ≡ times n over
     unfolding over
-    passed-times n full = quanta-times q n 1 over (λ e h own. passed-short q idle fresh e h (ap idle own ∙ full)) ∙ omega arith
+    passed-times n full = quanta-times q n 1 over (λ e h own. passed-short q idle new_flows e h (ap idle own ∙ full)) ∙ omega arith
 
     -- the new flows that are passed over
-    passed-even : quanta_in q i 1 over + one_if (stands_first i j (left ++ old)) ≡ quanta_in q j 1 over + one_if (stands_first i j (fresh ++ stale))
+    passed-even : quanta_in q i 1 over + one_if (stands_first i j (left ++ old)) ≡ quanta_in q j 1 over + one_if (stands_first i j (new_flows ++ old_flows))
     unfolding old
     passed-even =
-        let round = rotated i j over (left ++ stale) (ap (times i) whole ∙ once_i) (ap (times j) whole ∙ once_j) in
-        let kept : stands_first i j (left ++ old) ≡ stands_first i j ((left ++ stale) ++ over) =
-        order-front i j left old (stale ++ over) (order-front i j stale (map (moved q) over) over (order-map i j (moved q) (flow-moved q) over))
-        ∙ ap (stands_first i j) (sym (append_assoc left stale over)) in
+        let round = rotated i j over (left ++ old_flows) (ap (times i) whole ∙ once_i) (ap (times j) whole ∙ once_j) in
+        let kept : stands_first i j (left ++ old) ≡ stands_first i j ((left ++ old_flows) ++ over) =
+        order-front i j left old (old_flows ++ over) (order-front i j old_flows (map (moved q) over) over (order-map i j (moved q) (flow-moved q) over))
+        ∙ ap (stands_first i j) (sym (append_assoc left old_flows over)) in
         omega (arith, passed-times i busy_i, passed-times j busy_j, round, ap one_if kept, ap (λ (l : List Entry). one_if (stands_first i j l)) whole)
 
-    old-once : (n : ℕ) → times n (fresh ++ stale) ≡ 1 → left ≡ [] → times n old ≡ 1
+    old-once : (n : ℕ) → times n (new_flows ++ old_flows) ≡ 1 → left ≡ [] → times n old ≡ 1
     unfolding old
     old-once n once none =
-        let all = sym (times-append n over (left ++ stale)) ∙ ap (times n) whole ∙ once in
-        omega (arith, all, times-append n left stale, ap (times n) none, times-append n stale (map (moved q) over), times-moved q n over)
+        let all = sym (times-append n over (left ++ old_flows)) ∙ ap (times n) whole ∙ once in
+        omega (arith, all, times-append n left old_flows, ap (times n) none, times-append n old_flows (map (moved q) over), times-moved q n over)
 
     -- and then the old list
     old-even : (o : Option Choice) → chosen q idle old ≡ o → left ≡ []
-        → quanta_in q i 1 over + quanta_turned q i old o + one_if (stands_first i j ((turned q old o).fresh ++ (turned q old o).stale))
-        ≡ quanta_in q j 1 over + quanta_turned q j old o + one_if (stands_first i j (fresh ++ stale))
+        → quanta_in q i 1 over + quanta_turned q i old o + one_if (stands_first i j ((turned q old o).new_flows ++ (turned q old o).old_flows))
+        ≡ quanta_in q j 1 over + quanta_turned q j old o + one_if (stands_first i j (new_flows ++ old_flows))
     unfolding turned
     old-even None is none = absurd (some-chosen q idle old i (omega (arith, old-once i once_i none)) busy_i is)
     old-even (Some c) is none =
@@ -314,20 +314,20 @@ module _ (i j q : ℕ) (idle : ℕ → Bool) (busy_i : idle i ≡ false) (busy_j
         omega (arith, passed-even, turn, ap (λ (l : List Entry). one_if (stands_first i j (l ++ old))) none)
 
     all-even : (rest : List Entry) → left ≡ rest
-        → quanta_in q i 1 over + quanta_old q idle i rest old + one_if (stands_first i j ((with_rest q idle rest old).fresh ++ (with_rest q idle rest old).stale))
-        ≡ quanta_in q j 1 over + quanta_old q idle j rest old + one_if (stands_first i j (fresh ++ stale))
+        → quanta_in q i 1 over + quanta_old q idle i rest old + one_if (stands_first i j ((with_rest q idle rest old).new_flows ++ (with_rest q idle rest old).old_flows))
+        ≡ quanta_in q j 1 over + quanta_old q idle j rest old + one_if (stands_first i j (new_flows ++ old_flows))
     unfolding with_rest quanta_old
     all-even [] is = old-even (chosen q idle old) refl is
     all-even (r ∷ rs) is = omega (arith, passed-even, ap (λ (l : List Entry). one_if (stands_first i j (l ++ old))) is)
 
 pub quanta-even : (s : FqState) (i j : ℕ) → IsLawful s → is_idle s.flows i ≡ false → is_idle s.flows j ≡ false
-    → quanta_given s i + one_if (stands_first i j ((selected s).fresh ++ (selected s).stale)) ≡ quanta_given s j + one_if (stands_first i j (s.fresh ++ s.stale))
+    → quanta_given s i + one_if (stands_first i j ((selected s).new_flows ++ (selected s).old_flows)) ≡ quanta_given s j + one_if (stands_first i j (s.new_flows ++ s.old_flows))
 unfolding selected arranged quanta_given passed_over old_list over left old
 quanta-even s i j lawful busy_i busy_j =
-    let once_i : times i (s.fresh ++ s.stale) ≡ 1 = (let most = lawful.once i in omega (arith, most, lawful.busy i busy_i)) in
-    let once_j : times j (s.fresh ++ s.stale) ≡ 1 = (let most = lawful.once j in omega (arith, most, lawful.busy j busy_j)) in
-    let p : ℕ = first_ready s.settings.quantum (is_idle s.flows) s.fresh in
-    all-even i j s.settings.quantum (is_idle s.flows) busy_i busy_j s.fresh s.stale once_i once_j (drop p s.fresh) refl
+    let once_i : times i (s.new_flows ++ s.old_flows) ≡ 1 = (let most = lawful.once i in omega (arith, most, lawful.busy i busy_i)) in
+    let once_j : times j (s.new_flows ++ s.old_flows) ≡ 1 = (let most = lawful.once j in omega (arith, most, lawful.busy j busy_j)) in
+    let p : ℕ = first_ready s.settings.quantum (is_idle s.flows) s.new_flows in
+    all-even i j s.settings.quantum (is_idle s.flows) busy_i busy_j s.new_flows s.old_flows once_i once_j (drop p s.new_flows) refl
 
 pub quanta_are_even : QuantaAreEven
 quanta_are_even s i j lawful busy_i busy_j =

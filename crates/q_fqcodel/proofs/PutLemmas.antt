@@ -72,12 +72,12 @@ length-times n (e ∷ es) h =
     )
 
 -- a flow that is not listed has a place
-pub place_for : (s : FqState) (n : ℕ) → IsLawful s → n < s.settings.flows → times n (s.fresh ++ s.stale) ≡ 0 → length s.fresh + length s.stale < s.settings.flows
+pub place_for : (s : FqState) (n : ℕ) → IsLawful s → n < s.settings.flows → times n (s.new_flows ++ s.old_flows) ≡ 0 → length s.new_flows + length s.old_flows < s.settings.flows
 place_for s n lawful within absent =
-    let all : List Entry = s.fresh ++ s.stale in
+    let all : List Entry = s.new_flows ++ s.old_flows in
     omega (
       arith,
-      length-append s.fresh s.stale,
+      length-append s.new_flows s.old_flows,
       length-times s.settings.flows all lawful.in_range,
       sum_below-lt (λ k. times k all) s.settings.flows n lawful.once within absent,
     )
@@ -146,26 +146,26 @@ busy_shed p n m k fat flows busy =
     busy_put p n m flows (busy-shrunk (shortened k) (λ f. omega (arith, length-drop k f.queue)) fat m (adjust (joined p) n flows) busy)
 
 -- the flow is listed, or goes to the end of the new list
-pub enlisted_cases : (n q : ℕ) (fresh fresh' stale : List Entry) → fresh' ≡ cond (is_listed n (fresh ++ stale)) fresh (fresh ++ record { flow = n; credits = pos q } ∷ [])
-    → ((fresh' ≡ fresh) × (1 ≤ times n (fresh ++ stale))) ⊎ ((fresh' ≡ fresh ++ record { flow = n; credits = pos q } ∷ []) × (times n (fresh ++ stale) ≡ 0))
-enlisted_cases n q fresh fresh' stale e =
+pub enlisted_cases : (n q : ℕ) (new_flows new_flows' old_flows : List Entry) → new_flows' ≡ cond (is_listed n (new_flows ++ old_flows)) new_flows (new_flows ++ record { flow = n; credits = pos q } ∷ [])
+    → ((new_flows' ≡ new_flows) × (1 ≤ times n (new_flows ++ old_flows))) ⊎ ((new_flows' ≡ new_flows ++ record { flow = n; credits = pos q } ∷ []) × (times n (new_flows ++ old_flows) ≡ 0))
+enlisted_cases n q new_flows new_flows' old_flows e =
     ⊎_elim
-    (λ (yes' : is_listed n (fresh ++ stale) ≡ true). inl (e ∙ cond-true _ _ _ yes', listed-yes n (fresh ++ stale) yes'))
-    (λ (no' : is_listed n (fresh ++ stale) ≡ false). inr (e ∙ cond-false _ _ _ no', listed-not n (fresh ++ stale) no'))
-    (cases_Bool (is_listed n (fresh ++ stale)))
+    (λ (yes' : is_listed n (new_flows ++ old_flows) ≡ true). inl (e ∙ cond-true _ _ _ yes', listed-yes n (new_flows ++ old_flows) yes'))
+    (λ (no' : is_listed n (new_flows ++ old_flows) ≡ false). inr (e ∙ cond-false _ _ _ no', listed-not n (new_flows ++ old_flows) no'))
+    (cases_Bool (is_listed n (new_flows ++ old_flows)))
 
 -- ---- what the definition computes to
 
-pub appended-is : (s : FqState) (packet : Descriptor) (now n q : ℕ) (flows : List Flow) (fresh : List Entry) → n ≡ flow_of s packet → q ≡ s.settings.quantum
+pub appended-is : (s : FqState) (packet : Descriptor) (now n q : ℕ) (flows : List Flow) (new_flows : List Entry) → n ≡ flow_of s packet → q ≡ s.settings.quantum
     → flows ≡ adjust (joined (record { packet = packet; at = now })) n s.flows
-    → fresh ≡ cond (is_listed n (s.fresh ++ s.stale)) s.fresh (s.fresh ++ record { flow = n; credits = pos q } ∷ [])
-    → record s { flows = flows; fresh = fresh } ≡ appended s packet now
+    → new_flows ≡ cond (is_listed n (s.new_flows ++ s.old_flows)) s.new_flows (s.new_flows ++ record { flow = n; credits = pos q } ∷ [])
+    → record s { flows = flows; new_flows = new_flows } ≡ appended s packet now
 unfolding appended
-appended-is s packet now n q flows fresh at quantum joins lists =
-    ap₂ (λ (f : List Flow) (l : List Entry). record s { flows = f; fresh = l }) joins lists
+appended-is s packet now n q flows new_flows at quantum joins lists =
+    ap₂ (λ (f : List Flow) (l : List Entry). record s { flows = f; new_flows = l }) joins lists
     ∙ ap₂ (λ (m k : ℕ). record s {
       flows = adjust (joined (record { packet = packet; at = now })) m s.flows;
-      fresh = cond (is_listed m (s.fresh ++ s.stale)) s.fresh (s.fresh ++ record { flow = m; credits = pos k } ∷ []);
+      new_flows = cond (is_listed m (s.new_flows ++ s.old_flows)) s.new_flows (s.new_flows ++ record { flow = m; credits = pos k } ∷ []);
     }) at quantum
 
 overflow-none : (a : FqState) → packets_of a.flows ≤ a.settings.limit → overflow a ≡ 0
@@ -240,29 +240,29 @@ shed-positive flows batch some two fat = omega arith
 -- with the flow n listed once, and packets in no flow that had none but n
 module _ (s t : FqState) (n : ℕ) (lawful : IsLawful s) (settings : t.settings.flows ≡ s.settings.flows) (flows : length t.flows ≡ length s.flows) (within : n < s.settings.flows)
     (busy : (m : ℕ) → is_idle t.flows m ≡ false → (m ≡ n) ⊎ (is_idle s.flows m ≡ false)) (few : packets_of t.flows < 2 ^ 32) where
-  lawful_listed : t.fresh ≡ s.fresh → t.stale ≡ s.stale → 1 ≤ times n (s.fresh ++ s.stale) → IsLawful t
-  lawful_listed fresh stale listed =
-      let same : (m : ℕ) → times m (t.fresh ++ t.stale) ≡ times m (s.fresh ++ s.stale) = λ m. ap₂ (λ (l k : List Entry). times m (l ++ k)) fresh stale in
+  lawful_listed : t.new_flows ≡ s.new_flows → t.old_flows ≡ s.old_flows → 1 ≤ times n (s.new_flows ++ s.old_flows) → IsLawful t
+  lawful_listed new_flows old_flows listed =
+      let same : (m : ℕ) → times m (t.new_flows ++ t.old_flows) ≡ times m (s.new_flows ++ s.old_flows) = λ m. ap₂ (λ (l k : List Entry). times m (l ++ k)) new_flows old_flows in
       record {
         each_flow = flows ∙ lawful.each_flow ∙ sym settings;
         in_range = λ m h. omega (arith, same m, lawful.in_range m (omega (arith, h, settings)));
-        within = omega (arith, ap length fresh, ap length stale, lawful.within, settings);
+        within = omega (arith, ap length new_flows, ap length old_flows, lawful.within, settings);
         once = λ m. omega (arith, same m, lawful.once m);
-        busy = λ m h. ⊎_elim (λ (own : m ≡ n). omega (arith, same m, ap (λ (k : ℕ). times k (s.fresh ++ s.stale)) own, listed)) (λ (was : is_idle s.flows m ≡ false). omega (arith, same m, lawful.busy m was)) (busy m h);
+        busy = λ m h. ⊎_elim (λ (own : m ≡ n). omega (arith, same m, ap (λ (k : ℕ). times k (s.new_flows ++ s.old_flows)) own, listed)) (λ (was : is_idle s.flows m ≡ false). omega (arith, same m, lawful.busy m was)) (busy m h);
         few = few;
       }
 
-  lawful_enlisted : (e : Entry) → e.flow ≡ n → t.fresh ≡ s.fresh ++ e ∷ [] → t.stale ≡ s.stale → times n (s.fresh ++ s.stale) ≡ 0 → IsLawful t
-  lawful_enlisted e own fresh stale absent =
-      let more : (m : ℕ) → times m (t.fresh ++ t.stale) ≡ times m (s.fresh ++ s.stale) + one m e = λ m.
-      omega (arith, ap₂ (λ (l k : List Entry). times m (l ++ k)) fresh stale, times-append m (s.fresh ++ e ∷ []) s.stale, times-append m s.fresh (e ∷ []), times-cons m e [], times-append m s.fresh s.stale) in
+  lawful_enlisted : (e : Entry) → e.flow ≡ n → t.new_flows ≡ s.new_flows ++ e ∷ [] → t.old_flows ≡ s.old_flows → times n (s.new_flows ++ s.old_flows) ≡ 0 → IsLawful t
+  lawful_enlisted e own new_flows old_flows absent =
+      let more : (m : ℕ) → times m (t.new_flows ++ t.old_flows) ≡ times m (s.new_flows ++ s.old_flows) + one m e = λ m.
+      omega (arith, ap₂ (λ (l k : List Entry). times m (l ++ k)) new_flows old_flows, times-append m (s.new_flows ++ e ∷ []) s.old_flows, times-append m s.new_flows (e ∷ []), times-cons m e [], times-append m s.new_flows s.old_flows) in
       record {
         each_flow = flows ∙ lawful.each_flow ∙ sym settings;
         in_range = λ m h. omega (arith, more m, lawful.in_range m (omega (arith, h, settings)), one-other m e (λ same. absurd (omega (arith, same, own, h, settings, within))));
-        within = omega (arith, ap length fresh, ap length stale, length-append s.fresh (e ∷ []), place_for s n lawful within absent, settings);
+        within = omega (arith, ap length new_flows, ap length old_flows, length-append s.new_flows (e ∷ []), place_for s n lawful within absent, settings);
         once = λ m.
             ⊎_elim
-            (λ (same : e.flow ≡ m). omega (arith, more m, ap (λ (k : ℕ). times k (s.fresh ++ s.stale)) (sym own ∙ same), absent, ap (λ (k : ℕ). one k e) same, one-own e))
+            (λ (same : e.flow ≡ m). omega (arith, more m, ap (λ (k : ℕ). times k (s.new_flows ++ s.old_flows)) (sym own ∙ same), absent, ap (λ (k : ℕ). one k e) same, one-own e))
             (λ (other : e.flow ≢ m). omega (arith, more m, lawful.once m, one-other m e other))
             (cases_eq e.flow m);
         busy = λ m h.
@@ -273,12 +273,12 @@ module _ (s t : FqState) (n : ℕ) (lawful : IsLawful s) (settings : t.settings.
         few = few;
       }
 
-  pub lawful_put : (q : ℕ) → t.fresh ≡ cond (is_listed n (s.fresh ++ s.stale)) s.fresh (s.fresh ++ record { flow = n; credits = pos q } ∷ []) → t.stale ≡ s.stale → IsLawful t
-  lawful_put q fresh stale =
+  pub lawful_put : (q : ℕ) → t.new_flows ≡ cond (is_listed n (s.new_flows ++ s.old_flows)) s.new_flows (s.new_flows ++ record { flow = n; credits = pos q } ∷ []) → t.old_flows ≡ s.old_flows → IsLawful t
+  lawful_put q new_flows old_flows =
       ⊎_elim
-      (λ (w : (t.fresh ≡ s.fresh) × (1 ≤ times n (s.fresh ++ s.stale))). lawful_listed w.0 stale w.1)
-      (λ (w : (t.fresh ≡ s.fresh ++ record { flow = n; credits = pos q } ∷ []) × (times n (s.fresh ++ s.stale) ≡ 0)). lawful_enlisted (record { flow = n; credits = pos q }) refl w.0 stale w.1)
-      (enlisted_cases n q s.fresh t.fresh s.stale fresh)
+      (λ (w : (t.new_flows ≡ s.new_flows) × (1 ≤ times n (s.new_flows ++ s.old_flows))). lawful_listed w.0 old_flows w.1)
+      (λ (w : (t.new_flows ≡ s.new_flows ++ record { flow = n; credits = pos q } ∷ []) × (times n (s.new_flows ++ s.old_flows) ≡ 0)). lawful_enlisted (record { flow = n; credits = pos q }) refl w.0 old_flows w.1)
+      (enlisted_cases n q s.new_flows t.new_flows s.old_flows new_flows)
 
 -- ---- where one packet more stays within the limit
 

@@ -42,13 +42,13 @@ chosen-within q idle es =
 
 -- Two selections are the same: equal lists, and the same flows changed.
 pub record Agree {F : Type 0} (r : F → F) (fs gs : List F) (a b : Lists) : Type 0 where
-  pub fresh : a.fresh ≡ b.fresh
-  pub stale : a.stale ≡ b.stale
+  pub new_flows : a.new_flows ≡ b.new_flows
+  pub old_flows : a.old_flows ≡ b.old_flows
   pub flows : clear r a.gone fs ≡ clear r b.gone gs
 
 turned-some : (q : ℕ) (es : List Entry) (c : Choice) → turned q es (Some c) ≡ record {
-  fresh = [];
-  stale = stay q c.rounds (drop c.place es) ++ stay q (suc c.rounds) (take c.place es);
+  new_flows = [];
+  old_flows = stay q c.rounds (drop c.place es) ++ stay q (suc c.rounds) (take c.place es);
   gone = leave q c.rounds (drop c.place es) ++ leave q (suc c.rounds) (take c.place es);
 }
 unfolding turned
@@ -57,8 +57,8 @@ turned-some q es c = refl
 -- lists that are equal as records
 pub same_lists : {F : Type 0} (r : F → F) (flows : List F) (a b : Lists) → a ≡ b → Agree r flows flows a b
 same_lists r flows a b e = record {
-  fresh = ap (λ (l : Lists). l.fresh) e;
-  stale = ap (λ (l : Lists). l.stale) e;
+  new_flows = ap (λ (l : Lists). l.new_flows) e;
+  old_flows = ap (λ (l : Lists). l.old_flows) e;
   flows = ap (λ (l : Lists). clear r l.gone flows) e;
 }
 
@@ -94,7 +94,7 @@ module _ {F : Type 0} (r : F → F) (q : ℕ) (positive : 1 ≤ q) (e : Entry) (
   unfolding last
   granted-behind c within flows =
       turned-some q (e ∷ es) (record { rounds = c.rounds; place = suc c.place })
-      ∙ ap₂ (λ (s : List Entry) (g : List ℕ). record { fresh = []; stale = s; gone = g })
+      ∙ ap₂ (λ (s : List Entry) (g : List ℕ). record { new_flows = []; old_flows = s; gone = g })
       (one_behind (stay q) e (given q 1 e) es (stay-nil q) (stay-append q) (λ n. stay-shift q n e positive low) c.rounds c.place within)
       (one_behind (leave q) e (given q 1 e) es (leave-nil q) (leave-append q) (λ n. leave-shift q n e positive low) c.rounds c.place within)
       ∙ sym (turned-some q (es ++ given q 1 e ∷ []) c)
@@ -105,7 +105,7 @@ module _ {F : Type 0} (r : F → F) (q : ℕ) (positive : 1 ≤ q) (e : Entry) (
   unfolding last
   granted-front k =
       turned-some q (e ∷ es) (record { rounds = suc k; place = 0 })
-      ∙ ap₂ (λ (s : List Entry) (g : List ℕ). record { fresh = []; stale = s; gone = g })
+      ∙ ap₂ (λ (s : List Entry) (g : List ℕ). record { new_flows = []; old_flows = s; gone = g })
       (the_front (stay q) e (given q 1 e) es (stay-nil q) (stay-append q) (λ n. stay-shift q n e positive low) k)
       (the_front (leave q) e (given q 1 e) es (leave-nil q) (leave-append q) (λ n. leave-shift q n e positive low) k)
       ∙ sym (turned-some q (es ++ given q 1 e ∷ []) (record { rounds = k; place = length es }))
@@ -114,8 +114,8 @@ module _ {F : Type 0} (r : F → F) (q : ℕ) (positive : 1 ≤ q) (e : Entry) (
   granted-none : (flows : List F) → Agree r flows flows (turned q (e ∷ es) None) (turned q (es ++ given q 1 e ∷ []) None)
   unfolding turned
   granted-none flows = record {
-    fresh = refl;
-    stale = refl;
+    new_flows = refl;
+    old_flows = refl;
     flows =
         clear-cons r e.flow (map (λ (e : Entry). e.flow) es) flows
         ∙ ap (λ (l : List ℕ). clear r l (adjust r e.flow flows)) (sym (append-nil (map (λ (e : Entry). e.flow) es)))
@@ -170,10 +170,10 @@ module _ {F : Type 0} (r : F → F) (q : ℕ) (positive : 1 ≤ q) (e : Entry) (
 leaves-some : {F : Type 0} (r : F → F) (q : ℕ) (e : Entry) (es : List Entry) → need q e ≡ 0 → (o : Option Choice) → (flows : List F)
     → Agree r flows (adjust r e.flow flows) (turned q (e ∷ es) (later o)) (turned q es o)
 unfolding turned
-leaves-some r q e es ready None flows = record { fresh = refl; stale = refl; flows = clear-cons r e.flow (map (λ (e : Entry). e.flow) es) flows }
+leaves-some r q e es ready None flows = record { new_flows = refl; old_flows = refl; flows = clear-cons r e.flow (map (λ (e : Entry). e.flow) es) flows }
 leaves-some r q e es ready (Some c) flows = record {
-  fresh = refl;
-  stale = ap (λ (l : List Entry). stay q c.rounds (drop c.place es) ++ l) (stay-dropped q (suc c.rounds) e (take c.place es) (omega arith));
+  new_flows = refl;
+  old_flows = ap (λ (l : List Entry). stay q c.rounds (drop c.place es) ++ l) (stay-dropped q (suc c.rounds) e (take c.place es) (omega arith));
   flows =
       ap (λ (l : List ℕ). clear r (leave q c.rounds (drop c.place es) ++ l) flows) (leave-dropped q (suc c.rounds) e (take c.place es) (omega arith))
       ∙ clear-middle r (leave q c.rounds (drop c.place es)) e.flow (leave q (suc c.rounds) (take c.place es)) flows;
@@ -188,7 +188,7 @@ turned-leaves r q e es ready idle empty flows =
 
 -- A flow in front with credits and a packet is the one.
 pub turned-ready : (q : ℕ) (e : Entry) (es : List Entry) → need q e ≡ 0 → (idle : ℕ → Bool) → idle e.flow ≡ false
-    → turned q (e ∷ es) (chosen q idle (e ∷ es)) ≡ record { fresh = []; stale = e ∷ es; gone = [] }
+    → turned q (e ∷ es) (chosen q idle (e ∷ es)) ≡ record { new_flows = []; old_flows = e ∷ es; gone = [] }
 turned-ready q e es ready idle busy =
     ap (turned q (e ∷ es))
     (chosen-cons q idle e es
@@ -196,22 +196,22 @@ turned-ready q e es ready idle busy =
     ∙ ap (λ (n : ℕ). Some (sooner n (chosen q idle es))) ready
     ∙ ap (λ (c : Choice). Some c) (sooner-first (chosen q idle es)))
     ∙ turned-some q (e ∷ es) (record { rounds = 0; place = 0 })
-    ∙ ap₂ (λ (s : List Entry) (g : List ℕ). record { fresh = []; stale = s; gone = g })
+    ∙ ap₂ (λ (s : List Entry) (g : List ℕ). record { new_flows = []; old_flows = s; gone = g })
     (ap₂ (λ (a b : List Entry). a ++ b) (stay-none q (e ∷ es)) (stay-nil q 1) ∙ append-nil (e ∷ es))
     (ap₂ (λ (a b : List ℕ). a ++ b) (leave-none q (e ∷ es)) (leave-nil q 1))
 
 -- ---- one turn of the new list
 
-pub arranged-nil : (q : ℕ) (idle : ℕ → Bool) (stale : List Entry) → arranged q idle [] stale ≡ turned q stale (chosen q idle stale)
+pub arranged-nil : (q : ℕ) (idle : ℕ → Bool) (old_flows : List Entry) → arranged q idle [] old_flows ≡ turned q old_flows (chosen q idle old_flows)
 unfolding arranged with_rest first_ready
-arranged-nil q idle stale =
-    ap₂ (λ (l : List Entry) (g : List ℕ). let t = turned q l (chosen q idle l) in record t { gone = g ++ t.gone }) (append-nil stale) (leave-nil q 1)
+arranged-nil q idle old_flows =
+    ap₂ (λ (l : List Entry) (g : List ℕ). let t = turned q l (chosen q idle l) in record t { gone = g ++ t.gone }) (append-nil old_flows) (leave-nil q 1)
 
 -- both lists where the new one is passed over up to this place
 arranged_at : ℕ → (ℕ → Bool) → List Entry → List Entry → ℕ → Lists
-arranged_at q idle fresh stale p =
-    let rest = with_rest q idle (drop p fresh) (stale ++ map (moved q) (take p fresh)) in
-    record rest { gone = leave q 1 (take p fresh) ++ rest.gone }
+arranged_at q idle new_flows old_flows p =
+    let rest = with_rest q idle (drop p new_flows) (old_flows ++ map (moved q) (take p new_flows)) in
+    record rest { gone = leave q 1 (take p new_flows) ++ rest.gone }
 
 skip_if : (i z : Bool) (n : ℕ) → z ≡ false → cond i (suc n) (cond z zero (suc n)) ≡ suc n
 skip_if true z n h = refl
@@ -252,51 +252,51 @@ moved-ready : (q : ℕ) (e : Entry) → need q e ≡ 0 → moved q e ≡ e
 unfolding moved
 moved-ready q e ready = cond-true (need q e == 0) e (given q 1 e) (eq-eqb _ _ ready)
 
-arranged-at : (q : ℕ) (idle : ℕ → Bool) (fresh stale : List Entry) (p : ℕ) → first_ready q idle fresh ≡ p → arranged q idle fresh stale ≡ arranged_at q idle fresh stale p
+arranged-at : (q : ℕ) (idle : ℕ → Bool) (new_flows old_flows : List Entry) (p : ℕ) → first_ready q idle new_flows ≡ p → arranged q idle new_flows old_flows ≡ arranged_at q idle new_flows old_flows p
 unfolding arranged arranged_at
-arranged-at q idle fresh stale p h = ap (arranged_at q idle fresh stale) h
+arranged-at q idle new_flows old_flows p h = ap (arranged_at q idle new_flows old_flows) h
 
 -- the lists where the flow in front of the new one is passed over, and goes to the old one as m
-passed : (q : ℕ) (idle : ℕ → Bool) (e m : Entry) (es stale : List Entry) (p : ℕ) → moved q e ≡ m
-    → arranged_at q idle (e ∷ es) stale (suc p)
-    ≡ (let a = arranged_at q idle es (stale ++ m ∷ []) p in
-    record a { gone = leave q 1 ((e ∷ []) ++ take p es) ++ (with_rest q idle (drop p es) ((stale ++ m ∷ []) ++ map (moved q) (take p es))).gone })
+passed : (q : ℕ) (idle : ℕ → Bool) (e m : Entry) (es old_flows : List Entry) (p : ℕ) → moved q e ≡ m
+    → arranged_at q idle (e ∷ es) old_flows (suc p)
+    ≡ (let a = arranged_at q idle es (old_flows ++ m ∷ []) p in
+    record a { gone = leave q 1 ((e ∷ []) ++ take p es) ++ (with_rest q idle (drop p es) ((old_flows ++ m ∷ []) ++ map (moved q) (take p es))).gone })
 unfolding arranged_at
-passed q idle e m es stale p h =
-    let l : stale ++ (moved q e ∷ map (moved q) (take p es)) ≡ (stale ++ m ∷ []) ++ map (moved q) (take p es) =
-    ap (λ (x : Entry). stale ++ (x ∷ map (moved q) (take p es))) h ∙ sym (append_assoc stale (m ∷ []) (map (moved q) (take p es))) in
+passed q idle e m es old_flows p h =
+    let l : old_flows ++ (moved q e ∷ map (moved q) (take p es)) ≡ (old_flows ++ m ∷ []) ++ map (moved q) (take p es) =
+    ap (λ (x : Entry). old_flows ++ (x ∷ map (moved q) (take p es))) h ∙ sym (append_assoc old_flows (m ∷ []) (map (moved q) (take p es))) in
     ap (λ (l : List Entry). let rest = with_rest q idle (drop p es) l in record rest { gone = leave q 1 ((e ∷ []) ++ take p es) ++ rest.gone }) l
 
 -- A new flow without credits gets a quantum and goes to the end of the old list.
-pub arranged-granted : (q : ℕ) (idle : ℕ → Bool) (e : Entry) (es stale : List Entry) → 1 ≤ q → e.credits ≤ℤ pos 0
-    → arranged q idle (e ∷ es) stale ≡ arranged q idle es (stale ++ given q 1 e ∷ [])
+pub arranged-granted : (q : ℕ) (idle : ℕ → Bool) (e : Entry) (es old_flows : List Entry) → 1 ≤ q → e.credits ≤ℤ pos 0
+    → arranged q idle (e ∷ es) old_flows ≡ arranged q idle es (old_flows ++ given q 1 e ∷ [])
 unfolding arranged_at
-arranged-granted q idle e es stale positive low =
+arranged-granted q idle e es old_flows positive low =
     let n : ℕ = need q (given q 1 e) in
     let k : need q e ≡ suc n = need-more q e positive low in
     let p : ℕ = first_ready q idle es in
-    arranged-at q idle (e ∷ es) stale (suc p) (first-short q idle e es n k)
-    ∙ passed q idle e (given q 1 e) es stale p (moved-short q e n k)
-    ∙ ap (λ (g : List ℕ). let rest = with_rest q idle (drop p es) ((stale ++ given q 1 e ∷ []) ++ map (moved q) (take p es)) in record rest { gone = g ++ rest.gone })
+    arranged-at q idle (e ∷ es) old_flows (suc p) (first-short q idle e es n k)
+    ∙ passed q idle e (given q 1 e) es old_flows p (moved-short q e n k)
+    ∙ ap (λ (g : List ℕ). let rest = with_rest q idle (drop p es) ((old_flows ++ given q 1 e ∷ []) ++ map (moved q) (take p es)) in record rest { gone = g ++ rest.gone })
     (leave-kept q 1 e (take p es) (omega arith))
-    ∙ sym (arranged-at q idle es (stale ++ given q 1 e ∷ []) p refl)
+    ∙ sym (arranged-at q idle es (old_flows ++ given q 1 e ∷ []) p refl)
 
 -- An empty new flow with credits goes to the end of the old list.
-pub arranged-moves : (q : ℕ) (idle : ℕ → Bool) (e : Entry) (es stale : List Entry) → need q e ≡ 0 → idle e.flow ≡ true
-    → arranged q idle (e ∷ es) stale ≡ (let a = arranged q idle es (stale ++ e ∷ []) in record a { gone = e.flow ∷ a.gone })
+pub arranged-moves : (q : ℕ) (idle : ℕ → Bool) (e : Entry) (es old_flows : List Entry) → need q e ≡ 0 → idle e.flow ≡ true
+    → arranged q idle (e ∷ es) old_flows ≡ (let a = arranged q idle es (old_flows ++ e ∷ []) in record a { gone = e.flow ∷ a.gone })
 unfolding arranged_at
-arranged-moves q idle e es stale ready empty =
+arranged-moves q idle e es old_flows ready empty =
     let p : ℕ = first_ready q idle es in
-    arranged-at q idle (e ∷ es) stale (suc p) (first-idle q idle e es empty)
-    ∙ passed q idle e e es stale p (moved-ready q e ready)
-    ∙ ap (λ (g : List ℕ). let rest = with_rest q idle (drop p es) ((stale ++ e ∷ []) ++ map (moved q) (take p es)) in record rest { gone = g ++ rest.gone })
+    arranged-at q idle (e ∷ es) old_flows (suc p) (first-idle q idle e es empty)
+    ∙ passed q idle e e es old_flows p (moved-ready q e ready)
+    ∙ ap (λ (g : List ℕ). let rest = with_rest q idle (drop p es) ((old_flows ++ e ∷ []) ++ map (moved q) (take p es)) in record rest { gone = g ++ rest.gone })
     (leave-dropped q 1 e (take p es) (omega arith))
-    ∙ ap (λ (a : Lists). record a { gone = e.flow ∷ a.gone }) (sym (arranged-at q idle es (stale ++ e ∷ []) p refl))
+    ∙ ap (λ (a : Lists). record a { gone = e.flow ∷ a.gone }) (sym (arranged-at q idle es (old_flows ++ e ∷ []) p refl))
 
 -- A new flow with credits and a packet is the one.
-pub arranged-ready : (q : ℕ) (idle : ℕ → Bool) (e : Entry) (es stale : List Entry) → need q e ≡ 0 → idle e.flow ≡ false
-    → arranged q idle (e ∷ es) stale ≡ record { fresh = e ∷ es; stale = stale; gone = [] }
+pub arranged-ready : (q : ℕ) (idle : ℕ → Bool) (e : Entry) (es old_flows : List Entry) → need q e ≡ 0 → idle e.flow ≡ false
+    → arranged q idle (e ∷ es) old_flows ≡ record { new_flows = e ∷ es; old_flows = old_flows; gone = [] }
 unfolding arranged_at with_rest
-arranged-ready q idle e es stale ready busy =
-    arranged-at q idle (e ∷ es) stale 0 (first-ready q idle e es ready busy)
-    ∙ ap₂ (λ (l : List Entry) (g : List ℕ). record { fresh = e ∷ es; stale = l; gone = g ++ [] }) (append-nil stale) (leave-nil q 1)
+arranged-ready q idle e es old_flows ready busy =
+    arranged-at q idle (e ∷ es) old_flows 0 (first-ready q idle e es ready busy)
+    ∙ ap₂ (λ (l : List Entry) (g : List ℕ). record { new_flows = e ∷ es; old_flows = l; gone = g ++ [] }) (append-nil old_flows) (leave-nil q 1)

@@ -68,7 +68,7 @@ slice_there (x ∷ xs) zero h = refl
 slice_there (x ∷ xs) (suc n) h = slice_there xs n (omega arith)
 
 -- the sender is the flow of the entry in front
-pub sender-is : (s : FqState) (e : Entry) (rest : List Entry) → s.fresh ++ s.stale ≡ e ∷ rest → sender s ≡ slice_get s.flows e.flow
+pub sender-is : (s : FqState) (e : Entry) (rest : List Entry) → s.new_flows ++ s.old_flows ≡ e ∷ rest → sender s ≡ slice_get s.flows e.flow
 unfolding sender front
 sender-is s e rest h = ap (λ (l : List Entry). option_and_then (λ (e : Entry). slice_get s.flows e.flow) (slice_get l 0)) h
 
@@ -76,7 +76,7 @@ sent_of : (now : ℕ) (o : Option Flow) (r : Option Taken) → IsSome o → IfSo
 sent_of now None r some h = absurd cc
 sent_of now (Some f) r some h = sym h
 
-pub sent-is : (s : FqState) (e : Entry) (rest : List Entry) (now : ℕ) (r : Option Taken) → s.fresh ++ s.stale ≡ e ∷ rest → e.flow < length s.flows
+pub sent-is : (s : FqState) (e : Entry) (rest : List Entry) (now : ℕ) (r : Option Taken) → s.new_flows ++ s.old_flows ≡ e ∷ rest → e.flow < length s.flows
     → IfSome (slice_get s.flows e.flow) (λ f. r ≡ packet_sent now f) → sent_from now s ≡ r
 unfolding sent_from
 sent-is s e rest now r front within h =
@@ -88,30 +88,30 @@ dropped_of now None P some h = absurd cc
 dropped_of now (Some f) P some h = h
 
 -- what is known of the packets that CoDel drops
-pub dropped-is : (s : FqState) (e : Entry) (rest : List Entry) (now : ℕ) (P : List Stamped → Type 0) → s.fresh ++ s.stale ≡ e ∷ rest → e.flow < length s.flows
+pub dropped-is : (s : FqState) (e : Entry) (rest : List Entry) (now : ℕ) (P : List Stamped → Type 0) → s.new_flows ++ s.old_flows ≡ e ∷ rest → e.flow < length s.flows
     → IfSome (slice_get s.flows e.flow) (λ f. P (packets_dropped now f)) → P (dropped_from now s)
 unfolding dropped_from
 dropped-is s e rest now P front within h =
     subst (λ (o : Option Flow). P (unwrap_or (option_map (packets_dropped now) o) [])) (sym (sender-is s e rest front))
     (dropped_of now (slice_get s.flows e.flow) P (slice_there s.flows e.flow within) h)
 
-pub after-fresh : (s : FqState) (e : Entry) (rest : List Entry) (now : ℕ) → s.fresh ≡ e ∷ rest
-    → after_sending now s ≡ record s { flows = adjust (flow_after now) e.flow s.flows; fresh = paid (sent_from now s) e ∷ rest }
+pub after-new_flows : (s : FqState) (e : Entry) (rest : List Entry) (now : ℕ) → s.new_flows ≡ e ∷ rest
+    → after_sending now s ≡ record s { flows = adjust (flow_after now) e.flow s.flows; new_flows = paid (sent_from now s) e ∷ rest }
 unfolding after_sending with_sent
-after-fresh s e rest now front = ap (λ (l : List Entry). with_sent now s l s.stale) front
+after-new_flows s e rest now front = ap (λ (l : List Entry). with_sent now s l s.old_flows) front
 
-pub after-none : (s : FqState) (now : ℕ) → s.fresh ≡ [] → s.stale ≡ [] → after_sending now s ≡ s
+pub after-none : (s : FqState) (now : ℕ) → s.new_flows ≡ [] → s.old_flows ≡ [] → after_sending now s ≡ s
 unfolding after_sending with_sent
 after-none s now no_fresh no_stale =
     ap₂ (λ (l m : List Entry). with_sent now s l m) no_fresh no_stale
-    ∙ ap₂ (λ (l m : List Entry). record s { fresh = l; stale = m }) (sym no_fresh) (sym no_stale)
+    ∙ ap₂ (λ (l m : List Entry). record s { new_flows = l; old_flows = m }) (sym no_fresh) (sym no_stale)
 
-pub sent-none : (s : FqState) (now : ℕ) → s.fresh ≡ [] → s.stale ≡ [] → sent_from now s ≡ None
+pub sent-none : (s : FqState) (now : ℕ) → s.new_flows ≡ [] → s.old_flows ≡ [] → sent_from now s ≡ None
 unfolding sent_from sender front
 sent-none s now no_fresh no_stale =
     ap₂ (λ (l m : List Entry). option_and_then (packet_sent now) (option_and_then (λ (e : Entry). slice_get s.flows e.flow) (slice_get (l ++ m) 0))) no_fresh no_stale
 
-pub dropped-none : (s : FqState) (now : ℕ) → s.fresh ≡ [] → s.stale ≡ [] → dropped_from now s ≡ []
+pub dropped-none : (s : FqState) (now : ℕ) → s.new_flows ≡ [] → s.old_flows ≡ [] → dropped_from now s ≡ []
 unfolding dropped_from sender front
 dropped-none s now no_fresh no_stale =
     ap₂ (λ (l m : List Entry). unwrap_or (option_map (packets_dropped now) (option_and_then (λ (e : Entry). slice_get s.flows e.flow) (slice_get (l ++ m) 0))) []) no_fresh no_stale
@@ -130,7 +130,7 @@ unfolding paid
 flow-paid None e = refl
 flow-paid (Some t) e = refl
 
-pub sender-none : (s : FqState) → s.fresh ≡ [] → s.stale ≡ [] → sender s ≡ None
+pub sender-none : (s : FqState) → s.new_flows ≡ [] → s.old_flows ≡ [] → sender s ≡ None
 unfolding sender front
 sender-none s no_fresh no_stale =
     ap₂ (λ (l m : List Entry). option_and_then (λ (e : Entry). slice_get s.flows e.flow) (slice_get (l ++ m) 0)) no_fresh no_stale
@@ -141,60 +141,60 @@ list_front : (xs : List Entry) (e : Entry) → slice_get xs 0 ≡ Some e → xs 
 list_front [] e h = absurd cc
 list_front (x ∷ xs) e h = ap (λ (o : Option Entry). unwrap_or o x ∷ xs) h
 
-pub front-is : (s : FqState) (e : Entry) → front s ≡ Some e → s.fresh ++ s.stale ≡ e ∷ drop 1 (s.fresh ++ s.stale)
+pub front-is : (s : FqState) (e : Entry) → front s ≡ Some e → s.new_flows ++ s.old_flows ≡ e ∷ drop 1 (s.new_flows ++ s.old_flows)
 unfolding front
-front-is s e h = list_front (s.fresh ++ s.stale) e h
+front-is s e h = list_front (s.new_flows ++ s.old_flows) e h
 
 none_in : (xs ys : List Entry) → slice_get (xs ++ ys) 0 ≡ None → (xs ≡ []) × (ys ≡ [])
 none_in [] [] h = (refl, refl)
 none_in [] (y ∷ ys) h = absurd cc
 none_in (x ∷ xs) ys h = absurd cc
 
-pub front-none : (s : FqState) → front s ≡ None → (s.fresh ≡ []) × (s.stale ≡ [])
+pub front-none : (s : FqState) → front s ≡ None → (s.new_flows ≡ []) × (s.old_flows ≡ [])
 unfolding front
-front-none s h = none_in s.fresh s.stale h
+front-none s h = none_in s.new_flows s.old_flows h
 
 -- it is that of the new list, or of the old one where the new one is empty
 first_of_new : (xs ys : List Entry) → length xs ≢ 0 → slice_get xs 0 ≡ slice_get (xs ++ ys) 0
 first_of_new [] ys h = absurd (h refl)
 first_of_new (x ∷ xs) ys h = refl
 
-pub first_if : (xs : List Entry) (s : FqState) → xs ≡ s.fresh → not (length s.fresh == 0) ≡ true → slice_get xs 0 ≡ front s
+pub first_if : (xs : List Entry) (s : FqState) → xs ≡ s.new_flows → not (length s.new_flows == 0) ≡ true → slice_get xs 0 ≡ front s
 unfolding front
-first_if xs s same some = ap (λ (l : List Entry). slice_get l 0) same ∙ first_of_new s.fresh s.stale (eqb-false (length s.fresh) 0 (not-true (length s.fresh == 0) some))
+first_if xs s same some = ap (λ (l : List Entry). slice_get l 0) same ∙ first_of_new s.new_flows s.old_flows (eqb-false (length s.new_flows) 0 (not-true (length s.new_flows == 0) some))
 
 pub empty_of : {X : Type 0} (xs : List X) → not (length xs == 0) ≡ false → xs ≡ []
 empty_of xs h = nil_from_length xs (eqb-true (length xs) 0 (not-false (length xs == 0) h))
 
-pub first_else : (xs : List Entry) (s : FqState) → xs ≡ s.stale → not (length s.fresh == 0) ≡ false → slice_get xs 0 ≡ front s
+pub first_else : (xs : List Entry) (s : FqState) → xs ≡ s.old_flows → not (length s.new_flows == 0) ≡ false → slice_get xs 0 ≡ front s
 unfolding front
-first_else xs s same none = ap (λ (l : List Entry). slice_get l 0) same ∙ ap (λ (l : List Entry). slice_get (l ++ s.stale) 0) (sym (empty_of s.fresh none))
+first_else xs s same none = ap (λ (l : List Entry). slice_get l 0) same ∙ ap (λ (l : List Entry). slice_get (l ++ s.old_flows) 0) (sym (empty_of s.new_flows none))
 
 -- the old list once the front is written: it stands there where the new list is empty
 abbrev pub written : Entry → List Entry → List Entry → List Entry
-written m fresh stale = if length fresh == 0 then set stale 0 m else stale
+written m new_flows old_flows = if length new_flows == 0 then set old_flows 0 m else old_flows
 
-with_sent-written : (now : ℕ) (s : FqState) (e : Entry) (fresh stale : List Entry) → slice_get (fresh ++ stale) 0 ≡ Some e
-    → with_sent now s fresh stale ≡ record s { flows = adjust (flow_after now) e.flow s.flows; fresh = set fresh 0 (paid (sent_from now s) e); stale = written (paid (sent_from now s) e) fresh stale }
+with_sent-written : (now : ℕ) (s : FqState) (e : Entry) (new_flows old_flows : List Entry) → slice_get (new_flows ++ old_flows) 0 ≡ Some e
+    → with_sent now s new_flows old_flows ≡ record s { flows = adjust (flow_after now) e.flow s.flows; new_flows = set new_flows 0 (paid (sent_from now s) e); old_flows = written (paid (sent_from now s) e) new_flows old_flows }
 unfolding with_sent
 with_sent-written now s e [] [] h = absurd cc
 with_sent-written now s e [] (x ∷ xs) h =
-    ap (λ (o : Option Entry). record s { flows = adjust (flow_after now) (unwrap_or o x).flow s.flows; fresh = []; stale = paid (sent_from now s) (unwrap_or o x) ∷ xs }) h
-with_sent-written now s e (x ∷ xs) stale h =
-    ap (λ (o : Option Entry). record s { flows = adjust (flow_after now) (unwrap_or o x).flow s.flows; fresh = paid (sent_from now s) (unwrap_or o x) ∷ xs; stale = stale }) h
-    ∙ ap (λ (l : List Entry). record s { flows = adjust (flow_after now) e.flow s.flows; fresh = paid (sent_from now s) e ∷ xs; stale = l })
-    (sym (cond-false (length (x ∷ xs) == 0) (set stale 0 (paid (sent_from now s) e)) stale (ne_eqb (length (x ∷ xs)) 0 (omega arith))))
+    ap (λ (o : Option Entry). record s { flows = adjust (flow_after now) (unwrap_or o x).flow s.flows; new_flows = []; old_flows = paid (sent_from now s) (unwrap_or o x) ∷ xs }) h
+with_sent-written now s e (x ∷ xs) old_flows h =
+    ap (λ (o : Option Entry). record s { flows = adjust (flow_after now) (unwrap_or o x).flow s.flows; new_flows = paid (sent_from now s) (unwrap_or o x) ∷ xs; old_flows = old_flows }) h
+    ∙ ap (λ (l : List Entry). record s { flows = adjust (flow_after now) e.flow s.flows; new_flows = paid (sent_from now s) e ∷ xs; old_flows = l })
+    (sym (cond-false (length (x ∷ xs) == 0) (set old_flows 0 (paid (sent_from now s) e)) old_flows (ne_eqb (length (x ∷ xs)) 0 (omega arith))))
 
 pub after-written : (s : FqState) (e : Entry) (now : ℕ) → front s ≡ Some e
-    → after_sending now s ≡ record s { flows = adjust (flow_after now) e.flow s.flows; fresh = set s.fresh 0 (paid (sent_from now s) e); stale = written (paid (sent_from now s) e) s.fresh s.stale }
+    → after_sending now s ≡ record s { flows = adjust (flow_after now) e.flow s.flows; new_flows = set s.new_flows 0 (paid (sent_from now s) e); old_flows = written (paid (sent_from now s) e) s.new_flows s.old_flows }
 unfolding after_sending front
-after-written s e now h = with_sent-written now s e s.fresh s.stale h
+after-written s e now h = with_sent-written now s e s.new_flows s.old_flows h
 
-written_lists : (m e : Entry) (fresh stale : List Entry) → slice_get (fresh ++ stale) 0 ≡ Some e → set fresh 0 m ++ written m fresh stale ≡ m ∷ drop 1 (fresh ++ stale)
+written_lists : (m e : Entry) (new_flows old_flows : List Entry) → slice_get (new_flows ++ old_flows) 0 ≡ Some e → set new_flows 0 m ++ written m new_flows old_flows ≡ m ∷ drop 1 (new_flows ++ old_flows)
 written_lists m e [] [] h = absurd cc
 written_lists m e [] (x ∷ xs) h = refl
-written_lists m e (x ∷ xs) stale h = ap (λ (l : List Entry). m ∷ (xs ++ l)) (cond-false (length (x ∷ xs) == 0) (set stale 0 m) stale (ne_eqb (length (x ∷ xs)) 0 (omega arith)))
+written_lists m e (x ∷ xs) old_flows h = ap (λ (l : List Entry). m ∷ (xs ++ l)) (cond-false (length (x ∷ xs) == 0) (set old_flows 0 m) old_flows (ne_eqb (length (x ∷ xs)) 0 (omega arith)))
 
-pub lists-written : (s : FqState) (m e : Entry) → front s ≡ Some e → set s.fresh 0 m ++ written m s.fresh s.stale ≡ m ∷ drop 1 (s.fresh ++ s.stale)
+pub lists-written : (s : FqState) (m e : Entry) → front s ≡ Some e → set s.new_flows 0 m ++ written m s.new_flows s.old_flows ≡ m ∷ drop 1 (s.new_flows ++ s.old_flows)
 unfolding front
-lists-written s m e h = written_lists m e s.fresh s.stale h
+lists-written s m e h = written_lists m e s.new_flows s.old_flows h

@@ -17,12 +17,12 @@ use Rattle.q_fqcodel.proofs.QuantaLemmas.{need-none, need-more, flow-given}
 use Rattle.q_fqcodel.proofs.SelectionLemmas.{Agree, same_lists, turned-granted, turned-leaves, turned-ready, arranged-nil, arranged-granted, arranged-moves, arranged-ready}
 
 with_lists : FqState → List Flow → List Entry → List Entry → FqState
-with_lists s flows fresh stale = record s { flows = flows; fresh = fresh; stale = stale }
+with_lists s flows new_flows old_flows = record s { flows = flows; new_flows = new_flows; old_flows = old_flows }
 
 arranged_in : FqState → Lists
-arranged_in s = arranged s.settings.quantum (is_idle s.flows) s.fresh s.stale
+arranged_in s = arranged s.settings.quantum (is_idle s.flows) s.new_flows s.old_flows
 
-selected-is : (s : FqState) → selected s ≡ with_lists s (clear rested_flow (arranged_in s).gone s.flows) (arranged_in s).fresh (arranged_in s).stale
+selected-is : (s : FqState) → selected s ≡ with_lists s (clear rested_flow (arranged_in s).gone s.flows) (arranged_in s).new_flows (arranged_in s).old_flows
 unfolding selected with_lists arranged_in
 selected-is s = refl
 
@@ -31,9 +31,9 @@ same_selected : (s t : FqState) → s.settings ≡ t.settings → Agree rested_f
 unfolding with_lists
 same_selected s t settings agree =
     selected-is s
-    ∙ ap (λ (x : FqSettings). record s { settings = x; flows = clear rested_flow (arranged_in s).gone s.flows; fresh = (arranged_in s).fresh; stale = (arranged_in s).stale }) settings
-    ∙ ap (λ (x : List Flow). record t { flows = x; fresh = (arranged_in s).fresh; stale = (arranged_in s).stale }) agree.flows
-    ∙ ap₂ (λ (x y : List Entry). record t { flows = clear rested_flow (arranged_in t).gone t.flows; fresh = x; stale = y }) agree.fresh agree.stale
+    ∙ ap (λ (x : FqSettings). record s { settings = x; flows = clear rested_flow (arranged_in s).gone s.flows; new_flows = (arranged_in s).new_flows; old_flows = (arranged_in s).old_flows }) settings
+    ∙ ap (λ (x : List Flow). record t { flows = x; new_flows = (arranged_in s).new_flows; old_flows = (arranged_in s).old_flows }) agree.flows
+    ∙ ap₂ (λ (x y : List Entry). record t { flows = clear rested_flow (arranged_in t).gone t.flows; new_flows = x; old_flows = y }) agree.new_flows agree.old_flows
     ∙ sym (selected-is t)
 
 fresh_turns : ℕ → Entry → ℕ
@@ -42,7 +42,7 @@ fresh_turns q e = suc (suc (need q e))
 stale_turns : ℕ → Entry → ℕ
 stale_turns q e = suc (need q e)
 
-turns-is : (s : FqState) → turns s ≡ sum_by (fresh_turns s.settings.quantum) s.fresh + sum_by (stale_turns s.settings.quantum) s.stale
+turns-is : (s : FqState) → turns s ≡ sum_by (fresh_turns s.settings.quantum) s.new_flows + sum_by (stale_turns s.settings.quantum) s.old_flows
 unfolding turns fresh_turns stale_turns
 turns-is s = refl
 
@@ -61,82 +61,82 @@ pub record LeadsOn (s t : FqState) : Type 0 where
 
 -- ---- the new list
 
-module _ (s : FqState) (lawful : IsLawful s) (e : Entry) (rest : List Entry) (front : s.fresh ≡ e ∷ rest) where
-  fresh_granted_on : 1 ≤ s.settings.quantum → e.credits ≤ℤ pos 0 → GoesOn s (record s { fresh = rest; stale = s.stale ++ given s.settings.quantum 1 e ∷ [] })
+module _ (s : FqState) (lawful : IsLawful s) (e : Entry) (rest : List Entry) (front : s.new_flows ≡ e ∷ rest) where
+  fresh_granted_on : 1 ≤ s.settings.quantum → e.credits ≤ℤ pos 0 → GoesOn s (record s { new_flows = rest; old_flows = s.old_flows ++ given s.settings.quantum 1 e ∷ [] })
   unfolding arranged_in
   fresh_granted_on positive low =
       let q : ℕ = s.settings.quantum in
-      let t : FqState = record s { fresh = rest; stale = s.stale ++ given q 1 e ∷ [] } in
+      let t : FqState = record s { new_flows = rest; old_flows = s.old_flows ++ given q 1 e ∷ [] } in
       let lists : arranged_in s ≡ arranged_in t =
-      ap (λ (l : List Entry). arranged q (is_idle s.flows) l s.stale) front ∙ arranged-granted q (is_idle s.flows) e rest s.stale positive low in
+      ap (λ (l : List Entry). arranged q (is_idle s.flows) l s.old_flows) front ∙ arranged-granted q (is_idle s.flows) e rest s.old_flows positive low in
       record {
         same = sym (same_selected s t refl (same_lists rested_flow s.flows (arranged_in s) (arranged_in t) lists));
         fewer =
-            let a : sum_by (fresh_turns q) s.fresh ≡ fresh_turns q e + sum_by (fresh_turns q) rest = ap (sum_by (fresh_turns q)) front ∙ sum_by-cons (fresh_turns q) e rest in
-            let b : sum_by (stale_turns q) (s.stale ++ given q 1 e ∷ []) ≡ sum_by (stale_turns q) s.stale + stale_turns q (given q 1 e) = sum_by_push (stale_turns q) s.stale (given q 1 e) in
+            let a : sum_by (fresh_turns q) s.new_flows ≡ fresh_turns q e + sum_by (fresh_turns q) rest = ap (sum_by (fresh_turns q)) front ∙ sum_by-cons (fresh_turns q) e rest in
+            let b : sum_by (stale_turns q) (s.old_flows ++ given q 1 e ∷ []) ≡ sum_by (stale_turns q) s.old_flows + stale_turns q (given q 1 e) = sum_by_push (stale_turns q) s.old_flows (given q 1 e) in
             omega (arith, a, b, turns-is s, turns-is t, fresh_turns-is q e, stale_turns-is q (given q 1 e), need-more q e positive low);
         packets = refl;
       }
 
-  pub fresh_granted : 1 ≤ s.settings.quantum → e.credits ≤ℤ pos 0 → LeadsOn s (record s { fresh = rest; stale = s.stale ++ given s.settings.quantum 1 e ∷ [] })
+  pub fresh_granted : 1 ≤ s.settings.quantum → e.credits ≤ℤ pos 0 → LeadsOn s (record s { new_flows = rest; old_flows = s.old_flows ++ given s.settings.quantum 1 e ∷ [] })
   fresh_granted positive low = record { lawful = lawful_moved s e (given s.settings.quantum 1 e) rest lawful front (flow-given s.settings.quantum 1 e); on = fresh_granted_on positive low }
 
-  fresh_moves_on : pos 0 <ℤ e.credits → is_idle s.flows e.flow ≡ true → GoesOn s (record s { flows = adjust rested_flow e.flow s.flows; fresh = rest; stale = s.stale ++ e ∷ [] })
+  fresh_moves_on : pos 0 <ℤ e.credits → is_idle s.flows e.flow ≡ true → GoesOn s (record s { flows = adjust rested_flow e.flow s.flows; new_flows = rest; old_flows = s.old_flows ++ e ∷ [] })
   unfolding arranged_in
   fresh_moves_on high empty =
       let q : ℕ = s.settings.quantum in
-      let t : FqState = record s { flows = adjust rested_flow e.flow s.flows; fresh = rest; stale = s.stale ++ e ∷ [] } in
+      let t : FqState = record s { flows = adjust rested_flow e.flow s.flows; new_flows = rest; old_flows = s.old_flows ++ e ∷ [] } in
       let ready : need q e ≡ 0 = need-none q e high in
-      let after : Lists = arranged q (is_idle s.flows) rest (s.stale ++ e ∷ []) in
+      let after : Lists = arranged q (is_idle s.flows) rest (s.old_flows ++ e ∷ []) in
       let lists : arranged_in s ≡ record after { gone = e.flow ∷ after.gone } =
-      ap (λ (l : List Entry). arranged q (is_idle s.flows) l s.stale) front ∙ arranged-moves q (is_idle s.flows) e rest s.stale ready empty in
-      let lists' : after ≡ arranged_in t = ap (λ (i : ℕ → Bool). arranged q i rest (s.stale ++ e ∷ [])) (sym (idle-rested e.flow s.flows)) in
+      ap (λ (l : List Entry). arranged q (is_idle s.flows) l s.old_flows) front ∙ arranged-moves q (is_idle s.flows) e rest s.old_flows ready empty in
+      let lists' : after ≡ arranged_in t = ap (λ (i : ℕ → Bool). arranged q i rest (s.old_flows ++ e ∷ [])) (sym (idle-rested e.flow s.flows)) in
       record {
         same = sym (same_selected s t refl (record {
-          fresh = ap (λ (l : Lists). l.fresh) lists ∙ ap (λ (l : Lists). l.fresh) lists';
-          stale = ap (λ (l : Lists). l.stale) lists ∙ ap (λ (l : Lists). l.stale) lists';
+          new_flows = ap (λ (l : Lists). l.new_flows) lists ∙ ap (λ (l : Lists). l.new_flows) lists';
+          old_flows = ap (λ (l : Lists). l.old_flows) lists ∙ ap (λ (l : Lists). l.old_flows) lists';
           flows =
               ap (λ (l : Lists). clear rested_flow l.gone s.flows) lists
               ∙ clear-cons rested_flow e.flow after.gone s.flows
               ∙ ap (λ (l : Lists). clear rested_flow l.gone t.flows) lists';
         }));
         fewer =
-            let a : sum_by (fresh_turns q) s.fresh ≡ fresh_turns q e + sum_by (fresh_turns q) rest = ap (sum_by (fresh_turns q)) front ∙ sum_by-cons (fresh_turns q) e rest in
-            let b : sum_by (stale_turns q) (s.stale ++ e ∷ []) ≡ sum_by (stale_turns q) s.stale + stale_turns q e = sum_by_push (stale_turns q) s.stale e in
+            let a : sum_by (fresh_turns q) s.new_flows ≡ fresh_turns q e + sum_by (fresh_turns q) rest = ap (sum_by (fresh_turns q)) front ∙ sum_by-cons (fresh_turns q) e rest in
+            let b : sum_by (stale_turns q) (s.old_flows ++ e ∷ []) ≡ sum_by (stale_turns q) s.old_flows + stale_turns q e = sum_by_push (stale_turns q) s.old_flows e in
             omega (arith, a, b, turns-is s, turns-is t, fresh_turns-is q e, stale_turns-is q e);
         packets = packets-rested e.flow s.flows;
       }
 
-  pub fresh_moves : pos 0 <ℤ e.credits → is_idle s.flows e.flow ≡ true → LeadsOn s (record s { flows = adjust rested_flow e.flow s.flows; fresh = rest; stale = s.stale ++ e ∷ [] })
-  fresh_moves high empty = record { lawful = lawful_rested (record s { fresh = rest; stale = s.stale ++ e ∷ [] }) e.flow (lawful_moved s e e rest lawful front refl); on = fresh_moves_on high empty }
+  pub fresh_moves : pos 0 <ℤ e.credits → is_idle s.flows e.flow ≡ true → LeadsOn s (record s { flows = adjust rested_flow e.flow s.flows; new_flows = rest; old_flows = s.old_flows ++ e ∷ [] })
+  fresh_moves high empty = record { lawful = lawful_rested (record s { new_flows = rest; old_flows = s.old_flows ++ e ∷ [] }) e.flow (lawful_moved s e e rest lawful front refl); on = fresh_moves_on high empty }
 
   pub fresh_ready : pos 0 <ℤ e.credits → is_idle s.flows e.flow ≡ false → selected s ≡ s
   unfolding arranged_in with_lists
   fresh_ready high busy =
       let q : ℕ = s.settings.quantum in
-      let lists : arranged_in s ≡ record { fresh = s.fresh; stale = s.stale; gone = [] } =
-      ap (λ (l : List Entry). arranged q (is_idle s.flows) l s.stale) front
-      ∙ arranged-ready q (is_idle s.flows) e rest s.stale (need-none q e high) busy
-      ∙ ap (λ (l : List Entry). record { fresh = l; stale = s.stale; gone = [] }) (sym front) in
+      let lists : arranged_in s ≡ record { new_flows = s.new_flows; old_flows = s.old_flows; gone = [] } =
+      ap (λ (l : List Entry). arranged q (is_idle s.flows) l s.old_flows) front
+      ∙ arranged-ready q (is_idle s.flows) e rest s.old_flows (need-none q e high) busy
+      ∙ ap (λ (l : List Entry). record { new_flows = l; old_flows = s.old_flows; gone = [] }) (sym front) in
       selected-is s
-      ∙ ap (λ (l : Lists). with_lists s (clear rested_flow l.gone s.flows) l.fresh l.stale) lists
-      ∙ ap (λ (l : List Flow). with_lists s l s.fresh s.stale) (clear-nil rested_flow s.flows)
+      ∙ ap (λ (l : Lists). with_lists s (clear rested_flow l.gone s.flows) l.new_flows l.old_flows) lists
+      ∙ ap (λ (l : List Flow). with_lists s l s.new_flows s.old_flows) (clear-nil rested_flow s.flows)
 
 -- ---- the old list
 
-module _ (s : FqState) (lawful : IsLawful s) (e : Entry) (rest : List Entry) (none : s.fresh ≡ []) (front : s.stale ≡ e ∷ rest) where
+module _ (s : FqState) (lawful : IsLawful s) (e : Entry) (rest : List Entry) (none : s.new_flows ≡ []) (front : s.old_flows ≡ e ∷ rest) where
   old_lists : arranged_in s ≡ turned s.settings.quantum (e ∷ rest) (chosen s.settings.quantum (is_idle s.flows) (e ∷ rest))
   unfolding arranged_in
   old_lists =
       ap₂ (λ (l m : List Entry). arranged s.settings.quantum (is_idle s.flows) l m) none front
       ∙ arranged-nil s.settings.quantum (is_idle s.flows) (e ∷ rest)
 
-  stale_granted_on : 1 ≤ s.settings.quantum → e.credits ≤ℤ pos 0 → GoesOn s (record s { stale = rest ++ given s.settings.quantum 1 e ∷ [] })
+  stale_granted_on : 1 ≤ s.settings.quantum → e.credits ≤ℤ pos 0 → GoesOn s (record s { old_flows = rest ++ given s.settings.quantum 1 e ∷ [] })
   unfolding arranged_in
   stale_granted_on positive low =
       let q : ℕ = s.settings.quantum in
       let last : List Entry = rest ++ given q 1 e ∷ [] in
-      let t : FqState = record s { stale = last } in
+      let t : FqState = record s { old_flows = last } in
       let lists' : arranged_in t ≡ turned q last (chosen q (is_idle s.flows) last) =
       ap (λ (l : List Entry). arranged q (is_idle s.flows) l last) none ∙ arranged-nil q (is_idle s.flows) last in
       let agree = turned-granted rested_flow q positive e low rest (is_idle s.flows) s.flows in
@@ -145,21 +145,21 @@ module _ (s : FqState) (lawful : IsLawful s) (e : Entry) (rest : List Entry) (no
             (subst (λ (b : Lists). Agree rested_flow s.flows s.flows (arranged_in s) b) (sym lists')
             (subst (λ (a : Lists). Agree rested_flow s.flows s.flows a (turned q last (chosen q (is_idle s.flows) last))) (sym old_lists) agree)));
         fewer =
-            let a : sum_by (stale_turns q) s.stale ≡ stale_turns q e + sum_by (stale_turns q) rest = ap (sum_by (stale_turns q)) front ∙ sum_by-cons (stale_turns q) e rest in
+            let a : sum_by (stale_turns q) s.old_flows ≡ stale_turns q e + sum_by (stale_turns q) rest = ap (sum_by (stale_turns q)) front ∙ sum_by-cons (stale_turns q) e rest in
             let b : sum_by (stale_turns q) last ≡ sum_by (stale_turns q) rest + stale_turns q (given q 1 e) = sum_by_push (stale_turns q) rest (given q 1 e) in
             omega (arith, a, b, turns-is s, turns-is t, stale_turns-is q e, stale_turns-is q (given q 1 e), need-more q e positive low);
         packets = refl;
       }
 
-  pub stale_granted : 1 ≤ s.settings.quantum → e.credits ≤ℤ pos 0 → LeadsOn s (record s { stale = rest ++ given s.settings.quantum 1 e ∷ [] })
+  pub stale_granted : 1 ≤ s.settings.quantum → e.credits ≤ℤ pos 0 → LeadsOn s (record s { old_flows = rest ++ given s.settings.quantum 1 e ∷ [] })
   stale_granted positive low = record { lawful = lawful_turned s e (given s.settings.quantum 1 e) rest lawful front (flow-given s.settings.quantum 1 e); on = stale_granted_on positive low }
 
-  stale_leaves_on : pos 0 <ℤ e.credits → is_idle s.flows e.flow ≡ true → GoesOn s (record s { flows = adjust rested_flow e.flow s.flows; stale = rest })
+  stale_leaves_on : pos 0 <ℤ e.credits → is_idle s.flows e.flow ≡ true → GoesOn s (record s { flows = adjust rested_flow e.flow s.flows; old_flows = rest })
   unfolding arranged_in
   stale_leaves_on high empty =
       let q : ℕ = s.settings.quantum in
       let flows' : List Flow = adjust rested_flow e.flow s.flows in
-      let t : FqState = record s { flows = flows'; stale = rest } in
+      let t : FqState = record s { flows = flows'; old_flows = rest } in
       let lists' : arranged_in t ≡ turned q rest (chosen q (is_idle s.flows) rest) =
       ap₂ (λ (i : ℕ → Bool) (l : List Entry). arranged q i l rest) (idle-rested e.flow s.flows) none ∙ arranged-nil q (is_idle s.flows) rest in
       let agree = turned-leaves rested_flow q e rest (need-none q e high) (is_idle s.flows) empty s.flows in
@@ -168,37 +168,37 @@ module _ (s : FqState) (lawful : IsLawful s) (e : Entry) (rest : List Entry) (no
             (subst (λ (b : Lists). Agree rested_flow s.flows flows' (arranged_in s) b) (sym lists')
             (subst (λ (a : Lists). Agree rested_flow s.flows flows' a (turned q rest (chosen q (is_idle s.flows) rest))) (sym old_lists) agree)));
         fewer =
-            let a : sum_by (stale_turns q) s.stale ≡ stale_turns q e + sum_by (stale_turns q) rest = ap (sum_by (stale_turns q)) front ∙ sum_by-cons (stale_turns q) e rest in
+            let a : sum_by (stale_turns q) s.old_flows ≡ stale_turns q e + sum_by (stale_turns q) rest = ap (sum_by (stale_turns q)) front ∙ sum_by-cons (stale_turns q) e rest in
             omega (arith, a, turns-is s, turns-is t, stale_turns-is q e);
         packets = packets-rested e.flow s.flows;
       }
 
-  pub stale_leaves : pos 0 <ℤ e.credits → is_idle s.flows e.flow ≡ true → LeadsOn s (record s { flows = adjust rested_flow e.flow s.flows; stale = rest })
-  stale_leaves high empty = record { lawful = lawful_rested (record s { stale = rest }) e.flow (lawful_left s e rest lawful front empty); on = stale_leaves_on high empty }
+  pub stale_leaves : pos 0 <ℤ e.credits → is_idle s.flows e.flow ≡ true → LeadsOn s (record s { flows = adjust rested_flow e.flow s.flows; old_flows = rest })
+  stale_leaves high empty = record { lawful = lawful_rested (record s { old_flows = rest }) e.flow (lawful_left s e rest lawful front empty); on = stale_leaves_on high empty }
 
   pub stale_ready : pos 0 <ℤ e.credits → is_idle s.flows e.flow ≡ false → selected s ≡ s
   unfolding with_lists
   stale_ready high busy =
       let q : ℕ = s.settings.quantum in
-      let lists : arranged_in s ≡ record { fresh = s.fresh; stale = s.stale; gone = [] } =
+      let lists : arranged_in s ≡ record { new_flows = s.new_flows; old_flows = s.old_flows; gone = [] } =
       old_lists
       ∙ turned-ready q e rest (need-none q e high) (is_idle s.flows) busy
-      ∙ ap₂ (λ (l m : List Entry). record { fresh = l; stale = m; gone = [] }) (sym none) (sym front) in
+      ∙ ap₂ (λ (l m : List Entry). record { new_flows = l; old_flows = m; gone = [] }) (sym none) (sym front) in
       selected-is s
-      ∙ ap (λ (l : Lists). with_lists s (clear rested_flow l.gone s.flows) l.fresh l.stale) lists
-      ∙ ap (λ (l : List Flow). with_lists s l s.fresh s.stale) (clear-nil rested_flow s.flows)
+      ∙ ap (λ (l : Lists). with_lists s (clear rested_flow l.gone s.flows) l.new_flows l.old_flows) lists
+      ∙ ap (λ (l : List Flow). with_lists s l s.new_flows s.old_flows) (clear-nil rested_flow s.flows)
 
-pub none_left : (s : FqState) → s.fresh ≡ [] → s.stale ≡ [] → selected s ≡ s
+pub none_left : (s : FqState) → s.new_flows ≡ [] → s.old_flows ≡ [] → selected s ≡ s
 unfolding with_lists arranged_in chosen turned
 none_left s no_fresh no_stale =
     let q : ℕ = s.settings.quantum in
-    let lists : arranged_in s ≡ record { fresh = s.fresh; stale = s.stale; gone = [] } =
+    let lists : arranged_in s ≡ record { new_flows = s.new_flows; old_flows = s.old_flows; gone = [] } =
     ap₂ (λ (l m : List Entry). arranged q (is_idle s.flows) l m) no_fresh no_stale
     ∙ arranged-nil q (is_idle s.flows) []
-    ∙ ap₂ (λ (l m : List Entry). record { fresh = l; stale = m; gone = [] }) (sym no_fresh) (sym no_stale) in
+    ∙ ap₂ (λ (l m : List Entry). record { new_flows = l; old_flows = m; gone = [] }) (sym no_fresh) (sym no_stale) in
     selected-is s
-    ∙ ap (λ (l : Lists). with_lists s (clear rested_flow l.gone s.flows) l.fresh l.stale) lists
-    ∙ ap (λ (l : List Flow). with_lists s l s.fresh s.stale) (clear-nil rested_flow s.flows)
+    ∙ ap (λ (l : Lists). with_lists s (clear rested_flow l.gone s.flows) l.new_flows l.old_flows) lists
+    ∙ ap (λ (l : List Flow). with_lists s l s.new_flows s.old_flows) (clear-nil rested_flow s.flows)
 
 -- ---- for the code, which knows its lists by equations
 
@@ -208,7 +208,7 @@ pub record Looks (a s : FqState) (e x : Entry) (rest : List Entry) : Type 0 wher
   pub opened : s ≡ a
   pub lawful : IsLawful s
   pub read : x ≡ e
-  pub first : s.fresh ++ s.stale ≡ e ∷ rest
+  pub first : s.new_flows ++ s.old_flows ≡ e ∷ rest
 
 module _ {a s : FqState} {e x : Entry} {rest : List Entry} (look : Looks a s e x rest) where
   pub in_flows : x.flow < length s.flows
@@ -238,10 +238,10 @@ module _ {a s : FqState} {e x : Entry} {rest : List Entry} (look : Looks a s e x
   })
 
 -- no flow is listed
-pub settled_none : (s : FqState) → s.fresh ≡ [] → s.stale ≡ [] → IsSettled s
+pub settled_none : (s : FqState) → s.new_flows ≡ [] → s.old_flows ≡ [] → IsSettled s
 unfolding front
 settled_none s no_fresh no_stale =
-    let none : s.fresh ++ s.stale ≡ [] = ap₂ (λ (l m : List Entry). l ++ m) no_fresh no_stale in
+    let none : s.new_flows ++ s.old_flows ≡ [] = ap₂ (λ (l m : List Entry). l ++ m) no_fresh no_stale in
     record {
       chosen = none_left s no_fresh no_stale;
       credits = subst (λ (l : List Entry). IfSome (slice_get l 0) (λ (e : Entry). pos 0 <ℤ e.credits)) (sym none) tt;

@@ -10,4 +10,4 @@ pub record FlowsState : Type 0 where
 
 -- an fq_codel of these flows, with these lists
 abbrev pub state_of : FqSettings → FlowsState → List Entry → List Entry → FqState
-state_of settings flows fresh stale = record { settings = settings; flows = flows.flows; fresh = fresh; stale = stale }
+state_of settings flows new_flows old_flows = record { settings = settings; flows = flows.flows; new_flows = new_flows; old_flows = old_flows }

@@ -22,12 +22,12 @@ pub record Flow : Type 0 where
   pub queue : List Stamped
   pub codel : CodelState
 
--- `fresh` is the list of new flows and `stale` that of old ones, each from its front: RFC 8290's new_flows and old_flows.
+-- The lists of RFC 8290's `new_flows` and `old_flows`, each from its front.
 pub record FqState : Type 0 where
   pub settings : FqSettings
   pub flows : List Flow
-  pub fresh : List Entry
-  pub stale : List Entry
+  pub new_flows : List Entry
+  pub old_flows : List Entry
 
 -- what a contract sees of an fq_codel: its state, and how many packets it has memory for
 pub record FqView : Type 0 where
@@ -61,8 +61,8 @@ abbrev pub first_state : FqSettings → FqState
 first_state settings = record {
   settings = settings;
   flows = replicate settings.flows (first_flow settings);
-  fresh = [];
-  stale = [];
+  new_flows = [];
+  old_flows = [];
 }
 
 -- a flow that was met empty, with credits

@@ -10,8 +10,8 @@ times n es = count_by (λ (e : Entry). e.flow == n) es
 
 pub record IsLawful (s : FqState) : Type 0 where
   pub each_flow : length s.flows ≡ s.settings.flows
-  pub in_range : (n : ℕ) → s.settings.flows ≤ n → times n (s.fresh ++ s.stale) ≡ 0
-  pub within : length s.fresh + length s.stale ≤ s.settings.flows
-  pub once : (n : ℕ) → times n (s.fresh ++ s.stale) ≤ 1
-  pub busy : (n : ℕ) → is_idle s.flows n ≡ false → 1 ≤ times n (s.fresh ++ s.stale)
+  pub in_range : (n : ℕ) → s.settings.flows ≤ n → times n (s.new_flows ++ s.old_flows) ≡ 0
+  pub within : length s.new_flows + length s.old_flows ≤ s.settings.flows
+  pub once : (n : ℕ) → times n (s.new_flows ++ s.old_flows) ≤ 1
+  pub busy : (n : ℕ) → is_idle s.flows n ≡ false → 1 ≤ times n (s.new_flows ++ s.old_flows)
   pub few : packets_of s.flows < 2 ^ 32

@@ -51,7 +51,7 @@ credits_of n es = option_map (λ (e : Entry). e.credits) (find (λ (e : Entry). 
 -- A flow that is listed before the selection and after it has its credits, and a quantum for each that it was given.
 abbrev pub CreditsByQuanta : Type 0
 CreditsByQuanta =
-    (s : FqState) (n : ℕ) (before after : ℤ) → IsLawful s → credits_of n (s.fresh ++ s.stale) ≡ Some before → credits_of n ((selected s).fresh ++ (selected s).stale) ≡ Some after
+    (s : FqState) (n : ℕ) (before after : ℤ) → IsLawful s → credits_of n (s.new_flows ++ s.old_flows) ≡ Some before → credits_of n ((selected s).new_flows ++ (selected s).old_flows) ≡ Some after
     → after ≡ before +ℤ pos (quanta_given s n * s.settings.quantum)
 
 -- the flows that are said to get quanta get that many, and one at least

@@ -11,8 +11,8 @@ use Rattle.q_fqcodel.specs.declared.place.Place.TheVariants.{Unlisted, Fresh, St
 
 -- what a contract sees of both lists: their flows, and the number below which each index is that of a flow
 pub record ListsState : Type 0 where
-  pub fresh : List Entry
-  pub stale : List Entry
+  pub new_flows : List Entry
+  pub old_flows : List Entry
   pub room : ℕ
 
 -- the link of a flow that is in no list
@@ -56,10 +56,10 @@ pub record IsLine (links : List Link) (place : Place) (ends : Ends) : Type 0 whe
   pub whole : (n : ℕ) (x : Link) → link_at links n ≡ Some x → x.place ≡ place → is_listed n (entries_in links ends) ≡ true
 
 -- both lists, in links that have room for at most 65536 flows
-pub record IsLists (links : List Link) (fresh stale : Ends) : Type 0 where
+pub record IsLists (links : List Link) (new_flows old_flows : Ends) : Type 0 where
   pub room : length links ≤ 65536
-  pub new : IsLine links Fresh fresh
-  pub old : IsLine links Stale stale
+  pub new : IsLine links Fresh new_flows
+  pub old : IsLine links Stale old_flows
 
 -- every list but the one at this place keeps its flows
 pub record KeepsLines (place : Place) (links links2 : List Link) : Type 0 where

@@ -15,7 +15,7 @@ HasCredits n (e ∷ es) = ((e.flow ≡ n) × (pos 0 <ℤ e.credits)) ⊎ HasCred
 
 -- the flow is new: in the new list with credits, and has a packet
 pub record IsNew (n : ℕ) (s : FqState) : Type 0 where
-  pub listed : HasCredits n s.fresh
+  pub listed : HasCredits n s.new_flows
   pub busy : is_idle s.flows n ≡ false
 
 -- the flows that send, in order, in takes at these moments
@@ -32,10 +32,10 @@ served_before n (m ∷ ms) = if m == n then [] else m ∷ served_before n ms
 abbrev pub BecomesNew : Type 0
 BecomesNew =
     (s : FqState) (packet : Descriptor) (now : ℕ) → IsLawful s → 1 ≤ s.settings.quantum → flow_of s packet < s.settings.flows
-    → is_listed (flow_of s packet) (s.fresh ++ s.stale) ≡ false → packets_of s.flows < s.settings.limit → IsNew (flow_of s packet) (after_put s packet now)
+    → is_listed (flow_of s packet) (s.new_flows ++ s.old_flows) ≡ false → packets_of s.flows < s.settings.limit → IsNew (flow_of s packet) (after_put s packet now)
 
 -- Until a new flow sends, no flow sends that was in the old list.
 abbrev pub NewBeforeOld : Type 0
 NewBeforeOld =
     (s : FqState) (n : ℕ) → IsLawful s → IsNew n s → (nows : List ℕ)
-    → All (λ (m : ℕ). is_listed m s.stale ≡ false) (served_before n (served nows s))
+    → All (λ (m : ℕ). is_listed m s.old_flows ≡ false) (served_before n (served nows s))

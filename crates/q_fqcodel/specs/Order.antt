@@ -16,9 +16,9 @@ stands_first i j (e ∷ es) = if e.flow == i then true else (if e.flow == j then
 -- Where the selection leaves two flows in the order that they had in the new list followed by the old one, they are given
 -- equally many quanta; else the one that stood first is given one more.
 pub record AreEven (i j : ℕ) (s : FqState) : Type 0 where
-  pub same_order : stands_first i j ((selected s).fresh ++ (selected s).stale) ≡ stands_first i j (s.fresh ++ s.stale) → quanta_given s i ≡ quanta_given s j
-  pub overtaken : stands_first i j (s.fresh ++ s.stale) ≡ true → stands_first i j ((selected s).fresh ++ (selected s).stale) ≡ false → quanta_given s i ≡ quanta_given s j + 1
-  pub overtakes : stands_first i j (s.fresh ++ s.stale) ≡ false → stands_first i j ((selected s).fresh ++ (selected s).stale) ≡ true → quanta_given s j ≡ quanta_given s i + 1
+  pub same_order : stands_first i j ((selected s).new_flows ++ (selected s).old_flows) ≡ stands_first i j (s.new_flows ++ s.old_flows) → quanta_given s i ≡ quanta_given s j
+  pub overtaken : stands_first i j (s.new_flows ++ s.old_flows) ≡ true → stands_first i j ((selected s).new_flows ++ (selected s).old_flows) ≡ false → quanta_given s i ≡ quanta_given s j + 1
+  pub overtakes : stands_first i j (s.new_flows ++ s.old_flows) ≡ false → stands_first i j ((selected s).new_flows ++ (selected s).old_flows) ≡ true → quanta_given s j ≡ quanta_given s i + 1
 
 abbrev pub QuantaAreEven : Type 0
 QuantaAreEven = (s : FqState) (i j : ℕ) → IsLawful s → is_idle s.flows i ≡ false → is_idle s.flows j ≡ false → AreEven i j s

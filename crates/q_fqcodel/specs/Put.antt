@@ -29,7 +29,7 @@ appended s packet now =
     let n = flow_of s packet in
     record s {
       flows = adjust (joined (record { packet = packet; at = now })) n s.flows;
-      fresh = if is_listed n (s.fresh ++ s.stale) then s.fresh else s.fresh ++ record { flow = n; credits = pos s.settings.quantum } ∷ [];
+      new_flows = if is_listed n (s.new_flows ++ s.old_flows) then s.new_flows else s.new_flows ++ record { flow = n; credits = pos s.settings.quantum } ∷ [];
     }
 
 -- the fat flow: the first flow than which none has more bytes

@@ -28,10 +28,10 @@ quanta_turned quantum n es (Some c) = quanta_in quantum n c.rounds (drop c.place
 
 -- the new flows that are passed over, each with one visit, and the old list once they have gone there
 unfoldable pub passed_over : FqState → List Entry
-passed_over s = take (first_ready s.settings.quantum (is_idle s.flows) s.fresh) s.fresh
+passed_over s = take (first_ready s.settings.quantum (is_idle s.flows) s.new_flows) s.new_flows
 
 unfoldable pub old_list : FqState → List Entry
-old_list s = s.stale ++ map (moved s.settings.quantum) (passed_over s)
+old_list s = s.old_flows ++ map (moved s.settings.quantum) (passed_over s)
 
 -- the old list turns only where no new flow is left
 unfoldable pub quanta_old : ℕ → (ℕ → Bool) → ℕ → List Entry → List Entry → ℕ
@@ -41,9 +41,9 @@ quanta_old quantum idle n (e ∷ es) old = zero
 -- How many quanta flow n is given in all. A flow that leaves empty counts too: it was given as many as it needed.
 unfoldable pub quanta_given : FqState → ℕ → ℕ
 quanta_given s n =
-    let p = first_ready s.settings.quantum (is_idle s.flows) s.fresh in
-    quanta_in s.settings.quantum n 1 (passed_over s) + quanta_old s.settings.quantum (is_idle s.flows) n (drop p s.fresh) (old_list s)
+    let p = first_ready s.settings.quantum (is_idle s.flows) s.new_flows in
+    quanta_in s.settings.quantum n 1 (passed_over s) + quanta_old s.settings.quantum (is_idle s.flows) n (drop p s.new_flows) (old_list s)
 
 -- the flows that are given a quantum at least, in the order of the new list and then of the old one
 unfoldable pub grants : FqState → List Grant
-grants s = filter (λ (g : Grant). nat_lt 0 g.quanta) (map (λ (e : Entry). record { flow = e.flow; quanta = quanta_given s e.flow }) (s.fresh ++ s.stale))
+grants s = filter (λ (g : Grant). nat_lt 0 g.quanta) (map (λ (e : Entry). record { flow = e.flow; quanta = quanta_given s e.flow }) (s.new_flows ++ s.old_flows))

@@ -7,8 +7,8 @@ use Rattle.q_fqcodel.specs.Entry.{Entry}
 
 -- both lists, and the flows that left one empty
 pub record Lists : Type 0 where
-  pub fresh : List Entry
-  pub stale : List Entry
+  pub new_flows : List Entry
+  pub old_flows : List Entry
   pub gone : List ℕ
 
 -- of the flows that are not empty, the one that needs fewest quanta, of equals the first
@@ -18,10 +18,10 @@ chosen quantum idle es = choose (map (λ (e : Entry). if idle e.flow then None e
 -- The old list once the chosen flow is in front: those that stood before it are visited once more than it and those
 -- behind it, and stand at the end. With none to choose, all leave.
 unfoldable pub turned : ℕ → List Entry → Option Choice → Lists
-turned quantum es None = record { fresh = []; stale = []; gone = map (λ e. e.flow) es }
+turned quantum es None = record { new_flows = []; old_flows = []; gone = map (λ e. e.flow) es }
 turned quantum es (Some c) = record {
-  fresh = [];
-  stale = stay quantum c.rounds (drop c.place es) ++ stay quantum (suc c.rounds) (take c.place es);
+  new_flows = [];
+  old_flows = stay quantum c.rounds (drop c.place es) ++ stay quantum (suc c.rounds) (take c.place es);
   gone = leave quantum c.rounds (drop c.place es) ++ leave quantum (suc c.rounds) (take c.place es);
 }
 
@@ -36,13 +36,13 @@ moved quantum e = if need quantum e == 0 then e else given quantum 1 e
 
 -- the lists where the new one begins with its first ready flow, or is empty
 unfoldable pub with_rest : ℕ → (ℕ → Bool) → List Entry → List Entry → Lists
-with_rest quantum idle [] stale = turned quantum stale (chosen quantum idle stale)
-with_rest quantum idle (e ∷ es) stale = record { fresh = e ∷ es; stale = stale; gone = [] }
+with_rest quantum idle [] old_flows = turned quantum old_flows (chosen quantum idle old_flows)
+with_rest quantum idle (e ∷ es) old_flows = record { new_flows = e ∷ es; old_flows = old_flows; gone = [] }
 
 -- Both lists once the flow that sends is in front of the new one, or of the old one where the new one is empty; both
 -- are empty where no flow has a packet.
 unfoldable pub arranged : ℕ → (ℕ → Bool) → List Entry → List Entry → Lists
-arranged quantum idle fresh stale =
-    let p = first_ready quantum idle fresh in
-    let rest = with_rest quantum idle (drop p fresh) (stale ++ map (moved quantum) (take p fresh)) in
-    record rest { gone = leave quantum 1 (take p fresh) ++ rest.gone }
+arranged quantum idle new_flows old_flows =
+    let p = first_ready quantum idle new_flows in
+    let rest = with_rest quantum idle (drop p new_flows) (old_flows ++ map (moved quantum) (take p new_flows)) in
+    record rest { gone = leave quantum 1 (take p new_flows) ++ rest.gone }

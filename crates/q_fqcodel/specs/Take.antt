@@ -17,8 +17,8 @@ taken_as packet marked = Some (record { packet = packet; marked = marked })
 -- the state once the flow that sends is in front, and before it sends
 unfoldable pub selected : FqState → FqState
 selected s =
-    let lists = arranged s.settings.quantum (is_idle s.flows) s.fresh s.stale in
-    record s { flows = clear rested_flow lists.gone s.flows; fresh = lists.fresh; stale = lists.stale }
+    let lists = arranged s.settings.quantum (is_idle s.flows) s.new_flows s.old_flows in
+    record s { flows = clear rested_flow lists.gone s.flows; new_flows = lists.new_flows; old_flows = lists.old_flows }
 
 -- what CoDel makes of a flow that sends: the packet, those dropped before it, and the flow after
 unfoldable pub packet_sent : ℕ → Flow → Option Taken
@@ -32,7 +32,7 @@ flow_after now f = record { queue = left f.codel now f.queue; codel = after f.co
 
 -- the entry in front: of the new list, or of the old one where the new one is empty
 unfoldable pub front : FqState → Option Entry
-front s = slice_get (s.fresh ++ s.stale) 0
+front s = slice_get (s.new_flows ++ s.old_flows) 0
 
 -- the flow of that entry
 unfoldable pub sender : FqState → Option Flow
@@ -52,9 +52,9 @@ paid (Some t) e = record e { credits = e.credits -ℤ pos t.packet.len }
 
 -- the state where these are the lists, and the flow in front has sent and paid
 unfoldable pub with_sent : ℕ → FqState → List Entry → List Entry → FqState
-with_sent now s [] [] = record s { fresh = []; stale = [] }
-with_sent now s [] (e ∷ es) = record s { flows = adjust (flow_after now) e.flow s.flows; fresh = []; stale = paid (sent_from now s) e ∷ es }
-with_sent now s (e ∷ es) stale = record s { flows = adjust (flow_after now) e.flow s.flows; fresh = paid (sent_from now s) e ∷ es; stale = stale }
+with_sent now s [] [] = record s { new_flows = []; old_flows = [] }
+with_sent now s [] (e ∷ es) = record s { flows = adjust (flow_after now) e.flow s.flows; new_flows = []; old_flows = paid (sent_from now s) e ∷ es }
+with_sent now s (e ∷ es) old_flows = record s { flows = adjust (flow_after now) e.flow s.flows; new_flows = paid (sent_from now s) e ∷ es; old_flows = old_flows }
 
 unfoldable pub after_sending : ℕ → FqState → FqState
-after_sending now s = with_sent now s s.fresh s.stale
+after_sending now s = with_sent now s s.new_flows s.old_flows

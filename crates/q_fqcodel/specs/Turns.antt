@@ -9,8 +9,8 @@ use Rattle.q_fqcodel.specs.Take.{selected, front}
 -- the work left before a flow sends: each look at the front lowers it
 unfoldable pub turns : FqState → ℕ
 turns s =
-    sum_by (λ (e : Entry). suc (suc (need s.settings.quantum e))) s.fresh
-    + sum_by (λ (e : Entry). suc (need s.settings.quantum e)) s.stale
+    sum_by (λ (e : Entry). suc (suc (need s.settings.quantum e))) s.new_flows
+    + sum_by (λ (e : Entry). suc (need s.settings.quantum e)) s.old_flows
 
 -- the same flow sends in the end, and the same packets wait
 pub record GoesOn (s t : FqState) : Type 0 where

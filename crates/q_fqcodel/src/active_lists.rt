@@ -17,8 +17,8 @@ use std::marker::Model;
 pub(crate) struct ActiveLists {
     // The link of each flow.
     links: Vec<Link>,
-    fresh: Ends,
-    stale: Ends,
+    new_flows: Ends,
+    old_flows: Ends,
 }
 
 impl Model for ActiveLists {
@@ -28,43 +28,43 @@ impl Model for ActiveLists {
     ghost Value = { ListsState };
 
     ghost view = { λ a. record {
-      fresh = entries_in a.links.items a.fresh;
-      stale = entries_in a.links.items a.stale;
+      new_flows = entries_in a.links.items a.new_flows;
+      old_flows = entries_in a.links.items a.old_flows;
       room = length a.links.items;
     } };
 
-    ghost invariant = { λ a. IsLists a.links.items a.fresh a.stale };
+    ghost invariant = { λ a. IsLists a.links.items a.new_flows a.old_flows };
 }
 
 impl ActiveLists {
     /// Both lists empty, for so many flows.
     pub(crate) fn new(alloc: Global, flows: u32) -> Result<ActiveLists, AllocError>
         requires { flows ≤ 65536 }
-        ensures { IfOk result (λ a. a ≡ record { fresh = []; stale = []; room = flows }) }
+        ensures { IfOk result (λ a. a ≡ record { new_flows = []; old_flows = []; room = flows }) }
     {
         let links = vec![in alloc; Link::unlisted(); flows as usize]?;
         Ok(ActiveLists {
             links,
-            fresh: Ends::none(),
-            stale: Ends::none(),
+            new_flows: Ends::none(),
+            old_flows: Ends::none(),
         })
     }
 
     /// Puts a flow that is in neither list at the end of the new one, with one quantum.
     pub(crate) fn enlist(&mut self, flow: u32, quantum: u32)
         requires within { flow < self.old.room }
-        requires few { is_listed flow (self.old.fresh ++ self.old.stale) ≡ false → length self.old.fresh < 65536 }
+        requires few { is_listed flow (self.old.new_flows ++ self.old.old_flows) ≡ false → length self.old.new_flows < 65536 }
         ensures { self.new ≡ record self.old {
-          fresh = if is_listed flow (self.old.fresh ++ self.old.stale) then self.old.fresh
-              else self.old.fresh ++ record { flow = flow; credits = pos quantum } ∷ [];
+          new_flows = if is_listed flow (self.old.new_flows ++ self.old.old_flows) then self.old.new_flows
+              else self.old.new_flows ++ record { flow = flow; credits = pos quantum } ∷ [];
         } }
     {
         if self.is_listed(flow) {
             return;
         }
-        self.fresh = append_flow(
+        self.new_flows = append_flow(
             &mut self.links,
-            self.fresh,
+            self.new_flows,
             Place::Fresh,
             flow,
             quantum as i64,
@@ -74,7 +74,7 @@ impl ActiveLists {
     // Whether a flow is in a list.
     fn is_listed(&self, flow: u32) -> bool
         requires { flow < self.now.room }
-        ensures { result ≡ is_listed flow (self.now.fresh ++ self.now.stale) }
+        ensures { result ≡ is_listed flow (self.now.new_flows ++ self.now.old_flows) }
     {
         match self.links[flow as usize].place {
             Place::Unlisted => false,
@@ -83,42 +83,42 @@ impl ActiveLists {
     }
 
     pub(crate) fn has_new(&self) -> bool
-        ensures { result ≡ not (length self.now.fresh == 0) }
+        ensures { result ≡ not (length self.now.new_flows == 0) }
     {
-        self.fresh.count != 0
+        self.new_flows.count != 0
     }
 
     pub(crate) fn has_old(&self) -> bool
-        ensures { result ≡ not (length self.now.stale == 0) }
+        ensures { result ≡ not (length self.now.old_flows == 0) }
     {
-        self.stale.count != 0
+        self.old_flows.count != 0
     }
 
     /// The flow in front of the new list.
     pub(crate) fn first_new(&self) -> Option<Entry>
-        ensures { result ≡ slice_get self.now.fresh 0 }
+        ensures { result ≡ slice_get self.now.new_flows 0 }
     {
-        first_of(&self.links, self.fresh)
+        first_of(&self.links, self.new_flows)
     }
 
     /// The flow in front of the old list.
     pub(crate) fn first_old(&self) -> Option<Entry>
-        ensures { result ≡ slice_get self.now.stale 0 }
+        ensures { result ≡ slice_get self.now.old_flows 0 }
     {
-        first_of(&self.links, self.stale)
+        first_of(&self.links, self.old_flows)
     }
 
     /// Moves the flow in front of the new list to the end of the old one, with the credits of `entry`, which is its own.
     pub(crate) fn age(&mut self, entry: Entry)
-        requires own { IfSome (slice_get self.old.fresh 0) (λ e. e.flow ≡ entry.flow) }
-        requires some { 0 < length self.old.fresh }
-        requires few { length self.old.stale < 65536 }
-        ensures { self.new ≡ record self.old { fresh = drop 1 self.old.fresh; stale = self.old.stale ++ entry ∷ [] } }
+        requires own { IfSome (slice_get self.old.new_flows 0) (λ e. e.flow ≡ entry.flow) }
+        requires some { 0 < length self.old.new_flows }
+        requires few { length self.old.old_flows < 65536 }
+        ensures { self.new ≡ record self.old { new_flows = drop 1 self.old.new_flows; old_flows = self.old.old_flows ++ entry ∷ [] } }
     {
-        self.fresh = remove_first(&mut self.links, self.fresh);
-        self.stale = append_flow(
+        self.new_flows = remove_first(&mut self.links, self.new_flows);
+        self.old_flows = append_flow(
             &mut self.links,
-            self.stale,
+            self.old_flows,
             Place::Stale,
             entry.flow,
             entry.credits,
@@ -127,13 +127,13 @@ impl ActiveLists {
 
     /// Moves the flow in front of the old list to its end, with the credits of `entry`, which is its own.
     pub(crate) fn rotate(&mut self, entry: Entry)
-        requires own { IfSome (slice_get self.old.stale 0) (λ e. e.flow ≡ entry.flow) }
-        requires some { 0 < length self.old.stale }
-        requires few { length self.old.stale ≤ 65536 }
-        ensures { self.new ≡ record self.old { stale = drop 1 self.old.stale ++ entry ∷ [] } }
+        requires own { IfSome (slice_get self.old.old_flows 0) (λ e. e.flow ≡ entry.flow) }
+        requires some { 0 < length self.old.old_flows }
+        requires few { length self.old.old_flows ≤ 65536 }
+        ensures { self.new ≡ record self.old { old_flows = drop 1 self.old.old_flows ++ entry ∷ [] } }
     {
-        let rest = remove_first(&mut self.links, self.stale);
-        self.stale = append_flow(
+        let rest = remove_first(&mut self.links, self.old_flows);
+        self.old_flows = append_flow(
             &mut self.links,
             rest,
             Place::Stale,
@@ -144,34 +144,34 @@ impl ActiveLists {
 
     /// Takes the flow in front of the old list out of it.
     pub(crate) fn retire(&mut self)
-        requires { 0 < length self.old.stale }
-        ensures { self.new ≡ record self.old { stale = drop 1 self.old.stale } }
+        requires { 0 < length self.old.old_flows }
+        ensures { self.new ≡ record self.old { old_flows = drop 1 self.old.old_flows } }
     {
-        self.stale = remove_first(&mut self.links, self.stale);
+        self.old_flows = remove_first(&mut self.links, self.old_flows);
     }
 
     /// Writes the flow in front: of the new list, or of the old one where the new one is empty.
     pub(crate) fn write_front(&mut self, entry: Entry)
-        requires own { IfSome (slice_get (self.old.fresh ++ self.old.stale) 0) (λ e. e.flow ≡ entry.flow) }
-        requires some { 0 < length self.old.fresh + length self.old.stale }
+        requires own { IfSome (slice_get (self.old.new_flows ++ self.old.old_flows) 0) (λ e. e.flow ≡ entry.flow) }
+        requires some { 0 < length self.old.new_flows + length self.old.old_flows }
         ensures { self.new ≡ record self.old {
-          fresh = set self.old.fresh 0 entry;
-          stale = if length self.old.fresh == 0 then set self.old.stale 0 entry else self.old.stale;
+          new_flows = set self.old.new_flows 0 entry;
+          old_flows = if length self.old.new_flows == 0 then set self.old.old_flows 0 entry else self.old.old_flows;
         } }
     {
         if self.has_new() {
-            set_first(&mut self.links, self.fresh, entry);
+            set_first(&mut self.links, self.new_flows, entry);
         } else {
-            set_first(&mut self.links, self.stale, entry);
+            set_first(&mut self.links, self.old_flows, entry);
         }
     }
 
     /// Takes every flow out of its list.
     pub(crate) fn clear(&mut self)
-        ensures { self.new ≡ record self.old { fresh = []; stale = [] } }
+        ensures { self.new ≡ record self.old { new_flows = []; old_flows = [] } }
     {
         self.links.fill(Link::unlisted());
-        self.fresh = Ends::none();
-        self.stale = Ends::none();
+        self.new_flows = Ends::none();
+        self.old_flows = Ends::none();
     }
 }

@@ -25,7 +25,7 @@ use std::marker::Model;
 pub struct FqCodel {
     settings: Settings,
     flows: Flows,
-    // The lists of new and old flows: new_flows and old_flows of RFC 8290.
+    // RFC 8290's new_flows and old_flows.
     lists: ActiveLists,
 }
 
@@ -43,10 +43,10 @@ impl Model for FqCodel {
 
     ghost Value = { FqView };
 
-    ghost view = { λ q. record { state = state_of q.settings q.flows q.lists.fresh q.lists.stale; places = q.flows.places } };
+    ghost view = { λ q. record { state = state_of q.settings q.flows q.lists.new_flows q.lists.old_flows; places = q.flows.places } };
 
     ghost invariant = { λ q.
-        IsLawful (state_of q.settings q.flows q.lists.fresh q.lists.stale)
+        IsLawful (state_of q.settings q.flows q.lists.new_flows q.lists.old_flows)
         × (q.lists.room ≡ q.settings.flows) };
 }
 
@@ -239,20 +239,20 @@ impl FqCodel {
     }
 
     fn has_new(&self) -> bool
-        ensures { result ≡ not (length self.now.state.fresh == 0) }
+        ensures { result ≡ not (length self.now.state.new_flows == 0) }
     {
         self.lists.has_new()
     }
 
     fn has_old(&self) -> bool
-        ensures { result ≡ not (length self.now.state.stale == 0) }
+        ensures { result ≡ not (length self.now.state.old_flows == 0) }
     {
         self.lists.has_old()
     }
 
     // Whether the flow in front of the new list sends; where it does not, it goes to the end of the old list.
     fn turn_new(&mut self) -> bool
-        requires { 0 < length self.old.state.fresh }
+        requires { 0 < length self.old.state.new_flows }
         ensures stays { result ≡ true → self.new ≡ self.old }
         ensures settled { result ≡ true → IsSettled self.new.state }
         ensures on { result ≡ false → GoesOn self.old.state self.new.state }
@@ -277,12 +277,12 @@ impl FqCodel {
     // Whether the flow in front of the old list sends, where the new one is empty; where it does not, it goes to the end or
     // leaves.
     fn turn_old(&mut self) -> bool
-        requires no_new { self.old.state.fresh ≡ [] }
-        requires waiting { 0 < length self.old.state.stale }
+        requires no_new { self.old.state.new_flows ≡ [] }
+        requires waiting { 0 < length self.old.state.old_flows }
         ensures stays { result ≡ true → self.new ≡ self.old }
         ensures settled { result ≡ true → IsSettled self.new.state }
         ensures on { result ≡ false → GoesOn self.old.state self.new.state }
-        ensures no_new { self.new.state.fresh ≡ [] }
+        ensures no_new { self.new.state.new_flows ≡ [] }
         ensures places { self.new.places ≡ self.old.places }
     {
         let settings = self.settings;

@@ -9,7 +9,7 @@
 //!   that it is read as itself, and where the fault of any other lies. By `proofs/PacketRanges.antt`
 //!   each packet that is read has a length of 1 to 65535 and a priority of at most 15.
 //!
-//! `q_report` computes worked scripts from these definitions, from their bytes to their reports.
+//! `q_script_semantics` computes worked scripts from these definitions, from their bytes to their reports.
 #![tactic(auto)]
 
 mod arrival;

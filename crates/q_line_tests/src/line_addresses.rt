@@ -1,5 +1,5 @@
 //! Lines of the whole language with addresses of both versions, prefixes, and protocols above IP.
-//! What they say is what the grammar gives: q_rows has the same lines, with their answers computed from it.
+//! What they say is what the grammar gives: q_worked_examples has the same lines, with their answers computed from it.
 use crate::line_reading::{assert_answers, assert_faults, key_in, keys_in};
 use q_model::IpPrefix;
 use q_model::IpVersion::{V4, V6};

@@ -1,5 +1,5 @@
 //! Lines of classes, filters and packets, and moments, with each number at the ends of its range, one below and one above.
-//! What they say is what the grammar gives: q_rows has the same lines, with their answers computed from it.
+//! What they say is what the grammar gives: q_worked_examples has the same lines, with their answers computed from it.
 use crate::line_reading::{
     NO_KEYS, assert_class, assert_faults, assert_filter, assert_line, class_id, one_byte,
 };

@@ -1,5 +1,5 @@
 //! Lines of the whole language with each part that they need, and without it.
-//! The faults are those that the grammar gives: q_rows has the same lines, with their answers computed from it.
+//! The faults are those that the grammar gives: q_worked_examples has the same lines, with their answers computed from it.
 use crate::line_reading::assert_answers;
 use q_words::LineFault::{BadNumber, Missing, OutOfRange, UnknownWord};
 use std::test::Fail;

@@ -1,5 +1,5 @@
 //! Lines of the whole language with words that stand twice, with bytes that are no UTF-8, and with a priomap before its bands.
-//! What they say is what the grammar gives: q_rows has the same lines, with their answers computed from it.
+//! What they say is what the grammar gives: q_worked_examples has the same lines, with their answers computed from it.
 use crate::line_reading::{assert_answers, assert_faults, assert_prio, fault_in};
 use q_words::LineFault::{self, BadNumber, BadUtf8, Missing, OutOfRange, Twice, UnknownWord};
 use std::process::Abort;

@@ -1,5 +1,5 @@
 //! One long line of each kind, and how it is answered where it ends before one of its words, or has another word in its place.
-//! The answers are those that q_rows computes from the grammar.
+//! The answers are those that q_worked_examples computes from the grammar.
 use crate::line_reading::fault_in;
 use q_words::LineFault::{self, BadNumber, BadUtf8, Missing, OutOfRange, Twice, UnknownWord};
 use std::alloc::Global;

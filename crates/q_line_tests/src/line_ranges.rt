@@ -1,5 +1,5 @@
 //! Lines of qdiscs with each number at the ends of its range, one below and one above.
-//! What they say is what the grammar gives: q_rows has the same lines, with their answers computed from it.
+//! What they say is what the grammar gives: q_worked_examples has the same lines, with their answers computed from it.
 use crate::line_reading::{
     DEFAULT_PRIOMAP, assert_faults, assert_fq_codel, assert_line, assert_prio, assert_root,
     assert_tbf, class_id, latency,

@@ -1,5 +1,5 @@
 //! Lines of the whole language with each spelling of each unit, and with what is rounded down.
-//! What they say is what the grammar gives: q_rows has the same lines, with their answers computed from it.
+//! What they say is what the grammar gives: q_worked_examples has the same lines, with their answers computed from it.
 use crate::line_reading::{
     assert_class, assert_faults, assert_fq_codel, assert_root, assert_tbf, class_id, latency,
 };

@@ -22,7 +22,7 @@
 //! note. So it is all one whether a tree keeps totals or whole histories (`proofs/ShrinkSteps.antt`, and the laws of
 //! `q_device`).
 //!
-//! This crate has no tests: `q_tests` has them, and `q_rows` computes the definitions on worked scripts. The code of the tree
+//! This crate has no tests: `q_tests` has them, and `q_worked_examples` computes the definitions on worked scripts. The code of the tree
 //! stands in `q_tree`, that of the device in `q_device`.
 #![tactic(auto)]
 

@@ -11,8 +11,8 @@ use Rattle.q_model.specs.Step.{answered, counts_at, step}
 use Rattle.q_model.specs.Tally.{Counts, totals}
 use Rattle.q_model.specs.TreeState.{plan}
 use Rattle.q_device.specs.DeviceSeen.{IsRefusal}
-use Rattle.q_report.specs.Report.{SessionState, after, commanded, planned, refusing, silent}
-use Rattle.q_report.specs.Text.{refused_line}
+use Rattle.q_script_semantics.specs.Report.{SessionState, after, commanded, planned, refusing, silent}
+use Rattle.q_script_semantics.specs.Text.{refused_line}
 
 abbrev IsDone : Reply → Type 0
 IsDone (reply.Done (Ok done)) = Unit {0}

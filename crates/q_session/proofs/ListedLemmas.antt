@@ -12,7 +12,7 @@ use Rattle.q_model.specs.Node.{Node}
 use Rattle.q_model.specs.Tally.{Counts, totals}
 use Rattle.q_model.specs.TreeState.{TreeState}
 use Rattle.q_model.specs.Views.{class_views, filter_views, node, views}
-use Rattle.q_sound.proofs.Members.{All-at}
+use Rattle.q_invariants.proofs.Members.{All-at}
 use Rattle.q_tree.specs.Kept.{Kept, kept}
 use Rattle.q_tree.specs.TreeSeen.{tree_numbers}
 use Rattle.q_session.specs.Shown.{IsLawfulSeen, listed_at}

@@ -11,8 +11,8 @@ use Rattle.q_model.specs.declared.reply.Reply.{Reply}
 use Rattle.q_model.specs.declared.reply.Reply.TheVariants as reply
 use Rattle.q_model.specs.Step.{step}
 use Rattle.q_model.specs.Tally.{Counts, totals}
-use Rattle.q_report.specs.Report.{SessionState, after, polls}
-use Rattle.q_report.specs.Text.{lost_line, poll_line}
+use Rattle.q_script_semantics.specs.Report.{SessionState, after, polls}
+use Rattle.q_script_semantics.specs.Text.{lost_line, poll_line}
 
 abbrev polled_in : Reply → Polled
 polled_in (reply.Polled p) = p

@@ -3,9 +3,9 @@ use Rattle.std.proofs.Common.{◌≡◌, ◌∙◌, ℕ, suc, Bool, List, [], �
 use Rattle.std.specs.Io.KnownBytes.{Appends}
 use Rattle.q_line.specs.Grammar.{line_of}
 use Rattle.q_model.specs.Tally.{totals}
-use Rattle.q_report.specs.Report as report
-use Rattle.q_report.specs.Report.{SessionState}
-use Rattle.q_report.proofs.ReportLemmas.{replay-shrunk}
+use Rattle.q_script_semantics.specs.Report as report
+use Rattle.q_script_semantics.specs.Report.{SessionState}
+use Rattle.q_script_semantics.proofs.ReportLemmas.{replay-shrunk}
 use Rattle.q_script.specs.declared.outcome.Outcome.{Outcome}
 use Rattle.q_script.specs.declared.outcome.Outcome.TheVariants.{Clean, Refused}
 use Rattle.q_script.specs.declared.run_fault.RunFault.{RunFault}

@@ -12,7 +12,7 @@ use Rattle.q_model.specs.TreeState.{TreeState}
 use Rattle.q_model.specs.Views.{class_of, class_views, filter_of, filter_views, node}
 use Rattle.q_tree.specs.Kept.{Kept, kept}
 use Rattle.q_tree.specs.TreeSeen.{tree_numbers}
-use Rattle.q_report.proofs.ShownLemmas.{class_views-seen, views-seen}
+use Rattle.q_script_semantics.proofs.ShownLemmas.{class_views-seen, views-seen}
 use Rattle.q_session.specs.Shown.{listed_at}
 
 abbrev counts_of : Kept → Counts

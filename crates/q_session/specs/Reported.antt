@@ -3,7 +3,7 @@
 use Rattle.std.specs.Prelude.{◌≡◌, ℕ, List, Option, if◌then◌else◌}
 use Rattle.std.specs.Io.KnownBytes.{Appends}
 use Rattle.q_model.specs.Tally.{Note}
-use Rattle.q_report.specs.Report.{Effect, replay as whole_replay}
+use Rattle.q_script_semantics.specs.Report.{Effect, replay as whole_replay}
 use Rattle.q_script.specs.declared.outcome.Outcome.{Outcome}
 use Rattle.q_script.specs.declared.outcome.Outcome.TheVariants.{Clean, Refused}
 use Rattle.q_script.specs.Settings.{Settings}

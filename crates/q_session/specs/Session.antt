@@ -1,12 +1,12 @@
--- What a line of a script does to a session over a device, by q_report's definitions with totals.
+-- What a line of a script does to a session over a device, by q_script_semantics's definitions with totals.
 use Rattle.std.specs.Prelude.{ℕ, Bool, List}
 use Rattle.q_line.specs.Grammar.{line_of}
 use Rattle.q_line.specs.declared.line.Line.{Line}
 use Rattle.q_line.specs.declared.line.Line.TheVariants.{Poll, Reap, Show}
 use Rattle.q_model.specs.Settings.{DeviceSettings}
 use Rattle.q_model.specs.Tally.{Counts, totals}
-use Rattle.q_report.specs.Report.{SessionState, new_session}
-use Rattle.q_report.specs.Report as report
+use Rattle.q_script_semantics.specs.Report.{SessionState, new_session}
+use Rattle.q_script_semantics.specs.Report as report
 use Rattle.q_script.specs.Settings.{Settings}
 use Rattle.q_script.specs.Step.{Effect}
 
@@ -24,7 +24,7 @@ device_settings s = record { mtu = s.mtu; txqueuelen = s.txqueuelen; recorder = 
 abbrev pub opened : Settings → SessionSeen
 opened settings = record { seed = settings.seed; settings = device_settings settings; state = new_session totals (device_settings settings) }
 
--- what q_report says that a line writes and leaves
+-- what q_script_semantics says that a line writes and leaves
 abbrev pub seen : SessionSeen → report.Effect Counts → Effect SessionSeen
 seen s e = record { text = e.text; session = record s { state = e.session } }
 

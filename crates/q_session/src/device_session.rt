@@ -2,9 +2,9 @@ ghost use Rattle.std.specs.Prelude.{◌≡◌, ◌≤◌, ◌<◌, ◌+◌, ◌+
 ghost use Rattle.std.specs.List.{flat_map};
 ghost use Rattle.q_line.specs.Ranges.{IsSendable};
 ghost use Rattle.q_model.specs.Tally.{totals};
-ghost use Rattle.q_report.specs.Report as report;
-ghost use Rattle.q_report.specs.Report.{answered, commanded, framed, numbered_packet, polls, show_text};
-ghost use Rattle.q_report.specs.Text.{lost_line};
+ghost use Rattle.q_script_semantics.specs.Report as report;
+ghost use Rattle.q_script_semantics.specs.Report.{answered, commanded, framed, numbered_packet, polls, show_text};
+ghost use Rattle.q_script_semantics.specs.Text.{lost_line};
 ghost use Rattle.q_script.specs.Lengths.{HasRoom, most_step};
 ghost use Rattle.q_script.specs.Script.{fault_line};
 ghost use Rattle.q_session.specs.Session.{opened, seen, IsShort};

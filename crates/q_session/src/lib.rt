@@ -8,12 +8,12 @@
 //!   writes came to. Its contract says when each fault comes: `Read` and `Write` tell of every read and write that failed and of
 //!   nothing else, and an outcome means that none did.
 //! - [`DeviceSession`] is the [`Session`](q_script::Session) of `q_script` that runs each line over a `Device` of `q_device`:
-//!   arrivals, polls, commands, show texts, losses and counters, as the report of `q_report` says.
+//!   arrivals, polls, commands, show texts, losses and counters, as the report of `q_script_semantics` says.
 //! - [`show_qdiscs`], [`show_classes`] and [`show_filters`] write what tc's show lines print of a `Tree` of `q_tree`, and
 //!   [`ShowFault`] is why they did not. [`put_show`] puts such a text into an `Output` of `q_script`, and
 //!   [`put_device`] the line on a device's counters.
 //!
-//! `specs/Session.antt` says what a line does to a session, by `q_report`'s definitions with totals; `proofs/Reported.antt` that
+//! `specs/Session.antt` says what a line does to a session, by `q_script_semantics`'s definitions with totals; `proofs/Reported.antt` that
 //! the report over totals is the one over whole histories.
 #![tactic(auto)]
 

@@ -3,7 +3,7 @@ ghost use Rattle.std.specs.Prelude.{◌≡◌, ◌≤◌, List, ℕ, length, sli
 ghost use Rattle.q_model.specs.Node.{Node};
 ghost use Rattle.q_model.specs.Tally.{Counts};
 ghost use Rattle.q_model.specs.Views.{class_views, filter_views};
-ghost use Rattle.q_report.specs.Text.{class_line, filter_line};
+ghost use Rattle.q_script_semantics.specs.Text.{class_line, filter_line};
 ghost use Rattle.q_session.specs.Shown.{IsLawfulSeen, listed_at};
 ghost use Rattle.q_tree.specs.TreeSeen.{tree_numbers};
 

@@ -4,7 +4,7 @@ ghost use Rattle.q_words.specs.FaultText.{fault_text};
 ghost use Rattle.q_script.specs.Script.{line_text, fault_line};
 ghost use Rattle.q_script.specs.Lengths.{HasRoom};
 ghost use Rattle.q_show.specs.Lengths.{GrowsBy};
-ghost use Rattle.q_report.specs.Text.{device_line, lost_line, packet_text, poll_line, refused_line};
+ghost use Rattle.q_script_semantics.specs.Text.{device_line, lost_line, packet_text, poll_line, refused_line};
 ghost use Rattle.q_session.specs.Lengths.{most_device, most_fault, most_fault_text, most_line_number, most_lost, most_packet, most_poll, most_refusal};
 
 use q_device::{Lost, Polled, Refusal, Row};

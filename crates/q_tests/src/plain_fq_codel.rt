@@ -26,8 +26,8 @@ struct Flow {
 pub struct PlainFqCodel {
     settings: Settings,
     flows: Vec<Flow>,
-    fresh: VecDeque<Entry>,
-    stale: VecDeque<Entry>,
+    new_flows: VecDeque<Entry>,
+    old_flows: VecDeque<Entry>,
 }
 
 impl PlainFqCodel {
@@ -45,8 +45,8 @@ impl PlainFqCodel {
         Ok(PlainFqCodel {
             settings,
             flows,
-            fresh: VecDeque::new(alloc),
-            stale: VecDeque::new(alloc),
+            new_flows: VecDeque::new(alloc),
+            old_flows: VecDeque::new(alloc),
         })
     }
 
@@ -54,9 +54,9 @@ impl PlainFqCodel {
     pub fn put(&mut self, packet: Packet, at: Moment, losses: &mut Losses) -> Result<bool, Fail> {
         let settings = self.settings;
         let index = packet.hash.checked_rem(settings.flows).ok_or("no flows")?;
-        if !is_listed(&self.fresh, index) && !is_listed(&self.stale, index) {
+        if !is_listed(&self.new_flows, index) && !is_listed(&self.old_flows, index) {
             let credits = i64::from(settings.quantum);
-            self.fresh.push_back(Entry {
+            self.new_flows.push_back(Entry {
                 flow: index,
                 credits,
             })?;
@@ -78,34 +78,34 @@ impl PlainFqCodel {
     pub fn take(&mut self, now: Moment, losses: &mut Losses) -> Result<Option<Taken>, Fail> {
         let settings = self.settings;
         for _ in 0..u64::MAX {
-            let is_new = !self.fresh.is_empty();
+            let is_new = !self.new_flows.is_empty();
             let front = if is_new {
-                self.fresh.pop_front()
+                self.new_flows.pop_front()
             } else {
-                self.stale.pop_front()
+                self.old_flows.pop_front()
             };
             let Some(mut entry) = front else {
                 return Ok(None);
             };
             if entry.credits <= 0 {
                 entry.credits = entry.credits.saturating_add(i64::from(settings.quantum));
-                self.stale.push_back(entry)?;
+                self.old_flows.push_back(entry)?;
                 continue;
             }
             let flow = self.flow(entry.flow)?;
             let Some(taken) = flow.send(now, losses)? else {
                 flow.codel.rest();
                 if is_new {
-                    self.stale.push_back(entry)?;
+                    self.old_flows.push_back(entry)?;
                 }
                 continue;
             };
             let packet = taken.packet;
             entry.credits = entry.credits.saturating_sub(i64::from(packet.len));
             if is_new {
-                self.fresh.push_front(entry)?;
+                self.new_flows.push_front(entry)?;
             } else {
-                self.stale.push_front(entry)?;
+                self.old_flows.push_front(entry)?;
             }
             return Ok(Some(taken));
         }
@@ -128,8 +128,8 @@ impl PlainFqCodel {
             flow.queue.purge(losses);
             flow.codel = codel_of(settings);
         }
-        self.fresh.clear();
-        self.stale.clear();
+        self.new_flows.clear();
+        self.old_flows.clear();
         Ok(())
     }
 
@@ -137,7 +137,7 @@ impl PlainFqCodel {
     pub fn queued(&self) -> (u64, u64) {
         let mut packets = 0u64;
         let mut bytes = 0u64;
-        for entry in self.fresh.iter().chain(self.stale.iter()) {
+        for entry in self.new_flows.iter().chain(self.old_flows.iter()) {
             if let Some(flow) = self.flows.get(entry.flow as usize) {
                 packets = packets.saturating_add(flow.queue.count());
                 bytes = bytes.saturating_add(flow.queue.bytes());
@@ -150,7 +150,7 @@ impl PlainFqCodel {
     fn fattest(&self) -> u32 {
         let mut fat = 0u32;
         let mut most = 0u64;
-        for entry in self.fresh.iter().chain(self.stale.iter()) {
+        for entry in self.new_flows.iter().chain(self.old_flows.iter()) {
             if let Some(flow) = self.flows.get(entry.flow as usize) {
                 let bytes = flow.queue.bytes();
                 if bytes > most || (bytes == most && entry.flow < fat) {

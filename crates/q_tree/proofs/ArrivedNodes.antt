@@ -19,10 +19,10 @@ use Rattle.q_model.specs.Node.{Own, Node, Shape, shape, side_by_side}
 use Rattle.q_model.specs.Put.{put_along}
 use Rattle.q_model.specs.Route.{Route, route, way, refused, through, class_at}
 use Rattle.q_model.specs.Tally.{Note}
-use Rattle.q_sound.proofs.Forests.{nodes-side, each-side, lawful-with_memory}
-use Rattle.q_sound.proofs.Kept.{IsLawfulRoot}
-use Rattle.q_sound.proofs.Members.{All-at}
-use Rattle.q_sound.proofs.Quiet.{child-lawful}
+use Rattle.q_invariants.proofs.Forests.{nodes-side, each-side, lawful-with_memory}
+use Rattle.q_invariants.proofs.Kept.{IsLawfulRoot}
+use Rattle.q_invariants.proofs.Members.{All-at}
+use Rattle.q_invariants.proofs.Quiet.{child-lawful}
 use Rattle.q_tree.specs.Ahead.{ways}
 use Rattle.q_tree.specs.Arrivals.{CanCount, CanPut, HasPlace, HasPlaceIn, IsLostOf, with_arrival}
 use Rattle.q_tree.specs.ArriveSteps.{CanCome, CanComeIn, HasCome, HasComeIn, HasPlaceOn, IsPlaced, IsPlacedIn, IsPutOn, rises_along, way_in}

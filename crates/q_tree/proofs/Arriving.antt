@@ -33,7 +33,7 @@ use Rattle.q_model.specs.Step.{losses_in}
 use Rattle.q_model.specs.Tally.{Note, Lost, Counts, counted, no_counts, no_totals, with_packet}
 use Rattle.q_model.specs.Work.{settled_in}
 use Rattle.q_model.proofs.ShrinkLemmas.{each-each_memory, shape-with_memory}
-use Rattle.q_sound.proofs.Forests.{nodes-side, each-side}
+use Rattle.q_invariants.proofs.Forests.{nodes-side, each-side}
 use Rattle.q_tree.specs.Ahead.{ways}
 use Rattle.q_tree.specs.Arrivals.{CanPut, HasPlace, HasPlaceIn, IsOutcome}
 use Rattle.q_tree.specs.ArriveSteps.{HasCome, HasComeIn, HasPlaceOn, IsPlaced, IsPlacedIn, IsPutOn, rises_along, way_in}

@@ -11,7 +11,7 @@ use Rattle.q_model.specs.Find.{Address, addresses, addresses_own, from_parent, p
 use Rattle.q_model.specs.Node as spec
 use Rattle.q_model.specs.Node.{Node, children, each}
 use Rattle.q_model.specs.Route.{class_at}
-use Rattle.q_sound.proofs.Forests.{each-nodes, nodes-side}
+use Rattle.q_invariants.proofs.Forests.{each-nodes, nodes-side}
 use Rattle.q_tree.specs.Kept.{Kept}
 use Rattle.q_tree.specs.Seen.{seen, children_seen}
 use Rattle.q_tree.specs.declared.node.Discipline.TheVariants.{Prio, Drr}

@@ -15,8 +15,8 @@ use Rattle.q_drr.proofs.KeyLemmas.{has}
 use Rattle.q_drr.proofs.NameLemmas.{eqb_swap}
 use Rattle.q_model.specs.Find.{Address, addresses, addresses_own, count_nodes, free_handle, from_parent, path_of}
 use Rattle.q_model.specs.Node.{Forest, none, more, Node, children, each, from_below}
-use Rattle.q_sound.proofs.EditHandles.{AreApart}
-use Rattle.q_sound.proofs.Forests.{each-nodes}
+use Rattle.q_invariants.proofs.EditHandles.{AreApart}
+use Rattle.q_invariants.proofs.Forests.{each-nodes}
 use Rattle.q_tree.specs.Index.{added, address_of, addresses_beneath, free_among, has_among, listed, own_address, path_among, under}
 use Rattle.q_tree.specs.Kept.{Kept}
 

@@ -20,11 +20,11 @@ use Rattle.q_model.specs.Node.{Node, Own, shape, side_by_side, each}
 use Rattle.q_model.specs.Pop.{Popping, pop, pop_own}
 use Rattle.q_model.specs.Tally.{counts_in}
 use Rattle.q_model.specs.Work.{booked, each_booked}
-use Rattle.q_sound.proofs.Exact.{exact-length}
-use Rattle.q_sound.proofs.Forests.{each-side, AreLawful}
-use Rattle.q_sound.proofs.Kept.{AllLawful}
-use Rattle.q_sound.proofs.Pops.{ask-popped, booked-then}
-use Rattle.q_sound.proofs.Told.{root-booked}
+use Rattle.q_invariants.proofs.Exact.{exact-length}
+use Rattle.q_invariants.proofs.Forests.{each-side, AreLawful}
+use Rattle.q_invariants.proofs.Kept.{AllLawful}
+use Rattle.q_invariants.proofs.Pops.{ask-popped, booked-then}
+use Rattle.q_invariants.proofs.Told.{root-booked}
 use Rattle.q_tree.specs.AskSteps.{CanAsk, CanAskEach, CanServe, CanAskIn, CanShow, IsShown, AreAsked, IsToldOf, IsAskedIn, answers, answer_of, own_of, held_in, packets_within, with_shown}
 use Rattle.q_tree.specs.Kept.{Kept, kept}
 use Rattle.q_tree.specs.PutSteps.{packets_beneath}
@@ -34,7 +34,7 @@ use Rattle.q_tree.specs.declared.node.Node.TheInside.{Inside}
 use Rattle.q_tree.specs.Shown.{Shown}
 use Rattle.q_tree.proofs.AskForms.{ask-holding, ask-none, peeked-is}
 use Rattle.q_tree.proofs.RowsOf.{IsRowOf, row-of, kept-of, can-show, row-shown}
-use Rattle.q_sound.proofs.Weights.{IsQuiet}
+use Rattle.q_invariants.proofs.Weights.{IsQuiet}
 use Rattle.q_tree.proofs.PopLemmas.{set-within}
 use Rattle.q_tree.proofs.Asking.{asked-told, asked-weighs, all-before, side-all}
 

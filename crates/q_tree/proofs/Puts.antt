@@ -30,16 +30,16 @@ use Rattle.q_model.specs.Tally.{Note, Arrived, noted, totals, with_packet}
 use Rattle.q_model.specs.TreeState.{loss_at_end}
 use Rattle.q_model.specs.Work.{Work, Worked, worked, quiet, booked, each_booked, settled_in}
 use Rattle.q_model.proofs.ShrinkLemmas.{each-each_memory}
-use Rattle.q_sound.proofs.Weights.{weigh, weigh-count}
-use Rattle.q_sound.proofs.Answer.{one}
-use Rattle.q_sound.proofs.Counted.{bytes}
-use Rattle.q_sound.proofs.Told.{IsRootTold, root-memory, root-booked}
-use Rattle.q_sound.proofs.Forests.{nodes-side, lawful-with_memory, each-side}
-use Rattle.q_sound.proofs.Members.{All-at}
-use Rattle.q_sound.proofs.Quiet.{child-lawful}
-use Rattle.q_sound.proofs.PutHere.{IsPut}
-use Rattle.q_sound.proofs.Puts.{along-put}
-use Rattle.q_sound.proofs.Ways.{nil-cons, way-ends, route-goes}
+use Rattle.q_invariants.proofs.Weights.{weigh, weigh-count}
+use Rattle.q_invariants.proofs.Answer.{one}
+use Rattle.q_invariants.proofs.Counted.{bytes}
+use Rattle.q_invariants.proofs.Told.{IsRootTold, root-memory, root-booked}
+use Rattle.q_invariants.proofs.Forests.{nodes-side, lawful-with_memory, each-side}
+use Rattle.q_invariants.proofs.Members.{All-at}
+use Rattle.q_invariants.proofs.Quiet.{child-lawful}
+use Rattle.q_invariants.proofs.PutHere.{IsPut}
+use Rattle.q_invariants.proofs.Puts.{along-put}
+use Rattle.q_invariants.proofs.Ways.{nil-cons, way-ends, route-goes}
 use Rattle.q_tree.specs.Arrivals.{CanCount, HasPlaceIn, CanPut, IsOutcome, IsLostOf, with_arrival}
 use Rattle.q_tree.specs.Kept.{Kept, kept}
 use Rattle.q_tree.specs.PutSteps as steps

@@ -5,7 +5,7 @@ use Rattle.std.proofs.lemmas.Option.{none-some}
 use Rattle.q_packet.specs.Descriptor.{Descriptor}
 use Rattle.q_model.specs.Ask.{ask}
 use Rattle.q_model.specs.Node.{Node, shape}
-use Rattle.q_sound.proofs.Kept.{IsLawfulRoot}
+use Rattle.q_invariants.proofs.Kept.{IsLawfulRoot}
 use Rattle.q_tree.specs.ReadyAt.{is_before, is_sure, outlook, ready_at}
 use Rattle.q_tree.specs.TreeSeen.{IsKeptDevice}
 use Rattle.q_tree.specs.declared.tree.Tree.TheInside.{Inside}

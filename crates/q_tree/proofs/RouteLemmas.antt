@@ -13,7 +13,7 @@ use Rattle.q_model.specs.Filters.{named_class}
 use Rattle.q_model.specs.Find.{depth, greatest}
 use Rattle.q_model.specs.Node.{Node, side_by_side, each}
 use Rattle.q_model.specs.Route.{Route, route, way, through, refused, class_at}
-use Rattle.q_sound.proofs.Forests.{each-side}
+use Rattle.q_invariants.proofs.Forests.{each-side}
 use Rattle.q_tree.specs.Ahead.{ahead, ways, depths}
 use Rattle.q_tree.specs.Kept.{Kept}
 use Rattle.q_tree.specs.NodeCode.{forest_size, node_size}

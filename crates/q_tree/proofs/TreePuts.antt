@@ -18,12 +18,12 @@ use Rattle.q_model.specs.TreeState.{TreeState, put, put_on, loss_on, own_loss, w
 use Rattle.q_model.specs.Work.{Work, quiet, booked}
 use Rattle.q_model.proofs.ShrinkLemmas.{totals_for_history, each-each_memory}
 use Rattle.q_model.proofs.ShrinkSteps.{put-stands}
-use Rattle.q_sound.proofs.Answer.{one}
-use Rattle.q_sound.proofs.Counted.{bytes}
-use Rattle.q_sound.proofs.Kept.{IsKeptTree}
-use Rattle.q_sound.proofs.Puts.{put-kept}
-use Rattle.q_sound.proofs.Ways.{route-goes}
-use Rattle.q_sound.proofs.Weights.{arrived-nil, arrived-cons, sent-nil, sent-cons, lost-nil, lost-cons, marked-nil, marked-cons}
+use Rattle.q_invariants.proofs.Answer.{one}
+use Rattle.q_invariants.proofs.Counted.{bytes}
+use Rattle.q_invariants.proofs.Kept.{IsKeptTree}
+use Rattle.q_invariants.proofs.Puts.{put-kept}
+use Rattle.q_invariants.proofs.Ways.{route-goes}
+use Rattle.q_invariants.proofs.Weights.{arrived-nil, arrived-cons, sent-nil, sent-cons, lost-nil, lost-cons, marked-nil, marked-cons}
 use Rattle.q_tree.specs.Arrivals.{CanPut, HasPlace, IsOutcome, IsLostOf, with_arrival}
 use Rattle.q_tree.specs.Kept.{Kept, kept}
 use Rattle.q_tree.specs.Places.{unplaced, places_at}

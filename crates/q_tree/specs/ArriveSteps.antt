@@ -14,7 +14,7 @@ use Rattle.q_model.specs.Route.{Route, route, way, device_route}
 use Rattle.q_model.specs.Tally.{Note, with_packet}
 use Rattle.q_model.specs.TreeState.{loss_at_end, loss_on, put_on}
 use Rattle.q_model.specs.Work.{booked}
-use Rattle.q_sound.proofs.Kept.{IsLawfulRoot}
+use Rattle.q_invariants.proofs.Kept.{IsLawfulRoot}
 use Rattle.q_tree.specs.Ahead.{ways}
 use Rattle.q_tree.specs.Arrivals.{CanCount, CanPut, HasPlace, HasPlaceIn, IsOutcome}
 use Rattle.q_tree.specs.AskSteps.{IsToldOf, own_of}

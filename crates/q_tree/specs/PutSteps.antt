@@ -16,7 +16,7 @@ use Rattle.q_model.specs.Put.{put_here, put_along}
 use Rattle.q_model.specs.Tally.{Note, with_packet}
 use Rattle.q_model.specs.TreeState.{loss_at_end}
 use Rattle.q_model.specs.Work.{booked, settled_in}
-use Rattle.q_sound.proofs.Ways.{CanPass}
+use Rattle.q_invariants.proofs.Ways.{CanPass}
 use Rattle.q_tree.specs.Arrivals.{CanCount, HasPlaceIn, CanPut, IsOutcome}
 use Rattle.q_tree.specs.Kept.{Kept, kept}
 use Rattle.q_tree.specs.Seen.{discipline_seen, children_seen, places_seen}

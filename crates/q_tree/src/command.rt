@@ -3,7 +3,7 @@ ghost use Rattle.q_model.specs.Beneath.{beneath};
 ghost use Rattle.q_model.specs.Find.{addresses};
 ghost use Rattle.q_model.specs.Node.{shape};
 ghost use Rattle.q_model.specs.TreeState.{plan};
-ghost use Rattle.q_sound.proofs.Kept.{IsLawfulRoot};
+ghost use Rattle.q_invariants.proofs.Kept.{IsLawfulRoot};
 ghost use Rattle.q_tree.specs.Commanding.{WantsMemory};
 ghost use Rattle.q_tree.specs.Commands.{IsAnswered, IsBounded, IsPlanOf, plan_of, told};
 

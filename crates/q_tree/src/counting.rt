@@ -1,7 +1,7 @@
 ghost use Rattle.std.specs.Prelude.{◌≡◌, ◌≤◌};
 ghost use Rattle.q_model.specs.Find.{count_nodes};
 ghost use Rattle.q_model.specs.Refusals.{most_nodes};
-ghost use Rattle.q_sound.proofs.MadeSizes.{levels_made, nodes_made};
+ghost use Rattle.q_invariants.proofs.MadeSizes.{levels_made, nodes_made};
 
 use crate::node::Node;
 use q_model::Kind;

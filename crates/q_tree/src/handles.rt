@@ -4,7 +4,7 @@ ghost use Rattle.indexmap.specs.IndexMap.{spare};
 ghost use Rattle.q_model.specs.Find.{addresses, count_nodes, depth};
 ghost use Rattle.q_model.specs.Numbers.{IsHandle};
 ghost use Rattle.q_model.specs.Refusals.{most_nodes};
-ghost use Rattle.q_sound.proofs.EditHandles.{AreApart};
+ghost use Rattle.q_invariants.proofs.EditHandles.{AreApart};
 ghost use Rattle.q_tree.specs.Editing.{TakesMemory, adds_nodes};
 ghost use Rattle.q_tree.specs.Index.{added, addresses_beneath, free_among, has_among, listed, own_address, path_among, under};
 

@@ -9,8 +9,8 @@ ghost use Rattle.q_model.specs.Node.{Shape, shape};
 ghost use Rattle.q_model.specs.Ranges.{IsCommand, IsKind};
 ghost use Rattle.q_model.specs.Refusals.{most_nodes};
 ghost use Rattle.q_model.specs.TreeState.{plan};
-ghost use Rattle.q_sound.proofs.Kept.{IsLawfulRoot};
-ghost use Rattle.q_sound.proofs.SizedChanges.{change_sized};
+ghost use Rattle.q_invariants.proofs.Kept.{IsLawfulRoot};
+ghost use Rattle.q_invariants.proofs.SizedChanges.{change_sized};
 ghost use Rattle.q_tree.specs.Changing.{IsChange, MakesChildren, NeedsMore, bfifo_answer, drr_same, fq_codel_answer, leaves_answer, nodes_from, pfifo_answer, tbf_answer};
 ghost use Rattle.q_tree.specs.Commands.{IsAnswered, IsBounded, IsPlanOf, plan_of, told};
 

@@ -6,7 +6,7 @@ use Rattle.q_device.specs.DeviceSeen.{DeviceSeen}
 use Rattle.q_model.specs.Tally.{Counts, totals}
 use Rattle.q_model.specs.TreeState.{TreeState}
 use Rattle.q_model.specs.Views.{class_views, filter_views, views}
-use Rattle.q_report.specs.Text.{class_line, filter_line, qdisc_text}
+use Rattle.q_script_semantics.specs.Text.{class_line, filter_line, qdisc_text}
 use Rattle.q_session.specs.Shown.{listed_text}
 
 -- the text of a tree: 0 its qdiscs, 1 those with their counters, 2 its classes, 3 its filters

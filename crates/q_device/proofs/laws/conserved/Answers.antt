@@ -1,7 +1,7 @@
 use Rattle.q_model.specs.Replay.{replay}
 use Rattle.q_model.specs.Tally.{history}
-use Rattle.q_sound.proofs.Replays.{replay-kept}
-use Rattle.q_sound.proofs.Sound.{kept-sound}
+use Rattle.q_invariants.proofs.Replays.{replay-kept}
+use Rattle.q_invariants.proofs.Sound.{kept-sound}
 use Rattle.q_device.proofs.LawfulLemmas.{replay-lawful}
 use Rattle.q_device.proofs.ToldLemmas.{replay-tells}
 use Rattle.q_device.proofs.laws.conserved.Goals as goal

@@ -3,7 +3,7 @@ use Rattle.std.specs.Prelude.{OnErr, flat_map}
 use Rattle.q_model.specs.Tally.{Counts, totals}
 use Rattle.q_model.specs.TreeState.{TreeState}
 use Rattle.q_model.specs.Views.{views}
-use Rattle.q_report.specs.Text.{qdisc_text}
+use Rattle.q_script_semantics.specs.Text.{qdisc_text}
 use Rattle.q_show.specs.Written.{AppendsFront}
 use Rattle.q_drive.proofs.ending.put_qdiscs.Goals as goal
 

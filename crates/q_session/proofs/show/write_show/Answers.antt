@@ -1,7 +1,7 @@
 use Rattle.std.proofs.Common.{◌++◌, List, ℕ, subst}
 use Rattle.std.proofs.lemmas.Result.{on_ok_weaker}
 use Rattle.q_model.specs.Tally.{totals}
-use Rattle.q_report.specs.Report.{show_text}
+use Rattle.q_script_semantics.specs.Report.{show_text}
 use Rattle.q_script.proofs.OnErr.{on_err_weaker}
 use Rattle.q_script.proofs.WrittenLemmas.{buffered-all, front-of}
 use Rattle.q_show.specs.Written.{IsBuffered}

@@ -4,7 +4,7 @@ use Rattle.std.specs.List.{flat_map}
 use Rattle.std.proofs.lemmas.Option.{slice_get_within}
 use Rattle.q_model.specs.Tally.{totals}
 use Rattle.q_model.specs.Views.{views}
-use Rattle.q_report.specs.Text.{qdisc_text}
+use Rattle.q_script_semantics.specs.Text.{qdisc_text}
 use Rattle.q_script.proofs.OnErr.{on_err}
 use Rattle.q_tree.specs.TreeSeen.{tree_numbers}
 use Rattle.q_session.proofs.ListedLemmas.{few-views, text-first, text-none}

@@ -3,7 +3,7 @@ use Rattle.std.specs.Prelude.{drop}
 use Rattle.std.specs.List.{flat_map}
 use Rattle.q_model.specs.Tally.{totals}
 use Rattle.q_model.specs.Views.{views}
-use Rattle.q_report.specs.Text.{qdisc_text}
+use Rattle.q_script_semantics.specs.Text.{qdisc_text}
 use Rattle.q_show.specs.Writes.{MayWrite}
 use Rattle.q_tree.specs.TreeSeen.{tree_numbers}
 use Rattle.q_session.proofs.Writing.{Writing}

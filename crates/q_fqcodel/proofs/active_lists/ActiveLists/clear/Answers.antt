@@ -17,5 +17,5 @@ pub returns : goal.returns
 returns c =
     let d = (goal.at.returns c).After-fill in
     empty_state (vec_len c.self.inside.links) c.fill.new.self.items c.none-self-inside.result c.none-self-inside-2.result (items d) c.none-self-inside.ensures c.none-self-inside-2.ensures
-    ∙ ap (λ (n : ℕ). record { fresh = []; stale = []; room = n }) c.self.inside.links.ok.0
-    ∙ ap (λ (v : ListsState). record { fresh = []; stale = []; room = v.room }) c.self.view_is
+    ∙ ap (λ (n : ℕ). record { new_flows = []; old_flows = []; room = n }) c.self.inside.links.ok.0
+    ∙ ap (λ (v : ListsState). record { new_flows = []; old_flows = []; room = v.room }) c.self.view_is

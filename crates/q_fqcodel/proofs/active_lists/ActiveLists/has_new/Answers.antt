@@ -6,4 +6,4 @@ use Rattle.q_fqcodel.proofs.active_lists.ActiveLists.has_new.Goals as goal
 
 pub returns : goal.returns
 returns c =
-    ap (λ (n : ℕ). not (n == 0)) (sym (counted c.self.inside.links.items Fresh c.self.inside.fresh c.self.invariant.new) ∙ ap (λ (v : ListsState). length v.fresh) c.self.view_is)
+    ap (λ (n : ℕ). not (n == 0)) (sym (counted c.self.inside.links.items Fresh c.self.inside.new_flows c.self.invariant.new) ∙ ap (λ (v : ListsState). length v.new_flows) c.self.view_is)

@@ -6,4 +6,4 @@ use Rattle.q_fqcodel.proofs.active_lists.ActiveLists.has_old.Goals as goal
 
 pub returns : goal.returns
 returns c =
-    ap (λ (n : ℕ). not (n == 0)) (sym (counted c.self.inside.links.items Stale c.self.inside.stale c.self.invariant.old) ∙ ap (λ (v : ListsState). length v.stale) c.self.view_is)
+    ap (λ (n : ℕ). not (n == 0)) (sym (counted c.self.inside.links.items Stale c.self.inside.old_flows c.self.invariant.old) ∙ ap (λ (v : ListsState). length v.old_flows) c.self.view_is)

@@ -15,14 +15,14 @@ read c = get_or_read c.self.inside.links.items c.args.flow _ (omega (arith, c.re
 pub returns-in-Unlisted : goal.returns-in-Unlisted
 returns-in-Unlisted c =
     let d = (goal.at.returns-in-Unlisted c).After-index in
-    not_listed c.self.inside.links.items c.self.inside.fresh c.self.inside.stale c.self.invariant c.args.flow (ap (λ (x : Link). x.place) (sym (read d)) ∙ c.in-Unlisted.is)
-    ∙ ap (λ (v : ListsState). is_listed c.args.flow (v.fresh ++ v.stale)) c.self.view_is
+    not_listed c.self.inside.links.items c.self.inside.new_flows c.self.inside.old_flows c.self.invariant c.args.flow (ap (λ (x : Link). x.place) (sym (read d)) ∙ c.in-Unlisted.is)
+    ∙ ap (λ (v : ListsState). is_listed c.args.flow (v.new_flows ++ v.old_flows)) c.self.view_is
 
 pub returns-in-Fresh : goal.returns-in-Fresh
 returns-in-Fresh c =
     let d = (goal.at.returns-in-Fresh c).After-index in
     ⊎_elim
-    (λ (new : c.index.result.now.place ≡ Fresh). listed_new c.self.inside.links.items c.self.inside.fresh c.self.inside.stale c.self.invariant c.args.flow (ap (λ (x : Link). x.place) (sym (read d)) ∙ new))
-    (λ (old : c.index.result.now.place ≡ Stale). listed_old c.self.inside.links.items c.self.inside.fresh c.self.inside.stale c.self.invariant c.args.flow (ap (λ (x : Link). x.place) (sym (read d)) ∙ old))
+    (λ (new : c.index.result.now.place ≡ Fresh). listed_new c.self.inside.links.items c.self.inside.new_flows c.self.inside.old_flows c.self.invariant c.args.flow (ap (λ (x : Link). x.place) (sym (read d)) ∙ new))
+    (λ (old : c.index.result.now.place ≡ Stale). listed_old c.self.inside.links.items c.self.inside.new_flows c.self.inside.old_flows c.self.invariant c.args.flow (ap (λ (x : Link). x.place) (sym (read d)) ∙ old))
     c.in-Fresh.is
-    ∙ ap (λ (v : ListsState). is_listed c.args.flow (v.fresh ++ v.stale)) c.self.view_is
+    ∙ ap (λ (v : ListsState). is_listed c.args.flow (v.new_flows ++ v.old_flows)) c.self.view_is

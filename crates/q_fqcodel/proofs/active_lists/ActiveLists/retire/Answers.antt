@@ -6,4 +6,4 @@ use Rattle.q_fqcodel.proofs.active_lists.ActiveLists.retire.Goals as goal
 
 pub remove_first-self-inside-requires-clause-some : goal.remove_first-self-inside-requires-clause-some
 remove_first-self-inside-requires-clause-some c =
-    omega (arith, c.requires, ap (λ (v : ListsState). length v.stale) c.self.view_is, counted c.self.inside.links.items Stale c.self.inside.stale c.self.invariant.old)
+    omega (arith, c.requires, ap (λ (v : ListsState). length v.old_flows) c.self.view_is, counted c.self.inside.links.items Stale c.self.inside.old_flows c.self.invariant.old)

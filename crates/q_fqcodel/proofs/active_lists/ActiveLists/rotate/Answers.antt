@@ -9,19 +9,19 @@ use Rattle.q_fqcodel.proofs.ListsLemmas.{counted, front_flow, fresh_or_stale}
 use Rattle.q_fqcodel.proofs.active_lists.ActiveLists.rotate.Goals as goal
 use Rattle.q_fqcodel.proofs.active_lists.ActiveLists.rotate.Goals.{After-remove_first-rest, After-entry, After-append_flow-self-inside}
 
-some : (c : After-remove_first-rest) → 0 < c.self.inside.stale.count
+some : (c : After-remove_first-rest) → 0 < c.self.inside.old_flows.count
 some c =
-    omega (arith, c.requires.some, ap (λ (v : ListsState). length v.stale) c.self.view_is, counted c.self.inside.links.items Stale c.self.inside.stale c.self.invariant.old)
+    omega (arith, c.requires.some, ap (λ (v : ListsState). length v.old_flows) c.self.view_is, counted c.self.inside.links.items Stale c.self.inside.old_flows c.self.invariant.old)
 
 pub remove_first-rest-requires-clause-some : goal.remove_first-rest-requires-clause-some
 remove_first-rest-requires-clause-some c =
-    omega (arith, c.requires.some, ap (λ (v : ListsState). length v.stale) c.self.view_is, counted c.self.inside.links.items Stale c.self.inside.stale c.self.invariant.old)
+    omega (arith, c.requires.some, ap (λ (v : ListsState). length v.old_flows) c.self.view_is, counted c.self.inside.links.items Stale c.self.inside.old_flows c.self.invariant.old)
 
 -- the flow that moves is the one in front
-moves : (c : After-remove_first-rest) → c.self.inside.stale.head ≡ c.args.entry.flow
+moves : (c : After-remove_first-rest) → c.self.inside.old_flows.head ≡ c.args.entry.flow
 moves c =
-    front_flow c.self.inside.links.items Stale c.self.inside.stale c.args.entry.flow c.self.invariant.old (some c)
-    (subst (λ (v : ListsState). IfSome (slice_get v.stale 0) (λ e. e.flow ≡ c.args.entry.flow)) (sym c.self.view_is) c.requires.own)
+    front_flow c.self.inside.links.items Stale c.self.inside.old_flows c.args.entry.flow c.self.invariant.old (some c)
+    (subst (λ (v : ListsState). IfSome (slice_get v.old_flows 0) (λ e. e.flow ≡ c.args.entry.flow)) (sym c.self.view_is) c.requires.own)
 
 pub append_flow-self-inside-requires-clause-within : goal.append_flow-self-inside-requires-clause-within
 append_flow-self-inside-requires-clause-within c =
@@ -30,7 +30,7 @@ append_flow-self-inside-requires-clause-within c =
       arith,
       ap (λ (e : Entry). e.flow) c.entry.view_is,
       moves d,
-      head_within c.self.inside.links.items Stale c.self.inside.stale (some d) c.self.invariant.old,
+      head_within c.self.inside.links.items Stale c.self.inside.old_flows (some d) c.self.invariant.old,
       c.remove_first-rest.ensures.len,
     )
 
@@ -47,31 +47,31 @@ append_flow-self-inside-requires-clause-few c =
     let d = (goal.at.append_flow-self-inside-requires-clause-few c).After-remove_first-rest in
     let line = c.remove_first-rest.ensures.linked Stale c.self.invariant.old in
     let rest = counted c.remove_first-rest.new.links.items Stale c.remove_first-rest.result line in
-    omega (arith, c.requires.few, ap (λ (v : ListsState). length v.stale) c.self.view_is, rest, ap length c.remove_first-rest.ensures.entries, length-drop 1 (entries_in c.self.inside.links.items c.self.inside.stale))
+    omega (arith, c.requires.few, ap (λ (v : ListsState). length v.old_flows) c.self.view_is, rest, ap length c.remove_first-rest.ensures.entries, length-drop 1 (entries_in c.self.inside.links.items c.self.inside.old_flows))
 
 -- the new list is as it was, after each step
-first_kept : (c : After-remove_first-rest) → IsLine c.remove_first-rest.new.links.items Fresh c.self.inside.fresh
-first_kept c = (c.remove_first-rest.ensures.others Stale c.self.invariant.old).linked Fresh c.self.inside.fresh fresh_or_stale c.self.invariant.new
+first_kept : (c : After-remove_first-rest) → IsLine c.remove_first-rest.new.links.items Fresh c.self.inside.new_flows
+first_kept c = (c.remove_first-rest.ensures.others Stale c.self.invariant.old).linked Fresh c.self.inside.new_flows fresh_or_stale c.self.invariant.new
 
 pub invariant_of-self : goal.invariant_of-self
 invariant_of-self c =
     let d = (goal.at.invariant_of-self c).After-remove_first-rest in
     record {
       room = omega (arith, c.self.invariant.room, c.remove_first-rest.ensures.len, c.append_flow-self-inside.ensures.len);
-      new = c.append_flow-self-inside.ensures.others.linked Fresh c.self.inside.fresh fresh_or_stale (first_kept d);
+      new = c.append_flow-self-inside.ensures.others.linked Fresh c.self.inside.new_flows fresh_or_stale (first_kept d);
       old = c.append_flow-self-inside.ensures.linked;
     }
 
 pub returns : goal.returns
 returns c =
     let d = (goal.at.returns c).After-remove_first-rest in
-    let new : entries_in c.append_flow-self-inside.new.links.items c.self.inside.fresh ≡ c.args.self.now.fresh =
-    c.append_flow-self-inside.ensures.others.same Fresh c.self.inside.fresh fresh_or_stale (first_kept d)
-    ∙ (c.remove_first-rest.ensures.others Stale c.self.invariant.old).same Fresh c.self.inside.fresh fresh_or_stale c.self.invariant.new
-    ∙ ap (λ (v : ListsState). v.fresh) c.self.view_is in
-    let old : entries_in c.append_flow-self-inside.new.links.items c.append_flow-self-inside.result ≡ drop 1 c.args.self.now.stale ++ c.args.entry ∷ [] =
+    let new : entries_in c.append_flow-self-inside.new.links.items c.self.inside.new_flows ≡ c.args.self.now.new_flows =
+    c.append_flow-self-inside.ensures.others.same Fresh c.self.inside.new_flows fresh_or_stale (first_kept d)
+    ∙ (c.remove_first-rest.ensures.others Stale c.self.invariant.old).same Fresh c.self.inside.new_flows fresh_or_stale c.self.invariant.new
+    ∙ ap (λ (v : ListsState). v.new_flows) c.self.view_is in
+    let old : entries_in c.append_flow-self-inside.new.links.items c.append_flow-self-inside.result ≡ drop 1 c.args.self.now.old_flows ++ c.args.entry ∷ [] =
     c.append_flow-self-inside.ensures.entries
-    ∙ ap₂ (λ (l : List Entry) (e : Entry). l ++ e ∷ []) (c.remove_first-rest.ensures.entries ∙ ap (λ (v : ListsState). drop 1 v.stale) c.self.view_is)
+    ∙ ap₂ (λ (l : List Entry) (e : Entry). l ++ e ∷ []) (c.remove_first-rest.ensures.entries ∙ ap (λ (v : ListsState). drop 1 v.old_flows) c.self.view_is)
     (ap (λ (z : ℤ). record { flow = c.entry.inside.flow; credits = z }) (to_z-of_z w64 c.entry.inside.credits (record { sfits = (goal.at.returns c).After-entry.type_inv.entry-inside.1.0.1 })) ∙ c.entry.view_is) in
     let room = c.append_flow-self-inside.ensures.len ∙ c.remove_first-rest.ensures.len ∙ ap (λ (v : ListsState). v.room) c.self.view_is in
     cc

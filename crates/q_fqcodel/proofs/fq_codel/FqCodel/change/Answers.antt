@@ -7,7 +7,7 @@ use Rattle.q_fqcodel.proofs.fq_codel.FqCodel.change.Goals as goal
 
 pub invariant_of-self : goal.invariant_of-self
 invariant_of-self c =
-    let s : FqState = state_of c.self.inside.settings c.self.inside.flows c.self.inside.lists.fresh c.self.inside.lists.stale in
+    let s : FqState = state_of c.self.inside.settings c.self.inside.flows c.self.inside.lists.new_flows c.self.inside.lists.old_flows in
     let settings : FqSettings = c.args.settings in
     let flows : settings.flows ≡ s.settings.flows = c.requires.flows ∙ ap (λ (x : FqView). x.state.settings.flows) (sym c.self.view_is) in
     let tuned : c.set_params.new.self.flows ≡ map (retuned settings.target settings.interval settings.ecn) s.flows =

@@ -8,11 +8,11 @@ use Rattle.q_fqcodel.proofs.fq_codel.FqCodel.new.Goals as goal
 use Rattle.q_fqcodel.proofs.fq_codel.FqCodel.new.Goals.{In_ok-lists}
 
 -- the state that is made
-made : (c : In_ok-lists) → state_of c.args.settings c.in_ok-flows.flows c.in_ok-lists.lists.fresh c.in_ok-lists.lists.stale ≡ first_state c.args.settings
+made : (c : In_ok-lists) → state_of c.args.settings c.in_ok-flows.flows c.in_ok-lists.lists.new_flows c.in_ok-lists.lists.old_flows ≡ first_state c.args.settings
 made c =
     let settings : FqSettings = c.args.settings in
-    ap (λ (f : List Flow). record { settings = settings; flows = f; fresh = c.in_ok-lists.lists.fresh; stale = c.in_ok-lists.lists.stale }) c.in_ok-flows.ensures.flows
-    ∙ ap (λ (v : ListsState). record { settings = settings; flows = replicate settings.flows (first_flow settings); fresh = v.fresh; stale = v.stale }) c.in_ok-lists.ensures
+    ap (λ (f : List Flow). record { settings = settings; flows = f; new_flows = c.in_ok-lists.lists.new_flows; old_flows = c.in_ok-lists.lists.old_flows }) c.in_ok-flows.ensures.flows
+    ∙ ap (λ (v : ListsState). record { settings = settings; flows = replicate settings.flows (first_flow settings); new_flows = v.new_flows; old_flows = v.old_flows }) c.in_ok-lists.ensures
 
 pub invariant_of-result : goal.invariant_of-result
 invariant_of-result c =

@@ -8,13 +8,13 @@ use Rattle.q_fqcodel.proofs.fq_codel.FqCodel.purge.Goals as goal
 use Rattle.q_fqcodel.proofs.fq_codel.FqCodel.purge.Goals.{After-clear}
 
 -- the state after
-made : (g : _) (c : After-clear g) → state_of c.self.inside.settings c.purge.new.self c.clear.new.self.fresh c.clear.new.self.stale ≡ first_state c.self.inside.settings
+made : (g : _) (c : After-clear g) → state_of c.self.inside.settings c.purge.new.self c.clear.new.self.new_flows c.clear.new.self.old_flows ≡ first_state c.self.inside.settings
 made g c =
     let settings : FqSettings = c.self.inside.settings in
     let flows : c.purge.new.self.flows ≡ replicate settings.flows (first_flow settings) =
     c.purge.ensures.flows ∙ ap (λ (n : ℕ). replicate n (first_flow settings)) c.self.invariant.0.each_flow in
-    ap (λ (f : List Flow). record { settings = settings; flows = f; fresh = c.clear.new.self.fresh; stale = c.clear.new.self.stale }) flows
-    ∙ ap (λ (v : ListsState). record { settings = settings; flows = replicate settings.flows (first_flow settings); fresh = v.fresh; stale = v.stale }) c.clear.ensures
+    ap (λ (f : List Flow). record { settings = settings; flows = f; new_flows = c.clear.new.self.new_flows; old_flows = c.clear.new.self.old_flows }) flows
+    ∙ ap (λ (v : ListsState). record { settings = settings; flows = replicate settings.flows (first_flow settings); new_flows = v.new_flows; old_flows = v.old_flows }) c.clear.ensures
 
 pub invariant_of-self : goal.invariant_of-self
 invariant_of-self g c =

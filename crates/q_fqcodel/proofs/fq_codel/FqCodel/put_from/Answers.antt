@@ -19,7 +19,7 @@ use Rattle.q_fqcodel.proofs.fq_codel.FqCodel.put_from.Goals.{After-enlist, After
 
 -- the state as it was opened
 abbrev opened : (g : _) → After-enlist g → FqState
-opened g c = state_of c.self.inside.settings c.self.inside.flows c.self.inside.lists.fresh c.self.inside.lists.stale
+opened g c = state_of c.self.inside.settings c.self.inside.flows c.self.inside.lists.new_flows c.self.inside.lists.old_flows
 
 opened_is : (g : _) (c : After-enlist g) → opened g c ≡ c.args.self.now.state
 opened_is g c = ap (λ (v : FqView). v.state) c.self.view_is
@@ -56,15 +56,15 @@ abbrev joins : (g : _) → After-enlist g → List Flow
 joins g c = adjust (joined (arrived g c)) (own g c) c.self.inside.flows.flows
 
 abbrev fuller : (g : _) → After-enlist g → FqState
-fuller g c = record (opened g c) { flows = joins g c; fresh = c.enlist.new.self.fresh; stale = c.enlist.new.self.stale }
+fuller g c = record (opened g c) { flows = joins g c; new_flows = c.enlist.new.self.new_flows; old_flows = c.enlist.new.self.old_flows }
 
 fuller_is : (g : _) (c : After-enlist g) → fuller g c ≡ appended c.args.self.now.state c.args.packet.now c.args.now
 fuller_is g c =
     let s = opened g c in
-    ap (λ (v : ListsState). record s { flows = joins g c; fresh = c.enlist.new.self.fresh; stale = v.stale }) c.enlist.ensures
-    ∙ appended-is s c.args.packet.now c.args.now (own g c) c.settings.inside.quantum (joins g c) c.enlist.new.self.fresh (own_is g c)
+    ap (λ (v : ListsState). record s { flows = joins g c; new_flows = c.enlist.new.self.new_flows; old_flows = v.old_flows }) c.enlist.ensures
+    ∙ appended-is s c.args.packet.now c.args.now (own g c) c.settings.inside.quantum (joins g c) c.enlist.new.self.new_flows (own_is g c)
     (ap (λ (x : FqSettings). x.quantum) c.settings.view_is)
-    (ap (λ (p : Descriptor). adjust (joined (record { packet = p; at = c.args.now })) (own g c) c.self.inside.flows.flows) c.packet.view_is) (ap (λ (v : ListsState). v.fresh) c.enlist.ensures)
+    (ap (λ (p : Descriptor). adjust (joined (record { packet = p; at = c.args.now })) (own g c) c.self.inside.flows.flows) c.packet.view_is) (ap (λ (v : ListsState). v.new_flows) c.enlist.ensures)
     ∙ ap (λ (x : FqState). appended x c.args.packet.now c.args.now) (opened_is g c)
 
 -- one packet more than before
@@ -85,12 +85,12 @@ enlist-requires-clause-within g c =
 
 pub enlist-requires-clause-few : goal.enlist-requires-clause-few
 enlist-requires-clause-few g c =
-    let s : FqState = state_of c.self.inside.settings c.self.inside.flows c.self.inside.lists.fresh c.self.inside.lists.stale in
+    let s : FqState = state_of c.self.inside.settings c.self.inside.flows c.self.inside.lists.new_flows c.self.inside.lists.old_flows in
     let n : ℕ = c.flow_by_hash-flow.result in
     let count : c.settings.inside.flows ≡ s.settings.flows = ap (λ (x : FqSettings). x.flows) c.settings.view_is in
     let low : n < s.settings.flows = omega (arith, c.flow_by_hash-flow.ensures, count, c.settings.invariant.flows_low) in
     λ h.
-    let place = place_for s n c.self.invariant.0 low (listed-not n (s.fresh ++ s.stale) h) in
+    let place = place_for s n c.self.invariant.0 low (listed-not n (s.new_flows ++ s.old_flows) h) in
     omega (arith, place, count, c.settings.invariant.flows_high)
 
 -- the packet's flow, by the number of flows that there are
@@ -111,7 +111,7 @@ in_limit : (g : _) (c : After-push g) → packets_of (joins g (before g c)) ≤ 
 unfolding before
 in_limit g c = omega (arith, c.if-count-settings.true, c.count.ensures, more g (before g c), ap (λ (x : FqSettings). x.limit) c.settings.view_is)
 
-stays : (g : _) (c : After-push g) → state_of c.self.inside.settings c.push.new.self c.enlist.new.self.fresh c.enlist.new.self.stale ≡ after_put c.args.self.now.state c.args.packet.now c.args.now
+stays : (g : _) (c : After-push g) → state_of c.self.inside.settings c.push.new.self c.enlist.new.self.new_flows c.enlist.new.self.old_flows ≡ after_put c.args.self.now.state c.args.packet.now c.args.now
 unfolding before
 stays g c =
     let a = fuller g (before g c) in

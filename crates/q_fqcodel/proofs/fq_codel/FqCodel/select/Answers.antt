@@ -9,7 +9,7 @@ use Rattle.q_fqcodel.proofs.fq_codel.FqCodel.select.Goals.{After-loop-self-2}
 none_listed : (c : After-loop-self-2) → IsSettled c.loop-self-2.self.state
 none_listed c =
     settled_none c.loop-self-2.self.state c.loop-self-2.invariant.no_new
-    (empty_of c.loop-self-2.self.state.stale (sym c.has_old.ensures ∙ c.loop-self-2-test.false))
+    (empty_of c.loop-self-2.self.state.old_flows (sym c.has_old.ensures ∙ c.loop-self-2-test.false))
 
 pub returns-clause-state : goal.returns-clause-state
 returns-clause-state c = sym (none_listed c).chosen ∙ c.loop-self-2.invariant.same

@@ -17,7 +17,7 @@ decreases-loop-self l = turns l.self.state
 abbrev pub invariant-loop-self-2 : goal.invariant-loop-self-2
 invariant-loop-self-2 l = record {
   same : selected l.self.state ≡ selected l.fn.self.state;
-  no_new : l.self.state.fresh ≡ [];
+  no_new : l.self.state.new_flows ≡ [];
   packets : packets_of l.self.state.flows ≡ packets_of l.fn.self.state.flows;
   places : l.self.places ≡ l.fn.self.places;
 }

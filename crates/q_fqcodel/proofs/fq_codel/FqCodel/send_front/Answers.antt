@@ -21,7 +21,7 @@ use Rattle.q_fqcodel.proofs.fq_codel.FqCodel.send_front.Goals.{In_default, After
 
 -- ---- no flow is listed
 
-none_in_front : (g : _) (c : In_default g) → (c.args.self.now.state.fresh ≡ []) × (c.args.self.now.state.stale ≡ [])
+none_in_front : (g : _) (c : In_default g) → (c.args.self.now.state.new_flows ≡ []) × (c.args.self.now.state.old_flows ≡ [])
 none_in_front g c = front-none c.args.self.now.state (sym c.front.ensures.value ∙ c.in_default.is)
 
 nothing : (g : _) (c : In_default g) → dropped_from c.args.now c.args.self.now.state ≡ []
@@ -55,13 +55,13 @@ send-requires-clause-room g c =
 
 -- the state as it was opened, and the flow in front
 abbrev opened : (g : _) → After-write_front g → FqState
-opened g c = state_of c.self.inside.settings c.self.inside.flows c.self.inside.lists.fresh c.self.inside.lists.stale
+opened g c = state_of c.self.inside.settings c.self.inside.flows c.self.inside.lists.new_flows c.self.inside.lists.old_flows
 
 abbrev sender : (g : _) → After-write_front g → Entry
 sender g c = c.in-Some.front
 
 abbrev behind : (g : _) → After-write_front g → List Entry
-behind g c = drop 1 (c.self.inside.lists.fresh ++ c.self.inside.lists.stale)
+behind g c = drop 1 (c.self.inside.lists.new_flows ++ c.self.inside.lists.old_flows)
 
 opened_is : (g : _) (c : After-write_front g) → opened g c ≡ c.args.self.now.state
 opened_is g c = ap (λ (v : FqView). v.state) c.self.view_is
@@ -69,7 +69,7 @@ opened_is g c = ap (λ (v : FqView). v.state) c.self.view_is
 in_front : (g : _) (c : After-write_front g) → front (opened g c) ≡ Some (sender g c)
 in_front g c = ap front (opened_is g c) ∙ sym c.front.ensures.value ∙ c.in-Some.is
 
-first : (g : _) (c : After-write_front g) → (opened g c).fresh ++ (opened g c).stale ≡ sender g c ∷ behind g c
+first : (g : _) (c : After-write_front g) → (opened g c).new_flows ++ (opened g c).old_flows ≡ sender g c ∷ behind g c
 first g c = front-is (opened g c) (sender g c) (in_front g c)
 
 within : (g : _) (c : After-write_front g) → (sender g c).flow < length (opened g c).flows
@@ -103,17 +103,17 @@ pub write_front-requires-clause-own : goal.write_front-requires-clause-own
 write_front-requires-clause-own g c =
     let split = front-is c.args.self.now.state c.in-Some.front (sym c.front.ensures.value ∙ c.in-Some.is) in
     subst (λ (l : List Entry). IfSome (slice_get l 0) (λ e. e.flow ≡ c.charged.result.flow))
-    (sym (ap (λ (v : FqView). v.state.fresh ++ v.state.stale) c.self.view_is ∙ split))
+    (sym (ap (λ (v : FqView). v.state.new_flows ++ v.state.old_flows) c.self.view_is ∙ split))
     (sym (ap (λ (e : Entry). e.flow) c.charged.ensures))
 
 -- the state after
-after : (g : _) (c : After-write_front g) → state_of c.self.inside.settings c.send.new.self c.write_front.new.self.fresh c.write_front.new.self.stale ≡ after_sending c.args.now (opened g c)
+after : (g : _) (c : After-write_front g) → state_of c.self.inside.settings c.send.new.self c.write_front.new.self.new_flows c.write_front.new.self.old_flows ≡ after_sending c.args.now (opened g c)
 after g c =
     let s = opened g c in
     let flows : List Flow = adjust (flow_after c.args.now) (sender g c).flow s.flows in
-    ap (λ (f : List Flow). record s { flows = f; fresh = c.write_front.new.self.fresh; stale = c.write_front.new.self.stale }) (flows_sent g c)
-    ∙ ap (λ (v : ListsState). record s { flows = flows; fresh = v.fresh; stale = v.stale }) c.write_front.ensures
-    ∙ ap (λ (m : Entry). record s { flows = flows; fresh = set s.fresh 0 m; stale = written m s.fresh s.stale }) (sym (paying g c))
+    ap (λ (f : List Flow). record s { flows = f; new_flows = c.write_front.new.self.new_flows; old_flows = c.write_front.new.self.old_flows }) (flows_sent g c)
+    ∙ ap (λ (v : ListsState). record s { flows = flows; new_flows = v.new_flows; old_flows = v.old_flows }) c.write_front.ensures
+    ∙ ap (λ (m : Entry). record s { flows = flows; new_flows = set s.new_flows 0 m; old_flows = written m s.new_flows s.old_flows }) (sym (paying g c))
     ∙ sym (after-written s (sender g c) c.args.now (in_front g c))
 
 pub invariant_of-self : goal.invariant_of-self

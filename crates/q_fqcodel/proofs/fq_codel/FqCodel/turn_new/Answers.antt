@@ -13,19 +13,19 @@ use Rattle.q_fqcodel.proofs.fq_codel.FqCodel.turn_new.Goals.{After-unwrap-entry,
 
 -- the state as it was opened, and the flows behind the front
 abbrev opened : After-unwrap-entry → FqState
-opened c = state_of c.self.inside.settings c.self.inside.flows c.self.inside.lists.fresh c.self.inside.lists.stale
+opened c = state_of c.self.inside.settings c.self.inside.flows c.self.inside.lists.new_flows c.self.inside.lists.old_flows
 
 abbrev behind : After-unwrap-entry → List Entry
-behind c = drop 1 c.self.inside.lists.fresh
+behind c = drop 1 c.self.inside.lists.new_flows
 
 opened_is : (c : After-unwrap-entry) → opened c ≡ c.args.self.now.state
 opened_is c = ap (λ (v : FqView). v.state) c.self.view_is
 
-at_front : (c : After-unwrap-entry) → c.self.inside.lists.fresh ≡ c.unwrap-entry.result ∷ behind c
-at_front c = front_at c.self.inside.lists.fresh c.unwrap-entry.result (sym c.first_new.ensures ∙ c.unwrap-entry.ensures)
+at_front : (c : After-unwrap-entry) → c.self.inside.lists.new_flows ≡ c.unwrap-entry.result ∷ behind c
+at_front c = front_at c.self.inside.lists.new_flows c.unwrap-entry.result (sym c.first_new.ensures ∙ c.unwrap-entry.ensures)
 
-looks : (c : After-unwrap-entry) (x : Entry) → x ≡ c.unwrap-entry.result → Looks c.args.self.now.state (opened c) c.unwrap-entry.result x (behind c ++ c.self.inside.lists.stale)
-looks c x read = record { opened = opened_is c; lawful = c.self.invariant.0; read = read; first = ap (λ (l : List Entry). l ++ c.self.inside.lists.stale) (at_front c) }
+looks : (c : After-unwrap-entry) (x : Entry) → x ≡ c.unwrap-entry.result → Looks c.args.self.now.state (opened c) c.unwrap-entry.result x (behind c ++ c.self.inside.lists.old_flows)
+looks c x read = record { opened = opened_is c; lawful = c.self.invariant.0; read = read; first = ap (λ (l : List Entry). l ++ c.self.inside.lists.old_flows) (at_front c) }
 
 pub rest-requires : goal.rest-requires
 rest-requires c = in_flows (looks (goal.at.rest-requires c).After-unwrap-entry _ c.entry.view_is)
@@ -33,7 +33,7 @@ rest-requires c = in_flows (looks (goal.at.rest-requires c).After-unwrap-entry _
 pub unwrap-entry-requires : goal.unwrap-entry-requires
 unwrap-entry-requires c =
     subst (λ (o : Option Entry). IsSome o) (sym c.first_new.ensures)
-    (front_some c.self.inside.lists.fresh (omega (arith, c.requires, ap (λ (v : FqView). length v.state.fresh) c.self.view_is)))
+    (front_some c.self.inside.lists.new_flows (omega (arith, c.requires, ap (λ (v : FqView). length v.state.new_flows) c.self.view_is)))
 
 -- it has no credits, and gets one quantum
 granted : (c : After-granted) → c.granted.result ≡ given c.self.inside.settings.quantum 1 c.unwrap-entry.result
@@ -48,7 +48,7 @@ age-requires-clause-own c =
     (sym (ap (λ (e : Entry). e.flow) (granted d) ∙ given-flow c.self.inside.settings.quantum 1 c.unwrap-entry.result))
 
 pub age-requires-clause-some : goal.age-requires-clause-some
-age-requires-clause-some c = omega (arith, c.requires, ap (λ (v : FqView). length v.state.fresh) c.self.view_is)
+age-requires-clause-some c = omega (arith, c.requires, ap (λ (v : FqView). length v.state.new_flows) c.self.view_is)
 
 pub age-requires-clause-few : goal.age-requires-clause-few
 age-requires-clause-few c =
@@ -58,10 +58,10 @@ age-requires-clause-few c =
       c.settings.invariant.flows_high,
       ap (λ (x : FqSettings). x.flows) c.settings.view_is,
       c.requires,
-      ap (λ (v : FqView). length v.state.fresh) c.self.view_is,
+      ap (λ (v : FqView). length v.state.new_flows) c.self.view_is,
     )
 
-spent : (c : After-age) → LeadsOn (opened (goal.at.invariant_of-self c).After-unwrap-entry) (state_of c.self.inside.settings c.self.inside.flows c.age.new.self.fresh c.age.new.self.stale)
+spent : (c : After-age) → LeadsOn (opened (goal.at.invariant_of-self c).After-unwrap-entry) (state_of c.self.inside.settings c.self.inside.flows c.age.new.self.new_flows c.age.new.self.old_flows)
 spent c =
     let at = (goal.at.invariant_of-self c).After-unwrap-entry in
     let s = opened at in
@@ -69,8 +69,8 @@ spent c =
     let quantum : c.settings.inside.quantum ≡ s.settings.quantum = ap (λ (x : FqSettings). x.quantum) c.settings.view_is in
     let positive : 1 ≤ s.settings.quantum = omega (arith, quantum, c.settings.invariant.quantum_low) in
     let low : e.credits ≤ℤ pos 0 = is_spent (looks at _ c.entry.view_is) (grind (arith, ints, c.if-entry-le0.true)) in
-    subst₂ (λ (l k : List Entry). LeadsOn s (record s { fresh = l; stale = k })) (sym (ap (λ (v : ListsState). v.fresh) c.age.ensures))
-    (sym (ap (λ (v : ListsState). v.stale) c.age.ensures ∙ ap (λ (m : Entry). s.stale ++ m ∷ []) (granted (goal.at.invariant_of-self c).After-granted)))
+    subst₂ (λ (l k : List Entry). LeadsOn s (record s { new_flows = l; old_flows = k })) (sym (ap (λ (v : ListsState). v.new_flows) c.age.ensures))
+    (sym (ap (λ (v : ListsState). v.old_flows) c.age.ensures ∙ ap (λ (m : Entry). s.old_flows ++ m ∷ []) (granted (goal.at.invariant_of-self c).After-granted)))
     (fresh_granted s c.self.invariant.0 e (behind at) (at_front at) positive low)
 
 pub invariant_of-self : goal.invariant_of-self
@@ -85,7 +85,7 @@ age-requires-then-is_idle-clause-own c =
     subst (λ (o : Option Entry). IfSome o (λ e. e.flow ≡ c.unwrap-entry.result.flow)) (sym c.unwrap-entry.ensures ∙ c.first_new.ensures) refl
 
 pub age-requires-then-is_idle-clause-some : goal.age-requires-then-is_idle-clause-some
-age-requires-then-is_idle-clause-some c = omega (arith, c.requires, ap (λ (v : FqView). length v.state.fresh) c.self.view_is)
+age-requires-then-is_idle-clause-some c = omega (arith, c.requires, ap (λ (v : FqView). length v.state.new_flows) c.self.view_is)
 
 pub age-requires-then-is_idle-clause-few : goal.age-requires-then-is_idle-clause-few
 age-requires-then-is_idle-clause-few c =
@@ -95,10 +95,10 @@ age-requires-then-is_idle-clause-few c =
       c.settings.invariant.flows_high,
       ap (λ (x : FqSettings). x.flows) c.settings.view_is,
       c.requires,
-      ap (λ (v : FqView). length v.state.fresh) c.self.view_is,
+      ap (λ (v : FqView). length v.state.new_flows) c.self.view_is,
     )
 
-emptied : (c : After-age-then-is_idle) → LeadsOn (opened (goal.at.invariant_of-self-then-is_idle c).After-unwrap-entry) (state_of c.self.inside.settings c.rest.new.self c.age-then-is_idle.new.self.fresh c.age-then-is_idle.new.self.stale)
+emptied : (c : After-age-then-is_idle) → LeadsOn (opened (goal.at.invariant_of-self-then-is_idle c).After-unwrap-entry) (state_of c.self.inside.settings c.rest.new.self c.age-then-is_idle.new.self.new_flows c.age-then-is_idle.new.self.old_flows)
 emptied c =
     let positive : pos 0 <ℤ c.entry.inside.credits = grind (arith, ints, c.if-entry-le0.false) in
     let at = (goal.at.invariant_of-self-then-is_idle c).After-unwrap-entry in
@@ -107,10 +107,10 @@ emptied c =
     let look = looks at _ c.entry.view_is in
     let high : pos 0 <ℤ e.credits = has_credits look positive in
     let empty = idle_is look _ true c.is_idle.ensures c.if-is_idle.true in
-    subst (λ (f : List Flow). LeadsOn s (record s { flows = f; fresh = c.age-then-is_idle.new.self.fresh; stale = c.age-then-is_idle.new.self.stale }))
+    subst (λ (f : List Flow). LeadsOn s (record s { flows = f; new_flows = c.age-then-is_idle.new.self.new_flows; old_flows = c.age-then-is_idle.new.self.old_flows }))
     (sym (rested_is look _ c.rest.ensures.flows))
-    (subst₂ (λ (l k : List Entry). LeadsOn s (record s { flows = adjust rested_flow e.flow s.flows; fresh = l; stale = k }))
-    (sym (ap (λ (v : ListsState). v.fresh) c.age-then-is_idle.ensures)) (sym (ap (λ (v : ListsState). v.stale) c.age-then-is_idle.ensures))
+    (subst₂ (λ (l k : List Entry). LeadsOn s (record s { flows = adjust rested_flow e.flow s.flows; new_flows = l; old_flows = k }))
+    (sym (ap (λ (v : ListsState). v.new_flows) c.age-then-is_idle.ensures)) (sym (ap (λ (v : ListsState). v.old_flows) c.age-then-is_idle.ensures))
     (fresh_moves s c.self.invariant.0 e (behind at) (at_front at) high empty))
 
 pub invariant_of-self-then-is_idle : goal.invariant_of-self-then-is_idle

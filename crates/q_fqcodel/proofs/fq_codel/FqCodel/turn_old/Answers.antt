@@ -13,19 +13,19 @@ use Rattle.q_fqcodel.proofs.fq_codel.FqCodel.turn_old.Goals.{After-unwrap-entry,
 
 -- the state as it was opened, and the flows behind the front
 abbrev opened : After-unwrap-entry → FqState
-opened c = state_of c.self.inside.settings c.self.inside.flows c.self.inside.lists.fresh c.self.inside.lists.stale
+opened c = state_of c.self.inside.settings c.self.inside.flows c.self.inside.lists.new_flows c.self.inside.lists.old_flows
 
 abbrev behind : After-unwrap-entry → List Entry
-behind c = drop 1 c.self.inside.lists.stale
+behind c = drop 1 c.self.inside.lists.old_flows
 
 opened_is : (c : After-unwrap-entry) → opened c ≡ c.args.self.now.state
 opened_is c = ap (λ (v : FqView). v.state) c.self.view_is
 
-at_front : (c : After-unwrap-entry) → c.self.inside.lists.stale ≡ c.unwrap-entry.result ∷ behind c
-at_front c = front_at c.self.inside.lists.stale c.unwrap-entry.result (sym c.first_old.ensures ∙ c.unwrap-entry.ensures)
+at_front : (c : After-unwrap-entry) → c.self.inside.lists.old_flows ≡ c.unwrap-entry.result ∷ behind c
+at_front c = front_at c.self.inside.lists.old_flows c.unwrap-entry.result (sym c.first_old.ensures ∙ c.unwrap-entry.ensures)
 
-none_new : (c : After-unwrap-entry) → c.self.inside.lists.fresh ≡ []
-none_new c = ap (λ (s : FqState). s.fresh) (opened_is c) ∙ c.requires.no_new
+none_new : (c : After-unwrap-entry) → c.self.inside.lists.new_flows ≡ []
+none_new c = ap (λ (s : FqState). s.new_flows) (opened_is c) ∙ c.requires.no_new
 
 looks : (c : After-unwrap-entry) (x : Entry) → x ≡ c.unwrap-entry.result → Looks c.args.self.now.state (opened c) c.unwrap-entry.result x (behind c)
 looks c x read = record { opened = opened_is c; lawful = c.self.invariant.0; read = read; first = ap₂ (λ (l m : List Entry). l ++ m) (none_new c) (at_front c) }
@@ -36,7 +36,7 @@ rest-requires c = in_flows (looks (goal.at.rest-requires c).After-unwrap-entry _
 pub unwrap-entry-requires : goal.unwrap-entry-requires
 unwrap-entry-requires c =
     subst (λ (o : Option Entry). IsSome o) (sym c.first_old.ensures)
-    (front_some c.self.inside.lists.stale (omega (arith, c.requires.waiting, ap (λ (v : FqView). length v.state.stale) c.self.view_is)))
+    (front_some c.self.inside.lists.old_flows (omega (arith, c.requires.waiting, ap (λ (v : FqView). length v.state.old_flows) c.self.view_is)))
 
 -- it has no credits, and gets one quantum
 granted : (c : After-granted) → c.granted.result ≡ given c.self.inside.settings.quantum 1 c.unwrap-entry.result
@@ -51,7 +51,7 @@ rotate-requires-clause-own c =
     (sym (ap (λ (e : Entry). e.flow) (granted d) ∙ given-flow c.self.inside.settings.quantum 1 c.unwrap-entry.result))
 
 pub rotate-requires-clause-some : goal.rotate-requires-clause-some
-rotate-requires-clause-some c = omega (arith, c.requires.waiting, ap (λ (v : FqView). length v.state.stale) c.self.view_is)
+rotate-requires-clause-some c = omega (arith, c.requires.waiting, ap (λ (v : FqView). length v.state.old_flows) c.self.view_is)
 
 pub rotate-requires-clause-few : goal.rotate-requires-clause-few
 rotate-requires-clause-few c =
@@ -62,7 +62,7 @@ rotate-requires-clause-few c =
       ap (λ (x : FqSettings). x.flows) c.settings.view_is,
     )
 
-spent : (c : After-rotate) → LeadsOn (opened (goal.at.invariant_of-self c).After-unwrap-entry) (state_of c.self.inside.settings c.self.inside.flows c.rotate.new.self.fresh c.rotate.new.self.stale)
+spent : (c : After-rotate) → LeadsOn (opened (goal.at.invariant_of-self c).After-unwrap-entry) (state_of c.self.inside.settings c.self.inside.flows c.rotate.new.self.new_flows c.rotate.new.self.old_flows)
 spent c =
     let at = (goal.at.invariant_of-self c).After-unwrap-entry in
     let s = opened at in
@@ -70,8 +70,8 @@ spent c =
     let quantum : c.settings.inside.quantum ≡ s.settings.quantum = ap (λ (x : FqSettings). x.quantum) c.settings.view_is in
     let positive : 1 ≤ s.settings.quantum = omega (arith, quantum, c.settings.invariant.quantum_low) in
     let low : e.credits ≤ℤ pos 0 = is_spent (looks at _ c.entry.view_is) (grind (arith, ints, c.if-entry-le0.true)) in
-    subst₂ (λ (l k : List Entry). LeadsOn s (record s { fresh = l; stale = k })) (sym (ap (λ (v : ListsState). v.fresh) c.rotate.ensures))
-    (sym (ap (λ (v : ListsState). v.stale) c.rotate.ensures ∙ ap (λ (m : Entry). behind at ++ m ∷ []) (granted (goal.at.invariant_of-self c).After-granted)))
+    subst₂ (λ (l k : List Entry). LeadsOn s (record s { new_flows = l; old_flows = k })) (sym (ap (λ (v : ListsState). v.new_flows) c.rotate.ensures))
+    (sym (ap (λ (v : ListsState). v.old_flows) c.rotate.ensures ∙ ap (λ (m : Entry). behind at ++ m ∷ []) (granted (goal.at.invariant_of-self c).After-granted)))
     (stale_granted s c.self.invariant.0 e (behind at) (none_new at) (at_front at) positive low)
 
 pub invariant_of-self : goal.invariant_of-self
@@ -81,13 +81,13 @@ pub returns-then-entry-le0-clause-on : goal.returns-then-entry-le0-clause-on
 returns-then-entry-le0-clause-on c = λ _. goes_from (looks (goal.at.invariant_of-self c).After-unwrap-entry _ c.entry.view_is) _ (spent c)
 
 pub returns-then-entry-le0-clause-no_new : goal.returns-then-entry-le0-clause-no_new
-returns-then-entry-le0-clause-no_new c = ap (λ (v : ListsState). v.fresh) c.rotate.ensures ∙ none_new (goal.at.invariant_of-self c).After-unwrap-entry
+returns-then-entry-le0-clause-no_new c = ap (λ (v : ListsState). v.new_flows) c.rotate.ensures ∙ none_new (goal.at.invariant_of-self c).After-unwrap-entry
 
 -- it has credits and no packet
 pub retire-requires : goal.retire-requires
-retire-requires c = omega (arith, c.requires.waiting, ap (λ (v : FqView). length v.state.stale) c.self.view_is)
+retire-requires c = omega (arith, c.requires.waiting, ap (λ (v : FqView). length v.state.old_flows) c.self.view_is)
 
-emptied : (c : After-retire) → LeadsOn (opened (goal.at.invariant_of-self-then-is_idle c).After-unwrap-entry) (state_of c.self.inside.settings c.rest.new.self c.retire.new.self.fresh c.retire.new.self.stale)
+emptied : (c : After-retire) → LeadsOn (opened (goal.at.invariant_of-self-then-is_idle c).After-unwrap-entry) (state_of c.self.inside.settings c.rest.new.self c.retire.new.self.new_flows c.retire.new.self.old_flows)
 emptied c =
     let positive : pos 0 <ℤ c.entry.inside.credits = grind (arith, ints, c.if-entry-le0.false) in
     let at = (goal.at.invariant_of-self-then-is_idle c).After-unwrap-entry in
@@ -96,9 +96,9 @@ emptied c =
     let look = looks at _ c.entry.view_is in
     let high : pos 0 <ℤ e.credits = has_credits look positive in
     let empty = idle_is look _ true c.is_idle.ensures c.if-is_idle.true in
-    subst (λ (f : List Flow). LeadsOn s (record s { flows = f; fresh = c.retire.new.self.fresh; stale = c.retire.new.self.stale })) (sym (rested_is look _ c.rest.ensures.flows))
-    (subst₂ (λ (k l : List Entry). LeadsOn s (record s { flows = adjust rested_flow e.flow s.flows; fresh = k; stale = l }))
-    (sym (ap (λ (v : ListsState). v.fresh) c.retire.ensures)) (sym (ap (λ (v : ListsState). v.stale) c.retire.ensures))
+    subst (λ (f : List Flow). LeadsOn s (record s { flows = f; new_flows = c.retire.new.self.new_flows; old_flows = c.retire.new.self.old_flows })) (sym (rested_is look _ c.rest.ensures.flows))
+    (subst₂ (λ (k l : List Entry). LeadsOn s (record s { flows = adjust rested_flow e.flow s.flows; new_flows = k; old_flows = l }))
+    (sym (ap (λ (v : ListsState). v.new_flows) c.retire.ensures)) (sym (ap (λ (v : ListsState). v.old_flows) c.retire.ensures))
     (stale_leaves s c.self.invariant.0 e (behind at) (none_new at) (at_front at) high empty))
 
 pub invariant_of-self-then-is_idle : goal.invariant_of-self-then-is_idle
@@ -108,7 +108,7 @@ pub returns-then-is_idle-clause-on : goal.returns-then-is_idle-clause-on
 returns-then-is_idle-clause-on c = λ _. goes_from (looks (goal.at.invariant_of-self-then-is_idle c).After-unwrap-entry _ c.entry.view_is) _ (emptied c)
 
 pub returns-then-is_idle-clause-no_new : goal.returns-then-is_idle-clause-no_new
-returns-then-is_idle-clause-no_new c = ap (λ (v : ListsState). v.fresh) c.retire.ensures ∙ none_new (goal.at.invariant_of-self-then-is_idle c).After-unwrap-entry
+returns-then-is_idle-clause-no_new c = ap (λ (v : ListsState). v.new_flows) c.retire.ensures ∙ none_new (goal.at.invariant_of-self-then-is_idle c).After-unwrap-entry
 
 -- it has credits and a packet
 pub returns-clause-settled : goal.returns-clause-settled

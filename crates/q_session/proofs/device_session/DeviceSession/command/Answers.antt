@@ -1,7 +1,7 @@
 use Rattle.std.proofs.Common.{◌++◌, ◌∙◌, Bool, sym, ap}
 use Rattle.q_device.specs.DeviceSeen.{DeviceSeen}
 use Rattle.q_model.specs.Tally.{Counts, totals}
-use Rattle.q_report.specs.Report.{Effect, commanded}
+use Rattle.q_script_semantics.specs.Report.{Effect, commanded}
 use Rattle.q_session.specs.Session.{SessionSeen, seen}
 use Rattle.q_session.specs.Seen.{session_seen}
 use Rattle.q_session.proofs.CommandLemmas.{refused-effect}

@@ -1,8 +1,8 @@
 use Rattle.std.proofs.Common.{◌≡◌, ◌∙◌, ℕ, ◌-◌, ◌+◌, List, sym, ap, ap₂, subst, arith, refl}
 use Rattle.q_device.specs.DeviceSeen.{DeviceSeen}
 use Rattle.q_model.specs.Tally.{totals}
-use Rattle.q_report.specs.Report.{polls}
-use Rattle.q_report.specs.Text.{poll_line}
+use Rattle.q_script_semantics.specs.Report.{polls}
+use Rattle.q_script_semantics.specs.Text.{poll_line}
 use Rattle.q_script.proofs.OnErr.{on_err}
 use Rattle.q_session.specs.Session.{SessionSeen}
 use Rattle.q_session.specs.Seen.{session_seen}

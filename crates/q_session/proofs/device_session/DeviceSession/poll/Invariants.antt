@@ -1,6 +1,6 @@
 use Rattle.std.proofs.Common.{◌≡◌, ◌-◌}
 use Rattle.q_model.specs.Tally.{totals}
-use Rattle.q_report.specs.Report.{polls}
+use Rattle.q_script_semantics.specs.Report.{polls}
 use Rattle.q_show.specs.Writes.{MayWrite}
 use Rattle.q_session.specs.Seen.{session_seen}
 use Rattle.q_session.proofs.Writing.{Writing}

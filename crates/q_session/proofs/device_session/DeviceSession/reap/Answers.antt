@@ -3,7 +3,7 @@ use Rattle.std.specs.Prelude.{drop}
 use Rattle.std.specs.List.{flat_map}
 use Rattle.q_codel.specs.declared.loss.Loss.{Loss}
 use Rattle.q_device.specs.DeviceSeen.{DeviceSeen}
-use Rattle.q_report.specs.Text.{lost_line}
+use Rattle.q_script_semantics.specs.Text.{lost_line}
 use Rattle.q_script.proofs.OnErr.{on_err}
 use Rattle.q_session.specs.Seen.{session_seen}
 use Rattle.q_session.specs.Session.{SessionSeen}

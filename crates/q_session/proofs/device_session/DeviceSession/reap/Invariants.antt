@@ -1,6 +1,6 @@
 use Rattle.std.proofs.Common.{◌≡◌, length}
 use Rattle.std.specs.List.{flat_map}
-use Rattle.q_report.specs.Text.{lost_line}
+use Rattle.q_script_semantics.specs.Text.{lost_line}
 use Rattle.q_show.specs.Writes.{MayWrite}
 use Rattle.q_session.specs.Seen.{session_seen}
 use Rattle.q_session.proofs.Writing.{Writing}

@@ -3,7 +3,7 @@ use Rattle.q_line.specs.declared.line.Line.{Line}
 use Rattle.q_words.specs.declared.line_fault.LineFault.{LineFault}
 use Rattle.q_line.proofs.PacketRanges.{read-sendable}
 use Rattle.q_model.specs.Tally.{totals}
-use Rattle.q_report.specs.Report as report
+use Rattle.q_script_semantics.specs.Report as report
 use Rattle.q_script.proofs.OnErr.{on_err, on_err_weaker}
 use Rattle.q_script.proofs.WrittenLemmas.{front-longer}
 use Rattle.q_session.specs.Session.{effect_of}

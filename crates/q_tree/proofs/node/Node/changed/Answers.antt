@@ -4,7 +4,7 @@ use Rattle.q_model.specs.declared.refusal.Refusal.TheVariants.{NoQdisc}
 use Rattle.q_model.specs.Make.{Device}
 use Rattle.q_model.specs.Node.{shape}
 use Rattle.q_model.specs.TreeState.{plan}
-use Rattle.q_sound.proofs.MadeSizes.{count-shape}
+use Rattle.q_invariants.proofs.MadeSizes.{count-shape}
 use Rattle.q_tree.specs.Changing.{IsChange, NeedsMore}
 use Rattle.q_tree.specs.declared.edit.Edit.TheVariants.{Reshape}
 use Rattle.q_tree.proofs.ChangeLemmas.{change-lawful, change-nowhere, change-planned, change-refused, change-within, plans_of}

@@ -8,7 +8,7 @@ use Rattle.q_tree.specs.Commands.{takes_none}
 use Rattle.q_tree.proofs.TargetLemmas.{reached-at, target-none, target-some}
 use Rattle.q_model.specs.ClassCommands.{class_change_checks, class_changed, of_schedule, with_new_quantum}
 use Rattle.q_model.specs.QdiscCommands.{retuned}
-use Rattle.q_sound.proofs.SizedPlans.{plan-class_change}
+use Rattle.q_invariants.proofs.SizedPlans.{plan-class_change}
 use Rattle.q_tree.specs.Reshaping.{requantum, rescheduled}
 use Rattle.q_tree.specs.declared.edit.Edit.TheVariants.{Reshape}
 use Rattle.q_tree.specs.declared.reshape.Reshape.TheVariants.{SetQuantum}

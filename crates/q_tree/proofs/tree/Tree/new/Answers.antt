@@ -8,7 +8,7 @@ use Rattle.q_model.specs.Make.{Device}
 use Rattle.q_model.specs.Node as spec
 use Rattle.q_model.specs.Node.{Own, Forest, each, each_memory}
 use Rattle.q_model.specs.Tally.{Counts, no_totals}
-use Rattle.q_sound.proofs.EditSizes.{nodes_own}
+use Rattle.q_invariants.proofs.EditSizes.{nodes_own}
 use Rattle.q_tree.specs.Kept.{Kept}
 use Rattle.q_tree.specs.Seen.{IsCountedWithin}
 use Rattle.q_tree.proofs.TreeLemmas.{new-device}

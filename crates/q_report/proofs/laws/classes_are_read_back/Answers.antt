@@ -1,5 +1,0 @@
-use Rattle.q_report.proofs.ReadBack.{classes_read_back}
-use Rattle.q_report.proofs.laws.classes_are_read_back.Goals as goal
-
-pub returns : goal.returns
-returns c = classes_read_back

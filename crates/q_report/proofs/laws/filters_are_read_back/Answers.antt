@@ -1,5 +1,0 @@
-use Rattle.q_report.proofs.FilterReadBack.{filters_read_back}
-use Rattle.q_report.proofs.laws.filters_are_read_back.Goals as goal
-
-pub returns : goal.returns
-returns c = filters_read_back

@@ -1,5 +1,0 @@
-use Rattle.q_report.proofs.PrefixReadBack.{prefixes_read_back}
-use Rattle.q_report.proofs.laws.prefixes_are_read_back.Goals as goal
-
-pub returns : goal.returns
-returns c = prefixes_read_back

@@ -1,5 +1,0 @@
-use Rattle.q_report.proofs.QdiscReadBack.{qdiscs_read_back}
-use Rattle.q_report.proofs.laws.qdiscs_are_read_back.Goals as goal
-
-pub returns : goal.returns
-returns c = qdiscs_read_back
