@@ -7,30 +7,30 @@ use Rattle.std.specs.List.{fold}
 use Rattle.q_packet.specs.Descriptor.{Descriptor}
 use Rattle.q_model.specs.declared.event.Event.TheVariants.{Arrive}
 use Rattle.q_device.specs.DeviceSeen.{DeviceSeen, Memory}
-use Rattle.q_ports.specs.declared.take.Take.{Take}
+use Rattle.q_ports.specs.declared.received.Received.{Received}
 use Rattle.q_ports.specs.Collected.{received_one, arrived_one, Collects, HasReceived}
 use Rattle.q_ports.specs.Events.{with_memory}
 use Rattle.q_ports.specs.Rings.{RingSeen, received_from}
 use Rattle.q_ports.specs.Stopped.{HasNoRoomForNext, Stops}
 use Rattle.q_ports.proofs.EventLemmas.{after-memory}
 
-pub length-received : (rs : List (List Descriptor)) (ts : List Take) → length (fold received_one rs ts) ≡ length rs
+pub length-received : (rs : List (List Descriptor)) (ts : List Received) → length (fold received_one rs ts) ≡ length rs
 length-received rs [] = refl
 length-received rs (t ∷ ts) = length-received (received_one rs t) ts ∙ length-set rs t.ring (get_or rs t.ring [] ++ t.packet ∷ [])
 
-fold-memory : (now : ℕ) (m : Memory) (d : DeviceSeen) (ts : List Take) → fold (arrived_one now) (with_memory m d) ts ≡ with_memory m (fold (arrived_one now) d ts)
+fold-memory : (now : ℕ) (m : Memory) (d : DeviceSeen) (ts : List Received) → fold (arrived_one now) (with_memory m d) ts ≡ with_memory m (fold (arrived_one now) d ts)
 fold-memory now m d [] = refl
 fold-memory now m d (t ∷ ts) = ap (λ (x : DeviceSeen). fold (arrived_one now) x ts) (after-memory (Arrive t.packet now) m d) ∙ fold-memory now m (arrived_one now d t) ts
 
 pub collects-none : (now : ℕ) (rs : List (List Descriptor)) (d : DeviceSeen) → Collects now rs rs d d 0
-collects-none now rs d = record { takes = []; counted = refl; rings = All-nil (λ (t : Take). t.ring < length rs); received = refl; arrived = refl }
+collects-none now rs d = record { takes = []; counted = refl; rings = All-nil (λ (t : Received). t.ring < length rs); received = refl; arrived = refl }
 
 -- what happens to places is no event
 pub collects-memory : (now : ℕ) (rs rs' : List (List Descriptor)) (d d1 d2 : DeviceSeen) (n : ℕ) → Collects now rs rs' d d1 n → d2 ≡ with_memory d2.memory d1 → Collects now rs rs' d d2 n
 collects-memory now rs rs' d d1 d2 n c e =
     record { takes = c.takes; counted = c.counted; rings = c.rings; received = c.received; arrived = e ∙ ap (λ (x : DeviceSeen). with_memory d2.memory x) c.arrived }
 
-pub collects-more : (now : ℕ) (rs rs1 rs2 : List (List Descriptor)) (d d1 d2 : DeviceSeen) (n : ℕ) (t : Take) → Collects now rs rs1 d d1 n → t.ring < length rs1 → rs2 ≡ received_one rs1 t
+pub collects-more : (now : ℕ) (rs rs1 rs2 : List (List Descriptor)) (d d1 d2 : DeviceSeen) (n : ℕ) (t : Received) → Collects now rs rs1 d d1 n → t.ring < length rs1 → rs2 ≡ received_one rs1 t
     → d2 ≡ with_memory d2.memory (arrived_one now d1 t) → Collects now rs rs2 d d2 (n + 1)
 collects-more now rs rs1 rs2 d d1 d2 n t c within more arrives =
     let same : length rs1 ≡ length rs = ap (λ (xs : List (List Descriptor)). length xs) c.received ∙ length-received rs c.takes in
@@ -38,7 +38,7 @@ collects-more now rs rs1 rs2 d d1 d2 n t c within more arrives =
     record {
       takes = c.takes ++ t ∷ [];
       counted = omega (arith, long, c.counted);
-      rings = All-push (λ (u : Take). u.ring < length rs) c.takes t c.rings (omega (arith, same, within));
+      rings = All-push (λ (u : Received). u.ring < length rs) c.takes t c.rings (omega (arith, same, within));
       received = more ∙ (ap (λ (xs : List (List Descriptor)). received_one xs t) c.received ∙ sym (fold_push received_one rs c.takes t));
       arrived =
           arrives
@@ -54,7 +54,7 @@ collects-then now rs rs1 rs2 d d1 d2 n m a b =
     record {
       takes = a.takes ++ b.takes;
       counted = omega (arith, long, a.counted, b.counted);
-      rings = All-append (λ (u : Take). u.ring < length rs) a.takes b.takes a.rings (subst (λ (k : ℕ). All (λ (u : Take). u.ring < k) b.takes) same b.rings);
+      rings = All-append (λ (u : Received). u.ring < length rs) a.takes b.takes a.rings (subst (λ (k : ℕ). All (λ (u : Received). u.ring < k) b.takes) same b.rings);
       received = b.received ∙ (ap (λ (xs : List (List Descriptor)). fold received_one xs b.takes) a.received ∙ sym (fold-append received_one rs a.takes b.takes));
       arrived =
           b.arrived

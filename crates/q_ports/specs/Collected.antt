@@ -5,34 +5,34 @@ use Rattle.std.specs.List.{fold}
 use Rattle.q_packet.specs.Descriptor.{Descriptor}
 use Rattle.q_model.specs.declared.event.Event.TheVariants.{Arrive}
 use Rattle.q_device.specs.DeviceSeen.{DeviceSeen}
-use Rattle.q_ports.specs.declared.take.Take.{Take}
+use Rattle.q_ports.specs.declared.received.Received.{Received}
 use Rattle.q_ports.specs.Events.{after_event, with_memory}
 
-abbrev pub take : ℕ → Descriptor → Take
+abbrev pub take : ℕ → Descriptor → Received
 take ring p = record { ring = ring; packet = p }
 
 -- the packet is the newest that was received from its ring
-abbrev pub received_one : List (List Descriptor) → Take → List (List Descriptor)
+abbrev pub received_one : List (List Descriptor) → Received → List (List Descriptor)
 received_one received t = set received t.ring (get_or received t.ring [] ++ t.packet ∷ [])
 
 -- the packet arrived at the device
-abbrev pub arrived_one : ℕ → DeviceSeen → Take → DeviceSeen
+abbrev pub arrived_one : ℕ → DeviceSeen → Received → DeviceSeen
 arrived_one now d t = after_event (Arrive t.packet now) d
 
 -- So many packets were received, in some order of the rings, each after those that were received from its ring before. Each of
 -- them arrived at the device, in the same order and with all its fields, and nothing else happened to the device.
 pub record Collects (now : ℕ) (before after : List (List Descriptor)) (device device' : DeviceSeen) (count : ℕ) : Type 0 where
-  pub takes : List Take
+  pub takes : List Received
   pub counted : length takes ≡ count
-  pub rings : All (λ (t : Take). t.ring < length before) takes
+  pub rings : All (λ (t : Received). t.ring < length before) takes
   pub received : after ≡ fold received_one before takes
   pub arrived : device' ≡ with_memory device'.memory (fold (arrived_one now) device takes)
 
 -- So many packets were received, in some order of the rings, each after those that were received from its ring before.
 pub record HasReceived (before after : List (List Descriptor)) (count : ℕ) : Type 0 where
-  pub takes : List Take
+  pub takes : List Received
   pub counted : length takes ≡ count
-  pub rings : All (λ (t : Take). t.ring < length before) takes
+  pub rings : All (λ (t : Received). t.ring < length before) takes
   pub received : after ≡ fold received_one before takes
 
 -- the same of some number of packets

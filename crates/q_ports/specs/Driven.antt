@@ -4,7 +4,7 @@ use Rattle.std.specs.Prelude.{◌≡◌, ℕ, ◌<◌, ◌≤◌, ◌-◌, ◌^�
 use Rattle.std.specs.declared.alloc.Global.{Global}
 use Rattle.q_packet.specs.Descriptor.{Descriptor}
 use Rattle.q_model.specs.declared.totals.Totals.{Totals}
-use Rattle.q_ports.specs.declared.room.Room.{Room}
+use Rattle.q_ports.specs.declared.sender_room.SenderRoom.{SenderRoom}
 use Rattle.q_ports.specs.declared.sender.Sent.{Sent}
 use Rattle.q_ports.specs.declared.started.Started.{Started}
 use Rattle.q_ports.specs.Offered.{Offered}
@@ -27,7 +27,7 @@ HasKept s =
     × IfErr s.work (λ r. Offered (promised_port s) (promised_load s) r.port r.given_up)
 
 -- there is room for so many senders, and nothing in it
-abbrev pub IsRoomFor : ℕ → Room → Type 0
+abbrev pub IsRoomFor : ℕ → SenderRoom → Type 0
 IsRoomFor count r = (r.started.items ≡ []) × (count ≤ vec_capacity r.started) × (r.sent.items ≡ []) × (count ≤ vec_capacity r.sent)
 
 abbrev pub port_in : Sent → PortSeen

@@ -42,15 +42,15 @@ abbrev pub MayFollow : List Row → Row → Type 0
 MayFollow rows r = IsBalanced r × IsNotLower (last_of rows) r
 
 -- a beginning of the history that a book keeps
-pub record FrontSeen : Type 0 where
+pub record RowHistorySeen : Type 0 where
   pub book : Book
   pub rows : List Row
 
-abbrev pub front_seen : Book → List Row → FrontSeen
+abbrev pub front_seen : Book → List Row → RowHistorySeen
 front_seen book rows = record { book = book; rows = rows }
 
 -- one beginning of a book's history, and a later one
-pub record Continues (before after : FrontSeen) : Type 0 where
+pub record Continues (before after : RowHistorySeen) : Type 0 where
   pub book : after.book ≡ before.book
   pub rows : IsPrefix before.rows after.rows
 
@@ -60,11 +60,11 @@ pub record BoardSeen : Type 0 where
   pub rows : List Row
   pub shown : List Row
 
-abbrev pub board_seen : FrontSeen → List Row → BoardSeen
+abbrev pub board_seen : RowHistorySeen → List Row → BoardSeen
 board_seen front shown = record { book = front.book; rows = front.rows; shown = shown }
 
 -- what the board shows
-abbrev pub shown_on : BoardSeen → FrontSeen
+abbrev pub shown_on : BoardSeen → RowHistorySeen
 shown_on b = front_seen b.book b.shown
 
 -- the row was handed over, and the board shows all rows
@@ -93,11 +93,11 @@ pub record GaugeSeen : Type 0 where
   pub learnt : List Row
   pub reads : ℕ
 
-abbrev pub gauge_seen : FrontSeen → List Row → ℕ → GaugeSeen
+abbrev pub gauge_seen : RowHistorySeen → List Row → ℕ → GaugeSeen
 gauge_seen shown learnt reads = record { book = shown.book; rows = shown.rows; learnt = learnt; reads = reads }
 
 -- a gauge that has read nothing, and knows these rows to be on the board
-abbrev pub new_gauge : FrontSeen → GaugeSeen
+abbrev pub new_gauge : RowHistorySeen → GaugeSeen
 new_gauge shown = gauge_seen shown shown.rows 0
 
 -- the gauge has learnt of these rows

@@ -9,7 +9,7 @@ use Rattle.q_ports.specs.Collected.{Collects}
 use Rattle.q_ports.specs.Events.{device_row, with_memory}
 use Rattle.q_ports.specs.Polls.{given_by, polled}
 use Rattle.q_ports.specs.Rings.{received_from, AreSeenEmpty, RingSeen}
-use Rattle.q_ports.specs.Rows.{BoardSeen, FrontSeen, Publishes, Withholds}
+use Rattle.q_ports.specs.Rows.{BoardSeen, RowHistorySeen, Publishes, Withholds}
 use Rattle.q_ports.specs.Stopped.{Stops}
 use Rattle.q_ports.specs.declared.turn.Turn.{Turn}
 
@@ -38,7 +38,7 @@ pub record TurnedSome (now most : ℕ) (before after : DrainSeen) (t : Turn) : T
   pub device : DeviceSeen
   pub device' : DeviceSeen
   pub turned : Turned now most before.rings after.rings device device' t.taken t.memory t.sent.items
-  pub published : IfSome t.told (λ (f : FrontSeen). Publishes before.board (device_row device') after.board)
+  pub published : IfSome t.told (λ (f : RowHistorySeen). Publishes before.board (device_row device') after.board)
   pub untold : IfNone t.told (Withholds before.board (device_row device') after.board)
 
 -- some balanced row was published, or was not

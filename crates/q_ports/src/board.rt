@@ -1,15 +1,15 @@
-use crate::front::Front;
+use crate::row_history::RowHistory;
 use left_right::Absorb;
 use std::alloc::AllocError;
 
 /// What gauges read: the rows that were published.
 #[derive(Drop)]
 pub struct Board {
-    pub front: Front,
+    pub front: RowHistory,
 }
 
-impl Absorb<Front> for Board {
-    type State = Front;
+impl Absorb<RowHistory> for Board {
+    type State = RowHistory;
 
     ghost state = { λ b. b.front };
 
@@ -17,7 +17,7 @@ impl Absorb<Front> for Board {
 
     ghost never_fails = { Unit {0} };
 
-    fn absorb_first(&mut self, operation: &Front, _other: &Board) -> Result<(), AllocError> {
+    fn absorb_first(&mut self, operation: &RowHistory, _other: &Board) -> Result<(), AllocError> {
         self.front = operation.again();
         Ok(())
     }

@@ -4,17 +4,17 @@ ghost use Rattle.q_ports.specs.Rows.{gauge_seen, Continues, GaugeSeen};
 ghost use Rattle.q_ports.specs.Views.{appending, last_front, newest, showing, writer_seen, AreContinued};
 
 use crate::board::Board;
-use crate::front::Front;
+use crate::board_view::{BoardView, Notes, Published, Reads};
 use crate::gauge::Gauge;
 use crate::note::Note;
-use crate::view::{Notes, Published, Reads, View};
+use crate::row_history::RowHistory;
 use left_right::writer::Writer;
 use std::alloc::{AllocError, Global};
 use std::marker::Model;
 use std::sync::Wait;
 
 /// A writer under the rule of the board.
-pub type RuledWriter = Writer<Board, Front, View, Published>;
+pub type RuledWriter = Writer<Board, RowHistory, BoardView, Published>;
 
 /// What the drain writes the board with. It is not `Drop`: end it by `end`.
 ///
@@ -40,7 +40,7 @@ impl BoardWriter {
     pub(crate) fn open<R: Wait>(
         rt: &R,
         alloc: Global,
-        front: &Front,
+        front: &RowHistory,
         gauges: usize,
     ) -> Result<BoardWriter, AllocError>
         requires { gauges ≤ 16 }
@@ -51,7 +51,7 @@ impl BoardWriter {
     }
 
     /// Takes in a history to be shown; `false` where memory is refused.
-    pub(crate) fn append(&mut self, front: Front) -> bool
+    pub(crate) fn append(&mut self, front: RowHistory) -> bool
         requires { Continues (newest self.old) front }
         ensures { MatchBool result (self.new ≡ appending self.old front) (self.new ≡ self.old) }
     {
@@ -109,7 +109,7 @@ impl BoardWriter {
 fn begin<R: Wait>(
     rt: &R,
     alloc: Global,
-    front: &Front,
+    front: &RowHistory,
     gauges: usize,
 ) -> Result<RuledWriter, AllocError>
     requires { gauges ≤ 16 }

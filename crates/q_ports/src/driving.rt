@@ -10,13 +10,13 @@ use crate::driven::Driven;
 use crate::ended::Ended;
 use crate::gate::Gate;
 use crate::intake::Intake;
-use crate::pace::Pace;
 use crate::port::Port;
 use crate::publisher::Publisher;
-use crate::room::Room;
 use crate::sender::{Sends, Sent, keep, send};
+use crate::sender_room::SenderRoom;
 use crate::started::Started;
 use crate::turn::turn_parts;
+use crate::turn_moments::TurnMoments;
 use crate::unsettled::Unsettled;
 use q_packet::{Moment, Packet};
 use std::alloc::{AllocError, Global};
@@ -73,7 +73,7 @@ pub fn drive<
     let Ok((room, mut back)) = rooms(alloc, ports.len()) else {
         return Err(unsettled(intake, publisher, ports));
     };
-    let pace = Pace { start, step };
+    let pace = TurnMoments { start, step };
     let (intake, sent, all_ran) = run(
         rt,
         alloc,
@@ -118,14 +118,14 @@ fn unsettled<P: Ledger, B: Ledger>(
 }
 
 // Room for so many senders and what they hand back, and for their ports.
-fn rooms(alloc: Global, count: usize) -> Result<(Room, Vec<Port>), AllocError>
+fn rooms(alloc: Global, count: usize) -> Result<(SenderRoom, Vec<Port>), AllocError>
     ensures senders { IfOk result (λ r. IsRoomFor count r.0) }
     ensures ports { IfOk result (λ r. (r.1.items ≡ []) × (count ≤ vec_capacity r.1)) }
 {
     let started = Vec::with_capacity(alloc, count)?;
     let sent = Vec::with_capacity(alloc, count)?;
     let back = Vec::with_capacity(alloc, count)?;
-    Ok((Room { started, sent }, back))
+    Ok((SenderRoom { started, sent }, back))
 }
 
 // Runs a sender for each port while the drain takes turns; and whether there was a thread for each.
@@ -137,9 +137,9 @@ fn run<P: Ledger + Send + Sync, B: Ledger + Send + Sync, G: Gate + Sync, R: Thre
     publisher: &mut Publisher,
     ports: Vec<Port>,
     loads: Vec<Vec<Packet>>,
-    room: Room,
+    room: SenderRoom,
     gate: &G,
-    pace: Pace,
+    pace: TurnMoments,
     tries: u64,
 ) -> (Intake<P, B>, Vec<Sent>, bool)
     requires loads { length loads.items ≡ length ports.items }
@@ -311,7 +311,7 @@ fn take_turns<P: Ledger, B: Ledger, R: Wait>(
     publisher: &mut Publisher,
     ended: &Ended,
     senders: u64,
-    pace: Pace,
+    pace: TurnMoments,
 )
     ensures { map ring_id intake.new ≡ map ring_id intake.old }
 {
@@ -381,10 +381,10 @@ fn in_scope<'s, E, P: Ledger, B: Ledger, G: Gate + Sync, R: Threads + Wait>(
     publisher: &mut Publisher,
     ports: Vec<Port>,
     loads: Vec<Vec<Packet>>,
-    room: Room,
+    room: SenderRoom,
     gate: &'s G,
     ended: &'s Ended,
-    pace: Pace,
+    pace: TurnMoments,
     tries: u64,
 ) -> (Intake<P, B>, Vec<Sent>)
     requires loads { length loads.items ≡ length ports.items }
@@ -393,7 +393,7 @@ fn in_scope<'s, E, P: Ledger, B: Ledger, G: Gate + Sync, R: Threads + Wait>(
     ensures drove { Drove ports.items (map packets_of loads.items) result.1.items }
 {
     let mut intake = intake;
-    let Room { started, sent } = room;
+    let SenderRoom { started, sent } = room;
     let started = start_all(scope, ports, loads, started, gate, ended, tries);
     let senders = started.len() as u64;
     take_turns(

@@ -4,17 +4,17 @@ ghost use Rattle.left_right.specs.Sides.{view as view_of};
 ghost use Rattle.q_ports.specs.Rows.{last_of, learning, Continues, IsLegal, IsNotLower};
 
 use crate::board::Board;
-use crate::front::Front;
+use crate::board_view::{BoardView, Published, Reads};
 use crate::note::Note;
+use crate::row_history::RowHistory;
 use crate::told::Told;
-use crate::view::{Published, Reads, View};
 use core::mem::replace_with;
 use left_right::reader::Reader;
 use q_device::Row;
 use std::marker::Model;
 
 /// What a gauge reads the board with.
-pub type BoardReader = Reader<Board, View, Published>;
+pub type BoardReader = Reader<Board, BoardView, Published>;
 
 /// A reader of the device's row, which never waits. It may move to a thread of its own.
 ///
@@ -73,7 +73,7 @@ impl Gauge {
 }
 
 // Takes a copy of what is on the board.
-fn look(reader: BoardReader) -> (BoardReader, Option<Front>)
+fn look(reader: BoardReader) -> (BoardReader, Option<RowHistory>)
     requires { (view_of reader.place).known ≡ true }
     ensures known { (view_of result.0.place).known ≡ true }
     ensures continues { Continues (view_of reader.place).front (view_of result.0.place).front }

@@ -9,9 +9,9 @@ ghost use Rattle.q_ports.specs.Stopped.{HasNoRoomForNext, Stops, StopsSome};
 
 use crate::booked::Booked;
 use crate::port::Port;
+use crate::received::Received;
 use crate::seat::Seat;
 use crate::settled::Settled;
-use crate::take::Take;
 use q_packet::{Moment, Packet};
 use rtrb::Consumer;
 use std::alloc::AllocError;
@@ -129,7 +129,7 @@ impl<P: Ledger, B: Ledger> Intake<P, B> {
         to: usize,
         booked: &mut Booked<P, B>,
         now: Moment,
-    ) -> Result<Option<Take>, AllocError>
+    ) -> Result<Option<Received>, AllocError>
         requires { to ≤ length self.old }
         ensures rings { map ring_id self.new ≡ map ring_id self.old }
         ensures others { AreSameFrom to self.old self.new }
@@ -145,7 +145,7 @@ impl<P: Ledger, B: Ledger> Intake<P, B> {
     {
         for at in from..to {
             match self.take_at(at, booked, now) {
-                Ok(Some(packet)) => return Ok(Some(Take { ring: at, packet })),
+                Ok(Some(packet)) => return Ok(Some(Received { ring: at, packet })),
                 Ok(None) => {}
                 Err(error) => return Err(error),
             }
@@ -174,7 +174,7 @@ impl<P: Ledger, B: Ledger> Intake<P, B> {
         &mut self,
         booked: &mut Booked<P, B>,
         now: Moment,
-    ) -> Result<Option<Take>, AllocError>
+    ) -> Result<Option<Received>, AllocError>
         ensures rings { map ring_id self.new ≡ map ring_id self.old }
         ensures ring { IfOk result (λ taken. IfSome taken (λ t. t.ring < length self.old)) }
         ensures some { IfOk result (λ taken. IfSome taken (λ t. map received_from self.new ≡ received_one (map received_from self.old) t)) }

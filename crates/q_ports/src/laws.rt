@@ -1,4 +1,5 @@
-//! What is true of every book, and of the calls that take the lock, with the locked value in hand.
+//! What is true of every book; and [`turn_on`] and [`settle_on`], the work of `Drain::turn` and `Drain::settle` once they have the
+//! lock: a contract can name the locked value only where it is in hand.
 ghost use Rattle.std.specs.Prelude.{◌≡◌, ◌≤◌, length, map, IfOk, IfErr, IfSome, IfNone, OnOk, OnErr};
 ghost use Rattle.q_device.specs.DeviceLaws.{HasItsMemory, IsLawfulDevice, IsReplayed, IsReplayOfRecorded, TellsItsLosses};
 ghost use Rattle.q_model.specs.Conserved.{IsBalanced};

@@ -2,34 +2,34 @@
 #![tactic(auto)]
 
 mod board;
+mod board_view;
 mod board_writer;
+mod book_rule;
 mod booked;
 mod drain;
 mod driven;
 mod driving;
 mod ended;
-mod front;
 mod full;
 mod gate;
 mod gauge;
 mod intake;
-mod law;
 pub mod laws;
 mod note;
 mod open;
-mod pace;
 mod port;
 mod publisher;
-mod room;
+mod received;
+mod row_history;
 mod seat;
 mod sender;
+mod sender_room;
 mod settled;
 mod started;
-mod take;
 mod told;
 mod turn;
+mod turn_moments;
 mod unsettled;
-mod view;
 
 pub use booked::Booked;
 pub use drain::Drain;

@@ -3,14 +3,14 @@ ghost use mathlib.Core.List.{IsPrefix};
 ghost use Rattle.q_ports.specs.Rows.{MayFollow};
 ghost use Rattle.q_ports.specs.Rules.{head_of};
 
-use crate::law::{Add, Law, Nothing};
+use crate::book_rule::{Add, BookRule, Nothing};
 use logbook::{Offer, Seen, Start, Word};
 use q_device::Row;
 use std::marker::Model;
 use std::sync::Wait;
 
 /// The word that a book of rows keeps: how many rows its history has.
-pub type Head = Word<Row, u64, Law>;
+pub type Head = Word<Row, u64, BookRule>;
 
 /// How far the history of a device's row had come: the number of its rows, and none of them.
 ///
@@ -18,14 +18,14 @@ pub type Head = Word<Row, u64, Law>;
 #[derive(Drop)]
 pub struct Note {
     count: u64,
-    seen: Seen<Row, u64, Law>,
+    seen: Seen<Row, u64, BookRule>,
 }
 
 impl Model for Note {
     ghost use Rattle.std.specs.Prelude.{◌≡◌, length};
-    ghost use Rattle.q_ports.specs.Rows.{front_seen, FrontSeen};
+    ghost use Rattle.q_ports.specs.Rows.{front_seen, RowHistorySeen};
 
-    ghost Value = { FrontSeen };
+    ghost Value = { RowHistorySeen };
 
     ghost view = { λ n. front_seen n.seen.book n.seen.log };
 
@@ -105,7 +105,7 @@ impl Note {
             return false;
         };
         let mut seen = self.seen.again();
-        let mut offer: Offer<Row, u64, Law, Nothing> = seen.plain::<Nothing, Row, Add>(&row);
+        let mut offer: Offer<Row, u64, BookRule, Nothing> = seen.plain::<Nothing, Row, Add>(&row);
         let mut pen = seen.no_pen();
         let count = self.count;
         let found = head.compare_exchange::<Add, Nothing>(

@@ -3,9 +3,9 @@ ghost use Rattle.q_model.specs.Conserved.{IsBalanced};
 ghost use Rattle.q_ports.specs.Rows.{new_gauge, shown_on, GaugeSeen, Publishes, Withholds};
 
 use crate::board_writer::BoardWriter;
-use crate::front::{Front, is_not_lower};
 use crate::gauge::Gauge;
 use crate::note::Head;
+use crate::row_history::{RowHistory, is_not_lower};
 use crate::told::Told;
 use core::mem::replace_with;
 use q_device::Row;
@@ -19,7 +19,7 @@ use std::sync::Wait;
 pub struct Publisher {
     writer: BoardWriter,
     head: Head,
-    front: Front,
+    front: RowHistory,
 }
 
 impl Model for Publisher {
@@ -51,7 +51,7 @@ impl Publisher {
         ensures count { IfOk result (λ r. length r.1.items ≡ gauges) }
         ensures gauges { IfOk result (λ r. All (λ (g : GaugeSeen). g ≡ new_gauge (shown_on r.0)) r.1.items) }
     {
-        let (front, head) = Front::open();
+        let (front, head) = RowHistory::open();
         let mut writer = BoardWriter::open(rt, alloc, &front, gauges)?;
         let all = match writer.gauges(alloc, &front.note(), gauges) {
             Ok(all) => all,

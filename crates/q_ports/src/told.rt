@@ -10,9 +10,9 @@ pub struct Told {
 }
 
 impl Model for Told {
-    ghost use Rattle.q_ports.specs.Rows.{FrontSeen};
+    ghost use Rattle.q_ports.specs.Rows.{RowHistorySeen};
 
-    ghost Value = { FrontSeen };
+    ghost Value = { RowHistorySeen };
 
     ghost view = { λ t. t.note };
 }

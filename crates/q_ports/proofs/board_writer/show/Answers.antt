@@ -1,5 +1,5 @@
 use Rattle.std.proofs.Common.{sym, subst, ap, drop}
-use Rattle.q_ports.specs.declared.view.View.{View}
+use Rattle.q_ports.specs.declared.board_view.BoardView.{BoardView}
 use Rattle.q_ports.specs.Rows.{Continues}
 use Rattle.q_ports.proofs.Boards.{last-continues, matched, turns}
 use Rattle.q_ports.proofs.board_writer.show.Goals as goal
@@ -16,4 +16,4 @@ returns-clause-shown g c =
 pub returns-clause-known : goal.returns-clause-known
 returns-clause-known g c =
     let told = matched c.publish_as.result.1 _ _ (c.publish_as.ensures.succeeds tt) c.publish_as.ensures.rule in
-    (ap (λ (v : View). v.known) told.seen, ap (λ (v : View). v.front) told.seen)
+    (ap (λ (v : BoardView). v.known) told.seen, ap (λ (v : BoardView). v.front) told.seen)

@@ -3,7 +3,7 @@ use Rattle.std.proofs.lemmas.Bool.Decides.{nat_tests}
 use lib.Dec.{leb}
 use mathlib.Core.List.{IsPrefix}
 use Rattle.q_model.specs.declared.row.Row.{Row}
-use Rattle.q_ports.specs.Rows.{FrontSeen}
+use Rattle.q_ports.specs.Rows.{RowHistorySeen}
 use Rattle.q_ports.proofs.Prefixes.{prefix_same, prefix_shorter}
 use Rattle.q_ports.proofs.note.Note.begins.Goals as goal
 
@@ -19,8 +19,8 @@ returns c =
     let m = c.self.inside.count in
     let n = c.other.inside.count in
     let this : IsPrefix mine both = subst (λ (l : List Row). IsPrefix l both) (ap (λ s. s.log) c.again-both.ensures) c.learn.ensures.2 in
-    let here : mine ≡ c.args.self.now.rows = ap (λ (f : FrontSeen). f.rows) c.self.view_is in
-    let there : theirs ≡ c.args.other.now.rows = ap (λ (f : FrontSeen). f.rows) c.other.view_is in
+    let here : mine ≡ c.args.self.now.rows = ap (λ (f : RowHistorySeen). f.rows) c.self.view_is in
+    let there : theirs ≡ c.args.other.now.rows = ap (λ (f : RowHistorySeen). f.rows) c.other.view_is in
     match-of _ _ (leb m n)
     (λ (e : leb m n ≡ true).
     let few : m ≤ n = grind (arith, nat_tests) in

@@ -3,7 +3,7 @@ use Rattle.std.proofs.lemmas.Bool.{false≢true}
 use Rattle.std.proofs.lemmas.Bool.Decides.{nat_tests}
 use Rattle.std.proofs.lemmas.List.{length_push}
 use Rattle.q_model.specs.declared.row.Row.{Row}
-use Rattle.q_ports.specs.Rows.{FrontSeen, MayFollow}
+use Rattle.q_ports.specs.Rows.{RowHistorySeen, MayFollow}
 use Rattle.q_ports.proofs.Adding.{adds_moves}
 use Rattle.q_ports.proofs.note.Note.try_add.Goals as goal
 
@@ -15,8 +15,8 @@ pub compare_exchange-found-requires : goal.compare_exchange-found-requires
 compare_exchange-found-requires c =
     let h = c.requires.head in
     let seen = c.again-seen.ensures in
-    let log : c.again-seen.result.log ≡ c.args.self.now.rows = ap (λ s. s.log) seen ∙ ap (λ (f : FrontSeen). f.rows) c.self.view_is in
-    let book : c.again-seen.result.book ≡ c.args.self.now.book = ap (λ s. s.book) seen ∙ ap (λ (f : FrontSeen). f.book) c.self.view_is in
+    let log : c.again-seen.result.log ≡ c.args.self.now.rows = ap (λ s. s.log) seen ∙ ap (λ (f : RowHistorySeen). f.rows) c.self.view_is in
+    let book : c.again-seen.result.book ≡ c.args.self.now.book = ap (λ s. s.book) seen ∙ ap (λ (f : RowHistorySeen). f.book) c.self.view_is in
     let offer = c.plain-offer.ensures in
     let pen = c.no_pen-pen.ensures in
     let len : length c.again-seen.result.log ≡ c.self.inside.count = ap (λ s. length s.log) seen ∙ sym c.self.invariant in

@@ -1,6 +1,6 @@
 use Rattle.std.proofs.Common.{rules, ◌≡◌, ◌∙◌, sym, ap, subst, []}
 use Rattle.logbook.specs.Pages.{Book}
-use Rattle.q_ports.specs.Rows.{Continues, FrontSeen}
+use Rattle.q_ports.specs.Rows.{Continues, RowHistorySeen}
 use Rattle.q_ports.specs.Rules.{head_of}
 use Rattle.q_ports.specs.Views.{WriterSeen, writer_seen, appending, showing}
 use Rattle.q_ports.proofs.Boards.{continues-self}
@@ -15,4 +15,4 @@ invariant_of-self-2 g c =
     let shows : c.replace_with.new.dest ≡ showing c.append.new.self = search rules in
     let after : c.replace_with.new.dest ≡ writer_seen front [] = shows ∙ ap (λ (w : WriterSeen). showing w) (appended ∙ ap (λ (w : WriterSeen). appending w front) c.self.invariant.1) in
     let shown : c.replace_with.new.dest.shown ≡ front = ap (λ (w : WriterSeen). w.shown) after in
-    (head, after ∙ sym (ap (λ (w : WriterSeen). writer_seen w.shown []) after), subst (λ (f : FrontSeen). Continues f front) (sym shown) (continues-self front))
+    (head, after ∙ sym (ap (λ (w : WriterSeen). writer_seen w.shown []) after), subst (λ (f : RowHistorySeen). Continues f front) (sym shown) (continues-self front))

@@ -2,7 +2,7 @@ use q_packet::Packet;
 
 /// A packet that was taken, and the ring that it came from.
 #[derive(Clone, Copy)]
-pub(crate) struct Take {
+pub(crate) struct Received {
     pub(crate) ring: usize,
     pub(crate) packet: Packet,
 }

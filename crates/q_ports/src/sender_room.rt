@@ -3,7 +3,7 @@ use crate::started::Started;
 
 /// Room for senders, and for what they hand back.
 #[derive(Drop)]
-pub(crate) struct Room {
+pub(crate) struct SenderRoom {
     pub(crate) started: Vec<Started>,
     pub(crate) sent: Vec<Sent>,
 }

@@ -2,9 +2,9 @@ use logbook::{Gain, Plain, Play, Rule};
 use q_device::Row;
 
 /// The rule of a book of rows: each is balanced, and no counter of it is lower than in the one before.
-pub struct Law;
+pub struct BookRule;
 
-impl Rule<Row, u64> for Law {
+impl Rule<Row, u64> for BookRule {
     ghost use Rattle.std.specs.Prelude.{[]};
     ghost use base.Fml.{ftrue};
     ghost use Rattle.q_ports.specs.Rules.{IsKept};

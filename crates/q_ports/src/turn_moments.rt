@@ -2,7 +2,7 @@ use q_packet::Moment;
 
 /// The moments of turns: the first, and how many nanoseconds come between two.
 #[derive(Clone, Copy)]
-pub(crate) struct Pace {
+pub(crate) struct TurnMoments {
     pub(crate) start: Moment,
     pub(crate) step: u64,
 }

@@ -12,30 +12,30 @@ use std::sync::Wait;
 ///
 /// A contract sees the book and all rows.
 #[derive(Drop)]
-pub struct Front {
+pub struct RowHistory {
     note: Note,
     last: Row,
 }
 
-impl Model for Front {
+impl Model for RowHistory {
     ghost use Rattle.std.specs.Prelude.{◌≡◌};
-    ghost use Rattle.q_ports.specs.Rows.{last_of, FrontSeen, IsLegal};
+    ghost use Rattle.q_ports.specs.Rows.{last_of, RowHistorySeen, IsLegal};
 
-    ghost Value = { FrontSeen };
+    ghost Value = { RowHistorySeen };
 
     ghost view = { λ f. f.note };
 
     ghost invariant = { λ f. (f.last ≡ last_of f.note.rows) × IsLegal f.note.rows };
 }
 
-impl Front {
+impl RowHistory {
     /// An empty history, with its word.
-    pub(crate) fn open() -> (Front, Head)
+    pub(crate) fn open() -> (RowHistory, Head)
         ensures rows { result.0.rows ≡ [] }
         ensures head { result.1 ≡ head_of result.0.book }
     {
         let (note, head) = Note::open();
-        let front = Front {
+        let front = RowHistory {
             note,
             last: opening(),
         };
@@ -51,10 +51,10 @@ impl Front {
     }
 
     /// A copy.
-    pub(crate) fn again(&self) -> Front
+    pub(crate) fn again(&self) -> RowHistory
         ensures { result ≡ self.now }
     {
-        Front {
+        RowHistory {
             note: self.note.again(),
             last: self.last,
         }

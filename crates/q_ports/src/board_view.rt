@@ -1,19 +1,19 @@
 use crate::board::Board;
-use crate::front::Front;
+use crate::row_history::RowHistory;
 use atomic_table::{Join, Split};
 use crossbeam_utils::rule::{Outcome, Protocol};
 
 /// What the drain or a gauge knows of the board: what it showed, and how often it was read. No value of it is made.
-pub struct View {
+pub struct BoardView {
     pub known: bool,
     pub reads: u64,
-    pub front: Front,
+    pub front: RowHistory,
 }
 
 /// The rule of the board: what is known of it is a beginning of what it shows.
 pub struct Published;
 
-impl Protocol<Board, View> for Published {
+impl Protocol<Board, BoardView> for Published {
     ghost use Rattle.q_ports.specs.Views.{newcomer, IsShared};
 
     ghost holds = { IsShared };
@@ -24,7 +24,7 @@ impl Protocol<Board, View> for Published {
 /// A look at the board, or a change of it.
 pub struct Reads;
 
-impl Outcome<Board, View> for Reads {
+impl Outcome<Board, BoardView> for Reads {
     ghost use Rattle.q_ports.specs.Views.{Reads};
 
     ghost then = { Reads };
@@ -33,13 +33,13 @@ impl Outcome<Board, View> for Reads {
 /// The drain tells what it knows.
 pub struct Notes;
 
-impl Split<View> for Notes {
+impl Split<BoardView> for Notes {
     ghost left = { λ v. v };
 
     ghost right = { λ v. v };
 }
 
-impl Join<View> for Notes {
+impl Join<BoardView> for Notes {
     ghost use Rattle.q_ports.specs.Views.{newcomer};
 
     ghost both = { λ v w. record w { reads = v.reads } };
