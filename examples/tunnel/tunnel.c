@@ -3,13 +3,15 @@
  *     tunnel DEVICE DEVICE FILE
  *
  * FILE has lines of tc, which set up both directions alike. A line that is faulty or refused ends the program before it opens a TUN
- * device. SIGUSR1 prints what `tc -s qdisc show` does, SIGHUP plays the lines that were added to the file, and SIGTERM and SIGINT
- * stop, with a count of what became of every frame. The status is 0 where each is accounted for. */
+ * device. SIGUSR1 prints what `tc -s qdisc show` does, SIGHUP plays the lines of the file that are new or changed, and SIGTERM and
+ * SIGINT stop, with a count of what became of every frame. The status is 0 where each is accounted for. */
 
-#include "way.h"
+#include "names.h"
+#include "qtree.h"
 
 #include <errno.h>
 #include <fcntl.h>
+#include <inttypes.h>
 #include <linux/if.h>
 #include <linux/if_tun.h>
 #include <poll.h>
@@ -23,51 +25,196 @@
 #include <time.h>
 #include <unistd.h>
 
-enum { FROM_FIRST, FROM_SECOND, TIMER, SIGNALS, WATCHED };
+enum { MTU = 1500, BUFFERS = 4096, SPARE = BUFFERS, BATCH = 64, CE = 3, LINES = 256, LINE_SIZE = 512 };
+
+/* The bytes of a frame; one that fills them is longer than the MTU, and lost. */
+struct frame {
+    uint16_t len;
+    uint8_t bytes[MTU + 1];
+};
+
+/* One direction: frames that are read from a TUN device are queued, and written to the other. */
+struct way {
+    const char *from_name, *to_name;
+    int from, to;
+    qtree_device device;
+    struct frame frames[BUFFERS + 1]; /* a packet's buf is its index; a frame that finds no buffer is read into SPARE */
+    uint32_t free[BUFFERS];
+    size_t free_count;
+    uint64_t arrived, written, unwritten, refused, lost[QTREE_LOST_PURGED + 1];
+};
 
 struct tunnel {
     struct way ways[2];
-    const char *devices[2];
     const char *file;
-    size_t lines; /* how many were played */
-    struct timespec begun;
+    char lines[LINES][LINE_SIZE]; /* of the file, as they were played */
     int timer, signals;
 };
 
-static uint64_t now_of(const struct tunnel *tunnel) {
+static uint64_t now_ns(void) {
     struct timespec now;
     clock_gettime(CLOCK_MONOTONIC, &now);
-    return (uint64_t)((now.tv_sec - tunnel->begun.tv_sec) * 1000000000LL + now.tv_nsec - tunnel->begun.tv_nsec);
+    return (uint64_t)now.tv_sec * 1000000000 + (uint64_t)now.tv_nsec;
 }
 
-/* Plays the lines of the file behind those that were played; false where one is faulty or refused. */
-static bool play_lines(struct tunnel *tunnel) {
+static bool way_open(struct way *way, const char *from_name, const char *to_name) {
+    way->from_name = from_name;
+    way->to_name = to_name;
+    for (uint32_t buf = 0; buf < BUFFERS; buf++) {
+        way->free[way->free_count++] = buf;
+    }
+    return qtree_open(&way->device, &(qtree_settings){ .txqueuelen = 1000, .mtu = MTU }) == QTREE_DONE;
+}
+
+/* Each loss gives its buffer back, and is counted by its cause. */
+static void take_losses(struct way *way) {
+    qtree_loss loss;
+    while (qtree_reap(&way->device, &loss) == QTREE_DONE) {
+        way->lost[loss.cause]++;
+        way->free[way->free_count++] = loss.packet.buf;
+    }
+}
+
+/* Whether a read or write failed because the device is gone, and not because it has nothing, or is full or down. */
+static bool is_gone(const char *name) {
+    if (errno == EBADFD) {
+        fprintf(stderr, "tunnel: the TUN device %s is gone\n", name);
+    }
+    return errno == EBADFD;
+}
+
+/* Reads some frames; false where the device is gone. */
+static bool way_read(struct way *way) {
+    for (int i = 0; i < BATCH; i++) {
+        uint32_t buf = way->free_count > 0 ? way->free[way->free_count - 1] : SPARE;
+        struct frame *frame = &way->frames[buf];
+        ssize_t len = read(way->from, frame->bytes, sizeof frame->bytes);
+        if (len <= 0) {
+            return len == 0 || !is_gone(way->from_name);
+        }
+        frame->len = (uint16_t)len;
+        qtree_packet packet = { .number = ++way->arrived, .buf = buf, .len = frame->len };
+        qtree_read_head(frame->bytes, frame->len, 0, &packet);
+        if (buf == SPARE || qtree_arrive(&way->device, &packet, now_ns()) > QTREE_LOST_PURGED) {
+            way->refused++;
+        } else {
+            way->free_count--;
+            take_losses(way);
+        }
+    }
+    return true;
+}
+
+/* Writes Ce into a head (RFC 3168), which is whole, since its codepoint was read, and mends IPv4's checksum (RFC 1624). */
+static void mark(uint8_t *head) {
+    if (head[0] >> 4 == 6) {
+        head[1] |= CE << 4;
+        return;
+    }
+    uint32_t sum = (0xffffu ^ (uint32_t)(head[10] << 8 | head[11])) + (0xffffu ^ head[1]) + (head[1] | CE);
+    sum = (sum & 0xffff) + (sum >> 16);
+    sum = (sum + (sum >> 16)) ^ 0xffff;
+    head[1] |= CE;
+    head[10] = (uint8_t)(sum >> 8);
+    head[11] = (uint8_t)sum;
+}
+
+/* Writes the frames whose turn it is, and brings next down to the moment of the one after; false where the device is gone. */
+static bool way_write(struct way *way, uint64_t *next) {
+    qtree_packet packet;
+    while (qtree_poll(&way->device, now_ns(), &packet) == QTREE_DONE) {
+        struct frame *frame = &way->frames[packet.buf];
+        if (packet.ecn == CE) {
+            mark(frame->bytes);
+        }
+        bool is_written = write(way->to, frame->bytes, frame->len) == frame->len;
+        way->written += is_written;
+        way->unwritten += !is_written;
+        way->free[way->free_count++] = packet.buf;
+        if (!is_written && is_gone(way->to_name)) {
+            return false;
+        }
+    }
+    take_losses(way);
+    uint64_t moment;
+    if (qtree_ready_at(&way->device, &moment) == QTREE_DONE && moment < *next) {
+        *next = moment;
+    }
+    return true;
+}
+
+static void way_show(struct way *way) {
+    size_t room;
+    qtree_show(&way->device, QTREE_SHOW_COUNTERS, NULL, 0, &room);
+    uint8_t *text = malloc(room + 1);
+    if (text != NULL && qtree_show(&way->device, QTREE_SHOW_COUNTERS, text, room, &room) == QTREE_DONE) {
+        printf("%s to %s\n%.*s", way->from_name, way->to_name, (int)room, (const char *)text);
+    }
+    free(text);
+}
+
+/* Prints what became of all frames; whether none is unaccounted for. */
+static bool way_totals(struct way *way) {
+    qtree_row row;
+    qtree_totals(&way->device, &row);
+    uint64_t unaccounted = way->arrived - way->refused - way->written - way->unwritten - row.queued.packets;
+    printf("%s to %s: arrived %" PRIu64 " sent %" PRIu64, way->from_name, way->to_name, way->arrived, way->written);
+    for (uint32_t cause = QTREE_LOST_TOO_LONG; cause <= QTREE_LOST_PURGED; cause++) {
+        unaccounted -= way->lost[cause];
+        printf(" %s %" PRIu64, code_name(cause), way->lost[cause]);
+    }
+    printf(" refused %" PRIu64 " unwritten %" PRIu64 " queued %" PRIu64 " marked %" PRIu64 " unaccounted %" PRIu64 "\n",
+           way->refused, way->unwritten, row.queued.packets, row.marked.packets, unaccounted);
+    return unaccounted == 0 && row.arrived.packets + way->refused == way->arrived &&
+           row.sent.packets == way->written + way->unwritten && row.queued.packets + way->free_count == BUFFERS;
+}
+
+/* Plays a line in both directions; false, having told why, where it is faulty or refused. */
+static bool play_line(struct tunnel *tunnel, const char *line, size_t number) {
+    for (int i = 0; i < 2; i++) {
+        qtree_fault fault;
+        qtree_code code = qtree_command(&tunnel->ways[i].device, (const uint8_t *)line, strlen(line), now_ns(), &fault);
+        if (code == QTREE_FAULTY) {
+            fprintf(stderr, "tunnel: %s:%zu: word %zu, %s: %s\n", tunnel->file, number, fault.word, fault_name(fault.number), line);
+        } else if (code != QTREE_DONE) {
+            const char *why = code == QTREE_NO_COMMAND ? "it changes no tree" : code_name(code);
+            fprintf(stderr, "tunnel: %s:%zu: refused, %s: %s\n", tunnel->file, number, why, line);
+        }
+        if (code != QTREE_DONE) {
+            return false;
+        }
+    }
+    return true;
+}
+
+/* Plays each line of the file that is not as it was played before; false where one cannot be. */
+static bool play_file(struct tunnel *tunnel) {
     FILE *file = fopen(tunnel->file, "r");
     if (file == NULL) {
         fprintf(stderr, "tunnel: %s: %s\n", tunnel->file, strerror(errno));
         return false;
     }
-    char line[1024];
+    char line[LINE_SIZE];
     bool is_right = true;
-    for (size_t number = 1; fgets(line, sizeof line, file) != NULL; number++) {
+    for (size_t i = 0; is_right && fgets(line, sizeof line, file) != NULL; i++) {
         line[strcspn(line, "\n")] = '\0';
-        if (number <= tunnel->lines) {
-            continue;
+        char first = line[strspn(line, " \t\r")];
+        if (i == LINES || strlen(line) == LINE_SIZE - 1) {
+            fprintf(stderr, "tunnel: %s:%zu: over %d lines or %d bytes\n", tunnel->file, i + 1, LINES, LINE_SIZE - 2);
+            is_right = false;
+        } else if (first != '\0' && first != '#' && strcmp(line, tunnel->lines[i]) != 0) {
+            is_right = play_line(tunnel, line, i + 1);
+            strcpy(tunnel->lines[i], is_right ? line : "");
         }
-        tunnel->lines = number;
-        uint64_t now = now_of(tunnel);
-        is_right = way_line(&tunnel->ways[0], line, number, now) && way_line(&tunnel->ways[1], line, number, now) && is_right;
     }
     fclose(file);
     return is_right;
 }
 
 static int open_tun(const char *name) {
+    struct ifreq wanted = { .ifr_flags = IFF_TUN | IFF_NO_PI };
+    strncpy(wanted.ifr_name, name, IFNAMSIZ - 1);
     int tun = open("/dev/net/tun", O_RDWR | O_NONBLOCK | O_CLOEXEC);
-    struct ifreq wanted;
-    memset(&wanted, 0, sizeof wanted);
-    wanted.ifr_flags = IFF_TUN | IFF_NO_PI;
-    snprintf(wanted.ifr_name, sizeof wanted.ifr_name, "%.15s", name);
     if (tun < 0 || ioctl(tun, TUNSETIFF, &wanted) < 0) {
         fprintf(stderr, "tunnel: the TUN device %s cannot be opened: %s\n", name, strerror(errno));
         return -1;
@@ -75,32 +222,21 @@ static int open_tun(const char *name) {
     return tun;
 }
 
+/* Opens both TUN devices and the timer, and takes signals as something to read. */
 static bool open_all(struct tunnel *tunnel) {
     sigset_t signals;
     sigemptyset(&signals);
-    const int each[] = { SIGUSR1, SIGHUP, SIGTERM, SIGINT };
-    for (size_t i = 0; i < sizeof each / sizeof each[0]; i++) {
-        sigaddset(&signals, each[i]);
-    }
+    sigaddset(&signals, SIGUSR1);
+    sigaddset(&signals, SIGHUP);
+    sigaddset(&signals, SIGTERM);
+    sigaddset(&signals, SIGINT);
     sigprocmask(SIG_BLOCK, &signals, NULL);
-    tunnel->signals = signalfd(-1, &signals, SFD_CLOEXEC);
-    tunnel->timer = timerfd_create(CLOCK_MONOTONIC, TFD_CLOEXEC | TFD_NONBLOCK);
-    int first = open_tun(tunnel->devices[0]);
-    int second = first < 0 ? -1 : open_tun(tunnel->devices[1]);
-    tunnel->ways[0].from = tunnel->ways[1].to = first;
-    tunnel->ways[1].from = tunnel->ways[0].to = second;
-    return tunnel->signals >= 0 && tunnel->timer >= 0 && first >= 0 && second >= 0;
-}
-
-/* Sleeps no longer than to this moment; UINT64_MAX is none. */
-static void arm(const struct tunnel *tunnel, uint64_t next) {
-    struct itimerspec at = { { 0, 0 }, { 0, 0 } };
-    if (next != UINT64_MAX) {
-        uint64_t ns = next + (uint64_t)tunnel->begun.tv_nsec;
-        at.it_value.tv_sec = tunnel->begun.tv_sec + (time_t)(ns / 1000000000);
-        at.it_value.tv_nsec = (long)(ns % 1000000000);
-    }
-    timerfd_settime(tunnel->timer, TFD_TIMER_ABSTIME, &at, NULL);
+    tunnel->signals = signalfd(-1, &signals, SFD_CLOEXEC | SFD_NONBLOCK);
+    tunnel->timer = timerfd_create(CLOCK_MONOTONIC, TFD_CLOEXEC);
+    struct way *ways = tunnel->ways;
+    ways[0].from = ways[1].to = open_tun(ways[0].from_name);
+    ways[0].to = ways[1].from = ways[0].from < 0 ? -1 : open_tun(ways[0].to_name);
+    return tunnel->signals >= 0 && tunnel->timer >= 0 && ways[0].to >= 0;
 }
 
 /* Whether the program goes on. */
@@ -115,75 +251,50 @@ static bool take_signal(struct tunnel *tunnel) {
         puts("");
         fflush(stdout);
     } else if (signal.ssi_signo == SIGHUP) {
-        play_lines(tunnel);
-    } else {
-        return false;
+        play_file(tunnel);
     }
+    return signal.ssi_signo == SIGUSR1 || signal.ssi_signo == SIGHUP;
+}
+
+/* Moves frames until a signal stops it; false where it cannot go on. */
+static bool run(struct tunnel *tunnel) {
+    struct way *ways = tunnel->ways;
+    struct pollfd watched[] = { { ways[0].from, POLLIN, 0 }, { ways[1].from, POLLIN, 0 },
+                                { tunnel->timer, POLLIN, 0 }, { tunnel->signals, POLLIN, 0 } };
+    do {
+        uint64_t next = UINT64_MAX;
+        for (int i = 0; i < 2; i++) {
+            if ((watched[i].revents != 0 && !way_read(&ways[i])) || !way_write(&ways[i], &next)) {
+                return false;
+            }
+        }
+        next = next == UINT64_MAX ? 0 : next; /* which disarms the timer: nothing waits */
+        struct itimerspec at = { .it_value = { (time_t)(next / 1000000000), (long)(next % 1000000000) } };
+        timerfd_settime(tunnel->timer, TFD_TIMER_ABSTIME, &at, NULL);
+        if (poll(watched, sizeof watched / sizeof watched[0], -1) < 0 && errno != EINTR) {
+            perror("tunnel: poll");
+            return false;
+        }
+    } while (watched[3].revents == 0 || take_signal(tunnel));
     return true;
 }
 
-/* One direction reads where there is something, and writes what may go; the status of the program where it cannot go on. */
-static int turn(struct tunnel *tunnel, int i, bool is_readable, uint64_t *next) {
-    struct way *way = &tunnel->ways[i];
-    if (is_readable && !way_read(way, now_of(tunnel))) {
-        fprintf(stderr, "tunnel: the TUN device %s is gone\n", tunnel->devices[i]);
-        return 1;
-    }
-    if (!way_write(way, now_of(tunnel), next)) {
-        fprintf(stderr, "tunnel: the TUN device %s is gone\n", tunnel->devices[1 - i]);
-        return 1;
-    }
-    return 0;
-}
-
-static int run(struct tunnel *tunnel) {
-    struct pollfd watched[WATCHED] = {
-        [FROM_FIRST] = { tunnel->ways[0].from, POLLIN, 0 },
-        [FROM_SECOND] = { tunnel->ways[1].from, POLLIN, 0 },
-        [TIMER] = { tunnel->timer, POLLIN, 0 },
-        [SIGNALS] = { tunnel->signals, POLLIN, 0 },
-    };
-    for (;;) {
-        uint64_t next[2], expirations;
-        for (int i = 0; i < 2; i++) {
-            int status = turn(tunnel, i, watched[i].revents != 0, &next[i]);
-            if (status != 0) {
-                return status;
-            }
-        }
-        arm(tunnel, next[0] < next[1] ? next[0] : next[1]);
-        if (poll(watched, WATCHED, -1) < 0 && errno != EINTR) {
-            return 1;
-        }
-        if (watched[TIMER].revents != 0 && read(tunnel->timer, &expirations, sizeof expirations) < 0) {
-            continue;
-        }
-        if (watched[SIGNALS].revents != 0 && !take_signal(tunnel)) {
-            return 0;
-        }
-    }
-}
-
 int main(int argc, char **argv) {
+    static struct tunnel tunnel; /* its buffers are too large for a stack */
     if (argc != 4) {
         fprintf(stderr, "usage: tunnel DEVICE DEVICE FILE\n");
         return 2;
     }
-    struct tunnel tunnel = { .devices = { argv[1], argv[2] }, .file = argv[3] };
-    char names[2][64];
-    snprintf(names[0], sizeof names[0], "%.20s to %.20s", argv[1], argv[2]);
-    snprintf(names[1], sizeof names[1], "%.20s to %.20s", argv[2], argv[1]);
-    clock_gettime(CLOCK_MONOTONIC, &tunnel.begun);
-    int status = 1;
-    if (!way_open(&tunnel.ways[0], names[0]) || !way_open(&tunnel.ways[1], names[1])) {
+    tunnel.file = argv[3];
+    bool is_right = false;
+    if (!way_open(&tunnel.ways[0], argv[1], argv[2]) || !way_open(&tunnel.ways[1], argv[2], argv[1])) {
         fprintf(stderr, "tunnel: memory is refused\n");
-    } else if (play_lines(&tunnel) && open_all(&tunnel)) {
-        status = run(&tunnel);
-        bool all = way_totals(&tunnel.ways[0]);
-        all = way_totals(&tunnel.ways[1]) && all;
-        status = status == 0 && !all ? 1 : status;
+    } else if (play_file(&tunnel) && open_all(&tunnel)) {
+        is_right = run(&tunnel);
+        is_right = way_totals(&tunnel.ways[0]) && is_right;
+        is_right = way_totals(&tunnel.ways[1]) && is_right;
     }
-    way_close(&tunnel.ways[0]);
-    way_close(&tunnel.ways[1]);
-    return status;
+    qtree_close(&tunnel.ways[0].device);
+    qtree_close(&tunnel.ways[1].device);
+    return is_right ? 0 : 1;
 }
