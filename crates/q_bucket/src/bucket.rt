@@ -1,4 +1,4 @@
-ghost use Rattle.std.specs.Prelude.{◌≡◌, ◌≤◌, ◌<◌, ◌^◌, ◌*◌, ◌-◌, ℕ, true, false, IfSome, IfNone};
+ghost use Rattle.std.specs.Prelude.{◌≡◌, ◌≤◌, ◌<◌, ◌^◌, ◌*◌, ◌+◌, ◌-◌, ℕ, min, true, false, IfSome, IfNone};
 ghost use Rattle.std.specs.Bool.{OnFalse};
 ghost use Rattle.q_bucket.specs.Level.{units_in_byte};
 
@@ -8,9 +8,6 @@ use std::marker::Model;
 /// How many units of level make a byte. One bit a second brings one unit in each nanosecond.
 const UNITS_IN_BYTE: u64 = 8_000_000_000;
 
-/// Up to this burst, in bytes, twice the level of a full bucket fits 64 bits, in which the level is then found.
-const NARROW_BURST: u32 = 1 << 30;
-
 /// A token bucket: it fills at a rate up to a burst, and a packet goes where the bucket holds its length.
 ///
 /// Rates are 1 to 10^12 bits a second and bursts 1 to 2^32 - 1 bytes. The moments that a bucket is given never fall: each is
@@ -18,29 +15,37 @@ const NARROW_BURST: u32 = 1 << 30;
 #[derive(Debug, Drop)]
 pub struct Bucket {
     rate: u64,
-    burst: u32,
-    /// In units, at the moment `last`.
-    level: u128,
     last: Moment,
-    /// What the rate brings from moment 0 to `last`, in units. It is kept, since a product would hold up the next spend.
-    brought: u128,
+    /// What the rate will have brought from moment 0 on when the bucket is full again, in units. With the level in this form a spend
+    /// keeps one sum, and takes one product by a moment.
+    full_at: u128,
+    /// The level of a full bucket, in units. It is kept, since a product would hold up the next spend.
+    capacity: u128,
+    burst: u32,
 }
 
 impl Model for Bucket {
-    ghost use Rattle.std.specs.Prelude.{◌≡◌, ◌*◌};
-    ghost use Rattle.q_bucket.specs.Level.{TokenBucket, IsInRange};
+    ghost use Rattle.std.specs.Prelude.{◌≡◌, ◌≤◌, ◌+◌, ◌-◌, ◌*◌};
+    ghost use Rattle.q_bucket.specs.Level.{TokenBucket, IsInRange, units_in_byte};
 
     ghost Value = { TokenBucket };
 
-    ghost view = { λ b. record { rate = b.rate; burst = b.burst; level = b.level; last = b.last } };
+    ghost view = { λ b. record {
+      rate = b.rate;
+      burst = b.burst;
+      level = b.capacity - (b.full_at - b.rate * b.last);
+      last = b.last;
+    } };
 
     ghost invariant = { λ b. IsInRange
-        (record { rate = b.rate; burst = b.burst; level = b.level; last = b.last })
-        × (b.brought ≡ b.rate * b.last) };
+        (record { rate = b.rate; burst = b.burst; level = b.capacity - (b.full_at - b.rate * b.last); last = b.last })
+        × (b.capacity ≡ b.burst * units_in_byte)
+        × (b.rate * b.last ≤ b.full_at)
+        × (b.full_at ≤ b.rate * b.last + b.capacity) };
 }
 
 impl Bucket {
-    ghost use Rattle.q_bucket.specs.Level.{full, level_at, allows, after_spend, after_change, IsInRange};
+    ghost use Rattle.q_bucket.specs.Level.{full, capacity, level_at, allows, after_spend, after_change, IsInRange};
 
     /// A full bucket of `rate_bits` bits a second, 1 to 10^12, and `burst` bytes, at least 1.
     pub fn new(rate_bits: u64, burst: u32, now: Moment) -> Bucket
@@ -49,12 +54,24 @@ impl Bucket {
         requires burst_from { 1 ≤ burst }
         ensures { result ≡ full rate_bits burst now }
     {
+        Bucket::at_level(rate_bits, burst, capacity_of(burst), now)
+    }
+
+    // A bucket with this level at `now`.
+    fn at_level(rate: u64, burst: u32, level: u128, now: Moment) -> Bucket
+        requires rate_from { 1 ≤ rate }
+        requires rate_to { rate ≤ 10 ^ 12 }
+        requires burst_from { 1 ≤ burst }
+        requires within_burst { level ≤ burst * units_in_byte }
+        ensures { result ≡ record { rate = rate; burst = burst; level = level; last = now } }
+    {
+        let capacity = capacity_of(burst);
         Bucket {
-            rate: rate_bits,
-            burst,
-            level: capacity_of(burst),
+            rate,
             last: now,
-            brought: brought_at(rate_bits, now),
+            full_at: brought_at(rate, now) + (capacity - level),
+            capacity,
+            burst,
         }
     }
 
@@ -64,21 +81,16 @@ impl Bucket {
         requires order { self.now.last ≤ now }
         ensures { result ≡ level_at self.now now }
     {
-        let gained = self.gained_by(now);
-        if self.burst > NARROW_BURST {
-            return capacity_of(self.burst).min(self.level + gained);
-        }
-        let capacity = u64::from(self.burst) * UNITS_IN_BYTE;
-        let gained = gained.min(u128::from(capacity)) as u64;
-        u128::from(capacity.min(self.level as u64 + gained))
+        self.capacity - self.missing_at(brought_at(self.rate, now))
     }
 
-    /// What the rate has brought since `last`.
-    fn gained_by(&self, now: Moment) -> u128
-        requires order { self.now.last ≤ now }
-        ensures { result ≡ self.now.rate * (now - self.now.last) }
+    // What a full bucket has more, at the moment up to which the rate has brought so much.
+    fn missing_at(&self, brought: u128) -> u128
+        requires order { self.now.rate * self.now.last ≤ brought }
+        ensures level { self.now.burst * units_in_byte - result ≡ min (capacity self.now) (self.now.level + (brought - self.now.rate * self.now.last)) }
+        ensures within_burst { result ≤ self.now.burst * units_in_byte }
     {
-        brought_at(self.rate, now) - self.brought
+        self.full_at.saturating_sub(brought)
     }
 
     /// May a packet of `len` bytes go at `now`? If so, its length is taken and `now` is the new `last`; if not, the bucket stays
@@ -89,14 +101,13 @@ impl Bucket {
         ensures after { self.new ≡ after_spend self.old now len }
         ensures kept { OnFalse result (self.new ≡ self.old) }
     {
-        let level = self.level_at(now);
-        let cost = u128::from(u64::from(len) * UNITS_IN_BYTE);
-        if level < cost {
+        let brought = brought_at(self.rate, now);
+        let missing = self.missing_at(brought) + u128::from(u64::from(len) * UNITS_IN_BYTE);
+        if missing > self.capacity {
             return false;
         }
-        self.level = level - cost;
+        self.full_at = brought + missing;
         self.last = now;
-        self.brought = brought_at(self.rate, now);
         true
     }
 
@@ -115,10 +126,11 @@ impl Bucket {
             return None;
         }
         let cost = u64::from(len) * UNITS_IN_BYTE;
-        if u128::from(cost) <= self.level {
+        let level = self.level_at(self.last);
+        if u128::from(cost) <= level {
             return Some(self.last);
         }
-        let missing = cost - self.level as u64;
+        let missing = cost - level as u64;
         let wait = nanoseconds_for(missing, self.rate);
         Moment::new(self.last.ns() + wait)
     }
@@ -146,13 +158,8 @@ impl Bucket {
         ensures { result ≡ after_change self.now rate burst now }
     {
         let filled = self.level_at(now);
-        Bucket {
-            rate,
-            burst,
-            level: capacity_of(burst).min(filled),
-            last: now,
-            brought: brought_at(rate, now),
-        }
+        let level = capacity_of(burst).min(filled);
+        Bucket::at_level(rate, burst, level, now)
     }
 
     /// The rate, in bits a second.

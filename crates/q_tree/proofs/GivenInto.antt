@@ -1,10 +1,13 @@
 -- A packet that a queue gave into the caller's place: what the call answered is what was queued.
 use Rattle.std.proofs.Common.{◌≡◌, ℕ, zero, suc, ◌<◌, List, [], ◌∷◌, Option, Some, None, option_map, option_to_list, length, refl, sym, ap, ap₂, ◌∙◌, arith}
-use Rattle.std.specs.Prelude.{Bool, false, slice_get}
+use Rattle.std.specs.Prelude.{Bool, false, not, ◌==◌, slice_get}
+use Rattle.std.proofs.lemmas.Bool.{eqb-true, not-false}
 use Rattle.std.specs.Option.{option_map_or}
 use Rattle.q_packet.specs.Descriptor.{Descriptor}
 use Rattle.q_packet.specs.declared.stamped.Stamped.{Stamped}
 use Rattle.q_codel.specs.declared.taken.Taken.{Taken}
+use Rattle.q_model.specs.Beneath.{packets_of, totals_in}
+use Rattle.q_model.specs.Tally.{no_totals}
 use Rattle.q_tree.proofs.TakeCounts.{packet_of}
 
 -- a fifo that gave none is empty
@@ -33,3 +36,8 @@ sent-none (Some t) none = absurd (omega (arith, none))
 pub none-there : (packets len : ℕ) → len ≡ 0 → (0 < packets → 0 < len) → packets ≡ 0
 none-there zero len none has = refl
 none-there (suc n) len none has = absurd (omega (arith, none, has (omega arith)))
+
+-- and one that dropped no packet counts none
+pub none-dropped : (xs : List Stamped) → not (length xs == 0) ≡ false → no_totals ≡ totals_in (packets_of xs)
+none-dropped [] none = refl
+none-dropped (s ∷ xs) none = absurd (omega (arith, eqb-true (length (s ∷ xs)) 0 (not-false (length (s ∷ xs) == 0) none)))

@@ -11,7 +11,7 @@ use Rattle.q_model.specs.Node.{shape}
 use Rattle.q_model.specs.Numbers.{IsWithin}
 use Rattle.q_model.specs.Put.{put_along}
 use Rattle.q_model.specs.Route.{Route, route, way, device_route}
-use Rattle.q_model.specs.Tally.{Note, with_packet}
+use Rattle.q_model.specs.Tally.{Note, with_packet, no_totals}
 use Rattle.q_model.specs.TreeState.{loss_at_end, loss_on, put_on}
 use Rattle.q_model.specs.Work.{booked}
 use Rattle.q_invariants.proofs.Kept.{IsLawfulRoot}
@@ -25,6 +25,10 @@ use Rattle.q_tree.specs.Seen.{discipline_seen, children_seen, places_seen}
 use Rattle.q_tree.specs.TreeSeen.{IsArrived}
 use Rattle.q_tree.specs.declared.node.Discipline.{Discipline}
 use Rattle.q_tree.specs.declared.outcome.Outcome.{Outcome}
+
+-- nothing was lost for a packet
+abbrev pub nothing_lost : Outcome
+nothing_lost = record { loss = None; refused = no_totals; dropped = no_totals }
 
 -- a packet can arrive at the node: the tree is lawful at `now`, where no packet is longer than some mtu, and the counters have room
 pub record CanCome (now : ℕ) (p : Descriptor) (n : spec.Node Kept) : Type 0 where

@@ -13,6 +13,7 @@ pub mod IndexSeen
 pub mod Kept
 pub mod Laws
 pub mod Making
+pub mod Matching
 pub mod NodeCode
 pub mod NodeFalls
 pub mod Places

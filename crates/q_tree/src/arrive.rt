@@ -13,7 +13,7 @@ ghost use Rattle.q_model.specs.Tally.{no_totals, totals};
 ghost use Rattle.q_model.specs.TreeState.{put, put_on, own_loss, noted_by_put};
 ghost use Rattle.q_packet.specs.Descriptor.{Descriptor};
 ghost use Rattle.q_tree.specs.Arrivals.{CanCount, HasPlace};
-ghost use Rattle.q_tree.specs.ArriveSteps.{CanCome, CanComeIn, HasCome, HasComeBelow, HasComeIn, HasPlaceOn, IsPlaced, IsPlacedIn, rises_along, way_in};
+ghost use Rattle.q_tree.specs.ArriveSteps.{CanCome, CanComeIn, HasCome, HasComeBelow, HasComeIn, HasPlaceOn, IsPlaced, IsPlacedIn, nothing_lost, rises_along, way_in};
 ghost use Rattle.q_tree.specs.AskSteps.{IsToldOf, packets_within};
 ghost use Rattle.q_tree.specs.Places.{places_at};
 ghost use Rattle.q_tree.specs.PutSteps.{CanFlow};
@@ -21,11 +21,11 @@ ghost use Rattle.q_tree.specs.RouteSeen.{RouteSeen, route_seen};
 ghost use Rattle.q_tree.specs.TreeSeen.{CanArrive, numbers, tree_numbers};
 ghost use Rattle.q_tree.specs.declared.node.Discipline.TheVariants as code;
 
-use crate::booking::{NOTHING, book_arrival};
+use crate::arrived::{Arrived, NOTHING_LOST, book_arrival, refuse};
 use crate::drr::settle;
 use crate::fq_codel::put_in_flow;
 use crate::node::{Discipline, Node, band, class_place};
-use crate::outcome::{Outcome, refuse};
+use crate::outcome::Outcome;
 use crate::tree::{Tree, fate_of};
 use q_codel::{Fifo, Sink};
 use q_fqcodel::FqCodel;
@@ -72,10 +72,11 @@ impl Tree {
         if arrived.packets == u64::MAX || arrived.bytes > u64::MAX - u64::from(packet.len) {
             return Err(AllocError);
         }
-        let outcome = arrive_below(&mut self.root, self.mtu, packet, now, sink)?;
-        book_arrival(&mut self.top, packet, &outcome);
+        let mut lost = NOTHING_LOST;
+        let outcome = arrive_below(&mut self.root, self.mtu, packet, now, &mut lost, sink)?;
+        book_arrival(&mut self.top, packet, &outcome, &lost);
         self.clock = now;
-        Ok(fate_of(outcome.loss))
+        Ok(fate_of(outcome.loss()))
     }
 }
 
@@ -85,21 +86,24 @@ fn arrive_below<S: Sink>(
     mtu: u16,
     packet: &Packet,
     now: Moment,
+    lost: &mut Outcome,
     sink: &mut S,
-) -> Result<Outcome, AllocError>
+) -> Result<Arrived, AllocError>
     requires ready { packet.now.len ≤ mtu → CanCome now packet.now root.old }
     requires sink { length (beneath root.old) + 1 ≤ S.room sink.old }
+    requires clean { lost.old ≡ nothing_lost }
     ensures after { IfOk result (λ outcome. HasComeBelow now packet.now (device_route packet.now mtu root.old) root.old root.new outcome) }
     ensures told { OnOk result (IsToldOf (put_on now packet.now (device_route packet.now mtu root.old) (shape root.old)).rises (S.losses sink.old) (S.losses sink.new) (S.room sink.old) (S.room sink.new)) }
     ensures same { OnErr result (IsPlaced root.old root.new) }
     ensures not_lost { OnErr result ((S.losses sink.new ≡ S.losses sink.old) × (S.room sink.new ≡ S.room sink.old)) }
     ensures succeeds { (packet.now.len ≤ mtu → (route packet.now root.old).refusal ≡ None → HasPlace (route packet.now root.old).path root.old) → IsOk result }
+    ensures lost_is { IfOk result (λ outcome. lost.new ≡ outcome) }
     ensures kept { S.keeps sink.old sink.new }
 {
     if packet.len > mtu {
-        return Ok(refuse(*packet, Cause::TooLong, sink));
+        return Ok(refuse(packet, Cause::TooLong, lost, sink));
     }
-    root.arrive(packet, now, sink)
+    root.arrive(packet, now, lost, sink)
 }
 
 impl Node {
@@ -110,19 +114,24 @@ impl Node {
         &mut self,
         packet: &Packet,
         now: Moment,
+        lost: &mut Outcome,
         sink: &mut S,
-    ) -> Result<Outcome, AllocError>
+    ) -> Result<Arrived, AllocError>
         requires ready { CanCome now packet.now self.old }
         requires sink { length (beneath self.old) + 1 ≤ S.room sink.old }
+        requires clean { lost.old ≡ nothing_lost }
         ensures after { IfOk result (λ outcome. HasCome now packet.now self.old self.new outcome) }
         ensures told { OnOk result (IsToldOf (rises_along now packet.now self.old) (S.losses sink.old) (S.losses sink.new) (S.room sink.old) (S.room sink.new)) }
         ensures same { OnErr result (IsPlaced self.old self.new) }
         ensures not_lost { OnErr result ((S.losses sink.new ≡ S.losses sink.old) × (S.room sink.new ≡ S.room sink.old)) }
         ensures succeeds { ((route packet.now self.old).refusal ≡ None → HasPlace (route packet.now self.old).path self.old) → IsOk result }
+        ensures lost_is { IfOk result (λ outcome. lost.new ≡ outcome) }
         ensures kept { S.keeps sink.old sink.new }
     {
-        let outcome = self.discipline.arrive(&self.filters, packet, now, sink)?;
-        book_arrival(&mut self.row, packet, &outcome);
+        let outcome = self
+            .discipline
+            .arrive(&self.filters, packet, now, lost, sink)?;
+        book_arrival(&mut self.row, packet, &outcome, lost);
         Ok(outcome)
     }
 }
@@ -135,43 +144,46 @@ impl Discipline {
         filters: &[Filter],
         packet: &Packet,
         now: Moment,
+        lost: &mut Outcome,
         sink: &mut S,
-    ) -> Result<Outcome, AllocError>
+    ) -> Result<Arrived, AllocError>
         requires ready { CanComeIn now packet.now self.old }
         requires sink { length (packets_within self.old) + 1 ≤ S.room sink.old }
+        requires clean { lost.old ≡ nothing_lost }
         ensures after { IfOk result (λ outcome. HasComeIn now packet.now filters.now self.old self.new outcome (S.losses sink.old) (S.losses sink.new) (S.room sink.old) (S.room sink.new)) }
         ensures same { OnErr result (IsPlacedIn self.old self.new) }
         ensures not_lost { OnErr result ((S.losses sink.new ≡ S.losses sink.old) × (S.room sink.new ≡ S.room sink.old)) }
         ensures succeeds { ((way_in packet.now filters.now self.old).refusal ≡ None → HasPlaceOn (way_in packet.now filters.now self.old).path self.old) → IsOk result }
+        ensures lost_is { IfOk result (λ outcome. lost.new ≡ outcome) }
         ensures kept { S.keeps sink.old sink.new }
     {
         match self {
-            Discipline::Fifo(fifo) => return arrive_in_fifo(fifo, packet, now, sink),
-            Discipline::FqCodel(queue) => return arrive_in_flows(queue, packet, now, sink),
+            Discipline::Fifo(fifo) => return arrive_in_fifo(fifo, packet, now, lost, sink),
+            Discipline::FqCodel(queue) => return arrive_in_flows(queue, packet, now, lost, sink),
             Discipline::Prio { priomap, .. } => {
                 let place = band(filters, priomap, packet);
                 let Discipline::Prio { bands, .. } = self else {
                     unreachable!()
                 };
                 if place >= bands.len() {
-                    return Ok(refuse(*packet, Cause::NoClass, sink));
+                    return Ok(refuse(packet, Cause::NoClass, lost, sink));
                 }
-                return bands[place].arrive(packet, now, sink);
+                return bands[place].arrive(packet, now, lost, sink);
             }
             Discipline::Tbf { bucket, child, .. } => {
                 if u32::from(packet.len) > bucket.burst() {
-                    return Ok(refuse(*packet, Cause::TooLong, sink));
+                    return Ok(refuse(packet, Cause::TooLong, lost, sink));
                 }
-                return child.arrive(packet, now, sink);
+                return child.arrive(packet, now, lost, sink);
             }
             Discipline::Drr { active, classes } => {
                 let Some(place) = class_place(active, filters, packet) else {
-                    return Ok(refuse(*packet, Cause::NoClass, sink));
+                    return Ok(refuse(packet, Cause::NoClass, lost, sink));
                 };
                 if place >= classes.len() {
-                    return Ok(refuse(*packet, Cause::NoClass, sink));
+                    return Ok(refuse(packet, Cause::NoClass, lost, sink));
                 }
-                let outcome = classes[place].arrive(packet, now, sink)?;
+                let outcome = classes[place].arrive(packet, now, lost, sink)?;
                 settle(active, place, classes[place].is_empty());
                 return Ok(outcome);
             }
@@ -184,25 +196,24 @@ fn arrive_in_fifo<S: Sink>(
     fifo: &mut Fifo,
     packet: &Packet,
     now: Moment,
+    lost: &mut Outcome,
     sink: &mut S,
-) -> Result<Outcome, AllocError>
+) -> Result<Arrived, AllocError>
     requires sink { 1 ≤ S.room sink.old }
+    requires clean { lost.old ≡ nothing_lost }
     ensures after { (filters : List Filter) → IfOk result (λ outcome. HasComeIn now packet.now filters (code.Fifo fifo.old) (code.Fifo fifo.new) outcome (S.losses sink.old) (S.losses sink.new) (S.room sink.old) (S.room sink.new)) }
     ensures same { OnErr result (IsPlacedIn (code.Fifo fifo.old) (code.Fifo fifo.new)) }
     ensures not_lost { OnErr result ((S.losses sink.new ≡ S.losses sink.old) × (S.room sink.new ≡ S.room sink.old)) }
     ensures succeeds { (takes fifo.old.limit fifo.old.packets packet.now.len ≡ true → length fifo.old.packets < fifo.old.places) → IsOk result }
+    ensures lost_is { IfOk result (λ outcome. lost.new ≡ outcome) }
     ensures kept { S.keeps sink.old sink.new }
 {
     if !fifo.fits(packet.len) {
-        return Ok(refuse(*packet, Cause::OverLimit, sink));
+        return Ok(refuse(packet, Cause::OverLimit, lost, sink));
     }
     fifo.reserve()?;
     fifo.put_from(packet, now);
-    Ok(Outcome {
-        loss: None,
-        refused: NOTHING,
-        dropped: NOTHING,
-    })
+    Ok(Arrived::kept())
 }
 
 // The packet is queued in its flow, and what the fattest flow loses is counted.
@@ -210,10 +221,12 @@ fn arrive_in_flows<S: Sink>(
     queue: &mut FqCodel,
     packet: &Packet,
     now: Moment,
+    lost: &mut Outcome,
     sink: &mut S,
-) -> Result<Outcome, AllocError>
+) -> Result<Arrived, AllocError>
     requires flow { CanFlow packet.now queue.old.state }
     requires sink { packets_of queue.old.state.flows + 1 ≤ S.room sink.old }
+    requires clean { lost.old ≡ nothing_lost }
     ensures after { OnOk result (queue.new.state ≡ after_put queue.old.state packet.now now) }
     ensures place { OnOk result (packets_of queue.old.state.flows < queue.new.places) }
     ensures loss { IfOk result (λ outcome. outcome.loss ≡ (if is_lost_itself queue.old.state packet.now now then Some Cause.FatFlow else None)) }
@@ -225,8 +238,14 @@ fn arrive_in_flows<S: Sink>(
     ensures not_lost { OnErr result ((S.losses sink.new ≡ S.losses sink.old) × (S.room sink.new ≡ S.room sink.old)) }
     ensures grows { queue.old.places ≤ queue.new.places }
     ensures succeeds { packets_of queue.old.state.flows < queue.old.places → IsOk result }
+    ensures lost_is { IfOk result (λ outcome. lost.new ≡ outcome) }
     ensures kept { S.keeps sink.old sink.new }
 {
     queue.reserve()?;
-    Ok(put_in_flow(queue, packet, now, sink))
+    if queue.fits() {
+        let _ = queue.put_from(packet, now, sink);
+        return Ok(Arrived::kept());
+    }
+    *lost = put_in_flow(queue, packet, now, sink);
+    Ok(Arrived::with(lost))
 }

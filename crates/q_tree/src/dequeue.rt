@@ -142,6 +142,9 @@ pub(crate) fn dequeue_flow<S: Sink>(
         // CoDel drops none of an empty fq_codel.
         return Shown::at_hand(&None);
     }
+    if !sent.dropped {
+        return Shown::sending(out, NOTHING, marking(sent.marked, out));
+    }
     let (packets_after, bytes_after) = queue.queued();
     let gone = Totals {
         packets: packets - packets_after,

@@ -12,6 +12,7 @@
 #![tactic(auto)]
 
 mod arrive;
+mod arrived;
 mod at_hand;
 mod booking;
 mod class_commands;

@@ -1,5 +1,6 @@
 ghost use Rattle.std.specs.Prelude.{◌≡◌};
-ghost use Rattle.q_model.specs.Filters.{has_prefix, is_of, takes_key, matches, named_class};
+ghost use Rattle.q_model.specs.Filters.{has_prefix, is_of, matches, named_class};
+ghost use Rattle.q_tree.specs.Matching.{takes_ports, takes_addresses};
 
 use q_model::{Filter, FilterKeys, IpPrefix, IpVersion, Minor, Protocol};
 use q_packet::{FlowKey, Packet};
@@ -29,26 +30,50 @@ fn is_of(protocol: Protocol, key: &FlowKey) -> bool
     }
 }
 
-/// Whether the packet agrees with each key that is given.
-fn takes_key(keys: &FilterKeys, key: &FlowKey) -> bool
-    ensures { result ≡ takes_key keys.now key.now }
+/// Whether the packet agrees with each port that is given.
+#[inline(always)]
+fn takes_ports(keys: &FilterKeys, key: &FlowKey) -> bool
+    ensures { result ≡ takes_ports keys.now key.now }
 {
-    keys.ip_proto.map_or(true, |proto| proto == key.proto)
-        && keys
-            .src_ip
-            .map_or(true, |prefix| has_prefix(&prefix, key, key.src))
-        && keys
-            .dst_ip
-            .map_or(true, |prefix| has_prefix(&prefix, key, key.dst))
-        && keys.src_port.map_or(true, |port| port == key.sport)
-        && keys.dst_port.map_or(true, |port| port == key.dport)
+    if !keys.dst_port.map_or(true, |port| port == key.dport) {
+        return false;
+    }
+    keys.src_port.map_or(true, |port| port == key.sport)
 }
 
-/// Whether a filter takes a packet (tc-flower(8)).
+/// Whether the packet agrees with each address that is given.
+#[inline(always)]
+fn takes_addresses(keys: &FilterKeys, key: &FlowKey) -> bool
+    ensures { result ≡ takes_addresses keys.now key.now }
+{
+    if !keys
+        .src_ip
+        .map_or(true, |prefix| has_prefix(&prefix, key, key.src))
+    {
+        return false;
+    }
+    keys.dst_ip
+        .map_or(true, |prefix| has_prefix(&prefix, key, key.dst))
+}
+
+/// Whether a filter takes a packet (tc-flower(8)): whether the packet is of its protocol, and agrees with each key that is given.
+///
+/// What one comparison tells is asked first, since most filters that do not take a packet differ there: ports before addresses.
 pub(crate) fn matches(packet: &Packet, filter: &Filter) -> bool
     ensures { result ≡ matches packet.now filter.now }
 {
-    is_of(filter.protocol, &packet.key) && takes_key(&filter.keys, &packet.key)
+    let keys = &filter.keys;
+    let key = &packet.key;
+    if !takes_ports(keys, key) {
+        return false;
+    }
+    if !is_of(filter.protocol, key) {
+        return false;
+    }
+    if !keys.ip_proto.map_or(true, |proto| proto == key.proto) {
+        return false;
+    }
+    takes_addresses(keys, key)
 }
 
 /// The class that the first matching filter names. Filters stand in the order in which they are asked.

@@ -16,20 +16,25 @@ use std::snapshot::Snapshot;
 pub(crate) struct Shown {
     len: Option<u16>,
     packet: Snapshot<Option<Packet>>,
+    /// Nothing was dropped, and nothing was marked. It is asked at each node, and mostly so.
+    is_quiet: bool,
     dropped: Totals,
     marked: Totals,
 }
 
 impl Model for Shown {
-    ghost use Rattle.std.specs.Prelude.{◌≡◌, option_map};
+    ghost use Rattle.std.specs.Prelude.{◌≡◌, true, option_map};
     ghost use Rattle.q_packet.specs.Descriptor.{Descriptor};
+    ghost use Rattle.q_model.specs.Tally.{no_totals};
     ghost use Rattle.q_tree.specs.Shown as specs;
 
     ghost Value = { specs.Shown };
 
     ghost view = { λ s. record { packet = s.packet.value; dropped = s.dropped; marked = s.marked } };
 
-    ghost invariant = { λ s. s.len ≡ option_map (λ (p : Descriptor). p.len) s.packet.value };
+    ghost invariant = { λ s.
+        (s.len ≡ option_map (λ (p : Descriptor). p.len) s.packet.value)
+        × (s.is_quiet ≡ true → (s.dropped ≡ no_totals) × (s.marked ≡ no_totals)) };
 }
 
 impl Shown {
@@ -41,6 +46,7 @@ impl Shown {
         Shown {
             len: len_of(packet),
             packet: Snapshot::of(packet),
+            is_quiet: is_nothing(&dropped) && is_nothing(&marked),
             dropped,
             marked,
         }
@@ -54,6 +60,7 @@ impl Shown {
         Shown {
             len: Some(packet.len),
             packet: Snapshot::of(&Some(*packet)),
+            is_quiet: is_nothing(&dropped) && is_nothing(&marked),
             dropped,
             marked,
         }
@@ -76,9 +83,17 @@ impl Shown {
         requires marked_bytes { self.marked.bytes + next.marked.bytes < 2 ^ 64 }
         ensures { result ≡ record { packet = next.packet; dropped = plus self.dropped next.dropped; marked = plus self.marked next.marked } }
     {
+        if next.is_quiet {
+            return Shown {
+                len: next.len,
+                packet: next.packet,
+                ..self
+            };
+        }
         Shown {
             len: next.len,
             packet: next.packet,
+            is_quiet: false,
             dropped: sum(self.dropped, next.dropped),
             marked: sum(self.marked, next.marked),
         }
@@ -89,7 +104,11 @@ impl Shown {
     pub(crate) fn showing(self, packet: &Option<Packet>) -> Shown
         ensures { result ≡ record self { packet = packet.now } }
     {
-        Shown::new(packet, self.dropped, self.marked)
+        Shown {
+            len: len_of(packet),
+            packet: Snapshot::of(packet),
+            ..self
+        }
     }
 
     /// The packet's length in bytes; `None` where none is shown.
@@ -114,7 +133,7 @@ impl Shown {
     pub(crate) fn is_quiet(&self) -> bool
         ensures { result ≡ true → (self.now.dropped ≡ no_totals) × (self.now.marked ≡ no_totals) }
     {
-        is_nothing(&self.dropped) && is_nothing(&self.marked)
+        self.is_quiet
     }
 
     /// What CoDel dropped.

@@ -6,12 +6,12 @@ use Rattle.q_tree.proofs.arrive.arrive_below.Goals as goal
 pub returns-then-packet-mtu-clause-after : goal.returns-then-packet-mtu-clause-after
 returns-then-packet-mtu-clause-after g c =
     let long : c.args.mtu < c.args.packet.now.len = omega (arith, c.if-packet-mtu.true, ap (λ (q : Descriptor). q.len) c.packet.view_is) in
-    above-root c.args.now c.args.packet.now c.args.mtu c.args.root.now c.args.root.now c.refuse.result long refl _ c.packet.view_is c.refuse.ensures.outcome
+    above-root c.args.now c.args.packet.now c.args.mtu c.args.root.now c.args.root.now c.refuse.result long refl _ refl c.refuse.ensures.outcome
 
 pub returns-then-packet-mtu-clause-told : goal.returns-then-packet-mtu-clause-told
 returns-then-packet-mtu-clause-told g c =
     let long : c.args.mtu < c.args.packet.now.len = omega (arith, c.if-packet-mtu.true, ap (λ (q : Descriptor). q.len) c.packet.view_is) in
-    above-told c.args.now c.args.packet.now c.args.mtu c.args.root.now (g.S.Sink.losses c.args.sink.now) (g.S.Sink.losses c.refuse.new.sink) (g.S.Sink.room c.args.sink.now) (g.S.Sink.room c.refuse.new.sink) long _ c.packet.view_is c.refuse.ensures.lost c.refuse.ensures.room
+    above-told c.args.now c.args.packet.now c.args.mtu c.args.root.now (g.S.Sink.losses c.args.sink.now) (g.S.Sink.losses c.refuse.new.sink) (g.S.Sink.room c.args.sink.now) (g.S.Sink.room c.refuse.new.sink) long _ refl c.refuse.ensures.lost c.refuse.ensures.room
 
 pub arrive-requires-clause-ready : goal.arrive-requires-clause-ready
 arrive-requires-clause-ready g c = c.requires.ready (omega (arith, c.if-packet-mtu.false, ap (λ (q : Descriptor). q.len) c.packet.view_is))

@@ -32,8 +32,8 @@ use Rattle.q_tree.proofs.Puts.{child-packets, is-empty-put}
 use Rattle.q_tree.proofs.RouteLemmas.{child-size, children-size}
 use Rattle.q_tree.proofs.node.+arrive.Goals as goal
 
-pub Discipline::arrive-arrive_in_fifo-requires : goal.Discipline::arrive-arrive_in_fifo-requires
-Discipline::arrive-arrive_in_fifo-requires g t c = omega (arith, c.requires.sink)
+pub Discipline::arrive-arrive_in_fifo-requires-clause-sink : goal.Discipline::arrive-arrive_in_fifo-requires-clause-sink
+Discipline::arrive-arrive_in_fifo-requires-clause-sink g t c = omega (arith, c.requires.sink)
 
 pub Discipline::arrive-returns-in-Fifo-clause-after : goal.Discipline::arrive-returns-in-Fifo-clause-after
 Discipline::arrive-returns-in-Fifo-clause-after g t c = subst (λ (d : Discipline). IfOk c.arrive_in_fifo.result (λ (o : Outcome). HasComeIn c.args.now c.args.packet.now c.args.filters.now d (code.Fifo c.arrive_in_fifo.new.fifo) o (g.S.Sink.losses c.args.sink.now) (g.S.Sink.losses c.arrive_in_fifo.new.sink) (g.S.Sink.room c.args.sink.now) (g.S.Sink.room c.arrive_in_fifo.new.sink))) (sym c.in-Fifo.is) (c.arrive_in_fifo.ensures.after c.args.filters.now)
@@ -66,7 +66,7 @@ pub Discipline::arrive-returns-then-place-len-clause-after : goal.Discipline::ar
 Discipline::arrive-returns-then-place-len-clause-after g t c =
     subst (λ (d : Discipline). HasComeIn c.args.now c.args.packet.now c.args.filters.now c.args.self.now d c.refuse.result (g.S.Sink.losses c.args.sink.now) (g.S.Sink.losses c.refuse.new.sink) (g.S.Sink.room c.args.sink.now) (g.S.Sink.room c.refuse.new.sink)) (c.in-Prio.is ∙ c.in-Prio-self.is)
     (refused-in c.args.now c.args.packet.now NoClass c.args.filters.now c.args.self.now c.refuse.result (g.S.Sink.losses c.args.sink.now) (g.S.Sink.losses c.refuse.new.sink) (g.S.Sink.room c.args.sink.now) (g.S.Sink.room c.refuse.new.sink) refl
-    (prio-way c.args.packet.now c.args.filters.now c.args.self.now c.in-Prio.priomap c.in-Prio-self.bands.items c.band-place.result (ap discipline_seen c.in-Prio.is) (ap children_seen (c.in-Prio.is ∙ c.in-Prio-self.is)) c.band-place.ensures ∙ through-past c.args.packet.now c.in-Prio-self.bands.items c.band-place.result (slice_get_past c.in-Prio-self.bands.items c.band-place.result (omega (arith, c.len.ensures, c.in-Prio-self.bands.ok, c.if-place-len.true)))) _ c.packet.view_is c.refuse.ensures.outcome c.refuse.ensures.lost c.refuse.ensures.room)
+    (prio-way c.args.packet.now c.args.filters.now c.args.self.now c.in-Prio.priomap c.in-Prio-self.bands.items c.band-place.result (ap discipline_seen c.in-Prio.is) (ap children_seen (c.in-Prio.is ∙ c.in-Prio-self.is)) c.band-place.ensures ∙ through-past c.args.packet.now c.in-Prio-self.bands.items c.band-place.result (slice_get_past c.in-Prio-self.bands.items c.band-place.result (omega (arith, c.len.ensures, c.in-Prio-self.bands.ok, c.if-place-len.true)))) _ refl c.refuse.ensures.outcome c.refuse.ensures.lost c.refuse.ensures.room)
 
 pub Discipline::arrive-index_mut-requires : goal.Discipline::arrive-index_mut-requires
 Discipline::arrive-index_mut-requires g t c = omega (arith, c.len.ensures, c.in-Prio-self.bands.ok, c.if-place-len.false)
@@ -80,7 +80,7 @@ Discipline::arrive-arrive-requires g t c κs within =
         within,
         (
           c.requires.ready.child c.band-place.result c.index_mut.result.now there,
-          omega (arith, c.requires.sink, child-packets (children_seen c.args.self.now) c.band-place.result c.index_mut.result.now there, room-of c.args.self.now (children_seen c.args.self.now) refl),
+          (omega (arith, c.requires.sink, child-packets (children_seen c.args.self.now) c.band-place.result c.index_mut.result.now there, room-of c.args.self.now (children_seen c.args.self.now) refl), c.requires.clean),
         ),
       ),
     )
@@ -101,7 +101,7 @@ pub Discipline::arrive-returns-then-from-burst-clause-after : goal.Discipline::a
 Discipline::arrive-returns-then-from-burst-clause-after g t c =
     subst (λ (d : Discipline). HasComeIn c.args.now c.args.packet.now c.args.filters.now c.args.self.now d c.refuse-then-from-burst.result (g.S.Sink.losses c.args.sink.now) (g.S.Sink.losses c.refuse-then-from-burst.new.sink) (g.S.Sink.room c.args.sink.now) (g.S.Sink.room c.refuse-then-from-burst.new.sink)) c.in-Tbf.is
     (refused-in c.args.now c.args.packet.now TooLong c.args.filters.now c.args.self.now c.refuse-then-from-burst.result (g.S.Sink.losses c.args.sink.now) (g.S.Sink.losses c.refuse-then-from-burst.new.sink) (g.S.Sink.room c.args.sink.now) (g.S.Sink.room c.refuse-then-from-burst.new.sink) refl
-    (tbf-way c.args.packet.now c.args.filters.now c.args.self.now c.in-Tbf.bucket c.in-Tbf.limit (children_seen c.args.self.now) (ap discipline_seen c.in-Tbf.is) refl ∙ ap (λ b. if b then refused TooLong else through (ways c.args.packet.now (children_seen c.args.self.now)) 0) (lt-true c.in-Tbf.bucket.burst c.args.packet.now.len (omega (arith, c.if-from-burst.true, c.from.ensures, c.burst.ensures.value, ap (λ (q : Descriptor). q.len) c.packet.view_is)))) _ c.packet.view_is c.refuse-then-from-burst.ensures.outcome c.refuse-then-from-burst.ensures.lost c.refuse-then-from-burst.ensures.room)
+    (tbf-way c.args.packet.now c.args.filters.now c.args.self.now c.in-Tbf.bucket c.in-Tbf.limit (children_seen c.args.self.now) (ap discipline_seen c.in-Tbf.is) refl ∙ ap (λ b. if b then refused TooLong else through (ways c.args.packet.now (children_seen c.args.self.now)) 0) (lt-true c.in-Tbf.bucket.burst c.args.packet.now.len (omega (arith, c.if-from-burst.true, c.from.ensures, c.burst.ensures.value, ap (λ (q : Descriptor). q.len) c.packet.view_is)))) _ refl c.refuse-then-from-burst.ensures.outcome c.refuse-then-from-burst.ensures.lost c.refuse-then-from-burst.ensures.room)
 
 pub Discipline::arrive-arrive-requires-in-Tbf : goal.Discipline::arrive-arrive-requires-in-Tbf
 Discipline::arrive-arrive-requires-in-Tbf g t c κs within =
@@ -112,7 +112,7 @@ Discipline::arrive-arrive-requires-in-Tbf g t c κs within =
         within,
         (
           c.requires.ready.child 0 c.deref_mut-in-Tbf.result.now there,
-          omega (arith, c.requires.sink, child-packets (children_seen c.args.self.now) 0 c.deref_mut-in-Tbf.result.now there, room-of c.args.self.now (children_seen c.args.self.now) refl),
+          (omega (arith, c.requires.sink, child-packets (children_seen c.args.self.now) 0 c.deref_mut-in-Tbf.result.now there, room-of c.args.self.now (children_seen c.args.self.now) refl), c.requires.clean),
         ),
       ),
     )
@@ -133,13 +133,13 @@ pub Discipline::arrive-returns-in_default-class_place-clause-after : goal.Discip
 Discipline::arrive-returns-in_default-class_place-clause-after g t c =
     subst (λ (d : Discipline). HasComeIn c.args.now c.args.packet.now c.args.filters.now c.args.self.now d c.refuse-in_default-class_place.result (g.S.Sink.losses c.args.sink.now) (g.S.Sink.losses c.refuse-in_default-class_place.new.sink) (g.S.Sink.room c.args.sink.now) (g.S.Sink.room c.refuse-in_default-class_place.new.sink)) c.in-Drr.is
     (refused-in c.args.now c.args.packet.now NoClass c.args.filters.now c.args.self.now c.refuse-in_default-class_place.result (g.S.Sink.losses c.args.sink.now) (g.S.Sink.losses c.refuse-in_default-class_place.new.sink) (g.S.Sink.room c.args.sink.now) (g.S.Sink.room c.refuse-in_default-class_place.new.sink) refl
-    (drr-way c.args.packet.now c.args.filters.now c.args.self.now c.in-Drr.active c.in-Drr.classes.items c.class_place.result (ap discipline_seen c.in-Drr.is) (ap children_seen c.in-Drr.is) c.class_place.ensures ∙ ap (λ (o : Option ℕ). option_map_or (through (ways c.args.packet.now c.in-Drr.classes.items)) o (refused NoClass)) c.in_default-class_place.is) _ c.packet.view_is c.refuse-in_default-class_place.ensures.outcome c.refuse-in_default-class_place.ensures.lost c.refuse-in_default-class_place.ensures.room)
+    (drr-way c.args.packet.now c.args.filters.now c.args.self.now c.in-Drr.active c.in-Drr.classes.items c.class_place.result (ap discipline_seen c.in-Drr.is) (ap children_seen c.in-Drr.is) c.class_place.ensures ∙ ap (λ (o : Option ℕ). option_map_or (through (ways c.args.packet.now c.in-Drr.classes.items)) o (refused NoClass)) c.in_default-class_place.is) _ refl c.refuse-in_default-class_place.ensures.outcome c.refuse-in_default-class_place.ensures.lost c.refuse-in_default-class_place.ensures.room)
 
 pub Discipline::arrive-returns-then-place-len-2-clause-after : goal.Discipline::arrive-returns-then-place-len-2-clause-after
 Discipline::arrive-returns-then-place-len-2-clause-after g t c =
     subst (λ (d : Discipline). HasComeIn c.args.now c.args.packet.now c.args.filters.now c.args.self.now d c.refuse-then-place-len-2.result (g.S.Sink.losses c.args.sink.now) (g.S.Sink.losses c.refuse-then-place-len-2.new.sink) (g.S.Sink.room c.args.sink.now) (g.S.Sink.room c.refuse-then-place-len-2.new.sink)) c.in-Drr.is
     (refused-in c.args.now c.args.packet.now NoClass c.args.filters.now c.args.self.now c.refuse-then-place-len-2.result (g.S.Sink.losses c.args.sink.now) (g.S.Sink.losses c.refuse-then-place-len-2.new.sink) (g.S.Sink.room c.args.sink.now) (g.S.Sink.room c.refuse-then-place-len-2.new.sink) refl
-    (drr-way c.args.packet.now c.args.filters.now c.args.self.now c.in-Drr.active c.in-Drr.classes.items c.class_place.result (ap discipline_seen c.in-Drr.is) (ap children_seen c.in-Drr.is) c.class_place.ensures ∙ ap (λ (o : Option ℕ). option_map_or (through (ways c.args.packet.now c.in-Drr.classes.items)) o (refused NoClass)) c.in-Some.is ∙ through-past c.args.packet.now c.in-Drr.classes.items c.in-Some.place (slice_get_past c.in-Drr.classes.items c.in-Some.place (omega (arith, c.len-in-Drr.ensures, c.in-Drr.classes.ok, c.if-place-len-2.true)))) _ c.packet.view_is c.refuse-then-place-len-2.ensures.outcome c.refuse-then-place-len-2.ensures.lost c.refuse-then-place-len-2.ensures.room)
+    (drr-way c.args.packet.now c.args.filters.now c.args.self.now c.in-Drr.active c.in-Drr.classes.items c.class_place.result (ap discipline_seen c.in-Drr.is) (ap children_seen c.in-Drr.is) c.class_place.ensures ∙ ap (λ (o : Option ℕ). option_map_or (through (ways c.args.packet.now c.in-Drr.classes.items)) o (refused NoClass)) c.in-Some.is ∙ through-past c.args.packet.now c.in-Drr.classes.items c.in-Some.place (slice_get_past c.in-Drr.classes.items c.in-Some.place (omega (arith, c.len-in-Drr.ensures, c.in-Drr.classes.ok, c.if-place-len-2.true)))) _ refl c.refuse-then-place-len-2.ensures.outcome c.refuse-then-place-len-2.ensures.lost c.refuse-then-place-len-2.ensures.room)
 
 pub Discipline::arrive-index_mut-requires-in-Drr : goal.Discipline::arrive-index_mut-requires-in-Drr
 Discipline::arrive-index_mut-requires-in-Drr g t c = omega (arith, c.len-in-Drr.ensures, c.in-Drr.classes.ok, c.if-place-len-2.false)
@@ -156,7 +156,7 @@ Discipline::arrive-arrive-requires-in-Drr g t c κs within =
         within,
         (
           c.requires.ready.child c.in-Some.place c.index_mut-in-Drr.result.now there,
-          omega (arith, c.requires.sink, child-packets (children_seen c.args.self.now) c.in-Some.place c.index_mut-in-Drr.result.now there, room-of c.args.self.now (children_seen c.args.self.now) refl),
+          (omega (arith, c.requires.sink, child-packets (children_seen c.args.self.now) c.in-Some.place c.index_mut-in-Drr.result.now there, room-of c.args.self.now (children_seen c.args.self.now) refl), c.requires.clean),
         ),
       ),
     )
@@ -186,7 +186,7 @@ Node::arrive-arrive-requires g t c κs within = (
     within,
     (
       can-come-in c.args.now c.args.packet.now c.self.inside c.args.self.now c.self.invariant c.self.view_is c.requires.ready,
-      omega (arith, c.requires.sink, within-room c.self.inside c.args.self.now c.self.view_is),
+      (omega (arith, c.requires.sink, within-room c.self.inside c.args.self.now c.self.view_is), c.requires.clean),
     ),
   ),
 )

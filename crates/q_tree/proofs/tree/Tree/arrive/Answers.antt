@@ -66,7 +66,7 @@ returns-clause-fate g c =
     let low : c.args.now ≤ 2 ^ 62 = omega (arith, c.ns.ensures.in_range, c.ns.ensures.value) in
     let byte : 1 ≤ c.args.packet.now.len = omega (arith, c.packet.invariant.0, ap (λ (p : Descriptor). p.len) c.packet.view_is) in
     let room : CanCount c.self.inside.top.arrived c.args.packet.now = record { packets = omega (arith, c.if-arrived.false, c.self.ranges); bytes = omega (arith, c.if-arrived-from.false, c.from.ensures, c.from.type_inv, ap (λ (p : Descriptor). p.len) c.packet.view_is) } in
-    c.fate_of.ensures ∙ ap fate_of (tree-loss c.self.inside c.self.invariant c.args.now c.args.packet.now later low byte room c.in_ok-outcome.outcome c.arrive_below.new.root c.in_ok-outcome.ensures.after) ∙ ap (λ (d : DeviceState Kept). fate_of (own_loss c.args.now c.args.packet.now d.tree.device (shape d.tree.root))) c.self.view_is
+    c.fate_of.ensures ∙ ap fate_of c.loss.ensures ∙ ap fate_of (tree-loss c.self.inside c.self.invariant c.args.now c.args.packet.now later low byte room c.in_ok-outcome.outcome c.arrive_below.new.root c.in_ok-outcome.ensures.after) ∙ ap (λ (d : DeviceState Kept). fate_of (own_loss c.args.now c.args.packet.now d.tree.device (shape d.tree.root))) c.self.view_is
 
 pub returns-clause-after : goal.returns-clause-after
 returns-clause-after g c =

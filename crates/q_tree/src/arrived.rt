@@ -1,0 +1,121 @@
+ghost use Rattle.std.specs.Prelude.{◌≡◌, ◌≤◌, ◌+◌, ◌∷◌, ◌++◌, [], Some, true};
+ghost use Rattle.q_model.specs.Conserved.{IsBalanced};
+ghost use Rattle.q_model.specs.Tally.{with_packet, no_totals};
+ghost use Rattle.q_tree.specs.Arrivals.{CanCount, IsLostOf, with_arrival};
+ghost use Rattle.q_tree.specs.ArriveSteps.{nothing_lost};
+
+use crate::booking::{NOTHING, book_arrival as book_outcome, one_packet, sum};
+use crate::outcome::{Outcome, refuse as refused};
+use q_codel::Sink;
+use q_model::Row;
+use q_packet::{Cause, Packet};
+use std::marker::Model;
+use std::snapshot::Snapshot;
+
+/// What an arrival came to. A contract sees the outcome, which goes up from node to node in a place of the caller's, since
+/// mostly nothing is lost, and then nobody reads it.
+#[derive(Drop)]
+pub(crate) struct Arrived {
+    loss: Option<Cause>,
+    is_kept: bool,
+    outcome: Snapshot<Outcome>,
+}
+
+impl Model for Arrived {
+    ghost use Rattle.std.specs.Prelude.{◌≡◌, true};
+    ghost use Rattle.q_tree.specs.ArriveSteps.{nothing_lost};
+    ghost use Rattle.q_tree.specs.declared.outcome.Outcome as specs;
+
+    ghost Value = { specs.Outcome };
+
+    ghost view = { λ a. a.outcome.value };
+
+    ghost invariant = { λ a. (a.loss ≡ a.outcome.value.loss) × (a.is_kept ≡ true → a.outcome.value ≡ nothing_lost) };
+}
+
+/// Nothing is lost.
+pub(crate) const NOTHING_LOST: Outcome = Outcome {
+    loss: None,
+    refused: NOTHING,
+    dropped: NOTHING,
+};
+
+impl Arrived {
+    /// The packet is kept, and none is lost for it.
+    #[inline(always)]
+    pub(crate) fn kept() -> Arrived
+        ensures { result ≡ nothing_lost }
+    {
+        Arrived {
+            loss: None,
+            is_kept: true,
+            outcome: Snapshot::of(&NOTHING_LOST),
+        }
+    }
+
+    /// This outcome.
+    #[inline(always)]
+    pub(crate) fn with(outcome: &Outcome) -> Arrived
+        ensures { result ≡ outcome.now }
+    {
+        Arrived {
+            loss: outcome.loss,
+            is_kept: false,
+            outcome: Snapshot::of(outcome),
+        }
+    }
+
+    /// The cause where the packet itself was lost.
+    #[inline(always)]
+    pub(crate) fn loss(&self) -> Option<Cause>
+        ensures { result ≡ self.now.loss }
+    {
+        self.loss
+    }
+
+    /// Whether nothing is lost.
+    #[inline(always)]
+    fn is_kept(&self) -> bool
+        ensures { result ≡ true → self.now ≡ nothing_lost }
+    {
+        self.is_kept
+    }
+}
+
+/// Refuses a packet for this cause.
+#[cold]
+#[inline(never)]
+pub(crate) fn refuse<S: Sink>(
+    packet: &Packet,
+    cause: Cause,
+    lost: &mut Outcome,
+    sink: &mut S,
+) -> Arrived
+    requires { 1 ≤ S.room sink.old }
+    ensures outcome { result ≡ record { loss = Some cause; refused = with_packet no_totals packet.now; dropped = no_totals } }
+    ensures lost_is { lost.new ≡ result }
+    ensures lost { S.losses sink.new ≡ S.losses sink.old ++ record { packet = packet.now; cause = cause } ∷ [] }
+    ensures room { S.room sink.new + 1 ≡ S.room sink.old }
+    ensures kept { S.keeps sink.old sink.new }
+{
+    *lost = refused(*packet, cause, sink);
+    Arrived::with(lost)
+}
+
+/// Books a packet that has arrived, with all that was lost for it at the node or beneath.
+#[inline(always)]
+pub(crate) fn book_arrival(row: &mut Row, packet: &Packet, arrived: &Arrived, outcome: &Outcome)
+    requires balanced { IsBalanced row.old }
+    requires room { CanCount row.old.arrived packet.now }
+    requires lost { IsLostOf packet.now arrived.now row.old.queued }
+    requires told { outcome.now ≡ arrived.now }
+    ensures { row.new ≡ with_arrival packet.now arrived.now row.old }
+{
+    if arrived.is_kept() {
+        let one = one_packet(packet);
+        row.arrived = sum(row.arrived, one);
+        row.queued = sum(row.queued, one);
+        return;
+    }
+    book_outcome(row, packet, outcome);
+}
