@@ -39,6 +39,29 @@ qdisc bfifo 0: parent 1:1 limit 10000b
     Ok(())
 }
 
+/// The same over a prio, whose second band, that of priority 0, is an fq_codel.
+const SLOW_FLOWS: &[u8] = b"tc qdisc add dev eth0 root handle 1: tbf rate 8 burst 100 limit 10000
+tc qdisc change dev eth0 root handle 1: tbf rate 8 burst 1514 limit 10000
+tc qdisc add dev eth0 parent 1:1 handle 2: prio
+tc qdisc add dev eth0 parent 2:2 handle 3: fq_codel
+";
+
+#[test]
+fn what_codel_drops_is_not_drained(rt: HostRuntime) -> Result<(), Fail> {
+    // Packet 1 is in hand before the drain begins, and goes at 900 s. Then packet 2 is looked at, which is the first to be late, and
+    // goes at 1900 s. An interval later packet 3 is dropped, with 3000 bytes behind it, and 4 is sent. Behind 5 and 6 there is less
+    // than an mtu.
+    assert_drives(
+        &rt,
+        rt.alloc(),
+        SLOW_FLOWS,
+        drained(1514, 1, 6, 1000, false)?,
+        Outcome::Clean,
+        "settled 6p 6000b\narrived 6p 6000b\ngiven up 0\ndrained 5p 5000b at 4900000000000\n",
+    );
+    Ok(())
+}
+
 #[test]
 fn what_waits_stays_where_nobody_asks(rt: HostRuntime) -> Result<(), Fail> {
     let lines = "settled 3p 3000b\narrived 3p 3000b\ngiven up 0\n";
