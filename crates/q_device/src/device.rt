@@ -281,6 +281,13 @@ impl Device {
         Some(lost)
     }
 
+    /// The latest moment that counted.
+    pub fn clock(&self) -> Moment
+        ensures { result ≡ self.now.device.clock }
+    {
+        self.clock
+    }
+
     /// What the device counted, and what is queued at it.
     pub fn totals(&self) -> Row
         ensures { result ≡ row_of self.now.device.tree.top (beneath self.now.device.tree.root) }

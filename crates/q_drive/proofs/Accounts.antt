@@ -1,13 +1,13 @@
 -- What senders with equal loads come to: each packet was placed or given up, and all have one length.
-use Rattle.std.proofs.Common.{◌≡◌, ◌∙◌, ℕ, zero, suc, ◌+◌, ◌*◌, ◌<◌, ◌≤◌, ◌^◌, Bool, true, false, List, [], ◌∷◌, ◌++◌, length, get_or, map, replicate, refl, sym, ap, ap₂, subst, arith, add-mul, suc-mul, mul-le-mul, zero-mul}
-use Rattle.std.proofs.lemmas.List.{get_or-map, get_or-replicate, length-map, length-replicate, length_push}
+use Rattle.std.proofs.Common.{◌≡◌, ◌∙◌, ℕ, zero, suc, ◌+◌, ◌*◌, ◌<◌, ◌≤◌, Bool, true, false, List, [], ◌∷◌, length, get_or, map, replicate, refl, sym, ap, ap₂, subst, arith, add-mul, suc-mul, mul-le-mul, zero-mul}
+use Rattle.std.proofs.lemmas.List.{get_or-map, get_or-replicate, length_push}
 use Rattle.std.proofs.lemmas.List.Sums.{sum_by-cons, sum_by_push}
 use Rattle.std.specs.Prelude.{sum_by}
 use Rattle.std.specs.List.{fold}
 use Rattle.q_packet.specs.Descriptor.{Descriptor}
 use Rattle.q_model.specs.declared.totals.Totals.{Totals}
 use Rattle.q_ports.specs.declared.sender.Sent.{Sent}
-use Rattle.q_ports.specs.Driven.{AllOffered, HasDriven, port_in, rest_of}
+use Rattle.q_ports.specs.Driven.{HasDriven, port_in, rest_of}
 use Rattle.q_ports.specs.Offered.{Offer, Offered, given_up_in, offering, packet_in}
 use Rattle.q_ports.specs.Placed.{PortSeen, bytes_in, placed_by, port_seen, share_of, written}
 use Rattle.q_ports.proofs.RingLemmas.{no_ring}

@@ -1,4 +1,5 @@
 pub mod Accounts
+pub mod DrainLemmas
 pub mod LoadLemmas
 pub mod Reporting
 pub mod SetUpLemmas

@@ -1,6 +1,7 @@
 -- What is written before the senders run, and behind it what they came to.
-use Rattle.std.proofs.Common.{◌≡◌, ◌∙◌, ℕ, Bool, List, ◌++◌, Option, Some, None, Result, Ok, Err, IfOk, IfSome, if◌then◌else◌, refl, sym, subst, arith, ⊎_elim}
+use Rattle.std.proofs.Common.{◌≡◌, ◌∙◌, ℕ, Bool, List, ◌++◌, Option, Some, None, Ok, Err, IfSome, if◌then◌else◌, refl, ap, subst, arith, ⊎_elim}
 use Rattle.std.proofs.KnownBytes.{Appends-trans}
+use Rattle.std.proofs.lemmas.List.{append_assoc}
 use Rattle.std.specs.Io.KnownBytes.{Appends}
 use Rattle.std.specs.declared.io.ErrorKind.{ErrorKind}
 use Rattle.q_script.specs.Ended.{Ended}
@@ -8,7 +9,6 @@ use Rattle.q_script.specs.Step.{IsPartlyRun, IsRun}
 use Rattle.q_script.specs.declared.outcome.Outcome.{Outcome}
 use Rattle.q_script.specs.declared.outcome.Outcome.TheVariants.{Clean, Refused}
 use Rattle.q_script.specs.declared.reads.Reads.{Reads}
-use Rattle.q_script.specs.declared.run_fault.RunFault.{RunFault}
 use Rattle.q_script.specs.declared.run_fault.RunFault.TheVariants as fault
 use Rattle.q_script.proofs.WrittenLemmas.{front-longer, front-of}
 use Rattle.q_session.specs.Session.{SessionSeen, opened}
@@ -21,6 +21,10 @@ use Rattle.q_drive.specs.Reported.{IsDriven, IsPartlyDriven, outcome, set_up}
 use Rattle.q_drive.specs.SetUp.{effect_of}
 use Rattle.q_drive.specs.Texts.{ending_text}
 use Rattle.q_drive.specs.declared.driven.Driven.{Driven}
+
+-- two texts, one put behind the other
+pub in-turn : (o₀ o₁ o₂ a b : List ℕ) → o₁ ≡ o₀ ++ a → o₂ ≡ o₁ ++ b → o₂ ≡ o₀ ++ (a ++ b)
+in-turn o₀ o₁ o₂ a b first second = second ∙ (ap (λ (o : List ℕ). o ++ b) first ∙ append_assoc o₀ a b)
 
 abbrev pub is_refused : SessionSeen → Bool
 is_refused s = s.state.refused

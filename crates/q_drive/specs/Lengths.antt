@@ -15,5 +15,9 @@ most_amount_line = 8 + most_amount
 abbrev pub most_given_up : ℕ
 most_given_up = 9 + most_decimal + 1
 
+-- `drained Pp Bb at N`
+abbrev pub most_drained : ℕ
+most_drained = 8 + most_decimal + 2 + most_decimal + 5 + most_decimal + 1
+
 abbrev pub most_driven : ℕ
-most_driven = most_amount_line + most_amount_line + most_given_up + most_device
+most_driven = most_amount_line + most_amount_line + most_given_up + most_drained + most_device

@@ -1,3 +1,4 @@
+pub mod Drained
 pub mod Drive
 pub mod Driven
 pub mod Lengths

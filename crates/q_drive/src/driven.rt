@@ -1,9 +1,12 @@
+use crate::drained::Drained;
 use q_device::{Device, Totals};
 
-/// What the senders came to: the settled share, how many packets of the loads no try placed, and the device.
+/// What the senders came to: the settled share, how many packets of the loads no try placed, what was drained where that was asked
+/// for, and the device.
 #[derive(Drop)]
 pub struct Driven {
     pub settled: Totals,
     pub given_up: u64,
+    pub drained: Option<Drained>,
     pub device: Device,
 }

@@ -1,15 +1,18 @@
 ghost use Rattle.std.specs.Prelude.{◌≡◌, IfSome};
 ghost use Rattle.q_device.specs.DeviceLaws.{IsLawfulDevice, IsReplayed, IsReplayOfRecorded};
+ghost use Rattle.q_drive.specs.Drained.{IsDrainedIf};
 ghost use Rattle.q_drive.specs.Driven.{HasDriven};
 ghost use Rattle.q_model.specs.Tally.{no_totals};
 
+use crate::draining::drain_if;
 use crate::driven::Driven;
 use crate::free_gate::FreeGate;
 use crate::loads::loads;
 use crate::settings::DriveSettings;
 use q_device::Device;
+use q_device::laws::{device_is_lawful, device_is_replayed};
 use q_packet::Moment;
-use q_ports::laws::{booked_is_lawful, booked_is_replayed, settled};
+use q_ports::laws::{booked_is_replayed, settled};
 use q_ports::{Booked, Settled, Unsettled, drive, open_ports};
 use std::alloc::Global;
 use std::marker::Brand;
@@ -69,7 +72,10 @@ fn drive_booked<P: Ledger + Send + Sync, B: Ledger + Send + Sync, R: Threads + W
     match drive(
         rt, alloc, &lock, drain, ports, loads, &FreeGate, start, STEP, TRIES,
     ) {
-        Ok(driven) => Some(ended(lock.into_inner(), driven.settled, driven.given_up)),
+        Ok(driven) => {
+            let (booked, share) = (lock.into_inner(), driven.settled);
+            Some(ended(booked, share, driven.given_up, settings.until_idle()))
+        }
         Err(
             Unsettled {
                 drain,
@@ -82,23 +88,35 @@ fn drive_booked<P: Ledger + Send + Sync, B: Ledger + Send + Sync, R: Threads + W
     }
 }
 
-/// What a drive came to that has settled: the share is what has arrived at the device.
-fn ended<P: Ledger, B: Ledger>(booked: Booked<P, B>, share: Settled<P, B>, given_up: u64) -> Driven
+/// What a drive came to that has settled: the share is what has arrived at the device, which is drained where that is asked for.
+fn ended<P: Ledger, B: Ledger>(
+    booked: Booked<P, B>,
+    share: Settled<P, B>,
+    given_up: u64,
+    until_idle: bool,
+) -> Driven
     requires { (P.parts ≡ 65) × (B.parts ≡ 65) }
     ensures settled { result.settled ≡ share }
     ensures given_up { result.given_up ≡ given_up }
     ensures arrived { result.device.device.tree.top.arrived ≡ share }
+    ensures left { booked.device.tree.top.arrived ≡ share }
+    ensures left_replayed { IsReplayed booked }
+    ensures drained { IsDrainedIf until_idle booked result.device result.drained }
     ensures lawful { IsLawfulDevice result.device }
     ensures replayed { IsReplayed result.device }
     ensures recorded { IsReplayOfRecorded result.device }
 {
     let (mut booked, mut share) = (booked, share);
     let settled = settled(&mut booked, &mut share);
-    booked_is_lawful(&booked);
     booked_is_replayed(&booked);
+    let mut device = booked.into_device();
+    let drained = drain_if(until_idle, &mut device);
+    device_is_lawful(&device);
+    device_is_replayed(&device);
     Driven {
         settled,
         given_up,
-        device: booked.into_device(),
+        drained,
+        device,
     }
 }

@@ -4,12 +4,14 @@ ghost use Rattle.std.specs.Io.KnownBytes.{Appends};
 ghost use Rattle.q_model.specs.Tally.{totals};
 ghost use Rattle.q_script_semantics.specs.Report.{show_text};
 ghost use Rattle.q_script.specs.Lengths.{HasRoom, most_step};
+ghost use Rattle.q_session.specs.Lengths.{most_device};
 ghost use Rattle.q_show.specs.Lengths.{GrowsBy};
 ghost use Rattle.q_show.specs.Writes.{MayWrite, WriteFailed};
 ghost use Rattle.q_show.specs.Written.{AppendsFront, IsBuffered};
-ghost use Rattle.q_drive.specs.Lengths.{most_amount, most_amount_line, most_driven, most_given_up};
-ghost use Rattle.q_drive.specs.Texts.{amount_text, arrived_line, driven_lines, driven_text, ending_text, given_up_line, memory_line, qdiscs, settled_line, shown_text};
+ghost use Rattle.q_drive.specs.Lengths.{most_amount, most_amount_line, most_drained, most_driven, most_given_up};
+ghost use Rattle.q_drive.specs.Texts.{amount_text, arrived_line, drained_text, driven_lines, driven_text, ending_text, given_up_line, memory_line, qdiscs, settled_line, shown_text, totals_line};
 
+use crate::drained::Drained;
 use crate::driven::Driven;
 use q_device::{Device, Refusal, Totals};
 use q_line::{Object, Show};
@@ -63,8 +65,8 @@ fn write_driven<W: Write>(
     output.flush(target)
 }
 
-/// The three lines: the settled share, what the device counts as arrived, and how many packets were given up. And all that
-/// the device counts, where it is to be shown.
+/// The three lines: the settled share, what the device counts as arrived, and how many packets were given up. Then what was
+/// drained, where it was, and all that the device counts, where it is to be shown.
 fn put_driven(driven: &Driven, show: bool, output: &mut Output)
     requires { HasRoom output.old most_driven }
     ensures { output.new ≡ output.old ++ driven_lines show driven.now }
@@ -72,6 +74,15 @@ fn put_driven(driven: &Driven, show: bool, output: &mut Output)
     put_settled(output, driven.settled);
     put_arrived(output, driven.device.totals().arrived);
     put_given_up(output, driven.given_up);
+    put_drained(output, driven.drained);
+    put_totals(driven, show, output);
+}
+
+/// All that the device counts, where it is to be shown.
+fn put_totals(driven: &Driven, show: bool, output: &mut Output)
+    requires { HasRoom output.old most_device }
+    ensures { output.new ≡ output.old ++ totals_line show driven.now }
+{
     if show {
         put_device(output, &driven.device.totals());
     }
@@ -118,6 +129,24 @@ fn put_given_up(output: &mut Output, given_up: u64)
 {
     output.put(b"given up ");
     output.put_number(given_up);
+    output.put(b"\n");
+}
+
+/// The line on what was drained, where something was.
+fn put_drained(output: &mut Output, drained: Option<Drained>)
+    requires { HasRoom output.old most_drained }
+    ensures text { output.new ≡ output.old ++ drained_text drained }
+    ensures short { GrowsBy output.old output.new most_drained }
+{
+    let Some(drained) = drained else {
+        return;
+    };
+    output.put(b"drained ");
+    output.put_number(drained.amount.packets);
+    output.put(b"p ");
+    output.put_number(drained.amount.bytes);
+    output.put(b"b at ");
+    output.put_number(drained.at.ns());
     output.put(b"\n");
 }
 

@@ -11,6 +11,7 @@ pub struct DriveSettings {
     count: u32,
     len: u16,
     ring: u32,
+    until_idle: bool,
     show: bool,
 }
 
@@ -19,11 +20,11 @@ impl Model for DriveSettings {
 
     ghost Value = { Drive };
 
-    ghost view = { λ s. record { device = s.device; senders = s.senders; count = s.count; len = s.len; ring = s.ring; show = s.show } };
+    ghost view = { λ s. record { device = s.device; senders = s.senders; count = s.count; len = s.len; ring = s.ring; until_idle = s.until_idle; show = s.show } };
 
-    ghost invariant = { λ s. IsInRange (record { device = s.device; senders = s.senders; count = s.count; len = s.len; ring = s.ring; show = s.show }) };
+    ghost invariant = { λ s. IsInRange (record { device = s.device; senders = s.senders; count = s.count; len = s.len; ring = s.ring; until_idle = s.until_idle; show = s.show }) };
 
-    ghost inverse = { λ s. record { device = s.device; senders = s.senders; count = s.count; len = s.len; ring = s.ring; show = s.show } };
+    ghost inverse = { λ s. record { device = s.device; senders = s.senders; count = s.count; len = s.len; ring = s.ring; until_idle = s.until_idle; show = s.show } };
 }
 
 impl DriveSettings {
@@ -40,17 +41,19 @@ impl DriveSettings {
 
     /// Settings with the device's, 1 to [`DriveSettings::MAX_SENDERS`] senders, a load of at most [`DriveSettings::MAX_COUNT`]
     /// packets for each, packets of at least 1 byte, and a ring of 1 to [`DriveSettings::MAX_RING`] places for each; `None`
-    /// outside these ranges. `show` is whether the qdiscs are shown at the end.
+    /// outside these ranges. `until_idle` is whether the device is drained when the senders have ended, and `show` whether the
+    /// qdiscs are shown at the end.
     pub fn new(
         device: RunSettings,
         senders: u8,
         count: u32,
         len: u16,
         ring: u32,
+        until_idle: bool,
         show: bool,
     ) -> Option<DriveSettings>
-        ensures in_range { IsSome result ↔ IsInRange (record { device = device; senders = senders; count = count; len = len; ring = ring; show = show }) }
-        ensures value { IfSome result (λ s. s ≡ record { device = device; senders = senders; count = count; len = len; ring = ring; show = show }) }
+        ensures in_range { IsSome result ↔ IsInRange (record { device = device; senders = senders; count = count; len = len; ring = ring; until_idle = until_idle; show = show }) }
+        ensures value { IfSome result (λ s. s ≡ record { device = device; senders = senders; count = count; len = len; ring = ring; until_idle = until_idle; show = show }) }
     {
         let senders_fit = senders >= 1 && senders <= DriveSettings::MAX_SENDERS;
         let ring_fits = ring >= 1 && ring <= DriveSettings::MAX_RING;
@@ -61,6 +64,7 @@ impl DriveSettings {
                 count,
                 len,
                 ring,
+                until_idle,
                 show,
             })
         } else {
@@ -108,6 +112,13 @@ impl DriveSettings {
         ensures { result ≡ self.now.ring }
     {
         self.ring as usize
+    }
+
+    /// Whether the device is drained when the senders have ended.
+    pub fn until_idle(&self) -> bool
+        ensures { result ≡ self.now.until_idle }
+    {
+        self.until_idle
     }
 
     /// Whether the qdiscs are shown at the end, with their counters.

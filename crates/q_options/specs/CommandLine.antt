@@ -47,7 +47,7 @@ with_load a =
     (number_rule (codes "ring") 1 65536 true)
 
 abbrev pub drive_app : App
-drive_app = with_device (with_rule (with_load (new_app (codes "drive"))) (flag_rule (codes "show")))
+drive_app = with_device (with_rule (with_rule (with_load (new_app (codes "drive"))) (flag_rule (codes "until-idle"))) (flag_rule (codes "show")))
 
 -- the program: it has a version, and needs a command
 abbrev pub bare_program : App
@@ -97,6 +97,7 @@ pub record HasDriveOptionsOf (found : Texts) (s : Drive) : Type 0 where
   pub count : IsGiven (found (codes "count")) s.count
   pub len : IsGiven (found (codes "len")) s.len
   pub ring : IsGiven (found (codes "ring")) s.ring
+  pub until_idle : IsFlag (found (codes "until-idle")) s.until_idle
   pub show : IsFlag (found (codes "show")) s.show
 
 -- what is asked for, by the command that was found with its options

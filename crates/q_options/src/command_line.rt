@@ -68,8 +68,21 @@ fn drive<'a>(alloc: Global) -> Result<Command<'a>, AllocError>
     let drive = Command::new(alloc, "drive")
         .about("Sets up a device by tc's lines on standard input, and drives it from many threads")
         .after_help(DRIVE_EXAMPLE);
-    let drive = with_load(alloc, drive)?.arg(show(alloc))?;
+    let drive = with_load(alloc, drive)?
+        .arg(until_idle(alloc))?
+        .arg(show(alloc))?;
     with_device(alloc, drive)
+}
+
+/// Whether the device is drained when the senders have ended.
+fn until_idle<'a>(alloc: Global) -> Arg<'a>
+    ensures rule { rule_of result ≡ flag_rule (codes "until-idle") }
+    ensures local { result.global ≡ false }
+{
+    Arg::new(alloc, "until-idle")
+        .long("until-idle")
+        .action(ArgAction::SetTrue)
+        .help("Go on until nothing goes any more, once the senders have ended")
 }
 
 /// Whether the qdiscs are shown.
@@ -173,6 +186,7 @@ fn drive_settings_of(drive: &ArgMatches) -> Option<DriveSettings>
         count,
         u16::try_from(len).ok()?,
         ring,
+        drive.get_flag("until-idle"),
         drive.get_flag("show"),
     )
 }

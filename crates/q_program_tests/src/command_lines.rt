@@ -25,15 +25,23 @@ fn options_at_their_bounds(rt: HostRuntime) -> Result<(), Fail> {
     for (line, asked) in [
         (
             "qtree drive --senders 1 --count 0 --len 1 --ring 1",
-            DriveSettings::new(defaults, 1, 0, 1, 1, false),
+            DriveSettings::new(defaults, 1, 0, 1, 1, false, false),
         ),
         (
             "qtree drive --show --ring=65536 --len=65535 --count=1000000 --senders=64",
-            DriveSettings::new(defaults, 64, 1_000_000, 65535, 65536, true),
+            DriveSettings::new(defaults, 64, 1_000_000, 65535, 65536, false, true),
         ),
         (
             "qtree drive --senders 2 --count 3 --len 4 --ring 5 --mtu 65535 --txqueuelen 4294967295 --seed 4294967295 --record 1000000",
-            DriveSettings::new(widest.ok_or("in range")?, 2, 3, 4, 5, false),
+            DriveSettings::new(widest.ok_or("in range")?, 2, 3, 4, 5, false, false),
+        ),
+        (
+            "qtree drive --until-idle --senders 2 --count 3 --len 4 --ring 5",
+            DriveSettings::new(defaults, 2, 3, 4, 5, true, false),
+        ),
+        (
+            "qtree drive --senders 2 --show --count 3 --len 4 --ring 5 --until-idle",
+            DriveSettings::new(defaults, 2, 3, 4, 5, true, true),
         ),
     ] {
         assert_eq!(rt;
@@ -68,10 +76,13 @@ fn options_past_their_bounds(rt: HostRuntime) -> Result<(), Fail> {
         "qtree drive --senders 1 --senders 1 --count 1 --len 1 --ring 1",
         "qtree drive --show --show --senders 1 --count 1 --len 1 --ring 1",
         "qtree drive --show=1 --senders 1 --count 1 --len 1 --ring 1",
+        "qtree drive --until-idle --until-idle --senders 1 --count 1 --len 1 --ring 1",
+        "qtree drive --until-idle=1 --senders 1 --count 1 --len 1 --ring 1",
         "qtree drive --senders 1 --count 1 --len 1 --ring 1 --mtu 0",
         "qtree drive --senders 1 --count 1 --len 1 --ring 1 --record 1000001",
         "qtree play --senders 1",
         "qtree play --show",
+        "qtree play --until-idle",
     ] {
         assert!(rt; options(alloc, &words(alloc, line)?).is_err(), "{line}");
     }

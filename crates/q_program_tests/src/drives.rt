@@ -18,7 +18,9 @@ pub fn settings(
     show: bool,
 ) -> Result<DriveSettings, Fail> {
     let device = RunSettings::defaults();
-    Ok(DriveSettings::new(device, senders, count, len, ring, show).ok_or("settings in range")?)
+    Ok(DriveSettings::new(device, senders, count, len, ring, false, show).ok_or(
+        "settings in range",
+    )?)
 }
 
 /// What standard input and settings come to: the outcome and all that is written.

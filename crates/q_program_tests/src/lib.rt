@@ -9,6 +9,8 @@ mod answers;
 #[cfg(test)]
 mod command_lines;
 #[cfg(test)]
+mod drained;
+#[cfg(test)]
 mod drives;
 #[cfg(test)]
 mod imports;

@@ -13,6 +13,8 @@ mod pair;
 #[cfg(test)]
 mod ports;
 #[cfg(test)]
+mod readiness;
+#[cfg(test)]
 mod refused;
 #[cfg(test)]
 mod senders;

@@ -1,5 +1,6 @@
-use Rattle.std.proofs.Common.{◌∙◌, [], ap, sym, map, replicate}
+use Rattle.std.proofs.Common.{◌∙◌, Bool, [], ap, sym, subst, map, replicate}
 use Rattle.q_ports.specs.Driven.{packets_of}
+use Rattle.q_drive.specs.Drained.{IsDrainedIf}
 use Rattle.q_drive.proofs.Accounts.{accounted}
 use Rattle.q_drive.proofs.driving.drive_booked.Goals as goal
 
@@ -16,6 +17,10 @@ returns-in-Ok-drive g c =
       all = rw (ended.settled, ended.given_up) a.all;
       bytes = rw (ended.settled) a.bytes;
       arrived = ended.arrived ∙ sym ended.settled;
+      left = c.into_inner-booked.result;
+      left_arrived = ended.left ∙ sym ended.settled;
+      left_replayed = ended.left_replayed;
+      drained = subst (λ (asked : Bool). IsDrainedIf asked c.into_inner-booked.result c.ended.result.device c.ended.result.drained) c.until_idle.ensures ended.drained;
       lawful = ended.lawful;
       replayed = ended.replayed;
       recorded = ended.recorded;

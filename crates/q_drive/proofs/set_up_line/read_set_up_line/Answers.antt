@@ -1,5 +1,4 @@
-use Rattle.std.proofs.Common.{◌∙◌, rules, sym, ap, subst, IsUtf8, ◌≡◌, bytes_eq, codes, false}
-use Rattle.std.proofs.lemmas.Grind.{common_steps}
+use Rattle.std.proofs.Common.{◌∙◌, rules, sym, ◌≡◌, bytes_eq, codes, false}
 use Rattle.q_line.specs.Grammar.{line_of}
 use Rattle.q_words.specs.Words.{words_in}
 use Rattle.q_drive.specs.SetUp.{narrowed_line}

@@ -1,0 +1,72 @@
+//! From which moment on the device behind the lock may give its next packet.
+ghost use Rattle.std.specs.Prelude.{◌≡◌};
+ghost use Rattle.q_model.specs.Tally.{no_totals};
+
+use crate::common::{device, packet};
+use q_device::{Burst, Command, Device, Kind, Place, Polled, Rate, TbfLimit};
+use q_packet::{Moment, Packet};
+use q_ports::{Booked, Seat};
+use std::marker::Brand;
+use std::process::Abort;
+use std::sync::ledger::{Blank, Ledger};
+use std::test::Fail;
+
+/// A tbf that begins with 150 bytes of tokens, and gets a byte a second.
+fn slow() -> Option<Command> {
+    Some(Command::QdiscAdd {
+        place: Place::Root,
+        handle: None,
+        kind: Kind::Tbf {
+            rate: Rate::new(8)?,
+            burst: Burst::new(150)?,
+            limit: TbfLimit::Bytes(1000),
+        },
+    })
+}
+
+#[test]
+fn ready_once_the_bucket_has_enough(rt: HostRuntime) -> Result<(), Fail> {
+    let mut device = device(rt.alloc(), 0).ok_or("memory")?;
+    device.command(slow().ok_or("in range")?, Moment::zero())?;
+    let given = packet(1).ok_or("a packet")?;
+    waits::<Brand, Brand, _>(&rt, device, given, Blank::new(65), Blank::new(65));
+    Ok(())
+}
+
+// Two packets of 100 bytes come, of which the bucket pays for one. The other lacks 50 bytes, which come in 50 s.
+fn waits<P: Ledger, B: Ledger, R: Abort>(
+    rt: &R,
+    device: Device,
+    given: Packet,
+    packets: Blank,
+    bytes: Blank,
+)
+    requires nothing { device.device.tree.top.arrived ≡ no_totals }
+    requires packets { (packets.name ≡ P.name) × (packets.parts ≡ P.parts) × (P.parts ≡ 65) }
+    requires bytes { (bytes.name ≡ B.name) × (bytes.parts ≡ B.parts) × (B.parts ≡ 65) }
+{
+    let (mut booked, mut seat) = Booked::<P, B>::new(device, packets, bytes);
+    assert_eq!(rt; booked.ready_at(), None);
+    arrive(rt, &mut booked, &mut seat, given);
+    arrive(rt, &mut booked, &mut seat, given);
+    assert_eq!(rt; booked.ready_at(), Some(Moment::zero()));
+    assert_eq!(rt; booked.poll(Moment::zero()), Polled::Packet(given));
+    assert_eq!(rt; booked.poll(Moment::zero()), Polled::Later);
+    let ready = Moment::new(50_000_000_000);
+    assert_eq!(rt; booked.ready_at(), ready);
+    let Some(ready) = ready else {
+        panic!(rt; "a moment");
+    };
+    assert_eq!(rt; booked.poll(ready), Polled::Packet(given));
+    assert_eq!(rt; booked.ready_at(), None);
+}
+
+// A packet arrives at the start.
+fn arrive<P: Ledger, B: Ledger, R: Abort>(
+    rt: &R,
+    booked: &mut Booked<P, B>,
+    seat: &mut Seat<P, B>,
+    given: Packet,
+) {
+    assert!(rt; booked.arrive(seat, given, Moment::zero()).is_ok());
+}
