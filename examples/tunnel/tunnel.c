@@ -280,9 +280,9 @@ static bool run(struct tunnel *tunnel) {
 }
 
 int main(int argc, char **argv) {
-    static struct tunnel tunnel; /* its buffers are too large for a stack */
-    if (argc != 4) {
-        fprintf(stderr, "usage: tunnel DEVICE DEVICE FILE\n");
+    static struct tunnel tunnel; /* too large for a stack; with all bytes 0, both devices are closed */
+    if (argc != 4 || strlen(argv[1]) >= IFNAMSIZ || strlen(argv[2]) >= IFNAMSIZ) {
+        fprintf(stderr, "usage: tunnel DEVICE DEVICE FILE, where a device has a name of %d bytes at most\n", IFNAMSIZ - 1);
         return 2;
     }
     tunnel.file = argv[3];
