@@ -110,6 +110,7 @@ impl Node {
     /// A packet arrives at the node, and goes down its route: a place is made where it is queued, and it is put there, or lost. It
     /// is booked at each node on the way back, and at none where memory is refused.
     #[cycle(arrive)]
+    #[inline(always)]
     pub(crate) fn arrive<S: Sink>(
         &mut self,
         packet: &Packet,
@@ -139,7 +140,36 @@ impl Node {
 impl Discipline {
     // A packet arrives at a node with this discipline and these filters.
     #[cycle(arrive)]
+    #[inline(always)]
     fn arrive<S: Sink>(
+        &mut self,
+        filters: &[Filter],
+        packet: &Packet,
+        now: Moment,
+        lost: &mut Outcome,
+        sink: &mut S,
+    ) -> Result<Arrived, AllocError>
+        requires ready { CanComeIn now packet.now self.old }
+        requires sink { length (packets_within self.old) + 1 ≤ S.room sink.old }
+        requires clean { lost.old ≡ nothing_lost }
+        ensures after { IfOk result (λ outcome. HasComeIn now packet.now filters.now self.old self.new outcome (S.losses sink.old) (S.losses sink.new) (S.room sink.old) (S.room sink.new)) }
+        ensures same { OnErr result (IsPlacedIn self.old self.new) }
+        ensures not_lost { OnErr result ((S.losses sink.new ≡ S.losses sink.old) × (S.room sink.new ≡ S.room sink.old)) }
+        ensures succeeds { ((way_in packet.now filters.now self.old).refusal ≡ None → HasPlaceOn (way_in packet.now filters.now self.old).path self.old) → IsOk result }
+        ensures lost_is { IfOk result (λ outcome. lost.new ≡ outcome) }
+        ensures kept { S.keeps sink.old sink.new }
+    {
+        // A fifo is met with no call: most packets end in one.
+        match self {
+            Discipline::Fifo(fifo) => return arrive_in_fifo(fifo, packet, now, lost, sink),
+            _ => return self.arrive_further(filters, packet, now, lost, sink),
+        }
+    }
+
+    // The same, by a call.
+    #[cycle(arrive)]
+    #[inline(never)]
+    fn arrive_further<S: Sink>(
         &mut self,
         filters: &[Filter],
         packet: &Packet,

@@ -17,6 +17,7 @@ use q_packet::{Moment, Packet};
 /// Asks the classes of the active list in turn, and grants to each whose packet is longer than its deficit, until one is met
 /// that can send its packet, which is then taken and held, or that shows none (tc-drr(8)).
 #[cycle(peek)]
+#[inline(never)]
 pub(crate) fn serve<S: Sink>(
     active: &mut Active,
     classes: &mut [Node],

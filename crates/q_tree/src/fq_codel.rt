@@ -19,6 +19,7 @@ use q_model::Totals;
 use q_packet::{Cause, Moment, Packet};
 
 /// Puts a packet into its flow, and counts what the fattest flow loses.
+#[inline(never)]
 pub(crate) fn put_in_flow<S: Sink>(
     queue: &mut FqCodel,
     packet: &Packet,
@@ -51,6 +52,7 @@ pub(crate) fn put_in_flow<S: Sink>(
 }
 
 /// Takes the packet that the flow in front sends (RFC 8290, section 4.2), to hold it, and counts what CoDel drops and marks.
+#[inline(never)]
 pub(crate) fn take_from_flows<S: Sink>(
     queue: &mut FqCodel,
     held: &mut Option<Packet>,

@@ -14,6 +14,7 @@ impl Node {
     /// Gives the packet that the node has at hand into `out`, as [`Node::pop`] takes it, and says whether there was one. Where
     /// there was none, nothing changes.
     #[cycle(give)]
+    #[inline(always)]
     pub(crate) fn give(&mut self, out: &mut Packet) -> bool
         ensures given { result ≡ is_some (pop self.old).shown }
         ensures packet { out.new ≡ unwrap_or (pop self.old).shown out.old }
@@ -37,7 +38,23 @@ impl Node {
 impl Discipline {
     // Gives a fifo's head, or the packet of a prio's first band that has one.
     #[cycle(give)]
+    #[inline(always)]
     fn give(&mut self, out: &mut Packet) -> bool
+        ensures given { result ≡ is_some (popping_of self.old).shown }
+        ensures packet { out.new ≡ unwrap_or (popping_of self.old).shown out.old }
+        ensures after { IsPoppedIn self.old self.new }
+    {
+        // A fifo is met with no call, as where a packet arrives.
+        match self {
+            Discipline::Fifo(fifo) => return dequeue_head(fifo, out).has_packet(),
+            _ => return self.give_further(out),
+        }
+    }
+
+    // The same, by a call.
+    #[cycle(give)]
+    #[inline(never)]
+    fn give_further(&mut self, out: &mut Packet) -> bool
         ensures given { result ≡ is_some (popping_of self.old).shown }
         ensures packet { out.new ≡ unwrap_or (popping_of self.old).shown out.old }
         ensures after { IsPoppedIn self.old self.new }

@@ -26,6 +26,7 @@ impl Node {
     /// A tbf, a drr and an fq_codel dequeue the packet that they show, and hold it until it is popped; one that holds a packet
     /// shows that one, and nobody beneath it is asked. It takes no memory. `sink` needs room for what is queued.
     #[cycle(peek)]
+    #[inline(always)]
     pub(crate) fn peek<S: Sink>(&mut self, now: Moment, sink: &mut S) -> Shown
         requires ready { CanAsk now self.old }
         requires sink { length (beneath self.old) ≤ S.room sink.old }
@@ -48,6 +49,7 @@ impl Node {
 impl Discipline {
     // What a node with this discipline shows that holds no packet: a tbf, a drr and an fq_codel dequeue it, and hold it then.
     #[cycle(peek)]
+    #[inline(always)]
     fn ask<S: Sink>(&mut self, held: &mut Option<Packet>, now: Moment, sink: &mut S) -> Shown
         requires none { held.old ≡ None }
         requires ready { CanAskIn now self.old }

@@ -11,6 +11,7 @@ use q_packet::Moment;
 
 /// Asks the bands in order, up to the first that shows a packet, and shows that one (tc-prio(8)).
 #[cycle(peek)]
+#[inline(never)]
 pub(crate) fn ask_bands<S: Sink>(bands: &mut [Node], now: Moment, sink: &mut S) -> Shown
     requires ready { CanAskEach now bands.old }
     requires sink { length (packets_beneath bands.old) ≤ S.room sink.old }

@@ -12,6 +12,7 @@ use q_packet::{Moment, Packet};
 
 /// Asks the child, and takes the packet that it shows where the bucket allows it, to hold it (tc-tbf(8)).
 #[cycle(peek)]
+#[inline(never)]
 pub(crate) fn ask_child<S: Sink>(
     bucket: &mut Bucket,
     child: &mut Node,

@@ -1,10 +1,13 @@
-use Rattle.std.proofs.Common.{◌≡◌, ◌<◌, ◌∙◌, map, set, length, refl, sym, ap, subst, arith}
+use Rattle.std.proofs.Common.{List, ◌≡◌, ◌<◌, ◌∙◌, map, set, length, refl, sym, ap, subst, arith}
 use Rattle.std.specs.Prelude.{is_some, unwrap_or}
 use Rattle.std.specs.Vec.{with_item}
 use Rattle.std.proofs.lemmas.List.{length-map}
 use Rattle.q_model.specs.Pop.{first_ready, pop}
 use Rattle.q_model.specs.Work.{booked}
-use Rattle.q_tree.specs.Kept.{kept}
+use Rattle.q_model.specs.Node.{Node, side_by_side}
+use Rattle.q_tree.specs.Kept.{Kept, kept}
+use Rattle.q_tree.specs.NodeCode.{forest_size}
+use Rattle.q_tree.proofs.RouteLemmas.{child-size}
 use Rattle.q_tree.specs.PopSteps.{IsPoppedIn, popping_of}
 use Rattle.q_tree.specs.Seen.{seen, children_seen, discipline_seen, places_seen}
 use Rattle.q_tree.specs.declared.node.Discipline.TheVariants as code
@@ -14,28 +17,34 @@ use Rattle.q_tree.proofs.RowsOf.{row-of, among}
 use Rattle.q_tree.proofs.SendLemmas.{given-some, given-none}
 use Rattle.q_tree.proofs.node.+give.Goals as goal
 
-pub Discipline::give-returns-in_default-clause-after : goal.Discipline::give-returns-in_default-clause-after
-Discipline::give-returns-in_default-clause-after t c =
+pub Discipline::give_further-returns-in_default-clause-after : goal.Discipline::give_further-returns-in_default-clause-after
+Discipline::give_further-returns-in_default-clause-after t c =
     let none = subst (λ xs. first_ready (map pop xs) ≡ length (map pop xs)) c.deref.ensures.value c.in_default.ensures in
     prio-popped c.args.self.now (code.Prio c.in-Prio.priomap c.in-Prio.bands) c.in-Prio.bands.items c.in-Prio.bands.items c.in-Prio.priomap (ap discipline_seen c.in-Prio.is) refl
     (ap children_seen c.in-Prio.is) refl (sym (ap places_seen c.in-Prio.is)) (prio-kept c.in-Prio.bands.items none) (λ t h. h)
 
-pub Discipline::give-returns-in-Prio-clause-given : goal.Discipline::give-returns-in-Prio-clause-given
-Discipline::give-returns-in-Prio-clause-given t c =
+pub Discipline::give_further-give-requires : goal.Discipline::give_further-give-requires
+Discipline::give_further-give-requires t c =
+    let inside : c.in-Some.place < length c.in-Prio.bands.items = omega (arith, c.in-Some.ensures.1, length-map c.deref.result.now pop, ap (λ xs. length xs) c.deref.ensures.value) in
+    let there = there-at c.in-Prio.bands.items c.in-Some.place c.index_mut.result.now inside c.index_mut.ensures.value in
+    (omega (arith, child-size c.in-Prio.bands.items c.in-Some.place c.index_mut.result.now there, ap (λ (ns : List (Node Kept)). forest_size (side_by_side ns)) (ap children_seen c.in-Prio.is), c.decreases), tt)
+
+pub Discipline::give_further-returns-in-Prio-clause-given : goal.Discipline::give_further-returns-in-Prio-clause-given
+Discipline::give_further-returns-in-Prio-clause-given t c =
     let first = subst (λ xs. c.in-Some.place ≡ first_ready (map pop xs)) c.deref.ensures.value c.in-Some.ensures.0 in
     let inside : c.in-Some.place < length c.in-Prio.bands.items = omega (arith, c.in-Some.ensures.1, length-map c.deref.result.now pop, ap (λ xs. length xs) c.deref.ensures.value) in
     let there = there-at c.in-Prio.bands.items c.in-Some.place c.index_mut.result.now inside c.index_mut.ensures.value in
     c.give.ensures.given ∙ ap is_some (prio-gave c.in-Prio.bands.items c.in-Some.place c.index_mut.result.now there first ∙ sym (ap (λ d. (popping_of d).shown) c.in-Prio.is))
 
-pub Discipline::give-returns-in-Prio-clause-packet : goal.Discipline::give-returns-in-Prio-clause-packet
-Discipline::give-returns-in-Prio-clause-packet t c =
+pub Discipline::give_further-returns-in-Prio-clause-packet : goal.Discipline::give_further-returns-in-Prio-clause-packet
+Discipline::give_further-returns-in-Prio-clause-packet t c =
     let first = subst (λ xs. c.in-Some.place ≡ first_ready (map pop xs)) c.deref.ensures.value c.in-Some.ensures.0 in
     let inside : c.in-Some.place < length c.in-Prio.bands.items = omega (arith, c.in-Some.ensures.1, length-map c.deref.result.now pop, ap (λ xs. length xs) c.deref.ensures.value) in
     let there = there-at c.in-Prio.bands.items c.in-Some.place c.index_mut.result.now inside c.index_mut.ensures.value in
     c.give.ensures.packet ∙ ap (λ o. unwrap_or o c.args.out.now) (prio-gave c.in-Prio.bands.items c.in-Some.place c.index_mut.result.now there first ∙ sym (ap (λ d. (popping_of d).shown) c.in-Prio.is))
 
-pub Discipline::give-returns-in-Prio-clause-after : goal.Discipline::give-returns-in-Prio-clause-after
-Discipline::give-returns-in-Prio-clause-after t c =
+pub Discipline::give_further-returns-in-Prio-clause-after : goal.Discipline::give_further-returns-in-Prio-clause-after
+Discipline::give_further-returns-in-Prio-clause-after t c =
     let first = subst (λ xs. c.in-Some.place ≡ first_ready (map pop xs)) c.deref.ensures.value c.in-Some.ensures.0 in
     let inside : c.in-Some.place < length c.in-Prio.bands.items = omega (arith, c.in-Some.ensures.1, length-map c.deref.result.now pop, ap (λ xs. length xs) c.deref.ensures.value) in
     let there = there-at c.in-Prio.bands.items c.in-Some.place c.index_mut.result.now inside c.index_mut.ensures.value in
@@ -44,12 +53,12 @@ Discipline::give-returns-in-Prio-clause-after t c =
     (prio-children c.in-Prio.bands.items c.in-Some.place c.index_mut.result.now c.give.new.self there first c.give.ensures.after)
     (set-within c.in-Prio.bands.items c.in-Some.place c.index_mut.result.now c.give.new.self there c.give.ensures.arrived)
 
-pub Discipline::give-returns-in-Tbf-clause-after : goal.Discipline::give-returns-in-Tbf-clause-after
-Discipline::give-returns-in-Tbf-clause-after t c =
+pub Discipline::give_further-returns-in-Tbf-clause-after : goal.Discipline::give_further-returns-in-Tbf-clause-after
+Discipline::give_further-returns-in-Tbf-clause-after t c =
     subst (λ d. IsPoppedIn d d) (sym c.in-Tbf.is) (none-popped (code.Tbf c.in-Tbf.bucket c.in-Tbf.limit c.in-Tbf.child) tt)
 
-pub Discipline::give-returns-in-Drr-clause-after : goal.Discipline::give-returns-in-Drr-clause-after
-Discipline::give-returns-in-Drr-clause-after t c =
+pub Discipline::give_further-returns-in-Drr-clause-after : goal.Discipline::give_further-returns-in-Drr-clause-after
+Discipline::give_further-returns-in-Drr-clause-after t c =
     subst (λ d. IsPoppedIn d d) (sym c.in-Drr.is) (none-popped (code.Drr c.in-Drr.active c.in-Drr.classes) tt)
 
 pub Node::give-returns-in-Some-clause-after : goal.Node::give-returns-in-Some-clause-after
