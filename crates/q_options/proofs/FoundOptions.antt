@@ -3,7 +3,7 @@ use Rattle.std.proofs.Common.{◌≡◌, ◌∙◌, ℕ, ◌≤◌, ◌<◌, ◌
 use Rattle.std.proofs.lemmas.Bool.{leb-true, leb-false}
 use Rattle.std.proofs.Math.Dec.{leb}
 use mathlib.Core.Path.{fun_ext}
-use Rattle.clap.specs.Words.{HasKind, Row, Text, fault_of, is_simple, is_simple_and_free, kind_of, one_of, one_text, subcommand_of, subcommand_rows}
+use Rattle.clap.specs.Words.{HasKind, Row, Text, fault_of, first_value, is_simple, is_simple_and_free, kind_of, one_of, one_text, subcommand_of, subcommand_rows}
 use Rattle.clap.specs.declared.error.Error.{Error}
 use Rattle.clap.specs.declared.error.kind.ErrorKind.{ErrorKind}
 use Rattle.clap.proofs.OnLiterals.{clap_on_literals}
@@ -13,13 +13,17 @@ use Rattle.clap.specs.declared.parser.matches.SubCommand.{SubCommand}
 use Rattle.clap.specs.declared.parser.matches.ArgMatches.TheViews.{out-SubCommand}
 use Rattle.std.specs.Box.{box_value}
 use Rattle.std.specs.Result.{IfErr, IsErrAnd}
-use Rattle.clap.proofs.WalkLemmas.{one_text-rows}
-use Rattle.q_options.specs.CommandLine.{HasBadDriveOption, HasBadOption, HasDriveOptionsOf, HasOptionsOf, IsGiven, IsNotGood, IsRefused, IsUnreadable, Texts, number_of, program, texts_in}
+use Rattle.clap.proofs.WalkLemmas.{first_value-rows, one_text-rows}
+use Rattle.q_options.specs.CommandLine.{HasBadDriveOption, HasBadOption, HasDriveOptionsOf, HasOptionsOf, IsGiven, IsNotGood, IsRefused, IsUnreadable, Texts, number_of, program, texts_in, written_in}
 use Rattle.q_drive.specs.Drive.{Drive, IsInRange}
 
 -- either way of asking what was found
 pub texts_are : (f : Found) → one_text f ≡ texts_in (rows_of f)
 texts_are f = fun_ext (one_text-rows f)
+
+-- and what was written
+pub written_are : (f : Found) → first_value f ≡ written_in (rows_of f)
+written_are f = fun_ext (first_value-rows f)
 
 play_is_not_drive : codes "play" ≡ codes "drive" → ⊥
 play_is_not_drive e = cc

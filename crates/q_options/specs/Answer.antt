@@ -1,12 +1,13 @@
 -- What the program answers: its exit status, the report on its output and one line on its error output.
 -- The statuses and the words are this project's own.
-use Rattle.std.specs.Prelude.{◌≡◌, ◌≢◌, ℕ, ◌⊎◌, List, [], ◌∷◌, ◌++◌, Option, Some, None, IfSome, Ok, Err, codes}
+use Rattle.std.specs.Prelude.{◌≡◌, ◌≢◌, ℕ, ◌⊎◌, List, [], ◌∷◌, ◌++◌, Option, Some, None, IfSome, Ok, Err, codes, take, min, length, option_map, string_bytes}
 use Rattle.std.specs.Io.KnownBytes.{Appends, Keeps}
 use Rattle.std.specs.declared.io.ErrorKind.{ErrorKind}
 use Rattle.q_drive.specs.Drive.{Drive}
 use Rattle.q_drive.specs.Reported.{IsDriven, IsPartlyDriven}
 use Rattle.q_options.specs.declared.fault.Fault.{Fault}
 use Rattle.q_options.specs.declared.fault.Fault.TheVariants.{Argument, Help, Run}
+use Rattle.q_options.specs.declared.play_options.PlayOptions.{PlayOptions}
 use Rattle.clap.specs.Words.{Text}
 use Rattle.clap.specs.declared.error.kind.ErrorKind.{ErrorKind as Kind}
 use Rattle.clap.specs.declared.error.kind.ErrorKind.TheVariants.{DisplayHelp, DisplayVersion}
@@ -35,18 +36,26 @@ kind_of Argument = None
 kind_of (Help kind) = Some kind
 kind_of (Run fault) = fault_kind fault
 
--- the words for a kind are Rust's, behind a colon
-abbrev pub caused : Option ErrorKind → List ℕ → List ℕ
-caused None words = []
-caused (Some kind) words = codes ": " ++ words
+-- the words for a kind stand behind a colon
+abbrev pub caused : Option ErrorKind → List ℕ → List ℕ → List ℕ
+caused None words front = front
+caused (Some kind) words front = front ++ codes ": " ++ words
+
+-- what stands before it where the script is a file's: the first bytes of its path
+abbrev pub named : Option Text → List ℕ
+named None = []
+named (Some path) = take (min (length path) 512) path ++ codes ": "
 
 -- the line that tells of a fault, with some words for its kind
-abbrev pub line_with : Fault → List ℕ → List ℕ
-line_with fault words = codes "qtree: " ++ text_of fault ++ caused (kind_of fault) words ++ (10 ∷ [])
+abbrev pub line_with : List ℕ → Fault → List ℕ → List ℕ
+line_with name fault words = caused (kind_of fault) words (codes "qtree: " ++ name ++ text_of fault) ++ (10 ∷ [])
 
 -- the error output has that line and nothing else, or a front of it where it could not be written
+abbrev pub IsToldOf : Option Text → Fault → Option (List ℕ) → Option (List ℕ) → Type 0
+IsToldOf file fault old new = (words : List ℕ) × (Appends old new (line_with (named file) fault words) ⊎ AppendsFront old new (line_with (named file) fault words))
+
 abbrev pub IsTold : Fault → Option (List ℕ) → Option (List ℕ) → Type 0
-IsTold fault old new = (words : List ℕ) × (Appends old new (line_with fault words) ⊎ AppendsFront old new (line_with fault words))
+IsTold fault old new = IsToldOf None fault old new
 
 -- what the output has after a fault: a front of a report where that could not be written, else nothing new
 abbrev pub Leaves : (List ℕ → Type 0) → RunFault → Option (List ℕ) → Option (List ℕ) → Option (List ℕ) → Type 0
@@ -55,26 +64,44 @@ Leaves partly TooLong script old new = Keeps old new
 Leaves partly (Write kind) script old new = IfSome script partly
 Leaves partly Memory script old new = Keeps old new
 
--- Standard input was read: what the output and the error output had before and have now, what the reads and writes came to, and
--- the status. What is reported whole of a script, with its outcome, and what in part, is the command's own.
-pub record IsAnswered (whole : Outcome → List ℕ → Type 0) (partly : List ℕ → Type 0) (script old new errors_old errors_new : Option (List ℕ)) (reads : Reads) (writes : Writes) (status : ℕ) : Type 0 where
+-- Standard input or a file was read: what the output and the error output had before and have now, what the reads and writes came
+-- to, and the status. What is reported whole of a script, with its outcome, and what in part, is the command's own.
+pub record IsAnswered (file : Option Text) (whole : Outcome → List ℕ → Type 0) (partly : List ℕ → Type 0) (script old new errors_old errors_new : Option (List ℕ)) (reads : Reads) (writes : Writes) (status : ℕ) : Type 0 where
   -- the whole report, in which nothing had a fault or was refused
   pub clean : status ≡ 0 → IfSome script (whole Clean) × Ended (Ok Clean) reads writes
   -- the whole report, in which something had a fault or was refused
   pub refused : status ≡ 1 → IfSome script (whole Refused) × Ended (Ok Refused) reads writes
   pub silent : status ≢ 2 → Keeps errors_old errors_new
   -- not the whole report, and a line that says why
-  pub fault : status ≡ 2 → (fault : RunFault) × IsTold (Run fault) errors_old errors_new × Leaves partly fault script old new × Ended (Err fault) reads writes
+  pub fault : status ≡ 2 → (fault : RunFault) × IsToldOf file (Run fault) errors_old errors_new × Leaves partly fault script old new × Ended (Err fault) reads writes
 
--- a script was played
+-- a script of a file or of standard input was played
+abbrev pub IsPlayedOf : Option Text → Settings → Option (List ℕ) → Option (List ℕ) → Option (List ℕ) → Option (List ℕ) → Option (List ℕ) → Reads → Writes → ℕ → Type 0
+IsPlayedOf file settings script old new errors_old errors_new reads writes status =
+    IsAnswered file (λ told all. IsReported settings all told old new) (λ all. IsPartlyReported settings all old new) script old new errors_old errors_new reads writes status
+
 abbrev pub IsPlayed : Settings → Option (List ℕ) → Option (List ℕ) → Option (List ℕ) → Option (List ℕ) → Option (List ℕ) → Reads → Writes → ℕ → Type 0
-IsPlayed settings script old new errors_old errors_new reads writes status =
-    IsAnswered (λ told all. IsReported settings all told old new) (λ all. IsPartlyReported settings all old new) script old new errors_old errors_new reads writes status
+IsPlayed settings script old new errors_old errors_new reads writes status = IsPlayedOf None settings script old new errors_old errors_new reads writes status
+
+-- a file could not be opened, which is told with its name; nothing was written
+pub record IsUnopened {T : Type 0} (path : Text) (target target_new : T) (errors_old errors_new : Option (List ℕ)) (status : ℕ) : Type 0 where
+  pub status_is : status ≡ 2
+  pub unwritten : target_new ≡ target
+  pub told : (kind : ErrorKind) × IsToldOf (Some path) (Run (Read kind)) errors_old errors_new
+
+-- The script of the file that is named was played, of which `remaining` says what it had, and the source was not read; or the
+-- script of the source, where no file is named.
+pub record IsPlayedFrom {F S T : Type 0} (remaining : F → Option (List ℕ)) (options : PlayOptions) (source source_new : S) (target target_new : T) (input old new errors_old errors_new : Option (List ℕ)) (reads : Reads) (writes : Writes) (status : ℕ) : Type 0 where
+  pub of_input : option_map string_bytes options.file ≡ None → IsPlayedOf None options.settings input old new errors_old errors_new reads writes status
+  pub unread : (path : Text) → option_map string_bytes options.file ≡ Some path → source_new ≡ source
+  pub of_file : (path : Text) → option_map string_bytes options.file ≡ Some path
+      → IsUnopened path target target_new errors_old errors_new status
+      ⊎ ((file : F) × (file_reads : Reads) × IsPlayedOf (Some path) options.settings (remaining file) old new errors_old errors_new file_reads writes status)
 
 -- a device was set up and driven
 abbrev pub IsDriveAnswered : Drive → Option (List ℕ) → Option (List ℕ) → Option (List ℕ) → Option (List ℕ) → Option (List ℕ) → Reads → Writes → ℕ → Type 0
 IsDriveAnswered settings script old new errors_old errors_new reads writes status =
-    IsAnswered (λ told all. IsDriven settings all told old new) (λ all. IsPartlyDriven settings all old new) script old new errors_old errors_new reads writes status
+    IsAnswered None (λ told all. IsDriven settings all told old new) (λ all. IsPartlyDriven settings all old new) script old new errors_old errors_new reads writes status
 
 -- No read was made: help or the version was shown, or the command line was refused. Where the output was written to and the status
 -- is 2, a write failed.

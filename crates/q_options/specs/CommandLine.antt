@@ -1,14 +1,15 @@
 -- What the words of a command line ask for: the program's commands with their options, and what clap found of these.
 -- How clap walks over the words is in its own definitions: `subcommand_of` is the command that they name, with its options, and
 -- `fault_of` the kinds of fault that they have. The options, their ranges and defaults are this project's own.
-use Rattle.std.specs.Prelude.{◌≡◌, ◌≤◌, ◌⊎◌, ℕ, pos, Bool, true, false, List, [], ◌∷◌, Option, None, Some, codes, ⊤}
+use Rattle.std.specs.Prelude.{◌≡◌, ◌≤◌, ◌⊎◌, ℕ, pos, Bool, true, false, List, [], ◌∷◌, Option, None, Some, option_map, string_bytes, codes, ⊤}
 use Rattle.std.specs.Str.Parse.{IsNumeral, digits_value, without_leading_plus}
-use Rattle.clap.specs.Words.{App, Row, Rule, Text, IsAmong, fault_of, new_app, new_rule, one_of, subcommand_of, with_rule, with_subcommand}
+use Rattle.clap.specs.Words.{App, Row, Rule, Text, IsAmong, fault_of, first_of, new_app, new_rule, one_of, subcommand_of, with_rule, with_subcommand}
 use Rattle.clap.specs.declared.builder.action.ArgAction.TheVariants.{SetTrue}
 use Rattle.clap.specs.declared.builder.value_parser.ValueParser.TheVariants as vp
 use Rattle.clap.specs.declared.error.kind.ErrorKind.{ErrorKind}
 use Rattle.clap.specs.declared.error.kind.ErrorKind.TheVariants.{OutOfMemory}
 use Rattle.q_drive.specs.Drive.{Drive}
+use Rattle.q_options.specs.declared.play_options.PlayOptions.{PlayOptions}
 use Rattle.q_options.specs.declared.program_options.Options.{Options}
 use Rattle.q_options.specs.declared.program_options.Options.TheVariants as options
 use Rattle.q_script.specs.Settings.{Settings}
@@ -34,8 +35,12 @@ with_device a =
     (number_rule (codes "seed") 0 4294967295 false))
     (number_rule (codes "record") 0 1000000 false)
 
+-- the file that has the script: a word without an option
+abbrev pub file_rule : Rule
+file_rule = record (new_rule (codes "file")) { value_names = 1 }
+
 abbrev pub play_app : App
-play_app = with_device (new_app (codes "play"))
+play_app = with_rule (with_device (new_app (codes "play"))) file_rule
 
 -- a command with the options of its senders
 abbrev pub with_load : App → App
@@ -64,6 +69,10 @@ Texts = Text → Option Text
 abbrev pub texts_in : List Row → Texts
 texts_in rows name = one_of name rows
 
+-- the same, as the text was written
+abbrev pub written_in : List Row → Texts
+written_in rows name = first_of name rows
+
 abbrev pub number_of : Text → ℕ
 number_of text = digits_value 10 (without_leading_plus text)
 
@@ -90,6 +99,11 @@ pub record HasOptionsOf (found : Texts) (s : Settings) : Type 0 where
   pub seed : IsNumber (found (codes "seed")) 0 s.seed
   pub recorder : IsNumber (found (codes "record")) 4096 s.recorder
 
+-- And so is what is asked of play. A path is taken as it is written.
+pub record HasPlayOptionsOf (found written : Texts) (o : PlayOptions) : Type 0 where
+  pub device : HasOptionsOf found o.settings
+  pub file : option_map string_bytes o.file ≡ written (codes "file")
+
 -- and so are those of a drive
 pub record HasDriveOptionsOf (found : Texts) (s : Drive) : Type 0 where
   pub device : HasOptionsOf found s.device
@@ -102,7 +116,7 @@ pub record HasDriveOptionsOf (found : Texts) (s : Drive) : Type 0 where
 
 -- what is asked for, by the command that was found with its options
 abbrev pub IsAskedBy : Option (Text × List Row) → Options → Type 0
-IsAskedBy found (options.Play s) = (rows : List Row) × (found ≡ Some (codes "play", rows)) × HasOptionsOf (texts_in rows) s
+IsAskedBy found (options.Play o) = (rows : List Row) × (found ≡ Some (codes "play", rows)) × HasPlayOptionsOf (texts_in rows) (written_in rows) o
 IsAskedBy found (options.Drive s) = (rows : List Row) × (found ≡ Some (codes "drive", rows)) × HasDriveOptionsOf (texts_in rows) s
 
 -- a number from `low` to `high`

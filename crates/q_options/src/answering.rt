@@ -3,35 +3,37 @@ ghost use Rattle.std.specs.Io.KnownBytes.{Keeps};
 ghost use Rattle.std.specs.IoError.{error_kind};
 ghost use Rattle.clap.specs.Words.{kind_of as clap_kind};
 ghost use Rattle.clap.specs.declared.error.kind.ErrorKind.TheVariants.{DisplayHelp, DisplayVersion};
-ghost use Rattle.q_options.specs.Answer.{IsDriveAnswered, IsPlayed, IsShown, IsTold, IsTurnedDown};
+ghost use Rattle.q_options.specs.Answer.{IsDriveAnswered, IsPlayedFrom, IsShown, IsTold, IsTurnedDown};
 ghost use Rattle.q_options.specs.CommandLine.{IsAsked};
+ghost use Rattle.q_options.specs.declared.play_options.PlayOptions.{PlayOptions};
 ghost use Rattle.q_options.specs.declared.program_options.Options.{Options as Asked};
 ghost use Rattle.q_drive.specs.Drive.{Drive};
 ghost use Rattle.q_options.specs.declared.fault.Fault.{Fault as SomeFault};
 ghost use Rattle.q_script.specs.Reads.{no_reads};
-ghost use Rattle.q_script.specs.Settings.{Settings};
 ghost use Rattle.q_show.specs.Writes.{no_writes, WriteFailed};
 
 use crate::command_line::options;
 use crate::driving::drive;
 use crate::fault::Fault;
-use crate::playing::{FAULT, play};
+use crate::play_asked::play_asked;
+use crate::playing::FAULT;
 use crate::program_options::Options;
 use crate::telling::tell;
 use q_script::{RunFault, Source};
 use q_show::Target;
 use std::alloc::Global;
+use std::fs::Files;
 use std::io::{Error, ErrorKind, Read, Write};
 use std::sync::Wait;
 use std::thread::Threads;
 
-/// Does what a command line asks for, the program's name first, and answers the exit status: that of [`play`] or of [`drive`]; 0
+/// Does what a command line asks for, the program's name first, and answers the exit status: that of [`play`](crate::play) or of [`drive`]; 0
 /// where help or the version was asked for and is written to the output; 2, with lines on the error output, where nothing that can
-/// be done was asked for. Standard input is read only to play or to drive. It waits for the threads of `drive`.
+/// be done was asked for. The source is read only to drive, or to play where no file is named. It waits for the threads of `drive`.
 ///
 /// The source and the target are new. What their reads and writes came to says which answer this is: no fault of a read or a
 /// write is told but that it came, and none that came is left untold.
-pub fn answer<H: Threads + Wait + Sync, R: Read, W: Write, E: Write>(
+pub fn answer<H: Files + Threads + Wait + Sync, R: Read, W: Write, E: Write>(
     rt: &H,
     alloc: Global,
     words: Result<Vec<String>, Error>,
@@ -47,8 +49,8 @@ pub fn answer<H: Threads + Wait + Sync, R: Read, W: Write, E: Write>(
     // The settings are those of the words.
     ensures answer { (IsShown source.old source.new target.old target.new (E.contents errors.old) (E.contents errors.new) target.new.writes result
         × IfOk words (λ all. IsTurnedDown (map string_bytes all.items) result))
-        ⊎ ((settings : Settings) × IfOk words (λ all. IsAsked (map string_bytes all.items) (Asked.Play settings)) × IsPlayed settings (R.remaining source.old.reader.now)
-        (W.contents target.old.writer.now) (W.contents target.new.writer.now)
+        ⊎ ((options : PlayOptions) × IfOk words (λ all. IsAsked (map string_bytes all.items) (Asked.Play options)) × IsPlayedFrom H.File.Read.remaining options source.old source.new target.old target.new
+        (R.remaining source.old.reader.now) (W.contents target.old.writer.now) (W.contents target.new.writer.now)
         (E.contents errors.old) (E.contents errors.new) source.new.reads target.new.writes result)
         ⊎ ((settings : Drive) × IfOk words (λ all. IsAsked (map string_bytes all.items) (Asked.Drive settings)) × IsDriveAnswered settings (R.remaining source.old.reader.now)
         (W.contents target.old.writer.now) (W.contents target.new.writer.now)
@@ -71,7 +73,7 @@ pub fn answer<H: Threads + Wait + Sync, R: Read, W: Write, E: Write>(
         Err(error) => return show(alloc, &error, target, errors),
     };
     match options {
-        Options::Play(settings) => play(alloc, settings, source, target, errors),
+        Options::Play(options) => play_asked(rt, alloc, &options, source, target, errors),
         Options::Drive(settings) => drive(rt, alloc, settings, source, target, errors),
     }
 }

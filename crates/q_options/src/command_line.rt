@@ -1,9 +1,10 @@
 ghost use Rattle.std.specs.Prelude.{◌≡◌, ◌≤◌, ◌⊎◌, IfOk, IfErr, IfSome, IsNone, Some, codes, pos, map, true, false};
-ghost use Rattle.clap.specs.Words.{app_of, found_of, kind_of, new_app, one_text, rule_of, subcommand_rows_of, with_rule, NarrowsTo};
-ghost use Rattle.q_options.specs.CommandLine.{HasBadDriveOption, HasBadOption, HasDriveOptionsOf, HasOptionsOf, IsAsked, IsAskedBy, IsBad, IsFlag, IsGiven, IsNotGood, IsNumber, IsRefused, IsUnreadable, drive_app, flag_rule, number_named, play_app, program};
+ghost use Rattle.clap.specs.Words.{app_of, first_value, found_of, kind_of, new_app, one_text, rule_of, subcommand_rows_of, with_rule, NarrowsTo};
+ghost use Rattle.q_options.specs.CommandLine.{HasBadDriveOption, HasBadOption, HasDriveOptionsOf, HasOptionsOf, HasPlayOptionsOf, IsAsked, IsAskedBy, IsBad, IsFlag, IsGiven, IsNotGood, IsNumber, IsRefused, IsUnreadable, drive_app, file_rule, flag_rule, number_named, play_app, program};
 ghost use Rattle.clap.specs.declared.Command.TheViews.{out-Command as fields_of};
 ghost use Rattle.q_options.specs.CommandLine as spec;
 
+use crate::play_options::PlayOptions;
 use crate::program_options::Options;
 use clap::error::ErrorKind;
 use clap::{Arg, ArgAction, ArgMatches, Command, Error, value_parser};
@@ -13,13 +14,17 @@ use std::alloc::{AllocError, Global};
 use std::convert::AsStr;
 
 /// The version of this program, and the kit that it is proved with.
-const VERSION: &str = "0.2.0, proved with rattle-kit-13f";
+const VERSION: &str = "0.2.0, proved with rattle-kit-13b";
 
-const EXAMPLE: &str = "Example:
-  printf 'tc qdisc add dev eth0 root pfifo limit 2\\npkt 1500\\npoll\\n' | qtree play";
+const PLAY_END: &str = "Example:
+  printf 'tc qdisc add dev eth0 root pfifo limit 2\\npkt 1500\\npoll\\n' | qtree play
 
-const DRIVE_EXAMPLE: &str = "Example:
-  qtree drive --senders 4 --count 1000 --len 100 --ring 16 </dev/null";
+The lines of a script are described in docs/LANGUAGE.md and in the manual page qtree(1).";
+
+const DRIVE_END: &str = "Example:
+  qtree drive --senders 4 --count 1000 --len 100 --ring 16 </dev/null
+
+tc's lines are described in docs/LANGUAGE.md and in the manual page qtree(1).";
 
 /// Reads a command line, the program's name first. An error is clap's: it has the usage, the help or the version that it
 /// prints.
@@ -29,7 +34,7 @@ pub fn options<S: AsStr>(alloc: Global, words: &[S]) -> Result<Options, Error>
 {
     let mut qtree = qtree(alloc)?;
     let matches = qtree.try_get_matches_from_mut(words)?;
-    match options_of(&matches) {
+    match options_of(alloc, &matches)? {
         Some(options) => Ok(options),
         // clap has seen to the command, and to each number's range.
         None => Err(qtree.error(ErrorKind::ValueValidation, "an option is out of its range")?),
@@ -55,9 +60,21 @@ fn play<'a>(alloc: Global) -> Result<Command<'a>, AllocError>
     ensures local { IfOk result (λ command. (fields_of command).has_globals ≡ false) }
 {
     let play = Command::new(alloc, "play")
-        .about("Reads a script on standard input and writes its report on standard output")
-        .after_help(EXAMPLE);
-    with_device(alloc, play)
+        .about(
+            "Reads a script, of a file or of standard input, and writes its report on standard output",
+        )
+        .after_help(PLAY_END);
+    with_device(alloc, play)?.arg(file(alloc))
+}
+
+/// The file that has the script.
+fn file<'a>(alloc: Global) -> Arg<'a>
+    ensures rule { rule_of result ≡ file_rule }
+    ensures local { result.global ≡ false }
+{
+    Arg::new(alloc, "file").value_name("FILE").help(
+        "The file that has the script; standard input where none is named",
+    )
 }
 
 /// The command that lets senders run over a device.
@@ -67,7 +84,7 @@ fn drive<'a>(alloc: Global) -> Result<Command<'a>, AllocError>
 {
     let drive = Command::new(alloc, "drive")
         .about("Sets up a device by tc's lines on standard input, and drives it from many threads")
-        .after_help(DRIVE_EXAMPLE);
+        .after_help(DRIVE_END);
     let drive = with_load(alloc, drive)?
         .arg(until_idle(alloc))?
         .arg(show(alloc))?;
@@ -102,18 +119,21 @@ fn with_load<'a>(alloc: Global, command: Command<'a>) -> Result<Command<'a>, All
     ensures local { IfOk result (λ r. (fields_of r).has_globals ≡ (fields_of command.entry).has_globals) }
 {
     command
-        .arg(needed(alloc, "senders", "Senders, 64 at most").value_parser(value_parser!(u8).range(
+        .arg(needed(alloc, "senders", "Senders, from 1 to 64").value_parser(value_parser!(u8).range(
             1..=64,
         )))?
-        .arg(needed(alloc, "count", "Packets of each sender, 1000000 at most").value_parser(
+        .arg(needed(alloc, "count", "Packets of each sender, from 0 to 1000000").value_parser(
             value_parser!(u32).range(..=1_000_000),
         ))?
-        .arg(needed(alloc, "len", "Bytes of a packet, 65535 at most").value_parser(value_parser!(
+        .arg(needed(alloc, "len", "Bytes of a packet, from 1 to 65535").value_parser(value_parser!(
             u16
         ).range(1..)))?
-        .arg(needed(alloc, "ring", "Places of each sender's ring, 65536 at most").value_parser(
-            value_parser!(u32).range(1..=65_536),
-        ))
+        .arg(needed(
+            alloc,
+            "ring",
+            "Places of each sender's ring, from 1 to 65536",
+        )
+        .value_parser(value_parser!(u32).range(1..=65_536)))
 }
 
 /// A command with the options of its device.
@@ -122,22 +142,28 @@ fn with_device<'a>(alloc: Global, command: Command<'a>) -> Result<Command<'a>, A
     ensures local { IfOk result (λ r. (fields_of r).has_globals ≡ (fields_of command.entry).has_globals) }
 {
     command
-        .arg(number(alloc, "mtu", "Most bytes of a packet [default: 1514]").value_parser(
-            value_parser!(u16).range(1..),
-        ))?
+        .arg(number(
+            alloc,
+            "mtu",
+            "Most bytes of a packet, from 1 to 65535 [default: 1514]",
+        )
+        .value_parser(value_parser!(u16).range(1..)))?
         .arg(number(
             alloc,
             "txqueuelen",
-            "Packets that the root holds at first [default: 1000]",
+            "Packets that the root holds at first, from 0 to 4294967295 [default: 1000]",
         )
         .value_parser(value_parser!(u32)))?
-        .arg(number(alloc, "seed", "Seed of the hash of flows [default: 0]").value_parser(
-            value_parser!(u32),
-        ))?
+        .arg(number(
+            alloc,
+            "seed",
+            "Seed of the hash of flows, from 0 to 4294967295 [default: 0]",
+        )
+        .value_parser(value_parser!(u32)))?
         .arg(number(
             alloc,
             "record",
-            "Events that are recorded, 1000000 at most [default: 4096]",
+            "Events that are recorded, from 0 to 1000000 [default: 4096]",
         )
         .value_parser(value_parser!(u32).range(..=1_000_000)))
 }
@@ -159,15 +185,38 @@ fn needed<'a>(alloc: Global, name: &'a str, help: &'a str) -> Arg<'a>
 }
 
 /// What was asked for; `None` where a text is no number, or one out of range.
-fn options_of(matches: &ArgMatches) -> Option<Options>
-    ensures asked { IfSome result (IsAskedBy (subcommand_rows_of matches.now)) }
-    ensures refused { IsNone result → IsUnreadable (subcommand_rows_of matches.now) }
+fn options_of(alloc: Global, matches: &ArgMatches) -> Result<Option<Options>, AllocError>
+    ensures asked { IfOk result (λ found. IfSome found (IsAskedBy (subcommand_rows_of matches.now))) }
+    ensures refused { IfOk result (λ found. IsNone found → IsUnreadable (subcommand_rows_of matches.now)) }
 {
     if let Some(play) = matches.subcommand_matches("play") {
-        return Some(Options::Play(settings_of(play)?));
+        return match play_options_of(alloc, play)? {
+            Some(options) => Ok(Some(Options::Play(options))),
+            None => Ok(None),
+        };
     }
-    let drive = matches.subcommand_matches("drive")?;
-    Some(Options::Drive(drive_settings_of(drive)?))
+    let Some(drive) = matches.subcommand_matches("drive") else {
+        return Ok(None);
+    };
+    match drive_settings_of(drive) {
+        Some(settings) => Ok(Some(Options::Drive(settings))),
+        None => Ok(None),
+    }
+}
+
+/// What was given to play; `None` where a text is no number, or one out of range.
+fn play_options_of(alloc: Global, play: &ArgMatches) -> Result<Option<PlayOptions>, AllocError>
+    ensures given { IfOk result (λ found. IfSome found (HasPlayOptionsOf (one_text (found_of play.now)) (first_value (found_of play.now)))) }
+    ensures refused { IfOk result (λ found. IsNone found → HasBadOption (one_text (found_of play.now))) }
+{
+    let Some(settings) = settings_of(play) else {
+        return Ok(None);
+    };
+    let file = match play.get_str("file") {
+        Some(path) => Some(String::from_str(alloc, path)?),
+        None => None,
+    };
+    Ok(Some(PlayOptions { settings, file }))
 }
 
 /// The settings of a drive that were given; `None` where a text is no number, or one out of range, or is not there.

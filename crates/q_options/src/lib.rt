@@ -9,6 +9,8 @@
 //!   writer: what a program calls that has no command line. They answer an [`Outcome`] or a [`RunFault`], and stand in q_session
 //!   and q_drive.
 //!
+//! - [`Standard`] is the standard input or output that `main` hands to [`answer`]: a closed one is told as such.
+//!
 //! `specs/Answer.antt` says what is answered. What clap prints is in no contract.
 #![tactic(auto)]
 
@@ -16,16 +18,21 @@ mod answering;
 mod command_line;
 mod driving;
 mod fault;
+mod play_asked;
+mod play_options;
 mod playing;
 mod program_options;
+mod standard;
 mod telling;
 
 pub use answering::answer;
 pub use command_line::options;
 pub use driving::drive;
 pub use fault::Fault;
+pub use play_options::PlayOptions;
 pub use playing::play;
 pub use program_options::Options;
 pub use q_drive::{DriveSettings, run_drive};
 pub use q_script::{Outcome, RunFault, RunSettings};
 pub use q_session::run;
+pub use standard::Standard;

@@ -1,10 +1,10 @@
-ghost use Rattle.std.specs.Prelude.{◌≡◌, ◌≤◌};
-ghost use Rattle.q_options.specs.Answer.{IsPlayed};
+ghost use Rattle.std.specs.Prelude.{◌≡◌, ◌≤◌, option_map};
+ghost use Rattle.q_options.specs.Answer.{IsPlayed, IsPlayedOf};
 ghost use Rattle.q_script.specs.Reads.{no_reads};
 ghost use Rattle.q_show.specs.Writes.{no_writes};
 
 use crate::fault::Fault;
-use crate::telling::tell;
+use crate::telling::tell_of;
 use q_script::{Outcome, RunFault, RunSettings, Source};
 use q_session::run_between;
 use q_show::Target;
@@ -33,10 +33,31 @@ pub fn play<R: Read, W: Write, E: Write>(
         (W.contents target.old.writer.now) (W.contents target.new.writer.now)
         (E.contents errors.old) (E.contents errors.new) source.new.reads target.new.writes result }
 {
+    play_of(alloc, None, settings, source, target, errors)
+}
+
+/// The same, of a script whose file is named where it could not be read.
+pub fn play_of<R: Read, W: Write, E: Write>(
+    alloc: Global,
+    file: Option<&str>,
+    settings: RunSettings,
+    source: &mut Source<'_, R>,
+    target: &mut Target<'_, W>,
+    errors: &mut E,
+) -> u8
+    requires unread { source.old.reads ≡ no_reads }
+    requires unwritten { target.old.writes ≡ no_writes }
+    ensures same_reader { source.new.reader.ghost_name ≡ source.old.reader.ghost_name }
+    ensures same_writer { target.new.writer.ghost_name ≡ target.old.writer.ghost_name }
+    ensures statuses { result ≤ 2 }
+    ensures played { IsPlayedOf (option_map (λ path. path.now) file.entry) settings (R.remaining source.old.reader.now)
+        (W.contents target.old.writer.now) (W.contents target.new.writer.now)
+        (E.contents errors.old) (E.contents errors.new) source.new.reads target.new.writes result }
+{
     match run_between(alloc, source, target, settings) {
         Ok(outcome) => outcome.status(),
         Err(fault) => {
-            tell(Fault::Run(fault), errors);
+            tell_of(file, Fault::Run(fault), errors);
             FAULT
         }
     }

@@ -1,11 +1,11 @@
+use crate::play_options::PlayOptions;
 use q_drive::DriveSettings;
-use q_script::RunSettings;
 
 /// What the command line asks for.
-#[derive(Clone, Copy, PartialEq, Eq, Debug)]
+#[derive(PartialEq, Eq, Debug, Drop)]
 pub enum Options {
-    /// `qtree play`: a script on standard input, its report on standard output.
-    Play(RunSettings),
+    /// `qtree play`: a script of a file or of standard input, its report on standard output.
+    Play(PlayOptions),
     /// `qtree drive`: tc's lines on standard input, what they and the senders came to on standard output.
     Drive(DriveSettings),
 }

@@ -1,9 +1,10 @@
 //! What the program answers to a command line: its status, and what it writes where.
 use crate::runs::{TWO_OF_THREE, TWO_OF_THREE_REPORT};
-use q_options::{Options, answer, options};
+use q_options::{Options, PlayOptions, answer, options};
 use q_script::{RunSettings, Source};
 use q_show::Target;
 use std::alloc::Global;
+use std::fs::Files;
 use std::io::{Error, ErrorKind, Read, Result as IoResult, Write};
 use std::process::Abort;
 use std::sync::Wait;
@@ -20,7 +21,7 @@ fn words(alloc: Global, line: &str) -> Result<Vec<String>, Fail> {
 }
 
 /// What a command line and a script come to: the status, the output and the error output.
-fn assert_answers<R: Abort + Threads + Wait + Sync>(
+fn assert_answers<R: Abort + Files + Threads + Wait + Sync>(
     rt: &R,
     alloc: Global,
     line: &str,
@@ -89,7 +90,10 @@ fn options_of_play(rt: HostRuntime) -> Result<(), Fail> {
     ] {
         assert_eq!(rt;
             options(alloc, &words(alloc, line)?)?,
-            Options::Play(asked),
+            Options::Play(PlayOptions {
+                settings: asked,
+                file: None,
+            }),
             "{line}"
         );
     }
@@ -97,7 +101,8 @@ fn options_of_play(rt: HostRuntime) -> Result<(), Fail> {
         "qtree drive",
         "qtree",
         "qtree play --loud",
-        "qtree play script",
+        "qtree play script script",
+        "qtree play --explain",
         "qtree play --mtu 0",
         "qtree play --mtu 65536",
         "qtree play --mtu",

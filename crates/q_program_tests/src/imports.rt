@@ -6,7 +6,7 @@ use std::test::Fail;
 #[test]
 fn a_script_by_one_crate(rt: HostRuntime) -> Result<(), Fail> {
     let settings = match options(rt.alloc(), &["qtree", "play"])? {
-        Options::Play(settings) => settings,
+        Options::Play(play) => play.settings,
         Options::Drive(_) => RunSettings::defaults(),
     };
     let mut script: &[u8] = b"pkt 100\npoll\n";

@@ -1,5 +1,5 @@
 //! Tests of the whole program: scripts with their reports, drives with what they come to, command lines with their answers, show texts
-//! of a tree, and readers and writers that are slow or fail. Drives start threads.
+//! of a tree, readers and writers that are slow or fail, and what the error output says. Drives start threads.
 //!
 //! They stand here so that `q_session`, `q_drive` and `q_options` are proved once. The crate exports nothing.
 #![tactic(auto)]
@@ -16,6 +16,8 @@ mod drives;
 mod imports;
 #[cfg(test)]
 mod lines;
+#[cfg(test)]
+mod messages;
 #[cfg(test)]
 mod runs;
 #[cfg(test)]

@@ -21,7 +21,7 @@ returns-in-Err-options-clause-answer g c =
 pub returns-in-Play-clause-answer : goal.returns-in-Play-clause-answer
 returns-in-Play-clause-answer g c =
     let asked = subst (λ words. IsAsked (map string_bytes words) c.in-Ok-options.options) c.deref.ensures.value c.in-Ok-options.ensures.asked in
-    inr (inl (c.in-Play.settings, rw (c.in-Ok.is) (subst (λ options. IsAsked (map string_bytes c.in-Ok.words.items) options) c.in-Play.is asked), c.play.ensures.played))
+    inr (inl (c.in-Play.options, rw (c.in-Ok.is) (subst (λ options. IsAsked (map string_bytes c.in-Ok.words.items) options) c.in-Play.is asked), c.play_asked.ensures.played))
 
 pub returns-clause-answer : goal.returns-clause-answer
 returns-clause-answer g c =
