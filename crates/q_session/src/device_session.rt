@@ -11,7 +11,6 @@ ghost use Rattle.q_session.specs.Session.{opened, seen, IsShort};
 ghost use Rattle.q_show.specs.Writes.{MayWrite, WriteFailed};
 ghost use Rattle.q_show.specs.Written.{AppendsFront, IsBuffered};
 
-use crate::line_error::LineError;
 use crate::showing::put_show;
 use crate::text::{put_device, put_fault, put_lost, put_poll, put_refusal};
 use q_device::{Command, Device, Refusal, Settings};
@@ -24,7 +23,7 @@ use std::alloc::{AllocError, Global};
 use std::io::Write;
 use std::marker::Model;
 
-/// What the lines of a script have made so far of a device. A contract sees it as the record `SessionSeen`, without the error.
+/// What the lines of a script have made so far of a device. A contract sees it as the record `SessionSeen`.
 #[derive(Drop)]
 pub struct DeviceSession {
     device: Device,
@@ -36,8 +35,6 @@ pub struct DeviceSession {
     refused: bool,
     /// What the hash of a packet's key begins with, where its line gives none.
     seed: u32,
-    /// The error of the latest line that had one, until it is taken.
-    error: Option<LineError>,
 }
 
 impl Model for DeviceSession {
@@ -74,15 +71,7 @@ impl DeviceSession {
             packets: 0,
             refused: false,
             seed: settings.seed(),
-            error: None,
         })
-    }
-
-    /// Takes the error of the latest line that had one. The session stays as it is.
-    pub fn take_error(&mut self) -> Option<LineError>
-        ensures { self.new ≡ self.old }
-    {
-        self.error.take()
     }
 
     /// The device, when its script has ended.
@@ -106,7 +95,6 @@ impl DeviceSession {
         let packet = self.numbered(arrival);
         if self.device.arrive(packet, self.moment).is_err() {
             self.refused = true;
-            self.error = Some(LineError::Refusal(Refusal::Memory));
             put_refusal(output, number, Refusal::Memory);
         }
     }
@@ -167,7 +155,6 @@ impl DeviceSession {
     {
         if let Err(refusal) = self.device.command(command, self.moment) {
             self.refused = true;
-            self.error = Some(LineError::Refusal(refusal));
             put_refusal(output, number, refusal);
         }
     }
@@ -222,7 +209,6 @@ impl DeviceSession {
         ensures text { output.new ≡ output.old ++ fault_line number fault }
     {
         self.refused = true;
-        self.error = Some(LineError::Fault(fault));
         put_fault(output, number, fault);
     }
 

@@ -9,7 +9,6 @@
 //!   nothing else, and an outcome means that none did.
 //! - [`DeviceSession`] is the [`Session`](q_script::Session) of `q_script` that runs each line over a `Device` of `q_device`:
 //!   arrivals, polls, commands, show texts, losses and counters, as the report of `q_script_semantics` says.
-//!   It keeps the [`LineError`] of the latest line that had one, for those who explain it.
 //! - [`show_qdiscs`], [`show_classes`] and [`show_filters`] write what tc's show lines print of a `Tree` of `q_tree`, and
 //!   [`ShowFault`] is why they did not. [`put_show`] puts such a text into an `Output` of `q_script`, and
 //!   [`put_device`] the line on a device's counters.
@@ -19,7 +18,6 @@
 #![tactic(auto)]
 
 mod device_session;
-mod line_error;
 mod listed;
 mod running;
 mod show;
@@ -28,7 +26,6 @@ mod showing;
 mod text;
 
 pub use device_session::DeviceSession;
-pub use line_error::LineError;
 pub use running::{run, run_between};
 pub use show::{show_classes, show_filters, show_qdiscs};
 pub use show_fault::ShowFault;
