@@ -1,13 +1,10 @@
 -- The packets of a flow as linked nodes: what keeps them, one more at the end, and the first taken out.
 use Rattle.std.proofs.Common.{◌≡◌, ◌≢◌, ℕ, zero, suc, ◌+◌, ◌*◌, ◌%◌, ◌<◌, ◌≤◌, List, [], ◌∷◌, ◌++◌, Option, Some, None, refl, sym, ap, ◌∙◌, arith, subst}
-use Rattle.std.specs.Prelude.{IsSome, ◌-◌, ◌==◌}
-use Rattle.std.proofs.lemmas.Bool.{cond-true, cond-false, eq-eqb, ne_eqb}
-use Rattle.slab.specs.Slab.{Slab, get, with_value, Updates}
-use Rattle.slab.proofs.SlabLemmas.{Updates-with_value}
+use Rattle.std.specs.Prelude.{◌-◌, ◌^◌}
 use Rattle.q_packet.specs.Totals.{count, size}
 use Rattle.q_packet.specs.declared.stamped.Stamped.{Stamped}
 use Rattle.q_packet.proofs.TotalsLemmas.{size-cons, size_push}
-use Rattle.q_fqcodel.specs.Chain.{stamped_of, packets, led_to, queue_in, without, IsNode, IsList, KeepsOthers}
+use Rattle.q_fqcodel.specs.Chain.{stamped_of, packets, led_to, queue_in, IsNode, IsList, KeepsOthers}
 use Rattle.q_fqcodel.specs.Linked.{chain, IsChain, IsAppended}
 use Rattle.q_fqcodel.specs.declared.node.Node.{Node}
 use Rattle.q_fqcodel.specs.declared.flow_list.FlowList.{FlowList}
@@ -122,60 +119,37 @@ module _ (at at2 : ℕ → Option Node) (w f : ℕ) (l : FlowList) (key : ℕ) (
       append_keeps l.tail h
       (λ x e. let p : Some t.0 ≡ Some x = sym t.1 ∙ e in let q : t.0 ≡ x = cc in ap (λ (v : Node). v.packet.hash % w) (sym q) ∙ t.2.own)
 
--- ---- in a slab
+-- ---- a packet in a node that had none
 
-pub appended_first : (s s2 : Slab Node) (key : ℕ) (new : Node) → get s key ≡ None → Updates s s2 key (Some new) → IsAppended led_to (get s) (get s2) key key new
-appended_first s s2 key new vacant u = record {
+pub claimed_first : (at at1 : ℕ → Option Node) (key : ℕ) (new : Node) → at key ≡ None → at1 key ≡ Some new → ((j : ℕ) → j ≢ key → at1 j ≡ at j) → IsAppended led_to at at1 key key new
+claimed_first at at1 key new vacant stored same = record {
   vacant = vacant;
-  stored = u.changed;
+  stored = stored;
   led = λ x e. let p : Some x ≡ None = sym e ∙ vacant in absurd cc;
-  same = λ j _ away. u.others j away;
+  same = λ j _ away. same j away;
 }
 
-pub appended_next : (s s1 : Slab Node) (tail key : ℕ) (new x y : Node) → get s key ≡ None → Updates s s1 key (Some new) → get s tail ≡ Some x → get s1 tail ≡ Some y
-    → IsAppended led_to (get s) (get (with_value s1 tail (record y { next = key }))) tail key new
-appended_next s s1 tail key new x y vacant u there read =
-    let apart : tail ≢ key = λ e. let p : Some x ≡ None = sym there ∙ ap (get s) e ∙ vacant in absurd cc in
-    let w = Updates-with_value s1 tail (record y { next = key }) (subst (λ (o : Option Node). IsSome o) (sym read) refl) in
+pub claimed_apart : (at : ℕ → Option Node) (tail key : ℕ) (x : Node) → at key ≡ None → at tail ≡ Some x → tail ≢ key
+claimed_apart at tail key x vacant there e = let p : Some x ≡ None = sym there ∙ ap at e ∙ vacant in absurd cc
+
+pub claimed_next : (at at1 at2 : ℕ → Option Node) (tail key : ℕ) (new x : Node) → at key ≡ None → at1 key ≡ Some new → ((j : ℕ) → j ≢ key → at1 j ≡ at j) → at tail ≡ Some x
+    → ((z : Node) → at1 tail ≡ Some z → at2 tail ≡ Some (led_to key z)) → ((j : ℕ) → j ≢ tail → at2 j ≡ at1 j) → IsAppended led_to at at2 tail key new
+claimed_next at at1 at2 tail key new x vacant stored same there led same2 =
+    let apart : tail ≢ key = claimed_apart at tail key x vacant there in
     record {
       vacant = vacant;
-      stored = w.others key (λ e. apart (sym e)) ∙ u.changed;
-      led = λ z e. let p : Some y ≡ Some z = sym read ∙ u.others tail apart ∙ e in let q : y ≡ z = cc in w.changed ∙ ap (λ (v : Node). Some (record v { next = key })) q;
-      same = λ j a b. w.others j a ∙ u.others j b;
+      stored = same2 key (λ e. apart (sym e)) ∙ stored;
+      led = λ z e. led z (same tail apart ∙ e);
+      same = λ j a b. same2 j a ∙ same j b;
     }
 
--- ---- in the place of a node that is in no list
-
-pub without-own : (at : ℕ → Option Node) (key : ℕ) → without key at key ≡ None
-without-own at key = cond-true (key == key) None (at key) (eq-eqb key key refl)
-
-pub without-other : (at : ℕ → Option Node) (key j : ℕ) → j ≢ key → without key at j ≡ at j
-without-other at key j ne = cond-false (j == key) None (at j) (ne_eqb j key ne)
-
-pub placed_first : (s s2 : Slab Node) (key : ℕ) (new : Node) → Updates s s2 key (Some new) → IsAppended led_to (without key (get s)) (get s2) key key new
-placed_first s s2 key new u = record {
-  vacant = without-own (get s) key;
-  stored = u.changed;
-  led = λ x e. let p : Some x ≡ None = sym e ∙ without-own (get s) key in absurd cc;
-  same = λ j _ away. u.others j away ∙ sym (without-other (get s) key j away);
+-- the node of a packet of its flow
+pub node_of : (w : ℕ) (x : Node) (s : Stamped) → stamped_of x ≡ s → 1 ≤ s.packet.len → s.packet.len < 2 ^ 16 → IsNode w (s.packet.hash % w) x
+node_of w x s is low high = record {
+  own = ap (λ (t : Stamped). t.packet.hash % w) is;
+  low = omega (arith, low, ap (λ (t : Stamped). t.packet.len) is);
+  high = omega (arith, high, ap (λ (t : Stamped). t.packet.len) is);
 }
-
--- a node of a list is not the one that is in none
-pub placed_apart : (at : ℕ → Option Node) (key j : ℕ) (x : Node) → without key at j ≡ Some x → j ≢ key
-placed_apart at key j x there e = let p : Some x ≡ None = sym there ∙ ap (without key at) e ∙ without-own at key in absurd cc
-
-pub placed_next : (s s1 : Slab Node) (tail key : ℕ) (new x y : Node) → Updates s s1 key (Some new) → without key (get s) tail ≡ Some x → get s1 tail ≡ Some y
-    → IsAppended led_to (without key (get s)) (get (with_value s1 tail (record y { next = key }))) tail key new
-placed_next s s1 tail key new x y u there read =
-    let apart : tail ≢ key = placed_apart (get s) key tail x there in
-    let kept : get s1 tail ≡ without key (get s) tail = u.others tail apart ∙ sym (without-other (get s) key tail apart) in
-    let w = Updates-with_value s1 tail (record y { next = key }) (subst (λ (o : Option Node). IsSome o) (sym read) refl) in
-    record {
-      vacant = without-own (get s) key;
-      stored = w.others key (λ e. apart (sym e)) ∙ u.changed;
-      led = λ z e. let p : Some y ≡ Some z = sym read ∙ kept ∙ e in let q : y ≡ z = cc in w.changed ∙ ap (λ (v : Node). Some (record v { next = key })) q;
-      same = λ j a b. w.others j a ∙ u.others j b ∙ sym (without-other (get s) key j b);
-    }
 
 -- ---- the first of a list is taken
 

@@ -14,6 +14,7 @@ pub mod ListsLemmas
 pub mod LostLemmas
 pub mod MovedLemmas
 pub mod NewFlowLemmas
+pub mod NodesLemmas
 pub mod OrderLemmas
 pub mod PoolLemmas
 pub mod PooledLemmas

@@ -3,17 +3,15 @@ use Rattle.std.proofs.Common.{◌≡◌, ◌≢◌, ℕ, zero, suc, ◌+◌, ◌
 use Rattle.std.proofs.lemmas.Bool.{cases_eq, cases_lt}
 use Rattle.std.proofs.lemmas.List.{length-set, get_or-set_same, get_or-set_other, get_or_past}
 use Rattle.std.proofs.lemmas.List.Sums.{sum_by-cons, sum_by-set}
-use Rattle.std.specs.Prelude.{count_by, is_some}
-use Rattle.slab.specs.Slab.{Slab, get, slab_len}
 use Rattle.q_packet.specs.Totals.{count, size}
 use Rattle.q_packet.specs.declared.stamped.Stamped.{Stamped}
-use Rattle.q_fqcodel.specs.Chain.{packets, queue_in, IsList, KeepsOthers}
+use Rattle.q_fqcodel.specs.Chain.{packets, queue_in, IsNode, IsList, KeepsOthers}
 use Rattle.q_fqcodel.specs.Linked.{chain, IsChain}
 use Rattle.q_fqcodel.specs.Pool.{no_list, queues_in, packets_in, bytes_in, IsPool}
 use Rattle.q_fqcodel.specs.declared.node.Node.{Node}
 use Rattle.q_fqcodel.specs.declared.flow_list.FlowList.{FlowList}
 use Rattle.q_fqcodel.proofs.ChainLemmas.{counted, few_bytes, enough_bytes}
-use Rattle.q_fqcodel.proofs.LinkedLemmas.{chain-none}
+use Rattle.q_fqcodel.proofs.LinkedLemmas.{chain-none, kept, kept_items}
 
 pub length-queues : (at : ℕ → Option Node) (lists : List FlowList) → length (queues_in at lists) ≡ length lists
 unfolding queues_in
@@ -188,12 +186,26 @@ nothing_in : (f : FlowList → ℕ) (n : ℕ) → f no_list ≡ 0 → sum_by f (
 nothing_in f zero none = refl
 nothing_in f (suc n) none = omega (arith, sum_by-cons f no_list (replicate n no_list), none, nothing_in f n none)
 
-pub pool_first : (s : Slab Node) (n : ℕ) → s.slots ≡ [] → IsPool (get s) (slab_len s) (replicate n no_list) 0
-pool_first s n empty =
-    let len : slab_len s ≡ 0 = ap (λ (l : List (Option Node)). count_by is_some l) empty in
-    record {
-      each = λ m. rw (nothing_at m n) (no_list_at (get s) (length (replicate n no_list)) m);
-      counted = len ∙ sym (nothing_in (λ (l : FlowList). l.count) n refl);
-      summed = sym (nothing_in (λ (l : FlowList). l.bytes) n refl);
-      few = omega (arith, len);
-    }
+pub pool_first : (at : ℕ → Option Node) (count n : ℕ) → count ≡ 0 → IsPool at count (replicate n no_list) 0
+pool_first at count n none = record {
+  each = λ m. rw (nothing_at m n) (no_list_at at (length (replicate n no_list)) m);
+  counted = none ∙ sym (nothing_in (λ (l : FlowList). l.count) n refl);
+  summed = sym (nothing_in (λ (l : FlowList). l.bytes) n refl);
+  few = omega (arith, none);
+}
+
+-- what stands at each key is all that the queues depend on
+pub queues_alike : (at at2 : ℕ → Option Node) (lists : List FlowList) → ((j : ℕ) → at2 j ≡ at j) → ((n : ℕ) → IsList at (length lists) n (get_or lists n no_list)) → queues_in at2 lists ≡ queues_in at lists
+queues_alike at at2 lists same each =
+    queues_same at at2 lists (λ m. kept_items packets (IsNode (length lists) m) at at2 (get_or lists m no_list).tail (get_or lists m no_list).count (get_or lists m no_list).head (each m).linked (λ _ j _ _. same j))
+
+pub pool_alike : (at at2 : ℕ → Option Node) (nodes : ℕ) (lists : List FlowList) (bytes : ℕ) → IsPool at nodes lists bytes → ((j : ℕ) → at2 j ≡ at j) → IsPool at2 nodes lists bytes
+pool_alike at at2 nodes lists bytes pool same = record {
+  each = λ m. record {
+    linked = kept packets (IsNode (length lists) m) at at2 (get_or lists m no_list).tail (get_or lists m no_list).count (get_or lists m no_list).head (pool.each m).linked (λ _ j _ _. same j);
+    bytes = (pool.each m).bytes ∙ ap size (sym (kept_items packets (IsNode (length lists) m) at at2 (get_or lists m no_list).tail (get_or lists m no_list).count (get_or lists m no_list).head (pool.each m).linked (λ _ j _ _. same j)));
+  };
+  counted = pool.counted;
+  summed = pool.summed;
+  few = pool.few;
+}

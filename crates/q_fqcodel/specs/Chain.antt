@@ -1,6 +1,6 @@
 -- The packets of one flow as nodes that are linked by keys: `at` says what stands at a key.
 -- This is how the crate keeps them; nothing public names it.
-use Rattle.std.specs.Prelude.{◌≡◌, ◌≢◌, ℕ, ◌<◌, ◌≤◌, ◌%◌, ◌^◌, ◌==◌, if◌then◌else◌, List, Option, None}
+use Rattle.std.specs.Prelude.{◌≡◌, ◌≢◌, ℕ, ◌<◌, ◌≤◌, ◌%◌, ◌^◌, List, Option}
 use Rattle.q_packet.specs.Totals.{size}
 use Rattle.q_packet.specs.declared.stamped.Stamped.{Stamped}
 use Rattle.q_fqcodel.specs.Linked.{Form, chain, IsChain}
@@ -21,10 +21,6 @@ led_to key x = record x { next = key }
 -- the packets of a flow
 abbrev pub queue_in : (ℕ → Option Node) → FlowList → List Stamped
 queue_in at l = chain packets at l.count l.head
-
--- the nodes but for the one at this key, which is in no list
-abbrev pub without : ℕ → (ℕ → Option Node) → ℕ → Option Node
-without key at j = if j == key then None else at j
 
 -- a node of this flow of so many, with a packet that has its length in range: its hash tells the flow
 pub record IsNode (flows flow : ℕ) (x : Node) : Type 0 where

@@ -8,6 +8,7 @@ pub mod Laws
 pub mod Links
 pub mod Linked
 pub mod NewFlow
+pub mod Nodes
 pub mod Order
 pub mod Pool
 pub mod PoolKept

@@ -2,6 +2,7 @@
 -- This is how the crate keeps them; nothing public names it.
 use Rattle.std.specs.Prelude.{◌≡◌, ℕ, ◌≤◌, ◌^◌, List, [], ◌∷◌, ◌++◌, length, map, set, drop, get_or, sum_by, Option}
 use Rattle.q_packet.specs.Totals.{count, size}
+use Rattle.q_packet.specs.Descriptor.{Descriptor}
 use Rattle.q_packet.specs.declared.stamped.Stamped.{Stamped}
 use Rattle.q_codel.specs.Codel.{CodelState, CodelParams, CodelVars, joined, at_first}
 use Rattle.q_fqcodel.specs.Chain.{queue_in, IsList}
@@ -13,6 +14,10 @@ use Rattle.q_fqcodel.specs.declared.flow_list.FlowList.{FlowList}
 pub record PoolState : Type 0 where
   pub queues : List (List Stamped)
   pub places : ℕ
+
+-- a packet that is queued at a moment
+abbrev pub stamp : Descriptor → ℕ → Stamped
+stamp packet now = record { packet = packet; at = now }
 
 -- the packets in all queues, and their bytes
 unfoldable pub packets_in : List (List Stamped) → ℕ

@@ -1,12 +1,13 @@
 ghost use Rattle.std.specs.Prelude.{◌≡◌, ◌+◌, ◌*◌, ◌<◌, ◌≤◌, ◌%◌, ◌^◌, [], ◌++◌, ◌&&◌, ◌==◌, not, true, nat_le, length, map, replicate, take, drop, set, slice_get, get_or, ◌↔◌, IsSome, IfSome, IsOk, IfOk, OnOk, OnErr};
 ghost use Rattle.q_packet.specs.Totals.{count};
+ghost use Rattle.q_packet.specs.declared.stamped.Stamped.{Stamped};
 ghost use Rattle.q_codel.specs.Codel.{joined as together, drops, taken, left, after};
 ghost use Rattle.q_codel.specs.Losses.{losses_of};
 ghost use Rattle.q_fqcodel.specs.Cleared.{adjust};
 ghost use Rattle.q_fqcodel.specs.FqState.{queue_of, is_idle, packets_of, bytes_of, rested_flow, retuned, all_packets, first_flow};
 ghost use Rattle.q_fqcodel.specs.Put.{joined, shortened, fattest, shed_count};
 ghost use Rattle.q_fqcodel.specs.Take.{taken_as, packet_sent, packets_dropped, flow_after};
-ghost use Rattle.q_fqcodel.specs.Pool.{SameBeside, cleared};
+ghost use Rattle.q_fqcodel.specs.Pool.{stamp, SameBeside, cleared};
 
 use crate::flow_queue::FlowQueue;
 use crate::pool::Pool;
@@ -14,7 +15,7 @@ use crate::sent::Sent;
 use crate::settings::Settings;
 use crate::winners::Winners;
 use q_codel::{ControlState, Parameters, Sink, Taken};
-use q_packet::{Cause, Moment, Packet, Stamped};
+use q_packet::{Cause, Moment, Packet};
 use std::alloc::{AllocError, Global};
 use std::marker::Model;
 
@@ -106,16 +107,15 @@ impl Flows {
 
     /// Appends a packet to a flow.
     #[inline(always)]
-    pub(crate) fn push(&mut self, flow: u32, stamped: Stamped)
+    pub(crate) fn push(&mut self, flow: u32, packet: &Packet, now: Moment)
         requires in_range { flow < length self.old.flows }
-        requires own { stamped.packet.hash % length self.old.flows ≡ flow }
+        requires own { packet.now.hash % length self.old.flows ≡ flow }
         requires place { packets_of self.old.flows < self.old.places }
         requires few { packets_of self.old.flows < 2 ^ 32 }
-        ensures flows { self.new.flows ≡ adjust (joined stamped) flow self.old.flows }
+        ensures flows { self.new.flows ≡ adjust (joined (stamp packet.now now)) flow self.old.flows }
         ensures places { self.new.places ≡ self.old.places }
     {
-        self.pool.push(stamped, flow);
-        let held = self.pool.bytes_of(flow);
+        let held = self.pool.push(packet, now, flow);
         self.winners.renew(flow, held);
     }
 
@@ -237,21 +237,28 @@ impl Flows {
 
     // Appends a packet to a flow, which then loses the first `lost` of its packets.
     #[inline(always)]
-    fn exchange<S: Sink>(&mut self, flow: u32, stamped: Stamped, lost: u64, sink: &mut S)
+    fn exchange<S: Sink>(
+        &mut self,
+        flow: u32,
+        packet: &Packet,
+        now: Moment,
+        lost: u64,
+        sink: &mut S,
+    )
         requires in_range { flow < length self.old.flows }
-        requires own { stamped.packet.hash % length self.old.flows ≡ flow }
+        requires own { packet.now.hash % length self.old.flows ≡ flow }
         requires place { packets_of self.old.flows < self.old.places }
         requires few { packets_of self.old.flows < 2 ^ 32 }
-        requires held { lost ≤ count (queue_of (adjust (joined stamped) flow self.old.flows) flow) }
+        requires held { lost ≤ count (queue_of (adjust (joined (stamp packet.now now)) flow self.old.flows) flow) }
         requires room { lost ≤ S.room sink.old }
-        ensures flows { self.new.flows ≡ adjust (shortened lost) flow (adjust (joined stamped) flow self.old.flows) }
+        ensures flows { self.new.flows ≡ adjust (shortened lost) flow (adjust (joined (stamp packet.now now)) flow self.old.flows) }
         ensures places { self.new.places ≡ self.old.places }
         ensures lost { S.losses sink.new ≡ S.losses sink.old
-            ++ losses_of Cause.FatFlow (take lost (queue_of (adjust (joined stamped) flow self.old.flows) flow)) }
+            ++ losses_of Cause.FatFlow (take lost (queue_of (adjust (joined (stamp packet.now now)) flow self.old.flows) flow)) }
         ensures room { S.room sink.new + lost ≡ S.room sink.old }
         ensures kept { S.keeps sink.old sink.new }
     {
-        self.pool.push(stamped, flow);
+        let _ = self.pool.push(packet, now, flow);
         lose_from(&mut self.pool, flow, lost, Cause::FatFlow, sink);
         // Once for what it gains and loses.
         let kept = self.pool.bytes_of(flow);
@@ -269,22 +276,23 @@ impl Flows {
         self.count_of(fat) > 0
     }
 
-    // Appends a packet to a flow, and loses the first packet of the fat one, whose node the new packet takes.
+    // Appends a packet to a flow, and loses the first packet of the fat one, whose node is the first that a packet takes.
     #[inline(always)]
-    fn swap<S: Sink>(&mut self, flow: u32, stamped: Stamped, fat: u32, sink: &mut S)
+    fn swap<S: Sink>(&mut self, flow: u32, packet: &Packet, now: Moment, fat: u32, sink: &mut S)
         requires in_range { flow < length self.old.flows }
-        requires own { stamped.packet.hash % length self.old.flows ≡ flow }
+        requires own { packet.now.hash % length self.old.flows ≡ flow }
+        requires place { packets_of self.old.flows < self.old.places }
+        requires few { packets_of self.old.flows < 2 ^ 32 }
         requires held { 0 < count (queue_of self.old.flows fat) }
         requires room { 1 ≤ S.room sink.old }
-        ensures flows { self.new.flows ≡ adjust (shortened 1) fat (adjust (joined stamped) flow self.old.flows) }
+        ensures flows { self.new.flows ≡ adjust (shortened 1) fat (adjust (joined (stamp packet.now now)) flow self.old.flows) }
         ensures places { self.new.places ≡ self.old.places }
         ensures lost { S.losses sink.new ≡ S.losses sink.old
-            ++ losses_of Cause.FatFlow (take 1 (queue_of (adjust (joined stamped) flow self.old.flows) fat)) }
+            ++ losses_of Cause.FatFlow (take 1 (queue_of (adjust (joined (stamp packet.now now)) flow self.old.flows) fat)) }
         ensures room { S.room sink.new + 1 ≡ S.room sink.old }
         ensures kept { S.keeps sink.old sink.new }
     {
-        self.pool.replace(fat, flow, stamped, sink);
-        let own = self.pool.bytes_of(flow);
+        let own = self.pool.replace(fat, flow, packet, now, sink);
         self.winners.renew(flow, own);
         if fat == flow {
             return;
@@ -299,34 +307,34 @@ impl Flows {
     pub(crate) fn push_over<S: Sink>(
         &mut self,
         flow: u32,
-        stamped: Stamped,
+        packet: &Packet,
+        now: Moment,
         batch: u32,
         sink: &mut S,
     ) -> bool
         requires in_range { flow < length self.old.flows }
-        requires own { stamped.packet.hash % length self.old.flows ≡ flow }
+        requires own { packet.now.hash % length self.old.flows ≡ flow }
         requires place { packets_of self.old.flows < self.old.places }
         requires few { packets_of self.old.flows < 2 ^ 32 }
-        requires room { shed_count (adjust (joined stamped) flow self.old.flows) batch ≤ S.room sink.old }
-        ensures answer { result ≡ ((fattest (adjust (joined stamped) flow self.old.flows) == flow)
-            && nat_le (count (queue_of (adjust (joined stamped) flow self.old.flows) flow)) (shed_count (adjust (joined stamped) flow self.old.flows) batch)) }
-        ensures flows { self.new.flows ≡ adjust (shortened (shed_count (adjust (joined stamped) flow self.old.flows) batch))
-            (fattest (adjust (joined stamped) flow self.old.flows)) (adjust (joined stamped) flow self.old.flows) }
+        requires room { shed_count (adjust (joined (stamp packet.now now)) flow self.old.flows) batch ≤ S.room sink.old }
+        ensures answer { result ≡ ((fattest (adjust (joined (stamp packet.now now)) flow self.old.flows) == flow)
+            && nat_le (count (queue_of (adjust (joined (stamp packet.now now)) flow self.old.flows) flow)) (shed_count (adjust (joined (stamp packet.now now)) flow self.old.flows) batch)) }
+        ensures flows { self.new.flows ≡ adjust (shortened (shed_count (adjust (joined (stamp packet.now now)) flow self.old.flows) batch))
+            (fattest (adjust (joined (stamp packet.now now)) flow self.old.flows)) (adjust (joined (stamp packet.now now)) flow self.old.flows) }
         ensures places { self.new.places ≡ self.old.places }
-        ensures some { 0 < count (queue_of (adjust (joined stamped) flow self.old.flows) (fattest (adjust (joined stamped) flow self.old.flows))) }
-        ensures lost { S.losses sink.new ≡ S.losses sink.old ++ losses_of Cause.FatFlow (take (shed_count (adjust (joined stamped) flow self.old.flows) batch)
-            (queue_of (adjust (joined stamped) flow self.old.flows) (fattest (adjust (joined stamped) flow self.old.flows)))) }
-        ensures room { S.room sink.new + shed_count (adjust (joined stamped) flow self.old.flows) batch ≡ S.room sink.old }
+        ensures some { 0 < count (queue_of (adjust (joined (stamp packet.now now)) flow self.old.flows) (fattest (adjust (joined (stamp packet.now now)) flow self.old.flows))) }
+        ensures lost { S.losses sink.new ≡ S.losses sink.old ++ losses_of Cause.FatFlow (take (shed_count (adjust (joined (stamp packet.now now)) flow self.old.flows) batch)
+            (queue_of (adjust (joined (stamp packet.now now)) flow self.old.flows) (fattest (adjust (joined (stamp packet.now now)) flow self.old.flows)))) }
+        ensures room { S.room sink.new + shed_count (adjust (joined (stamp packet.now now)) flow self.old.flows) batch ≡ S.room sink.old }
         ensures kept { S.keeps sink.old sink.new }
     {
-        let packet = stamped.packet;
         let fat = self.fattest_with(flow, packet.len);
         if self.sheds_one(fat, batch) {
-            self.swap(flow, stamped, fat, sink);
+            self.swap(flow, packet, now, fat, sink);
             return false;
         }
         if fat != flow {
-            self.push(flow, stamped);
+            self.push(flow, packet, now);
             let lost = self.shed_count(fat, batch);
             self.lose(fat, lost, Cause::FatFlow, sink);
             return false;
@@ -334,7 +342,7 @@ impl Flows {
         let held = self.count_of(flow) + 1;
         let most = held.min(self.count());
         let lost = most.min(batch as u64);
-        self.exchange(flow, stamped, lost, sink);
+        self.exchange(flow, packet, now, lost, sink);
         held <= lost
     }
 

@@ -13,7 +13,7 @@ use crate::link::Link;
 use crate::sent::Sent;
 use crate::settings::Settings;
 use q_codel::{ControlState, Sink, Taken};
-use q_packet::{Cause, Moment, Packet, Stamped};
+use q_packet::{Cause, Moment, Packet};
 use std::alloc::{AllocError, Global};
 use std::marker::Model;
 
@@ -128,16 +128,12 @@ impl FqCodel {
         let settings = self.settings;
         let flow = flow_by_hash(packet.hash, settings.flows);
         self.lists.enlist(flow, settings.quantum);
-        let stamped = Stamped {
-            packet: *packet,
-            at: now,
-        };
         if self.flows.count() < settings.limit as u64 {
-            self.flows.push(flow, stamped);
+            self.flows.push(flow, packet, now);
             return false;
         }
         let batch = settings.drop_batch;
-        self.flows.push_over(flow, stamped, batch, sink)
+        self.flows.push_over(flow, packet, now, batch, sink)
     }
 
     /// Whether one packet more stays within the limit: nothing is lost by a put then.

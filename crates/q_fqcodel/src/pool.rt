@@ -3,39 +3,37 @@ ghost use Rattle.q_packet.specs.Totals.{count, size};
 ghost use Rattle.q_packet.specs.declared.stamped.Stamped.{Stamped};
 ghost use Rattle.q_codel.specs.Front.{front_of};
 ghost use Rattle.q_codel.specs.Losses.{losses_of};
-ghost use Rattle.q_fqcodel.specs.Pool.{packets_in, bytes_in, no_list, moved, SameBeside};
+ghost use Rattle.q_fqcodel.specs.Pool.{stamp, packets_in, bytes_in, no_list, moved, SameBeside};
 
-use crate::chain::{append, take_head, take_head_into};
+use crate::chain::{append, drop_head, take_head_into};
 use crate::flow_list::FlowList;
-use crate::node::Node;
-use crate::reuse::{append_at, split_head};
+use crate::nodes::Nodes;
 use q_codel::{Front, Sink};
-use q_packet::{Cause, Packet, Stamped};
-use slab::Slab;
+use q_packet::{Cause, Moment, Packet, Stamped};
 use std::alloc::{AllocError, Global};
 use std::marker::Model;
 
-/// The packets of all flows: one slab, and for each flow a list that is linked through it.
+/// The packets of all flows: the nodes of one slab, and for each flow a list that is linked through them.
 #[derive(Drop)]
 pub(crate) struct Pool {
-    nodes: Slab<Node>,
+    nodes: Nodes,
     lists: Vec<FlowList>,
     // The bytes in all lists.
     bytes: u64,
-    // How many packets the slab has room for, as far as `reserve` has told.
+    // How many packets the nodes have room for, as far as `reserve` has told.
     places: usize,
 }
 
 impl Model for Pool {
     ghost use Rattle.std.specs.Prelude.{◌≤◌};
-    ghost use Rattle.slab.specs.Slab.{get, slab_len};
+    ghost use Rattle.q_fqcodel.specs.Nodes.{used};
     ghost use Rattle.q_fqcodel.specs.Pool.{PoolState, queues_in, IsPool};
 
     ghost Value = { PoolState };
 
-    ghost view = { λ p. record { queues = queues_in (get p.nodes) p.lists.items; places = p.places } };
+    ghost view = { λ p. record { queues = queues_in (used p.nodes) p.lists.items; places = p.places } };
 
-    ghost invariant = { λ p. IsPool (get p.nodes) (slab_len p.nodes) p.lists.items p.bytes × (p.places ≤ p.nodes.capacity) };
+    ghost invariant = { λ p. IsPool (used p.nodes) p.nodes.count p.lists.items p.bytes × (p.places ≤ p.nodes.slab.capacity) };
 }
 
 impl Pool {
@@ -46,7 +44,7 @@ impl Pool {
     {
         let lists = vec![in alloc; FlowList::new(); flows as usize]?;
         Ok(Pool {
-            nodes: Slab::new(alloc),
+            nodes: Nodes::new(alloc),
             lists,
             bytes: 0,
             places: 0,
@@ -61,10 +59,10 @@ impl Pool {
         ensures err { OnErr result (self.new ≡ self.old) }
         ensures succeeds { packets_in self.old.queues < self.old.places → IsOk result }
     {
-        if self.nodes.len() < self.places {
+        if self.nodes.count() < self.places {
             return Ok(());
         }
-        self.nodes.reserve(1)?;
+        self.nodes.reserve()?;
         self.places = self.nodes.capacity();
         Ok(())
     }
@@ -72,23 +70,26 @@ impl Pool {
     pub(crate) fn count(&self) -> u64
         ensures { result ≡ packets_in self.now.queues }
     {
-        self.nodes.len() as u64
+        self.nodes.count() as u64
     }
 
-    /// Appends a packet to a flow.
+    /// Appends a packet, queued at the moment `now`, to a flow, and answers the flow's bytes.
     #[inline(always)]
-    pub(crate) fn push(&mut self, stamped: Stamped, flow: u32)
+    pub(crate) fn push(&mut self, packet: &Packet, now: Moment, flow: u32) -> u64
         requires in_range { flow < length self.old.queues }
-        requires own { stamped.packet.hash % length self.old.queues ≡ flow }
+        requires own { packet.now.hash % length self.old.queues ≡ flow }
         requires place { packets_in self.old.queues < self.old.places }
         requires few { packets_in self.old.queues < 2 ^ 32 }
-        ensures queues { self.new.queues ≡ set self.old.queues flow (get_or self.old.queues flow [] ++ stamped ∷ []) }
+        ensures queues { self.new.queues ≡ set self.old.queues flow (get_or self.old.queues flow [] ++ stamp packet.now now ∷ []) }
         ensures places { self.new.places ≡ self.old.places }
+        ensures bytes { result ≡ size (get_or self.new.queues flow []) }
+        ensures bytes_few { result < 2 ^ 48 }
     {
-        let list = list_of(&self.lists, flow);
-        let packet = stamped.packet;
-        self.lists[flow as usize] = append(&mut self.nodes, list, stamped);
+        let list = list_at(&self.lists, flow);
+        let longer = append(&mut self.nodes, list, packet, now);
+        self.lists[flow as usize] = longer;
         self.bytes += packet.len as u64;
+        longer.bytes
     }
 
     /// The packet in front of a flow.
@@ -99,7 +100,7 @@ impl Pool {
         if list.count == 0 {
             return None;
         }
-        Some(self.nodes[list.head].stamped())
+        Some(self.nodes.at(list.head).stamped())
     }
 
     /// What CoDel looks at of the packet in front of a flow.
@@ -110,7 +111,7 @@ impl Pool {
         if list.count == 0 {
             return None;
         }
-        let node = &self.nodes[list.head];
+        let node = self.nodes.at(list.head);
         Some(node.front())
     }
 
@@ -120,15 +121,23 @@ impl Pool {
         ensures queues { self.new.queues ≡ set self.old.queues flow (drop 1 (get_or self.old.queues flow [])) }
         ensures places { self.new.places ≡ self.old.places }
     {
-        let list = list_of(&self.lists, flow);
-        if list.count == 0 {
-            return None;
-        }
-        let (stamped, rest) = take_head(&mut self.nodes, list);
-        let packet = stamped.packet;
+        let front = self.head_of(flow)?;
+        self.discard(flow);
+        Some(front)
+    }
+
+    /// Takes the packet in front of a flow, which has one, and gives it to nobody.
+    #[inline(always)]
+    fn discard(&mut self, flow: u32)
+        requires { 0 < count (get_or self.old.queues flow []) }
+        ensures queues { self.new.queues ≡ set self.old.queues flow (drop 1 (get_or self.old.queues flow [])) }
+        ensures packets { packets_in self.new.queues + 1 ≡ packets_in self.old.queues }
+        ensures places { self.new.places ≡ self.old.places }
+    {
+        let list = list_at(&self.lists, flow);
+        let rest = drop_head(&mut self.nodes, list);
         self.lists[flow as usize] = rest;
-        self.bytes -= packet.len as u64;
-        Some(stamped)
+        self.bytes -= list.bytes - rest.bytes;
     }
 
     /// Takes the packet in front of a flow, which has one, into `out`.
@@ -145,32 +154,34 @@ impl Pool {
         self.bytes -= out.len as u64;
     }
 
-    /// Loses the packet in front of the flow `from`, and appends another to a flow, in the node of the first.
+    /// Loses the packet in front of the flow `from`, and appends another to a flow. The answer is the bytes of that flow.
     #[inline(always)]
-    pub(crate) fn replace<S: Sink>(&mut self, from: u32, flow: u32, stamped: Stamped, sink: &mut S)
+    pub(crate) fn replace<S: Sink>(
+        &mut self,
+        from: u32,
+        flow: u32,
+        packet: &Packet,
+        now: Moment,
+        sink: &mut S,
+    ) -> u64
         requires in_range { flow < length self.old.queues }
-        requires own { stamped.packet.hash % length self.old.queues ≡ flow }
+        requires own { packet.now.hash % length self.old.queues ≡ flow }
+        requires place { packets_in self.old.queues < self.old.places }
+        requires few { packets_in self.old.queues < 2 ^ 32 }
         requires some { 0 < count (get_or self.old.queues from []) }
         requires room { 1 ≤ S.room sink.old }
-        ensures queues { self.new.queues ≡ moved from flow stamped self.old.queues }
+        ensures queues { self.new.queues ≡ moved from flow (stamp packet.now now) self.old.queues }
         ensures places { self.new.places ≡ self.old.places }
+        ensures bytes { result ≡ size (get_or self.new.queues flow []) }
+        ensures bytes_few { result < 2 ^ 48 }
         ensures lost { S.losses sink.new ≡ S.losses sink.old ++ losses_of Cause.FatFlow (take 1 (get_or self.old.queues from [])) }
         ensures room { S.room sink.new + 1 ≡ S.room sink.old }
         ensures kept { S.keeps sink.old sink.new }
     {
-        // It is told before anything is written, so that the packet is copied once, and all else is read after.
         let gone = self.head_of(from).unwrap();
         sink.lost(gone.packet, Cause::FatFlow);
-        let list = list_at(&self.lists, from);
-        let (first, rest) = split_head(&self.nodes, list);
-        let less = first.packet;
-        let more = stamped.packet;
-        self.lists[from as usize] = rest;
-        let own = list_at(&self.lists, flow);
-        let longer = append_at(&mut self.nodes, list.head, own, stamped);
-        self.lists[flow as usize] = longer;
-        self.bytes -= less.len as u64;
-        self.bytes += more.len as u64;
+        self.discard(from);
+        self.push(packet, now, flow)
     }
 
     /// The number of packets in a flow.

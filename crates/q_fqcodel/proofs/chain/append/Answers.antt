@@ -1,91 +1,124 @@
-use Rattle.std.proofs.Common.{◌≡◌, ◌≢◌, ℕ, ◌+◌, ◌%◌, Option, Some, None, IsSome, refl, sym, ap, ◌∙◌, arith, subst}
-use Rattle.slab.specs.Slab.{Slab, get, with_value}
+use Rattle.std.proofs.Common.{◌≡◌, ℕ, ◌+◌, ◌%◌, List, [], ◌∷◌, ◌++◌, Option, Some, IsSome, IfSome, refl, sym, ap, ◌∙◌, arith, subst}
 use Rattle.q_packet.specs.Descriptor.{Descriptor}
-use Rattle.q_fqcodel.specs.Chain.{led_to, IsNode}
+use Rattle.q_packet.specs.declared.stamped.Stamped.{Stamped}
+use Rattle.q_fqcodel.specs.Chain.{queue_in, stamped_of, led_to, IsNode}
 use Rattle.q_fqcodel.specs.Linked.{IsAppended}
+use Rattle.q_fqcodel.specs.Nodes.{used}
 use Rattle.q_fqcodel.specs.declared.node.Node.{Node}
-use Rattle.q_fqcodel.proofs.ChainLemmas.{first_queue, first_bytes, first_list, first_keeps, tail_there, next_queue, next_list, next_keeps, appended_first, appended_next, few_bytes}
+use Rattle.q_fqcodel.proofs.ChainLemmas.{first_queue, first_bytes, first_list, first_keeps, tail_there, next_queue, next_list, next_keeps, claimed_first, claimed_apart, claimed_next, node_of, few_bytes}
+use Rattle.q_fqcodel.proofs.NodesLemmas.{some_of}
 use Rattle.q_fqcodel.proofs.chain.append.Goals as goal
-use Rattle.q_fqcodel.proofs.chain.append.Goals.{Then-list-eq0, After-index_mut}
+use Rattle.q_fqcodel.proofs.chain.append.Goals.{After-claim-key, After-link}
 
-abbrev node1 : Then-list-eq0 → Node
-node1 c = record { packet = c.args.stamped.packet; at = c.args.stamped.at; next = 0 }
+abbrev stamped : After-claim-key → Stamped
+stamped c = record { packet = c.args.packet.now; at = c.args.now }
 
-len1 : (c : Then-list-eq0) → c.packet.inside.len ≡ c.args.stamped.packet.len
-len1 c = ap (λ (p : Descriptor). p.len) c.packet.view_is
+-- the node that has the packet now
+abbrev node : After-claim-key → Node
+node c = (some_of (used c.claim-key.new.self c.claim-key.result) c.claim-key.ensures.there).0
 
-own1 : (c : Then-list-eq0) (w : ℕ) → IsNode w (c.args.stamped.packet.hash % w) (node1 c)
-own1 c w = record { own = refl; low = omega (arith, len1 c, c.packet.invariant.0); high = omega (arith, len1 c) }
+stored : (c : After-claim-key) → used c.claim-key.new.self c.claim-key.result ≡ Some (node c)
+stored c = (some_of (used c.claim-key.new.self c.claim-key.result) c.claim-key.ensures.there).1
 
-added1 : (c : Then-list-eq0) → IsAppended led_to (get c.args.nodes.now) (get c.insert_reserved-key.new.self) c.insert_reserved-key.result c.insert_reserved-key.result (node1 c)
-added1 c =
-    appended_first c.args.nodes.now c.insert_reserved-key.new.self c.insert_reserved-key.result (node1 c) c.insert_reserved-key.ensures.was_vacant
-    (rw c.last.ensures at c.insert_reserved-key.ensures.updates)
+holds : (c : After-claim-key) → stamped_of (node c) ≡ stamped c
+holds c = subst (λ (o : Option Node). IfSome o (λ x. stamped_of x ≡ stamped c)) (stored c) c.claim-key.ensures.stored
+
+len : (c : After-claim-key) → c.packet.inside.len ≡ c.args.packet.now.len
+len c = ap (λ (p : Descriptor). p.len) c.packet.view_is
+
+own : (c : After-claim-key) (w : ℕ) → IsNode w (c.args.packet.now.hash % w) (node c)
+own c w = node_of w (node c) (stamped c) (holds c) (omega (arith, len c, c.packet.invariant.0)) (omega (arith, len c))
+
+more : (c : After-claim-key) (q : List Stamped) → q ++ stamped_of (node c) ∷ [] ≡ q ++ stamped c ∷ []
+more c q = ap (λ (s : Stamped). q ++ s ∷ []) (holds c)
+
+heavier : (c : After-claim-key) → c.packet.inside.len ≡ (node c).packet.len
+heavier c = len c ∙ sym (ap (λ (s : Stamped). s.packet.len) (holds c))
+
+-- ---- the first packet
+
+added1 : (c : After-claim-key) → IsAppended led_to (used c.args.nodes.now) (used c.claim-key.new.self) c.claim-key.result c.claim-key.result (node c)
+added1 c = claimed_first (used c.args.nodes.now) (used c.claim-key.new.self) c.claim-key.result (node c) c.claim-key.ensures.vacant (stored c) c.claim-key.ensures.same
 
 pub returns-then-list-eq0-clause-queue : goal.returns-then-list-eq0-clause-queue
 returns-then-list-eq0-clause-queue c =
-    let d = (goal.at.returns-then-list-eq0-clause-queue c).Then-list-eq0 in
+    let d = (goal.at.returns-then-list-eq0-clause-queue c).After-claim-key in
     let w = c.requires.linked.0 in
-    first_queue (get c.args.nodes.now) (get c.insert_reserved-key.new.self) w _ c.args.list c.insert_reserved-key.result (node1 d) (own1 d w) c.requires.linked.1 c.if-list-eq0.true (added1 d)
+    first_queue (used c.args.nodes.now) (used c.claim-key.new.self) w _ c.args.list c.claim-key.result (node d) (own d w) c.requires.linked.1 c.if-list-eq0.true (added1 d)
+    ∙ more d (queue_in (used c.args.nodes.now) c.args.list)
 
 pub returns-then-list-eq0-clause-linked : goal.returns-then-list-eq0-clause-linked
 returns-then-list-eq0-clause-linked c w linked =
-    let d = (goal.at.returns-then-list-eq0-clause-linked c).Then-list-eq0 in
-    first_list (get c.args.nodes.now) (get c.insert_reserved-key.new.self) w _ c.args.list c.insert_reserved-key.result (node1 d) (own1 d w) linked _ (len1 d) (added1 d)
+    let d = (goal.at.returns-then-list-eq0-clause-linked c).After-claim-key in
+    first_list (used c.args.nodes.now) (used c.claim-key.new.self) w _ c.args.list c.claim-key.result (node d) (own d w) linked _ (heavier d) (added1 d)
 
 pub returns-then-list-eq0-clause-others : goal.returns-then-list-eq0-clause-others
 returns-then-list-eq0-clause-others c w linked =
-    let d = (goal.at.returns-then-list-eq0-clause-others c).Then-list-eq0 in
-    first_keeps (get c.args.nodes.now) (get c.insert_reserved-key.new.self) w _ c.args.list c.insert_reserved-key.result (node1 d) (own1 d w) linked (added1 d)
+    let d = (goal.at.returns-then-list-eq0-clause-others c).After-claim-key in
+    first_keeps (used c.args.nodes.now) (used c.claim-key.new.self) w _ c.args.list c.claim-key.result (node d) (own d w) linked (added1 d)
 
 pub returns-then-list-eq0-clause-bytes : goal.returns-then-list-eq0-clause-bytes
 returns-then-list-eq0-clause-bytes c =
-    let d = (goal.at.returns-then-list-eq0-clause-bytes c).Then-list-eq0 in
+    let d = (goal.at.returns-then-list-eq0-clause-bytes c).After-claim-key in
     let w = c.requires.linked.0 in
-    omega (arith, len1 d, first_bytes (get c.args.nodes.now) (get c.insert_reserved-key.new.self) w _ c.args.list c.insert_reserved-key.result (node1 d) (own1 d w) c.requires.linked.1 c.if-list-eq0.true)
+    omega (arith, len d, first_bytes (used c.args.nodes.now) (used c.claim-key.new.self) w _ c.args.list c.claim-key.result (node d) (own d w) c.requires.linked.1 c.if-list-eq0.true)
 
-pub index_mut-requires : goal.index_mut-requires
-index_mut-requires c =
-    let x = tail_there (get c.args.nodes.now) c.requires.linked.0 _ c.args.list c.requires.linked.1 c.if-list-eq0.false in
-    let apart : c.args.list.tail ≢ c.insert_reserved-key.result =
-    λ e. let p : Some x.0 ≡ None = sym x.1 ∙ ap (get c.args.nodes.now) e ∙ c.insert_reserved-key.ensures.was_vacant in absurd cc in
-    subst (λ (o : Option Node). IsSome o) (sym (c.insert_reserved-key.ensures.updates.others c.args.list.tail apart ∙ x.1)) refl
+-- ---- one behind others
 
-abbrev node : After-index_mut → Node
-node c = record { packet = c.args.stamped.packet; at = c.args.stamped.at; next = 0 }
+pub link-requires : goal.link-requires
+link-requires c =
+    let x = tail_there (used c.args.nodes.now) c.requires.linked.0 _ c.args.list c.requires.linked.1 c.if-list-eq0.false in
+    let apart = claimed_apart (used c.args.nodes.now) c.args.list.tail c.claim-key.result x.0 c.claim-key.ensures.vacant x.1 in
+    subst (λ (o : Option Node). IsSome o) (sym (c.claim-key.ensures.same c.args.list.tail apart ∙ x.1)) refl
 
-len : (c : After-index_mut) → c.packet.inside.len ≡ c.args.stamped.packet.len
-len c = ap (λ (p : Descriptor). p.len) c.packet.view_is
+abbrev stamped_led : After-link → Stamped
+stamped_led c = record { packet = c.args.packet.now; at = c.args.now }
 
-own : (c : After-index_mut) (w : ℕ) → IsNode w (c.args.stamped.packet.hash % w) (node c)
-own c w = record { own = refl; low = omega (arith, len c, c.packet.invariant.0); high = omega (arith, len c) }
+-- the node_led that has the packet now
+abbrev node_led : After-link → Node
+node_led c = (some_of (used c.claim-key.new.self c.claim-key.result) c.claim-key.ensures.there).0
 
-abbrev after : After-index_mut → Slab Node
-after c = with_value c.insert_reserved-key.new.self c.args.list.tail (record c.index_mut.result.now { next = c.insert_reserved-key.result })
+stored_led : (c : After-link) → used c.claim-key.new.self c.claim-key.result ≡ Some (node_led c)
+stored_led c = (some_of (used c.claim-key.new.self c.claim-key.result) c.claim-key.ensures.there).1
 
-added : (c : After-index_mut) → IsAppended led_to (get c.args.nodes.now) (get (after c)) c.args.list.tail c.insert_reserved-key.result (node c)
+holds_led : (c : After-link) → stamped_of (node_led c) ≡ stamped_led c
+holds_led c = subst (λ (o : Option Node). IfSome o (λ x. stamped_of x ≡ stamped_led c)) (stored_led c) c.claim-key.ensures.stored
+
+len_led : (c : After-link) → c.packet.inside.len ≡ c.args.packet.now.len
+len_led c = ap (λ (p : Descriptor). p.len) c.packet.view_is
+
+own_led : (c : After-link) (w : ℕ) → IsNode w (c.args.packet.now.hash % w) (node_led c)
+own_led c w = node_of w (node_led c) (stamped_led c) (holds_led c) (omega (arith, len_led c, c.packet.invariant.0)) (omega (arith, len_led c))
+
+more_led : (c : After-link) (q : List Stamped) → q ++ stamped_of (node_led c) ∷ [] ≡ q ++ stamped_led c ∷ []
+more_led c q = ap (λ (s : Stamped). q ++ s ∷ []) (holds_led c)
+
+heavier_led : (c : After-link) → c.packet.inside.len ≡ (node_led c).packet.len
+heavier_led c = len_led c ∙ sym (ap (λ (s : Stamped). s.packet.len) (holds_led c))
+
+added : (c : After-link) → IsAppended led_to (used c.args.nodes.now) (used c.link.new.self) c.args.list.tail c.claim-key.result (node_led c)
 added c =
-    let x = tail_there (get c.args.nodes.now) c.requires.linked.0 _ c.args.list c.requires.linked.1 c.if-list-eq0.false in
-    appended_next c.args.nodes.now c.insert_reserved-key.new.self c.args.list.tail c.insert_reserved-key.result (node c) x.0 c.index_mut.result.now
-    c.insert_reserved-key.ensures.was_vacant (rw c.last.ensures at c.insert_reserved-key.ensures.updates) x.1 c.index_mut.ensures.value
+    let x = tail_there (used c.args.nodes.now) c.requires.linked.0 _ c.args.list c.requires.linked.1 c.if-list-eq0.false in
+    claimed_next (used c.args.nodes.now) (used c.claim-key.new.self) (used c.link.new.self) c.args.list.tail c.claim-key.result (node_led c) x.0 c.claim-key.ensures.vacant (stored_led c) c.claim-key.ensures.same x.1 c.link.ensures.led c.link.ensures.same
 
 pub overflow_add-result-2 : goal.overflow_add-result-2
 overflow_add-result-2 c =
-    let bytes = few_bytes (get c.args.nodes.now) c.requires.linked.0 _ c.args.list.tail c.args.list.count c.args.list.head c.requires.linked.1.linked in
+    let bytes = few_bytes (used c.args.nodes.now) c.requires.linked.0 _ c.args.list.tail c.args.list.count c.args.list.head c.requires.linked.1.linked in
     omega (arith, bytes, c.requires.linked.1.bytes, c.requires.few)
 
 pub returns-clause-queue : goal.returns-clause-queue
 returns-clause-queue c =
-    let d = (goal.at.returns-clause-queue c).After-index_mut in
+    let e = (goal.at.returns-clause-queue c).After-link in
     let w = c.requires.linked.0 in
-    next_queue (get c.args.nodes.now) (get (after d)) w _ c.args.list c.insert_reserved-key.result (node d) (own d w) c.requires.linked.1 c.if-list-eq0.false (added d)
+    next_queue (used c.args.nodes.now) (used c.link.new.self) w _ c.args.list c.claim-key.result (node_led e) (own_led e w) c.requires.linked.1 c.if-list-eq0.false (added e)
+    ∙ more_led e (queue_in (used c.args.nodes.now) c.args.list)
 
 pub returns-clause-linked : goal.returns-clause-linked
 returns-clause-linked c w linked =
-    let d = (goal.at.returns-clause-linked c).After-index_mut in
-    next_list (get c.args.nodes.now) (get (after d)) w _ c.args.list c.insert_reserved-key.result (node d) (own d w) linked _ (ap (λ (n : ℕ). c.args.list.bytes + n) (len d)) c.if-list-eq0.false (added d)
+    let e = (goal.at.returns-clause-linked c).After-link in
+    next_list (used c.args.nodes.now) (used c.link.new.self) w _ c.args.list c.claim-key.result (node_led e) (own_led e w) linked _ (ap (λ (n : ℕ). c.args.list.bytes + n) (heavier_led e)) c.if-list-eq0.false (added e)
 
 pub returns-clause-others : goal.returns-clause-others
 returns-clause-others c w linked =
-    let d = (goal.at.returns-clause-others c).After-index_mut in
-    next_keeps (get c.args.nodes.now) (get (after d)) w _ c.args.list c.insert_reserved-key.result (node d) (own d w) linked c.if-list-eq0.false (added d)
+    let e = (goal.at.returns-clause-others c).After-link in
+    next_keeps (used c.args.nodes.now) (used c.link.new.self) w _ c.args.list c.claim-key.result (node_led e) (own_led e w) linked c.if-list-eq0.false (added e)

@@ -8,7 +8,7 @@ use Rattle.q_codel.specs.Losses.{losses_of}
 use Rattle.q_fqcodel.specs.Cleared.{adjust}
 use Rattle.q_fqcodel.specs.FlowsState.{FlowsState}
 use Rattle.q_fqcodel.specs.FqState.{Flow, queue_of, packets_of}
-use Rattle.q_fqcodel.specs.Pool.{flows_from, codels_in, sizes}
+use Rattle.q_fqcodel.specs.Pool.{stamp, flows_from, codels_in, sizes}
 use Rattle.q_fqcodel.specs.Put.{joined, shortened}
 use Rattle.q_fqcodel.proofs.PooledLemmas.{length-flows, queue_there, queue_written, packets-pooled, length-sizes, sizes-set, sizes_renewed}
 use Rattle.q_fqcodel.proofs.flows.Flows.exchange.Goals as goal
@@ -33,7 +33,7 @@ pub push-requires-clause-own : goal.push-requires-clause-own
 push-requires-clause-own g c =
     let count : length c.self.inside.pool.queues ≡ length c.args.self.now.flows =
     omega (arith, ap (λ (f : FlowsState). length f.flows) c.self.view_is, length-flows c.self.inside.pool.queues (codels_in c.self.inside.parameters c.self.inside.states.items) c.self.invariant.0, c.self.invariant.0) in
-    ap (λ (n : ℕ). c.args.stamped.packet.hash % n) count ∙ c.requires.own
+    ap (λ (n : ℕ). c.args.packet.now.hash % n) count ∙ c.requires.own
 
 within : (g : _) (c : After-push g) → c.args.flow < length c.self.inside.pool.queues
 within g c =
@@ -47,16 +47,16 @@ codels g c = codels_in c.self.inside.parameters c.self.inside.states.items
 longer : (g : _) (c : After-push g) → length c.push.new.self.queues ≡ length c.self.inside.pool.queues
 longer g c = ap length c.push.ensures.queues ∙ length-set c.self.inside.pool.queues _ _
 
-joined_is : (g : _) (c : After-push g) → flows_from c.push.new.self.queues (codels g c) ≡ adjust (joined c.args.stamped) c.args.flow c.args.self.now.flows
+joined_is : (g : _) (c : After-push g) → flows_from c.push.new.self.queues (codels g c) ≡ adjust (joined (stamp c.args.packet.now c.args.now)) c.args.flow c.args.self.now.flows
 joined_is g c =
     let n : ℕ = c.args.flow in
     let qs : List (List Stamped) = c.self.inside.pool.queues in
-    let s : Stamped = c.args.stamped in
+    let s : Stamped = (stamp c.args.packet.now c.args.now) in
     ap (λ (l : List (List Stamped)). flows_from l (codels g c)) c.push.ensures.queues
     ∙ queue_written n qs (get_or qs n [] ++ s ∷ []) (codels g c) (joined s) (λ k. refl)
     ∙ ap (λ (f : FlowsState). adjust (joined s) n f.flows) c.self.view_is
 
-queue_is : (g : _) (c : After-push g) → queue_of (adjust (joined c.args.stamped) c.args.flow c.args.self.now.flows) c.args.flow ≡ get_or c.push.new.self.queues c.args.flow []
+queue_is : (g : _) (c : After-push g) → queue_of (adjust (joined (stamp c.args.packet.now c.args.now)) c.args.flow c.args.self.now.flows) c.args.flow ≡ get_or c.push.new.self.queues c.args.flow []
 queue_is g c =
     ap (λ (f : List Flow). queue_of f c.args.flow) (sym (joined_is g c)) ∙ queue_there c.args.flow c.push.new.self.queues (codels g c) (longer g c ∙ c.self.invariant.0)
 
@@ -73,7 +73,7 @@ invariant_of-self g c =
     let n : ℕ = c.args.flow in
     let qs : List (List Stamped) = c.self.inside.pool.queues in
     let more : List (List Stamped) = c.push.new.self.queues in
-    let q : List Stamped = get_or qs n [] ++ c.args.stamped ∷ [] in
+    let q : List Stamped = get_or qs n [] ++ (stamp c.args.packet.now c.args.now) ∷ [] in
     let rest : List Stamped = drop c.args.lost (get_or more n []) in
     let told : c.renew.new.self ≡ set (sizes more) n c.bytes_of-kept.result =
     c.renew.ensures

@@ -7,6 +7,7 @@ use Rattle.q_packet.specs.declared.cause.Cause.TheVariants.{FatFlow}
 use Rattle.q_codel.specs.Losses.{losses_of}
 use Rattle.q_fqcodel.specs.Cleared.{adjust}
 use Rattle.q_fqcodel.specs.FqState.{Flow, queue_of, packets_of}
+use Rattle.q_fqcodel.specs.Pool.{stamp}
 use Rattle.q_fqcodel.specs.Put.{joined, fattest, shed_count, shortened}
 use Rattle.q_fqcodel.proofs.FlowLemmas.{packets-at}
 use Rattle.q_fqcodel.proofs.PutLemmas.{own_queue, own_some, other_queue, packets-joined, shed-within}
@@ -15,13 +16,13 @@ use Rattle.q_fqcodel.proofs.flows.Flows.push_over.Goals.{After-fattest_with-fat,
 
 -- the flows once the packet has joined
 abbrev fuller : (g : _) → After-fattest_with-fat g → List Flow
-fuller g c = adjust (joined c.args.stamped) c.args.flow c.args.self.now.flows
+fuller g c = adjust (joined (stamp c.args.packet.now c.args.now)) c.args.flow c.args.self.now.flows
 
 fat_is : (g : _) (c : After-fattest_with-fat g) → c.fattest_with-fat.result ≡ fattest (fuller g c)
-fat_is g c = c.fattest_with-fat.ensures.value c.args.stamped (sym (ap (λ (p : Descriptor). p.len) c.packet.view_is))
+fat_is g c = c.fattest_with-fat.ensures.value (stamp c.args.packet.now c.args.now) (sym (ap (λ (p : Descriptor). p.len) c.packet.view_is))
 
 more : (g : _) (c : After-fattest_with-fat g) → packets_of (fuller g c) ≡ packets_of c.args.self.now.flows + 1
-more g c = packets-joined c.args.stamped c.args.flow c.args.self.now.flows c.requires.in_range
+more g c = packets-joined (stamp c.args.packet.now c.args.now) c.args.flow c.args.self.now.flows c.requires.in_range
 
 -- ---- a batch of one, of a flow that had a packet
 
@@ -36,10 +37,10 @@ one_shed flows s n fat batch within is some one =
     (cases_eq fat n) in
     omega (arith, has, ap (λ (m : ℕ). count (queue_of a m)) is, packets-joined s n flows within, packets-at fat flows, some, one)
 
-one_is : (g : _) (c : After-sheds_one g) → c.sheds_one.result ≡ true → shed_count (adjust (joined c.args.stamped) c.args.flow c.args.self.now.flows) c.args.batch ≡ 1
+one_is : (g : _) (c : After-sheds_one g) → c.sheds_one.result ≡ true → shed_count (adjust (joined (stamp c.args.packet.now c.args.now)) c.args.flow c.args.self.now.flows) c.args.batch ≡ 1
 one_is g c single =
-    one_shed c.args.self.now.flows c.args.stamped c.args.flow c.fattest_with-fat.result c.args.batch c.requires.in_range
-    (c.fattest_with-fat.ensures.value c.args.stamped (sym (ap (λ (p : Descriptor). p.len) c.packet.view_is))) (c.sheds_one.ensures.held single) (c.sheds_one.ensures.one single)
+    one_shed c.args.self.now.flows (stamp c.args.packet.now c.args.now) c.args.flow c.fattest_with-fat.result c.args.batch c.requires.in_range
+    (c.fattest_with-fat.ensures.value (stamp c.args.packet.now c.args.now) (sym (ap (λ (p : Descriptor). p.len) c.packet.view_is))) (c.sheds_one.ensures.held single) (c.sheds_one.ensures.one single)
 
 pub swap-requires-clause-room : goal.swap-requires-clause-room
 swap-requires-clause-room g c = omega (arith, one_is g (goal.at.swap-requires-clause-room g c).After-sheds_one c.if-sheds_one.true, c.requires.room)
@@ -61,20 +62,20 @@ pub returns-then-sheds_one-clause-answer : goal.returns-then-sheds_one-clause-an
 returns-then-sheds_one-clause-answer g c =
     let d = (goal.at.returns-then-sheds_one-clause-answer g c).After-sheds_one in
     let e = (goal.at.returns-then-sheds_one-clause-answer g c).After-fattest_with-fat in
-    sym (answer_one c.args.self.now.flows c.args.stamped c.args.flow c.fattest_with-fat.result _ c.requires.in_range (fat_is g e) (c.sheds_one.ensures.held c.if-sheds_one.true) (one_is g d c.if-sheds_one.true))
+    sym (answer_one c.args.self.now.flows (stamp c.args.packet.now c.args.now) c.args.flow c.fattest_with-fat.result _ c.requires.in_range (fat_is g e) (c.sheds_one.ensures.held c.if-sheds_one.true) (one_is g d c.if-sheds_one.true))
 
 pub returns-then-sheds_one-clause-flows : goal.returns-then-sheds_one-clause-flows
 returns-then-sheds_one-clause-flows g c =
     let d = (goal.at.returns-then-sheds_one-clause-flows g c).After-sheds_one in
     let e = (goal.at.returns-then-sheds_one-clause-flows g c).After-fattest_with-fat in
-    let a : List Flow = adjust (joined c.args.stamped) c.args.flow c.args.self.now.flows in
+    let a : List Flow = adjust (joined (stamp c.args.packet.now c.args.now)) c.args.flow c.args.self.now.flows in
     c.swap.ensures.flows ∙ ap₂ (λ (l m : ℕ). adjust (shortened l) m a) (sym (one_is g d c.if-sheds_one.true)) (fat_is g e)
 
 pub returns-then-sheds_one-clause-lost : goal.returns-then-sheds_one-clause-lost
 returns-then-sheds_one-clause-lost g c =
     let d = (goal.at.returns-then-sheds_one-clause-lost g c).After-sheds_one in
     let e = (goal.at.returns-then-sheds_one-clause-lost g c).After-fattest_with-fat in
-    let a : List Flow = adjust (joined c.args.stamped) c.args.flow c.args.self.now.flows in
+    let a : List Flow = adjust (joined (stamp c.args.packet.now c.args.now)) c.args.flow c.args.self.now.flows in
     c.swap.ensures.lost ∙ ap₂ (λ (l m : ℕ). g.S.Sink.losses c.args.sink.now ++ losses_of FatFlow (take l (queue_of a m))) (sym (one_is g d c.if-sheds_one.true)) (fat_is g e)
 
 pub returns-then-sheds_one-clause-room : goal.returns-then-sheds_one-clause-room
@@ -98,19 +99,19 @@ lose-requires-clause-held g c =
 pub overflow_add-held : goal.overflow_add-held
 overflow_add-held g c = omega (arith, c.count_of-held.ensures, packets-at c.args.flow c.args.self.now.flows, c.requires.few)
 
-own_fat : (g : _) (c : After-min-lost g) → c.args.flow ≡ fattest (adjust (joined c.args.stamped) c.args.flow c.args.self.now.flows)
-own_fat g c = sym c.if-fat-flow.false ∙ c.fattest_with-fat.ensures.value c.args.stamped (sym (ap (λ (p : Descriptor). p.len) c.packet.view_is))
+own_fat : (g : _) (c : After-min-lost g) → c.args.flow ≡ fattest (adjust (joined (stamp c.args.packet.now c.args.now)) c.args.flow c.args.self.now.flows)
+own_fat g c = sym c.if-fat-flow.false ∙ c.fattest_with-fat.ensures.value (stamp c.args.packet.now c.args.now) (sym (ap (λ (p : Descriptor). p.len) c.packet.view_is))
 
-held_is : (g : _) (c : After-min-lost g) → c.count_of-held.result + 1 ≡ count (queue_of (adjust (joined c.args.stamped) c.args.flow c.args.self.now.flows) c.args.flow)
+held_is : (g : _) (c : After-min-lost g) → c.count_of-held.result + 1 ≡ count (queue_of (adjust (joined (stamp c.args.packet.now c.args.now)) c.args.flow c.args.self.now.flows) c.args.flow)
 held_is g c =
     let flows : List Flow = c.args.self.now.flows in
-    omega (arith, c.count_of-held.ensures, ap count (own_queue c.args.stamped c.args.flow flows c.requires.in_range), length-append (queue_of flows c.args.flow) (c.args.stamped ∷ []))
+    omega (arith, c.count_of-held.ensures, ap count (own_queue (stamp c.args.packet.now c.args.now) c.args.flow flows c.requires.in_range), length-append (queue_of flows c.args.flow) ((stamp c.args.packet.now c.args.now) ∷ []))
 
-lost_is : (g : _) (c : After-min-lost g) → c.min-lost.result ≡ shed_count (adjust (joined c.args.stamped) c.args.flow c.args.self.now.flows) c.args.batch
+lost_is : (g : _) (c : After-min-lost g) → c.min-lost.result ≡ shed_count (adjust (joined (stamp c.args.packet.now c.args.now)) c.args.flow c.args.self.now.flows) c.args.batch
 unfolding shed_count
 lost_is g c =
-    let a : List Flow = adjust (joined c.args.stamped) c.args.flow c.args.self.now.flows in
-    let packets : c.count.result ≡ packets_of a - 1 = omega (arith, c.count.ensures, packets-joined c.args.stamped c.args.flow c.args.self.now.flows c.requires.in_range) in
+    let a : List Flow = adjust (joined (stamp c.args.packet.now c.args.now)) c.args.flow c.args.self.now.flows in
+    let packets : c.count.result ≡ packets_of a - 1 = omega (arith, c.count.ensures, packets-joined (stamp c.args.packet.now c.args.now) c.args.flow c.args.self.now.flows c.requires.in_range) in
     c.min-lost.ensures
     ∙ ap (λ (n : ℕ). min n c.args.batch) (c.min-most.ensures ∙ ap₂ (λ (m n : ℕ). min m n) (held_is g c ∙ ap (λ (n : ℕ). count (queue_of a n)) (own_fat g c)) packets)
 
@@ -123,20 +124,20 @@ exchange-requires-clause-room g c = omega (arith, lost_is g (goal.at.exchange-re
 pub returns-clause-answer : goal.returns-clause-answer
 returns-clause-answer g c =
     let d = (goal.at.returns-clause-answer g c).After-min-lost in
-    let a : List Flow = adjust (joined c.args.stamped) c.args.flow c.args.self.now.flows in
+    let a : List Flow = adjust (joined (stamp c.args.packet.now c.args.now)) c.args.flow c.args.self.now.flows in
     ap₂ (λ (m n : ℕ). nat_le m n) (held_is g d) (lost_is g d)
     ∙ sym (ap (λ (t : Bool). t && nat_le (count (queue_of a c.args.flow)) (shed_count a c.args.batch)) (eq-eqb (fattest a) c.args.flow (sym (own_fat g d))))
 
 pub returns-clause-flows : goal.returns-clause-flows
 returns-clause-flows g c =
     let d = (goal.at.returns-clause-flows g c).After-min-lost in
-    let a : List Flow = adjust (joined c.args.stamped) c.args.flow c.args.self.now.flows in
+    let a : List Flow = adjust (joined (stamp c.args.packet.now c.args.now)) c.args.flow c.args.self.now.flows in
     c.exchange.ensures.flows ∙ ap₂ (λ (l m : ℕ). adjust (shortened l) m a) (lost_is g d) (own_fat g d)
 
 pub returns-clause-lost : goal.returns-clause-lost
 returns-clause-lost g c =
     let d = (goal.at.returns-clause-lost g c).After-min-lost in
-    let a : List Flow = adjust (joined c.args.stamped) c.args.flow c.args.self.now.flows in
+    let a : List Flow = adjust (joined (stamp c.args.packet.now c.args.now)) c.args.flow c.args.self.now.flows in
     c.exchange.ensures.lost ∙ ap₂ (λ (l m : ℕ). g.S.Sink.losses c.args.sink.now ++ losses_of FatFlow (take l (queue_of a m))) (lost_is g d) (own_fat g d)
 
 pub returns-clause-room : goal.returns-clause-room

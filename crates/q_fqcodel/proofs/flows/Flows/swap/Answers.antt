@@ -7,27 +7,37 @@ use Rattle.q_codel.specs.Codel.{CodelState}
 use Rattle.q_codel.specs.Losses.{losses_of}
 use Rattle.q_fqcodel.specs.Cleared.{adjust}
 use Rattle.q_fqcodel.specs.FlowsState.{FlowsState}
-use Rattle.q_fqcodel.specs.FqState.{Flow, queue_of}
-use Rattle.q_fqcodel.specs.Pool.{flows_from, codels_in, sizes}
+use Rattle.q_fqcodel.specs.FqState.{Flow, queue_of, packets_of}
+use Rattle.q_fqcodel.specs.Pool.{stamp, flows_from, codels_in, sizes}
 use Rattle.q_fqcodel.specs.Put.{joined, shortened}
 use Rattle.q_fqcodel.proofs.MovedLemmas.{fuller, moved_is, first_kept, one_told, both_told}
-use Rattle.q_fqcodel.proofs.PooledLemmas.{length-flows, queue_there, queue_written, flow_with, length-sizes}
+use Rattle.q_fqcodel.proofs.PooledLemmas.{length-flows, queue_there, queue_written, flow_with, length-sizes, packets-pooled}
 use Rattle.q_fqcodel.proofs.flows.Flows.swap.Goals as goal
-use Rattle.q_fqcodel.proofs.flows.Flows.swap.Goals.{After-replace, After-renew}
+use Rattle.q_fqcodel.proofs.flows.Flows.swap.Goals.{After-replace-own, After-renew}
 
-pub replace-requires-clause-in_range : goal.replace-requires-clause-in_range
-replace-requires-clause-in_range g c =
+pub replace-own-requires-clause-in_range : goal.replace-own-requires-clause-in_range
+replace-own-requires-clause-in_range g c =
     let same = ap (λ (f : FlowsState). f.flows) c.self.view_is in
     omega (arith, c.requires.in_range, ap length same, length-flows c.self.inside.pool.queues (codels_in c.self.inside.parameters c.self.inside.states.items) c.self.invariant.0, c.self.invariant.0)
 
-pub replace-requires-clause-own : goal.replace-requires-clause-own
-replace-requires-clause-own g c =
+pub replace-own-requires-clause-own : goal.replace-own-requires-clause-own
+replace-own-requires-clause-own g c =
     let count : length c.self.inside.pool.queues ≡ length c.args.self.now.flows =
     omega (arith, ap (λ (f : FlowsState). length f.flows) c.self.view_is, length-flows c.self.inside.pool.queues (codels_in c.self.inside.parameters c.self.inside.states.items) c.self.invariant.0, c.self.invariant.0) in
-    ap (λ (n : ℕ). c.args.stamped.packet.hash % n) count ∙ c.requires.own
+    ap (λ (n : ℕ). c.args.packet.now.hash % n) count ∙ c.requires.own
 
-pub replace-requires-clause-some : goal.replace-requires-clause-some
-replace-requires-clause-some g c =
+pub replace-own-requires-clause-place : goal.replace-own-requires-clause-place
+replace-own-requires-clause-place g c =
+    let same = ap (λ (f : FlowsState). f.flows) c.self.view_is in
+    omega (arith, c.requires.place, ap packets_of same, ap (λ (f : FlowsState). f.places) c.self.view_is, packets-pooled c.self.inside.pool.queues (codels_in c.self.inside.parameters c.self.inside.states.items) c.self.invariant.0)
+
+pub replace-own-requires-clause-few : goal.replace-own-requires-clause-few
+replace-own-requires-clause-few g c =
+    let same = ap (λ (f : FlowsState). f.flows) c.self.view_is in
+    omega (arith, c.requires.few, ap packets_of same, packets-pooled c.self.inside.pool.queues (codels_in c.self.inside.parameters c.self.inside.states.items) c.self.invariant.0)
+
+pub replace-own-requires-clause-some : goal.replace-own-requires-clause-some
+replace-own-requires-clause-some g c =
     omega (
       arith,
       c.requires.held,
@@ -35,11 +45,11 @@ replace-requires-clause-some g c =
       ap count (queue_there c.args.fat c.self.inside.pool.queues (codels_in c.self.inside.parameters c.self.inside.states.items) c.self.invariant.0),
     )
 
-abbrev codels : (g : _) → After-replace g → List CodelState
+abbrev codels : (g : _) → After-replace-own g → List CodelState
 codels g c = codels_in c.self.inside.parameters c.self.inside.states.items
 
 -- the fat flow has a packet
-some : (g : _) (c : After-replace g) → 0 < count (get_or c.self.inside.pool.queues c.args.fat [])
+some : (g : _) (c : After-replace-own g) → 0 < count (get_or c.self.inside.pool.queues c.args.fat [])
 some g c =
     omega (
       arith,
@@ -48,101 +58,101 @@ some g c =
       ap count (queue_there c.args.fat c.self.inside.pool.queues (codels g c) c.self.invariant.0),
     )
 
-within : (g : _) (c : After-replace g) → c.args.flow < length c.self.inside.pool.queues
+within : (g : _) (c : After-replace-own g) → c.args.flow < length c.self.inside.pool.queues
 within g c =
     let same = ap (λ (f : FlowsState). f.flows) c.self.view_is in
     omega (arith, c.requires.in_range, ap length same, length-flows c.self.inside.pool.queues (codels g c) c.self.invariant.0, c.self.invariant.0)
 
 -- the queues once the packet has joined
-abbrev more : (g : _) → After-replace g → List (List Stamped)
-more g c = fuller c.self.inside.pool.queues c.args.fat c.args.flow c.args.stamped (some g c) (within g c)
+abbrev more : (g : _) → After-replace-own g → List (List Stamped)
+more g c = fuller c.self.inside.pool.queues c.args.fat c.args.flow (stamp c.args.packet.now c.args.now) (some g c) (within g c)
 
-joined_is : (g : _) (c : After-replace g) → flows_from (more g c) (codels g c) ≡ adjust (joined c.args.stamped) c.args.flow c.args.self.now.flows
+joined_is : (g : _) (c : After-replace-own g) → flows_from (more g c) (codels g c) ≡ adjust (joined (stamp c.args.packet.now c.args.now)) c.args.flow c.args.self.now.flows
 joined_is g c =
     let n : ℕ = c.args.flow in
     let qs : List (List Stamped) = c.self.inside.pool.queues in
-    let s : Stamped = c.args.stamped in
+    let s : Stamped = (stamp c.args.packet.now c.args.now) in
     queue_written n qs (get_or qs n [] ++ s ∷ []) (codels g c) (joined s) (λ k. refl)
     ∙ ap (λ (f : FlowsState). adjust (joined s) n f.flows) c.self.view_is
 
-longer : (g : _) (c : After-replace g) → length (more g c) ≡ length (codels g c)
-longer g c = length-set c.self.inside.pool.queues c.args.flow (get_or c.self.inside.pool.queues c.args.flow [] ++ c.args.stamped ∷ []) ∙ c.self.invariant.0
+longer : (g : _) (c : After-replace-own g) → length (more g c) ≡ length (codels g c)
+longer g c = length-set c.self.inside.pool.queues c.args.flow (get_or c.self.inside.pool.queues c.args.flow [] ++ (stamp c.args.packet.now c.args.now) ∷ []) ∙ c.self.invariant.0
 
-queue_is : (g : _) (c : After-replace g) → queue_of (adjust (joined c.args.stamped) c.args.flow c.args.self.now.flows) c.args.fat ≡ get_or (more g c) c.args.fat []
+queue_is : (g : _) (c : After-replace-own g) → queue_of (adjust (joined (stamp c.args.packet.now c.args.now)) c.args.flow c.args.self.now.flows) c.args.fat ≡ get_or (more g c) c.args.fat []
 queue_is g c = ap (λ (f : List Flow). queue_of f c.args.fat) (sym (joined_is g c)) ∙ queue_there c.args.fat (more g c) (codels g c) (longer g c)
 
-flows_are : (g : _) (c : After-replace g) → flows_from c.replace.new.self.queues (codels g c) ≡ adjust (shortened 1) c.args.fat (adjust (joined c.args.stamped) c.args.flow c.args.self.now.flows)
+flows_are : (g : _) (c : After-replace-own g) → flows_from c.replace-own.new.self.queues (codels g c) ≡ adjust (shortened 1) c.args.fat (adjust (joined (stamp c.args.packet.now c.args.now)) c.args.flow c.args.self.now.flows)
 flows_are g c =
     let qs : List (List Stamped) = c.self.inside.pool.queues in
-    ap (λ (l : List (List Stamped)). flows_from l (codels g c)) (c.replace.ensures.queues ∙ moved_is qs c.args.fat c.args.flow c.args.stamped (some g c) (within g c))
+    ap (λ (l : List (List Stamped)). flows_from l (codels g c)) (c.replace-own.ensures.queues ∙ moved_is qs c.args.fat c.args.flow (stamp c.args.packet.now c.args.now) (some g c) (within g c))
     ∙ queue_written c.args.fat (more g c) (drop 1 (get_or (more g c) c.args.fat [])) (codels g c) (shortened 1) (λ k. refl)
     ∙ ap (adjust (shortened 1) c.args.fat) (joined_is g c)
 
-lengths : (g : _) (c : After-replace g) → length c.replace.new.self.queues ≡ length (codels g c)
+lengths : (g : _) (c : After-replace-own g) → length c.replace-own.new.self.queues ≡ length (codels g c)
 lengths g c =
     let qs : List (List Stamped) = c.self.inside.pool.queues in
-    ap length (c.replace.ensures.queues ∙ moved_is qs c.args.fat c.args.flow c.args.stamped (some g c) (within g c))
+    ap length (c.replace-own.ensures.queues ∙ moved_is qs c.args.fat c.args.flow (stamp c.args.packet.now c.args.now) (some g c) (within g c))
     ∙ length-set (more g c) c.args.fat (drop 1 (get_or (more g c) c.args.fat []))
     ∙ longer g c
 
 pub renew-requires-clause-in_range : goal.renew-requires-clause-in_range
 renew-requires-clause-in_range g c =
-    omega (arith, within g (goal.at.renew-requires-clause-in_range g c).After-replace, ap length c.self.invariant.2, length-sizes c.self.inside.pool.queues)
+    omega (arith, within g (goal.at.renew-requires-clause-in_range g c).After-replace-own, ap length c.self.invariant.2, length-sizes c.self.inside.pool.queues)
 
-told : (g : _) (c : After-renew g) → c.renew.new.self ≡ set (sizes c.self.inside.pool.queues) c.args.flow c.bytes_of-own.result
-told g c = c.renew.ensures ∙ ap (λ (l : List ℕ). set l c.args.flow c.bytes_of-own.result) c.self.invariant.2
+told : (g : _) (c : After-renew g) → c.renew.new.self ≡ set (sizes c.self.inside.pool.queues) c.args.flow c.replace-own.result
+told g c = c.renew.ensures ∙ ap (λ (l : List ℕ). set l c.args.flow c.replace-own.result) c.self.invariant.2
 
 pub invariant_of-self : goal.invariant_of-self
 invariant_of-self g c =
-    let d = (goal.at.invariant_of-self g c).After-replace in
+    let d = (goal.at.invariant_of-self g c).After-replace-own in
     let e = (goal.at.invariant_of-self g c).After-renew in (
       lengths g d,
       c.self.invariant.1,
-      one_told c.self.inside.pool.queues c.args.fat c.args.flow c.args.stamped (some g d) (within g d) c.replace.new.self.queues c.replace.ensures.queues
-          c.renew.new.self c.bytes_of-own.result (told g e) c.bytes_of-own.ensures.value c.if-fat-flow.true,
+      one_told c.self.inside.pool.queues c.args.fat c.args.flow (stamp c.args.packet.now c.args.now) (some g d) (within g d) c.replace-own.new.self.queues c.replace-own.ensures.queues
+          c.renew.new.self c.replace-own.result (told g e) c.replace-own.ensures.bytes c.if-fat-flow.true,
       c.self.invariant.3,
     )
 
 pub returns-then-fat-flow-clause-flows : goal.returns-then-fat-flow-clause-flows
-returns-then-fat-flow-clause-flows g c = flows_are g (goal.at.returns-then-fat-flow-clause-flows g c).After-replace
+returns-then-fat-flow-clause-flows g c = flows_are g (goal.at.returns-then-fat-flow-clause-flows g c).After-replace-own
 
 pub returns-then-fat-flow-clause-lost : goal.returns-then-fat-flow-clause-lost
 returns-then-fat-flow-clause-lost g c =
-    let d = (goal.at.returns-then-fat-flow-clause-lost g c).After-replace in
-    c.replace.ensures.lost
+    let d = (goal.at.returns-then-fat-flow-clause-lost g c).After-replace-own in
+    c.replace-own.ensures.lost
     ∙ ap (λ (q : List Stamped). g.S.Sink.losses c.args.sink.now ++ losses_of FatFlow q)
-    (sym (ap (take 1) (queue_is g d) ∙ first_kept c.self.inside.pool.queues c.args.fat c.args.flow c.args.stamped (some g d) (within g d)))
+    (sym (ap (take 1) (queue_is g d) ∙ first_kept c.self.inside.pool.queues c.args.fat c.args.flow (stamp c.args.packet.now c.args.now) (some g d) (within g d)))
 
 pub renew-requires-2-clause-in_range : goal.renew-requires-2-clause-in_range
 renew-requires-2-clause-in_range g c =
-    let d = (goal.at.renew-requires-2-clause-in_range g c).After-replace in
+    let d = (goal.at.renew-requires-2-clause-in_range g c).After-replace-own in
     let e = (goal.at.renew-requires-2-clause-in_range g c).After-renew in
     omega (
       arith,
       flow_with c.self.inside.pool.queues c.args.fat (some g d),
       ap length (told g e),
-      length-set (sizes c.self.inside.pool.queues) c.args.flow c.bytes_of-own.result,
+      length-set (sizes c.self.inside.pool.queues) c.args.flow c.replace-own.result,
       length-sizes c.self.inside.pool.queues,
     )
 
 pub invariant_of-self-2 : goal.invariant_of-self-2
 invariant_of-self-2 g c =
-    let d = (goal.at.invariant_of-self-2 g c).After-replace in
+    let d = (goal.at.invariant_of-self-2 g c).After-replace-own in
     let e = (goal.at.invariant_of-self-2 g c).After-renew in (
       lengths g d,
       c.self.invariant.1,
-      both_told c.self.inside.pool.queues c.args.fat c.args.flow c.args.stamped (some g d) (within g d) c.replace.new.self.queues c.replace.ensures.queues
-          c.renew.new.self c.bytes_of-own.result (told g e) c.bytes_of-own.ensures.value
+      both_told c.self.inside.pool.queues c.args.fat c.args.flow (stamp c.args.packet.now c.args.now) (some g d) (within g d) c.replace-own.new.self.queues c.replace-own.ensures.queues
+          c.renew.new.self c.replace-own.result (told g e) c.replace-own.ensures.bytes
           c.renew-2.new.self c.bytes_of-rest.result c.renew-2.ensures c.bytes_of-rest.ensures.value c.if-fat-flow.false,
       c.self.invariant.3,
     )
 
 pub returns-clause-flows : goal.returns-clause-flows
-returns-clause-flows g c = flows_are g (goal.at.returns-clause-flows g c).After-replace
+returns-clause-flows g c = flows_are g (goal.at.returns-clause-flows g c).After-replace-own
 
 pub returns-clause-lost : goal.returns-clause-lost
 returns-clause-lost g c =
-    let d = (goal.at.returns-clause-lost g c).After-replace in
-    c.replace.ensures.lost
+    let d = (goal.at.returns-clause-lost g c).After-replace-own in
+    c.replace-own.ensures.lost
     ∙ ap (λ (q : List Stamped). g.S.Sink.losses c.args.sink.now ++ losses_of FatFlow q)
-    (sym (ap (take 1) (queue_is g d) ∙ first_kept c.self.inside.pool.queues c.args.fat c.args.flow c.args.stamped (some g d) (within g d)))
+    (sym (ap (take 1) (queue_is g d) ∙ first_kept c.self.inside.pool.queues c.args.fat c.args.flow (stamp c.args.packet.now c.args.now) (some g d) (within g d)))

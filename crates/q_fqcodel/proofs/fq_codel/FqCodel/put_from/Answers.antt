@@ -35,21 +35,9 @@ within g c =
     let count : c.settings.inside.flows ≡ c.self.inside.settings.flows = ap (λ (x : FqSettings). x.flows) c.settings.view_is in
     omega (arith, c.flow_by_hash-flow.ensures, count, c.settings.invariant.flows_low, c.self.invariant.0.each_flow)
 
--- the packet, as it is read
-abbrev seen : (g : _) → After-enlist g → Descriptor
-seen g c = record {
-  port = c.packet.inside.port;
-  number = c.packet.inside.number;
-  buf = c.packet.inside.buf;
-  len = c.packet.inside.len;
-  key = c.packet.inside.key;
-  hash = c.packet.inside.hash;
-  prio = c.packet.inside.prio;
-  ecn = c.packet.inside.ecn;
-}
-
+-- the packet, as it is queued
 abbrev arrived : (g : _) → After-enlist g → Stamped
-arrived g c = record { packet = seen g c; at = c.args.now }
+arrived g c = record { packet = c.args.packet.now; at = c.args.now }
 
 -- the flows once the packet has joined its flow, and the state with them
 abbrev joins : (g : _) → After-enlist g → List Flow
@@ -64,7 +52,7 @@ fuller_is g c =
     ap (λ (v : ListsState). record s { flows = joins g c; new_flows = c.enlist.new.self.new_flows; old_flows = v.old_flows }) c.enlist.ensures
     ∙ appended-is s c.args.packet.now c.args.now (own g c) c.settings.inside.quantum (joins g c) c.enlist.new.self.new_flows (own_is g c)
     (ap (λ (x : FqSettings). x.quantum) c.settings.view_is)
-    (ap (λ (p : Descriptor). adjust (joined (record { packet = p; at = c.args.now })) (own g c) c.self.inside.flows.flows) c.packet.view_is) (ap (λ (v : ListsState). v.new_flows) c.enlist.ensures)
+    refl (ap (λ (v : ListsState). v.new_flows) c.enlist.ensures)
     ∙ ap (λ (x : FqState). appended x c.args.packet.now c.args.now) (opened_is g c)
 
 -- one packet more than before
@@ -94,10 +82,10 @@ enlist-requires-clause-few g c =
     omega (arith, place, count, c.settings.invariant.flows_high)
 
 -- the packet's flow, by the number of flows that there are
-own_flow : (g : _) (c : After-enlist g) → c.packet.inside.hash % length c.self.inside.flows.flows ≡ own g c
+own_flow : (g : _) (c : After-enlist g) → c.args.packet.now.hash % length c.self.inside.flows.flows ≡ own g c
 own_flow g c =
     let count : c.settings.inside.flows ≡ length c.self.inside.flows.flows = ap (λ (x : FqSettings). x.flows) c.settings.view_is ∙ sym c.self.invariant.0.each_flow in
-    ap (λ (n : ℕ). c.packet.inside.hash % n) (sym count) ∙ sym c.flow_by_hash-flow.ensures
+    ap (λ (p : Descriptor). p.hash % length c.self.inside.flows.flows) (sym c.packet.view_is) ∙ ap (λ (n : ℕ). c.packet.inside.hash % n) (sym count) ∙ sym c.flow_by_hash-flow.ensures
 
 pub push-requires-clause-own : goal.push-requires-clause-own
 push-requires-clause-own g c = own_flow g (goal.at.push-requires-clause-own g c).After-enlist

@@ -1,5 +1,5 @@
 use Rattle.std.proofs.Common.{sym, ap, ◌∙◌}
-use Rattle.slab.specs.Slab.{get, slab_len}
+use Rattle.q_fqcodel.specs.Nodes.{used}
 use Rattle.q_fqcodel.specs.Pool.{PoolState, bytes_in}
 use Rattle.q_fqcodel.proofs.PoolLemmas.{bytes_pooled}
 use Rattle.q_fqcodel.proofs.pool.Pool.bytes.Goals as goal
@@ -7,4 +7,4 @@ use Rattle.q_fqcodel.proofs.pool.Pool.bytes.Goals as goal
 pub returns : goal.returns
 returns c =
     let p = c.self.inside in
-    sym (bytes_pooled (get p.nodes) (slab_len p.nodes) p.lists.items p.bytes c.self.invariant.0) ∙ ap (λ (s : PoolState). bytes_in s.queues) c.self.view_is
+    sym (bytes_pooled (used p.nodes) p.nodes.count p.lists.items p.bytes c.self.invariant.0) ∙ ap (λ (s : PoolState). bytes_in s.queues) c.self.view_is

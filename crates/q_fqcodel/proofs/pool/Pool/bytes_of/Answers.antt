@@ -1,5 +1,5 @@
 use Rattle.std.proofs.Common.{ap, arith}
-use Rattle.slab.specs.Slab.{get, slab_len}
+use Rattle.q_fqcodel.specs.Nodes.{used}
 use Rattle.q_fqcodel.specs.Pool.{PoolState}
 use Rattle.q_fqcodel.specs.declared.flow_list.FlowList.{FlowList}
 use Rattle.q_fqcodel.proofs.PoolLemmas.{bytes_read, bytes_few, count_le}
@@ -8,7 +8,7 @@ use Rattle.q_fqcodel.proofs.pool.Pool.bytes_of.Goals as goal
 pub returns-clause-value : goal.returns-clause-value
 returns-clause-value c =
     let p = c.self.inside in
-    bytes_read (get p.nodes) (slab_len p.nodes) p.lists.items p.bytes c.self.invariant.0 c.args.self.now.queues (ap (λ (s : PoolState). s.queues) c.self.view_is) c.args.flow c.list_of.result c.list_of.ensures
+    bytes_read (used p.nodes) p.nodes.count p.lists.items p.bytes c.self.invariant.0 c.args.self.now.queues (ap (λ (s : PoolState). s.queues) c.self.view_is) c.args.flow c.list_of.result c.list_of.ensures
 
 pub returns-clause-few : goal.returns-clause-few
 returns-clause-few c =
@@ -16,7 +16,7 @@ returns-clause-few c =
     omega (
       arith,
       ap (λ (l : FlowList). l.bytes) c.list_of.ensures,
-      bytes_few (get p.nodes) (slab_len p.nodes) p.lists.items p.bytes c.self.invariant.0 c.args.flow,
-      count_le (get p.nodes) (slab_len p.nodes) p.lists.items p.bytes c.self.invariant.0 c.args.flow,
+      bytes_few (used p.nodes) p.nodes.count p.lists.items p.bytes c.self.invariant.0 c.args.flow,
+      count_le (used p.nodes) p.nodes.count p.lists.items p.bytes c.self.invariant.0 c.args.flow,
       c.self.invariant.0.few,
     )

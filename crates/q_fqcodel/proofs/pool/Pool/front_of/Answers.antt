@@ -2,7 +2,7 @@ use Rattle.std.proofs.Common.{◌<◌, List, length, Option, Some, IsSome, refl,
 use Rattle.std.specs.Prelude.{option_map, slice_get}
 use Rattle.q_codel.specs.Front.{front_of}
 use Rattle.q_codel.specs.declared.front.Front.{Front}
-use Rattle.slab.specs.Slab.{get, slab_len}
+use Rattle.q_fqcodel.specs.Nodes.{used}
 use Rattle.q_packet.specs.declared.stamped.Stamped.{Stamped}
 use Rattle.q_fqcodel.specs.Pool.{PoolState}
 use Rattle.q_fqcodel.specs.declared.node.Node.{Node}
@@ -14,13 +14,13 @@ pub returns-then-list-eq0 : goal.returns-then-list-eq0
 returns-then-list-eq0 c =
     let p = c.self.inside in
     ap (λ (l : List Stamped). option_map front_of (slice_get l 0))
-    (sym (none_read (get p.nodes) (slab_len p.nodes) p.lists.items p.bytes c.self.invariant.0 c.args.self.now.queues (ap (λ (s : PoolState). s.queues) c.self.view_is) c.args.flow c.list_of-list.result c.list_of-list.ensures c.if-list-eq0.true))
+    (sym (none_read (used p.nodes) p.nodes.count p.lists.items p.bytes c.self.invariant.0 c.args.self.now.queues (ap (λ (s : PoolState). s.queues) c.self.view_is) c.args.flow c.list_of-list.result c.list_of-list.ensures c.if-list-eq0.true))
 
-pub index-node-requires : goal.index-node-requires
-index-node-requires c =
+pub at-node-requires : goal.at-node-requires
+at-node-requires c =
     let p = c.self.inside in
-    let x = head_there (get p.nodes) (length p.lists.items) c.args.flow c.list_of-list.result
-    (list_read (get p.nodes) (slab_len p.nodes) p.lists.items p.bytes c.self.invariant.0 c.args.self.now.queues (ap (λ (s : PoolState). s.queues) c.self.view_is) c.args.flow c.list_of-list.result c.list_of-list.ensures)
+    let x = head_there (used p.nodes) (length p.lists.items) c.args.flow c.list_of-list.result
+    (list_read (used p.nodes) p.nodes.count p.lists.items p.bytes c.self.invariant.0 c.args.self.now.queues (ap (λ (s : PoolState). s.queues) c.self.view_is) c.args.flow c.list_of-list.result c.list_of-list.ensures)
     (omega (arith, c.if-list-eq0.false)) in
     subst (λ (o : Option Node). IsSome o) (sym x.1) refl
 
@@ -30,5 +30,5 @@ returns c =
     let some : 0 < c.list_of-list.result.count = omega (arith, c.if-list-eq0.false) in
     ap (λ (x : Front). Some x) c.front.ensures
     ∙ ap (λ (l : List Stamped). option_map front_of (slice_get l 0))
-    (sym (first_packet (get p.nodes) c.list_of-list.result c.index-node.result.now some c.index-node.ensures)
-    ∙ queue_read (get p.nodes) (slab_len p.nodes) p.lists.items p.bytes c.self.invariant.0 c.args.self.now.queues (ap (λ (s : PoolState). s.queues) c.self.view_is) c.args.flow c.list_of-list.result c.list_of-list.ensures)
+    (sym (first_packet (used p.nodes) c.list_of-list.result c.at-node.result.now some c.at-node.ensures)
+    ∙ queue_read (used p.nodes) p.nodes.count p.lists.items p.bytes c.self.invariant.0 c.args.self.now.queues (ap (λ (s : PoolState). s.queues) c.self.view_is) c.args.flow c.list_of-list.result c.list_of-list.ensures)

@@ -1,5 +1,5 @@
 use Rattle.std.proofs.Common.{◌≡◌, List, replicate, sym, ap, ◌∙◌, arith, subst}
-use Rattle.slab.specs.Slab.{get, slab_len}
+use Rattle.q_fqcodel.specs.Nodes.{used}
 use Rattle.q_fqcodel.specs.Pool.{no_list, queues_in, IsPool}
 use Rattle.q_fqcodel.specs.declared.flow_list.FlowList.{FlowList}
 use Rattle.q_fqcodel.proofs.PoolLemmas.{pool_first, queues_first}
@@ -12,9 +12,9 @@ items c = c.in_ok-lists.ensures.items_if_clones_equal (λ y h. h) ∙ ap (λ (l 
 pub invariant_of-result : goal.invariant_of-result
 invariant_of-result c =
     let d = (goal.at.invariant_of-result c).After-new-2 in (
-      subst (λ (l : List FlowList). IsPool (get c.new-2.result) (slab_len c.new-2.result) l 0) (sym (items d)) (pool_first c.new-2.result c.args.flows c.new-2.ensures.empty),
+      subst (λ (l : List FlowList). IsPool (used c.new-2.result) c.new-2.result.count l 0) (sym (items d)) (pool_first (used c.new-2.result) c.new-2.result.count c.args.flows c.new-2.ensures.count),
       omega arith,
     )
 
 pub returns-clause-queues : goal.returns-clause-queues
-returns-clause-queues c = ap (queues_in (get c.new-2.result)) (items (goal.at.returns-clause-queues c).After-new-2) ∙ queues_first (get c.new-2.result) c.args.flows
+returns-clause-queues c = ap (queues_in (used c.new-2.result)) (items (goal.at.returns-clause-queues c).After-new-2) ∙ queues_first (used c.new-2.result) c.args.flows
