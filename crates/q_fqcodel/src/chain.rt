@@ -88,14 +88,15 @@ pub(crate) fn take_head_into(nodes: &mut Nodes, list: FlowList, out: &mut Packet
     ensures capacity { nodes.new.slab.capacity ≡ nodes.old.slab.capacity }
 {
     let node = nodes.at(list.head);
-    let packet = node.packet;
+    let packet = &node.packet;
+    let len = packet.len;
     let next = node.next;
-    *out = packet;
+    *out = *packet;
     nodes.vacate(list.head);
     FlowList {
         head: next,
         tail: list.tail,
         count: list.count - 1,
-        bytes: list.bytes - packet.len as u64,
+        bytes: list.bytes - len as u64,
     }
 }

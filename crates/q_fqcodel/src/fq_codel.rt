@@ -365,8 +365,7 @@ fn flow_by_hash(hash: u32, flows: u32) -> u32
     requires { 1 ≤ flows }
     ensures { result ≡ hash % flows }
 {
-    let bits = flows.trailing_zeros();
-    if bits < 32 && flows == 1 << bits {
+    if flows.is_power_of_two() {
         return hash & (flows - 1);
     }
     hash % flows

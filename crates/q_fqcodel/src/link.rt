@@ -1,5 +1,5 @@
 ghost use Rattle.std.specs.Prelude.{◌≡◌};
-ghost use Rattle.q_fqcodel.specs.Links.{no_link, led_on};
+ghost use Rattle.q_fqcodel.specs.Links.{no_link};
 
 use crate::entry::Entry;
 use crate::place::Place;
@@ -36,23 +36,6 @@ impl Link {
             credits,
             next: 0,
             place,
-        }
-    }
-
-    /// The link with this flow behind its own.
-    pub(crate) fn led_on(self, flow: u32) -> Link
-        ensures { result ≡ led_on flow self }
-    {
-        Link { next: flow, ..self }
-    }
-
-    /// The link with the credits of `entry`.
-    pub(crate) fn with_credits(self, entry: Entry) -> Link
-        ensures { result ≡ record self { credits = entry.credits } }
-    {
-        Link {
-            credits: entry.credits,
-            ..self
         }
     }
 

@@ -1,6 +1,6 @@
 //! The lists of new and of old flows, each linked through the flows' links: one flow appended, the first taken out or written.
 ghost use Rattle.std.specs.Prelude.{◌≡◌, ◌≢◌, ◌<◌, None, [], ◌∷◌, ◌++◌, length, set, drop, slice_get};
-ghost use Rattle.q_fqcodel.specs.Links.{link_of, link_at, entries_in, IsLine, KeepsLines};
+ghost use Rattle.q_fqcodel.specs.Links.{link_of, led_on, link_at, entries_in, IsLine, KeepsLines};
 
 use crate::ends::Ends;
 use crate::entry::Entry;
@@ -33,8 +33,7 @@ pub(crate) fn append_flow(
             count: 1,
         };
     }
-    let tail = read(links, list.tail);
-    write(links, list.tail, tail.led_on(flow));
+    write_next(links, list.tail, flow);
     Ends {
         head: list.head,
         tail: flow,
@@ -82,8 +81,7 @@ pub(crate) fn set_first(links: &mut Vec<Link>, list: Ends, entry: Entry)
     ensures others { (place : Place) → IsLine links.old.items place list → KeepsLines place links.old.items links.new.items }
     ensures len { length links.new.items ≡ length links.old.items }
 {
-    let first = read(links, list.head);
-    write(links, list.head, first.with_credits(entry));
+    write_credits(links, list.head, entry);
 }
 
 fn read(links: &Vec<Link>, flow: u32) -> Link
@@ -98,4 +96,19 @@ fn write(links: &mut Vec<Link>, flow: u32, link: Link)
     ensures { links.new.items ≡ set links.old.items flow link }
 {
     links[flow as usize] = link;
+}
+
+// One field of a link alone, so that the others are neither read nor written.
+fn write_next(links: &mut Vec<Link>, flow: u32, next: u32)
+    requires { flow < length links.old.items }
+    ensures { links.new.items ≡ set links.old.items flow (led_on next (link_of links.old.items flow)) }
+{
+    links[flow as usize].next = next;
+}
+
+fn write_credits(links: &mut Vec<Link>, flow: u32, entry: Entry)
+    requires { flow < length links.old.items }
+    ensures { links.new.items ≡ set links.old.items flow (record (link_of links.old.items flow) { credits = entry.credits }) }
+{
+    links[flow as usize].credits = entry.credits;
 }

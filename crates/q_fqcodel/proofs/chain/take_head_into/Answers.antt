@@ -1,4 +1,4 @@
-use Rattle.std.proofs.Common.{◌-◌, List, Option, IsSome, drop, refl, sym, ap, arith, subst}
+use Rattle.std.proofs.Common.{Some, ◌∙◌, ◌-◌, List, Option, IsSome, drop, refl, sym, ap, arith, subst}
 use Rattle.std.specs.Prelude.{option_map, slice_get}
 use Rattle.q_packet.specs.Descriptor.{Descriptor}
 use Rattle.q_packet.specs.declared.stamped.Stamped.{Stamped}
@@ -27,7 +27,8 @@ overflow_sub-result-2 c =
 
 pub returns-clause-given : goal.returns-clause-given
 returns-clause-given c =
-    ap (λ (q : List Stamped). option_map (λ s. s.packet) (slice_get q 0))
+    ap (λ (p : Descriptor). Some p) c.packet.view_is
+    ∙ ap (λ (q : List Stamped). option_map (λ s. s.packet) (slice_get q 0))
     (sym (rest_queue (used c.args.nodes.now) (used c.vacate.new.self) c.requires.linked.0 c.requires.linked.1 c.args.list c.at-node.result.now c.requires.linked.2 c.requires.some c.at-node.ensures c.vacate.ensures.same))
 
 pub returns-clause-bytes : goal.returns-clause-bytes

@@ -4,7 +4,7 @@ use Rattle.q_fqcodel.specs.Links.{link_of, led_on, entries_in, IsLine, KeepsLine
 use Rattle.q_fqcodel.specs.declared.link.Link.{Link}
 use Rattle.q_fqcodel.proofs.LinkLemmas.{first_entries, first_line, first_keeps, next_entries, next_line, next_keeps, tail_within}
 use Rattle.q_fqcodel.proofs.links.append_flow.Goals as goal
-use Rattle.q_fqcodel.proofs.links.append_flow.Goals.{After-write, After-write-2}
+use Rattle.q_fqcodel.proofs.links.append_flow.Goals.{After-write, After-write_next}
 
 -- the flow's own link is written
 alone : (c : After-write) → c.write.new.links.items ≡ set c.args.links.now.items c.args.flow (record { credits = c.args.credits; next = 0; place = c.args.place })
@@ -33,31 +33,26 @@ inside c some =
     subst (λ (l : List Link). c.args.list.tail < length l) (sym (alone c))
     (tail_within c.args.links.now.items c.args.place c.args.list c.args.flow c.args.credits c.requires.within c.requires.free c.requires.listed c.requires.linked some)
 
-pub read-tail-requires : goal.read-tail-requires
-read-tail-requires c = inside (goal.at.read-tail-requires c).After-write c.if-list-eq0.false
-
-pub write-requires-2 : goal.write-requires-2
-write-requires-2 c = inside (goal.at.write-requires-2 c).After-write c.if-list-eq0.false
+pub write_next-requires : goal.write_next-requires
+write_next-requires c = inside (goal.at.write_next-requires c).After-write c.if-list-eq0.false
 
 -- both writes
-written : (c : After-write-2) (one : c.write.new.links.items ≡ set c.args.links.now.items c.args.flow (record { credits = c.args.credits; next = 0; place = c.args.place })) → c.write-2.new.links.items ≡ set (set c.args.links.now.items c.args.flow (record { credits = c.args.credits; next = 0; place = c.args.place })) c.args.list.tail
+written : (c : After-write_next) (one : c.write.new.links.items ≡ set c.args.links.now.items c.args.flow (record { credits = c.args.credits; next = 0; place = c.args.place })) → c.write_next.new.links.items ≡ set (set c.args.links.now.items c.args.flow (record { credits = c.args.credits; next = 0; place = c.args.place })) c.args.list.tail
     (led_on c.args.flow (link_of (set c.args.links.now.items c.args.flow (record { credits = c.args.credits; next = 0; place = c.args.place })) c.args.list.tail))
 written c one =
-    c.write-2.ensures
-    ∙ ap₂ (λ (l : List Link) (x : Link). set l c.args.list.tail x) one
-    (c.led_on.ensures ∙ ap (led_on c.args.flow) (c.read-tail.ensures ∙ ap (λ (l : List Link). link_of l c.args.list.tail) one))
+    c.write_next.ensures ∙ ap (λ (l : List Link). set l c.args.list.tail (led_on c.args.flow (link_of l c.args.list.tail))) one
 
 pub returns-clause-entries : goal.returns-clause-entries
 returns-clause-entries c =
-    ap (λ (l : List Link). entries_in l (record { head = c.args.list.head; tail = c.args.flow; count = c.args.list.count + 1 })) (written (goal.at.returns-clause-entries c).After-write-2 (alone (goal.at.returns-clause-entries c).After-write))
+    ap (λ (l : List Link). entries_in l (record { head = c.args.list.head; tail = c.args.flow; count = c.args.list.count + 1 })) (written (goal.at.returns-clause-entries c).After-write_next (alone (goal.at.returns-clause-entries c).After-write))
     ∙ next_entries c.args.links.now.items c.args.place c.args.list c.args.flow c.args.credits c.requires.within c.requires.free c.requires.listed c.requires.linked c.if-list-eq0.false
 
 pub returns-clause-linked : goal.returns-clause-linked
 returns-clause-linked c =
-    subst (λ (l : List Link). IsLine l c.args.place (record { head = c.args.list.head; tail = c.args.flow; count = c.args.list.count + 1 })) (sym (written (goal.at.returns-clause-linked c).After-write-2 (alone (goal.at.returns-clause-linked c).After-write)))
+    subst (λ (l : List Link). IsLine l c.args.place (record { head = c.args.list.head; tail = c.args.flow; count = c.args.list.count + 1 })) (sym (written (goal.at.returns-clause-linked c).After-write_next (alone (goal.at.returns-clause-linked c).After-write)))
     (next_line c.args.links.now.items c.args.place c.args.list c.args.flow c.args.credits c.requires.within c.requires.free c.requires.listed c.requires.linked c.if-list-eq0.false)
 
 pub returns-clause-others : goal.returns-clause-others
 returns-clause-others c =
-    subst (λ (l : List Link). KeepsLines c.args.place c.args.links.now.items l) (sym (written (goal.at.returns-clause-others c).After-write-2 (alone (goal.at.returns-clause-others c).After-write)))
+    subst (λ (l : List Link). KeepsLines c.args.place c.args.links.now.items l) (sym (written (goal.at.returns-clause-others c).After-write_next (alone (goal.at.returns-clause-others c).After-write)))
     (next_keeps c.args.links.now.items c.args.place c.args.list c.args.flow c.args.credits c.requires.within c.requires.free c.requires.listed c.requires.linked c.if-list-eq0.false)
