@@ -21,20 +21,18 @@ const REFUSALS: &[(&str, &[u8])] = &[
 ];
 
 /// Words of commands that were done, and of the other lines.
-const WORDS: &[&str] = &[
-    "-s", "add", "all", "at", "bands", "buffer", "burst", "change", "class", "classid", "del", "delete", "dev", "drop_batch",
-    "drr", "dst_ip", "dst_port", "ecn", "filter", "flower", "flowid", "flows", "frame", "handle", "hash", "icmp", "icmpv6",
-    "interval", "ip", "ip_proto", "ipv6", "latency", "limit", "list", "ls", "maxburst", "noecn", "parent", "pkt", "poll",
-    "pref", "prio", "priomap", "protocol", "qdisc", "quantum", "rate", "reap", "root", "sctp", "show", "src_ip", "src_port",
-    "target", "tc", "tcp", "totals", "udp",
-];
+const WORDS: &str = "-s add all at bands buffer burst change class classid del delete dev drop_batch drr dst_ip dst_port ecn \
+    filter flower flowid flows frame handle hash icmp icmpv6 interval ip ip_proto ipv6 latency limit list ls maxburst noecn \
+    parent pkt poll pref prio priomap protocol qdisc quantum rate reap root sctp show src_ip src_port target tc tcp totals udp";
 
 /// The options whose value has a unit, and the units, in lower case; "" is none.
 const UNITS: &[(&str, &[&str], &[&str])] = &[
     (
         "rate",
         &["rate"],
-        &["", "bit", "bps", "gbit", "gbps", "kbit", "kbps", "mbit", "mbps", "tbit", "tbps"],
+        &[
+            "", "bit", "bps", "gbit", "gbps", "kbit", "kbps", "mbit", "mbps", "tbit", "tbps",
+        ],
     ),
     (
         "size",
@@ -50,8 +48,15 @@ const UNITS: &[(&str, &[&str], &[&str])] = &[
 
 /// What is seen beside commands and words.
 const OTHERS: &[&str] = &[
-    "moment before the one before", "moment 2^62", "head of family 0", "head of family 4", "head of family 6", "sent",
-    "sent ce", "idle", "later",
+    "moment before the one before",
+    "moment 2^62",
+    "head of family 0",
+    "head of family 4",
+    "head of family 6",
+    "sent",
+    "sent ce",
+    "idle",
+    "later",
 ];
 
 #[derive(Default)]
@@ -78,9 +83,12 @@ impl Reached {
 
     /// The words of a line that was read.
     pub fn words(&mut self, line: &[u8]) {
-        let words: Vec<String> = words_of(line).iter().map(|word| String::from_utf8_lossy(word).into()).collect();
+        let words: Vec<String> = words_of(line)
+            .iter()
+            .map(|word| String::from_utf8_lossy(word).into())
+            .collect();
         for word in &words {
-            if WORDS.contains(&word.as_str()) {
+            if WORDS.split(' ').any(|known| known == word) {
                 self.note(&format!("word {word}"));
             }
         }
@@ -129,7 +137,7 @@ fn everything() -> Vec<String> {
         }
         all.extend(refusals.iter().map(|number| format!("{verb} refused {number}")));
     }
-    all.extend(WORDS.iter().map(|word| format!("word {word}")));
+    all.extend(WORDS.split(' ').map(|word| format!("word {word}")));
     for (kind, _, units) in UNITS {
         all.extend(units.iter().map(|unit| format!("{kind} in {unit}")));
     }
@@ -140,9 +148,21 @@ fn everything() -> Vec<String> {
 impl fmt::Display for Reached {
     fn fmt(&self, f: &mut fmt::Formatter) -> fmt::Result {
         let all = everything();
-        let never: Vec<&str> = all.iter().filter(|what| self.count(what) == 0).map(String::as_str).collect();
-        let rare = all.iter().filter(|what| self.count(what) > 0).min_by_key(|what| self.count(what));
-        write!(f, "reached {} of {} parts of the language", all.len() - never.len(), all.len())?;
+        let never: Vec<&str> = all
+            .iter()
+            .filter(|what| self.count(what) == 0)
+            .map(String::as_str)
+            .collect();
+        let rare = all
+            .iter()
+            .filter(|what| self.count(what) > 0)
+            .min_by_key(|what| self.count(what));
+        write!(
+            f,
+            "reached {} of {} parts of the language",
+            all.len() - never.len(),
+            all.len()
+        )?;
         if let Some(rare) = rare {
             write!(f, ", `{rare}` the least often: {}", self.count(rare))?;
         }

@@ -235,7 +235,18 @@ pub fn size(random: &mut Random) -> String {
             .pick(&["1514", "1", "1500b", "2k", "3000", "10kb", "1.5kb", "16kbit", "300"])
             .into(),
         7 => random
-            .pick(&["4294967295", "4095m", "0", "0.9b", "1mb", "65535", "1g", "3.5gb", "0.01mbit", "1gbit"])
+            .pick(&[
+                "4294967295",
+                "4095m",
+                "0",
+                "0.9b",
+                "1mb",
+                "65535",
+                "1g",
+                "3.5gb",
+                "0.01mbit",
+                "1gbit",
+            ])
             .into(),
         _ => format!("{}b", 1000 + random.below(9000)),
     }
@@ -257,7 +268,18 @@ pub fn rate(random: &mut Random) -> String {
         3..5 => random.pick(&["10mbit", "100mbit", "1gbit"]).into(),
         5..7 => (1 + random.below(10_000_000)).to_string(),
         7 => random
-            .pick(&["1", "1tbit", "3", "7bit", "999999999999", "0.125bps", "125gbps", "9kbps", "1.5mbps", "0.1tbps"])
+            .pick(&[
+                "1",
+                "1tbit",
+                "3",
+                "7bit",
+                "999999999999",
+                "0.125bps",
+                "125gbps",
+                "9kbps",
+                "1.5mbps",
+                "0.1tbps",
+            ])
             .into(),
         8 => format!("{}.{:03}mbit", random.below(20), 1 + random.below(999)),
         _ => format!("{}kbit", 1 + random.below(100_000)),
