@@ -1,4 +1,5 @@
 use crate::fault::Fault;
+use crate::raw::sys;
 use crate::refusal::Refusal;
 use core::fmt;
 
@@ -27,8 +28,8 @@ impl Error {
     /// That of a code which tells of no success.
     pub(crate) fn of(code: u32) -> Error {
         match code {
-            90 => Error::Memory,
-            41 => Error::NoCommand,
+            sys::QTREE_MEMORY => Error::Memory,
+            sys::QTREE_NO_COMMAND => Error::NoCommand,
             _ => Refusal::of(code).map_or(Error::OutOfRange, Error::Refused),
         }
     }

@@ -18,15 +18,16 @@
 //! # Ok::<(), qtree::Error>(())
 //! ```
 //!
-//! The library is linked statically: `build.rs` finds it where `make -C embed/c` leaves it, or in the folder that `QTREE_LIB`
+//! The crate is `no_std`. The library is linked statically: `build.rs` finds it where `make -C embed/c` leaves it, or in the folder that `QTREE_LIB`
 //! names.
 #![no_std]
-#![deny(missing_docs, unsafe_op_in_unsafe_fn)]
+#![deny(missing_docs, unsafe_code, unsafe_op_in_unsafe_fn)]
 
 extern crate alloc;
 
 mod builder;
 mod cause;
+mod count;
 mod device;
 mod error;
 mod fate;
@@ -36,14 +37,16 @@ mod losses;
 mod packet;
 mod place;
 mod polled;
+#[allow(unsafe_code)]
+mod raw;
 mod refusal;
 mod row;
 mod settings;
 mod show;
-mod sys;
 
 pub use builder::PacketBuilder;
 pub use cause::Cause;
+pub use count::Count;
 pub use device::Device;
 pub use error::Error;
 pub use fate::Fate;
@@ -54,7 +57,7 @@ pub use packet::Packet;
 pub use place::Place;
 pub use polled::Polled;
 pub use refusal::Refusal;
-pub use row::{Count, Row};
+pub use row::Row;
 pub use settings::Settings;
 pub use show::Show;
 
@@ -63,6 +66,6 @@ pub const MOMENT_MAX: u64 = 1 << 62;
 
 /// The version of the library that is linked: its major and its minor number.
 pub fn version() -> (u16, u16) {
-    let version = sys::qtree_version();
+    let version = raw::sys::qtree_version();
     ((version >> 16) as u16, version as u16)
 }

@@ -1,5 +1,5 @@
 use crate::builder::PacketBuilder;
-use crate::sys;
+use crate::raw::{read_head, sys};
 use core::fmt;
 use core::net::{IpAddr, Ipv4Addr, Ipv6Addr};
 
@@ -27,8 +27,7 @@ impl Packet {
             buf,
             ..sys::Packet::default()
         };
-        // SAFETY: pointer and length are those of `bytes`, and `packet` is borrowed for the call.
-        unsafe { sys::qtree_read_head(bytes.as_ptr(), bytes.len(), seed, &mut packet) };
+        read_head(bytes, seed, &mut packet);
         Packet(packet)
     }
 
