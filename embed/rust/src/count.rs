@@ -1,4 +1,5 @@
 use crate::raw::sys;
+use core::ops::AddAssign;
 
 /// Packets, and the sum of their lengths.
 #[derive(Clone, Copy, Debug, Default, PartialEq, Eq)]
@@ -15,5 +16,12 @@ impl Count {
             packets: count.packets,
             bytes: count.bytes,
         }
+    }
+}
+
+impl AddAssign for Count {
+    fn add_assign(&mut self, other: Count) {
+        self.packets += other.packets;
+        self.bytes += other.bytes;
     }
 }

@@ -13,6 +13,7 @@ use crate::settings::Settings;
 use crate::show::Show;
 use alloc::string::String;
 use alloc::vec;
+use alloc::vec::Vec;
 
 /// A device. Each call has it alone. It may go to another thread, and is used by one at a time.
 ///
@@ -21,7 +22,7 @@ use alloc::vec;
 /// shared(qtree::Device::open(qtree::Settings::default()));
 /// ```
 #[derive(Debug)]
-pub struct Device(RawDevice);
+pub struct Device(pub(crate) RawDevice);
 
 impl Device {
     /// A new device, with a pfifo at its root.
@@ -86,6 +87,19 @@ impl Device {
             (sys::QTREE_DONE, packet) => Ok(Polled::Packet(Packet(packet))),
             (sys::QTREE_IDLE, _) => Ok(Polled::Idle),
             (sys::QTREE_LATER, _) => Ok(Polled::Later),
+            (code, _) => Err(Error::of(code)),
+        }
+    }
+
+    /// Polls up to `most` times, and appends what that gives to `sent`, which has room for so many; how many there are.
+    pub(crate) fn poll_many(
+        &mut self,
+        now: u64,
+        most: usize,
+        sent: &mut Vec<Packet>,
+    ) -> Result<usize, Error> {
+        match self.0.poll_many(now, most, sent) {
+            (sys::QTREE_DONE | sys::QTREE_IDLE | sys::QTREE_LATER, count) => Ok(count),
             (code, _) => Err(Error::of(code)),
         }
     }

@@ -3,7 +3,7 @@ use crate::raw::sys;
 use crate::refusal::Refusal;
 use core::fmt;
 
-/// Why a call did not do what it was called for. Nothing has changed then.
+/// Why a call did not do what it was called for. Nothing has changed then, but where the call says so.
 #[derive(Clone, Copy, Debug, PartialEq, Eq)]
 #[non_exhaustive]
 pub enum Error {
@@ -22,6 +22,8 @@ pub enum Error {
     },
     /// The line changes no tree: it is empty, asks for a show text or brings a packet.
     NoCommand,
+    /// A port of the drain is not closed yet.
+    OpenPorts,
 }
 
 impl Error {
@@ -45,6 +47,7 @@ impl fmt::Display for Error {
                 write!(f, "the line is faulty at word {word}: {fault}")
             }
             Error::NoCommand => f.write_str("the line changes no tree"),
+            Error::OpenPorts => f.write_str("a port is not closed yet"),
         }
     }
 }

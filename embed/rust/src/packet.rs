@@ -5,6 +5,7 @@ use core::net::{IpAddr, Ipv4Addr, Ipv6Addr};
 
 /// A packet's descriptor. Its bytes stay with the program, which finds them again by [`Packet::buf`].
 #[derive(Clone, Copy)]
+#[repr(transparent)]
 pub struct Packet(pub(crate) sys::Packet);
 
 impl Packet {
@@ -36,6 +37,16 @@ impl Packet {
         self.0.buf
     }
 
+    /// The index of the sender's port that placed it, where one did.
+    pub fn port(&self) -> u32 {
+        self.0.port
+    }
+
+    /// Its number among those of its port, counted from 1 by a [`Port`](crate::Port).
+    pub fn number(&self) -> u64 {
+        self.0.number
+    }
+
     /// Its length in bytes.
     #[allow(clippy::len_without_is_empty)]
     pub fn len(&self) -> u16 {
@@ -47,7 +58,7 @@ impl Packet {
         self.0.proto
     }
 
-    /// The ports of its source and its destination.
+    /// The ports of its source and its destination, of TCP or UDP.
     pub fn ports(&self) -> (u16, u16) {
         (self.0.sport, self.0.dport)
     }

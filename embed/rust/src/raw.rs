@@ -5,7 +5,11 @@
 
 mod device;
 mod head;
+mod outlet;
+mod port;
 pub(crate) mod sys;
 
 pub(crate) use device::RawDevice;
 pub(crate) use head::{hash, read_head};
+pub(crate) use outlet::RawOutlet;
+pub(crate) use port::{RawPort, open_ring};

@@ -1,9 +1,11 @@
 use super::sys;
+use crate::packet::Packet;
+use alloc::vec::Vec;
 use core::ptr;
 
 /// A place with an open device.
 #[derive(Debug)]
-pub(crate) struct RawDevice(sys::Device);
+pub(crate) struct RawDevice(pub(super) sys::Device);
 
 // SAFETY: nothing in a device belongs to one thread: the library keeps no memory of threads, which its proof of `Send` says too.
 unsafe impl Send for RawDevice {}
@@ -40,6 +42,22 @@ impl RawDevice {
         // SAFETY: the device is open, and `packet` is another place.
         let code = unsafe { sys::qtree_poll(&mut self.0, now, &mut packet) };
         (code, packet)
+    }
+
+    /// Polls up to `most` times, and appends what that gives to `sent`, which has room for so many; also how many there are.
+    pub(crate) fn poll_many(
+        &mut self,
+        now: u64,
+        most: usize,
+        sent: &mut Vec<Packet>,
+    ) -> (u32, usize) {
+        let room = &mut sent.spare_capacity_mut()[..most];
+        let (at, mut count) = (room.as_mut_ptr().cast(), 0);
+        // SAFETY: the device is open; `at` leads to `most` packets, as `Packet` is laid out like one of C, and they are written alone.
+        let code = unsafe { sys::qtree_poll_many(&mut self.0, now, at, most, &mut count) };
+        // SAFETY: the first `count` packets of the room are written.
+        unsafe { sent.set_len(sent.len() + count) };
+        (code, count)
     }
 
     pub(crate) fn ready_at(&mut self) -> (u32, u64) {

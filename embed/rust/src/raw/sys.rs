@@ -8,6 +8,7 @@ pub const QTREE_DONE: u32 = 0;
 pub const QTREE_IDLE: u32 = 30;
 pub const QTREE_LATER: u32 = 31;
 pub const QTREE_NOTHING: u32 = 32;
+pub const QTREE_FULL: u32 = 33;
 pub const QTREE_FAULTY: u32 = 40;
 pub const QTREE_NO_COMMAND: u32 = 41;
 pub const QTREE_OUT_OF_RANGE: u32 = 42;
@@ -19,6 +20,20 @@ pub const QTREE_MEMORY: u32 = 90;
 #[repr(C)]
 #[derive(Debug)]
 pub struct Device {
+    pub at: *mut u8,
+    pub state: u64,
+}
+
+#[repr(C)]
+#[derive(Debug)]
+pub struct Port {
+    pub at: *mut u8,
+    pub state: u64,
+}
+
+#[repr(C)]
+#[derive(Debug)]
+pub struct Outlet {
     pub at: *mut u8,
     pub state: u64,
 }
@@ -112,6 +127,8 @@ macro_rules! layout {
 }
 
 layout!(Device, 16: at 0, state 8);
+layout!(Port, 16: at 0, state 8);
+layout!(Outlet, 16: at 0, state 8);
 layout!(Settings, 12: txqueuelen 0, recorder 4, mtu 8);
 layout!(Packet, 64: src_high 0, src_low 8, dst_high 16, dst_low 24, number 32, port 40, buf 44, hash 48, len 52,
     sport 54, dport 56, proto 58, family 59, prio 60, ecn 61);
@@ -161,6 +178,19 @@ unsafe extern "C" {
         room: usize,
         count: *mut usize,
     ) -> u32;
+    pub fn qtree_ring_open(port: *mut Port, outlet: *mut Outlet, index: u32, places: usize) -> u32;
+    pub fn qtree_offer(port: *mut Port, packet: *const Packet) -> u32;
+    pub fn qtree_take_in(
+        device: *mut Device,
+        outlet: *mut Outlet,
+        now: u64,
+        most: usize,
+        taken: *mut usize,
+    ) -> u32;
+    pub fn qtree_port_share(port: *mut Port, share: *mut Count) -> u32;
+    pub fn qtree_outlet_share(outlet: *mut Outlet, share: *mut Count) -> u32;
+    pub fn qtree_port_close(port: *mut Port);
+    pub fn qtree_outlet_close(outlet: *mut Outlet);
     pub fn qtree_stats(
         device: *mut Device,
         place: u32,
@@ -180,4 +210,6 @@ unsafe extern "C" {
     pub fn qtree_recorded(device: *mut Device, index: usize, event: *mut Event) -> u32;
     pub fn qtree_layout_of(layout: *mut Layout);
     pub fn qtree_sample(settings: *mut Settings, loss: *mut Loss, row: *mut Row, event: *mut Event);
+    pub fn qtree_sample_fault(fault: *mut Fault);
+    pub safe fn qtree_size_of(what: u32) -> usize;
 }
