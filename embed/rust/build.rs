@@ -4,21 +4,18 @@ use std::path::PathBuf;
 
 fn main() {
     println!("cargo::rerun-if-env-changed=QTREE_LIB");
-    let folder = match env::var_os("QTREE_LIB") {
-        Some(folder) => PathBuf::from(folder),
-        None => {
-            PathBuf::from(env::var_os("CARGO_MANIFEST_DIR").unwrap_or_default()).join("../c/build")
-        }
-    };
+    let named = env::var_os("QTREE_LIB").map(PathBuf::from);
+    let crate_folder = PathBuf::from(env::var_os("CARGO_MANIFEST_DIR").unwrap_or_default());
+    let folder = named.unwrap_or_else(|| crate_folder.join("../c/build"));
     let library = folder.join("libqtree.a");
+    println!("cargo::rerun-if-changed={}", library.display());
     if !library.exists() {
         println!(
-            "cargo::error={} is not there: build it by `make -C embed/c`, or name the folder of libqtree.a in QTREE_LIB",
+            "cargo::error=the library {} is missing: build it by `rt lib` in crates/qtree_c and `make` in embed/c, or name the folder of a libqtree.a in QTREE_LIB",
             library.display()
         );
         return;
     }
-    println!("cargo::rerun-if-changed={}", library.display());
     println!("cargo::rustc-link-search=native={}", folder.display());
     println!("cargo::rustc-link-lib=static=qtree");
 }

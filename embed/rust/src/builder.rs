@@ -1,5 +1,5 @@
 use crate::packet::Packet;
-use crate::sys;
+use crate::raw::{hash, sys};
 use core::net::IpAddr;
 
 /// Builds a [`Packet`] field by field. What is not given is 0.
@@ -101,10 +101,7 @@ impl PacketBuilder {
     pub fn build(mut self) -> Packet {
         match self.hash {
             Some(hash) => self.packet.hash = hash,
-            None => {
-                // SAFETY: the packet is borrowed for the call.
-                unsafe { sys::qtree_hash(self.seed, &mut self.packet) };
-            }
+            None => hash(self.seed, &mut self.packet),
         }
         Packet(self.packet)
     }

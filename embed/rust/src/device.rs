@@ -7,13 +7,13 @@ use crate::losses::Losses;
 use crate::packet::Packet;
 use crate::place::Place;
 use crate::polled::Polled;
+use crate::raw::{RawDevice, sys};
 use crate::row::Row;
 use crate::settings::Settings;
 use crate::show::Show;
-use crate::sys;
 use alloc::string::String;
 use alloc::vec;
-use core::ptr;
+use alloc::vec::Vec;
 
 /// A device. Each call has it alone. It may go to another thread, and is used by one at a time.
 ///
@@ -22,13 +22,8 @@ use core::ptr;
 /// shared(qtree::Device::open(qtree::Settings::default()));
 /// ```
 #[derive(Debug)]
-pub struct Device(sys::Device);
+pub struct Device(pub(crate) RawDevice);
 
-// SAFETY: nothing in a device belongs to one thread: the library keeps no memory of threads, which its proof of `Send` says too.
-unsafe impl Send for Device {}
-
-// SAFETY of every call below: the place is borrowed exclusively, began closed and was written by the library alone; every other
-// pointer is that of a reference or a slice that is borrowed for the call, and none overlaps another.
 impl Device {
     /// A new device, with a pfifo at its root.
     ///
@@ -36,14 +31,8 @@ impl Device {
     ///
     /// `OutOfRange` for an mtu of 0 or a recorder of more than 1,000,000 events; `Memory`.
     pub fn open(settings: Settings) -> Result<Device, Error> {
-        let mut device = Device(sys::Device {
-            at: ptr::null_mut(),
-            state: 0,
-        });
-        match unsafe { sys::qtree_open(&mut device.0, &settings.to_c()) } {
-            0 => Ok(device),
-            code => Err(Error::of(code)),
-        }
+        let opened = RawDevice::open(&settings.to_c()).map_err(Error::of)?;
+        Ok(Device(opened))
     }
 
     /// Does what one line of tc asks for. What it removes is lost, and waits among the losses.
@@ -63,11 +52,10 @@ impl Device {
     ///
     /// `Refused`, `Faulty`, `NoCommand`, `OutOfRange` (the moment), `Memory`.
     pub fn command(&mut self, line: &str, now: u64) -> Result<(), Error> {
-        let mut fault = sys::Fault::default();
-        match unsafe { sys::qtree_command(&mut self.0, line.as_ptr(), line.len(), now, &mut fault) }
-        {
-            0 => Ok(()),
-            40 => Err(Error::Faulty {
+        let (code, fault) = self.0.command(line.as_bytes(), now);
+        match code {
+            sys::QTREE_DONE => Ok(()),
+            sys::QTREE_FAULTY => Err(Error::Faulty {
                 fault: Fault::of(fault.number),
                 word: fault.word,
             }),
@@ -81,9 +69,9 @@ impl Device {
     ///
     /// `OutOfRange` for a length of 0, a priority above 15, an ECN codepoint above 3 or the moment; `Memory`.
     pub fn arrive(&mut self, packet: &Packet, now: u64) -> Result<Fate, Error> {
-        let code = unsafe { sys::qtree_arrive(&mut self.0, &packet.0, now) };
+        let code = self.0.arrive(&packet.0, now);
         match (code, Cause::of(code)) {
-            (0, _) => Ok(Fate::Kept),
+            (sys::QTREE_DONE, _) => Ok(Fate::Kept),
             (_, Some(cause)) => Ok(Fate::Lost(cause)),
             (code, None) => Err(Error::of(code)),
         }
@@ -95,20 +83,31 @@ impl Device {
     ///
     /// `OutOfRange` (the moment).
     pub fn poll(&mut self, now: u64) -> Result<Polled, Error> {
-        let mut packet = sys::Packet::default();
-        match unsafe { sys::qtree_poll(&mut self.0, now, &mut packet) } {
-            0 => Ok(Polled::Packet(Packet(packet))),
-            30 => Ok(Polled::Idle),
-            31 => Ok(Polled::Later),
-            code => Err(Error::of(code)),
+        match self.0.poll(now) {
+            (sys::QTREE_DONE, packet) => Ok(Polled::Packet(Packet(packet))),
+            (sys::QTREE_IDLE, _) => Ok(Polled::Idle),
+            (sys::QTREE_LATER, _) => Ok(Polled::Later),
+            (code, _) => Err(Error::of(code)),
+        }
+    }
+
+    /// Polls up to `most` times, and appends what that gives to `sent`, which has room for so many; how many there are.
+    pub(crate) fn poll_many(
+        &mut self,
+        now: u64,
+        most: usize,
+        sent: &mut Vec<Packet>,
+    ) -> Result<usize, Error> {
+        match self.0.poll_many(now, most, sent) {
+            (sys::QTREE_DONE | sys::QTREE_IDLE | sys::QTREE_LATER, count) => Ok(count),
+            (code, _) => Err(Error::of(code)),
         }
     }
 
     /// The moment before which no poll gives a packet, as long as none arrives and no command comes; `None` where none ever will.
     pub fn ready_at(&mut self) -> Option<u64> {
-        let mut moment = 0;
-        let code = unsafe { sys::qtree_ready_at(&mut self.0, &mut moment) };
-        (code == 0).then_some(moment)
+        let (code, moment) = self.0.ready_at();
+        (code == sys::QTREE_DONE).then_some(moment)
     }
 
     /// The losses that were not handed out yet, oldest first. Those that wait keep memory: a program that needs none reaps too.
@@ -126,9 +125,8 @@ impl Device {
     }
 
     pub(crate) fn reap(&mut self) -> Option<Loss> {
-        let mut loss = sys::Loss::default();
-        match unsafe { sys::qtree_reap(&mut self.0, &mut loss) } {
-            0 => Some(Loss {
+        match self.0.reap() {
+            (sys::QTREE_DONE, loss) => Some(Loss {
                 packet: Packet(loss.packet),
                 cause: Cause::of(loss.cause)?,
             }),
@@ -138,10 +136,8 @@ impl Device {
 
     /// What was counted in a place; `None` where nothing stands there.
     pub fn stats(&mut self, place: Place) -> Option<Row> {
-        let (place, major, minor) = place.to_c();
-        let mut row = sys::Row::default();
-        let code = unsafe { sys::qtree_stats(&mut self.0, place, major, minor, &mut row) };
-        (code == 0).then(|| Row::of(row))
+        let (code, row) = self.0.stats(place.to_c());
+        (code == sys::QTREE_DONE).then(|| Row::of(row))
     }
 
     /// What tc shows of it.
@@ -160,30 +156,15 @@ impl Device {
     pub fn show(&mut self, show: Show) -> Result<String, Error> {
         let mut text = vec![0; 1024];
         loop {
-            let mut needed = 0;
-            let code = unsafe {
-                sys::qtree_show(
-                    &mut self.0,
-                    show as u32,
-                    text.as_mut_ptr(),
-                    text.len(),
-                    &mut needed,
-                )
-            };
+            let (code, needed) = self.0.show(show as u32, &mut text);
             match code {
-                0 => {
+                sys::QTREE_DONE => {
                     text.truncate(needed);
                     return Ok(String::from_utf8_lossy(&text).into_owned());
                 }
-                43 => text.resize(needed, 0),
+                sys::QTREE_ROOM => text.resize(needed, 0),
                 code => return Err(Error::of(code)),
             }
         }
-    }
-}
-
-impl Drop for Device {
-    fn drop(&mut self) {
-        unsafe { sys::qtree_close(&mut self.0) }
     }
 }

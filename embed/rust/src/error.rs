@@ -1,8 +1,9 @@
 use crate::fault::Fault;
+use crate::raw::sys;
 use crate::refusal::Refusal;
 use core::fmt;
 
-/// Why a call did not do what it was called for. Nothing has changed then.
+/// Why a call did not do what it was called for. Nothing has changed then, but where the call says so.
 #[derive(Clone, Copy, Debug, PartialEq, Eq)]
 #[non_exhaustive]
 pub enum Error {
@@ -21,14 +22,16 @@ pub enum Error {
     },
     /// The line changes no tree: it is empty, asks for a show text or brings a packet.
     NoCommand,
+    /// A port of the drain is not closed yet.
+    OpenPorts,
 }
 
 impl Error {
     /// That of a code which tells of no success.
     pub(crate) fn of(code: u32) -> Error {
         match code {
-            90 => Error::Memory,
-            41 => Error::NoCommand,
+            sys::QTREE_MEMORY => Error::Memory,
+            sys::QTREE_NO_COMMAND => Error::NoCommand,
             _ => Refusal::of(code).map_or(Error::OutOfRange, Error::Refused),
         }
     }
@@ -44,6 +47,7 @@ impl fmt::Display for Error {
                 write!(f, "the line is faulty at word {word}: {fault}")
             }
             Error::NoCommand => f.write_str("the line changes no tree"),
+            Error::OpenPorts => f.write_str("a port is not closed yet"),
         }
     }
 }

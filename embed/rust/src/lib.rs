@@ -18,51 +18,71 @@
 //! # Ok::<(), qtree::Error>(())
 //! ```
 //!
-//! The library is linked statically: `build.rs` finds it where `make -C embed/c` leaves it, or in the folder that `QTREE_LIB`
+//! Many threads send through a [`Drain`]: each has a [`Port`] of its own, and a [`Gauge`] reads the counters on any thread.
+//!
+//! The crate is `no_std`. The library is linked statically: `build.rs` finds it where `make -C embed/c` leaves it, or in the folder that `QTREE_LIB`
 //! names.
 #![no_std]
-#![deny(missing_docs, unsafe_op_in_unsafe_fn)]
+#![deny(missing_docs, unsafe_code, unsafe_op_in_unsafe_fn)]
 
 extern crate alloc;
 
+mod board;
 mod builder;
 mod cause;
+mod count;
 mod device;
+mod drain;
 mod error;
 mod fate;
 mod fault;
+mod gauge;
 mod loss;
 mod losses;
+mod offer_error;
+mod outlet;
 mod packet;
 mod place;
 mod polled;
+mod port;
+#[allow(unsafe_code)]
+mod raw;
 mod refusal;
+mod ring_state;
 mod row;
 mod settings;
+mod settled;
 mod show;
-mod sys;
+mod turn;
 
 pub use builder::PacketBuilder;
 pub use cause::Cause;
+pub use count::Count;
 pub use device::Device;
+pub use drain::Drain;
 pub use error::Error;
 pub use fate::Fate;
 pub use fault::Fault;
+pub use gauge::Gauge;
 pub use loss::Loss;
 pub use losses::Losses;
+pub use offer_error::OfferError;
 pub use packet::Packet;
 pub use place::Place;
 pub use polled::Polled;
+pub use port::Port;
 pub use refusal::Refusal;
-pub use row::{Count, Row};
+pub use row::Row;
 pub use settings::Settings;
+pub use settled::Settled;
 pub use show::Show;
+pub use turn::Turn;
 
 /// The latest moment that a call takes: 2^62 nanoseconds.
 pub const MOMENT_MAX: u64 = 1 << 62;
 
 /// The version of the library that is linked: its major and its minor number.
 pub fn version() -> (u16, u16) {
-    let version = sys::qtree_version();
+    let version = raw::sys::qtree_version();
     ((version >> 16) as u16, version as u16)
 }

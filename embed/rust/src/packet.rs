@@ -1,10 +1,11 @@
 use crate::builder::PacketBuilder;
-use crate::sys;
+use crate::raw::{read_head, sys};
 use core::fmt;
 use core::net::{IpAddr, Ipv4Addr, Ipv6Addr};
 
 /// A packet's descriptor. Its bytes stay with the program, which finds them again by [`Packet::buf`].
 #[derive(Clone, Copy)]
+#[repr(transparent)]
 pub struct Packet(pub(crate) sys::Packet);
 
 impl Packet {
@@ -27,14 +28,23 @@ impl Packet {
             buf,
             ..sys::Packet::default()
         };
-        // SAFETY: pointer and length are those of `bytes`, and `packet` is borrowed for the call.
-        unsafe { sys::qtree_read_head(bytes.as_ptr(), bytes.len(), seed, &mut packet) };
+        read_head(bytes, seed, &mut packet);
         Packet(packet)
     }
 
     /// The program's own number.
     pub fn buf(&self) -> u32 {
         self.0.buf
+    }
+
+    /// The index of the sender's port that placed it, where one did.
+    pub fn port(&self) -> u32 {
+        self.0.port
+    }
+
+    /// Its number among those of its port, counted from 1 by a [`Port`](crate::Port).
+    pub fn number(&self) -> u64 {
+        self.0.number
     }
 
     /// Its length in bytes.
@@ -48,7 +58,7 @@ impl Packet {
         self.0.proto
     }
 
-    /// The ports of its source and its destination.
+    /// The ports of its source and its destination, of TCP or UDP.
     pub fn ports(&self) -> (u16, u16) {
         (self.0.sport, self.0.dport)
     }

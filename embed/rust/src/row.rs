@@ -1,13 +1,5 @@
-use crate::sys;
-
-/// Packets, and the sum of their lengths.
-#[derive(Clone, Copy, Debug, Default, PartialEq, Eq)]
-pub struct Count {
-    /// How many packets.
-    pub packets: u64,
-    /// Their bytes.
-    pub bytes: u64,
-}
+use crate::count::Count;
+use crate::raw::sys;
 
 /// What was counted in a place: what arrived was sent, refused or dropped, or is queued.
 #[derive(Clone, Copy, Debug, Default, PartialEq, Eq)]
@@ -24,15 +16,6 @@ pub struct Row {
     pub queued: Count,
     /// What was marked as having met congestion.
     pub marked: Count,
-}
-
-impl Count {
-    fn of(count: sys::Count) -> Count {
-        Count {
-            packets: count.packets,
-            bytes: count.bytes,
-        }
-    }
 }
 
 impl Row {

@@ -1,4 +1,4 @@
-use crate::sys;
+use crate::raw::sys;
 
 /// What a device is opened with.
 #[derive(Clone, Copy, Debug, PartialEq, Eq)]

@@ -1,0 +1,180 @@
+use crate::board::Board;
+use crate::count::Count;
+use crate::device::Device;
+use crate::error::Error;
+use crate::gauge::Gauge;
+use crate::outlet::Outlet;
+use crate::packet::Packet;
+use crate::place::Place;
+use crate::port::Port;
+use crate::raw::{open_ring, sys};
+use crate::ring_state::RingState;
+use crate::settings::Settings;
+use crate::settled::Settled;
+use crate::turn::Turn;
+use alloc::sync::Arc;
+use alloc::vec::Vec;
+
+/// A device with the rings of many senders. Each sender has a [`Port`]; the drain takes in what they placed, and polls.
+///
+/// It may go to another thread. Ports, drain and gauges are dropped in any order: once the drain is gone, what is left in the rings is
+/// forgotten, and offers are answered `Closed`. No call waits: between turns a program sleeps until [`Device::ready_at`], or until a
+/// sender wakes it by a way of the program's own, as `std::thread::Thread::unpark`.
+///
+/// ```
+/// use qtree::{Drain, Packet, Settings};
+///
+/// let (mut drain, ports) = Drain::open(Settings::default(), 2, 64)?;
+/// drain.device_mut().command("tc qdisc add dev wan root handle 1: fq_codel", 0)?;
+/// for mut port in ports {
+///     std::thread::spawn(move || port.offer(&Packet::builder(1000).buf(port.index()).build()));
+/// }
+/// let mut sent = Vec::new();
+/// while drain.open_ports() > 0 {
+///     drain.turn(0, 32, &mut sent)?;
+/// }
+/// let settled = drain.settle(0)?;
+/// drain.turn(0, 32, &mut sent)?;
+/// assert!(settled.adds_up && settled.taken.packets == 2 && sent.len() == 2);
+/// # Ok::<(), qtree::Error>(())
+/// ```
+#[derive(Debug)]
+pub struct Drain {
+    device: Device,
+    outlets: Vec<Outlet>,
+    /// The index of the ring after the one that was taken from last.
+    next: usize,
+    board: Arc<Board>,
+}
+
+impl Drain {
+    /// A drain with a new device, and its ports, in order of their indices: 1 at least, each with a ring of `places` places, 1 to
+    /// 65536.
+    ///
+    /// # Errors
+    ///
+    /// `OutOfRange` for no port, or a ring or a setting that is out of its range; `Memory`.
+    pub fn open(
+        settings: Settings,
+        ports: u32,
+        places: usize,
+    ) -> Result<(Drain, Vec<Port>), Error> {
+        let count = usize::try_from(ports).map_err(|_| Error::Memory)?;
+        if count == 0 {
+            return Err(Error::OutOfRange);
+        }
+        let (mut opened, mut outlets) = (Vec::new(), Vec::new());
+        opened.try_reserve_exact(count).map_err(|_| Error::Memory)?;
+        outlets
+            .try_reserve_exact(count)
+            .map_err(|_| Error::Memory)?;
+        for index in 0..ports {
+            let (port, outlet) = open_ring(index, places).map_err(Error::of)?;
+            let ring = Arc::new(RingState::default());
+            opened.push(Port::new(port, index, ring.clone()));
+            outlets.push(Outlet::new(outlet, ring));
+        }
+        let drain = Drain {
+            device: Device::open(settings)?,
+            outlets,
+            next: 0,
+            board: Arc::default(),
+        };
+        Ok((drain, opened))
+    }
+
+    /// A turn: up to `most` packets leave the rings and arrive, one from each ring in turn, going on after the one that was taken from
+    /// last; then come up to `most` polls, to the first that gives no packet, whose packets are appended to `sent`. It takes no memory
+    /// where `sent` has room for `most` packets more, but for what arrivals need. What it counted is published for gauges.
+    ///
+    /// # Errors
+    ///
+    /// `OutOfRange` (the moment); `Memory`, where `sent` gets no room. Nothing has changed then.
+    pub fn turn(&mut self, now: u64, most: usize, sent: &mut Vec<Packet>) -> Result<Turn, Error> {
+        sent.try_reserve(most).map_err(|_| Error::Memory)?;
+        let (taken, memory) = self.collect(now, most)?;
+        let polled = self.device.poll_many(now, most, sent)?;
+        self.publish();
+        Ok(Turn {
+            taken,
+            sent: polled,
+            memory,
+        })
+    }
+
+    /// How many ports are not closed yet.
+    pub fn open_ports(&self) -> usize {
+        let open = |it: &&Outlet| it.placed().is_none();
+        self.outlets.iter().filter(open).count()
+    }
+
+    /// Takes in all that is left in the rings, once every port is closed, and compares what was placed with what was taken in. The
+    /// packets are queued or lost as ever: where that may be more than the tree holds, turns come first, until one takes nothing.
+    ///
+    /// # Errors
+    ///
+    /// `OpenPorts`, `OutOfRange` (the moment). `Memory`, where an arrival is refused it: what was taken in stays so, and the rest can
+    /// be settled again.
+    pub fn settle(&mut self, now: u64) -> Result<Settled, Error> {
+        let mut settled = Settled {
+            placed: Count::default(),
+            taken: Count::default(),
+            adds_up: true,
+        };
+        if self.open_ports() > 0 {
+            return Err(Error::OpenPorts);
+        }
+        let (_, memory) = self.collect(now, usize::MAX)?;
+        self.publish();
+        if memory {
+            return Err(Error::Memory);
+        }
+        for outlet in &mut self.outlets {
+            let (placed, taken) = (outlet.placed().unwrap_or_default(), outlet.taken());
+            settled.placed += placed;
+            settled.taken += taken;
+            settled.adds_up &= placed == taken;
+        }
+        Ok(settled)
+    }
+
+    /// What was taken in of the port with this index so far; `None` where there is no such port.
+    pub fn share(&mut self, port: u32) -> Option<Count> {
+        let index = usize::try_from(port).ok()?;
+        self.outlets.get_mut(index).map(Outlet::taken)
+    }
+
+    /// Its device, for commands, counters, shows, losses, and the moment of the next turn. What it counts is published by the next turn.
+    pub fn device_mut(&mut self) -> &mut Device {
+        &mut self.device
+    }
+
+    /// A reader of what the device counts, for any thread.
+    pub fn gauge(&self) -> Gauge {
+        Gauge::new(self.board.clone())
+    }
+
+    /// Takes in up to `most` packets, one from each ring in turn; also whether memory was refused, which ended it.
+    fn collect(&mut self, now: u64, most: usize) -> Result<(usize, bool), Error> {
+        let (mut at, mut taken, mut empty) = (self.next, 0, 0);
+        while taken < most && empty < self.outlets.len() {
+            let (code, count) = self.outlets[at].take_in(&mut self.device, now);
+            at = (at + 1) % self.outlets.len();
+            match code {
+                sys::QTREE_DONE if count == 0 => empty += 1,
+                sys::QTREE_DONE => {
+                    (taken, empty, self.next) = (taken + count, 0, at);
+                }
+                sys::QTREE_MEMORY => return Ok((taken, true)),
+                code => return Err(Error::of(code)),
+            }
+        }
+        Ok((taken, false))
+    }
+
+    fn publish(&mut self) {
+        if let Some(row) = self.device.stats(Place::Top) {
+            self.board.publish(&row);
+        }
+    }
+}

@@ -1,0 +1,33 @@
+use crate::board::Board;
+use crate::row::Row;
+use alloc::sync::Arc;
+
+/// Reads what a drain's device counted, on any thread, while the drain goes on.
+///
+/// ```
+/// use qtree::{Drain, Packet, Settings};
+///
+/// let (mut drain, mut ports) = Drain::open(Settings::default(), 1, 16)?;
+/// let gauge = drain.gauge();
+/// ports[0].offer(&Packet::builder(100).build())?;
+/// drain.turn(0, 8, &mut Vec::new())?;
+/// let row = std::thread::spawn(move || gauge.read()).join().expect("a reader does not panic");
+/// assert_eq!((row.arrived.packets, row.sent.bytes), (1, 100));
+/// # Ok::<(), Box<dyn std::error::Error>>(())
+/// ```
+#[derive(Clone, Debug)]
+pub struct Gauge {
+    board: Arc<Board>,
+}
+
+impl Gauge {
+    pub(crate) fn new(board: Arc<Board>) -> Gauge {
+        Gauge { board }
+    }
+
+    /// The row of the device as it was behind the last turn: what arrived was sent, refused or dropped, or is queued. But for what is
+    /// queued, no count is below one that was read before. The drain does not wait for it, and it reads again where a turn ends meanwhile.
+    pub fn read(&self) -> Row {
+        self.board.read()
+    }
+}

@@ -1,0 +1,78 @@
+use crate::count::Count;
+use crate::offer_error::OfferError;
+use crate::packet::Packet;
+use crate::raw::{RawPort, sys};
+use crate::ring_state::RingState;
+use alloc::sync::Arc;
+
+/// A sender's end of a ring, by which it brings packets to a [`Drain`](crate::Drain). It may go to a thread of its own, and meets
+/// neither another sender nor a lock there. Dropping it closes it; what it placed is taken in all the same.
+///
+/// ```
+/// use qtree::{Drain, OfferError, Packet, Settings};
+///
+/// let (mut drain, mut ports) = Drain::open(Settings::default(), 1, 2)?;
+/// let port = &mut ports[0];
+/// let packet = Packet::builder(100).build();
+/// assert_eq!((port.offer(&packet), port.offer(&packet)), (Ok(()), Ok(())));
+/// assert_eq!(port.offer(&packet), Err(OfferError::Full));
+/// drain.turn(0, 1, &mut Vec::new())?;
+/// assert_eq!(port.offer(&packet), Ok(()));
+/// assert_eq!(port.share().bytes, 300);
+/// # Ok::<(), qtree::Error>(())
+/// ```
+///
+/// One thread at a time uses it:
+///
+/// ```compile_fail,E0277
+/// fn shared<T: Sync>(_: T) {}
+/// let (_drain, mut ports) = qtree::Drain::open(qtree::Settings::default(), 1, 2)?;
+/// shared(ports.remove(0));
+/// # Ok::<(), qtree::Error>(())
+/// ```
+#[derive(Debug)]
+pub struct Port {
+    raw: RawPort,
+    index: u32,
+    ring: Arc<RingState>,
+}
+
+impl Port {
+    pub(crate) fn new(raw: RawPort, index: u32, ring: Arc<RingState>) -> Port {
+        Port { raw, index, ring }
+    }
+
+    /// Its index, counted from 0, which its packets have as their [`Packet::port`].
+    pub fn index(&self) -> u32 {
+        self.index
+    }
+
+    /// Places a copy of the packet in the ring, with the port's index and the number of packets placed, counted from 1. It takes no
+    /// memory and waits for nobody.
+    ///
+    /// # Errors
+    ///
+    /// `Full`, `OutOfRange`; `Closed` once the drain is gone.
+    pub fn offer(&mut self, packet: &Packet) -> Result<(), OfferError> {
+        if self.ring.is_outlet_closed() {
+            return Err(OfferError::Closed);
+        }
+        match self.raw.offer(&packet.0) {
+            sys::QTREE_DONE => Ok(()),
+            sys::QTREE_FULL => Err(OfferError::Full),
+            _ => Err(OfferError::OutOfRange),
+        }
+    }
+
+    /// What it placed so far.
+    pub fn share(&mut self) -> Count {
+        Count::of(self.raw.share())
+    }
+}
+
+impl Drop for Port {
+    fn drop(&mut self) {
+        let placed = self.share();
+        self.ring.close_port(placed);
+    }
+}

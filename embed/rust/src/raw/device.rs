@@ -1,0 +1,106 @@
+use super::sys;
+use crate::packet::Packet;
+use alloc::vec::Vec;
+use core::ptr;
+
+/// A place with an open device.
+#[derive(Debug)]
+pub(crate) struct RawDevice(pub(super) sys::Device);
+
+// SAFETY: nothing in a device belongs to one thread: the library keeps no memory of threads, which its proof of `Send` says too.
+unsafe impl Send for RawDevice {}
+
+impl RawDevice {
+    pub(crate) fn open(settings: &sys::Settings) -> Result<RawDevice, u32> {
+        let mut place = sys::Device {
+            at: ptr::null_mut(),
+            state: 0,
+        };
+        // SAFETY: the place is closed, and `settings` is another one.
+        match unsafe { sys::qtree_open(&mut place, settings) } {
+            sys::QTREE_DONE => Ok(RawDevice(place)),
+            code => Err(code),
+        }
+    }
+
+    /// The fault is that of a faulty line, else 0.
+    pub(crate) fn command(&mut self, line: &[u8], now: u64) -> (u32, sys::Fault) {
+        let mut fault = sys::Fault::default();
+        // SAFETY: the device is open; pointer and length are those of `line`.
+        let code =
+            unsafe { sys::qtree_command(&mut self.0, line.as_ptr(), line.len(), now, &mut fault) };
+        (code, fault)
+    }
+
+    pub(crate) fn arrive(&mut self, packet: &sys::Packet, now: u64) -> u32 {
+        // SAFETY: the device is open, and `packet` is another place.
+        unsafe { sys::qtree_arrive(&mut self.0, packet, now) }
+    }
+
+    pub(crate) fn poll(&mut self, now: u64) -> (u32, sys::Packet) {
+        let mut packet = sys::Packet::default();
+        // SAFETY: the device is open, and `packet` is another place.
+        let code = unsafe { sys::qtree_poll(&mut self.0, now, &mut packet) };
+        (code, packet)
+    }
+
+    /// Polls up to `most` times, and appends what that gives to `sent`, which has room for so many; also how many there are.
+    pub(crate) fn poll_many(
+        &mut self,
+        now: u64,
+        most: usize,
+        sent: &mut Vec<Packet>,
+    ) -> (u32, usize) {
+        let room = &mut sent.spare_capacity_mut()[..most];
+        let (at, mut count) = (room.as_mut_ptr().cast(), 0);
+        // SAFETY: the device is open; `at` leads to `most` packets, as `Packet` is laid out like one of C, and they are written alone.
+        let code = unsafe { sys::qtree_poll_many(&mut self.0, now, at, most, &mut count) };
+        // SAFETY: the first `count` packets of the room are written.
+        unsafe { sent.set_len(sent.len() + count) };
+        (code, count)
+    }
+
+    pub(crate) fn ready_at(&mut self) -> (u32, u64) {
+        let mut moment = 0;
+        // SAFETY: the device is open, and `moment` is another place.
+        let code = unsafe { sys::qtree_ready_at(&mut self.0, &mut moment) };
+        (code, moment)
+    }
+
+    pub(crate) fn reap(&mut self) -> (u32, sys::Loss) {
+        let mut loss = sys::Loss::default();
+        // SAFETY: the device is open, and `loss` is another place.
+        let code = unsafe { sys::qtree_reap(&mut self.0, &mut loss) };
+        (code, loss)
+    }
+
+    pub(crate) fn stats(&mut self, (place, major, minor): (u32, u16, u16)) -> (u32, sys::Row) {
+        let mut row = sys::Row::default();
+        // SAFETY: the device is open, and `row` is another place.
+        let code = unsafe { sys::qtree_stats(&mut self.0, place, major, minor, &mut row) };
+        (code, row)
+    }
+
+    /// Also the length of the text, which is written where there is room for it.
+    pub(crate) fn show(&mut self, what: u32, text: &mut [u8]) -> (u32, usize) {
+        let mut needed = 0;
+        // SAFETY: the device is open; pointer and length are those of `text`.
+        let code = unsafe {
+            sys::qtree_show(
+                &mut self.0,
+                what,
+                text.as_mut_ptr(),
+                text.len(),
+                &mut needed,
+            )
+        };
+        (code, needed)
+    }
+}
+
+impl Drop for RawDevice {
+    fn drop(&mut self) {
+        // SAFETY: the device is open, and nothing uses it afterwards.
+        unsafe { sys::qtree_close(&mut self.0) }
+    }
+}

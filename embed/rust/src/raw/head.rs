@@ -1,0 +1,13 @@
+use super::sys;
+
+/// Fills in what the first bytes of a packet say of it, from its IP head on.
+pub(crate) fn read_head(bytes: &[u8], seed: u32, packet: &mut sys::Packet) {
+    // SAFETY: pointer and length are those of `bytes`, and `packet` is another place.
+    unsafe { sys::qtree_read_head(bytes.as_ptr(), bytes.len(), seed, packet) }
+}
+
+/// Fills in the hash of its addresses, ports and protocol.
+pub(crate) fn hash(seed: u32, packet: &mut sys::Packet) {
+    // SAFETY: `packet` is borrowed for the call.
+    unsafe { sys::qtree_hash(seed, packet) };
+}

@@ -1,0 +1,215 @@
+//! What `embed/include/qtree.h` declares, all of it. `embed/check-header` compares this file with the header and the library's
+//! sources: fields, their offsets, arguments and numbers.
+#![allow(dead_code)]
+use core::mem::{offset_of, size_of};
+
+// The numbers of answers that no enum of the crate has.
+pub const QTREE_DONE: u32 = 0;
+pub const QTREE_IDLE: u32 = 30;
+pub const QTREE_LATER: u32 = 31;
+pub const QTREE_NOTHING: u32 = 32;
+pub const QTREE_FULL: u32 = 33;
+pub const QTREE_FAULTY: u32 = 40;
+pub const QTREE_NO_COMMAND: u32 = 41;
+pub const QTREE_OUT_OF_RANGE: u32 = 42;
+pub const QTREE_ROOM: u32 = 43;
+pub const QTREE_IS_CLOSED: u32 = 50;
+pub const QTREE_IS_OPEN: u32 = 51;
+pub const QTREE_MEMORY: u32 = 90;
+
+#[repr(C)]
+#[derive(Debug)]
+pub struct Device {
+    pub at: *mut u8,
+    pub state: u64,
+}
+
+#[repr(C)]
+#[derive(Debug)]
+pub struct Port {
+    pub at: *mut u8,
+    pub state: u64,
+}
+
+#[repr(C)]
+#[derive(Debug)]
+pub struct Outlet {
+    pub at: *mut u8,
+    pub state: u64,
+}
+
+#[repr(C)]
+#[derive(Clone, Copy, Default)]
+pub struct Settings {
+    pub txqueuelen: u32,
+    pub recorder: u32,
+    pub mtu: u16,
+}
+
+#[repr(C)]
+#[derive(Clone, Copy, Default)]
+pub struct Packet {
+    pub src_high: u64,
+    pub src_low: u64,
+    pub dst_high: u64,
+    pub dst_low: u64,
+    pub number: u64,
+    pub port: u32,
+    pub buf: u32,
+    pub hash: u32,
+    pub len: u16,
+    pub sport: u16,
+    pub dport: u16,
+    pub proto: u8,
+    pub family: u8,
+    pub prio: u8,
+    pub ecn: u8,
+}
+
+#[repr(C)]
+#[derive(Clone, Copy, Default)]
+pub struct Loss {
+    pub packet: Packet,
+    pub cause: u32,
+}
+
+#[repr(C)]
+#[derive(Clone, Copy, Default)]
+pub struct Count {
+    pub packets: u64,
+    pub bytes: u64,
+}
+
+#[repr(C)]
+#[derive(Clone, Copy, Default)]
+pub struct Row {
+    pub arrived: Count,
+    pub sent: Count,
+    pub refused: Count,
+    pub dropped: Count,
+    pub queued: Count,
+    pub marked: Count,
+}
+
+#[repr(C)]
+#[derive(Clone, Copy, Default)]
+pub struct Fault {
+    pub word: usize,
+    pub number: u32,
+}
+
+#[repr(C)]
+#[derive(Clone, Copy, Default)]
+pub struct Event {
+    pub packet: Packet,
+    pub moment: u64,
+    pub kind: u32,
+}
+
+#[repr(C)]
+#[derive(Clone, Copy, Default)]
+pub struct Layout {
+    pub device: usize,
+    pub settings: usize,
+    pub packet: usize,
+    pub loss: usize,
+    pub row: usize,
+    pub event: usize,
+}
+
+/// Asserts the bytes of a struct, and the offset of each field.
+macro_rules! layout {
+    ($name:ident, $size:literal: $($field:ident $offset:literal),*) => {
+        const _: () = assert!(size_of::<$name>() == $size);
+        $(const _: () = assert!(offset_of!($name, $field) == $offset);)*
+        const _: fn($name) = |$name { $($field: _),* }| ();
+    };
+}
+
+layout!(Device, 16: at 0, state 8);
+layout!(Port, 16: at 0, state 8);
+layout!(Outlet, 16: at 0, state 8);
+layout!(Settings, 12: txqueuelen 0, recorder 4, mtu 8);
+layout!(Packet, 64: src_high 0, src_low 8, dst_high 16, dst_low 24, number 32, port 40, buf 44, hash 48, len 52,
+    sport 54, dport 56, proto 58, family 59, prio 60, ecn 61);
+layout!(Loss, 72: packet 0, cause 64);
+layout!(Count, 16: packets 0, bytes 8);
+layout!(Row, 96: arrived 0, sent 16, refused 32, dropped 48, queued 64, marked 80);
+layout!(Fault, 16: word 0, number 8);
+layout!(Event, 80: packet 0, moment 64, kind 72);
+layout!(Layout, 48: device 0, settings 8, packet 16, loss 24, row 32, event 40);
+
+unsafe extern "C" {
+    pub safe fn qtree_version() -> u32;
+    pub fn qtree_open(device: *mut Device, settings: *const Settings) -> u32;
+    pub fn qtree_close(device: *mut Device);
+    pub fn qtree_command(
+        device: *mut Device,
+        line: *const u8,
+        line_len: usize,
+        now: u64,
+        fault: *mut Fault,
+    ) -> u32;
+    pub fn qtree_read_head(bytes: *const u8, count: usize, seed: u32, packet: *mut Packet);
+    pub fn qtree_hash(seed: u32, packet: *mut Packet) -> u32;
+    pub fn qtree_arrive(device: *mut Device, packet: *const Packet, now: u64) -> u32;
+    pub fn qtree_arrive_many(
+        device: *mut Device,
+        packets: *const Packet,
+        count: usize,
+        codes: *mut u8,
+        codes_len: usize,
+        done: *mut usize,
+        now: u64,
+    ) -> u32;
+    pub fn qtree_poll(device: *mut Device, now: u64, packet: *mut Packet) -> u32;
+    pub fn qtree_poll_many(
+        device: *mut Device,
+        now: u64,
+        packets: *mut Packet,
+        room: usize,
+        count: *mut usize,
+    ) -> u32;
+    pub fn qtree_ready_at(device: *mut Device, moment: *mut u64) -> u32;
+    pub fn qtree_reap(device: *mut Device, loss: *mut Loss) -> u32;
+    pub fn qtree_reap_many(
+        device: *mut Device,
+        losses: *mut Loss,
+        room: usize,
+        count: *mut usize,
+    ) -> u32;
+    pub fn qtree_ring_open(port: *mut Port, outlet: *mut Outlet, index: u32, places: usize) -> u32;
+    pub fn qtree_offer(port: *mut Port, packet: *const Packet) -> u32;
+    pub fn qtree_take_in(
+        device: *mut Device,
+        outlet: *mut Outlet,
+        now: u64,
+        most: usize,
+        taken: *mut usize,
+    ) -> u32;
+    pub fn qtree_port_share(port: *mut Port, share: *mut Count) -> u32;
+    pub fn qtree_outlet_share(outlet: *mut Outlet, share: *mut Count) -> u32;
+    pub fn qtree_port_close(port: *mut Port);
+    pub fn qtree_outlet_close(outlet: *mut Outlet);
+    pub fn qtree_stats(
+        device: *mut Device,
+        place: u32,
+        major: u16,
+        minor: u16,
+        row: *mut Row,
+    ) -> u32;
+    pub fn qtree_totals(device: *mut Device, row: *mut Row) -> u32;
+    pub fn qtree_show(
+        device: *mut Device,
+        what: u32,
+        text: *mut u8,
+        room: usize,
+        needed: *mut usize,
+    ) -> u32;
+    pub fn qtree_events(device: *mut Device, events: *mut u64, recorded: *mut usize) -> u32;
+    pub fn qtree_recorded(device: *mut Device, index: usize, event: *mut Event) -> u32;
+    pub fn qtree_layout_of(layout: *mut Layout);
+    pub fn qtree_sample(settings: *mut Settings, loss: *mut Loss, row: *mut Row, event: *mut Event);
+    pub fn qtree_sample_fault(fault: *mut Fault);
+    pub safe fn qtree_size_of(what: u32) -> usize;
+}

@@ -1,0 +1,10 @@
+/// What a turn of a drain did.
+#[derive(Clone, Copy, Debug, Default, PartialEq, Eq)]
+pub struct Turn {
+    /// How many packets left their rings and arrived.
+    pub taken: usize,
+    /// How many packets the polls gave.
+    pub sent: usize,
+    /// Whether an arrival was refused memory, which ended the taking in. That packet is still in its ring.
+    pub memory: bool,
+}

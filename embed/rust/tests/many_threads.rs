@@ -1,0 +1,224 @@
+//! Senders on threads of their own, a drain and gauges. QTREE_TEST_PACKETS is how many packets each of 64 senders places, 500 where it
+//! is not set.
+use qtree::{Count, Drain, Error, Gauge, OfferError, Packet, Place, Port, Row, Settings};
+use std::sync::atomic::{AtomicBool, Ordering};
+use std::thread;
+
+const SENDERS: u32 = 64;
+
+fn packets_of_each() -> u64 {
+    let set = std::env::var("QTREE_TEST_PACKETS").ok();
+    set.and_then(|it| it.parse().ok()).unwrap_or(500)
+}
+
+fn packet(len: u16, buf: u32) -> Packet {
+    Packet::builder(len).buf(buf).build()
+}
+
+/// Places so many packets, each again until the ring has room; the share of the port.
+fn send(mut port: Port, count: u64) -> Count {
+    for buf in 0..count as u32 {
+        while let Err(error) = port.offer(&packet(100 + port.index() as u16, buf)) {
+            assert_eq!(error, OfferError::Full);
+            thread::yield_now();
+        }
+    }
+    port.share()
+}
+
+/// Reads until the drain has ended: no counter falls, and each row adds up.
+fn watch(gauge: &Gauge, has_ended: &AtomicBool) -> Row {
+    let mut last = Row::default();
+    while !has_ended.load(Ordering::SeqCst) {
+        let row = gauge.read();
+        let left = [row.sent, row.refused, row.dropped, row.queued];
+        assert_eq!(row.arrived.packets, left.iter().map(|it| it.packets).sum());
+        assert_eq!(row.arrived.bytes, left.iter().map(|it| it.bytes).sum());
+        assert!(row.arrived.packets >= last.arrived.packets && row.sent.bytes >= last.sent.bytes);
+        last = row;
+    }
+    last
+}
+
+/// Turns until the ports are closed and nothing is left; what was sent, checked for its order at each port.
+fn drain_all(drain: &mut Drain) -> Result<Count, Error> {
+    let (mut sent, mut total) = (Vec::new(), Count::default());
+    let mut numbers = vec![0; SENDERS as usize];
+    loop {
+        let are_closed = drain.open_ports() == 0;
+        let turn = drain.turn(0, 256, &mut sent)?;
+        for packet in sent.drain(..) {
+            numbers[packet.port() as usize] += 1;
+            assert_eq!(packet.number(), numbers[packet.port() as usize]);
+            assert_eq!(packet.number(), u64::from(packet.buf()) + 1);
+            assert_eq!(u32::from(packet.len()), 100 + packet.port());
+            total.packets += 1;
+            total.bytes += u64::from(packet.len());
+        }
+        if are_closed && turn.taken == 0 && turn.sent == 0 {
+            return Ok(total);
+        }
+    }
+}
+
+#[test]
+fn shares_of_64_threads_add_up() -> Result<(), Error> {
+    let each = packets_of_each();
+    let (mut drain, ports) = Drain::open(Settings::default(), SENDERS, 256)?;
+    drain
+        .device_mut()
+        .command("tc qdisc add dev wan root handle 1: pfifo limit 1000", 0)?;
+    let gauge = drain.gauge();
+    let has_ended = AtomicBool::new(false);
+    thread::scope(|scope| {
+        let senders: Vec<_> = ports
+            .into_iter()
+            .map(|port| scope.spawn(move || send(port, each)))
+            .collect();
+        let watchers: Vec<_> = (0..2)
+            .map(|_| scope.spawn(|| watch(&gauge, &has_ended)))
+            .collect();
+        let sent = drain_all(&mut drain);
+        has_ended.store(true, Ordering::SeqCst);
+        let sent = sent?;
+        let settled = drain.settle(0)?;
+        assert!(settled.adds_up);
+        assert_eq!((settled.placed, settled.taken), (sent, sent));
+        assert_eq!(sent.packets, u64::from(SENDERS) * each);
+        for (index, sender) in senders.into_iter().enumerate() {
+            let placed = sender.join().expect("no panic");
+            assert_eq!(placed.packets, each);
+            assert_eq!(drain.share(index as u32), Some(placed));
+        }
+        let row = drain
+            .device_mut()
+            .stats(Place::Top)
+            .expect("the device is there");
+        assert_eq!(
+            (row.arrived, row.sent, row.queued),
+            (sent, sent, Count::default())
+        );
+        assert_eq!(gauge.read(), row);
+        for watcher in watchers {
+            assert!(watcher.join().expect("no panic").sent.packets <= row.sent.packets);
+        }
+        Ok(())
+    })
+}
+
+#[test]
+fn a_full_ring_leaves_the_packet_to_its_sender() -> Result<(), Error> {
+    let (mut drain, mut ports) = Drain::open(Settings::default(), 1, 3)?;
+    let port = &mut ports[0];
+    for buf in 0..3 {
+        assert_eq!(port.offer(&packet(100, buf)), Ok(()));
+    }
+    let late = packet(200, 3);
+    assert_eq!(port.offer(&late), Err(OfferError::Full));
+    assert_eq!((port.share().packets, port.share().bytes), (3, 300));
+    let mut sent = Vec::new();
+    let turn = drain.turn(0, 1, &mut sent)?;
+    assert_eq!((turn.taken, turn.sent, turn.memory), (1, 1, false));
+    assert_eq!(port.offer(&late), Ok(()));
+    drain.turn(0, 10, &mut sent)?;
+    let seen: Vec<_> = sent
+        .iter()
+        .map(|it| (it.buf(), it.number(), it.port()))
+        .collect();
+    assert_eq!(seen, [(0, 1, 0), (1, 2, 0), (2, 3, 0), (3, 4, 0)]);
+    assert_eq!(port.offer(&packet(0, 4)), Err(OfferError::OutOfRange));
+    assert_eq!(
+        port.offer(&Packet::builder(1).prio(16).build()),
+        Err(OfferError::OutOfRange)
+    );
+    assert_eq!(port.share().packets, 4);
+    Ok(())
+}
+
+#[test]
+fn rings_take_turns_where_the_last_turn_ended() -> Result<(), Error> {
+    let (mut drain, mut ports) = Drain::open(Settings::default(), 3, 4)?;
+    for port in &mut ports {
+        for buf in 0..4 {
+            port.offer(&packet(100, buf)).expect("there is room");
+        }
+    }
+    let mut sent = Vec::new();
+    for most in [2, 2, 1, 0, 20] {
+        drain.turn(0, most, &mut sent)?;
+    }
+    let seen: Vec<_> = sent.iter().map(Packet::port).collect();
+    assert_eq!(seen, [0, 1, 2, 0, 1, 2, 0, 1, 2, 0, 1, 2]);
+    let late = drain.turn(qtree::MOMENT_MAX + 1, 1, &mut sent);
+    assert_eq!((late, sent.len()), (Err(Error::OutOfRange), 12));
+    Ok(())
+}
+
+#[test]
+fn a_sender_that_panics_closes_its_port() -> Result<(), Error> {
+    let (mut drain, mut ports) = Drain::open(Settings::default(), 2, 4)?;
+    assert_eq!(drain.settle(0), Err(Error::OpenPorts));
+    let mut port = ports.remove(1);
+    let sender = thread::spawn(move || {
+        port.offer(&packet(100, 7)).expect("there is room");
+        std::panic::resume_unwind(Box::new("the sender gives up"));
+    });
+    assert!(sender.join().is_err());
+    assert_eq!(drain.open_ports(), 1);
+    drop(ports);
+    let settled = drain.settle(0)?;
+    assert!(settled.adds_up);
+    assert_eq!((settled.taken.packets, settled.placed.bytes), (1, 100));
+    assert_eq!(
+        (drain.share(0), drain.share(2)),
+        (Some(Count::default()), None)
+    );
+    Ok(())
+}
+
+#[test]
+fn ends_are_dropped_in_any_order() -> Result<(), Error> {
+    for order in [
+        [0, 1, 2],
+        [0, 2, 1],
+        [1, 0, 2],
+        [1, 2, 0],
+        [2, 0, 1],
+        [2, 1, 0],
+    ] {
+        let (mut drain, mut ports) = Drain::open(Settings::default(), 2, 4)?;
+        let second = ports.pop();
+        let mut first = ports.pop().expect("there are two");
+        for buf in 0..4 {
+            first.offer(&packet(100, buf)).expect("there is room");
+        }
+        drain.turn(0, 2, &mut Vec::new())?;
+        let (mut drain, mut first, mut second) = (Some(drain), Some(first), second);
+        for which in order {
+            match which {
+                0 => drop(drain.take()),
+                1 => drop(first.take()),
+                _ => drop(second.take()),
+            }
+            if let (None, Some(port)) = (&drain, &mut first) {
+                assert_eq!(port.offer(&packet(100, 9)), Err(OfferError::Closed));
+                assert_eq!(port.share().packets, 4);
+            }
+        }
+    }
+    Ok(())
+}
+
+#[test]
+fn what_is_out_of_range_opens_nothing() {
+    let none = |ports, places| Drain::open(Settings::default(), ports, places).err();
+    assert_eq!(none(0, 1), Some(Error::OutOfRange));
+    assert_eq!(none(1, 0), Some(Error::OutOfRange));
+    assert_eq!(none(1, 65537), Some(Error::OutOfRange));
+    let settings = Settings {
+        mtu: 0,
+        ..Settings::default()
+    };
+    assert_eq!(Drain::open(settings, 1, 1).err(), Some(Error::OutOfRange));
+    assert!(Drain::open(Settings::default(), 1, 65536).is_ok());
+}
