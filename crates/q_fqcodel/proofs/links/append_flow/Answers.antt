@@ -1,4 +1,4 @@
-use Rattle.std.proofs.Common.{ℤ, w64, ◌≡◌, ◌≢◌, ◌+◌, ◌<◌, List, length, set, ap, ap₂, ◌∙◌, sym, subst}
+use Rattle.std.proofs.Common.{ℤ, w64, ◌≡◌, ◌≢◌, ◌+◌, ◌<◌, List, length, set, ap, ◌∙◌, sym, subst}
 use Rattle.std.proofs.lemmas.Int.{to_z-of_z}
 use Rattle.q_fqcodel.specs.Links.{link_of, led_on, entries_in, IsLine, KeepsLines}
 use Rattle.q_fqcodel.specs.declared.link.Link.{Link}
