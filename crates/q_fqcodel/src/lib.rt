@@ -18,7 +18,8 @@
 //! `specs/Lawful.antt` has what every value of the type keeps.
 //!
 //! The packets of each flow are linked through one slab, and both lists through the flows' own links; a tree of winners has
-//! the fat flow at its root. So a put takes a few steps, and one for each level of the tree at most, twice where it drops. A
+//! the fat flow at its root. A packet that leaves is not cleared: its node stays in the slab, linked to others that are spare,
+//! and the next packet takes the first of these. So a put takes a few steps, and one for each level of the tree at most, twice where it drops. A
 //! take does so too, after a few steps for each listed flow that it passes over, for want of credits or of packets. A change
 //! of the settings touches no flow. A flow takes 96 bytes at most, and a packet 112.
 //!

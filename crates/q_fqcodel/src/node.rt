@@ -20,17 +20,6 @@ pub(crate) struct Node {
 const _: () = prove!(size_of::<Option<Node>>() <= 112);
 
 impl Node {
-    /// A packet with none behind it.
-    pub(crate) fn last(stamped: Stamped) -> Node
-        ensures { result ≡ record { packet = stamped.packet; at = stamped.at; next = 0 } }
-    {
-        Node {
-            packet: stamped.packet,
-            at: stamped.at,
-            next: 0,
-        }
-    }
-
     /// The packet, as it was queued.
     pub(crate) fn stamped(self) -> Stamped
         ensures { result ≡ stamped_of self }
