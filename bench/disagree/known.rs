@@ -15,7 +15,9 @@ pub struct Case {
 
 pub fn read_all(top: &Path) -> io::Result<Vec<Case>> {
     let mut cases = read_examples(&top.join("examples"))?;
-    cases.extend(read_cases(&top.join("crates/q_corpus/data/corpus.txt"))?);
+    for file in ["corpus.txt", "definitions.txt"] {
+        cases.extend(read_cases(&top.join("crates/q_corpus/data").join(file))?);
+    }
     Ok(cases)
 }
 
