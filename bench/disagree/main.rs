@@ -10,6 +10,7 @@ mod places;
 mod player;
 mod program;
 mod random;
+mod reached;
 mod removal;
 mod requests;
 mod scripts;

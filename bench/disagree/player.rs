@@ -59,22 +59,39 @@ pub fn play(words: &[String], script: &[u8], tally: &mut Tally) -> io::Result<An
 impl Player<'_> {
     fn run_line(&mut self, number: usize, line: &[u8]) -> io::Result<()> {
         self.tally.lines += 1;
-        match read_line(line) {
+        let read = read_line(line);
+        if read.as_ref().is_ok_and(|read| !matches!(read, Line::Tc(_))) {
+            self.tally.reached.words(line);
+        }
+        match read {
             Ok(Line::Blank) => {}
-            Ok(Line::At(ns)) => self.at = ns,
+            Ok(Line::At(ns)) => {
+                if ns < self.at {
+                    self.tally.reached.note("moment before the one before");
+                }
+                if ns == 1 << 62 {
+                    self.tally.reached.note("moment 2^62");
+                }
+                self.at = ns;
+            }
             Ok(Line::Tc(command)) => {
                 if let Err(refusal) = self.device.perform(&command, self.at) {
                     self.has_failed = true;
                     self.tally.refuse(refusal);
+                    self.tally.reached.refused(&command, refusal);
                     let name = refusal.name();
                     writeln!(self.report, "line {number}: refused {} {name}", refusal as u8)?;
                 } else {
                     self.tally.commands += 1;
+                    self.tally.reached.done(&command, line);
                 }
             }
             Ok(Line::Show { object, counters }) => self.device.show(object, counters, &mut self.report)?,
             Ok(Line::Pkt(arrival)) => self.arrive(arrival.len, &head_of(&arrival), arrival.hash),
-            Ok(Line::Frame { len, head }) => self.arrive(len, &head, None),
+            Ok(Line::Frame { len, head }) => {
+                self.tally.reached.note(&format!("head of family {}", head.key.family));
+                self.arrive(len, &head, None);
+            }
             Ok(Line::Poll(polls)) => {
                 for _ in 0..polls {
                     self.poll()?;
@@ -123,10 +140,17 @@ impl Player<'_> {
                 self.tally.sent += 1;
                 let Packet { number, len, ecn, .. } = sent;
                 let mark = if ecn == Ecn::Ce { " ce" } else { "" };
+                self.tally.reached.note(if ecn == Ecn::Ce { "sent ce" } else { "sent" });
                 writeln!(self.report, "sent {number} {len}{mark}")
             }
-            Polled::Idle => self.report.write_all(b"idle\n"),
-            Polled::Later => self.report.write_all(b"later\n"),
+            Polled::Idle => {
+                self.tally.reached.note("idle");
+                self.report.write_all(b"idle\n")
+            }
+            Polled::Later => {
+                self.tally.reached.note("later");
+                self.report.write_all(b"later\n")
+            }
         }
     }
 }

@@ -38,7 +38,7 @@ impl Session {
     }
 
     /// The handle of a known qdisc of this kind, of any where there is none.
-    fn of_kind(&mut self, kind: &str) -> u64 {
+    pub fn of_kind(&mut self, kind: &str) -> u64 {
         let of_kind: Vec<u64> = self
             .guesses
             .iter()
@@ -231,12 +231,16 @@ impl Session {
         (handle, classes[self.random.index(classes.len())])
     }
 
+    /// The parent that a class is said to have, mostly the right one.
+    fn parent(&mut self, major: u64) -> Option<String> {
+        let parent = if self.random.chance(10) { self.handle() } else { major };
+        self.random.chance(40).then(|| format!("parent {parent:x}:"))
+    }
+
     fn class_change(&mut self) -> String {
         let (major, minor) = self.drr_class();
         let mut head = vec!["dev eth0".into(), format!("classid {major:x}:{minor:x}")];
-        if self.random.chance(40) {
-            head.push(format!("parent {major:x}:"));
-        }
+        head.extend(self.parent(major));
         format!("tc class change{} drr{}", mixed(&mut self.random, head), self.quantum())
     }
 
@@ -248,7 +252,8 @@ impl Session {
                 self.forget(handle);
             }
         }
-        let head = vec!["dev eth0".into(), format!("classid {major:x}:{minor:x}")];
+        let mut head = vec!["dev eth0".into(), format!("classid {major:x}:{minor:x}")];
+        head.extend(self.parent(major));
         format!("tc class del{}", mixed(&mut self.random, head))
     }
 

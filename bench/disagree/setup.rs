@@ -31,7 +31,21 @@ impl Session {
             let filter = self.filter_add();
             lines.extend(std::iter::repeat_n(filter, 258));
         }
+        if matches!(growth, Growth::Wide) || self.random.chance(1) {
+            self.fill(&mut lines);
+        }
         lines
+    }
+
+    /// As many classes as a tree can have and more, and as many bands.
+    fn fill(&mut self, lines: &mut Vec<String>) {
+        if self.guesses.iter().any(|guess| guess.kind == "drr") {
+            let handle = self.of_kind("drr");
+            let add = |minor: u64| format!("tc class add dev eth0 parent {handle:x}: classid {handle:x}:{minor:x} drr");
+            lines.extend((0x100..0x100 + 256).map(add));
+        }
+        let prios = self.guesses.iter().filter(|guess| guess.kind == "prio");
+        lines.extend(prios.map(|guess| format!("tc qdisc change dev eth0 handle {:x}: prio bands 16", guess.handle)));
     }
 
     fn kind_at(&mut self, depth: u64, growth: Growth) -> &'static str {

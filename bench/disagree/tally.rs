@@ -3,6 +3,7 @@
 use super::commands::Refusal;
 use super::plain::packet::Cause;
 use super::player::cause_name;
+use super::reached::Reached;
 use std::fmt;
 
 const CAUSES: [Cause; 6] = [
@@ -22,6 +23,7 @@ pub struct Tally {
     pub packets: u64,
     pub polls: u64,
     pub sent: u64,
+    pub reached: Reached,
     losses: [u64; 7],
     refusals: [u64; 22],
     faults: [u64; 7],
@@ -58,6 +60,6 @@ impl fmt::Display for Tally {
         for number in 1..7 {
             write!(f, " {number}: {}", self.faults[number])?;
         }
-        writeln!(f)
+        write!(f, "\n{}", self.reached)
     }
 }

@@ -235,7 +235,18 @@ pub fn size(random: &mut Random) -> String {
             .pick(&["1514", "1", "1500b", "2k", "3000", "10kb", "1.5kb", "16kbit", "300"])
             .into(),
         7 => random
-            .pick(&["4294967295", "4095m", "0", "0.9b", "1mb", "65535"])
+            .pick(&[
+                "4294967295",
+                "4095m",
+                "0",
+                "0.9b",
+                "1mb",
+                "65535",
+                "1g",
+                "3.5gb",
+                "0.01mbit",
+                "1gbit",
+            ])
             .into(),
         _ => format!("{}b", 1000 + random.below(9000)),
     }
@@ -257,7 +268,18 @@ pub fn rate(random: &mut Random) -> String {
         3..5 => random.pick(&["10mbit", "100mbit", "1gbit"]).into(),
         5..7 => (1 + random.below(10_000_000)).to_string(),
         7 => random
-            .pick(&["1", "1tbit", "3", "7bit", "999999999999", "0.125bps", "125gbps"])
+            .pick(&[
+                "1",
+                "1tbit",
+                "3",
+                "7bit",
+                "999999999999",
+                "0.125bps",
+                "125gbps",
+                "9kbps",
+                "1.5mbps",
+                "0.1tbps",
+            ])
             .into(),
         8 => format!("{}.{:03}mbit", random.below(20), 1 + random.below(999)),
         _ => format!("{}kbit", 1 + random.below(100_000)),
@@ -266,7 +288,10 @@ pub fn rate(random: &mut Random) -> String {
 
 pub fn time(random: &mut Random) -> String {
     match random.below(10) {
-        0..5 => random.pick(&["5ms", "100ms", "1ms", "10ms", "20us", "1s"]).into(),
+        0..4 => random.pick(&["5ms", "100ms", "1ms", "10ms", "20us", "1s"]).into(),
+        4 => random
+            .pick(&["300usec", "20USecs", "5msec", "0.25msecs", "0.5sec", "2secs"])
+            .into(),
         5..7 => format!("{}us", random.below(200_000)),
         7 => random
             .pick(&["0", "1000s", "0.001us", "1us", "1", "999.999999999s"])
