@@ -1,18 +1,19 @@
 -- Worked scripts of commands: purges, refusals, and the deepest tree.
-use Rattle.std.proofs.Common.{◌≡◌, ◌+◌, ℕ, List, [], ◌∷◌, ◌++◌, refl}
-use Rattle.std.specs.Prelude.{Some, None, map, replicate}
-use Rattle.q_packet.specs.declared.cause.Cause.TheVariants.{Purged, CoDel}
-use Rattle.q_model.specs.declared.command.Command.TheVariants.{QdiscChange, QdiscDel, ClassAdd, FilterDel}
+use Rattle.std.proofs.Common.{◌≡◌, ◌+◌, List, [], ◌∷◌, ◌++◌, refl}
+use Rattle.std.specs.Prelude.{ℕ, Bool, true, false, Some, None, map, replicate, is_some}
+use Rattle.q_packet.specs.declared.cause.Cause.TheVariants.{Purged, CoDel, TooLong}
+use Rattle.q_model.specs.declared.command.Command.TheVariants.{QdiscAdd, QdiscChange, QdiscDel, ClassAdd, FilterDel}
 use Rattle.q_model.specs.declared.kind.Kind.{Kind}
 use Rattle.q_model.specs.declared.kind.Kind.TheVariants.{Pfifo, Tbf, Drr, FqCodel}
 use Rattle.q_model.specs.declared.tbf_limit.TbfLimit.TheVariants.{Bytes}
-use Rattle.q_model.specs.declared.place.Place.TheVariants.{Root}
+use Rattle.q_model.specs.declared.place.Place.TheVariants.{Top, Root}
 use Rattle.q_model.specs.Options.{FqOptions}
-use Rattle.q_model.specs.Tally.{no_totals}
+use Rattle.q_model.specs.Tally.{no_totals, totals}
+use Rattle.q_model.specs.TreeState.{stats}
 use Rattle.q_model.specs.declared.event.Event.{Event}
 use Rattle.q_model.specs.declared.refusal.Refusal.TheVariants.{NoParent, Exists, NoQdisc, HandleTaken, NoClass, CannotChange, TooDeep, NoFilter}
 use Rattle.q_worked_examples.proofs.SharedRules.{shared_rules}
-use Rattle.q_worked_examples.proofs.Script.{run, seen, class, packet, arrives, polls, tc, add_root, add_in, add_class, add_filter, no_keys, no_options, ok, not_done, kept, sent, idle, later, loss, pb, in_class, prio}
+use Rattle.q_worked_examples.proofs.Script.{run, seen, class, packet, arrives, polls, tc, add_root, add_in, add_class, add_filter, no_keys, no_options, ok, not_done, kept, lost, sent, idle, later, loss, pb, in_class, prio}
 
 -- a drr with one class, an fq_codel in it, and a filter that takes every packet
 abbrev drr_over_fq_codel : FqOptions → List Event
@@ -136,3 +137,31 @@ implicit_root_runs : seen [] (run implicit_root) ≡ record {
 }
 unfolding implicit_root
 implicit_root_runs = refl
+
+-- the place of the device itself is taken, and no qdisc stands there
+device_named : seen [] (run (
+    tc (QdiscAdd Top None (Pfifo None)) ∷ add_root (Some 1) (Pfifo None) ∷ tc (QdiscAdd Top (Some 2) Drr) ∷
+    tc (QdiscChange (Some Top) None (Pfifo None)) ∷ tc (QdiscDel (Some Top) None) ∷ tc (QdiscDel (Some Top) (Some 1)) ∷ [])) ≡ record {
+      replies = not_done Exists ∷ ok ∷ not_done Exists ∷ not_done NoQdisc ∷ not_done NoQdisc ∷ not_done NoQdisc ∷ [];
+      losses = [];
+      rows = [];
+    }
+unfolding shared_rules
+device_named = refl
+
+-- the bands of a prio are classes 1 to 3, and none is class 0
+is_class : ℕ → Bool
+is_class minor = is_some (stats totals (in_class 1 minor) (run (add_root (Some 1) (prio 3 (replicate 16 0)) ∷ [])).device.tree)
+
+classes_of_a_prio : map is_class (0 ∷ 1 ∷ 3 ∷ 4 ∷ []) ≡ false ∷ true ∷ true ∷ false ∷ []
+unfolding is_class shared_rules
+classes_of_a_prio = refl
+
+-- an arrival is told that its packet is lost exactly where it is longer than the mtu
+too_long_told : seen [] (run (arrives 0 (packet 1 1515) ∷ arrives 0 (packet 2 1514) ∷ [])) ≡ record {
+  replies = lost TooLong ∷ kept ∷ [];
+  losses = loss (packet 1 1515) TooLong ∷ [];
+  rows = [];
+}
+unfolding shared_rules
+too_long_told = refl

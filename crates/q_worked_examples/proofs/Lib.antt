@@ -22,6 +22,7 @@ mod LineRanges
 pub mod LineTable
 mod LineUnits
 mod LineValues
+mod MadeValues
 mod NoteScripts
 mod PacketValues
 mod PeekScripts

@@ -4,7 +4,7 @@ use Rattle.std.proofs.Common.{◌≡◌, ℕ, List, [], ◌∷◌, ◌++◌, ref
 use Rattle.std.specs.Prelude.{Some, None, replicate}
 use Rattle.q_packet.specs.Descriptor.{Descriptor}
 use Rattle.q_packet.specs.declared.ecn.Ecn.TheVariants.{Ect0, Ce}
-use Rattle.q_packet.specs.declared.cause.Cause.TheVariants.{FatFlow}
+use Rattle.q_packet.specs.declared.cause.Cause.TheVariants.{CoDel, FatFlow}
 use Rattle.q_model.specs.declared.event.Event.{Event}
 use Rattle.q_model.specs.declared.kind.Kind.TheVariants.{Drr, Tbf, FqCodel}
 use Rattle.q_model.specs.declared.tbf_limit.TbfLimit.TheVariants as limit
@@ -25,6 +25,17 @@ granted : noted (
     Granted 1 1 ∷ Sent (from_port 2 2 400) ∷ Sent (from_port 1 1 1000) ∷ []
 unfolding noted shared_rules
 granted = refl
+
+-- The first class is granted a quantum, and then the second one is met, whose bucket is empty: the drr gives nothing, and
+-- the grant is noted all the same.
+granted_for_nothing : noted (
+    add_root (Some 1) Drr ∷ add_class 1 1 (Some 500) ∷ add_class 1 2 (Some 1000) ∷
+    add_in 1 2 None (Tbf 8000 1000 (limit.Bytes 5000)) ∷ filter_port 1 1 1 1 ∷ filter_port 1 1 2 2 ∷
+    arrives 0 (from_port 2 1 1000) ∷ polls 0 1 ++ arrives 0 (from_port 1 2 1000) ∷ arrives 0 (from_port 2 3 400) ∷ polls 0 1) ≡
+    Arrived (from_port 2 1 1000) ∷ Sent (from_port 2 1 1000) ∷
+    Arrived (from_port 1 2 1000) ∷ Arrived (from_port 2 3 400) ∷ Granted 1 1 ∷ []
+unfolding noted shared_rules
+granted_for_nothing = refl
 
 -- a bucket spends when the packet goes, and nothing while it waits
 spent : noted (
@@ -60,6 +71,20 @@ marked : noted (
     Marked (record (capable 2) { ecn = Ce }) ∷ Sent (record (capable 2) { ecn = Ce }) ∷ []
 unfolding noted capable shared_rules
 marked = refl
+
+-- What a take drops is noted before what it marks: at the last poll, packet 4 goes and packet 5 is marked in place of a drop.
+dropped_then_marked : noted (
+    add_root (Some 1) (prio 2 (replicate 16 0)) ∷
+    add_in 1 1 None (FqCodel (record no_options { flows = Some 1; target = Some 0; interval = Some 1000 })) ∷
+    arrives 0 (packet 1 1000) ∷ arrives 0 (packet 2 1000) ∷ arrives 0 (packet 3 1000) ∷ arrives 0 (packet 4 1000) ∷
+    arrives 0 (capable 5) ∷ arrives 0 (packet 6 1000) ∷ arrives 0 (packet 7 1000) ∷
+    polls 10 1 ++ polls 1010 1 ++ polls 3000 1) ≡
+    Arrived (packet 1 1000) ∷ Arrived (packet 2 1000) ∷ Arrived (packet 3 1000) ∷ Arrived (packet 4 1000) ∷
+    Arrived (capable 5) ∷ Arrived (packet 6 1000) ∷ Arrived (packet 7 1000) ∷ Sent (packet 1 1000) ∷
+    Lost (packet 2 1000) CoDel ∷ Sent (packet 3 1000) ∷
+    Lost (packet 4 1000) CoDel ∷ Marked (record (capable 5) { ecn = Ce }) ∷ Sent (record (capable 5) { ecn = Ce }) ∷ []
+unfolding noted capable shared_rules
+dropped_then_marked = refl
 
 lost_beneath : noted (
     add_root (Some 1) (prio 2 (replicate 16 0)) ∷

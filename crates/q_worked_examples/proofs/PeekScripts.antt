@@ -3,7 +3,7 @@ use Rattle.std.proofs.Common.{◌≡◌, ℕ, ◌*◌, List, [], ◌∷◌, refl
 use Rattle.std.specs.Prelude.{Option, Some, None, map}
 use Rattle.q_model.specs.declared.class_kind.ClassKind.TheVariants as kind
 use Rattle.q_model.specs.declared.filter_view.FilterView.{FilterView}
-use Rattle.q_model.specs.declared.kind.Kind.TheVariants.{Drr}
+use Rattle.q_model.specs.declared.kind.Kind.TheVariants.{Drr, FqCodel}
 use Rattle.q_model.specs.declared.place.Place.TheVariants.{Top, Root}
 use Rattle.q_model.specs.declared.qdisc_view.QdiscView.TheVariants as qdisc
 use Rattle.q_model.specs.declared.row.Row.{Row}
@@ -11,7 +11,7 @@ use Rattle.q_model.specs.Tally.{Counts, no_totals, totals}
 use Rattle.q_model.specs.TreeState.{TreeState, given, peek_packet, take_packet, stats}
 use Rattle.q_model.specs.Views.{node, class_of, filter_of}
 use Rattle.q_worked_examples.proofs.SharedRules.{shared_rules}
-use Rattle.q_worked_examples.proofs.Script.{run, class, in_class, from_port, arrives, add_root, add_class, filter_port, pb}
+use Rattle.q_worked_examples.proofs.Script.{run, class, in_class, from_port, packet, arrives, polls, add_root, add_class, filter_port, no_options, pb}
 
 -- a drr with a packet in its one class
 tree : TreeState Counts
@@ -41,6 +41,21 @@ shown_twice = refl
 take_after_peek : rows_of (take_packet totals 5 (peek_packet totals 0 tree)) ≡ with_sent_and_queued 1 0 ∷ with_sent_and_queued 1 0 ∷ with_sent_and_queued 1 0 ∷ []
 unfolding tree rows_of with_sent_and_queued shared_rules
 take_after_peek = refl
+
+-- four packets beneath CoDel, of which one was sent and the next is late
+standing : TreeState Counts
+standing = (run (
+    add_root (Some 1) (FqCodel (record no_options { flows = Some 1; target = Some 0; interval = Some 1000 })) ∷
+    arrives 0 (packet 1 1000) ∷ arrives 0 (packet 2 1000) ∷ arrives 0 (packet 3 1000) ∷ arrives 0 (packet 4 1000) ∷
+    polls 10 1)).device.tree
+
+one_dropped : Option Row
+one_dropped = Some (record { arrived = pb 4 4000; sent = pb 1 1000; refused = no_totals; dropped = pb 1 1000; queued = pb 2 2000; marked = no_totals })
+
+-- what a peek drops is noted by the device too, and nothing is sent by it
+peek_drops : map (λ p. stats totals p (peek_packet totals 1010 standing)) (Top ∷ Root ∷ []) ≡ one_dropped ∷ one_dropped ∷ []
+unfolding standing one_dropped shared_rules
+peek_drops = refl
 
 -- node by node, class by class, filter by filter; none past the last
 nodes_shown : map (λ i. node totals i tree) (0 ∷ 1 ∷ 2 ∷ []) ≡
