@@ -142,10 +142,10 @@ implicit_root_runs = refl
 device_named : seen [] (run (
     tc (QdiscAdd Top None (Pfifo None)) ∷ add_root (Some 1) (Pfifo None) ∷ tc (QdiscAdd Top (Some 2) Drr) ∷
     tc (QdiscChange (Some Top) None (Pfifo None)) ∷ tc (QdiscDel (Some Top) None) ∷ tc (QdiscDel (Some Top) (Some 1)) ∷ [])) ≡ record {
-  replies = not_done Exists ∷ ok ∷ not_done Exists ∷ not_done NoQdisc ∷ not_done NoQdisc ∷ not_done NoQdisc ∷ [];
-  losses = [];
-  rows = [];
-}
+      replies = not_done Exists ∷ ok ∷ not_done Exists ∷ not_done NoQdisc ∷ not_done NoQdisc ∷ not_done NoQdisc ∷ [];
+      losses = [];
+      rows = [];
+    }
 unfolding shared_rules
 device_named = refl
 

@@ -1,6 +1,6 @@
 -- What a new qdisc is made with, beside what its own scripts show.
 use Rattle.std.specs.Prelude.{◌≡◌, [], ◌∷◌, Some, refl}
-use Rattle.q_model.specs.Node.{Discipline, Drr}
+use Rattle.q_model.specs.Node.{Drr}
 use Rattle.q_model.specs.declared.kind.Kind.TheVariants as kind
 use Rattle.q_worked_examples.proofs.SharedRules.{shared_rules}
 use Rattle.q_worked_examples.proofs.Script.{run, add_root}
