@@ -86,6 +86,14 @@ pub(crate) fn ask_class<S: Sink>(
         let next = class.peek(now, &mut asked, sink);
         return so_far.then(next, toll, &asked);
     }
+    show_again(class, so_far)
+}
+
+// What a class shows that was asked already. A call by itself, since it copies the packet.
+#[inline(never)]
+fn show_again(class: &Node, so_far: Shown) -> Shown
+    ensures { result ≡ record so_far { packet = (pop class.now).shown } }
+{
     so_far.showing(&class.at_hand())
 }
 
