@@ -10,6 +10,7 @@ pub mod BandsLemmas
 pub mod ChangeLemmas
 pub mod ClassAdding
 pub mod ClassLemmas
+pub mod ClassPlaces
 pub mod ClassPlans
 pub mod CountedLosses
 pub mod CountingLemmas

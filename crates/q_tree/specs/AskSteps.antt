@@ -14,7 +14,7 @@ use Rattle.q_model.specs.Node as spec
 use Rattle.q_model.specs.Node.{Own, shape, side_by_side}
 use Rattle.q_model.specs.Pop.{pop}
 use Rattle.q_model.specs.Step.{losses_in}
-use Rattle.q_model.specs.Tally.{Note, counts_in}
+use Rattle.q_model.specs.Tally.{Note, counts_in, no_totals}
 use Rattle.q_model.specs.Work.{booked, each_booked, settled_class}
 use Rattle.q_drr.specs.Schedule as drr
 use Rattle.q_drr.specs.Schedule.{Schedule}
@@ -26,6 +26,7 @@ use Rattle.q_tree.specs.PutSteps.{packets_beneath}
 use Rattle.q_tree.specs.Seen.{discipline_seen, children_seen, places_seen, IsCountedWithin}
 use Rattle.q_tree.specs.declared.node.Discipline.{Discipline}
 use Rattle.q_tree.specs.Shown.{Shown}
+use Rattle.q_tree.specs.declared.toll.Toll.{Toll}
 
 -- a node that can be asked: the tree is lawful at `now`, where no packet is longer than some mtu
 pub record CanAsk (now : ℕ) (n : spec.Node Kept) : Type 0 where
@@ -139,3 +140,11 @@ pub record CanShow (s : Shown) (r : Row) : Type 0 where
   pub bytes : s.dropped.bytes ≤ r.queued.bytes
   pub marked_packets : r.marked.packets + s.marked.packets < 2 ^ 64
   pub marked_bytes : r.marked.bytes + s.marked.bytes < 2 ^ 64
+
+-- nothing was dropped, and nothing was marked
+abbrev pub no_toll : Toll
+no_toll = record { dropped = no_totals; marked = no_totals }
+
+-- what was dropped and marked where nodes were asked
+abbrev pub toll_of : Shown → Toll
+toll_of s = record { dropped = s.dropped; marked = s.marked }

@@ -76,7 +76,7 @@ impl Tree {
         let outcome = arrive_below(&mut self.root, self.mtu, packet, now, &mut lost, sink)?;
         book_arrival(&mut self.top, packet, &outcome, &lost);
         self.clock = now;
-        Ok(fate_of(outcome.loss()))
+        Ok(fate_of(lost.loss))
     }
 }
 
@@ -222,6 +222,7 @@ impl Discipline {
 }
 
 // The packet is queued behind the others, or refused at the limit (tc-pfifo(8)).
+#[inline(always)]
 fn arrive_in_fifo<S: Sink>(
     fifo: &mut Fifo,
     packet: &Packet,

@@ -16,7 +16,6 @@ use std::snapshot::Snapshot;
 /// mostly nothing is lost, and then nobody reads it.
 #[derive(Drop)]
 pub(crate) struct Arrived {
-    loss: Option<Cause>,
     is_kept: bool,
     outcome: Snapshot<Outcome>,
 }
@@ -30,7 +29,7 @@ impl Model for Arrived {
 
     ghost view = { λ a. a.outcome.value };
 
-    ghost invariant = { λ a. (a.loss ≡ a.outcome.value.loss) × (a.is_kept ≡ true → a.outcome.value ≡ nothing_lost) };
+    ghost invariant = { λ a. a.is_kept ≡ true → a.outcome.value ≡ nothing_lost };
 }
 
 /// Nothing is lost.
@@ -47,7 +46,6 @@ impl Arrived {
         ensures { result ≡ nothing_lost }
     {
         Arrived {
-            loss: None,
             is_kept: true,
             outcome: Snapshot::of(&NOTHING_LOST),
         }
@@ -59,18 +57,9 @@ impl Arrived {
         ensures { result ≡ outcome.now }
     {
         Arrived {
-            loss: outcome.loss,
             is_kept: false,
             outcome: Snapshot::of(outcome),
         }
-    }
-
-    /// The cause where the packet itself was lost.
-    #[inline(always)]
-    pub(crate) fn loss(&self) -> Option<Cause>
-        ensures { result ≡ self.now.loss }
-    {
-        self.loss
     }
 
     /// Whether nothing is lost.

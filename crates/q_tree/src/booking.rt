@@ -2,12 +2,13 @@ ghost use Rattle.std.specs.Prelude.{◌≡◌, ◌<◌, ◌≤◌, ◌+◌, ◌^
 ghost use Rattle.q_model.specs.Conserved.{IsBalanced};
 ghost use Rattle.q_model.specs.Tally.{with_packet, no_totals};
 ghost use Rattle.q_tree.specs.Arrivals.{CanCount, IsLostOf, plus, minus, with_arrival};
-ghost use Rattle.q_tree.specs.AskSteps.{CanShow, with_shown};
+ghost use Rattle.q_tree.specs.AskSteps.{CanShow, toll_of, with_shown};
 ghost use Rattle.q_tree.specs.Editing.{CanDrop, with_dropped};
 ghost use Rattle.q_tree.specs.PopSteps.{IsAmong, with_sent};
 
 use crate::outcome::Outcome;
 use crate::shown::Shown;
+use crate::toll::Toll;
 use q_model::{Row, Totals};
 use q_packet::Packet;
 
@@ -55,18 +56,35 @@ pub(crate) fn book_sent(row: &mut Row, packet: &Packet)
 }
 
 /// Books what asking the node came to: what CoDel dropped was queued.
-pub(crate) fn book_shown(row: &mut Row, shown: &Shown)
+#[inline(always)]
+pub(crate) fn book_shown(row: &mut Row, shown: &Shown, toll: &Toll)
     requires balanced { IsBalanced row.old }
     requires room { CanShow shown.now row.old }
+    requires told { toll.now ≡ toll_of shown.now }
     ensures { row.new ≡ with_shown shown.now row.old }
 {
     // Mostly nothing was dropped or marked, and nothing is written then.
     if shown.is_quiet() {
         return;
     }
-    row.dropped = sum(row.dropped, shown.dropped());
-    row.marked = sum(row.marked, shown.marked());
-    row.queued = difference(row.queued, shown.dropped());
+    book_toll(row, toll);
+}
+
+// Books what was dropped and marked.
+#[cold]
+#[inline(never)]
+fn book_toll(row: &mut Row, toll: &Toll)
+    requires packets { toll.now.dropped.packets ≤ row.old.queued.packets }
+    requires bytes { toll.now.dropped.bytes ≤ row.old.queued.bytes }
+    requires marked_packets { row.old.marked.packets + toll.now.marked.packets < 2 ^ 64 }
+    requires marked_bytes { row.old.marked.bytes + toll.now.marked.bytes < 2 ^ 64 }
+    requires dropped_packets { row.old.dropped.packets + toll.now.dropped.packets < 2 ^ 64 }
+    requires dropped_bytes { row.old.dropped.bytes + toll.now.dropped.bytes < 2 ^ 64 }
+    ensures { row.new ≡ record row.old { dropped = plus row.old.dropped toll.now.dropped; marked = plus row.old.marked toll.now.marked; queued = minus row.old.queued toll.now.dropped } }
+{
+    row.dropped = sum(row.dropped, toll.dropped);
+    row.marked = sum(row.marked, toll.marked);
+    row.queued = difference(row.queued, toll.dropped);
 }
 
 /// Books packets that were queued and are dropped.

@@ -10,7 +10,7 @@ ghost use Rattle.q_model.specs.Beneath.{beneath};
 ghost use Rattle.q_model.specs.Node as spec;
 ghost use Rattle.q_model.specs.Node.{Own, Tbf};
 ghost use Rattle.q_model.specs.Pop.{pop};
-ghost use Rattle.q_tree.specs.AskSteps.{CanAsk, CanServe, AreAsked, IsGivenBy, IsShown, IsToldOf, answers};
+ghost use Rattle.q_tree.specs.AskSteps.{CanAsk, CanServe, AreAsked, IsGivenBy, IsShown, IsToldOf, answers, no_toll, toll_of};
 ghost use Rattle.q_tree.specs.Kept.{Kept};
 ghost use Rattle.q_tree.specs.PutSteps.{packets_beneath};
 
@@ -19,6 +19,7 @@ use crate::drr::{ask_class, settle};
 use crate::fq_codel::marking;
 use crate::node::Node;
 use crate::shown::Shown;
+use crate::toll::{NO_TOLL, Toll};
 use q_bucket::Bucket;
 use q_codel::{Fifo, Sink};
 use q_drr::{Active, Turn};
@@ -33,21 +34,24 @@ pub(crate) fn dequeue_class<S: Sink>(
     classes: &mut [Node],
     out: &mut Packet,
     now: Moment,
+    toll: &mut Toll,
     sink: &mut S,
 ) -> Shown
     requires ready { CanServe now active.old classes.old }
     requires sink { length (packets_beneath classes.old) ≤ S.room sink.old }
+    requires clean { toll.old ≡ no_toll }
     ensures active { (own : Own) → spec.Drr active.new ≡ (ask_drr own (answers now classes.old) active.old).peeked.own.discipline }
     ensures after { (own : Own) → AreAsked (ask_drr own (answers now classes.old) active.old) classes.old classes.new result }
     ensures packet { out.new ≡ unwrap_or result.packet out.old }
     ensures told { (own : Own) → IsToldOf (ask_drr own (answers now classes.old) active.old).rises (S.losses sink.old) (S.losses sink.new) (S.room sink.old) (S.room sink.new) }
+    ensures toll { toll.new ≡ toll_of result }
     ensures kept { S.keeps sink.old sink.new }
 {
     let mut shown = Shown::at_hand(&None);
     // In the first round each class is asked once; in a later one it has at hand what it showed.
     let mut unasked = active.active_count();
     while let Some(place) = active.front_place() {
-        shown = ask_class(&mut classes[place], unasked > 0, shown, now, sink);
+        shown = ask_class(&mut classes[place], unasked > 0, shown, now, toll, sink);
         unasked = unasked.saturating_sub(1);
         let Some(len) = shown.packet_len() else {
             return shown;
@@ -62,6 +66,7 @@ pub(crate) fn dequeue_class<S: Sink>(
         }
     }
     // No class was active, so nobody was asked.
+    *toll = NO_TOLL;
     Shown::at_hand(&None)
 }
 
@@ -82,18 +87,21 @@ pub(crate) fn dequeue_child<S: Sink>(
     child: &mut Node,
     out: &mut Packet,
     now: Moment,
+    toll: &mut Toll,
     sink: &mut S,
 ) -> Shown
     requires ready { CanAsk now child.old }
     requires order { bucket.old.last ≤ now }
     requires sink { length (beneath child.old) ≤ S.room sink.old }
+    requires clean { toll.old ≡ no_toll }
     ensures bucket { (own : Own) (limit : ℕ) → own.discipline ≡ Tbf bucket.old limit → Tbf bucket.new limit ≡ (ask_tbf now own (answers now (child.old ∷ [])) bucket.old limit).peeked.own.discipline }
     ensures after { (own : Own) (limit : ℕ) → AreAsked (ask_tbf now own (answers now (child.old ∷ [])) bucket.old limit) (child.old ∷ []) (child.new ∷ []) result }
     ensures told { (own : Own) (limit : ℕ) → IsToldOf (ask_tbf now own (answers now (child.old ∷ [])) bucket.old limit).rises (S.losses sink.old) (S.losses sink.new) (S.room sink.old) (S.room sink.new) }
     ensures packet { out.new ≡ unwrap_or result.packet out.old }
+    ensures toll { toll.new ≡ toll_of result }
     ensures kept { S.keeps sink.old sink.new }
 {
-    let shown = child.peek(now, sink);
+    let shown = child.peek(now, toll, sink);
     let Some(len) = shown.packet_len() else {
         return shown;
     };
@@ -117,7 +125,7 @@ pub(crate) fn dequeue_head(fifo: &mut Fifo, out: &mut Packet) -> Shown
     if fifo.take_into(out) == 0 {
         return Shown::at_hand(&None);
     }
-    Shown::sending(out, NOTHING, NOTHING)
+    Shown::sending(out, &NO_TOLL)
 }
 
 /// Gives the packet that the flow in front sends (RFC 8290, section 4.2) to `out`, and counts what CoDel drops and marks.
@@ -125,15 +133,18 @@ pub(crate) fn dequeue_flow<S: Sink>(
     queue: &mut FqCodel,
     out: &mut Packet,
     now: Moment,
+    toll: &mut Toll,
     sink: &mut S,
 ) -> Shown
     requires sink { packets_of queue.old.state.flows ≤ S.room sink.old }
+    requires clean { toll.old ≡ no_toll }
     ensures after { queue.new.state ≡ after_sending now (selected queue.old.state) }
     ensures places { queue.new.places ≡ queue.old.places }
     ensures shown { (own : Own) (below : List Asked) → IsShown (ask_fq_codel now own below queue.old.state) result }
     ensures packet { out.new ≡ unwrap_or result.packet out.old }
     ensures lost { S.losses sink.new ≡ S.losses sink.old ++ losses_of Cause.CoDel (dropped_from now (selected queue.old.state)) }
     ensures room { S.room sink.new + length (dropped_from now (selected queue.old.state)) ≡ S.room sink.old }
+    ensures toll { toll.new ≡ toll_of result }
     ensures kept { S.keeps sink.old sink.new }
 {
     let (packets, bytes) = queue.queued();
@@ -143,7 +154,11 @@ pub(crate) fn dequeue_flow<S: Sink>(
         return Shown::at_hand(&None);
     }
     if !sent.dropped {
-        return Shown::sending(out, NOTHING, marking(sent.marked, out));
+        *toll = Toll {
+            dropped: NOTHING,
+            marked: marking(sent.marked, out),
+        };
+        return Shown::sending(out, toll);
     }
     let (packets_after, bytes_after) = queue.queued();
     let gone = Totals {
@@ -151,5 +166,9 @@ pub(crate) fn dequeue_flow<S: Sink>(
         bytes: bytes - bytes_after,
     };
     let one = one_packet(out);
-    Shown::sending(out, difference(gone, one), marking(sent.marked, out))
+    *toll = Toll {
+        dropped: difference(gone, one),
+        marked: marking(sent.marked, out),
+    };
+    Shown::sending(out, toll)
 }

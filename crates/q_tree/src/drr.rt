@@ -4,12 +4,13 @@ ghost use Rattle.q_model.specs.Node as spec;
 ghost use Rattle.q_model.specs.Node.{Own, shape};
 ghost use Rattle.q_model.specs.Pop.{pop};
 ghost use Rattle.q_model.specs.Work.{settled_class};
-ghost use Rattle.q_tree.specs.AskSteps.{CanAskOnce, CanServe, AreAsked, IsAskedOnce, IsGivenBy, IsToldOf, answers};
+ghost use Rattle.q_tree.specs.AskSteps.{CanAskOnce, CanServe, AreAsked, IsAskedOnce, IsGivenBy, IsToldOf, answers, no_toll, toll_of};
 ghost use Rattle.q_tree.specs.Kept.{Kept};
 ghost use Rattle.q_tree.specs.PutSteps.{packets_beneath};
 
 use crate::node::Node;
 use crate::shown::Shown;
+use crate::toll::{NO_TOLL, Toll};
 use q_codel::Sink;
 use q_drr::{Active, Turn};
 use q_packet::{Moment, Packet};
@@ -23,22 +24,25 @@ pub(crate) fn serve<S: Sink>(
     classes: &mut [Node],
     held: &mut Option<Packet>,
     now: Moment,
+    toll: &mut Toll,
     sink: &mut S,
 ) -> Shown
     requires none { held.old ≡ None }
     requires ready { CanServe now active.old classes.old }
     requires sink { length (packets_beneath classes.old) ≤ S.room sink.old }
+    requires clean { toll.old ≡ no_toll }
     ensures active { (own : Own) → spec.Drr active.new ≡ (ask_drr own (answers now classes.old) active.old).peeked.own.discipline }
     ensures after { (own : Own) → AreAsked (ask_drr own (answers now classes.old) active.old) classes.old classes.new result }
     ensures held { held.new ≡ result.packet }
     ensures told { (own : Own) → IsToldOf (ask_drr own (answers now classes.old) active.old).rises (S.losses sink.old) (S.losses sink.new) (S.room sink.old) (S.room sink.new) }
+    ensures toll { toll.new ≡ toll_of result }
     ensures kept { S.keeps sink.old sink.new }
 {
     let mut shown = Shown::at_hand(&None);
     // In the first round each class is asked once; in a later one it has at hand what it showed.
     let mut unasked = active.active_count();
     while let Some(place) = active.front_place() {
-        shown = ask_class(&mut classes[place], unasked > 0, shown, now, sink);
+        shown = ask_class(&mut classes[place], unasked > 0, shown, now, toll, sink);
         unasked = unasked.saturating_sub(1);
         let Some(len) = shown.packet_len() else {
             return shown;
@@ -53,28 +57,43 @@ pub(crate) fn serve<S: Sink>(
         }
     }
     // No class was active, so nobody was asked.
+    *toll = NO_TOLL;
     Shown::at_hand(&None)
 }
 
 /// What a class shows: it is asked, or has its packet at hand. What was counted so far is counted on.
 #[cycle(peek)]
+#[inline(always)]
 pub(crate) fn ask_class<S: Sink>(
     class: &mut Node,
     is_unasked: bool,
     so_far: Shown,
     now: Moment,
+    toll: &mut Toll,
     sink: &mut S,
 ) -> Shown
     requires ready { is_unasked ≡ true → CanAskOnce now class.old so_far (S.room sink.old) }
+    requires counted { toll.old ≡ toll_of so_far }
     ensures asked { is_unasked ≡ true → IsAskedOnce now class.old class.new so_far result }
     ensures told { is_unasked ≡ true → IsToldOf (ask now (shape class.old)).rises (S.losses sink.old) (S.losses sink.new) (S.room sink.old) (S.room sink.new) }
     ensures at_hand { is_unasked ≡ false → (class.new ≡ class.old) × (result ≡ record so_far { packet = (pop class.old).shown }) }
     ensures not_lost { is_unasked ≡ false → (S.losses sink.new ≡ S.losses sink.old) × (S.room sink.new ≡ S.room sink.old) }
+    ensures toll { toll.new ≡ toll_of result }
     ensures kept { S.keeps sink.old sink.new }
 {
     if is_unasked {
-        return so_far.then(class.peek(now, sink));
+        let mut asked = NO_TOLL;
+        let next = class.peek(now, &mut asked, sink);
+        return so_far.then(next, toll, &asked);
     }
+    show_again(class, so_far)
+}
+
+// What a class shows that was asked already. A call by itself, since it copies the packet.
+#[inline(never)]
+fn show_again(class: &Node, so_far: Shown) -> Shown
+    ensures { result ≡ record so_far { packet = (pop class.now).shown } }
+{
     so_far.showing(&class.at_hand())
 }
 

@@ -7,12 +7,13 @@ ghost use Rattle.q_model.specs.Ask.{Asked, ask_fq_codel};
 ghost use Rattle.q_model.specs.Beneath as beneath;
 ghost use Rattle.q_model.specs.Node.{Own};
 ghost use Rattle.q_model.specs.Tally.{no_totals, with_packet};
-ghost use Rattle.q_tree.specs.AskSteps.{IsShown};
+ghost use Rattle.q_tree.specs.AskSteps.{IsShown, no_toll, toll_of};
 ghost use Rattle.q_tree.specs.PutSteps.{CanFlow};
 
 use crate::booking::{NOTHING, difference, one_packet};
 use crate::outcome::Outcome;
 use crate::shown::Shown;
+use crate::toll::Toll;
 use q_codel::{Sink, Taken};
 use q_fqcodel::FqCodel;
 use q_model::Totals;
@@ -57,16 +58,19 @@ pub(crate) fn take_from_flows<S: Sink>(
     queue: &mut FqCodel,
     held: &mut Option<Packet>,
     now: Moment,
+    toll: &mut Toll,
     sink: &mut S,
 ) -> Shown
     requires none { held.old ≡ None }
     requires sink { packets_of queue.old.state.flows ≤ S.room sink.old }
+    requires clean { toll.old ≡ no_toll }
     ensures after { queue.new.state ≡ after_sending now (selected queue.old.state) }
     ensures places { queue.new.places ≡ queue.old.places }
     ensures shown { (own : Own) (below : List Asked) → IsShown (ask_fq_codel now own below queue.old.state) result }
     ensures held { held.new ≡ result.packet }
     ensures lost { S.losses sink.new ≡ S.losses sink.old ++ losses_of Cause.CoDel (dropped_from now (selected queue.old.state)) }
     ensures room { S.room sink.new + length (dropped_from now (selected queue.old.state)) ≡ S.room sink.old }
+    ensures toll { toll.new ≡ toll_of result }
     ensures kept { S.keeps sink.old sink.new }
 {
     let (packets, bytes) = queue.queued();
@@ -82,7 +86,11 @@ pub(crate) fn take_from_flows<S: Sink>(
     };
     let one = one_packet(&taken.packet);
     *held = Some(taken.packet);
-    Shown::new(held, difference(gone, one), marked_by(&taken))
+    *toll = Toll {
+        dropped: difference(gone, one),
+        marked: marked_by(&taken),
+    };
+    Shown::new(held, toll)
 }
 
 // The packet, where CoDel marked it.

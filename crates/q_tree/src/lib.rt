@@ -52,6 +52,7 @@ mod show;
 mod shown;
 mod target;
 mod tbf;
+mod toll;
 mod tree;
 mod way;
 

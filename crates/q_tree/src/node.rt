@@ -209,5 +209,23 @@ pub(crate) fn class_place(active: &Active, filters: &[Filter], packet: &Packet) 
     ensures { result ≡ option_and_then (λ minor. place_of minor active.now.classes) (named_class filters.now packet.now) }
 {
     let minor = named_class(filters, packet)?;
-    active.place_of(minor.number())
+    place_of(active, minor.number())
+}
+
+// The place of a class, if there is one. Where classes were added in the order of their numbers, with none left out, no name is
+// hashed.
+#[inline(always)]
+fn place_of(active: &Active, class: u16) -> Option<usize>
+    ensures { result ≡ place_of class active.now.classes }
+{
+    let Some(first) = active.class_at(0) else {
+        return active.place_of(class);
+    };
+    let place = usize::from(class.wrapping_sub(first));
+    if let Some(name) = active.class_at(place) {
+        if name == class {
+            return Some(place);
+        }
+    }
+    active.place_of(class)
 }

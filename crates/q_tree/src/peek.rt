@@ -5,7 +5,7 @@ ghost use Rattle.q_model.specs.declared.filter.Filter.{Filter};
 ghost use Rattle.q_model.specs.Node.{shape};
 ghost use Rattle.q_model.specs.Step.{losses_in};
 ghost use Rattle.q_model.specs.Work.{booked};
-ghost use Rattle.q_tree.specs.AskSteps.{CanAsk, CanAskIn, IsShown, IsAskedIn, IsToldOf, answer_of, held_in, packets_within};
+ghost use Rattle.q_tree.specs.AskSteps.{CanAsk, CanAskIn, IsShown, IsAskedIn, IsToldOf, answer_of, held_in, no_toll, packets_within, toll_of};
 ghost use Rattle.q_tree.specs.Kept.{kept};
 ghost use Rattle.q_tree.specs.Seen.{discipline_seen};
 
@@ -17,6 +17,7 @@ use crate::node::{Discipline, Node};
 use crate::prio::ask_bands;
 use crate::shown::Shown;
 use crate::tbf::ask_child;
+use crate::toll::Toll;
 use q_codel::Sink;
 use q_packet::{Moment, Packet};
 
@@ -27,21 +28,23 @@ impl Node {
     /// shows that one, and nobody beneath it is asked. It takes no memory. `sink` needs room for what is queued.
     #[cycle(peek)]
     #[inline(always)]
-    pub(crate) fn peek<S: Sink>(&mut self, now: Moment, sink: &mut S) -> Shown
+    pub(crate) fn peek<S: Sink>(&mut self, now: Moment, toll: &mut Toll, sink: &mut S) -> Shown
         requires ready { CanAsk now self.old }
         requires sink { length (beneath self.old) ≤ S.room sink.old }
+        requires clean { toll.old ≡ no_toll }
         ensures after { self.new ≡ booked kept self.old (ask now (shape self.old)).peeked }
         ensures arrived { self.new.memory.counts.arrived ≡ self.old.memory.counts.arrived }
         ensures shown { IsShown (ask now (shape self.old)) result }
         ensures lost { S.losses sink.new ≡ S.losses sink.old ++ losses_in (ask now (shape self.old)).rises }
         ensures room { S.room sink.new + length (losses_in (ask now (shape self.old)).rises) ≡ S.room sink.old }
+        ensures toll { toll.new ≡ toll_of result }
         ensures kept { S.keeps sink.old sink.new }
     {
         if self.held.is_some() {
             return Shown::at_hand(&self.held);
         }
-        let shown = self.discipline.ask(&mut self.held, now, sink);
-        book_shown(&mut self.row, &shown);
+        let shown = self.discipline.ask(&mut self.held, now, toll, sink);
+        book_shown(&mut self.row, &shown, toll);
         shown
     }
 }
@@ -50,23 +53,33 @@ impl Discipline {
     // What a node with this discipline shows that holds no packet: a tbf, a drr and an fq_codel dequeue it, and hold it then.
     #[cycle(peek)]
     #[inline(always)]
-    fn ask<S: Sink>(&mut self, held: &mut Option<Packet>, now: Moment, sink: &mut S) -> Shown
+    fn ask<S: Sink>(
+        &mut self,
+        held: &mut Option<Packet>,
+        now: Moment,
+        toll: &mut Toll,
+        sink: &mut S,
+    ) -> Shown
         requires none { held.old ≡ None }
         requires ready { CanAskIn now self.old }
         requires sink { length (packets_within self.old) ≤ S.room sink.old }
+        requires clean { toll.old ≡ no_toll }
         ensures after { (handle : Option ℕ) (filters : List Filter) → IsAskedIn (answer_of now handle filters self.old) self.old self.new result }
         ensures held { held.new ≡ held_in (discipline_seen self.new) result.packet }
         ensures told { (handle : Option ℕ) (filters : List Filter) → IsToldOf (answer_of now handle filters self.old).rises (S.losses sink.old) (S.losses sink.new) (S.room sink.old) (S.room sink.new) }
+        ensures toll { toll.new ≡ toll_of result }
         ensures kept { S.keeps sink.old sink.new }
     {
         match self {
             Discipline::Fifo(fifo) => return Shown::at_hand(&first_packet(fifo)),
-            Discipline::Prio { bands, .. } => return ask_bands(bands, now, sink),
+            Discipline::Prio { bands, .. } => return ask_bands(bands, now, toll, sink),
             Discipline::Tbf { bucket, child, .. } => {
-                return ask_child(bucket, child, held, now, sink);
+                return ask_child(bucket, child, held, now, toll, sink);
             }
-            Discipline::Drr { active, classes } => return serve(active, classes, held, now, sink),
-            Discipline::FqCodel(queue) => return take_from_flows(queue, held, now, sink),
+            Discipline::Drr { active, classes } => {
+                return serve(active, classes, held, now, toll, sink);
+            }
+            Discipline::FqCodel(queue) => return take_from_flows(queue, held, now, toll, sink),
         }
     }
 }

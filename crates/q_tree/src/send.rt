@@ -6,15 +6,16 @@ ghost use Rattle.q_model.specs.Step.{losses_in};
 ghost use Rattle.q_model.specs.TreeState.{given, noted_by_take, take_packet};
 ghost use Rattle.q_model.specs.Work.{booked};
 ghost use Rattle.q_model.specs.declared.filter.Filter.{Filter};
-ghost use Rattle.q_tree.specs.AskSteps.{CanAsk, CanAskEach, CanAskIn, IsShown, IsToldOf, answer_of, answers, packets_within};
+ghost use Rattle.q_tree.specs.AskSteps.{CanAsk, CanAskEach, CanAskIn, IsShown, IsToldOf, answer_of, answers, no_toll, packets_within, toll_of};
 ghost use Rattle.q_tree.specs.Kept.{kept};
 ghost use Rattle.q_tree.specs.PutSteps.{packets_beneath};
 ghost use Rattle.q_tree.specs.SendSteps.{AreSent, IsSentIn};
 
-use crate::booking::{NOTHING, book_sent, book_shown};
+use crate::booking::{book_sent, book_shown};
 use crate::dequeue::{dequeue_child, dequeue_class, dequeue_flow, dequeue_head};
 use crate::node::{Discipline, Node};
 use crate::shown::Shown;
+use crate::toll::{NO_TOLL, Toll};
 use crate::tree::Tree;
 use q_codel::Sink;
 use q_packet::{Moment, Packet};
@@ -37,8 +38,9 @@ impl Tree {
     {
         // A moment is at most 2^62 nanoseconds.
         let _ = now.ns();
-        let shown = self.root.send(now, out, sink);
-        book_shown(&mut self.top, &shown);
+        let mut toll = NO_TOLL;
+        let shown = self.root.send(now, out, &mut toll, sink);
+        book_shown(&mut self.top, &shown, &toll);
         self.clock = now;
         if !shown.has_packet() {
             return false;
@@ -56,25 +58,33 @@ impl Node {
     /// for what is queued.
     #[cycle(send)]
     #[inline(always)]
-    pub(crate) fn send<S: Sink>(&mut self, now: Moment, out: &mut Packet, sink: &mut S) -> Shown
+    pub(crate) fn send<S: Sink>(
+        &mut self,
+        now: Moment,
+        out: &mut Packet,
+        toll: &mut Toll,
+        sink: &mut S,
+    ) -> Shown
         requires ready { CanAsk now self.old }
         requires sink { length (beneath self.old) ≤ S.room sink.old }
+        requires clean { toll.old ≡ no_toll }
         ensures after { self.new ≡ booked kept self.old (take_from now (shape self.old)).node }
         ensures arrived { self.new.memory.counts.arrived ≡ self.old.memory.counts.arrived }
         ensures shown { IsShown (ask now (shape self.old)) result }
         ensures packet { out.new ≡ unwrap_or result.packet out.old }
         ensures lost { S.losses sink.new ≡ S.losses sink.old ++ losses_in (ask now (shape self.old)).rises }
         ensures room { S.room sink.new + length (losses_in (ask now (shape self.old)).rises) ≡ S.room sink.old }
+        ensures toll { toll.new ≡ toll_of result }
         ensures kept { S.keeps sink.old sink.new }
     {
         if let Some(packet) = self.held {
             self.held = None;
             book_sent(&mut self.row, &packet);
             *out = packet;
-            return Shown::sending(&packet, NOTHING, NOTHING);
+            return Shown::sending(&packet, &NO_TOLL);
         }
-        let shown = self.discipline.send(now, out, sink);
-        book_shown(&mut self.row, &shown);
+        let shown = self.discipline.send(now, out, toll, sink);
+        book_shown(&mut self.row, &shown, toll);
         if !shown.has_packet() {
             return shown;
         }
@@ -87,41 +97,59 @@ impl Discipline {
     // What a node with this discipline shows that holds no packet, and its packet in `out`.
     #[cycle(send)]
     #[inline(always)]
-    fn send<S: Sink>(&mut self, now: Moment, out: &mut Packet, sink: &mut S) -> Shown
+    fn send<S: Sink>(
+        &mut self,
+        now: Moment,
+        out: &mut Packet,
+        toll: &mut Toll,
+        sink: &mut S,
+    ) -> Shown
         requires ready { CanAskIn now self.old }
         requires sink { length (packets_within self.old) ≤ S.room sink.old }
+        requires clean { toll.old ≡ no_toll }
         ensures after { (handle : Option ℕ) (filters : List Filter) → IsSentIn (answer_of now handle filters self.old) self.old self.new result }
         ensures packet { out.new ≡ unwrap_or result.packet out.old }
         ensures told { (handle : Option ℕ) (filters : List Filter) → IsToldOf (answer_of now handle filters self.old).rises (S.losses sink.old) (S.losses sink.new) (S.room sink.old) (S.room sink.new) }
+        ensures toll { toll.new ≡ toll_of result }
         ensures kept { S.keeps sink.old sink.new }
     {
         match self {
             Discipline::Fifo(fifo) => return dequeue_head(fifo, out),
-            Discipline::Prio { bands, .. } => return send_first(bands, now, out, sink),
+            Discipline::Prio { bands, .. } => return send_first(bands, now, out, toll, sink),
             Discipline::Tbf { bucket, child, .. } => {
-                return dequeue_child(bucket, child, out, now, sink);
+                return dequeue_child(bucket, child, out, now, toll, sink);
             }
             Discipline::Drr { active, classes } => {
-                return dequeue_class(active, classes, out, now, sink);
+                return dequeue_class(active, classes, out, now, toll, sink);
             }
-            Discipline::FqCodel(queue) => return dequeue_flow(queue, out, now, sink),
+            Discipline::FqCodel(queue) => return dequeue_flow(queue, out, now, toll, sink),
         }
     }
 }
 
 // Sends the packet of the first band that shows one; the bands before it are asked (tc-prio(8)).
 #[cycle(send)]
-fn send_first<S: Sink>(bands: &mut [Node], now: Moment, out: &mut Packet, sink: &mut S) -> Shown
+fn send_first<S: Sink>(
+    bands: &mut [Node],
+    now: Moment,
+    out: &mut Packet,
+    toll: &mut Toll,
+    sink: &mut S,
+) -> Shown
     requires ready { CanAskEach now bands.old }
     requires sink { length (packets_beneath bands.old) ≤ S.room sink.old }
+    requires clean { toll.old ≡ no_toll }
     ensures after { (own : Own) → AreSent (ask_prio own (answers now bands.old)) bands.old bands.new result }
     ensures packet { out.new ≡ unwrap_or result.packet out.old }
     ensures told { (own : Own) → IsToldOf (ask_prio own (answers now bands.old)).rises (S.losses sink.old) (S.losses sink.new) (S.room sink.old) (S.room sink.new) }
+    ensures toll { toll.new ≡ toll_of result }
     ensures kept { S.keeps sink.old sink.new }
 {
     let mut shown = Shown::at_hand(&None);
     for place in 0..bands.len() {
-        shown = shown.then(bands[place].send(now, out, sink));
+        let mut asked = NO_TOLL;
+        let next = bands[place].send(now, out, &mut asked, sink);
+        shown = shown.then(next, toll, &asked);
         if shown.has_packet() {
             return shown;
         }

@@ -1,87 +1,89 @@
-ghost use Rattle.std.specs.Prelude.{◌≡◌, ◌<◌, ◌+◌, ◌^◌, Some, None, true, is_some, option_map, IfSome, IsSomeAnd};
-ghost use Rattle.q_packet.specs.Descriptor.{Descriptor};
-ghost use Rattle.q_model.specs.Tally.{no_totals};
+ghost use Rattle.std.specs.Prelude.{◌≡◌, ◌<◌, ◌≤◌, ◌+◌, ◌^◌, Some, None, true, is_some, IfSome, IsSomeAnd};
+ghost use Rattle.q_tree.specs.AskSteps.{no_toll, toll_of};
 ghost use Rattle.q_tree.specs.Arrivals.{plus};
+ghost use Rattle.q_tree.specs.Shown.{length_of};
 
-use crate::booking::{NOTHING, sum};
-use q_model::Totals;
+use crate::toll::{NO_TOLL, Toll};
 use q_packet::Packet;
 use std::marker::Model;
 use std::snapshot::Snapshot;
 
 /// What asking a node came to: the packet that it shows, and what CoDel dropped and marked for that.
 ///
-/// The packet stays where it is, and its length alone goes up from node to node. A contract sees the packet.
+/// It goes up from node to node in registers: the packet stays where it is, and what was dropped and marked is in a place of the
+/// caller's, since mostly nothing was, and then nobody reads it. A contract sees all of it.
 #[derive(Drop)]
 pub(crate) struct Shown {
-    len: Option<u16>,
-    packet: Snapshot<Option<Packet>>,
-    /// Nothing was dropped, and nothing was marked. It is asked at each node, and mostly so.
+    /// The packet's length in bytes, 0 for none.
+    len: u16,
+    /// Nothing was dropped, and nothing was marked.
     is_quiet: bool,
-    dropped: Totals,
-    marked: Totals,
+    packet: Snapshot<Option<Packet>>,
+    toll: Snapshot<Toll>,
 }
 
 impl Model for Shown {
-    ghost use Rattle.std.specs.Prelude.{◌≡◌, true, option_map};
+    ghost use Rattle.std.specs.Prelude.{◌≡◌, ◌≤◌, true, IfSome};
     ghost use Rattle.q_packet.specs.Descriptor.{Descriptor};
-    ghost use Rattle.q_model.specs.Tally.{no_totals};
+    ghost use Rattle.q_tree.specs.AskSteps.{no_toll};
     ghost use Rattle.q_tree.specs.Shown as specs;
 
     ghost Value = { specs.Shown };
 
-    ghost view = { λ s. record { packet = s.packet.value; dropped = s.dropped; marked = s.marked } };
+    ghost view = { λ s. record { packet = s.packet.value; dropped = s.toll.value.dropped; marked = s.toll.value.marked } };
 
     ghost invariant = { λ s.
-        (s.len ≡ option_map (λ (p : Descriptor). p.len) s.packet.value)
-        × (s.is_quiet ≡ true → (s.dropped ≡ no_totals) × (s.marked ≡ no_totals)) };
+        (s.len ≡ specs.length_of s.packet.value)
+        × (IfSome s.packet.value (λ (p : Descriptor). 1 ≤ p.len))
+        × (s.is_quiet ≡ true → s.toll.value ≡ no_toll) };
 }
 
 impl Shown {
     /// A node shows this packet, or none, after so much was dropped and marked.
     #[inline(always)]
-    pub(crate) fn new(packet: &Option<Packet>, dropped: Totals, marked: Totals) -> Shown
-        ensures { result ≡ record { packet = packet.now; dropped = dropped; marked = marked } }
+    pub(crate) fn new(packet: &Option<Packet>, toll: &Toll) -> Shown
+        ensures { result ≡ record { packet = packet.now; dropped = toll.now.dropped; marked = toll.now.marked } }
     {
         Shown {
             len: len_of(packet),
+            is_quiet: toll.is_nothing(),
             packet: Snapshot::of(packet),
-            is_quiet: is_nothing(&dropped) && is_nothing(&marked),
-            dropped,
-            marked,
+            toll: Snapshot::of(toll),
         }
     }
 
     /// A node sends this packet, after so much was dropped and marked.
     #[inline(always)]
-    pub(crate) fn sending(packet: &Packet, dropped: Totals, marked: Totals) -> Shown
-        ensures { result ≡ record { packet = Some packet.now; dropped = dropped; marked = marked } }
+    pub(crate) fn sending(packet: &Packet, toll: &Toll) -> Shown
+        ensures { result ≡ record { packet = Some packet.now; dropped = toll.now.dropped; marked = toll.now.marked } }
     {
         Shown {
-            len: Some(packet.len),
+            len: packet.len,
+            is_quiet: toll.is_nothing(),
             packet: Snapshot::of(&Some(*packet)),
-            is_quiet: is_nothing(&dropped) && is_nothing(&marked),
-            dropped,
-            marked,
+            toll: Snapshot::of(toll),
         }
     }
 
     /// A packet that was at hand, or none: nobody was asked.
     #[inline(always)]
     pub(crate) fn at_hand(packet: &Option<Packet>) -> Shown
-        ensures { result ≡ record { packet = packet.now; dropped = no_totals; marked = no_totals } }
+        ensures { result ≡ record { packet = packet.now; dropped = no_toll.dropped; marked = no_toll.marked } }
     {
-        Shown::new(packet, NOTHING, NOTHING)
+        Shown::new(packet, &NO_TOLL)
     }
 
-    /// What asking one more node came to: it has the packet.
+    /// What asking one more node came to: it has the packet. What was dropped and marked so far is counted on.
     #[inline(always)]
-    pub(crate) fn then(self, next: Shown) -> Shown
+    pub(crate) fn then(self, next: Shown, so_far: &mut Toll, toll: &Toll) -> Shown
+        requires so_far { so_far.old ≡ toll_of self }
+        requires toll { toll.now ≡ toll_of next }
         requires dropped_packets { self.dropped.packets + next.dropped.packets < 2 ^ 64 }
         requires dropped_bytes { self.dropped.bytes + next.dropped.bytes < 2 ^ 64 }
         requires marked_packets { self.marked.packets + next.marked.packets < 2 ^ 64 }
         requires marked_bytes { self.marked.bytes + next.marked.bytes < 2 ^ 64 }
-        ensures { result ≡ record { packet = next.packet; dropped = plus self.dropped next.dropped; marked = plus self.marked next.marked } }
+        ensures asked { result ≡ record { packet = next.packet; dropped = plus self.dropped next.dropped; marked = plus self.marked next.marked } }
+        ensures toll { so_far.new ≡ toll_of result }
     {
         if next.is_quiet {
             return Shown {
@@ -90,12 +92,12 @@ impl Shown {
                 ..self
             };
         }
+        so_far.add(toll);
         Shown {
             len: next.len,
-            packet: next.packet,
             is_quiet: false,
-            dropped: sum(self.dropped, next.dropped),
-            marked: sum(self.marked, next.marked),
+            packet: next.packet,
+            toll: Snapshot::of(so_far),
         }
     }
 
@@ -117,7 +119,10 @@ impl Shown {
         ensures none { result ≡ None → self.now.packet ≡ None }
         ensures some { IfSome result (λ len. IsSomeAnd self.now.packet (λ p. p.len ≡ len)) }
     {
-        self.len
+        if self.len == 0 {
+            return None;
+        }
+        Some(self.len)
     }
 
     /// Whether a packet is shown.
@@ -125,49 +130,26 @@ impl Shown {
     pub(crate) fn has_packet(&self) -> bool
         ensures { result ≡ is_some self.now.packet }
     {
-        self.len.is_some()
+        self.len != 0
     }
 
     /// Whether nothing was dropped and nothing was marked.
     #[inline(always)]
     pub(crate) fn is_quiet(&self) -> bool
-        ensures { result ≡ true → (self.now.dropped ≡ no_totals) × (self.now.marked ≡ no_totals) }
+        ensures { result ≡ true → toll_of self.now ≡ no_toll }
     {
         self.is_quiet
     }
-
-    /// What CoDel dropped.
-    #[inline(always)]
-    pub(crate) fn dropped(&self) -> Totals
-        ensures { result ≡ self.now.dropped }
-    {
-        self.dropped
-    }
-
-    /// What CoDel marked.
-    #[inline(always)]
-    pub(crate) fn marked(&self) -> Totals
-        ensures { result ≡ self.now.marked }
-    {
-        self.marked
-    }
 }
 
-// Whether no packet was counted, and no byte.
+// The length of a packet, 0 for none.
 #[inline(always)]
-fn is_nothing(totals: &Totals) -> bool
-    ensures { result ≡ true → totals.now ≡ no_totals }
-{
-    totals.packets == 0 && totals.bytes == 0
-}
-
-// The length of a packet.
-#[inline(always)]
-fn len_of(packet: &Option<Packet>) -> Option<u16>
-    ensures { result ≡ option_map (λ (p : Descriptor). p.len) packet.now }
+fn len_of(packet: &Option<Packet>) -> u16
+    ensures len { result ≡ length_of packet.now }
+    ensures positive { IfSome packet.now (λ p. 1 ≤ p.len) }
 {
     match packet {
-        Some(packet) => Some(packet.len),
-        None => None,
+        Some(packet) => packet.len,
+        None => 0,
     }
 }

@@ -27,6 +27,7 @@ use crate::node::{NOTHING_COUNTED, Node};
 use crate::outcome::{Outcome, refuse};
 use crate::planned::Planned;
 use crate::route::Route;
+use crate::toll::NO_TOLL;
 use crate::way::Way;
 use q_codel::{Limit, Sink};
 use q_model::{ClassView, Fate, FilterView, NodeView, Place, Refusal, Row};
@@ -286,8 +287,9 @@ impl Tree {
     {
         // A moment is at most 2^62 nanoseconds.
         let _ = now.ns();
-        let shown = self.root.peek(now, sink);
-        book_shown(&mut self.top, &shown);
+        let mut toll = NO_TOLL;
+        let shown = self.root.peek(now, &mut toll, sink);
+        book_shown(&mut self.top, &shown, &toll);
         self.clock = now;
         // The root has at hand what it has shown.
         self.root.at_hand()
@@ -308,8 +310,9 @@ impl Tree {
     {
         // A moment is at most 2^62 nanoseconds.
         let _ = now.ns();
-        let shown = self.root.peek(now, sink);
-        book_shown(&mut self.top, &shown);
+        let mut toll = NO_TOLL;
+        let shown = self.root.peek(now, &mut toll, sink);
+        book_shown(&mut self.top, &shown, &toll);
         self.clock = now;
         if !shown.has_packet() {
             return None;

@@ -1,4 +1,4 @@
-use Rattle.std.proofs.Common.{◌∙◌, ◌+◌, refl, sym, ap, ap₂, map, drop, arith, Some, None}
+use Rattle.std.proofs.Common.{◌∙◌, ◌+◌, refl, sym, ap, ap₂, map, drop, arith, Some}
 use Rattle.q_model.specs.Node as spec
 use Rattle.q_tree.specs.Seen.{children_seen, discipline_seen}
 use Rattle.q_tree.specs.ReadyAt.{outlook, paid, with_band, with_bands}

@@ -12,7 +12,7 @@ use Rattle.q_fqcodel.specs.FqState.{FqView}
 use Rattle.q_model.specs.Ask.{ask}
 use Rattle.q_model.specs.Node as spec
 use Rattle.q_model.specs.Node.{Node, shape, side_by_side}
-use Rattle.q_tree.specs.AskSteps.{IsGivenBy, IsToldOf, answers, own_of}
+use Rattle.q_tree.specs.AskSteps.{IsGivenBy, IsToldOf, answers, own_of, toll_of}
 use Rattle.q_tree.specs.NodeCode.{forest_size}
 use Rattle.q_tree.specs.Seen.{children_seen, discipline_seen, places_seen}
 use Rattle.q_tree.specs.declared.node.Discipline.TheVariants as code
@@ -29,19 +29,19 @@ use Rattle.q_tree.proofs.+peek.Goals as goal
 
 pub drr::ask_class-then-requires-clause-dropped_packets :
     goal.drr::ask_class-then-requires-clause-dropped_packets
-drr::ask_class-then-requires-clause-dropped_packets g t c = (fits-beside c.args.now c.args.class.now c.args.so_far c.peek.result (g.S.Sink.room c.args.sink.now) (c.requires.ready c.if-is_unasked.true) c.peek.ensures.shown).dropped_packets
+drr::ask_class-then-requires-clause-dropped_packets g t c = (fits-beside c.args.now c.args.class.now c.args.so_far c.peek-next.result (g.S.Sink.room c.args.sink.now) (c.requires.ready c.if-is_unasked.true) c.peek-next.ensures.shown).dropped_packets
 
 pub drr::ask_class-then-requires-clause-dropped_bytes :
     goal.drr::ask_class-then-requires-clause-dropped_bytes
-drr::ask_class-then-requires-clause-dropped_bytes g t c = (fits-beside c.args.now c.args.class.now c.args.so_far c.peek.result (g.S.Sink.room c.args.sink.now) (c.requires.ready c.if-is_unasked.true) c.peek.ensures.shown).dropped_bytes
+drr::ask_class-then-requires-clause-dropped_bytes g t c = (fits-beside c.args.now c.args.class.now c.args.so_far c.peek-next.result (g.S.Sink.room c.args.sink.now) (c.requires.ready c.if-is_unasked.true) c.peek-next.ensures.shown).dropped_bytes
 
 pub drr::ask_class-then-requires-clause-marked_packets :
     goal.drr::ask_class-then-requires-clause-marked_packets
-drr::ask_class-then-requires-clause-marked_packets g t c = (fits-beside c.args.now c.args.class.now c.args.so_far c.peek.result (g.S.Sink.room c.args.sink.now) (c.requires.ready c.if-is_unasked.true) c.peek.ensures.shown).marked_packets
+drr::ask_class-then-requires-clause-marked_packets g t c = (fits-beside c.args.now c.args.class.now c.args.so_far c.peek-next.result (g.S.Sink.room c.args.sink.now) (c.requires.ready c.if-is_unasked.true) c.peek-next.ensures.shown).marked_packets
 
 pub drr::ask_class-then-requires-clause-marked_bytes :
     goal.drr::ask_class-then-requires-clause-marked_bytes
-drr::ask_class-then-requires-clause-marked_bytes g t c = (fits-beside c.args.now c.args.class.now c.args.so_far c.peek.result (g.S.Sink.room c.args.sink.now) (c.requires.ready c.if-is_unasked.true) c.peek.ensures.shown).marked_bytes
+drr::ask_class-then-requires-clause-marked_bytes g t c = (fits-beside c.args.now c.args.class.now c.args.so_far c.peek-next.result (g.S.Sink.room c.args.sink.now) (c.requires.ready c.if-is_unasked.true) c.peek-next.ensures.shown).marked_bytes
 
 pub drr::serve-loop-place-init : goal.drr::serve-loop-place-init
 drr::serve-loop-place-init g t c = (
@@ -49,6 +49,7 @@ drr::serve-loop-place-init g t c = (
       (record { dropped = ap (λ (s : Shown). s.dropped) c.at_hand-shown.ensures; marked = ap (λ (s : Shown). s.marked) c.at_hand-shown.ensures }),
   g.met.S.Sink.keeps_same c.args.sink.now,
   c.requires.none,
+  c.requires.clean ∙ sym (ap toll_of c.at_hand-shown.ensures),
 )
 
 pub drr::serve-offset_bounds-classes-place : goal.drr::serve-offset_bounds-classes-place
@@ -75,7 +76,7 @@ drr::serve-ask_class-shown-requires g t c κs within =
     let place = class-in-front c.args.now c.args.active.now c.loop-place.active c.args.classes.now c.loop-place.classes c.loop-place.unasked c.loop-place.shown told c.requires.ready c.loop-place.invariant.0 at.class c.front_place.ensures.lawful front c.in-Some.place at.found in
     let inside = place-within c.args.now c.args.active.now c.loop-place.active c.args.classes.now c.loop-place.classes c.loop-place.unasked c.loop-place.shown told c.requires.ready c.loop-place.invariant.0 at.class c.front_place.ensures.lawful front c.in-Some.place place in (
       omega (arith, class-size c.args.now c.args.active.now c.loop-place.active c.args.classes.now c.loop-place.classes c.loop-place.unasked c.loop-place.shown told c.requires.ready c.loop-place.invariant.0 at.class c.front_place.ensures.lawful front c.in-Some.place c.index-classes-place.result inside, c.decreases),
-      (within, λ some. class-once c.args.now c.args.active.now c.loop-place.active c.args.classes.now c.loop-place.classes c.loop-place.unasked c.loop-place.shown told c.requires.ready c.loop-place.invariant.0 at.class c.front_place.ensures.lawful front c.in-Some.place place c.index-classes-place.result some c.requires.sink),
+      (within, ((λ some. class-once c.args.now c.args.active.now c.loop-place.active c.args.classes.now c.loop-place.classes c.loop-place.unasked c.loop-place.shown told c.requires.ready c.loop-place.invariant.0 at.class c.front_place.ensures.lawful front c.in-Some.place place c.index-classes-place.result some c.requires.sink), c.loop-place.invariant.3)),
     )
 
 pub drr::serve-returns-in_default-packet_len-clause-active : goal.drr::serve-returns-in_default-packet_len-clause-active
@@ -239,6 +240,7 @@ drr::serve-loop-place-preserved g t c =
           c.ask_class-shown.new.class c.ask_class-shown.result (g.S.Sink.losses c.ask_class-shown.new.sink) (g.S.Sink.room c.ask_class-shown.new.sink) class_shows offer.0 offer.1 short c.saturating_sub-unasked.result c.saturating_sub-unasked.ensures),
       g.met.S.Sink.keeps_on c.args.sink.now c.loop-place.sink c.ask_class-shown.new.sink c.loop-place.invariant.1 c.ask_class-shown.ensures.kept,
       c.loop-place.invariant.2,
+      c.ask_class-shown.ensures.toll,
     )
 
 pub drr::serve-returns-clause-active : goal.drr::serve-returns-clause-active
@@ -266,7 +268,7 @@ drr::serve-returns-clause-kept g t c = c.loop-place.invariant.1
 pub node::Discipline::ask-ask_bands-requires : goal.node::Discipline::ask-ask_bands-requires
 node::Discipline::ask-ask_bands-requires g t c κs within =
     let kids = c.deref_mut.ensures.value ∙ sym (ap children_seen c.in-Prio.is) in
-    (omega (arith, ap (λ xs. forest_size (side_by_side xs)) kids, c.decreases), (within, (each-of c.args.now c.args.self.now c.deref_mut.result.now c.requires.ready kids, omega (arith, c.requires.sink, room-of c.args.self.now c.deref_mut.result.now kids))))
+    (omega (arith, ap (λ xs. forest_size (side_by_side xs)) kids, c.decreases), (within, (each-of c.args.now c.args.self.now c.deref_mut.result.now c.requires.ready kids, (omega (arith, c.requires.sink, room-of c.args.self.now c.deref_mut.result.now kids), c.requires.clean))))
 
 pub node::Discipline::ask-returns-in-Prio-clause-after :
     goal.node::Discipline::ask-returns-in-Prio-clause-after
@@ -303,7 +305,7 @@ node::Discipline::ask-returns-in-Tbf-clause-told g t c = λ handle filters.
 pub node::Discipline::ask-serve-requires : goal.node::Discipline::ask-serve-requires
 node::Discipline::ask-serve-requires g t c κs within =
     let kids = c.deref_mut-in-Drr.ensures.value ∙ sym (ap children_seen c.in-Drr.is) in
-    (omega (arith, ap (λ xs. forest_size (side_by_side xs)) kids, c.decreases), (within, (c.requires.none, (serve-of c.args.now c.args.self.now c.in-Drr.active c.deref_mut-in-Drr.result.now c.requires.ready (ap discipline_seen c.in-Drr.is) kids, omega (arith, c.requires.sink, room-of c.args.self.now c.deref_mut-in-Drr.result.now kids)))))
+    (omega (arith, ap (λ xs. forest_size (side_by_side xs)) kids, c.decreases), (within, (c.requires.none, (serve-of c.args.now c.args.self.now c.in-Drr.active c.deref_mut-in-Drr.result.now c.requires.ready (ap discipline_seen c.in-Drr.is) kids, (omega (arith, c.requires.sink, room-of c.args.self.now c.deref_mut-in-Drr.result.now kids), c.requires.clean)))))
 
 pub node::Discipline::ask-returns-in-Drr-clause-after :
     goal.node::Discipline::ask-returns-in-Drr-clause-after
@@ -325,7 +327,7 @@ pub node::Discipline::ask-take_from_flows-requires :
     goal.node::Discipline::ask-take_from_flows-requires
 node::Discipline::ask-take_from_flows-requires g t c =
     let is = ap discipline_seen c.in-FqCodel.is ∙ ap (λ (q : FqView). spec.FqCodel q.state) (sym c.deref_mut-in-FqCodel.ensures.value) in
-    record { none = c.requires.none; sink = omega (arith, c.requires.sink, own-room c.args.self.now, flow-packets c.args.self.now c.deref_mut-in-FqCodel.result.now.state is) }
+    record { none = c.requires.none; sink = omega (arith, c.requires.sink, own-room c.args.self.now, flow-packets c.args.self.now c.deref_mut-in-FqCodel.result.now.state is); clean = c.requires.clean }
 
 pub node::Discipline::ask-returns-in-FqCodel-clause-after :
     goal.node::Discipline::ask-returns-in-FqCodel-clause-after
@@ -365,7 +367,7 @@ node::Node::peek-ask-shown-requires g t c κs within = (
       none-held c.self.inside.held c.if-is_some.ensures,
       (
         can-in c.args.now c.self.inside c.args.self.now c.self.invariant c.self.view_is c.requires.ready (omega (arith, c.self.ranges)) (omega (arith, c.self.ranges)),
-        enough c.args.now c.self.inside c.args.self.now c.self.invariant c.self.view_is c.requires.ready (g.S.Sink.room c.args.sink.now) c.requires.sink,
+        (enough c.args.now c.self.inside c.args.self.now c.self.invariant c.self.view_is c.requires.ready (g.S.Sink.room c.args.sink.now) c.requires.sink, c.requires.clean),
       ),
     ),
   ),
@@ -410,68 +412,70 @@ prio::ask_bands-loop-place-init g t c = (
   bands-start c.args.now c.args.bands.now c.at_hand-shown.result (record { dropped = ap (λ (s : Shown). s.dropped) c.at_hand-shown.ensures; marked = ap (λ (s : Shown). s.marked) c.at_hand-shown.ensures }) (ap (λ (s : Shown). s.packet) c.at_hand-shown.ensures),
   told-nothing (g.S.Sink.losses c.args.sink.now) (g.S.Sink.room c.args.sink.now),
   g.met.S.Sink.keeps_same c.args.sink.now,
+  c.requires.clean ∙ sym (ap toll_of c.at_hand-shown.ensures),
 )
 
-pub prio::ask_bands-peek-requires : goal.prio::ask_bands-peek-requires
-prio::ask_bands-peek-requires g t c κs within =
+pub prio::ask_bands-peek-next-requires : goal.prio::ask_bands-peek-next-requires
+prio::ask_bands-peek-next-requires g t c κs within =
     let at = band-at c.args.now c.args.bands.now c.loop-place.bands c.loop-place.place c.loop-place.shown c.loop-place.invariant.0 c.index-bands-place.result c.loop-place-test.true in
     let once = (band-once c.args.now c.args.bands.now c.loop-place.bands c.loop-place.place c.loop-place.shown c.requires.ready c.loop-place.invariant.0 (slice_index_or c.loop-place.bands c.loop-place.place c.index-bands-place.result) (band-at c.args.now c.args.bands.now c.loop-place.bands c.loop-place.place c.loop-place.shown c.loop-place.invariant.0 c.index-bands-place.result c.loop-place-test.true) (g.S.Sink.losses c.args.sink.now) (g.S.Sink.losses c.loop-place.sink) (g.S.Sink.room c.args.sink.now) (g.S.Sink.room c.loop-place.sink) c.loop-place.invariant.1 c.requires.sink) in
-    (omega (arith, child-size c.args.bands.now c.loop-place.place (slice_index_or c.loop-place.bands c.loop-place.place c.index-bands-place.result) at, c.decreases), (within, (once.ready, once.sink)))
+    (omega (arith, child-size c.args.bands.now c.loop-place.place (slice_index_or c.loop-place.bands c.loop-place.place c.index-bands-place.result) at, c.decreases), (within, (once.ready, (once.sink, refl))))
 
 pub prio::ask_bands-then-shown-requires-clause-dropped_packets :
     goal.prio::ask_bands-then-shown-requires-clause-dropped_packets
 prio::ask_bands-then-shown-requires-clause-dropped_packets g t c =
-    (fits-beside c.args.now (slice_index_or c.loop-place.bands c.loop-place.place c.index-bands-place.result) c.loop-place.shown c.peek.result (g.S.Sink.room c.loop-place.sink)
-    (band-once c.args.now c.args.bands.now c.loop-place.bands c.loop-place.place c.loop-place.shown c.requires.ready c.loop-place.invariant.0 (slice_index_or c.loop-place.bands c.loop-place.place c.index-bands-place.result) (band-at c.args.now c.args.bands.now c.loop-place.bands c.loop-place.place c.loop-place.shown c.loop-place.invariant.0 c.index-bands-place.result c.loop-place-test.true) (g.S.Sink.losses c.args.sink.now) (g.S.Sink.losses c.loop-place.sink) (g.S.Sink.room c.args.sink.now) (g.S.Sink.room c.loop-place.sink) c.loop-place.invariant.1 c.requires.sink) c.peek.ensures.shown).dropped_packets
+    (fits-beside c.args.now (slice_index_or c.loop-place.bands c.loop-place.place c.index-bands-place.result) c.loop-place.shown c.peek-next.result (g.S.Sink.room c.loop-place.sink)
+    (band-once c.args.now c.args.bands.now c.loop-place.bands c.loop-place.place c.loop-place.shown c.requires.ready c.loop-place.invariant.0 (slice_index_or c.loop-place.bands c.loop-place.place c.index-bands-place.result) (band-at c.args.now c.args.bands.now c.loop-place.bands c.loop-place.place c.loop-place.shown c.loop-place.invariant.0 c.index-bands-place.result c.loop-place-test.true) (g.S.Sink.losses c.args.sink.now) (g.S.Sink.losses c.loop-place.sink) (g.S.Sink.room c.args.sink.now) (g.S.Sink.room c.loop-place.sink) c.loop-place.invariant.1 c.requires.sink) c.peek-next.ensures.shown).dropped_packets
 
 pub prio::ask_bands-then-shown-requires-clause-dropped_bytes :
     goal.prio::ask_bands-then-shown-requires-clause-dropped_bytes
 prio::ask_bands-then-shown-requires-clause-dropped_bytes g t c =
-    (fits-beside c.args.now (slice_index_or c.loop-place.bands c.loop-place.place c.index-bands-place.result) c.loop-place.shown c.peek.result (g.S.Sink.room c.loop-place.sink)
-    (band-once c.args.now c.args.bands.now c.loop-place.bands c.loop-place.place c.loop-place.shown c.requires.ready c.loop-place.invariant.0 (slice_index_or c.loop-place.bands c.loop-place.place c.index-bands-place.result) (band-at c.args.now c.args.bands.now c.loop-place.bands c.loop-place.place c.loop-place.shown c.loop-place.invariant.0 c.index-bands-place.result c.loop-place-test.true) (g.S.Sink.losses c.args.sink.now) (g.S.Sink.losses c.loop-place.sink) (g.S.Sink.room c.args.sink.now) (g.S.Sink.room c.loop-place.sink) c.loop-place.invariant.1 c.requires.sink) c.peek.ensures.shown).dropped_bytes
+    (fits-beside c.args.now (slice_index_or c.loop-place.bands c.loop-place.place c.index-bands-place.result) c.loop-place.shown c.peek-next.result (g.S.Sink.room c.loop-place.sink)
+    (band-once c.args.now c.args.bands.now c.loop-place.bands c.loop-place.place c.loop-place.shown c.requires.ready c.loop-place.invariant.0 (slice_index_or c.loop-place.bands c.loop-place.place c.index-bands-place.result) (band-at c.args.now c.args.bands.now c.loop-place.bands c.loop-place.place c.loop-place.shown c.loop-place.invariant.0 c.index-bands-place.result c.loop-place-test.true) (g.S.Sink.losses c.args.sink.now) (g.S.Sink.losses c.loop-place.sink) (g.S.Sink.room c.args.sink.now) (g.S.Sink.room c.loop-place.sink) c.loop-place.invariant.1 c.requires.sink) c.peek-next.ensures.shown).dropped_bytes
 
 pub prio::ask_bands-then-shown-requires-clause-marked_packets :
     goal.prio::ask_bands-then-shown-requires-clause-marked_packets
 prio::ask_bands-then-shown-requires-clause-marked_packets g t c =
-    (fits-beside c.args.now (slice_index_or c.loop-place.bands c.loop-place.place c.index-bands-place.result) c.loop-place.shown c.peek.result (g.S.Sink.room c.loop-place.sink)
-    (band-once c.args.now c.args.bands.now c.loop-place.bands c.loop-place.place c.loop-place.shown c.requires.ready c.loop-place.invariant.0 (slice_index_or c.loop-place.bands c.loop-place.place c.index-bands-place.result) (band-at c.args.now c.args.bands.now c.loop-place.bands c.loop-place.place c.loop-place.shown c.loop-place.invariant.0 c.index-bands-place.result c.loop-place-test.true) (g.S.Sink.losses c.args.sink.now) (g.S.Sink.losses c.loop-place.sink) (g.S.Sink.room c.args.sink.now) (g.S.Sink.room c.loop-place.sink) c.loop-place.invariant.1 c.requires.sink) c.peek.ensures.shown).marked_packets
+    (fits-beside c.args.now (slice_index_or c.loop-place.bands c.loop-place.place c.index-bands-place.result) c.loop-place.shown c.peek-next.result (g.S.Sink.room c.loop-place.sink)
+    (band-once c.args.now c.args.bands.now c.loop-place.bands c.loop-place.place c.loop-place.shown c.requires.ready c.loop-place.invariant.0 (slice_index_or c.loop-place.bands c.loop-place.place c.index-bands-place.result) (band-at c.args.now c.args.bands.now c.loop-place.bands c.loop-place.place c.loop-place.shown c.loop-place.invariant.0 c.index-bands-place.result c.loop-place-test.true) (g.S.Sink.losses c.args.sink.now) (g.S.Sink.losses c.loop-place.sink) (g.S.Sink.room c.args.sink.now) (g.S.Sink.room c.loop-place.sink) c.loop-place.invariant.1 c.requires.sink) c.peek-next.ensures.shown).marked_packets
 
 pub prio::ask_bands-then-shown-requires-clause-marked_bytes :
     goal.prio::ask_bands-then-shown-requires-clause-marked_bytes
 prio::ask_bands-then-shown-requires-clause-marked_bytes g t c =
-    (fits-beside c.args.now (slice_index_or c.loop-place.bands c.loop-place.place c.index-bands-place.result) c.loop-place.shown c.peek.result (g.S.Sink.room c.loop-place.sink)
-    (band-once c.args.now c.args.bands.now c.loop-place.bands c.loop-place.place c.loop-place.shown c.requires.ready c.loop-place.invariant.0 (slice_index_or c.loop-place.bands c.loop-place.place c.index-bands-place.result) (band-at c.args.now c.args.bands.now c.loop-place.bands c.loop-place.place c.loop-place.shown c.loop-place.invariant.0 c.index-bands-place.result c.loop-place-test.true) (g.S.Sink.losses c.args.sink.now) (g.S.Sink.losses c.loop-place.sink) (g.S.Sink.room c.args.sink.now) (g.S.Sink.room c.loop-place.sink) c.loop-place.invariant.1 c.requires.sink) c.peek.ensures.shown).marked_bytes
+    (fits-beside c.args.now (slice_index_or c.loop-place.bands c.loop-place.place c.index-bands-place.result) c.loop-place.shown c.peek-next.result (g.S.Sink.room c.loop-place.sink)
+    (band-once c.args.now c.args.bands.now c.loop-place.bands c.loop-place.place c.loop-place.shown c.requires.ready c.loop-place.invariant.0 (slice_index_or c.loop-place.bands c.loop-place.place c.index-bands-place.result) (band-at c.args.now c.args.bands.now c.loop-place.bands c.loop-place.place c.loop-place.shown c.loop-place.invariant.0 c.index-bands-place.result c.loop-place-test.true) (g.S.Sink.losses c.args.sink.now) (g.S.Sink.losses c.loop-place.sink) (g.S.Sink.room c.args.sink.now) (g.S.Sink.room c.loop-place.sink) c.loop-place.invariant.1 c.requires.sink) c.peek-next.ensures.shown).marked_bytes
 
 pub prio::ask_bands-returns-then-has_packet-clause-after :
     goal.prio::ask_bands-returns-then-has_packet-clause-after
 prio::ask_bands-returns-then-has_packet-clause-after g t c = λ own.
-    band-shown c.args.now c.args.bands.now c.loop-place.bands c.loop-place.place c.loop-place.shown c.requires.ready c.loop-place.invariant.0 (slice_index_or c.loop-place.bands c.loop-place.place c.index-bands-place.result) (band-at c.args.now c.args.bands.now c.loop-place.bands c.loop-place.place c.loop-place.shown c.loop-place.invariant.0 c.index-bands-place.result c.loop-place-test.true) c.peek.new.self c.peek.result c.then-shown.result c.peek.ensures.after c.peek.ensures.arrived c.peek.ensures.shown
-    (ap (λ (s : Shown). s.dropped) c.then-shown.ensures) (ap (λ (s : Shown). s.marked) c.then-shown.ensures) (ap (λ (s : Shown). s.packet) c.then-shown.ensures) (sym c.if-has_packet.ensures) own
+    band-shown c.args.now c.args.bands.now c.loop-place.bands c.loop-place.place c.loop-place.shown c.requires.ready c.loop-place.invariant.0 (slice_index_or c.loop-place.bands c.loop-place.place c.index-bands-place.result) (band-at c.args.now c.args.bands.now c.loop-place.bands c.loop-place.place c.loop-place.shown c.loop-place.invariant.0 c.index-bands-place.result c.loop-place-test.true) c.peek-next.new.self c.peek-next.result c.then-shown.result c.peek-next.ensures.after c.peek-next.ensures.arrived c.peek-next.ensures.shown
+    (ap (λ (s : Shown). s.dropped) c.then-shown.ensures.asked) (ap (λ (s : Shown). s.marked) c.then-shown.ensures.asked) (ap (λ (s : Shown). s.packet) c.then-shown.ensures.asked) (sym c.if-has_packet.ensures) own
 
 pub prio::ask_bands-returns-then-has_packet-clause-told :
     goal.prio::ask_bands-returns-then-has_packet-clause-told
 prio::ask_bands-returns-then-has_packet-clause-told g t c = λ own.
-    subst (λ notes. IsToldOf notes (g.S.Sink.losses c.args.sink.now) (g.S.Sink.losses c.peek.new.sink) (g.S.Sink.room c.args.sink.now) (g.S.Sink.room c.peek.new.sink))
-    (band-rises c.args.now c.args.bands.now c.loop-place.bands c.loop-place.place c.loop-place.shown c.requires.ready c.loop-place.invariant.0 (slice_index_or c.loop-place.bands c.loop-place.place c.index-bands-place.result) (band-at c.args.now c.args.bands.now c.loop-place.bands c.loop-place.place c.loop-place.shown c.loop-place.invariant.0 c.index-bands-place.result c.loop-place-test.true) c.peek.new.self c.peek.result c.then-shown.result c.peek.ensures.after c.peek.ensures.arrived c.peek.ensures.shown
-    (ap (λ (s : Shown). s.dropped) c.then-shown.ensures) (ap (λ (s : Shown). s.marked) c.then-shown.ensures) (ap (λ (s : Shown). s.packet) c.then-shown.ensures) (sym c.if-has_packet.ensures) own)
-    (told-then (told_to c.loop-place.place (answers c.args.now c.args.bands.now)) (ask c.args.now (shape (slice_index_or c.loop-place.bands c.loop-place.place c.index-bands-place.result))).rises (g.S.Sink.losses c.args.sink.now) (g.S.Sink.losses c.loop-place.sink) (g.S.Sink.losses c.peek.new.sink)
-    (g.S.Sink.room c.args.sink.now) (g.S.Sink.room c.loop-place.sink) (g.S.Sink.room c.peek.new.sink) c.loop-place.invariant.1 (record { lost = c.peek.ensures.lost; room_taken = c.peek.ensures.room }))
+    subst (λ notes. IsToldOf notes (g.S.Sink.losses c.args.sink.now) (g.S.Sink.losses c.peek-next.new.sink) (g.S.Sink.room c.args.sink.now) (g.S.Sink.room c.peek-next.new.sink))
+    (band-rises c.args.now c.args.bands.now c.loop-place.bands c.loop-place.place c.loop-place.shown c.requires.ready c.loop-place.invariant.0 (slice_index_or c.loop-place.bands c.loop-place.place c.index-bands-place.result) (band-at c.args.now c.args.bands.now c.loop-place.bands c.loop-place.place c.loop-place.shown c.loop-place.invariant.0 c.index-bands-place.result c.loop-place-test.true) c.peek-next.new.self c.peek-next.result c.then-shown.result c.peek-next.ensures.after c.peek-next.ensures.arrived c.peek-next.ensures.shown
+    (ap (λ (s : Shown). s.dropped) c.then-shown.ensures.asked) (ap (λ (s : Shown). s.marked) c.then-shown.ensures.asked) (ap (λ (s : Shown). s.packet) c.then-shown.ensures.asked) (sym c.if-has_packet.ensures) own)
+    (told-then (told_to c.loop-place.place (answers c.args.now c.args.bands.now)) (ask c.args.now (shape (slice_index_or c.loop-place.bands c.loop-place.place c.index-bands-place.result))).rises (g.S.Sink.losses c.args.sink.now) (g.S.Sink.losses c.loop-place.sink) (g.S.Sink.losses c.peek-next.new.sink)
+    (g.S.Sink.room c.args.sink.now) (g.S.Sink.room c.loop-place.sink) (g.S.Sink.room c.peek-next.new.sink) c.loop-place.invariant.1 (record { lost = c.peek-next.ensures.lost; room_taken = c.peek-next.ensures.room }))
 
 pub prio::ask_bands-returns-then-has_packet-clause-kept :
     goal.prio::ask_bands-returns-then-has_packet-clause-kept
-prio::ask_bands-returns-then-has_packet-clause-kept g t c = g.met.S.Sink.keeps_on c.args.sink.now c.loop-place.sink c.peek.new.sink c.loop-place.invariant.2 c.peek.ensures.kept
+prio::ask_bands-returns-then-has_packet-clause-kept g t c = g.met.S.Sink.keeps_on c.args.sink.now c.loop-place.sink c.peek-next.new.sink c.loop-place.invariant.2 c.peek-next.ensures.kept
 
 pub prio::ask_bands-loop-place-preserved : goal.prio::ask_bands-loop-place-preserved
 prio::ask_bands-loop-place-preserved g t c = (
-  subst (λ n. AreBandsAsked c.args.now c.args.bands.now (set c.loop-place.bands c.loop-place.place c.peek.new.self) n c.then-shown.result) (sym (add-one c.loop-place.place))
-      (band-passed c.args.now c.args.bands.now c.loop-place.bands c.loop-place.place c.loop-place.shown c.requires.ready c.loop-place.invariant.0 (slice_index_or c.loop-place.bands c.loop-place.place c.index-bands-place.result) (band-at c.args.now c.args.bands.now c.loop-place.bands c.loop-place.place c.loop-place.shown c.loop-place.invariant.0 c.index-bands-place.result c.loop-place-test.true) c.peek.new.self c.peek.result c.then-shown.result c.peek.ensures.after c.peek.ensures.arrived c.peek.ensures.shown
-      (ap (λ (s : Shown). s.dropped) c.then-shown.ensures) (ap (λ (s : Shown). s.marked) c.then-shown.ensures) (ap (λ (s : Shown). s.packet) c.then-shown.ensures) (sym c.if-has_packet.ensures)),
-  subst (λ n. IsToldOf (told_to n (answers c.args.now c.args.bands.now)) (g.S.Sink.losses c.args.sink.now) (g.S.Sink.losses c.peek.new.sink) (g.S.Sink.room c.args.sink.now) (g.S.Sink.room c.peek.new.sink)) (sym (add-one c.loop-place.place))
-      (subst (λ notes. IsToldOf notes (g.S.Sink.losses c.args.sink.now) (g.S.Sink.losses c.peek.new.sink) (g.S.Sink.room c.args.sink.now) (g.S.Sink.room c.peek.new.sink))
+  subst (λ n. AreBandsAsked c.args.now c.args.bands.now (set c.loop-place.bands c.loop-place.place c.peek-next.new.self) n c.then-shown.result) (sym (add-one c.loop-place.place))
+      (band-passed c.args.now c.args.bands.now c.loop-place.bands c.loop-place.place c.loop-place.shown c.requires.ready c.loop-place.invariant.0 (slice_index_or c.loop-place.bands c.loop-place.place c.index-bands-place.result) (band-at c.args.now c.args.bands.now c.loop-place.bands c.loop-place.place c.loop-place.shown c.loop-place.invariant.0 c.index-bands-place.result c.loop-place-test.true) c.peek-next.new.self c.peek-next.result c.then-shown.result c.peek-next.ensures.after c.peek-next.ensures.arrived c.peek-next.ensures.shown
+      (ap (λ (s : Shown). s.dropped) c.then-shown.ensures.asked) (ap (λ (s : Shown). s.marked) c.then-shown.ensures.asked) (ap (λ (s : Shown). s.packet) c.then-shown.ensures.asked) (sym c.if-has_packet.ensures)),
+  subst (λ n. IsToldOf (told_to n (answers c.args.now c.args.bands.now)) (g.S.Sink.losses c.args.sink.now) (g.S.Sink.losses c.peek-next.new.sink) (g.S.Sink.room c.args.sink.now) (g.S.Sink.room c.peek-next.new.sink)) (sym (add-one c.loop-place.place))
+      (subst (λ notes. IsToldOf notes (g.S.Sink.losses c.args.sink.now) (g.S.Sink.losses c.peek-next.new.sink) (g.S.Sink.room c.args.sink.now) (g.S.Sink.room c.peek-next.new.sink))
       (band-told c.args.now c.args.bands.now c.loop-place.bands c.loop-place.place c.loop-place.shown c.requires.ready c.loop-place.invariant.0 (slice_index_or c.loop-place.bands c.loop-place.place c.index-bands-place.result) (band-at c.args.now c.args.bands.now c.loop-place.bands c.loop-place.place c.loop-place.shown c.loop-place.invariant.0 c.index-bands-place.result c.loop-place-test.true))
-      (told-then (told_to c.loop-place.place (answers c.args.now c.args.bands.now)) (ask c.args.now (shape (slice_index_or c.loop-place.bands c.loop-place.place c.index-bands-place.result))).rises (g.S.Sink.losses c.args.sink.now) (g.S.Sink.losses c.loop-place.sink) (g.S.Sink.losses c.peek.new.sink)
-      (g.S.Sink.room c.args.sink.now) (g.S.Sink.room c.loop-place.sink) (g.S.Sink.room c.peek.new.sink) c.loop-place.invariant.1 (record { lost = c.peek.ensures.lost; room_taken = c.peek.ensures.room }))),
-  g.met.S.Sink.keeps_on c.args.sink.now c.loop-place.sink c.peek.new.sink c.loop-place.invariant.2 c.peek.ensures.kept,
+      (told-then (told_to c.loop-place.place (answers c.args.now c.args.bands.now)) (ask c.args.now (shape (slice_index_or c.loop-place.bands c.loop-place.place c.index-bands-place.result))).rises (g.S.Sink.losses c.args.sink.now) (g.S.Sink.losses c.loop-place.sink) (g.S.Sink.losses c.peek-next.new.sink)
+      (g.S.Sink.room c.args.sink.now) (g.S.Sink.room c.loop-place.sink) (g.S.Sink.room c.peek-next.new.sink) c.loop-place.invariant.1 (record { lost = c.peek-next.ensures.lost; room_taken = c.peek-next.ensures.room }))),
+  g.met.S.Sink.keeps_on c.args.sink.now c.loop-place.sink c.peek-next.new.sink c.loop-place.invariant.2 c.peek-next.ensures.kept,
+  c.then-shown.ensures.toll,
 )
 
 pub prio::ask_bands-returns-clause-after : goal.prio::ask_bands-returns-clause-after

@@ -1,5 +1,5 @@
 use Rattle.std.proofs.Common.{◌∙◌, [], ◌∷◌, set, length, add-one, refl, sym, ap, subst, arith}
-use Rattle.std.specs.Prelude.{option_map, slice_index_or, unwrap_or}
+use Rattle.std.specs.Prelude.{slice_index_or, unwrap_or}
 use Rattle.std.proofs.lemmas.Option.{slice_get-map}
 use Rattle.q_packet.specs.declared.stamped.Stamped.{Stamped}
 use Rattle.q_codel.specs.FifoState.{FifoState}
@@ -14,7 +14,7 @@ use Rattle.q_model.specs.Node as spec
 use Rattle.q_model.specs.Node.{Node, shape, side_by_side}
 use Rattle.q_model.specs.Pop.{pop}
 use Rattle.q_model.specs.Work.{Worked, booked}
-use Rattle.q_tree.specs.AskSteps.{IsToldOf, answers, own_of}
+use Rattle.q_tree.specs.AskSteps.{IsToldOf, answers, own_of, toll_of}
 use Rattle.q_tree.specs.Kept.{kept}
 use Rattle.q_tree.specs.NodeCode.{forest_size}
 use Rattle.q_tree.specs.Seen.{children_seen, discipline_seen, places_seen}
@@ -26,6 +26,7 @@ use Rattle.q_tree.proofs.AtHandLemmas.{none-held}
 use Rattle.q_tree.proofs.HereLemmas.{flow-packets}
 use Rattle.q_tree.proofs.Peeks.{asked-in, told-in, each-of, room-of, own-room, items-are, serve-of, holding-after, can-in, enough, told-here}
 use Rattle.q_tree.proofs.PopLemmas.{held-after}
+use Rattle.q_tree.proofs.Quiet.{toll-nothing}
 use Rattle.q_tree.proofs.RouteLemmas.{child-size, children-size}
 use Rattle.q_tree.proofs.SendBands.{asked-sent, band-sent, sent-rises}
 use Rattle.q_tree.proofs.SendForms.{asked-sent-in, sent-in, prio-left, fifo-sent, held-answer, held-shows, sent-shown, sent-fits, none-sent, sent-row, sent-queued, one-sent}
@@ -39,92 +40,100 @@ send::send_first-loop-place-init g t c = (
   told-nothing (g.S.Sink.losses c.args.sink.now) (g.S.Sink.room c.args.sink.now),
   g.met.S.Sink.keeps_same c.args.sink.now,
   refl,
+  c.requires.clean ∙ sym (ap toll_of c.at_hand-shown.ensures),
 )
 
-pub send::send_first-send-requires : goal.send::send_first-send-requires
-send::send_first-send-requires g t c κs within =
+pub send::send_first-send-next-requires : goal.send::send_first-send-next-requires
+send::send_first-send-next-requires g t c κs within =
     let band = slice_index_or c.loop-place.bands c.loop-place.place c.index-bands-place.result in
     let at = band-at c.args.now c.args.bands.now c.loop-place.bands c.loop-place.place c.loop-place.shown c.loop-place.invariant.0 c.index-bands-place.result c.loop-place-test.true in
     let once = band-once c.args.now c.args.bands.now c.loop-place.bands c.loop-place.place c.loop-place.shown c.requires.ready c.loop-place.invariant.0 band at (g.S.Sink.losses c.args.sink.now) (g.S.Sink.losses c.loop-place.sink) (g.S.Sink.room c.args.sink.now) (g.S.Sink.room c.loop-place.sink) c.loop-place.invariant.1 c.requires.sink in
-    (omega (arith, child-size c.args.bands.now c.loop-place.place band at, c.decreases), (within, (once.ready, once.sink)))
+    (omega (arith, child-size c.args.bands.now c.loop-place.place band at, c.decreases), (within, (once.ready, (once.sink, refl))))
 
 pub send::send_first-then-shown-requires-clause-dropped_packets : goal.send::send_first-then-shown-requires-clause-dropped_packets
 send::send_first-then-shown-requires-clause-dropped_packets g t c =
     let band = slice_index_or c.loop-place.bands c.loop-place.place c.index-bands-place.result in
     let at = band-at c.args.now c.args.bands.now c.loop-place.bands c.loop-place.place c.loop-place.shown c.loop-place.invariant.0 c.index-bands-place.result c.loop-place-test.true in
     let once = band-once c.args.now c.args.bands.now c.loop-place.bands c.loop-place.place c.loop-place.shown c.requires.ready c.loop-place.invariant.0 band at (g.S.Sink.losses c.args.sink.now) (g.S.Sink.losses c.loop-place.sink) (g.S.Sink.room c.args.sink.now) (g.S.Sink.room c.loop-place.sink) c.loop-place.invariant.1 c.requires.sink in
-    (fits-beside c.args.now band c.loop-place.shown c.send.result (g.S.Sink.room c.loop-place.sink) once c.send.ensures.shown).dropped_packets
+    (fits-beside c.args.now band c.loop-place.shown c.send-next.result (g.S.Sink.room c.loop-place.sink) once c.send-next.ensures.shown).dropped_packets
 
 pub send::send_first-then-shown-requires-clause-dropped_bytes : goal.send::send_first-then-shown-requires-clause-dropped_bytes
 send::send_first-then-shown-requires-clause-dropped_bytes g t c =
     let band = slice_index_or c.loop-place.bands c.loop-place.place c.index-bands-place.result in
     let at = band-at c.args.now c.args.bands.now c.loop-place.bands c.loop-place.place c.loop-place.shown c.loop-place.invariant.0 c.index-bands-place.result c.loop-place-test.true in
     let once = band-once c.args.now c.args.bands.now c.loop-place.bands c.loop-place.place c.loop-place.shown c.requires.ready c.loop-place.invariant.0 band at (g.S.Sink.losses c.args.sink.now) (g.S.Sink.losses c.loop-place.sink) (g.S.Sink.room c.args.sink.now) (g.S.Sink.room c.loop-place.sink) c.loop-place.invariant.1 c.requires.sink in
-    (fits-beside c.args.now band c.loop-place.shown c.send.result (g.S.Sink.room c.loop-place.sink) once c.send.ensures.shown).dropped_bytes
+    (fits-beside c.args.now band c.loop-place.shown c.send-next.result (g.S.Sink.room c.loop-place.sink) once c.send-next.ensures.shown).dropped_bytes
 
 pub send::send_first-then-shown-requires-clause-marked_packets : goal.send::send_first-then-shown-requires-clause-marked_packets
 send::send_first-then-shown-requires-clause-marked_packets g t c =
     let band = slice_index_or c.loop-place.bands c.loop-place.place c.index-bands-place.result in
     let at = band-at c.args.now c.args.bands.now c.loop-place.bands c.loop-place.place c.loop-place.shown c.loop-place.invariant.0 c.index-bands-place.result c.loop-place-test.true in
     let once = band-once c.args.now c.args.bands.now c.loop-place.bands c.loop-place.place c.loop-place.shown c.requires.ready c.loop-place.invariant.0 band at (g.S.Sink.losses c.args.sink.now) (g.S.Sink.losses c.loop-place.sink) (g.S.Sink.room c.args.sink.now) (g.S.Sink.room c.loop-place.sink) c.loop-place.invariant.1 c.requires.sink in
-    (fits-beside c.args.now band c.loop-place.shown c.send.result (g.S.Sink.room c.loop-place.sink) once c.send.ensures.shown).marked_packets
+    (fits-beside c.args.now band c.loop-place.shown c.send-next.result (g.S.Sink.room c.loop-place.sink) once c.send-next.ensures.shown).marked_packets
 
 pub send::send_first-then-shown-requires-clause-marked_bytes : goal.send::send_first-then-shown-requires-clause-marked_bytes
 send::send_first-then-shown-requires-clause-marked_bytes g t c =
     let band = slice_index_or c.loop-place.bands c.loop-place.place c.index-bands-place.result in
     let at = band-at c.args.now c.args.bands.now c.loop-place.bands c.loop-place.place c.loop-place.shown c.loop-place.invariant.0 c.index-bands-place.result c.loop-place-test.true in
     let once = band-once c.args.now c.args.bands.now c.loop-place.bands c.loop-place.place c.loop-place.shown c.requires.ready c.loop-place.invariant.0 band at (g.S.Sink.losses c.args.sink.now) (g.S.Sink.losses c.loop-place.sink) (g.S.Sink.room c.args.sink.now) (g.S.Sink.room c.loop-place.sink) c.loop-place.invariant.1 c.requires.sink in
-    (fits-beside c.args.now band c.loop-place.shown c.send.result (g.S.Sink.room c.loop-place.sink) once c.send.ensures.shown).marked_bytes
+    (fits-beside c.args.now band c.loop-place.shown c.send-next.result (g.S.Sink.room c.loop-place.sink) once c.send-next.ensures.shown).marked_bytes
+
+pub send::send_first-then-shown-requires-clause-so_far : goal.send::send_first-then-shown-requires-clause-so_far
+send::send_first-then-shown-requires-clause-so_far g t c = c.loop-place.invariant.4
+
+pub send::send_first-then-shown-requires-clause-toll : goal.send::send_first-then-shown-requires-clause-toll
+send::send_first-then-shown-requires-clause-toll g t c = c.send-next.ensures.toll
 
 pub send::send_first-returns-then-has_packet-clause-after : goal.send::send_first-returns-then-has_packet-clause-after
 send::send_first-returns-then-has_packet-clause-after g t c =
     let band = slice_index_or c.loop-place.bands c.loop-place.place c.index-bands-place.result in
     let at = band-at c.args.now c.args.bands.now c.loop-place.bands c.loop-place.place c.loop-place.shown c.loop-place.invariant.0 c.index-bands-place.result c.loop-place-test.true in
-    let same = ap (λ (s : Shown). s.packet) c.then-shown.ensures in
-    let some = given-some c.then-shown.result.packet c.loop-place.out c.send.new.out (sym c.if-has_packet.ensures) (c.send.ensures.packet ∙ ap (λ o. unwrap_or o c.loop-place.out) (sym same)) in
-    let gone = c.send.ensures.after ∙ ap (λ (w : Worked). booked kept band w) (left-some c.args.now band c.send.new.out (sym c.send.ensures.shown.packet ∙ sym same ∙ some)) in
-    band-sent c.args.now c.args.bands.now c.loop-place.bands c.loop-place.place c.loop-place.shown c.requires.ready c.loop-place.invariant.0 band at c.send.new.self c.send.result c.then-shown.result c.send.new.out gone c.send.ensures.arrived c.send.ensures.shown
-    (ap (λ (s : Shown). s.dropped) c.then-shown.ensures) (ap (λ (s : Shown). s.marked) c.then-shown.ensures) same some
+    let same = ap (λ (s : Shown). s.packet) c.then-shown.ensures.asked in
+    let some = given-some c.then-shown.result.packet c.loop-place.out c.send-next.new.out (sym c.if-has_packet.ensures) (c.send-next.ensures.packet ∙ ap (λ o. unwrap_or o c.loop-place.out) (sym same)) in
+    let gone = c.send-next.ensures.after ∙ ap (λ (w : Worked). booked kept band w) (left-some c.args.now band c.send-next.new.out (sym c.send-next.ensures.shown.packet ∙ sym same ∙ some)) in
+    band-sent c.args.now c.args.bands.now c.loop-place.bands c.loop-place.place c.loop-place.shown c.requires.ready c.loop-place.invariant.0 band at c.send-next.new.self c.send-next.result c.then-shown.result c.send-next.new.out gone c.send-next.ensures.arrived c.send-next.ensures.shown
+    (ap (λ (s : Shown). s.dropped) c.then-shown.ensures.asked) (ap (λ (s : Shown). s.marked) c.then-shown.ensures.asked) same some
 
 pub send::send_first-returns-then-has_packet-clause-told : goal.send::send_first-returns-then-has_packet-clause-told
 send::send_first-returns-then-has_packet-clause-told g t c =
     let band = slice_index_or c.loop-place.bands c.loop-place.place c.index-bands-place.result in
     let at = band-at c.args.now c.args.bands.now c.loop-place.bands c.loop-place.place c.loop-place.shown c.loop-place.invariant.0 c.index-bands-place.result c.loop-place-test.true in
-    let same = ap (λ (s : Shown). s.packet) c.then-shown.ensures in
-    let some = given-some c.then-shown.result.packet c.loop-place.out c.send.new.out (sym c.if-has_packet.ensures) (c.send.ensures.packet ∙ ap (λ o. unwrap_or o c.loop-place.out) (sym same)) in
-    let gone = c.send.ensures.after ∙ ap (λ (w : Worked). booked kept band w) (left-some c.args.now band c.send.new.out (sym c.send.ensures.shown.packet ∙ sym same ∙ some)) in
-    λ own. subst (λ notes. IsToldOf notes (g.S.Sink.losses c.args.sink.now) (g.S.Sink.losses c.send.new.sink) (g.S.Sink.room c.args.sink.now) (g.S.Sink.room c.send.new.sink))
-    (sent-rises c.args.now c.args.bands.now c.loop-place.bands c.loop-place.place c.loop-place.shown c.requires.ready c.loop-place.invariant.0 band at c.send.new.self c.send.result c.then-shown.result c.send.new.out gone c.send.ensures.arrived c.send.ensures.shown
-    (ap (λ (s : Shown). s.dropped) c.then-shown.ensures) (ap (λ (s : Shown). s.marked) c.then-shown.ensures) same some own)
-    (told-then (told_to c.loop-place.place (answers c.args.now c.args.bands.now)) (ask c.args.now (shape band)).rises (g.S.Sink.losses c.args.sink.now) (g.S.Sink.losses c.loop-place.sink) (g.S.Sink.losses c.send.new.sink)
-    (g.S.Sink.room c.args.sink.now) (g.S.Sink.room c.loop-place.sink) (g.S.Sink.room c.send.new.sink) c.loop-place.invariant.1 (record { lost = c.send.ensures.lost; room_taken = c.send.ensures.room }))
+    let same = ap (λ (s : Shown). s.packet) c.then-shown.ensures.asked in
+    let some = given-some c.then-shown.result.packet c.loop-place.out c.send-next.new.out (sym c.if-has_packet.ensures) (c.send-next.ensures.packet ∙ ap (λ o. unwrap_or o c.loop-place.out) (sym same)) in
+    let gone = c.send-next.ensures.after ∙ ap (λ (w : Worked). booked kept band w) (left-some c.args.now band c.send-next.new.out (sym c.send-next.ensures.shown.packet ∙ sym same ∙ some)) in
+    λ own. subst (λ notes. IsToldOf notes (g.S.Sink.losses c.args.sink.now) (g.S.Sink.losses c.send-next.new.sink) (g.S.Sink.room c.args.sink.now) (g.S.Sink.room c.send-next.new.sink))
+    (sent-rises c.args.now c.args.bands.now c.loop-place.bands c.loop-place.place c.loop-place.shown c.requires.ready c.loop-place.invariant.0 band at c.send-next.new.self c.send-next.result c.then-shown.result c.send-next.new.out gone c.send-next.ensures.arrived c.send-next.ensures.shown
+    (ap (λ (s : Shown). s.dropped) c.then-shown.ensures.asked) (ap (λ (s : Shown). s.marked) c.then-shown.ensures.asked) same some own)
+    (told-then (told_to c.loop-place.place (answers c.args.now c.args.bands.now)) (ask c.args.now (shape band)).rises (g.S.Sink.losses c.args.sink.now) (g.S.Sink.losses c.loop-place.sink) (g.S.Sink.losses c.send-next.new.sink)
+    (g.S.Sink.room c.args.sink.now) (g.S.Sink.room c.loop-place.sink) (g.S.Sink.room c.send-next.new.sink) c.loop-place.invariant.1 (record { lost = c.send-next.ensures.lost; room_taken = c.send-next.ensures.room }))
 
 pub send::send_first-returns-then-has_packet-clause-kept : goal.send::send_first-returns-then-has_packet-clause-kept
 send::send_first-returns-then-has_packet-clause-kept g t c =
-    g.met.S.Sink.keeps_on c.args.sink.now c.loop-place.sink c.send.new.sink c.loop-place.invariant.2 c.send.ensures.kept
+    g.met.S.Sink.keeps_on c.args.sink.now c.loop-place.sink c.send-next.new.sink c.loop-place.invariant.2 c.send-next.ensures.kept
 
 pub send::send_first-returns-then-has_packet-clause-packet : goal.send::send_first-returns-then-has_packet-clause-packet
 send::send_first-returns-then-has_packet-clause-packet g t c =
-    let same = ap (λ (s : Shown). s.packet) c.then-shown.ensures in
-    c.send.ensures.packet ∙ ap (λ o. unwrap_or o c.loop-place.out) (sym same) ∙ ap (unwrap_or c.then-shown.result.packet) c.loop-place.invariant.3
+    let same = ap (λ (s : Shown). s.packet) c.then-shown.ensures.asked in
+    c.send-next.ensures.packet ∙ ap (λ o. unwrap_or o c.loop-place.out) (sym same) ∙ ap (unwrap_or c.then-shown.result.packet) c.loop-place.invariant.3
 
 pub send::send_first-loop-place-preserved : goal.send::send_first-loop-place-preserved
 send::send_first-loop-place-preserved g t c =
     let band = slice_index_or c.loop-place.bands c.loop-place.place c.index-bands-place.result in
     let at = band-at c.args.now c.args.bands.now c.loop-place.bands c.loop-place.place c.loop-place.shown c.loop-place.invariant.0 c.index-bands-place.result c.loop-place-test.true in
-    let same = ap (λ (s : Shown). s.packet) c.then-shown.ensures in
-    let none = given-none c.then-shown.result.packet c.loop-place.out c.send.new.out (sym c.if-has_packet.ensures) (c.send.ensures.packet ∙ ap (λ o. unwrap_or o c.loop-place.out) (sym same)) in
-    let stays = c.send.ensures.after ∙ ap (λ (w : Worked). booked kept band w) (left-none c.args.now band (sym c.send.ensures.shown.packet ∙ sym same ∙ none.0)) in (
-      subst (λ n. AreBandsAsked c.args.now c.args.bands.now (set c.loop-place.bands c.loop-place.place c.send.new.self) n c.then-shown.result) (sym (add-one c.loop-place.place))
-          (band-passed c.args.now c.args.bands.now c.loop-place.bands c.loop-place.place c.loop-place.shown c.requires.ready c.loop-place.invariant.0 band at c.send.new.self c.send.result c.then-shown.result stays c.send.ensures.arrived c.send.ensures.shown
-          (ap (λ (s : Shown). s.dropped) c.then-shown.ensures) (ap (λ (s : Shown). s.marked) c.then-shown.ensures) same (sym c.if-has_packet.ensures)),
-      subst (λ n. IsToldOf (told_to n (answers c.args.now c.args.bands.now)) (g.S.Sink.losses c.args.sink.now) (g.S.Sink.losses c.send.new.sink) (g.S.Sink.room c.args.sink.now) (g.S.Sink.room c.send.new.sink)) (sym (add-one c.loop-place.place))
-          (subst (λ notes. IsToldOf notes (g.S.Sink.losses c.args.sink.now) (g.S.Sink.losses c.send.new.sink) (g.S.Sink.room c.args.sink.now) (g.S.Sink.room c.send.new.sink))
+    let same = ap (λ (s : Shown). s.packet) c.then-shown.ensures.asked in
+    let none = given-none c.then-shown.result.packet c.loop-place.out c.send-next.new.out (sym c.if-has_packet.ensures) (c.send-next.ensures.packet ∙ ap (λ o. unwrap_or o c.loop-place.out) (sym same)) in
+    let stays = c.send-next.ensures.after ∙ ap (λ (w : Worked). booked kept band w) (left-none c.args.now band (sym c.send-next.ensures.shown.packet ∙ sym same ∙ none.0)) in (
+      subst (λ n. AreBandsAsked c.args.now c.args.bands.now (set c.loop-place.bands c.loop-place.place c.send-next.new.self) n c.then-shown.result) (sym (add-one c.loop-place.place))
+          (band-passed c.args.now c.args.bands.now c.loop-place.bands c.loop-place.place c.loop-place.shown c.requires.ready c.loop-place.invariant.0 band at c.send-next.new.self c.send-next.result c.then-shown.result stays c.send-next.ensures.arrived c.send-next.ensures.shown
+          (ap (λ (s : Shown). s.dropped) c.then-shown.ensures.asked) (ap (λ (s : Shown). s.marked) c.then-shown.ensures.asked) same (sym c.if-has_packet.ensures)),
+      subst (λ n. IsToldOf (told_to n (answers c.args.now c.args.bands.now)) (g.S.Sink.losses c.args.sink.now) (g.S.Sink.losses c.send-next.new.sink) (g.S.Sink.room c.args.sink.now) (g.S.Sink.room c.send-next.new.sink)) (sym (add-one c.loop-place.place))
+          (subst (λ notes. IsToldOf notes (g.S.Sink.losses c.args.sink.now) (g.S.Sink.losses c.send-next.new.sink) (g.S.Sink.room c.args.sink.now) (g.S.Sink.room c.send-next.new.sink))
           (band-told c.args.now c.args.bands.now c.loop-place.bands c.loop-place.place c.loop-place.shown c.requires.ready c.loop-place.invariant.0 band at)
-          (told-then (told_to c.loop-place.place (answers c.args.now c.args.bands.now)) (ask c.args.now (shape band)).rises (g.S.Sink.losses c.args.sink.now) (g.S.Sink.losses c.loop-place.sink) (g.S.Sink.losses c.send.new.sink)
-          (g.S.Sink.room c.args.sink.now) (g.S.Sink.room c.loop-place.sink) (g.S.Sink.room c.send.new.sink) c.loop-place.invariant.1 (record { lost = c.send.ensures.lost; room_taken = c.send.ensures.room }))),
-      g.met.S.Sink.keeps_on c.args.sink.now c.loop-place.sink c.send.new.sink c.loop-place.invariant.2 c.send.ensures.kept,
+          (told-then (told_to c.loop-place.place (answers c.args.now c.args.bands.now)) (ask c.args.now (shape band)).rises (g.S.Sink.losses c.args.sink.now) (g.S.Sink.losses c.loop-place.sink) (g.S.Sink.losses c.send-next.new.sink)
+          (g.S.Sink.room c.args.sink.now) (g.S.Sink.room c.loop-place.sink) (g.S.Sink.room c.send-next.new.sink) c.loop-place.invariant.1 (record { lost = c.send-next.ensures.lost; room_taken = c.send-next.ensures.room }))),
+      g.met.S.Sink.keeps_on c.args.sink.now c.loop-place.sink c.send-next.new.sink c.loop-place.invariant.2 c.send-next.ensures.kept,
       none.1 ∙ c.loop-place.invariant.3,
+      c.then-shown.ensures.toll,
     )
 
 pub send::send_first-returns-clause-after : goal.send::send_first-returns-clause-after
@@ -153,10 +162,14 @@ node::Discipline::send-returns-in-Fifo-clause-after g t c =
     (c.dequeue_head.ensures.shown ∙ sym (slice_get-map (λ (s : Stamped). s.packet) c.in-Fifo.fifo.packets 0))
     c.dequeue_head.ensures.dropped c.dequeue_head.ensures.marked
 
+pub node::Discipline::send-returns-in-Fifo-clause-toll : goal.node::Discipline::send-returns-in-Fifo-clause-toll
+node::Discipline::send-returns-in-Fifo-clause-toll g t c =
+    c.requires.clean ∙ sym (toll-nothing c.dequeue_head.result c.dequeue_head.ensures.dropped c.dequeue_head.ensures.marked)
+
 pub node::Discipline::send-send_first-requires : goal.node::Discipline::send-send_first-requires
 node::Discipline::send-send_first-requires g t c κs within =
     let kids = c.deref_mut.ensures.value ∙ sym (ap children_seen c.in-Prio.is) in
-    (omega (arith, ap (λ xs. forest_size (side_by_side xs)) kids, c.decreases), (within, (each-of c.args.now c.args.self.now c.deref_mut.result.now c.requires.ready kids, omega (arith, c.requires.sink, room-of c.args.self.now c.deref_mut.result.now kids))))
+    (omega (arith, ap (λ xs. forest_size (side_by_side xs)) kids, c.decreases), (within, (each-of c.args.now c.args.self.now c.deref_mut.result.now c.requires.ready kids, (omega (arith, c.requires.sink, room-of c.args.self.now c.deref_mut.result.now kids), c.requires.clean))))
 
 pub node::Discipline::send-returns-in-Prio-clause-after : goal.node::Discipline::send-returns-in-Prio-clause-after
 node::Discipline::send-returns-in-Prio-clause-after g t c =
@@ -194,7 +207,7 @@ node::Discipline::send-returns-in-Tbf-clause-told g t c = λ handle filters.
 pub node::Discipline::send-dequeue_class-requires : goal.node::Discipline::send-dequeue_class-requires
 node::Discipline::send-dequeue_class-requires g t c =
     let kids = c.deref_mut-in-Drr.ensures.value ∙ sym (ap children_seen c.in-Drr.is) in
-    (record { ready = serve-of c.args.now c.args.self.now c.in-Drr.active c.deref_mut-in-Drr.result.now c.requires.ready (ap discipline_seen c.in-Drr.is) kids; sink = omega (arith, c.requires.sink, room-of c.args.self.now c.deref_mut-in-Drr.result.now kids) })
+    (record { ready = serve-of c.args.now c.args.self.now c.in-Drr.active c.deref_mut-in-Drr.result.now c.requires.ready (ap discipline_seen c.in-Drr.is) kids; sink = omega (arith, c.requires.sink, room-of c.args.self.now c.deref_mut-in-Drr.result.now kids); clean = c.requires.clean })
 
 pub node::Discipline::send-returns-in-Drr-clause-after :
     goal.node::Discipline::send-returns-in-Drr-clause-after
@@ -217,7 +230,7 @@ pub node::Discipline::send-dequeue_flow-requires :
     goal.node::Discipline::send-dequeue_flow-requires
 node::Discipline::send-dequeue_flow-requires g t c =
     let is = ap discipline_seen c.in-FqCodel.is ∙ ap (λ (q : FqView). spec.FqCodel q.state) (sym c.deref_mut-in-FqCodel.ensures.value) in
-    omega (arith, c.requires.sink, own-room c.args.self.now, flow-packets c.args.self.now c.deref_mut-in-FqCodel.result.now.state is)
+    record { sink = omega (arith, c.requires.sink, own-room c.args.self.now, flow-packets c.args.self.now c.deref_mut-in-FqCodel.result.now.state is); clean = c.requires.clean }
 
 pub node::Discipline::send-returns-in-FqCodel-clause-after :
     goal.node::Discipline::send-returns-in-FqCodel-clause-after
@@ -264,7 +277,7 @@ node::Node::send-send-shown-requires g t c κs within = (
     within,
     (
       can-in c.args.now c.self.inside c.args.self.now c.self.invariant c.self.view_is c.requires.ready (omega (arith, c.self.ranges)) (omega (arith, c.self.ranges)),
-      enough c.args.now c.self.inside c.args.self.now c.self.invariant c.self.view_is c.requires.ready (g.S.Sink.room c.args.sink.now) c.requires.sink,
+      (enough c.args.now c.self.inside c.args.self.now c.self.invariant c.self.view_is c.requires.ready (g.S.Sink.room c.args.sink.now) c.requires.sink, c.requires.clean),
     ),
   ),
 )

@@ -1,6 +1,7 @@
 use Rattle.std.proofs.Common.{◌∙◌, sym, ap}
 use Rattle.std.specs.Prelude.{unwrap_or}
 use Rattle.q_bucket.specs.Level.{allows}
+use Rattle.q_tree.specs.AskSteps.{toll_of}
 use Rattle.q_tree.specs.Shown.{Shown}
 use Rattle.q_tree.proofs.AtHandLemmas.{shown-len}
 use Rattle.q_tree.proofs.Peeks.{hand-asked, tbf-gave, tbf-none}
@@ -29,3 +30,6 @@ returns-in_default-clause-packet g c = ap (λ o. unwrap_or o c.args.out.now) (sy
 
 pub returns-then-not-spend-clause-packet : goal.returns-then-not-spend-clause-packet
 returns-then-not-spend-clause-packet g c = ap (λ (s : Shown). unwrap_or s.packet c.args.out.now) (sym c.showing.ensures)
+
+pub returns-then-not-spend-clause-toll : goal.returns-then-not-spend-clause-toll
+returns-then-not-spend-clause-toll g c = c.peek-shown.ensures.toll ∙ sym (ap toll_of c.showing.ensures)

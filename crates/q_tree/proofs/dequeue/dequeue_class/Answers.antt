@@ -6,7 +6,7 @@ use Rattle.q_drr.specs.Schedule.{turned, quantum_of}
 use Rattle.q_drr.specs.Take.{need}
 use Rattle.q_drr.proofs.TakeLemmas.{front_is, front_quantum, covers, falls_short, empty_front, measure_falls}
 use Rattle.q_model.specs.Pop.{pop}
-use Rattle.q_tree.specs.AskSteps.{IsGivenBy}
+use Rattle.q_tree.specs.AskSteps.{IsGivenBy, toll_of}
 use Rattle.q_tree.specs.Shown.{Shown}
 use Rattle.q_tree.proofs.AtHandLemmas.{shown-len}
 use Rattle.q_tree.proofs.ServeLemmas.{AreClassesAsked, SinkTold, heads_of, classes-start, front-at, nobody-at, class-in-front, place-within, class-once, class-shown, short-enough, nothing-schedule, nothing-asked, nothing-told, offered-head, given-packet, given-schedule, given-asked, given-told, classes-go-on, idle-schedule, idle-asked, idle-told}
@@ -18,6 +18,7 @@ loop-place-init g c = (
       (record { dropped = ap (λ (s : Shown). s.dropped) c.at_hand-shown.ensures; marked = ap (λ (s : Shown). s.marked) c.at_hand-shown.ensures }),
   g.met.S.Sink.keeps_same c.args.sink.now,
   refl,
+  c.requires.clean ∙ sym (ap toll_of c.at_hand-shown.ensures),
 )
 
 pub offset_bounds-classes-place : goal.offset_bounds-classes-place
@@ -42,7 +43,7 @@ ask_class-shown-requires g c =
     let at = front-at c.loop-place.active c.in-Some.place (sym c.in-Some.is ∙ c.front_place.ensures.place) in
     let front = front_is at.class c.loop-place.active at.front in
     let place = class-in-front c.args.now c.args.active.now c.loop-place.active c.args.classes.now c.loop-place.classes c.loop-place.unasked c.loop-place.shown told c.requires.ready c.loop-place.invariant.0 at.class c.front_place.ensures.lawful front c.in-Some.place at.found in
-    record { ready = λ some. class-once c.args.now c.args.active.now c.loop-place.active c.args.classes.now c.loop-place.classes c.loop-place.unasked c.loop-place.shown told c.requires.ready c.loop-place.invariant.0 at.class c.front_place.ensures.lawful front c.in-Some.place place c.index-classes-place.result some c.requires.sink }
+    record { ready = λ some. class-once c.args.now c.args.active.now c.loop-place.active c.args.classes.now c.loop-place.classes c.loop-place.unasked c.loop-place.shown told c.requires.ready c.loop-place.invariant.0 at.class c.front_place.ensures.lawful front c.in-Some.place place c.index-classes-place.result some c.requires.sink; counted = c.loop-place.invariant.3 }
 
 pub returns-in_default-packet_len-clause-active : goal.returns-in_default-packet_len-clause-active
 returns-in_default-packet_len-clause-active g c =
@@ -206,6 +207,7 @@ loop-place-preserved g c =
           c.ask_class-shown.new.class c.ask_class-shown.result (g.S.Sink.losses c.ask_class-shown.new.sink) (g.S.Sink.room c.ask_class-shown.new.sink) class_shows offer.0 offer.1 short c.saturating_sub-unasked.result c.saturating_sub-unasked.ensures),
       g.met.S.Sink.keeps_on c.args.sink.now c.loop-place.sink c.ask_class-shown.new.sink c.loop-place.invariant.1 c.ask_class-shown.ensures.kept,
       c.loop-place.invariant.2,
+      c.ask_class-shown.ensures.toll,
     )
 
 pub returns-clause-active : goal.returns-clause-active
@@ -229,3 +231,6 @@ returns-clause-told g c =
 
 pub returns-clause-kept : goal.returns-clause-kept
 returns-clause-kept g c = c.loop-place.invariant.1
+
+pub returns-clause-toll : goal.returns-clause-toll
+returns-clause-toll g c = sym (ap toll_of c.at_hand.ensures)

@@ -11,6 +11,7 @@ use Rattle.q_model.specs.declared.totals.Totals.{Totals}
 use Rattle.q_model.specs.Beneath as beneath
 use Rattle.q_model.specs.Beneath.{totals_in}
 use Rattle.q_tree.specs.Arrivals.{minus}
+use Rattle.q_tree.specs.AskSteps.{toll_of}
 use Rattle.q_tree.specs.Shown.{Shown}
 use Rattle.q_tree.proofs.Rows.{same-totals}
 use Rattle.q_tree.proofs.GivenInto.{none-dropped, none-there, sent-some, sent-none}
@@ -83,3 +84,12 @@ returns-then-not-sent-clause-shown g c =
 
 pub returns-then-not-sent-clause-packet : goal.returns-then-not-sent-clause-packet
 returns-then-not-sent-clause-packet g c = ap (λ (s : Shown). unwrap_or s.packet c.args.out.now) (sym c.sending.ensures)
+
+pub returns-then-sent-eq0-clause-toll : goal.returns-then-sent-eq0-clause-toll
+returns-then-sent-eq0-clause-toll g c = c.requires.clean ∙ sym (ap toll_of c.at_hand.ensures)
+
+pub returns-then-not-sent-clause-toll : goal.returns-then-not-sent-clause-toll
+returns-then-not-sent-clause-toll g c = sym (ap toll_of c.sending.ensures)
+
+pub returns-clause-toll : goal.returns-clause-toll
+returns-clause-toll g c = sym (ap toll_of c.sending-2.ensures)

@@ -7,6 +7,7 @@ use Rattle.q_model.specs.declared.totals.Totals.{Totals}
 use Rattle.q_model.specs.Beneath as beneath
 use Rattle.q_model.specs.Beneath.{totals_in}
 use Rattle.q_tree.specs.Arrivals.{minus}
+use Rattle.q_tree.specs.AskSteps.{toll_of}
 use Rattle.q_tree.specs.Shown.{Shown}
 use Rattle.q_tree.proofs.Rows.{same-totals}
 use Rattle.q_tree.proofs.TakeCounts.{counted-take, packet_of, marked_of, flow-shown, nothing-taken}
@@ -50,3 +51,9 @@ returns-clause-shown g c =
     (omega (arith, take.packets, ap (λ o. length (option_to_list (packet_of o))) sent, c.queued-packets.ensures.packets, c.queued-packets_after.ensures.packets, ap (λ (s : FqState). packets_of s.flows) c.take-taken.ensures.after, ap (λ (t : Totals). t.packets) c.one_packet-one.ensures))
     (omega (arith, take.bytes, ap (λ o. (totals_in (option_to_list (packet_of o))).bytes) sent, sum_by-cons (λ (p : Descriptor). p.len) c.in-Some.taken.packet [], c.queued-packets.ensures.bytes, c.queued-packets_after.ensures.bytes, ap (λ (s : FqState). bytes_of s.flows) c.take-taken.ensures.after, ap (λ (t : Totals). t.bytes) c.one_packet-one.ensures)))
     (ap (λ (s : Shown). s.marked) c.new.ensures ∙ c.marked_by.ensures ∙ sym (ap marked_of sent))
+
+pub returns-in_default-clause-toll : goal.returns-in_default-clause-toll
+returns-in_default-clause-toll g c = c.requires.clean ∙ sym (ap toll_of c.at_hand.ensures)
+
+pub returns-clause-toll : goal.returns-clause-toll
+returns-clause-toll g c = sym (ap toll_of c.new.ensures)

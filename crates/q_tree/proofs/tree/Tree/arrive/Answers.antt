@@ -1,7 +1,6 @@
-use Rattle.std.proofs.Common.{◌≡◌, ◌≤◌, ◌+◌, ◌^◌, ◌∙◌, ◌++◌, length, refl, sym, ap, subst, arith}
+use Rattle.std.proofs.Common.{◌≤◌, ◌^◌, ◌∙◌, ◌++◌, length, sym, ap, subst, arith}
 use Rattle.std.proofs.lemmas.Bool.{false≢true}
 use Rattle.q_packet.specs.Descriptor.{Descriptor}
-use Rattle.q_codel.specs.declared.loss.Loss.{Loss}
 use Rattle.q_model.specs.Beneath.{beneath}
 use Rattle.q_model.specs.Node.{shape}
 use Rattle.q_model.specs.Route.{device_route}
@@ -12,6 +11,7 @@ use Rattle.q_tree.specs.Arrivals.{CanCount}
 use Rattle.q_tree.specs.Kept.{Kept}
 use Rattle.q_tree.specs.Places.{places_at}
 use Rattle.q_tree.specs.RouteSeen.{route_seen}
+use Rattle.q_tree.specs.declared.outcome.Outcome.{Outcome}
 use Rattle.q_tree.specs.TreeSeen.{CanArrive, numbers, tree_numbers, tree_seen}
 use Rattle.q_tree.proofs.Arriving.{on-err}
 use Rattle.q_tree.proofs.TreeArrivals.{can-come, place-there, placed-indexed, placed-keeps, placed-numbers, told-tree, tree-after, tree-indexed, tree-loss, tree-lost, tree-places}
@@ -66,7 +66,7 @@ returns-clause-fate g c =
     let low : c.args.now ≤ 2 ^ 62 = omega (arith, c.ns.ensures.in_range, c.ns.ensures.value) in
     let byte : 1 ≤ c.args.packet.now.len = omega (arith, c.packet.invariant.0, ap (λ (p : Descriptor). p.len) c.packet.view_is) in
     let room : CanCount c.self.inside.top.arrived c.args.packet.now = record { packets = omega (arith, c.if-arrived.false, c.self.ranges); bytes = omega (arith, c.if-arrived-from.false, c.from.ensures, c.from.type_inv, ap (λ (p : Descriptor). p.len) c.packet.view_is) } in
-    c.fate_of.ensures ∙ ap fate_of c.loss.ensures ∙ ap fate_of (tree-loss c.self.inside c.self.invariant c.args.now c.args.packet.now later low byte room c.in_ok-outcome.outcome c.arrive_below.new.root c.in_ok-outcome.ensures.after) ∙ ap (λ (d : DeviceState Kept). fate_of (own_loss c.args.now c.args.packet.now d.tree.device (shape d.tree.root))) c.self.view_is
+    c.fate_of.ensures ∙ ap (λ (o : Outcome). fate_of o.loss) c.in_ok-outcome.ensures.lost_is ∙ ap fate_of (tree-loss c.self.inside c.self.invariant c.args.now c.args.packet.now later low byte room c.in_ok-outcome.outcome c.arrive_below.new.root c.in_ok-outcome.ensures.after) ∙ ap (λ (d : DeviceState Kept). fate_of (own_loss c.args.now c.args.packet.now d.tree.device (shape d.tree.root))) c.self.view_is
 
 pub returns-clause-after : goal.returns-clause-after
 returns-clause-after g c =

@@ -1,0 +1,46 @@
+ghost use Rattle.std.specs.Prelude.{◌≡◌, ◌<◌, ◌+◌, ◌^◌, true};
+ghost use Rattle.q_tree.specs.AskSteps.{no_toll};
+ghost use Rattle.q_tree.specs.Arrivals.{plus};
+
+use crate::booking::{NOTHING, sum};
+use q_model::Totals;
+
+/// What CoDel dropped and marked while nodes were asked.
+#[derive(Clone, Copy)]
+pub(crate) struct Toll {
+    pub(crate) dropped: Totals,
+    pub(crate) marked: Totals,
+}
+
+/// Nothing was dropped, and nothing was marked.
+pub(crate) const NO_TOLL: Toll = Toll {
+    dropped: NOTHING,
+    marked: NOTHING,
+};
+
+impl Toll {
+    /// Whether nothing was dropped and nothing was marked.
+    #[inline(always)]
+    pub(crate) fn is_nothing(&self) -> bool
+        ensures { result ≡ true → self.now ≡ no_toll }
+    {
+        self.dropped.packets == 0
+            && self.dropped.bytes == 0
+            && self.marked.packets == 0
+            && self.marked.bytes == 0
+    }
+
+    /// Adds what asking one more node came to.
+    #[cold]
+    #[inline(never)]
+    pub(crate) fn add(&mut self, next: &Toll)
+        requires dropped_packets { self.old.dropped.packets + next.now.dropped.packets < 2 ^ 64 }
+        requires dropped_bytes { self.old.dropped.bytes + next.now.dropped.bytes < 2 ^ 64 }
+        requires marked_packets { self.old.marked.packets + next.now.marked.packets < 2 ^ 64 }
+        requires marked_bytes { self.old.marked.bytes + next.now.marked.bytes < 2 ^ 64 }
+        ensures { self.new ≡ record { dropped = plus self.old.dropped next.now.dropped; marked = plus self.old.marked next.now.marked } }
+    {
+        self.dropped = sum(self.dropped, next.dropped);
+        self.marked = sum(self.marked, next.marked);
+    }
+}
