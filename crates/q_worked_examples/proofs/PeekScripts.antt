@@ -1,5 +1,5 @@
 -- What a peek leaves of a tree, and what the calls show of it one by one: a node, a class of it, a filter of it.
-use Rattle.std.proofs.Common.{◌≡◌, ℕ, ◌*◌, List, [], ◌∷◌, ◌++◌, refl}
+use Rattle.std.proofs.Common.{◌≡◌, ℕ, ◌*◌, List, [], ◌∷◌, refl}
 use Rattle.std.specs.Prelude.{Option, Some, None, map}
 use Rattle.q_model.specs.declared.class_kind.ClassKind.TheVariants as kind
 use Rattle.q_model.specs.declared.filter_view.FilterView.{FilterView}
