@@ -3,6 +3,7 @@
 use qtree::{Count, Drain, Error, Gauge, OfferError, Packet, Place, Port, Row, Settings};
 use std::sync::atomic::{AtomicBool, Ordering};
 use std::thread;
+use std::time::Duration;
 
 const SENDERS: u32 = 64;
 
@@ -15,12 +16,17 @@ fn packet(len: u16, buf: u32) -> Packet {
     Packet::builder(len).buf(buf).build()
 }
 
+/// Leaves the processor to the other threads.
+fn rest() {
+    thread::sleep(Duration::from_micros(50));
+}
+
 /// Places so many packets, each again until the ring has room; the share of the port.
 fn send(mut port: Port, count: u64) -> Count {
     for buf in 0..count as u32 {
         while let Err(error) = port.offer(&packet(100 + port.index() as u16, buf)) {
             assert_eq!(error, OfferError::Full);
-            thread::yield_now();
+            rest();
         }
     }
     port.share()
@@ -36,6 +42,7 @@ fn watch(gauge: &Gauge, has_ended: &AtomicBool) -> Row {
         assert_eq!(row.arrived.bytes, left.iter().map(|it| it.bytes).sum());
         assert!(row.arrived.packets >= last.arrived.packets && row.sent.bytes >= last.sent.bytes);
         last = row;
+        rest();
     }
     last
 }
@@ -55,8 +62,11 @@ fn drain_all(drain: &mut Drain) -> Result<Count, Error> {
             total.packets += 1;
             total.bytes += u64::from(packet.len());
         }
-        if are_closed && turn.taken == 0 && turn.sent == 0 {
-            return Ok(total);
+        if turn.taken == 0 && turn.sent == 0 {
+            if are_closed {
+                return Ok(total);
+            }
+            rest();
         }
     }
 }
