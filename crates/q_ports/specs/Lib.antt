@@ -9,5 +9,7 @@ pub mod Rings
 pub mod Rows
 pub mod Rules
 pub mod Stopped
+pub mod TakenAt
+pub mod TakenIn
 pub mod Turned
 pub mod Views

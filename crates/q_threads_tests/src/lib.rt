@@ -17,4 +17,6 @@ mod readiness;
 #[cfg(test)]
 mod refused;
 #[cfg(test)]
+mod rings;
+#[cfg(test)]
 mod senders;
