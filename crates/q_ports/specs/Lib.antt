@@ -3,8 +3,10 @@ pub mod Driven
 pub mod Events
 pub mod Held
 pub mod Offered
+pub mod Opened
 pub mod Placed
 pub mod Polls
+pub mod PortRanges
 pub mod Rings
 pub mod Rows
 pub mod Rules
