@@ -7,8 +7,7 @@ use Rattle.std.specs.List.{fold}
 use Rattle.q_packet.specs.Descriptor.{Descriptor}
 use Rattle.q_model.specs.declared.event.Event.TheVariants.{Arrive}
 use Rattle.q_device.specs.DeviceSeen.{DeviceSeen, Memory}
-use Rattle.q_ports.specs.declared.received.Received.{Received}
-use Rattle.q_ports.specs.Collected.{received_one, arrived_one, Collects, HasReceived}
+use Rattle.q_ports.specs.Collected.{Received, received_one, arrived_one, Collects, HasReceived}
 use Rattle.q_ports.specs.Events.{with_memory}
 use Rattle.q_ports.specs.Rings.{RingSeen, received_from}
 use Rattle.q_ports.specs.Stopped.{HasNoRoomForNext, Stops}

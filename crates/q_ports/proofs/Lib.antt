@@ -9,3 +9,4 @@ pub mod Prefixes
 pub mod RingLemmas
 pub mod Rising
 pub mod SettleLemmas
+pub mod TakeInLemmas

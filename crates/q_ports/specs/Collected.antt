@@ -5,8 +5,12 @@ use Rattle.std.specs.List.{fold}
 use Rattle.q_packet.specs.Descriptor.{Descriptor}
 use Rattle.q_model.specs.declared.event.Event.TheVariants.{Arrive}
 use Rattle.q_device.specs.DeviceSeen.{DeviceSeen}
-use Rattle.q_ports.specs.declared.received.Received.{Received}
 use Rattle.q_ports.specs.Events.{after_event, with_memory}
+
+-- a packet that was taken, and the ring that it came from
+pub record Received : Type 0 where
+  pub ring : ℕ
+  pub packet : Descriptor
 
 abbrev pub take : ℕ → Descriptor → Received
 take ring p = record { ring = ring; packet = p }

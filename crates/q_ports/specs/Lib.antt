@@ -3,11 +3,15 @@ pub mod Driven
 pub mod Events
 pub mod Held
 pub mod Offered
+pub mod Opened
 pub mod Placed
 pub mod Polls
+pub mod PortRanges
 pub mod Rings
 pub mod Rows
 pub mod Rules
 pub mod Stopped
+pub mod TakenAt
+pub mod TakenIn
 pub mod Turned
 pub mod Views

@@ -1,6 +1,6 @@
 -- A port: its index, its ring, and what it placed there, in order.
 -- The fields `port` and `number` of a placed packet are the port's own. Nothing here is of a standard.
-use Rattle.std.specs.Prelude.{◌≡◌, ℕ, ◌+◌, List, [], ◌∷◌, ◌++◌, length, sum_by}
+use Rattle.std.specs.Prelude.{◌≡◌, ℕ, ◌+◌, ◌<◌, ◌^◌, List, [], ◌∷◌, ◌++◌, length, sum_by}
 use Rattle.std.specs.declared.alloc.Global.{Global}
 use denote.RawPtr.{Ptr}
 use Rattle.rtrb.specs.declared.producer.Producer.{Producer}
@@ -58,6 +58,10 @@ placing v p = record v { placed = v.placed ++ written v p ∷ [] }
 -- the bytes of a list of packets
 abbrev pub bytes_in : List Descriptor → ℕ
 bytes_in packets = sum_by (λ (p : Descriptor). p.len) packets
+
+-- so many packets, and so many bytes, that 64 bits count them
+abbrev pub IsCountable : List Descriptor → Type 0
+IsCountable packets = (length packets < 2 ^ 64) × (bytes_in packets < 2 ^ 64)
 
 -- packets and bytes over several lists
 abbrev pub share_of : List (List Descriptor) → Totals

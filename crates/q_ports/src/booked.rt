@@ -1,4 +1,4 @@
-ghost use Rattle.std.specs.Prelude.{ℕ, ◌≡◌, ◌<◌, ◌≤◌, ◌^◌, true, None, IfNone, IfSome, IsSome, Ok, IsOk, IfOk, OnOk, OnErr, IfErr, slice_get};
+ghost use Rattle.std.specs.Prelude.{ℕ, ◌≡◌, ◌<◌, ◌≤◌, ◌^◌, true, None, IfNone, IfSome, IsSome, Ok, IsOk, IfOk, OnOk, OnErr, IfErr, slice_get, unwrap_or};
 ghost use Rattle.q_model.specs.Conserved.{IsBalanced};
 ghost use Rattle.q_model.specs.Tally.{no_totals};
 ghost use Rattle.q_model.specs.TreeState.{given, stats};
@@ -6,6 +6,7 @@ ghost use Rattle.q_model.specs.Tally.{totals};
 ghost use Rattle.q_model.specs.declared.event.Event.TheVariants as event;
 ghost use Rattle.q_model.specs.declared.reply.Reply.TheVariants as reply;
 ghost use Rattle.q_device.specs.DeviceSeen.{polled_memory, reaped, HasRoomFor, IsRefusal};
+ghost use Rattle.q_device.specs.Giving.{polled_in};
 ghost use Rattle.q_tree.specs.Commanding.{MayTakeMemory};
 ghost use Rattle.q_tree.specs.ReadyAt.{is_sure, ready_at};
 ghost use Rattle.q_ports.specs.Events.{after_event, device_row, reply_to, with_memory};
@@ -13,7 +14,7 @@ ghost use Rattle.q_ports.specs.Held.{booking, held};
 
 use crate::seat::Seat;
 use q_device::laws::device_is_lawful;
-use q_device::{Command, Device, Event, Fate, Lost, Place, Polled, Refusal, Row};
+use q_device::{Command, Device, Event, Fate, Given, Lost, Place, Polled, Refusal, Row};
 use q_packet::{Moment, Packet};
 use std::alloc::AllocError;
 use std::marker::Model;
@@ -69,7 +70,7 @@ impl<P: Ledger, B: Ledger> Booked<P, B> {
         (booked, seat)
     }
 
-    /// A packet arrives, as at [`Device::arrive`], and is booked with the seat. It is the only way in.
+    /// A packet arrives, as at [`Device::arrive`], and is booked with the seat. It and [`Booked::arrive_at`] are the only ways in.
     ///
     /// # Errors
     ///
@@ -88,7 +89,31 @@ impl<P: Ledger, B: Ledger> Booked<P, B> {
         ensures back { IfErr result (λ refused. refused.0 ≡ packet) }
         ensures succeeds { HasRoomFor packet self.old → IsOk result }
     {
-        let fate = self.device.arrive(packet, now)?;
+        match self.arrive_at(seat, &packet, now) {
+            Ok(fate) => Ok(fate),
+            Err(refused) => Err((packet, refused)),
+        }
+    }
+
+    /// [`Booked::arrive`] of a packet that stays where it is, as at [`Device::arrive_at`].
+    ///
+    /// # Errors
+    ///
+    /// `AllocError` where [`Device::arrive_at`] gives it. Nothing has changed then but for places.
+    pub fn arrive_at(
+        &mut self,
+        seat: &mut Seat<P, B>,
+        packet: &Packet,
+        now: Moment,
+    ) -> Result<Fate, AllocError>
+        ensures event { OnOk result (self.new ≡ with_memory self.new.memory (after_event (event.Arrive packet.now now) self.old)) }
+        ensures fate { IfOk result (λ fate. reply.Fate fate ≡ reply_to (event.Arrive packet.now now) self.old) }
+        ensures seat { OnOk result (seat.new ≡ booking seat.old packet.now) }
+        ensures same { OnErr result (self.new ≡ with_memory self.new.memory self.old) }
+        ensures same_seat { OnErr result (seat.new ≡ seat.old) }
+        ensures succeeds { HasRoomFor packet.now self.old → IsOk result }
+    {
+        let fate = self.device.arrive_at(packet, now)?;
         self.packets.add(&mut seat.packets, 1);
         self.bytes.add(&mut seat.bytes, u64::from(packet.len));
         Ok(fate)
@@ -101,6 +126,16 @@ impl<P: Ledger, B: Ledger> Booked<P, B> {
         ensures reply { reply.Polled result ≡ reply_to (event.Poll now) self.old }
     {
         self.device.poll(now)
+    }
+
+    /// [`Booked::poll`] into the caller's place, as [`Device::poll_into`]: `out` stays as it is where no packet is given.
+    pub fn poll_into(&mut self, now: Moment, out: &mut Packet) -> Given
+        ensures event { self.new ≡ with_memory self.new.memory (after_event (event.Poll now) self.old) }
+        ensures memory { self.new.memory ≡ polled_memory self.new.device.clock self.old.memory }
+        ensures reply { reply.Polled (polled_in out.new result) ≡ reply_to (event.Poll now) self.old }
+        ensures packet { out.new ≡ unwrap_or (given self.new.device.clock self.old.device.tree) out.old }
+    {
+        self.device.poll_into(now, out)
     }
 
     /// The moment before which no poll gives a packet, as [`Device::ready_at`].

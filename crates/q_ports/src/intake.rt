@@ -1,19 +1,18 @@
 ghost use Rattle.std.specs.Prelude.{◌≡◌, ◌≢◌, ◌≤◌, ◌<◌, ℕ, true, false, [], length, get_or, map, replicate, IfOk, IfSome, IfNone, OnOk, OnErr};
-ghost use Rattle.q_model.specs.declared.event.Event.TheVariants as event;
-ghost use Rattle.q_ports.specs.Collected.{arrived_one, received_one, take, Collects, CollectsOnly, CollectsSome};
+ghost use Rattle.q_ports.specs.Collected.{Collects, CollectsOnly, CollectsSome};
 ghost use Rattle.q_ports.specs.Held.{held};
-ghost use Rattle.q_ports.specs.Events.{after_event, with_memory};
+ghost use Rattle.q_ports.specs.Events.{with_memory};
 ghost use Rattle.q_ports.specs.Placed.{placed_by, ring_of_port, share_of};
-ghost use Rattle.q_ports.specs.Rings.{all_of, ring_id, received_from, ring_seen, AreEmptyWithin, AreSameFrom, AreSeenEmpty, Looks, LooksBeside, Receives, RingSeen};
+ghost use Rattle.q_ports.specs.Rings.{all_of, ring_id, received_from, ring_seen, AreEmptyWithin, AreSameFrom, AreSeenEmpty, Looks, LooksBeside, RingSeen};
 ghost use Rattle.q_ports.specs.Stopped.{HasNoRoomForNext, Stops, StopsSome};
+ghost use Rattle.q_ports.specs.TakenAt.{TakesAt, TakesKnown};
 
 use crate::booked::Booked;
+use crate::countable::PacketConsumer;
 use crate::port::Port;
-use crate::received::Received;
 use crate::seat::Seat;
 use crate::settled::Settled;
-use q_packet::{Moment, Packet};
-use rtrb::Consumer;
+use q_packet::Moment;
 use std::alloc::AllocError;
 use std::marker::Model;
 use std::sync::ledger::Ledger;
@@ -24,7 +23,7 @@ use std::sync::ledger::Ledger;
 #[derive(Drop)]
 pub struct Intake<P: Ledger, B: Ledger> {
     seat: Seat<P, B>,
-    rings: Vec<Consumer<Packet>>,
+    rings: Vec<PacketConsumer>,
     /// The ring after the one that a packet was taken from last.
     next: usize,
 }
@@ -42,7 +41,7 @@ impl<P: Ledger, B: Ledger> Model for Intake<P, B> {
 
 impl<P: Ledger, B: Ledger> Intake<P, B> {
     /// The ends of rings from which nothing was received, with a whole seat.
-    pub(crate) fn new(seat: Seat<P, B>, rings: Vec<Consumer<Packet>>) -> Intake<P, B>
+    pub(crate) fn new(seat: Seat<P, B>, rings: Vec<PacketConsumer>) -> Intake<P, B>
         requires seat { seat ≡ held 65 0 0 }
         requires count { (1 ≤ length rings.items) × (length rings.items ≤ 64) }
         requires received { map received_from (map ring_seen rings.items) ≡ replicate (length rings.items) [] }
@@ -77,65 +76,64 @@ impl<P: Ledger, B: Ledger> Intake<P, B> {
         at: usize,
         booked: &mut Booked<P, B>,
         now: Moment,
-    ) -> Result<Packet, AllocError>
+    ) -> Result<(), AllocError>
         requires at { at < length self.old }
         requires known { (d : RingSeen) → 0 < length (get_or self.old at d).known }
-        ensures taken { IfOk result (λ p. Receives at self.old self.new p) }
-        ensures arrived { IfOk result (λ p. booked.new ≡ with_memory booked.new.memory (after_event (event.Arrive p now) booked.old)) }
+        ensures taken { OnOk result (TakesKnown at now self.old self.new booked.old booked.new) }
         ensures same { OnErr result (self.new ≡ self.old) }
         ensures same_device { OnErr result (booked.new ≡ with_memory booked.new.memory booked.old) }
         ensures refused { OnErr result (HasNoRoomForNext booked.old self.new) }
     {
         let Intake { seat, rings, .. } = self;
         let ring = &mut rings[at];
-        let packet = *ring.peek_known();
-        let Ok(_) = booked.arrive(seat, packet, now) else {
+        let packet = ring.peek_known();
+        let Ok(_) = booked.arrive_at(seat, packet, now) else {
             return Err(AllocError);
         };
         ring.pop_known();
-        Ok(packet)
+        Ok(())
     }
 
-    // Takes a packet from a ring, if one waits there.
+    // Takes a packet from a ring, if one waits there, and answers whether it did.
     fn take_at(
         &mut self,
         at: usize,
         booked: &mut Booked<P, B>,
         now: Moment,
-    ) -> Result<Option<Packet>, AllocError>
+    ) -> Result<bool, AllocError>
         requires at { at < length self.old }
         ensures rings { map ring_id self.new ≡ map ring_id self.old }
         ensures others { (k : ℕ) (d : RingSeen) → k ≢ at → get_or self.new k d ≡ get_or self.old k d }
-        ensures some { IfOk result (λ taken. IfSome taken (λ p. map received_from self.new ≡ received_one (map received_from self.old) (take at p))) }
-        ensures arrived { IfOk result (λ taken. IfSome taken (λ p. booked.new ≡ with_memory booked.new.memory (arrived_one now booked.old (take at p)))) }
-        ensures none { IfOk result (λ taken. IfNone taken (map received_from self.new ≡ map received_from self.old)) }
-        ensures empty { IfOk result (λ taken. IfNone taken ((d : RingSeen) → (get_or self.new at d).known ≡ [])) }
-        ensures none_device { IfOk result (λ taken. IfNone taken (booked.new ≡ booked.old)) }
+        ensures some { IfOk result (λ taken. taken ≡ true → TakesAt at now (map received_from self.old) (map received_from self.new) booked.old booked.new) }
+        ensures none { IfOk result (λ taken. taken ≡ false → map received_from self.new ≡ map received_from self.old) }
+        ensures empty { IfOk result (λ taken. taken ≡ false → (d : RingSeen) → (get_or self.new at d).known ≡ []) }
+        ensures none_device { IfOk result (λ taken. taken ≡ false → booked.new ≡ booked.old) }
         ensures err { OnErr result (map received_from self.new ≡ map received_from self.old) }
         ensures err_device { OnErr result (booked.new ≡ with_memory booked.new.memory booked.old) }
         ensures refused { OnErr result (HasNoRoomForNext booked.old self.new) }
     {
         if self.is_empty(at) {
-            return Ok(None);
+            return Ok(false);
         }
-        let packet = self.take_known(at, booked, now)?;
-        Ok(Some(packet))
+        match self.take_known(at, booked, now) {
+            Ok(()) => Ok(true),
+            Err(error) => Err(error),
+        }
     }
 
-    // Takes a packet from the first of some rings in which one waits.
+    // Takes a packet from the first of some rings in which one waits, and answers which ring that was.
     fn take_within(
         &mut self,
         from: usize,
         to: usize,
         booked: &mut Booked<P, B>,
         now: Moment,
-    ) -> Result<Option<Received>, AllocError>
+    ) -> Result<Option<usize>, AllocError>
         requires { to ≤ length self.old }
         ensures rings { map ring_id self.new ≡ map ring_id self.old }
         ensures others { AreSameFrom to self.old self.new }
-        ensures ring { IfOk result (λ taken. IfSome taken (λ t. t.ring < length self.old)) }
-        ensures some { IfOk result (λ taken. IfSome taken (λ t. map received_from self.new ≡ received_one (map received_from self.old) t)) }
-        ensures arrived { IfOk result (λ taken. IfSome taken (λ t. booked.new ≡ with_memory booked.new.memory (arrived_one now booked.old t))) }
+        ensures ring { IfOk result (λ taken. IfSome taken (λ at. at < length self.old)) }
+        ensures some { IfOk result (λ taken. IfSome taken (λ at. TakesAt at now (map received_from self.old) (map received_from self.new) booked.old booked.new)) }
         ensures none { IfOk result (λ taken. IfNone taken (map received_from self.new ≡ map received_from self.old)) }
         ensures empty { IfOk result (λ taken. IfNone taken (AreEmptyWithin from to self.new)) }
         ensures none_device { IfOk result (λ taken. IfNone taken (booked.new ≡ booked.old)) }
@@ -145,8 +143,8 @@ impl<P: Ledger, B: Ledger> Intake<P, B> {
     {
         for at in from..to {
             match self.take_at(at, booked, now) {
-                Ok(Some(packet)) => return Ok(Some(Received { ring: at, packet })),
-                Ok(None) => {}
+                Ok(true) => return Ok(Some(at)),
+                Ok(false) => {}
                 Err(error) => return Err(error),
             }
         }
@@ -169,16 +167,16 @@ impl<P: Ledger, B: Ledger> Intake<P, B> {
         self.next = if ring + 1 < count { ring + 1 } else { 0 };
     }
 
-    // Takes a packet from the first ring in which one waits, from the one after the ring that was taken from last.
+    // Takes a packet from the first ring in which one waits, from the one after the ring that was taken from last, and answers which
+    // ring that was.
     fn take_next(
         &mut self,
         booked: &mut Booked<P, B>,
         now: Moment,
-    ) -> Result<Option<Received>, AllocError>
+    ) -> Result<Option<usize>, AllocError>
         ensures rings { map ring_id self.new ≡ map ring_id self.old }
-        ensures ring { IfOk result (λ taken. IfSome taken (λ t. t.ring < length self.old)) }
-        ensures some { IfOk result (λ taken. IfSome taken (λ t. map received_from self.new ≡ received_one (map received_from self.old) t)) }
-        ensures arrived { IfOk result (λ taken. IfSome taken (λ t. booked.new ≡ with_memory booked.new.memory (arrived_one now booked.old t))) }
+        ensures ring { IfOk result (λ taken. IfSome taken (λ at. at < length self.old)) }
+        ensures some { IfOk result (λ taken. IfSome taken (λ at. TakesAt at now (map received_from self.old) (map received_from self.new) booked.old booked.new)) }
         ensures none { IfOk result (λ taken. IfNone taken (map received_from self.new ≡ map received_from self.old)) }
         ensures empty { IfOk result (λ taken. IfNone taken (AreSeenEmpty self.new)) }
         ensures none_device { IfOk result (λ taken. IfNone taken (booked.new ≡ booked.old)) }
@@ -189,17 +187,17 @@ impl<P: Ledger, B: Ledger> Intake<P, B> {
         let start = self.start();
         let count = self.count();
         match self.take_within(start, count, booked, now) {
-            Ok(Some(taken)) => {
-                self.go_on_after(taken.ring);
-                return Ok(Some(taken));
+            Ok(Some(at)) => {
+                self.go_on_after(at);
+                return Ok(Some(at));
             }
             Ok(None) => {}
             Err(error) => return Err(error),
         }
         match self.take_within(0, start, booked, now) {
-            Ok(Some(taken)) => {
-                self.go_on_after(taken.ring);
-                Ok(Some(taken))
+            Ok(Some(at)) => {
+                self.go_on_after(at);
+                Ok(Some(at))
             }
             Ok(None) => Ok(None),
             Err(error) => Err(error),

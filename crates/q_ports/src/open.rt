@@ -1,18 +1,19 @@
 ghost use Rattle.std.specs.Prelude.{◌≡◌, ◌≤◌, ◌<◌, ℕ, [], length, get_or, map, replicate, All, IfOk, IfErr};
 ghost use Rattle.q_packet.specs.Descriptor.{Descriptor};
 ghost use Rattle.q_ports.specs.Held.{held};
-ghost use Rattle.q_ports.specs.Placed.{placed_by, ring_of_port, HasRing, PortSeen};
+ghost use Rattle.q_ports.specs.Placed.{placed_by, port_seen, ring_of_port, HasRing, PortSeen};
 ghost use Rattle.q_ports.specs.Rings.{received_from, ring_id, ring_seen};
 ghost use Rattle.q_ports.specs.Rows.{new_gauge, shown_on, GaugeSeen};
 
+use crate::countable::{Countable, PacketConsumer};
 use crate::drain::Drain;
 use crate::gauge::Gauge;
 use crate::intake::Intake;
+use crate::outlet::Outlet;
 use crate::port::Port;
 use crate::publisher::Publisher;
 use crate::seat::Seat;
-use q_packet::Packet;
-use rtrb::{Consumer, RingBuffer};
+use rtrb::RingBuffer;
 use std::alloc::{AllocError, Global};
 use std::sync::Wait;
 use std::sync::ledger::Ledger;
@@ -57,12 +58,28 @@ pub fn open_ports<P: Ledger, B: Ledger, R: Wait>(
     Ok((Drain { intake, publisher }, ports, gauges))
 }
 
+/// A ring by itself, of so many packets, 1 to 65536: a port with this index, at which nothing was placed, and the other end, from which
+/// nothing was taken in.
+///
+/// # Errors
+///
+/// `AllocError` where memory is refused.
+pub fn open_ring(alloc: Global, index: u32, places: usize) -> Result<(Port, Outlet), AllocError>
+    requires { (1 ≤ places) × (places ≤ 65536) }
+    ensures port { IfOk result (λ r. r.0 ≡ port_seen index r.1.ring []) }
+    ensures places { IfOk result (λ r. HasRing places r.0) }
+    ensures outlet { IfOk result (λ r. (r.1.received ≡ []) × (r.1.known ≡ [])) }
+{
+    let (producer, consumer) = RingBuffer::with_protocol::<Global, Countable>(alloc, places)?;
+    Ok((Port::new(index, producer), Outlet::new(consumer)))
+}
+
 // Both ends of so many rings.
 fn make_rings(
     alloc: Global,
     count: usize,
     ring: usize,
-) -> Result<(Vec<Consumer<Packet>>, Vec<Port>), AllocError>
+) -> Result<(Vec<PacketConsumer>, Vec<Port>), AllocError>
     requires { count ≤ 64 }
     ensures ports { IfOk result (λ r. map ring_of_port r.1.items ≡ map ring_id (map ring_seen r.0.items)) }
     ensures count { IfOk result (λ r. (length r.0.items ≡ count) × (length r.1.items ≡ count)) }
@@ -74,7 +91,7 @@ fn make_rings(
     let mut rings = Vec::with_capacity(alloc, count)?;
     let mut ports = Vec::with_capacity(alloc, count)?;
     for index in 0..count {
-        match RingBuffer::new(alloc, ring) {
+        match RingBuffer::with_protocol::<Global, Countable>(alloc, ring) {
             Ok((producer, consumer)) => {
                 ports.push_reserved(Port::new(index as u32, producer));
                 rings.push_reserved(consumer);

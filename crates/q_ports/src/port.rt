@@ -1,13 +1,13 @@
-ghost use Rattle.std.specs.Prelude.{◌≡◌, ◌≤◌, ◌+◌, ◌^◌, ◌++◌, ◌⊎◌, [], length, OnOk, OnErr, IfErr, IfSome, IfNone};
+ghost use Rattle.std.specs.Prelude.{◌≡◌, ◌<◌, ◌≤◌, ◌+◌, ◌^◌, ◌++◌, ◌⊎◌, [], length, OnOk, OnErr, IfErr, IfSome, IfNone};
 ghost use Rattle.q_model.specs.Beneath.{totals_in};
 ghost use Rattle.q_model.specs.Tally.{with_packet};
 ghost use Rattle.q_ports.specs.Placed.{bytes_in, placed_by, placing, port_seen, ring_at, ring_length, ring_of, ring_of_port, HasRing};
 ghost use Rattle.rtrb.specs.Ring.{known_items, producer_capacity, received, sent, ConsumerLooked};
 
+use crate::countable::{PacketConsumer, PacketProducer};
 use crate::full::Full;
 use q_device::Totals as Share;
 use q_packet::Packet;
-use rtrb::{Consumer, Producer};
 use std::marker::Model;
 
 /// A sender's end of its ring. It may move to a thread of its own.
@@ -16,7 +16,7 @@ use std::marker::Model;
 #[derive(Drop)]
 pub struct Port {
     index: u32,
-    ring: Producer<Packet>,
+    ring: PacketProducer,
     /// What it placed.
     share: Share,
 }
@@ -36,7 +36,7 @@ impl Model for Port {
 
 impl Port {
     /// A port of a ring in which nothing was placed.
-    pub(crate) fn new(index: u32, ring: Producer<Packet>) -> Port
+    pub(crate) fn new(index: u32, ring: PacketProducer) -> Port
         requires { sent ring ≡ [] }
         ensures port { result ≡ port_seen index (ring_of ring) [] }
         ensures length { HasRing (producer_capacity ring) result }
@@ -86,7 +86,7 @@ impl Port {
     }
 
     // Looks at the ring with both ends in hand: all that was placed and not received is then known to wait.
-    pub(crate) fn look(&mut self, ring: &mut Consumer<Packet>)
+    pub(crate) fn look(&mut self, ring: &mut PacketConsumer)
         requires { ring_of_port self.old ≡ ring_at ring.old }
         ensures same { self.new ≡ self.old }
         ensures looked { ConsumerLooked ring.old ring.new }
@@ -106,6 +106,7 @@ impl Port {
 // What was placed, with a packet more; `None` where a count would overflow.
 fn with_packet(share: &Share, packet: &Packet) -> Option<Share>
     ensures some { IfSome result (λ s. s ≡ with_packet share.now packet.now) }
+    ensures countable { IfSome result (λ s. (share.now.packets + 1 < 2 ^ 64) × (share.now.bytes + packet.now.len < 2 ^ 64)) }
     ensures none { IfNone result ((2 ^ 64 ≤ share.now.packets + 1) ⊎ (2 ^ 64 ≤ share.now.bytes + packet.now.len)) }
 {
     Some(Share {

@@ -1,7 +1,5 @@
 ghost use Rattle.std.specs.Prelude.{◌≡◌, ◌≤◌, [], length, map, vec_capacity, IfOk, IfSome, IfNone, OnOk, OnErr};
-ghost use Rattle.q_device.specs.Laws.{given_in};
 ghost use Rattle.q_model.specs.Conserved.{IsBalanced};
-ghost use Rattle.q_model.specs.declared.reply.Reply.TheVariants as reply;
 ghost use Rattle.q_ports.specs.Events.{device_row, with_memory};
 ghost use Rattle.q_ports.specs.Polls.{given_by, polled};
 ghost use Rattle.q_ports.specs.Rings.{ring_id};
@@ -12,11 +10,30 @@ use crate::booked::Booked;
 use crate::intake::Intake;
 use crate::publisher::Publisher;
 use crate::told::Told;
-use q_device::Polled;
-use q_packet::{Moment, Packet};
+use q_device::Given;
+use q_packet::{Ecn, FlowKey, Moment, Packet};
 use std::alloc::{AllocError, Global};
 use std::sync::Wait;
 use std::sync::ledger::Ledger;
+
+// What a place has before a packet was written there: any would do.
+const SOME_PACKET: Packet = Packet {
+    key: FlowKey {
+        family: 0,
+        proto: 0,
+        src: 0,
+        dst: 0,
+        sport: 0,
+        dport: 0,
+    },
+    number: 0,
+    port: 0,
+    buf: 0,
+    hash: 0,
+    len: 1,
+    prio: 0,
+    ecn: Ecn::NotEct,
+};
 
 /// What a turn of the drain did.
 #[derive(Drop)]
@@ -77,20 +94,11 @@ fn poll_all<P: Ledger, B: Ledger>(
     ensures few { length sent.new.items ≤ most }
     ensures polled { booked.new ≡ with_memory booked.new.memory (polled most now booked.old) }
 {
+    let mut packet = SOME_PACKET;
     for _poll in 0..most {
-        match given(booked.poll(now)) {
-            Some(packet) => sent.push_reserved(packet),
-            None => return,
+        match booked.poll_into(now, &mut packet) {
+            Given::Packet => sent.push_reserved(packet),
+            Given::Idle | Given::Later => return,
         }
-    }
-}
-
-// The packet that a poll gave, if any.
-fn given(polled: Polled) -> Option<Packet>
-    ensures { result ≡ given_in (reply.Polled polled) }
-{
-    match polled {
-        Polled::Packet(packet) => Some(packet),
-        Polled::Idle | Polled::Later => None,
     }
 }

@@ -13,6 +13,8 @@ mod meeting;
 #[cfg(test)]
 mod open_gate;
 #[cfg(test)]
+mod outlets;
+#[cfg(test)]
 mod pair;
 #[cfg(test)]
 mod ports;

@@ -1,5 +1,6 @@
 use Rattle.std.proofs.Common.{◌∙◌, refl, arith, map}
 use Rattle.std.proofs.lemmas.List.{length-map}
+use Rattle.q_ports.specs.Collected.{take}
 use Rattle.q_ports.specs.Rings.{received_from}
 use Rattle.q_ports.proofs.CollectLemmas.{collects-more, collects-none, stops-here}
 use Rattle.q_ports.proofs.intake.Intake.collect.Goals as goal
@@ -9,16 +10,15 @@ loop-taken-init g c = record { rings = refl; collected = collects-none c.args.no
 
 pub loop-taken-preserved : goal.loop-taken-preserved
 loop-taken-preserved g c =
-    let t = c.in-Ok-Some.field-0-0 in
+    let at = c.in-Ok-Some.field-0-0 in
     let before = c.loop-taken.self in
     let ring = rw c.in-Ok-Some.field-0-is at c.in-Ok-Some.ensures.ring in
     let some = rw c.in-Ok-Some.field-0-is at c.in-Ok-Some.ensures.some in
-    let arrived = rw c.in-Ok-Some.field-0-is at c.in-Ok-Some.ensures.arrived in
     record {
       rings = c.take_next.ensures.rings ∙ c.loop-taken.invariant.rings;
       collected =
-          collects-more c.args.now (map received_from c.args.self.now) (map received_from before) (map received_from c.take_next.new.self) c.args.booked.now c.loop-taken.booked c.take_next.new.booked c.loop-taken.taken t
-          c.loop-taken.invariant.collected (omega (arith, ring, length-map before received_from)) some arrived;
+          collects-more c.args.now (map received_from c.args.self.now) (map received_from before) (map received_from c.take_next.new.self) c.args.booked.now c.loop-taken.booked c.take_next.new.booked c.loop-taken.taken (take at some.packet)
+          c.loop-taken.invariant.collected (omega (arith, ring, length-map before received_from)) some.received some.arrived;
       first = λ e. absurd (omega (arith, e));
     }
 

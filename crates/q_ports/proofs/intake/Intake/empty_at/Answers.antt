@@ -27,8 +27,8 @@ pub loop-left-preserved : goal.loop-left-preserved
 loop-left-preserved g c =
     let before = c.loop-left.self in
     let after = c.take_known.new.self in
-    let p = c.in-Ok.field-0 in
-    let taken = c.in-Ok.ensures.taken in
+    let p = c.in-Ok.ensures.taken.packet in
+    let taken = c.in-Ok.ensures.taken.receives in
     let inv = c.loop-left.invariant in
     let here : c.args.at < length before = omega (arith, ids-length c.args.self.now before inv.rings, c.requires) in
     record {
@@ -38,7 +38,7 @@ loop-left-preserved g c =
       left = λ d. let one = ap (λ (ks : List Descriptor). length ks) (receives-known c.args.at before after p taken here d) in omega (arith, one, inv.left d);
       collected =
           collects-more c.args.now (map received_from c.args.self.now) (map received_from before) (map received_from after) c.args.booked.now c.loop-left.booked c.take_known.new.booked c.loop-left._left (take c.args.at p)
-          inv.collected (omega (arith, here, length-map before received_from)) (receives-received c.args.at before after p taken here) c.in-Ok.ensures.arrived;
+          inv.collected (omega (arith, here, length-map before received_from)) (receives-received c.args.at before after p taken here) c.in-Ok.ensures.taken.arrived;
       same = λ e. absurd (omega (arith, e));
     }
 

@@ -4,16 +4,16 @@ use Rattle.q_model.specs.Step.{step}
 use Rattle.q_model.specs.Tally.{totals}
 use Rattle.q_device.specs.DeviceSeen.{DeviceSeen, with_event}
 use Rattle.q_ports.specs.Events.{after_event, reply_to, with_memory}
-use Rattle.q_ports.proofs.booked.Booked.arrive.Goals as goal
+use Rattle.q_ports.proofs.booked.Booked.arrive_at.Goals as goal
 
 pub returns-clause-event : goal.returns-clause-event
 unfolding after_event
 returns-clause-event g c =
-    let e = event.Arrive c.args.packet c.args.now in
-    c.in_ok-fate.ensures.event ∙ ap (λ (d : DeviceSeen). with_memory c.arrive.new.self.memory (with_event e d)) c.self.view_is
+    let e = event.Arrive c.args.packet.now c.args.now in
+    c.in_ok-fate.ensures.event ∙ ap (λ (d : DeviceSeen). with_memory c.arrive_at.new.self.memory (with_event e d)) c.self.view_is
 
 pub returns-clause-fate : goal.returns-clause-fate
 unfolding reply_to
 returns-clause-fate g c =
-    let e = event.Arrive c.args.packet c.args.now in
+    let e = event.Arrive c.args.packet.now c.args.now in
     c.in_ok-fate.ensures.fate ∙ ap (λ (d : DeviceSeen). (step totals d.device e).reply) c.self.view_is

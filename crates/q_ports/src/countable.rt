@@ -1,0 +1,20 @@
+use q_packet::Packet;
+use rtrb::{Consumer, Producer, Protocol};
+use std::alloc::Global;
+
+/// The rule of a ring: what was placed there can be counted, in packets and in bytes.
+#[derive(Clone, Copy)]
+pub struct Countable;
+
+impl Protocol<Packet> for Countable {
+    ghost use Rattle.std.specs.Prelude.{◌++◌, ◌∷◌, []};
+    ghost use Rattle.q_ports.specs.Placed.{IsCountable};
+
+    ghost allows = { λ before packet. IsCountable (before ++ packet ∷ []) };
+}
+
+/// The end of a ring at which packets are placed.
+pub type PacketProducer = Producer<Packet, Global, Countable>;
+
+/// The end of a ring at which packets are taken.
+pub type PacketConsumer = Consumer<Packet, Global, Countable>;

@@ -1,0 +1,122 @@
+ghost use Rattle.std.specs.Prelude.{◌≡◌, ◌≤◌, ◌<◌, [], true, false, length, OnOk, OnErr};
+ghost use mathlib.Core.List.{IsPrefix};
+ghost use Rattle.q_model.specs.Beneath.{totals_in};
+ghost use Rattle.q_ports.specs.Events.{with_memory};
+ghost use Rattle.q_ports.specs.Rings.{ring_seen, with_known};
+ghost use Rattle.q_ports.specs.TakenIn.{HasNoRoomForFirst, StopsAtFirst, TakesFirst, TakesIn};
+ghost use Rattle.rtrb.specs.Ring.{received};
+
+use crate::countable::PacketConsumer;
+use crate::taken_in::TakenIn;
+use q_device::{Device, Totals as Share};
+use q_packet::Moment;
+use std::alloc::AllocError;
+use std::marker::Model;
+
+/// The other end of one port's ring, for who feeds a device and may not wait. It may move to a thread of its own.
+///
+/// A contract sees it as the record `RingSeen`: its ring, the packets that were taken in, in order, and those that are known to wait.
+#[derive(Drop)]
+pub struct Outlet {
+    ring: PacketConsumer,
+    /// What was taken in.
+    share: Share,
+}
+
+impl Model for Outlet {
+    ghost use Rattle.std.specs.Prelude.{◌≡◌};
+    ghost use Rattle.rtrb.specs.Ring.{received};
+    ghost use Rattle.q_model.specs.Beneath.{totals_in};
+    ghost use Rattle.q_ports.specs.Rings.{ring_seen, RingSeen};
+
+    ghost Value = { RingSeen };
+
+    ghost view = { λ o. ring_seen o.ring };
+
+    ghost invariant = { λ o. o.share ≡ totals_in (received o.ring) };
+}
+
+impl Outlet {
+    /// The end of a ring from which nothing was taken in.
+    pub(crate) fn new(ring: PacketConsumer) -> Outlet
+        requires { received ring ≡ [] }
+        ensures { result ≡ ring_seen ring }
+    {
+        Outlet {
+            ring,
+            share: Share {
+                packets: 0,
+                bytes: 0,
+            },
+        }
+    }
+
+    /// Takes up to `most` packets, oldest first: each arrives at the device at this moment, as by [`Device::arrive_at`], and only then
+    /// leaves the ring. It waits for nobody, and takes memory only as the arrivals do.
+    ///
+    /// Where an arrival is refused memory, its packet stays first in the ring, and nothing more is taken.
+    pub fn take_in(&mut self, device: &mut Device, now: Moment, most: usize) -> TakenIn
+        ensures few { result.taken ≤ most }
+        ensures taken { TakesIn now self.old self.new device.old device.new result.taken }
+        ensures whole { result.memory ≡ false → result.taken < most → self.new.known ≡ [] }
+        ensures stopped { result.memory ≡ true → StopsAtFirst now self.old self.new device.old device.new result.taken }
+    {
+        for taken in 0..most {
+            if self.is_empty() {
+                return TakenIn {
+                    taken,
+                    memory: false,
+                };
+            }
+            match self.take_first(device, now) {
+                Ok(()) => {}
+                Err(_) => {
+                    return TakenIn {
+                        taken,
+                        memory: true,
+                    };
+                }
+            }
+        }
+        TakenIn {
+            taken: most,
+            memory: false,
+        }
+    }
+
+    /// The packets and bytes that were taken in.
+    pub fn share(&self) -> Share
+        ensures { result ≡ totals_in self.now.received }
+    {
+        self.share
+    }
+
+    // Whether nothing waits in the ring.
+    fn is_empty(&mut self) -> bool
+        ensures looked { self.new ≡ with_known self.new.known self.old }
+        ensures longer { IsPrefix self.old.known self.new.known }
+        ensures empty { result ≡ true → self.new.known ≡ [] }
+        ensures some { result ≡ false → 0 < length self.new.known }
+    {
+        self.ring.is_empty()
+    }
+
+    // Lets the first packet that is known to wait arrive, and only then takes it out of the ring.
+    fn take_first(&mut self, device: &mut Device, now: Moment) -> Result<(), AllocError>
+        requires { 0 < length self.old.known }
+        ensures taken { OnOk result (TakesFirst now self.old self.new device.old device.new) }
+        ensures same { OnErr result (self.new ≡ self.old) }
+        ensures same_device { OnErr result (device.new ≡ with_memory device.new.memory device.old) }
+        ensures refused { OnErr result (HasNoRoomForFirst device.old self.old) }
+    {
+        let packet = self.ring.peek_known();
+        let len = u64::from(packet.len);
+        let Ok(_) = device.arrive_at(packet, now) else {
+            return Err(AllocError);
+        };
+        self.ring.pop_known();
+        self.share.packets += 1;
+        self.share.bytes += len;
+        Ok(())
+    }
+}

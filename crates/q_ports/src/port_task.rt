@@ -1,0 +1,33 @@
+use crate::opened_ports::OpenedPorts;
+use crate::port_counts::PortCounts;
+use q_device::Settings;
+use std::alloc::Global;
+use std::sync::Wait;
+use std::sync::ledger::Ledger;
+use std::thread::Threads;
+
+/// What a program does with a device that many senders feed, for [`run_with_ports`](crate::run_with_ports).
+pub trait PortTask: Sized {
+    /// What it gives.
+    type Output;
+
+    /// What is true of what it gives: whatever its own clauses say, or nothing.
+    ghost gives: { Self → Self.Output → Type 0 } = { λ _ _. ⊤ };
+
+    /// Does it. The device is a new one, nothing was placed at a port, and nothing was received; `P` and `B` are the ledgers of the
+    /// device's book.
+    fn run<P: Ledger + Send + Sync, B: Ledger + Send + Sync, R: Threads + Wait + Sync>(
+        self,
+        rt: &R,
+        alloc: Global,
+        settings: Settings,
+        counts: PortCounts,
+        opened: OpenedPorts<P, B>,
+    ) -> Self::Output
+        requires parts { (P.parts ≡ 65) × (B.parts ≡ 65) }
+        requires opened { AreOpened settings counts opened.booked opened.drain opened.ports.items opened.gauges.items }
+        ensures { Self.gives self result };
+
+    ghost use Rattle.std.specs.Prelude.{◌≡◌, ⊤};
+    ghost use Rattle.q_ports.specs.Opened.{AreOpened};
+}

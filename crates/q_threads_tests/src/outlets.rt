@@ -1,0 +1,94 @@
+//! A ring by itself, each end on a thread of its own.
+use crate::common::{device, hundreds, packet};
+use q_device::Device;
+use q_packet::{Moment, Packet};
+use q_ports::{Outlet, Port, TakenIn, open_ring};
+use std::test::Fail;
+use std::thread;
+
+/// How many packets go through the ring.
+const PACKETS: u64 = 1000;
+
+/// How often each end tries before it gives up.
+const TRIES: u64 = 10_000_000;
+
+#[test]
+fn ring_between_threads(rt: HostRuntime) -> Result<(), Fail> {
+    let alloc = rt.alloc();
+    let given = packet(5).ok_or("a packet")?;
+    let fed = device(alloc, 0).ok_or("memory")?;
+    let Ok((port, outlet)) = open_ring(alloc, 3, 4) else {
+        return Err("memory".into());
+    };
+    let (port, (outlet, fed)) = thread::join(
+        &rt,
+        move || offer_all(port, given),
+        move || take_all(outlet, fed),
+    );
+    assert_eq!(rt; port.share(), hundreds(PACKETS));
+    assert_eq!(rt; outlet.share(), hundreds(PACKETS));
+    assert_eq!(rt; fed.totals().arrived, hundreds(PACKETS));
+    Ok(())
+}
+
+// What is refused memory stays in the ring, and the next call takes it in.
+#[test]
+fn ring_keeps_what_was_refused(rt: HostRuntime) -> Result<(), Fail> {
+    let alloc = rt.alloc();
+    let given = packet(5).ok_or("a packet")?;
+    let mut fed = match device(alloc, 0) {
+        Some(device) => device,
+        None => device(alloc, 0).ok_or("memory")?,
+    };
+    let (mut port, mut outlet) = match open_ring(alloc, 3, 4) {
+        Ok(ends) => ends,
+        Err(_) => open_ring(alloc, 3, 4).map_err(|_| "refused twice")?,
+    };
+    for _packet in 0..3 {
+        assert!(rt; port.offer(given).is_ok());
+    }
+    let first = outlet.take_in(&mut fed, Moment::zero(), 2);
+    assert!(rt;
+        first.memory
+            || first
+                == TakenIn {
+                    taken: 2,
+                    memory: false
+                }
+    );
+    let second = outlet.take_in(&mut fed, Moment::zero(), 4);
+    assert_eq!(rt; (first.taken + second.taken, second.memory), (3, false));
+    assert_eq!(rt;
+        (outlet.share(), fed.totals().arrived),
+        (hundreds(3), hundreds(3))
+    );
+    Ok(())
+}
+
+// Offers a packet again and again, until so many were placed.
+fn offer_all(port: Port, given: Packet) -> Port {
+    let mut port = port;
+    for _try in 0..TRIES {
+        if port.share().packets == PACKETS {
+            break;
+        }
+        if port.offer(given).is_err() {
+            thread::yield_now();
+        }
+    }
+    port
+}
+
+// Takes in until so many packets were taken.
+fn take_all(outlet: Outlet, device: Device) -> (Outlet, Device) {
+    let (mut outlet, mut device) = (outlet, device);
+    for _try in 0..TRIES {
+        if outlet.share().packets == PACKETS {
+            break;
+        }
+        if outlet.take_in(&mut device, Moment::zero(), 3).taken == 0 {
+            thread::yield_now();
+        }
+    }
+    (outlet, device)
+}
