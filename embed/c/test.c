@@ -30,6 +30,20 @@ static void layout(void) {
     CHECK(qtree_version() == (QTREE_VERSION_MAJOR << 16 | QTREE_VERSION_MINOR));
 }
 
+static void sizes(void) {
+    static const size_t bytes[] = {
+        sizeof(qtree_device), sizeof(qtree_settings), sizeof(qtree_packet), sizeof(qtree_loss),   sizeof(qtree_row),    sizeof(qtree_event),
+        sizeof(qtree_fault),  sizeof(qtree_count),    sizeof(qtree_port),   sizeof(qtree_outlet), sizeof(qtree_layout),
+    };
+    for (uint32_t what = QTREE_TYPE_DEVICE; what <= QTREE_TYPE_LAYOUT; what++) {
+        CHECK(qtree_size_of(what) == bytes[what]);
+    }
+    CHECK(qtree_size_of(QTREE_TYPE_LAYOUT + 1) == 0 && qtree_size_of(UINT32_MAX) == 0);
+    qtree_fault fault;
+    qtree_sample_fault(&fault);
+    CHECK(fault.word == 1 && fault.number == 2);
+}
+
 static void opening(void) {
     qtree_device device = QTREE_CLOSED;
     qtree_packet packet = { .len = 100 };
@@ -99,9 +113,68 @@ static void packets(qtree_device *device) {
     CHECK(qtree_stats(device, QTREE_CLASS, 1, 2, &row) == QTREE_NOTHING && qtree_stats(device, 3, 0, 0, &row) == QTREE_OUT_OF_RANGE);
 }
 
+static void ring_opening(void) {
+    qtree_port port = QTREE_CLOSED, other = QTREE_CLOSED;
+    qtree_outlet outlet = QTREE_CLOSED, another = QTREE_CLOSED;
+    qtree_packet packet = { .len = 100 };
+    qtree_count share = { 7, 7 };
+    CHECK(qtree_offer(&port, &packet) == QTREE_IS_CLOSED && qtree_port_share(&port, &share) == QTREE_IS_CLOSED);
+    CHECK(qtree_outlet_share(&outlet, &share) == QTREE_IS_CLOSED && share.packets == 7 && share.bytes == 7);
+    CHECK(qtree_ring_open(&port, &outlet, 5, 0) == QTREE_OUT_OF_RANGE);
+    CHECK(qtree_ring_open(&port, &outlet, 5, 65537) == QTREE_OUT_OF_RANGE && port.state == 0 && outlet.state == 0);
+    CHECK(qtree_ring_open(&port, &outlet, 5, 65536) == QTREE_DONE);
+    CHECK(qtree_ring_open(&port, &another, 6, 1) == QTREE_IS_OPEN && another.state == 0);
+    CHECK(qtree_ring_open(&other, &outlet, 6, 0) == QTREE_IS_OPEN && other.state == 0);
+    qtree_port_close(&port);
+    qtree_port_close(&port);
+    CHECK(qtree_offer(&port, &packet) == QTREE_IS_CLOSED);
+    qtree_outlet_close(&outlet);
+    qtree_outlet_close(&outlet);
+    CHECK(qtree_ring_open(&port, &outlet, 5, 1) == QTREE_DONE);
+    qtree_outlet_close(&outlet);
+    CHECK(qtree_offer(&port, &packet) == QTREE_DONE && qtree_offer(&port, &packet) == QTREE_FULL);
+    qtree_port_close(&port);
+}
+
+/* A ring of two: what is placed has the port's index and a number, and waits until the device takes it in. */
+static void rings(void) {
+    qtree_device device = QTREE_CLOSED;
+    qtree_port port = QTREE_CLOSED;
+    qtree_outlet outlet = QTREE_CLOSED;
+    qtree_packet packet = { .len = 100, .buf = 8, .port = 9, .number = 9 };
+    qtree_count share;
+    size_t taken = 7;
+    CHECK(qtree_take_in(&device, &outlet, 0, 9, &taken) == QTREE_IS_CLOSED && taken == 0);
+    CHECK(qtree_open(&device, &(qtree_settings){ 1000, 0, 1514 }) == QTREE_DONE && (taken = 7));
+    CHECK(qtree_take_in(&device, &outlet, 0, 9, &taken) == QTREE_IS_CLOSED && taken == 0);
+    CHECK(tc(&device, "tc qdisc add dev a root handle 1: pfifo limit 2") == QTREE_DONE);
+    CHECK(qtree_ring_open(&port, &outlet, 5, 2) == QTREE_DONE);
+    CHECK(qtree_offer(&port, &packet) == QTREE_DONE && packet.port == 9 && packet.number == 9);
+    packet.prio = 16;
+    CHECK(qtree_offer(&port, &packet) == QTREE_OUT_OF_RANGE);
+    packet.prio = 0;
+    CHECK(qtree_offer(&port, &packet) == QTREE_DONE && qtree_offer(&port, &packet) == QTREE_FULL);
+    CHECK(qtree_take_in(&device, &outlet, QTREE_MOMENT_MAX + 1, 9, &taken) == QTREE_OUT_OF_RANGE && taken == 0);
+    CHECK(qtree_take_in(&device, &outlet, 0, 0, &taken) == QTREE_DONE && taken == 0);
+    CHECK(qtree_take_in(&device, &outlet, 0, 1, &taken) == QTREE_DONE && taken == 1);
+    CHECK(qtree_offer(&port, &packet) == QTREE_DONE && qtree_offer(&port, &packet) == QTREE_FULL);
+    qtree_port_close(&port);
+    CHECK(qtree_take_in(&device, &outlet, 0, 9, &taken) == QTREE_DONE && taken == 2);
+    CHECK(qtree_outlet_share(&outlet, &share) == QTREE_DONE && share.packets == 3 && share.bytes == 300);
+    qtree_loss loss;
+    CHECK(qtree_reap(&device, &loss) == QTREE_DONE && loss.cause == QTREE_LOST_OVER_LIMIT && loss.packet.number == 3);
+    CHECK(qtree_poll(&device, 0, &packet) == QTREE_DONE && packet.port == 5 && packet.number == 1 && packet.buf == 8);
+    CHECK(qtree_poll(&device, 0, &packet) == QTREE_DONE && packet.port == 5 && packet.number == 2);
+    qtree_outlet_close(&outlet);
+    qtree_close(&device);
+}
+
 int main(void) {
     layout();
+    sizes();
     opening();
+    ring_opening();
+    rings();
     qtree_device device = QTREE_CLOSED;
     CHECK(qtree_open(&device, &(qtree_settings){ 1000, 0, 1514 }) == QTREE_DONE);
     commands(&device);

@@ -5,16 +5,18 @@
  *
  *   - Every pointer is aligned, not null, and leads to memory of the program that no other pointer of the same call overlaps.
  *     Where a length is 0 its pointer may be null. A bool is false or true.
- *   - A qtree_device is read and written by these functions alone. It may be moved (copied, the old one never used again), but
- *     of two copies of an open one only one may be used. It is closed before its memory is let go.
- *   - One call at a time uses a qtree_device, calls that only read too. Devices are independent of each other. A device may go
- *     from one thread to another, where a lock, a thread's start or join, or a sequentially consistent atomic orders the calls.
+ *   - A qtree_device, a qtree_port and a qtree_outlet are read and written by these functions alone. Each may be moved (copied, the
+ *     old one never used again), but of two copies of an open one only one may be used. It is closed before its memory is let go.
+ *   - One call at a time uses a qtree_device, a qtree_port or a qtree_outlet, calls that only read too. Each may go from one thread
+ *     to another, where a lock, a thread's start or join, or a sequentially consistent atomic orders the calls. Devices are
+ *     independent of each other. So are the two ends of a ring: one thread may use the port while another uses the outlet. A port
+ *     belongs to one sender, and needs no lock; an outlet is used where its device is, under the lock that guards the device.
  *   - No function is called from a signal handler, or in the child of a fork of a program with threads. A thread that calls
  *     has 64 KB of stack left at least.
  *   - malloc, realloc and free are the C library's or behave as they have to.
  *
- * No function waits, prints, aborts or calls back. A poll and a reap take no memory, and neither do those that read heads,
- * counters and moments.
+ * No function waits, prints, aborts or calls back. An offer, a poll and a reap take no memory, and neither do those that read
+ * heads, counters, shares and moments.
  *
  * A moment is nanoseconds since some moment of the program's choice, QTREE_MOMENT_MAX at most. One before an earlier one counts
  * as that.
@@ -32,7 +34,7 @@ extern "C" {
 
 /* The version that this header is of. Within one major number functions and numbers are only added, and no struct changes. */
 #define QTREE_VERSION_MAJOR 1
-#define QTREE_VERSION_MINOR 0
+#define QTREE_VERSION_MINOR 1
 
 /* That of the library: the major number in the high 16 bits, the minor one in the low 16. */
 uint32_t qtree_version(void);
@@ -40,7 +42,8 @@ uint32_t qtree_version(void);
 #define QTREE_MOMENT_MAX (UINT64_C(1) << 62)
 
 /* What a function answers. QTREE_DONE and the causes of a loss: it did what it was called for. QTREE_IDLE, QTREE_LATER and
- * QTREE_NOTHING: it did, and has nothing to hand out. Otherwise nothing has changed, and nothing is written but a count of 0.
+ * QTREE_NOTHING: it did, and has nothing to hand out. Otherwise nothing has changed, and nothing is written but a count of 0; a
+ * function that does its work packet by packet says how far it came.
  * Causes have the numbers that qtree's reports write. */
 typedef uint32_t qtree_code;
 enum {
@@ -70,13 +73,15 @@ enum {
     QTREE_LATER = 31,
     /* No loss waits, no node stands there, there is no such event, or no poll will ever give a packet. */
     QTREE_NOTHING = 32,
+    /* The ring of a port has no room for a packet more. */
+    QTREE_FULL = 33,
     /* The line is faulty, which a qtree_fault tells; it is a line of the language, and changes no tree. */
     QTREE_FAULTY = 40,
     QTREE_NO_COMMAND = 41,
     /* An argument is out of its range; the memory that the program lends is too small. */
     QTREE_OUT_OF_RANGE = 42,
     QTREE_ROOM = 43,
-    /* The device is closed; it is open already. */
+    /* A device, a port or an outlet is closed; it is open already. */
     QTREE_IS_CLOSED = 50,
     QTREE_IS_OPEN = 51,
     /* Memory is refused. */
@@ -88,6 +93,17 @@ typedef struct qtree_device {
     uint64_t state;
 } qtree_device;
 #define QTREE_CLOSED { 0, 0 }
+
+/* The two ends of a ring, by which a sender on a thread of its own brings packets to a device without a lock. Both begin with
+ * QTREE_CLOSED. The sender's end, and the device's: */
+typedef struct qtree_port {
+    void *at;
+    uint64_t state;
+} qtree_port;
+typedef struct qtree_outlet {
+    void *at;
+    uint64_t state;
+} qtree_outlet;
 
 typedef struct qtree_settings {
     uint32_t txqueuelen; /* what a pfifo without a limit holds, in packets */
@@ -215,6 +231,32 @@ qtree_code qtree_totals(qtree_device *device, qtree_row *row);
 enum { QTREE_SHOW_QDISCS = 0, QTREE_SHOW_COUNTERS = 1, QTREE_SHOW_CLASSES = 2, QTREE_SHOW_FILTERS = 3 };
 qtree_code qtree_show(qtree_device *device, uint32_t what, uint8_t *text, size_t room, size_t *needed);
 
+/* Opens both ends of a ring of so many places, 1 to 65536, in closed ones. index is written into packets as their port.
+ * QTREE_DONE, QTREE_OUT_OF_RANGE, QTREE_IS_OPEN, QTREE_MEMORY. */
+qtree_code qtree_ring_open(qtree_port *port, qtree_outlet *outlet, uint32_t index, size_t places);
+
+/* Places a packet in the ring, with the port's index as its port and the number of packets placed, this one too, as its number;
+ * *packet itself stays. It takes no lock and no memory, and waits for nobody. QTREE_FULL where no place is free: places become free
+ * as packets are taken in.
+ * QTREE_DONE, QTREE_FULL, QTREE_OUT_OF_RANGE, QTREE_IS_CLOSED. */
+qtree_code qtree_offer(qtree_port *port, const qtree_packet *packet);
+
+/* Packets of the ring arrive at the device in order, and each leaves the ring when it has: as many as wait, but at most so many.
+ * taken is how many did. Where memory is refused (QTREE_MEMORY) those have arrived, and the next one stays in the ring. A packet
+ * that the device loses on arrival counts too, and is to be reaped.
+ * QTREE_DONE, QTREE_OUT_OF_RANGE, QTREE_IS_CLOSED, QTREE_MEMORY. */
+qtree_code qtree_take_in(qtree_device *device, qtree_outlet *outlet, uint64_t now, size_t most, size_t *taken);
+
+/* The packets and bytes that were placed by a port so far; those that were taken in of an outlet. QTREE_DONE, QTREE_IS_CLOSED. */
+qtree_code qtree_port_share(qtree_port *port, qtree_count *share);
+qtree_code qtree_outlet_share(qtree_outlet *outlet, qtree_count *share);
+
+/* Closes one end, either first; nothing happens to a closed one. Behind a closed port what was placed is still taken in. What is in
+ * the ring of a closed outlet is forgotten, and no loss; its port's offers go on until the ring is full. The ring's memory is freed
+ * with its second end. */
+void qtree_port_close(qtree_port *port);
+void qtree_outlet_close(qtree_outlet *outlet);
+
 /* The number of arrivals, polls and commands that happened, and of those that the recorder has, which are the first of them.
  * QTREE_DONE, QTREE_IS_CLOSED. */
 qtree_code qtree_events(qtree_device *device, uint64_t *events, size_t *recorded);
@@ -241,6 +283,23 @@ typedef struct qtree_layout {
 } qtree_layout;
 void qtree_layout_of(qtree_layout *layout);
 void qtree_sample(qtree_settings *settings, qtree_loss *loss, qtree_row *row, qtree_event *event);
+void qtree_sample_fault(qtree_fault *fault);
+
+/* The bytes of any struct of this header, later ones too; 0 for another number. */
+enum {
+    QTREE_TYPE_DEVICE = 0,
+    QTREE_TYPE_SETTINGS = 1,
+    QTREE_TYPE_PACKET = 2,
+    QTREE_TYPE_LOSS = 3,
+    QTREE_TYPE_ROW = 4,
+    QTREE_TYPE_EVENT = 5,
+    QTREE_TYPE_FAULT = 6,
+    QTREE_TYPE_COUNT = 7,
+    QTREE_TYPE_PORT = 8,
+    QTREE_TYPE_OUTLET = 9,
+    QTREE_TYPE_LAYOUT = 10
+};
+size_t qtree_size_of(uint32_t what);
 
 #ifdef __cplusplus
 }

@@ -1,6 +1,8 @@
 pub mod Arriving
 pub mod Commanding
 pub mod EventLemmas
+pub mod HeldOutletSteps
+pub mod HeldPortSteps
 pub mod HeldSteps
 pub mod PlaceLemmas
 pub mod PollLemmas

@@ -1,9 +1,12 @@
 pub mod Calls
 pub mod Codes
+pub mod Ends
 pub mod Events
 pub mod Folds
 pub mod Holding
 pub mod Lines
+pub mod OutletHolding
+pub mod PortHolding
 pub mod Readiness
 pub mod Sample
 pub mod Showing

@@ -1,6 +1,6 @@
--- Structs whose fields are 1, 2, 3 .. in the order of their declarations.
+-- Structs whose fields are 1, 2, 3 .. in the order of their declarations, and how many bytes each struct has.
 -- Nothing here is of a standard.
-use Rattle.std.specs.Prelude.{ℕ}
+use Rattle.std.specs.Prelude.{ℕ, ◌==◌, if◌then◌else◌}
 use Rattle.qtree_c.specs.declared.c_packet.CPacket.{CPacket}
 use Rattle.qtree_c.specs.declared.c_row.CRow.{CRow}
 
@@ -32,3 +32,10 @@ sample_row = record {
   queued = record { packets = 9; bytes = 10 };
   marked = record { packets = 11; bytes = 12 };
 }
+
+-- the bytes of the struct with this number, 0 where there is none
+abbrev pub size_of_struct : ℕ → ℕ
+size_of_struct n =
+    if n == 0 then 16 else if n == 1 then 12 else if n == 2 then 64 else if n == 3 then 72 else
+    if n == 4 then 96 else if n == 5 then 80 else if n == 6 then 16 else if n == 7 then 16 else
+    if n == 8 then 16 else if n == 9 then 16 else if n == 10 then 48 else 0

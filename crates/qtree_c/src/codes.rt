@@ -12,6 +12,9 @@ pub const LATER: u32 = 31;
 /// No loss waits, no node stands there, or there is no such event.
 pub const NOTHING: u32 = 32;
 
+/// The ring of a port has no room.
+pub const FULL: u32 = 33;
+
 /// The line is none of the language.
 pub const FAULTY: u32 = 40;
 
@@ -24,10 +27,10 @@ pub const OUT_OF_RANGE: u32 = 42;
 /// The memory that the caller lends is too small.
 pub const ROOM: u32 = 43;
 
-/// The device is closed.
+/// The device, or the end of a ring, is closed.
 pub const IS_CLOSED: u32 = 50;
 
-/// The device is open already.
+/// It is open already.
 pub const IS_OPEN: u32 = 51;
 
 /// Memory is refused.

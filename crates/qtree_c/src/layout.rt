@@ -1,23 +1,26 @@
 //! What a test compares with C's header: the version and the layout of each struct.
 ghost use Rattle.std.specs.Prelude.{◌≡◌, ◌≤◌, ◌+◌};
-ghost use Rattle.qtree_c.specs.Sample.{sample_packet, sample_row};
+ghost use Rattle.qtree_c.specs.Sample.{sample_packet, sample_row, size_of_struct};
 
 use crate::c_count::CCount;
 use crate::c_device::CDevice;
 use crate::c_event::CEvent;
+use crate::c_fault::CFault;
 use crate::c_layout::CLayout;
 use crate::c_loss::CLoss;
+use crate::c_outlet::COutlet;
 use crate::c_packet::CPacket;
+use crate::c_port::CPort;
 use crate::c_row::CRow;
 use crate::c_settings::CSettings;
 
 /// The version of these functions: the major number in the high 16 bits, the minor one in the low 16.
-pub const VERSION: u32 = 0x0001_0000;
+pub const VERSION: u32 = 0x0001_0001;
 
 /// The version.
 #[unsafe(no_mangle)]
 pub extern "C" fn qtree_version() -> u32
-    ensures { result ≡ 0x10000 }
+    ensures { result ≡ 0x10001 }
 {
     VERSION
 }
@@ -35,6 +38,27 @@ pub extern "C" fn qtree_layout_of(layout: &mut CLayout)
         row: size_of::<CRow>(),
         event: size_of::<CEvent>(),
     };
+}
+
+/// The bytes of the struct with this number, 0 to 10; 0 for any other.
+#[unsafe(no_mangle)]
+pub extern "C" fn qtree_size_of(what: u32) -> usize
+    ensures { result ≡ size_of_struct what }
+{
+    match what {
+        0 => size_of::<CDevice>(),
+        1 => size_of::<CSettings>(),
+        2 => size_of::<CPacket>(),
+        3 => size_of::<CLoss>(),
+        4 => size_of::<CRow>(),
+        5 => size_of::<CEvent>(),
+        6 => size_of::<CFault>(),
+        7 => size_of::<CCount>(),
+        8 => size_of::<CPort>(),
+        9 => size_of::<COutlet>(),
+        10 => size_of::<CLayout>(),
+        _ => 0,
+    }
 }
 
 /// Structs whose fields are 1, 2, 3 .. in the order of their declarations.
@@ -72,6 +96,14 @@ pub extern "C" fn qtree_sample(
         moment: 16,
         kind: 17,
     };
+}
+
+/// A fault whose fields are 1 and 2.
+#[unsafe(no_mangle)]
+pub extern "C" fn qtree_sample_fault(fault: &mut CFault)
+    ensures { fault.new ≡ record { word = 1; number = 2 } }
+{
+    *fault = CFault { word: 1, number: 2 };
 }
 
 /// A packet whose fields are 1 to 15.

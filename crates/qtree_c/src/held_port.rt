@@ -1,0 +1,52 @@
+//! A boxed port as C holds it.
+ghost use Rattle.std.specs.Prelude.{◌≡◌, Option, Some, None, IsSome};
+ghost use Rattle.q_ports.specs.Placed.{PortSeen};
+ghost use Rattle.qtree_c.specs.PortHolding.{held_code, held_owns};
+
+use q_ports::Port;
+use q_raw_box::RawBox;
+use std::alloc::Global;
+use std::marker::Model;
+
+/// The address of a boxed port that is owned here, or null and nothing.
+#[repr(C)]
+#[derive(Drop)]
+pub struct HeldPort {
+    at: *mut u8,
+    pub ghost port: { Option PortSeen } by { held_code },
+}
+
+impl Model for HeldPort {
+    ghost also_owns = { λ h. held_owns h.at h.port };
+}
+
+impl HeldPort {
+    /// Nothing.
+    pub fn empty() -> HeldPort
+        ensures { result.port ≡ None }
+    {
+        HeldPort {
+            at: std::ptr::null_mut(),
+        }
+    }
+
+    /// The box, as C holds it.
+    pub fn of(port: RawBox<Port, Global>) -> HeldPort
+        ensures { result.port ≡ Some port.value }
+    {
+        let RawBox { at, alloc: _ } = port;
+        HeldPort { at: at as *mut u8 }
+    }
+
+    /// The box again.
+    pub fn into_raw(self, alloc: Global) -> RawBox<Port, Global>
+        requires { IsSome self.port }
+        ensures { self.port ≡ Some result.value }
+    {
+        let HeldPort { at } = self;
+        RawBox {
+            at: at as *mut Port,
+            alloc,
+        }
+    }
+}

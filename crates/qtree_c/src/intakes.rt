@@ -1,0 +1,71 @@
+//! Packets are taken in from rings.
+ghost use Rattle.std.specs.Prelude.{◌≡◌, ◌≢◌, ◌≤◌, ◌<◌, ◌^◌};
+ghost use Rattle.qtree_c.specs.Ends.{CallsBoth, CallsEnd, IsTakeIn, IsTakenIn};
+
+use crate::c_count::CCount;
+use crate::c_device::CDevice;
+use crate::c_outlet::COutlet;
+use crate::codes::{DONE, IS_CLOSED, MEMORY, OUT_OF_RANGE};
+use q_device::Device;
+use q_packet::Moment;
+use q_ports::Outlet;
+use std::alloc::Global;
+
+/// The first packets of a ring arrive at the device and leave the ring, as many as wait, but at most so many.
+#[unsafe(no_mangle)]
+pub extern "C" fn qtree_take_in(
+    alloc: Global,
+    device: &mut CDevice,
+    outlet: &mut COutlet,
+    now: u64,
+    most: usize,
+    taken: &mut usize,
+) -> u32
+    ensures taken { now ≤ 2 ^ 62 → CallsBoth (IsTakeIn now most result taken.new) result device.old.held.device device.new.held.device outlet.old.held.outlet outlet.new.held.outlet }
+    ensures moment { 2 ^ 62 < now → (result ≡ 42) × (device.new.held.device ≡ device.old.held.device) × (outlet.new.held.outlet ≡ outlet.old.held.outlet) }
+    ensures nothing { result ≢ 0 → result ≢ 90 → taken.new ≡ 0 }
+{
+    *taken = 0;
+    let Some(now) = Moment::new(now) else {
+        return OUT_OF_RANGE;
+    };
+    let Some(mut opened) = device.take(alloc) else {
+        return IS_CLOSED;
+    };
+    let Some(mut end) = outlet.take(alloc) else {
+        device.put(opened);
+        return IS_CLOSED;
+    };
+    let (arrived, code) = take_in(&mut opened, &mut end, now, most);
+    *taken = arrived;
+    outlet.put(end);
+    device.put(opened);
+    code
+}
+
+/// The packets and bytes that were taken in of an outlet.
+#[unsafe(no_mangle)]
+pub extern "C" fn qtree_outlet_share(alloc: Global, outlet: &mut COutlet, share: &mut CCount) -> u32
+    ensures share { CallsEnd (IsTakenIn result share.new) result outlet.old.held.outlet outlet.new.held.outlet }
+    ensures same { outlet.new.held.outlet ≡ outlet.old.held.outlet }
+    ensures kept { result ≢ 0 → share.new ≡ share.old }
+{
+    let Some(opened) = outlet.take(alloc) else {
+        return IS_CLOSED;
+    };
+    *share = CCount::of(opened.share());
+    outlet.put(opened);
+    DONE
+}
+
+/// Packets of an open outlet arrive at an open device.
+fn take_in(device: &mut Device, outlet: &mut Outlet, now: Moment, most: usize) -> (usize, u32)
+    ensures taken { IsTakeIn now most result.1 result.0 device.old device.new outlet.old outlet.new }
+    ensures codes { result.1 ≢ 50 }
+{
+    let taken_in = outlet.take_in(device, now, most);
+    if taken_in.memory {
+        return (taken_in.taken, MEMORY);
+    }
+    (taken_in.taken, DONE)
+}
