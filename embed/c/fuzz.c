@@ -1,5 +1,5 @@
-/* Calls every function of the header with what libFuzzer gives it, on two devices, and stops where an answer is none that the
- * header names, memory beside what was lent is written, or the counters do not add up.
+/* Calls every function of the header with what libFuzzer gives it, on two devices and two rings, and stops where an answer is none
+ * that the header names, memory beside what was lent is written, or the counters do not add up.
  *
  *     make fuzz                 100,000 calls or more
  *     make fuzz RUNS=1000000    10,000,000 calls or more */
@@ -29,6 +29,10 @@ static uint64_t take(struct input *input, size_t bytes) {
     }
     return value;
 }
+
+/* The ends of two rings. */
+static qtree_port ports[2];
+static qtree_outlet outlets[2];
 
 /* A moment, mostly a small one. */
 static uint64_t moment(struct input *input) {
@@ -208,6 +212,57 @@ static void look(qtree_device *device, struct input *input) {
     CHECK(one.prio <= 15 && one.ecn <= 3 && (one.family == 0 || one.family == 4 || one.family == 6));
 }
 
+static void open_or_close_ring(qtree_device *device, struct input *input) {
+    (void)device;
+    size_t port = (size_t)take(input, 1) % 2, outlet = (size_t)take(input, 1) % 2, places = (size_t)take(input, 1) % PLACES;
+    if (take(input, 1) % 16 == 0) {
+        places = (size_t)take(input, 4);
+    }
+    qtree_code code = qtree_ring_open(&ports[port], &outlets[outlet], (uint32_t)take(input, 1), places);
+    CHECK(code == QTREE_DONE || code == QTREE_IS_OPEN || code == QTREE_OUT_OF_RANGE || code == QTREE_MEMORY);
+    CHECK(code != QTREE_DONE || (places >= 1 && places <= 65536));
+    if (code == QTREE_IS_OPEN && take(input, 1) % 4 == 0) {
+        qtree_port_close(&ports[port]);
+        CHECK(qtree_offer(&ports[port], &(qtree_packet){ .len = 1 }) == QTREE_IS_CLOSED);
+    }
+    if (code == QTREE_IS_OPEN && take(input, 1) % 4 == 0) {
+        qtree_outlet_close(&outlets[outlet]);
+    }
+}
+
+/* Packets are offered to a ring, and each that is placed is in its share. */
+static void offer(qtree_device *device, struct input *input) {
+    (void)device;
+    qtree_port *port = &ports[take(input, 1) % 2];
+    for (uint64_t left = take(input, 1) % PLACES; left > 0; left--) {
+        qtree_packet given = packet(input), kept = given;
+        qtree_count before = { 0, 0 }, after = { 0, 0 };
+        qtree_code shared = qtree_port_share(port, &before), code = qtree_offer(port, &given);
+        CHECK(memcmp(&given, &kept, offsetof(qtree_packet, ecn) + 1) == 0 && qtree_port_share(port, &after) == shared);
+        CHECK(code == QTREE_DONE || code == QTREE_FULL || code == QTREE_OUT_OF_RANGE || code == QTREE_IS_CLOSED);
+        CHECK((code == QTREE_IS_CLOSED) == (shared == QTREE_IS_CLOSED));
+        CHECK(after.packets == before.packets + (code == QTREE_DONE));
+        CHECK(after.bytes == before.bytes + (code == QTREE_DONE ? given.len : 0));
+    }
+}
+
+/* What is taken in is what the device counts as arrived. */
+static void take_in(qtree_device *device, struct input *input) {
+    qtree_outlet *outlet = &outlets[take(input, 1) % 2];
+    qtree_count had = { 0, 0 }, has = { 0, 0 };
+    qtree_row before = { 0 }, after = { 0 };
+    size_t most = (size_t)take(input, 1) % PLACES, taken = 99;
+    qtree_totals(device, &before);
+    qtree_outlet_share(outlet, &had);
+    qtree_code code = qtree_take_in(device, outlet, moment(input), most, &taken);
+    CHECK(code == QTREE_DONE || code == QTREE_OUT_OF_RANGE || code == QTREE_IS_CLOSED || code == QTREE_MEMORY);
+    CHECK(taken <= most && (code == QTREE_DONE || code == QTREE_MEMORY || taken == 0));
+    qtree_totals(device, &after);
+    qtree_outlet_share(outlet, &has);
+    CHECK(has.packets == had.packets + taken && after.arrived.packets == before.arrived.packets + taken);
+    CHECK(after.arrived.bytes - before.arrived.bytes == has.bytes - had.bytes);
+}
+
 /* What arrived was sent, refused or dropped, or is still queued. */
 static void adds_up(qtree_device *device) {
     qtree_row row;
@@ -219,7 +274,9 @@ static void adds_up(qtree_device *device) {
 
 int LLVMFuzzerTestOneInput(const uint8_t *data, size_t size);
 int LLVMFuzzerTestOneInput(const uint8_t *data, size_t size) {
-    static void (*const each[])(qtree_device *, struct input *) = { single, command, arrive_many, poll_many, reap, show, look, open_or_close };
+    static void (*const each[])(qtree_device *, struct input *) = {
+        single, command, arrive_many, poll_many, reap, show, look, open_or_close, open_or_close_ring, offer, take_in,
+    };
     static bool is_begun;
     if (!is_begun) {
         is_begun = true;
@@ -228,13 +285,17 @@ int LLVMFuzzerTestOneInput(const uint8_t *data, size_t size) {
     struct input input = { data, size };
     qtree_device devices[2] = { QTREE_CLOSED, QTREE_CLOSED };
     CHECK(qtree_open(&devices[0], &(qtree_settings){ 100, 16, 1514 }) == QTREE_DONE);
+    CHECK(qtree_ring_open(&ports[0], &outlets[0], 3, PLACES) == QTREE_DONE);
     for (int i = 0; i < MOST_CALLS && input.left > 0; i++, calls++) {
         uint64_t which = take(&input, 1);
         qtree_device *device = &devices[which / 64 == 0 ? 1 : 0];
         each[which % (sizeof each / sizeof each[0])](device, &input);
         adds_up(device);
     }
-    qtree_close(&devices[0]);
-    qtree_close(&devices[1]);
+    for (size_t i = 0; i < 2; i++) {
+        qtree_close(&devices[i]);
+        qtree_port_close(&ports[i]);
+        qtree_outlet_close(&outlets[i]);
+    }
     return 0;
 }

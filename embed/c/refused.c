@@ -1,0 +1,241 @@
+/* Refuses one allocation after another of a session of commands, arrivals, rings and shows. Each refusal is answered by
+ * QTREE_MEMORY, leaves every counter and every shown text as it was, and the same call then succeeds.
+ *
+ * The linker sends the library's allocations here (--wrap), and none of this program's. */
+#include "check.h"
+#include "qtree.h"
+
+#include <string.h>
+
+enum { TEXT = 4000, PLACES = 8, PACKETS = 40 };
+
+/* The allocations that are still granted; none is counted below 0. */
+static long granted = -1;
+static unsigned long refusals;
+
+static bool is_refused(void) {
+    if (granted < 0) {
+        return false;
+    }
+    refusals += granted == 0;
+    return granted-- <= 0;
+}
+
+void *__real_malloc(size_t size);
+void *__real_realloc(void *at, size_t size);
+void *__real_aligned_alloc(size_t alignment, size_t size);
+int __real_posix_memalign(void **at, size_t alignment, size_t size);
+void *__wrap_malloc(size_t size);
+void *__wrap_realloc(void *at, size_t size);
+void *__wrap_aligned_alloc(size_t alignment, size_t size);
+int __wrap_posix_memalign(void **at, size_t alignment, size_t size);
+
+void *__wrap_malloc(size_t size) { return is_refused() ? NULL : __real_malloc(size); }
+
+void *__wrap_realloc(void *at, size_t size) { return is_refused() ? NULL : __real_realloc(at, size); }
+
+void *__wrap_aligned_alloc(size_t alignment, size_t size) {
+    return is_refused() ? NULL : __real_aligned_alloc(alignment, size);
+}
+
+int __wrap_posix_memalign(void **at, size_t alignment, size_t size) {
+    return is_refused() ? 12 : __real_posix_memalign(at, alignment, size);
+}
+
+static qtree_device device = QTREE_CLOSED;
+static qtree_port port = QTREE_CLOSED;
+static qtree_outlet outlet = QTREE_CLOSED;
+
+/* All that can be read of a device and its ring. */
+struct view {
+    qtree_code codes[12];
+    qtree_row device, root, classes[3];
+    uint8_t text[4][TEXT];
+    size_t needed[4];
+    uint64_t events, ready;
+    size_t recorded;
+    qtree_count placed, taken;
+};
+
+static void look(struct view *view) {
+    memset(view, 0, sizeof *view);
+    qtree_code *code = view->codes;
+    *code++ = qtree_totals(&device, &view->device);
+    *code++ = qtree_stats(&device, QTREE_ROOT, 0, 0, &view->root);
+    for (uint16_t i = 0; i < 3; i++) {
+        *code++ = qtree_stats(&device, QTREE_CLASS, 1, (uint16_t)(i + 1), &view->classes[i]);
+    }
+    for (uint32_t what = 0; what < 4; what++) {
+        qtree_code shown = qtree_show(&device, what, view->text[what], TEXT, &view->needed[what]);
+        CHECK(shown == QTREE_DONE || shown == QTREE_IS_CLOSED);
+    }
+    *code++ = qtree_events(&device, &view->events, &view->recorded);
+    *code++ = qtree_ready_at(&device, &view->ready);
+    *code++ = qtree_port_share(&port, &view->placed);
+    *code++ = qtree_outlet_share(&outlet, &view->taken);
+}
+
+static struct view before, after;
+
+static bool is_same(void) {
+    look(&after);
+    return memcmp(&before, &after, sizeof before) == 0;
+}
+
+/* Makes a call with its first allocation refused, then with its second, and so on, until none is: what is answered then. */
+static qtree_code insist(qtree_code (*call)(const void *), const void *given) {
+    for (long grants = 0;; grants++) {
+        look(&before);
+        unsigned long had = refusals;
+        granted = grants;
+        qtree_code code = call(given);
+        granted = -1;
+        if (refusals == had) {
+            return code;
+        }
+        CHECK(code == QTREE_MEMORY && is_same());
+    }
+}
+
+static qtree_code opens(const void *given) { return qtree_open(&device, given); }
+
+static qtree_code commands(const void *given) {
+    qtree_fault fault = { 7, 7 };
+    qtree_code code = qtree_command(&device, given, strlen(given), 1000, &fault);
+    CHECK(fault.word == 7 && fault.number == 7);
+    return code;
+}
+
+static qtree_code arrives(const void *given) { return qtree_arrive(&device, given, 1000); }
+
+static qtree_code opens_ring(const void *given) {
+    qtree_code code = qtree_ring_open(&port, &outlet, 3, *(const size_t *)given);
+    CHECK(code == QTREE_DONE || (port.state == 0 && outlet.state == 0));
+    return code;
+}
+
+static qtree_code takes_in_one(const void *given) {
+    size_t taken = 7;
+    qtree_code code = qtree_take_in(&device, &outlet, 1000, *(const size_t *)given, &taken);
+    CHECK(taken == (code == QTREE_DONE ? 1 : 0));
+    return code;
+}
+
+static qtree_code shows(const void *given) {
+    uint8_t text[TEXT];
+    size_t needed = 7;
+    memset(text, 0x5a, sizeof text);
+    qtree_code code = qtree_show(&device, *(const uint32_t *)given, text, sizeof text, &needed);
+    if (code == QTREE_MEMORY) {
+        CHECK(needed == 0 && text[0] == 0x5a && memcmp(text, text + 1, sizeof text - 1) == 0);
+    }
+    return code;
+}
+
+/* One of UDP, TCP or another, which the filters tell apart. */
+static qtree_packet packet(uint32_t number) {
+    static const uint8_t protocols[] = { 17, 6, 1 };
+    return (qtree_packet){
+        .family = 4,
+        .src_low = 0x0a000001,
+        .proto = protocols[number % 3],
+        .len = (uint16_t)(100 + number),
+        .buf = number,
+        .hash = number,
+    };
+}
+
+static void play_lines(void) {
+    static const char *const lines[] = {
+        "tc qdisc add dev a root handle 1: drr",
+        "tc class add dev a parent 1: classid 1:1 drr quantum 1500",
+        "tc class add dev a parent 1: classid 1:2 drr quantum 600",
+        "tc class add dev a parent 1: classid 1:3 drr quantum 600",
+        "tc qdisc add dev a parent 1:1 handle 10: fq_codel limit 10 flows 4",
+        "tc qdisc add dev a parent 1:2 handle 20: tbf rate 8mbit burst 3000 latency 50ms",
+        "tc qdisc add dev a parent 20:1 handle 21: pfifo limit 5",
+        "tc qdisc add dev a parent 1:3 handle 30: prio bands 3",
+        "tc filter add dev a parent 1: prio 1 flower ip_proto udp classid 1:2",
+        "tc filter add dev a parent 1: prio 2 flower ip_proto tcp classid 1:1",
+        "tc filter add dev a parent 1: prio 3 flower src_ip 10.0.0.0/8 classid 1:3",
+        "tc qdisc change dev a handle 10: fq_codel limit 12",
+    };
+    for (size_t i = 0; i < sizeof lines / sizeof lines[0]; i++) {
+        CHECK(insist(commands, lines[i]) == QTREE_DONE);
+    }
+}
+
+/* Packets arrive by calls and through the ring, each with every allocation refused once. */
+static void play_packets(void) {
+    for (uint32_t i = 0; i < PACKETS; i++) {
+        qtree_packet given = packet(i);
+        CHECK(insist(arrives, &given) <= QTREE_LOST_OVER_LIMIT);
+    }
+    const size_t places = PLACES, most = 1;
+    CHECK(insist(opens_ring, &places) == QTREE_DONE);
+    for (uint32_t i = 0; i < PLACES; i++) {
+        qtree_packet given = packet(PACKETS + i);
+        granted = 0;
+        CHECK(qtree_offer(&port, &given) == QTREE_DONE);
+        granted = -1;
+    }
+    for (uint32_t i = 0; i < PLACES; i++) {
+        CHECK(insist(takes_in_one, &most) == QTREE_DONE);
+    }
+    look(&after);
+    CHECK(after.taken.packets == PLACES && after.placed.packets == PLACES && after.taken.bytes == after.placed.bytes);
+    CHECK(after.device.arrived.packets == PACKETS + PLACES);
+}
+
+/* Takes whole rings in while the first or second allocation of a call is refused: what had arrived by then has left the ring, and
+ * the next call takes in all else. */
+static void play_whole_rings(void) {
+    for (long round = 0; round < 60; round++) {
+        qtree_packet given = packet(2);
+        while (qtree_offer(&port, &given) == QTREE_DONE) {
+        }
+        size_t taken = 99, rest = 0;
+        unsigned long had = refusals;
+        look(&before);
+        granted = round % 2;
+        qtree_code code = qtree_take_in(&device, &outlet, 1000, PLACES, &taken);
+        granted = -1;
+        look(&after);
+        CHECK(code == (refusals == had ? QTREE_DONE : QTREE_MEMORY) && (taken == PLACES) == (code == QTREE_DONE));
+        CHECK(after.taken.packets == before.taken.packets + taken && after.placed.packets == before.placed.packets);
+        CHECK(after.device.arrived.packets == before.device.arrived.packets + taken);
+        CHECK(qtree_take_in(&device, &outlet, 1000, PLACES, &rest) == QTREE_DONE && taken + rest == PLACES);
+    }
+}
+
+/* A poll, a reap and what reads need no memory. */
+static void play_without_memory(void) {
+    qtree_packet given;
+    qtree_loss loss;
+    granted = 0;
+    while (qtree_reap(&device, &loss) == QTREE_DONE) {
+    }
+    while (qtree_poll(&device, 1000000000, &given) == QTREE_DONE) {
+    }
+    granted = -1;
+    look(&after);
+    CHECK(after.device.queued.packets == 0);
+}
+
+int main(void) {
+    const qtree_settings settings = { 1000, 16, 1514 };
+    CHECK(insist(opens, &settings) == QTREE_DONE);
+    play_lines();
+    play_packets();
+    play_whole_rings();
+    for (uint32_t what = QTREE_SHOW_QDISCS; what <= QTREE_SHOW_FILTERS; what++) {
+        CHECK(insist(shows, &what) == QTREE_DONE);
+    }
+    play_without_memory();
+    CHECK(insist(commands, "tc qdisc del dev a root") == QTREE_DONE);
+    qtree_port_close(&port);
+    qtree_outlet_close(&outlet);
+    qtree_close(&device);
+    printf("refused: %lu allocations refused, each answered, and then made\n", refusals);
+    return 0;
+}
