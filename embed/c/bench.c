@@ -1,8 +1,10 @@
-/* What a packet costs from C, by an arrival and a poll: one at a time, and 32 in a crossing.
+/* What a packet costs from C, by an arrival and a poll: one at a time, 32 in a crossing, and 32 at a time through a ring.
  *
- *     bench [PACKETS]     so many packets for each row, 2,000,000 where no number stands there
+ *     bench [PACKETS [ROUNDS]]     so many packets for each row, 2,000,000 where no number stands there, in 5 rounds
  *
- * A row is the least of five rounds, in nanoseconds a packet. Every packet is looked at again when it comes out. */
+ * 1000 packets are queued first, and the clock goes on by 100 ns a packet, as in bench/run's row `root pfifo, 1000 queued`, which
+ * is the same from Rattle. A row is the least of the rounds, in nanoseconds a packet. Packets are looked at again as they come
+ * out. */
 #define _POSIX_C_SOURCE 199309L
 #include "check.h"
 #include "qtree.h"
@@ -10,7 +12,7 @@
 #include <string.h>
 #include <time.h>
 
-enum { BATCH = 32, ROUNDS = 5 };
+enum { BATCH = 32, QUEUED = 1000, STEP = 100 };
 
 static double seconds(void) {
     struct timespec now;
@@ -22,46 +24,81 @@ static void open_with(qtree_device *device, const char *line) {
     qtree_fault fault;
     CHECK(qtree_open(device, &(qtree_settings){ 1000, 0, 1514 }) == QTREE_DONE);
     CHECK(qtree_command(device, (const uint8_t *)line, strlen(line), 0, &fault) == QTREE_DONE);
+    qtree_packet packet = { .len = 1000 };
+    for (packet.buf = 0; packet.buf < QUEUED; packet.buf++) {
+        CHECK(qtree_arrive(device, &packet, 0) == QTREE_DONE);
+    }
 }
 
 static double one_at_a_time(qtree_device *device, uint32_t packets) {
     qtree_packet packet = { .len = 1000 }, given;
     double begun = seconds();
     for (uint32_t i = 0; i < packets; i++) {
-        packet.buf = i;
-        CHECK(qtree_arrive(device, &packet, i) == QTREE_DONE);
-        CHECK(qtree_poll(device, i, &given) == QTREE_DONE && given.buf == i);
+        uint64_t now = (uint64_t)i * STEP;
+        packet.buf = QUEUED + i;
+        CHECK(qtree_arrive(device, &packet, now) == QTREE_DONE);
+        CHECK(qtree_poll(device, now, &given) == QTREE_DONE && given.buf == i);
     }
     return (seconds() - begun) / packets;
+}
+
+static void name_batch(qtree_packet *batch, uint32_t at) {
+    for (uint32_t i = 0; i < BATCH; i++) {
+        batch[i].buf = QUEUED + at + i;
+    }
 }
 
 static double in_batches(qtree_device *device, uint32_t packets) {
     qtree_packet sent[BATCH], given[BATCH];
     uint8_t codes[BATCH];
     size_t count;
-    memset(sent, 0, sizeof sent);
     for (uint32_t i = 0; i < BATCH; i++) {
-        sent[i].len = 1000;
-        sent[i].buf = i;
+        sent[i] = (qtree_packet){ .len = 1000 };
     }
     double begun = seconds();
     for (uint32_t at = 0; at + BATCH <= packets; at += BATCH) {
-        CHECK(qtree_arrive_many(device, sent, BATCH, codes, BATCH, &count, at) == QTREE_DONE && count == BATCH);
-        CHECK(qtree_poll_many(device, at, given, BATCH, &count) == QTREE_DONE && count == BATCH);
-        CHECK(given[0].buf == 0 && given[BATCH - 1].buf == BATCH - 1);
+        uint64_t now = (uint64_t)at * STEP;
+        name_batch(sent, at);
+        CHECK(qtree_arrive_many(device, sent, BATCH, codes, BATCH, &count, now) == QTREE_DONE && count == BATCH);
+        CHECK(qtree_poll_many(device, now, given, BATCH, &count) == QTREE_DONE && count == BATCH);
+        CHECK(given[0].buf == at && given[BATCH - 1].buf == at + BATCH - 1);
     }
     return (seconds() - begun) / (packets / BATCH * BATCH);
 }
 
-static double least(double (*play)(qtree_device *, uint32_t), const char *line, uint32_t packets) {
+static double by_ring(qtree_device *device, uint32_t packets) {
+    qtree_port port = QTREE_CLOSED;
+    qtree_outlet outlet = QTREE_CLOSED;
+    qtree_packet packet = { .len = 1000 }, given[BATCH];
+    size_t count;
+    CHECK(qtree_ring_open(&port, &outlet, 0, 256) == QTREE_DONE);
+    double begun = seconds();
+    for (uint32_t at = 0; at + BATCH <= packets; at += BATCH) {
+        uint64_t now = (uint64_t)at * STEP;
+        for (uint32_t i = 0; i < BATCH; i++) {
+            packet.buf = QUEUED + at + i;
+            CHECK(qtree_offer(&port, &packet) == QTREE_DONE);
+        }
+        CHECK(qtree_take_in(device, &outlet, now, BATCH, &count) == QTREE_DONE && count == BATCH);
+        CHECK(qtree_poll_many(device, now, given, BATCH, &count) == QTREE_DONE && count == BATCH);
+        CHECK(given[0].buf == at && given[BATCH - 1].buf == at + BATCH - 1);
+    }
+    double taken = seconds() - begun;
+    qtree_port_close(&port);
+    qtree_outlet_close(&outlet);
+    return taken / (packets / BATCH * BATCH);
+}
+
+static double least(double (*play)(qtree_device *, uint32_t), const char *line, uint32_t packets, uint32_t rounds) {
     double best = 1e9;
-    for (int round = 0; round < ROUNDS; round++) {
+    for (uint32_t round = 0; round < rounds; round++) {
         qtree_device device = QTREE_CLOSED;
         open_with(&device, line);
         double cost = play(&device, packets);
         best = cost < best ? cost : best;
         qtree_row row;
-        CHECK(qtree_totals(&device, &row) == QTREE_DONE && row.queued.packets == 0 && row.arrived.packets == row.sent.packets);
+        CHECK(qtree_totals(&device, &row) == QTREE_DONE && row.queued.packets == QUEUED);
+        CHECK(row.arrived.packets == row.sent.packets + QUEUED);
         qtree_close(&device);
     }
     return best * 1e9;
@@ -69,14 +106,16 @@ static double least(double (*play)(qtree_device *, uint32_t), const char *line, 
 
 int main(int argc, char **argv) {
     static const char *const lines[] = {
-        "tc qdisc add dev a root handle 1: pfifo limit 1000",
-        "tc qdisc add dev a root handle 1: fq_codel limit 1000",
+        "tc qdisc add dev a root handle 1: pfifo limit 2000",
+        "tc qdisc add dev a root handle 1: fq_codel limit 2000",
     };
     uint32_t packets = argc > 1 ? (uint32_t)strtoul(argv[1], NULL, 10) : 2000000;
-    CHECK(packets >= BATCH);
+    uint32_t rounds = argc > 2 ? (uint32_t)strtoul(argv[2], NULL, 10) : 5;
+    CHECK(packets >= BATCH && rounds >= 1);
     for (size_t i = 0; i < sizeof lines / sizeof lines[0]; i++) {
-        double one = least(one_at_a_time, lines[i], packets), many = least(in_batches, lines[i], packets);
-        printf("%-24s %7.1f ns one at a time %7.1f ns by %d\n", strstr(lines[i], "1: ") + 3, one, many, BATCH);
+        double one = least(one_at_a_time, lines[i], packets, rounds), many = least(in_batches, lines[i], packets, rounds);
+        printf("%-24s %7.1f ns one at a time %7.1f ns by %d %7.1f ns by a ring\n", strstr(lines[i], "1: ") + 3, one, many, BATCH,
+               least(by_ring, lines[i], packets, rounds));
     }
     return 0;
 }
