@@ -1,29 +1,19 @@
 -- `empty` owns nothing at null.
 use Rattle.std.proofs.Common.{◌≡◌, [], ◌∷◌, refl, lit<}
-use mir.Val.{Val, vptr}
-use base.Logic.{SProp, ent, emp, id⊢}
+use mir.Val.{Val}
+use base.Logic.{SProp, emp}
 use base.Fml.{ftrue}
-use prog.Wp.{WpFn}
-use types.Kit.{‵, raw, ◌⊛◌, ◌$◌, ◌∵◌, !, qed, by, move, keep, drop, split, fsplit, fjoin, suffices, use0}
-use types.Run.{lit, stop, fld, of_opd, no_more, and_then, returns, enter}
-use types.ByLocal.{alloc_all, pass_all, free_all, look_at, get, get_in, sets}
-use types.Part.{agg, sub, whole}
+use types.Kit.{‵, raw, ◌⊛◌, ◌$◌, ◌∵◌, !, qed, by, keep, use0}
+use types.Run.{lit, no_more, and_then, returns, enter}
+use types.ByLocal.{alloc_all, pass_all, free_all, look_at, sets}
+use types.Part.{agg}
 use contract.Monad.{fact, fact_i}
 use contract.Running.{tables}
-use denote.Exit.{yes}
-use denote.RattleType.{RattleType, owns}
-use denote.Signature.{types_at, plain}
 use denote.RawPtr.{null_ptr, ptr_val}
 use denote.Steps.{nothing}
-use denote.Triple.Walked.{Stays, stay_dropped, walk_of}
-use Rattle.core.proofs.alloc.Calls.{Goes-blank}
+use denote.Triple.Walked.{Stays, walk_of}
 use Rattle.std.proofs.raw_atomic.Walks.{proved_at, leaves}
-use Rattle.std.proofs.alloc.Global.TheLaws.{the_row_laws as LZ}
-use Rattle.std.specs.contracts.alloc.Global.{the_row as Z}
 use Rattle.std.specs.declared.option.Option.TheVariants.{None}
-use Rattle.std.specs.contracts.impls.GlobalAllocator.TheImpl.{ghosts}
-use Rattle.q_device.specs.contracts.Device.{the_row as R}
-use Rattle.q_raw_box.proofs.Values.{both, RawBox, raw_box_good, raw_box_out}
 use Rattle.qtree_c.proofs.HeldSteps.{single, held_none}
 use Rattle.qtree_c.specs.contracts.held_device.HeldDevice.empty.{ended, clauses}
 use Rattle.qtree_c.specs.contracts.held_device.HeldDevice.empty.Key.{name as #self}
