@@ -55,7 +55,7 @@ static void opening(void) {
     CHECK(qtree_ready_at(&device, &at) == QTREE_IS_CLOSED && at == 7);
     CHECK(qtree_open(&device, &(qtree_settings){ 1000, 0, 0 }) == QTREE_OUT_OF_RANGE);
     CHECK(qtree_open(&device, &(qtree_settings){ 1000, 1000001, 1514 }) == QTREE_OUT_OF_RANGE);
-    CHECK(qtree_open(&device, &(qtree_settings){ 1000, 8, 1514 }) == QTREE_DONE);
+    CHECK(qtree_open(&device, &(qtree_settings){ 1000, 8, 1514 }) == QTREE_DONE && device.at != NULL && device.state == 1);
     CHECK(qtree_open(&device, &(qtree_settings){ 1000, 8, 1514 }) == QTREE_IS_OPEN);
     CHECK(qtree_arrive(&device, &packet, QTREE_MOMENT_MAX + 1) == QTREE_OUT_OF_RANGE);
     packet.prio = 16;
@@ -123,6 +123,7 @@ static void ring_opening(void) {
     CHECK(qtree_ring_open(&port, &outlet, 5, 0) == QTREE_OUT_OF_RANGE);
     CHECK(qtree_ring_open(&port, &outlet, 5, 65537) == QTREE_OUT_OF_RANGE && port.state == 0 && outlet.state == 0);
     CHECK(qtree_ring_open(&port, &outlet, 5, 65536) == QTREE_DONE);
+    CHECK(port.at != NULL && port.state == 1 && outlet.at != NULL && outlet.state == 1);
     CHECK(qtree_ring_open(&port, &another, 6, 1) == QTREE_IS_OPEN && another.state == 0);
     CHECK(qtree_ring_open(&other, &outlet, 6, 0) == QTREE_IS_OPEN && other.state == 0);
     qtree_port_close(&port);
