@@ -1,3 +1,4 @@
+/* Two senders on threads of their own and one device, as docs/EMBEDDING.md shows them. */
 #include "qtree.h"
 #include <pthread.h>
 #include <sched.h>
@@ -12,8 +13,19 @@ static void *send_all(void *port) {
             sched_yield();
         }
     }
-    qtree_port_close(port);
     return NULL;
+}
+
+/* The turn of the thread that has the device and the outlets. */
+static void turn(qtree_device *device, qtree_outlet *outlets) {
+    size_t taken;
+    for (int i = 0; i < SENDERS; i++) {
+        qtree_take_in(device, &outlets[i], 0, 32, &taken);
+    }
+    qtree_packet packet;
+    while (qtree_poll(device, 0, &packet) == QTREE_DONE) {
+        /* transmits packet.buf of the sender packet.port */
+    }
 }
 
 int main(void) {
@@ -30,23 +42,17 @@ int main(void) {
             return 1;
         }
     }
-    qtree_packet packet;
     qtree_row row;
-    size_t taken;
     do {
-        for (int i = 0; i < SENDERS; i++) {
-            qtree_take_in(&device, &outlets[i], 0, 32, &taken);
-        }
-        while (qtree_poll(&device, 0, &packet) == QTREE_DONE) {
-            /* a program transmits packet.buf of the sender packet.port */
-        }
+        turn(&device, outlets);
         qtree_totals(&device, &row);
     } while (row.arrived.packets < SENDERS * PACKETS);
-    printf("%d of %d sent\n", (int)row.sent.packets, (int)row.arrived.packets);
     for (int i = 0; i < SENDERS; i++) {
         pthread_join(threads[i], NULL);
+        qtree_port_close(&ports[i]);
         qtree_outlet_close(&outlets[i]);
     }
     qtree_close(&device);
+    printf("%d of %d sent\n", (int)row.sent.packets, (int)row.arrived.packets);
     return 0;
 }
