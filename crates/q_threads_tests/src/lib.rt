@@ -13,8 +13,6 @@ mod meeting;
 #[cfg(test)]
 mod open_gate;
 #[cfg(test)]
-mod outlets;
-#[cfg(test)]
 mod pair;
 #[cfg(test)]
 mod ports;
@@ -22,6 +20,8 @@ mod ports;
 mod readiness;
 #[cfg(test)]
 mod refused;
+#[cfg(test)]
+mod ring_lengths;
 #[cfg(test)]
 mod rings;
 #[cfg(test)]

@@ -1,62 +1,94 @@
-//! Rings that are filled to their length.
-ghost use Rattle.std.specs.Prelude.{◌≡◌, ◌≤◌, ◌<◌, length, map};
-ghost use Rattle.q_model.specs.Tally.{no_totals};
-ghost use Rattle.q_ports.specs.Placed.{ring_of_port};
-ghost use Rattle.q_ports.specs.Rings.{ring_id};
-
-use crate::common::{device, fill, hundreds, offer_at, opened, packet};
+//! A ring by itself, each end on a thread of its own.
+use crate::common::{device, hundreds, packet};
 use q_device::Device;
 use q_packet::{Moment, Packet};
-use q_ports::Full;
-use std::alloc::Global;
-use std::marker::Brand;
-use std::process::Abort;
-use std::sync::Wait;
-use std::sync::ledger::{Blank, Ledger};
+use q_ports::{Outlet, Port, TakenIn, open_ring};
 use std::test::Fail;
+use std::thread;
+
+/// How many packets go through the ring.
+const PACKETS: u64 = 1000;
+
+/// How often each end tries before it gives up.
+const TRIES: u64 = 10_000_000;
 
 #[test]
-fn a_ring_has_exactly_its_length(rt: HostRuntime) -> Result<(), Fail> {
+fn ring_between_threads(rt: HostRuntime) -> Result<(), Fail> {
     let alloc = rt.alloc();
     let given = packet(5).ok_or("a packet")?;
-    for ring in [1usize, 2, 16, 65_536] {
-        let device = device(alloc, 0).ok_or("memory")?;
-        let (packets, bytes) = (Blank::new(65), Blank::new(65));
-        filled::<Brand, Brand, _>(&rt, alloc, device, ring, given, packets, bytes);
-    }
+    let fed = device(alloc, 0).ok_or("memory")?;
+    let Ok((port, outlet)) = open_ring(alloc, 3, 4) else {
+        return Err("memory".into());
+    };
+    let (port, (outlet, fed)) = thread::join(
+        &rt,
+        move || offer_all(port, given),
+        move || take_all(outlet, fed),
+    );
+    assert_eq!(rt; port.share(), hundreds(PACKETS));
+    assert_eq!(rt; outlet.share(), hundreds(PACKETS));
+    assert_eq!(rt; fed.totals().arrived, hundreds(PACKETS));
     Ok(())
 }
 
-// A ring takes as many packets as it has places and gives the next one back. All of them are settled.
-fn filled<P: Ledger, B: Ledger, R: Wait + Abort>(
-    rt: &R,
-    alloc: Global,
-    device: Device,
-    ring: usize,
-    given: Packet,
-    packets: Blank,
-    bytes: Blank,
-)
-    requires nothing { device.device.tree.top.arrived ≡ no_totals }
-    requires packets { (packets.name ≡ P.name) × (packets.parts ≡ P.parts) × (P.parts ≡ 65) }
-    requires bytes { (bytes.name ≡ B.name) × (bytes.parts ≡ B.parts) × (B.parts ≡ 65) }
-{
-    let (booked, drain, ports, _gauges) = opened::<P, B, R>(
-        rt,
-        alloc,
-        device,
-        (1, ring, 0),
-        packets,
-        bytes,
+// What is refused memory stays in the ring, and the next call takes it in.
+#[test]
+fn ring_keeps_what_was_refused(rt: HostRuntime) -> Result<(), Fail> {
+    let alloc = rt.alloc();
+    let given = packet(5).ok_or("a packet")?;
+    let mut fed = match device(alloc, 0) {
+        Some(device) => device,
+        None => device(alloc, 0).ok_or("memory")?,
+    };
+    let (mut port, mut outlet) = match open_ring(alloc, 3, 4) {
+        Ok(ends) => ends,
+        Err(_) => open_ring(alloc, 3, 4).map_err(|_| "refused twice")?,
+    };
+    for _packet in 0..3 {
+        assert!(rt; port.offer(given).is_ok());
+    }
+    let first = outlet.take_in(&mut fed, Moment::zero(), 2);
+    assert!(rt;
+        first.memory
+            || first
+                == TakenIn {
+                    taken: 2,
+                    memory: false
+                }
     );
-    let mut ports = ports;
-    fill(rt, &mut ports, ring as u64, given);
-    assert_eq!(rt; offer_at(&mut ports, 0, given), Err(Full(given)));
-    match drain.settle(rt, &booked, ports, Moment::zero()) {
-        Ok(settled) => assert_eq!(rt; settled.share(), hundreds(ring as u64)),
-        Err(unsettled) => {
-            unsettled.drain.end(rt);
-            panic!(rt; "memory")
+    let second = outlet.take_in(&mut fed, Moment::zero(), 4);
+    assert_eq!(rt; (first.taken + second.taken, second.memory), (3, false));
+    assert_eq!(rt;
+        (outlet.share(), fed.totals().arrived),
+        (hundreds(3), hundreds(3))
+    );
+    Ok(())
+}
+
+// Offers a packet again and again, until so many were placed.
+fn offer_all(port: Port, given: Packet) -> Port {
+    let mut port = port;
+    for _try in 0..TRIES {
+        if port.share().packets == PACKETS {
+            break;
+        }
+        if port.offer(given).is_err() {
+            thread::yield_now();
         }
     }
+    port
+}
+
+// Takes in until so many packets were taken.
+fn take_all(outlet: Outlet, device: Device) -> (Outlet, Device) {
+    let (mut outlet, mut device) = (outlet, device);
+    for _try in 0..TRIES {
+        if outlet.share().packets == PACKETS {
+            break;
+        }
+        if outlet.take_in(&mut device, Moment::zero(), 3).taken == 0 {
+            thread::yield_now();
+        }
+    }
+    (outlet, device)
 }

@@ -130,8 +130,11 @@ fn senders_place_all<R: Threads + Wait + Sync + Abort>(
     fewest: u64,
 ) -> Result<(), Fail> {
     let (senders, each, _ring) = counts;
-    let kinds = kinds().ok_or("packets")?;
-    let loads = mixed_loads(alloc, senders, each, &kinds)?;
+    let loads = if has_long_rings(counts) {
+        loads(alloc, senders, each, packet(5).ok_or("a packet")?)?
+    } else {
+        mixed_loads(alloc, senders, each, &kinds().ok_or("packets")?)?
+    };
     let gate = Arc::new(alloc, Meeting::new(each as u64, fewest))?;
     let device = device(alloc, 4096).ok_or("memory")?;
     let (packets, bytes) = (Blank::new(65), Blank::new(65));
@@ -139,6 +142,11 @@ fn senders_place_all<R: Threads + Wait + Sync + Abort>(
     let all = all_of(counts);
     assert_eq!(rt; gate.counts(), (0, all, all));
     Ok(())
+}
+
+// Whether a ring has room for a whole load. All packets may be placed then before the second turn.
+fn has_long_rings(counts: (usize, usize, usize)) -> bool {
+    counts.1 <= counts.2
 }
 
 // How many packets all senders have.
@@ -194,14 +202,15 @@ fn driven<P: Ledger + Send + Sync, B: Ledger + Send + Sync, R: Threads + Wait + 
     requires bytes { (bytes.name ≡ B.name) × (bytes.parts ≡ B.parts) × (B.parts ≡ 65) }
 {
     let all = hundreds(all_of(counts));
-    // All packets may be placed then before the second turn.
-    let has_long_rings = counts.1 <= counts.2;
+    let is_shaped = !has_long_rings(counts);
     assert!(rt; loads.len() == counts.0);
     let counts = (counts.0, counts.2, 2);
     let (booked, drain, ports, mut gauges) = opened::<P, B, R>(
         rt, alloc, device, counts, packets, bytes,
     );
-    set_up(rt, &booked);
+    if is_shaped {
+        set_up(rt, &booked);
+    }
     let zero = read_beside(rt, gate, opening(rt, gauges.pop()), true);
     let one = read_beside(rt, gate, opening(rt, gauges.pop()), false);
     let start = Moment::zero();
@@ -215,7 +224,7 @@ fn driven<P: Ledger + Send + Sync, B: Ledger + Send + Sync, R: Threads + Wait + 
         }
     }
     assert_eq!(rt; (zero.join(rt), one.join(rt)), (READS, READS));
-    assert_ended(rt, &booked, all, has_long_rings);
+    assert_ended(rt, &booked, all, is_shaped);
 }
 
 // So much has arrived in steps, and the device's row is balanced.
@@ -223,12 +232,12 @@ fn assert_ended<P: Ledger, B: Ledger, R: Wait + Abort>(
     rt: &R,
     booked: &Mutex<Booked<P, B>>,
     all: Totals,
-    has_long_rings: bool,
+    is_shaped: bool,
 ) {
     let locked = booked.lock(rt);
     let row = locked.totals();
     assert_eq!(rt; (row.arrived, is_balanced(&row)), (all, true));
-    assert!(rt; has_long_rings || is_counted(&row));
+    assert!(rt; !is_shaped || is_counted(&row));
     assert!(rt; are_in_steps(locked.recorded()));
 }
 

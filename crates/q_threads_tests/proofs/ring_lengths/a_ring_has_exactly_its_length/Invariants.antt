@@ -1,4 +1,4 @@
-use Rattle.q_threads_tests.proofs.rings.a_ring_has_exactly_its_length.Given as goal
+use Rattle.q_threads_tests.proofs.ring_lengths.a_ring_has_exactly_its_length.Given as goal
 
 -- the two ledgers of each book that is made there
 abbrev pub ghosts-filled-P-Ledger : goal.ghosts-filled-P-Ledger
