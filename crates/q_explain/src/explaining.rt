@@ -76,7 +76,10 @@ fn behind(line: &[u8]) -> Word<'_> {
 fn trimmed(line: &[u8]) -> &[u8] {
     let mut words = Words::new(line);
     let mut end = 0usize;
-    while let Some(word) = words.next() {
+    for _ in 0..line.len() {
+        let Some(word) = words.next() else {
+            break;
+        };
         end = word.start.saturating_add(word.bytes.len());
     }
     &line[..end.min(line.len())]

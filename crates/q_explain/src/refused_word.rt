@@ -48,7 +48,10 @@ fn named<'a>(
     name: &str,
 ) -> Result<Option<Word<'a>>, AllocError> {
     let mut spot = Spot::new(alloc);
-    while let Some(word) = words.next() {
+    for _ in 0..usize::MAX {
+        let Some(word) = words.next() else {
+            break;
+        };
         let value = spot.value();
         if value.is_none() && is_bare(&spot, word, name) {
             return Ok(Some(word));
