@@ -11,6 +11,8 @@ ghost use Rattle.q_session.specs.Session.{opened, seen, IsShort};
 ghost use Rattle.q_show.specs.Writes.{MayWrite, WriteFailed};
 ghost use Rattle.q_show.specs.Written.{AppendsFront, IsBuffered};
 
+use crate::line_error::LineError;
+use crate::notes::Notes;
 use crate::showing::put_show;
 use crate::text::{put_device, put_fault, put_lost, put_poll, put_refusal};
 use q_device::{Command, Device, Refusal, Settings};
@@ -23,7 +25,7 @@ use std::alloc::{AllocError, Global};
 use std::io::Write;
 use std::marker::Model;
 
-/// What the lines of a script have made so far of a device. A contract sees it as the record `SessionSeen`.
+/// What the lines of a script have made so far of a device. A contract sees it as the record `SessionSeen`, without its notes.
 #[derive(Drop)]
 pub struct DeviceSession {
     device: Device,
@@ -35,6 +37,8 @@ pub struct DeviceSession {
     refused: bool,
     /// What the hash of a packet's key begins with, where its line gives none.
     seed: u32,
+    /// The lines that were not done, where they are noted.
+    notes: Option<Notes>,
 }
 
 impl Model for DeviceSession {
@@ -71,7 +75,31 @@ impl DeviceSession {
             packets: 0,
             refused: false,
             seed: settings.seed(),
+            notes: None,
         })
+    }
+
+    /// Notes each line from now on that is not done, which [`DeviceSession::take_notes`] gives. The session stays as it is.
+    pub fn note_errors(&mut self, alloc: Global)
+        ensures { self.new ≡ self.old }
+    {
+        self.notes = Some(Notes::new(alloc));
+    }
+
+    /// Takes the lines that were noted, and notes no more; `None` where none were to be noted. The session stays as it is.
+    pub fn take_notes(&mut self) -> Option<Notes>
+        ensures { self.new ≡ self.old }
+    {
+        self.notes.take()
+    }
+
+    /// Notes a line that was not done, where such lines are noted.
+    fn note(&mut self, number: u64, line: &[u8], error: LineError)
+        ensures { self.new ≡ self.old }
+    {
+        if let Some(notes) = &mut self.notes {
+            notes.add(number, line, error);
+        }
     }
 
     /// The device, when its script has ended.
@@ -81,8 +109,8 @@ impl DeviceSession {
         self.device
     }
 
-    /// A packet arrives. It takes its number also where there is no memory for it.
-    fn arrive(&mut self, number: u64, arrival: Arrival, output: &mut Output)
+    /// A packet arrives. It takes its number also where there is no memory for it, which is answered.
+    fn arrive(&mut self, number: u64, arrival: Arrival, output: &mut Output) -> Option<Refusal>
         requires few { self.old.state.packets + 1 < 2 ^ 32 }
         requires room { HasRoom output.old most_step }
         requires len { 1 ≤ arrival.len }
@@ -96,7 +124,9 @@ impl DeviceSession {
         if self.device.arrive(packet, self.moment).is_err() {
             self.refused = true;
             put_refusal(output, number, Refusal::Memory);
+            return Some(Refusal::Memory);
         }
+        None
     }
 
     /// The packet that arrives: its buffer has its number.
@@ -153,10 +183,22 @@ impl DeviceSession {
             × (self.new ≡ (seen self.old (commanded totals starved number command self.old.state)).session)
             × (output.new ≡ output.old ++ (commanded totals starved number command self.old.state).text) }
     {
+        let _ = self.run_command(number, command, output);
+    }
+
+    /// The same; the refusal is answered.
+    fn run_command(&mut self, number: u64, command: Command, output: &mut Output) -> Option<Refusal>
+        requires { HasRoom output.old most_step }
+        ensures { (starved : Bool)
+            × (self.new ≡ (seen self.old (commanded totals starved number command self.old.state)).session)
+            × (output.new ≡ output.old ++ (commanded totals starved number command self.old.state).text) }
+    {
         if let Err(refusal) = self.device.command(command, self.moment) {
             self.refused = true;
             put_refusal(output, number, refusal);
+            return Some(refusal);
         }
+        None
     }
 
     /// The losses that wait, oldest first. Each writes a line.
@@ -212,8 +254,8 @@ impl DeviceSession {
         put_fault(output, number, fault);
     }
 
-    /// A line that writes one line at most.
-    fn answer(&mut self, number: u64, line: Line, output: &mut Output)
+    /// A line that writes one line at most. Its refusal is answered.
+    fn answer(&mut self, number: u64, line: Line, output: &mut Output) -> Option<Refusal>
         requires few { self.old.state.packets + 1 < 2 ^ 32 }
         requires room { HasRoom output.old most_step }
         requires sendable { IsSendable line }
@@ -223,13 +265,14 @@ impl DeviceSession {
             × (output.new ≡ output.old ++ (answered totals self.old.seed starved number line self.old.state).text) }
     {
         match line {
-            Line::Pkt(arrival) => self.arrive(number, arrival, output),
-            Line::Frame { len, head } => self.arrive(number, framed(len, head), output),
-            Line::Tc(command) => self.command(number, command, output),
+            Line::Pkt(arrival) => return self.arrive(number, arrival, output),
+            Line::Frame { len, head } => return self.arrive(number, framed(len, head), output),
+            Line::Tc(command) => return self.run_command(number, command, output),
             Line::At(moment) => self.moment = moment,
             Line::Totals => put_device(output, &self.device.totals()),
             Line::Blank | Line::Show(_) | Line::Poll(_) | Line::Reap => {}
         }
+        None
     }
 }
 
@@ -267,14 +310,17 @@ impl Session for DeviceSession {
             Ok(Line::Poll(count)) => self.poll(count, output, target),
             Ok(Line::Reap) => self.reap(output, target),
             Ok(Line::Show(show)) => self.show(show, output, target),
-            Ok(line) => {
+            Ok(read) => {
                 output.make_room(target)?;
-                self.answer(number, line, output);
+                if let Some(refusal) = self.answer(number, read, output) {
+                    self.note(number, line, LineError::Refusal(refusal));
+                }
                 Ok(())
             }
             Err(fault) => {
                 output.make_room(target)?;
                 self.fault(number, fault, output);
+                self.note(number, line, LineError::Fault(fault));
                 Ok(())
             }
         }

@@ -9,6 +9,8 @@
 //!   nothing else, and an outcome means that none did.
 //! - [`DeviceSession`] is the [`Session`](q_script::Session) of `q_script` that runs each line over a `Device` of `q_device`:
 //!   arrivals, polls, commands, show texts, losses and counters, as the report of `q_script_semantics` says.
+//!   Where it is told to, it keeps [`Notes`] of the lines that were not done, each with its [`LineError`]; [`run_session`] runs a
+//!   script in a session that the caller opened, as [`run_between`] does in one of its own.
 //! - [`show_qdiscs`], [`show_classes`] and [`show_filters`] write what tc's show lines print of a `Tree` of `q_tree`, and
 //!   [`ShowFault`] is why they did not. [`put_show`] puts such a text into an `Output` of `q_script`, and
 //!   [`put_device`] the line on a device's counters.
@@ -18,7 +20,10 @@
 #![tactic(auto)]
 
 mod device_session;
+mod line_error;
 mod listed;
+mod noted_line;
+mod notes;
 mod running;
 mod show;
 mod show_fault;
@@ -26,7 +31,10 @@ mod showing;
 mod text;
 
 pub use device_session::DeviceSession;
-pub use running::{run, run_between};
+pub use line_error::LineError;
+pub use noted_line::NotedLine;
+pub use notes::Notes;
+pub use running::{run, run_between, run_session};
 pub use show::{show_classes, show_filters, show_qdiscs};
 pub use show_fault::ShowFault;
 pub use showing::put_show;

@@ -4,6 +4,7 @@ ghost use Rattle.q_show.specs.Writes.{no_writes};
 ghost use Rattle.q_script.specs.Ended.{Ended};
 ghost use Rattle.q_script.specs.Reads.{no_reads};
 ghost use Rattle.q_session.specs.Reported.{IsReported, IsPartlyReported};
+ghost use Rattle.q_session.specs.Session.{opened};
 
 use crate::device_session::DeviceSession;
 use q_script::{Outcome, RunFault, RunSettings, Source};
@@ -45,7 +46,34 @@ pub fn run_between<R: Read, W: Write>(
     let Ok(mut session) = DeviceSession::open(alloc, &settings) else {
         return Err(RunFault::Memory);
     };
-    q_script::run_between(alloc, source, target, &mut session)
+    run_session(alloc, source, target, settings, &mut session)
+}
+
+/// Runs a script as [`run_between`] does, in a session that was opened with these settings and has run no line.
+pub fn run_session<R: Read, W: Write>(
+    alloc: Global,
+    source: &mut Source<'_, R>,
+    target: &mut Target<'_, W>,
+    settings: RunSettings,
+    session: &mut DeviceSession,
+) -> Result<Outcome, RunFault>
+    requires new { session.old ≡ opened settings }
+    requires unread { source.old.reads ≡ no_reads }
+    requires unwritten { target.old.writes ≡ no_writes }
+    ensures same_reader { source.new.reader.ghost_name ≡ source.old.reader.ghost_name }
+    ensures same_writer { target.new.writer.ghost_name ≡ target.old.writer.ghost_name }
+    ensures report { IfOk result (λ outcome. IfSome (R.remaining source.old.reader.now) (λ script.
+        IsReported settings script outcome (W.contents target.old.writer.now) (W.contents target.new.writer.now))) }
+    ensures short { OnOk result (IfSome (R.remaining source.old.reader.now) (λ script. length script ≤ 16777216)) }
+    ensures too_long_only { result ≡ Err RunFault.TooLong → IfSome (R.remaining source.old.reader.now) (λ script. 16777216 < length script) }
+    ensures partly { (kind : ErrorKind) → result ≡ Err (RunFault.Write kind) → IfSome (R.remaining source.old.reader.now) (λ script.
+        IsPartlyReported settings script (W.contents target.old.writer.now) (W.contents target.new.writer.now)) }
+    ensures ended { Ended result source.new.reads target.new.writes }
+    ensures read_unwritten { (kind : ErrorKind) → result ≡ Err (RunFault.Read kind) → target.new ≡ target.old }
+    ensures too_long_unwritten { result ≡ Err RunFault.TooLong → target.new ≡ target.old }
+    ensures memory_unwritten { result ≡ Err RunFault.Memory → target.new ≡ target.old }
+{
+    q_script::run_between(alloc, source, target, session)
 }
 
 /// Reads a script of at most 16,777,216 bytes and writes its report. No line is run before the whole script was read. The

@@ -19,7 +19,7 @@ pub answer-requires : goal.answer-requires
 answer-requires g c = record {
   few = c.requires.few;
   room = c.in_ok-make_room-in-Ok.ensures.room;
-  sendable = read-sendable c.args.line.now c.in-Ok.line (sym c.read_line.ensures ∙ c.in-Ok.is);
+  sendable = read-sendable c.args.line.now c.in-Ok.read (sym c.read_line.ensures ∙ c.in-Ok.is);
   short = search rules;
 }
 

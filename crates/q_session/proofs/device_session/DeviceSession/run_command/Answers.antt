@@ -5,7 +5,7 @@ use Rattle.q_script_semantics.specs.Report.{Effect, commanded}
 use Rattle.q_session.specs.Session.{SessionSeen, seen}
 use Rattle.q_session.specs.Seen.{session_seen}
 use Rattle.q_session.proofs.CommandLemmas.{refused-effect}
-use Rattle.q_session.proofs.device_session.DeviceSession.command.Goals as goal
+use Rattle.q_session.proofs.device_session.DeviceSession.run_command.Goals as goal
 
 pub returns-in-Err : goal.returns-in-Err
 returns-in-Err c =
