@@ -3,8 +3,6 @@
 #![tactic(auto)]
 
 #[cfg(test)]
-mod blockade;
-#[cfg(test)]
 mod common;
 #[cfg(test)]
 mod endings;
@@ -32,5 +30,3 @@ mod senders;
 mod shaped;
 #[cfg(test)]
 mod traffic;
-#[cfg(test)]
-mod undrained;
