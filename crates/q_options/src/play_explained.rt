@@ -7,7 +7,7 @@ use crate::fault::Fault;
 use crate::playing::FAULT;
 use crate::telling::tell_of;
 use q_explain::{explain_fault, explain_refusal};
-use q_script::{Outcome, RunFault, RunSettings, Source};
+use q_script::{RunFault, RunSettings, Source};
 use q_session::{DeviceSession, LineError, NotedLine, Notes, run_session};
 use q_show::{Target, write_whole};
 use std::alloc::{AllocError, Global};
@@ -38,12 +38,15 @@ pub fn play_explained<R: Read, W: Write, E: Write>(
     };
     session.note_errors(alloc);
     match run_session(alloc, source, target, settings, &mut session) {
-        Ok(Outcome::Clean) => 0,
-        Ok(Outcome::Refused) => {
+        Ok(outcome) => {
+            let status = outcome.status();
+            if status == 0 {
+                return status;
+            }
             if let Some(notes) = session.take_notes() {
                 explain(alloc, &notes, errors);
             }
-            1
+            status
         }
         Err(fault) => {
             tell_of(file, Fault::Run(fault), errors);
