@@ -1,11 +1,10 @@
 //! Playing what a command line asks for: a file or standard input.
-ghost use Rattle.std.specs.Prelude.{◌≡◌, ◌≤◌, option_map};
-ghost use Rattle.q_options.specs.Answer.{IsPlayedFrom, IsPlayedOf};
+ghost use Rattle.std.specs.Prelude.{◌≡◌, ◌≤◌};
+ghost use Rattle.q_options.specs.Answer.{IsPlayedFrom};
 ghost use Rattle.q_script.specs.Reads.{no_reads};
 ghost use Rattle.q_show.specs.Writes.{no_writes};
 
 use crate::fault::Fault;
-use crate::play_explained::play_explained;
 use crate::play_options::PlayOptions;
 use crate::playing::{FAULT, play_of};
 use crate::telling::tell_of;
@@ -35,7 +34,7 @@ pub fn play_asked<H: Files, R: Read, W: Write, E: Write>(
         (E.contents errors.old) (E.contents errors.new) source.new.reads target.new.writes result }
 {
     let Some(path) = &options.file else {
-        return play_one(alloc, None, options, source, target, errors);
+        return play_of(alloc, None, options.settings, source, target, errors);
     };
     let mut file = match fs::open(rt, path.as_str()) {
         Ok(file) => file,
@@ -47,29 +46,5 @@ pub fn play_asked<H: Files, R: Read, W: Write, E: Write>(
     };
     let mut source = Source::new(&mut file);
     let path = Some(path.as_str());
-    play_one(alloc, path, options, &mut source, target, errors)
-}
-
-/// Plays the script of the source, whose file is named where it could not be read, and explains its lines where that is asked for.
-fn play_one<R: Read, W: Write, E: Write>(
-    alloc: Global,
-    file: Option<&str>,
-    options: &PlayOptions,
-    source: &mut Source<'_, R>,
-    target: &mut Target<'_, W>,
-    errors: &mut E,
-) -> u8
-    requires unread { source.old.reads ≡ no_reads }
-    requires unwritten { target.old.writes ≡ no_writes }
-    ensures same_reader { source.new.reader.ghost_name ≡ source.old.reader.ghost_name }
-    ensures same_writer { target.new.writer.ghost_name ≡ target.old.writer.ghost_name }
-    ensures statuses { result ≤ 2 }
-    ensures played { IsPlayedOf options.now.explain (option_map (λ path. path.now) file.entry) options.now.settings (R.remaining source.old.reader.now)
-        (W.contents target.old.writer.now) (W.contents target.new.writer.now)
-        (E.contents errors.old) (E.contents errors.new) source.new.reads target.new.writes result }
-{
-    match options.explain {
-        true => play_explained(alloc, file, options.settings, source, target, errors),
-        false => play_of(alloc, file, options.settings, source, target, errors),
-    }
+    play_of(alloc, path, options.settings, &mut source, target, errors)
 }

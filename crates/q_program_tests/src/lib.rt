@@ -14,8 +14,6 @@ mod drained;
 #[cfg(test)]
 mod drives;
 #[cfg(test)]
-mod explanations;
-#[cfg(test)]
 mod imports;
 #[cfg(test)]
 mod line_runner;
