@@ -8,12 +8,15 @@ use std::io;
 use std::process::Command;
 
 /// The rows, in the order in which both sides give them.
-const ROWS: [&str; 5] = [
+const ROWS: [&str; ports::ROWS] = [
     "ports: an offer",
     "ports: a turn of 64, for each",
+    "ports: a turn that finds nothing",
+    "ports: an offer, 4 senders at once",
     "ports: drive, 1 sender, for each",
     "ports: drive, 4 senders, for each",
     "ports: drive, 16 senders, for each",
+    "ports: drive, 64 senders, for each",
 ];
 
 /// Times both sides in turns, and prints the rows.
@@ -30,7 +33,7 @@ pub fn print(program: &str, rounds: usize) -> io::Result<()> {
         }
     }
     for (at, name) in ROWS.iter().enumerate() {
-        let of = |side: &[[f64; 5]]| -> Vec<f64> { side.iter().map(|times| times[at]).collect() };
+        let of = |side: &[[f64; ports::ROWS]]| -> Vec<f64> { side.iter().map(|times| times[at]).collect() };
         let (ours, theirs) = (of(&rattle), of(&plain));
         let times = Times {
             to_plain: timing::ratio(&ours, &theirs),
@@ -45,11 +48,11 @@ pub fn print(program: &str, rounds: usize) -> io::Result<()> {
 }
 
 /// One round of the program.
-fn run(program: &str) -> io::Result<[f64; 5]> {
+fn run(program: &str) -> io::Result<[f64; ports::ROWS]> {
     let output = Command::new(program).arg("times").output()?;
     let text = String::from_utf8_lossy(&output.stdout);
     let figures: Vec<f64> = text.lines().filter_map(each).collect();
-    match <[f64; 5]>::try_from(figures) {
+    match <[f64; ports::ROWS]>::try_from(figures) {
         Ok(times) if times.iter().all(|time| *time > 0.0) => Ok(times),
         _ => Err(io::Error::other(format!("{program}: {text}"))),
     }

@@ -82,14 +82,19 @@ impl Intake {
     }
 }
 
-/// The nanoseconds of an offer and of a packet in a turn of 64, and those of a packet with 1, 4 and 16 senders.
-pub fn timed() -> Option<[f64; 5]> {
-    let (offer, turn) = offers_and_turns(4096, 64)?;
-    Some([offer, turn, drive(1)?, drive(4)?, drive(16)?])
+/// How many figures there are.
+pub const ROWS: usize = 8;
+
+/// The nanoseconds of an offer, of a packet in a turn of 64, of a turn that finds nothing, of an offer where four senders offer at
+/// once, and of a packet with 1, 4, 16 and 64 senders.
+pub fn timed() -> Option<[f64; ROWS]> {
+    let [offer, turn, idle] = offers_and_turns(4096, 64)?;
+    let at_once = offers_at_once(65_536, 4)?;
+    Some([offer, turn, idle, at_once, drive(1)?, drive(4)?, drive(16)?, drive(64)?])
 }
 
-/// Fills a ring and takes its packets by turns, so many times over.
-fn offers_and_turns(places: usize, stretches: usize) -> Option<(f64, f64)> {
+/// Fills a ring and takes its packets by turns, so many times over, and then takes as many turns that find nothing as fit the ring.
+fn offers_and_turns(places: usize, stretches: usize) -> Option<[f64; 3]> {
     let (device, given) = (device(), packet());
     let (mut sender, receiver) = ring(places);
     let mut intake = Intake {
@@ -113,8 +118,45 @@ fn offers_and_turns(places: usize, stretches: usize) -> Option<(f64, f64)> {
             return None;
         }
     }
+    let start = Instant::now();
+    for _ in 0..places {
+        intake.turn(&device, 0)?;
+    }
+    let idle = start.elapsed().as_nanos() as f64 / places as f64;
     let packets = (places * stretches) as f64;
-    Some((offers as f64 / packets, turns as f64 / packets))
+    Some([offers as f64 / packets, turns as f64 / packets, idle])
+}
+
+/// Four senders fill their rings at once, each on a thread of its own, so many times over and once before; the time is that of
+/// the slowest.
+fn offers_at_once(places: usize, stretches: usize) -> Option<f64> {
+    let (device, given) = (device(), packet());
+    let (mut ends, rings): (Vec<Sender>, Vec<Receiver>) = (0..4).map(|_| ring(places)).unzip();
+    let mut intake = Intake { rings, next: 0 };
+    let mut all = 0.0;
+    for stretch in 0..=stretches {
+        let slowest = thread::scope(|scope| {
+            let fill = |end| move || fill(end, &given, places);
+            let senders: Vec<_> = ends.iter_mut().map(|end| scope.spawn(fill(end))).collect();
+            let spans = senders.into_iter().map(|it| it.join().ok().flatten());
+            spans.collect::<Option<Vec<f64>>>().map(|them| them.into_iter().fold(0.0, f64::max))
+        })?;
+        let mut sent = 0;
+        for _ in 0..4 * places / MOST {
+            sent += intake.turn(&device, 0)?.1.len();
+        }
+        if sent != 4 * places {
+            return None;
+        }
+        all += if stretch > 0 { slowest } else { 0.0 };
+    }
+    Some(all / (4 * places * stretches) as f64)
+}
+
+/// The nanoseconds in which so many packets are placed.
+fn fill(end: &mut Sender, given: &Packet, places: usize) -> Option<f64> {
+    let start = Instant::now();
+    (0..places).all(|_| end.offer(given, 0)).then(|| start.elapsed().as_nanos() as f64)
 }
 
 /// So many senders place their packets in threads of their own, while this thread takes turns.

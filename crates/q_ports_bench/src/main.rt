@@ -1,21 +1,24 @@
-//! Times the ports for the benchmark in `bench/`: given the word `times`, it prints five lines, each with a number of
-//! nanoseconds and of packets; else it does nothing.
+//! Times the ports for the benchmark in `bench/`: given the word `times`, it prints eight lines, each with a number of
+//! nanoseconds, and of packets or turns; else it does nothing.
 //!
-//! They are those of an offer, of a turn of 64, and of `drive` with 1, 4 and 16 senders, all into a root pfifo. A static
-//! library may not wait, so that these are timed here, and not beside the other workloads (`q_bench`). The time is 0 where
-//! memory or a thread was refused, or a packet did not arrive.
+//! They are those of an offer, of a turn of 64, of a turn that finds nothing, of four senders that offer at once, and of `drive`
+//! with 1, 4, 16 and 64 senders, all into a root pfifo. A static library may not wait, so that these are timed here, and not
+//! beside the other workloads (`q_bench`). The time is 0 where memory or a thread was refused, or a packet did not arrive.
 //!
 //! - [`one_port`]: offers and turns on one thread.
+//! - [`four_ports`]: offers on four threads.
 //! - [`senders`]: a thread for each port, and the drain.
 #![tactic(auto)]
 
 ghost use Rattle.std.specs.Prelude.{◌≡◌, IfSome};
 ghost use Rattle.q_model.specs.Tally.{no_totals};
 
+mod four_ports;
 mod one_port;
 mod senders;
 
-use crate::one_port::{PACKETS, offers_and_turns};
+use crate::four_ports::offers_at_once;
+use crate::one_port::{IDLE_TURNS, NO_SPANS, offers_and_turns};
 use crate::senders::drive_all;
 use q_device::{Device, Settings};
 use q_packet::{Ecn, FlowKey, Packet};
@@ -32,13 +35,19 @@ fn main(rt: HostRuntime) -> io::Result<()> {
         return Ok(());
     }
     let alloc = rt.alloc();
-    let (mut offers, mut turns) = (0, 0);
+    let mut spans = NO_SPANS;
     if let (Some(device), Some(given)) = (device(alloc), packet()) {
-        (offers, turns) = offers_and_turns(&rt, alloc, device, given)?;
+        spans = offers_and_turns(&rt, alloc, device, given)?;
     }
-    println!(rt; "{offers} {PACKETS}")?;
-    println!(rt; "{turns} {PACKETS}")?;
-    for senders in [1, 4, 16] {
+    println!(rt; "{} {}", spans.offers, one_port::PACKETS)?;
+    println!(rt; "{} {}", spans.turns, one_port::PACKETS)?;
+    println!(rt; "{} {IDLE_TURNS}", spans.idle_turns)?;
+    let mut at_once = 0;
+    if let (Some(device), Some(given)) = (device(alloc), packet()) {
+        at_once = offers_at_once(&rt, alloc, device, given)?;
+    }
+    println!(rt; "{at_once} {}", four_ports::PACKETS)?;
+    for senders in [1, 4, 16, 64] {
         let mut span = 0;
         if let (Some(device), Some(given)) = (device(alloc), packet()) {
             span = drive_all(&rt, alloc, device, given, senders, SENT / senders)?;

@@ -24,13 +24,34 @@ const STRETCHES: usize = 64;
 /// The packets of all stretches.
 pub const PACKETS: usize = RING * STRETCHES;
 
-/// The nanoseconds of all offers, and of all turns.
+/// The turns that find nothing.
+pub const IDLE_TURNS: usize = 4096;
+
+/// Nanoseconds; all are 0 where memory was refused, or a packet did not go through.
+#[derive(Clone, Copy)]
+pub struct Spans {
+    /// Of all offers.
+    pub offers: u64,
+    /// Of all turns that take those packets.
+    pub turns: u64,
+    /// Of the turns that find nothing, each of which publishes to a gauge as every turn does.
+    pub idle_turns: u64,
+}
+
+/// What nothing was timed of.
+pub const NO_SPANS: Spans = Spans {
+    offers: 0,
+    turns: 0,
+    idle_turns: 0,
+};
+
+/// Times offers into one ring and turns that take them, in stretches, and then turns that find nothing.
 pub fn offers_and_turns<R: Wait + Clock>(
     rt: &R,
     alloc: Global,
     device: Device,
     given: Packet,
-) -> io::Result<(u64, u64)>
+) -> io::Result<Spans>
     requires { device.device.tree.top.arrived ≡ no_totals }
 {
     let (packets, bytes) = (Blank::new(65), Blank::new(65));
@@ -44,20 +65,20 @@ fn booked<P: Ledger, B: Ledger, R: Wait + Clock>(
     given: Packet,
     packets: Blank,
     bytes: Blank,
-) -> io::Result<(u64, u64)>
+) -> io::Result<Spans>
     requires nothing { device.device.tree.top.arrived ≡ no_totals }
     requires packets { (packets.name ≡ P.name) × (packets.parts ≡ P.parts) × (P.parts ≡ 65) }
     requires bytes { (bytes.name ≡ B.name) × (bytes.parts ≡ B.parts) × (B.parts ≡ 65) }
 {
     let (booked, seat) = Booked::<P, B>::new(device, packets, bytes);
-    let Ok((drain, ports, _gauges)) = open_ports(rt, alloc, seat, 1, RING, 0) else {
-        return Ok((0, 0));
+    let Ok((drain, ports, _gauges)) = open_ports(rt, alloc, seat, 1, RING, 1) else {
+        return Ok(NO_SPANS);
     };
     let (mut drain, mut ports) = (drain, ports);
     let lock = Mutex::new(booked);
     let spans = match ports.pop() {
         Some(port) => stretches(rt, alloc, &lock, &mut drain, port, given),
-        None => Ok((0, 0)),
+        None => Ok(NO_SPANS),
     };
     drain.end(rt);
     spans
@@ -70,27 +91,38 @@ fn stretches<P: Ledger, B: Ledger, R: Wait + Clock>(
     drain: &mut Drain<P, B>,
     port: Port,
     given: Packet,
-) -> io::Result<(u64, u64)> {
+) -> io::Result<Spans> {
     let mut port = port;
     let (mut offers, mut turns) = (0u64, 0u64);
     for _ in 0..STRETCHES {
         let start = Instant::now(rt)?;
-        if !offer_all(&mut port, given) {
-            return Ok((0, 0));
+        if !offer_all(&mut port, given, RING) {
+            return Ok(NO_SPANS);
         }
         offers = offers.saturating_add(span_since(rt, &start)?);
         let start = Instant::now(rt)?;
-        if take_all(rt, alloc, lock, drain) != RING {
-            return Ok((0, 0));
+        if take_all(rt, alloc, lock, drain, RING) != RING {
+            return Ok(NO_SPANS);
         }
         turns = turns.saturating_add(span_since(rt, &start)?);
     }
-    Ok((offers, turns))
+    let start = Instant::now(rt)?;
+    let sent = take_all(rt, alloc, lock, drain, IDLE_TURNS * MOST);
+    let idle_turns = span_since(rt, &start)?;
+    Ok(if sent == 0 {
+        Spans {
+            offers,
+            turns,
+            idle_turns,
+        }
+    } else {
+        NO_SPANS
+    })
 }
 
-/// Fills the ring; whether each packet was placed.
-fn offer_all(port: &mut Port, given: Packet) -> bool {
-    for _ in 0..RING {
+/// Offers so many packets; whether each was placed.
+pub fn offer_all(port: &mut Port, given: Packet, count: usize) -> bool {
+    for _ in 0..count {
         if port.offer(given).is_err() {
             return false;
         }
@@ -98,15 +130,16 @@ fn offer_all(port: &mut Port, given: Packet) -> bool {
     true
 }
 
-/// Takes what waits in the ring; how many packets arrived and were sent.
-fn take_all<P: Ledger, B: Ledger, R: Wait>(
+/// Takes turns that so many packets fill; how many packets were sent.
+pub fn take_all<P: Ledger, B: Ledger, R: Wait>(
     rt: &R,
     alloc: Global,
     lock: &Mutex<Booked<P, B>>,
     drain: &mut Drain<P, B>,
+    count: usize,
 ) -> usize {
     let mut sent = 0usize;
-    for _ in 0..RING / MOST {
+    for _ in 0..count / MOST {
         let Ok(turn) = drain.turn(rt, alloc, lock, Moment::zero(), MOST) else {
             return 0;
         };
