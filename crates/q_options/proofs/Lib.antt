@@ -1,2 +1,3 @@
 pub mod Chains
+pub mod Explained
 pub mod FoundOptions

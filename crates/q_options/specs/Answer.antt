@@ -1,6 +1,6 @@
--- What the program answers: its exit status, the report on its output and one line on its error output.
+-- What the program answers: its exit status, the report on its output and one line on its error output, or what explains lines there.
 -- The statuses and the words are this project's own.
-use Rattle.std.specs.Prelude.{◌≡◌, ◌≢◌, ℕ, ◌⊎◌, List, [], ◌∷◌, ◌++◌, Option, Some, None, IfSome, Ok, Err, codes, take, min, length, option_map, string_bytes}
+use Rattle.std.specs.Prelude.{◌≡◌, ◌≢◌, ℕ, Bool, false, ◌⊎◌, List, [], ◌∷◌, ◌++◌, Option, Some, None, IfSome, Ok, Err, codes, take, min, length, option_map, string_bytes}
 use Rattle.std.specs.Io.KnownBytes.{Appends, Keeps}
 use Rattle.std.specs.declared.io.ErrorKind.{ErrorKind}
 use Rattle.q_drive.specs.Drive.{Drive}
@@ -65,23 +65,25 @@ Leaves partly (Write kind) script old new = IfSome script partly
 Leaves partly Memory script old new = Keeps old new
 
 -- Standard input or a file was read: what the output and the error output had before and have now, what the reads and writes came
--- to, and the status. What is reported whole of a script, with its outcome, and what in part, is the command's own.
-pub record IsAnswered (file : Option Text) (whole : Outcome → List ℕ → Type 0) (partly : List ℕ → Type 0) (script old new errors_old errors_new : Option (List ℕ)) (reads : Reads) (writes : Writes) (status : ℕ) : Type 0 where
+-- to, and the status. What is reported whole of a script, with its outcome, and what in part, is the command's own. Where lines that
+-- were not done are explained, the error output says of them what it will.
+pub record IsAnswered (explained : Bool) (file : Option Text) (whole : Outcome → List ℕ → Type 0) (partly : List ℕ → Type 0) (script old new errors_old errors_new : Option (List ℕ)) (reads : Reads) (writes : Writes) (status : ℕ) : Type 0 where
   -- the whole report, in which nothing had a fault or was refused
   pub clean : status ≡ 0 → IfSome script (whole Clean) × Ended (Ok Clean) reads writes
   -- the whole report, in which something had a fault or was refused
   pub refused : status ≡ 1 → IfSome script (whole Refused) × Ended (Ok Refused) reads writes
-  pub silent : status ≢ 2 → Keeps errors_old errors_new
+  pub silent : explained ≡ false → status ≢ 2 → Keeps errors_old errors_new
+  pub clean_silent : status ≡ 0 → Keeps errors_old errors_new
   -- not the whole report, and a line that says why
   pub fault : status ≡ 2 → (fault : RunFault) × IsToldOf file (Run fault) errors_old errors_new × Leaves partly fault script old new × Ended (Err fault) reads writes
 
 -- a script of a file or of standard input was played
-abbrev pub IsPlayedOf : Option Text → Settings → Option (List ℕ) → Option (List ℕ) → Option (List ℕ) → Option (List ℕ) → Option (List ℕ) → Reads → Writes → ℕ → Type 0
-IsPlayedOf file settings script old new errors_old errors_new reads writes status =
-    IsAnswered file (λ told all. IsReported settings all told old new) (λ all. IsPartlyReported settings all old new) script old new errors_old errors_new reads writes status
+abbrev pub IsPlayedOf : Bool → Option Text → Settings → Option (List ℕ) → Option (List ℕ) → Option (List ℕ) → Option (List ℕ) → Option (List ℕ) → Reads → Writes → ℕ → Type 0
+IsPlayedOf explained file settings script old new errors_old errors_new reads writes status =
+    IsAnswered explained file (λ told all. IsReported settings all told old new) (λ all. IsPartlyReported settings all old new) script old new errors_old errors_new reads writes status
 
 abbrev pub IsPlayed : Settings → Option (List ℕ) → Option (List ℕ) → Option (List ℕ) → Option (List ℕ) → Option (List ℕ) → Reads → Writes → ℕ → Type 0
-IsPlayed settings script old new errors_old errors_new reads writes status = IsPlayedOf None settings script old new errors_old errors_new reads writes status
+IsPlayed settings script old new errors_old errors_new reads writes status = IsPlayedOf false None settings script old new errors_old errors_new reads writes status
 
 -- a file could not be opened, which is told with its name; nothing was written
 pub record IsUnopened {T : Type 0} (path : Text) (target target_new : T) (errors_old errors_new : Option (List ℕ)) (status : ℕ) : Type 0 where
@@ -92,16 +94,16 @@ pub record IsUnopened {T : Type 0} (path : Text) (target target_new : T) (errors
 -- The script of the file that is named was played, of which `remaining` says what it had, and the source was not read; or the
 -- script of the source, where no file is named.
 pub record IsPlayedFrom {F S T : Type 0} (remaining : F → Option (List ℕ)) (options : PlayOptions) (source source_new : S) (target target_new : T) (input old new errors_old errors_new : Option (List ℕ)) (reads : Reads) (writes : Writes) (status : ℕ) : Type 0 where
-  pub of_input : option_map string_bytes options.file ≡ None → IsPlayedOf None options.settings input old new errors_old errors_new reads writes status
+  pub of_input : option_map string_bytes options.file ≡ None → IsPlayedOf options.explain None options.settings input old new errors_old errors_new reads writes status
   pub unread : (path : Text) → option_map string_bytes options.file ≡ Some path → source_new ≡ source
   pub of_file : (path : Text) → option_map string_bytes options.file ≡ Some path
       → IsUnopened path target target_new errors_old errors_new status
-      ⊎ ((file : F) × (file_reads : Reads) × IsPlayedOf (Some path) options.settings (remaining file) old new errors_old errors_new file_reads writes status)
+      ⊎ ((file : F) × (file_reads : Reads) × IsPlayedOf options.explain (Some path) options.settings (remaining file) old new errors_old errors_new file_reads writes status)
 
 -- a device was set up and driven
 abbrev pub IsDriveAnswered : Drive → Option (List ℕ) → Option (List ℕ) → Option (List ℕ) → Option (List ℕ) → Option (List ℕ) → Reads → Writes → ℕ → Type 0
 IsDriveAnswered settings script old new errors_old errors_new reads writes status =
-    IsAnswered None (λ told all. IsDriven settings all told old new) (λ all. IsPartlyDriven settings all old new) script old new errors_old errors_new reads writes status
+    IsAnswered false None (λ told all. IsDriven settings all told old new) (λ all. IsPartlyDriven settings all old new) script old new errors_old errors_new reads writes status
 
 -- No read was made: help or the version was shown, or the command line was refused. Where the output was written to and the status
 -- is 2, a write failed.

@@ -40,7 +40,7 @@ abbrev pub file_rule : Rule
 file_rule = record (new_rule (codes "file")) { value_names = 1 }
 
 abbrev pub play_app : App
-play_app = with_rule (with_device (new_app (codes "play"))) file_rule
+play_app = with_rule (with_rule (with_device (new_app (codes "play"))) (flag_rule (codes "explain"))) file_rule
 
 -- a command with the options of its senders
 abbrev pub with_load : App → App
@@ -103,6 +103,7 @@ pub record HasOptionsOf (found : Texts) (s : Settings) : Type 0 where
 pub record HasPlayOptionsOf (found written : Texts) (o : PlayOptions) : Type 0 where
   pub device : HasOptionsOf found o.settings
   pub file : option_map string_bytes o.file ≡ written (codes "file")
+  pub explain : IsFlag (found (codes "explain")) o.explain
 
 -- and so are those of a drive
 pub record HasDriveOptionsOf (found : Texts) (s : Drive) : Type 0 where

@@ -64,7 +64,20 @@ fn play<'a>(alloc: Global) -> Result<Command<'a>, AllocError>
             "Reads a script, of a file or of standard input, and writes its report on standard output",
         )
         .after_help(PLAY_END);
-    with_device(alloc, play)?.arg(file(alloc))
+    with_device(alloc, play)?
+        .arg(explain(alloc))?
+        .arg(file(alloc))
+}
+
+/// Whether each line that is not done is explained.
+fn explain<'a>(alloc: Global) -> Arg<'a>
+    ensures rule { rule_of result ≡ flag_rule (codes "explain") }
+    ensures local { result.global ≡ false }
+{
+    Arg::new(alloc, "explain")
+        .long("explain")
+        .action(ArgAction::SetTrue)
+        .help("Explain each line with a fault or a refusal on standard error")
 }
 
 /// The file that has the script.
@@ -216,7 +229,12 @@ fn play_options_of(alloc: Global, play: &ArgMatches) -> Result<Option<PlayOption
         Some(path) => Some(String::from_str(alloc, path)?),
         None => None,
     };
-    Ok(Some(PlayOptions { settings, file }))
+    let explain = play.get_flag("explain");
+    Ok(Some(PlayOptions {
+        settings,
+        file,
+        explain,
+    }))
 }
 
 /// The settings of a drive that were given; `None` where a text is no number, or one out of range, or is not there.

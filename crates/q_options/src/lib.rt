@@ -4,12 +4,14 @@
 //!   status. `main` calls it and nothing else.
 //! - [`play`] is the part of it that runs a script, and [`drive`] the one that drives a device: the status, the report, and the line
 //!   that tells of a [`Fault`].
+//!   Where lines are to be explained, it writes what q_explain says of each that has a fault or was refused.
 //! - [`options`] reads what the command line asks for, as [`Options`].
 //! - [`run`] runs a script with [`RunSettings`], and [`run_drive`] drives a device with [`DriveSettings`], from any reader to any
 //!   writer: what a program calls that has no command line. They answer an [`Outcome`] or a [`RunFault`], and stand in q_session
 //!   and q_drive.
 //!
-//! - [`Standard`] is the standard input or output that `main` hands to [`answer`]: a closed one is told as such.
+//! - [`Standard`] is the standard input or output that `main` hands to [`answer`]: a closed one is told as such. [`PromptedReader`] says
+//!   before its first read that standard input is a terminal.
 //!
 //! `specs/Answer.antt` says what is answered. What clap prints is in no contract.
 #![tactic(auto)]
@@ -17,11 +19,13 @@
 mod answering;
 mod command_line;
 mod driving;
+mod explaining;
 mod fault;
 mod play_asked;
 mod play_options;
 mod playing;
 mod program_options;
+mod prompted_reader;
 mod standard;
 mod telling;
 
@@ -32,6 +36,7 @@ pub use fault::Fault;
 pub use play_options::PlayOptions;
 pub use playing::play;
 pub use program_options::Options;
+pub use prompted_reader::PromptedReader;
 pub use q_drive::{DriveSettings, run_drive};
 pub use q_script::{Outcome, RunFault, RunSettings};
 pub use q_session::run;

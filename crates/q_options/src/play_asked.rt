@@ -1,6 +1,6 @@
 //! Playing what a command line asks for: a file or standard input.
-ghost use Rattle.std.specs.Prelude.{◌≡◌, ◌≤◌};
-ghost use Rattle.q_options.specs.Answer.{IsPlayedFrom};
+ghost use Rattle.std.specs.Prelude.{◌≡◌, ◌≤◌, option_map};
+ghost use Rattle.q_options.specs.Answer.{IsPlayedFrom, IsPlayedOf};
 ghost use Rattle.q_script.specs.Reads.{no_reads};
 ghost use Rattle.q_show.specs.Writes.{no_writes};
 
@@ -33,8 +33,9 @@ pub fn play_asked<H: Files, R: Read, W: Write, E: Write>(
         (R.remaining source.old.reader.now) (W.contents target.old.writer.now) (W.contents target.new.writer.now)
         (E.contents errors.old) (E.contents errors.new) source.new.reads target.new.writes result }
 {
+    let (settings, explains) = (options.settings, options.explain);
     let Some(path) = &options.file else {
-        return play_of(alloc, None, options.settings, source, target, errors);
+        return play_of(alloc, None, settings, explains, source, target, errors);
     };
     let mut file = match fs::open(rt, path.as_str()) {
         Ok(file) => file,
@@ -46,5 +47,5 @@ pub fn play_asked<H: Files, R: Read, W: Write, E: Write>(
     };
     let mut source = Source::new(&mut file);
     let path = Some(path.as_str());
-    play_of(alloc, path, options.settings, &mut source, target, errors)
+    play_of(alloc, path, settings, explains, &mut source, target, errors)
 }

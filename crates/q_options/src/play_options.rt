@@ -7,4 +7,6 @@ pub struct PlayOptions {
     pub settings: RunSettings,
     /// The path of the file that has the script; standard input has it where none is named.
     pub file: Option<String>,
+    /// Whether each line that is not done is explained on the error output.
+    pub explain: bool,
 }

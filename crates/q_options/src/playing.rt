@@ -1,18 +1,23 @@
-ghost use Rattle.std.specs.Prelude.{◌≡◌, ◌≤◌, option_map};
+ghost use Rattle.std.specs.Prelude.{◌≡◌, ◌≤◌, false, option_map};
 ghost use Rattle.q_options.specs.Answer.{IsPlayed, IsPlayedOf};
 ghost use Rattle.q_script.specs.Reads.{no_reads};
+ghost use Rattle.q_session.specs.Session.{opened};
 ghost use Rattle.q_show.specs.Writes.{no_writes};
 
+use crate::explaining::explain;
 use crate::fault::Fault;
 use crate::telling::tell_of;
-use q_script::{Outcome, RunFault, RunSettings, Source};
-use q_session::run_between;
+use q_script::{RunFault, RunSettings, Source};
+use q_session::{DeviceSession, run_session};
 use q_show::Target;
 use std::alloc::Global;
 use std::io::{Read, Write};
 
 /// The status where nothing was run, or the report not written: usage, input, output or memory.
 pub const FAULT: u8 = 2;
+
+/// The status of a whole report in which a line had a fault or was refused.
+const REFUSED: u8 = 1;
 
 /// Reads a script, writes its report, and answers the exit status of `qtree play`: 0; 1 where a line had a fault or was
 /// refused; 2 where nothing was run or the report not written, with one line on the error output that says why. The source and
@@ -33,14 +38,16 @@ pub fn play<R: Read, W: Write, E: Write>(
         (W.contents target.old.writer.now) (W.contents target.new.writer.now)
         (E.contents errors.old) (E.contents errors.new) source.new.reads target.new.writes result }
 {
-    play_of(alloc, None, settings, source, target, errors)
+    play_of(alloc, None, settings, false, source, target, errors)
 }
 
-/// The same, of a script whose file is named where it could not be read.
+/// The same, of a script whose file is named where it could not be read. Where it is asked for, each line that has a fault or was
+/// refused is explained on the error output, behind the whole report; where the report is not written, none is.
 pub fn play_of<R: Read, W: Write, E: Write>(
     alloc: Global,
     file: Option<&str>,
     settings: RunSettings,
+    explains: bool,
     source: &mut Source<'_, R>,
     target: &mut Target<'_, W>,
     errors: &mut E,
@@ -50,11 +57,48 @@ pub fn play_of<R: Read, W: Write, E: Write>(
     ensures same_reader { source.new.reader.ghost_name ≡ source.old.reader.ghost_name }
     ensures same_writer { target.new.writer.ghost_name ≡ target.old.writer.ghost_name }
     ensures statuses { result ≤ 2 }
-    ensures played { IsPlayedOf (option_map (λ path. path.now) file.entry) settings (R.remaining source.old.reader.now)
+    ensures played { IsPlayedOf explains (option_map (λ path. path.now) file.entry) settings (R.remaining source.old.reader.now)
         (W.contents target.old.writer.now) (W.contents target.new.writer.now)
         (E.contents errors.old) (E.contents errors.new) source.new.reads target.new.writes result }
 {
-    match run_between(alloc, source, target, settings) {
+    let Ok(mut session) = DeviceSession::open(alloc, &settings) else {
+        tell_of(file, Fault::Run(RunFault::Memory), errors);
+        return FAULT;
+    };
+    if explains {
+        session.note_errors(alloc);
+    }
+    let status = play_in(alloc, file, settings, &mut session, source, target, errors);
+    if !explains || status != REFUSED {
+        return status;
+    }
+    if let Some(notes) = session.take_notes() {
+        explain(alloc, &notes, errors);
+    }
+    status
+}
+
+/// The same in a session that was opened with these settings and has run no line. No line is explained.
+fn play_in<R: Read, W: Write, E: Write>(
+    alloc: Global,
+    file: Option<&str>,
+    settings: RunSettings,
+    session: &mut DeviceSession,
+    source: &mut Source<'_, R>,
+    target: &mut Target<'_, W>,
+    errors: &mut E,
+) -> u8
+    requires new { session.old ≡ opened settings }
+    requires unread { source.old.reads ≡ no_reads }
+    requires unwritten { target.old.writes ≡ no_writes }
+    ensures same_reader { source.new.reader.ghost_name ≡ source.old.reader.ghost_name }
+    ensures same_writer { target.new.writer.ghost_name ≡ target.old.writer.ghost_name }
+    ensures statuses { result ≤ 2 }
+    ensures played { IsPlayedOf false (option_map (λ path. path.now) file.entry) settings (R.remaining source.old.reader.now)
+        (W.contents target.old.writer.now) (W.contents target.new.writer.now)
+        (E.contents errors.old) (E.contents errors.new) source.new.reads target.new.writes result }
+{
+    match run_session(alloc, source, target, settings, session) {
         Ok(outcome) => outcome.status(),
         Err(fault) => {
             tell_of(file, Fault::Run(fault), errors);

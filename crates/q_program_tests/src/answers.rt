@@ -93,6 +93,7 @@ fn options_of_play(rt: HostRuntime) -> Result<(), Fail> {
             Options::Play(PlayOptions {
                 settings: asked,
                 file: None,
+                explain: false,
             }),
             "{line}"
         );
@@ -102,7 +103,9 @@ fn options_of_play(rt: HostRuntime) -> Result<(), Fail> {
         "qtree",
         "qtree play --loud",
         "qtree play script script",
-        "qtree play --explain",
+        "qtree play --explain=1",
+        "qtree play --explain --explain",
+        "qtree drive --explain",
         "qtree play --mtu 0",
         "qtree play --mtu 65536",
         "qtree play --mtu",

@@ -13,6 +13,8 @@ mod drained;
 #[cfg(test)]
 mod drives;
 #[cfg(test)]
+mod explanations;
+#[cfg(test)]
 mod imports;
 #[cfg(test)]
 mod lines;

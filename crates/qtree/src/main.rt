@@ -6,14 +6,17 @@
 //!   report of the whole model's replay, or a read or a write failed and that is told; and `run_drive_between` of `q_drive`.
 #![tactic(auto)]
 
-use q_options::{Standard, answer};
+use q_options::{PromptedReader, Standard, answer};
 use q_script::Source;
 use q_show::Target;
+use std::io::IsTerminal;
 use std::process::ExitCode;
 use std::{env, io};
 
 fn main(rt: HostRuntime) -> ExitCode {
-    let (mut input, mut output) = (Standard::new(rt.reader()), Standard::new(io::writer(&rt)));
+    let is_terminal = rt.stdin().is_terminal();
+    let mut input = Standard::new(PromptedReader::new(rt.reader(), rt.stderr(), is_terminal));
+    let mut output = Standard::new(io::writer(&rt));
     let mut errors = rt.stderr();
     let mut source = Source::new(&mut input);
     let mut target = Target::new(&mut output);

@@ -1,0 +1,86 @@
+use crate::fault_sentence::push_fault;
+use crate::marked::push_marked;
+use crate::refusal_sentence::refusal_sentence;
+use crate::refused_word::refused_word;
+use crate::spot::Spot;
+use crate::word::Word;
+use crate::words::Words;
+use q_model::Refusal;
+use q_words::LineFault;
+use std::alloc::{AllocError, Global};
+
+/// The line of this number, which has no newline and `read_line` reads with this fault; a mark under the word that has it; and
+/// a sentence that says what may stand there or what is missing. Each ends with a newline. Of a longer line 200 bytes are
+/// shown, and what is no text is written as `\xNN`.
+///
+/// # Errors
+///
+/// `AllocError` where memory for the text is refused.
+pub fn explain_fault(
+    alloc: Global,
+    number: u64,
+    line: &[u8],
+    fault: LineFault,
+) -> Result<String, AllocError> {
+    let line = trimmed(line);
+    let left = fault.word().saturating_sub(1);
+    let mut words = Words::new(line);
+    for _ in 0..left {
+        if words.next().is_none() {
+            break;
+        }
+    }
+    let word = words.next().unwrap_or(behind(line));
+    let spot = Spot::behind(alloc, Words::new(line), left)?;
+    let mut text = String::new(alloc);
+    push_marked(&mut text, number, line, word.start, word.bytes.len())?;
+    text.push_str("  ")?;
+    push_fault(&mut text, fault, &spot, word.bytes)?;
+    text.push_str("\n")?;
+    Ok(text)
+}
+
+/// The same of a line without a fault whose command was refused, or whose packet for want of memory: a mark under the word that
+/// the refusal is of, what it means and what to do.
+///
+/// # Errors
+///
+/// `AllocError` where memory for the text is refused.
+pub fn explain_refusal(
+    alloc: Global,
+    number: u64,
+    line: &[u8],
+    refusal: Refusal,
+) -> Result<String, AllocError> {
+    let line = trimmed(line);
+    let word = refused_word(alloc, Words::new(line), refusal)?.unwrap_or(behind(line));
+    let head = Spot::behind(alloc, Words::new(line), usize::MAX)?.head;
+    let mut text = String::new(alloc);
+    push_marked(&mut text, number, line, word.start, word.bytes.len())?;
+    text.push_str("  ")?;
+    text.push_str(refusal_sentence(refusal, head))?;
+    text.push_str("\n")?;
+    Ok(text)
+}
+
+/// No word, behind the last byte of a line.
+fn behind(line: &[u8]) -> Word<'_> {
+    let (line, bytes) = line.split_at(line.len());
+    Word {
+        start: line.len(),
+        bytes,
+    }
+}
+
+/// A line without the blanks behind its last word.
+fn trimmed(line: &[u8]) -> &[u8] {
+    let mut words = Words::new(line);
+    let mut end = 0usize;
+    for _ in 0..line.len() {
+        let Some(word) = words.next() else {
+            break;
+        };
+        end = word.start.saturating_add(word.bytes.len());
+    }
+    &line[..end.min(line.len())]
+}

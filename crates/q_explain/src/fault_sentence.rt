@@ -1,0 +1,142 @@
+//! What a fault of a line means.
+use crate::missing::{push_entries, push_missing};
+use crate::place::Place;
+use crate::quoting::push_word;
+use crate::spot::{Spot, find};
+use crate::tables::{ALTERNATIVES, entries};
+use crate::tc_only::words_of_tc;
+use q_words::LineFault;
+use std::alloc::AllocError;
+
+/// Adds the sentence on a fault, at a word with this spot.
+pub fn push_fault(
+    text: &mut String,
+    fault: LineFault,
+    spot: &Spot,
+    word: &[u8],
+) -> Result<(), AllocError> {
+    match fault {
+        LineFault::UnknownWord(_) => push_unknown(text, spot, word),
+        LineFault::Missing(_) => push_missing(text, spot),
+        LineFault::BadNumber(_) => push_form(text, spot, word),
+        LineFault::OutOfRange(_) => push_range(text, spot, word),
+        LineFault::Twice(_) => push_twice(text, spot, word),
+        LineFault::BadUtf8(_) => text.push_str("the word is not UTF-8."),
+    }
+}
+
+/// Of a value that has another form.
+fn push_form(text: &mut String, spot: &Spot, word: &[u8]) -> Result<(), AllocError> {
+    push_word(text, word)?;
+    let Some((name, value)) = spot.value() else {
+        return text.push_str(" has not the form of a value.");
+    };
+    text.push_str(" is no value of ")?;
+    text.push_str(name)?;
+    text.push_str(", which takes ")?;
+    text.push_str(value.form())?;
+    text.push_str(".")
+}
+
+/// Of a value outside its range.
+fn push_range(text: &mut String, spot: &Spot, word: &[u8]) -> Result<(), AllocError> {
+    push_word(text, word)?;
+    let Some((name, value)) = spot.value() else {
+        return text.push_str(" is out of range.");
+    };
+    text.push_str(" is out of range: ")?;
+    text.push_str(name)?;
+    text.push_str(" takes ")?;
+    text.push_str(value.range())?;
+    text.push_str(".")
+}
+
+/// Of a word that was there before, or one that means the same or excludes it.
+fn push_twice(text: &mut String, spot: &Spot, word: &[u8]) -> Result<(), AllocError> {
+    push_word(text, word)?;
+    match beside(spot, word) {
+        Some(other) => {
+            text.push_str(" stands beside ")?;
+            text.push_str(other)?;
+            text.push_str(", and a line has one of them.")
+        }
+        None => text.push_str(" was given before."),
+    }
+}
+
+/// The other word that was there, of which a line has one.
+fn beside(spot: &Spot, word: &[u8]) -> Option<&'static str> {
+    let entry = find(spot.place, word)?;
+    if spot.has(entry.name()) {
+        return None;
+    }
+    for names in ALTERNATIVES {
+        if names.contains(&entry.name()) {
+            if let Some(other) = names.iter().find(|name| spot.has(name)) {
+                return Some(other);
+            }
+        }
+    }
+    None
+}
+
+/// Of a word that does not stand there.
+fn push_unknown(text: &mut String, spot: &Spot, word: &[u8]) -> Result<(), AllocError> {
+    if spot.value().is_some() {
+        return push_form(text, spot, word);
+    }
+    if words_of_tc(spot.place)
+        .iter()
+        .any(|name| name.as_bytes() == word)
+    {
+        text.push_str("tc has ")?;
+        push_word(text, word)?;
+        return text.push_str(", qtree does not.");
+    }
+    push_word(text, word)?;
+    if spot.place == Place::End {
+        return text.push_str(" is one word too many: the line is whole before it.");
+    }
+    if is_of_head(spot, word) {
+        text.push_str(" has to stand before ")?;
+        text.push_str(spot.seen.last().map_or("the kind", |entry| entry.name()))?;
+        return text.push_str(".");
+    }
+    push_no_word(text, spot.place)
+}
+
+/// Adds that a word is none of those at a place, and these.
+fn push_no_word(text: &mut String, place: Place) -> Result<(), AllocError> {
+    if place == Place::First {
+        text.push_str(" begins no line; a line begins with ")?;
+    } else {
+        text.push_str(what(place))?;
+        text.push_str(place.name())?;
+        text.push_str("; it has")?;
+        if entries(place).is_empty() {
+            return text.push_str(" none.");
+        }
+        text.push_str(": ")?;
+    }
+    push_entries(text, place)?;
+    text.push_str(".")
+}
+
+/// Whether the word stands in the head, which has ended.
+fn is_of_head(spot: &Spot, word: &[u8]) -> bool {
+    match find(spot.head, word) {
+        Some(entry) => entry.next() == spot.head && spot.place != spot.head,
+        None => false,
+    }
+}
+
+/// What a word is not.
+fn what(place: Place) -> &'static str {
+    match place {
+        Place::Tc | Place::TcCounters => " is no object of ",
+        Place::Qdisc | Place::Class | Place::Filter => " is no verb of ",
+        Place::Flower => " is no key of ",
+        place if place.is_head() || place == Place::Show => " is no word of ",
+        _ => " is no option of ",
+    }
+}

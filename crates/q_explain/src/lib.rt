@@ -1,0 +1,27 @@
+//! Why a line of a script was not done, in words for its writer.
+//!
+//! - [`explain_fault`] is the line, a mark under the word that has the fault, and a sentence that says what stands there or what is
+//!   missing; [`explain_refusal`] the same of a command that was refused, with what to do.
+//!
+//! The words that stand at a place are the tables of `tables`, after the grammar of `q_line`. A text has no
+//! contract: it is for people, and tests alone look at it. No control character of a script is written raw.
+#![tactic(auto)]
+
+mod cut;
+mod entry;
+mod explaining;
+mod fault_sentence;
+mod marked;
+mod missing;
+mod place;
+mod quoting;
+mod refusal_sentence;
+mod refused_word;
+mod spot;
+mod tables;
+mod tc_only;
+mod value;
+mod word;
+mod words;
+
+pub use explaining::{explain_fault, explain_refusal};

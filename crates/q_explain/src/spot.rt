@@ -1,0 +1,91 @@
+use crate::entry::Entry;
+use crate::place::Place;
+use crate::tables::{POLLS, entries};
+use crate::value::Value;
+use crate::words::Words;
+use std::alloc::{AllocError, Global};
+
+/// What the words of a line left of one say of it. They have no fault.
+#[derive(Drop)]
+pub struct Spot {
+    /// Where the word stands, if it is no value.
+    pub place: Place,
+    /// The head of a tc line that was there, or [`Place::First`].
+    pub head: Place,
+    /// The words that were there with their tables, without values.
+    pub seen: Vec<Entry>,
+    /// The values that have to follow the last of these.
+    pub values: &'static [Value],
+}
+
+impl Spot {
+    /// The beginning of a line.
+    pub fn new(alloc: Global) -> Spot {
+        Spot {
+            place: Place::First,
+            head: Place::First,
+            seen: Vec::new(alloc),
+            values: &[],
+        }
+    }
+
+    /// Behind so many words of a line.
+    pub fn behind(alloc: Global, mut words: Words<'_>, count: usize) -> Result<Spot, AllocError> {
+        let mut spot = Spot::new(alloc);
+        for _ in 0..count {
+            match words.next() {
+                Some(word) => spot.pass(word.bytes)?,
+                None => break,
+            }
+        }
+        Ok(spot)
+    }
+
+    /// The value that a word is here, and the word that takes it.
+    pub fn value(&self) -> Option<(&'static str, Value)> {
+        match (self.values, self.seen.last()) {
+            ([value, ..], Some(entry)) => Some((entry.name(), *value)),
+            _ if self.place == Place::Poll => Some(("poll", POLLS)),
+            _ => None,
+        }
+    }
+
+    /// Whether one of these words was there.
+    pub fn has_one_of(&self, names: &[&str]) -> bool {
+        names.iter().any(|name| self.has(name))
+    }
+
+    /// Whether this word was there, in the head or behind it.
+    pub fn has(&self, name: &str) -> bool {
+        self.seen.iter().any(|entry| entry.name() == name)
+    }
+
+    /// Passes a word.
+    pub fn pass(&mut self, word: &[u8]) -> Result<(), AllocError> {
+        if let Some((_, rest)) = self.values.split_first() {
+            self.values = rest;
+            return Ok(());
+        }
+        let Some(entry) = find(self.place, word) else {
+            self.place = Place::End;
+            return Ok(());
+        };
+        if entry.next().is_head() {
+            self.head = entry.next();
+        }
+        self.place = entry.next();
+        self.values = entry.values();
+        self.seen.push(entry)?;
+        Ok(())
+    }
+}
+
+/// The entry of a word at a place.
+pub fn find(place: Place, word: &[u8]) -> Option<Entry> {
+    for entry in entries(place) {
+        if entry.name().as_bytes() == word {
+            return Some(*entry);
+        }
+    }
+    None
+}

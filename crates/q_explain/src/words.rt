@@ -1,0 +1,37 @@
+ghost use Rattle.std.specs.Prelude.{◌+◌, ◌≤◌, length};
+
+use crate::word::Word;
+use q_words::{cut_word, skip_blanks};
+
+/// The words of a line that are still to come, from the left.
+#[derive(Clone, Copy)]
+pub struct Words<'a> {
+    rest: &'a [u8],
+    len: usize,
+    ghost within: { length rest.now ≤ len },
+}
+
+impl<'a> Words<'a> {
+    /// All words of a line.
+    pub fn new(line: &'a [u8]) -> Words<'a> {
+        Words {
+            rest: line,
+            len: line.len(),
+        }
+    }
+}
+
+impl<'a> Words<'a> {
+    /// The next word; `None` behind the last.
+    pub fn next(&mut self) -> Option<Word<'a>> {
+        let filled = skip_blanks(self.rest);
+        if filled.is_empty() {
+            self.rest = filled;
+            return None;
+        }
+        let start = self.len - filled.len();
+        let (bytes, behind) = cut_word(filled);
+        self.rest = behind;
+        Some(Word { start, bytes })
+    }
+}

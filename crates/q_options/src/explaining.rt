@@ -1,0 +1,34 @@
+use q_explain::{explain_fault, explain_refusal};
+use q_session::{LineError, NotedLine, Notes};
+use q_show::write_whole;
+use std::alloc::{AllocError, Global};
+use std::io::Write;
+
+/// Explains each line that was noted, and says where one could not be. An error of the writer is told nowhere, and ends it.
+pub fn explain<E: Write>(alloc: Global, notes: &Notes, errors: &mut E) {
+    let mut missed = notes.missed();
+    for line in notes.lines() {
+        match explanation(alloc, line) {
+            Ok(text) => {
+                if write_whole(errors, text.as_bytes()).is_err() {
+                    return;
+                }
+            }
+            Err(_) => missed = missed.saturating_add(1),
+        }
+    }
+    if missed > 0 {
+        let _ = writeln!(
+            errors,
+            "qtree: memory is refused: lines that are not explained: {missed}"
+        );
+    }
+}
+
+/// The text on a line.
+fn explanation(alloc: Global, line: &NotedLine) -> Result<String, AllocError> {
+    match line.error {
+        LineError::Fault(fault) => explain_fault(alloc, line.number, &line.text, fault),
+        LineError::Refusal(refusal) => explain_refusal(alloc, line.number, &line.text, refusal),
+    }
+}
