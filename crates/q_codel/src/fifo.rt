@@ -69,6 +69,22 @@ impl Fifo {
         ensures ok { OnOk result (count self.new.packets < self.new.places) }
         ensures full { OnErr result (self.old.places ≤ count self.old.packets) }
     {
+        // A place that is there needs no call.
+        if self.packets.len() < self.packets.capacity() && self.packets.len() < MOST_PLACES {
+            return Ok(());
+        }
+        self.grow()
+    }
+
+    // The same where there may be no place.
+    #[cold]
+    #[inline(never)]
+    fn grow(&mut self) -> Result<(), AllocError>
+        ensures same { self.new ≡ record self.old { places = self.new.places } }
+        ensures grows { self.old.places ≤ self.new.places }
+        ensures ok { OnOk result (count self.new.packets < self.new.places) }
+        ensures full { OnErr result (self.old.places ≤ count self.old.packets) }
+    {
         if self.packets.len() >= MOST_PLACES {
             return Err(AllocError);
         }
