@@ -178,13 +178,12 @@ impl Fifo {
         ensures given { out.new ≡ option_map_or (λ (s : Stamped). s.packet) (slice_get self.old.packets 0) out.old }
         ensures rest { self.new ≡ record self.old { packets = drop 1 self.old.packets } }
     {
-        let Some(front) = self.packets.front() else {
+        let Some(front) = self.packets.pop_front() else {
             return 0;
         };
         let packet = front.packet;
         *out = packet;
         self.bytes -= packet.len as u64;
-        let _ = self.packets.pop_front();
         packet.len
     }
 
