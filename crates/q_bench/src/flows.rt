@@ -1,5 +1,5 @@
 use crate::checksum;
-use crate::packets::hashed;
+use crate::packets::{blank, hashed};
 use q_codel::Losses;
 use q_fqcodel::{FqCodel, Settings};
 use q_packet::{Moment, Packet};
@@ -47,7 +47,7 @@ pub extern "C" fn q_bench_flows(
 fn fill(fq: &mut FqCodel, losses: &mut Losses, queued: u32, made: &[Packet]) -> Option<()> {
     let mut next = 0;
     for _ in 0..queued {
-        put(fq, losses, *made.get(next)?)?;
+        put(fq, losses, made.get(next)?)?;
         next = if next + 1 < made.len() { next + 1 } else { 0 };
     }
     Some(())
@@ -60,12 +60,14 @@ fn pass_through(
     made: &[Packet],
     passes: u32,
 ) -> Option<u64> {
+    let mut out = blank()?;
     let mut sum = 1;
     for _ in 0..passes {
         for packet in made {
-            sum = checksum::with(sum, put(fq, losses, *packet)?);
+            sum = checksum::with(sum, put(fq, losses, packet)?);
             if takes {
-                sum = checksum::with(sum, take(fq, losses)?);
+                take(fq, losses, &mut out)?;
+                sum = checksum::with(sum, out.number);
             }
             for _ in 0..losses.count() {
                 let loss = losses.reap()?;
@@ -79,21 +81,25 @@ fn pass_through(
 }
 
 /// 1 where the packet that is put is itself lost, else 0.
-fn put(fq: &mut FqCodel, losses: &mut Losses, packet: Packet) -> Option<u64> {
+#[inline(always)]
+fn put(fq: &mut FqCodel, losses: &mut Losses, packet: &Packet) -> Option<u64> {
     let settings = fq.settings();
     if fq.reserve().is_err() || losses.reserve(settings.drop_batch as usize).is_err() {
         return None;
     }
-    Some(u64::from(fq.put(packet, Moment::zero(), losses)))
+    Some(u64::from(fq.put_from(packet, Moment::zero(), losses)))
 }
 
-/// The number of the packet that is taken.
-fn take(fq: &mut FqCodel, losses: &mut Losses) -> Option<u64> {
+/// Takes a packet into `out`.
+#[inline(always)]
+fn take(fq: &mut FqCodel, losses: &mut Losses, out: &mut Packet) -> Option<()> {
     let (packets, _) = fq.queued();
     if losses.reserve(packets as usize).is_err() {
         return None;
     }
-    let taken = fq.take(Moment::zero(), losses)?;
-    let packet = taken.packet;
-    Some(packet.number)
+    let sent = fq.take_into(Moment::zero(), out, losses);
+    if sent.len == 0 {
+        return None;
+    }
+    Some(())
 }

@@ -28,6 +28,11 @@ pub fn hashed(alloc: Global, hashes: &[u32]) -> Option<Vec<Packet>> {
     Some(made)
 }
 
+/// A place for a packet that is taken.
+pub fn blank() -> Option<Packet> {
+    plain(0, 1, 0)
+}
+
 fn plain(number: u64, len: u16, hash: u32) -> Option<Packet> {
     Packet::new(1, number, 2, len, FlowKey::zero(), hash, 4, Ecn::NotEct)
 }

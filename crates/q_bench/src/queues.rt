@@ -1,7 +1,7 @@
 use crate::checksum;
-use crate::packets::sized;
-use q_codel::{Codel, Fifo, Limit, Losses};
-use q_packet::{Moment, Packet, Stamped};
+use crate::packets::{blank, sized};
+use q_codel::{ControlState, Fifo, Limit, Losses, Parameters};
+use q_packet::{Moment, Packet};
 use std::alloc::Global;
 
 /// CoDel's target, in nanoseconds.
@@ -28,14 +28,16 @@ pub extern "C" fn q_bench_fifo(alloc: Global, queued: u32, lens: &[u16], passes:
 }
 
 fn pass_through(queue: &mut Fifo, made: &[Packet], passes: u32) -> Option<u64> {
-    let at = Moment::zero();
+    let now = Moment::zero();
+    let mut out = blank()?;
     let mut sum = 1;
     for _ in 0..passes {
-        for given in made {
-            let packet = *given;
-            put(queue, Stamped { packet, at })?;
-            let Stamped { packet, .. } = queue.take()?;
-            sum = checksum::with(sum, summary(&packet));
+        for packet in made {
+            put(queue, packet, now)?;
+            if queue.take_into(&mut out) == 0 {
+                return None;
+            }
+            sum = checksum::with(sum, summary(&out));
         }
     }
     Some(sum)
@@ -61,35 +63,51 @@ pub extern "C" fn q_bench_codel(alloc: Global, queued: u32, lens: &[u16], moment
 }
 
 fn take_at(queue: &mut Fifo, losses: &mut Losses, made: &[Packet], moments: &[u64]) -> Option<u64> {
-    let mut codel = Codel::new(TARGET, INTERVAL, MTU, false);
+    let parameters = Parameters::new(TARGET, INTERVAL, MTU, false)?;
+    let mut codel = ControlState::new();
+    let mut out = blank()?;
     let mut next = 0;
     let mut sum = 1;
     for moment in moments {
-        let at = Moment::new(*moment)?;
+        let now = Moment::new(*moment)?;
         if queue.count() > losses.room() {
             return None;
         }
-        let taken = codel.take(queue, at, losses)?;
-        sum = checksum::with(sum, summary(&taken.packet));
-        let packet = *made.get(next)?;
-        put(queue, Stamped { packet, at })?;
-        for _ in 0..losses.count() {
-            let loss = losses.reap()?;
-            sum = checksum::with(sum, summary(&loss.packet));
-            put(queue, Stamped { packet, at })?;
+        let _is_marked = codel.take_into(&parameters, queue, now, losses, &mut out)?;
+        sum = checksum::with(sum, summary(&out));
+        let packet = made.get(next)?;
+        put(queue, packet, now)?;
+        if losses.count() > 0 {
+            sum = put_for_losses(queue, losses, packet, now, sum)?;
         }
         next = if next + 1 < made.len() { next + 1 } else { 0 };
     }
     Some(checksum::with(sum, u64::from(codel.count())))
 }
 
+/// Reaps the losses, and puts a packet for each: a function of its own, so that a take without losses saves no registers for it.
+#[inline(never)]
+fn put_for_losses(
+    queue: &mut Fifo,
+    losses: &mut Losses,
+    packet: &Packet,
+    now: Moment,
+    before: u64,
+) -> Option<u64> {
+    let mut sum = before;
+    for _ in 0..losses.count() {
+        let loss = losses.reap()?;
+        sum = checksum::with(sum, summary(&loss.packet));
+        put(queue, packet, now)?;
+    }
+    Some(sum)
+}
+
 /// Puts so many packets at moment 0, round and round.
 fn fill(queue: &mut Fifo, queued: u32, made: &[Packet]) -> Option<()> {
-    let at = Moment::zero();
     let mut next = 0;
     for _ in 0..queued {
-        let packet = *made.get(next)?;
-        put(queue, Stamped { packet, at })?;
+        put(queue, made.get(next)?, Moment::zero())?;
         next = if next + 1 < made.len() { next + 1 } else { 0 };
     }
     Some(())
@@ -112,14 +130,14 @@ fn summary(packet: &Packet) -> u64 {
 }
 
 /// Puts a packet at the end; `None` where memory is refused or the limit is reached.
-fn put(queue: &mut Fifo, stamped: Stamped) -> Option<()> {
+#[inline(always)]
+fn put(queue: &mut Fifo, packet: &Packet, now: Moment) -> Option<()> {
     if queue.reserve().is_err() {
         return None;
     }
-    let packet = stamped.packet;
     if !queue.fits(packet.len) {
         return None;
     }
-    queue.put(stamped);
+    queue.put_from(packet, now);
     Some(())
 }

@@ -35,10 +35,10 @@ fn give_turns(active: &mut Active, lens: &[u16], passes: u32) -> Option<u64>
     let mut sum = 0;
     for _ in 0..passes {
         for len in lens {
-            let class = active.front()?;
+            let place = active.front_place()?;
             let head_len = (*len).min(MTU);
             let sent = active.turn(head_len) == Turn::Send;
-            sum = checksum::with(sum, u64::from(class) << 1 | u64::from(sent));
+            sum = checksum::with(sum, (place as u64) << 1 | u64::from(sent));
         }
     }
     Some(sum)

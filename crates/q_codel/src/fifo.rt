@@ -69,6 +69,22 @@ impl Fifo {
         ensures ok { OnOk result (count self.new.packets < self.new.places) }
         ensures full { OnErr result (self.old.places ≤ count self.old.packets) }
     {
+        // A place that is there needs no call.
+        if self.packets.len() < self.packets.capacity() && self.packets.len() < MOST_PLACES {
+            return Ok(());
+        }
+        self.grow()
+    }
+
+    // The same where there may be no place.
+    #[cold]
+    #[inline(never)]
+    fn grow(&mut self) -> Result<(), AllocError>
+        ensures same { self.new ≡ record self.old { places = self.new.places } }
+        ensures grows { self.old.places ≤ self.new.places }
+        ensures ok { OnOk result (count self.new.packets < self.new.places) }
+        ensures full { OnErr result (self.old.places ≤ count self.old.packets) }
+    {
         if self.packets.len() >= MOST_PLACES {
             return Err(AllocError);
         }
@@ -162,13 +178,12 @@ impl Fifo {
         ensures given { out.new ≡ option_map_or (λ (s : Stamped). s.packet) (slice_get self.old.packets 0) out.old }
         ensures rest { self.new ≡ record self.old { packets = drop 1 self.old.packets } }
     {
-        let Some(front) = self.packets.front() else {
+        let Some(front) = self.packets.pop_front() else {
             return 0;
         };
         let packet = front.packet;
         *out = packet;
         self.bytes -= packet.len as u64;
-        let _ = self.packets.pop_front();
         packet.len
     }
 

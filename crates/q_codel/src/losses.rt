@@ -42,6 +42,22 @@ impl Losses {
         ensures ok { OnOk result (length self.new.waiting + more ≤ self.new.places) }
         ensures full { OnErr result (self.old.places + 1 ≤ length self.old.waiting + more) }
     {
+        // Places that are there need no call.
+        if self.waiting.capacity() - self.waiting.len() >= more {
+            return Ok(());
+        }
+        self.grow(more)
+    }
+
+    // The same where there may be too few.
+    #[cold]
+    #[inline(never)]
+    fn grow(&mut self, more: usize) -> Result<(), AllocError>
+        ensures same { self.new ≡ record self.old { places = self.new.places } }
+        ensures grows { self.old.places ≤ self.new.places }
+        ensures ok { OnOk result (length self.new.waiting + more ≤ self.new.places) }
+        ensures full { OnErr result (self.old.places + 1 ≤ length self.old.waiting + more) }
+    {
         self.waiting.reserve(more)
     }
 

@@ -150,6 +150,7 @@ impl Flows {
     }
 
     /// Lets a flow, which has a packet, send by CoDel's law into `out`.
+    #[inline(always)]
     pub(crate) fn send_into<S: Sink>(
         &mut self,
         flow: u32,
@@ -303,7 +304,7 @@ impl Flows {
 
     /// Appends a packet to a flow where the limit is passed with it: the fat flow then loses packets from its front. Says
     /// whether the packet that was put is itself among them.
-    #[inline(always)]
+    #[inline(never)]
     pub(crate) fn push_over<S: Sink>(
         &mut self,
         flow: u32,

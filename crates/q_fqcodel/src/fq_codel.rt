@@ -79,6 +79,7 @@ impl FqCodel {
 
     /// Does what [`FqCodel::take`] does, and writes the packet into `out`, so that it is copied once; `out` stays where no flow
     /// has a packet. The answer tells its length, and whether CoDel marked it or dropped packets before it.
+    #[inline(always)]
     pub fn take_into<S: Sink>(&mut self, now: Moment, out: &mut Packet, sink: &mut S) -> Sent
         requires { packets_of self.old.state.flows ≤ S.room sink.old }
         ensures len { result.len ≡ option_map_or (λ (t : Taken). t.packet.len) (sent_from now (selected self.old.state)) 0 }
@@ -115,6 +116,7 @@ impl FqCodel {
     }
 
     /// Does what [`FqCodel::put`] does, with a packet that is read where it stands.
+    #[inline(always)]
     pub fn put_from<S: Sink>(&mut self, packet: &Packet, now: Moment, sink: &mut S) -> bool
         requires place { packets_of self.old.state.flows < self.old.places }
         requires room { min self.old.state.settings.drop_batch (packets_of self.old.state.flows + 1) ≤ S.room sink.old }
@@ -215,6 +217,7 @@ impl FqCodel {
     }
 
     // Brings the flow that sends next to the front of its list.
+    #[inline(always)]
     fn select(&mut self)
         ensures state { self.new.state ≡ selected self.old.state }
         ensures places { self.new.places ≡ self.old.places }
@@ -320,6 +323,7 @@ impl FqCodel {
     }
 
     // Lets the flow in front send into `out` by CoDel's law, and pay for the packet.
+    #[inline(always)]
     fn send_front_into<S: Sink>(&mut self, now: Moment, out: &mut Packet, sink: &mut S) -> Sent
         requires settled { IsSettled self.old.state }
         requires room { packets_of self.old.state.flows ≤ S.room sink.old }
