@@ -1,8 +1,6 @@
 pub mod Arriving
 pub mod Commanding
 pub mod EventLemmas
-pub mod HeldOutletSteps
-pub mod HeldPortSteps
 pub mod HeldSteps
 pub mod PlaceLemmas
 pub mod PollLemmas

@@ -5,8 +5,6 @@ pub mod Events
 pub mod Folds
 pub mod Holding
 pub mod Lines
-pub mod OutletHolding
-pub mod PortHolding
 pub mod Readiness
 pub mod Sample
 pub mod Showing

@@ -1,5 +1,6 @@
 //! The place in C's memory in which a device stands.
 ghost use Rattle.std.specs.Prelude.{◌≡◌, ◌<◌, true, false, Some, None, IfSome, IfNone, IsSome};
+ghost use Rattle.q_device.specs.contracts.Device.{the_row as device_row};
 ghost use Rattle.qtree_c.specs.Holding.{IsClosed, IsClosed-prop};
 
 use crate::held_device::HeldDevice;
@@ -15,7 +16,7 @@ pub struct CDevice {
     held: HeldDevice,
     /// 0 where it is closed, else 1.
     state: u64,
-    ghost closed: { IsClosed state held.device } by { IsClosed-prop _ _ },
+    ghost closed: { IsClosed state held.device } by { IsClosed-prop device_row _ _ },
     ghost open: { 0 < state → IsSome held.device },
 }
 

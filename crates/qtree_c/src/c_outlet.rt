@@ -1,6 +1,7 @@
 //! The place in C's memory in which an outlet stands.
 ghost use Rattle.std.specs.Prelude.{◌≡◌, ◌<◌, true, false, Some, None, IfSome, IfNone, IsSome};
-ghost use Rattle.qtree_c.specs.OutletHolding.{IsClosed, IsClosed-prop};
+ghost use Rattle.q_ports.specs.contracts.Outlet.{the_row as outlet_row};
+ghost use Rattle.qtree_c.specs.Holding.{IsClosed, IsClosed-prop};
 
 use crate::held_outlet::HeldOutlet;
 use q_ports::Outlet;
@@ -15,7 +16,7 @@ pub struct COutlet {
     held: HeldOutlet,
     /// 0 where it is closed, else 1.
     state: u64,
-    ghost closed: { IsClosed state held.outlet } by { IsClosed-prop _ _ },
+    ghost closed: { IsClosed state held.outlet } by { IsClosed-prop outlet_row _ _ },
     ghost open: { 0 < state → IsSome held.outlet },
 }
 

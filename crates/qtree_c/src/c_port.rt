@@ -1,6 +1,7 @@
 //! The place in C's memory in which a port stands.
 ghost use Rattle.std.specs.Prelude.{◌≡◌, ◌<◌, true, false, Some, None, IfSome, IfNone, IsSome};
-ghost use Rattle.qtree_c.specs.PortHolding.{IsClosed, IsClosed-prop};
+ghost use Rattle.q_ports.specs.contracts.Port.{the_row as port_row};
+ghost use Rattle.qtree_c.specs.Holding.{IsClosed, IsClosed-prop};
 
 use crate::held_port::HeldPort;
 use q_ports::Port;
@@ -15,7 +16,7 @@ pub struct CPort {
     held: HeldPort,
     /// 0 where it is closed, else 1.
     state: u64,
-    ghost closed: { IsClosed state held.port } by { IsClosed-prop _ _ },
+    ghost closed: { IsClosed state held.port } by { IsClosed-prop port_row _ _ },
     ghost open: { 0 < state → IsSome held.port },
 }
 

@@ -1,6 +1,7 @@
 //! A boxed device as C holds it.
 ghost use Rattle.std.specs.Prelude.{◌≡◌, Option, Some, None, IsSome};
 ghost use Rattle.q_device.specs.DeviceSeen.{DeviceSeen};
+ghost use Rattle.q_device.specs.contracts.Device.{the_row as device_row};
 ghost use Rattle.qtree_c.specs.Holding.{held_code, held_owns};
 
 use q_device::Device;
@@ -13,11 +14,11 @@ use std::marker::Model;
 #[derive(Drop)]
 pub struct HeldDevice {
     at: *mut u8,
-    pub ghost device: { Option DeviceSeen } by { held_code },
+    pub ghost device: { Option DeviceSeen } by { held_code device_row },
 }
 
 impl Model for HeldDevice {
-    ghost also_owns = { λ h. held_owns h.at h.device };
+    ghost also_owns = { λ h. held_owns device_row h.at h.device };
 }
 
 impl HeldDevice {

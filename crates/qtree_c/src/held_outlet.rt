@@ -1,7 +1,8 @@
 //! A boxed outlet as C holds it.
 ghost use Rattle.std.specs.Prelude.{◌≡◌, Option, Some, None, IsSome};
 ghost use Rattle.q_ports.specs.Rings.{RingSeen};
-ghost use Rattle.qtree_c.specs.OutletHolding.{held_code, held_owns};
+ghost use Rattle.q_ports.specs.contracts.Outlet.{the_row as outlet_row};
+ghost use Rattle.qtree_c.specs.Holding.{held_code, held_owns};
 
 use q_ports::Outlet;
 use q_raw_box::RawBox;
@@ -13,11 +14,11 @@ use std::marker::Model;
 #[derive(Drop)]
 pub struct HeldOutlet {
     at: *mut u8,
-    pub ghost outlet: { Option RingSeen } by { held_code },
+    pub ghost outlet: { Option RingSeen } by { held_code outlet_row },
 }
 
 impl Model for HeldOutlet {
-    ghost also_owns = { λ h. held_owns h.at h.outlet };
+    ghost also_owns = { λ h. held_owns outlet_row h.at h.outlet };
 }
 
 impl HeldOutlet {

@@ -1,7 +1,8 @@
 //! A boxed port as C holds it.
 ghost use Rattle.std.specs.Prelude.{◌≡◌, Option, Some, None, IsSome};
 ghost use Rattle.q_ports.specs.Placed.{PortSeen};
-ghost use Rattle.qtree_c.specs.PortHolding.{held_code, held_owns};
+ghost use Rattle.q_ports.specs.contracts.Port.{the_row as port_row};
+ghost use Rattle.qtree_c.specs.Holding.{held_code, held_owns};
 
 use q_ports::Port;
 use q_raw_box::RawBox;
@@ -13,11 +14,11 @@ use std::marker::Model;
 #[derive(Drop)]
 pub struct HeldPort {
     at: *mut u8,
-    pub ghost port: { Option PortSeen } by { held_code },
+    pub ghost port: { Option PortSeen } by { held_code port_row },
 }
 
 impl Model for HeldPort {
-    ghost also_owns = { λ h. held_owns h.at h.port };
+    ghost also_owns = { λ h. held_owns port_row h.at h.port };
 }
 
 impl HeldPort {

@@ -26,7 +26,8 @@ use Rattle.std.specs.Prelude.{IsSome}
 use Rattle.std.specs.contracts.impls.GlobalAllocator.TheImpl.{ghosts}
 use Rattle.q_device.specs.contracts.Device.{the_row as R}
 use Rattle.q_raw_box.proofs.Values.{both, raw_box_good, raw_box_in}
-use Rattle.qtree_c.proofs.HeldSteps.{HeldDevice, single, found, held_out}
+use Rattle.qtree_c.proofs.HeldSteps.{single, found, held_out}
+use Rattle.qtree_c.specs.contracts.held_device.HeldDevice.{the_row as HeldDevice}
 use Rattle.qtree_c.specs.contracts.held_device.HeldDevice.into_raw.{ended, clauses}
 use Rattle.qtree_c.specs.contracts.held_device.HeldDevice.into_raw.Key.{name as #self}
 use Rattle.qtree_c.proofs.held_device.HeldDevice.into_raw.Statement.{statement}
@@ -39,7 +40,7 @@ into_raw_spec 𝓤 𝓛 𝓜 𝓡 wired =
     proved_at 𝓛 ended hs c 𝓜 𝓡 (Goes-blank 𝓛 0 (plain (λ _. HeldDevice)) yes (λ κs x f. tt), (Goes-blank 𝓛 0 (plain (λ _. Z)) yes (λ κs x f. tt), tt)) #self code.function (code.unfolded 𝓤 H 𝓜 𝓡 wired) (λ z are.
     let d = z.0.3.0 in let a = z.0.3.1.0 in let Post : Val → SProp 𝓤 = (walk_of 𝓛 ended hs c).post z in let Run : List Val → SProp 𝓤 = λ ws. WpFn 𝓤 H 𝓣.C 𝓣.Λ code.function ws Post in
     qed 𝓛 ((‵ ftrue ⊛ ‵ (owns (types_at ended.signature.params z.0.0) z.0.3 z.0.4)) ∷ raw (fact 𝓤 (IsSome d.device)) ∷ []) ∵ move ! (1 ∷ []) $ heard ! (IsSome d.device) (λ some. let x = (found d.device some).item in let full = (found d.device some).is in split ! $ move ! (1 ∷ []) $ fsplit ! $
-    held_out ! d x z.0.4.0 full (λ b o e ws. move ! (1 ∷ []) $ fsplit ! $ handle_tells (record { row = Z; laws = LZ; g = ghosts; d = impl [] tnil dnil; drops = impl [] tnil dnil }) ! a z.0.4.1.0 (λ h ea fits.
+    held_out R ! d.at d.device x z.0.4.0 full (λ b o e ws. move ! (1 ∷ []) $ fsplit ! $ handle_tells (record { row = Z; laws = LZ; g = ghosts; d = impl [] tnil dnil; drops = impl [] tnil dnil }) ! a z.0.4.1.0 (λ h ea fits.
     let v : Val = single (vptr b o) in let w : Val = both (vptr b o) h in
     suffices ! (Run (v ∷ h ∷ [])) (subst (λ (us : List Val). ent 𝓤 (Run (v ∷ h ∷ [])) (Run us)) (sym (λ i. ws i ++ (ea i ++ []))) (id⊢ 𝓤 (Run (v ∷ h ∷ [])))) $
     enter ! 𝓣.C 𝓣.Λ code.function (v ∷ h ∷ []) Post $ alloc_all ! (λ l. pass_all ! refl ((tt, (tt, tt)), (fits, tt)) $

@@ -14,7 +14,8 @@ use denote.Steps.{nothing}
 use denote.Triple.Walked.{Stays, walk_of}
 use Rattle.std.proofs.raw_atomic.Walks.{proved_at, leaves}
 use Rattle.std.specs.declared.option.Option.TheVariants.{None}
-use Rattle.qtree_c.proofs.HeldPortSteps.{single, held_none}
+use Rattle.q_ports.specs.contracts.Port.{the_row as R}
+use Rattle.qtree_c.proofs.HeldSteps.{single, held_none}
 use Rattle.qtree_c.specs.contracts.held_port.HeldPort.empty.{ended, clauses}
 use Rattle.qtree_c.specs.contracts.held_port.HeldPort.empty.Key.{name as #self}
 use Rattle.qtree_c.proofs.held_port.HeldPort.empty.Statement.{statement}
@@ -29,6 +30,6 @@ empty_spec 𝓤 𝓛 𝓜 𝓡 wired =
     qed 𝓛 ((‵ ftrue ⊛ ‵ ftrue) ∷ ‵ ftrue ∷ []) ∵
     enter ! 𝓣.C 𝓣.Λ code.function [] Post $ alloc_all ! (λ l. pass_all ! refl tt $
     sets ! (agg ! (and_then ! (lit ! tt) (no_more !))) refl (tt, (record { fits = lit< tt }, tt)) $
-    held_none ! $
+    held_none R ! $
     use0 𝓛 (raw (fact 𝓤 (None ≡ None))) (fact_i 𝓤 (None ≡ None) (emp 𝓤) refl) $ nothing ! $
     returns ! (look_at ! 0 refl) $ free_all ! refl $ nothing ! $ keep ! (0 ∷ 1 ∷ 3 ∷ 2 ∷ []) $ by ! (leaves 𝓛 ended hs c z (single (ptr_val null_ptr)) (record { at = null_ptr; port = None }) tt tt)))

@@ -24,7 +24,7 @@ use Rattle.std.specs.declared.option.Option.TheVariants.{Some}
 use Rattle.std.specs.contracts.impls.GlobalAllocator.TheImpl.{ghosts}
 use Rattle.q_ports.specs.contracts.Port.{the_row as R}
 use Rattle.q_raw_box.proofs.Values.{both, RawBox, raw_box_good, raw_box_out}
-use Rattle.qtree_c.proofs.HeldPortSteps.{single, held_in}
+use Rattle.qtree_c.proofs.HeldSteps.{single, held_in}
 use Rattle.qtree_c.specs.contracts.held_port.HeldPort.of.{ended, clauses}
 use Rattle.qtree_c.specs.contracts.held_port.HeldPort.of.Key.{name as #self}
 use Rattle.qtree_c.proofs.held_port.HeldPort.of.Statement.{statement}
@@ -43,6 +43,6 @@ of_spec 𝓤 𝓛 𝓜 𝓡 wired =
     sets ! (of_opd ! (get_in ! (fld ! refl (stop !)) (sub ! 0 refl (whole !)))) refl (tt, tt) $
     sets ! (of_opd ! (get ! refl)) refl (tt, tt) $
     sets ! (agg ! (and_then ! (get ! refl) (no_more !))) refl (tt, (tt, tt)) $
-    held_in ! b o v.value $
+    held_in R ! b o v.value $
     use0 𝓛 (raw (fact 𝓤 (Some v.value ≡ Some v.value))) (fact_i 𝓤 (Some v.value ≡ Some v.value) (emp 𝓤) refl) $ nothing ! $ nothing ! $ fjoin ! $
     returns ! (look_at ! 0 refl) $ free_all ! refl $ nothing ! $ keep ! (0 ∷ 1 ∷ 3 ∷ 2 ∷ []) $ by ! (leaves 𝓛 ended hs c z (single (vptr b o)) (record { at = block_ptr b o; port = Some v.value }) (tt, tt) (tt, tt)))))
