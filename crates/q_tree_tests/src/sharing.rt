@@ -1,5 +1,5 @@
 //! What a play sends of each class of a drr, and of each flow of an fq_codel, while they stay backlogged: sums of lengths, and
-//! what quanta, deficits and credits make of them. A priority is a class or a flow.
+//! what quanta, deficits and credits make of them. A priority is a class or a flow. And what a tbf sends over each stretch of a play.
 use crate::bench::{New, Spot, packet};
 use crate::device_bench::{Ask, add, replies, room};
 use q_device::{Event, Polled, Reply, Settings};
@@ -8,7 +8,7 @@ use std::alloc::Global;
 use std::test::Fail;
 
 // Most events of a script.
-const MOST: usize = 64;
+const MOST: usize = 128;
 
 // What happens at moment 0.
 #[derive(Drop)]
@@ -49,6 +49,14 @@ impl Script {
         let replies = replies(alloc, settings, self.events.as_slice())?;
         let given = replies.get(before..).ok_or("replies")?;
         Ok([bytes(given, 1), bytes(given, 2)])
+    }
+}
+
+// The bytes of the packet that a poll gave; 0 where it gave none.
+fn given(reply: &Reply) -> u64 {
+    match reply {
+        Reply::Polled(Polled::Packet(packet)) => u64::from(packet.len),
+        _ => 0,
     }
 }
 
@@ -117,6 +125,85 @@ fn a_flow_gives_its_grants_and_credits(rt: HostRuntime) -> Result<(), Fail> {
     let [first, second] = script.polls(rt.alloc(), 3)?;
     if [first, second] != [1514 + 1514 - 1028, 100] {
         return Err(Fail::new(format_args!("{first}, {second}")));
+    }
+    Ok(())
+}
+
+// A bucket of 2000 bytes that gets 8000 bits, which are 1000 bytes, a second.
+const BURST: u64 = 2_000;
+
+const RATE: u64 = 8_000;
+
+// How many polls there are: five at the start, one each tenth of a second up to the fifth second, and five at the twentieth.
+const POLLS: u64 = 60;
+
+// The nanosecond of a poll, counted from 0.
+fn poll_at(nth: u64) -> u64 {
+    let tenths = if nth < 55 { nth.saturating_sub(4) } else { 200 };
+    tenths.saturating_mul(100_000_000)
+}
+
+// What each poll of a tbf gives, over a play in which packets of these lengths wait from the start.
+fn shaped(alloc: Global, lens: &[u16]) -> Result<Vec<u64>, Fail> {
+    let mut script = Script::new(alloc)?;
+    script.tc(Ask::Graft(Spot::Root, 1, New::Shaper(RATE, 2_000)))?;
+    for _ in 0..4 {
+        for len in lens {
+            script.packets(1, *len, 1)?;
+        }
+    }
+    let before = script.events.len();
+    for nth in 0..POLLS {
+        let now = Moment::new(poll_at(nth)).ok_or("moment")?;
+        add(&mut script.events, Event::Poll(now))?;
+    }
+    let settings = Settings::new(1514, 100, 0).ok_or("settings")?;
+    let replies = replies(alloc, settings, script.events.as_slice())?;
+    let mut bytes = room(alloc, MOST)?;
+    for reply in replies.get(before..).ok_or("replies")? {
+        add(&mut bytes, given(reply))?;
+    }
+    Ok(bytes)
+}
+
+// All that was given.
+fn sum(bytes: &[u64]) -> u64 {
+    let mut sum = 0u64;
+    for given in bytes {
+        sum = sum.saturating_add(*given);
+    }
+    sum
+}
+
+// Whether the polls of each stretch give no more than the burst and what the rate brings from its first to its last.
+fn is_within(bytes: &[u64]) -> bool {
+    for from in 0..bytes.len() {
+        let mut spent = 0u64;
+        for (nth, given) in bytes.iter().enumerate().skip(from) {
+            spent = spent.saturating_add(*given);
+            let passed = poll_at(nth as u64).saturating_sub(poll_at(from as u64));
+            let most = (BURST * 8_000_000_000).saturating_add(RATE.saturating_mul(passed));
+            if spent.saturating_mul(8_000_000_000) > most {
+                return false;
+            }
+        }
+    }
+    true
+}
+
+// In five seconds 2000 + 5 * 1000 bytes can be spent, and a burst more once the bucket is full again: all of them where packets
+// have 500 bytes, and else the longest beginnings.
+#[test]
+fn a_tbf_spends_its_burst_and_what_the_rate_brings(rt: HostRuntime) -> Result<(), Fail> {
+    for (lens, all) in [
+        ([500, 500, 500, 500, 500], 7000 + 2000),
+        ([1500, 64, 700, 1400, 300], 3964 + 2264 + 1400 + 300),
+    ] {
+        let bytes = shaped(rt.alloc(), &lens)?;
+        let sum = sum(bytes.as_slice());
+        if sum != all || !is_within(bytes.as_slice()) {
+            return Err(Fail::new(format_args!("{lens:?}: {sum}")));
+        }
     }
     Ok(())
 }
