@@ -69,6 +69,7 @@ pub extern "C" fn qtree_arrive_many(
 }
 
 /// A packet arrives at an open device.
+#[inline(always)]
 fn arrive(device: &mut Device, packet: &CPacket, now: Moment) -> u32
     ensures arrival { IsArrival packet.now now result device.old device.new }
     ensures codes { result ≢ 50 }
@@ -77,7 +78,7 @@ fn arrive(device: &mut Device, packet: &CPacket, now: Moment) -> u32
     let Some(packet) = packet.packet() else {
         return OUT_OF_RANGE;
     };
-    match steps::arrive(device, packet, now) {
+    match steps::arrive(device, &packet, now) {
         Ok(fate) => number(fate),
         Err(_) => MEMORY,
     }

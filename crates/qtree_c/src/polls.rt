@@ -10,9 +10,28 @@ use crate::c_device::CDevice;
 use crate::c_packet::CPacket;
 use crate::codes::{DONE, IDLE, IS_CLOSED, LATER, OUT_OF_RANGE};
 use crate::steps;
-use q_device::{Device, Polled};
-use q_packet::Moment;
+use q_device::{Device, Given};
+use q_packet::{Ecn, FlowKey, Moment, Packet};
 use std::alloc::Global;
+
+// What the place of a packet has before one is given there: any would do.
+const SOME_PACKET: Packet = Packet {
+    key: FlowKey {
+        family: 0,
+        proto: 0,
+        src: 0,
+        dst: 0,
+        sport: 0,
+        dport: 0,
+    },
+    number: 0,
+    port: 0,
+    buf: 0,
+    hash: 0,
+    len: 1,
+    prio: 0,
+    ecn: Ecn::NotEct,
+};
 
 /// Takes the packet whose turn it is.
 #[unsafe(no_mangle)]
@@ -64,17 +83,19 @@ pub extern "C" fn qtree_poll_many(
 }
 
 /// An open device is polled.
+#[inline(always)]
 fn poll(device: &mut Device, now: Moment, packet: &mut CPacket) -> u32
     ensures poll { IsPoll now result packet.old packet.new device.old device.new }
     ensures codes { result ≤ 31 }
 {
-    match steps::poll(device, now) {
-        Polled::Packet(given) => {
+    let mut given = SOME_PACKET;
+    match steps::poll(device, now, &mut given) {
+        Given::Packet => {
             *packet = CPacket::of(&given);
             DONE
         }
-        Polled::Idle => IDLE,
-        Polled::Later => LATER,
+        Given::Idle => IDLE,
+        Given::Later => LATER,
     }
 }
 
@@ -97,6 +118,7 @@ fn poll_many(device: &mut Device, packets: &mut [CPacket], now: Moment) -> (usiz
 /// # Errors
 ///
 /// What the poll is answered where it gives none.
+#[inline(always)]
 fn next(device: &mut Device, now: Moment) -> Result<CPacket, u32>
     ensures event { device.new ≡ with_memory device.new.memory (after_event (event.Poll now) device.old) }
     ensures given { IfOk result (λ packet. given_at now device.old ≡ Some packet) }
@@ -104,9 +126,10 @@ fn next(device: &mut Device, now: Moment) -> Result<CPacket, u32>
     ensures answer { IfErr result (λ code. code ≡ reply_number (reply_to (event.Poll now) device.old)) }
     ensures codes { IfErr result (λ code. code ≤ 31) }
 {
-    match steps::poll(device, now) {
-        Polled::Packet(packet) => Ok(CPacket::of(&packet)),
-        Polled::Idle => Err(IDLE),
-        Polled::Later => Err(LATER),
+    let mut given = SOME_PACKET;
+    match steps::poll(device, now, &mut given) {
+        Given::Packet => Ok(CPacket::of(&given)),
+        Given::Idle => Err(IDLE),
+        Given::Later => Err(LATER),
     }
 }

@@ -1,38 +1,41 @@
 //! The events of a device, in the words of this crate's contracts.
 ghost use Rattle.std.specs.Prelude.{◌≡◌, IfErr, IfOk, IsOk, Ok, OnOk, OnErr};
 ghost use Rattle.q_device.specs.DeviceSeen.{HasRoomFor, IsRefusal};
+ghost use Rattle.q_device.specs.Giving.{polled_in};
 ghost use Rattle.q_model.specs.declared.event.Event.TheVariants as event;
 ghost use Rattle.q_model.specs.declared.reply.Reply.TheVariants as reply;
 ghost use Rattle.q_tree.specs.Commanding.{MayTakeMemory};
 ghost use Rattle.qtree_c.specs.Events.{after_event, reply_to, with_memory};
 
-use q_device::{Command, Device, Fate, Polled, Refusal};
+use q_device::{Command, Device, Fate, Given, Refusal};
 use q_packet::{Moment, Packet};
 use std::alloc::AllocError;
 
-/// A packet arrives, as at [`Device::arrive`].
+/// A packet arrives, as at [`Device::arrive_at`].
 ///
 /// # Errors
 ///
 /// `AllocError` where memory is refused. Nothing has changed then but for places.
-pub fn arrive(device: &mut Device, packet: Packet, now: Moment) -> Result<Fate, AllocError>
-    ensures event { OnOk result (device.new ≡ with_memory device.new.memory (after_event (event.Arrive packet now) device.old)) }
-    ensures fate { IfOk result (λ fate. reply.Fate fate ≡ reply_to (event.Arrive packet now) device.old) }
+#[inline(always)]
+pub fn arrive(device: &mut Device, packet: &Packet, now: Moment) -> Result<Fate, AllocError>
+    ensures event { OnOk result (device.new ≡ with_memory device.new.memory (after_event (event.Arrive packet.now now) device.old)) }
+    ensures fate { IfOk result (λ fate. reply.Fate fate ≡ reply_to (event.Arrive packet.now now) device.old) }
     ensures same { OnErr result (device.new ≡ with_memory device.new.memory device.old) }
-    ensures succeeds { HasRoomFor packet device.old → IsOk result }
+    ensures succeeds { HasRoomFor packet.now device.old → IsOk result }
 {
-    match device.arrive(packet, now) {
+    match device.arrive_at(packet, now) {
         Ok(fate) => Ok(fate),
         Err(_) => Err(AllocError),
     }
 }
 
-/// The device is polled, as at [`Device::poll`].
-pub fn poll(device: &mut Device, now: Moment) -> Polled
+/// The device is polled, as at [`Device::poll_into`].
+#[inline(always)]
+pub fn poll(device: &mut Device, now: Moment, out: &mut Packet) -> Given
     ensures event { device.new ≡ with_memory device.new.memory (after_event (event.Poll now) device.old) }
-    ensures reply { reply.Polled result ≡ reply_to (event.Poll now) device.old }
+    ensures reply { reply.Polled (polled_in out.new result) ≡ reply_to (event.Poll now) device.old }
 {
-    device.poll(now)
+    device.poll_into(now, out)
 }
 
 /// A command is done, as at [`Device::command`].
