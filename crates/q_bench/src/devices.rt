@@ -1,7 +1,7 @@
 use crate::checksum;
 use crate::packets::Plan;
 use crate::trees::{Shape, Tree, set_up};
-use q_device::{Device, Fate, Polled, Row, Settings, Totals};
+use q_device::{Device, Fate, Given, Row, Settings, Totals};
 use q_model::{ClassId, Handle, Minor, Place};
 use q_packet::{Moment, Packet};
 use std::alloc::Global;
@@ -66,11 +66,12 @@ fn pass_pairs(ready: &mut Ready, made: &[Packet], step: u32, passes: u32) -> Opt
     let mut now = ready.now;
     let mut sum = ready.sum;
     let device = &mut ready.device;
+    let mut out = *made.first()?;
     for _ in 0..passes {
         for packet in made {
             now = Moment::new(now.ns() + u64::from(step))?;
-            sum = checksum::with(sum, arrive(device, *packet, now)?);
-            sum = checksum::with(sum, polled(&device.poll(now)));
+            sum = checksum::with(sum, arrive(device, packet, now)?);
+            sum = checksum::with(sum, poll(device, now, &mut out));
         }
     }
     with_counts(device, sum)
@@ -115,12 +116,13 @@ fn pass_losses(ready: &mut Ready, made: &[Packet], waits: &[u32]) -> Option<u64>
     let mut now = ready.now;
     let mut sum = ready.sum;
     let device = &mut ready.device;
+    let mut out = *made.first()?;
     let mut next = 0;
     for wait in waits {
         now = Moment::new(now.ns() + u64::from(*wait))?;
-        sum = checksum::with(sum, arrive(device, *made.get(next)?, now)?);
-        sum = checksum::with(sum, arrive(device, *made.get(next + 1)?, now)?);
-        sum = checksum::with(sum, polled(&device.poll(now)));
+        sum = checksum::with(sum, arrive(device, made.get(next)?, now)?);
+        sum = checksum::with(sum, arrive(device, made.get(next + 1)?, now)?);
+        sum = checksum::with(sum, poll(device, now, &mut out));
         sum = reap(device, sum);
         next = if next + 3 < made.len() { next + 2 } else { 0 };
     }
@@ -174,26 +176,27 @@ fn queued_up(alloc: Global, shape: u32, tree: Tree, queued: u32, made: &[Packet]
     let mut next = 0;
     for _ in 0..queued {
         now = Moment::new(now.ns() + u64::from(STEP))?;
-        sum = checksum::with(sum, arrive(&mut device, *made.get(next)?, now)?);
+        sum = checksum::with(sum, arrive(&mut device, made.get(next)?, now)?);
         next = if next + 1 < made.len() { next + 1 } else { 0 };
     }
     Some(Ready { device, now, sum })
 }
 
 /// The number of the cause where the packet is lost, else 0.
-fn arrive(device: &mut Device, packet: Packet, now: Moment) -> Option<u64> {
-    match device.arrive(packet, now) {
+fn arrive(device: &mut Device, packet: &Packet, now: Moment) -> Option<u64> {
+    match device.arrive_at(packet, now) {
         Ok(Fate::Kept) => Some(0),
         Ok(Fate::Lost(cause)) => Some(u64::from(cause.number())),
         Err(_) => None,
     }
 }
 
-fn polled(polled: &Polled) -> u64 {
-    match polled {
-        Polled::Packet(packet) => summary(packet),
-        Polled::Idle => 1 << 60,
-        Polled::Later => 2 << 60,
+/// The summary of the packet that a poll writes to `out`, or what it says where there is none.
+fn poll(device: &mut Device, now: Moment, out: &mut Packet) -> u64 {
+    match device.poll_into(now, out) {
+        Given::Packet => summary(out),
+        Given::Idle => 1 << 60,
+        Given::Later => 2 << 60,
     }
 }
 

@@ -16,6 +16,7 @@ use Rattle.q_model.specs.Tally.{history, no_counts, no_totals}
 use Rattle.q_invariants.proofs.EditMade.{new_made}
 use Rattle.q_invariants.proofs.EditNew.{IsNew, new_beneath, new_held}
 use Rattle.q_invariants.proofs.Forests.{side-nodes}
+use Rattle.q_tree.specs.CountersSeen.{no_row}
 use Rattle.q_tree.specs.Kept.{Kept, kept}
 use Rattle.q_tree.specs.Making.{AreNew, IsNewDiscipline, IsNewNode}
 use Rattle.q_tree.specs.Seen.{IsCountedWithin, IsKept, children_seen, seen}
@@ -60,9 +61,6 @@ pub children-within : (ns : List (Node Kept)) (shapes : List Shape) → AreNew n
 children-within ns shapes new = subst (All Within) (sym new) (none-counted shapes)
 
 -- a qdisc of this kind
-abbrev pub no_row : Row
-no_row = record { arrived = no_totals; sent = no_totals; refused = no_totals; dropped = no_totals; queued = no_totals; marked = no_totals }
-
 handed : (d : Device) (now : ℕ) (handle : Option ℕ) (k : Kind) → made d now handle k ≡ record (made d now None k) { own = record (made d now None k).own { handle = handle } }
 handed d now handle (kind.Pfifo limit) = refl
 handed d now handle (kind.Bfifo limit) = refl

@@ -5,6 +5,7 @@ pub mod AskSteps
 pub mod Changing
 pub mod Commanding
 pub mod Commands
+pub mod CountersSeen
 pub mod Editing
 pub mod Finding
 pub mod Grafting

@@ -68,7 +68,8 @@ impl Tree {
     {
         // A moment is at most 2^62 nanoseconds, and a packet has a byte at least.
         let _ = (now.ns(), packet.len);
-        let arrived = self.top.arrived;
+        self.top.fit();
+        let arrived = self.top.arrived();
         if arrived.packets == u64::MAX || arrived.bytes > u64::MAX - u64::from(packet.len) {
             return Err(AllocError);
         }

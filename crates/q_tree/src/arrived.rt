@@ -4,10 +4,10 @@ ghost use Rattle.q_model.specs.Tally.{with_packet, no_totals};
 ghost use Rattle.q_tree.specs.Arrivals.{CanCount, IsLostOf, with_arrival};
 ghost use Rattle.q_tree.specs.ArriveSteps.{nothing_lost};
 
-use crate::booking::{NOTHING, book_arrival as book_outcome, one_packet, sum};
+use crate::booking::{NOTHING, book_arrival as book_outcome};
+use crate::counters::Counters;
 use crate::outcome::{Outcome, refuse as refused};
 use q_codel::Sink;
-use q_model::Row;
 use q_packet::{Cause, Packet};
 use std::marker::Model;
 use std::snapshot::Snapshot;
@@ -93,7 +93,12 @@ pub(crate) fn refuse<S: Sink>(
 
 /// Books a packet that has arrived, with all that was lost for it at the node or beneath.
 #[inline(always)]
-pub(crate) fn book_arrival(row: &mut Row, packet: &Packet, arrived: &Arrived, outcome: &Outcome)
+pub(crate) fn book_arrival(
+    row: &mut Counters,
+    packet: &Packet,
+    arrived: &Arrived,
+    outcome: &Outcome,
+)
     requires balanced { IsBalanced row.old }
     requires room { CanCount row.old.arrived packet.now }
     requires lost { IsLostOf packet.now arrived.now row.old.queued }
@@ -101,9 +106,8 @@ pub(crate) fn book_arrival(row: &mut Row, packet: &Packet, arrived: &Arrived, ou
     ensures { row.new ≡ with_arrival packet.now arrived.now row.old }
 {
     if arrived.is_kept() {
-        let one = one_packet(packet);
-        row.arrived = sum(row.arrived, one);
-        row.queued = sum(row.queued, one);
+        row.arrived_packets += 1;
+        row.arrived_bytes += u64::from(packet.len);
         return;
     }
     book_outcome(row, packet, outcome);

@@ -6,10 +6,11 @@ ghost use Rattle.q_tree.specs.AskSteps.{CanShow, toll_of, with_shown};
 ghost use Rattle.q_tree.specs.Editing.{CanDrop, with_dropped};
 ghost use Rattle.q_tree.specs.PopSteps.{IsAmong, with_sent};
 
+use crate::counters::Counters;
 use crate::outcome::Outcome;
 use crate::shown::Shown;
 use crate::toll::Toll;
-use q_model::{Row, Totals};
+use q_model::Totals;
 use q_packet::Packet;
 
 /// No packet.
@@ -30,34 +31,34 @@ pub(crate) fn one_packet(packet: &Packet) -> Totals
 
 /// Books a packet that has arrived, with all that was lost for it at the node or beneath.
 #[inline(never)]
-pub(crate) fn book_arrival(row: &mut Row, packet: &Packet, outcome: &Outcome)
+pub(crate) fn book_arrival(row: &mut Counters, packet: &Packet, outcome: &Outcome)
     requires balanced { IsBalanced row.old }
     requires room { CanCount row.old.arrived packet.now }
     requires lost { IsLostOf packet.now outcome.now row.old.queued }
     ensures { row.new ≡ with_arrival packet.now outcome.now row.old }
 {
-    let one = one_packet(packet);
-    row.arrived = sum(row.arrived, one);
-    row.refused = sum(row.refused, outcome.refused);
-    row.dropped = sum(row.dropped, outcome.dropped);
-    row.queued = difference(sum(row.queued, one), sum(outcome.refused, outcome.dropped));
+    row.arrived_packets += 1;
+    row.arrived_bytes += u64::from(packet.len);
+    row.refused_packets += outcome.refused.packets;
+    row.refused_bytes += outcome.refused.bytes;
+    row.dropped_packets += outcome.dropped.packets;
+    row.dropped_bytes += outcome.dropped.bytes;
 }
 
 /// Books a packet that was queued and is given to the node above.
-pub(crate) fn book_sent(row: &mut Row, packet: &Packet)
+pub(crate) fn book_sent(row: &mut Counters, packet: &Packet)
     requires balanced { IsBalanced row.old }
     requires among { IsAmong packet.now row.old.queued }
     requires room { CanCount row.old.sent packet.now }
     ensures { row.new ≡ with_sent packet.now row.old }
 {
-    let one = one_packet(packet);
-    row.sent = sum(row.sent, one);
-    row.queued = difference(row.queued, one);
+    row.sent_packets += 1;
+    row.sent_bytes += u64::from(packet.len);
 }
 
 /// Books what asking the node came to: what CoDel dropped was queued.
 #[inline(always)]
-pub(crate) fn book_shown(row: &mut Row, shown: &Shown, toll: &Toll)
+pub(crate) fn book_shown(row: &mut Counters, shown: &Shown, toll: &Toll)
     requires balanced { IsBalanced row.old }
     requires room { CanShow shown.now row.old }
     requires told { toll.now ≡ toll_of shown.now }
@@ -73,7 +74,7 @@ pub(crate) fn book_shown(row: &mut Row, shown: &Shown, toll: &Toll)
 // Books what was dropped and marked.
 #[cold]
 #[inline(never)]
-fn book_toll(row: &mut Row, toll: &Toll)
+fn book_toll(row: &mut Counters, toll: &Toll)
     requires packets { toll.now.dropped.packets ≤ row.old.queued.packets }
     requires bytes { toll.now.dropped.bytes ≤ row.old.queued.bytes }
     requires marked_packets { row.old.marked.packets + toll.now.marked.packets < 2 ^ 64 }
@@ -82,19 +83,20 @@ fn book_toll(row: &mut Row, toll: &Toll)
     requires dropped_bytes { row.old.dropped.bytes + toll.now.dropped.bytes < 2 ^ 64 }
     ensures { row.new ≡ record row.old { dropped = plus row.old.dropped toll.now.dropped; marked = plus row.old.marked toll.now.marked; queued = minus row.old.queued toll.now.dropped } }
 {
-    row.dropped = sum(row.dropped, toll.dropped);
-    row.marked = sum(row.marked, toll.marked);
-    row.queued = difference(row.queued, toll.dropped);
+    row.dropped_packets += toll.dropped.packets;
+    row.dropped_bytes += toll.dropped.bytes;
+    row.marked_packets += toll.marked.packets;
+    row.marked_bytes += toll.marked.bytes;
 }
 
 /// Books packets that were queued and are dropped.
-pub(crate) fn book_dropped(row: &mut Row, lost: Totals)
+pub(crate) fn book_dropped(row: &mut Counters, lost: Totals)
     requires balanced { IsBalanced row.old }
     requires room { CanDrop lost row.old }
     ensures { row.new ≡ with_dropped lost row.old }
 {
-    row.dropped = sum(row.dropped, lost);
-    row.queued = difference(row.queued, lost);
+    row.dropped_packets += lost.packets;
+    row.dropped_bytes += lost.bytes;
 }
 
 /// Packets and bytes of both together.

@@ -74,6 +74,7 @@ impl Node {
         let Some((&place, rest)) = path.split_first() else {
             return self.apply(edit, sink);
         };
+        self.row.fit();
         let lost = self.discipline.edit_beneath(place, rest, edit, sink)?;
         book_dropped(&mut self.row, lost);
         Ok(lost)
@@ -108,6 +109,7 @@ impl Node {
                 return Ok(NOTHING);
             }
             Edit::Reshape(reshape) => {
+                self.row.fit();
                 let lost = self.discipline.reshape(reshape, sink)?;
                 book_dropped(&mut self.row, lost);
                 return Ok(lost);

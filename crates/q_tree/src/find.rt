@@ -18,7 +18,7 @@ impl Node {
     pub(crate) fn row(&self) -> Row
         ensures { result ≡ row kept self.now }
     {
-        self.row
+        self.row.row()
     }
 
     /// The children, in class order.

@@ -21,6 +21,7 @@ impl Node {
         ensures after { self.new ≡ booked kept self.old (pop self.old).after }
         ensures arrived { self.new.memory.counts.arrived ≡ self.old.memory.counts.arrived }
     {
+        self.row.fit();
         if let Some(packet) = self.held {
             self.held = None;
             book_sent(&mut self.row, &packet);

@@ -18,6 +18,7 @@ mod booking;
 mod class_commands;
 mod classes;
 mod command;
+mod counters;
 mod counting;
 mod dequeue;
 mod drr;

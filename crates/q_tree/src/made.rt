@@ -3,8 +3,9 @@ ghost use Rattle.q_fqcodel.specs.FqState.{first_state};
 ghost use Rattle.q_model.specs.Make.{implicit_pfifo, limit_bytes, made, with_options};
 ghost use Rattle.q_tree.specs.Making.{AreNew, IsNewDiscipline, IsNewNode, IsNewTbf, NeedsMemory};
 
+use crate::counters::Counters;
 use crate::link::Link;
-use crate::node::{Discipline, NOTHING_COUNTED, Node};
+use crate::node::{Discipline, Node};
 use q_bucket::Bucket;
 use q_codel::{Fifo, Limit};
 use q_drr::Active;
@@ -37,7 +38,7 @@ impl Node {
             handle: Some(handle),
             held: None,
             filters: Vec::new(alloc),
-            row: NOTHING_COUNTED,
+            row: Counters::none(),
             discipline,
         })
     }

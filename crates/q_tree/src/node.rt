@@ -7,14 +7,14 @@ ghost use Rattle.q_model.specs.Find.{depth, greatest};
 ghost use Rattle.q_model.specs.Route.{route, through};
 ghost use Rattle.q_tree.specs.Ahead.{ahead, ways, depths};
 
-use crate::booking::NOTHING;
+use crate::counters::Counters;
 use crate::matching::named_class;
 use crate::way::Way;
 use q_bucket::Bucket;
 use q_codel::{Fifo, Limit};
 use q_drr::Active;
 use q_fqcodel::FqCodel;
-use q_model::{Filter, Handle, Row, Totals};
+use q_model::{Filter, Handle, Totals};
 use q_packet::{Cause, Packet};
 use std::alloc::Global;
 use std::marker::Model;
@@ -28,7 +28,7 @@ use std::marker::Model;
 #[derive(Drop)]
 pub(crate) struct Node {
     pub(crate) held: Option<Packet>,
-    pub(crate) row: Row,
+    pub(crate) row: Counters,
     pub(crate) filters: Vec<Filter>,
     pub(crate) handle: Option<Handle>,
     pub(crate) discipline: Discipline,
@@ -81,16 +81,6 @@ impl Model for Node {
     ghost size_decreases = { λ a h. child_smaller a };
 }
 
-/// What a node has counted before any packet.
-pub(crate) const NOTHING_COUNTED: Row = Row {
-    arrived: NOTHING,
-    sent: NOTHING,
-    refused: NOTHING,
-    dropped: NOTHING,
-    queued: NOTHING,
-    marked: NOTHING,
-};
-
 impl Node {
     ghost use Rattle.q_model.specs.Make.{node_of};
     ghost use Rattle.q_model.specs.Node as spec;
@@ -107,7 +97,7 @@ impl Node {
             handle,
             held: None,
             filters: Vec::new(alloc),
-            row: NOTHING_COUNTED,
+            row: Counters::none(),
             discipline: Discipline::Fifo(Fifo::new(alloc, limit)),
         }
     }
@@ -116,14 +106,14 @@ impl Node {
     pub(crate) fn is_empty(&self) -> bool
         ensures { result ≡ is_empty self.now }
     {
-        self.row.queued.packets == 0
+        self.row.queued().packets == 0
     }
 
     /// What is queued at the node and beneath it.
     pub(crate) fn queued(&self) -> Totals
         ensures { result ≡ totals_in (beneath self.now) }
     {
-        self.row.queued
+        self.row.queued()
     }
 
     /// Goes on with the way of a packet, down from the node, from where it has come to.

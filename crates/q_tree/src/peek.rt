@@ -40,6 +40,7 @@ impl Node {
         ensures toll { toll.new ≡ toll_of result }
         ensures kept { S.keeps sink.old sink.new }
     {
+        self.row.fit();
         if self.held.is_some() {
             return Shown::at_hand(&self.held);
         }

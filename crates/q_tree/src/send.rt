@@ -38,6 +38,7 @@ impl Tree {
     {
         // A moment is at most 2^62 nanoseconds.
         let _ = now.ns();
+        self.top.fit();
         let mut toll = NO_TOLL;
         let shown = self.root.send(now, out, &mut toll, sink);
         book_shown(&mut self.top, &shown, &toll);
@@ -77,6 +78,7 @@ impl Node {
         ensures toll { toll.new ≡ toll_of result }
         ensures kept { S.keeps sink.old sink.new }
     {
+        self.row.fit();
         if let Some(packet) = self.held {
             self.held = None;
             book_sent(&mut self.row, &packet);

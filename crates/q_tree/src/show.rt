@@ -41,7 +41,7 @@ impl Node {
             handle: self.handle,
             place,
             qdisc: self.qdisc_view(),
-            row: self.row,
+            row: self.row.row(),
         }
     }
 

@@ -21,9 +21,10 @@ ghost use Rattle.q_tree.specs.Showing.{IsNumbered, standing};
 ghost use Rattle.q_tree.specs.TreeSeen.{CanArrive, IsArrived, IsRouteIn, numbers};
 
 use crate::booking::{book_arrival, book_dropped, book_sent, book_shown};
+use crate::counters::Counters;
 use crate::handles::Handles;
 use crate::link::Link;
-use crate::node::{NOTHING_COUNTED, Node};
+use crate::node::Node;
 use crate::outcome::{Outcome, refuse};
 use crate::planned::Planned;
 use crate::route::Route;
@@ -46,7 +47,7 @@ pub struct Tree {
     txqueuelen: u32,
     /// The latest moment that it was given.
     pub(crate) clock: Moment,
-    pub(crate) top: Row,
+    pub(crate) top: Counters,
     pub(crate) root: Node,
     /// The ways to the handles beneath the root, by which commands find their qdiscs.
     pub(crate) handles: Handles,
@@ -78,7 +79,7 @@ impl Tree {
             mtu,
             txqueuelen,
             clock: Moment::zero(),
-            top: NOTHING_COUNTED,
+            top: Counters::none(),
             root: Node::fifo(alloc, None, Limit::Packets(u64::from(txqueuelen))),
             handles: Handles::new(alloc),
         }
@@ -95,7 +96,7 @@ impl Tree {
     pub fn totals(&self) -> Row
         ensures { result ≡ row_of self.now.tree.top.counts (beneath self.now.tree.root) }
     {
-        self.top
+        self.top.row()
     }
 
     /// What the node in this place counted, and what is queued there; `None` where none stands there.
@@ -103,7 +104,7 @@ impl Tree {
         ensures { result ≡ stats kept place self.now.tree }
     {
         match place {
-            Place::Top => return Some(self.top),
+            Place::Top => return Some(self.top.row()),
             Place::Root => return Some(self.root.row()),
             Place::Class(id) => return Some(
                 self.root
@@ -179,6 +180,7 @@ impl Tree {
     {
         // A moment is at most 2^62 nanoseconds.
         let _ = now.ns();
+        self.top.fit();
         let Planned { path, edit } = planned;
         let Ok(()) = self.handles.make_room_for(&edit) else {
             return Err(Refusal::Memory);
@@ -235,7 +237,7 @@ impl Tree {
         ensures ok { OnOk result (CanArrive route.now self.new) }
         ensures succeeds { CanArrive route.now self.old → IsOk result }
     {
-        let arrived = self.top.arrived;
+        let arrived = self.top.arrived();
         if arrived.packets == u64::MAX || arrived.bytes > u64::MAX - u64::from(route.len) {
             return Err(AllocError);
         }
@@ -287,6 +289,7 @@ impl Tree {
     {
         // A moment is at most 2^62 nanoseconds.
         let _ = now.ns();
+        self.top.fit();
         let mut toll = NO_TOLL;
         let shown = self.root.peek(now, &mut toll, sink);
         book_shown(&mut self.top, &shown, &toll);
@@ -310,6 +313,7 @@ impl Tree {
     {
         // A moment is at most 2^62 nanoseconds.
         let _ = now.ns();
+        self.top.fit();
         let mut toll = NO_TOLL;
         let shown = self.root.peek(now, &mut toll, sink);
         book_shown(&mut self.top, &shown, &toll);

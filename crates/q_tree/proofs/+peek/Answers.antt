@@ -366,7 +366,7 @@ node::Node::peek-ask-shown-requires g t c κs within = (
     (
       none-held c.self.inside.held c.if-is_some.ensures,
       (
-        can-in c.args.now c.self.inside c.args.self.now c.self.invariant c.self.view_is c.requires.ready (omega (arith, c.self.ranges)) (omega (arith, c.self.ranges)),
+        can-in c.args.now c.self.inside c.args.self.now c.self.invariant c.self.view_is c.requires.ready (omega (arith, c.self.ranges, c.fit.ensures.packets, c.fit.ensures.bytes)) (omega (arith, c.self.ranges, c.fit.ensures.packets, c.fit.ensures.bytes)),
         (enough c.args.now c.self.inside c.args.self.now c.self.invariant c.self.view_is c.requires.ready (g.S.Sink.room c.args.sink.now) c.requires.sink, c.requires.clean),
       ),
     ),
@@ -376,20 +376,20 @@ node::Node::peek-ask-shown-requires g t c κs within = (
 pub node::Node::peek-book_shown-requires-clause-room :
     goal.node::Node::peek-book_shown-requires-clause-room
 node::Node::peek-book_shown-requires-clause-room g t c =
-    can-book c.args.now c.self.inside c.args.self.now c.self.invariant c.self.view_is c.requires.ready (none-held c.self.inside.held c.if-is_some.ensures) c.ask-shown.new.self c.ask-shown.result (c.ask-shown.ensures.after c.self.inside.handle c.self.inside.filters.items) (omega (arith, c.self.ranges)) (omega (arith, c.self.ranges))
+    can-book c.args.now c.self.inside c.args.self.now c.self.invariant c.self.view_is c.requires.ready (none-held c.self.inside.held c.if-is_some.ensures) c.ask-shown.new.self c.ask-shown.result (c.ask-shown.ensures.after c.self.inside.handle c.self.inside.filters.items) (omega (arith, c.self.ranges, c.fit.ensures.packets, c.fit.ensures.bytes)) (omega (arith, c.self.ranges, c.fit.ensures.packets, c.fit.ensures.bytes))
 
 pub node::Node::peek-invariant_of-self :
     goal.node::Node::peek-invariant_of-self
 node::Node::peek-invariant_of-self g t c =
     (peeked-done c.args.now c.self.inside c.args.self.now c.self.invariant c.self.view_is c.requires.ready (none-held c.self.inside.held c.if-is_some.ensures) c.ask-shown.new.self c.ask-shown.result (c.ask-shown.ensures.after c.self.inside.handle c.self.inside.filters.items) c.book_shown.new.row c.ask-shown.new.held
-    (can-book c.args.now c.self.inside c.args.self.now c.self.invariant c.self.view_is c.requires.ready (none-held c.self.inside.held c.if-is_some.ensures) c.ask-shown.new.self c.ask-shown.result (c.ask-shown.ensures.after c.self.inside.handle c.self.inside.filters.items) (omega (arith, c.self.ranges)) (omega (arith, c.self.ranges)))
+    (can-book c.args.now c.self.inside c.args.self.now c.self.invariant c.self.view_is c.requires.ready (none-held c.self.inside.held c.if-is_some.ensures) c.ask-shown.new.self c.ask-shown.result (c.ask-shown.ensures.after c.self.inside.handle c.self.inside.filters.items) (omega (arith, c.self.ranges, c.fit.ensures.packets, c.fit.ensures.bytes)) (omega (arith, c.self.ranges, c.fit.ensures.packets, c.fit.ensures.bytes)))
     c.book_shown.ensures c.ask-shown.ensures.held).stays
 
 pub node::Node::peek-returns-clause-after :
     goal.node::Node::peek-returns-clause-after
 node::Node::peek-returns-clause-after g t c =
     (peeked-done c.args.now c.self.inside c.args.self.now c.self.invariant c.self.view_is c.requires.ready (none-held c.self.inside.held c.if-is_some.ensures) c.ask-shown.new.self c.ask-shown.result (c.ask-shown.ensures.after c.self.inside.handle c.self.inside.filters.items) c.book_shown.new.row c.ask-shown.new.held
-    (can-book c.args.now c.self.inside c.args.self.now c.self.invariant c.self.view_is c.requires.ready (none-held c.self.inside.held c.if-is_some.ensures) c.ask-shown.new.self c.ask-shown.result (c.ask-shown.ensures.after c.self.inside.handle c.self.inside.filters.items) (omega (arith, c.self.ranges)) (omega (arith, c.self.ranges)))
+    (can-book c.args.now c.self.inside c.args.self.now c.self.invariant c.self.view_is c.requires.ready (none-held c.self.inside.held c.if-is_some.ensures) c.ask-shown.new.self c.ask-shown.result (c.ask-shown.ensures.after c.self.inside.handle c.self.inside.filters.items) (omega (arith, c.self.ranges, c.fit.ensures.packets, c.fit.ensures.bytes)) (omega (arith, c.self.ranges, c.fit.ensures.packets, c.fit.ensures.bytes)))
     c.book_shown.ensures c.ask-shown.ensures.held).after
 
 pub node::Node::peek-returns-clause-shown :

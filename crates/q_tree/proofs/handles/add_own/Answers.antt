@@ -1,6 +1,5 @@
-use Rattle.std.proofs.Common.{◌≡◌, ◌∙◌, [], ◌∷◌, sym, ap, Some}
+use Rattle.std.proofs.Common.{◌≡◌, ◌∙◌, sym, ap, Some}
 use Rattle.std.specs.List.{fold}
-use Rattle.q_model.specs.Find.{Address}
 use Rattle.q_model.specs.Node.{Node}
 use Rattle.q_tree.specs.Index.{added, listed, own_address}
 use Rattle.q_tree.specs.Kept.{Kept}

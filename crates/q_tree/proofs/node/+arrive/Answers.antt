@@ -1,5 +1,5 @@
-use Rattle.std.proofs.Common.{◌≡◌, ℕ, ◌+◌, ◌∙◌, ◌∷◌, List, [], length, refl, sym, ap, subst, arith, Option, Some, None}
-use Rattle.std.specs.Prelude.{if◌then◌else◌, IfOk, OnErr, slice_get, slice_index_or}
+use Rattle.std.proofs.Common.{◌≡◌, ℕ, ◌∙◌, ◌∷◌, List, [], length, refl, sym, ap, subst, arith, Option, Some}
+use Rattle.std.specs.Prelude.{if◌then◌else◌, IfOk, OnErr, slice_get}
 use Rattle.std.proofs.lemmas.Option.{slice_get_past, slice_get_read}
 use Rattle.std.proofs.lemmas.List.{get_or-set_same}
 use Rattle.std.proofs.lemmas.Bool.{false≢true}
@@ -9,7 +9,7 @@ use Rattle.std.specs.Vec.{with_item}
 use Rattle.q_packet.specs.Descriptor.{Descriptor}
 use Rattle.q_packet.specs.declared.cause.Cause.TheVariants.{NoClass, TooLong}
 use Rattle.q_fqcodel.specs.FqState.{FqView}
-use Rattle.q_model.specs.Beneath.{beneath, is_empty}
+use Rattle.q_model.specs.Beneath.{is_empty}
 use Rattle.q_model.specs.Node as spec
 use Rattle.q_model.specs.Node.{Node, shape, side_by_side}
 use Rattle.q_model.specs.Put.{put_along}
@@ -18,7 +18,7 @@ use Rattle.q_model.specs.Work.{settled_class, settled_in}
 use Rattle.q_tree.specs.Ahead.{ways}
 use Rattle.q_tree.specs.Arrivals.{CanCount}
 use Rattle.q_tree.specs.NodeCode.{forest_size}
-use Rattle.q_tree.specs.ArriveSteps.{CanCome, HasCome, HasComeIn, IsPlaced, IsPlacedIn}
+use Rattle.q_tree.specs.ArriveSteps.{HasComeIn, IsPlacedIn}
 use Rattle.q_tree.specs.Kept.{Kept}
 use Rattle.q_tree.specs.Seen.{children_seen, places_seen, discipline_seen}
 use Rattle.q_tree.specs.declared.node.Discipline.{Discipline}

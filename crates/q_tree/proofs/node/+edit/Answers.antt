@@ -126,14 +126,14 @@ Node::edit-edit_beneath-requires g t c κs within = (
 pub Node::edit-book_dropped-requires-clause-room : goal.Node::edit-book_dropped-requires-clause-room
 Node::edit-book_dropped-requires-clause-room g t c =
     room c.args.edit c.self.inside c.args.self.now c.self.view_is c.self.invariant c.args.path.now c.in-Some.field-0-0.now c.in-Some.rest.now c.in-Some.ensures.cases.0 c.requires.ready c.requires.there
-    c.in_ok-lost.lost c.in_ok-lost.ensures.totals (omega (arith, c.self.ranges)) (omega (arith, c.self.ranges))
+    c.in_ok-lost.lost c.in_ok-lost.ensures.totals (omega (arith, c.self.ranges, c.fit.ensures.packets, c.fit.ensures.bytes)) (omega (arith, c.self.ranges, c.fit.ensures.packets, c.fit.ensures.bytes))
 
 pub Node::edit-invariant_of-self-2 : goal.Node::edit-invariant_of-self-2
 Node::edit-invariant_of-self-2 g t c =
     stays c.args.edit c.self.inside c.args.self.now c.self.view_is c.self.invariant c.args.path.now c.in-Some.field-0-0.now c.in-Some.rest.now c.in-Some.ensures.cases.0 c.requires.ready c.requires.there
     c.in_ok-lost.lost c.in_ok-lost.ensures.totals c.edit_beneath.new.self c.in_ok-lost.ensures.after c.book_dropped.new.row c.book_dropped.ensures
     (room c.args.edit c.self.inside c.args.self.now c.self.view_is c.self.invariant c.args.path.now c.in-Some.field-0-0.now c.in-Some.rest.now c.in-Some.ensures.cases.0 c.requires.ready c.requires.there
-    c.in_ok-lost.lost c.in_ok-lost.ensures.totals (omega (arith, c.self.ranges)) (omega (arith, c.self.ranges)))
+    c.in_ok-lost.lost c.in_ok-lost.ensures.totals (omega (arith, c.self.ranges, c.fit.ensures.packets, c.fit.ensures.bytes)) (omega (arith, c.self.ranges, c.fit.ensures.packets, c.fit.ensures.bytes)))
 
 pub Node::edit-returns-clause-after : goal.Node::edit-returns-clause-after
 Node::edit-returns-clause-after g t c =

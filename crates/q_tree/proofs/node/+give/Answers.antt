@@ -96,7 +96,7 @@ Node::give-book_sent-requires-2-clause-among t c =
 pub Node::give-book_sent-requires-2-clause-room : goal.Node::give-book_sent-requires-2-clause-room
 Node::give-book_sent-requires-2-clause-room t c =
     let had = (among (seen c.self.inside) c.self.inside.row (row-of c.self.inside c.self.invariant) c.give.new.out (own-shown c.self.inside c.in_default.is c.give.new.self (popping_of c.self.inside.discipline).shown refl c.give.ensures.after ∙ (given-some (popping_of c.self.inside.discipline).shown c.args.out.now c.give.new.out (sym c.give.ensures.given ∙ c.if-not-give.false) c.give.ensures.packet))) in
-    record { packets = omega (arith, c.self.invariant.balanced.packets, had.packets, c.self.ranges); bytes = omega (arith, c.self.invariant.balanced.bytes, had.bytes, c.self.ranges) }
+    record { packets = omega (arith, c.self.invariant.balanced.packets, had.packets, c.self.ranges, c.fit.ensures.packets, c.fit.ensures.bytes); bytes = omega (arith, c.self.invariant.balanced.bytes, had.bytes, c.self.ranges, c.fit.ensures.packets, c.fit.ensures.bytes) }
 
 pub Node::give-invariant_of-self-2 : goal.Node::give-invariant_of-self-2
 Node::give-invariant_of-self-2 t c =

@@ -82,4 +82,4 @@ Node::pop-returns-clause-after t c =
 pub Node::pop-book_sent-requires-2-clause-room : goal.Node::pop-book_sent-requires-2-clause-room
 Node::pop-book_sent-requires-2-clause-room t c =
     let had = among (seen c.self.inside) c.self.inside.row (row-of c.self.inside c.self.invariant) c.in-Some-pop.packet (own-shown c.self.inside c.in_default.is c.pop.new.self c.pop.result c.pop.ensures.packet c.pop.ensures.after ∙ c.in-Some-pop.is) in
-    record { packets = omega (arith, c.self.invariant.balanced.packets, had.packets, c.self.ranges); bytes = omega (arith, c.self.invariant.balanced.bytes, had.bytes, c.self.ranges) }
+    record { packets = omega (arith, c.self.invariant.balanced.packets, had.packets, c.self.ranges, c.fit.ensures.packets, c.fit.ensures.bytes); bytes = omega (arith, c.self.invariant.balanced.bytes, had.bytes, c.self.ranges, c.fit.ensures.packets, c.fit.ensures.bytes) }

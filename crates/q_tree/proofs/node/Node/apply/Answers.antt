@@ -11,8 +11,8 @@ use Rattle.q_tree.proofs.node.Node.apply.Goals as goal
 pub reshape-requires-clause-few : goal.reshape-requires-clause-few
 reshape-requires-clause-few g c =
     let a = c.self-in-Reshape.inside in
-    let can = can-lose c.in-Reshape.reshape c.args.edit c.in-Reshape.is a c.args.self.now c.self-in-Reshape.view_is c.self-in-Reshape.invariant c.requires.ready (omega (arith, c.self-in-Reshape.ranges)) (omega (arith, c.self-in-Reshape.ranges)) in
-    record { packets = omega (arith, can.packets, c.self-in-Reshape.ranges); bytes = omega (arith, can.bytes, c.self-in-Reshape.ranges) }
+    let can = can-lose c.in-Reshape.reshape c.args.edit c.in-Reshape.is a c.args.self.now c.self-in-Reshape.view_is c.self-in-Reshape.invariant c.requires.ready (omega (arith, c.self-in-Reshape.ranges, c.fit.ensures.packets, c.fit.ensures.bytes)) (omega (arith, c.self-in-Reshape.ranges, c.fit.ensures.packets, c.fit.ensures.bytes)) in
+    record { packets = omega (arith, can.packets, c.self-in-Reshape.ranges, c.fit.ensures.packets, c.fit.ensures.bytes); bytes = omega (arith, can.bytes, c.self-in-Reshape.ranges, c.fit.ensures.packets, c.fit.ensures.bytes) }
 
 pub reshape-requires-clause-sink : goal.reshape-requires-clause-sink
 reshape-requires-clause-sink g c =
@@ -23,7 +23,7 @@ book_dropped-requires-clause-room g c =
     let a = c.self-in-Reshape.inside in
     let lost = totals_in (lost_with c.in-Reshape.reshape (discipline_seen a.discipline) (children_seen a.discipline)) in
     subst (λ t. CanDrop t a.row) (sym (same-total c.in_ok-lost-in-Reshape.lost lost c.in_ok-lost-in-Reshape.ensures.totals))
-    (can-lose c.in-Reshape.reshape c.args.edit c.in-Reshape.is a c.args.self.now c.self-in-Reshape.view_is c.self-in-Reshape.invariant c.requires.ready (omega (arith, c.self-in-Reshape.ranges)) (omega (arith, c.self-in-Reshape.ranges)))
+    (can-lose c.in-Reshape.reshape c.args.edit c.in-Reshape.is a c.args.self.now c.self-in-Reshape.view_is c.self-in-Reshape.invariant c.requires.ready (omega (arith, c.self-in-Reshape.ranges, c.fit.ensures.packets, c.fit.ensures.bytes)) (omega (arith, c.self-in-Reshape.ranges, c.fit.ensures.packets, c.fit.ensures.bytes)))
 
 pub invariant_of-self-in-Reshape : goal.invariant_of-self-in-Reshape
 invariant_of-self-in-Reshape g c =
@@ -31,7 +31,7 @@ invariant_of-self-in-Reshape g c =
     let lost = totals_in (lost_with c.in-Reshape.reshape (discipline_seen a.discipline) (children_seen a.discipline)) in
     let booked = c.book_dropped.ensures ∙ ap (λ t. with_dropped t a.row) (same-total c.in_ok-lost-in-Reshape.lost lost c.in_ok-lost-in-Reshape.ensures.totals) in
     reshaped-kept c.in-Reshape.reshape c.args.edit c.in-Reshape.is a c.args.self.now c.self-in-Reshape.view_is c.self-in-Reshape.invariant c.requires.ready c.reshape.new.self c.in_ok-lost-in-Reshape.ensures.after c.book_dropped.new.row booked
-    (can-lose c.in-Reshape.reshape c.args.edit c.in-Reshape.is a c.args.self.now c.self-in-Reshape.view_is c.self-in-Reshape.invariant c.requires.ready (omega (arith, c.self-in-Reshape.ranges)) (omega (arith, c.self-in-Reshape.ranges)))
+    (can-lose c.in-Reshape.reshape c.args.edit c.in-Reshape.is a c.args.self.now c.self-in-Reshape.view_is c.self-in-Reshape.invariant c.requires.ready (omega (arith, c.self-in-Reshape.ranges, c.fit.ensures.packets, c.fit.ensures.bytes)) (omega (arith, c.self-in-Reshape.ranges, c.fit.ensures.packets, c.fit.ensures.bytes)))
 
 pub returns-in-Reshape-clause-after : goal.returns-in-Reshape-clause-after
 returns-in-Reshape-clause-after g c =

@@ -1,5 +1,4 @@
-use Rattle.std.proofs.Common.{◌∙◌, length, ap, arith}
-use Rattle.q_tree.specs.Index.{free_among}
+use Rattle.std.proofs.Common.{length, ap, arith}
 use Rattle.q_tree.proofs.IndexLemmas.{few-all}
 use Rattle.q_tree.proofs.node.Node.handle_or_free.Goals as goal
 

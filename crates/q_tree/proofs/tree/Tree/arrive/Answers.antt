@@ -4,6 +4,7 @@ use Rattle.q_packet.specs.Descriptor.{Descriptor}
 use Rattle.q_model.specs.Beneath.{beneath}
 use Rattle.q_model.specs.Node.{shape}
 use Rattle.q_model.specs.Route.{device_route}
+use Rattle.q_model.specs.declared.totals.Totals.{Totals}
 use Rattle.q_model.specs.Step.{DeviceState, fate_of, losses_in}
 use Rattle.q_model.specs.Tally.{totals}
 use Rattle.q_model.specs.TreeState.{noted_by_put, own_loss, put}
@@ -24,7 +25,7 @@ arrive_below-requires-clause-ready g c =
     let later : c.self.inside.clock ≤ c.args.now = omega (arith, ap (λ (d : DeviceState Kept). d.clock) c.self.view_is, c.requires.order) in
     let low : c.args.now ≤ 2 ^ 62 = omega (arith, c.ns.ensures.in_range, c.ns.ensures.value) in
     let byte : 1 ≤ c.args.packet.now.len = omega (arith, c.packet.invariant.0, ap (λ (p : Descriptor). p.len) c.packet.view_is) in
-    let room : CanCount c.self.inside.top.arrived c.args.packet.now = record { packets = omega (arith, c.if-arrived.false, c.self.ranges); bytes = omega (arith, c.if-arrived-from.false, c.from.ensures, c.from.type_inv, ap (λ (p : Descriptor). p.len) c.packet.view_is) } in
+    let room : CanCount c.self.inside.top.arrived c.args.packet.now = record { packets = omega (arith, c.if-arrived.false, ap (λ (x : Totals). x.packets) c.arrived-arrived.ensures, c.self.ranges, c.fit.ensures.packets, c.fit.ensures.bytes); bytes = omega (arith, c.if-arrived-from.false, ap (λ (x : Totals). x.bytes) c.arrived-arrived.ensures, c.from.ensures, c.from.type_inv, ap (λ (p : Descriptor). p.len) c.packet.view_is) } in
     can-come c.self.inside c.self.invariant c.args.now c.args.packet.now later low byte room
 
 pub arrive_below-requires-clause-sink : goal.arrive_below-requires-clause-sink
@@ -38,7 +39,7 @@ book_arrival-requires-clause-room g c =
     let later : c.self.inside.clock ≤ c.args.now = omega (arith, ap (λ (d : DeviceState Kept). d.clock) c.self.view_is, c.requires.order) in
     let low : c.args.now ≤ 2 ^ 62 = omega (arith, c.ns.ensures.in_range, c.ns.ensures.value) in
     let byte : 1 ≤ c.args.packet.now.len = omega (arith, c.packet.invariant.0, ap (λ (p : Descriptor). p.len) c.packet.view_is) in
-    let room : CanCount c.self.inside.top.arrived c.args.packet.now = record { packets = omega (arith, c.if-arrived.false, c.self.ranges); bytes = omega (arith, c.if-arrived-from.false, c.from.ensures, c.from.type_inv, ap (λ (p : Descriptor). p.len) c.packet.view_is) } in
+    let room : CanCount c.self.inside.top.arrived c.args.packet.now = record { packets = omega (arith, c.if-arrived.false, ap (λ (x : Totals). x.packets) c.arrived-arrived.ensures, c.self.ranges, c.fit.ensures.packets, c.fit.ensures.bytes); bytes = omega (arith, c.if-arrived-from.false, ap (λ (x : Totals). x.bytes) c.arrived-arrived.ensures, c.from.ensures, c.from.type_inv, ap (λ (p : Descriptor). p.len) c.packet.view_is) } in
     room
 
 pub book_arrival-requires-clause-lost : goal.book_arrival-requires-clause-lost
@@ -46,7 +47,7 @@ book_arrival-requires-clause-lost g c =
     let later : c.self.inside.clock ≤ c.args.now = omega (arith, ap (λ (d : DeviceState Kept). d.clock) c.self.view_is, c.requires.order) in
     let low : c.args.now ≤ 2 ^ 62 = omega (arith, c.ns.ensures.in_range, c.ns.ensures.value) in
     let byte : 1 ≤ c.args.packet.now.len = omega (arith, c.packet.invariant.0, ap (λ (p : Descriptor). p.len) c.packet.view_is) in
-    let room : CanCount c.self.inside.top.arrived c.args.packet.now = record { packets = omega (arith, c.if-arrived.false, c.self.ranges); bytes = omega (arith, c.if-arrived-from.false, c.from.ensures, c.from.type_inv, ap (λ (p : Descriptor). p.len) c.packet.view_is) } in
+    let room : CanCount c.self.inside.top.arrived c.args.packet.now = record { packets = omega (arith, c.if-arrived.false, ap (λ (x : Totals). x.packets) c.arrived-arrived.ensures, c.self.ranges, c.fit.ensures.packets, c.fit.ensures.bytes); bytes = omega (arith, c.if-arrived-from.false, ap (λ (x : Totals). x.bytes) c.arrived-arrived.ensures, c.from.ensures, c.from.type_inv, ap (λ (p : Descriptor). p.len) c.packet.view_is) } in
     tree-lost c.self.inside c.self.invariant c.args.now c.args.packet.now later low byte room c.in_ok-outcome.outcome c.arrive_below.new.root c.in_ok-outcome.ensures.after
 
 pub invariant_of-self : goal.invariant_of-self
@@ -57,7 +58,7 @@ invariant_of-self-2 g c =
     let later : c.self.inside.clock ≤ c.args.now = omega (arith, ap (λ (d : DeviceState Kept). d.clock) c.self.view_is, c.requires.order) in
     let low : c.args.now ≤ 2 ^ 62 = omega (arith, c.ns.ensures.in_range, c.ns.ensures.value) in
     let byte : 1 ≤ c.args.packet.now.len = omega (arith, c.packet.invariant.0, ap (λ (p : Descriptor). p.len) c.packet.view_is) in
-    let room : CanCount c.self.inside.top.arrived c.args.packet.now = record { packets = omega (arith, c.if-arrived.false, c.self.ranges); bytes = omega (arith, c.if-arrived-from.false, c.from.ensures, c.from.type_inv, ap (λ (p : Descriptor). p.len) c.packet.view_is) } in
+    let room : CanCount c.self.inside.top.arrived c.args.packet.now = record { packets = omega (arith, c.if-arrived.false, ap (λ (x : Totals). x.packets) c.arrived-arrived.ensures, c.self.ranges, c.fit.ensures.packets, c.fit.ensures.bytes); bytes = omega (arith, c.if-arrived-from.false, ap (λ (x : Totals). x.bytes) c.arrived-arrived.ensures, c.from.ensures, c.from.type_inv, ap (λ (p : Descriptor). p.len) c.packet.view_is) } in
     tree-indexed c.self.inside c.self.invariant c.args.now c.args.packet.now later low byte room c.in_ok-outcome.outcome c.arrive_below.new.root c.in_ok-outcome.ensures.after c.book_arrival.new.row c.book_arrival.ensures
 
 pub returns-clause-fate : goal.returns-clause-fate
@@ -65,7 +66,7 @@ returns-clause-fate g c =
     let later : c.self.inside.clock ≤ c.args.now = omega (arith, ap (λ (d : DeviceState Kept). d.clock) c.self.view_is, c.requires.order) in
     let low : c.args.now ≤ 2 ^ 62 = omega (arith, c.ns.ensures.in_range, c.ns.ensures.value) in
     let byte : 1 ≤ c.args.packet.now.len = omega (arith, c.packet.invariant.0, ap (λ (p : Descriptor). p.len) c.packet.view_is) in
-    let room : CanCount c.self.inside.top.arrived c.args.packet.now = record { packets = omega (arith, c.if-arrived.false, c.self.ranges); bytes = omega (arith, c.if-arrived-from.false, c.from.ensures, c.from.type_inv, ap (λ (p : Descriptor). p.len) c.packet.view_is) } in
+    let room : CanCount c.self.inside.top.arrived c.args.packet.now = record { packets = omega (arith, c.if-arrived.false, ap (λ (x : Totals). x.packets) c.arrived-arrived.ensures, c.self.ranges, c.fit.ensures.packets, c.fit.ensures.bytes); bytes = omega (arith, c.if-arrived-from.false, ap (λ (x : Totals). x.bytes) c.arrived-arrived.ensures, c.from.ensures, c.from.type_inv, ap (λ (p : Descriptor). p.len) c.packet.view_is) } in
     c.fate_of.ensures ∙ ap (λ (o : Outcome). fate_of o.loss) c.in_ok-outcome.ensures.lost_is ∙ ap fate_of (tree-loss c.self.inside c.self.invariant c.args.now c.args.packet.now later low byte room c.in_ok-outcome.outcome c.arrive_below.new.root c.in_ok-outcome.ensures.after) ∙ ap (λ (d : DeviceState Kept). fate_of (own_loss c.args.now c.args.packet.now d.tree.device (shape d.tree.root))) c.self.view_is
 
 pub returns-clause-after : goal.returns-clause-after
@@ -73,7 +74,7 @@ returns-clause-after g c =
     let later : c.self.inside.clock ≤ c.args.now = omega (arith, ap (λ (d : DeviceState Kept). d.clock) c.self.view_is, c.requires.order) in
     let low : c.args.now ≤ 2 ^ 62 = omega (arith, c.ns.ensures.in_range, c.ns.ensures.value) in
     let byte : 1 ≤ c.args.packet.now.len = omega (arith, c.packet.invariant.0, ap (λ (p : Descriptor). p.len) c.packet.view_is) in
-    let room : CanCount c.self.inside.top.arrived c.args.packet.now = record { packets = omega (arith, c.if-arrived.false, c.self.ranges); bytes = omega (arith, c.if-arrived-from.false, c.from.ensures, c.from.type_inv, ap (λ (p : Descriptor). p.len) c.packet.view_is) } in
+    let room : CanCount c.self.inside.top.arrived c.args.packet.now = record { packets = omega (arith, c.if-arrived.false, ap (λ (x : Totals). x.packets) c.arrived-arrived.ensures, c.self.ranges, c.fit.ensures.packets, c.fit.ensures.bytes); bytes = omega (arith, c.if-arrived-from.false, ap (λ (x : Totals). x.bytes) c.arrived-arrived.ensures, c.from.ensures, c.from.type_inv, ap (λ (p : Descriptor). p.len) c.packet.view_is) } in
     tree-after c.self.inside c.self.invariant c.args.now c.args.packet.now later low byte room c.in_ok-outcome.outcome c.arrive_below.new.root c.in_ok-outcome.ensures.after c.book_arrival.new.row c.book_arrival.ensures ∙ ap (λ (d : DeviceState Kept). record { clock = c.args.now; tree = put totals c.args.now c.args.packet.now (tree_numbers d.tree) }) c.self.view_is
 
 pub returns-clause-lost : goal.returns-clause-lost
@@ -81,7 +82,7 @@ returns-clause-lost g c =
     let later : c.self.inside.clock ≤ c.args.now = omega (arith, ap (λ (d : DeviceState Kept). d.clock) c.self.view_is, c.requires.order) in
     let low : c.args.now ≤ 2 ^ 62 = omega (arith, c.ns.ensures.in_range, c.ns.ensures.value) in
     let byte : 1 ≤ c.args.packet.now.len = omega (arith, c.packet.invariant.0, ap (λ (p : Descriptor). p.len) c.packet.view_is) in
-    let room : CanCount c.self.inside.top.arrived c.args.packet.now = record { packets = omega (arith, c.if-arrived.false, c.self.ranges); bytes = omega (arith, c.if-arrived-from.false, c.from.ensures, c.from.type_inv, ap (λ (p : Descriptor). p.len) c.packet.view_is) } in
+    let room : CanCount c.self.inside.top.arrived c.args.packet.now = record { packets = omega (arith, c.if-arrived.false, ap (λ (x : Totals). x.packets) c.arrived-arrived.ensures, c.self.ranges, c.fit.ensures.packets, c.fit.ensures.bytes); bytes = omega (arith, c.if-arrived-from.false, ap (λ (x : Totals). x.bytes) c.arrived-arrived.ensures, c.from.ensures, c.from.type_inv, ap (λ (p : Descriptor). p.len) c.packet.view_is) } in
     (told-tree c.self.inside c.self.invariant c.args.now c.args.packet.now later low byte room (g.S.Sink.losses c.args.sink.now) (g.S.Sink.losses c.arrive_below.new.sink) (g.S.Sink.room c.args.sink.now) (g.S.Sink.room c.arrive_below.new.sink) c.in_ok-outcome.ensures.told).lost ∙ ap (λ (d : DeviceState Kept). g.S.Sink.losses c.args.sink.now ++ losses_in (noted_by_put c.args.now c.args.packet.now d.tree)) c.self.view_is
 
 pub returns-clause-room : goal.returns-clause-room
@@ -89,7 +90,7 @@ returns-clause-room g c =
     let later : c.self.inside.clock ≤ c.args.now = omega (arith, ap (λ (d : DeviceState Kept). d.clock) c.self.view_is, c.requires.order) in
     let low : c.args.now ≤ 2 ^ 62 = omega (arith, c.ns.ensures.in_range, c.ns.ensures.value) in
     let byte : 1 ≤ c.args.packet.now.len = omega (arith, c.packet.invariant.0, ap (λ (p : Descriptor). p.len) c.packet.view_is) in
-    let room : CanCount c.self.inside.top.arrived c.args.packet.now = record { packets = omega (arith, c.if-arrived.false, c.self.ranges); bytes = omega (arith, c.if-arrived-from.false, c.from.ensures, c.from.type_inv, ap (λ (p : Descriptor). p.len) c.packet.view_is) } in
+    let room : CanCount c.self.inside.top.arrived c.args.packet.now = record { packets = omega (arith, c.if-arrived.false, ap (λ (x : Totals). x.packets) c.arrived-arrived.ensures, c.self.ranges, c.fit.ensures.packets, c.fit.ensures.bytes); bytes = omega (arith, c.if-arrived-from.false, ap (λ (x : Totals). x.bytes) c.arrived-arrived.ensures, c.from.ensures, c.from.type_inv, ap (λ (p : Descriptor). p.len) c.packet.view_is) } in
     omega (arith, (told-tree c.self.inside c.self.invariant c.args.now c.args.packet.now later low byte room (g.S.Sink.losses c.args.sink.now) (g.S.Sink.losses c.arrive_below.new.sink) (g.S.Sink.room c.args.sink.now) (g.S.Sink.room c.arrive_below.new.sink) c.in_ok-outcome.ensures.told).room_taken, ap (λ (d : DeviceState Kept). length (losses_in (noted_by_put c.args.now c.args.packet.now d.tree))) c.self.view_is)
 
 pub returns-clause-counted : goal.returns-clause-counted
@@ -97,7 +98,7 @@ returns-clause-counted g c =
     let later : c.self.inside.clock ≤ c.args.now = omega (arith, ap (λ (d : DeviceState Kept). d.clock) c.self.view_is, c.requires.order) in
     let low : c.args.now ≤ 2 ^ 62 = omega (arith, c.ns.ensures.in_range, c.ns.ensures.value) in
     let byte : 1 ≤ c.args.packet.now.len = omega (arith, c.packet.invariant.0, ap (λ (p : Descriptor). p.len) c.packet.view_is) in
-    let room : CanCount c.self.inside.top.arrived c.args.packet.now = record { packets = omega (arith, c.if-arrived.false, c.self.ranges); bytes = omega (arith, c.if-arrived-from.false, c.from.ensures, c.from.type_inv, ap (λ (p : Descriptor). p.len) c.packet.view_is) } in
+    let room : CanCount c.self.inside.top.arrived c.args.packet.now = record { packets = omega (arith, c.if-arrived.false, ap (λ (x : Totals). x.packets) c.arrived-arrived.ensures, c.self.ranges, c.fit.ensures.packets, c.fit.ensures.bytes); bytes = omega (arith, c.if-arrived-from.false, ap (λ (x : Totals). x.bytes) c.arrived-arrived.ensures, c.from.ensures, c.from.type_inv, ap (λ (p : Descriptor). p.len) c.packet.view_is) } in
     subst (λ (d : DeviceState Kept). CanCount d.tree.top.counts.arrived c.args.packet.now) c.self.view_is room
 
 pub returns-clause-places : goal.returns-clause-places
@@ -105,7 +106,7 @@ returns-clause-places g c =
     let later : c.self.inside.clock ≤ c.args.now = omega (arith, ap (λ (d : DeviceState Kept). d.clock) c.self.view_is, c.requires.order) in
     let low : c.args.now ≤ 2 ^ 62 = omega (arith, c.ns.ensures.in_range, c.ns.ensures.value) in
     let byte : 1 ≤ c.args.packet.now.len = omega (arith, c.packet.invariant.0, ap (λ (p : Descriptor). p.len) c.packet.view_is) in
-    let room : CanCount c.self.inside.top.arrived c.args.packet.now = record { packets = omega (arith, c.if-arrived.false, c.self.ranges); bytes = omega (arith, c.if-arrived-from.false, c.from.ensures, c.from.type_inv, ap (λ (p : Descriptor). p.len) c.packet.view_is) } in
+    let room : CanCount c.self.inside.top.arrived c.args.packet.now = record { packets = omega (arith, c.if-arrived.false, ap (λ (x : Totals). x.packets) c.arrived-arrived.ensures, c.self.ranges, c.fit.ensures.packets, c.fit.ensures.bytes); bytes = omega (arith, c.if-arrived-from.false, ap (λ (x : Totals). x.bytes) c.arrived-arrived.ensures, c.from.ensures, c.from.type_inv, ap (λ (p : Descriptor). p.len) c.packet.view_is) } in
     λ path. subst (λ (d : DeviceState Kept). places_at path d.tree.root ≤ places_at path c.arrive_below.new.root) c.self.view_is (tree-places c.self.inside c.self.invariant c.args.now c.args.packet.now later low byte room c.in_ok-outcome.outcome c.arrive_below.new.root c.in_ok-outcome.ensures.after path)
 
 pub returns-in_err-outcome-clause-same : goal.returns-in_err-outcome-clause-same

@@ -20,7 +20,7 @@ book_dropped-requires-clause-room g c =
     let planned : IsPlanned c.args.planned.edit c.deref.result.now c.args.now (tree_seen c.self.inside).tree.device c.self.inside.root =
     subst (λ p. IsPlanned c.args.planned.edit p c.args.now (tree_seen c.self.inside).tree.device c.self.inside.root) (sym c.deref.ensures.0)
     (subst (λ (d : DeviceState Kept). IsPlanned c.args.planned.edit c.args.planned.path.items c.args.now d.tree.device d.tree.root) (sym c.self.view_is) c.requires.planned) in
-    room c.self.inside c.self.invariant.device c.args.planned.edit c.deref.result.now c.args.now later low planned c.in-Ok-edit.lost c.in-Ok-edit.ensures.totals (omega (arith, c.self.ranges)) (omega (arith, c.self.ranges))
+    room c.self.inside c.self.invariant.device c.args.planned.edit c.deref.result.now c.args.now later low planned c.in-Ok-edit.lost c.in-Ok-edit.ensures.totals (omega (arith, c.self.ranges, c.fit.ensures.packets, c.fit.ensures.bytes)) (omega (arith, c.self.ranges, c.fit.ensures.packets, c.fit.ensures.bytes))
 
 pub renew-requires-clause-levels : goal.renew-requires-clause-levels
 renew-requires-clause-levels g c =

@@ -7,10 +7,12 @@ use Rattle.q_model.specs.Find.{addresses_own}
 use Rattle.q_model.specs.Make.{Device}
 use Rattle.q_model.specs.Node as spec
 use Rattle.q_model.specs.Node.{Own, Forest, each, each_memory}
-use Rattle.q_model.specs.Tally.{Counts, no_totals}
+use Rattle.q_model.specs.declared.row.Row.{Row}
+use Rattle.q_model.specs.Tally.{Counts}
 use Rattle.q_invariants.proofs.EditSizes.{nodes_own}
 use Rattle.q_tree.specs.Kept.{Kept}
 use Rattle.q_tree.specs.Seen.{IsCountedWithin}
+use Rattle.q_tree.proofs.Rows.{counts_in_row}
 use Rattle.q_tree.proofs.TreeLemmas.{new-device}
 use Rattle.q_tree.proofs.tree.Tree.new.Goals as goal
 
@@ -24,9 +26,9 @@ invariant_of-result c =
     record {
       device =
           new-device d _ c.requires most c.zero.ensures
-          (λ i. record { device = d; top = record { arrived = no_totals; sent = no_totals; refused = no_totals; dropped = no_totals; marked = no_totals }; root = record { own = own i; memory = c.fifo.ensures.counts i; below = each_memory (λ (k : Kept). k.counts) (c.fifo.ensures.alone i) } })
-          (sym (ap totals_in empty))
-          (subst (λ (k : Counts). IsCountedWithin k.arrived no_totals) (sym c.fifo.ensures.counts) (record { packets = omega arith; bytes = omega arith }));
+          (λ i. record { device = d; top = counts_in_row (c.none.ensures i); root = record { own = own i; memory = c.fifo.ensures.counts i; below = each_memory (λ (k : Kept). k.counts) (c.fifo.ensures.alone i) } })
+          (ap (λ (r : Row). r.queued) c.none.ensures ∙ sym (ap totals_in empty))
+          (subst (λ (k : Counts). IsCountedWithin k.arrived c.none.result.arrived) (sym c.fifo.ensures.counts) (record { packets = omega arith; bytes = omega arith }));
       handles = c.new.ensures ∙ sym (ap₂ (λ (o : Own) (x : Forest Kept). addresses_own o (each addresses_own x)) own c.fifo.ensures.alone);
       room = λ more. absurd (omega (arith, more, ap (λ (x : Forest Kept). suc (sum (each nodes_own x))) c.fifo.ensures.alone));
     }

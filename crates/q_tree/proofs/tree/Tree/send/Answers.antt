@@ -29,7 +29,7 @@ book_shown-requires-clause-room g c =
     let later : c.self.inside.clock ≤ c.args.now = omega (arith, e, c.requires.order) in
     let low : c.args.now ≤ 2 ^ 62 = omega (arith, c.ns.ensures.in_range, c.ns.ensures.value) in
     let shown = c.send-shown.ensures.shown in
-    can-book-top c.self.inside c.self.invariant.device c.args.now later low c.send-shown.result shown (booked kept c.self.inside.root (ask c.args.now (shape c.self.inside.root)).peeked) refl (omega (arith, c.self.ranges)) (omega (arith, c.self.ranges))
+    can-book-top c.self.inside c.self.invariant.device c.args.now later low c.send-shown.result shown (booked kept c.self.inside.root (ask c.args.now (shape c.self.inside.root)).peeked) refl (omega (arith, c.self.ranges, c.fit.ensures.packets, c.fit.ensures.bytes)) (omega (arith, c.self.ranges, c.fit.ensures.packets, c.fit.ensures.bytes))
 
 pub invariant_of-self : goal.invariant_of-self
 invariant_of-self g c =
@@ -38,7 +38,7 @@ invariant_of-self g c =
     let low : c.args.now ≤ 2 ^ 62 = omega (arith, c.ns.ensures.in_range, c.ns.ensures.value) in
     let shown = c.send-shown.ensures.shown in
     still-indexed c.self.inside (record c.self.inside { clock = c.args.now; top = c.book_shown.new.row; root = c.send-shown.new.self }) c.self.invariant
-    (none-kept c.self.inside c.self.invariant.device c.args.now later low c.send-shown.result shown c.send-shown.new.self (root-still c.self.inside c.self.invariant.device c.args.now later low c.send-shown.result shown c.send-shown.new.self c.send-shown.ensures.after (none-held c.send-shown.result.packet (sym c.if-not-has_packet.true ∙ c.has_packet.ensures))) (can-book-top c.self.inside c.self.invariant.device c.args.now later low c.send-shown.result shown (booked kept c.self.inside.root (ask c.args.now (shape c.self.inside.root)).peeked) refl (omega (arith, c.self.ranges)) (omega (arith, c.self.ranges))) c.book_shown.new.row c.book_shown.ensures (none-held c.send-shown.result.packet (sym c.if-not-has_packet.true ∙ c.has_packet.ensures)) (record c.self.inside { clock = c.args.now; top = c.book_shown.new.row; root = c.send-shown.new.self }) refl c.send-shown.ensures.arrived)
+    (none-kept c.self.inside c.self.invariant.device c.args.now later low c.send-shown.result shown c.send-shown.new.self (root-still c.self.inside c.self.invariant.device c.args.now later low c.send-shown.result shown c.send-shown.new.self c.send-shown.ensures.after (none-held c.send-shown.result.packet (sym c.if-not-has_packet.true ∙ c.has_packet.ensures))) (can-book-top c.self.inside c.self.invariant.device c.args.now later low c.send-shown.result shown (booked kept c.self.inside.root (ask c.args.now (shape c.self.inside.root)).peeked) refl (omega (arith, c.self.ranges, c.fit.ensures.packets, c.fit.ensures.bytes)) (omega (arith, c.self.ranges, c.fit.ensures.packets, c.fit.ensures.bytes))) c.book_shown.new.row c.book_shown.ensures (none-held c.send-shown.result.packet (sym c.if-not-has_packet.true ∙ c.has_packet.ensures)) (record c.self.inside { clock = c.args.now; top = c.book_shown.new.row; root = c.send-shown.new.self }) refl c.send-shown.ensures.arrived)
     refl (peeked-form c.args.now c.self.inside.root c.send-shown.new.self (can-ask-root c.self.inside c.self.invariant.device c.args.now later low) (root-still c.self.inside c.self.invariant.device c.args.now later low c.send-shown.result shown c.send-shown.new.self c.send-shown.ensures.after (none-held c.send-shown.result.packet (sym c.if-not-has_packet.true ∙ c.has_packet.ensures))))
 
 pub returns-then-not-has_packet-clause-after : goal.returns-then-not-has_packet-clause-after
@@ -47,7 +47,7 @@ returns-then-not-has_packet-clause-after g c =
     let later : c.self.inside.clock ≤ c.args.now = omega (arith, e, c.requires.order) in
     let low : c.args.now ≤ 2 ^ 62 = omega (arith, c.ns.ensures.in_range, c.ns.ensures.value) in
     let shown = c.send-shown.ensures.shown in
-    none-taken c.self.inside c.self.invariant.device c.args.now later low c.send-shown.result shown c.send-shown.new.self (root-still c.self.inside c.self.invariant.device c.args.now later low c.send-shown.result shown c.send-shown.new.self c.send-shown.ensures.after (none-held c.send-shown.result.packet (sym c.if-not-has_packet.true ∙ c.has_packet.ensures))) (can-book-top c.self.inside c.self.invariant.device c.args.now later low c.send-shown.result shown (booked kept c.self.inside.root (ask c.args.now (shape c.self.inside.root)).peeked) refl (omega (arith, c.self.ranges)) (omega (arith, c.self.ranges))) c.book_shown.new.row c.book_shown.ensures (none-held c.send-shown.result.packet (sym c.if-not-has_packet.true ∙ c.has_packet.ensures)) (record c.self.inside { clock = c.args.now; top = c.book_shown.new.row; root = c.send-shown.new.self }) refl
+    none-taken c.self.inside c.self.invariant.device c.args.now later low c.send-shown.result shown c.send-shown.new.self (root-still c.self.inside c.self.invariant.device c.args.now later low c.send-shown.result shown c.send-shown.new.self c.send-shown.ensures.after (none-held c.send-shown.result.packet (sym c.if-not-has_packet.true ∙ c.has_packet.ensures))) (can-book-top c.self.inside c.self.invariant.device c.args.now later low c.send-shown.result shown (booked kept c.self.inside.root (ask c.args.now (shape c.self.inside.root)).peeked) refl (omega (arith, c.self.ranges, c.fit.ensures.packets, c.fit.ensures.bytes)) (omega (arith, c.self.ranges, c.fit.ensures.packets, c.fit.ensures.bytes))) c.book_shown.new.row c.book_shown.ensures (none-held c.send-shown.result.packet (sym c.if-not-has_packet.true ∙ c.has_packet.ensures)) (record c.self.inside { clock = c.args.now; top = c.book_shown.new.row; root = c.send-shown.new.self }) refl
     ∙ ap (λ (d : DeviceState Kept). record { clock = c.args.now; tree = take_packet kept c.args.now d.tree }) c.self.view_is
 
 pub returns-then-not-has_packet-clause-sent : goal.returns-then-not-has_packet-clause-sent
@@ -72,7 +72,7 @@ book_sent-requires-clause-balanced g c =
     let later : c.self.inside.clock ≤ c.args.now = omega (arith, e, c.requires.order) in
     let low : c.args.now ≤ 2 ^ 62 = omega (arith, c.ns.ensures.in_range, c.ns.ensures.value) in
     let shown = c.send-shown.ensures.shown in
-    (asked-row c.self.inside c.self.invariant.device c.args.now later low c.send-shown.result shown c.send-shown.new.self c.send-shown.ensures.after (can-book-top c.self.inside c.self.invariant.device c.args.now later low c.send-shown.result shown (booked kept c.self.inside.root (ask c.args.now (shape c.self.inside.root)).peeked) refl (omega (arith, c.self.ranges)) (omega (arith, c.self.ranges))) c.book_shown.new.row c.book_shown.ensures c.send-shown.new.out (given-some c.send-shown.result.packet c.args.out.now c.send-shown.new.out (sym c.has_packet.ensures ∙ c.if-not-has_packet.false) c.send-shown.ensures.packet)).balanced
+    (asked-row c.self.inside c.self.invariant.device c.args.now later low c.send-shown.result shown c.send-shown.new.self c.send-shown.ensures.after (can-book-top c.self.inside c.self.invariant.device c.args.now later low c.send-shown.result shown (booked kept c.self.inside.root (ask c.args.now (shape c.self.inside.root)).peeked) refl (omega (arith, c.self.ranges, c.fit.ensures.packets, c.fit.ensures.bytes)) (omega (arith, c.self.ranges, c.fit.ensures.packets, c.fit.ensures.bytes))) c.book_shown.new.row c.book_shown.ensures c.send-shown.new.out (given-some c.send-shown.result.packet c.args.out.now c.send-shown.new.out (sym c.has_packet.ensures ∙ c.if-not-has_packet.false) c.send-shown.ensures.packet)).balanced
 
 pub book_sent-requires-clause-among : goal.book_sent-requires-clause-among
 book_sent-requires-clause-among g c =
@@ -80,7 +80,7 @@ book_sent-requires-clause-among g c =
     let later : c.self.inside.clock ≤ c.args.now = omega (arith, e, c.requires.order) in
     let low : c.args.now ≤ 2 ^ 62 = omega (arith, c.ns.ensures.in_range, c.ns.ensures.value) in
     let shown = c.send-shown.ensures.shown in
-    sent-among c.self.inside c.self.invariant.device c.args.now later low c.send-shown.result shown c.send-shown.new.self c.send-shown.ensures.after (can-book-top c.self.inside c.self.invariant.device c.args.now later low c.send-shown.result shown (booked kept c.self.inside.root (ask c.args.now (shape c.self.inside.root)).peeked) refl (omega (arith, c.self.ranges)) (omega (arith, c.self.ranges))) c.book_shown.new.row c.book_shown.ensures c.send-shown.new.out (given-some c.send-shown.result.packet c.args.out.now c.send-shown.new.out (sym c.has_packet.ensures ∙ c.if-not-has_packet.false) c.send-shown.ensures.packet)
+    sent-among c.self.inside c.self.invariant.device c.args.now later low c.send-shown.result shown c.send-shown.new.self c.send-shown.ensures.after (can-book-top c.self.inside c.self.invariant.device c.args.now later low c.send-shown.result shown (booked kept c.self.inside.root (ask c.args.now (shape c.self.inside.root)).peeked) refl (omega (arith, c.self.ranges, c.fit.ensures.packets, c.fit.ensures.bytes)) (omega (arith, c.self.ranges, c.fit.ensures.packets, c.fit.ensures.bytes))) c.book_shown.new.row c.book_shown.ensures c.send-shown.new.out (given-some c.send-shown.result.packet c.args.out.now c.send-shown.new.out (sym c.has_packet.ensures ∙ c.if-not-has_packet.false) c.send-shown.ensures.packet)
 
 pub book_sent-requires-clause-room : goal.book_sent-requires-clause-room
 book_sent-requires-clause-room g c =
@@ -88,12 +88,12 @@ book_sent-requires-clause-room g c =
     let later : c.self.inside.clock ≤ c.args.now = omega (arith, e, c.requires.order) in
     let low : c.args.now ≤ 2 ^ 62 = omega (arith, c.ns.ensures.in_range, c.ns.ensures.value) in
     let shown = c.send-shown.ensures.shown in
-    let row = asked-row c.self.inside c.self.invariant.device c.args.now later low c.send-shown.result shown c.send-shown.new.self c.send-shown.ensures.after (can-book-top c.self.inside c.self.invariant.device c.args.now later low c.send-shown.result shown (booked kept c.self.inside.root (ask c.args.now (shape c.self.inside.root)).peeked) refl (omega (arith, c.self.ranges)) (omega (arith, c.self.ranges))) c.book_shown.new.row c.book_shown.ensures c.send-shown.new.out (given-some c.send-shown.result.packet c.args.out.now c.send-shown.new.out (sym c.has_packet.ensures ∙ c.if-not-has_packet.false) c.send-shown.ensures.packet) in
-    let had = sent-among c.self.inside c.self.invariant.device c.args.now later low c.send-shown.result shown c.send-shown.new.self c.send-shown.ensures.after (can-book-top c.self.inside c.self.invariant.device c.args.now later low c.send-shown.result shown (booked kept c.self.inside.root (ask c.args.now (shape c.self.inside.root)).peeked) refl (omega (arith, c.self.ranges)) (omega (arith, c.self.ranges))) c.book_shown.new.row c.book_shown.ensures c.send-shown.new.out (given-some c.send-shown.result.packet c.args.out.now c.send-shown.new.out (sym c.has_packet.ensures ∙ c.if-not-has_packet.false) c.send-shown.ensures.packet) in
+    let row = asked-row c.self.inside c.self.invariant.device c.args.now later low c.send-shown.result shown c.send-shown.new.self c.send-shown.ensures.after (can-book-top c.self.inside c.self.invariant.device c.args.now later low c.send-shown.result shown (booked kept c.self.inside.root (ask c.args.now (shape c.self.inside.root)).peeked) refl (omega (arith, c.self.ranges, c.fit.ensures.packets, c.fit.ensures.bytes)) (omega (arith, c.self.ranges, c.fit.ensures.packets, c.fit.ensures.bytes))) c.book_shown.new.row c.book_shown.ensures c.send-shown.new.out (given-some c.send-shown.result.packet c.args.out.now c.send-shown.new.out (sym c.has_packet.ensures ∙ c.if-not-has_packet.false) c.send-shown.ensures.packet) in
+    let had = sent-among c.self.inside c.self.invariant.device c.args.now later low c.send-shown.result shown c.send-shown.new.self c.send-shown.ensures.after (can-book-top c.self.inside c.self.invariant.device c.args.now later low c.send-shown.result shown (booked kept c.self.inside.root (ask c.args.now (shape c.self.inside.root)).peeked) refl (omega (arith, c.self.ranges, c.fit.ensures.packets, c.fit.ensures.bytes)) (omega (arith, c.self.ranges, c.fit.ensures.packets, c.fit.ensures.bytes))) c.book_shown.new.row c.book_shown.ensures c.send-shown.new.out (given-some c.send-shown.result.packet c.args.out.now c.send-shown.new.out (sym c.has_packet.ensures ∙ c.if-not-has_packet.false) c.send-shown.ensures.packet) in
     let same = ap (λ (r : Row). r.arrived) c.book_shown.ensures in
     record {
-      packets = omega (arith, row.balanced.packets, had.packets, ap (λ (t : Totals). t.packets) same, c.self.ranges);
-      bytes = omega (arith, row.balanced.bytes, had.bytes, ap (λ (t : Totals). t.bytes) same, c.self.ranges);
+      packets = omega (arith, row.balanced.packets, had.packets, ap (λ (t : Totals). t.packets) same, c.self.ranges, c.fit.ensures.packets, c.fit.ensures.bytes);
+      bytes = omega (arith, row.balanced.bytes, had.bytes, ap (λ (t : Totals). t.bytes) same, c.self.ranges, c.fit.ensures.packets, c.fit.ensures.bytes);
     }
 
 pub invariant_of-self-2 : goal.invariant_of-self-2
@@ -103,8 +103,8 @@ invariant_of-self-2 g c =
     let low : c.args.now ≤ 2 ^ 62 = omega (arith, c.ns.ensures.in_range, c.ns.ensures.value) in
     let shown = c.send-shown.ensures.shown in
     still-indexed c.self.inside (record c.self.inside { clock = c.args.now; top = c.book_sent.new.row; root = c.send-shown.new.self }) c.self.invariant
-    (sent-kept c.self.inside c.self.invariant.device c.args.now later low c.send-shown.result shown c.send-shown.new.self c.send-shown.ensures.after (can-book-top c.self.inside c.self.invariant.device c.args.now later low c.send-shown.result shown (booked kept c.self.inside.root (ask c.args.now (shape c.self.inside.root)).peeked) refl (omega (arith, c.self.ranges)) (omega (arith, c.self.ranges))) c.book_shown.new.row c.book_shown.ensures c.send-shown.new.out (given-some c.send-shown.result.packet c.args.out.now c.send-shown.new.out (sym c.has_packet.ensures ∙ c.if-not-has_packet.false) c.send-shown.ensures.packet) c.book_sent.new.row c.book_sent.ensures (record c.self.inside { clock = c.args.now; top = c.book_sent.new.row; root = c.send-shown.new.self }) refl c.send-shown.ensures.arrived)
-    refl (sent-form c.self.inside c.self.invariant.device c.args.now later low c.send-shown.result shown c.send-shown.new.self c.send-shown.ensures.after (can-book-top c.self.inside c.self.invariant.device c.args.now later low c.send-shown.result shown (booked kept c.self.inside.root (ask c.args.now (shape c.self.inside.root)).peeked) refl (omega (arith, c.self.ranges)) (omega (arith, c.self.ranges))) c.book_shown.new.row c.book_shown.ensures c.send-shown.new.out (given-some c.send-shown.result.packet c.args.out.now c.send-shown.new.out (sym c.has_packet.ensures ∙ c.if-not-has_packet.false) c.send-shown.ensures.packet))
+    (sent-kept c.self.inside c.self.invariant.device c.args.now later low c.send-shown.result shown c.send-shown.new.self c.send-shown.ensures.after (can-book-top c.self.inside c.self.invariant.device c.args.now later low c.send-shown.result shown (booked kept c.self.inside.root (ask c.args.now (shape c.self.inside.root)).peeked) refl (omega (arith, c.self.ranges, c.fit.ensures.packets, c.fit.ensures.bytes)) (omega (arith, c.self.ranges, c.fit.ensures.packets, c.fit.ensures.bytes))) c.book_shown.new.row c.book_shown.ensures c.send-shown.new.out (given-some c.send-shown.result.packet c.args.out.now c.send-shown.new.out (sym c.has_packet.ensures ∙ c.if-not-has_packet.false) c.send-shown.ensures.packet) c.book_sent.new.row c.book_sent.ensures (record c.self.inside { clock = c.args.now; top = c.book_sent.new.row; root = c.send-shown.new.self }) refl c.send-shown.ensures.arrived)
+    refl (sent-form c.self.inside c.self.invariant.device c.args.now later low c.send-shown.result shown c.send-shown.new.self c.send-shown.ensures.after (can-book-top c.self.inside c.self.invariant.device c.args.now later low c.send-shown.result shown (booked kept c.self.inside.root (ask c.args.now (shape c.self.inside.root)).peeked) refl (omega (arith, c.self.ranges, c.fit.ensures.packets, c.fit.ensures.bytes)) (omega (arith, c.self.ranges, c.fit.ensures.packets, c.fit.ensures.bytes))) c.book_shown.new.row c.book_shown.ensures c.send-shown.new.out (given-some c.send-shown.result.packet c.args.out.now c.send-shown.new.out (sym c.has_packet.ensures ∙ c.if-not-has_packet.false) c.send-shown.ensures.packet))
 
 pub returns-clause-after : goal.returns-clause-after
 returns-clause-after g c =
@@ -112,7 +112,7 @@ returns-clause-after g c =
     let later : c.self.inside.clock ≤ c.args.now = omega (arith, e, c.requires.order) in
     let low : c.args.now ≤ 2 ^ 62 = omega (arith, c.ns.ensures.in_range, c.ns.ensures.value) in
     let shown = c.send-shown.ensures.shown in
-    sent-tree c.self.inside c.self.invariant.device c.args.now later low c.send-shown.result shown c.send-shown.new.self c.send-shown.ensures.after (can-book-top c.self.inside c.self.invariant.device c.args.now later low c.send-shown.result shown (booked kept c.self.inside.root (ask c.args.now (shape c.self.inside.root)).peeked) refl (omega (arith, c.self.ranges)) (omega (arith, c.self.ranges))) c.book_shown.new.row c.book_shown.ensures c.send-shown.new.out (given-some c.send-shown.result.packet c.args.out.now c.send-shown.new.out (sym c.has_packet.ensures ∙ c.if-not-has_packet.false) c.send-shown.ensures.packet) c.book_sent.new.row c.book_sent.ensures (record c.self.inside { clock = c.args.now; top = c.book_sent.new.row; root = c.send-shown.new.self }) refl
+    sent-tree c.self.inside c.self.invariant.device c.args.now later low c.send-shown.result shown c.send-shown.new.self c.send-shown.ensures.after (can-book-top c.self.inside c.self.invariant.device c.args.now later low c.send-shown.result shown (booked kept c.self.inside.root (ask c.args.now (shape c.self.inside.root)).peeked) refl (omega (arith, c.self.ranges, c.fit.ensures.packets, c.fit.ensures.bytes)) (omega (arith, c.self.ranges, c.fit.ensures.packets, c.fit.ensures.bytes))) c.book_shown.new.row c.book_shown.ensures c.send-shown.new.out (given-some c.send-shown.result.packet c.args.out.now c.send-shown.new.out (sym c.has_packet.ensures ∙ c.if-not-has_packet.false) c.send-shown.ensures.packet) c.book_sent.new.row c.book_sent.ensures (record c.self.inside { clock = c.args.now; top = c.book_sent.new.row; root = c.send-shown.new.self }) refl
     ∙ ap (λ (d : DeviceState Kept). record { clock = c.args.now; tree = take_packet kept c.args.now d.tree }) c.self.view_is
 
 pub returns-clause-sent : goal.returns-clause-sent

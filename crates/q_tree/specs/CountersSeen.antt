@@ -1,0 +1,33 @@
+-- What a contract sees of the counters of a node: its row, in which is queued what arrived and was neither sent nor lost.
+-- The counters are those of `tc -s qdisc show` (tc(8)).
+use Rattle.std.specs.Prelude.{ℕ, ◌≤◌, ◌<◌, ◌^◌, ◌+◌, ◌-◌}
+use Rattle.q_model.specs.declared.row.Row.{Row}
+use Rattle.q_model.specs.Tally.{no_totals}
+use Rattle.q_tree.specs.declared.counters.Counters.TheInside.{Inside}
+
+abbrev pub counters_seen : Inside → Row
+counters_seen c = record {
+  arrived = record { packets = c.arrived_packets; bytes = c.arrived_bytes };
+  sent = record { packets = c.sent_packets; bytes = c.sent_bytes };
+  refused = record { packets = c.refused_packets; bytes = c.refused_bytes };
+  dropped = record { packets = c.dropped_packets; bytes = c.dropped_bytes };
+  queued = record {
+    packets = c.arrived_packets - c.sent_packets - c.refused_packets - c.dropped_packets;
+    bytes = c.arrived_bytes - c.sent_bytes - c.refused_bytes - c.dropped_bytes;
+  };
+  marked = record { packets = c.marked_packets; bytes = c.marked_bytes };
+}
+
+-- no more was sent and lost than arrived
+pub record AddsUp (c : Inside) : Type 0 where
+  pub packets : c.sent_packets + c.refused_packets + c.dropped_packets ≤ c.arrived_packets
+  pub bytes : c.sent_bytes + c.refused_bytes + c.dropped_bytes ≤ c.arrived_bytes
+
+-- nothing was counted yet
+abbrev pub no_row : Row
+no_row = record { arrived = no_totals; sent = no_totals; refused = no_totals; dropped = no_totals; queued = no_totals; marked = no_totals }
+
+-- what is counted of arrivals fits 64 bits
+pub record HasArrivals (r : Row) : Type 0 where
+  pub packets : r.arrived.packets < 2 ^ 64
+  pub bytes : r.arrived.bytes < 2 ^ 64
