@@ -46,10 +46,10 @@ use Rattle.q_tree.specs.Kept as own_kept
 use Rattle.q_tree.specs.Making.{AreNew, IsNewNode}
 use Rattle.q_tree.specs.PutSteps.{packets_beneath}
 use Rattle.q_tree.specs.Reshaping.{AreReady, IsFresh, TakesMore, bands_going, bands_staying, children_after, discipline_after, leaf_limited, leaves_limited, limited, lost_with, rebucketed, remapped, reoptioned}
-use Rattle.q_tree.specs.declared.edit.Edit.TheVariants.{Reshape}
+use Rattle.q_tree.specs.declared.edit.Edit.TheVariants.{DisciplineChange}
 use Rattle.q_tree.specs.declared.planned.Planned.{Planned}
-use Rattle.q_tree.specs.declared.reshape.Reshape as shapes
-use Rattle.q_tree.specs.declared.reshape.Reshape.TheVariants.{Nothing, SetLimit, SetBucket, SetOptions}
+use Rattle.q_tree.specs.declared.discipline_change.DisciplineChange as shapes
+use Rattle.q_tree.specs.declared.discipline_change.DisciplineChange.TheVariants.{Nothing, SetLimit, SetBucket, SetOptions}
 use Rattle.q_tree.proofs.MakingLemmas.{new-counts, nothing-beneath}
 use Rattle.q_tree.proofs.Plans.{all-passed, all-stay, few, remade-planned, reshape-does, same-refusal, shallow}
 use Rattle.q_tree.proofs.TargetLemmas.{reached-at, target-none, target-some}
@@ -59,7 +59,7 @@ Counting = Node own_kept.Kept
 
 -- ---- other settings alone
 
-module _ (n : Counting) (plans : List ℕ → Result model.Edit Refusal) (r : shapes.Reshape) (to : Discipline) where
+module _ (n : Counting) (plans : List ℕ → Result model.Edit Refusal) (r : shapes.DisciplineChange) (to : Discipline) where
   kids-stay : children n ≡ kids own_kept.kept (children n) (kept_from 0 (length (children (shape n))))
   kids-stay = sym (kids_all own_kept.kept (children n) (length (children (shape n))) (length-shape n))
 
@@ -301,7 +301,7 @@ module _ (d : Device) (n : Counting) (s : PrioSettings) (ls : List Counting) whe
     pub more-made : 0 < length ls → IsTrue (list_any is_new (front ++ behind))
     more-made some = bands-made-of (omega (arith, some, many, length-shape n))
 
-    module _ (plans : List ℕ → Result model.Edit Refusal) (r : shapes.Reshape) (priomap : List ℕ) (is : n.own.discipline ≡ Prio priomap) (planned : (path : List ℕ) → plans path ≡ Ok (rebanded d (shape n) path s.bands s.priomap)) where
+    module _ (plans : List ℕ → Result model.Edit Refusal) (r : shapes.DisciplineChange) (priomap : List ℕ) (is : n.own.discipline ≡ Prio priomap) (planned : (path : List ℕ) → plans path ≡ Ok (rebanded d (shape n) path s.bands s.priomap)) where
       -- r is the edit of these bands
       pub rebanded-is : discipline_after r n.own.discipline (children n) ≡ remapped s.priomap n.own.discipline → children_after r n.own.discipline (children n) ≡ bands_staying s.bands ls n.own.discipline (children n)
           → lost_with r n.own.discipline (children n) ≡ packets_beneath (bands_going s.bands ls n.own.discipline (children n)) → (All IsFresh ls → AreReady r) → IsRemade plans n r
@@ -416,10 +416,10 @@ module _ (root : Counting) (bounded : IsBounded root) (d : Device) (now mtu : �
     pub change-refused : (memory : Result model.Edit Refusal → Type 0) (refusal : Refusal) → IsRefused (memory (change_at path (shape n))) (change_at path (shape n)) refusal → IsRefused (memory whole) whole refusal
     change-refused memory refusal h = subst (λ q. IsRefused (memory q) q refusal) (sym at-node) h
 
-    pub change-planned : (memory : Result model.Edit Refusal → Type 0) (r : shapes.Reshape) → IsRemade (λ way. change_at way (shape n)) n r × ((way : List ℕ) → TakesMore r → memory (change_at way (shape n))) → (p : Planned) → p.path.items ≡ path → p.edit ≡ Reshape r → IsCommand (QdiscChange place handle k)
+    pub change-planned : (memory : Result model.Edit Refusal → Type 0) (r : shapes.DisciplineChange) → IsRemade (λ way. change_at way (shape n)) n r × ((way : List ℕ) → TakesMore r → memory (change_at way (shape n))) → (p : Planned) → p.path.items ≡ path → p.edit ≡ DisciplineChange r → IsCommand (QdiscChange place handle k)
         → IsPlannedFor (memory whole) (QdiscChange place handle k) p now d root
     change-planned memory r h p way edit ranges =
         subst (λ (q : Planned). IsPlannedFor (memory whole) (QdiscChange place handle k) q now d root) (λ i. record p { edit = sym edit i })
-        (remade-planned d root (record p { edit = Reshape r }) h.0.ready n (subst (λ x. node_at x root ≡ Some n) (sym way) (reached-at root found_at path n found).there) h.0.own h.0.below h.0.lost_is
+        (remade-planned d root (record p { edit = DisciplineChange r }) h.0.ready n (subst (λ x. node_at x root ≡ Some n) (sym way) (reached-at root found_at path n found).there) h.0.own h.0.below h.0.lost_is
         (reshape-does r n h.0.own h.0.below h.0.own_is h.0.kids_is) (QdiscChange place handle k) ranges now
         (at-node ∙ ap (λ x. change_at x (shape n)) (sym way) ∙ h.0.planned p.path.items) (memory whole) (λ takes. subst memory (sym at-node) (h.1 path takes)))

@@ -38,9 +38,9 @@ use Rattle.q_tree.specs.Kept.{Kept}
 use Rattle.q_tree.specs.Making.{IsNewNode}
 use Rattle.q_tree.specs.Reshaping.{discipline_after}
 use Rattle.q_tree.specs.Showing.{IsNumbered}
-use Rattle.q_tree.specs.declared.edit.Edit.TheVariants.{Reshape}
+use Rattle.q_tree.specs.declared.edit.Edit.TheVariants.{DisciplineChange}
 use Rattle.q_tree.specs.declared.planned.Planned.{Planned}
-use Rattle.q_tree.specs.declared.reshape.Reshape.TheVariants.{AddClass, RemoveClass}
+use Rattle.q_tree.specs.declared.discipline_change.DisciplineChange.TheVariants.{AddClass, RemoveClass}
 use Rattle.q_tree.proofs.ClassPlans.{IsPassed, at-class, drr-done, drr-passed, drr-refused, first-passed, kids-joined, kids-left, none-lost, one-lost, one_less, one_more, own-joined, own-left, sized-is, there-known}
 use Rattle.q_tree.proofs.MakingLemmas.{new-counts, nothing-beneath}
 use Rattle.q_tree.proofs.Plans.{few, remade-planned, reshape-does, shallow}
@@ -87,9 +87,9 @@ module _ (root : Node Kept) (bounded : IsBounded root) (d : Device) (parent : �
       own_is : ◌≡◌ {A = Own} (record n.own { discipline = discipline_after (AddClass class.minor q leaf) n.own.discipline (children n) }) own
       own_is = own-joined n h.own h.is class.minor q leaf d new absent ∙ ap (λ k. record n.own { discipline = Drr (added class.minor k h.own) }) q_is
 
-      pub class-add-planned : IsPlannedFor takes_memory (ClassAdd parent class quantum) (record p { edit = Reshape (AddClass class.minor q leaf) }) now d root
+      pub class-add-planned : IsPlannedFor takes_memory (ClassAdd parent class quantum) (record p { edit = DisciplineChange (AddClass class.minor q leaf) }) now d root
       class-add-planned =
-          remade-planned d root (record p { edit = Reshape (AddClass class.minor q leaf) })
+          remade-planned d root (record p { edit = DisciplineChange (AddClass class.minor q leaf) })
           (record { counts = new-counts leaf (implicit_pfifo d) new; alone = nothing-beneath leaf (implicit_pfifo d) new d.mtu now None (new_leaf d.mtu now None (Packets d.txqueuelen)) })
           n (subst (λ x. node_at x root ≡ Some n) (sym way) (reached-at root (path_of class.major (shape root)) path n found).there) own (one_more n h.own h.is class.minor q leaf d new absent)
           (none-lost n h.own h.is class.minor q leaf d new absent)
@@ -156,9 +156,9 @@ module _ (root : Node Kept) (bounded : IsBounded root) (d : Device) (parent : Op
       abbrev left : Own
       left = record n.own { discipline = Drr (removed class.minor g.own) }
 
-      pub class-del-planned : IsPlannedFor takes_none (ClassDel parent class) (record p { edit = Reshape (RemoveClass class.minor) }) now d root
+      pub class-del-planned : IsPlannedFor takes_none (ClassDel parent class) (record p { edit = DisciplineChange (RemoveClass class.minor) }) now d root
       class-del-planned =
-          remade-planned d root (record p { edit = Reshape (RemoveClass class.minor) }) tt n (subst (λ x. node_at x root ≡ Some n) (sym way) at) left (one_less n g.own g.is class.minor place child.0 place_is child.1 within)
+          remade-planned d root (record p { edit = DisciplineChange (RemoveClass class.minor) }) tt n (subst (λ x. node_at x root ≡ Some n) (sym way) at) left (one_less n g.own g.is class.minor place child.0 place_is child.1 within)
           (one-lost n g.own g.is class.minor place child.0 place_is child.1 within)
           (reshape-does (RemoveClass class.minor) n left (one_less n g.own g.is class.minor place child.0 place_is child.1 within)
           (own-left n g.own g.is class.minor place child.0 place_is child.1 within) (kids-left n g.own g.is class.minor place child.0 place_is child.1 within))

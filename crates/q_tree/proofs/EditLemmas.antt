@@ -37,8 +37,8 @@ use Rattle.q_tree.specs.Places.{Leads}
 use Rattle.q_tree.specs.Purging.{purged}
 use Rattle.q_tree.specs.Seen.{seen, children_seen, discipline_seen, places_seen, IsKept, IsCountedWithin}
 use Rattle.q_tree.specs.declared.edit.Edit.{Edit}
-use Rattle.q_tree.specs.declared.edit.Edit.TheVariants.{Graft, AddFilter, RemoveFilters, Reshape}
-use Rattle.q_tree.specs.declared.reshape.Reshape as shapes
+use Rattle.q_tree.specs.declared.edit.Edit.TheVariants.{Graft, AddFilter, RemoveFilters, DisciplineChange}
+use Rattle.q_tree.specs.declared.discipline_change.DisciplineChange as shapes
 use Rattle.q_tree.specs.declared.node.Discipline.{Discipline}
 use Rattle.q_tree.specs.declared.node.Node.TheInside.{Inside}
 use Rattle.q_tree.proofs.Puts.{same-child}
@@ -67,7 +67,7 @@ pub record Loses (lost : List Descriptor) (old new : Node Kept) : Type 0 where
   pub held : (w : Descriptor → ℕ) → weigh w (held_beneath old) ≤ weigh w (held_beneath new) + weigh w lost
   pub arrived : IsCountedWithin new.memory.counts.arrived old.memory.counts.arrived
 
-pub reshaped-loses : (r : shapes.Reshape) (n : Node Kept) → IsConserved n.own.discipline (discipline_after r n.own.discipline (children n)) (children n) (children_after r n.own.discipline (children n)) (lost_with r n.own.discipline (children n))
+pub reshaped-loses : (r : shapes.DisciplineChange) (n : Node Kept) → IsConserved n.own.discipline (discipline_after r n.own.discipline (children n)) (children n) (children_after r n.own.discipline (children n)) (lost_with r n.own.discipline (children n))
     → Loses (lost_with r n.own.discipline (children n)) n (reshaped r n)
 reshaped-loses r n h =
     let after : Node Kept = reshaped r n in
@@ -108,7 +108,7 @@ effect-loses (Graft new) n h = record {
 }
 effect-loses (AddFilter f) n h = record { conserved = λ w. omega (arith, weigh-nil w); held = λ w. omega (arith, weigh-nil w); arrived = record { packets = omega arith; bytes = omega arith } }
 effect-loses (RemoveFilters prio) n h = record { conserved = λ w. omega (arith, weigh-nil w); held = λ w. omega (arith, weigh-nil w); arrived = record { packets = omega arith; bytes = omega arith } }
-effect-loses (Reshape r) n h =
+effect-loses (DisciplineChange r) n h =
     let kept_by : IsConserved n.own.discipline (discipline_after r n.own.discipline (children n)) (children n) (children_after r n.own.discipline (children n)) (lost_with r n.own.discipline (children n)) =
     conserved r n.own.discipline (children n) h in
     reshaped-loses r n kept_by
@@ -256,7 +256,7 @@ kept-booked a b ps k l booked within among =
     }
 
 -- a node that is reshaped
-module _ (r : shapes.Reshape) (e : Edit) (is : e ≡ Reshape r) (a : Inside) (n : Node Kept) (view : seen a ≡ n) (k : IsKept a) (ready : IsReady e) where
+module _ (r : shapes.DisciplineChange) (e : Edit) (is : e ≡ DisciplineChange r) (a : Inside) (n : Node Kept) (view : seen a ≡ n) (k : IsKept a) (ready : IsReady e) where
   abbrev goes : List Descriptor
   goes = lost_with r (discipline_seen a.discipline) (children_seen a.discipline)
 

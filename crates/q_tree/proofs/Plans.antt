@@ -39,9 +39,9 @@ use Rattle.q_tree.specs.Reshaping.{KeepsAll, children_after, discipline_after, l
 use Rattle.q_tree.specs.Kept.{Kept, kept}
 use Rattle.q_tree.specs.TreeSeen.{IsKeptDevice, numbers, tree_numbers}
 use Rattle.q_tree.specs.declared.edit.Edit.{Edit}
-use Rattle.q_tree.specs.declared.edit.Edit.TheVariants.{Graft, AddFilter, RemoveFilters, Reshape}
-use Rattle.q_tree.specs.declared.reshape.Reshape as shapes
-use Rattle.q_tree.specs.declared.reshape.Reshape.TheVariants.{Nothing, SetLimit, SetBands, SetBucket, SetOptions, AddClass, SetQuantum, RemoveClass}
+use Rattle.q_tree.specs.declared.edit.Edit.TheVariants.{Graft, AddFilter, RemoveFilters, DisciplineChange}
+use Rattle.q_tree.specs.declared.discipline_change.DisciplineChange as shapes
+use Rattle.q_tree.specs.declared.discipline_change.DisciplineChange.TheVariants.{Nothing, SetLimit, SetBands, SetBucket, SetOptions, AddClass, SetQuantum, RemoveClass}
 use Rattle.q_tree.specs.declared.planned.Planned.{Planned}
 use Rattle.q_tree.specs.declared.tree.Tree.TheInside.{Inside}
 use Rattle.q_tree.proofs.TreeLemmas.{lawful-root, same-shape, stands}
@@ -116,7 +116,7 @@ module _ (memory : Type 0) (command : Command) (d : DeviceState Kept) (now : ℕ
     tree-room before after A (Err why) ok err = omega (arith, err.1, ap (λ xs. length xs) (told-none why))
 
 -- an edit that loses nothing
-quiet-lost : (r : shapes.Reshape) (d : Discipline) (ns : List (Node Kept)) → KeepsAll r → lost_with r d ns ≡ []
+quiet-lost : (r : shapes.DisciplineChange) (d : Discipline) (ns : List (Node Kept)) → KeepsAll r → lost_with r d ns ≡ []
 quiet-lost Nothing d ns h = refl
 quiet-lost (SetLimit limit) d ns h = refl
 quiet-lost (SetBands options leaves) d ns h = absurd h
@@ -136,8 +136,8 @@ quiet-removed (RemoveFilters prio) path n h = by (node_at path n) where
   by : (o : Option (Node Kept)) → option_map_or (removed (RemoveFilters prio)) o [] ≡ []
   by None = refl
   by (Some m) = refl
-quiet-removed (Reshape r) path n h = by (node_at path n) where
-  by : (o : Option (Node Kept)) → option_map_or (removed (Reshape r)) o [] ≡ []
+quiet-removed (DisciplineChange r) path n h = by (node_at path n) where
+  by : (o : Option (Node Kept)) → option_map_or (removed (DisciplineChange r)) o [] ≡ []
   by None = refl
   by (Some m) = quiet-lost r m.own.discipline (children m) h
 
@@ -256,8 +256,8 @@ all-passed checks a b e = ap (λ o. option_map_or (λ r. Err r) o (Ok b)) (done_
 pub refused-plan : (memory : Type 0) (plan : Result model.Edit Refusal) (refusal : Refusal) → plan ≡ Err refusal → IsRefused memory plan refusal
 refused-plan memory plan refusal e = subst (λ p. IsRefused memory p refusal) (sym e) refl
 
-pub own-kept : (r : shapes.Reshape) (n : Node Kept) → lost_with r n.own.discipline (children n) ≡ [] → children_after r n.own.discipline (children n) ≡ children n
-    → effect (Reshape r) n ≡ record n { own = record n.own { discipline = discipline_after r n.own.discipline (children n) } }
+pub own-kept : (r : shapes.DisciplineChange) (n : Node Kept) → lost_with r n.own.discipline (children n) ≡ [] → children_after r n.own.discipline (children n) ≡ children n
+    → effect (DisciplineChange r) n ≡ record n { own = record n.own { discipline = discipline_after r n.own.discipline (children n) } }
 own-kept r n nothing_lost all = λ i. record {
   own = record n.own { discipline = discipline_after r n.own.discipline (children n) };
   memory = noted kept n.memory (losses_of Purged (nothing_lost i));
@@ -265,8 +265,8 @@ own-kept r n nothing_lost all = λ i. record {
 }
 
 -- children that are named by what becomes of them
-pub reshape-does : (r : shapes.Reshape) (n : Node Kept) (own : Own) (below : List model.Child) → ◌≡◌ {A = Own} (record n.own { discipline = discipline_after r n.own.discipline (children n) }) own
-    → children_after r n.own.discipline (children n) ≡ kids kept (children n) below → effect (Reshape r) n ≡ remade kept own below (losses_of Purged (removed (Reshape r) n)) n
+pub reshape-does : (r : shapes.DisciplineChange) (n : Node Kept) (own : Own) (below : List model.Child) → ◌≡◌ {A = Own} (record n.own { discipline = discipline_after r n.own.discipline (children n) }) own
+    → children_after r n.own.discipline (children n) ≡ kids kept (children n) below → effect (DisciplineChange r) n ≡ remade kept own below (losses_of Purged (removed (DisciplineChange r) n)) n
 reshape-does r n own below own_is kids_is = λ i. record {
   own = own_is i;
   memory = noted kept n.memory (losses_of Purged (lost_with r n.own.discipline (children n)));

@@ -26,8 +26,8 @@ use Rattle.q_tree.specs.Kept.{Kept}
 use Rattle.q_tree.specs.PutSteps.{packets_beneath}
 use Rattle.q_tree.specs.Reshaping.{AreReady, IsFresh, bands_going, bands_staying, can_join, children_after, class_child, discipline_after, leaf_limited, leaves_limited, limited, lost_with, place_in, rebucketed, remapped, reoptioned, requantum, rescheduled, resettled}
 use Rattle.q_tree.specs.Seen.{IsCountedWithin}
-use Rattle.q_tree.specs.declared.reshape.Reshape.{Reshape}
-use Rattle.q_tree.specs.declared.reshape.Reshape.TheVariants.{Nothing, SetLimit, SetBands, SetBucket, SetOptions, AddClass, SetQuantum, RemoveClass}
+use Rattle.q_tree.specs.declared.discipline_change.DisciplineChange.{DisciplineChange}
+use Rattle.q_tree.specs.declared.discipline_change.DisciplineChange.TheVariants.{Nothing, SetLimit, SetBands, SetBucket, SetOptions, AddClass, SetQuantum, RemoveClass}
 
 -- what is beneath nodes side by side, and what is held there
 abbrev waits : (Descriptor → ℕ) → List (Node Kept) → ℕ
@@ -236,7 +236,7 @@ join-conserved : (b : Bool) (f : Schedule → Schedule) (d : spec.Discipline) (n
 join-conserved true f d ns leaf fresh = class-joins d (rescheduled f d) ns leaf (rescheduled-packets f d) fresh
 join-conserved false f d ns leaf fresh = nothing-goes d d ns refl
 
-pub conserved : (r : Reshape) (d : spec.Discipline) (ns : List (Node Kept)) → AreReady r → IsConserved d (discipline_after r d ns) ns (children_after r d ns) (lost_with r d ns)
+pub conserved : (r : DisciplineChange) (d : spec.Discipline) (ns : List (Node Kept)) → AreReady r → IsConserved d (discipline_after r d ns) ns (children_after r d ns) (lost_with r d ns)
 conserved Nothing d ns h = nothing-goes d d ns refl
 conserved (SetLimit limit) d ns h = nothing-goes d (limited limit d) ns (limited-packets limit d)
 conserved (SetBands options leaves) d ns h = bands-conserved d options.priomap options.bands ns leaves.items h

@@ -31,9 +31,9 @@ use Rattle.q_tree.specs.Places.{unplaced}
 use Rattle.q_tree.specs.Reshaping.{adds_children, bands_staying, children_after, leaves_limited, place_in}
 use Rattle.q_tree.specs.TreeSeen.{IsIndexedDevice, IsKeptDevice}
 use Rattle.q_tree.specs.declared.edit.Edit.{Edit}
-use Rattle.q_tree.specs.declared.edit.Edit.TheVariants.{Graft, AddFilter, RemoveFilters, Reshape}
-use Rattle.q_tree.specs.declared.reshape.Reshape as shapes
-use Rattle.q_tree.specs.declared.reshape.Reshape.TheVariants.{Nothing, SetLimit, SetBands, SetBucket, SetOptions, AddClass, SetQuantum, RemoveClass}
+use Rattle.q_tree.specs.declared.edit.Edit.TheVariants.{Graft, AddFilter, RemoveFilters, DisciplineChange}
+use Rattle.q_tree.specs.declared.discipline_change.DisciplineChange as shapes
+use Rattle.q_tree.specs.declared.discipline_change.DisciplineChange.TheVariants.{Nothing, SetLimit, SetBands, SetBucket, SetOptions, AddClass, SetQuantum, RemoveClass}
 use Rattle.q_tree.specs.declared.tree.Tree.TheInside.{Inside}
 use Rattle.q_tree.proofs.Asking.{answered, asked-told}
 use Rattle.q_tree.proofs.Peeks.{popped-asked}
@@ -123,7 +123,7 @@ nothing-there zero = refl
 nothing-there (suc k) = refl
 
 -- where a discipline has no children, and gets none, it has none then
-none-after : (r : shapes.Reshape) (d : Discipline) → adds_children r ≡ false → children_after r d [] ≡ []
+none-after : (r : shapes.DisciplineChange) (d : Discipline) → adds_children r ≡ false → children_after r d [] ≡ []
 none-after Nothing d e = refl
 none-after (SetLimit limit) d e = refl
 none-after (SetBands options leaves) d e = by leaves.items d e where
@@ -161,12 +161,12 @@ roomy (Graft new) [] root there none more = by (children new) refl where
   by (c ∷ cs) is = absurd (false≢true (sym none ∙ lt-ltb 0 (length (children new)) (omega (arith, ap (λ xs. length xs) is))))
 roomy (AddFilter f) [] root there none more = more
 roomy (RemoveFilters prio) [] root there none more = more
-roomy (Reshape r) [] root there none more = by (children root) refl where
+roomy (DisciplineChange r) [] root there none more = by (children root) refl where
   by : (ns : List (Node Kept)) → children root ≡ ns → 1 < count_nodes root
   by [] is =
-      let after : children (effect (Reshape r) root) ≡ [] =
+      let after : children (effect (DisciplineChange r) root) ≡ [] =
       nodes-side (children_after r root.own.discipline (children root)) ∙ ap (children_after r root.own.discipline) is ∙ none-after r root.own.discipline none in
-      absurd (omega (arith, more, none-beneath (effect (Reshape r) root) after))
+      absurd (omega (arith, more, none-beneath (effect (DisciplineChange r) root) after))
   by (c ∷ cs) is = some-beneath root c cs is
 
 module _ (a : Inside) (k : IsIndexedDevice a) (e : Edit) (path : List ℕ) (there : IsSome (node_at path a.root)) (i : Index) (more : a.handles.room ≤ i.room) (made : adds_nodes e ≡ true → most_nodes ≤ i.room + 1)

@@ -21,10 +21,10 @@ use Rattle.q_invariants.proofs.SizeChecks.{numbers}
 use Rattle.q_tree.specs.Commands.{IsRefused}
 use Rattle.q_tree.specs.Kept.{Kept, kept}
 use Rattle.q_tree.specs.Reshaping.{AreReady, TakesMore, children_after, discipline_after, lost_with}
-use Rattle.q_tree.specs.declared.reshape.Reshape.{Reshape}
-use Rattle.q_tree.specs.declared.reshape.Reshape.TheVariants.{Nothing, SetLimit, SetBucket, SetOptions}
+use Rattle.q_tree.specs.declared.discipline_change.DisciplineChange.{DisciplineChange}
+use Rattle.q_tree.specs.declared.discipline_change.DisciplineChange.TheVariants.{Nothing, SetLimit, SetBucket, SetOptions}
 
-abbrev pub pfifo_answer : Option ℕ → Discipline → Result Reshape Refusal
+abbrev pub pfifo_answer : Option ℕ → Discipline → Result DisciplineChange Refusal
 pfifo_answer limit (Fifo (Packets old) queue) = Ok (SetLimit (Packets (unwrap_or limit old)))
 pfifo_answer limit (Fifo (Bytes old) queue) = Err CannotChange
 pfifo_answer limit (Prio priomap) = Err CannotChange
@@ -32,7 +32,7 @@ pfifo_answer limit (Tbf bucket old) = Err CannotChange
 pfifo_answer limit (Drr s) = Err CannotChange
 pfifo_answer limit (FqCodel s) = Err CannotChange
 
-abbrev pub bfifo_answer : Option ℕ → Discipline → Result Reshape Refusal
+abbrev pub bfifo_answer : Option ℕ → Discipline → Result DisciplineChange Refusal
 bfifo_answer limit (Fifo (Packets old) queue) = Err CannotChange
 bfifo_answer limit (Fifo (Bytes old) queue) = Ok (SetLimit (Bytes (unwrap_or limit old)))
 bfifo_answer limit (Prio priomap) = Err CannotChange
@@ -41,7 +41,7 @@ bfifo_answer limit (Drr s) = Err CannotChange
 bfifo_answer limit (FqCodel s) = Err CannotChange
 
 -- the bucket fills up to now at its old rate
-abbrev pub tbf_answer : ℕ → ℕ → ℕ → ℕ → TbfLimit → Discipline → Result Reshape Refusal
+abbrev pub tbf_answer : ℕ → ℕ → ℕ → ℕ → TbfLimit → Discipline → Result DisciplineChange Refusal
 tbf_answer mtu now rate burst limit (Fifo most queue) = Err CannotChange
 tbf_answer mtu now rate burst limit (Prio priomap) = Err CannotChange
 tbf_answer mtu now rate burst limit (Tbf bucket old) =
@@ -50,14 +50,14 @@ tbf_answer mtu now rate burst limit (Drr s) = Err CannotChange
 tbf_answer mtu now rate burst limit (FqCodel s) = Err CannotChange
 
 -- a drr has no settings of its own
-abbrev pub drr_same : Discipline → Result Reshape Refusal
+abbrev pub drr_same : Discipline → Result DisciplineChange Refusal
 drr_same (Fifo limit queue) = Err CannotChange
 drr_same (Prio priomap) = Err CannotChange
 drr_same (Tbf bucket limit) = Err CannotChange
 drr_same (Drr s) = Ok Nothing
 drr_same (FqCodel s) = Err CannotChange
 
-abbrev pub fq_codel_answer : FqOptions → Discipline → Result Reshape Refusal
+abbrev pub fq_codel_answer : FqOptions → Discipline → Result DisciplineChange Refusal
 fq_codel_answer o (Fifo limit queue) = Err CannotChange
 fq_codel_answer o (Prio priomap) = Err CannotChange
 fq_codel_answer o (Tbf bucket limit) = Err CannotChange
@@ -100,7 +100,7 @@ NeedsMore kind.Drr plan = ⊥
 NeedsMore (kind.FqCodel options) plan = ⊥
 
 -- a reshaping of this node is the remaking that the model plans for it, whichever way leads there
-pub record IsRemade (plan : List ℕ → Result model.Edit Refusal) (n : Node Kept) (r : Reshape) : Type 0 where
+pub record IsRemade (plan : List ℕ → Result model.Edit Refusal) (n : Node Kept) (r : DisciplineChange) : Type 0 where
   pub own : Own
   pub below : List Child
   pub planned : (path : List ℕ) → plan path ≡ Ok (Remake path own below)
@@ -110,6 +110,6 @@ pub record IsRemade (plan : List ℕ → Result model.Edit Refusal) (n : Node Ke
   pub ready : AreReady r
 
 -- the reshaping that the model plans, or the refusal; memory last, of a plan that takes some
-abbrev pub IsChange : (Result model.Edit Refusal → Type 0) → (List ℕ → Result model.Edit Refusal) → Node Kept → Result Reshape Refusal → Type 0
+abbrev pub IsChange : (Result model.Edit Refusal → Type 0) → (List ℕ → Result model.Edit Refusal) → Node Kept → Result DisciplineChange Refusal → Type 0
 IsChange memory plan n (Ok r) = IsRemade plan n r × ((path : List ℕ) → TakesMore r → memory (plan path))
 IsChange memory plan n (Err refusal) = (path : List ℕ) → IsRefused (memory (plan path)) (plan path) refusal

@@ -18,17 +18,17 @@ use Rattle.q_model.specs.Work.{losses_of, settled_in}
 use Rattle.q_tree.specs.Arrivals.{plus, minus}
 use Rattle.q_tree.specs.Kept.{Kept, kept}
 use Rattle.q_tree.specs.Reshaping.{AreReady, IsFresh, KeepsAll, TakesMore, adds_children, children_after, discipline_after, lost_with}
-use Rattle.q_tree.specs.declared.reshape.Reshape as shapes
+use Rattle.q_tree.specs.declared.discipline_change.DisciplineChange as shapes
 use Rattle.q_tree.specs.Seen.{children_seen, discipline_seen, places_seen}
 use Rattle.q_tree.specs.declared.edit.Edit.{Edit}
-use Rattle.q_tree.specs.declared.edit.Edit.TheVariants.{Graft, AddFilter, RemoveFilters, Reshape}
+use Rattle.q_tree.specs.declared.edit.Edit.TheVariants.{Graft, AddFilter, RemoveFilters, DisciplineChange}
 use Rattle.q_tree.specs.declared.node.Discipline.{Discipline}
 
 abbrev pub with_filters : List Filter → Node Kept → Node Kept
 with_filters filters n = record n { own = record n.own { filters = filters } }
 
 -- the node with another discipline and other children, which counts what went with those that are gone
-abbrev pub reshaped : shapes.Reshape → Node Kept → Node Kept
+abbrev pub reshaped : shapes.DisciplineChange → Node Kept → Node Kept
 reshaped r n = record {
   own = record n.own { discipline = discipline_after r n.own.discipline (children n) };
   memory = noted kept n.memory (losses_of Purged (lost_with r n.own.discipline (children n)));
@@ -40,42 +40,42 @@ abbrev pub effect : Edit → Node Kept → Node Kept
 effect (Graft new) n = new
 effect (AddFilter f) n = with_filters (with_filter f n.own.filters) n
 effect (RemoveFilters prio) n = with_filters (filter (λ (f : Filter). not (f.prio == prio)) n.own.filters) n
-effect (Reshape r) n = reshaped r n
+effect (DisciplineChange r) n = reshaped r n
 
 -- the packets that it loses there
 abbrev pub removed : Edit → Node Kept → List Descriptor
 removed (Graft new) n = beneath n
 removed (AddFilter f) n = []
 removed (RemoveFilters prio) n = []
-removed (Reshape r) n = lost_with r n.own.discipline (children n)
+removed (DisciplineChange r) n = lost_with r n.own.discipline (children n)
 
 -- what stands in place of a node is new: it has counted nothing, and nothing is queued there
 abbrev pub IsReady : Edit → Type 0
 IsReady (Graft new) = IsFresh new
 IsReady (AddFilter f) = Unit {0}
 IsReady (RemoveFilters prio) = Unit {0}
-IsReady (Reshape r) = AreReady r
+IsReady (DisciplineChange r) = AreReady r
 
 -- the edits that lose nothing
 abbrev pub LosesNothing : Edit → Type 0
 LosesNothing (Graft new) = ⊥
 LosesNothing (AddFilter f) = Unit {0}
 LosesNothing (RemoveFilters prio) = Unit {0}
-LosesNothing (Reshape r) = KeepsAll r
+LosesNothing (DisciplineChange r) = KeepsAll r
 
 -- whether it brings nodes beneath another, for whose handles there has to be room
 abbrev pub adds_nodes : Edit → Bool
 adds_nodes (Graft new) = nat_lt 0 (length (children new))
 adds_nodes (AddFilter f) = false
 adds_nodes (RemoveFilters prio) = false
-adds_nodes (Reshape r) = adds_children r
+adds_nodes (DisciplineChange r) = adds_children r
 
 -- the edits that take memory: for a filter or a child more, or for the handles where there were none beneath the root
 abbrev pub TakesMemory : Edit → Type 0
 TakesMemory (Graft new) = 0 < length (children new)
 TakesMemory (AddFilter f) = Unit {0}
 TakesMemory (RemoveFilters prio) = ⊥
-TakesMemory (Reshape r) = TakesMore r
+TakesMemory (DisciplineChange r) = TakesMore r
 
 -- the same for a way from a node down
 abbrev pub removed_at : Edit → List ℕ → Node Kept → List Descriptor

@@ -20,8 +20,8 @@ use Rattle.q_tree.specs.Kept.{Kept}
 use Rattle.q_tree.specs.PutSteps.{packets_beneath}
 use Rattle.q_tree.specs.Seen.{children_seen, discipline_seen, places_seen}
 use Rattle.q_tree.specs.declared.node.Discipline.{Discipline}
-use Rattle.q_tree.specs.declared.reshape.Reshape.{Reshape}
-use Rattle.q_tree.specs.declared.reshape.Reshape.TheVariants.{Nothing, SetLimit, SetBands, SetBucket, SetOptions, AddClass, SetQuantum, RemoveClass}
+use Rattle.q_tree.specs.declared.discipline_change.DisciplineChange.{DisciplineChange}
+use Rattle.q_tree.specs.declared.discipline_change.DisciplineChange.TheVariants.{Nothing, SetLimit, SetBands, SetBucket, SetOptions, AddClass, SetQuantum, RemoveClass}
 
 -- ---- a drr
 
@@ -119,7 +119,7 @@ rebucketed bucket limit (spec.FqCodel s) = spec.FqCodel s
 
 -- ---- each
 
-abbrev pub discipline_after : Reshape → spec.Discipline → List (Node Kept) → spec.Discipline
+abbrev pub discipline_after : DisciplineChange → spec.Discipline → List (Node Kept) → spec.Discipline
 discipline_after Nothing d children = d
 discipline_after (SetLimit limit) d children = limited limit d
 discipline_after (SetBands options leaves) d children = remapped options.priomap d
@@ -129,7 +129,7 @@ discipline_after (AddClass class quantum leaf) d children = if can_join class d 
 discipline_after (SetQuantum class quantum) d children = rescheduled (requantum class quantum) d
 discipline_after (RemoveClass class) d children = option_map_or (λ x. rescheduled (schedule.removed class) d) (class_child class d children) d
 
-abbrev pub children_after : Reshape → spec.Discipline → List (Node Kept) → List (Node Kept)
+abbrev pub children_after : DisciplineChange → spec.Discipline → List (Node Kept) → List (Node Kept)
 children_after Nothing d children = children
 children_after (SetLimit limit) d children = children
 children_after (SetBands options leaves) d children = bands_staying options.bands leaves.items d children
@@ -140,7 +140,7 @@ children_after (SetQuantum class quantum) d children = children
 children_after (RemoveClass class) d children = option_map_or (λ (x : ℕ × Node Kept). remove children x.0) (class_child class d children) children
 
 -- what is lost with the children that go, in class order
-abbrev pub lost_with : Reshape → spec.Discipline → List (Node Kept) → List Descriptor
+abbrev pub lost_with : DisciplineChange → spec.Discipline → List (Node Kept) → List Descriptor
 lost_with Nothing d children = []
 lost_with (SetLimit limit) d children = []
 lost_with (SetBands options leaves) d children = packets_beneath (bands_going options.bands leaves.items d children)
@@ -160,7 +160,7 @@ pub record FitsCounters (lost : List Descriptor) : Type 0 where
   pub packets : (totals_in lost).packets < 2 ^ 64
   pub bytes : (totals_in lost).bytes < 2 ^ 64
 
-abbrev pub AreReady : Reshape → Type 0
+abbrev pub AreReady : DisciplineChange → Type 0
 AreReady Nothing = Unit {0}
 AreReady (SetLimit limit) = Unit {0}
 AreReady (SetBands options leaves) = All IsFresh leaves.items
@@ -171,7 +171,7 @@ AreReady (SetQuantum class quantum) = Unit {0}
 AreReady (RemoveClass class) = Unit {0}
 
 -- whether it brings children
-abbrev pub adds_children : Reshape → Bool
+abbrev pub adds_children : DisciplineChange → Bool
 adds_children Nothing = false
 adds_children (SetLimit limit) = false
 adds_children (SetBands options leaves) = nat_lt 0 (length leaves.items)
@@ -182,7 +182,7 @@ adds_children (SetQuantum class quantum) = false
 adds_children (RemoveClass class) = false
 
 -- those that take memory: for children more
-abbrev pub TakesMore : Reshape → Type 0
+abbrev pub TakesMore : DisciplineChange → Type 0
 TakesMore Nothing = ⊥
 TakesMore (SetLimit limit) = ⊥
 TakesMore (SetBands options leaves) = 0 < length leaves.items
@@ -193,7 +193,7 @@ TakesMore (SetQuantum class quantum) = ⊥
 TakesMore (RemoveClass class) = ⊥
 
 -- those that lose nothing
-abbrev pub KeepsAll : Reshape → Type 0
+abbrev pub KeepsAll : DisciplineChange → Type 0
 KeepsAll Nothing = Unit {0}
 KeepsAll (SetLimit limit) = Unit {0}
 KeepsAll (SetBands options leaves) = ⊥
@@ -204,7 +204,7 @@ KeepsAll (SetQuantum class quantum) = Unit {0}
 KeepsAll (RemoveClass class) = ⊥
 
 -- a discipline of the code once it is reshaped
-pub record IsReshaped (r : Reshape) (old new : Discipline) : Type 0 where
+pub record IsReshaped (r : DisciplineChange) (old new : Discipline) : Type 0 where
   pub discipline : discipline_seen new ≡ discipline_after r (discipline_seen old) (children_seen old)
   pub children : children_seen new ≡ children_after r (discipline_seen old) (children_seen old)
   pub places : places_seen new ≡ places_seen old

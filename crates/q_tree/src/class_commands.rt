@@ -15,14 +15,14 @@ ghost use Rattle.q_tree.specs.Commands.{IsAnswered, IsBounded, IsPlanOf, class_a
 ghost use Rattle.q_tree.specs.Showing.{IsNumbered};
 
 use crate::counting::{MOST_LEVELS, MOST_NODES};
+use crate::discipline_change::DisciplineChange;
 use crate::edit::Edit;
 use crate::handles::Handles;
-use crate::link::Link;
-use crate::made::implicit_pfifo;
+use crate::link_settings::LinkSettings;
+use crate::new_qdisc::implicit_pfifo;
 use crate::node::{Discipline, Node};
-use crate::one_loss::OneLoss;
+use crate::one_loss_sink::OneLossSink;
 use crate::planned::Planned;
-use crate::reshape::Reshape;
 use crate::tree::Tree;
 use q_codel::Sink;
 use q_model::{ClassId, Command, Filter, Handle, Minor, Quantum, Refusal};
@@ -52,7 +52,7 @@ impl Tree {
             .class_added(&self.handles, alloc, self.link(), parent, class, quantum)
         {
             Err(refusal) => return Err(refusal),
-            Ok(planned) => return self.edit(planned, self.clock, &mut OneLoss { told: None }),
+            Ok(planned) => return self.edit(planned, self.clock, &mut OneLossSink { told: None }),
         }
     }
 
@@ -104,7 +104,7 @@ impl Tree {
             .class_changed(&self.handles, parent, class, quantum)
         {
             Err(refusal) => return Err(refusal),
-            Ok(planned) => return self.edit(planned, self.clock, &mut OneLoss { told: None }),
+            Ok(planned) => return self.edit(planned, self.clock, &mut OneLossSink { told: None }),
         }
     }
 }
@@ -115,7 +115,7 @@ impl Node {
         &self,
         handles: &Handles,
         alloc: Global,
-        link: Link,
+        link: LinkSettings,
         parent: Handle,
         class: ClassId,
         quantum: Option<Quantum>,
@@ -139,7 +139,7 @@ impl Node {
         }
         let quantum = quantum_or_mtu(&quantum, link);
         let leaf = implicit_pfifo(alloc, link);
-        let edit = Edit::Reshape(Reshape::AddClass(class.minor, quantum, leaf));
+        let edit = Edit::DisciplineChange(DisciplineChange::AddClass(class.minor, quantum, leaf));
         Ok(Planned { path, edit })
     }
 
@@ -165,7 +165,7 @@ impl Node {
         if let Err(refusal) = node.can_remove_class(&class) {
             return Err(refusal);
         }
-        let edit = Edit::Reshape(Reshape::RemoveClass(class.minor));
+        let edit = Edit::DisciplineChange(DisciplineChange::RemoveClass(class.minor));
         Ok(Planned { path, edit })
     }
 
@@ -192,7 +192,7 @@ impl Node {
         if let Err(refusal) = node.can_change_class(&class) {
             return Err(refusal);
         }
-        let edit = Edit::Reshape(Reshape::SetQuantum(class.minor, quantum));
+        let edit = Edit::DisciplineChange(DisciplineChange::SetQuantum(class.minor, quantum));
         Ok(Planned { path, edit })
     }
 
@@ -261,7 +261,7 @@ fn is_named(filters: &[Filter], class: Minor) -> bool
 }
 
 // The quantum that is given, or one of the mtu.
-fn quantum_or_mtu(quantum: &Option<Quantum>, link: Link) -> Quantum
+fn quantum_or_mtu(quantum: &Option<Quantum>, link: LinkSettings) -> Quantum
     requires { 1 ≤ link.mtu }
     ensures { result ≡ unwrap_or quantum.now link.mtu }
 {

@@ -4,7 +4,7 @@ ghost use Rattle.q_model.specs.Beneath.{beneath, totals_in};
 ghost use Rattle.q_tree.specs.Purging.{purged};
 ghost use Rattle.q_tree.specs.Reshaping.{IsReshaped, IsUnchanged, lost_with, requantum};
 ghost use Rattle.q_tree.specs.Seen.{children_seen, discipline_seen};
-ghost use Rattle.q_tree.specs.declared.reshape.Reshape.TheVariants.{AddClass, SetQuantum, RemoveClass};
+ghost use Rattle.q_tree.specs.declared.discipline_change.DisciplineChange.TheVariants.{AddClass, SetQuantum, RemoveClass};
 
 use crate::booking::NOTHING;
 use crate::node::{Discipline, Node};

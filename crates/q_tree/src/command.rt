@@ -8,7 +8,7 @@ ghost use Rattle.q_tree.specs.Commanding.{WantsMemory};
 ghost use Rattle.q_tree.specs.Commands.{IsAnswered, IsBounded, IsPlanOf, plan_of, told};
 
 use crate::handles::Handles;
-use crate::link::Link;
+use crate::link_settings::LinkSettings;
 use crate::node::Node;
 use crate::planned::Planned;
 use crate::tree::Tree;
@@ -58,7 +58,7 @@ impl Node {
         &self,
         handles: &Handles,
         alloc: Global,
-        link: Link,
+        link: LinkSettings,
         command: &Command,
         now: Moment,
     ) -> Result<Planned, Refusal>

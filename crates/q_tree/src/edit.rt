@@ -13,9 +13,9 @@ ghost use Rattle.q_tree.specs.Reshaping.{IsUnchanged};
 ghost use Rattle.q_tree.specs.Seen.{children_seen, discipline_seen, places_seen};
 
 use crate::booking::{NOTHING, book_dropped};
+use crate::discipline_change::DisciplineChange;
 use crate::drr::settle;
 use crate::node::{Discipline, Node};
-use crate::reshape::Reshape;
 use q_codel::Sink;
 use q_model::{Filter, FilterPrio, Totals};
 use std::alloc::AllocError;
@@ -30,7 +30,7 @@ pub(crate) enum Edit {
     /// It has no filters of this priority.
     RemoveFilters(FilterPrio),
     /// Its discipline and its children are reshaped.
-    Reshape(Reshape),
+    DisciplineChange(DisciplineChange),
 }
 
 impl Edit {
@@ -41,7 +41,7 @@ impl Edit {
         match self {
             Edit::Graft(node) => return !node.children().is_empty(),
             Edit::AddFilter(_) | Edit::RemoveFilters(_) => return false,
-            Edit::Reshape(reshape) => return reshape.adds_children(),
+            Edit::DisciplineChange(reshape) => return reshape.adds_children(),
         }
     }
 }
@@ -108,7 +108,7 @@ impl Node {
                 remove_filters(&mut self.filters, prio);
                 return Ok(NOTHING);
             }
-            Edit::Reshape(reshape) => {
+            Edit::DisciplineChange(reshape) => {
                 self.row.fit();
                 let lost = self.discipline.reshape(reshape, sink)?;
                 book_dropped(&mut self.row, lost);

@@ -12,7 +12,7 @@ ghost use Rattle.q_tree.specs.Commands.{IsAnswered, IsBounded, IsPlanOf, plan_of
 use crate::edit::Edit;
 use crate::handles::Handles;
 use crate::node::{Discipline, Node};
-use crate::one_loss::OneLoss;
+use crate::one_loss_sink::OneLossSink;
 use crate::planned::Planned;
 use crate::tree::Tree;
 use q_model::{Filter, FilterPrio, Handle, Refusal};
@@ -38,7 +38,7 @@ impl Tree {
     {
         match self.root.filter_added(&self.handles, parent, major, filter) {
             Err(refusal) => return Err(refusal),
-            Ok(planned) => return self.edit(planned, self.clock, &mut OneLoss { told: None }),
+            Ok(planned) => return self.edit(planned, self.clock, &mut OneLossSink { told: None }),
         }
     }
 
@@ -53,7 +53,7 @@ impl Tree {
     {
         match self.root.filters_removed(&self.handles, parent, prio) {
             Err(refusal) => return Err(refusal),
-            Ok(planned) => return self.edit(planned, self.clock, &mut OneLoss { told: None }),
+            Ok(planned) => return self.edit(planned, self.clock, &mut OneLossSink { told: None }),
         }
     }
 }

@@ -9,7 +9,7 @@ ghost use Rattle.q_tree.specs.Ahead.{ahead, ways, depths};
 
 use crate::counters::Counters;
 use crate::matching::named_class;
-use crate::way::Way;
+use crate::node_route::NodeRoute;
 use q_bucket::Bucket;
 use q_codel::{Fifo, Limit};
 use q_drr::Active;
@@ -118,7 +118,7 @@ impl Node {
 
     /// Goes on with the way of a packet, down from the node, from where it has come to.
     #[cycle(go)]
-    pub(crate) fn go(&self, packet: &Packet, way: &mut Way)
+    pub(crate) fn go(&self, packet: &Packet, way: &mut NodeRoute)
         requires room { length way.old.path + depth self.now ≤ 8 }
         requires open { way.old.refusal ≡ None }
         ensures { way.new ≡ ahead way.old.path (route packet.now self.now) }
@@ -159,7 +159,7 @@ impl Node {
 
 // Goes on from the child in this place; a packet that has none is refused.
 #[cycle(go)]
-fn go_on(children: &[Node], place: usize, packet: &Packet, way: &mut Way)
+fn go_on(children: &[Node], place: usize, packet: &Packet, way: &mut NodeRoute)
     requires room { length way.old.path + greatest (depths children.now) < 8 }
     requires open { way.old.refusal ≡ None }
     ensures { way.new ≡ ahead way.old.path (through (ways packet.now children.now) place) }

@@ -4,10 +4,10 @@ ghost use Rattle.q_tree.specs.Purging.{purged};
 ghost use Rattle.q_tree.specs.PutSteps.{packets_beneath};
 ghost use Rattle.q_tree.specs.Reshaping.{FitsCounters, IsReshaped, IsUnchanged, leaf_limited, lost_with, remapped};
 ghost use Rattle.q_tree.specs.Seen.{children_seen, discipline_seen, places_seen};
-ghost use Rattle.q_tree.specs.declared.reshape.Reshape.TheVariants.{SetBands, SetBucket, SetLimit, SetOptions};
+ghost use Rattle.q_tree.specs.declared.discipline_change.DisciplineChange.TheVariants.{SetBands, SetBucket, SetLimit, SetOptions};
 
 use crate::booking::{NOTHING, sum};
-use crate::made::with_options;
+use crate::new_qdisc::with_options;
 use crate::node::{Discipline, Node};
 use q_bucket::Bucket;
 use q_codel::{Limit, Sink};

@@ -9,12 +9,12 @@ ghost use Rattle.q_tree.specs.AskSteps.{CanAsk, CanAskIn, IsShown, IsAskedIn, Is
 ghost use Rattle.q_tree.specs.Kept.{kept};
 ghost use Rattle.q_tree.specs.Seen.{discipline_seen};
 
-use crate::at_hand::first_packet;
 use crate::booking::book_shown;
 use crate::drr::serve;
 use crate::fq_codel::take_from_flows;
 use crate::node::{Discipline, Node};
 use crate::prio::ask_bands;
+use crate::ready_packet::first_packet;
 use crate::shown::Shown;
 use crate::tbf::ask_child;
 use crate::toll::Toll;

@@ -4,9 +4,9 @@ ghost use Rattle.q_model.specs.Work.{booked};
 ghost use Rattle.q_tree.specs.Kept.{kept};
 ghost use Rattle.q_tree.specs.PopSteps.{IsFirstReady, IsPoppedIn, popping_of};
 
-use crate::at_hand::first_packet;
 use crate::booking::book_sent;
 use crate::node::{Discipline, Node};
+use crate::ready_packet::first_packet;
 use q_packet::Packet;
 
 impl Node {

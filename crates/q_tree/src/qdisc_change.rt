@@ -15,13 +15,13 @@ ghost use Rattle.q_tree.specs.Changing.{IsChange, MakesChildren, NeedsMore, bfif
 ghost use Rattle.q_tree.specs.Commands.{IsAnswered, IsBounded, IsPlanOf, plan_of, told};
 
 use crate::counting::MOST_NODES;
+use crate::discipline_change::DisciplineChange;
 use crate::edit::Edit;
 use crate::handles::Handles;
-use crate::link::Link;
-use crate::made::{leaves, limit_bytes};
+use crate::link_settings::LinkSettings;
+use crate::new_qdisc::{leaves, limit_bytes};
 use crate::node::{Discipline, Node};
 use crate::planned::Planned;
-use crate::reshape::Reshape;
 use crate::tree::Tree;
 use q_codel::{Limit, Sink};
 use q_model::{
@@ -75,7 +75,7 @@ impl Node {
         &self,
         handles: &Handles,
         alloc: Global,
-        link: Link,
+        link: LinkSettings,
         place: Option<Place>,
         handle: Option<Handle>,
         kind: &Kind,
@@ -93,7 +93,7 @@ impl Node {
         match node.reshape_to(alloc, link, self.count_nodes(), kind, now) {
             Err(refusal) => return Err(refusal),
             Ok(reshape) => {
-                let edit = Edit::Reshape(reshape);
+                let edit = Edit::DisciplineChange(reshape);
                 return Ok(Planned { path, edit });
             }
         }
@@ -103,11 +103,11 @@ impl Node {
     fn reshape_to(
         &self,
         alloc: Global,
-        link: Link,
+        link: LinkSettings,
         nodes: usize,
         kind: &Kind,
         now: Moment,
-    ) -> Result<Reshape, Refusal>
+    ) -> Result<DisciplineChange, Refusal>
         requires within { count_nodes self.now ≤ nodes }
         requires few { nodes ≤ most_nodes }
         requires lawful { IsLawfulRoot link.mtu now (shape self.now) }
@@ -126,7 +126,7 @@ impl Node {
     }
 
     // A pfifo keeps its limit in packets where none is given.
-    fn packet_limit(&self, limit: Option<u32>) -> Result<Reshape, Refusal>
+    fn packet_limit(&self, limit: Option<u32>) -> Result<DisciplineChange, Refusal>
         ensures { result ≡ pfifo_answer limit self.now.own.discipline }
     {
         let Discipline::Fifo(fifo) = &self.discipline else {
@@ -136,11 +136,11 @@ impl Node {
             return Err(Refusal::CannotChange);
         };
         let packets = limit.map_or(old, u64::from);
-        Ok(Reshape::SetLimit(Limit::Packets(packets)))
+        Ok(DisciplineChange::SetLimit(Limit::Packets(packets)))
     }
 
     // A bfifo keeps its limit in bytes where none is given.
-    fn byte_limit(&self, limit: Option<u32>) -> Result<Reshape, Refusal>
+    fn byte_limit(&self, limit: Option<u32>) -> Result<DisciplineChange, Refusal>
         ensures { result ≡ bfifo_answer limit self.now.own.discipline }
     {
         let Discipline::Fifo(fifo) = &self.discipline else {
@@ -150,17 +150,17 @@ impl Node {
             return Err(Refusal::CannotChange);
         };
         let bytes = limit.map_or(old, u64::from);
-        Ok(Reshape::SetLimit(Limit::Bytes(bytes)))
+        Ok(DisciplineChange::SetLimit(Limit::Bytes(bytes)))
     }
 
     // A prio gets the leaves that it needs for its bands.
     fn bands(
         &self,
         alloc: Global,
-        link: Link,
+        link: LinkSettings,
         nodes: usize,
         options: &PrioOptions,
-    ) -> Result<Reshape, Refusal>
+    ) -> Result<DisciplineChange, Refusal>
         requires within { count_nodes self.now ≤ nodes }
         requires few { nodes ≤ most_nodes }
         ensures { (root : Shape) (now : ℕ) → count_nodes root ≡ nodes → IsChange MakesChildren (λ path. change_sized (record { mtu = link.mtu; txqueuelen = link.txqueuelen }) now root (shape self.now) path self.now.own.discipline (kind.Prio options.now)) self.now result }
@@ -172,7 +172,7 @@ impl Node {
         let Ok(leaves) = leaves(alloc, link, more) else {
             return Err(Refusal::Memory);
         };
-        Ok(Reshape::SetBands(*options, leaves))
+        Ok(DisciplineChange::SetBands(*options, leaves))
     }
 
     // How many leaves a prio needs for so many bands, in a tree of so many nodes.
@@ -212,12 +212,12 @@ impl Node {
     // A tbf's bucket fills up to now, before it is another.
     fn bucket(
         &self,
-        link: Link,
+        link: LinkSettings,
         rate: Rate,
         burst: Burst,
         limit: TbfLimit,
         now: Moment,
-    ) -> Result<Reshape, Refusal>
+    ) -> Result<DisciplineChange, Refusal>
         requires lawful { IsLawfulRoot link.mtu now (shape self.now) }
         ensures { result ≡ tbf_answer link.mtu now rate burst limit self.now.own.discipline }
     {
@@ -229,21 +229,21 @@ impl Node {
         }
         let bucket = bucket.changed(rate.bits(), burst.bytes(), now);
         let bytes = limit_bytes(rate, burst, limit);
-        Ok(Reshape::SetBucket(bucket, bytes))
+        Ok(DisciplineChange::SetBucket(bucket, bytes))
     }
 
     // A drr has no settings of its own.
-    fn same_drr(&self) -> Result<Reshape, Refusal>
+    fn same_drr(&self) -> Result<DisciplineChange, Refusal>
         ensures { result ≡ drr_same self.now.own.discipline }
     {
         let Discipline::Drr { .. } = &self.discipline else {
             return Err(Refusal::CannotChange);
         };
-        Ok(Reshape::Nothing)
+        Ok(DisciplineChange::Nothing)
     }
 
     // An fq_codel keeps its number of flows.
-    fn options(&self, options: &FqCodelOptions) -> Result<Reshape, Refusal>
+    fn options(&self, options: &FqCodelOptions) -> Result<DisciplineChange, Refusal>
         ensures { result ≡ fq_codel_answer options.now self.now.own.discipline }
     {
         let Discipline::FqCodel(queue) = &self.discipline else {
@@ -253,7 +253,7 @@ impl Node {
         if options.flows.is_some_and(|given| given != flows) {
             return Err(Refusal::CannotChange);
         }
-        Ok(Reshape::SetOptions(*options))
+        Ok(DisciplineChange::SetOptions(*options))
     }
 }
 

@@ -17,8 +17,8 @@ use crate::counting::{MOST_LEVELS, MOST_NODES, levels_made, nodes_made};
 use crate::edit::Edit;
 use crate::find::Path;
 use crate::handles::Handles;
-use crate::link::Link;
-use crate::made::implicit_pfifo;
+use crate::link_settings::LinkSettings;
+use crate::new_qdisc::implicit_pfifo;
 use crate::node::{Discipline, Node};
 use crate::planned::Planned;
 use crate::tree::Tree;
@@ -94,7 +94,7 @@ impl Node {
         &self,
         handles: &Handles,
         alloc: Global,
-        link: Link,
+        link: LinkSettings,
         place: Place,
         handle: Option<Handle>,
         kind: &Kind,
@@ -127,7 +127,7 @@ impl Node {
         &self,
         handles: &Handles,
         alloc: Global,
-        link: Link,
+        link: LinkSettings,
         place: Option<Place>,
         handle: Option<Handle>,
     ) -> Result<Planned, Refusal>
@@ -244,7 +244,7 @@ impl Node {
     }
 
     // The implicit leaf of the place where this way ends: beneath a tbf a bfifo of its limit.
-    fn leaf_at(&self, alloc: Global, link: Link, path: &[usize]) -> Node
+    fn leaf_at(&self, alloc: Global, link: LinkSettings, path: &[usize]) -> Node
         ensures { IsNewNode result (leaf_at (record { mtu = link.mtu; txqueuelen = link.txqueuelen }) path.now (shape self.now)) }
     {
         let Some((_, way)) = path.split_last() else {
@@ -257,7 +257,7 @@ impl Node {
     }
 
     // The leaf that stands in a class of this qdisc where nothing else does.
-    fn implicit_beneath(&self, alloc: Global, link: Link) -> Node
+    fn implicit_beneath(&self, alloc: Global, link: LinkSettings) -> Node
         ensures { IsNewNode result (implicit_beneath (record { mtu = link.mtu; txqueuelen = link.txqueuelen }) self.now.own.discipline) }
     {
         match &self.discipline {

@@ -2,8 +2,8 @@ ghost use Rattle.std.specs.Prelude.{ℕ, ◌≡◌, ◌<◌, ◌≤◌, ◌^◌,
 ghost use Rattle.q_model.specs.TreeState.{given};
 ghost use Rattle.q_tree.specs.ReadyAt.{at_best, at_hand, covers_at, is_before, is_sure, later, no_packet, of_class, of_fifo, of_flows, outlook, paid, ready_at, shaped, shaped_after, sooner, with_band, with_bands};
 
-use crate::at_hand::first_packet;
 use crate::node::{Discipline, Node};
+use crate::ready_packet::first_packet;
 use crate::tree::Tree;
 use q_bucket::Bucket;
 use q_drr::Active;

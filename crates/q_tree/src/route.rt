@@ -1,7 +1,7 @@
 ghost use Rattle.std.specs.Prelude.{◌≡◌};
 ghost use Rattle.q_tree.specs.RouteSeen.{path_seen, refusal_seen};
 
-use crate::way::Way;
+use crate::node_route::NodeRoute;
 use q_packet::Cause;
 use std::marker::Model;
 
@@ -11,7 +11,7 @@ use std::marker::Model;
 /// reaches the root.
 #[derive(Drop)]
 pub struct Route {
-    pub(crate) way: Way,
+    pub(crate) way: NodeRoute,
     /// The packet's length in bytes.
     pub(crate) len: u16,
     pub(crate) is_too_long: bool,

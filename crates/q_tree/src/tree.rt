@@ -23,13 +23,13 @@ ghost use Rattle.q_tree.specs.TreeSeen.{CanArrive, IsArrived, IsRouteIn, numbers
 use crate::booking::{book_arrival, book_dropped, book_sent, book_shown};
 use crate::counters::Counters;
 use crate::handles::Handles;
-use crate::link::Link;
+use crate::link_settings::LinkSettings;
 use crate::node::Node;
+use crate::node_route::NodeRoute;
 use crate::outcome::{Outcome, refuse};
 use crate::planned::Planned;
 use crate::route::Route;
 use crate::toll::NO_TOLL;
-use crate::way::Way;
 use q_codel::{Limit, Sink};
 use q_model::{ClassView, Fate, FilterView, NodeView, Place, Refusal, Row};
 use q_packet::{Cause, Moment, Packet};
@@ -149,12 +149,12 @@ impl Tree {
     }
 
     // What the device lends to a new qdisc.
-    pub(crate) fn link(&self) -> Link
+    pub(crate) fn link(&self) -> LinkSettings
         ensures mtu { result.mtu ≡ self.now.tree.device.mtu }
         ensures txqueuelen { result.txqueuelen ≡ self.now.tree.device.txqueuelen }
         ensures positive { 1 ≤ result.mtu }
     {
-        Link {
+        LinkSettings {
             mtu: self.mtu,
             txqueuelen: self.txqueuelen,
         }
@@ -211,7 +211,7 @@ impl Tree {
     {
         // A way has 80 bytes, so that it is made where it stands.
         let mut route = Route {
-            way: Way::new(),
+            way: NodeRoute::new(),
             len: packet.len,
             is_too_long: packet.len > self.mtu,
         };

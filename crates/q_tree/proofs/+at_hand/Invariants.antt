@@ -5,12 +5,12 @@ use Rattle.q_model.specs.Pop.{first_shown}
 use Rattle.q_tree.specs.NodeCode.{node_size, forest_size}
 use Rattle.q_tree.proofs.+at_hand.Given as goal
 
-abbrev pub invariant-at_hand::first_at_hand-loop-band :
-    goal.invariant-at_hand::first_at_hand-loop-band
-invariant-at_hand::first_at_hand-loop-band l = first_shown (map pop (drop l.band-index l.fn.bands)) ≡ first_shown (map pop l.fn.bands)
+abbrev pub invariant-ready_packet::first_at_hand-loop-band :
+    goal.invariant-ready_packet::first_at_hand-loop-band
+invariant-ready_packet::first_at_hand-loop-band l = first_shown (map pop (drop l.band-index l.fn.bands)) ≡ first_shown (map pop l.fn.bands)
 
 abbrev pub decreases-node::Node::at_hand : goal.decreases-node::Node::at_hand
 decreases-node::Node::at_hand l = node_size l.self.now
 
-abbrev pub decreases-at_hand::first_at_hand : goal.decreases-at_hand::first_at_hand
-decreases-at_hand::first_at_hand l = forest_size (side_by_side l.bands.now)
+abbrev pub decreases-ready_packet::first_at_hand : goal.decreases-ready_packet::first_at_hand
+decreases-ready_packet::first_at_hand l = forest_size (side_by_side l.bands.now)

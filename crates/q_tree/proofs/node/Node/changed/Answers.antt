@@ -6,7 +6,7 @@ use Rattle.q_model.specs.Node.{shape}
 use Rattle.q_model.specs.TreeState.{plan}
 use Rattle.q_invariants.proofs.MadeSizes.{count-shape}
 use Rattle.q_tree.specs.Changing.{IsChange, NeedsMore}
-use Rattle.q_tree.specs.declared.edit.Edit.TheVariants.{Reshape}
+use Rattle.q_tree.specs.declared.edit.Edit.TheVariants.{DisciplineChange}
 use Rattle.q_tree.proofs.ChangeLemmas.{change-lawful, change-nowhere, change-planned, change-refused, change-within, plans_of}
 use Rattle.q_tree.proofs.Plans.{refused-plan}
 use Rattle.q_tree.proofs.node.Node.changed.Goals as goal
@@ -61,5 +61,5 @@ returns-in-Ok c =
       plan = change-planned root c.requires.bounded d c.args.now d.mtu c.requires.lawful c.args.place c.args.handle k c.in-Some.path.items n
           (sym c.target.ensures ∙ ap (option_map (λ x. (x.0.items, x.1.now))) c.in-Some.is) (NeedsMore k) c.in-Ok.reshape
           (subst (IsChange (NeedsMore k) (plans_of d c.args.now (shape root) n k n.own.discipline) n) c.in-Ok.is (c.reshape_to.ensures (shape root) (count-shape root ∙ sym c.count_nodes.ensures)))
-          (record { path = c.in-Some.path; edit = Reshape c.in-Ok.reshape }) refl refl c.change_ranges.ensures;
+          (record { path = c.in-Some.path; edit = DisciplineChange c.in-Ok.reshape }) refl refl c.change_ranges.ensures;
     }

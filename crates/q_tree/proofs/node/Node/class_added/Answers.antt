@@ -6,8 +6,8 @@ use Rattle.q_model.specs.Make.{Device}
 use Rattle.q_model.specs.Node.{shape}
 use Rattle.q_model.specs.TreeState.{plan}
 use Rattle.q_tree.specs.Commands.{takes_memory}
-use Rattle.q_tree.specs.declared.edit.Edit.TheVariants.{Reshape}
-use Rattle.q_tree.specs.declared.reshape.Reshape.TheVariants.{AddClass}
+use Rattle.q_tree.specs.declared.edit.Edit.TheVariants.{DisciplineChange}
+use Rattle.q_tree.specs.declared.discipline_change.DisciplineChange.TheVariants.{AddClass}
 use Rattle.q_tree.proofs.ClassAdding.{add-nowhere, add-refused, class-add-planned}
 use Rattle.q_tree.proofs.Plans.{refused-plan}
 use Rattle.q_tree.proofs.TargetLemmas.{path-short, reached-at}
@@ -46,4 +46,4 @@ returns-clause-plan c = λ now.
     class-add-planned root c.requires.bounded d c.args.parent c.args.class c.args.quantum (sym c.names_another.ensures ∙ c.if-names_another.false) now c.in-Some.path.items c.in-Some.node.now
     (sym c.qdisc.ensures ∙ ap (option_map (λ x. (x.0.items, x.1.now))) c.in-Some.is) c.len.result c.len.ensures.value (sym c.can_add_class.ensures ∙ c.in_default-can_add_class.is)
     c.implicit_pfifo-leaf.result c.implicit_pfifo-leaf.ensures c.quantum_or_mtu-quantum.result c.quantum_or_mtu-quantum.ensures
-    (record { path = c.in-Some.path; edit = Reshape (AddClass c.args.class.minor c.quantum_or_mtu-quantum.result c.implicit_pfifo-leaf.result) }) refl c.add_ranges.ensures
+    (record { path = c.in-Some.path; edit = DisciplineChange (AddClass c.args.class.minor c.quantum_or_mtu-quantum.result c.implicit_pfifo-leaf.result) }) refl c.add_ranges.ensures

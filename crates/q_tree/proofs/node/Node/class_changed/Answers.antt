@@ -10,8 +10,8 @@ use Rattle.q_model.specs.ClassCommands.{class_change_checks, class_changed, of_s
 use Rattle.q_model.specs.QdiscCommands.{retuned}
 use Rattle.q_invariants.proofs.SizedPlans.{plan-class_change}
 use Rattle.q_tree.specs.Reshaping.{requantum, rescheduled}
-use Rattle.q_tree.specs.declared.edit.Edit.TheVariants.{Reshape}
-use Rattle.q_tree.specs.declared.reshape.Reshape.TheVariants.{SetQuantum}
+use Rattle.q_tree.specs.declared.edit.Edit.TheVariants.{DisciplineChange}
+use Rattle.q_tree.specs.declared.discipline_change.DisciplineChange.TheVariants.{SetQuantum}
 use Rattle.q_tree.proofs.ClassPlans.{at-class, change-done, drr-refused}
 use Rattle.q_tree.proofs.Plans.{few, own-kept, own-planned, refused-plan, shallow}
 use Rattle.q_tree.proofs.node.Node.class_changed.Goals as goal
@@ -41,6 +41,6 @@ returns-clause-plan c = λ device now.
     let planned = plan-class_change (shape root) (shallow root c.requires.bounded) (few root c.requires.bounded) device now c.args.parent c.args.class c.args.quantum ∙ at-class c.args.parent c.args.class (class_changed c.args.class c.args.quantum) (shape root) (sym c.names_another.ensures ∙ c.if-names_another.false) in
     let reached = sym c.qdisc.ensures ∙ ap (option_map (λ x. (x.0.items, x.1.now))) c.in-Some.is in
     let found = target-some root (path_of c.args.class.major (shape root)) NoQdisc (λ path n. of_schedule (class_changed c.args.class c.args.quantum path n) n.own.discipline) path n reached in
-    own-planned device root (record { path = c.in-Some.path; edit = Reshape (SetQuantum c.args.class.minor c.args.quantum) }) tt n (reached-at root (path_of c.args.class.major (shape root)) path n reached).there
+    own-planned device root (record { path = c.in-Some.path; edit = DisciplineChange (SetQuantum c.args.class.minor c.args.quantum) }) tt n (reached-at root (path_of c.args.class.major (shape root)) path n reached).there
     (record n.own { discipline = rescheduled (requantum c.args.class.minor c.args.quantum) n.own.discipline }) (own-kept (SetQuantum c.args.class.minor c.args.quantum) n refl refl) refl (ClassChange c.args.parent c.args.class c.args.quantum) c.change_ranges.ensures now
     (planned ∙ found ∙ change-done c.args.class c.args.quantum path n (sym c.can_change_class.ensures ∙ c.in_default-can_change_class.is)) takes_none (λ h. h)

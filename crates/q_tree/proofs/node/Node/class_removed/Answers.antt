@@ -4,8 +4,8 @@ use Rattle.q_model.specs.declared.refusal.Refusal.TheVariants.{NoQdisc}
 use Rattle.q_model.specs.Node.{shape}
 use Rattle.q_model.specs.TreeState.{plan}
 use Rattle.q_tree.specs.Commands.{takes_none}
-use Rattle.q_tree.specs.declared.edit.Edit.TheVariants.{Reshape}
-use Rattle.q_tree.specs.declared.reshape.Reshape.TheVariants.{RemoveClass}
+use Rattle.q_tree.specs.declared.edit.Edit.TheVariants.{DisciplineChange}
+use Rattle.q_tree.specs.declared.discipline_change.DisciplineChange.TheVariants.{RemoveClass}
 use Rattle.q_tree.proofs.ClassAdding.{class-del-planned, del-nowhere, del-refused}
 use Rattle.q_tree.proofs.Plans.{refused-plan}
 use Rattle.q_tree.proofs.node.Node.class_removed.Goals as goal
@@ -36,5 +36,5 @@ returns c =
       plan = λ device now.
           class-del-planned root c.requires.bounded device c.args.parent c.args.class (sym c.names_another.ensures ∙ c.if-names_another.false) now c.in-Some.path.items c.in-Some.node.now
           (sym c.qdisc.ensures ∙ ap (option_map (λ x. (x.0.items, x.1.now))) c.in-Some.is) (sym c.can_remove_class.ensures ∙ c.in_default-can_remove_class.is) c.requires.lawful
-          (record { path = c.in-Some.path; edit = Reshape (RemoveClass c.args.class.minor) }) refl c.del_ranges.ensures;
+          (record { path = c.in-Some.path; edit = DisciplineChange (RemoveClass c.args.class.minor) }) refl c.del_ranges.ensures;
     }

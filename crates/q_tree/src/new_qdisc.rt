@@ -4,7 +4,7 @@ ghost use Rattle.q_model.specs.Make.{implicit_pfifo, limit_bytes, made, with_opt
 ghost use Rattle.q_tree.specs.Making.{AreNew, IsNewDiscipline, IsNewNode, IsNewTbf, NeedsMemory};
 
 use crate::counters::Counters;
-use crate::link::Link;
+use crate::link_settings::LinkSettings;
 use crate::node::{Discipline, Node};
 use q_bucket::Bucket;
 use q_codel::{Fifo, Limit};
@@ -22,7 +22,7 @@ impl Node {
     /// `AllocError` where memory is refused, to a prio, a tbf or an fq_codel: the others need none.
     pub(crate) fn made(
         alloc: Global,
-        link: Link,
+        link: LinkSettings,
         now: Moment,
         handle: Handle,
         kind: &Kind,
@@ -47,7 +47,7 @@ impl Node {
 // The discipline of a new qdisc, with its implicit leaves.
 fn new_discipline(
     alloc: Global,
-    link: Link,
+    link: LinkSettings,
     now: Moment,
     kind: &Kind,
 ) -> Result<Discipline, AllocError>
@@ -110,7 +110,11 @@ fn new_tbf(alloc: Global, bucket: Bucket, limit: u64) -> Result<Discipline, Allo
 }
 
 // So many implicit pfifos, each of the device's queue length.
-pub(crate) fn leaves(alloc: Global, link: Link, count: usize) -> Result<Vec<Node>, AllocError>
+pub(crate) fn leaves(
+    alloc: Global,
+    link: LinkSettings,
+    count: usize,
+) -> Result<Vec<Node>, AllocError>
     ensures new { IfOk result (λ v. AreNew v.items (replicate count (implicit_pfifo (record { mtu = link.mtu; txqueuelen = link.txqueuelen })))) }
     ensures memory { OnErr result (0 < count) }
 {
@@ -122,7 +126,7 @@ pub(crate) fn leaves(alloc: Global, link: Link, count: usize) -> Result<Vec<Node
 }
 
 // The leaf that stands where nothing else does, but beneath a tbf.
-pub(crate) fn implicit_pfifo(alloc: Global, link: Link) -> Node
+pub(crate) fn implicit_pfifo(alloc: Global, link: LinkSettings) -> Node
     ensures { IsNewNode result (implicit_pfifo (record { mtu = link.mtu; txqueuelen = link.txqueuelen })) }
 {
     let packets = u64::from(link.txqueuelen);
@@ -130,7 +134,7 @@ pub(crate) fn implicit_pfifo(alloc: Global, link: Link) -> Node
 }
 
 // The bytes that a bfifo takes: as many as are given, or those of the device's queue of packets as long as the mtu.
-fn bfifo_bytes(link: Link, limit: Option<u32>) -> u64
+fn bfifo_bytes(link: LinkSettings, limit: Option<u32>) -> u64
     ensures { result ≡ unwrap_or limit (link.txqueuelen * link.mtu) }
 {
     match limit {

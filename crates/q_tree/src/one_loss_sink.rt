@@ -3,11 +3,11 @@ use q_packet::{Cause, Packet};
 
 /// A sink with room for one loss, for the commands that lose nothing.
 #[derive(Drop)]
-pub(crate) struct OneLoss {
+pub(crate) struct OneLossSink {
     pub(crate) told: Option<Loss>,
 }
 
-impl Sink for OneLoss {
+impl Sink for OneLossSink {
     ghost use Rattle.std.specs.Prelude.{[], ◌∷◌};
     ghost use Rattle.std.specs.Option.{option_map_or};
 

@@ -6,7 +6,7 @@ use Rattle.q_model.specs.Options.{PrioSettings}
 use Rattle.q_invariants.proofs.Forests.{nodes-side}
 use Rattle.q_tree.specs.declared.node.Discipline.TheVariants.{Prio, FqCodel}
 use Rattle.q_tree.specs.Making.{AreNew, IsNewDiscipline}
-use Rattle.q_tree.proofs.made.new_discipline.Goals as goal
+use Rattle.q_tree.proofs.new_qdisc.new_discipline.Goals as goal
 
 pub returns-in-Prio-clause-new : goal.returns-in-Prio-clause-new
 returns-in-Prio-clause-new c =

@@ -13,7 +13,7 @@ use std::alloc::AllocError;
 
 /// What a command makes of a discipline and of its children. What is not for a discipline leaves it as it is.
 #[derive(Drop)]
-pub(crate) enum Reshape {
+pub(crate) enum DisciplineChange {
     /// Everything stays.
     Nothing,
     /// A fifo has this limit.
@@ -32,17 +32,20 @@ pub(crate) enum Reshape {
     RemoveClass(Minor),
 }
 
-impl Reshape {
+impl DisciplineChange {
     /// Whether it brings children.
     pub(crate) fn adds_children(&self) -> bool
         ensures { result ≡ adds_children self.now }
     {
         match self {
-            Reshape::SetBands(_, leaves) => return !leaves.is_empty(),
-            Reshape::AddClass(..) => return true,
-            Reshape::Nothing | Reshape::SetLimit(_) | Reshape::SetBucket(..) => return false,
-            Reshape::SetOptions(_) | Reshape::SetQuantum(..) | Reshape::RemoveClass(_) =>
-                return false,
+            DisciplineChange::SetBands(_, leaves) => return !leaves.is_empty(),
+            DisciplineChange::AddClass(..) => return true,
+            DisciplineChange::Nothing
+            | DisciplineChange::SetLimit(_)
+            | DisciplineChange::SetBucket(..) => return false,
+            DisciplineChange::SetOptions(_)
+            | DisciplineChange::SetQuantum(..)
+            | DisciplineChange::RemoveClass(_) => return false,
         }
     }
 }
@@ -55,7 +58,7 @@ impl Discipline {
     /// `AllocError` where memory is refused; nothing has changed then.
     pub(crate) fn reshape<S: Sink>(
         &mut self,
-        reshape: Reshape,
+        reshape: DisciplineChange,
         sink: &mut S,
     ) -> Result<Totals, AllocError>
         requires few { FitsCounters (lost_with reshape (discipline_seen self.old) (children_seen self.old)) }
@@ -70,14 +73,18 @@ impl Discipline {
         ensures kept { S.keeps sink.old sink.new }
     {
         match reshape {
-            Reshape::Nothing => (),
-            Reshape::SetLimit(limit) => self.set_limit(limit),
-            Reshape::SetBands(options, leaves) => return self.set_bands(options, leaves, sink),
-            Reshape::SetBucket(bucket, limit) => self.set_bucket(bucket, limit),
-            Reshape::SetOptions(options) => self.set_options(&options),
-            Reshape::AddClass(class, quantum, leaf) => self.add_class(class, quantum, leaf)?,
-            Reshape::SetQuantum(class, quantum) => self.set_quantum(class, quantum),
-            Reshape::RemoveClass(class) => return Ok(self.remove_class(class, sink)),
+            DisciplineChange::Nothing => (),
+            DisciplineChange::SetLimit(limit) => self.set_limit(limit),
+            DisciplineChange::SetBands(options, leaves) => return self.set_bands(
+                options, leaves, sink,
+            ),
+            DisciplineChange::SetBucket(bucket, limit) => self.set_bucket(bucket, limit),
+            DisciplineChange::SetOptions(options) => self.set_options(&options),
+            DisciplineChange::AddClass(class, quantum, leaf) => self.add_class(
+                class, quantum, leaf,
+            )?,
+            DisciplineChange::SetQuantum(class, quantum) => self.set_quantum(class, quantum),
+            DisciplineChange::RemoveClass(class) => return Ok(self.remove_class(class, sink)),
         }
         Ok(NOTHING)
     }

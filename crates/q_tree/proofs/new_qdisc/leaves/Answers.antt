@@ -2,7 +2,7 @@ use Rattle.std.proofs.Common.{◌≡◌, ◌+◌, sym, subst, replicate, arith}
 use Rattle.q_model.specs.Make.{implicit_pfifo}
 use Rattle.q_tree.specs.Making.{AreNew}
 use Rattle.q_tree.proofs.MakingLemmas.{more-new}
-use Rattle.q_tree.proofs.made.leaves.Goals as goal
+use Rattle.q_tree.proofs.new_qdisc.leaves.Goals as goal
 
 pub loop-init : goal.loop-init
 loop-init c = c.in_ok-nodes.ensures.items

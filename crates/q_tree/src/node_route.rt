@@ -9,12 +9,12 @@ use std::marker::Model;
 ///
 /// A contract sees it as the record `Route`. A tree has at most eight levels, so that eight places are enough.
 #[derive(Drop)]
-pub(crate) struct Way {
+pub(crate) struct NodeRoute {
     places: ArrayVec<usize, 8>,
     refusal: Option<Cause>,
 }
 
-impl Model for Way {
+impl Model for NodeRoute {
     ghost use Rattle.q_model.specs.Route.{Route};
 
     ghost Value = { Route };
@@ -22,12 +22,12 @@ impl Model for Way {
     ghost view = { λ w. record { path = w.places.items; refusal = w.refusal } };
 }
 
-impl Way {
+impl NodeRoute {
     /// A way that ends where it begins.
-    pub(crate) fn new() -> Way
+    pub(crate) fn new() -> NodeRoute
         ensures { result ≡ record { path = []; refusal = None } }
     {
-        Way {
+        NodeRoute {
             places: ArrayVec::new(),
             refusal: None,
         }
