@@ -17,7 +17,14 @@ use std::sync::{Mutex, Wait};
 pub fn device(alloc: Global, recorded: u32) -> Option<Device>
     ensures { IfSome result (λ d. d.device.tree.top.arrived ≡ no_totals) }
 {
-    Device::open(alloc, Settings::new(1514, 1000, recorded)?).ok()
+    limited(alloc, 1000, recorded)
+}
+
+/// The same with room for so many packets.
+pub fn limited(alloc: Global, limit: u32, recorded: u32) -> Option<Device>
+    ensures { IfSome result (λ d. d.device.tree.top.arrived ≡ no_totals) }
+{
+    Device::open(alloc, Settings::new(1514, limit, recorded)?).ok()
 }
 
 /// A packet of 100 bytes with this number.
@@ -69,6 +76,17 @@ pub fn offer_at(ports: &mut Vec<Port>, at: usize, packet: Packet) -> Result<(), 
     ensures count { length ports.new.items ≡ length ports.old.items }
 {
     offer(&mut ports[at], packet)
+}
+
+/// Places so many packets at the first port, in whose ring there is room for them.
+pub fn fill<R: Abort>(rt: &R, ports: &mut Vec<Port>, count: u64, packet: Packet)
+    requires { 0 < length ports.old.items }
+    ensures rings { map ring_of_port ports.new.items ≡ map ring_of_port ports.old.items }
+    ensures count { length ports.new.items ≡ length ports.old.items }
+{
+    for _offer in 0..count {
+        assert!(rt; offer_at(ports, 0, packet).is_ok());
+    }
 }
 
 // Offers a packet, which leaves the port its ring.

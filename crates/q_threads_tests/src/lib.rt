@@ -1,9 +1,13 @@
 //! Tests of `q_ports` that no clause can stand for: that offers are taken, that turns go round the ports, that gauges go on, that
-//! senders run at the same time, and that what was refused memory succeeds later. They start threads.
+//! senders run at the same time and outlive the drain, and that what was refused memory succeeds later. They start threads.
 #![tactic(auto)]
 
 #[cfg(test)]
+mod blockade;
+#[cfg(test)]
 mod common;
+#[cfg(test)]
+mod endings;
 #[cfg(test)]
 mod meeting;
 #[cfg(test)]
@@ -17,6 +21,16 @@ mod readiness;
 #[cfg(test)]
 mod refused;
 #[cfg(test)]
+mod ring_lengths;
+#[cfg(test)]
 mod rings;
 #[cfg(test)]
+mod rows;
+#[cfg(test)]
 mod senders;
+#[cfg(test)]
+mod shaped;
+#[cfg(test)]
+mod traffic;
+#[cfg(test)]
+mod undrained;

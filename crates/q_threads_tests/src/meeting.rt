@@ -1,4 +1,6 @@
 use crate::pair::Pair;
+use crate::rows::{NO_ROW, is_balanced, is_not_lower};
+use q_device::Row;
 use q_ports::{Gate, Gauge};
 use std::sync::atomic::{AtomicU64, Ordering};
 
@@ -47,23 +49,27 @@ impl Meeting {
         )
     }
 
-    /// Reads rows once half of the loads of ports 0 and 1 is placed: how many of them were there, and had no fewer arrivals
-    /// than are to be seen, or than the one before.
+    /// Reads rows once half of the loads of ports 0 and 1 is placed: how many of them were there, balanced, no lower than the one
+    /// before, and of no fewer arrivals than are to be seen.
     pub fn read_often(&self, gauge: Gauge, is_zero: bool) -> u64 {
         let mut gauge = gauge;
         self.wait_for(&self.begun);
         let mut good = 0u64;
-        let mut arrived = self.fewest;
+        let mut before = NO_ROW;
         for _read in 0..READS {
             if let Some(row) = gauge.read() {
-                if row.arrived.packets >= arrived {
-                    arrived = row.arrived.packets;
+                if self.is_good(&before, &row) {
                     good = good.saturating_add(1);
                 }
+                before = row;
             }
         }
         self.read.come(is_zero);
         good
+    }
+
+    fn is_good(&self, before: &Row, row: &Row) -> bool {
+        row.arrived.packets >= self.fewest && is_balanced(row) && is_not_lower(before, row)
     }
 
     fn wait_for(&self, pair: &Pair) {

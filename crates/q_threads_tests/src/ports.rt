@@ -5,7 +5,8 @@ ghost use Rattle.q_ports.specs.Placed.{ring_of_port};
 ghost use Rattle.q_ports.specs.Rings.{ring_id};
 
 use crate::common::{device, hundreds, offer_at, opened, packet};
-use q_device::{Device, Polled};
+use crate::rows::NO_ROW;
+use q_device::{Device, Polled, Row};
 use q_packet::{Moment, Packet};
 use q_ports::{Booked, Drain, Full, Gauge, Port, Turn};
 use std::alloc::Global;
@@ -102,13 +103,22 @@ fn offer_under_lock<P: Ledger, B: Ledger, R: Wait + Abort>(
     assert!(rt; offer_at(ports, at, given).is_ok());
 }
 
-// The gauge reads a row in which so many packets have arrived and were sent.
+// The row of a device at which so many packets have arrived and were sent.
+fn all_sent(packets: u64) -> Row {
+    let (arrived, sent) = (hundreds(packets), hundreds(packets));
+    Row {
+        arrived,
+        sent,
+        ..NO_ROW
+    }
+}
+
+// The gauge reads a row in which so many packets have arrived and were sent, and nothing else is counted.
 fn assert_shows<R: Abort>(rt: &R, gauge: &mut Gauge, packets: u64)
     ensures { gauge.new.book ≡ gauge.old.book }
 {
     let row = gauge.read().expect(rt, "a row");
-    let shown = hundreds(packets);
-    assert_eq!(rt; (row.arrived, row.sent), (shown, shown));
+    assert_eq!(rt; row, all_sent(packets));
 }
 
 // A turn takes and sends the one packet that waits, and the gauge learns of it.

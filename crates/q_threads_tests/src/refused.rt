@@ -1,26 +1,31 @@
 //! Calls that are refused memory, and called again.
 //!
-//! `rt try --test --fail-alloc N` refuses the Nth allocation of the tests. This one passes for every N: what was refused succeeds
+//! `rt try --test --fail-alloc N` refuses the Nth allocation of the tests. These pass for every N: what was refused succeeds
 //! at the second call, and nothing is lost.
-ghost use Rattle.std.specs.Prelude.{◌≡◌, ◌<◌, length, map};
+ghost use Rattle.std.specs.Prelude.{◌≡◌, length, map};
 ghost use Rattle.q_model.specs.Tally.{no_totals};
 ghost use Rattle.q_ports.specs.Held.{held};
 ghost use Rattle.q_ports.specs.Placed.{ring_of_port};
 ghost use Rattle.q_ports.specs.Rings.{ring_id};
 
-use crate::common::{device, hundreds, offer_at, packet};
+use crate::common::{device, fill, hundreds, packet};
+use crate::open_gate::OpenGate;
 use q_device::Device;
 use q_packet::{Moment, Packet};
-use q_ports::{Booked, Drain, Gauge, Port, Seat, Settled, Unsettled, open_ports};
-use std::alloc::Global;
+use q_ports::{Booked, Drain, Gauge, Port, Seat, Settled, Share, Unsettled, drive, open_ports};
+use std::alloc::{AllocError, Global};
 use std::marker::Brand;
 use std::process::Abort;
 use std::sync::ledger::{Blank, Ledger};
 use std::sync::{Mutex, Wait};
 use std::test::Fail;
+use std::thread::Threads;
 
 /// How many packets wait in the ring.
 const PACKETS: u64 = 100;
+
+/// How often a packet is offered.
+const TRIES: u64 = 1_000_000_000;
 
 #[test]
 fn what_was_refused_succeeds_later(rt: HostRuntime) -> Result<(), Fail> {
@@ -32,6 +37,81 @@ fn what_was_refused_succeeds_later(rt: HostRuntime) -> Result<(), Fail> {
     };
     refused::<Brand, Brand, _>(&rt, alloc, device, given, Blank::new(65), Blank::new(65));
     Ok(())
+}
+
+#[test]
+fn a_refused_drive_settles_later(rt: HostRuntime) -> Result<(), Fail> {
+    let alloc = rt.alloc();
+    let given = packet(5).ok_or("a packet")?;
+    let device = match device(alloc, 4) {
+        Some(device) => device,
+        None => device(alloc, 4).ok_or("memory")?,
+    };
+    let loads = match load(alloc, given) {
+        Ok(loads) => loads,
+        Err(_) => load(alloc, given)?,
+    };
+    driven::<Brand, Brand, _>(&rt, alloc, device, loads, Blank::new(65), Blank::new(65));
+    Ok(())
+}
+
+// One load.
+fn load(alloc: Global, given: Packet) -> Result<Vec<Vec<Packet>>, AllocError> {
+    let mut loads = Vec::with_capacity(alloc, 1)?;
+    loads.push(vec![in alloc; given; PACKETS as usize]?)?;
+    Ok(loads)
+}
+
+// Drives one port. Where that is refused, all of the load is placed or, as the sender got no thread, nothing; what was placed is
+// settled.
+fn driven<P: Ledger + Send + Sync, B: Ledger + Send + Sync, R: Threads + Wait + Sync + Abort>(
+    rt: &R,
+    alloc: Global,
+    device: Device,
+    loads: Vec<Vec<Packet>>,
+    packets: Blank,
+    bytes: Blank,
+)
+    requires nothing { device.device.tree.top.arrived ≡ no_totals }
+    requires packets { (packets.name ≡ P.name) × (packets.parts ≡ P.parts) × (P.parts ≡ 65) }
+    requires bytes { (bytes.name ≡ B.name) × (bytes.parts ≡ B.parts) × (B.parts ≡ 65) }
+{
+    assert!(rt; loads.len() == 1);
+    let (booked, seat) = Booked::<P, B>::new(device, packets, bytes);
+    let booked = Mutex::new(booked);
+    let (drain, ports, _gauges) = open_one(rt, alloc, seat);
+    let start = Moment::zero();
+    let share = match drive(
+        rt, alloc, &booked, drain, ports, loads, &OpenGate, start, 1, TRIES,
+    ) {
+        Ok(driven) => {
+            let share = driven.settled.share();
+            assert_eq!(rt; (share, driven.given_up), (hundreds(PACKETS), 0));
+            share
+        }
+        Err(Unsettled { drain, ports }) => settle_placed(rt, &booked, drain, ports),
+    };
+    assert_eq!(rt; booked.lock(rt).totals().arrived, share);
+}
+
+// Settles what a refused drive placed, and answers how much that is.
+fn settle_placed<P: Ledger, B: Ledger, R: Wait + Abort>(
+    rt: &R,
+    booked: &Mutex<Booked<P, B>>,
+    drain: Drain<P, B>,
+    ports: Vec<Port>,
+) -> Share
+    requires parts { (P.parts ≡ 65) × (B.parts ≡ 65) }
+    requires ports { map ring_of_port ports.items ≡ map ring_id drain.rings }
+{
+    let Some(port) = ports.first() else {
+        panic!(rt; "a port");
+    };
+    let placed = port.share();
+    assert!(rt; placed == hundreds(0) || placed == hundreds(PACKETS));
+    let settled = settle(rt, booked, drain, ports);
+    assert_eq!(rt; settled.share(), placed);
+    placed
 }
 
 // Opens a port, fills its ring, takes a turn and settles.
@@ -51,7 +131,7 @@ fn refused<P: Ledger, B: Ledger, R: Wait + Abort>(
     let booked = Mutex::new(booked);
     let (drain, ports, mut gauges) = open_one(rt, alloc, seat);
     let (mut drain, mut ports) = (drain, ports);
-    fill(rt, &mut ports, given);
+    fill(rt, &mut ports, PACKETS, given);
     let Some(gauge) = gauges.get_mut(0) else {
         panic!(rt; "a gauge");
     };
@@ -78,16 +158,6 @@ fn open_one<P: Ledger, B: Ledger, R: Wait + Abort>(
     match open_ports(rt, alloc, seat, 1, 128, 1) {
         Ok(opened) => opened,
         Err(_) => panic!(rt; "refused twice"),
-    }
-}
-
-// Fills the ring of the first port.
-fn fill<R: Abort>(rt: &R, ports: &mut Vec<Port>, given: Packet)
-    requires { 0 < length ports.old.items }
-    ensures { map ring_of_port ports.new.items ≡ map ring_of_port ports.old.items }
-{
-    for _offer in 0..PACKETS {
-        assert!(rt; offer_at(ports, 0, given).is_ok());
     }
 }
 

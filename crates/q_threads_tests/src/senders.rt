@@ -5,14 +5,16 @@ ghost use Rattle.q_model.specs.Tally.{no_totals};
 use crate::common::{device, hundreds, opened, packet};
 use crate::meeting::{Meeting, READS};
 use crate::open_gate::OpenGate;
-use q_device::{Device, Event};
+use crate::rows::{NO_ROW, is_balanced};
+use crate::shaped::{kinds, set_up};
+use q_device::{Device, Event, Row, Totals};
 use q_packet::{Moment, Packet};
-use q_ports::{Gauge, drive};
+use q_ports::{Booked, Gauge, drive};
 use std::alloc::{AllocError, Global};
 use std::marker::Brand;
 use std::process::Abort;
 use std::sync::ledger::{Blank, Ledger};
-use std::sync::{Arc, Wait};
+use std::sync::{Arc, Mutex, Wait};
 use std::test::Fail;
 use std::thread;
 use std::thread::{JoinHandle, Threads};
@@ -28,22 +30,58 @@ fn senders_meet_and_place_all(rt: HostRuntime) -> Result<(), Fail> {
 fn a_packet_is_tried_as_often_as_asked_for(rt: HostRuntime) -> Result<(), Fail> {
     let alloc = rt.alloc();
     let given = packet(5).ok_or("a packet")?;
-    for tries in [0u64, 1] {
+    for (tries, placed) in [(0u64, 0u64), (1, 16)] {
         let loads = loads(alloc, 2, 8, given)?;
         let device = device(alloc, 0).ok_or("memory")?;
         let (packets, bytes) = (Blank::new(65), Blank::new(65));
-        tried::<Brand, Brand, _>(&rt, alloc, device, loads, tries, packets, bytes);
+        tried::<Brand, Brand, _>(
+            &rt,
+            alloc,
+            device,
+            loads,
+            (2, 8),
+            (tries, placed),
+            packets,
+            bytes,
+        );
     }
     Ok(())
 }
 
-// Drives the device with two loads of eight packets, which are all given up, or all placed.
+// Sixty-four senders over rings of one place: half of them have nothing to offer, and end at once.
+#[test]
+fn senders_that_offer_nothing_end_beside_others(rt: HostRuntime) -> Result<(), Fail> {
+    let alloc = rt.alloc();
+    let given = packet(5).ok_or("a packet")?;
+    let mut loads = Vec::new(alloc);
+    for _pair in 0..32 {
+        loads.push(Vec::new(alloc))?;
+        loads.push(vec![in alloc; given; 8]?)?;
+    }
+    let device = device(alloc, 0).ok_or("memory")?;
+    let (packets, bytes) = (Blank::new(65), Blank::new(65));
+    tried::<Brand, Brand, _>(
+        &rt,
+        alloc,
+        device,
+        loads,
+        (64, 1),
+        (TRIES, 32 * 8),
+        packets,
+        bytes,
+    );
+    Ok(())
+}
+
+// Drives the device with a load for each of so many ports, over rings of so many places. Each packet is tried so often, and so
+// many are placed; the others are given up.
 fn tried<P: Ledger + Send + Sync, B: Ledger + Send + Sync, R: Threads + Wait + Sync + Abort>(
     rt: &R,
     alloc: Global,
     device: Device,
     loads: Vec<Vec<Packet>>,
-    tries: u64,
+    counts: (usize, usize),
+    wanted: (u64, u64),
     packets: Blank,
     bytes: Blank,
 )
@@ -51,24 +89,21 @@ fn tried<P: Ledger + Send + Sync, B: Ledger + Send + Sync, R: Threads + Wait + S
     requires packets { (packets.name ≡ P.name) × (packets.parts ≡ P.parts) × (P.parts ≡ 65) }
     requires bytes { (bytes.name ≡ B.name) × (bytes.parts ≡ B.parts) × (B.parts ≡ 65) }
 {
-    assert!(rt; loads.len() == 2);
+    let (tries, placed) = wanted;
+    let all = packets_of(loads.as_slice());
+    assert!(rt; loads.len() == counts.0);
+    let counts = (counts.0, counts.1, 0);
     let (booked, drain, ports, _gauges) = opened::<P, B, R>(
-        rt,
-        alloc,
-        device,
-        (2, 8, 0),
-        packets,
-        bytes,
+        rt, alloc, device, counts, packets, bytes,
     );
     let start = Moment::zero();
     match drive(
         rt, alloc, &booked, drain, ports, loads, &OpenGate, start, STEP, tries,
     ) {
         Ok(driven) => {
-            let (placed, given_up) = if tries == 0 { (0, 16) } else { (16, 0) };
             assert_eq!(rt;
                 (driven.settled.share(), driven.given_up),
-                (hundreds(placed), given_up)
+                (hundreds(placed), all.saturating_sub(placed))
             );
         }
         Err(unsettled) => {
@@ -76,6 +111,15 @@ fn tried<P: Ledger + Send + Sync, B: Ledger + Send + Sync, R: Threads + Wait + S
             panic!(rt; "not settled")
         }
     }
+}
+
+// How many packets all loads have.
+fn packets_of(loads: &[Vec<Packet>]) -> u64 {
+    let mut all = 0u64;
+    for load in loads {
+        all = all.saturating_add(load.len() as u64);
+    }
+    all
 }
 
 // So many senders place so many packets each over rings of so many. Half way so many have arrived at least.
@@ -86,8 +130,11 @@ fn senders_place_all<R: Threads + Wait + Sync + Abort>(
     fewest: u64,
 ) -> Result<(), Fail> {
     let (senders, each, _ring) = counts;
-    let given = packet(5).ok_or("a packet")?;
-    let loads = loads(alloc, senders, each, given)?;
+    let loads = if has_long_rings(counts) {
+        loads(alloc, senders, each, packet(5).ok_or("a packet")?)?
+    } else {
+        mixed_loads(alloc, senders, each, &kinds().ok_or("packets")?)?
+    };
     let gate = Arc::new(alloc, Meeting::new(each as u64, fewest))?;
     let device = device(alloc, 4096).ok_or("memory")?;
     let (packets, bytes) = (Blank::new(65), Blank::new(65));
@@ -95,6 +142,11 @@ fn senders_place_all<R: Threads + Wait + Sync + Abort>(
     let all = all_of(counts);
     assert_eq!(rt; gate.counts(), (0, all, all));
     Ok(())
+}
+
+// Whether a ring has room for a whole load. All packets may be placed then before the second turn.
+fn has_long_rings(counts: (usize, usize, usize)) -> bool {
+    counts.1 <= counts.2
 }
 
 // How many packets all senders have.
@@ -116,6 +168,24 @@ fn loads(
     Ok(loads)
 }
 
+// A load for each sender, of these packets in turn.
+fn mixed_loads(
+    alloc: Global,
+    senders: usize,
+    each: usize,
+    kinds: &[Packet; 3],
+) -> Result<Vec<Vec<Packet>>, AllocError> {
+    let mut loads = Vec::new(alloc);
+    for _sender in 0..senders {
+        let mut load = Vec::with_capacity(alloc, each)?;
+        for nth in 0..each {
+            load.push(kinds[nth % 3])?;
+        }
+        loads.push(load)?;
+    }
+    Ok(loads)
+}
+
 // Drives the device: every packet of the loads is placed and settled, and both gauges read all the while.
 fn driven<P: Ledger + Send + Sync, B: Ledger + Send + Sync, R: Threads + Wait + Sync + Abort>(
     rt: &R,
@@ -132,13 +202,17 @@ fn driven<P: Ledger + Send + Sync, B: Ledger + Send + Sync, R: Threads + Wait + 
     requires bytes { (bytes.name ≡ B.name) × (bytes.parts ≡ B.parts) × (B.parts ≡ 65) }
 {
     let all = hundreds(all_of(counts));
+    let is_shaped = !has_long_rings(counts);
     assert!(rt; loads.len() == counts.0);
     let counts = (counts.0, counts.2, 2);
     let (booked, drain, ports, mut gauges) = opened::<P, B, R>(
         rt, alloc, device, counts, packets, bytes,
     );
-    let zero = read_beside(rt, gate, gauges.pop(), true);
-    let one = read_beside(rt, gate, gauges.pop(), false);
+    if is_shaped {
+        set_up(rt, &booked);
+    }
+    let zero = read_beside(rt, gate, opening(rt, gauges.pop()), true);
+    let one = read_beside(rt, gate, opening(rt, gauges.pop()), false);
     let start = Moment::zero();
     match drive(
         rt, alloc, &booked, drain, ports, loads, &**gate, start, STEP, TRIES,
@@ -150,8 +224,20 @@ fn driven<P: Ledger + Send + Sync, B: Ledger + Send + Sync, R: Threads + Wait + 
         }
     }
     assert_eq!(rt; (zero.join(rt), one.join(rt)), (READS, READS));
+    assert_ended(rt, &booked, all, is_shaped);
+}
+
+// So much has arrived in steps, and the device's row is balanced.
+fn assert_ended<P: Ledger, B: Ledger, R: Wait + Abort>(
+    rt: &R,
+    booked: &Mutex<Booked<P, B>>,
+    all: Totals,
+    is_shaped: bool,
+) {
     let locked = booked.lock(rt);
-    assert_eq!(rt; locked.totals().arrived, all);
+    let row = locked.totals();
+    assert_eq!(rt; (row.arrived, is_balanced(&row)), (all, true));
+    assert!(rt; !is_shaped || is_counted(&row));
     assert!(rt; are_in_steps(locked.recorded()));
 }
 
@@ -161,14 +247,26 @@ const STEP: u64 = 1000;
 /// How often a packet is offered.
 const TRIES: u64 = 1_000_000_000;
 
+// Whether packets were sent, refused, dropped and marked.
+fn is_counted(row: &Row) -> bool {
+    let (sent, refused) = (row.sent.packets, row.refused.packets);
+    sent > 0 && refused > 0 && row.dropped.packets > 0 && row.marked.packets > 0
+}
+
+// A gauge that has read the row with which the drain opened.
+fn opening<R: Abort>(rt: &R, gauge: Option<Gauge>) -> Gauge {
+    let mut gauge = gauge.expect(rt, "a gauge");
+    assert_eq!(rt; gauge.read(), Some(NO_ROW));
+    gauge
+}
+
 // A thread in which a gauge reads.
 fn read_beside<R: Threads + Abort>(
     rt: &R,
     gate: &Arc<Meeting, Global>,
-    gauge: Option<Gauge>,
+    gauge: Gauge,
     is_zero: bool,
 ) -> JoinHandle<u64> {
-    let gauge = gauge.expect(rt, "a gauge");
     let gate = Arc::try_clone(gate).expect(rt, "a count");
     thread::spawn(rt, move || gate.read_often(gauge, is_zero)).expect(rt, "a thread")
 }

@@ -1,0 +1,8 @@
+use Rattle.q_threads_tests.proofs.refused.a_refused_drive_settles_later.Given as goal
+
+-- the two ledgers of each book that is made there
+abbrev pub ghosts-driven-P-Ledger : goal.ghosts-driven-P-Ledger
+ghosts-driven-P-Ledger g a = record { name = a.packets.name; parts = a.packets.parts }
+
+abbrev pub ghosts-driven-B-Ledger : goal.ghosts-driven-B-Ledger
+ghosts-driven-B-Ledger g a = record { name = a.bytes.name; parts = a.bytes.parts }

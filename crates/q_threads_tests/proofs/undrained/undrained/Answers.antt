@@ -1,0 +1,8 @@
+use denote.Param.Send.{sendable}
+use Rattle.std.proofs.Crossing as crossing
+use Rattle.q_threads_tests.proofs.Sharing.{lock_sync}
+use Rattle.q_threads_tests.proofs.undrained.undrained.Goals as goal
+
+-- the senders share the gate, which has the lock
+pub drive-requires-sync-G : goal.drive-requires-sync-G
+drive-requires-sync-G g c κs within = let handle = c.type_bounds.sync-R in search (lock_sync, crossing.crosses, sendable) depth 60 fits 20000

@@ -1,0 +1,116 @@
+//! A drain that ends while senders offer and gauges read.
+ghost use Rattle.std.specs.Prelude.{◌≡◌, ◌≤◌, length};
+ghost use Rattle.q_model.specs.Tally.{no_totals};
+
+use crate::common::{device, opened, packet};
+use crate::traffic::Traffic;
+use q_device::Device;
+use q_packet::{Moment, Packet};
+use q_ports::{Booked, Drain, Gauge, Port};
+use std::alloc::Global;
+use std::marker::Brand;
+use std::process::Abort;
+use std::sync::ledger::{Blank, Ledger};
+use std::sync::{Arc, Mutex, Wait};
+use std::test::Fail;
+use std::thread;
+use std::thread::{JoinHandle, Threads};
+
+/// The places of a ring.
+const PLACES: u64 = 16;
+
+/// How many packets arrive before the drain ends.
+const ARRIVED: u64 = 200;
+
+#[test]
+fn senders_and_gauges_outlive_the_drain(rt: HostRuntime) -> Result<(), Fail> {
+    let alloc = rt.alloc();
+    let given = packet(5).ok_or("a packet")?;
+    let device = device(alloc, 0).ok_or("memory")?;
+    let traffic = Arc::new(alloc, Traffic::new())?;
+    let (packets, bytes) = (Blank::new(65), Blank::new(65));
+    outlived::<Brand, Brand, _>(&rt, alloc, device, &traffic, given, packets, bytes);
+    Ok(())
+}
+
+// Two senders offer and a gauge reads, while the drain takes turns and ends. Each ring is full then, and no other packet is lost.
+// The gauge reads balanced rows, or none.
+fn outlived<P: Ledger, B: Ledger, R: Threads + Wait + Abort>(
+    rt: &R,
+    alloc: Global,
+    device: Device,
+    traffic: &Arc<Traffic, Global>,
+    given: Packet,
+    packets: Blank,
+    bytes: Blank,
+)
+    requires nothing { device.device.tree.top.arrived ≡ no_totals }
+    requires packets { (packets.name ≡ P.name) × (packets.parts ≡ P.parts) × (P.parts ≡ 65) }
+    requires bytes { (bytes.name ≡ B.name) × (bytes.parts ≡ B.parts) × (B.parts ≡ 65) }
+{
+    let (booked, drain, mut ports, mut gauges) = opened::<P, B, R>(
+        rt,
+        alloc,
+        device,
+        (2, PLACES as usize, 1),
+        packets,
+        bytes,
+    );
+    let reading = read_beside(rt, traffic, gauges.pop());
+    let one = offer_beside(rt, traffic, ports.pop(), given);
+    let zero = offer_beside(rt, traffic, ports.pop(), given);
+    let mut drain = drain;
+    take_turns(rt, alloc, &booked, &mut drain, traffic);
+    drain.end(rt);
+    traffic.end();
+    let (zero, one) = (zero.join(rt).share(), one.join(rt).share());
+    let arrived = booked.lock(rt).totals().arrived;
+    assert_eq!(rt;
+        zero.packets.saturating_add(one.packets),
+        arrived.packets.saturating_add(2 * PLACES)
+    );
+    assert_eq!(rt; reading.join(rt), 0);
+}
+
+// Takes turns until enough has arrived, and the gauge has read a row.
+fn take_turns<P: Ledger, B: Ledger, R: Wait + Abort>(
+    rt: &R,
+    alloc: Global,
+    booked: &Mutex<Booked<P, B>>,
+    drain: &mut Drain<P, B>,
+    traffic: &Traffic,
+) {
+    for _turn in 0..10_000_000u64 {
+        let turn = drain.turn(rt, alloc, booked, Moment::zero(), 8);
+        assert!(rt; turn.is_ok());
+        let arrived = booked.lock(rt).totals().arrived.packets;
+        if arrived >= ARRIVED && traffic.read() > 0 {
+            return;
+        }
+        thread::yield_now();
+    }
+    panic!(rt; "too few arrived, or no row was read");
+}
+
+// A thread in which a sender offers.
+fn offer_beside<R: Threads + Abort>(
+    rt: &R,
+    traffic: &Arc<Traffic, Global>,
+    port: Option<Port>,
+    given: Packet,
+) -> JoinHandle<Port> {
+    let port = port.expect(rt, "a port");
+    let traffic = Arc::try_clone(traffic).expect(rt, "a count");
+    thread::spawn(rt, move || traffic.offer_on(port, given)).expect(rt, "a thread")
+}
+
+// A thread in which a gauge reads.
+fn read_beside<R: Threads + Abort>(
+    rt: &R,
+    traffic: &Arc<Traffic, Global>,
+    gauge: Option<Gauge>,
+) -> JoinHandle<u64> {
+    let gauge = gauge.expect(rt, "a gauge");
+    let traffic = Arc::try_clone(traffic).expect(rt, "a count");
+    thread::spawn(rt, move || traffic.read_on(gauge)).expect(rt, "a thread")
+}

@@ -1,0 +1,62 @@
+//! Rings that are filled to their length.
+ghost use Rattle.std.specs.Prelude.{◌≡◌, ◌≤◌, ◌<◌, length, map};
+ghost use Rattle.q_model.specs.Tally.{no_totals};
+ghost use Rattle.q_ports.specs.Placed.{ring_of_port};
+ghost use Rattle.q_ports.specs.Rings.{ring_id};
+
+use crate::common::{device, fill, hundreds, offer_at, opened, packet};
+use q_device::Device;
+use q_packet::{Moment, Packet};
+use q_ports::Full;
+use std::alloc::Global;
+use std::marker::Brand;
+use std::process::Abort;
+use std::sync::Wait;
+use std::sync::ledger::{Blank, Ledger};
+use std::test::Fail;
+
+#[test]
+fn a_ring_has_exactly_its_length(rt: HostRuntime) -> Result<(), Fail> {
+    let alloc = rt.alloc();
+    let given = packet(5).ok_or("a packet")?;
+    for ring in [1usize, 2, 16, 65_536] {
+        let device = device(alloc, 0).ok_or("memory")?;
+        let (packets, bytes) = (Blank::new(65), Blank::new(65));
+        filled::<Brand, Brand, _>(&rt, alloc, device, ring, given, packets, bytes);
+    }
+    Ok(())
+}
+
+// A ring takes as many packets as it has places and gives the next one back. All of them are settled.
+fn filled<P: Ledger, B: Ledger, R: Wait + Abort>(
+    rt: &R,
+    alloc: Global,
+    device: Device,
+    ring: usize,
+    given: Packet,
+    packets: Blank,
+    bytes: Blank,
+)
+    requires nothing { device.device.tree.top.arrived ≡ no_totals }
+    requires packets { (packets.name ≡ P.name) × (packets.parts ≡ P.parts) × (P.parts ≡ 65) }
+    requires bytes { (bytes.name ≡ B.name) × (bytes.parts ≡ B.parts) × (B.parts ≡ 65) }
+{
+    let (booked, drain, ports, _gauges) = opened::<P, B, R>(
+        rt,
+        alloc,
+        device,
+        (1, ring, 0),
+        packets,
+        bytes,
+    );
+    let mut ports = ports;
+    fill(rt, &mut ports, ring as u64, given);
+    assert_eq!(rt; offer_at(&mut ports, 0, given), Err(Full(given)));
+    match drain.settle(rt, &booked, ports, Moment::zero()) {
+        Ok(settled) => assert_eq!(rt; settled.share(), hundreds(ring as u64)),
+        Err(unsettled) => {
+            unsettled.drain.end(rt);
+            panic!(rt; "memory")
+        }
+    }
+}
