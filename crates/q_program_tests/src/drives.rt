@@ -62,6 +62,10 @@ fn loads_that_are_empty_or_longer_than_their_ring(rt: HostRuntime) -> Result<(),
             settings(1, 1000, 1, 1, false)?,
             "settled 1000p 1000b\narrived 1000p 1000b\ngiven up 0\n",
         ),
+        (
+            settings(64, 20, 1, 1, false)?,
+            "settled 1280p 1280b\narrived 1280p 1280b\ngiven up 0\n",
+        ),
         // Packets longer than the mtu arrive and are refused.
         (
             settings(2, 3, 65535, 65536, false)?,

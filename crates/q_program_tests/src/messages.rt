@@ -1,6 +1,6 @@
 //! What the program says on its error output of closed streams and of files.
 use crate::runs::{TWO_OF_THREE, TWO_OF_THREE_REPORT};
-use q_options::{Standard, answer};
+use q_options::{PromptedReader, Standard, answer};
 use q_script::Source;
 use q_show::Target;
 use std::alloc::Global;
@@ -41,7 +41,7 @@ fn words(alloc: Global, line: &str) -> Result<Vec<String>, Fail> {
 }
 
 /// What a command line and a script come to: the status, the output and the error output.
-fn assert_answers<R: Abort + AllocGlobal + Files + Threads + Wait + Sync>(
+pub fn assert_answers<R: Abort + AllocGlobal + Files + Threads + Wait + Sync>(
     rt: &R,
     line: &str,
     script: &[u8],
@@ -134,6 +134,26 @@ fn files_that_cannot_be_read(rt: HostRuntime) -> Result<(), Fail> {
         ),
     ] {
         assert_answers(&rt, line, b"poll", 2, "", told)?;
+    }
+    Ok(())
+}
+
+#[test]
+fn terminal_is_told_before_it_is_read(rt: HostRuntime) -> Result<(), Fail> {
+    let alloc = rt.alloc();
+    for (is_terminal, told) in [
+        (
+            true,
+            "qtree: standard input is a terminal: it is read to its end (control-D) before a line is run\n",
+        ),
+        (false, ""),
+    ] {
+        let mut errors = Vec::new(alloc);
+        let mut reader = PromptedReader::new(TWO_OF_THREE, &mut errors, is_terminal);
+        let mut script = Vec::new(alloc);
+        reader.read_to_end(&mut script)?;
+        assert_eq!(rt; script.as_slice(), TWO_OF_THREE);
+        assert_eq!(rt; errors.as_slice(), told.as_bytes());
     }
     Ok(())
 }

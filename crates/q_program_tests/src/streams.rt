@@ -93,7 +93,7 @@ impl Write for Narrow {
 }
 
 #[test]
-fn readers_that_are_slow_or_fail(rt: HostRuntime) {
+fn readers_that_are_slow(rt: HostRuntime) {
     let alloc = rt.alloc();
     for step in 1..TWO_OF_THREE.len() {
         let mut reader = Slow::new(TWO_OF_THREE, 0, step);
@@ -106,17 +106,27 @@ fn readers_that_are_slow_or_fail(rt: HostRuntime) {
             TWO_OF_THREE_REPORT.as_bytes(),
             "{step} bytes a time"
         );
+    }
+}
 
+// A reader of a byte at a time, each of whose reads fails in turn: from the first to the one that finds the end. There is none
+// behind it.
+#[test]
+fn each_read_fails(rt: HostRuntime) {
+    let alloc = rt.alloc();
+    let last = TWO_OF_THREE.len();
+    for failing in 0..=last + 1 {
         let mut reader = Slow::new(TWO_OF_THREE, 0, 1);
-        reader.failing = Some(step);
+        reader.failing = Some(failing);
         let mut written = Vec::new(alloc);
         let told = run(alloc, &mut reader, &mut written, RunSettings::defaults());
-        assert_eq!(rt;
-            told,
-            Err(RunFault::Read(ErrorKind::ConnectionReset)),
-            "failing at read {step}"
-        );
-        assert!(rt; written.is_empty());
+        let (want, report) = if failing <= last {
+            (Err(RunFault::Read(ErrorKind::ConnectionReset)), "")
+        } else {
+            (Ok(Outcome::Clean), TWO_OF_THREE_REPORT)
+        };
+        assert_eq!(rt; told, want, "failing at read {failing}");
+        assert_eq!(rt; written.as_slice(), report.as_bytes());
     }
 }
 
