@@ -1,4 +1,4 @@
-ghost use Rattle.std.specs.Prelude.{ℕ, ◌≡◌, ◌+◌, ◌-◌, ◌*◌, ◌/◌, ◌%◌, ◌^◌, ◌<◌, ◌≤◌, length, drop, set, replicate, IfOk};
+ghost use Rattle.std.specs.Prelude.{ℕ, ◌≡◌, ◌+◌, ◌-◌, ◌*◌, ◌/◌, ◌%◌, ◌^◌, ◌<◌, ◌≤◌, max, length, drop, set, replicate, IfOk};
 ghost use Rattle.q_fqcodel.specs.Winners.{rank, rank_at, bytes_at, Leads, IsRightBut};
 
 use std::alloc::{AllocError, Global};
@@ -55,8 +55,7 @@ impl Winners {
         ensures { self.new ≡ set self.old flow bytes }
     {
         let leaf = self.ranks.len() / 2 + flow as usize;
-        self.ranks[leaf] = rank_of(flow, bytes);
-        climb(&mut self.ranks, leaf);
+        climb(&mut self.ranks, leaf, rank_of(flow, bytes));
     }
 }
 
@@ -96,27 +95,75 @@ fn play(ranks: &mut Vec<u64>)
     }
 }
 
-// Makes the ranks right again above a node whose own rank was written: each is the greater of the two below it, and where it
-// is no other than before, nothing above changes.
-fn climb(ranks: &mut [u64], from: usize)
+// Writes the rank of a leaf, and makes those above it right again: each is the greater of the two below it. The leaf's rank, before
+// or now, tells at each node whether the climb ends there, so that this does not wait for what is found below.
+fn climb(ranks: &mut [u64], leaf: usize, rank: u64)
+    requires even { length ranks.old ≡ 2 * (length ranks.old / 2) }
+    requires few { length ranks.old ≤ 131072 }
+    requires low { length ranks.old / 2 ≤ leaf }
+    requires high { leaf < length ranks.old }
+    requires each { IsRightBut 0 ranks.old }
+    ensures len { length ranks.new ≡ length ranks.old }
+    ensures leaves { drop (length ranks.old / 2) ranks.new ≡ drop (length ranks.old / 2) (set ranks.old leaf rank) }
+    ensures each { IsRightBut 0 ranks.new }
+{
+    let old = ranks[leaf];
+    ranks[leaf] = rank;
+    if old < rank {
+        raise(ranks, leaf, rank);
+    } else {
+        lower(ranks, leaf, rank, old);
+    }
+}
+
+// Makes the ranks right again above a node whose own rank has grown: it goes up as far as it is the greater. No node beside is
+// read, since none is greater than the one above it.
+fn raise(ranks: &mut [u64], from: usize, rank: u64)
     requires even { length ranks.old ≡ 2 * (length ranks.old / 2) }
     requires few { length ranks.old ≤ 131072 }
     requires within { from < length ranks.old }
+    requires own { rank ≡ rank_at ranks.old from }
     requires others { IsRightBut (from / 2) ranks.old }
+    requires no_less { 1 ≤ from / 2 → rank_at ranks.old (4 * (from / 2) + 1 - from) ≤ rank_at ranks.old (from / 2) }
+    requires no_more { 1 ≤ from / 2 → rank_at ranks.old (from / 2) ≤ max rank (rank_at ranks.old (4 * (from / 2) + 1 - from)) }
+    ensures len { length ranks.new ≡ length ranks.old }
+    ensures leaves { drop (length ranks.old / 2) ranks.new ≡ drop (length ranks.old / 2) ranks.old }
+    ensures each { IsRightBut 0 ranks.new }
+{
+    let mut node = from / 2;
+    while node > 0 {
+        if ranks[node] >= rank {
+            return;
+        }
+        ranks[node] = rank;
+        node /= 2;
+    }
+}
+
+// The same where the rank was `old` and has not grown: where another one stands, it was the greater, and stays.
+fn lower(ranks: &mut [u64], from: usize, rank: u64, old: u64)
+    requires even { length ranks.old ≡ 2 * (length ranks.old / 2) }
+    requires few { length ranks.old ≤ 131072 }
+    requires within { from < length ranks.old }
+    requires own { rank ≡ rank_at ranks.old from }
+    requires others { IsRightBut (from / 2) ranks.old }
+    requires above { 1 ≤ from / 2 → rank_at ranks.old (from / 2) ≡ max old (rank_at ranks.old (4 * (from / 2) + 1 - from)) }
+    requires fallen { rank ≤ old }
     ensures len { length ranks.new ≡ length ranks.old }
     ensures leaves { drop (length ranks.old / 2) ranks.new ≡ drop (length ranks.old / 2) ranks.old }
     ensures each { IsRightBut 0 ranks.new }
 {
     let mut child = from;
-    let mut best = ranks[child];
-    while child > 1 {
-        let node = child / 2;
-        best = best.max(ranks[beside(child)]);
-        if ranks[node] == best {
+    let mut node = from / 2;
+    let mut best = rank;
+    while node > 0 {
+        if ranks[node] != old {
             return;
         }
+        best = best.max(ranks[beside(child)]);
         ranks[node] = best;
         child = node;
+        node /= 2;
     }
 }
 

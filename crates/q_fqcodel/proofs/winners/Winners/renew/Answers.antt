@@ -14,31 +14,34 @@ place c = ap (λ (m : ℕ). m / 2 + c.args.flow) (c.len.ensures ∙ c.self.insid
 pub rank_of-requires-clause-flow : goal.rank_of-requires-clause-flow
 rank_of-requires-clause-flow c = omega (arith, within (goal.at.rank_of-requires-clause-flow c).After-len, c.self.invariant.1)
 
-pub index_mut-requires : goal.index_mut-requires
-index_mut-requires c =
-    let d = (goal.at.index_mut-requires c).After-len in
-    omega (arith, within d, place d, c.self.invariant.0.even, c.self.inside.ranks.ok.0)
+pub climb-requires-clause-low : goal.climb-requires-clause-low
+climb-requires-clause-low c =
+    let d = (goal.at.climb-requires-clause-low c).After-len in
+    omega (arith, place d, ap length c.deref_mut.ensures.value)
 
-pub climb-requires-clause-within : goal.climb-requires-clause-within
-climb-requires-clause-within c =
-    let d = (goal.at.climb-requires-clause-within c).After-len in
-    omega (arith, within d, place d, c.self.invariant.0.even, length-set c.self.inside.ranks.items (c.len.result / 2 + c.args.flow) c.rank_of.result)
+pub climb-requires-clause-high : goal.climb-requires-clause-high
+climb-requires-clause-high c =
+    let d = (goal.at.climb-requires-clause-high c).After-len in
+    omega (arith, within d, place d, c.self.invariant.0.even, ap length c.deref_mut.ensures.value)
 
 -- the ranks with the leaf written, and those after the climb
 abbrev told : After-climb → List ℕ
 told c = set c.self.inside.ranks.items (c.len.result / 2 + c.args.flow) c.rank_of.result
 
 len_is : (c : After-climb) → length c.climb.new.ranks ≡ length (told c)
-len_is c = c.climb.ensures.len ∙ ap length c.deref_mut.ensures.value
+len_is c = c.climb.ensures.len ∙ ap length c.deref_mut.ensures.value ∙ sym (length-set c.self.inside.ranks.items (c.len.result / 2 + c.args.flow) c.rank_of.result)
 
 leaves_are : (c : After-climb) → drop (length (told c) / 2) c.climb.new.ranks ≡ drop (length (told c) / 2) (told c)
-leaves_are c = subst (λ (l : List ℕ). drop (length l / 2) c.climb.new.ranks ≡ drop (length l / 2) l) c.deref_mut.ensures.value c.climb.ensures.leaves
+leaves_are c =
+    subst (λ (n : ℕ). drop (n / 2) c.climb.new.ranks ≡ drop (n / 2) (told c))
+    (sym (length-set c.self.inside.ranks.items (c.len.result / 2 + c.args.flow) c.rank_of.result))
+    (subst (λ (l : List ℕ). drop (length l / 2) c.climb.new.ranks ≡ drop (length l / 2) (set l (c.len.result / 2 + c.args.flow) c.rank_of.result)) c.deref_mut.ensures.value c.climb.ensures.leaves)
 
-all_written : (c : After-climb) → take c.self.inside.ranks.len (c.climb.new.ranks ++ drop (length c.climb.new.ranks) (told c)) ≡ c.climb.new.ranks
+all_written : (c : After-climb) → take c.self.inside.ranks.len (c.climb.new.ranks ++ drop (length c.climb.new.ranks) c.self.inside.ranks.items) ≡ c.climb.new.ranks
 all_written c =
     let xs : List ℕ = c.self.inside.ranks.items in
     let long : length c.climb.new.ranks ≡ c.self.inside.ranks.len = omega (arith, len_is c, length-set xs (c.len.result / 2 + c.args.flow) c.rank_of.result, c.self.inside.ranks.ok.0) in
-    take-append-le c.self.inside.ranks.len c.climb.new.ranks (drop (length c.climb.new.ranks) (told c)) (omega (arith, long))
+    take-append-le c.self.inside.ranks.len c.climb.new.ranks (drop (length c.climb.new.ranks) xs) (omega (arith, long))
     ∙ take_all c.self.inside.ranks.len c.climb.new.ranks (omega (arith, long))
 
 pub invariant_of-self : goal.invariant_of-self
