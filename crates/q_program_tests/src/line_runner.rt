@@ -51,7 +51,7 @@ impl LineRunner {
             return Err(Fail::from("a line with a fault"));
         };
         match line {
-            Line::Tc(command) => return self.command(alloc, command),
+            Line::Tc(command) => return self.command(alloc, &command),
             Line::Pkt(arrival) => self.arrive(alloc, arrival)?,
             Line::At(moment) => self.moment = moment,
             Line::Poll(count) => {
@@ -68,19 +68,24 @@ impl LineRunner {
     }
 
     // Where a command is refused nothing has changed, and where memory was it is done with memory.
-    fn command(&mut self, alloc: Global, command: Command) -> Result<Option<Refusal>, Fail> {
+    fn command(&mut self, alloc: Global, command: &Command) -> Result<Option<Refusal>, Fail> {
         let before = Seen::of(alloc, &self.device)?;
-        let Err(refusal) = self.device.command(command, self.moment) else {
+        let Some(refusal) = self.refusal(command) else {
             return Ok(None);
         };
         self.assert_same(alloc, &before)?;
         if refusal != Refusal::Memory {
             return Ok(Some(refusal));
         }
-        match self.device.command(command, self.moment) {
-            Ok(()) => Ok(None),
-            Err(_) => Err(Fail::from("refused with memory")),
+        match self.refusal(command) {
+            None => Ok(None),
+            Some(_) => Err(Fail::from("refused with memory")),
         }
+    }
+
+    // Does a command; why it is refused, if it is.
+    fn refusal(&mut self, command: &Command) -> Option<Refusal> {
+        self.device.command(*command, self.moment).err()
     }
 
     // Where a packet is refused memory nothing has changed, and it arrives with memory.
