@@ -14,7 +14,7 @@ use std::alloc::{AllocError, Global};
 use std::convert::AsStr;
 
 /// The version of this program, and the kit that it is proved with.
-const VERSION: &str = "0.2.0, proved with rattle-kit-13b";
+const VERSION: &str = "0.2.0, proved with rattle-kit-13f";
 
 const PLAY_END: &str = "Example:
   printf 'tc qdisc add dev eth0 root pfifo limit 2\\npkt 1500\\npoll\\n' | qtree play
@@ -115,7 +115,7 @@ fn until_idle<'a>(alloc: Global) -> Arg<'a>
         .help("Go on until nothing goes any more, once the senders have ended")
 }
 
-/// Whether the qdiscs are shown.
+/// Whether the device and the qdiscs are shown.
 fn show<'a>(alloc: Global) -> Arg<'a>
     ensures rule { rule_of result ≡ flag_rule (codes "show") }
     ensures local { result.global ≡ false }
@@ -123,7 +123,7 @@ fn show<'a>(alloc: Global) -> Arg<'a>
     Arg::new(alloc, "show")
         .long("show")
         .action(ArgAction::SetTrue)
-        .help("Show the qdiscs with their counters at the end")
+        .help("Show the counters of the device and of each qdisc at the end")
 }
 
 /// A command with the options of its senders.

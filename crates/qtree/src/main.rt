@@ -1,5 +1,5 @@
-//! The program `qtree`: `qtree play` reads a script on standard input and writes its report on standard output; `qtree drive` sets up a
-//! device by tc's lines on standard input, drives it from many threads, and writes what came of it.
+//! The program `qtree`: `qtree play` reads a script, of a file or of standard input, and writes its report on standard output; `qtree
+//! drive` sets up a device by tc's lines on standard input, drives it from many threads, and writes what came of it.
 //!
 //! - [`q_options::answer`] does what a command line asks for, and answers the exit status.
 //!   What stands behind it is `run_between` of `q_session`, whose contract is the program's theorem: what was written is the
