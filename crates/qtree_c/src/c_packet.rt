@@ -1,5 +1,5 @@
-ghost use Rattle.std.specs.Prelude.{◌≡◌, ◌+◌, ◌*◌, ◌/◌, ◌%◌, ◌^◌, ◌<◌, ◌↔◌, IfSome, IsSome, IsTrue, true};
-ghost use Rattle.q_packet.specs.Key.{IsKey, address_bits, is_family};
+ghost use Rattle.std.specs.Prelude.{◌≡◌, ◌+◌, ◌*◌, ◌/◌, ◌%◌, ◌^◌, ◌↔◌, IfSome, IsSome};
+ghost use Rattle.q_packet.specs.Key.{IsKey};
 ghost use Rattle.qtree_c.specs.Structs.{descriptor, key_of, packet_of, zero_packet, IsPacket};
 
 use q_packet::{Ecn, FlowKey, Packet};
@@ -27,9 +27,6 @@ pub struct CPacket {
 
 /// 2^64, by which an address is two numbers.
 const HIGH: u128 = 1 << 64;
-
-/// The greatest address of IPv4.
-const WIDEST: u64 = 0xffff_ffff;
 
 impl CPacket {
     /// This packet as C has it.
@@ -78,19 +75,6 @@ impl CPacket {
         }
     }
 
-    /// Whether the family is 0, 4 or 6, and no address is wider than the family has it.
-    fn has_key(&self) -> bool
-        ensures { result ≡ true ↔ (IsTrue (is_family self.now.family)
-            × (self.now.src_high * 2 ^ 64 + self.now.src_low < 2 ^ address_bits self.now.family)
-            × (self.now.dst_high * 2 ^ 64 + self.now.dst_low < 2 ^ address_bits self.now.family)) }
-    {
-        match self.family {
-            4 => is_narrow(self.src_high, self.src_low) && is_narrow(self.dst_high, self.dst_low),
-            0 | 6 => true,
-            _ => false,
-        }
-    }
-
     /// Its flow key; `None` where the family is not 0, 4 or 6, or an address is wider than the family has it.
     pub fn key(&self) -> Option<FlowKey>
         ensures in_range { IsSome result ↔ IsKey (key_of self.now) }
@@ -106,27 +90,23 @@ impl CPacket {
         ensures in_range { IsSome result ↔ IsPacket self.now }
         ensures value { IfSome result (λ p. p ≡ descriptor self.now) }
     {
-        if !self.has_key() || self.len == 0 || self.prio > 15 || self.ecn > 3 {
+        let Some(key) = self.key() else {
+            return None;
+        };
+        if self.ecn > 3 {
             return None;
         }
-        // Few fields are tested before any is copied: the others need not wait in registers.
-        Some(Packet {
-            key: FlowKey {
-                src: address(self.src_high, self.src_low),
-                dst: address(self.dst_high, self.dst_low),
-                sport: self.sport,
-                dport: self.dport,
-                proto: self.proto,
-                family: self.family,
-            },
-            number: self.number,
-            port: self.port,
-            buf: self.buf,
-            hash: self.hash,
-            len: self.len,
-            prio: self.prio,
-            ecn: Ecn::from_bits(self.ecn),
-        })
+        let ecn = Ecn::from_bits(self.ecn);
+        Packet::new(
+            self.port,
+            self.number,
+            self.buf,
+            self.len,
+            key,
+            self.hash,
+            self.prio,
+            ecn,
+        )
     }
 }
 
@@ -135,13 +115,6 @@ fn address(high: u64, low: u64) -> u128
     ensures { result ≡ high * 2 ^ 64 + low }
 {
     high as u128 * HIGH + low as u128
-}
-
-/// Whether the address of these two halves is one of IPv4.
-fn is_narrow(high: u64, low: u64) -> bool
-    ensures { result ≡ true ↔ (high * 2 ^ 64 + low < 2 ^ 32) }
-{
-    high == 0 && low <= WIDEST
 }
 
 /// The high half of an address.
