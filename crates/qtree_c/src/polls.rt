@@ -104,8 +104,9 @@ fn poll_many(device: &mut Device, packets: &mut [CPacket], now: Moment) -> (usiz
     ensures polls { IsPolls now result.1 result.0 packets.old packets.new device.old device.new }
     ensures codes { result.1 ≤ 31 }
 {
+    let mut given = SOME_PACKET;
     for i in 0..packets.len() {
-        match next(device, now) {
+        match next(device, now, &mut given) {
             Ok(packet) => packets[i] = packet,
             Err(code) => return (i, code),
         }
@@ -113,22 +114,21 @@ fn poll_many(device: &mut Device, packets: &mut [CPacket], now: Moment) -> (usiz
     (packets.len(), DONE)
 }
 
-/// The packet that a poll gives.
+/// The packet that a poll gives, by way of a place that the caller has.
 ///
 /// # Errors
 ///
 /// What the poll is answered where it gives none.
 #[inline(always)]
-fn next(device: &mut Device, now: Moment) -> Result<CPacket, u32>
+fn next(device: &mut Device, now: Moment, place: &mut Packet) -> Result<CPacket, u32>
     ensures event { device.new ≡ with_memory device.new.memory (after_event (event.Poll now) device.old) }
     ensures given { IfOk result (λ packet. given_at now device.old ≡ Some packet) }
     ensures none { OnErr result (given_at now device.old ≡ None) }
     ensures answer { IfErr result (λ code. code ≡ reply_number (reply_to (event.Poll now) device.old)) }
     ensures codes { IfErr result (λ code. code ≤ 31) }
 {
-    let mut given = SOME_PACKET;
-    match steps::poll(device, now, &mut given) {
-        Given::Packet => Ok(CPacket::of(&given)),
+    match steps::poll(device, now, place) {
+        Given::Packet => Ok(CPacket::of(place)),
         Given::Idle => Err(IDLE),
         Given::Later => Err(LATER),
     }
