@@ -1,4 +1,6 @@
-use q_device::{Device, Moment, NodeView, Row, Totals};
+use q_device::Device;
+use q_model::{NodeView, Row, Totals};
+use q_packet::Moment;
 use q_session::{show_classes, show_filters, show_qdiscs};
 use std::alloc::Global;
 use std::test::Fail;
