@@ -2,7 +2,7 @@
 use Rattle.std.proofs.Common.{◌≡◌, ℕ, ◌+◌, ◌≤◌, List, [], ◌∷◌, ◌++◌, length, map, refl, sym, ap, ap₂, Option, Some, None, option_to_list, Result, Ok, Err, arith, ◌∙◌}
 use Rattle.std.proofs.lemmas.List.{append-nil}
 use Rattle.std.proofs.lemmas.List.Elements.{filter_map-append}
-use Rattle.std.specs.Prelude.{◌^◌, max}
+use Rattle.std.specs.Prelude.{◌^◌, max, if◌then◌else◌, is_some}
 use Rattle.std.specs.List.{filter_map}
 use Rattle.q_packet.specs.Descriptor.{Descriptor}
 use Rattle.q_packet.specs.declared.cause.Cause.TheVariants.{Purged}
@@ -11,7 +11,7 @@ use Rattle.q_model.specs.declared.event.Event.{Event}
 use Rattle.q_model.specs.declared.event.Event.TheVariants as event
 use Rattle.q_model.specs.declared.refusal.Refusal.{Refusal}
 use Rattle.q_model.specs.declared.totals.Totals.{Totals}
-use Rattle.q_model.specs.Conserved.{arrival_in}
+use Rattle.q_model.specs.Conserved.{arrival_in, sent_in}
 use Rattle.q_model.specs.Edit.{Edit, lost_by, packets_removed}
 use Rattle.q_model.specs.Events.{IsEvent}
 use Rattle.q_model.specs.Node.{shape}
@@ -22,9 +22,9 @@ use Rattle.q_model.specs.TreeState.{plan, put_work, asked}
 use Rattle.q_invariants.proofs.Answer.{one}
 use Rattle.q_invariants.proofs.Counted.{bytes, all-more, lost-parts}
 use Rattle.q_invariants.proofs.Replays.{not-before, not-after}
-use Rattle.q_invariants.proofs.Shuffled.{weigh-arrivals}
-use Rattle.q_invariants.proofs.Weights.{weigh, weigh-nil, arrived, lost, lost-nil, lost-cons}
-use Rattle.q_device.specs.Counters.{IsNotBelow, HasNotFallen, arrived_after}
+use Rattle.q_invariants.proofs.Shuffled.{weigh-arrivals, weigh-sent}
+use Rattle.q_invariants.proofs.Weights.{weigh, weigh-nil, arrived, lost, lost-nil, lost-cons, sent, sent-nil, sent-cons, sent-append}
+use Rattle.q_device.specs.Counters.{IsNotBelow, HasNotFallen, arrived_after, sent_by}
 use Rattle.q_device.proofs.ToldLemmas.{AreLosses, losses-are, on-are}
 
 -- no counter falls, whatever is noted
@@ -88,6 +88,24 @@ none-arrived c notes none =
     let nothing : (w : Descriptor → ℕ) → arrived w notes ≡ 0 = λ w. sym (weigh-arrivals w notes) ∙ ap (weigh w) none ∙ weigh-nil w in
     ap₂ (λ packets more. record { packets = packets; bytes = more }) (omega (arith, m.arrived_packets, nothing one)) (omega (arith, m.arrived_bytes, nothing bytes))
 
+-- where none of them was sent
+none-sent : (c : Counts) (notes : List Note) → filter_map sent_in notes ≡ [] → (noted totals c notes).sent.packets ≡ c.sent.packets
+none-sent c notes none =
+    let m = all-more c notes in
+    let nothing : sent one notes ≡ 0 = sym (weigh-sent one notes) ∙ ap (weigh one) none ∙ weigh-nil one in
+    omega (arith, m.sent_packets, nothing)
+
+-- and one is sent after them, or none
+one-sent : (c : Counts) (rises : List Note) (o : Option Descriptor) → filter_map sent_in rises ≡ [] → (noted totals c (rises ++ map Sent (option_to_list o))).sent.packets ≡ c.sent.packets + (if is_some o then 1 else 0)
+one-sent c rises o none =
+    let m = all-more c (rises ++ map Sent (option_to_list o)) in
+    let nothing : sent one rises ≡ 0 = sym (weigh-sent one rises) ∙ ap (weigh one) none ∙ weigh-nil one in
+    omega (arith, m.sent_packets, sent-append one rises (map Sent (option_to_list o)), nothing, last o)
+  where
+    last : (x : Option Descriptor) → sent one (map Sent (option_to_list x)) ≡ (if is_some x then 1 else 0)
+    last None = sent-nil one
+    last (Some p) = omega (arith, sent-cons one (Sent p) [], sent-nil one)
+
 -- ---- what a step adds
 
 -- what was sent is no loss and no arrival
@@ -131,3 +149,19 @@ step-arrived d (event.Command c moment) quiet low range = by (plan d.tree.device
     by : (answer : Result Edit Refusal) → (answered totals answer (max d.clock moment) d).device.tree.top.arrived ≡ d.tree.top.arrived
     by (Ok edit) = none-arrived d.tree.top (lost_by edit (shape d.tree.root)) (losses-are Purged (packets_removed edit (shape d.tree.root))).none_arrived
     by (Err refusal) = refl
+
+pub step-sent : (d : DeviceState Counts) (e : Event) → ((now : ℕ) → d.clock ≤ now → now ≤ 2 ^ 62 → AreLosses (asked now d.tree).rises) → d.clock ≤ 2 ^ 62 → IsEvent e
+    → (step totals d e).device.tree.top.sent.packets ≡ d.tree.top.sent.packets + sent_by e d
+step-sent d (event.Arrive p moment) quiet low range =
+    let now : ℕ = max d.clock moment in
+    let rises = (put_work now p d.tree.device (shape d.tree.root)).rises in
+    omega (arith, none-sent (counted d.tree.top (Arrived p)) rises (on-are now p (device_route p d.tree.device.mtu (shape d.tree.root)) (shape d.tree.root)).none_sent)
+step-sent d (event.Poll moment) quiet low range =
+    let now : ℕ = max d.clock moment in
+    let a = asked now d.tree in
+    one-sent d.tree.top a.rises a.shown (quiet now (not-before d.clock moment) (not-after d.clock moment (2 ^ 62) low range)).none_sent
+step-sent d (event.Command c moment) quiet low range = by (plan d.tree.device (max d.clock moment) c (shape d.tree.root))
+  where
+    by : (answer : Result Edit Refusal) → (answered totals answer (max d.clock moment) d).device.tree.top.sent.packets ≡ d.tree.top.sent.packets + 0
+    by (Ok edit) = omega (arith, none-sent d.tree.top (lost_by edit (shape d.tree.root)) (losses-are Purged (packets_removed edit (shape d.tree.root))).none_sent)
+    by (Err refusal) = omega arith

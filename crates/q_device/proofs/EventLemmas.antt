@@ -1,6 +1,6 @@
 -- What an event makes of the fields of a device.
 use Rattle.std.proofs.Common.{◌≡◌, ◌∙◌, ℕ, ◌+◌, ◌++◌, length, max, min, List, [], Result, Ok, Err, refl, sym, ap, ap₂, subst}
-use Rattle.std.specs.Prelude.{vec_capacity}
+use Rattle.std.specs.Prelude.{Bool, Option, if◌then◌else◌, is_some, vec_capacity}
 use Rattle.q_codel.specs.declared.loss.Loss.{Loss}
 use Rattle.q_packet.specs.Descriptor.{Descriptor}
 use Rattle.q_model.specs.Beneath.{beneath, beneath_own}
@@ -15,7 +15,7 @@ use Rattle.q_model.specs.Edit.{Edit, lost_by}
 use Rattle.q_model.specs.Node.{Shape, shape}
 use Rattle.q_model.specs.Step.{DeviceState, Step, answered, losses_in, step}
 use Rattle.q_model.specs.Tally.{Counts, totals}
-use Rattle.q_model.specs.TreeState.{TreeState, noted_by_put, noted_by_take, plan, put, take_packet}
+use Rattle.q_model.specs.TreeState.{TreeState, given, noted_by_put, noted_by_take, plan, put, take_packet}
 use Rattle.q_model.proofs.ShrinkLemmas.{each-each_memory, shape-with_memory}
 use Rattle.q_tree.specs.Kept.{Kept, kept}
 use Rattle.q_tree.specs.Commanding.{MayTakeMemory, WantsMemory}
@@ -26,8 +26,9 @@ use Rattle.q_tree.proofs.TreeLemmas.{stands}
 use Rattle.q_device.specs.declared.device.Device.TheInside.{Inside}
 use Rattle.q_device.specs.Counters.{HasNotFallen}
 use Rattle.q_device.specs.DeviceSeen.{DeviceSeen, IsRefusal, as_counted, most_events, with_event, with_recorded}
-use Rattle.q_device.specs.Keeping.{device_seen, numbers_at}
+use Rattle.q_device.specs.Keeping.{device_seen, events_of, numbers_at, others_after}
 use Rattle.q_device.proofs.CountLemmas.{step-rises}
+use Rattle.q_device.proofs.ReadyNumbers.{given-numbers}
 use Rattle.q_device.proofs.StepStands.{Stands, step-stands}
 
 -- what waits in a tree, by its numbers
@@ -62,7 +63,7 @@ pub record Happened (a : Inside) (e : Event) (b : Inside) : Type 0 where
   pub handed_out : b.handed_out ≡ a.handed_out
   pub recorded : b.recorded.items ≡ with_recorded a.settings.recorder (as_counted (numbers_at a.clock a.tree) e) a.recorded.items
   pub capacity : vec_capacity b.recorded ≡ vec_capacity a.recorded
-  pub events : b.events ≡ min (a.events + 1) most_events
+  pub events : events_of b ≡ min (events_of a + 1) most_events
 
 module _ (a : Inside) (e : Event) (b : Inside) (h : Happened a e b) where
   pub event-seen : device_seen b ≡ record (with_event e (device_seen a)) { memory = (device_seen b).memory }
@@ -72,16 +73,26 @@ module _ (a : Inside) (e : Event) (b : Inside) (h : Happened a e b) where
   event-rises = subst (λ (d : DeviceSeen). HasNotFallen (device_seen a).device.tree.top d.device.tree.top) (sym event-seen) (step-rises (numbers_at a.clock a.tree) e)
 
 -- a poll, at the moment at which it counts
+pub polled-device : (a b : Inside) (now at : ℕ) → at ≡ max a.clock now → b.clock ≡ at → b.tree ≡ record { clock = at; tree = take_packet kept at a.tree.tree } → numbers_at b.clock b.tree ≡ (step totals (numbers_at a.clock a.tree) (event.Poll now)).device
+polled-device a b now at is clock tree =
+    ap₂ numbers_at clock tree ∙ ap (λ t. numbers (record { clock = t; tree = take_packet kept t a.tree.tree })) is ∙ numbers-step (numbers_at a.clock a.tree) (record a.tree { clock = a.clock }) refl (event.Poll now)
+
+-- it is counted by itself where it sends none
+pub polled-others : (a : Inside) (now at others : ℕ) (sent : Bool) → at ≡ max a.clock now → sent ≡ is_some (given at a.tree.tree) → others ≡ (if sent then a.others else min (a.others + 1) most_events) → others ≡ others_after (event.Poll now) (numbers_at a.clock a.tree) a.others
+polled-others a now at others sent is sends counted =
+    counted
+    ∙ ap (λ b. if b then a.others else min (a.others + 1) most_events) (sends ∙ ap (λ t. is_some (given t a.tree.tree)) is ∙ ap (λ (o : Option Descriptor). is_some o) (sym (given-numbers (max a.clock now) a.tree.tree)))
+
 pub polled : (a b : Inside) (now at : ℕ) → at ≡ max a.clock now → b.settings ≡ a.settings → b.clock ≡ at → b.tree ≡ record { clock = at; tree = take_packet kept at a.tree.tree }
     → b.losses.waiting ≡ a.losses.waiting ++ losses_in (noted_by_take at a.tree.tree) → b.handed_out ≡ a.handed_out → b.recorded.items ≡ with_recorded a.settings.recorder (event.Poll at) a.recorded.items
-    → vec_capacity b.recorded ≡ vec_capacity a.recorded → b.events ≡ min (a.events + 1) most_events → Happened a (event.Poll now) b
+    → vec_capacity b.recorded ≡ vec_capacity a.recorded → events_of b ≡ min (events_of a + 1) most_events → Happened a (event.Poll now) b
 polled a b now at is settings clock tree waiting handed_out recorded capacity events =
     let d = numbers_at a.clock a.tree in
     let x : DeviceState Kept = record a.tree { clock = a.clock } in
     let e = event.Poll now in
     record {
       settings = settings;
-      device = ap₂ numbers_at clock tree ∙ ap (λ t. numbers (record { clock = t; tree = take_packet kept t a.tree.tree })) is ∙ numbers-step d x refl e;
+      device = polled-device a b now at is clock tree;
       waiting = waiting ∙ ap (λ t. a.losses.waiting ++ losses_in (noted_by_take t a.tree.tree)) is ∙ ap (λ (ls : List Loss). a.losses.waiting ++ ls) (losses-step d x refl e);
       handed_out = handed_out;
       recorded = recorded ∙ ap (λ t. with_recorded a.settings.recorder (event.Poll t) a.recorded.items) is;
@@ -93,15 +104,18 @@ abbrev at_clock : ℕ → TreeState Counts → DeviceState Counts
 at_clock clock tree = record { clock = clock; tree = tree }
 
 -- an arrival, by what it made of the numbers of the tree
+pub arrived-device : (a b : Inside) (p : Descriptor) (now at : ℕ) → at ≡ max a.clock now → b.clock ≡ at → numbers b.tree ≡ record { clock = at; tree = put totals at p (tree_numbers a.tree.tree) } → numbers_at b.clock b.tree ≡ (step totals (numbers_at a.clock a.tree) (event.Arrive p now)).device
+arrived-device a b p now at is clock tree = ap₂ at_clock clock (ap (λ (d : DeviceState Counts). d.tree) tree) ∙ ap (λ t. at_clock t (put totals t p (tree_numbers a.tree.tree))) is
+
 pub arrived : (a b : Inside) (p : Descriptor) (now at : ℕ) → at ≡ max a.clock now → b.settings ≡ a.settings → b.clock ≡ at → numbers b.tree ≡ record { clock = at; tree = put totals at p (tree_numbers a.tree.tree) }
     → b.losses.waiting ≡ a.losses.waiting ++ losses_in (noted_by_put at p a.tree.tree) → b.handed_out ≡ a.handed_out → b.recorded.items ≡ with_recorded a.settings.recorder (event.Arrive p at) a.recorded.items
-    → vec_capacity b.recorded ≡ vec_capacity a.recorded → b.events ≡ min (a.events + 1) most_events → Happened a (event.Arrive p now) b
+    → vec_capacity b.recorded ≡ vec_capacity a.recorded → events_of b ≡ min (events_of a + 1) most_events → Happened a (event.Arrive p now) b
 arrived a b p now at is settings clock tree waiting handed_out recorded capacity events =
     let x : DeviceState Kept = record a.tree { clock = a.clock } in
     let e = event.Arrive p now in
     record {
       settings = settings;
-      device = ap₂ at_clock clock (ap (λ (d : DeviceState Counts). d.tree) tree) ∙ ap (λ t. at_clock t (put totals t p (tree_numbers a.tree.tree))) is;
+      device = arrived-device a b p now at is clock tree;
       waiting = waiting ∙ ap (λ t. a.losses.waiting ++ losses_in (noted_by_put t p a.tree.tree)) is ∙ ap (λ (ls : List Loss). a.losses.waiting ++ ls) (losses-step (numbers_at a.clock a.tree) x refl e);
       handed_out = handed_out;
       recorded = recorded ∙ ap (λ t. with_recorded a.settings.recorder (event.Arrive p t) a.recorded.items) is;
@@ -179,12 +193,15 @@ pub told-nothing : (p : Result Edit Refusal) (root : Shape) (refusal : Refusal) 
 told-nothing (Ok edit) root refusal = refl
 told-nothing (Err first) root refusal = refl
 
+pub commanded-device : (a b : Inside) (c : Command) (now at : ℕ) → at ≡ max a.clock now → b.clock ≡ at → IsDone at (plan_of c at a.tree) a.tree b.tree → numbers_at b.clock b.tree ≡ (step totals (numbers_at a.clock a.tree) (event.Command c now)).device
+commanded-device a b c now at is clock done_is = ap (λ t. numbers_at t b.tree) clock ∙ done-device a.tree a.clock now at is c b.tree done_is
+
 pub commanded : (a b : Inside) (c : Command) (now at : ℕ) → at ≡ max a.clock now → b.settings ≡ a.settings → b.clock ≡ at → IsDone at (plan_of c at a.tree) a.tree b.tree
     → b.losses.waiting ≡ a.losses.waiting ++ told (plan_of c at a.tree) (shape a.tree.tree.root) (Ok tt) → b.handed_out ≡ a.handed_out → b.recorded.items ≡ with_recorded a.settings.recorder (event.Command c at) a.recorded.items
-    → vec_capacity b.recorded ≡ vec_capacity a.recorded → b.events ≡ min (a.events + 1) most_events → Happened a (event.Command c now) b
+    → vec_capacity b.recorded ≡ vec_capacity a.recorded → events_of b ≡ min (events_of a + 1) most_events → Happened a (event.Command c now) b
 commanded a b c now at is settings clock done_is waiting handed_out recorded capacity events = record {
   settings = settings;
-  device = ap (λ t. numbers_at t b.tree) clock ∙ done-device a.tree a.clock now at is c b.tree done_is;
+  device = commanded-device a b c now at is clock done_is;
   waiting = waiting ∙ ap (λ (ls : List Loss). a.losses.waiting ++ ls) (done-losses a.tree a.clock now at is c b.tree done_is);
   handed_out = handed_out;
   recorded = recorded ∙ ap (λ t. with_recorded a.settings.recorder (event.Command c t) a.recorded.items) is;

@@ -1,6 +1,6 @@
 -- A device of the code keeps its invariant, whatever happens to it.
 use Rattle.std.proofs.Common.{◌≡◌, ℕ, ◌+◌, ◌<◌, ◌≤◌, ◌^◌, List, [], ◌∷◌, ◌++◌, length, take, drop, refl, sym, ap, subst, Some, None, arith, ◌∙◌}
-use Rattle.std.specs.Prelude.{Option, slice_get, vec_capacity}
+use Rattle.std.specs.Prelude.{Bool, true, false, Option, if◌then◌else◌, is_some, min, slice_get, vec_capacity}
 use Rattle.std.proofs.lemmas.List.{length-append, length-drop}
 use Rattle.std.proofs.lemmas.List.Elements.{All-nil, All-cons, All-append}
 use Rattle.q_codel.specs.Losses.{LossList}
@@ -14,22 +14,23 @@ use Rattle.q_model.specs.Events.{IsEvent}
 use Rattle.q_model.specs.Lawful.{IsLawfulTree}
 use Rattle.q_model.specs.Route.{Route, device_route}
 use Rattle.q_model.specs.Settings.{DeviceSettings, IsInRange}
-use Rattle.q_model.specs.Step.{DeviceState, new_device, step}
+use Rattle.q_model.specs.Step.{DeviceState, counts_at, new_device, step}
 use Rattle.q_model.specs.Tally.{Counts, totals}
+use Rattle.q_model.specs.TreeState.{given}
 use Rattle.q_invariants.proofs.Replays.{not-after}
 use Rattle.q_tree.specs.Kept.{Kept}
 use Rattle.q_tree.specs.RouteSeen.{RouteSeen, route_seen}
 use Rattle.q_tree.specs.TreeSeen.{CanArrive, numbers}
 use Rattle.q_device.specs.declared.device.Device.TheInside.{Inside}
-use Rattle.q_device.specs.Counters.{arrived_after}
-use Rattle.q_device.specs.DeviceSeen.{DeviceSeen, HasRoomFor, opened, as_counted, reaped, with_event}
-use Rattle.q_device.specs.Keeping.{device_seen, numbers_at, IsKeptDevice}
+use Rattle.q_device.specs.Counters.{arrived_after, sent_by}
+use Rattle.q_device.specs.DeviceSeen.{DeviceSeen, HasRoomFor, opened, as_counted, most_events, reaped, with_event}
+use Rattle.q_device.specs.Keeping.{device_seen, events_of, numbers_at, others_after, IsKeptDevice}
 use Rattle.q_device.specs.Replayed.{IsReplayOf}
 use Rattle.q_device.proofs.EventLemmas.{waits-numbers, waits-same, same-at, Happened, event-seen}
-use Rattle.q_device.proofs.LawfulLemmas.{losses-told, seen-lawful, seen-arrived, queued-after}
+use Rattle.q_device.proofs.LawfulLemmas.{losses-told, seen-lawful, seen-arrived, seen-sent, queued-after}
 use Rattle.q_device.proofs.ReplayedLemmas.{opened-replay, replay-with, replay-more, replay-reaped}
 
-opened-seen : (a : Inside) → numbers_at a.clock a.tree ≡ new_device totals a.settings → a.losses.waiting ≡ [] → a.handed_out ≡ 0 → a.recorded.items ≡ [] → a.events ≡ 0 → device_seen a ≡ opened a.settings (device_seen a).memory
+opened-seen : (a : Inside) → numbers_at a.clock a.tree ≡ new_device totals a.settings → a.losses.waiting ≡ [] → a.handed_out ≡ 0 → a.recorded.items ≡ [] → events_of a ≡ 0 → device_seen a ≡ opened a.settings (device_seen a).memory
 opened-seen a device waiting handed_out recorded events = λ i. record {
   settings = a.settings;
   device = device i;
@@ -40,9 +41,12 @@ opened-seen a device waiting handed_out recorded events = λ i. record {
   memory = (device_seen a).memory;
 }
 
-pub new-kept : (a : Inside) → IsInRange a.settings → numbers_at a.clock a.tree ≡ new_device totals a.settings → a.losses.waiting ≡ [] → a.handed_out ≡ 0 → a.recorded.items ≡ [] → a.events ≡ 0
+none-yet : (a : Inside) → numbers_at a.clock a.tree ≡ new_device totals a.settings → a.others ≡ 0 → events_of a ≡ 0
+none-yet a device others = omega (arith, ap (λ (d : DeviceState Counts). d.tree.top.arrived.packets) device, ap (λ (d : DeviceState Counts). d.tree.top.sent.packets) device, others)
+
+pub new-kept : (a : Inside) → IsInRange a.settings → numbers_at a.clock a.tree ≡ new_device totals a.settings → a.losses.waiting ≡ [] → a.handed_out ≡ 0 → a.recorded.items ≡ [] → a.spare ≡ 0 → a.others ≡ 0
     → a.tree.clock ≤ a.clock → a.settings.recorder ≤ vec_capacity a.recorded → IsKeptDevice a
-new-kept a range device waiting handed_out recorded events clock recorder = let is = opened-seen a device waiting handed_out recorded events in record {
+new-kept a range device waiting handed_out recorded spare others clock recorder = let is = opened-seen a device waiting handed_out recorded (none-yet a device others) in record {
   happened = [];
   events = All-nil IsEvent;
   settings = range;
@@ -50,7 +54,7 @@ new-kept a range device waiting handed_out recorded events clock recorder = let 
   clock = clock;
   room =
       let empty : beneath a.tree.tree.root ≡ [] = sym (waits-numbers a.tree) ∙ ap (λ (d : DeviceSeen). beneath d.device.tree.root) is in
-      omega (arith, ap (λ (ps : List Descriptor). length ps) empty, ap (λ (d : DeviceSeen). length d.waiting) is);
+      omega (arith, ap (λ (ps : List Descriptor). length ps) empty, ap (λ (d : DeviceSeen). length d.waiting) is, spare);
   recorder = recorder;
   arrivals = omega (arith, ap (λ (d : DeviceSeen). d.device.tree.top.arrived.packets) is);
 }
@@ -82,9 +86,29 @@ module _ (a : Inside) (k : IsKeptDevice a) where
   pub kept-arrived : (e : Event) → IsEvent e → (step totals (device_seen a).device e).device.tree.top.arrived ≡ arrived_after e (device_seen a).device.tree.top.arrived
   kept-arrived e is = seen-arrived k.happened (device_seen a) k.replayed k.settings k.events e is
 
+  pub kept-sent : (e : Event) → IsEvent e → (step totals (device_seen a).device e).device.tree.top.sent.packets ≡ (device_seen a).device.tree.top.sent.packets + sent_by e (device_seen a).device
+  kept-sent e is = seen-sent k.happened (device_seen a) k.replayed k.settings k.events e is
+
+  -- one event more is counted
+  pub events-after : (e : Event) (b : Inside) → IsEvent e → numbers_at b.clock b.tree ≡ (step totals (numbers_at a.clock a.tree) e).device → b.others ≡ others_after e (numbers_at a.clock a.tree) a.others → events_of b ≡ min (events_of a + 1) most_events
+  events-after e b is device others =
+      let arrived : b.tree.tree.top.counts.arrived.packets ≡ (arrived_after e a.tree.tree.top.counts.arrived).packets = ap (λ (x : DeviceState Counts). x.tree.top.arrived.packets) device ∙ ap (λ (t : Totals). t.packets) (kept-arrived e is) in
+      let sent : b.tree.tree.top.counts.sent.packets ≡ a.tree.tree.top.counts.sent.packets + sent_by e (numbers_at a.clock a.tree) = ap (λ (x : DeviceState Counts). x.tree.top.sent.packets) device ∙ kept-sent e is in
+      (λ i. min (arrived i + sent i + others i) most_events) ∙ one-more e a.tree.tree.top.counts.arrived a.tree.tree.top.counts.sent.packets a.others
+    where
+      given-more : (b : Bool) (t s n : ℕ) → min (t + (s + (if b then 1 else 0)) + (if b then n else min (n + 1) most_events)) most_events ≡ min (min (t + s + n) most_events + 1) most_events
+      given-more true t s n = omega arith
+      given-more false t s n = omega arith
+
+      one-more : (e : Event) (t : Totals) (s n : ℕ)
+          → min ((arrived_after e t).packets + (s + sent_by e (numbers_at a.clock a.tree)) + others_after e (numbers_at a.clock a.tree) n) most_events ≡ min (min (t.packets + s + n) most_events + 1) most_events
+      one-more (event.Arrive p moment) t s n = omega arith
+      one-more (event.Poll moment) t s n = given-more (is_some (given (counts_at moment (numbers_at a.clock a.tree)) (numbers_at a.clock a.tree).tree)) t.packets s n
+      one-more (event.Command c moment) t s n = omega arith
+
   -- after an event, for whose losses there was room
   pub event-kept : (e : Event) (b : Inside) → Happened a e b → IsEvent e → b.tree.clock ≤ b.clock → (arrived_after e a.tree.tree.top.counts.arrived).packets < 2 ^ 64
-      → length (beneath a.tree.tree.root) + (arrived_after e a.tree.tree.top.counts.arrived).packets + length a.losses.waiting ≤ b.losses.places + a.tree.tree.top.counts.arrived.packets
+      → length (beneath a.tree.tree.root) + (arrived_after e a.tree.tree.top.counts.arrived).packets + length a.losses.waiting + b.spare ≤ b.losses.places + a.tree.tree.top.counts.arrived.packets
       → IsKeptDevice b
   event-kept e b happened is clock fits room =
       let seen = event-seen a e b happened in
@@ -143,15 +167,16 @@ module _ (a : Inside) (k : IsKeptDevice a) where
       one (x ∷ rest) e = refl
 
   -- where places were made
-  pub room-kept : (x : DeviceState Kept) (losses : LossList) → numbers x ≡ numbers a.tree → losses ≡ record a.losses { places = losses.places } → a.losses.places ≤ losses.places → IsKeptDevice (record a { tree = x; losses = losses })
-  room-kept x losses same is more = let b : Inside = record a { tree = x; losses = losses } in record {
+  pub room-kept : (x : DeviceState Kept) (losses : LossList) (spare : ℕ) → numbers x ≡ numbers a.tree → losses ≡ record a.losses { places = losses.places }
+      → length (beneath a.tree.tree.root) + length a.losses.waiting + spare ≤ losses.places → IsKeptDevice (record a { tree = x; losses = losses; spare = spare })
+  room-kept x losses spare same is fits = let b : Inside = record a { tree = x; losses = losses; spare = spare } in record {
     happened = k.happened;
     events = k.events;
     settings = k.settings;
-    replayed = subst (IsReplayOf k.happened) (λ i. record (device_seen b) { device = same-at a.clock a.tree x (sym same) i; waiting = ap (λ (l : LossList). l.waiting) (sym is) i })
+    replayed = subst (IsReplayOf k.happened) (λ i. record (device_seen b) { device = same-at a.clock a.tree x (sym same) i; waiting = ap (λ (l : LossList). l.waiting) (sym is) i; events = ap (λ (d : DeviceState Counts). min (d.tree.top.arrived.packets + d.tree.top.sent.packets + a.others) most_events) (sym same) i })
         (replay-with k.happened (device_seen a) (device_seen b).memory k.replayed);
     clock = omega (arith, k.clock, ap (λ (d : DeviceState Counts). d.clock) same);
-    room = omega (arith, k.room, more, waits-same x a.tree same, ap (λ (l : LossList). length l.waiting) is);
+    room = omega (arith, fits, waits-same x a.tree same, ap (λ (l : LossList). length l.waiting) is);
     recorder = k.recorder;
     arrivals = omega (arith, k.arrivals, ap (λ (d : DeviceState Counts). d.tree.top.arrived.packets) same);
   }

@@ -18,10 +18,10 @@ use Rattle.q_model.proofs.ShrinkLemmas.{shape-with_memory}
 use Rattle.q_invariants.proofs.Asks.{ask-quiet}
 use Rattle.q_invariants.proofs.Replays.{replay-kept}
 use Rattle.q_invariants.proofs.Sound.{kept-totals}
-use Rattle.q_device.specs.Counters.{arrived_after}
+use Rattle.q_device.specs.Counters.{arrived_after, sent_by}
 use Rattle.q_device.specs.DeviceSeen.{DeviceSeen}
 use Rattle.q_device.specs.Replayed.{IsReplayOf}
-use Rattle.q_device.proofs.CountLemmas.{step-rises, step-lost, step-arrived}
+use Rattle.q_device.proofs.CountLemmas.{step-rises, step-lost, step-arrived, step-sent}
 use Rattle.q_device.proofs.ShrinkLemmas.{replay-shrunk}
 use Rattle.q_device.proofs.ToldLemmas.{AreLosses, quiet-are}
 
@@ -47,6 +47,9 @@ module _ (events : List Event) (d : DeviceSeen) (h : IsReplayOf events d) (range
 
   pub seen-arrived : (e : Event) → IsEvent e → (step totals d.device e).device.tree.top.arrived ≡ arrived_after e d.device.tree.top.arrived
   seen-arrived e is = step-arrived d.device e seen-quiet seen-lawful.moment is
+
+  pub seen-sent : (e : Event) → IsEvent e → (step totals d.device e).device.tree.top.sent.packets ≡ d.device.tree.top.sent.packets + sent_by e d.device
+  seen-sent e is = step-sent d.device e seen-quiet seen-lawful.moment is
 
 -- what is queued after an event, and lost by it, was queued before or has arrived
 pub queued-after : (before after : DeviceState Counts) (e : Event) → IsLawfulTree totals before.clock before.tree → IsLawfulTree totals after.clock after.tree → after ≡ (step totals before e).device

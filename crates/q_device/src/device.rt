@@ -1,4 +1,4 @@
-ghost use Rattle.std.specs.Prelude.{ℕ, ◌≡◌, ◌<◌, ◌≤◌, ◌+◌, ◌^◌, true, None, IsSome, IfSome, IfNone, Ok, IsOk, IfOk, OnOk, OnErr, IfErr, max, length, slice_get, unwrap_or};
+ghost use Rattle.std.specs.Prelude.{ℕ, ◌≡◌, ◌<◌, ◌≤◌, ◌+◌, ◌^◌, true, None, IsSome, IfSome, IfNone, Ok, IsOk, IfOk, OnOk, OnErr, IfErr, max, min, if◌then◌else◌, length, slice_get, unwrap_or};
 ghost use Rattle.q_model.specs.Beneath.{beneath, is_empty, row_of};
 ghost use Rattle.q_model.specs.Node.{shape};
 ghost use Rattle.q_model.specs.Settings.{IsInRange};
@@ -13,7 +13,7 @@ ghost use Rattle.q_tree.specs.ReadyAt.{is_sure, ready_at};
 ghost use Rattle.q_tree.specs.TreeSeen.{tree_numbers};
 ghost use Rattle.q_device.specs.Counters.{HasNotFallen};
 ghost use Rattle.q_device.specs.DeviceLaws.{HasItsMemory, IsReplayed};
-ghost use Rattle.q_device.specs.DeviceSeen.{IsRefusal, as_counted, opened, polled_memory, reaped, with_event, HasNoFewerPlaces, HasRoomFor, IsCommanded, IsRefusedAt};
+ghost use Rattle.q_device.specs.DeviceSeen.{IsRefusal, as_counted, most_events, opened, polled_memory, reaped, with_event, HasNoFewerPlaces, HasRoomFor, IsCommanded, IsRefusedAt};
 ghost use Rattle.q_device.specs.Giving.{given_of, polled_in};
 
 use crate::given::Given;
@@ -42,8 +42,10 @@ pub struct Device {
     handed_out: u64,
     /// The first events, with the moments as they counted.
     recorded: Vec<Event>,
-    /// How many events there were.
-    events: u64,
+    /// So many packets more may arrive before room for their losses is looked for.
+    spare: u64,
+    /// The events that neither brought a packet nor sent one, which the counters do not tell.
+    others: u64,
 }
 
 impl Model for Device {
@@ -98,7 +100,8 @@ impl Device {
             losses: Losses::new(alloc),
             handed_out: 0,
             recorded: Vec::with_capacity(alloc, settings.recorder as usize)?,
-            events: 0,
+            spare: 0,
+            others: 0,
             settings,
         })
     }
@@ -156,20 +159,14 @@ impl Device {
         packet_ranges(*packet);
         moment_range(now);
         let at = later(self.clock, now);
-        let Ok(()) = make_room(&self.tree, &mut self.losses) else {
+        let Ok(()) = make_room(&self.tree, &mut self.losses, &mut self.spare) else {
             return Err(AllocError);
         };
         let Ok(fate) = self.tree.arrive(packet, at, &mut self.losses) else {
             return Err(AllocError);
         };
         self.clock = at;
-        record_arrival(
-            &mut self.recorded,
-            &mut self.events,
-            &self.settings,
-            packet,
-            at,
-        );
+        record_arrival(&mut self.recorded, &self.settings, packet, at);
         Ok(fate)
     }
 
@@ -210,7 +207,8 @@ impl Device {
         let at = later(self.clock, now);
         let sent = self.tree.send(at, out, &mut self.losses);
         self.clock = at;
-        record_poll(&mut self.recorded, &mut self.events, &self.settings, at);
+        record_poll(&mut self.recorded, &self.settings, at);
+        count_poll(sent, &mut self.others);
         given_of(sent, &self.tree)
     }
 
@@ -258,13 +256,8 @@ impl Device {
         let alloc = *self.recorded.allocator();
         self.tree.command(alloc, command, at, &mut self.losses)?;
         self.clock = at;
-        record_command(
-            &mut self.recorded,
-            &mut self.events,
-            &self.settings,
-            &command,
-            at,
-        );
+        record_command(&mut self.recorded, &self.settings, &command, at);
+        count_other(&mut self.others);
         Ok(())
     }
 
@@ -322,7 +315,11 @@ impl Device {
     pub fn events(&self) -> u64
         ensures { result ≡ self.now.events }
     {
-        self.events
+        let row = self.totals();
+        row.arrived
+            .packets
+            .saturating_add(row.sent.packets)
+            .saturating_add(self.others)
     }
 
     /// What the type keeps, for the laws. It does nothing.
@@ -351,22 +348,51 @@ fn later(clock: Moment, now: Moment) -> Moment
 
 // Makes a place for a loss more than there are packets queued. It succeeds where there is one, and takes no place away.
 #[inline(always)]
-fn make_room(tree: &Tree, losses: &mut Losses) -> Result<(), AllocError>
+fn make_room(tree: &Tree, losses: &mut Losses, spare: &mut u64) -> Result<(), AllocError>
+    requires room { length (beneath tree.now.tree.root) + length losses.old.waiting + spare.old ≤ losses.old.places }
     ensures same { losses.new ≡ record losses.old { places = losses.new.places } }
     ensures grows { losses.old.places ≤ losses.new.places }
-    ensures room { OnOk result (length losses.old.waiting + length (beneath tree.now.tree.root) + 1 ≤ losses.new.places) }
+    ensures room { OnOk result (length losses.old.waiting + length (beneath tree.now.tree.root) + 1 + spare.new ≤ losses.new.places) }
+    ensures less { OnErr result (spare.new ≡ spare.old) }
+    ensures succeeds { length losses.old.waiting + length (beneath tree.now.tree.root) + 1 ≤ losses.old.places → IsOk result }
+{
+    if *spare == 0 {
+        return find_room(tree, losses, spare);
+    }
+    *spare -= 1;
+    Ok(())
+}
+
+// The same where no packet may arrive before room is looked for.
+#[cold]
+#[inline(never)]
+fn find_room(tree: &Tree, losses: &mut Losses, spare: &mut u64) -> Result<(), AllocError>
+    ensures same { losses.new ≡ record losses.old { places = losses.new.places } }
+    ensures grows { losses.old.places ≤ losses.new.places }
+    ensures room { OnOk result (length losses.old.waiting + length (beneath tree.now.tree.root) + 1 + spare.new ≤ losses.new.places) }
+    ensures less { OnErr result (spare.new ≡ spare.old) }
     ensures succeeds { length losses.old.waiting + length (beneath tree.now.tree.root) + 1 ≤ losses.old.places → IsOk result }
 {
     let queued = tree.totals().queued.packets;
+    make_places(losses, queued)?;
+    *spare = losses.room() - queued - 1;
+    Ok(())
+}
+
+// Makes places for so many losses and one more beside those that wait, where there are fewer.
+fn make_places(losses: &mut Losses, queued: u64) -> Result<(), AllocError>
+    ensures same { losses.new ≡ record losses.old { places = losses.new.places } }
+    ensures grows { losses.old.places ≤ losses.new.places }
+    ensures room { OnOk result (length losses.old.waiting + queued + 1 ≤ losses.new.places) }
+    ensures succeeds { length losses.old.waiting + queued + 1 ≤ losses.old.places → IsOk result }
+{
     if queued < losses.room() {
         return Ok(());
     }
     reserve(losses, queued)
 }
 
-// Makes places for so many losses and one more beside those that wait, which an arrival seldom needs.
-#[cold]
-#[inline(never)]
+// The same where there are fewer.
 fn reserve(losses: &mut Losses, queued: u64) -> Result<(), AllocError>
     ensures same { losses.new ≡ record losses.old { places = losses.new.places } }
     ensures grows { losses.old.places ≤ losses.new.places }
@@ -376,6 +402,23 @@ fn reserve(losses: &mut Losses, queued: u64) -> Result<(), AllocError>
         return Err(AllocError);
     }
     losses.reserve(queued as usize + 1)
+}
+
+// Counts an event that neither brings a packet nor sends one.
+fn count_other(others: &mut u64)
+    ensures { others.new ≡ min (others.old + 1) most_events }
+{
+    *others = others.saturating_add(1);
+}
+
+// Counts a poll where it sent none; what was sent is counted at the tree.
+#[inline(always)]
+fn count_poll(sent: bool, others: &mut u64)
+    ensures { others.new ≡ (if sent then others.old else min (others.old + 1) most_events) }
+{
+    if !sent {
+        count_other(others);
+    }
 }
 
 // What a poll is answered that sent a packet or none, and left this tree.

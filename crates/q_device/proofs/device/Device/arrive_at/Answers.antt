@@ -11,13 +11,13 @@ use Rattle.q_tree.specs.Places.{places_at}
 use Rattle.q_device.specs.Counters.{HasNotFallen}
 use Rattle.q_device.specs.DeviceSeen.{DeviceSeen, HasRoomFor, with_event}
 use Rattle.q_device.specs.Keeping.{device_seen, numbers_at}
-use Rattle.q_device.proofs.EventLemmas.{arrived, event-rises, event-seen, reply-step, waits-numbers}
-use Rattle.q_device.proofs.KeptLemmas.{event-kept, kept-arrived, only-places, room-kept, room-still}
+use Rattle.q_device.proofs.EventLemmas.{arrived, arrived-device, event-rises, event-seen, reply-step, waits-numbers}
+use Rattle.q_device.proofs.KeptLemmas.{event-kept, events-after, kept-arrived, only-places, room-kept, room-still}
 use Rattle.q_device.proofs.device.Device.arrive_at.Goals as goal
 
 -- memory was refused for the loss: the lost list alone may have more places
 pub invariant_of-self : goal.invariant_of-self
-invariant_of-self c = room-kept c.self.inside c.self.invariant c.self.inside.tree c.make_room.new.losses refl c.make_room.ensures.same c.make_room.ensures.grows
+invariant_of-self c = room-kept c.self.inside c.self.invariant c.self.inside.tree c.make_room.new.losses c.make_room.new.spare refl c.make_room.ensures.same (omega (arith, c.self.invariant.room, c.make_room.ensures.grows, c.in_default.ensures.less))
 
 pub returns-in_default-clause-succeeds : goal.returns-in_default-clause-succeeds
 returns-in_default-clause-succeeds c there =
@@ -41,8 +41,8 @@ invariant_of-self-in_default-arrive c =
     let l = c.arrive.new.sink in
     let made = c.make_room.ensures in
     let refused = c.in_default-arrive.ensures in
-    room-kept a c.self.invariant c.arrive.new.self l refused.same (only-places a.losses c.make_room.new.losses l made.same refused.not_lost.0)
-    (omega (arith, made.grows, ap (λ (x : LossList). x.places) c.arrive.ensures.kept))
+    room-kept a c.self.invariant c.arrive.new.self l c.make_room.new.spare refused.same (only-places a.losses c.make_room.new.losses l made.same refused.not_lost.0)
+    (omega (arith, c.in-Ok.ensures.room, ap (λ (x : LossList). x.places) c.arrive.ensures.kept))
 
 pub returns-in_default-arrive-clause-succeeds : goal.returns-in_default-arrive-clause-succeeds
 returns-in_default-arrive-clause-succeeds c there = c.in_default-arrive.ensures.succeeds (subst (HasRoomFor c.args.packet.now) (sym c.self.view_is) there).tree
@@ -63,11 +63,12 @@ returns-in_default-arrive-clause-queues c = λ path. omega (arith, c.arrive.ensu
 pub invariant_of-self-2 : goal.invariant_of-self-2
 invariant_of-self-2 c =
     let a = c.self.inside in
-    let b = record a { clock = c.later-at.result; tree = c.arrive.new.self; losses = c.arrive.new.sink; recorded = c.record_arrival.new.recorded; events = c.record_arrival.new.events } in
+    let b = record a { clock = c.later-at.result; tree = c.arrive.new.self; losses = c.arrive.new.sink; recorded = c.record_arrival.new.recorded; spare = c.make_room.new.spare } in
     let p = c.args.packet.now in
     let e = event.Arrive p c.args.now in
     let lost = c.in-Ok-arrive.ensures.lost ∙ ap (λ (l : LossList). l.waiting ++ losses_in (noted_by_put c.later-at.result p a.tree.tree)) c.make_room.ensures.same in
-    let h = arrived a b p c.args.now c.later-at.result c.later-at.ensures refl refl c.in-Ok-arrive.ensures.after lost refl c.record_arrival.ensures.items c.record_arrival.ensures.capacity c.record_arrival.ensures.counted in
+    let counted = events-after a c.self.invariant e b (c.packet_ranges.ensures.fields, c.moment_range.ensures) (arrived-device a b p c.args.now c.later-at.result c.later-at.ensures refl c.in-Ok-arrive.ensures.after) refl in
+    let h = arrived a b p c.args.now c.later-at.result c.later-at.ensures refl refl c.in-Ok-arrive.ensures.after lost refl c.record_arrival.ensures.items c.record_arrival.ensures.capacity counted in
     event-kept a c.self.invariant e b h (c.packet_ranges.ensures.fields, c.moment_range.ensures) (omega (arith, ap (λ (d : DeviceState Counts). d.clock) c.in-Ok-arrive.ensures.after))
     (omega (arith, c.in-Ok-arrive.ensures.counted.packets))
     (omega (arith, c.in-Ok.ensures.room, ap (λ (l : LossList). l.places) c.arrive.ensures.kept))
@@ -75,11 +76,12 @@ invariant_of-self-2 c =
 pub returns-clause-event : goal.returns-clause-event
 returns-clause-event c =
     let a = c.self.inside in
-    let b = record a { clock = c.later-at.result; tree = c.arrive.new.self; losses = c.arrive.new.sink; recorded = c.record_arrival.new.recorded; events = c.record_arrival.new.events } in
+    let b = record a { clock = c.later-at.result; tree = c.arrive.new.self; losses = c.arrive.new.sink; recorded = c.record_arrival.new.recorded; spare = c.make_room.new.spare } in
     let p = c.args.packet.now in
     let e = event.Arrive p c.args.now in
     let lost = c.in-Ok-arrive.ensures.lost ∙ ap (λ (l : LossList). l.waiting ++ losses_in (noted_by_put c.later-at.result p a.tree.tree)) c.make_room.ensures.same in
-    let h = arrived a b p c.args.now c.later-at.result c.later-at.ensures refl refl c.in-Ok-arrive.ensures.after lost refl c.record_arrival.ensures.items c.record_arrival.ensures.capacity c.record_arrival.ensures.counted in
+    let counted = events-after a c.self.invariant e b (c.packet_ranges.ensures.fields, c.moment_range.ensures) (arrived-device a b p c.args.now c.later-at.result c.later-at.ensures refl c.in-Ok-arrive.ensures.after) refl in
+    let h = arrived a b p c.args.now c.later-at.result c.later-at.ensures refl refl c.in-Ok-arrive.ensures.after lost refl c.record_arrival.ensures.items c.record_arrival.ensures.capacity counted in
     event-seen a e b h ∙ ap (λ (d : DeviceSeen). record (with_event e d) { memory = (device_seen b).memory }) c.self.view_is
 
 pub returns-clause-moment : goal.returns-clause-moment
@@ -98,11 +100,12 @@ returns-clause-fate c =
 pub returns-clause-arrived : goal.returns-clause-arrived
 returns-clause-arrived c =
     let a = c.self.inside in
-    let b = record a { clock = c.later-at.result; tree = c.arrive.new.self; losses = c.arrive.new.sink; recorded = c.record_arrival.new.recorded; events = c.record_arrival.new.events } in
+    let b = record a { clock = c.later-at.result; tree = c.arrive.new.self; losses = c.arrive.new.sink; recorded = c.record_arrival.new.recorded; spare = c.make_room.new.spare } in
     let p = c.args.packet.now in
     let e = event.Arrive p c.args.now in
     let lost = c.in-Ok-arrive.ensures.lost ∙ ap (λ (l : LossList). l.waiting ++ losses_in (noted_by_put c.later-at.result p a.tree.tree)) c.make_room.ensures.same in
-    let h = arrived a b p c.args.now c.later-at.result c.later-at.ensures refl refl c.in-Ok-arrive.ensures.after lost refl c.record_arrival.ensures.items c.record_arrival.ensures.capacity c.record_arrival.ensures.counted in
+    let counted = events-after a c.self.invariant e b (c.packet_ranges.ensures.fields, c.moment_range.ensures) (arrived-device a b p c.args.now c.later-at.result c.later-at.ensures refl c.in-Ok-arrive.ensures.after) refl in
+    let h = arrived a b p c.args.now c.later-at.result c.later-at.ensures refl refl c.in-Ok-arrive.ensures.after lost refl c.record_arrival.ensures.items c.record_arrival.ensures.capacity counted in
     ap (λ (d : DeviceSeen). d.device.tree.top.arrived) (event-seen a e b h)
     ∙ kept-arrived a c.self.invariant e (c.packet_ranges.ensures.fields, c.moment_range.ensures)
     ∙ ap (λ (d : DeviceSeen). with_packet d.device.tree.top.arrived p) c.self.view_is
@@ -110,11 +113,12 @@ returns-clause-arrived c =
 pub returns-clause-counters : goal.returns-clause-counters
 returns-clause-counters c =
     let a = c.self.inside in
-    let b = record a { clock = c.later-at.result; tree = c.arrive.new.self; losses = c.arrive.new.sink; recorded = c.record_arrival.new.recorded; events = c.record_arrival.new.events } in
+    let b = record a { clock = c.later-at.result; tree = c.arrive.new.self; losses = c.arrive.new.sink; recorded = c.record_arrival.new.recorded; spare = c.make_room.new.spare } in
     let p = c.args.packet.now in
     let e = event.Arrive p c.args.now in
     let lost = c.in-Ok-arrive.ensures.lost ∙ ap (λ (l : LossList). l.waiting ++ losses_in (noted_by_put c.later-at.result p a.tree.tree)) c.make_room.ensures.same in
-    let h = arrived a b p c.args.now c.later-at.result c.later-at.ensures refl refl c.in-Ok-arrive.ensures.after lost refl c.record_arrival.ensures.items c.record_arrival.ensures.capacity c.record_arrival.ensures.counted in
+    let counted = events-after a c.self.invariant e b (c.packet_ranges.ensures.fields, c.moment_range.ensures) (arrived-device a b p c.args.now c.later-at.result c.later-at.ensures refl c.in-Ok-arrive.ensures.after) refl in
+    let h = arrived a b p c.args.now c.later-at.result c.later-at.ensures refl refl c.in-Ok-arrive.ensures.after lost refl c.record_arrival.ensures.items c.record_arrival.ensures.capacity counted in
     subst (λ (d : DeviceSeen). HasNotFallen d.device.tree.top c.arrive.new.self.tree.top.counts) c.self.view_is (event-rises a e b h)
 
 pub returns-clause-queues : goal.returns-clause-queues

@@ -13,8 +13,8 @@ use Rattle.q_tree.specs.Commanding.{MayTakeMemory, WantsMemory}
 use Rattle.q_device.specs.Counters.{HasNotFallen}
 use Rattle.q_device.specs.DeviceSeen.{DeviceSeen, IsRefusal, IsRefusedAt, with_event}
 use Rattle.q_device.specs.Keeping.{device_seen, numbers_at, IsKeptDevice}
-use Rattle.q_device.proofs.EventLemmas.{commanded, done-clock, done-reply, event-rises, may-be-refused, event-seen, refused-reply, told-nothing}
-use Rattle.q_device.proofs.KeptLemmas.{event-kept, kept-arrived}
+use Rattle.q_device.proofs.EventLemmas.{commanded, commanded-device, done-clock, done-reply, event-rises, may-be-refused, event-seen, refused-reply, told-nothing}
+use Rattle.q_device.proofs.KeptLemmas.{event-kept, events-after, kept-arrived}
 use Rattle.q_device.proofs.device.Device.command.Goals as goal
 
 -- a refused command leaves the tree and the lost list
@@ -48,8 +48,9 @@ returns-in_err-command-clause-memory c =
 pub invariant_of-self-2 : goal.invariant_of-self-2
 invariant_of-self-2 c =
     let a = c.self.inside in
-    let b = record a { clock = c.later-at.result; tree = c.command.new.self; losses = c.command.new.sink; recorded = c.record_command.new.recorded; events = c.record_command.new.events } in
-    let h = commanded a b c.args.command c.args.now c.later-at.result c.later-at.ensures refl refl c.in_ok-command.ensures.answer c.in_ok-command.ensures.lost refl c.record_command.ensures.items c.record_command.ensures.capacity c.record_command.ensures.counted in
+    let b = record a { clock = c.later-at.result; tree = c.command.new.self; losses = c.command.new.sink; recorded = c.record_command.new.recorded; others = c.count_other.new.others } in
+    let counted = events-after a c.self.invariant (event.Command c.args.command c.args.now) b (c.ranges-2.ensures, c.moment_range.ensures) (commanded-device a b c.args.command c.args.now c.later-at.result c.later-at.ensures refl c.in_ok-command.ensures.answer) c.count_other.ensures in
+    let h = commanded a b c.args.command c.args.now c.later-at.result c.later-at.ensures refl refl c.in_ok-command.ensures.answer c.in_ok-command.ensures.lost refl c.record_command.ensures.items c.record_command.ensures.capacity counted in
     event-kept a c.self.invariant (event.Command c.args.command c.args.now) b h (c.ranges-2.ensures, c.moment_range.ensures)
     (omega (arith, done-clock a.tree a.clock c.args.now c.later-at.result c.later-at.ensures c.args.command b.tree c.in_ok-command.ensures.answer))
     c.self.invariant.arrivals
@@ -58,8 +59,9 @@ invariant_of-self-2 c =
 pub returns-clause-event : goal.returns-clause-event
 returns-clause-event c =
     let a = c.self.inside in
-    let b = record a { clock = c.later-at.result; tree = c.command.new.self; losses = c.command.new.sink; recorded = c.record_command.new.recorded; events = c.record_command.new.events } in
-    let h = commanded a b c.args.command c.args.now c.later-at.result c.later-at.ensures refl refl c.in_ok-command.ensures.answer c.in_ok-command.ensures.lost refl c.record_command.ensures.items c.record_command.ensures.capacity c.record_command.ensures.counted in
+    let b = record a { clock = c.later-at.result; tree = c.command.new.self; losses = c.command.new.sink; recorded = c.record_command.new.recorded; others = c.count_other.new.others } in
+    let counted = events-after a c.self.invariant (event.Command c.args.command c.args.now) b (c.ranges-2.ensures, c.moment_range.ensures) (commanded-device a b c.args.command c.args.now c.later-at.result c.later-at.ensures refl c.in_ok-command.ensures.answer) c.count_other.ensures in
+    let h = commanded a b c.args.command c.args.now c.later-at.result c.later-at.ensures refl refl c.in_ok-command.ensures.answer c.in_ok-command.ensures.lost refl c.record_command.ensures.items c.record_command.ensures.capacity counted in
     let e = event.Command c.args.command c.args.now in
     event-seen a e b h ∙ ap (λ (d : DeviceSeen). record (with_event e d) { memory = (device_seen b).memory }) c.self.view_is
 
@@ -72,8 +74,9 @@ returns-clause-reply c =
 pub returns-clause-arrived : goal.returns-clause-arrived
 returns-clause-arrived c =
     let a = c.self.inside in
-    let b = record a { clock = c.later-at.result; tree = c.command.new.self; losses = c.command.new.sink; recorded = c.record_command.new.recorded; events = c.record_command.new.events } in
-    let h = commanded a b c.args.command c.args.now c.later-at.result c.later-at.ensures refl refl c.in_ok-command.ensures.answer c.in_ok-command.ensures.lost refl c.record_command.ensures.items c.record_command.ensures.capacity c.record_command.ensures.counted in
+    let b = record a { clock = c.later-at.result; tree = c.command.new.self; losses = c.command.new.sink; recorded = c.record_command.new.recorded; others = c.count_other.new.others } in
+    let counted = events-after a c.self.invariant (event.Command c.args.command c.args.now) b (c.ranges-2.ensures, c.moment_range.ensures) (commanded-device a b c.args.command c.args.now c.later-at.result c.later-at.ensures refl c.in_ok-command.ensures.answer) c.count_other.ensures in
+    let h = commanded a b c.args.command c.args.now c.later-at.result c.later-at.ensures refl refl c.in_ok-command.ensures.answer c.in_ok-command.ensures.lost refl c.record_command.ensures.items c.record_command.ensures.capacity counted in
     let e = event.Command c.args.command c.args.now in
     ap (λ (d : DeviceSeen). d.device.tree.top.arrived) (event-seen a e b h)
     ∙ kept-arrived a c.self.invariant e (c.ranges-2.ensures, c.moment_range.ensures)
@@ -82,7 +85,8 @@ returns-clause-arrived c =
 pub returns-clause-counters : goal.returns-clause-counters
 returns-clause-counters c =
     let a = c.self.inside in
-    let b = record a { clock = c.later-at.result; tree = c.command.new.self; losses = c.command.new.sink; recorded = c.record_command.new.recorded; events = c.record_command.new.events } in
-    let h = commanded a b c.args.command c.args.now c.later-at.result c.later-at.ensures refl refl c.in_ok-command.ensures.answer c.in_ok-command.ensures.lost refl c.record_command.ensures.items c.record_command.ensures.capacity c.record_command.ensures.counted in
+    let b = record a { clock = c.later-at.result; tree = c.command.new.self; losses = c.command.new.sink; recorded = c.record_command.new.recorded; others = c.count_other.new.others } in
+    let counted = events-after a c.self.invariant (event.Command c.args.command c.args.now) b (c.ranges-2.ensures, c.moment_range.ensures) (commanded-device a b c.args.command c.args.now c.later-at.result c.later-at.ensures refl c.in_ok-command.ensures.answer) c.count_other.ensures in
+    let h = commanded a b c.args.command c.args.now c.later-at.result c.later-at.ensures refl refl c.in_ok-command.ensures.answer c.in_ok-command.ensures.lost refl c.record_command.ensures.items c.record_command.ensures.capacity counted in
     let e = event.Command c.args.command c.args.now in
     subst (λ (d : DeviceSeen). HasNotFallen d.device.tree.top c.command.new.self.tree.top.counts) c.self.view_is (event-rises a e b h)

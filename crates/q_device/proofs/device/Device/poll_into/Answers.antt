@@ -14,8 +14,8 @@ use Rattle.q_device.specs.Counters.{HasNotFallen}
 use Rattle.q_device.specs.DeviceSeen.{DeviceSeen, polled_memory, with_event}
 use Rattle.q_device.specs.Giving.{given_of, polled_in}
 use Rattle.q_device.specs.Keeping.{device_seen, numbers_at}
-use Rattle.q_device.proofs.EventLemmas.{event-rises, event-seen, polled, reply-step}
-use Rattle.q_device.proofs.KeptLemmas.{event-kept, kept-arrived}
+use Rattle.q_device.proofs.EventLemmas.{event-rises, event-seen, polled, polled-device, polled-others, reply-step}
+use Rattle.q_device.proofs.KeptLemmas.{event-kept, events-after, kept-arrived}
 use Rattle.q_device.proofs.ReadyNumbers.{given-numbers}
 use Rattle.q_device.proofs.device.Device.poll_into.Goals as goal
 
@@ -28,16 +28,20 @@ told-poll None before false = refl
 pub invariant_of-self : goal.invariant_of-self
 invariant_of-self c =
     let a = c.self.inside in
-    let b = record a { clock = c.later-at.result; tree = c.send-sent.new.self; losses = c.send-sent.new.sink; recorded = c.record_poll.new.recorded; events = c.record_poll.new.events } in
-    let h = polled a b c.args.now c.later-at.result c.later-at.ensures refl refl c.send-sent.ensures.after c.send-sent.ensures.lost refl c.record_poll.ensures.items c.record_poll.ensures.capacity c.record_poll.ensures.counted in
+    let b = record a { clock = c.later-at.result; tree = c.send-sent.new.self; losses = c.send-sent.new.sink; recorded = c.record_poll.new.recorded; others = c.count_poll.new.others } in
+    let others = polled-others a c.args.now c.later-at.result c.count_poll.new.others c.send-sent.result c.later-at.ensures c.send-sent.ensures.sent c.count_poll.ensures in
+    let counted = events-after a c.self.invariant (event.Poll c.args.now) b c.moment_range.ensures (polled-device a b c.args.now c.later-at.result c.later-at.ensures refl c.send-sent.ensures.after) others in
+    let h = polled a b c.args.now c.later-at.result c.later-at.ensures refl refl c.send-sent.ensures.after c.send-sent.ensures.lost refl c.record_poll.ensures.items c.record_poll.ensures.capacity counted in
     event-kept a c.self.invariant (event.Poll c.args.now) b h c.moment_range.ensures (omega (arith, ap (λ (d : DeviceState Kept). d.clock) c.send-sent.ensures.after)) c.self.invariant.arrivals
     (omega (arith, c.self.invariant.room, ap (λ (l : LossList). l.places) c.send-sent.ensures.kept))
 
 pub returns-clause-event : goal.returns-clause-event
 returns-clause-event c =
     let a = c.self.inside in
-    let b = record a { clock = c.later-at.result; tree = c.send-sent.new.self; losses = c.send-sent.new.sink; recorded = c.record_poll.new.recorded; events = c.record_poll.new.events } in
-    let h = polled a b c.args.now c.later-at.result c.later-at.ensures refl refl c.send-sent.ensures.after c.send-sent.ensures.lost refl c.record_poll.ensures.items c.record_poll.ensures.capacity c.record_poll.ensures.counted in
+    let b = record a { clock = c.later-at.result; tree = c.send-sent.new.self; losses = c.send-sent.new.sink; recorded = c.record_poll.new.recorded; others = c.count_poll.new.others } in
+    let others = polled-others a c.args.now c.later-at.result c.count_poll.new.others c.send-sent.result c.later-at.ensures c.send-sent.ensures.sent c.count_poll.ensures in
+    let counted = events-after a c.self.invariant (event.Poll c.args.now) b c.moment_range.ensures (polled-device a b c.args.now c.later-at.result c.later-at.ensures refl c.send-sent.ensures.after) others in
+    let h = polled a b c.args.now c.later-at.result c.later-at.ensures refl refl c.send-sent.ensures.after c.send-sent.ensures.lost refl c.record_poll.ensures.items c.record_poll.ensures.capacity counted in
     event-seen a (event.Poll c.args.now) b h ∙ ap (λ (d : DeviceSeen). record (with_event (event.Poll c.args.now) d) { memory = (device_seen b).memory }) c.self.view_is
 
 pub returns-clause-memory : goal.returns-clause-memory
@@ -73,8 +77,10 @@ returns-clause-packet c =
 pub returns-clause-arrived : goal.returns-clause-arrived
 returns-clause-arrived c =
     let a = c.self.inside in
-    let b = record a { clock = c.later-at.result; tree = c.send-sent.new.self; losses = c.send-sent.new.sink; recorded = c.record_poll.new.recorded; events = c.record_poll.new.events } in
-    let h = polled a b c.args.now c.later-at.result c.later-at.ensures refl refl c.send-sent.ensures.after c.send-sent.ensures.lost refl c.record_poll.ensures.items c.record_poll.ensures.capacity c.record_poll.ensures.counted in
+    let b = record a { clock = c.later-at.result; tree = c.send-sent.new.self; losses = c.send-sent.new.sink; recorded = c.record_poll.new.recorded; others = c.count_poll.new.others } in
+    let others = polled-others a c.args.now c.later-at.result c.count_poll.new.others c.send-sent.result c.later-at.ensures c.send-sent.ensures.sent c.count_poll.ensures in
+    let counted = events-after a c.self.invariant (event.Poll c.args.now) b c.moment_range.ensures (polled-device a b c.args.now c.later-at.result c.later-at.ensures refl c.send-sent.ensures.after) others in
+    let h = polled a b c.args.now c.later-at.result c.later-at.ensures refl refl c.send-sent.ensures.after c.send-sent.ensures.lost refl c.record_poll.ensures.items c.record_poll.ensures.capacity counted in
     ap (λ (d : DeviceSeen). d.device.tree.top.arrived) (event-seen a (event.Poll c.args.now) b h)
     ∙ kept-arrived a c.self.invariant (event.Poll c.args.now) c.moment_range.ensures
     ∙ ap (λ (d : DeviceSeen). d.device.tree.top.arrived) c.self.view_is
@@ -82,6 +88,8 @@ returns-clause-arrived c =
 pub returns-clause-counters : goal.returns-clause-counters
 returns-clause-counters c =
     let a = c.self.inside in
-    let b = record a { clock = c.later-at.result; tree = c.send-sent.new.self; losses = c.send-sent.new.sink; recorded = c.record_poll.new.recorded; events = c.record_poll.new.events } in
-    let h = polled a b c.args.now c.later-at.result c.later-at.ensures refl refl c.send-sent.ensures.after c.send-sent.ensures.lost refl c.record_poll.ensures.items c.record_poll.ensures.capacity c.record_poll.ensures.counted in
+    let b = record a { clock = c.later-at.result; tree = c.send-sent.new.self; losses = c.send-sent.new.sink; recorded = c.record_poll.new.recorded; others = c.count_poll.new.others } in
+    let others = polled-others a c.args.now c.later-at.result c.count_poll.new.others c.send-sent.result c.later-at.ensures c.send-sent.ensures.sent c.count_poll.ensures in
+    let counted = events-after a c.self.invariant (event.Poll c.args.now) b c.moment_range.ensures (polled-device a b c.args.now c.later-at.result c.later-at.ensures refl c.send-sent.ensures.after) others in
+    let h = polled a b c.args.now c.later-at.result c.later-at.ensures refl refl c.send-sent.ensures.after c.send-sent.ensures.lost refl c.record_poll.ensures.items c.record_poll.ensures.capacity counted in
     subst (λ (d : DeviceSeen). HasNotFallen d.device.tree.top c.send-sent.new.self.tree.top.counts) c.self.view_is (event-rises a (event.Poll c.args.now) b h)
