@@ -25,6 +25,7 @@ pub mod GraftLemmas
 pub mod HereLemmas
 pub mod IndexLemmas
 pub mod MakingLemmas
+pub mod MatchingLemmas
 pub mod OtherSubtrees
 pub mod OutlookLemmas
 pub mod Peeks

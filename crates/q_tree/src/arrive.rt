@@ -24,12 +24,13 @@ ghost use Rattle.q_tree.specs.declared.node.Discipline.TheVariants as code;
 use crate::arrived::{Arrived, NOTHING_LOST, book_arrival, refuse};
 use crate::drr::settle;
 use crate::fq_codel::put_in_flow;
+use crate::masked_filter::MaskedFilter;
 use crate::node::{Discipline, Node, band, class_place};
 use crate::outcome::Outcome;
 use crate::tree::{Tree, fate_of};
 use q_codel::{Fifo, Sink};
 use q_fqcodel::FqCodel;
-use q_model::{Fate, Filter};
+use q_model::Fate;
 use q_packet::{Cause, Moment, Packet};
 use std::alloc::AllocError;
 
@@ -144,7 +145,7 @@ impl Discipline {
     #[inline(always)]
     fn arrive<S: Sink>(
         &mut self,
-        filters: &[Filter],
+        filters: &[MaskedFilter],
         packet: &Packet,
         now: Moment,
         lost: &mut Outcome,
@@ -172,7 +173,7 @@ impl Discipline {
     #[inline(never)]
     fn arrive_further<S: Sink>(
         &mut self,
-        filters: &[Filter],
+        filters: &[MaskedFilter],
         packet: &Packet,
         now: Moment,
         lost: &mut Outcome,

@@ -19,13 +19,14 @@ use crate::discipline_change::DisciplineChange;
 use crate::edit::Edit;
 use crate::handles::Handles;
 use crate::link_settings::LinkSettings;
+use crate::masked_filter::MaskedFilter;
 use crate::new_qdisc::implicit_pfifo;
 use crate::node::{Discipline, Node};
 use crate::one_loss_sink::OneLossSink;
 use crate::planned::Planned;
 use crate::tree::Tree;
 use q_codel::Sink;
-use q_model::{ClassId, Command, Filter, Handle, Minor, Quantum, Refusal};
+use q_model::{ClassId, Command, Handle, Minor, Quantum, Refusal};
 use std::alloc::Global;
 
 impl Tree {
@@ -253,11 +254,13 @@ impl Node {
 }
 
 // Whether one of these filters names this class.
-fn is_named(filters: &[Filter], class: Minor) -> bool
+fn is_named(filters: &[MaskedFilter], class: Minor) -> bool
     ensures { result ≡ list_any (names_class class) filters.now }
 {
     let class = class.number();
-    filters.iter().any(|filter| filter.minor.number() == class)
+    filters
+        .iter()
+        .any(|filter| filter.filter().minor.number() == class)
 }
 
 // The quantum that is given, or one of the mtu.

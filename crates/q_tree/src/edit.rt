@@ -15,6 +15,7 @@ ghost use Rattle.q_tree.specs.Seen.{children_seen, discipline_seen, places_seen}
 use crate::booking::{NOTHING, book_dropped};
 use crate::discipline_change::DisciplineChange;
 use crate::drr::settle;
+use crate::masked_filter::MaskedFilter;
 use crate::node::{Discipline, Node};
 use q_codel::Sink;
 use q_model::{Filter, FilterPrio, Totals};
@@ -154,29 +155,29 @@ impl Discipline {
 }
 
 // Adds a filter behind those of its priority, before those of a higher one (tc(8)).
-fn add_filter(filters: &mut Vec<Filter>, filter: Filter) -> Result<(), AllocError>
+fn add_filter(filters: &mut Vec<MaskedFilter>, filter: Filter) -> Result<(), AllocError>
     ensures ok { OnOk result (filters.new.items ≡ with_filter filter filters.old.items) }
     ensures err { OnErr result (filters.new.items ≡ filters.old.items) }
 {
     let place = place_behind(filters, filter.prio.number());
-    filters.insert(place, filter)?;
+    filters.insert(place, MaskedFilter::new(filter))?;
     Ok(())
 }
 
 // The place behind the filters of this priority and of lower ones, up to the first of a higher one.
-fn place_behind(filters: &[Filter], prio: u16) -> usize
+fn place_behind(filters: &[MaskedFilter], prio: u16) -> usize
     ensures { result ≡ length (take_while (λ (f : Filter). nat_le f.prio prio) filters.now) }
 {
     filters
         .iter()
-        .take_while(|filter| filter.prio.number() <= prio)
+        .take_while(|filter| filter.filter().prio.number() <= prio)
         .count()
 }
 
 // Removes the filters of this priority.
-fn remove_filters(filters: &mut Vec<Filter>, prio: FilterPrio)
+fn remove_filters(filters: &mut Vec<MaskedFilter>, prio: FilterPrio)
     ensures { filters.new.items ≡ filter (λ (f : Filter). not (f.prio == prio)) filters.old.items }
 {
     let prio = prio.number();
-    filters.retain(|filter| filter.prio.number() != prio);
+    filters.retain(|filter| filter.filter().prio.number() != prio);
 }

@@ -11,6 +11,7 @@ ghost use Rattle.q_tree.specs.Commands.{IsAnswered, IsBounded, IsPlanOf, plan_of
 
 use crate::edit::Edit;
 use crate::handles::Handles;
+use crate::masked_filter::MaskedFilter;
 use crate::node::{Discipline, Node};
 use crate::one_loss_sink::OneLossSink;
 use crate::planned::Planned;
@@ -151,9 +152,11 @@ impl Node {
 }
 
 // Whether one of these filters has this priority.
-fn has_prio(filters: &[Filter], prio: FilterPrio) -> bool
+fn has_prio(filters: &[MaskedFilter], prio: FilterPrio) -> bool
     ensures { result ≡ list_any (has_prio prio) filters.now }
 {
     let prio = prio.number();
-    filters.iter().any(|filter| filter.prio.number() == prio)
+    filters
+        .iter()
+        .any(|filter| filter.filter().prio.number() == prio)
 }

@@ -30,6 +30,7 @@ mod give;
 mod handles;
 pub mod laws;
 mod link_settings;
+mod masked_filter;
 mod matching;
 mod named_qdisc;
 mod new_qdisc;

@@ -1,8 +1,9 @@
 ghost use Rattle.std.specs.Prelude.{◌≡◌};
-ghost use Rattle.q_model.specs.Filters.{has_prefix, is_of, matches, named_class};
-ghost use Rattle.q_tree.specs.Matching.{takes_ports, takes_addresses};
+ghost use Rattle.q_model.specs.Filters.{has_prefix, named_class};
+ghost use Rattle.q_tree.specs.Matching.{before_taker, packed, takes_addresses, word_of};
 
-use q_model::{Filter, FilterKeys, IpPrefix, IpVersion, Minor, Protocol};
+use crate::masked_filter::MaskedFilter;
+use q_model::{FilterKeys, IpPrefix, IpVersion, Minor};
 use q_packet::{FlowKey, Packet};
 
 /// Whether an address of the packet begins as the prefix does, and is of its version.
@@ -19,31 +20,27 @@ fn has_prefix(prefix: &IpPrefix, key: &FlowKey, address: u128) -> bool
         && address.checked_shr(rest).unwrap_or(0) == prefix.address.checked_shr(rest).unwrap_or(0)
 }
 
-/// Whether the packet is of this protocol.
-fn is_of(protocol: Protocol, key: &FlowKey) -> bool
-    ensures { result ≡ is_of protocol key.now }
+/// The numbers of a key that a filter compares at once, as one word: ports, protocol and family.
+#[inline(always)]
+pub(crate) fn word_of(key: &FlowKey) -> u64
+    ensures { result ≡ word_of key.now }
 {
-    match protocol {
-        Protocol::All => true,
-        Protocol::Ip => key.family == 4,
-        Protocol::Ipv6 => key.family == 6,
-    }
+    packed(key.sport, key.dport, key.proto, key.family)
 }
 
-/// Whether the packet agrees with each port that is given.
+/// These numbers side by side in one word.
 #[inline(always)]
-fn takes_ports(keys: &FilterKeys, key: &FlowKey) -> bool
-    ensures { result ≡ takes_ports keys.now key.now }
+pub(crate) fn packed(sport: u16, dport: u16, proto: u8, family: u8) -> u64
+    ensures { result ≡ packed sport dport proto family }
 {
-    if !keys.dst_port.map_or(true, |port| port == key.dport) {
-        return false;
-    }
-    keys.src_port.map_or(true, |port| port == key.sport)
+    u64::from(sport)
+        + u64::from(dport) * 0x1_0000
+        + u64::from(proto) * 0x1_0000_0000
+        + u64::from(family) * 0x100_0000_0000
 }
 
 /// Whether the packet agrees with each address that is given.
-#[inline(always)]
-fn takes_addresses(keys: &FilterKeys, key: &FlowKey) -> bool
+pub(crate) fn takes_addresses(keys: &FilterKeys, key: &FlowKey) -> bool
     ensures { result ≡ takes_addresses keys.now key.now }
 {
     if !keys
@@ -56,32 +53,47 @@ fn takes_addresses(keys: &FilterKeys, key: &FlowKey) -> bool
         .map_or(true, |prefix| has_prefix(&prefix, key, key.dst))
 }
 
-/// Whether a filter takes a packet (tc-flower(8)): whether the packet is of its protocol, and agrees with each key that is given.
-///
-/// What one comparison tells is asked first, since most filters that do not take a packet differ there: ports before addresses.
-pub(crate) fn matches(packet: &Packet, filter: &Filter) -> bool
-    ensures { result ≡ matches packet.now filter.now }
+/// The class that the first matching filter names. Filters stand in the order in which they are asked.
+pub(crate) fn named_class(filters: &[MaskedFilter], packet: &Packet) -> Option<Minor>
+    ensures { result ≡ named_class filters.now packet.now }
 {
-    let keys = &filter.keys;
-    let key = &packet.key;
-    if !takes_ports(keys, key) {
-        return false;
+    let first = before_taker(filters, &packet.key);
+    if first >= filters.len() {
+        return None;
     }
-    if !is_of(filter.protocol, key) {
-        return false;
+    let filter = filters[first].filter();
+    if filter.keys.src_ip.is_none() && filter.keys.dst_ip.is_none() {
+        return Some(filter.minor);
     }
-    if !keys.ip_proto.map_or(true, |proto| proto == key.proto) {
-        return false;
-    }
-    takes_addresses(keys, key)
+    named_by_address(filters, packet)
 }
 
-/// The class that the first matching filter names. Filters stand in the order in which they are asked.
-pub(crate) fn named_class(filters: &[Filter], packet: &Packet) -> Option<Minor>
+// How many filters stand before the first that takes the numbers of a key; all, where none does. All are compared, from the last
+// to the first, with no branch between: at which of them a search would end is what a processor cannot foresee.
+#[inline(always)]
+fn before_taker(filters: &[MaskedFilter], key: &FlowKey) -> usize
+    ensures { result ≡ before_taker key.now filters.now }
+{
+    let word = word_of(key);
+    let mut first = filters.len();
+    let mut place = filters.len();
+    while place > 0 {
+        place -= 1;
+        if filters[place].takes_numbers(word, key) {
+            first = place;
+        }
+    }
+    first
+}
+
+// The same where addresses are asked.
+#[cold]
+#[inline(never)]
+fn named_by_address(filters: &[MaskedFilter], packet: &Packet) -> Option<Minor>
     ensures { result ≡ named_class filters.now packet.now }
 {
     filters
         .iter()
-        .find(|filter| matches(packet, filter))
-        .map(|filter| filter.minor)
+        .find(|filter| filter.matches(packet))
+        .map(|filter| filter.filter().minor)
 }

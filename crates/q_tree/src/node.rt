@@ -8,13 +8,14 @@ ghost use Rattle.q_model.specs.Route.{route, through};
 ghost use Rattle.q_tree.specs.Ahead.{ahead, ways, depths};
 
 use crate::counters::Counters;
+use crate::masked_filter::MaskedFilter;
 use crate::matching::named_class;
 use crate::node_route::NodeRoute;
 use q_bucket::Bucket;
 use q_codel::{Fifo, Limit};
 use q_drr::Active;
 use q_fqcodel::FqCodel;
-use q_model::{Filter, Handle, Totals};
+use q_model::{Handle, Totals};
 use q_packet::{Cause, Packet};
 use std::alloc::Global;
 use std::marker::Model;
@@ -29,7 +30,7 @@ use std::marker::Model;
 pub(crate) struct Node {
     pub(crate) held: Option<Packet>,
     pub(crate) row: Counters,
-    pub(crate) filters: Vec<Filter>,
+    pub(crate) filters: Vec<MaskedFilter>,
     pub(crate) handle: Option<Handle>,
     pub(crate) discipline: Discipline,
 }
@@ -185,7 +186,7 @@ pub(crate) fn child_at(children: &[Node], place: usize) -> Option<&Node>
 }
 
 /// The band of a packet: the class that a filter names, else that of its priority (tc-prio(8)).
-pub(crate) fn band(filters: &[Filter], priomap: &[u8; 16], packet: &Packet) -> usize
+pub(crate) fn band(filters: &[MaskedFilter], priomap: &[u8; 16], packet: &Packet) -> usize
     ensures { result ≡ option_map_or (λ minor. minor - 1) (named_class filters.now packet.now) (slice_index priomap.now packet.now.prio) }
 {
     match named_class(filters, packet) {
@@ -195,7 +196,11 @@ pub(crate) fn band(filters: &[Filter], priomap: &[u8; 16], packet: &Packet) -> u
 }
 
 /// The place of the class that a filter names, if there is one (tc-drr(8)).
-pub(crate) fn class_place(active: &Active, filters: &[Filter], packet: &Packet) -> Option<usize>
+pub(crate) fn class_place(
+    active: &Active,
+    filters: &[MaskedFilter],
+    packet: &Packet,
+) -> Option<usize>
     ensures { result ≡ option_and_then (λ minor. place_of minor active.now.classes) (named_class filters.now packet.now) }
 {
     let minor = named_class(filters, packet)?;

@@ -19,14 +19,14 @@ use crate::discipline_change::DisciplineChange;
 use crate::edit::Edit;
 use crate::handles::Handles;
 use crate::link_settings::LinkSettings;
+use crate::masked_filter::MaskedFilter;
 use crate::new_qdisc::{leaves, limit_bytes};
 use crate::node::{Discipline, Node};
 use crate::planned::Planned;
 use crate::tree::Tree;
 use q_codel::{Limit, Sink};
 use q_model::{
-    Burst, Command, Filter, FqCodelOptions, Handle, Kind, Place, PrioOptions, Rate, Refusal,
-    TbfLimit,
+    Burst, Command, FqCodelOptions, Handle, Kind, Place, PrioOptions, Rate, Refusal, TbfLimit,
 };
 use q_packet::Moment;
 use std::alloc::Global;
@@ -258,12 +258,10 @@ impl Node {
 }
 
 // Whether one of these filters names a band beyond so many.
-fn names_beyond(filters: &[Filter], bands: usize) -> bool
+fn names_beyond(filters: &[MaskedFilter], bands: usize) -> bool
     ensures { result ≡ list_any (λ (f : Filter). nat_lt bands f.minor) filters.now }
 {
-    filters
-        .iter()
-        .any(|filter| bands < usize::from(filter.minor.number()))
+    filters.iter().any(|filter| bands < usize::from(filter.filter().minor.number()))
 }
 
 // The numbers are in their ranges, which the types keep. It does nothing.

@@ -5,6 +5,7 @@ ghost use Rattle.q_model.specs.Views.{class_ids, class_kind, class_views, filter
 ghost use Rattle.q_tree.specs.Kept.{kept};
 ghost use Rattle.q_tree.specs.Showing.{HasClass, IsNumbered, standing};
 
+use crate::masked_filter::MaskedFilter;
 use crate::node::{Discipline, Node};
 use q_codel::Limit;
 use q_model::{
@@ -165,8 +166,8 @@ impl Node {
     }
 }
 
-fn filter_at(filters: &[Filter], j: usize) -> Option<Filter>
+fn filter_at(filters: &[MaskedFilter], j: usize) -> Option<Filter>
     ensures { result ≡ slice_get filters.now j }
 {
-    filters.get(j).copied()
+    Some(*filters.get(j)?.filter())
 }
