@@ -1,17 +1,19 @@
 -- What one comparison under a mask says of the numbers of a key, and what it leaves of a search among filters.
 use Rattle.std.proofs.Common.{◌≡◌, ◌∙◌, ℕ, ◌+◌, ◌*◌, ◌^◌, ◌%◌, ◌<◌, ◌≤◌, suc, List, [], ◌∷◌, length, refl, sym, ap, ap₂, subst, Option, Some, None, arith}
-use Rattle.std.proofs.lemmas.Bool.{and_from, and_parts, eq-eqb, eqb-true}
+use Rattle.std.proofs.lemmas.Bool.{and_from, and_parts, eq-eqb, eqb-true, false≢true}
 use Rattle.std.proofs.lemmas.Bool.Decides.{same_from_decides}
 use Rattle.std.proofs.lemmas.Nat.{and_block, and_comm, and_le_l, and_mask, same_from_place}
-use Rattle.std.specs.Bool.{Decides}
 use Rattle.std.specs.List.{find}
 use Rattle.std.specs.Option.{option_map_or}
-use Rattle.std.specs.Prelude.{Bool, true, false, ◌&&◌, ◌==◌, bit_and, if◌then◌else◌, IfSome, slice_get, unwrap_or}
+use Rattle.std.specs.Prelude.{Bool, true, false, ◌&&◌, ◌==◌, bit_and, if◌then◌else◌, IfSome, is_some, slice_get, unwrap_or}
 use Rattle.q_packet.specs.Descriptor.{Descriptor}
-use Rattle.q_packet.specs.Key.{Key}
-use Rattle.q_model.specs.Filters.{agrees, is_of, matches}
+use Rattle.q_packet.specs.Key.{FitsBytes, IsKey, Key}
+use Rattle.q_packet.proofs.KeyLemmas.{FitsBytes-key}
+use Rattle.q_model.specs.Filters.{agrees, has_prefix, is_of, matches}
 use Rattle.q_model.specs.Ranges.{IsFilter}
 use Rattle.q_model.specs.declared.filter.Filter.{Filter}
+use Rattle.q_model.specs.declared.filter_keys.FilterKeys.{FilterKeys}
+use Rattle.q_model.specs.declared.ip_prefix.IpPrefix.{IpPrefix}
 use Rattle.q_model.specs.declared.protocol.Protocol.{Protocol}
 use Rattle.q_model.specs.declared.protocol.Protocol.TheVariants as protocol
 use Rattle.q_tree.specs.Matching.{before_taker, family_mask, family_wanted, mask_of, packed, takes_addresses, takes_numbers, wanted_of, word_of}
@@ -19,7 +21,7 @@ use Rattle.q_tree.specs.Matching.{before_taker, family_mask, family_wanted, mask
 -- ---- one number under its mask
 
 turned : (a b : ℕ) → (a == b) ≡ (b == a)
-turned a b = same_from_decides {a ≡ b} (a == b) (b == a) (eqb-true a b, eq-eqb a b) (λ e. sym (eqb-true b a e), λ e. eq-eqb b a (sym e))
+turned a b = same_from_decides {P = a ≡ b} (a == b) (b == a) (eqb-true a b, eq-eqb a b) (λ e. sym (eqb-true b a e), λ e. eq-eqb b a (sym e))
 
 port-masked : (o : Option ℕ) (n : ℕ) → n < 2 ^ 16 → (bit_and n (option_map_or (λ m. 65535) o 0) == unwrap_or o 0) ≡ agrees o (λ m. m == n)
 port-masked None n h = ap (λ x. x == 0) (and_comm n 0)
@@ -46,7 +48,7 @@ family-masked protocol.Ipv6 k h =
 
 same-block : (w x y r s : ℕ) → r < w → s < w → (x * w + r == y * w + s) ≡ (x == y && r == s)
 same-block w x y r s low less =
-    same_from_decides {(x ≡ y) × (r ≡ s)} (x * w + r == y * w + s) (x == y && r == s)
+    same_from_decides {P = (x ≡ y) × (r ≡ s)} (x * w + r == y * w + s) (x == y && r == s)
     (λ e. same_from_place x r y s w low less (eqb-true (x * w + r) (y * w + s) e), λ h. eq-eqb (x * w + r) (y * w + s) (ap₂ (λ a b. a * w + b) h.0 h.1))
     ((λ e. let both = and_parts (x == y) (r == s) e in (eqb-true x y both.0, eqb-true r s both.1)), λ h. and_from (x == y) (r == s) (eq-eqb x y h.0) (eq-eqb r s h.1))
 
@@ -82,19 +84,20 @@ proto-wanted None h = omega arith
 proto-wanted (Some n) h = omega (arith, h.1)
 
 -- one comparison tells of all numbers
-pub one-comparison : (f : Filter) (k : Key) → IsFilter f → k.sport < 2 ^ 16 → k.dport < 2 ^ 16 → k.proto < 2 ^ 8 → k.family < 2 ^ 8 → (bit_and (word_of k) (mask_of f) == wanted_of f) ≡ takes_numbers f k
-one-comparison f k range sport dport proto family =
+pub one-comparison : (f : Filter) (k : Key) → IsFilter f → IsKey k → (bit_and (word_of k) (mask_of f) == wanted_of f) ≡ takes_numbers f k
+one-comparison f k range key =
+    let fits : FitsBytes k = FitsBytes-key k key in
     let sm = option_map_or (λ m. 65535) f.keys.src_port 0 in
     let dm = option_map_or (λ m. 65535) f.keys.dst_port 0 in
     let pm = option_map_or (λ m. 255) f.keys.ip_proto 0 in
     let fm = family_mask f.protocol in
-    ap (λ x. x == wanted_of f) (packed-and k.sport k.dport k.proto k.family sm dm pm fm sport dport proto (port-mask f.keys.src_port) (port-mask f.keys.dst_port) (proto-mask f.keys.ip_proto))
+    ap (λ x. x == wanted_of f) (packed-and k.sport k.dport k.proto k.family sm dm pm fm key.sport key.dport key.proto (port-mask f.keys.src_port) (port-mask f.keys.dst_port) (proto-mask f.keys.ip_proto))
     ∙ packed-same (bit_and k.sport sm) (bit_and k.dport dm) (bit_and k.proto pm) (bit_and k.family fm) (unwrap_or f.keys.src_port 0) (unwrap_or f.keys.dst_port 0) (unwrap_or f.keys.ip_proto 0) (family_wanted f.protocol)
-        (below-and k.sport sm (2 ^ 16) sport) (below-and k.dport dm (2 ^ 16) dport) (below-and k.proto pm (2 ^ 8) proto)
-        (port-wanted f.keys.src_port range.src_port) (port-wanted f.keys.dst_port range.dst_port) (proto-wanted f.keys.ip_proto range.ip_proto)
+    (below-and k.sport sm (2 ^ 16) key.sport) (below-and k.dport dm (2 ^ 16) key.dport) (below-and k.proto pm (2 ^ 8) key.proto)
+    (port-wanted f.keys.src_port range.src_port) (port-wanted f.keys.dst_port range.dst_port) (proto-wanted f.keys.ip_proto range.ip_proto)
     ∙ all-four (bit_and k.family fm == family_wanted f.protocol) (bit_and k.proto pm == unwrap_or f.keys.ip_proto 0) (bit_and k.dport dm == unwrap_or f.keys.dst_port 0) (bit_and k.sport sm == unwrap_or f.keys.src_port 0)
-        (is_of f.protocol k) (agrees f.keys.ip_proto (λ n. n == k.proto)) (agrees f.keys.src_port (λ n. n == k.sport)) (agrees f.keys.dst_port (λ n. n == k.dport))
-        (family-masked f.protocol k family) (proto-masked f.keys.ip_proto k.proto proto) (port-masked f.keys.dst_port k.dport dport) (port-masked f.keys.src_port k.sport sport)
+    (is_of f.protocol k) (agrees f.keys.ip_proto (λ n. n == k.proto)) (agrees f.keys.src_port (λ n. n == k.sport)) (agrees f.keys.dst_port (λ n. n == k.dport))
+    (family-masked f.protocol k fits.family) (proto-masked f.keys.ip_proto k.proto key.proto) (port-masked f.keys.dst_port k.dport key.dport) (port-masked f.keys.src_port k.sport key.sport)
   where
     swapped : (a b c d : Bool) → (a && b && c && d) ≡ (a && b && d && c)
     swapped a b true true = refl
@@ -132,27 +135,35 @@ by-kind p f = reorder (is_of f.protocol p.key) _ _ _ _ _
 -- where no filter takes the numbers of a packet, none takes it
 pub none-takes : (p : Descriptor) (fs : List Filter) → length fs ≤ before_taker p.key fs → find (matches p) fs ≡ None
 none-takes p [] h = refl
-none-takes p (f ∷ fs) h = by (takes_numbers f p.key) refl
+none-takes p (f ∷ fs) h = by (takes_numbers f p.key) refl (none-takes p fs)
   where
-    by : (b : Bool) → takes_numbers f p.key ≡ b → find (matches p) (f ∷ fs) ≡ None
-    by true is = absurd (omega (arith, subst (λ b. length (f ∷ fs) ≤ (if b then 0 else suc (before_taker p.key fs))) is h))
-    by false is =
+    by : (b : Bool) → takes_numbers f p.key ≡ b → (length fs ≤ before_taker p.key fs → find (matches p) fs ≡ None) → find (matches p) (f ∷ fs) ≡ None
+    by true is rest = absurd (omega (arith, subst (λ b. length (f ∷ fs) ≤ (if b then 0 else suc (before_taker p.key fs))) is h))
+    by false is rest =
         let other : matches p f ≡ false = by-kind p f ∙ ap (λ b. b && takes_addresses f.keys p.key) is in
-        let rest : length fs ≤ before_taker p.key fs = omega (arith, subst (λ b. length (f ∷ fs) ≤ (if b then 0 else suc (before_taker p.key fs))) is h) in
-        ap (λ b. if b then Some f else find (matches p) fs) other ∙ none-takes p fs rest
+        let behind : length fs ≤ before_taker p.key fs = omega (arith, subst (λ b. length (f ∷ fs) ≤ (if b then 0 else suc (before_taker p.key fs))) is h) in
+        ap (λ b. if b then Some f else find (matches p) fs) other ∙ rest behind
 
 -- the first that takes the numbers is the one where it takes the addresses too
 pub first-takes : (p : Descriptor) (fs : List Filter) (g : Filter) → slice_get fs (before_taker p.key fs) ≡ Some g → takes_addresses g.keys p.key ≡ true → find (matches p) fs ≡ Some g
 first-takes p [] g there addresses = cc
-first-takes p (f ∷ fs) g there addresses = by (takes_numbers f p.key) refl
+first-takes p (f ∷ fs) g there addresses = by (takes_numbers f p.key) refl (λ behind. first-takes p fs g behind addresses)
   where
-    by : (b : Bool) → takes_numbers f p.key ≡ b → find (matches p) (f ∷ fs) ≡ Some g
-    by true is =
+    by : (b : Bool) → takes_numbers f p.key ≡ b → (slice_get fs (before_taker p.key fs) ≡ Some g → find (matches p) fs ≡ Some g) → find (matches p) (f ∷ fs) ≡ Some g
+    by true is rest =
         let found : Some f ≡ Some g = subst (λ b. slice_get (f ∷ fs) (if b then 0 else suc (before_taker p.key fs)) ≡ Some g) is there in
         let same : f ≡ g = cc in
         let taken : matches p f ≡ true = by-kind p f ∙ ap (λ b. b && takes_addresses f.keys p.key) is ∙ ap (λ (x : Filter). takes_addresses x.keys p.key) same ∙ addresses in
         ap (λ b. if b then Some f else find (matches p) fs) taken ∙ found
-    by false is =
+    by false is rest =
         let other : matches p f ≡ false = by-kind p f ∙ ap (λ b. b && takes_addresses f.keys p.key) is in
         let behind : slice_get fs (before_taker p.key fs) ≡ Some g = subst (λ b. slice_get (f ∷ fs) (if b then 0 else suc (before_taker p.key fs)) ≡ Some g) is there in
-        ap (λ b. if b then Some f else find (matches p) fs) other ∙ first-takes p fs g behind addresses
+        ap (λ b. if b then Some f else find (matches p) fs) other ∙ rest behind
+
+-- no address is asked where none is given
+no-prefix : (o : Option IpPrefix) (holds : IpPrefix → Bool) → is_some o ≡ false → agrees o holds ≡ true
+no-prefix None holds h = refl
+no-prefix (Some p) holds h = absurd (false≢true (sym h))
+
+pub no-addresses : (keys : FilterKeys) (k : Key) → is_some keys.src_ip ≡ false → is_some keys.dst_ip ≡ false → takes_addresses keys k ≡ true
+no-addresses keys k src dst = ap₂ (λ a b. a && b) (no-prefix keys.src_ip (λ p. has_prefix p k k.src) src) (no-prefix keys.dst_ip (λ p. has_prefix p k k.dst) dst)
