@@ -125,8 +125,7 @@ drr::serve-turn-requires-clause-in_range g t c =
     let class_shows = class-shown c.args.now c.args.active.now c.loop-place.active c.args.classes.now c.loop-place.classes c.loop-place.unasked c.loop-place.shown told c.requires.ready c.loop-place.invariant.0 at.class c.front_place.ensures.lawful front c.in-Some.place place c.index-classes-place.result c.ask_class-shown.new.class c.ask_class-shown.result (g.S.Sink.losses c.ask_class-shown.new.sink) (g.S.Sink.room c.ask_class-shown.new.sink)
     c.ask_class-shown.ensures.asked c.ask_class-shown.ensures.told c.ask_class-shown.ensures.at_hand c.ask_class-shown.ensures.not_lost in
     let offer = shown-len c.ask_class-shown.result.packet c.packet_len.result c.in-Some-packet_len.len c.packet_len.ensures.some c.in-Some-packet_len.is in
-    let len = sym offer.2 in
-    omega (arith, short-enough c.args.now c.args.active.now c.loop-place.active c.args.classes.now c.loop-place.classes c.loop-place.unasked c.loop-place.shown told c.requires.ready c.loop-place.invariant.0 at.class c.front_place.ensures.lawful front c.in-Some.place place offer.0 (sym class_shows.shown ∙ offer.1), len)
+    omega (arith, short-enough c.args.now c.args.active.now c.loop-place.active c.args.classes.now c.loop-place.classes c.loop-place.unasked c.loop-place.shown told c.requires.ready c.loop-place.invariant.0 at.class c.front_place.ensures.lawful front c.in-Some.place place offer.0 (sym class_shows.shown ∙ offer.1), (sym offer.2))
 
 pub drr::serve-give-requires : goal.drr::serve-give-requires
 drr::serve-give-requires g t c =
@@ -246,21 +245,18 @@ drr::serve-loop-place-preserved g t c =
 pub drr::serve-returns-clause-active : goal.drr::serve-returns-clause-active
 drr::serve-returns-clause-active g t c =
     let told : SinkTold = record { losses = g.S.Sink.losses c.args.sink.now; losses_now = g.S.Sink.losses c.loop-place.sink; room = g.S.Sink.room c.args.sink.now; room_now = g.S.Sink.room c.loop-place.sink } in
-    let nobody = empty_front c.loop-place.active (nobody-at c.loop-place.active _ c.in_default.is c.front_place.ensures.found) in
-    λ own. idle-schedule c.args.now c.args.active.now c.loop-place.active c.args.classes.now c.loop-place.classes c.loop-place.unasked c.loop-place.shown told c.requires.ready c.loop-place.invariant.0 c.front_place.ensures.lawful nobody own
+    λ own. idle-schedule c.args.now c.args.active.now c.loop-place.active c.args.classes.now c.loop-place.classes c.loop-place.unasked c.loop-place.shown told c.requires.ready c.loop-place.invariant.0 c.front_place.ensures.lawful (empty_front c.loop-place.active (nobody-at c.loop-place.active _ c.in_default.is c.front_place.ensures.found)) own
 
 pub drr::serve-returns-clause-after : goal.drr::serve-returns-clause-after
 drr::serve-returns-clause-after g t c =
     let told : SinkTold = record { losses = g.S.Sink.losses c.args.sink.now; losses_now = g.S.Sink.losses c.loop-place.sink; room = g.S.Sink.room c.args.sink.now; room_now = g.S.Sink.room c.loop-place.sink } in
-    let nobody = empty_front c.loop-place.active (nobody-at c.loop-place.active _ c.in_default.is c.front_place.ensures.found) in
-    λ own. idle-asked c.args.now c.args.active.now c.loop-place.active c.args.classes.now c.loop-place.classes c.loop-place.unasked c.loop-place.shown told c.requires.ready c.loop-place.invariant.0 c.front_place.ensures.lawful nobody c.at_hand.result (ap (λ (s : Shown). s.packet) c.at_hand.ensures)
+    λ own. idle-asked c.args.now c.args.active.now c.loop-place.active c.args.classes.now c.loop-place.classes c.loop-place.unasked c.loop-place.shown told c.requires.ready c.loop-place.invariant.0 c.front_place.ensures.lawful (empty_front c.loop-place.active (nobody-at c.loop-place.active _ c.in_default.is c.front_place.ensures.found)) c.at_hand.result (ap (λ (s : Shown). s.packet) c.at_hand.ensures)
     (record { dropped = ap (λ (s : Shown). s.dropped) c.at_hand.ensures; marked = ap (λ (s : Shown). s.marked) c.at_hand.ensures }) own
 
 pub drr::serve-returns-clause-told : goal.drr::serve-returns-clause-told
 drr::serve-returns-clause-told g t c =
     let told : SinkTold = record { losses = g.S.Sink.losses c.args.sink.now; losses_now = g.S.Sink.losses c.loop-place.sink; room = g.S.Sink.room c.args.sink.now; room_now = g.S.Sink.room c.loop-place.sink } in
-    let nobody = empty_front c.loop-place.active (nobody-at c.loop-place.active _ c.in_default.is c.front_place.ensures.found) in
-    λ own. idle-told c.args.now c.args.active.now c.loop-place.active c.args.classes.now c.loop-place.classes c.loop-place.unasked c.loop-place.shown told c.requires.ready c.loop-place.invariant.0 c.front_place.ensures.lawful nobody own
+    λ own. idle-told c.args.now c.args.active.now c.loop-place.active c.args.classes.now c.loop-place.classes c.loop-place.unasked c.loop-place.shown told c.requires.ready c.loop-place.invariant.0 c.front_place.ensures.lawful (empty_front c.loop-place.active (nobody-at c.loop-place.active _ c.in_default.is c.front_place.ensures.found)) own
 
 pub drr::serve-returns-clause-kept : goal.drr::serve-returns-clause-kept
 drr::serve-returns-clause-kept g t c = c.loop-place.invariant.1
@@ -282,9 +278,8 @@ node::Discipline::ask-returns-in-Prio-clause-after g t c = λ handle filters.
 pub node::Discipline::ask-returns-in-Prio-clause-told :
     goal.node::Discipline::ask-returns-in-Prio-clause-told
 node::Discipline::ask-returns-in-Prio-clause-told g t c = λ handle filters.
-    let kids = sym (c.deref_mut.ensures.value ∙ sym (ap children_seen c.in-Prio.is)) in
     told-in c.args.now handle filters c.args.self.now (spec.Prio c.in-Prio.priomap) c.deref_mut.result.now (g.S.Sink.losses c.args.sink.now) (g.S.Sink.losses c.ask_bands.new.sink) (g.S.Sink.room c.args.sink.now) (g.S.Sink.room c.ask_bands.new.sink)
-    (ap discipline_seen c.in-Prio.is) kids (c.ask_bands.ensures.told (own_of handle filters (spec.Prio c.in-Prio.priomap)))
+    (ap discipline_seen c.in-Prio.is) (sym (c.deref_mut.ensures.value ∙ sym (ap children_seen c.in-Prio.is))) (c.ask_bands.ensures.told (own_of handle filters (spec.Prio c.in-Prio.priomap)))
 
 pub node::Discipline::ask-returns-in-Tbf-clause-after :
     goal.node::Discipline::ask-returns-in-Tbf-clause-after
@@ -298,9 +293,8 @@ pub node::Discipline::ask-returns-in-Tbf-clause-told :
     goal.node::Discipline::ask-returns-in-Tbf-clause-told
 node::Discipline::ask-returns-in-Tbf-clause-told g t c = λ handle filters.
     let own = own_of handle filters (spec.Tbf c.in-Tbf.bucket c.in-Tbf.limit) in
-    let kids = ap children_seen c.in-Tbf.is ∙ ap (λ x. x ∷ []) (sym c.deref_mut-in-Tbf.ensures.value) in
     told-in c.args.now handle filters c.args.self.now (spec.Tbf c.in-Tbf.bucket c.in-Tbf.limit) (c.deref_mut-in-Tbf.result.now ∷ []) (g.S.Sink.losses c.args.sink.now) (g.S.Sink.losses c.ask_child.new.sink) (g.S.Sink.room c.args.sink.now) (g.S.Sink.room c.ask_child.new.sink)
-    (ap discipline_seen c.in-Tbf.is) kids (c.ask_child.ensures.told own c.in-Tbf.limit)
+    (ap discipline_seen c.in-Tbf.is) (ap children_seen c.in-Tbf.is ∙ ap (λ x. x ∷ []) (sym c.deref_mut-in-Tbf.ensures.value)) (c.ask_child.ensures.told own c.in-Tbf.limit)
 
 pub node::Discipline::ask-serve-requires : goal.node::Discipline::ask-serve-requires
 node::Discipline::ask-serve-requires g t c κs within =
@@ -319,9 +313,8 @@ node::Discipline::ask-returns-in-Drr-clause-after g t c = λ handle filters.
 pub node::Discipline::ask-returns-in-Drr-clause-told :
     goal.node::Discipline::ask-returns-in-Drr-clause-told
 node::Discipline::ask-returns-in-Drr-clause-told g t c = λ handle filters.
-    let kids = sym (c.deref_mut-in-Drr.ensures.value ∙ sym (ap children_seen c.in-Drr.is)) in
     told-in c.args.now handle filters c.args.self.now (spec.Drr c.in-Drr.active) c.deref_mut-in-Drr.result.now (g.S.Sink.losses c.args.sink.now) (g.S.Sink.losses c.serve.new.sink) (g.S.Sink.room c.args.sink.now) (g.S.Sink.room c.serve.new.sink)
-    (ap discipline_seen c.in-Drr.is) kids (c.serve.ensures.told (own_of handle filters (spec.Drr c.in-Drr.active)))
+    (ap discipline_seen c.in-Drr.is) (sym (c.deref_mut-in-Drr.ensures.value ∙ sym (ap children_seen c.in-Drr.is))) (c.serve.ensures.told (own_of handle filters (spec.Drr c.in-Drr.active)))
 
 pub node::Discipline::ask-take_from_flows-requires :
     goal.node::Discipline::ask-take_from_flows-requires
