@@ -16,11 +16,11 @@ ghost use Rattle.q_device.specs.DeviceLaws.{HasItsMemory, IsReplayed};
 ghost use Rattle.q_device.specs.DeviceSeen.{IsRefusal, as_counted, most_events, opened, polled_memory, reaped, with_event, HasNoFewerPlaces, HasRoomFor, IsCommanded, IsRefusedAt};
 ghost use Rattle.q_device.specs.Giving.{given_of, polled_in};
 
-use crate::given::Given;
+use crate::given::{Given, SOME_PACKET};
 use crate::recording::{record_arrival, record_command, record_poll};
 use q_codel::{Loss as Lost, Losses};
 use q_model::{Command, Event, Fate, Place, Polled, Refusal, Row, Settings, packet_ranges};
-use q_packet::{Ecn, FlowKey, Moment, Packet};
+use q_packet::{Moment, Packet};
 use q_tree::Tree;
 use std::alloc::{AllocError, Global};
 use std::marker::Model;
@@ -62,25 +62,6 @@ impl Model for Device {
 
     ghost invariant = { IsKeptDevice };
 }
-
-// What a place has before a packet was written there: any would do.
-const SOME_PACKET: Packet = Packet {
-    key: FlowKey {
-        family: 0,
-        proto: 0,
-        src: 0,
-        dst: 0,
-        sport: 0,
-        dport: 0,
-    },
-    number: 0,
-    port: 0,
-    buf: 0,
-    hash: 0,
-    len: 1,
-    prio: 0,
-    ecn: Ecn::NotEct,
-};
 
 impl Device {
     /// A new device with an implicit root, to which nothing has happened. The recorder's room is taken here.

@@ -25,7 +25,7 @@ mod playing;
 mod recording;
 
 pub use crate::device::Device;
-pub use crate::given::Given;
+pub use crate::given::{Given, SOME_PACKET};
 pub use playing::{Replies, play};
 pub use q_codel::Loss as Lost;
 pub use q_model::{Event, Fate, Polled, Reply, Settings};

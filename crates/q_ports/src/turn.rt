@@ -10,30 +10,11 @@ use crate::booked::Booked;
 use crate::intake::Intake;
 use crate::publisher::Publisher;
 use crate::told::Told;
-use q_device::Given;
-use q_packet::{Ecn, FlowKey, Moment, Packet};
+use q_device::{Given, SOME_PACKET};
+use q_packet::{Moment, Packet};
 use std::alloc::{AllocError, Global};
 use std::sync::Wait;
 use std::sync::ledger::Ledger;
-
-// What a place has before a packet was written there: any would do.
-const SOME_PACKET: Packet = Packet {
-    key: FlowKey {
-        family: 0,
-        proto: 0,
-        src: 0,
-        dst: 0,
-        sport: 0,
-        dport: 0,
-    },
-    number: 0,
-    port: 0,
-    buf: 0,
-    hash: 0,
-    len: 1,
-    prio: 0,
-    ecn: Ecn::NotEct,
-};
 
 /// What a turn of the drain did.
 #[derive(Drop)]

@@ -10,28 +10,9 @@ use crate::c_device::CDevice;
 use crate::c_packet::CPacket;
 use crate::codes::{DONE, IDLE, IS_CLOSED, LATER, OUT_OF_RANGE};
 use crate::steps;
-use q_device::{Device, Given};
-use q_packet::{Ecn, FlowKey, Moment, Packet};
+use q_device::{Device, Given, SOME_PACKET};
+use q_packet::{Moment, Packet};
 use std::alloc::Global;
-
-// What the place of a packet has before one is given there: any would do.
-const SOME_PACKET: Packet = Packet {
-    key: FlowKey {
-        family: 0,
-        proto: 0,
-        src: 0,
-        dst: 0,
-        sport: 0,
-        dport: 0,
-    },
-    number: 0,
-    port: 0,
-    buf: 0,
-    hash: 0,
-    len: 1,
-    prio: 0,
-    ecn: Ecn::NotEct,
-};
 
 /// Takes the packet whose turn it is.
 #[unsafe(no_mangle)]
