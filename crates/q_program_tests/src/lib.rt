@@ -1,5 +1,6 @@
-//! Tests of the whole program: scripts with their reports, drives with what they come to, command lines with their answers, show texts
-//! of a tree, readers and writers that are slow or fail, and what the error output says. Drives start threads.
+//! Tests of the whole program: scripts with their reports, and line by line on a device, drives with what they come to, command lines
+//! with their answers, show texts of a tree, readers and writers that are slow or fail, and what the error output says. Drives start
+//! threads.
 //!
 //! They stand here so that `q_session`, `q_drive` and `q_options` are proved once. The crate exports nothing.
 #![tactic(auto)]
@@ -17,11 +18,17 @@ mod explanations;
 #[cfg(test)]
 mod imports;
 #[cfg(test)]
+mod line_runner;
+#[cfg(test)]
 mod lines;
 #[cfg(test)]
 mod messages;
 #[cfg(test)]
 mod runs;
+#[cfg(test)]
+mod scripts_on_a_device;
+#[cfg(test)]
+mod seen;
 #[cfg(test)]
 mod shows;
 #[cfg(test)]

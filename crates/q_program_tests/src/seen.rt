@@ -1,0 +1,91 @@
+use q_device::Device;
+use q_model::{NodeView, Row, Totals};
+use q_packet::Moment;
+use q_session::{show_classes, show_filters, show_qdiscs};
+use std::alloc::Global;
+use std::test::Fail;
+
+/// The most nodes that a tree has.
+const NODES: usize = 256;
+
+/// All that is seen of a device without a change of it, but for the losses that wait: its counters, every node with its row, and
+/// what tc's show lines print of qdiscs, classes and filters.
+#[derive(Drop)]
+pub struct Seen {
+    totals: Row,
+    clock: Moment,
+    events: u64,
+    recorded: usize,
+    nodes: Vec<NodeView>,
+    texts: Vec<u8>,
+}
+
+impl Seen {
+    /// What is seen of a device, at the second look where memory is refused.
+    pub fn of(alloc: Global, device: &Device) -> Result<Seen, Fail> {
+        match look(alloc, device) {
+            Some(seen) => Ok(seen),
+            None => Ok(look(alloc, device).ok_or("refused twice")?),
+        }
+    }
+
+    /// Whether nothing that is seen differs.
+    pub fn is_same(&self, other: &Seen) -> bool {
+        self.totals == other.totals
+            && self.clock == other.clock
+            && self.events == other.events
+            && self.recorded == other.recorded
+            && self.nodes.as_slice() == other.nodes.as_slice()
+            && self.texts.as_slice() == other.texts.as_slice()
+    }
+
+    /// Whether at the device and at every node arrived is sent, refused, dropped and queued together.
+    pub fn is_balanced(&self) -> bool {
+        for node in &self.nodes {
+            if !adds_up(&node.row) {
+                return false;
+            }
+        }
+        adds_up(&self.totals)
+    }
+}
+
+// `None` where memory is refused.
+fn look(alloc: Global, device: &Device) -> Option<Seen> {
+    let tree = device.tree();
+    let mut nodes = Vec::with_capacity(alloc, NODES).ok()?;
+    for at in 0..NODES {
+        if let Some(node) = tree.node(at) {
+            nodes.push(node).ok()?;
+        }
+    }
+    let mut texts = Vec::new(alloc);
+    show_qdiscs(alloc, tree, true, &mut texts).ok()?;
+    show_classes(alloc, tree, &mut texts).ok()?;
+    show_filters(alloc, tree, &mut texts).ok()?;
+    Some(Seen {
+        totals: device.totals(),
+        clock: device.clock(),
+        events: device.events(),
+        recorded: device.recorded().len(),
+        nodes,
+        texts,
+    })
+}
+
+// Whether arrived is sent, refused, dropped and queued together, in packets and in bytes.
+fn adds_up(row: &Row) -> bool {
+    let packets = row
+        .sent
+        .packets
+        .saturating_add(row.refused.packets)
+        .saturating_add(row.dropped.packets)
+        .saturating_add(row.queued.packets);
+    let bytes = row
+        .sent
+        .bytes
+        .saturating_add(row.refused.bytes)
+        .saturating_add(row.dropped.bytes)
+        .saturating_add(row.queued.bytes);
+    row.arrived == Totals { packets, bytes }
+}
