@@ -4,8 +4,8 @@
 //! changed nothing that is seen, and the same line with memory is then done.
 use crate::line_runner::LineRunner;
 use crate::runs::TWO_OF_THREE;
-use crate::seen::Seen;
-use q_device::{Event, Refusal};
+use crate::seen::adds_up;
+use q_device::{Event, Place, Refusal};
 use std::test::Fail;
 
 // A drr whose fq_codel is removed with its packets.
@@ -129,6 +129,7 @@ fn a_recorder_of_two_keeps_the_first_two_events(rt: HostRuntime) -> Result<(), F
         return Err(Fail::from("not the command and the first arrival"));
     };
     assert_eq!(rt; (first.number, first.len), (1, 100));
-    assert!(rt; Seen::of(alloc, device)?.is_balanced());
+    let root = device.stats(Place::Root).ok_or("a root")?;
+    assert!(rt; adds_up(&root) && adds_up(&device.totals()));
     Ok(())
 }

@@ -1,22 +1,18 @@
 use q_device::Device;
-use q_model::{NodeView, Row, Totals};
+use q_model::{Row, Totals};
 use q_packet::Moment;
 use q_session::{show_classes, show_filters, show_qdiscs};
 use std::alloc::Global;
 use std::test::Fail;
 
-/// The most nodes that a tree has.
-const NODES: usize = 256;
-
-/// All that is seen of a device without a change of it, but for the losses that wait: its counters, every node with its row, and
-/// what tc's show lines print of qdiscs, classes and filters.
+/// All that is seen of a device without a change of it, but for the losses that wait: its counters, and
+/// what tc's show lines print of qdiscs with theirs, of classes and of filters.
 #[derive(Drop)]
 pub struct Seen {
     totals: Row,
     clock: Moment,
     events: u64,
     recorded: usize,
-    nodes: Vec<NodeView>,
     texts: Vec<u8>,
 }
 
@@ -35,30 +31,13 @@ impl Seen {
             && self.clock == other.clock
             && self.events == other.events
             && self.recorded == other.recorded
-            && self.nodes.as_slice() == other.nodes.as_slice()
             && self.texts.as_slice() == other.texts.as_slice()
-    }
-
-    /// Whether at the device and at every node arrived is sent, refused, dropped and queued together.
-    pub fn is_balanced(&self) -> bool {
-        for node in &self.nodes {
-            if !adds_up(&node.row) {
-                return false;
-            }
-        }
-        adds_up(&self.totals)
     }
 }
 
 // `None` where memory is refused.
 fn look(alloc: Global, device: &Device) -> Option<Seen> {
     let tree = device.tree();
-    let mut nodes = Vec::with_capacity(alloc, NODES).ok()?;
-    for at in 0..NODES {
-        if let Some(node) = tree.node(at) {
-            nodes.push(node).ok()?;
-        }
-    }
     let mut texts = Vec::new(alloc);
     show_qdiscs(alloc, tree, true, &mut texts).ok()?;
     show_classes(alloc, tree, &mut texts).ok()?;
@@ -68,13 +47,12 @@ fn look(alloc: Global, device: &Device) -> Option<Seen> {
         clock: device.clock(),
         events: device.events(),
         recorded: device.recorded().len(),
-        nodes,
         texts,
     })
 }
 
-// Whether arrived is sent, refused, dropped and queued together, in packets and in bytes.
-fn adds_up(row: &Row) -> bool {
+/// Whether arrived is sent, refused, dropped and queued together, in packets and in bytes.
+pub fn adds_up(row: &Row) -> bool {
     let packets = row
         .sent
         .packets
