@@ -102,12 +102,11 @@ impl Bucket {
         ensures kept { OnFalse result (self.new ≡ self.old) }
     {
         let brought = brought_at(self.rate, now);
-        let cost = u128::from(u64::from(len) * UNITS_IN_BYTE);
-        // It is not asked whether the bucket is full: a branch on that is often guessed wrong.
-        if u32::from(len) > self.burst || self.full_at > brought + self.capacity - cost {
+        let missing = self.missing_at(brought) + u128::from(u64::from(len) * UNITS_IN_BYTE);
+        if missing > self.capacity {
             return false;
         }
-        self.full_at = self.full_at.max(brought) + cost;
+        self.full_at = brought + missing;
         self.last = now;
         true
     }
