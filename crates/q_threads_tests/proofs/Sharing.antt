@@ -19,6 +19,7 @@ use Rattle.q_model.proofs.handle.Handle.TheSendSync as handle
 use Rattle.q_model.proofs.row.Row.TheSendSync as row
 use Rattle.q_model.proofs.settings.Settings.TheSendSync as settings
 use Rattle.q_tree.proofs.handles.Handles.TheSendSync as handles
+use Rattle.q_tree.proofs.masked_filter.MaskedFilter.TheSendSync as masked_filter
 use Rattle.q_tree.proofs.node.Node.TheLaws.TheKnot as knot
 use Rattle.q_device.specs.contracts.device.Device as Device
 use Rattle.q_ports.specs.contracts.booked.Booked as Booked
@@ -26,7 +27,7 @@ use Rattle.q_ports.specs.contracts.booked.Booked.TheInside as Inside
 
 -- a device may go to another thread: all that it owns may
 device_send : IsSend Device.the_row
-device_send = search (settings.the_send, moment.the_send, losses.the_send, event.the_send, row.the_send, handles.the_send, handle.the_send, packet.the_send, filter.the_send, fifo.the_send, bucket.the_send, active.the_send, flows.the_send, crossing.crosses, knot.crosses, sendable) depth 60 fits 20000
+device_send = search (settings.the_send, moment.the_send, losses.the_send, event.the_send, row.the_send, handles.the_send, handle.the_send, packet.the_send, filter.the_send, masked_filter.the_send, fifo.the_send, bucket.the_send, active.the_send, flows.the_send, crossing.crosses, knot.crosses, sendable) depth 60 fits 20000
 
 -- so may a device with its books
 booked_send : (T U : RattleType) (g : Ghosts T.Denot) (h : Ghosts U.Denot) → IsSend (Booked.the_row T U g h)
