@@ -453,6 +453,7 @@ fn send_from<S: Sink>(
 }
 
 // Lets a flow, which has a packet, send into `out`, and says whether the packet was marked.
+#[inline(always)]
 fn send_from_into<S: Sink>(
     pool: &mut Pool,
     codel: &mut ControlState,
