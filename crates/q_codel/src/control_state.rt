@@ -1,4 +1,4 @@
-ghost use Rattle.std.specs.Prelude.{◌≡◌, ◌≤◌, ◌<◌, ◌+◌, ◌^◌, ◌↔◌, ◌∷◌, ◌++◌, List, true, false, drop, take, option_map, IsSome};
+ghost use Rattle.std.specs.Prelude.{◌≡◌, ◌≤◌, ◌<◌, ◌+◌, ◌^◌, ◌↔◌, ◌∷◌, ◌++◌, List, true, false, drop, take, option_map, IsSome, IfSome, IfNone};
 ghost use Rattle.std.specs.Option.{option_map_or};
 ghost use Rattle.q_packet.specs.Totals.{count, size};
 ghost use Rattle.q_packet.specs.declared.stamped.Stamped.{Stamped};
@@ -182,6 +182,29 @@ impl ControlState {
             out.ecn = Ecn::Ce;
         }
         Some(marked)
+    }
+
+    /// What is kept once the head goes as it stands; `None` where it is late, and [`ControlState::take_into`] is to drop or mark.
+    ///
+    /// `front` is what is looked at of the head, and `behind` the bytes of all packets behind it.
+    pub fn passed(
+        &self,
+        parameters: &Parameters,
+        front: &Front,
+        behind: u64,
+        now: Moment,
+    ) -> Option<ControlState>
+        ensures passed { IfSome result (λ after. (head : Stamped) (rest : List Stamped) → front.now ≡ front_of head → behind ≡ size rest
+            → Chooses (joined parameters.now self.now) now (head ∷ rest) head false rest (joined parameters.now after)) }
+        ensures late { IfNone result ((head : Stamped) (rest : List Stamped) → front.now ≡ front_of head → behind ≡ size rest
+            → is_late (joined parameters.now self.now) now (head ∷ rest) ≡ true) }
+    {
+        let mut after = *self;
+        if after.should_drop(parameters, front, behind, now) {
+            return None;
+        }
+        after.dropping = false;
+        Some(after)
     }
 
     // Drops heads as the law says, until the one to be sent is in front, and answers whether it is to be marked.
