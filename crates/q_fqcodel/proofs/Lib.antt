@@ -16,6 +16,7 @@ pub mod MovedLemmas
 pub mod NewFlowLemmas
 pub mod NodesLemmas
 pub mod OrderLemmas
+pub mod PassedLemmas
 pub mod PoolLemmas
 pub mod PooledLemmas
 pub mod PutLemmas

@@ -1,18 +1,19 @@
 -- Both lists of flows at once: what one of them is after a change of it, and the other one.
-use Rattle.std.proofs.Common.{◌≡◌, ◌≢◌, ℕ, zero, suc, ◌<◌, ◌≤◌, Bool, true, false, not, ◌==◌, ◌||◌, List, [], ◌∷◌, ◌++◌, length, set, replicate, slice_get, if◌then◌else◌, Some, None, IfSome, refl, sym, ap, ◌∙◌, arith, subst, ⊎_elim, ◌⊎◌, inl, inr}
+use Rattle.std.proofs.Common.{◌≡◌, ◌≢◌, ℕ, zero, suc, ◌<◌, ◌≤◌, Bool, true, false, not, ◌==◌, ◌||◌, List, [], ◌∷◌, ◌++◌, length, set, drop, replicate, slice_get, if◌then◌else◌, Some, None, IfSome, refl, sym, ap, ◌∙◌, arith, subst, ⊎_elim, ◌⊎◌, inl, inr}
 use Rattle.std.proofs.Math.ListN.{length-replicate}
+use Rattle.std.proofs.lemmas.List.{length-set}
 use Rattle.std.proofs.lemmas.Bool.{false≢true, cond-true, cond-false, eqb-true, eqb-false, not-true, not-false}
 use Rattle.std.proofs.lemmas.List.{nil_from_length}
 use Rattle.q_fqcodel.specs.Entry.{Entry}
 use Rattle.q_fqcodel.specs.Linked.{IsChain}
-use Rattle.q_fqcodel.specs.Links.{ListsState, no_link, no_ends, link_of, where_listed, link_at, listing, IsAt, entries_in, IsLine, IsLists}
+use Rattle.q_fqcodel.specs.Links.{ListsState, no_link, no_ends, link_of, where_listed, link_at, listing, IsAt, entries_in, IsLine, IsLists, KeepsLines}
 use Rattle.q_fqcodel.specs.Put.{is_listed}
 use Rattle.q_fqcodel.specs.declared.ends.Ends.{Ends}
 use Rattle.q_fqcodel.specs.declared.link.Link.{Link}
 use Rattle.q_fqcodel.specs.declared.place.Place.{Place}
 use Rattle.q_fqcodel.specs.declared.place.Place.TheVariants.{Unlisted, Fresh, Stale}
 use Rattle.q_fqcodel.proofs.LinkedLemmas.{length-chain}
-use Rattle.q_fqcodel.proofs.LinkLemmas.{no_entries, front_entry, listed_there, free_at}
+use Rattle.q_fqcodel.proofs.LinkLemmas.{no_entries, front_entry, listed_there, free_at, head_within, renewed_entries, renewed_line, renewed_keeps}
 
 pub counted : (links : List Link) (place : Place) (ends : Ends) → IsLine links place ends → length (entries_in links ends) ≡ ends.count
 counted links place ends line = length-chain listing (IsAt place) (link_at links) ends.tail ends.count ends.head line.linked
@@ -45,8 +46,77 @@ written_old new_flows old_flows e h =
       sym (cond-true (length new_flows == 0) (set old_flows 0 e) old_flows (not-false (length new_flows == 0) h)),
     )
 
+pub some_or_none : (n : ℕ) → (0 < n) ⊎ (n ≡ 0)
+some_or_none zero = inr refl
+some_or_none (suc n) = inl (omega arith)
+
+-- the link of the flow in front is written, which is found by the flow's index
+module _ (links : List Link) (place : Place) (ends : Ends) (some : 0 < ends.count) (line : IsLine links place ends) (e : Entry) (own : ends.head ≡ e.flow) where
+  abbrev paid : List Link
+  paid = set links e.flow (record (link_of links e.flow) { credits = e.credits })
+
+  by_index : set links ends.head (record (link_of links ends.head) { credits = e.credits }) ≡ paid
+  by_index = ap (λ (n : ℕ). set links n (record (link_of links n) { credits = e.credits })) own
+
+  pub own_within : e.flow < length links
+  own_within = omega (arith, own, head_within links place ends some line)
+
+  pub paid_entries : entries_in paid ends ≡ set (entries_in links ends) 0 e
+  paid_entries =
+      ap (λ (l : List Link). entries_in l ends) (sym by_index)
+      ∙ renewed_entries links place ends some line e.credits
+      ∙ ap (λ (n : ℕ). set (entries_in links ends) 0 (record { flow = n; credits = e.credits })) own
+
+  pub paid_line : IsLine paid place ends
+  paid_line = subst (λ (l : List Link). IsLine l place ends) by_index (renewed_line links place ends some line e.credits)
+
+  pub paid_keeps : KeepsLines place links paid
+  paid_keeps = subst (λ (l : List Link). KeepsLines place links l) by_index (renewed_keeps links place ends some line e.credits)
+
+-- a list of one flow, written or turned round
+pub turned_alone : (l : List Entry) (e : Entry) → length l ≡ 1 → set l 0 e ≡ drop 1 l ++ e ∷ []
+turned_alone [] e h = absurd (omega (arith, h))
+turned_alone (x ∷ []) e h = refl
+turned_alone (x ∷ y ∷ l) e h = absurd (omega (arith, h))
+
 pub fresh_or_stale : Fresh ≢ Stale
 fresh_or_stale e = absurd cc
+
+-- both lists, once the flow in front is written
+module _ (links : List Link) (new_flows old_flows : Ends) (lists : IsLists links new_flows old_flows) (e : Entry) where
+  abbrev written_links : List Link
+  written_links = set links e.flow (record (link_of links e.flow) { credits = e.credits })
+
+  long : length written_links ≡ length links
+  long = length-set links e.flow (record (link_of links e.flow) { credits = e.credits })
+
+  module _ (some : 0 < new_flows.count) (own : new_flows.head ≡ e.flow) where
+    pub written_new_lists : IsLists written_links new_flows old_flows
+    written_new_lists = record {
+      room = omega (arith, lists.room, long);
+      new = paid_line links Fresh new_flows some lists.new e own;
+      old = (paid_keeps links Fresh new_flows some lists.new e own).linked Stale old_flows (λ at. fresh_or_stale (sym at)) lists.old;
+    }
+
+    pub written_new_entries : (entries_in written_links new_flows ≡ set (entries_in links new_flows) 0 e) × (entries_in written_links old_flows ≡ entries_in links old_flows)
+    written_new_entries = (
+      paid_entries links Fresh new_flows some lists.new e own,
+      (paid_keeps links Fresh new_flows some lists.new e own).same Stale old_flows (λ at. fresh_or_stale (sym at)) lists.old,
+    )
+
+  module _ (some : 0 < old_flows.count) (own : old_flows.head ≡ e.flow) where
+    pub written_old_lists : IsLists written_links new_flows old_flows
+    written_old_lists = record {
+      room = omega (arith, lists.room, long);
+      new = (paid_keeps links Stale old_flows some lists.old e own).linked Fresh new_flows fresh_or_stale lists.new;
+      old = paid_line links Stale old_flows some lists.old e own;
+    }
+
+    pub written_old_entries : (entries_in written_links new_flows ≡ entries_in links new_flows) × (entries_in written_links old_flows ≡ set (entries_in links old_flows) 0 e)
+    written_old_entries = (
+      (paid_keeps links Stale old_flows some lists.old e own).same Fresh new_flows fresh_or_stale lists.new,
+      paid_entries links Stale old_flows some lists.old e own,
+    )
 
 -- ---- whether a flow is listed
 

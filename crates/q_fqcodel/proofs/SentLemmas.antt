@@ -1,7 +1,7 @@
 -- CoDel at one flow: it drops no more packets than the flow has, and an empty flow sends nothing.
-use Rattle.std.proofs.Common.{◌≡◌, ℕ, zero, suc, ◌+◌, ◌-◌, ◌<◌, ◌≤◌, nat_lt, Bool, true, false, cond, List, [], ◌∷◌, length, take, Option, Some, None, IsSome, option_map, ◌++◌, IfSome, option_and_then, unwrap_or, pos, ◌-ℤ◌, refl, sym, ap, ap₂, ◌∙◌, arith, subst, drop, set, ◌≢◌, ◌==◌, if◌then◌else◌, not}
+use Rattle.std.proofs.Common.{◌≡◌, ℕ, zero, suc, ◌+◌, ◌-◌, ◌<◌, ◌≤◌, nat_lt, Bool, true, false, cond, List, [], ◌∷◌, length, take, Option, Some, None, IsSome, option_map, ◌++◌, IfSome, option_and_then, unwrap_or, pos, ◌-ℤ◌, refl, sym, ap, ap₂, ◌∙◌, arith, subst, drop, set, ◌==◌, if◌then◌else◌, not}
 use Rattle.std.specs.Prelude.{slice_get}
-use Rattle.std.proofs.lemmas.Bool.{cond-false, lt-ltb, ne_eqb, eqb-true, eqb-false, not-true, not-false}
+use Rattle.std.proofs.lemmas.Bool.{cond-false, lt-ltb, ne_eqb, eqb-true, not-false}
 use Rattle.std.proofs.lemmas.List.{length-take, length-drop, nil_from_length}
 use Rattle.q_packet.specs.Totals.{count}
 use Rattle.q_packet.specs.declared.stamped.Stamped.{Stamped}
@@ -19,7 +19,7 @@ drops-empty s now = empty_if s.dropping
     empty_if true = refl
     empty_if false = refl
 
-slice_within : (q : List Stamped) (n : ℕ) → IsSome (slice_get q n) → n < length q
+pub slice_within : (q : List Stamped) (n : ℕ) → IsSome (slice_get q n) → n < length q
 slice_within [] n h = absurd cc
 slice_within (x ∷ xs) zero h = omega arith
 slice_within (x ∷ xs) (suc n) h = omega (arith, slice_within xs n h)
@@ -154,21 +154,8 @@ pub front-none : (s : FqState) → front s ≡ None → (s.new_flows ≡ []) × 
 unfolding front
 front-none s h = none_in s.new_flows s.old_flows h
 
--- it is that of the new list, or of the old one where the new one is empty
-first_of_new : (xs ys : List Entry) → length xs ≢ 0 → slice_get xs 0 ≡ slice_get (xs ++ ys) 0
-first_of_new [] ys h = absurd (h refl)
-first_of_new (x ∷ xs) ys h = refl
-
-pub first_if : (xs : List Entry) (s : FqState) → xs ≡ s.new_flows → not (length s.new_flows == 0) ≡ true → slice_get xs 0 ≡ front s
-unfolding front
-first_if xs s same some = ap (λ (l : List Entry). slice_get l 0) same ∙ first_of_new s.new_flows s.old_flows (eqb-false (length s.new_flows) 0 (not-true (length s.new_flows == 0) some))
-
 pub empty_of : {X : Type 0} (xs : List X) → not (length xs == 0) ≡ false → xs ≡ []
 empty_of xs h = nil_from_length xs (eqb-true (length xs) 0 (not-false (length xs == 0) h))
-
-pub first_else : (xs : List Entry) (s : FqState) → xs ≡ s.old_flows → not (length s.new_flows == 0) ≡ false → slice_get xs 0 ≡ front s
-unfolding front
-first_else xs s same none = ap (λ (l : List Entry). slice_get l 0) same ∙ ap (λ (l : List Entry). slice_get (l ++ s.old_flows) 0) (sym (empty_of s.new_flows none))
 
 -- the old list once the front is written: it stands there where the new list is empty
 abbrev pub written : Entry → List Entry → List Entry → List Entry

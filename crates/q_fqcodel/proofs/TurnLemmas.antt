@@ -1,5 +1,5 @@
 -- One turn of the scheduler: what it does to the state, and that the selection stays the same.
-use Rattle.std.proofs.Common.{◌≡◌, ℕ, suc, ◌+◌, ◌<◌, ◌≤◌, pos, ◌≤ℤ◌, ◌<ℤ◌, Bool, true, false, List, [], ◌∷◌, ◌++◌, length, drop, sum_by, refl, sym, ap, ap₂, ◌∙◌, subst, arith, IfSome, Some, IsSome}
+use Rattle.std.proofs.Common.{◌≡◌, ℕ, suc, ◌+◌, ◌<◌, ◌≤◌, pos, ◌≤ℤ◌, ◌<ℤ◌, Bool, true, false, List, [], ◌∷◌, ◌++◌, length, drop, sum_by, refl, sym, ap, ap₂, ◌∙◌, subst, arith, IfSome, Some, None, IsSome}
 use Rattle.std.specs.Prelude.{slice_get}
 use Rattle.std.proofs.lemmas.List.Sums.{sum_by-cons, sum_by_push}
 use Rattle.q_fqcodel.specs.Cleared.{adjust, clear}
@@ -53,6 +53,15 @@ fresh_turns-is q e = refl
 stale_turns-is : (q : ℕ) (e : Entry) → stale_turns q e ≡ suc (need q e)
 unfolding stale_turns
 stale_turns-is q e = refl
+
+-- the entry in front, where there is one, and where no flow is listed
+pub first_in_front : (s : FqState) (e : Entry) (rest : List Entry) → s.new_flows ++ s.old_flows ≡ e ∷ rest → Some e ≡ front s
+unfolding front
+first_in_front s e rest first = ap (λ (l : List Entry). slice_get l 0) (sym first)
+
+pub none_in_front : (s : FqState) → s.new_flows ≡ [] → s.old_flows ≡ [] → None ≡ front s
+unfolding front
+none_in_front s new old = ap₂ (λ (l m : List Entry). slice_get (l ++ m) 0) (sym new) (sym old)
 
 -- a look at a front that leads from s on to t: the lists stay lawful, too
 pub record LeadsOn (s t : FqState) : Type 0 where

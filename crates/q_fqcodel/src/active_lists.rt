@@ -4,7 +4,7 @@ ghost use Rattle.q_fqcodel.specs.Put.{is_listed};
 use crate::ends::Ends;
 use crate::entry::Entry;
 use crate::link::Link;
-use crate::links::{append_flow, first_of, remove_first, set_first};
+use crate::links::{append_flow, first_of, remove_first, write_credits};
 use crate::place::Place;
 use std::alloc::{AllocError, Global};
 use std::marker::Model;
@@ -132,6 +132,10 @@ impl ActiveLists {
         requires few { length self.old.old_flows ≤ 65536 }
         ensures { self.new ≡ record self.old { old_flows = drop 1 self.old.old_flows ++ entry ∷ [] } }
     {
+        // A flow that is alone there stays where it stands.
+        if self.old_flows.count == 1 {
+            return write_credits(&mut self.links, entry);
+        }
         let rest = remove_first(&mut self.links, self.old_flows);
         self.old_flows = append_flow(
             &mut self.links,
@@ -159,11 +163,7 @@ impl ActiveLists {
           old_flows = if length self.old.new_flows == 0 then set self.old.old_flows 0 entry else self.old.old_flows;
         } }
     {
-        if self.has_new() {
-            set_first(&mut self.links, self.new_flows, entry);
-        } else {
-            set_first(&mut self.links, self.old_flows, entry);
-        }
+        write_credits(&mut self.links, entry);
     }
 
     /// Takes every flow out of its list.

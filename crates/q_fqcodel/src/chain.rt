@@ -54,6 +54,7 @@ pub(crate) fn drop_head(nodes: &mut Nodes, list: FlowList) -> FlowList
     ensures others { (flows flow : ℕ) → IsList (used nodes.old) flows flow list
         → KeepsOthers flows flow (used nodes.old) (used nodes.new) }
     ensures count { result.count + 1 ≡ list.count }
+    ensures tail { result.tail ≡ list.tail }
     ensures bytes { result.bytes ≤ list.bytes }
     ensures len { nodes.new.count + 1 ≡ nodes.old.count }
     ensures capacity { nodes.new.slab.capacity ≡ nodes.old.slab.capacity }
@@ -83,6 +84,7 @@ pub(crate) fn take_head_into(nodes: &mut Nodes, list: FlowList, out: &mut Packet
     ensures others { (flows flow : ℕ) → IsList (used nodes.old) flows flow list
         → KeepsOthers flows flow (used nodes.old) (used nodes.new) }
     ensures count { result.count + 1 ≡ list.count }
+    ensures tail { result.tail ≡ list.tail }
     ensures bytes { result.bytes + out.new.len ≡ list.bytes }
     ensures len { nodes.new.count + 1 ≡ nodes.old.count }
     ensures capacity { nodes.new.slab.capacity ≡ nodes.old.slab.capacity }

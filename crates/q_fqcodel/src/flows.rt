@@ -1,15 +1,14 @@
-ghost use Rattle.std.specs.Prelude.{◌≡◌, ◌+◌, ◌*◌, ◌<◌, ◌≤◌, ◌%◌, ◌^◌, [], ◌++◌, ◌&&◌, ◌==◌, not, true, nat_le, length, map, replicate, take, drop, set, slice_get, get_or, ◌↔◌, IsSome, IfSome, IsOk, IfOk, OnOk, OnErr};
+ghost use Rattle.std.specs.Prelude.{◌≡◌, ◌+◌, ◌<◌, ◌≤◌, ◌%◌, ◌^◌, [], ◌++◌, ◌&&◌, ◌==◌, not, true, nat_le, length, map, replicate, take, drop, set, slice_get, get_or, ◌↔◌, IsSome, IfSome, IsOk, IfOk, OnOk, OnErr};
 ghost use Rattle.q_packet.specs.Totals.{count};
 ghost use Rattle.q_packet.specs.declared.stamped.Stamped.{Stamped};
-ghost use Rattle.q_codel.specs.Codel.{joined as together, drops, taken, left, after};
 ghost use Rattle.q_codel.specs.Losses.{losses_of};
 ghost use Rattle.q_fqcodel.specs.Cleared.{adjust};
 ghost use Rattle.q_fqcodel.specs.FqState.{queue_of, is_idle, packets_of, bytes_of, rested_flow, retuned, all_packets, first_flow};
 ghost use Rattle.q_fqcodel.specs.Put.{joined, shortened, fattest, shed_count};
 ghost use Rattle.q_fqcodel.specs.Take.{taken_as, packet_sent, packets_dropped, flow_after};
-ghost use Rattle.q_fqcodel.specs.Pool.{stamp, SameBeside, cleared};
+ghost use Rattle.q_fqcodel.specs.Pool.{stamp, cleared};
 
-use crate::flow_queue::FlowQueue;
+use crate::flow_queue::{send_from, send_from_into};
 use crate::pool::Pool;
 use crate::sent::Sent;
 use crate::settings::Settings;
@@ -152,6 +151,47 @@ impl Flows {
     /// Lets a flow, which has a packet, send by CoDel's law into `out`.
     #[inline(always)]
     pub(crate) fn send_into<S: Sink>(
+        &mut self,
+        flow: u32,
+        now: Moment,
+        out: &mut Packet,
+        sink: &mut S,
+    ) -> Sent
+        requires in_range { flow < length self.old.flows }
+        requires some { 0 < count (queue_of self.old.flows flow) }
+        requires room { count (queue_of self.old.flows flow) ≤ S.room sink.old }
+        ensures sent { IfSome (slice_get self.old.flows flow) (λ f. taken_as out.new result.marked ≡ packet_sent now f) }
+        ensures len { result.len ≡ out.new.len }
+        ensures some { 0 < result.len }
+        ensures dropped { IfSome (slice_get self.old.flows flow) (λ f. result.dropped ≡ not (count (packets_dropped now f) == 0)) }
+        ensures flows { self.new.flows ≡ adjust (flow_after now) flow self.old.flows }
+        ensures places { self.new.places ≡ self.old.places }
+        ensures lost { IfSome (slice_get self.old.flows flow)
+            (λ f. S.losses sink.new ≡ S.losses sink.old ++ losses_of Cause.CoDel (packets_dropped now f)) }
+        ensures room { IfSome (slice_get self.old.flows flow)
+            (λ f. S.room sink.new + count (packets_dropped now f) ≡ S.room sink.old) }
+        ensures kept { S.keeps sink.old sink.new }
+    {
+        let front = self.pool.front_of(flow).unwrap();
+        let behind = self.pool.bytes_of(flow) - front.len as u64;
+        let codel = &self.states[flow as usize];
+        let Some(after) = codel.passed(&self.parameters, &front, behind, now) else {
+            return self.send_late_into(flow, now, out, sink);
+        };
+        self.pool.take_of_into(flow, out);
+        self.states[flow as usize] = after;
+        self.winners.renew(flow, behind);
+        Sent {
+            len: front.len,
+            marked: false,
+            dropped: false,
+        }
+    }
+
+    // The same where the head may be late: a function of its own, so that the common way saves no registers for it.
+    #[cold]
+    #[inline(never)]
+    fn send_late_into<S: Sink>(
         &mut self,
         flow: u32,
         now: Moment,
@@ -426,56 +466,4 @@ fn lose_from<S: Sink>(pool: &mut Pool, flow: u32, lost: u64, cause: Cause, sink:
         let stamped = pool.take_of(flow).unwrap();
         sink.lost(stamped.packet, cause);
     }
-}
-
-fn send_from<S: Sink>(
-    pool: &mut Pool,
-    codel: &mut ControlState,
-    parameters: &Parameters,
-    flow: u32,
-    now: Moment,
-    sink: &mut S,
-) -> Option<Taken>
-    requires { count (get_or pool.old.queues flow []) ≤ S.room sink.old }
-    ensures sent { result ≡ taken (together parameters.now codel.old) now (get_or pool.old.queues flow []) }
-    ensures left { get_or pool.new.queues flow [] ≡ left (together parameters.now codel.old) now (get_or pool.old.queues flow []) }
-    ensures state { together parameters.now codel.new ≡ after (together parameters.now codel.old) now (get_or pool.old.queues flow []) }
-    ensures lost { S.losses sink.new ≡ S.losses sink.old
-        ++ losses_of Cause.CoDel (take (drops (together parameters.now codel.old) now (get_or pool.old.queues flow [])) (get_or pool.old.queues flow [])) }
-    ensures room { S.room sink.new + drops (together parameters.now codel.old) now (get_or pool.old.queues flow []) ≡ S.room sink.old }
-    ensures some { IsSome result ↔ (0 < count (get_or pool.old.queues flow [])) }
-    ensures others { SameBeside flow pool.old.queues pool.new.queues }
-    ensures places { pool.new.places ≡ pool.old.places }
-    ensures kept { S.keeps sink.old sink.new }
-{
-    let mut queue = FlowQueue { pool, flow };
-    codel.take(parameters, &mut queue, now, sink)
-}
-
-// Lets a flow, which has a packet, send into `out`, and says whether the packet was marked.
-fn send_from_into<S: Sink>(
-    pool: &mut Pool,
-    codel: &mut ControlState,
-    parameters: &Parameters,
-    flow: u32,
-    now: Moment,
-    out: &mut Packet,
-    sink: &mut S,
-) -> bool
-    requires some { 0 < count (get_or pool.old.queues flow []) }
-    requires room { count (get_or pool.old.queues flow []) ≤ S.room sink.old }
-    ensures sent { taken_as out.new result ≡ taken (together parameters.now codel.old) now (get_or pool.old.queues flow []) }
-    ensures left { get_or pool.new.queues flow [] ≡ left (together parameters.now codel.old) now (get_or pool.old.queues flow []) }
-    ensures state { together parameters.now codel.new ≡ after (together parameters.now codel.old) now (get_or pool.old.queues flow []) }
-    ensures lost { S.losses sink.new ≡ S.losses sink.old
-        ++ losses_of Cause.CoDel (take (drops (together parameters.now codel.old) now (get_or pool.old.queues flow [])) (get_or pool.old.queues flow [])) }
-    ensures room { S.room sink.new + drops (together parameters.now codel.old) now (get_or pool.old.queues flow []) ≡ S.room sink.old }
-    ensures others { SameBeside flow pool.old.queues pool.new.queues }
-    ensures places { pool.new.places ≡ pool.old.places }
-    ensures kept { S.keeps sink.old sink.new }
-{
-    let mut queue = FlowQueue { pool, flow };
-    codel
-        .take_into(parameters, &mut queue, now, sink, out)
-        .unwrap()
 }

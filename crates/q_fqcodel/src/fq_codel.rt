@@ -1,4 +1,4 @@
-ghost use Rattle.std.specs.Prelude.{ℕ, ◌≡◌, ◌+◌, ◌%◌, ◌<◌, nat_lt, ◌≤◌, ◌↔◌, ◌==◌, [], ◌∷◌, ◌++◌, length, set, slice_get, pos, true, false, if◌then◌else◌, IsSome, IsOk, IfOk, OnOk, OnErr};
+ghost use Rattle.std.specs.Prelude.{ℕ, ◌≡◌, ◌+◌, ◌%◌, ◌<◌, nat_lt, ◌≤◌, ◌↔◌, ◌==◌, [], ◌∷◌, ◌++◌, length, set, slice_get, pos, true, false, if◌then◌else◌, IsSome, IsNone, IsOk, IfOk, OnOk, OnErr};
 ghost use Rattle.std.specs.Option.{option_map_or};
 ghost use Rattle.q_packet.specs.Totals.{count};
 ghost use Rattle.q_packet.specs.Descriptor.{Descriptor};
@@ -73,8 +73,8 @@ impl FqCodel {
         ensures room { S.room sink.new + count (dropped_from now (selected self.old.state)) ≡ S.room sink.old }
         ensures kept { S.keeps sink.old sink.new }
     {
-        self.select();
-        self.send_front(now, sink)
+        let first = self.select();
+        self.send_front(first, now, sink)
     }
 
     /// Does what [`FqCodel::take`] does, and writes the packet into `out`, so that it is copied once; `out` stays where no flow
@@ -93,8 +93,8 @@ impl FqCodel {
         ensures room { S.room sink.new + count (dropped_from now (selected self.old.state)) ≡ S.room sink.old }
         ensures kept { S.keeps sink.old sink.new }
     {
-        self.select();
-        self.send_front_into(now, out, sink)
+        let first = self.select();
+        self.send_front_into(first, now, out, sink)
     }
 
     /// Puts a packet at the end of its flow, at the moment `now`: the flow with the index `hash mod flows`.
@@ -216,9 +216,10 @@ impl FqCodel {
         self.settings
     }
 
-    // Brings the flow that sends next to the front of its list.
+    // Brings the flow that sends next to the front of its list, and answers it: it is not read again.
     #[inline(always)]
-    fn select(&mut self)
+    fn select(&mut self) -> Option<Entry>
+        ensures first { result ≡ front self.new.state }
         ensures state { self.new.state ≡ selected self.old.state }
         ensures places { self.new.places ≡ self.old.places }
         ensures settled { IsSettled self.new.state }
@@ -226,15 +227,16 @@ impl FqCodel {
     {
         // New flows go before old ones, so that a sparse flow waits for no bulk flow (RFC 8290, section 4.2).
         while self.has_new() {
-            if self.turn_new() {
-                return;
+            if let Some(first) = self.turn_new() {
+                return Some(first);
             }
         }
         while self.has_old() {
-            if self.turn_old() {
-                return;
+            if let Some(first) = self.turn_old() {
+                return Some(first);
             }
         }
+        None
     }
 
     fn has_new(&self) -> bool
@@ -249,12 +251,13 @@ impl FqCodel {
         self.lists.has_old()
     }
 
-    // Whether the flow in front of the new list sends; where it does not, it goes to the end of the old list.
-    fn turn_new(&mut self) -> bool
+    // The flow in front of the new list, if it sends; where it does not, it goes to the end of the old list.
+    fn turn_new(&mut self) -> Option<Entry>
         requires { 0 < length self.old.state.new_flows }
-        ensures stays { result ≡ true → self.new ≡ self.old }
-        ensures settled { result ≡ true → IsSettled self.new.state }
-        ensures on { result ≡ false → GoesOn self.old.state self.new.state }
+        ensures first { IsSome result → result ≡ front self.old.state }
+        ensures stays { IsSome result → self.new ≡ self.old }
+        ensures settled { IsSome result → IsSettled self.new.state }
+        ensures on { IsNone result → GoesOn self.old.state self.new.state }
         ensures places { self.new.places ≡ self.old.places }
     {
         let settings = self.settings;
@@ -262,25 +265,26 @@ impl FqCodel {
         // Its quantum is spent: it is given the next, and is new no longer.
         if entry.credits <= 0 {
             self.lists.age(entry.granted(settings.quantum));
-            return false;
+            return None;
         }
         // Emptied: it becomes old, since a flow forgotten here would be new again with its next packet, before all old ones.
         if self.flows.is_idle(entry.flow) {
             self.flows.rest(entry.flow);
             self.lists.age(entry);
-            return false;
+            return None;
         }
-        true
+        Some(entry)
     }
 
-    // Whether the flow in front of the old list sends, where the new one is empty; where it does not, it goes to the end or
+    // The flow in front of the old list, if it sends, where the new one is empty; where it does not, it goes to the end or
     // leaves.
-    fn turn_old(&mut self) -> bool
+    fn turn_old(&mut self) -> Option<Entry>
         requires no_new { self.old.state.new_flows ≡ [] }
         requires waiting { 0 < length self.old.state.old_flows }
-        ensures stays { result ≡ true → self.new ≡ self.old }
-        ensures settled { result ≡ true → IsSettled self.new.state }
-        ensures on { result ≡ false → GoesOn self.old.state self.new.state }
+        ensures first { IsSome result → result ≡ front self.old.state }
+        ensures stays { IsSome result → self.new ≡ self.old }
+        ensures settled { IsSome result → IsSettled self.new.state }
+        ensures on { IsNone result → GoesOn self.old.state self.new.state }
         ensures no_new { self.new.state.new_flows ≡ [] }
         ensures places { self.new.places ≡ self.old.places }
     {
@@ -289,19 +293,25 @@ impl FqCodel {
         // Its quantum is spent: it is given the next, and the others have their turn before it.
         if entry.credits <= 0 {
             self.lists.rotate(entry.granted(settings.quantum));
-            return false;
+            return None;
         }
         // Emptied, and met a round later: it leaves, and its next packet makes it new again.
         if self.flows.is_idle(entry.flow) {
             self.flows.rest(entry.flow);
             self.lists.retire();
-            return false;
+            return None;
         }
-        true
+        Some(entry)
     }
 
     // Lets the flow in front send by CoDel's law, and pay for the packet.
-    fn send_front<S: Sink>(&mut self, now: Moment, sink: &mut S) -> Option<Taken>
+    fn send_front<S: Sink>(
+        &mut self,
+        first: Option<Entry>,
+        now: Moment,
+        sink: &mut S,
+    ) -> Option<Taken>
+        requires first { first ≡ front self.old.state }
         requires settled { IsSettled self.old.state }
         requires room { packets_of self.old.state.flows ≤ S.room sink.old }
         ensures sent { result ≡ sent_from now self.old.state }
@@ -312,7 +322,8 @@ impl FqCodel {
         ensures room { S.room sink.new + count (dropped_from now self.old.state) ≡ S.room sink.old }
         ensures kept { S.keeps sink.old sink.new }
     {
-        let Some(front) = self.front() else {
+        let Some(front) = first else {
+            self.is_lawful();
             return None;
         };
         let taken = self.flows.send(front.flow, now, sink).unwrap();
@@ -324,7 +335,14 @@ impl FqCodel {
 
     // Lets the flow in front send into `out` by CoDel's law, and pay for the packet.
     #[inline(always)]
-    fn send_front_into<S: Sink>(&mut self, now: Moment, out: &mut Packet, sink: &mut S) -> Sent
+    fn send_front_into<S: Sink>(
+        &mut self,
+        first: Option<Entry>,
+        now: Moment,
+        out: &mut Packet,
+        sink: &mut S,
+    ) -> Sent
+        requires first { first ≡ front self.old.state }
         requires settled { IsSettled self.old.state }
         requires room { packets_of self.old.state.flows ≤ S.room sink.old }
         ensures len { result.len ≡ option_map_or (λ (t : Taken). t.packet.len) (sent_from now self.old.state) 0 }
@@ -338,7 +356,8 @@ impl FqCodel {
         ensures room { S.room sink.new + count (dropped_from now self.old.state) ≡ S.room sink.old }
         ensures kept { S.keeps sink.old sink.new }
     {
-        let Some(front) = self.front() else {
+        let Some(front) = first else {
+            self.is_lawful();
             return Sent {
                 len: 0,
                 marked: false,
@@ -351,15 +370,11 @@ impl FqCodel {
         sent
     }
 
-    // The flow in front: of the new list, or of the old one where the new one is empty.
-    fn front(&self) -> Option<Entry>
-        ensures value { result ≡ front self.now.state }
-        ensures lawful { IsLawful self.now.state }
+    // Every fq_codel is lawful. It does nothing.
+    fn is_lawful(&self)
+        ensures { IsLawful self.now.state }
     {
-        if self.has_new() {
-            return self.lists.first_new();
-        }
-        self.lists.first_old()
+        let _ = &self.settings;
     }
 }
 

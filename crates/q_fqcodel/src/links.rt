@@ -1,4 +1,4 @@
-//! The lists of new and of old flows, each linked through the flows' links: one flow appended, the first taken out or written.
+//! The lists of new and of old flows, each linked through the flows' links: one flow appended, the first taken out, one written.
 ghost use Rattle.std.specs.Prelude.{◌≡◌, ◌≢◌, ◌<◌, None, [], ◌∷◌, ◌++◌, length, set, drop, slice_get};
 ghost use Rattle.q_fqcodel.specs.Links.{link_of, led_on, link_at, entries_in, IsLine, KeepsLines};
 
@@ -72,16 +72,12 @@ pub(crate) fn first_of(links: &Vec<Link>, list: Ends) -> Option<Entry>
     Some(link.entry(list.head))
 }
 
-/// Gives the first flow of a list the credits of `entry`.
-pub(crate) fn set_first(links: &mut Vec<Link>, list: Ends, entry: Entry)
-    requires some { 0 < list.count }
-    requires linked { (place : Place) × IsLine links.old.items place list }
-    ensures entries { entries_in links.new.items list ≡ set (entries_in links.old.items list) 0 (record { flow = list.head; credits = entry.credits }) }
-    ensures linked { (place : Place) → IsLine links.old.items place list → IsLine links.new.items place list }
-    ensures others { (place : Place) → IsLine links.old.items place list → KeepsLines place links.old.items links.new.items }
-    ensures len { length links.new.items ≡ length links.old.items }
+/// Gives the flow of `entry` its credits, and leaves it where it is listed.
+pub(crate) fn write_credits(links: &mut Vec<Link>, entry: Entry)
+    requires { entry.flow < length links.old.items }
+    ensures { links.new.items ≡ set links.old.items entry.flow (record (link_of links.old.items entry.flow) { credits = entry.credits }) }
 {
-    write_credits(links, list.head, entry);
+    links[entry.flow as usize].credits = entry.credits;
 }
 
 fn read(links: &Vec<Link>, flow: u32) -> Link
@@ -104,11 +100,4 @@ fn write_next(links: &mut Vec<Link>, flow: u32, next: u32)
     ensures { links.new.items ≡ set links.old.items flow (led_on next (link_of links.old.items flow)) }
 {
     links[flow as usize].next = next;
-}
-
-fn write_credits(links: &mut Vec<Link>, flow: u32, entry: Entry)
-    requires { flow < length links.old.items }
-    ensures { links.new.items ≡ set links.old.items flow (record (link_of links.old.items flow) { credits = entry.credits }) }
-{
-    links[flow as usize].credits = entry.credits;
 }

@@ -136,7 +136,7 @@ impl Pool {
     {
         let list = list_at(&self.lists, flow);
         let rest = drop_head(&mut self.nodes, list);
-        self.lists[flow as usize] = rest;
+        write_rest(&mut self.lists, flow, rest);
         self.bytes -= list.bytes - rest.bytes;
     }
 
@@ -145,12 +145,13 @@ impl Pool {
     pub(crate) fn take_of_into(&mut self, flow: u32, out: &mut Packet)
         requires { 0 < count (get_or self.old.queues flow []) }
         ensures given { Some out.new ≡ option_map (λ (s : Stamped). s.packet) (slice_get (get_or self.old.queues flow []) 0) }
+        ensures some { 0 < out.new.len }
         ensures queues { self.new.queues ≡ set self.old.queues flow (drop 1 (get_or self.old.queues flow [])) }
         ensures places { self.new.places ≡ self.old.places }
     {
         let list = list_at(&self.lists, flow);
         let rest = take_head_into(&mut self.nodes, list, out);
-        self.lists[flow as usize] = rest;
+        write_rest(&mut self.lists, flow, rest);
         self.bytes -= out.len as u64;
     }
 
@@ -231,4 +232,16 @@ fn list_at(lists: &Vec<FlowList>, flow: u32) -> FlowList
     ensures { result ≡ get_or lists.now.items flow no_list }
 {
     lists[flow as usize]
+}
+
+// Writes the list of a flow that has lost its first packet, but for its tail, which stays.
+fn write_rest(lists: &mut Vec<FlowList>, flow: u32, rest: FlowList)
+    requires within { flow < length lists.old.items }
+    requires tail { rest.tail ≡ (get_or lists.old.items flow no_list).tail }
+    ensures { lists.new.items ≡ set lists.old.items flow rest }
+{
+    let list = &mut lists[flow as usize];
+    list.head = rest.head;
+    list.count = rest.count;
+    list.bytes = rest.bytes;
 }

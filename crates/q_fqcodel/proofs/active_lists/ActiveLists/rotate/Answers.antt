@@ -1,11 +1,12 @@
-use Rattle.std.proofs.Common.{ℤ, w64, ◌≡◌, ◌<◌, List, [], ◌∷◌, ◌++◌, length, drop, slice_get, IfSome, sym, ap, ap₂, ◌∙◌, arith, subst}
-use Rattle.std.proofs.lemmas.List.{length-drop}
+use Rattle.std.proofs.Common.{ℤ, w64, ◌≡◌, ◌<◌, List, [], ◌∷◌, ◌++◌, length, set, drop, slice_get, IfSome, sym, ap, ap₂, ◌∙◌, arith, subst}
+use Rattle.std.proofs.lemmas.List.{length-drop, length-set}
 use Rattle.std.proofs.lemmas.Int.{to_z-of_z}
 use Rattle.q_fqcodel.specs.Entry.{Entry}
-use Rattle.q_fqcodel.specs.Links.{ListsState, link_at, entries_in, IsLine}
+use Rattle.q_fqcodel.specs.Links.{ListsState, link_of, link_at, entries_in, IsLine}
+use Rattle.q_fqcodel.specs.declared.link.Link.{Link}
 use Rattle.q_fqcodel.specs.declared.place.Place.TheVariants.{Fresh, Stale}
 use Rattle.q_fqcodel.proofs.LinkLemmas.{head_within}
-use Rattle.q_fqcodel.proofs.ListsLemmas.{counted, front_flow, fresh_or_stale}
+use Rattle.q_fqcodel.proofs.ListsLemmas.{counted, front_flow, fresh_or_stale, own_within, written_old_lists, written_old_entries, turned_alone}
 use Rattle.q_fqcodel.proofs.active_lists.ActiveLists.rotate.Goals as goal
 use Rattle.q_fqcodel.proofs.active_lists.ActiveLists.rotate.Goals.{After-remove_first-rest, After-entry, After-append_flow-self-inside}
 
@@ -53,9 +54,9 @@ append_flow-self-inside-requires-clause-few c =
 first_kept : (c : After-remove_first-rest) → IsLine c.remove_first-rest.new.links.items Fresh c.self.inside.new_flows
 first_kept c = (c.remove_first-rest.ensures.others Stale c.self.invariant.old).linked Fresh c.self.inside.new_flows fresh_or_stale c.self.invariant.new
 
-pub invariant_of-self : goal.invariant_of-self
-invariant_of-self c =
-    let d = (goal.at.invariant_of-self c).After-remove_first-rest in
+pub invariant_of-self-2 : goal.invariant_of-self-2
+invariant_of-self-2 c =
+    let d = (goal.at.invariant_of-self-2 c).After-remove_first-rest in
     record {
       room = omega (arith, c.self.invariant.room, c.remove_first-rest.ensures.len, c.append_flow-self-inside.ensures.len);
       new = c.append_flow-self-inside.ensures.others.linked Fresh c.self.inside.new_flows fresh_or_stale (first_kept d);
@@ -74,4 +75,46 @@ returns c =
     ∙ ap₂ (λ (l : List Entry) (e : Entry). l ++ e ∷ []) (c.remove_first-rest.ensures.entries ∙ ap (λ (v : ListsState). drop 1 v.old_flows) c.self.view_is)
     (ap (λ (z : ℤ). record { flow = c.entry.inside.flow; credits = z }) (to_z-of_z w64 c.entry.inside.credits (record { sfits = (goal.at.returns c).After-entry.type_inv.entry-inside.1.0.1 })) ∙ c.entry.view_is) in
     let room = c.append_flow-self-inside.ensures.len ∙ c.remove_first-rest.ensures.len ∙ ap (λ (v : ListsState). v.room) c.self.view_is in
+    cc
+
+-- ---- it is alone
+
+pub write_credits-requires : goal.write_credits-requires
+write_credits-requires c =
+    let p = c.self.inside in
+    let some : 0 < p.old_flows.count = omega (arith, c.if-self-eq1.true) in
+    own_within p.links.items Stale p.old_flows some c.self.invariant.old c.args.entry
+    (front_flow p.links.items Stale p.old_flows c.args.entry.flow c.self.invariant.old some
+    (subst (λ (v : ListsState). IfSome (slice_get v.old_flows 0) (λ e. e.flow ≡ c.args.entry.flow)) (sym c.self.view_is) c.requires.own))
+
+pub invariant_of-self : goal.invariant_of-self
+invariant_of-self c =
+    let p = c.self.inside in
+    let some : 0 < p.old_flows.count = omega (arith, c.if-self-eq1.true) in
+    rw c.write_credits.ensures (written_old_lists p.links.items p.new_flows p.old_flows c.self.invariant c.args.entry some
+    (front_flow p.links.items Stale p.old_flows c.args.entry.flow c.self.invariant.old some
+    (subst (λ (v : ListsState). IfSome (slice_get v.old_flows 0) (λ e. e.flow ≡ c.args.entry.flow)) (sym c.self.view_is) c.requires.own)))
+
+pub returns-then-self-eq1 : goal.returns-then-self-eq1
+returns-then-self-eq1 c =
+    let p = c.self.inside in
+    let s : ListsState = c.args.self.now in
+    let e : Entry = c.args.entry in
+    let some : 0 < p.old_flows.count = omega (arith, c.if-self-eq1.true) in
+    let w = written_old_entries p.links.items p.new_flows p.old_flows c.self.invariant e some
+    (front_flow p.links.items Stale p.old_flows e.flow c.self.invariant.old some
+    (subst (λ (v : ListsState). IfSome (slice_get v.old_flows 0) (λ f. f.flow ≡ e.flow)) (sym c.self.view_is) c.requires.own)) in
+    let one : length s.old_flows ≡ 1 =
+    ap (λ (v : ListsState). length v.old_flows) (sym c.self.view_is) ∙ counted p.links.items Stale p.old_flows c.self.invariant.old ∙ c.if-self-eq1.true in
+    let new : entries_in c.write_credits.new.links.items p.new_flows ≡ s.new_flows =
+    ap (λ (l : List Link). entries_in l p.new_flows) c.write_credits.ensures ∙ w.0 ∙ ap (λ (v : ListsState). v.new_flows) c.self.view_is in
+    let old : entries_in c.write_credits.new.links.items p.old_flows ≡ drop 1 s.old_flows ++ e ∷ [] =
+    ap (λ (l : List Link). entries_in l p.old_flows) c.write_credits.ensures
+    ∙ w.1
+    ∙ ap (λ (v : ListsState). set v.old_flows 0 e) c.self.view_is
+    ∙ turned_alone s.old_flows e one in
+    let room : length c.write_credits.new.links.items ≡ s.room =
+    ap length c.write_credits.ensures
+    ∙ length-set p.links.items e.flow (record (link_of p.links.items e.flow) { credits = e.credits })
+    ∙ ap (λ (v : ListsState). v.room) c.self.view_is in
     cc

@@ -1,66 +1,110 @@
-use Rattle.std.proofs.Common.{◌≡◌, ℕ, true, false, [], ◌<◌, ◌==◌, not, if◌then◌else◌, List, ◌++◌, length, set, slice_get, IfSome, sym, ap, ap₂, ◌∙◌, arith, subst}
-use Rattle.std.proofs.lemmas.List.{nil_from_length}
+use Rattle.std.proofs.Common.{◌≡◌, true, false, [], ◌+◌, ◌<◌, ◌==◌, not, if◌then◌else◌, List, ◌++◌, length, set, slice_get, IfSome, sym, ap, ◌∙◌, arith, subst, ⊎_elim}
+use Rattle.std.proofs.lemmas.Bool.{ne_eqb, eq-eqb}
+use Rattle.std.proofs.lemmas.List.{nil_from_length, length-set}
 use Rattle.q_fqcodel.specs.Entry.{Entry}
-use Rattle.q_fqcodel.specs.Links.{ListsState, entries_in}
+use Rattle.q_fqcodel.specs.Links.{ListsState, link_of, entries_in, IsLists}
+use Rattle.q_fqcodel.specs.declared.ends.Ends.{Ends}
+use Rattle.q_fqcodel.specs.declared.link.Link.{Link}
 use Rattle.q_fqcodel.specs.declared.place.Place.TheVariants.{Fresh, Stale}
-use Rattle.q_fqcodel.proofs.ListsLemmas.{counted, front_flow, front_flow_all, some_new, none_new, written_new, written_old, fresh_or_stale}
+use Rattle.q_fqcodel.proofs.ListsLemmas.{counted, front_flow, front_flow_all, some_or_none, own_within, written_new_lists, written_new_entries, written_old_lists, written_old_entries, written_new, written_old}
 use Rattle.q_fqcodel.proofs.active_lists.ActiveLists.write_front.Goals as goal
-use Rattle.q_fqcodel.proofs.active_lists.ActiveLists.write_front.Goals.{After-has_new}
 
--- how many flows each list has
-news : (c : After-has_new) → length c.args.self.now.new_flows ≡ c.self.inside.new_flows.count
-news c = ap (λ (v : ListsState). length v.new_flows) (sym c.self.view_is) ∙ counted c.self.inside.links.items Fresh c.self.inside.new_flows c.self.invariant.new
+-- the front is that of the new list, or of the old one where the new one is empty
+module _ (links : List Link) (new_flows old_flows : Ends) (lists : IsLists links new_flows old_flows) (e : Entry)
+    (own : IfSome (slice_get (entries_in links new_flows ++ entries_in links old_flows) 0) (λ f. f.flow ≡ e.flow)) (some : 0 < new_flows.count + old_flows.count) where
+  own_new : 0 < new_flows.count → new_flows.head ≡ e.flow
+  own_new h = front_flow_all links Fresh new_flows (entries_in links old_flows) e.flow lists.new h own
 
-olds : (c : After-has_new) → length c.args.self.now.old_flows ≡ c.self.inside.old_flows.count
-olds c = ap (λ (v : ListsState). length v.old_flows) (sym c.self.view_is) ∙ counted c.self.inside.links.items Stale c.self.inside.old_flows c.self.invariant.old
+  none : new_flows.count ≡ 0 → entries_in links new_flows ≡ []
+  none h = nil_from_length (entries_in links new_flows) (counted links Fresh new_flows lists.new ∙ h)
 
-pub set_first-requires-clause-some : goal.set_first-requires-clause-some
-set_first-requires-clause-some c =
-    omega (arith, news (goal.at.set_first-requires-clause-some c).After-has_new, some_new (length c.args.self.now.new_flows) (sym c.has_new.ensures ∙ c.if-has_new.true))
+  own_old : new_flows.count ≡ 0 → old_flows.head ≡ e.flow
+  own_old h =
+      front_flow links Stale old_flows e.flow lists.old (omega (arith, some, h))
+      (subst (λ (l : List Entry). IfSome (slice_get (l ++ entries_in links old_flows) 0) (λ f. f.flow ≡ e.flow)) (none h) own)
 
-pub set_first-requires-else-has_new-clause-some : goal.set_first-requires-else-has_new-clause-some
-set_first-requires-else-has_new-clause-some c =
-    omega (arith, olds (goal.at.set_first-requires-else-has_new-clause-some c).After-has_new, none_new (length c.args.self.now.new_flows) (sym c.has_new.ensures ∙ c.if-has_new.false), c.requires.some)
+  within : e.flow < length links
+  within = ⊎_elim
+      (λ (h : 0 < new_flows.count). own_within links Fresh new_flows h lists.new e (own_new h))
+      (λ (h : new_flows.count ≡ 0). own_within links Stale old_flows (omega (arith, some, h)) lists.old e (own_old h))
+      (some_or_none new_flows.count)
 
-pub returns-then-has_new : goal.returns-then-has_new
-returns-then-has_new c =
-    let d = (goal.at.returns-then-has_new c).After-has_new in
-    let is_new : not (length c.args.self.now.new_flows == 0) ≡ true = sym c.has_new.ensures ∙ c.if-has_new.true in
-    let some : 0 < c.self.inside.new_flows.count = omega (arith, news d, some_new (length c.args.self.now.new_flows) is_new) in
-    let own : c.self.inside.new_flows.head ≡ c.args.entry.flow =
-    front_flow_all c.self.inside.links.items Fresh c.self.inside.new_flows (entries_in c.self.inside.links.items c.self.inside.old_flows) c.args.entry.flow c.self.invariant.new some
-    (subst (λ (v : ListsState). IfSome (slice_get (v.new_flows ++ v.old_flows) 0) (λ e. e.flow ≡ c.args.entry.flow)) (sym c.self.view_is) c.requires.own) in
-    let entry : record { flow = c.self.inside.new_flows.head; credits = c.args.entry.credits } ≡ c.args.entry = ap (λ (n : ℕ). record { flow = n; credits = c.args.entry.credits }) own in
-    let new : entries_in c.set_first.new.links.items c.self.inside.new_flows ≡ set c.args.self.now.new_flows 0 c.args.entry =
-    c.set_first.ensures.entries
-    ∙ ap₂ (λ (l : List Entry) (e : Entry). set l 0 e) (ap (λ (v : ListsState). v.new_flows) c.self.view_is) entry in
-    let old : entries_in c.set_first.new.links.items c.self.inside.old_flows ≡ (if length c.args.self.now.new_flows == 0 then set c.args.self.now.old_flows 0 c.args.entry else c.args.self.now.old_flows) =
-    (c.set_first.ensures.others Fresh c.self.invariant.new).same Stale c.self.inside.old_flows (λ e. fresh_or_stale (sym e)) c.self.invariant.old
-    ∙ ap (λ (v : ListsState). v.old_flows) c.self.view_is
-    ∙ written_new c.args.self.now.new_flows c.args.self.now.old_flows c.args.entry is_new in
-    let room = c.set_first.ensures.len ∙ ap (λ (v : ListsState). v.room) c.self.view_is in
-    cc
+  abbrev paid : List Link
+  paid = set links e.flow (record (link_of links e.flow) { credits = e.credits })
 
-pub returns-else-has_new : goal.returns-else-has_new
-returns-else-has_new c =
-    let d = (goal.at.returns-else-has_new c).After-has_new in
-    let no_new : not (length c.args.self.now.new_flows == 0) ≡ false = sym c.has_new.ensures ∙ c.if-has_new.false in
-    let empty : c.args.self.now.new_flows ≡ [] = nil_from_length c.args.self.now.new_flows (none_new (length c.args.self.now.new_flows) no_new) in
-    let some : 0 < c.self.inside.old_flows.count = omega (arith, olds d, none_new (length c.args.self.now.new_flows) no_new, c.requires.some) in
-    let first : IfSome (slice_get c.args.self.now.old_flows 0) (λ e. e.flow ≡ c.args.entry.flow) =
-    subst (λ (l : List Entry). IfSome (slice_get (l ++ c.args.self.now.old_flows) 0) (λ e. e.flow ≡ c.args.entry.flow)) empty c.requires.own in
-    let own : c.self.inside.old_flows.head ≡ c.args.entry.flow =
-    front_flow c.self.inside.links.items Stale c.self.inside.old_flows c.args.entry.flow c.self.invariant.old some
-    (subst (λ (v : ListsState). IfSome (slice_get v.old_flows 0) (λ e. e.flow ≡ c.args.entry.flow)) (sym c.self.view_is) first) in
-    let entry : record { flow = c.self.inside.old_flows.head; credits = c.args.entry.credits } ≡ c.args.entry = ap (λ (n : ℕ). record { flow = n; credits = c.args.entry.credits }) own in
-    let both = written_old c.args.self.now.new_flows c.args.self.now.old_flows c.args.entry no_new in
-    let new : entries_in c.set_first-else-has_new.new.links.items c.self.inside.new_flows ≡ set c.args.self.now.new_flows 0 c.args.entry =
-    (c.set_first-else-has_new.ensures.others Stale c.self.invariant.old).same Fresh c.self.inside.new_flows fresh_or_stale c.self.invariant.new
-    ∙ ap (λ (v : ListsState). v.new_flows) c.self.view_is
-    ∙ both.0 in
-    let old : entries_in c.set_first-else-has_new.new.links.items c.self.inside.old_flows ≡ (if length c.args.self.now.new_flows == 0 then set c.args.self.now.old_flows 0 c.args.entry else c.args.self.now.old_flows) =
-    c.set_first-else-has_new.ensures.entries
-    ∙ ap₂ (λ (l : List Entry) (e : Entry). set l 0 e) (ap (λ (v : ListsState). v.old_flows) c.self.view_is) entry
-    ∙ both.1 in
-    let room = c.set_first-else-has_new.ensures.len ∙ ap (λ (v : ListsState). v.room) c.self.view_is in
+  right : IsLists paid new_flows old_flows
+  right = ⊎_elim
+      (λ (h : 0 < new_flows.count). written_new_lists links new_flows old_flows lists e h (own_new h))
+      (λ (h : new_flows.count ≡ 0). written_old_lists links new_flows old_flows lists e (omega (arith, some, h)) (own_old h))
+      (some_or_none new_flows.count)
+
+  abbrev news : List Entry
+  news = entries_in links new_flows
+
+  abbrev olds : List Entry
+  olds = entries_in links old_flows
+
+  both : (entries_in paid new_flows ≡ set news 0 e) × (entries_in paid old_flows ≡ (if length news == 0 then set olds 0 e else olds))
+  both = ⊎_elim
+      (λ (h : 0 < new_flows.count).
+      let w = written_new_entries links new_flows old_flows lists e h (own_new h) in
+      let some_new : not (length news == 0) ≡ true = ap not (ne_eqb (length news) 0 (omega (arith, h, counted links Fresh new_flows lists.new))) in
+      (w.0, w.1 ∙ written_new news olds e some_new))
+      (λ (h : new_flows.count ≡ 0).
+      let w = written_old_entries links new_flows old_flows lists e (omega (arith, some, h)) (own_old h) in
+      let no_new : not (length news == 0) ≡ false = ap not (eq-eqb (length news) 0 (counted links Fresh new_flows lists.new ∙ h)) in
+      let v = written_old news olds e no_new in
+      (w.0 ∙ v.0, w.1 ∙ v.1))
+      (some_or_none new_flows.count)
+
+pub write_credits-requires : goal.write_credits-requires
+write_credits-requires c =
+    let p = c.self.inside in
+    within p.links.items p.new_flows p.old_flows c.self.invariant c.args.entry
+    (subst (λ (v : ListsState). IfSome (slice_get (v.new_flows ++ v.old_flows) 0) (λ f. f.flow ≡ c.args.entry.flow)) (sym c.self.view_is) c.requires.own)
+    (omega (
+      arith,
+      c.requires.some,
+      ap (λ (v : ListsState). length v.new_flows + length v.old_flows) c.self.view_is,
+      counted p.links.items Fresh p.new_flows c.self.invariant.new,
+      counted p.links.items Stale p.old_flows c.self.invariant.old,
+    ))
+
+pub invariant_of-self : goal.invariant_of-self
+invariant_of-self c =
+    let p = c.self.inside in
+    rw c.write_credits.ensures (right p.links.items p.new_flows p.old_flows c.self.invariant c.args.entry
+    (subst (λ (v : ListsState). IfSome (slice_get (v.new_flows ++ v.old_flows) 0) (λ f. f.flow ≡ c.args.entry.flow)) (sym c.self.view_is) c.requires.own)
+    (omega (
+      arith,
+      c.requires.some,
+      ap (λ (v : ListsState). length v.new_flows + length v.old_flows) c.self.view_is,
+      counted p.links.items Fresh p.new_flows c.self.invariant.new,
+      counted p.links.items Stale p.old_flows c.self.invariant.old,
+    )))
+
+pub returns : goal.returns
+returns c =
+    let p = c.self.inside in
+    let s : ListsState = c.args.self.now in
+    let e : Entry = c.args.entry in
+    let w = both p.links.items p.new_flows p.old_flows c.self.invariant e
+    (subst (λ (v : ListsState). IfSome (slice_get (v.new_flows ++ v.old_flows) 0) (λ f. f.flow ≡ e.flow)) (sym c.self.view_is) c.requires.own)
+    (omega (
+      arith,
+      c.requires.some,
+      ap (λ (v : ListsState). length v.new_flows + length v.old_flows) c.self.view_is,
+      counted p.links.items Fresh p.new_flows c.self.invariant.new,
+      counted p.links.items Stale p.old_flows c.self.invariant.old,
+    )) in
+    let new : entries_in c.write_credits.new.links.items p.new_flows ≡ set s.new_flows 0 e =
+    ap (λ (l : List Link). entries_in l p.new_flows) c.write_credits.ensures ∙ w.0 ∙ ap (λ (v : ListsState). set v.new_flows 0 e) c.self.view_is in
+    let old : entries_in c.write_credits.new.links.items p.old_flows ≡ (if length s.new_flows == 0 then set s.old_flows 0 e else s.old_flows) =
+    ap (λ (l : List Link). entries_in l p.old_flows) c.write_credits.ensures
+    ∙ w.1
+    ∙ ap (λ (v : ListsState). if length v.new_flows == 0 then set v.old_flows 0 e else v.old_flows) c.self.view_is in
+    let room : length c.write_credits.new.links.items ≡ s.room =
+    ap length c.write_credits.ensures
+    ∙ length-set p.links.items e.flow (record (link_of p.links.items e.flow) { credits = e.credits })
+    ∙ ap (λ (v : ListsState). v.room) c.self.view_is in
     cc

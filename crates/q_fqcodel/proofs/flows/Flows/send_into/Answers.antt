@@ -1,38 +1,24 @@
-use Rattle.std.proofs.Common.{◌≡◌, ℕ, ◌+◌, ◌-◌, ◌<◌, ◌==◌, nat_lt, not, List, [], ◌++◌, length, get_or, set, refl, sym, ap, ap₂, ◌∙◌, arith, subst}
-use Rattle.q_packet.specs.Totals.{count}
+use Rattle.std.proofs.Common.{◌≡◌, ℕ, ◌+◌, ◌-◌, ◌<◌, ◌==◌, not, List, [], ◌++◌, length, take, drop, get_or, set, sym, ap, ap₂, ◌∙◌, arith, subst, Option, IfSome, IsSome, Some, false}
+use Rattle.std.specs.Prelude.{slice_get}
+use Rattle.std.proofs.lemmas.List.{length-set, get_or-set_same, append-nil}
+use Rattle.q_packet.specs.Totals.{count, size}
 use Rattle.q_packet.specs.declared.stamped.Stamped.{Stamped}
-use Rattle.q_codel.specs.Codel.{CodelState, joined, taken}
+use Rattle.q_packet.specs.declared.cause.Cause.TheVariants.{CoDel}
+use Rattle.q_codel.specs.Codel.{CodelState, joined}
+use Rattle.q_codel.specs.Losses.{losses_of}
 use Rattle.q_fqcodel.specs.Cleared.{adjust}
 use Rattle.q_fqcodel.specs.FlowsState.{FlowsState}
 use Rattle.q_fqcodel.specs.FqState.{Flow, queue_of}
 use Rattle.q_fqcodel.specs.Pool.{flows_from, codels_in}
-use Rattle.q_fqcodel.proofs.PooledLemmas.{length-flows, flow_read, queue_there, flow_written, length-sizes, sizes_renewed, length-codels, codel_at, codels-set}
-use Rattle.std.proofs.lemmas.List.{length-set}
-use Rattle.std.proofs.Common.{Option, IfSome, IsSome}
-use Rattle.q_packet.specs.declared.cause.Cause.TheVariants.{CoDel}
-use Rattle.q_codel.specs.Losses.{losses_of}
-use Rattle.q_codel.specs.declared.taken.Taken.{Taken}
-use Rattle.q_fqcodel.proofs.SentLemmas.{count_dropped, rest_count, drops_told}
 use Rattle.q_fqcodel.specs.Take.{taken_as, packet_sent, packets_dropped, flow_after}
+use Rattle.q_fqcodel.proofs.PassedLemmas.{Passed, passed, some_front, front_within, behind_is}
+use Rattle.q_fqcodel.proofs.PooledLemmas.{length-flows, flow_read, queue_there, flow_written, length-sizes, sizes_renewed, length-codels, codel_at, codels-set}
 use Rattle.q_fqcodel.proofs.flows.Flows.send_into.Goals as goal
-use Rattle.q_fqcodel.proofs.flows.Flows.send_into.Goals.{After-index_mut-codel, After-send_from_into-marked}
+use Rattle.q_fqcodel.proofs.flows.Flows.send_into.Goals.{After-front_of, After-index-codel, After-take_of_into}
 
-pub index_mut-codel-requires : goal.index_mut-codel-requires
-index_mut-codel-requires g c =
-    let same = ap (λ (f : FlowsState). f.flows) c.self.view_is in
-    omega (arith, c.requires.in_range, ap length same, length-flows c.self.inside.pool.queues (codels_in c.self.inside.parameters c.self.inside.states.items) c.self.invariant.0, length-codels c.self.inside.parameters c.self.inside.states.items, c.self.inside.states.ok.0)
-
-omega_within : (g : _) (c : After-index_mut-codel g) → c.args.flow < length (codels_in c.self.inside.parameters c.self.inside.states.items)
-omega_within g c =
-    let same = ap (λ (f : FlowsState). f.flows) c.self.view_is in
-    omega (arith, c.requires.in_range, ap length same, length-flows c.self.inside.pool.queues (codels_in c.self.inside.parameters c.self.inside.states.items) c.self.invariant.0)
-
--- what CoDel knows of the flow
-read : (g : _) (c : After-index_mut-codel g) → joined c.self.inside.parameters c.index_mut-codel.result.now ≡ get_or (codels_in c.self.inside.parameters c.self.inside.states.items) c.args.flow (joined c.self.inside.parameters c.index_mut-codel.result.now)
-read g c = ap (joined c.self.inside.parameters) c.index_mut-codel.ensures.value ∙ sym (codel_at c.self.inside.parameters c.self.inside.states.items c.args.flow c.index_mut-codel.result.now)
-
-pub send_from_into-marked-requires-clause-some : goal.send_from_into-marked-requires-clause-some
-send_from_into-marked-requires-clause-some g c =
+-- the flow's queue has a packet
+some : (g : _) (c : After-front_of g) → 0 < count (get_or c.self.inside.pool.queues c.args.flow [])
+some g c =
     let same = ap (λ (f : FlowsState). f.flows) c.self.view_is in
     omega (
       arith,
@@ -41,112 +27,123 @@ send_from_into-marked-requires-clause-some g c =
       ap (λ (fs : List Flow). count (queue_of fs c.args.flow)) same,
     )
 
-pub send_from_into-marked-requires-clause-room : goal.send_from_into-marked-requires-clause-room
-send_from_into-marked-requires-clause-room g c =
+pub unwrap-front-requires : goal.unwrap-front-requires
+unwrap-front-requires g c = subst (λ o. IsSome o) (sym c.front_of.ensures) (some_front _ (some g c))
+
+pub overflow_sub-behind : goal.overflow_sub-behind
+overflow_sub-behind g c = front_within _ c.unwrap-front.result c.bytes_of.result (sym c.unwrap-front.ensures ∙ c.front_of.ensures) c.bytes_of.ensures.value
+
+pub index-codel-requires : goal.index-codel-requires
+index-codel-requires g c =
     let same = ap (λ (f : FlowsState). f.flows) c.self.view_is in
-    omega (
-      arith,
-      c.requires.room,
-      ap count (queue_there c.args.flow c.self.inside.pool.queues (codels_in c.self.inside.parameters c.self.inside.states.items) c.self.invariant.0),
-      ap (λ (fs : List Flow). count (queue_of fs c.args.flow)) same,
-    )
+    omega (arith, c.requires.in_range, ap length same, length-flows c.self.inside.pool.queues (codels_in c.self.inside.parameters c.self.inside.states.items) c.self.invariant.0, length-codels c.self.inside.parameters c.self.inside.states.items, c.self.inside.states.ok.0)
 
--- what CoDel knew of the flow, and its queue
-abbrev was : (g : _) → After-send_from_into-marked g → CodelState
-was g c = joined c.self.inside.parameters c.index_mut-codel.result.now
-
-abbrev queue : (g : _) → After-send_from_into-marked g → List Stamped
-queue g c = get_or c.self.inside.pool.queues c.args.flow []
-
-sends : (g : _) (c : After-send_from_into-marked g) → IsSome (taken (was g c) c.args.now (queue g c))
-sends g c = subst (λ (o : Option Taken). IsSome o) c.send_from_into-marked.ensures.sent refl
-
-pub overflow_sub-result : goal.overflow_sub-result
-overflow_sub-result g c =
-    let d = (goal.at.overflow_sub-result g c).After-send_from_into-marked in
-    omega (
-      arith,
-      rest_count c.count_of-held.result c.count_of-rest.result (was g d) c.args.now (queue g d) (get_or c.send_from_into-marked.new.pool.queues c.args.flow [])
-          c.count_of-held.ensures c.count_of-rest.ensures c.send_from_into-marked.ensures.left (sends g d),
-    )
-
-pub returns-clause-sent : goal.returns-clause-sent
-unfolding packet_sent
-returns-clause-sent g c =
+within : (g : _) (c : After-index-codel g) → c.args.flow < length (codels_in c.self.inside.parameters c.self.inside.states.items)
+within g c =
     let same = ap (λ (f : FlowsState). f.flows) c.self.view_is in
-    let within = omega_within g (goal.at.returns-clause-sent g c).After-index_mut-codel in
-    subst (λ (o : Option Flow). IfSome o (λ f. taken_as c.send_from_into-marked.new.out c.send_from_into-marked.result ≡ packet_sent c.args.now f))
-    (sym (flow_read c.args.flow c.self.inside.pool.queues (codels_in c.self.inside.parameters c.self.inside.states.items) (joined c.self.inside.parameters c.index_mut-codel.result.now) c.args.self.now.flows c.self.invariant.0 within (read g (goal.at.returns-clause-sent g c).After-index_mut-codel) same))
-    c.send_from_into-marked.ensures.sent
+    omega (arith, c.requires.in_range, ap length same, length-flows c.self.inside.pool.queues (codels_in c.self.inside.parameters c.self.inside.states.items) c.self.invariant.0)
 
-pub returns-clause-dropped : goal.returns-clause-dropped
-unfolding packets_dropped
-returns-clause-dropped g c =
-    let same = ap (λ (f : FlowsState). f.flows) c.self.view_is in
-    let within = omega_within g (goal.at.returns-clause-dropped g c).After-index_mut-codel in
-    let d = (goal.at.returns-clause-dropped g c).After-send_from_into-marked in
-    let rest = rest_count c.count_of-held.result c.count_of-rest.result (was g d) c.args.now (queue g d) (get_or c.send_from_into-marked.new.pool.queues c.args.flow [])
-    c.count_of-held.ensures c.count_of-rest.ensures c.send_from_into-marked.ensures.left (sends g d) in
-    subst (λ (o : Option Flow). IfSome o (λ f. nat_lt 1 (c.count_of-held.result - c.count_of-rest.result) ≡ not (count (packets_dropped c.args.now f) == 0)))
-    (sym (flow_read c.args.flow c.self.inside.pool.queues (codels_in c.self.inside.parameters c.self.inside.states.items) (joined c.self.inside.parameters c.index_mut-codel.result.now) c.args.self.now.flows c.self.invariant.0 within (read g (goal.at.returns-clause-dropped g c).After-index_mut-codel) same))
-    (drops_told c.count_of-held.result c.count_of-rest.result (was g d) c.args.now (queue g d) rest (sends g d))
+pub index_mut-requires : goal.index_mut-requires
+index_mut-requires g c =
+    omega (arith, within g (goal.at.index_mut-requires g c).After-index-codel, length-codels c.self.inside.parameters c.self.inside.states.items, c.self.inside.states.ok.0)
 
-pub returns-clause-flows : goal.returns-clause-flows
-unfolding flow_after
-returns-clause-flows g c =
-    let p = c.self.inside.parameters in
-    let vs = c.self.inside.states.items in
-    let cs : List CodelState = codels_in p vs in
-    let n = c.args.flow in
-    let qs : List (List Stamped) = c.self.inside.pool.queues in
-    let was : CodelState = joined p c.index_mut-codel.result.now in
-    let now : CodelState = joined p c.send_from_into-marked.new.codel in
-    let q : List Stamped = get_or qs n [] in
-    let left : List Stamped = get_or c.send_from_into-marked.new.pool.queues n [] in
-    let here : flow_after c.args.now (record { queue = q; codel = get_or cs n was }) ≡ record { queue = left; codel = now } =
-    ap (λ (s : CodelState). flow_after c.args.now (record { queue = q; codel = s })) (sym (read g (goal.at.returns-clause-flows g c).After-index_mut-codel))
-    ∙ ap₂ (λ (l : List Stamped) (s : CodelState). record { queue = l; codel = s }) (sym c.send_from_into-marked.ensures.left) (sym c.send_from_into-marked.ensures.state) in
-    ap₂ (λ (l : List (List Stamped)) (k : List CodelState). flows_from l k) c.send_from_into-marked.ensures.others (codels-set p vs n c.send_from_into-marked.new.codel)
-    ∙ flow_written n qs left cs now was (flow_after c.args.now) here
-    ∙ ap (λ (f : FlowsState). adjust (flow_after c.args.now) n f.flows) c.self.view_is
+-- what CoDel knew of the flow
+abbrev was : (g : _) → After-index-codel g → CodelState
+was g c = joined c.self.inside.parameters c.index-codel.result.now
 
-pub returns-clause-lost : goal.returns-clause-lost
-unfolding packets_dropped
-returns-clause-lost g c =
-    let same = ap (λ (f : FlowsState). f.flows) c.self.view_is in
-    let within = omega_within g (goal.at.returns-clause-lost g c).After-index_mut-codel in
-    subst (λ (o : Option Flow). IfSome o (λ f. g.S.Sink.losses c.send_from_into-marked.new.sink ≡ g.S.Sink.losses c.args.sink.now ++ losses_of CoDel (packets_dropped c.args.now f)))
-    (sym (flow_read c.args.flow c.self.inside.pool.queues (codels_in c.self.inside.parameters c.self.inside.states.items) (joined c.self.inside.parameters c.index_mut-codel.result.now) c.args.self.now.flows c.self.invariant.0 within (read g (goal.at.returns-clause-lost g c).After-index_mut-codel) same))
-    c.send_from_into-marked.ensures.lost
+read : (g : _) (c : After-index-codel g) → was g c ≡ get_or (codels_in c.self.inside.parameters c.self.inside.states.items) c.args.flow (was g c)
+read g c = ap (joined c.self.inside.parameters) c.index-codel.ensures ∙ sym (codel_at c.self.inside.parameters c.self.inside.states.items c.args.flow c.index-codel.result.now)
 
-pub returns-clause-room : goal.returns-clause-room
-unfolding packets_dropped
-returns-clause-room g c =
-    let same = ap (λ (f : FlowsState). f.flows) c.self.view_is in
-    let within = omega_within g (goal.at.returns-clause-room g c).After-index_mut-codel in
-    let q : List Stamped = get_or c.self.inside.pool.queues c.args.flow [] in
-    let n = count_dropped (joined c.self.inside.parameters c.index_mut-codel.result.now) c.args.now q (λ _. sends g (goal.at.returns-clause-room g c).After-send_from_into-marked) in
-    subst (λ (o : Option Flow). IfSome o (λ f. g.S.Sink.room c.send_from_into-marked.new.sink + count (packets_dropped c.args.now f) ≡ g.S.Sink.room c.args.sink.now))
-    (sym (flow_read c.args.flow c.self.inside.pool.queues (codels_in c.self.inside.parameters c.self.inside.states.items) (joined c.self.inside.parameters c.index_mut-codel.result.now) c.args.self.now.flows c.self.invariant.0 within (read g (goal.at.returns-clause-room g c).After-index_mut-codel) same))
-    (ap (λ (m : ℕ). g.S.Sink.room c.send_from_into-marked.new.sink + m) n ∙ c.send_from_into-marked.ensures.room)
+-- the flow, as the model has it
+there : (g : _) (c : After-index-codel g) → slice_get c.args.self.now.flows c.args.flow ≡ Some (record { queue = get_or c.self.inside.pool.queues c.args.flow []; codel = was g c })
+there g c =
+    flow_read c.args.flow c.self.inside.pool.queues (codels_in c.self.inside.parameters c.self.inside.states.items) (was g c) c.args.self.now.flows c.self.invariant.0 (within g c) (read g c)
+    (ap (λ (f : FlowsState). f.flows) c.self.view_is)
+
+-- its head has gone
+passes : (g : _) (c : After-take_of_into g)
+    → Passed (joined c.self.inside.parameters c.index-codel.result.now) c.args.now (get_or c.self.inside.pool.queues c.args.flow []) c.unwrap-front.result c.take_of_into.new.out
+    (joined c.self.inside.parameters c.in-Some.after)
+passes g c =
+    passed _ _ c.args.now _ c.unwrap-front.result c.bytes_of.result c.take_of_into.new.out
+    (sym c.unwrap-front.ensures ∙ c.front_of.ensures) c.bytes_of.ensures.value c.take_of_into.ensures.given c.in-Some.ensures.passed
 
 pub renew-requires-clause-in_range : goal.renew-requires-clause-in_range
 renew-requires-clause-in_range g c =
-    let d = (goal.at.renew-requires-clause-in_range g c).After-index_mut-codel in
-    omega (arith, omega_within g d, c.self.invariant.0, ap length c.self.invariant.2, length-sizes c.self.inside.pool.queues)
+    omega (arith, within g (goal.at.renew-requires-clause-in_range g c).After-index-codel, c.self.invariant.0, ap length c.self.invariant.2, length-sizes c.self.inside.pool.queues)
 
 pub invariant_of-self : goal.invariant_of-self
 invariant_of-self g c =
     let p = c.self.inside.parameters in
     let vs = c.self.inside.states.items in
-    let v = c.send_from_into-marked.new.codel in
+    let v = c.in-Some.after in
     let qs : List (List Stamped) = c.self.inside.pool.queues in
     let n : ℕ = c.args.flow in
-    let d = (goal.at.invariant_of-self g c).After-index_mut-codel in
-    let new : List (List Stamped) = c.send_from_into-marked.new.pool.queues in (
-      ap length c.send_from_into-marked.ensures.others ∙ length-set qs n (get_or new n []) ∙ c.self.invariant.0 ∙ length-codels p vs ∙ sym (length-set vs n v) ∙ sym (length-codels p (set vs n v)),
+    let q : List Stamped = drop 1 (get_or qs n []) in
+    let d = goal.at.invariant_of-self g c in
+    let new : List (List Stamped) = c.take_of_into.new.self.queues in
+    let inside : n < length qs = omega (arith, within g d.After-index-codel, c.self.invariant.0) in (
+      ap length c.take_of_into.ensures.queues ∙ length-set qs n q ∙ c.self.invariant.0 ∙ length-codels p vs ∙ sym (length-set vs n v) ∙ sym (length-codels p (set vs n v)),
       omega (arith, c.self.invariant.1, length-set vs n v),
-      sizes_renewed qs new n (get_or new n []) c.renew.new.self c.bytes_of-bytes.result c.send_from_into-marked.ensures.others (omega (arith, omega_within g d, c.self.invariant.0))
-          (c.renew.ensures ∙ ap (λ (l : List ℕ). set l n c.bytes_of-bytes.result) c.self.invariant.2) c.bytes_of-bytes.ensures.value,
+      sizes_renewed qs new n q c.renew.new.self (c.bytes_of.result - c.unwrap-front.result.len) c.take_of_into.ensures.queues inside
+          (c.renew.ensures ∙ ap (λ (l : List ℕ). set l n (c.bytes_of.result - c.unwrap-front.result.len)) c.self.invariant.2)
+          (behind_is _ c.unwrap-front.result c.bytes_of.result (sym c.unwrap-front.ensures ∙ c.front_of.ensures) c.bytes_of.ensures.value
+          ∙ ap size (sym (get_or-set_same qs n q [] inside))
+          ∙ ap (λ (l : List (List Stamped)). size (get_or l n [])) (sym c.take_of_into.ensures.queues)),
       c.self.invariant.3,
     )
+
+pub returns-clause-sent : goal.returns-clause-sent
+unfolding packet_sent
+returns-clause-sent g c =
+    let d = goal.at.returns-clause-sent g c in
+    subst (λ (o : Option Flow). IfSome o (λ f. taken_as c.take_of_into.new.out false ≡ packet_sent c.args.now f)) (sym (there g d.After-index-codel)) (passes g d.After-take_of_into).sent
+
+pub returns-clause-some : goal.returns-clause-some
+returns-clause-some g c = omega (arith, (passes g (goal.at.returns-clause-some g c).After-take_of_into).len, c.take_of_into.ensures.some)
+
+pub returns-clause-dropped : goal.returns-clause-dropped
+unfolding packets_dropped
+returns-clause-dropped g c =
+    let d = goal.at.returns-clause-dropped g c in
+    let q : List Stamped = get_or c.self.inside.pool.queues c.args.flow [] in
+    subst (λ (o : Option Flow). IfSome o (λ f. false ≡ not (count (packets_dropped c.args.now f) == 0))) (sym (there g d.After-index-codel))
+    (ap (λ (m : ℕ). not (count (take m q) == 0)) (sym (passes g d.After-take_of_into).none))
+
+pub returns-clause-flows : goal.returns-clause-flows
+unfolding flow_after
+returns-clause-flows g c =
+    let d = goal.at.returns-clause-flows g c in
+    let p = c.self.inside.parameters in
+    let vs = c.self.inside.states.items in
+    let cs : List CodelState = codels_in p vs in
+    let n = c.args.flow in
+    let qs : List (List Stamped) = c.self.inside.pool.queues in
+    let before : CodelState = joined p c.index-codel.result.now in
+    let now : CodelState = joined p c.in-Some.after in
+    let q : List Stamped = get_or qs n [] in
+    let way = passes g d.After-take_of_into in
+    let here : flow_after c.args.now (record { queue = q; codel = get_or cs n before }) ≡ record { queue = drop 1 q; codel = now } =
+    ap (λ (s : CodelState). flow_after c.args.now (record { queue = q; codel = s })) (sym (read g d.After-index-codel))
+    ∙ ap₂ (λ (l : List Stamped) (s : CodelState). record { queue = l; codel = s }) (sym way.left_is) (sym way.after_is) in
+    ap₂ (λ (l : List (List Stamped)) (k : List CodelState). flows_from l k) c.take_of_into.ensures.queues (codels-set p vs n c.in-Some.after)
+    ∙ flow_written n qs (drop 1 q) cs now before (flow_after c.args.now) here
+    ∙ ap (λ (f : FlowsState). adjust (flow_after c.args.now) n f.flows) c.self.view_is
+
+pub returns-clause-lost : goal.returns-clause-lost
+unfolding packets_dropped
+returns-clause-lost g c =
+    let d = goal.at.returns-clause-lost g c in
+    let q : List Stamped = get_or c.self.inside.pool.queues c.args.flow [] in
+    let losses = g.S.Sink.losses c.args.sink.now in
+    subst (λ (o : Option Flow). IfSome o (λ f. losses ≡ losses ++ losses_of CoDel (packets_dropped c.args.now f))) (sym (there g d.After-index-codel))
+    (sym (append-nil losses) ∙ ap (λ (m : ℕ). losses ++ losses_of CoDel (take m q)) (sym (passes g d.After-take_of_into).none))
+
+pub returns-clause-room : goal.returns-clause-room
+unfolding packets_dropped
+returns-clause-room g c =
+    let d = goal.at.returns-clause-room g c in
+    let q : List Stamped = get_or c.self.inside.pool.queues c.args.flow [] in
+    let room : ℕ = g.S.Sink.room c.args.sink.now in
+    subst (λ (o : Option Flow). IfSome o (λ f. room + count (packets_dropped c.args.now f) ≡ room)) (sym (there g d.After-index-codel))
+    (ap (λ (m : ℕ). room + count (take m q)) (passes g d.After-take_of_into).none ∙ omega arith)

@@ -1,7 +1,7 @@
 use Rattle.std.proofs.Common.{sym, ◌∙◌}
 use Rattle.q_fqcodel.specs.Turns.{IsSettled}
 use Rattle.q_fqcodel.proofs.SentLemmas.{empty_of}
-use Rattle.q_fqcodel.proofs.TurnLemmas.{settled_none}
+use Rattle.q_fqcodel.proofs.TurnLemmas.{settled_none, none_in_front}
 use Rattle.q_fqcodel.proofs.fq_codel.FqCodel.select.Goals as goal
 use Rattle.q_fqcodel.proofs.fq_codel.FqCodel.select.Goals.{After-loop-self-2}
 
@@ -16,3 +16,8 @@ returns-clause-state c = sym (none_listed c).chosen ∙ c.loop-self-2.invariant.
 
 pub returns-clause-settled : goal.returns-clause-settled
 returns-clause-settled c = none_listed c
+
+pub returns-clause-first : goal.returns-clause-first
+returns-clause-first c =
+    none_in_front c.loop-self-2.self.state c.loop-self-2.invariant.no_new
+    (empty_of c.loop-self-2.self.state.old_flows (sym c.has_old.ensures ∙ c.loop-self-2-test.false))

@@ -17,14 +17,14 @@ use Rattle.q_fqcodel.proofs.KeptLemmas.{lawful_after_sending}
 use Rattle.q_fqcodel.proofs.LawfulLemmas.{front_within, none_waits}
 use Rattle.q_fqcodel.proofs.SentLemmas.{front-is, front-none, sent-is, sent-none, dropped-is, dropped-none, after-none, after-written, written, paid-is}
 use Rattle.q_fqcodel.proofs.fq_codel.FqCodel.send_front.Goals as goal
-use Rattle.q_fqcodel.proofs.fq_codel.FqCodel.send_front.Goals.{In_default, After-write_front}
+use Rattle.q_fqcodel.proofs.fq_codel.FqCodel.send_front.Goals.{After-is_lawful, After-write_front}
 
 -- ---- no flow is listed
 
-none_in_front : (g : _) (c : In_default g) → (c.args.self.now.state.new_flows ≡ []) × (c.args.self.now.state.old_flows ≡ [])
-none_in_front g c = front-none c.args.self.now.state (sym c.front.ensures.value ∙ c.in_default.is)
+none_in_front : (g : _) (c : After-is_lawful g) → (c.args.self.now.state.new_flows ≡ []) × (c.args.self.now.state.old_flows ≡ [])
+none_in_front g c = front-none c.args.self.now.state (sym c.requires.first ∙ c.in_default.is)
 
-nothing : (g : _) (c : In_default g) → dropped_from c.args.now c.args.self.now.state ≡ []
+nothing : (g : _) (c : After-is_lawful g) → dropped_from c.args.now c.args.self.now.state ≡ []
 nothing g c = dropped-none c.args.self.now.state c.args.now (none_in_front g c).0 (none_in_front g c).1
 
 pub returns-in_default-clause-sent : goal.returns-in_default-clause-sent
@@ -33,7 +33,7 @@ returns-in_default-clause-sent g c = sym (sent-none c.args.self.now.state c.args
 pub returns-in_default-clause-some : goal.returns-in_default-clause-some
 returns-in_default-clause-some g c = (
   λ h. absurd (false≢true h),
-  λ h. absurd (omega (arith, h, none_waits c.args.self.now.state c.front.ensures.lawful (none_in_front g c).0 (none_in_front g c).1)),
+  λ h. absurd (omega (arith, h, none_waits c.args.self.now.state c.is_lawful.ensures (none_in_front g c).0 (none_in_front g c).1)),
 )
 
 pub returns-in_default-clause-after : goal.returns-in_default-clause-after
@@ -51,7 +51,7 @@ returns-in_default-clause-room g c = omega (arith, ap count (nothing g c))
 
 pub send-requires-clause-room : goal.send-requires-clause-room
 send-requires-clause-room g c =
-    omega (arith, c.requires.room, packets-at c.front-2.inside.flow c.self.inside.flows.flows, ap (λ (v : FqView). packets_of v.state.flows) c.self.view_is)
+    omega (arith, c.requires.room, packets-at c.front.inside.flow c.self.inside.flows.flows, ap (λ (v : FqView). packets_of v.state.flows) c.self.view_is)
 
 -- the state as it was opened, and the flow in front
 abbrev opened : (g : _) → After-write_front g → FqState
@@ -67,7 +67,7 @@ opened_is : (g : _) (c : After-write_front g) → opened g c ≡ c.args.self.now
 opened_is g c = ap (λ (v : FqView). v.state) c.self.view_is
 
 in_front : (g : _) (c : After-write_front g) → front (opened g c) ≡ Some (sender g c)
-in_front g c = ap front (opened_is g c) ∙ sym c.front.ensures.value ∙ c.in-Some.is
+in_front g c = ap front (opened_is g c) ∙ sym c.requires.first ∙ c.in-Some.is
 
 first : (g : _) (c : After-write_front g) → (opened g c).new_flows ++ (opened g c).old_flows ≡ sender g c ∷ behind g c
 first g c = front-is (opened g c) (sender g c) (in_front g c)
@@ -76,8 +76,9 @@ within : (g : _) (c : After-write_front g) → (sender g c).flow < length (opene
 within g c = omega (arith, front_within (opened g c) (sender g c) (behind g c) c.self.invariant.0 (first g c), c.self.invariant.0.each_flow)
 
 -- what is known of the flow that sends
-of_sender : (g : _) (c : After-write_front g) (P : Flow → Type 0) → IfSome (slice_get (opened g c).flows c.front-2.inside.flow) P → IfSome (slice_get (opened g c).flows (sender g c).flow) P
-of_sender g c P h = subst (λ (e : Entry). IfSome (slice_get (opened g c).flows e.flow) P) c.front-2.view_is h
+of_sender : (g : _) (c : After-write_front g) (P : Flow → Type 0)
+    → IfSome (slice_get (opened g c).flows c.front.inside.flow) P → IfSome (slice_get (opened g c).flows (sender g c).flow) P
+of_sender g c P h = subst (λ (e : Entry). IfSome (slice_get (opened g c).flows e.flow) P) c.front.view_is h
 
 sent : (g : _) (c : After-write_front g) → sent_from c.args.now (opened g c) ≡ Some c.unwrap-taken.result
 sent g c =
@@ -85,7 +86,8 @@ sent g c =
     (of_sender g c (λ f. c.send.result ≡ packet_sent c.args.now f) c.send.ensures.sent)
     ∙ c.unwrap-taken.ensures
 
-dropped : (g : _) (c : After-write_front g) (P : List Stamped → Type 0) → IfSome (slice_get (opened g c).flows c.front-2.inside.flow) (λ f. P (packets_dropped c.args.now f)) → P (dropped_from c.args.now c.args.self.now.state)
+dropped : (g : _) (c : After-write_front g) (P : List Stamped → Type 0)
+    → IfSome (slice_get (opened g c).flows c.front.inside.flow) (λ f. P (packets_dropped c.args.now f)) → P (dropped_from c.args.now c.args.self.now.state)
 dropped g c P h =
     subst (λ (s : FqState). P (dropped_from c.args.now s)) (opened_is g c)
     (dropped-is (opened g c) (sender g c) (behind g c) c.args.now P (first g c) (within g c) (of_sender g c (λ f. P (packets_dropped c.args.now f)) h))
@@ -97,11 +99,11 @@ paying g c =
     ∙ sym c.charged.ensures
 
 flows_sent : (g : _) (c : After-write_front g) → c.send.new.self.flows ≡ adjust (flow_after c.args.now) (sender g c).flow (opened g c).flows
-flows_sent g c = c.send.ensures.flows ∙ ap (λ (e : Entry). adjust (flow_after c.args.now) e.flow (opened g c).flows) c.front-2.view_is
+flows_sent g c = c.send.ensures.flows ∙ ap (λ (e : Entry). adjust (flow_after c.args.now) e.flow (opened g c).flows) c.front.view_is
 
 pub write_front-requires-clause-own : goal.write_front-requires-clause-own
 write_front-requires-clause-own g c =
-    let split = front-is c.args.self.now.state c.in-Some.front (sym c.front.ensures.value ∙ c.in-Some.is) in
+    let split = front-is c.args.self.now.state c.in-Some.front (sym c.requires.first ∙ c.in-Some.is) in
     subst (λ (l : List Entry). IfSome (slice_get l 0) (λ e. e.flow ≡ c.charged.result.flow))
     (sym (ap (λ (v : FqView). v.state.new_flows ++ v.state.old_flows) c.self.view_is ∙ split))
     (sym (ap (λ (e : Entry). e.flow) c.charged.ensures))
@@ -127,8 +129,8 @@ returns-clause-sent g c = sym (sent g c) ∙ ap (sent_from c.args.now) (opened_i
 
 pub returns-clause-some : goal.returns-clause-some
 returns-clause-some g c =
-    let some : 0 < count (queue_of c.self.inside.flows.flows c.front-2.inside.flow) = c.send.ensures.some.0 (ap is_some c.unwrap-taken.ensures) in (
-      λ _. omega (arith, some, packets-at c.front-2.inside.flow c.self.inside.flows.flows, ap (λ (s : FqState). packets_of s.flows) (opened_is g c)),
+    let some : 0 < count (queue_of c.self.inside.flows.flows c.front.inside.flow) = c.send.ensures.some.0 (ap is_some c.unwrap-taken.ensures) in (
+      λ _. omega (arith, some, packets-at c.front.inside.flow c.self.inside.flows.flows, ap (λ (s : FqState). packets_of s.flows) (opened_is g c)),
       λ _. refl,
     )
 

@@ -18,17 +18,17 @@ use Rattle.q_fqcodel.proofs.KeptLemmas.{lawful_after_sending}
 use Rattle.q_fqcodel.proofs.LawfulLemmas.{front_within, none_waits}
 use Rattle.q_fqcodel.proofs.SentLemmas.{front-is, front-none, sent-is, sent-none, dropped-is, dropped-none, after-none, after-written, written, paid-is}
 use Rattle.q_fqcodel.proofs.fq_codel.FqCodel.send_front_into.Goals as goal
-use Rattle.q_fqcodel.proofs.fq_codel.FqCodel.send_front_into.Goals.{In_default, After-write_front}
+use Rattle.q_fqcodel.proofs.fq_codel.FqCodel.send_front_into.Goals.{After-is_lawful, After-write_front}
 
 -- ---- no flow is listed
 
-none_in_front : (g : _) (c : In_default g) → (c.args.self.now.state.new_flows ≡ []) × (c.args.self.now.state.old_flows ≡ [])
-none_in_front g c = front-none c.args.self.now.state (sym c.front.ensures.value ∙ c.in_default.is)
+none_in_front : (g : _) (c : After-is_lawful g) → (c.args.self.now.state.new_flows ≡ []) × (c.args.self.now.state.old_flows ≡ [])
+none_in_front g c = front-none c.args.self.now.state (sym c.requires.first ∙ c.in_default.is)
 
-nothing : (g : _) (c : In_default g) → dropped_from c.args.now c.args.self.now.state ≡ []
+nothing : (g : _) (c : After-is_lawful g) → dropped_from c.args.now c.args.self.now.state ≡ []
 nothing g c = dropped-none c.args.self.now.state c.args.now (none_in_front g c).0 (none_in_front g c).1
 
-no_one : (g : _) (c : In_default g) → None ≡ sent_from c.args.now c.args.self.now.state
+no_one : (g : _) (c : After-is_lawful g) → None ≡ sent_from c.args.now c.args.self.now.state
 no_one g c = sym (sent-none c.args.self.now.state c.args.now (none_in_front g c).0 (none_in_front g c).1)
 
 pub returns-in_default-clause-len : goal.returns-in_default-clause-len
@@ -37,7 +37,7 @@ returns-in_default-clause-len g c = ap (λ (o : Option Taken). option_map_or (λ
 pub returns-in_default-clause-some : goal.returns-in_default-clause-some
 returns-in_default-clause-some g c = (
   λ h. absurd (omega (arith, h)),
-  λ h. absurd (omega (arith, h, none_waits c.args.self.now.state c.front.ensures.lawful (none_in_front g c).0 (none_in_front g c).1)),
+  λ h. absurd (omega (arith, h, none_waits c.args.self.now.state c.is_lawful.ensures (none_in_front g c).0 (none_in_front g c).1)),
 )
 
 pub returns-in_default-clause-packet : goal.returns-in_default-clause-packet
@@ -64,7 +64,7 @@ returns-in_default-clause-room g c = omega (arith, ap count (nothing g c))
 
 pub send_into-sent-requires-clause-room : goal.send_into-sent-requires-clause-room
 send_into-sent-requires-clause-room g c =
-    omega (arith, c.requires.room, packets-at c.front-2.inside.flow c.self.inside.flows.flows, ap (λ (v : FqView). packets_of v.state.flows) c.self.view_is)
+    omega (arith, c.requires.room, packets-at c.front.inside.flow c.self.inside.flows.flows, ap (λ (v : FqView). packets_of v.state.flows) c.self.view_is)
 
 -- the state as it was opened, and the flow in front
 abbrev opened : (g : _) → After-write_front g → FqState
@@ -80,7 +80,7 @@ opened_is : (g : _) (c : After-write_front g) → opened g c ≡ c.args.self.now
 opened_is g c = ap (λ (v : FqView). v.state) c.self.view_is
 
 in_front : (g : _) (c : After-write_front g) → front (opened g c) ≡ Some (sender g c)
-in_front g c = ap front (opened_is g c) ∙ sym c.front.ensures.value ∙ c.in-Some.is
+in_front g c = ap front (opened_is g c) ∙ sym c.requires.first ∙ c.in-Some.is
 
 first : (g : _) (c : After-write_front g) → (opened g c).new_flows ++ (opened g c).old_flows ≡ sender g c ∷ behind g c
 first g c = front-is (opened g c) (sender g c) (in_front g c)
@@ -89,8 +89,9 @@ within : (g : _) (c : After-write_front g) → (sender g c).flow < length (opene
 within g c = omega (arith, front_within (opened g c) (sender g c) (behind g c) c.self.invariant.0 (first g c), c.self.invariant.0.each_flow)
 
 -- what is known of the flow that sends
-of_sender : (g : _) (c : After-write_front g) (P : Flow → Type 0) → IfSome (slice_get (opened g c).flows c.front-2.inside.flow) P → IfSome (slice_get (opened g c).flows (sender g c).flow) P
-of_sender g c P h = subst (λ (e : Entry). IfSome (slice_get (opened g c).flows e.flow) P) c.front-2.view_is h
+of_sender : (g : _) (c : After-write_front g) (P : Flow → Type 0)
+    → IfSome (slice_get (opened g c).flows c.front.inside.flow) P → IfSome (slice_get (opened g c).flows (sender g c).flow) P
+of_sender g c P h = subst (λ (e : Entry). IfSome (slice_get (opened g c).flows e.flow) P) c.front.view_is h
 
 -- the packet that leaves, marked or not
 abbrev gone : (g : _) → After-write_front g → Taken
@@ -101,7 +102,8 @@ sent g c =
     sent-is (opened g c) (sender g c) (behind g c) c.args.now (Some (gone g c)) (first g c) (within g c)
     (of_sender g c (λ f. taken_as c.send_into-sent.new.out c.send_into-sent.result.marked ≡ packet_sent c.args.now f) c.send_into-sent.ensures.sent)
 
-dropped : (g : _) (c : After-write_front g) (P : List Stamped → Type 0) → IfSome (slice_get (opened g c).flows c.front-2.inside.flow) (λ f. P (packets_dropped c.args.now f)) → P (dropped_from c.args.now c.args.self.now.state)
+dropped : (g : _) (c : After-write_front g) (P : List Stamped → Type 0)
+    → IfSome (slice_get (opened g c).flows c.front.inside.flow) (λ f. P (packets_dropped c.args.now f)) → P (dropped_from c.args.now c.args.self.now.state)
 dropped g c P h =
     subst (λ (s : FqState). P (dropped_from c.args.now s)) (opened_is g c)
     (dropped-is (opened g c) (sender g c) (behind g c) c.args.now P (first g c) (within g c) (of_sender g c (λ f. P (packets_dropped c.args.now f)) h))
@@ -113,11 +115,11 @@ paying g c =
     ∙ sym c.charged.ensures
 
 flows_sent : (g : _) (c : After-write_front g) → c.send_into-sent.new.self.flows ≡ adjust (flow_after c.args.now) (sender g c).flow (opened g c).flows
-flows_sent g c = c.send_into-sent.ensures.flows ∙ ap (λ (e : Entry). adjust (flow_after c.args.now) e.flow (opened g c).flows) c.front-2.view_is
+flows_sent g c = c.send_into-sent.ensures.flows ∙ ap (λ (e : Entry). adjust (flow_after c.args.now) e.flow (opened g c).flows) c.front.view_is
 
 pub write_front-requires-clause-own : goal.write_front-requires-clause-own
 write_front-requires-clause-own g c =
-    let split = front-is c.args.self.now.state c.in-Some.front (sym c.front.ensures.value ∙ c.in-Some.is) in
+    let split = front-is c.args.self.now.state c.in-Some.front (sym c.requires.first ∙ c.in-Some.is) in
     subst (λ (l : List Entry). IfSome (slice_get l 0) (λ e. e.flow ≡ c.charged.result.flow))
     (sym (ap (λ (v : FqView). v.state.new_flows ++ v.state.old_flows) c.self.view_is ∙ split))
     (sym (ap (λ (e : Entry). e.flow) c.charged.ensures))
@@ -148,7 +150,7 @@ pub returns-clause-some : goal.returns-clause-some
 returns-clause-some g c =
     let flows : List Flow = c.args.self.now.state.flows in
     let busy : is_idle flows c.in-Some.front.flow ≡ false =
-    subst (λ (o : Option Entry). IfSome o (λ e. is_idle flows e.flow ≡ false)) (sym c.front.ensures.value ∙ c.in-Some.is) c.requires.settled.busy in
+    subst (λ (o : Option Entry). IfSome o (λ e. is_idle flows e.flow ≡ false)) (sym c.requires.first ∙ c.in-Some.is) c.requires.settled.busy in
     let some : 0 < count (queue_of flows c.in-Some.front.flow) = omega (arith, eqb-false (count (queue_of flows c.in-Some.front.flow)) 0 busy) in (
       λ _. omega (arith, some, packets-at c.in-Some.front.flow flows),
       λ _. c.send_into-sent.ensures.some,

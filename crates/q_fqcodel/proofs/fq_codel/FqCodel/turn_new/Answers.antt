@@ -6,8 +6,9 @@ use Rattle.q_fqcodel.specs.FlowsState.{state_of}
 use Rattle.q_fqcodel.specs.FqState.{FqSettings, Flow, FqState, FqView, rested_flow}
 use Rattle.q_fqcodel.specs.Links.{ListsState}
 use Rattle.q_fqcodel.specs.Quanta.{given}
+use Rattle.q_fqcodel.specs.Take.{front}
 use Rattle.q_fqcodel.proofs.QuantaLemmas.{given-flow}
-use Rattle.q_fqcodel.proofs.TurnLemmas.{Looks, LeadsOn, front_at, front_some, in_flows, is_spent, has_credits, idle_is, rested_is, goes_from, settled_at, fresh_granted, fresh_moves, fresh_ready}
+use Rattle.q_fqcodel.proofs.TurnLemmas.{Looks, LeadsOn, front_at, front_some, in_flows, is_spent, has_credits, idle_is, rested_is, goes_from, settled_at, first_in_front, fresh_granted, fresh_moves, fresh_ready}
 use Rattle.q_fqcodel.proofs.fq_codel.FqCodel.turn_new.Goals as goal
 use Rattle.q_fqcodel.proofs.fq_codel.FqCodel.turn_new.Goals.{After-unwrap-entry, After-granted, After-age, After-age-then-is_idle}
 
@@ -130,3 +131,9 @@ returns-clause-settled c = λ _.
     let high : pos 0 <ℤ e.credits = has_credits look positive in
     let busy = idle_is look _ false c.is_idle.ensures c.if-is_idle.false in
     settled_at look (fresh_ready s c.self.invariant.0 e (behind at) (at_front at) high busy) high busy
+
+pub returns-clause-first : goal.returns-clause-first
+returns-clause-first c = λ _.
+    let at = (goal.at.returns-clause-first c).After-unwrap-entry in
+    first_in_front (opened at) c.unwrap-entry.result _ (looks at _ c.entry.view_is).first
+    ∙ ap front (opened_is at)

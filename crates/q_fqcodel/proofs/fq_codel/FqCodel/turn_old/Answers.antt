@@ -6,8 +6,9 @@ use Rattle.q_fqcodel.specs.FlowsState.{state_of}
 use Rattle.q_fqcodel.specs.FqState.{FqSettings, Flow, FqState, FqView, rested_flow}
 use Rattle.q_fqcodel.specs.Links.{ListsState}
 use Rattle.q_fqcodel.specs.Quanta.{given}
+use Rattle.q_fqcodel.specs.Take.{front}
 use Rattle.q_fqcodel.proofs.QuantaLemmas.{given-flow}
-use Rattle.q_fqcodel.proofs.TurnLemmas.{Looks, LeadsOn, front_at, front_some, in_flows, is_spent, has_credits, idle_is, rested_is, goes_from, settled_at, stale_granted, stale_leaves, stale_ready}
+use Rattle.q_fqcodel.proofs.TurnLemmas.{Looks, LeadsOn, front_at, front_some, in_flows, is_spent, has_credits, idle_is, rested_is, goes_from, settled_at, first_in_front, stale_granted, stale_leaves, stale_ready}
 use Rattle.q_fqcodel.proofs.fq_codel.FqCodel.turn_old.Goals as goal
 use Rattle.q_fqcodel.proofs.fq_codel.FqCodel.turn_old.Goals.{After-unwrap-entry, After-granted, After-rotate, After-retire}
 
@@ -121,3 +122,9 @@ returns-clause-settled c = λ _.
     let high : pos 0 <ℤ e.credits = has_credits look positive in
     let busy = idle_is look _ false c.is_idle.ensures c.if-is_idle.false in
     settled_at look (stale_ready s c.self.invariant.0 e (behind at) (none_new at) (at_front at) high busy) high busy
+
+pub returns-clause-first : goal.returns-clause-first
+returns-clause-first c = λ _.
+    let at = (goal.at.returns-clause-first c).After-unwrap-entry in
+    first_in_front (opened at) c.unwrap-entry.result _ (looks at _ c.entry.view_is).first
+    ∙ ap front (opened_is at)

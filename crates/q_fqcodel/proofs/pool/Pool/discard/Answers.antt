@@ -2,7 +2,7 @@ use Rattle.std.proofs.Common.{◌≡◌, ◌-◌, ◌<◌, List, [], length, get
 use Rattle.q_fqcodel.specs.Nodes.{used}
 use Rattle.q_packet.specs.declared.stamped.Stamped.{Stamped}
 use Rattle.q_fqcodel.specs.Chain.{queue_in, IsList, KeepsOthers}
-use Rattle.q_fqcodel.specs.Pool.{PoolState, queues_in, IsPool}
+use Rattle.q_fqcodel.specs.Pool.{PoolState, queues_in, packets_in, IsPool}
 use Rattle.q_fqcodel.specs.declared.flow_list.FlowList.{FlowList}
 use Rattle.q_fqcodel.proofs.PoolLemmas.{length-queues, list_read, count_read, some_read, queue_read, written, pool_after, bytes_le, packets_pooled, packets_read}
 use Rattle.q_fqcodel.proofs.PooledLemmas.{flow_with}
@@ -62,8 +62,14 @@ pool2 c =
     (omega (arith, bytes, c.drop_head-rest.ensures.bytes, enough))
     (omega (arith, c.drop_head-rest.ensures.len, c.self.invariant.0.few))
 
+pub write_rest-requires-clause-within : goal.write_rest-requires-clause-within
+write_rest-requires-clause-within c = within (goal.at.write_rest-requires-clause-within c).After-drop_head-rest
+
+pub write_rest-requires-clause-tail : goal.write_rest-requires-clause-tail
+write_rest-requires-clause-tail c = c.drop_head-rest.ensures.tail ∙ ap (λ (l : FlowList). l.tail) c.list_at-list.ensures
+
 pub invariant_of-self : goal.invariant_of-self
-invariant_of-self c = (pool2 (goal.at.invariant_of-self c).After-drop_head-rest, omega (arith, c.self.invariant.1, c.drop_head-rest.ensures.capacity))
+invariant_of-self c = (rw c.write_rest.ensures (pool2 (goal.at.invariant_of-self c).After-drop_head-rest), omega (arith, c.self.invariant.1, c.drop_head-rest.ensures.capacity))
 
 pub returns-clause-packets : goal.returns-clause-packets
 returns-clause-packets c =
@@ -71,6 +77,7 @@ returns-clause-packets c =
     let d = (goal.at.returns-clause-packets c).After-drop_head-rest in
     omega (
       arith,
+      ap (λ (l : List FlowList). packets_in (queues_in (used c.drop_head-rest.new.nodes) l)) c.write_rest.ensures,
       packets_pooled (used c.drop_head-rest.new.nodes) c.drop_head-rest.new.nodes.count (set p.lists.items c.args.flow c.drop_head-rest.result) _ (pool2 d),
       packets_read (used p.nodes) p.nodes.count p.lists.items p.bytes c.self.invariant.0 c.args.self.now.queues (same d) c.args.flow c.list_at-list.result c.list_at-list.ensures,
       c.drop_head-rest.ensures.len,
@@ -81,5 +88,6 @@ returns-clause-queues c =
     let p = c.self.inside in
     let d = (goal.at.returns-clause-queues c).After-drop_head-rest in
     let n = c.args.flow in
-    written (used p.nodes) (used c.drop_head-rest.new.nodes) p.nodes.count p.lists.items p.bytes c.self.invariant.0 n c.drop_head-rest.result (within d) (others d) (linked d)
+    ap (queues_in (used c.drop_head-rest.new.nodes)) c.write_rest.ensures
+    ∙ written (used p.nodes) (used c.drop_head-rest.new.nodes) p.nodes.count p.lists.items p.bytes c.self.invariant.0 n c.drop_head-rest.result (within d) (others d) (linked d)
     ∙ ap₂ (λ (l : List (List Stamped)) (q : List Stamped). set l n q) (same d) (c.drop_head-rest.ensures.queue ∙ ap (drop 1) (queue d))

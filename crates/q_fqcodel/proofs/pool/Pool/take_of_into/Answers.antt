@@ -51,6 +51,12 @@ linked c = c.take_head_into-rest.ensures.linked _ _ (list_there c)
 others : (c : After-take_head_into-rest) → KeepsOthers (length c.self.inside.lists.items) c.args.flow (used c.self.inside.nodes) (used c.take_head_into-rest.new.nodes)
 others c = c.take_head_into-rest.ensures.others _ _ (list_there c)
 
+pub write_rest-requires-clause-within : goal.write_rest-requires-clause-within
+write_rest-requires-clause-within c = within (goal.at.write_rest-requires-clause-within c).After-take_head_into-rest
+
+pub write_rest-requires-clause-tail : goal.write_rest-requires-clause-tail
+write_rest-requires-clause-tail c = c.take_head_into-rest.ensures.tail ∙ ap (λ (l : FlowList). l.tail) c.list_at-list.ensures
+
 pub invariant_of-self : goal.invariant_of-self
 invariant_of-self c =
     let p = c.self.inside in
@@ -58,11 +64,11 @@ invariant_of-self c =
     let count = ap (λ (l : FlowList). l.count) c.list_at-list.ensures in
     let bytes = ap (λ (l : FlowList). l.bytes) c.list_at-list.ensures in
     let enough = bytes_le (used p.nodes) p.nodes.count p.lists.items p.bytes c.self.invariant.0 c.args.flow in (
-      pool_after (used p.nodes) (used c.take_head_into-rest.new.nodes) p.nodes.count p.lists.items p.bytes c.self.invariant.0 c.args.flow c.take_head_into-rest.result (within d) (others d) (linked d)
+      rw c.write_rest.ensures (pool_after (used p.nodes) (used c.take_head_into-rest.new.nodes) p.nodes.count p.lists.items p.bytes c.self.invariant.0 c.args.flow c.take_head_into-rest.result (within d) (others d) (linked d)
           _ _
           (omega (arith, count, c.take_head_into-rest.ensures.len, c.take_head_into-rest.ensures.count))
           (omega (arith, bytes, c.take_head_into-rest.ensures.bytes, ap (λ (x : Descriptor). x.len) c.out.view_is, enough))
-          (omega (arith, c.take_head_into-rest.ensures.len, c.self.invariant.0.few)),
+          (omega (arith, c.take_head_into-rest.ensures.len, c.self.invariant.0.few))),
       omega (arith, c.self.invariant.1, c.take_head_into-rest.ensures.capacity),
     )
 
@@ -76,5 +82,6 @@ returns-clause-queues c =
     let p = c.self.inside in
     let d = (goal.at.returns-clause-queues c).After-take_head_into-rest in
     let n = c.args.flow in
-    written (used p.nodes) (used c.take_head_into-rest.new.nodes) p.nodes.count p.lists.items p.bytes c.self.invariant.0 n c.take_head_into-rest.result (within d) (others d) (linked d)
+    ap (queues_in (used c.take_head_into-rest.new.nodes)) c.write_rest.ensures
+    ∙ written (used p.nodes) (used c.take_head_into-rest.new.nodes) p.nodes.count p.lists.items p.bytes c.self.invariant.0 n c.take_head_into-rest.result (within d) (others d) (linked d)
     ∙ ap₂ (λ (l : List (List Stamped)) (q : List Stamped). set l n q) (same d) (c.take_head_into-rest.ensures.queue ∙ ap (drop 1) (queue d))
