@@ -89,37 +89,36 @@ pub fn drop_moments(count: usize, interval: u64) -> Vec<u64> {
     moments
 }
 
-/// Packets for a bucket: the nanoseconds between one and the next, and their lengths.
+/// Packets for a bucket: of each its length, in the low 16 bits, and above them the nanoseconds since the one before.
 ///
 /// Of the bytes that the packets have, the rate brings so many hundredths between them. One wait in 16, and the first, fills
 /// the bucket too. No packet is nearer to what the bucket holds than the rate brings in a nanosecond for each packet since
 /// it was full, so that an arithmetic that rounds to nanoseconds gives the same answers.
-pub fn spends(rate: u64, burst: u32, brought: u64, count: usize) -> (Vec<u32>, Vec<u16>) {
+pub fn spends(rate: u64, burst: u32, brought: u64, count: usize) -> Vec<u64> {
     const UNIT: u64 = 8_000_000_000;
     let mut random = Xorshift::new();
     let full = u64::from(burst) * UNIT;
     let mean = 787 * UNIT / rate * brought / 100;
-    let (mut waits, mut lens) = (Vec::new(), Vec::new());
+    let mut spends = Vec::new();
     let (mut level, mut waited, mut since_full) = (full, 0, 0);
-    while lens.len() < count {
-        let is_long = lens.is_empty() || random.below(16) == 0;
+    while spends.len() < count {
+        let is_long = spends.is_empty() || random.below(16) == 0;
         let wait = random.below(2 * mean) + if is_long { full / rate } else { 0 } + 1;
-        let len = 60 + random.below(1454) as u16;
+        let len = 60 + random.below(1454);
         let here = full.min(level + rate * (waited + wait));
-        let cost = u64::from(len) * UNIT;
+        let cost = len * UNIT;
         since_full = if here == full { 0 } else { since_full + 1 };
         if here.abs_diff(cost) <= (since_full + 1) * rate {
             continue;
         }
-        waits.push(wait as u32);
-        lens.push(len);
+        spends.push(wait << 16 | len);
         waited += wait;
         if here >= cost {
             level = here - cost;
             waited = 0;
         }
     }
-    (waits, lens)
+    spends
 }
 
 /// Lines without newlines, and where each ends.

@@ -15,10 +15,8 @@ unsafe extern "C" {
     fn q_bench_spend(
         rate: u64,
         burst: u32,
-        waits: *const u32,
-        waits_len: usize,
-        lens: *const u16,
-        lens_len: usize,
+        spends: *const u64,
+        spends_len: usize,
         passes: u32,
     ) -> u64;
     fn q_bench_flows(
@@ -98,18 +96,8 @@ pub fn gap(interval: u64, first: u32, counts: u32, passes: u32) -> u64 {
     q_bench_gap(interval, first, counts, passes)
 }
 
-pub fn spend(rate: u64, burst: u32, waits: &[u32], lens: &[u16], passes: u32) -> u64 {
-    unsafe {
-        q_bench_spend(
-            rate,
-            burst,
-            waits.as_ptr(),
-            waits.len(),
-            lens.as_ptr(),
-            lens.len(),
-            passes,
-        )
-    }
+pub fn spend(rate: u64, burst: u32, spends: &[u64], passes: u32) -> u64 {
+    unsafe { q_bench_spend(rate, burst, spends.as_ptr(), spends.len(), passes) }
 }
 
 pub fn flows(load: &FlowLoad, hashes: &[u32], passes: u32) -> u64 {

@@ -160,8 +160,8 @@ fn spend(name: &str, rate: u64, brought: u64) -> Row {
         sides: Box::new(move || {
             Sides::of(
                 inputs::spends(rate, burst, brought, 1 << 17),
-                move |(waits, lens), passes| rattle::spend(rate, burst, waits, lens, passes),
-                move |(waits, lens), passes| work::spend(rate, burst, waits, lens, passes),
+                move |spends, passes| rattle::spend(rate, burst, spends, passes),
+                move |spends, passes| work::spend(rate, burst, spends, passes),
             )
         }),
     }

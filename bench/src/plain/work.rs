@@ -81,17 +81,17 @@ pub fn gap(interval: u64, first: u32, counts: u32, passes: u32) -> u64 {
 }
 
 #[inline(never)]
-pub fn spend(rate: u64, burst: u32, waits: &[u32], lens: &[u16], passes: u32) -> u64 {
+pub fn spend(rate: u64, burst: u32, spends: &[u64], passes: u32) -> u64 {
     let mut bucket = Bucket::new(rate, burst);
     let mut now = 0;
     let mut sum = 0;
     for _ in 0..passes {
-        for (wait, len) in waits.iter().zip(lens) {
-            now += u64::from(*wait);
+        for spend in spends {
+            now += spend >> 16;
             if now > LATEST {
                 return 0;
             }
-            sum = with(sum, bucket.spend(now, *len).into());
+            sum = with(sum, bucket.spend(now, *spend as u16).into());
         }
     }
     sum

@@ -5,15 +5,10 @@ use q_packet::Moment;
 /// The highest rate, in bits a second.
 const MAX_RATE: u64 = 1_000_000_000_000;
 
-/// Spends from a bucket: each of `lens` so many nanoseconds after the one before as `waits` says, so many times over.
+/// Spends from a bucket, so many times over: each of `spends` is a length in its low 16 bits and, above them, so many nanoseconds after
+/// the one before.
 #[unsafe(no_mangle)]
-pub extern "C" fn q_bench_spend(
-    rate: u64,
-    burst: u32,
-    waits: &[u32],
-    lens: &[u16],
-    passes: u32,
-) -> u64 {
+pub extern "C" fn q_bench_spend(rate: u64, burst: u32, spends: &[u64], passes: u32) -> u64 {
     if rate == 0 || rate > MAX_RATE || burst == 0 {
         return 0;
     }
@@ -21,12 +16,12 @@ pub extern "C" fn q_bench_spend(
     let mut bucket = Bucket::new(rate, burst, now);
     let mut sum = 0;
     for _ in 0..passes {
-        for (wait, len) in waits.iter().zip(lens) {
-            let Some(next) = Moment::new(now.ns() + u64::from(*wait)) else {
+        for spend in spends {
+            let Some(next) = Moment::new(now.ns() + spend / 65536) else {
                 return 0;
             };
             now = next;
-            sum = checksum::with(sum, u64::from(bucket.spend(now, *len)));
+            sum = checksum::with(sum, u64::from(bucket.spend(now, (spend % 65536) as u16)));
         }
     }
     sum

@@ -5,8 +5,5 @@ use Rattle.q_bench.proofs.spends.q_bench_spend.Given as goal
 abbrev pub invariant-loop : goal.invariant-loop
 invariant-loop l = l.bucket.last ≤ l.now
 
-abbrev pub invariant-loop-wait : goal.invariant-loop-wait
-invariant-loop-wait l =
-    (goal.iterator-loop-wait).can_next l.wait-iterator ×
-    (goal.iterator-loop-wait).is_finite l.wait-iterator ×
-    (l.bucket.last ≤ l.now)
+abbrev pub invariant-loop-spend : goal.invariant-loop-spend
+invariant-loop-spend l = l.bucket.last ≤ l.now
