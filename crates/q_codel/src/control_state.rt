@@ -184,7 +184,8 @@ impl ControlState {
         Some(marked)
     }
 
-    /// What is kept once the head goes as it stands; `None` where it is late, and [`ControlState::take_into`] is to drop or mark.
+    /// What is kept once the head goes as it stands (RFC 8289, section 5.6); `None` where it is late, and [`ControlState::take_into`] is
+    /// to drop or mark.
     ///
     /// `front` is what is looked at of the head, and `behind` the bytes of all packets behind it.
     pub fn passed(

@@ -323,7 +323,8 @@ impl FqCodel {
         ensures kept { S.keeps sink.old sink.new }
     {
         let Some(front) = first else {
-            self.is_lawful();
+            // An fq_codel with no flow in front holds no packet, as its state is lawful.
+            let _ = self.queued();
             return None;
         };
         let taken = self.flows.send(front.flow, now, sink).unwrap();
@@ -357,7 +358,8 @@ impl FqCodel {
         ensures kept { S.keeps sink.old sink.new }
     {
         let Some(front) = first else {
-            self.is_lawful();
+            // An fq_codel with no flow in front holds no packet, as its state is lawful.
+            let _ = self.queued();
             return Sent {
                 len: 0,
                 marked: false,
@@ -368,13 +370,6 @@ impl FqCodel {
         // CoDel's drops cost the flow nothing: only what is sent does.
         self.lists.write_front(front.charged(sent.len));
         sent
-    }
-
-    // Every fq_codel is lawful. It does nothing.
-    fn is_lawful(&self)
-        ensures { IsLawful self.now.state }
-    {
-        let _ = &self.settings;
     }
 }
 

@@ -17,14 +17,14 @@ use Rattle.q_fqcodel.proofs.KeptLemmas.{lawful_after_sending}
 use Rattle.q_fqcodel.proofs.LawfulLemmas.{front_within, none_waits}
 use Rattle.q_fqcodel.proofs.SentLemmas.{front-is, front-none, sent-is, sent-none, dropped-is, dropped-none, after-none, after-written, written, paid-is}
 use Rattle.q_fqcodel.proofs.fq_codel.FqCodel.send_front.Goals as goal
-use Rattle.q_fqcodel.proofs.fq_codel.FqCodel.send_front.Goals.{After-is_lawful, After-write_front}
+use Rattle.q_fqcodel.proofs.fq_codel.FqCodel.send_front.Goals.{After-queued, After-write_front}
 
 -- ---- no flow is listed
 
-none_in_front : (g : _) (c : After-is_lawful g) → (c.args.self.now.state.new_flows ≡ []) × (c.args.self.now.state.old_flows ≡ [])
+none_in_front : (g : _) (c : After-queued g) → (c.args.self.now.state.new_flows ≡ []) × (c.args.self.now.state.old_flows ≡ [])
 none_in_front g c = front-none c.args.self.now.state (sym c.requires.first ∙ c.in_default.is)
 
-nothing : (g : _) (c : After-is_lawful g) → dropped_from c.args.now c.args.self.now.state ≡ []
+nothing : (g : _) (c : After-queued g) → dropped_from c.args.now c.args.self.now.state ≡ []
 nothing g c = dropped-none c.args.self.now.state c.args.now (none_in_front g c).0 (none_in_front g c).1
 
 pub returns-in_default-clause-sent : goal.returns-in_default-clause-sent
@@ -33,7 +33,7 @@ returns-in_default-clause-sent g c = sym (sent-none c.args.self.now.state c.args
 pub returns-in_default-clause-some : goal.returns-in_default-clause-some
 returns-in_default-clause-some g c = (
   λ h. absurd (false≢true h),
-  λ h. absurd (omega (arith, h, none_waits c.args.self.now.state c.is_lawful.ensures (none_in_front g c).0 (none_in_front g c).1)),
+  λ h. absurd (omega (arith, h, none_waits c.args.self.now.state c.queued.ensures.lawful (none_in_front g c).0 (none_in_front g c).1)),
 )
 
 pub returns-in_default-clause-after : goal.returns-in_default-clause-after

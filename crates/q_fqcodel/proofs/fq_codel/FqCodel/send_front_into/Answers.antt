@@ -18,17 +18,17 @@ use Rattle.q_fqcodel.proofs.KeptLemmas.{lawful_after_sending}
 use Rattle.q_fqcodel.proofs.LawfulLemmas.{front_within, none_waits}
 use Rattle.q_fqcodel.proofs.SentLemmas.{front-is, front-none, sent-is, sent-none, dropped-is, dropped-none, after-none, after-written, written, paid-is}
 use Rattle.q_fqcodel.proofs.fq_codel.FqCodel.send_front_into.Goals as goal
-use Rattle.q_fqcodel.proofs.fq_codel.FqCodel.send_front_into.Goals.{After-is_lawful, After-write_front}
+use Rattle.q_fqcodel.proofs.fq_codel.FqCodel.send_front_into.Goals.{After-queued, After-write_front}
 
 -- ---- no flow is listed
 
-none_in_front : (g : _) (c : After-is_lawful g) → (c.args.self.now.state.new_flows ≡ []) × (c.args.self.now.state.old_flows ≡ [])
+none_in_front : (g : _) (c : After-queued g) → (c.args.self.now.state.new_flows ≡ []) × (c.args.self.now.state.old_flows ≡ [])
 none_in_front g c = front-none c.args.self.now.state (sym c.requires.first ∙ c.in_default.is)
 
-nothing : (g : _) (c : After-is_lawful g) → dropped_from c.args.now c.args.self.now.state ≡ []
+nothing : (g : _) (c : After-queued g) → dropped_from c.args.now c.args.self.now.state ≡ []
 nothing g c = dropped-none c.args.self.now.state c.args.now (none_in_front g c).0 (none_in_front g c).1
 
-no_one : (g : _) (c : After-is_lawful g) → None ≡ sent_from c.args.now c.args.self.now.state
+no_one : (g : _) (c : After-queued g) → None ≡ sent_from c.args.now c.args.self.now.state
 no_one g c = sym (sent-none c.args.self.now.state c.args.now (none_in_front g c).0 (none_in_front g c).1)
 
 pub returns-in_default-clause-len : goal.returns-in_default-clause-len
@@ -37,7 +37,7 @@ returns-in_default-clause-len g c = ap (λ (o : Option Taken). option_map_or (λ
 pub returns-in_default-clause-some : goal.returns-in_default-clause-some
 returns-in_default-clause-some g c = (
   λ h. absurd (omega (arith, h)),
-  λ h. absurd (omega (arith, h, none_waits c.args.self.now.state c.is_lawful.ensures (none_in_front g c).0 (none_in_front g c).1)),
+  λ h. absurd (omega (arith, h, none_waits c.args.self.now.state c.queued.ensures.lawful (none_in_front g c).0 (none_in_front g c).1)),
 )
 
 pub returns-in_default-clause-packet : goal.returns-in_default-clause-packet
