@@ -109,6 +109,10 @@ fn climb(ranks: &mut [u64], leaf: usize, rank: u64)
 {
     let old = ranks[leaf];
     ranks[leaf] = rank;
+    // A flow that is alone has no node above it: whether it grew, which a processor cannot foresee, is not asked.
+    if leaf < 2 {
+        return;
+    }
     if old < rank {
         raise(ranks, leaf, rank);
     } else {
