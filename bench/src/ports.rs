@@ -11,8 +11,10 @@ use std::process::Command;
 const ROWS: [&str; ports::ROWS] = [
     "ports: an offer",
     "ports: a turn of 64, for each",
+    "ports: its calls on a device alone",
     "ports: a turn that finds nothing",
-    "ports: an offer, 4 senders at once",
+    "ports: an offer into a ring of 65536",
+    "ports: the same, 4 senders at once",
     "ports: drive, 1 sender, for each",
     "ports: drive, 4 senders, for each",
     "ports: drive, 16 senders, for each",

@@ -83,14 +83,14 @@ impl Intake {
 }
 
 /// How many figures there are.
-pub const ROWS: usize = 8;
+pub const ROWS: usize = 10;
 
-/// The nanoseconds of an offer, of a packet in a turn of 64, of a turn that finds nothing, of an offer where four senders offer at
-/// once, and of a packet with 1, 4, 16 and 64 senders.
+/// The nanoseconds of an offer, of a packet in a turn of 64 and of the same calls on a device alone, of a turn that finds nothing, of an
+/// offer into a long ring by one sender and where four offer at once, and of a packet with 1, 4, 16 and 64 senders.
 pub fn timed() -> Option<[f64; ROWS]> {
     let [offer, turn, idle] = offers_and_turns(4096, 64)?;
-    let at_once = offers_at_once(65_536, 4)?;
-    Some([offer, turn, idle, at_once, drive(1)?, drive(4)?, drive(16)?, drive(64)?])
+    let [alone, at_once] = offers_at_once(65_536, 4)?;
+    Some([offer, turn, calls_of_turns(4096, 64)?, idle, alone, at_once, drive(1)?, drive(4)?, drive(16)?, drive(64)?])
 }
 
 /// Fills a ring and takes its packets by turns, so many times over, and then takes as many turns that find nothing as fit the ring.
@@ -127,14 +127,40 @@ fn offers_and_turns(places: usize, stretches: usize) -> Option<[f64; 3]> {
     Some([offers as f64 / packets, turns as f64 / packets, idle])
 }
 
-/// Four senders fill their rings at once, each on a thread of its own, so many times over and once before; the time is that of
-/// the slowest.
-fn offers_at_once(places: usize, stretches: usize) -> Option<f64> {
+/// The calls that those turns make on a device, of packets that stand in a list.
+fn calls_of_turns(places: usize, stretches: usize) -> Option<f64> {
+    let (mut device, packets) = (Device::new(1514, 1_000_000, 0), vec![packet(); places]);
+    let mut out = Packet::NONE;
+    let start = Instant::now();
+    for _ in 0..stretches {
+        for turn in packets.chunks(MOST) {
+            for packet in turn {
+                if let Put::NoMemory = device.arrive(packet, 0) {
+                    return None;
+                }
+            }
+            for _ in turn {
+                let Polled::Packet = device.poll(0, &mut out) else {
+                    return None;
+                };
+            }
+        }
+    }
+    Some(start.elapsed().as_nanos() as f64 / (places * stretches) as f64)
+}
+
+/// A sender fills its ring, and then four at once, each on a thread of its own, so many times over and once before; the time of the
+/// four is that of the slowest.
+fn offers_at_once(places: usize, stretches: usize) -> Option<[f64; 2]> {
     let (device, given) = (device(), packet());
     let (mut ends, rings): (Vec<Sender>, Vec<Receiver>) = (0..4).map(|_| ring(places)).unzip();
     let mut intake = Intake { rings, next: 0 };
-    let mut all = 0.0;
+    let (mut one, mut all) = (0.0, 0.0);
     for stretch in 0..=stretches {
+        let alone = fill(&mut ends[0], &given, places)?;
+        for _ in 0..places / MOST {
+            intake.turn(&device, 0)?;
+        }
         let slowest = thread::scope(|scope| {
             let fill = |end| move || fill(end, &given, places);
             let senders: Vec<_> = ends.iter_mut().map(|end| scope.spawn(fill(end))).collect();
@@ -148,9 +174,13 @@ fn offers_at_once(places: usize, stretches: usize) -> Option<f64> {
         if sent != 4 * places {
             return None;
         }
-        all += if stretch > 0 { slowest } else { 0.0 };
+        if stretch > 0 {
+            one += alone;
+            all += slowest;
+        }
     }
-    Some(all / (4 * places * stretches) as f64)
+    let packets = (places * stretches) as f64;
+    Some([one / packets, all / (4.0 * packets)])
 }
 
 /// The nanoseconds in which so many packets are placed.

@@ -199,6 +199,7 @@ impl ControlState {
             → Chooses (joined parameters.now self.now) now (head ∷ rest) head false rest (joined parameters.now after)) }
         ensures late { IfNone result ((head : Stamped) (rest : List Stamped) → front.now ≡ front_of head → behind ≡ size rest
             → is_late (joined parameters.now self.now) now (head ∷ rest) ≡ true) }
+        ensures kept { IfSome result (λ after. after ≡ record self.now { first_above_time = after.first_above_time; dropping = false }) }
     {
         let mut after = *self;
         if after.should_drop(parameters, front, behind, now) {
@@ -206,6 +207,17 @@ impl ControlState {
         }
         after.dropping = false;
         Some(after)
+    }
+
+    /// Becomes what [`ControlState::passed`] answered: a head that goes as it stands changes neither the counts nor the moment of the
+    /// next drop, so that they are not written.
+    #[inline(always)]
+    pub fn pass(&mut self, after: ControlState)
+        requires { after ≡ record self.old { first_above_time = after.first_above_time; dropping = false } }
+        ensures { self.new ≡ after }
+    {
+        self.first_above_time = after.first_above_time;
+        self.dropping = after.dropping;
     }
 
     // Drops heads as the law says, until the one to be sent is in front, and answers whether it is to be marked.

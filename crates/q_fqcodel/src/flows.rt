@@ -179,7 +179,7 @@ impl Flows {
             return self.send_late_into(flow, now, out, sink);
         };
         self.pool.take_of_into(flow, out);
-        self.states[flow as usize] = after;
+        self.states[flow as usize].pass(after);
         self.winners.renew(flow, behind);
         Sent {
             len: front.len,

@@ -20,20 +20,37 @@ const RING: usize = 65_536;
 /// How often the rings are filled that are timed.
 const STRETCHES: usize = 4;
 
+/// The packets of one sender in all stretches.
+pub const PACKETS_OF_ONE: usize = RING * STRETCHES;
+
 /// The packets of all stretches and senders.
-pub const PACKETS: usize = 4 * RING * STRETCHES;
+pub const PACKETS: usize = 4 * PACKETS_OF_ONE;
 
 /// Two ports.
 type Pair = (Port, Port);
 
-/// The nanoseconds in which four senders, each on a thread of its own, fill their rings at once, while nobody takes: those of the
-/// slowest, summed over the stretches. 0 where one could not.
+/// Nanoseconds, summed over the stretches; both are 0 where a packet could not be placed.
+#[derive(Clone, Copy)]
+pub struct Fills {
+    /// Of one sender that fills its ring alone.
+    pub alone: u64,
+    /// Of the slowest of four senders that fill theirs at once.
+    pub at_once: u64,
+}
+
+/// What nothing was timed of.
+pub const NO_FILLS: Fills = Fills {
+    alone: 0,
+    at_once: 0,
+};
+
+/// Times one sender that fills its ring, and then four at once, each on a thread of its own, while nobody takes.
 pub fn offers_at_once<R: Threads + Wait + Sync + Clock>(
     rt: &R,
     alloc: Global,
     device: Device,
     given: Packet,
-) -> io::Result<u64>
+) -> io::Result<Fills>
     requires { device.device.tree.top.arrived ≡ no_totals }
 {
     let (packets, bytes) = (Blank::new(65), Blank::new(65));
@@ -47,25 +64,25 @@ fn booked<P: Ledger, B: Ledger, R: Threads + Wait + Sync + Clock>(
     given: Packet,
     packets: Blank,
     bytes: Blank,
-) -> io::Result<u64>
+) -> io::Result<Fills>
     requires nothing { device.device.tree.top.arrived ≡ no_totals }
     requires packets { (packets.name ≡ P.name) × (packets.parts ≡ P.parts) × (P.parts ≡ 65) }
     requires bytes { (bytes.name ≡ B.name) × (bytes.parts ≡ B.parts) × (B.parts ≡ 65) }
 {
     let (booked, seat) = Booked::<P, B>::new(device, packets, bytes);
     let Ok((drain, ports, _gauges)) = open_ports(rt, alloc, seat, 4, RING, 0) else {
-        return Ok(0);
+        return Ok(NO_FILLS);
     };
     let (mut drain, mut ports) = (drain, ports);
     let lock = Mutex::new(booked);
-    let span = match (ports.pop(), ports.pop(), ports.pop(), ports.pop()) {
+    let fills = match (ports.pop(), ports.pop(), ports.pop(), ports.pop()) {
         (Some(a), Some(b), Some(c), Some(d)) => {
             stretches(rt, alloc, &lock, &mut drain, ((a, b), (c, d)), given)
         }
-        _ => Ok(0),
+        _ => Ok(NO_FILLS),
     };
     drain.end(rt);
-    span
+    fills
 }
 
 fn stretches<P: Ledger, B: Ledger, R: Threads + Wait + Sync + Clock>(
@@ -75,29 +92,52 @@ fn stretches<P: Ledger, B: Ledger, R: Threads + Wait + Sync + Clock>(
     drain: &mut Drain<P, B>,
     ports: (Pair, Pair),
     given: Packet,
-) -> io::Result<u64> {
+) -> io::Result<Fills> {
     let mut ports = ports;
-    let mut all = 0u64;
+    let mut fills = NO_FILLS;
     // The first stretch, in which each place is written for the first time, is not timed.
     for stretch in 0..=STRETCHES {
-        let (left, right) = ports;
-        let ((left, one), (right, other)) = thread::join(
-            rt,
-            move || fill_pair(rt, left, given),
-            move || fill_pair(rt, right, given),
-        );
-        let (Some(one), Some(other)) = (one, other) else {
-            return Ok(0);
-        };
+        let ((one, second), right) = ports;
+        let (one, alone) = fill(rt, one, given);
+        if take_all(rt, alloc, lock, drain, RING) != RING {
+            return Ok(NO_FILLS);
+        }
+        let (next, at_once) = fill_all(rt, ((one, second), right), given);
         if take_all(rt, alloc, lock, drain, 4 * RING) != 4 * RING {
-            return Ok(0);
+            return Ok(NO_FILLS);
         }
+        let (Some(alone), Some(at_once)) = (alone, at_once) else {
+            return Ok(NO_FILLS);
+        };
         if stretch > 0 {
-            all = all.saturating_add(one.max(other));
+            fills.alone = fills.alone.saturating_add(alone);
+            fills.at_once = fills.at_once.saturating_add(at_once);
         }
-        ports = (left, right);
+        ports = next;
     }
-    Ok(all)
+    Ok(fills)
+}
+
+/// Fills four rings at once; the nanoseconds of the slowest.
+fn fill_all<R: Threads + Sync + Clock>(
+    rt: &R,
+    ports: (Pair, Pair),
+    given: Packet,
+) -> ((Pair, Pair), Option<u64>) {
+    let (left, right) = ports;
+    let ((left, one), (right, other)) = thread::join(
+        rt,
+        move || fill_pair(rt, left, given),
+        move || fill_pair(rt, right, given),
+    );
+    ((left, right), slower(one, other))
+}
+
+fn slower(one: Option<u64>, other: Option<u64>) -> Option<u64> {
+    match (one, other) {
+        (Some(one), Some(other)) => Some(one.max(other)),
+        _ => None,
+    }
 }
 
 /// Fills two rings at once, each on a thread of its own; the nanoseconds of the slower one.
@@ -108,11 +148,7 @@ fn fill_pair<R: Threads + Sync + Clock>(rt: &R, ports: Pair, given: Packet) -> (
         move || fill(rt, one, given),
         move || fill(rt, other, given),
     );
-    let slower = match (first, second) {
-        (Some(first), Some(second)) => Some(first.max(second)),
-        _ => None,
-    };
-    ((one, other), slower)
+    ((one, other), slower(first, second))
 }
 
 /// Fills a ring; its nanoseconds, where each packet was placed and the clock was read.

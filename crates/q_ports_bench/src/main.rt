@@ -1,11 +1,12 @@
-//! Times the ports for the benchmark in `bench/`: given the word `times`, it prints eight lines, each with a number of
-//! nanoseconds, and of packets or turns; else it does nothing.
+//! Times the ports for the benchmark in `bench/`: given the word `times`, it prints ten lines, each with a number of nanoseconds,
+//! and of packets or turns; else it does nothing.
 //!
-//! They are those of an offer, of a turn of 64, of a turn that finds nothing, of four senders that offer at once, and of `drive`
-//! with 1, 4, 16 and 64 senders, all into a root pfifo. A static library may not wait, so that these are timed here, and not
+//! They are those of an offer, of a turn of 64, of the same calls on a device alone, of a turn that finds nothing, of one sender that
+//! fills a long ring and of four at once, and of `drive` with 1, 4, 16 and 64 senders, all into a root pfifo. A static library may not wait, so that these are timed here, and not
 //! beside the other workloads (`q_bench`). The time is 0 where memory or a thread was refused, or a packet did not arrive.
 //!
 //! - [`one_port`]: offers and turns on one thread.
+//! - [`device_alone`]: the calls of those turns.
 //! - [`four_ports`]: offers on four threads.
 //! - [`senders`]: a thread for each port, and the drain.
 #![tactic(auto)]
@@ -13,11 +14,13 @@
 ghost use Rattle.std.specs.Prelude.{◌≡◌, IfSome};
 ghost use Rattle.q_model.specs.Tally.{no_totals};
 
+mod device_alone;
 mod four_ports;
 mod one_port;
 mod senders;
 
-use crate::four_ports::offers_at_once;
+use crate::device_alone::calls_of_turns;
+use crate::four_ports::{NO_FILLS, offers_at_once};
 use crate::one_port::{IDLE_TURNS, NO_SPANS, offers_and_turns};
 use crate::senders::drive_all;
 use q_device::{Device, Settings};
@@ -41,12 +44,18 @@ fn main(rt: HostRuntime) -> io::Result<()> {
     }
     println!(rt; "{} {}", spans.offers, one_port::PACKETS)?;
     println!(rt; "{} {}", spans.turns, one_port::PACKETS)?;
-    println!(rt; "{} {IDLE_TURNS}", spans.idle_turns)?;
-    let mut at_once = 0;
+    let mut calls = 0;
     if let (Some(device), Some(given)) = (device(alloc), packet()) {
-        at_once = offers_at_once(&rt, alloc, device, given)?;
+        calls = calls_of_turns(&rt, alloc, device, given)?;
     }
-    println!(rt; "{at_once} {}", four_ports::PACKETS)?;
+    println!(rt; "{calls} {}", one_port::PACKETS)?;
+    println!(rt; "{} {IDLE_TURNS}", spans.idle_turns)?;
+    let mut fills = NO_FILLS;
+    if let (Some(device), Some(given)) = (device(alloc), packet()) {
+        fills = offers_at_once(&rt, alloc, device, given)?;
+    }
+    println!(rt; "{} {}", fills.alone, four_ports::PACKETS_OF_ONE)?;
+    println!(rt; "{} {}", fills.at_once, four_ports::PACKETS)?;
     for senders in [1, 4, 16, 64] {
         let mut span = 0;
         if let (Some(device), Some(given)) = (device(alloc), packet()) {

@@ -13,13 +13,13 @@ use std::sync::{Mutex, Wait};
 use std::time::{Clock, Instant};
 
 /// The packets that fit the ring, and are offered and taken in one stretch.
-const RING: usize = 4096;
+pub const RING: usize = 4096;
 
 /// The packets of a turn.
-const MOST: usize = 64;
+pub const MOST: usize = 64;
 
 /// The stretches that are timed.
-const STRETCHES: usize = 64;
+pub const STRETCHES: usize = 64;
 
 /// The packets of all stretches.
 pub const PACKETS: usize = RING * STRETCHES;

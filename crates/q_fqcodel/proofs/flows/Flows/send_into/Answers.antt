@@ -1,10 +1,10 @@
 use Rattle.std.proofs.Common.{◌≡◌, ℕ, ◌+◌, ◌-◌, ◌<◌, ◌==◌, not, List, [], ◌++◌, length, take, drop, get_or, set, sym, ap, ap₂, ◌∙◌, arith, subst, Option, IfSome, IsSome, Some, false}
 use Rattle.std.specs.Prelude.{slice_get}
-use Rattle.std.proofs.lemmas.List.{length-set, get_or-set_same, append-nil}
+use Rattle.std.proofs.lemmas.List.{length-set, get_or_default, get_or-set_same, append-nil}
 use Rattle.q_packet.specs.Totals.{count, size}
 use Rattle.q_packet.specs.declared.stamped.Stamped.{Stamped}
 use Rattle.q_packet.specs.declared.cause.Cause.TheVariants.{CoDel}
-use Rattle.q_codel.specs.Codel.{CodelState, joined}
+use Rattle.q_codel.specs.Codel.{CodelState, CodelVars, joined}
 use Rattle.q_codel.specs.Losses.{losses_of}
 use Rattle.q_fqcodel.specs.Cleared.{adjust}
 use Rattle.q_fqcodel.specs.FlowsState.{FlowsState}
@@ -14,7 +14,7 @@ use Rattle.q_fqcodel.specs.Take.{taken_as, packet_sent, packets_dropped, flow_af
 use Rattle.q_fqcodel.proofs.PassedLemmas.{Passed, passed, some_front, front_within, behind_is}
 use Rattle.q_fqcodel.proofs.PooledLemmas.{length-flows, flow_read, queue_there, flow_written, length-sizes, sizes_renewed, length-codels, codel_at, codels-set}
 use Rattle.q_fqcodel.proofs.flows.Flows.send_into.Goals as goal
-use Rattle.q_fqcodel.proofs.flows.Flows.send_into.Goals.{After-front_of, After-index-codel, After-take_of_into}
+use Rattle.q_fqcodel.proofs.flows.Flows.send_into.Goals.{After-front_of, After-index-codel, After-take_of_into, After-index_mut}
 
 -- the flow's queue has a packet
 some : (g : _) (c : After-front_of g) → 0 < count (get_or c.self.inside.pool.queues c.args.flow [])
@@ -68,6 +68,19 @@ passes g c =
     passed _ _ c.args.now _ c.unwrap-front.result c.bytes_of.result c.take_of_into.new.out
     (sym c.unwrap-front.ensures ∙ c.front_of.ensures) c.bytes_of.ensures.value c.take_of_into.ensures.given c.in-Some.ensures.passed
 
+-- the state that is written is the one that was read
+same : (g : _) (c : After-index_mut g) → c.index_mut.result.now ≡ c.index-codel.result.now
+same g c =
+    let vs = c.self.inside.states.items in
+    let d = (goal.at.pass-requires g c).After-index-codel in
+    let inside : c.args.flow < length vs = omega (arith, within g d, length-codels c.self.inside.parameters vs, c.self.inside.states.ok.0) in
+    c.index_mut.ensures.value ∙ get_or_default vs c.args.flow c.index_mut.result.now c.index-codel.result.now inside ∙ sym c.index-codel.ensures
+
+pub pass-requires : goal.pass-requires
+pass-requires g c =
+    c.in-Some.ensures.kept
+    ∙ ap (λ (v : CodelVars). record v { first_above_time = c.in-Some.after.first_above_time; dropping = false }) (sym (same g c))
+
 pub renew-requires-clause-in_range : goal.renew-requires-clause-in_range
 renew-requires-clause-in_range g c =
     omega (arith, within g (goal.at.renew-requires-clause-in_range g c).After-index-codel, c.self.invariant.0, ap length c.self.invariant.2, length-sizes c.self.inside.pool.queues)
@@ -76,7 +89,7 @@ pub invariant_of-self : goal.invariant_of-self
 invariant_of-self g c =
     let p = c.self.inside.parameters in
     let vs = c.self.inside.states.items in
-    let v = c.in-Some.after in
+    let v = c.pass.new.self in
     let qs : List (List Stamped) = c.self.inside.pool.queues in
     let n : ℕ = c.args.flow in
     let q : List Stamped = drop 1 (get_or qs n []) in
@@ -120,13 +133,13 @@ returns-clause-flows g c =
     let n = c.args.flow in
     let qs : List (List Stamped) = c.self.inside.pool.queues in
     let before : CodelState = joined p c.index-codel.result.now in
-    let now : CodelState = joined p c.in-Some.after in
+    let now : CodelState = joined p c.pass.new.self in
     let q : List Stamped = get_or qs n [] in
     let way = passes g d.After-take_of_into in
     let here : flow_after c.args.now (record { queue = q; codel = get_or cs n before }) ≡ record { queue = drop 1 q; codel = now } =
     ap (λ (s : CodelState). flow_after c.args.now (record { queue = q; codel = s })) (sym (read g d.After-index-codel))
-    ∙ ap₂ (λ (l : List Stamped) (s : CodelState). record { queue = l; codel = s }) (sym way.left_is) (sym way.after_is) in
-    ap₂ (λ (l : List (List Stamped)) (k : List CodelState). flows_from l k) c.take_of_into.ensures.queues (codels-set p vs n c.in-Some.after)
+    ∙ ap₂ (λ (l : List Stamped) (s : CodelState). record { queue = l; codel = s }) (sym way.left_is) (sym way.after_is ∙ ap (joined p) (sym c.pass.ensures)) in
+    ap₂ (λ (l : List (List Stamped)) (k : List CodelState). flows_from l k) c.take_of_into.ensures.queues (codels-set p vs n c.pass.new.self)
     ∙ flow_written n qs (drop 1 q) cs now before (flow_after c.args.now) here
     ∙ ap (λ (f : FlowsState). adjust (flow_after c.args.now) n f.flows) c.self.view_is
 

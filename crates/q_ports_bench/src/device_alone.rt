@@ -1,0 +1,47 @@
+use crate::one_port::{MOST, RING, STRETCHES};
+use crate::span_since;
+use q_device::{Device, Given, SOME_PACKET};
+use q_packet::{Moment, Packet};
+use std::alloc::Global;
+use std::io;
+use std::time::{Clock, Instant};
+
+/// The nanoseconds of the calls that turns of 64 make on a device: arrivals of packets that stand in a list, and as many polls. 0 where
+/// memory was refused, or a packet did not go through.
+pub fn calls_of_turns<C: Clock>(
+    clock: &C,
+    alloc: Global,
+    device: Device,
+    given: Packet,
+) -> io::Result<u64> {
+    let mut device = device;
+    let Ok(packets) = vec![in alloc; given; RING] else {
+        return Ok(0);
+    };
+    let start = Instant::now(clock)?;
+    for _ in 0..STRETCHES {
+        if !pass(&mut device, packets.as_slice()) {
+            return Ok(0);
+        }
+    }
+    span_since(clock, &start)
+}
+
+/// Lets packets arrive 64 at a time, and polls as often after each; whether all were sent.
+fn pass(device: &mut Device, packets: &[Packet]) -> bool {
+    let mut out = SOME_PACKET;
+    for turn in packets.chunks(MOST) {
+        for packet in turn {
+            if device.arrive_at(packet, Moment::zero()).is_err() {
+                return false;
+            }
+        }
+        for _ in 0..turn.len() {
+            match device.poll_into(Moment::zero(), &mut out) {
+                Given::Packet => {}
+                Given::Idle | Given::Later => return false,
+            }
+        }
+    }
+    true
+}
