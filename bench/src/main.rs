@@ -19,7 +19,7 @@ use std::error::Error;
 use std::process::ExitCode;
 
 const USAGE: &str = "usage: q_bench table|times devices|parts ROUNDS [WORD] | instructions devices|parts [WORD]
-       | one ROW rattle|plain|kernel PASSES | ports PROGRAM ROUNDS | scripts FOLDER
+       | one ROW rattle|plain|kernel PASSES | rounds ROW ROUNDS | ports PROGRAM ROUNDS | scripts FOLDER
        | play QTREE FOLDER ROUNDS | plain-play <SCRIPT";
 
 fn main() -> ExitCode {
@@ -40,6 +40,7 @@ fn start(args: &[&str]) -> Result<(), Box<dyn Error>> {
         ["times", of, rounds, rest @ ..] => table::print(rows_of(of)?, rounds.parse()?, false, word(rest)?),
         ["instructions", of, rest @ ..] => table::print(rows_of(of)?, 0, true, word(rest)?),
         ["one", name, side, passes] => run_one(name, side, passes.parse()?),
+        ["rounds", name, rounds] => print_rounds(name, rounds.parse()?),
         ["ports", program, rounds] => Ok(ports::print(program, rounds.parse()?)?),
         ["scripts", folder] => Ok(play::write_scripts(folder.as_ref())?),
         ["play", qtree, folder, rounds] => Ok(play::print_play(qtree, folder.as_ref(), rounds.parse()?)?),
@@ -64,12 +65,23 @@ fn word<'a>(rest: &[&'a str]) -> Result<&'a str, Box<dyn Error>> {
     }
 }
 
+fn row_named(name: &str) -> Result<Row, Box<dyn Error>> {
+    let mut rows = devices::all().into_iter().chain(rows::parts());
+    Ok(rows.find(|row| row.name == name).ok_or(USAGE)?)
+}
+
+/// Prints the times of a row, for the program whose code is placed elsewhere: a line for each side.
+fn print_rounds(name: &str, rounds: usize) -> Result<(), Box<dyn Error>> {
+    for side in timing::measured(&row_named(name)?, rounds)? {
+        let times: Vec<String> = side.iter().map(f64::to_string).collect();
+        println!("{}", times.join(" "));
+    }
+    Ok(())
+}
+
 /// Runs one side of one row, for valgrind and other tools that watch a process.
 fn run_one(name: &str, side: &str, passes: u32) -> Result<(), Box<dyn Error>> {
-    let mut rows = devices::all();
-    rows.extend(rows::parts());
-    let row = rows.iter().find(|row| row.name == name).ok_or(USAGE)?;
-    let sides = (row.sides)();
+    let sides = (row_named(name)?.sides)();
     let work = match side {
         "rattle" => sides.rattle,
         "plain" => sides.plain,
