@@ -131,6 +131,38 @@ impl Node {
         ensures lost_is { IfOk result (λ outcome. lost.new ≡ outcome) }
         ensures kept { S.keeps sink.old sink.new }
     {
+        // A fifo is met with no call: most packets end in one.
+        match &mut self.discipline {
+            Discipline::Fifo(fifo) => {
+                let arrived = arrive_in_fifo(fifo, packet, now, lost, sink)?;
+                book_arrival(&mut self.row, packet, &arrived, lost);
+                return Ok(arrived);
+            }
+            _ => return self.arrive_further(packet, now, lost, sink),
+        }
+    }
+
+    // The same, by a call.
+    #[cycle(arrive)]
+    #[inline(never)]
+    fn arrive_further<S: Sink>(
+        &mut self,
+        packet: &Packet,
+        now: Moment,
+        lost: &mut Outcome,
+        sink: &mut S,
+    ) -> Result<Arrived, AllocError>
+        requires ready { CanCome now packet.now self.old }
+        requires sink { length (beneath self.old) + 1 ≤ S.room sink.old }
+        requires clean { lost.old ≡ nothing_lost }
+        ensures after { IfOk result (λ outcome. HasCome now packet.now self.old self.new outcome) }
+        ensures told { OnOk result (IsToldOf (rises_along now packet.now self.old) (S.losses sink.old) (S.losses sink.new) (S.room sink.old) (S.room sink.new)) }
+        ensures same { OnErr result (IsPlaced self.old self.new) }
+        ensures not_lost { OnErr result ((S.losses sink.new ≡ S.losses sink.old) × (S.room sink.new ≡ S.room sink.old)) }
+        ensures succeeds { ((route packet.now self.old).refusal ≡ None → HasPlace (route packet.now self.old).path self.old) → IsOk result }
+        ensures lost_is { IfOk result (λ outcome. lost.new ≡ outcome) }
+        ensures kept { S.keeps sink.old sink.new }
+    {
         let outcome = self
             .discipline
             .arrive(&self.filters, packet, now, lost, sink)?;
@@ -144,34 +176,6 @@ impl Discipline {
     #[cycle(arrive)]
     #[inline(always)]
     fn arrive<S: Sink>(
-        &mut self,
-        filters: &[MaskedFilter],
-        packet: &Packet,
-        now: Moment,
-        lost: &mut Outcome,
-        sink: &mut S,
-    ) -> Result<Arrived, AllocError>
-        requires ready { CanComeIn now packet.now self.old }
-        requires sink { length (packets_within self.old) + 1 ≤ S.room sink.old }
-        requires clean { lost.old ≡ nothing_lost }
-        ensures after { IfOk result (λ outcome. HasComeIn now packet.now filters.now self.old self.new outcome (S.losses sink.old) (S.losses sink.new) (S.room sink.old) (S.room sink.new)) }
-        ensures same { OnErr result (IsPlacedIn self.old self.new) }
-        ensures not_lost { OnErr result ((S.losses sink.new ≡ S.losses sink.old) × (S.room sink.new ≡ S.room sink.old)) }
-        ensures succeeds { ((way_in packet.now filters.now self.old).refusal ≡ None → HasPlaceOn (way_in packet.now filters.now self.old).path self.old) → IsOk result }
-        ensures lost_is { IfOk result (λ outcome. lost.new ≡ outcome) }
-        ensures kept { S.keeps sink.old sink.new }
-    {
-        // A fifo is met with no call: most packets end in one.
-        match self {
-            Discipline::Fifo(fifo) => return arrive_in_fifo(fifo, packet, now, lost, sink),
-            _ => return self.arrive_further(filters, packet, now, lost, sink),
-        }
-    }
-
-    // The same, by a call.
-    #[cycle(arrive)]
-    #[inline(never)]
-    fn arrive_further<S: Sink>(
         &mut self,
         filters: &[MaskedFilter],
         packet: &Packet,
