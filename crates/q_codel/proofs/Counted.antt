@@ -29,9 +29,3 @@ pub IsCounted-dropped : (bytes : ℕ) (queue : List Stamped) (front : Stamped) (
 IsCounted-dropped bytes [] front rest len h some at rest_is same = absurd (false≢true (sym some))
 IsCounted-dropped bytes (s ∷ queue) front rest len h some at rest_is same =
     rw rest_is (rw (same ∙ ap (λ (s : Stamped). s.packet.len) at) (IsCounted-front bytes s queue h))
-
--- and so does one that has left
-pub IsCounted-popped : (bytes : ℕ) (queue : List Stamped) (front : Stamped) (rest : List Stamped) (len : ℕ)
-    → IsCounted bytes queue → queue ≡ front ∷ rest → len ≡ front.packet.len → IsCounted (bytes - len) rest
-IsCounted-popped bytes queue front rest len h is same =
-    rw same (IsCounted-front bytes front rest (rw (sym is) h))

@@ -178,13 +178,14 @@ impl Fifo {
         ensures given { out.new ≡ option_map_or (λ (s : Stamped). s.packet) (slice_get self.old.packets 0) out.old }
         ensures rest { self.new ≡ record self.old { packets = drop 1 self.old.packets } }
     {
-        let Some(front) = self.packets.pop_front() else {
+        let Some(front) = self.packets.front() else {
             return 0;
         };
-        let packet = front.packet;
-        *out = packet;
-        self.bytes -= packet.len as u64;
-        packet.len
+        // Copied whole from where it stands: of a packet that was taken out first a compiler copies its fields.
+        *out = front.packet;
+        let _ = self.packets.pop_front();
+        self.bytes -= out.len as u64;
+        out.len
     }
 
     /// The bytes of all its packets. The number is kept, not summed.

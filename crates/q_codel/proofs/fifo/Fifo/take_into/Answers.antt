@@ -1,10 +1,10 @@
 use Rattle.std.proofs.Common.{ap}
 use Rattle.q_packet.specs.Descriptor.{Descriptor}
-use Rattle.q_codel.proofs.Counted.{IsCounted-popped}
+use Rattle.q_codel.proofs.Counted.{IsCounted-dropped}
 use Rattle.q_codel.proofs.fifo.Fifo.take_into.Goals as goal
 
-pub invariant_of-self-2 : goal.invariant_of-self-2
-invariant_of-self-2 c =
+pub invariant_of-self : goal.invariant_of-self
+invariant_of-self c =
     let h = c.in-Some.ensures in
-    IsCounted-popped _ _ c.in-Some.front _ c.packet.inside.len c.self.invariant h.items
-    (ap (λ (p : Descriptor). p.len) c.packet.view_is)
+    IsCounted-dropped _ _ c.in-Some.front.now _ c.out-2.inside.len c.self.invariant h.item.0 h.lookup c.pop_front.ensures.rest
+    (ap (λ (p : Descriptor). p.len) c.out-2.view_is)
