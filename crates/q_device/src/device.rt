@@ -16,11 +16,11 @@ ghost use Rattle.q_device.specs.DeviceLaws.{HasItsMemory, IsReplayed};
 ghost use Rattle.q_device.specs.DeviceSeen.{IsRefusal, as_counted, most_events, opened, polled_memory, reaped, with_event, HasNoFewerPlaces, HasRoomFor, IsCommanded, IsRefusedAt};
 ghost use Rattle.q_device.specs.Giving.{given_of, polled_in};
 
-use crate::given::{Given, SOME_PACKET};
+use crate::given::Given;
 use crate::recording::{record_arrival, record_command, record_poll};
 use q_codel::{Loss as Lost, Losses};
 use q_model::{Command, Event, Fate, Place, Polled, Refusal, Row, Settings, packet_ranges};
-use q_packet::{Moment, Packet};
+use q_packet::{Moment, Packet, SOME_PACKET};
 use q_tree::Tree;
 use std::alloc::{AllocError, Global};
 use std::marker::Model;

@@ -25,12 +25,13 @@ mod playing;
 mod recording;
 
 pub use crate::device::Device;
-pub use crate::given::{Given, SOME_PACKET};
+pub use crate::given::Given;
 pub use playing::{Replies, play};
 pub use q_codel::Loss as Lost;
 pub use q_model::{Event, Fate, Polled, Reply, Settings};
 pub use q_packet::{
-    Cause, Ecn, FlowHash, FlowKey, Head, Moment, OneAtATime, Packet, one_at_a_time, read_head,
+    Cause, Ecn, FlowHash, FlowKey, Head, Moment, OneAtATime, Packet, SOME_PACKET, one_at_a_time,
+    read_head,
 };
 pub use q_tree::{
     Burst, ClassId, ClassKind, ClassView, Command, Filter, FilterKeys, FilterPrio, FilterView,

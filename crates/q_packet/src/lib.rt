@@ -38,5 +38,5 @@ pub use flow_key::FlowKey;
 pub use head::{Head, read_head};
 pub use jenkins::{OneAtATime, one_at_a_time};
 pub use moment::Moment;
-pub use packet::Packet;
+pub use packet::{Packet, SOME_PACKET};
 pub use stamped::Stamped;

@@ -102,3 +102,22 @@ impl Packet {
         }
     }
 }
+
+/// A packet for a place to which one will be copied, before that comes: any would do.
+pub const SOME_PACKET: Packet = Packet {
+    key: FlowKey {
+        family: 0,
+        proto: 0,
+        src: 0,
+        dst: 0,
+        sport: 0,
+        dport: 0,
+    },
+    number: 0,
+    port: 0,
+    buf: 0,
+    hash: 0,
+    len: 1,
+    prio: 0,
+    ecn: Ecn::NotEct,
+};
