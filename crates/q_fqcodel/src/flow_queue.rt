@@ -1,4 +1,4 @@
-ghost use Rattle.std.specs.Prelude.{◌≡◌, ◌+◌, ◌<◌, ◌≤◌, ◌↔◌, [], ◌++◌, take, get_or, IsSome, refl};
+ghost use Rattle.std.specs.Prelude.{◌≡◌, ◌+◌, ◌<◌, ◌≤◌, [], ◌++◌, take, get_or, refl};
 ghost use Rattle.std.proofs.Common.{◌∙◌};
 ghost use Rattle.q_packet.specs.Totals.{count};
 ghost use Rattle.q_codel.specs.Codel.{joined, drops, taken, left, after};
@@ -8,7 +8,7 @@ ghost use Rattle.q_fqcodel.specs.Take.{taken_as};
 ghost use Rattle.q_fqcodel.specs.PoolKept.{kept_same, kept_on};
 
 use crate::pool::Pool;
-use q_codel::{ControlState, Front, Parameters, Queue, Sink, Taken};
+use q_codel::{ControlState, Front, Parameters, Queue, Sink};
 use q_packet::{Cause, Moment, Packet, Stamped};
 
 /// The queue of one flow, as a view of the packets of all.
@@ -57,32 +57,7 @@ impl<'a> Queue for FlowQueue<'a> {
     ghost keeps_on = { λ q r s a b. (kept_on q.flow r.flow q.pool.now.queues r.pool.now.queues s.pool.now.queues a.1 a.0 b.0, b.1 ∙ a.1, b.2 ∙ a.2, b.3 ∙ a.3) };
 }
 
-/// Lets a flow send by CoDel's law.
-pub(crate) fn send_from<S: Sink>(
-    pool: &mut Pool,
-    codel: &mut ControlState,
-    parameters: &Parameters,
-    flow: u32,
-    now: Moment,
-    sink: &mut S,
-) -> Option<Taken>
-    requires { count (get_or pool.old.queues flow []) ≤ S.room sink.old }
-    ensures sent { result ≡ taken (joined parameters.now codel.old) now (get_or pool.old.queues flow []) }
-    ensures left { get_or pool.new.queues flow [] ≡ left (joined parameters.now codel.old) now (get_or pool.old.queues flow []) }
-    ensures state { joined parameters.now codel.new ≡ after (joined parameters.now codel.old) now (get_or pool.old.queues flow []) }
-    ensures lost { S.losses sink.new ≡ S.losses sink.old
-        ++ losses_of Cause.CoDel (take (drops (joined parameters.now codel.old) now (get_or pool.old.queues flow [])) (get_or pool.old.queues flow [])) }
-    ensures room { S.room sink.new + drops (joined parameters.now codel.old) now (get_or pool.old.queues flow []) ≡ S.room sink.old }
-    ensures some { IsSome result ↔ (0 < count (get_or pool.old.queues flow [])) }
-    ensures others { SameBeside flow pool.old.queues pool.new.queues }
-    ensures places { pool.new.places ≡ pool.old.places }
-    ensures kept { S.keeps sink.old sink.new }
-{
-    let mut queue = FlowQueue { pool, flow };
-    codel.take(parameters, &mut queue, now, sink)
-}
-
-/// The same for a flow with a packet, into `out`; says whether the packet was marked.
+/// Lets a flow, which has a packet, send by CoDel's law into `out`, and says whether the packet was marked.
 pub(crate) fn send_from_into<S: Sink>(
     pool: &mut Pool,
     codel: &mut ControlState,

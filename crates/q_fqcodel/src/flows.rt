@@ -8,12 +8,12 @@ ghost use Rattle.q_fqcodel.specs.Put.{joined, shortened, fattest, shed_count};
 ghost use Rattle.q_fqcodel.specs.Take.{taken_as, packet_sent, packets_dropped, flow_after};
 ghost use Rattle.q_fqcodel.specs.Pool.{stamp, cleared};
 
-use crate::flow_queue::{send_from, send_from_into};
+use crate::flow_queue::send_from_into;
 use crate::pool::Pool;
 use crate::sent::Sent;
 use crate::settings::Settings;
 use crate::winners::Winners;
-use q_codel::{ControlState, Parameters, Sink, Taken};
+use q_codel::{ControlState, Parameters, Sink};
 use q_packet::{Cause, Moment, Packet};
 use std::alloc::{AllocError, Global};
 use std::marker::Model;
@@ -127,27 +127,6 @@ impl Flows {
         self.states[flow as usize].rest();
     }
 
-    /// Lets a flow send by CoDel's law.
-    pub(crate) fn send<S: Sink>(&mut self, flow: u32, now: Moment, sink: &mut S) -> Option<Taken>
-        requires in_range { flow < length self.old.flows }
-        requires room { count (queue_of self.old.flows flow) ≤ S.room sink.old }
-        ensures sent { IfSome (slice_get self.old.flows flow) (λ f. result ≡ packet_sent now f) }
-        ensures flows { self.new.flows ≡ adjust (flow_after now) flow self.old.flows }
-        ensures places { self.new.places ≡ self.old.places }
-        ensures lost { IfSome (slice_get self.old.flows flow)
-            (λ f. S.losses sink.new ≡ S.losses sink.old ++ losses_of Cause.CoDel (packets_dropped now f)) }
-        ensures room { IfSome (slice_get self.old.flows flow)
-            (λ f. S.room sink.new + count (packets_dropped now f) ≡ S.room sink.old) }
-        ensures some { IsSome result ↔ (0 < count (queue_of self.old.flows flow)) }
-        ensures kept { S.keeps sink.old sink.new }
-    {
-        let codel = &mut self.states[flow as usize];
-        let taken = send_from(&mut self.pool, codel, &self.parameters, flow, now, sink);
-        let left = self.pool.bytes_of(flow);
-        self.winners.renew(flow, left);
-        taken
-    }
-
     /// Lets a flow, which has a packet, send by CoDel's law into `out`.
     #[inline(always)]
     pub(crate) fn send_into<S: Sink>(
@@ -176,7 +155,13 @@ impl Flows {
         let behind = self.pool.bytes_of(flow) - front.len as u64;
         let codel = &self.states[flow as usize];
         let Some(after) = codel.passed(&self.parameters, &front, behind, now) else {
-            return self.send_late_into(flow, now, out, sink);
+            let late = self.send_late_into(flow, now, out, sink);
+            // Field by field: as a whole it would be read where two narrower numbers were just written.
+            return Sent {
+                len: late.len,
+                marked: late.marked,
+                dropped: late.dropped,
+            };
         };
         self.pool.take_of_into(flow, out);
         self.states[flow as usize].pass(after);

@@ -13,7 +13,7 @@ use crate::link::Link;
 use crate::sent::Sent;
 use crate::settings::Settings;
 use q_codel::{ControlState, Sink, Taken};
-use q_packet::{Cause, Moment, Packet};
+use q_packet::{Cause, Moment, Packet, SOME_PACKET};
 use std::alloc::{AllocError, Global};
 use std::marker::Model;
 
@@ -73,8 +73,17 @@ impl FqCodel {
         ensures room { S.room sink.new + count (dropped_from now (selected self.old.state)) ≡ S.room sink.old }
         ensures kept { S.keeps sink.old sink.new }
     {
-        let first = self.select();
-        self.send_front(first, now, sink)
+        let mut packet = SOME_PACKET;
+        let sent = self.take_into(now, &mut packet, sink);
+        // A packet has a byte at least.
+        let _ = &packet.len;
+        if sent.len == 0 {
+            return None;
+        }
+        Some(Taken {
+            packet,
+            marked: sent.marked,
+        })
     }
 
     /// Does what [`FqCodel::take`] does, and writes the packet into `out`, so that it is copied once; `out` stays where no flow
@@ -302,36 +311,6 @@ impl FqCodel {
             return None;
         }
         Some(entry)
-    }
-
-    // Lets the flow in front send by CoDel's law, and pay for the packet.
-    fn send_front<S: Sink>(
-        &mut self,
-        first: Option<Entry>,
-        now: Moment,
-        sink: &mut S,
-    ) -> Option<Taken>
-        requires first { first ≡ front self.old.state }
-        requires settled { IsSettled self.old.state }
-        requires room { packets_of self.old.state.flows ≤ S.room sink.old }
-        ensures sent { result ≡ sent_from now self.old.state }
-        ensures some { IsSome result ↔ (0 < packets_of self.old.state.flows) }
-        ensures after { self.new.state ≡ after_sending now self.old.state }
-        ensures places { self.new.places ≡ self.old.places }
-        ensures lost { S.losses sink.new ≡ S.losses sink.old ++ losses_of Cause.CoDel (dropped_from now self.old.state) }
-        ensures room { S.room sink.new + count (dropped_from now self.old.state) ≡ S.room sink.old }
-        ensures kept { S.keeps sink.old sink.new }
-    {
-        let Some(front) = first else {
-            // An fq_codel with no flow in front holds no packet, as its state is lawful.
-            let _ = self.queued();
-            return None;
-        };
-        let taken = self.flows.send(front.flow, now, sink).unwrap();
-        // CoDel's drops cost the flow nothing: only what is sent does.
-        let packet = taken.packet;
-        self.lists.write_front(front.charged(packet.len));
-        Some(taken)
     }
 
     // Lets the flow in front send into `out` by CoDel's law, and pay for the packet.
