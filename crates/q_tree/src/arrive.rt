@@ -283,6 +283,32 @@ fn arrive_in_flows<S: Sink>(
         let _ = queue.put_from(packet, now, sink);
         return Ok(Arrived::kept());
     }
+    Ok(arrive_over(queue, packet, now, lost, sink))
+}
+
+// The same over the limit. A call by itself, so that the usual way makes no place for an outcome.
+#[cold]
+#[inline(never)]
+fn arrive_over<S: Sink>(
+    queue: &mut FqCodel,
+    packet: &Packet,
+    now: Moment,
+    lost: &mut Outcome,
+    sink: &mut S,
+) -> Arrived
+    requires place { packets_of queue.old.state.flows < queue.old.places }
+    requires flow { CanFlow packet.now queue.old.state }
+    requires sink { packets_of queue.old.state.flows + 1 ≤ S.room sink.old }
+    ensures after { queue.new.state ≡ after_put queue.old.state packet.now now }
+    ensures places { queue.new.places ≡ queue.old.places }
+    ensures loss { result.loss ≡ (if is_lost_itself queue.old.state packet.now now then Some Cause.FatFlow else None) }
+    ensures refused { result.refused ≡ no_totals }
+    ensures dropped { result.dropped ≡ beneath.totals_in (beneath.packets_of (lost_by_put queue.old.state packet.now now)) }
+    ensures lost { S.losses sink.new ≡ S.losses sink.old ++ losses_of Cause.FatFlow (lost_by_put queue.old.state packet.now now) }
+    ensures room { S.room sink.new + length (lost_by_put queue.old.state packet.now now) ≡ S.room sink.old }
+    ensures lost_is { lost.new ≡ result }
+    ensures kept { S.keeps sink.old sink.new }
+{
     *lost = put_in_flow(queue, packet, now, sink);
-    Ok(Arrived::with(lost))
+    Arrived::with(lost)
 }

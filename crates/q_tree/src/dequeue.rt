@@ -1,8 +1,8 @@
 //! What sends a packet straight to the caller's place, where a peek would dequeue and hold it.
-ghost use Rattle.std.specs.Prelude.{◌≡◌, ◌<◌, ◌≤◌, ◌+◌, ◌++◌, [], ◌∷◌, length, List, ℕ, Some, slice_get, drop, option_map, is_some, unwrap_or};
+ghost use Rattle.std.specs.Prelude.{◌≡◌, ◌<◌, ◌≤◌, ◌+◌, ◌++◌, [], ◌∷◌, length, List, ℕ, Some, slice_get, drop, option_map, is_some, unwrap_or, if◌then◌else◌};
 ghost use Rattle.q_codel.specs.Losses.{losses_of};
 ghost use Rattle.q_packet.specs.declared.stamped.Stamped.{Stamped};
-ghost use Rattle.q_model.specs.Tally.{no_totals};
+ghost use Rattle.q_model.specs.Tally.{no_totals, with_packet};
 ghost use Rattle.q_fqcodel.specs.FqState.{packets_of};
 ghost use Rattle.q_fqcodel.specs.Take.{selected, after_sending, dropped_from};
 ghost use Rattle.q_model.specs.Ask.{Asked, ask_drr, ask_fq_codel, ask_tbf};
@@ -16,7 +16,6 @@ ghost use Rattle.q_tree.specs.PutSteps.{packets_beneath};
 
 use crate::booking::{NOTHING, difference, one_packet};
 use crate::drr::{ask_class, settle};
-use crate::fq_codel::marking;
 use crate::node::Node;
 use crate::shown::Shown;
 use crate::toll::{NO_TOLL, Toll};
@@ -154,11 +153,7 @@ pub(crate) fn dequeue_flow<S: Sink>(
         return Shown::at_hand(&None);
     }
     if !sent.dropped {
-        *toll = Toll {
-            dropped: NOTHING,
-            marked: marking(sent.marked, out),
-        };
-        return Shown::sending(out, toll);
+        return show_marked(sent.marked, out, toll);
     }
     let (packets_after, bytes_after) = queue.queued();
     let gone = Totals {
@@ -171,4 +166,31 @@ pub(crate) fn dequeue_flow<S: Sink>(
         marked: marking(sent.marked, out),
     };
     Shown::sending(out, toll)
+}
+
+// Shows the packet, where nothing was dropped for it. Mostly it was not marked either, and nothing is written then.
+#[inline(always)]
+fn show_marked(is_marked: bool, out: &Packet, toll: &mut Toll) -> Shown
+    requires { toll.old ≡ no_toll }
+    ensures shown { result ≡ record { packet = Some out.now; dropped = no_totals; marked = if is_marked then with_packet no_totals out.now else no_totals } }
+    ensures toll { toll.new ≡ toll_of result }
+{
+    if !is_marked {
+        return Shown::sending(out, &NO_TOLL);
+    }
+    *toll = Toll {
+        dropped: NOTHING,
+        marked: one_packet(out),
+    };
+    Shown::sending(out, toll)
+}
+
+// The packet, where it was marked.
+fn marking(is_marked: bool, packet: &Packet) -> Totals
+    ensures { result ≡ (if is_marked then with_packet no_totals packet.now else no_totals) }
+{
+    if is_marked {
+        return one_packet(packet);
+    }
+    NOTHING
 }

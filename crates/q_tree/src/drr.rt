@@ -82,11 +82,36 @@ pub(crate) fn ask_class<S: Sink>(
     ensures kept { S.keeps sink.old sink.new }
 {
     if is_unasked {
-        let mut asked = NO_TOLL;
-        let next = class.peek(now, &mut asked, sink);
-        return so_far.then(next, toll, &asked);
+        // Mostly nothing was dropped or marked so far, and the place is clean.
+        if so_far.is_quiet() {
+            return class.peek(now, toll, sink);
+        }
+        return ask_further(class, so_far, now, toll, sink);
     }
     show_again(class, so_far)
+}
+
+// Asks a class where something was dropped or marked already, which is counted on.
+#[cycle(peek)]
+#[cold]
+#[inline(never)]
+fn ask_further<S: Sink>(
+    class: &mut Node,
+    so_far: Shown,
+    now: Moment,
+    toll: &mut Toll,
+    sink: &mut S,
+) -> Shown
+    requires ready { CanAskOnce now class.old so_far (S.room sink.old) }
+    requires counted { toll.old ≡ toll_of so_far }
+    ensures asked { IsAskedOnce now class.old class.new so_far result }
+    ensures told { IsToldOf (ask now (shape class.old)).rises (S.losses sink.old) (S.losses sink.new) (S.room sink.old) (S.room sink.new) }
+    ensures toll { toll.new ≡ toll_of result }
+    ensures kept { S.keeps sink.old sink.new }
+{
+    let mut asked = NO_TOLL;
+    let next = class.peek(now, &mut asked, sink);
+    so_far.then(next, toll, &asked)
 }
 
 // What a class shows that was asked already. A call by itself, since it copies the packet.

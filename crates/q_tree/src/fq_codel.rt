@@ -6,18 +6,19 @@ ghost use Rattle.q_fqcodel.specs.Take.{selected, after_sending, dropped_from};
 ghost use Rattle.q_model.specs.Ask.{Asked, ask_fq_codel};
 ghost use Rattle.q_model.specs.Beneath as beneath;
 ghost use Rattle.q_model.specs.Node.{Own};
-ghost use Rattle.q_model.specs.Tally.{no_totals, with_packet};
+ghost use Rattle.q_model.specs.Tally.{no_totals};
 ghost use Rattle.q_tree.specs.AskSteps.{IsShown, no_toll, toll_of};
 ghost use Rattle.q_tree.specs.PutSteps.{CanFlow};
 
-use crate::booking::{NOTHING, difference, one_packet};
+use crate::booking::NOTHING;
+use crate::dequeue::dequeue_flow;
 use crate::outcome::Outcome;
 use crate::shown::Shown;
 use crate::toll::Toll;
-use q_codel::{Sink, Taken};
+use q_codel::Sink;
 use q_fqcodel::FqCodel;
 use q_model::Totals;
-use q_packet::{Cause, Moment, Packet};
+use q_packet::{Cause, Moment, Packet, SOME_PACKET};
 
 /// Puts a packet into its flow, and counts what the fattest flow loses.
 #[inline(never)]
@@ -73,39 +74,10 @@ pub(crate) fn take_from_flows<S: Sink>(
     ensures toll { toll.new ≡ toll_of result }
     ensures kept { S.keeps sink.old sink.new }
 {
-    let (packets, bytes) = queue.queued();
-    let taken = queue.take(now, sink);
-    let (packets_after, bytes_after) = queue.queued();
-    let gone = Totals {
-        packets: packets - packets_after,
-        bytes: bytes - bytes_after,
-    };
-    // CoDel drops none of an empty fq_codel.
-    let Some(taken) = taken else {
-        return Shown::at_hand(&None);
-    };
-    let one = one_packet(&taken.packet);
-    *held = Some(taken.packet);
-    *toll = Toll {
-        dropped: difference(gone, one),
-        marked: marked_by(&taken),
-    };
-    Shown::new(held, toll)
-}
-
-// The packet, where CoDel marked it.
-fn marked_by(taken: &Taken) -> Totals
-    ensures { result ≡ (if taken.now.marked then with_packet no_totals taken.now.packet else no_totals) }
-{
-    marking(taken.marked, &taken.packet)
-}
-
-/// The packet, where it was marked.
-pub(crate) fn marking(is_marked: bool, packet: &Packet) -> Totals
-    ensures { result ≡ (if is_marked then with_packet no_totals packet.now else no_totals) }
-{
-    if is_marked {
-        return one_packet(packet);
+    let mut packet = SOME_PACKET;
+    let shown = dequeue_flow(queue, &mut packet, now, toll, sink);
+    if shown.has_packet() {
+        *held = Some(packet);
     }
-    NOTHING
+    shown
 }

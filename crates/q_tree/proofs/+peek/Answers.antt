@@ -27,21 +27,17 @@ use Rattle.q_tree.proofs.RouteLemmas.{child-size, children-size}
 use Rattle.q_tree.proofs.TakeCounts.{flow-told}
 use Rattle.q_tree.proofs.+peek.Goals as goal
 
-pub drr::ask_class-then-requires-clause-dropped_packets :
-    goal.drr::ask_class-then-requires-clause-dropped_packets
-drr::ask_class-then-requires-clause-dropped_packets g t c = (fits-beside c.args.now c.args.class.now c.args.so_far c.peek-next.result (g.S.Sink.room c.args.sink.now) (c.requires.ready c.if-is_unasked.true) c.peek-next.ensures.shown).dropped_packets
+pub drr::ask_further-then-requires-clause-dropped_packets : goal.drr::ask_further-then-requires-clause-dropped_packets
+drr::ask_further-then-requires-clause-dropped_packets g t c = (fits-beside c.args.now c.args.class.now c.args.so_far c.peek-next.result (g.S.Sink.room c.args.sink.now) c.requires.ready c.peek-next.ensures.shown).dropped_packets
 
-pub drr::ask_class-then-requires-clause-dropped_bytes :
-    goal.drr::ask_class-then-requires-clause-dropped_bytes
-drr::ask_class-then-requires-clause-dropped_bytes g t c = (fits-beside c.args.now c.args.class.now c.args.so_far c.peek-next.result (g.S.Sink.room c.args.sink.now) (c.requires.ready c.if-is_unasked.true) c.peek-next.ensures.shown).dropped_bytes
+pub drr::ask_further-then-requires-clause-dropped_bytes : goal.drr::ask_further-then-requires-clause-dropped_bytes
+drr::ask_further-then-requires-clause-dropped_bytes g t c = (fits-beside c.args.now c.args.class.now c.args.so_far c.peek-next.result (g.S.Sink.room c.args.sink.now) c.requires.ready c.peek-next.ensures.shown).dropped_bytes
 
-pub drr::ask_class-then-requires-clause-marked_packets :
-    goal.drr::ask_class-then-requires-clause-marked_packets
-drr::ask_class-then-requires-clause-marked_packets g t c = (fits-beside c.args.now c.args.class.now c.args.so_far c.peek-next.result (g.S.Sink.room c.args.sink.now) (c.requires.ready c.if-is_unasked.true) c.peek-next.ensures.shown).marked_packets
+pub drr::ask_further-then-requires-clause-marked_packets : goal.drr::ask_further-then-requires-clause-marked_packets
+drr::ask_further-then-requires-clause-marked_packets g t c = (fits-beside c.args.now c.args.class.now c.args.so_far c.peek-next.result (g.S.Sink.room c.args.sink.now) c.requires.ready c.peek-next.ensures.shown).marked_packets
 
-pub drr::ask_class-then-requires-clause-marked_bytes :
-    goal.drr::ask_class-then-requires-clause-marked_bytes
-drr::ask_class-then-requires-clause-marked_bytes g t c = (fits-beside c.args.now c.args.class.now c.args.so_far c.peek-next.result (g.S.Sink.room c.args.sink.now) (c.requires.ready c.if-is_unasked.true) c.peek-next.ensures.shown).marked_bytes
+pub drr::ask_further-then-requires-clause-marked_bytes : goal.drr::ask_further-then-requires-clause-marked_bytes
+drr::ask_further-then-requires-clause-marked_bytes g t c = (fits-beside c.args.now c.args.class.now c.args.so_far c.peek-next.result (g.S.Sink.room c.args.sink.now) c.requires.ready c.peek-next.ensures.shown).marked_bytes
 
 pub drr::serve-loop-place-init : goal.drr::serve-loop-place-init
 drr::serve-loop-place-init g t c = (

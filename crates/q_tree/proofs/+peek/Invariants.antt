@@ -46,4 +46,7 @@ abbrev pub decreases-drr::serve : goal.decreases-drr::serve
 decreases-drr::serve g l = 3 * forest_size (side_by_side l.classes.now) + 1
 
 abbrev pub decreases-drr::ask_class : goal.decreases-drr::ask_class
-decreases-drr::ask_class g l = 3 * node_size l.class.now + 1
+decreases-drr::ask_class g l = 3 * node_size l.class.now + 2
+
+abbrev pub decreases-drr::ask_further : goal.decreases-drr::ask_further
+decreases-drr::ask_further g l = 3 * node_size l.class.now + 1

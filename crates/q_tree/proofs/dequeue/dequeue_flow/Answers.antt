@@ -53,13 +53,13 @@ returns-clause-shown g c =
     let some : 0 < c.take_into-sent.result.len = omega (arith, c.if-sent-eq0.false) in
     let sent = sent-some (sent_from c.args.now (selected c.args.queue.now.state)) c.take_into-sent.result.len c.take_into-sent.result.marked c.args.out.now c.take_into-sent.new.out some c.take_into-sent.ensures.len c.take_into-sent.ensures.marked c.take_into-sent.ensures.packet in
     let take = counted-take c.args.now c.args.queue.now.state in
-    flow-shown c.args.now c.args.queue.now.state c.sending-2.result
-    (ap (λ (s : Shown). s.packet) c.sending-2.ensures ∙ sym (ap packet_of sent))
-    (ap (λ (s : Shown). s.dropped) c.sending-2.ensures ∙ c.difference.ensures ∙ same-totals (minus (record { packets = c.queued-packets.result.0 - c.queued-packets_after.result.0; bytes = c.queued-packets.result.1 - c.queued-packets_after.result.1 }) c.one_packet-one.result)
+    flow-shown c.args.now c.args.queue.now.state c.sending.result
+    (ap (λ (s : Shown). s.packet) c.sending.ensures ∙ sym (ap packet_of sent))
+    (ap (λ (s : Shown). s.dropped) c.sending.ensures ∙ c.difference.ensures ∙ same-totals (minus (record { packets = c.queued-packets.result.0 - c.queued-packets_after.result.0; bytes = c.queued-packets.result.1 - c.queued-packets_after.result.1 }) c.one_packet-one.result)
     (totals_in (beneath.packets_of (dropped_from c.args.now (selected c.args.queue.now.state))))
     (omega (arith, take.packets, ap (λ o. length (option_to_list (packet_of o))) sent, c.queued-packets.ensures.packets, c.queued-packets_after.ensures.packets, ap (λ (s : FqState). packets_of s.flows) c.take_into-sent.ensures.after, ap (λ (t : Totals). t.packets) c.one_packet-one.ensures))
     (omega (arith, take.bytes, ap (λ o. (totals_in (option_to_list (packet_of o))).bytes) sent, sum_by-cons (λ (p : Descriptor). p.len) c.take_into-sent.new.out [], c.queued-packets.ensures.bytes, c.queued-packets_after.ensures.bytes, ap (λ (s : FqState). bytes_of s.flows) c.take_into-sent.ensures.after, ap (λ (t : Totals). t.bytes) c.one_packet-one.ensures)))
-    (ap (λ (s : Shown). s.marked) c.sending-2.ensures ∙ c.marking-2.ensures ∙ sym (ap marked_of sent))
+    (ap (λ (s : Shown). s.marked) c.sending.ensures ∙ c.marking.ensures ∙ sym (ap marked_of sent))
 
 pub returns-then-sent-eq0-clause-packet : goal.returns-then-sent-eq0-clause-packet
 returns-then-sent-eq0-clause-packet g c =
@@ -70,26 +70,26 @@ returns-then-sent-eq0-clause-packet g c =
     ∙ ap (λ (s : Shown). unwrap_or s.packet c.args.out.now) (sym c.at_hand.ensures)
 
 pub returns-clause-packet : goal.returns-clause-packet
-returns-clause-packet g c = ap (λ (s : Shown). unwrap_or s.packet c.args.out.now) (sym c.sending-2.ensures)
+returns-clause-packet g c = ap (λ (s : Shown). unwrap_or s.packet c.args.out.now) (sym c.sending.ensures)
 
 -- nothing was dropped
 pub returns-then-not-sent-clause-shown : goal.returns-then-not-sent-clause-shown
 returns-then-not-sent-clause-shown g c =
     let some : 0 < c.take_into-sent.result.len = omega (arith, c.if-sent-eq0.false) in
     let sent = sent-some (sent_from c.args.now (selected c.args.queue.now.state)) c.take_into-sent.result.len c.take_into-sent.result.marked c.args.out.now c.take_into-sent.new.out some c.take_into-sent.ensures.len c.take_into-sent.ensures.marked c.take_into-sent.ensures.packet in
-    flow-shown c.args.now c.args.queue.now.state c.sending.result
-    (ap (λ (s : Shown). s.packet) c.sending.ensures ∙ sym (ap packet_of sent))
-    (ap (λ (s : Shown). s.dropped) c.sending.ensures ∙ none-dropped (dropped_from c.args.now (selected c.args.queue.now.state)) (sym c.take_into-sent.ensures.dropped ∙ not-true c.take_into-sent.result.dropped c.if-not-sent.true))
-    (ap (λ (s : Shown). s.marked) c.sending.ensures ∙ c.marking.ensures ∙ sym (ap marked_of sent))
+    flow-shown c.args.now c.args.queue.now.state c.show_marked.result
+    (ap (λ (s : Shown). s.packet) c.show_marked.ensures.shown ∙ sym (ap packet_of sent))
+    (ap (λ (s : Shown). s.dropped) c.show_marked.ensures.shown ∙ none-dropped (dropped_from c.args.now (selected c.args.queue.now.state)) (sym c.take_into-sent.ensures.dropped ∙ not-true c.take_into-sent.result.dropped c.if-not-sent.true))
+    (ap (λ (s : Shown). s.marked) c.show_marked.ensures.shown ∙ sym (ap marked_of sent))
 
 pub returns-then-not-sent-clause-packet : goal.returns-then-not-sent-clause-packet
-returns-then-not-sent-clause-packet g c = ap (λ (s : Shown). unwrap_or s.packet c.args.out.now) (sym c.sending.ensures)
+returns-then-not-sent-clause-packet g c = ap (λ (s : Shown). unwrap_or s.packet c.args.out.now) (sym c.show_marked.ensures.shown)
 
 pub returns-then-sent-eq0-clause-toll : goal.returns-then-sent-eq0-clause-toll
 returns-then-sent-eq0-clause-toll g c = c.requires.clean ∙ sym (ap toll_of c.at_hand.ensures)
 
 pub returns-then-not-sent-clause-toll : goal.returns-then-not-sent-clause-toll
-returns-then-not-sent-clause-toll g c = sym (ap toll_of c.sending.ensures)
+returns-then-not-sent-clause-toll g c = c.show_marked.ensures.toll
 
 pub returns-clause-toll : goal.returns-clause-toll
-returns-clause-toll g c = sym (ap toll_of c.sending-2.ensures)
+returns-clause-toll g c = sym (ap toll_of c.sending.ensures)
