@@ -1,46 +1,222 @@
 //! The active list of deficit round robin.
+ghost use Rattle.std.specs.Prelude.{◌<◌, ◌≤◌, All, length, IfSome};
+
 use q_drr::laws::{Met, take_by_turns};
 use q_drr::{Active, Turn};
+use std::alloc::Global;
+use std::marker::Model;
 use std::test::Fail;
+
+// The length of the longest packet.
+const LONGEST: u16 = 1514;
+
+// A call, and what it has to answer. A class that it changes or asks for has to be there.
+#[derive(Clone, Copy, Debug)]
+enum Call {
+    // The class, which is not there yet, and its quantum.
+    Add(u16, u32),
+    Remove(u16),
+    Wake(u16),
+    Sleep(u16),
+    // The class, and its quantum from now on.
+    SetQuantum(u16, u32),
+    // The length of the head of the class in front.
+    Turn(u16, Turn),
+    Front(Option<u16>),
+    FrontPlace(Option<usize>),
+    // How many classes are active.
+    ActiveCount(usize),
+    Turns(u64),
+    Has(u16, bool),
+    IsActive(u16, bool),
+    Quantum(u16, u32),
+    Deficit(u16, u64),
+    Granted(u16, u64),
+    ClassAt(usize, Option<u16>),
+    PlaceOf(u16, Option<usize>),
+}
+
+// A list under test.
+#[derive(Drop)]
+struct Bench {
+    active: Active,
+}
+
+impl Model for Bench {
+    ghost use Rattle.std.specs.Prelude.{◌≡◌};
+    ghost use Rattle.q_drr.specs.Schedule.{Schedule};
+
+    ghost Value = { Schedule };
+
+    ghost view = { λ b. b.active };
+
+    ghost invariant = { λ b. b.active.max_len ≡ 1514 };
+}
+
+impl Bench {
+    fn new(alloc: Global) -> Bench {
+        Bench {
+            active: Active::new(alloc, LONGEST),
+        }
+    }
+
+    fn add(&mut self, class: u16, quantum: u32) -> Result<bool, Fail> {
+        if self.active.has(class) || quantum < 1 {
+            return Ok(false);
+        }
+        self.active.add(class, quantum)?;
+        Ok(true)
+    }
+
+    fn remove(&mut self, class: u16) -> bool {
+        let is_there = self.active.has(class);
+        if is_there {
+            self.active.remove(class);
+        }
+        is_there
+    }
+
+    fn wake(&mut self, class: u16) -> bool {
+        let is_there = self.active.has(class);
+        if is_there {
+            self.active.wake(class);
+        }
+        is_there
+    }
+
+    fn sleep(&mut self, class: u16) -> bool {
+        let is_there = self.active.has(class);
+        if is_there {
+            self.active.sleep(class);
+        }
+        is_there
+    }
+
+    fn set_quantum(&mut self, class: u16, quantum: u32) -> bool {
+        let may_be = self.active.has(class) && quantum >= 1;
+        if may_be {
+            self.active.set_quantum(class, quantum);
+        }
+        may_be
+    }
+
+    fn turns(&mut self, len: u16, turn: Turn) -> bool {
+        if len > LONGEST || self.active.active_count() == 0 {
+            return false;
+        }
+        self.active.turn(len) == turn
+    }
+
+    // Whether a call answers as it has to.
+    fn answers(&mut self, call: Call) -> Result<bool, Fail> {
+        match call {
+            Call::Add(class, quantum) => self.add(class, quantum),
+            Call::Remove(class) => Ok(self.remove(class)),
+            Call::Wake(class) => Ok(self.wake(class)),
+            Call::Sleep(class) => Ok(self.sleep(class)),
+            Call::SetQuantum(class, quantum) => Ok(self.set_quantum(class, quantum)),
+            Call::Turn(len, turn) => Ok(self.turns(len, turn)),
+            _ => Ok(self.shows(call)),
+        }
+    }
+
+    // Whether a call that changes nothing answers as it has to.
+    fn shows(&self, call: Call) -> bool {
+        let active = &self.active;
+        match call {
+            Call::Front(class) => active.front() == class,
+            Call::FrontPlace(place) => active.front_place() == place,
+            Call::ActiveCount(count) => active.active_count() == count,
+            Call::Turns(turns) => active.turns() == turns,
+            Call::Has(class, is_there) => active.has(class) == is_there,
+            Call::ClassAt(place, class) => active.class_at(place) == class,
+            Call::PlaceOf(class, place) => active.place_of(class) == place,
+            _ => self.shows_class(call),
+        }
+    }
+
+    // Whether a call that asks for what is kept of a class answers as it has to.
+    fn shows_class(&self, call: Call) -> bool {
+        let active = &self.active;
+        match call {
+            Call::IsActive(class, is_active) => {
+                active.has(class) && active.is_active(class) == is_active
+            }
+            Call::Quantum(class, quantum) => active.has(class) && active.quantum(class) == quantum,
+            Call::Deficit(class, deficit) => active.has(class) && active.deficit(class) == deficit,
+            Call::Granted(class, granted) => active.has(class) && active.granted(class) == granted,
+            _ => false,
+        }
+    }
+
+    // Fails at the first call that does not answer as it has to.
+    fn play(&mut self, calls: &[Call]) -> Result<(), Fail> {
+        for call in calls {
+            if !self.answers(*call)? {
+                return Err(Fail::new(format_args!("{call:?}")));
+            }
+        }
+        Ok(())
+    }
+}
+
+// Plays these calls on a list with no classes.
+fn play(alloc: Global, calls: &[Call]) -> Result<(), Fail> {
+    Bench::new(alloc).play(calls)
+}
+
+// A whole take that promises nothing, so that no test works out what is left after it.
+fn take(active: &mut Active, heads: &[Option<u16>]) -> Option<Met>
+    requires named { All (λ e. e.class < length heads.now) active.old.active }
+    requires in_range { All (λ head. IfSome head (λ len. len ≤ active.old.max_len)) heads.now }
+{
+    take_by_turns(active, heads)
+}
 
 #[test]
 fn two_classes_take_turns(rt: HostRuntime) -> Result<(), Fail> {
-    let mut active = Active::new(rt.alloc(), 1514);
-    active.add(1, 1000)?;
-    active.add(2, 1000)?;
-    active.wake(1);
-    active.wake(2);
-    active.wake(1);
-    assert_eq!(rt; active.front(), Some(1));
-    assert_eq!(rt; active.turn(1500), Turn::Granted);
-    assert_eq!(rt; active.deficit(1), 2000);
-    assert_eq!(rt; active.turn(500), Turn::Send);
-    assert_eq!(rt; active.front(), Some(2));
-    assert_eq!(rt; active.turn(500), Turn::Send);
-    assert_eq!(rt; active.deficit(2), 0);
-    assert_eq!(rt; active.turn(500), Turn::Granted);
-    assert_eq!(rt; active.deficit(2), 1000);
-    assert_eq!(rt; active.turn(1500), Turn::Send);
-    assert_eq!(rt; active.deficit(1), 500);
-    assert_eq!(rt; active.turns(), 5);
-    assert_eq!(rt; active.granted(1), 1000);
-    assert_eq!(rt; active.granted(2), 1000);
-    Ok(())
+    play(
+        rt.alloc(),
+        &[
+            Call::Add(1, 1000),
+            Call::Add(2, 1000),
+            Call::Wake(1),
+            Call::Wake(2),
+            Call::Wake(1),
+            Call::Front(Some(1)),
+            Call::Turn(1500, Turn::Granted),
+            Call::Deficit(1, 2000),
+            Call::Turn(500, Turn::Send),
+            Call::Front(Some(2)),
+            Call::Turn(500, Turn::Send),
+            Call::Deficit(2, 0),
+            Call::Turn(500, Turn::Granted),
+            Call::Deficit(2, 1000),
+            Call::Turn(1500, Turn::Send),
+            Call::Deficit(1, 500),
+            Call::Turns(5),
+            Call::Granted(1, 1000),
+            Call::Granted(2, 1000),
+        ],
+    )
 }
 
 #[test]
 fn a_smaller_quantum_cuts_the_deficit(rt: HostRuntime) -> Result<(), Fail> {
-    let mut active = Active::new(rt.alloc(), 1514);
-    active.add(1, 1000)?;
-    active.add(2, 1000)?;
-    active.wake(1);
-    active.wake(2);
-    assert_eq!(rt; active.turn(1500), Turn::Granted);
-    active.set_quantum(1, 100);
-    assert_eq!(rt; active.deficit(1), 1613);
-    assert_eq!(rt; active.quantum(1), 100);
-    assert_eq!(rt; active.quantum(2), 1000);
-    Ok(())
+    play(
+        rt.alloc(),
+        &[
+            Call::Add(1, 1000),
+            Call::Add(2, 1000),
+            Call::Wake(1),
+            Call::Wake(2),
+            Call::Turn(1500, Turn::Granted),
+            Call::SetQuantum(1, 100),
+            Call::Deficit(1, 1613),
+            Call::Quantum(1, 100),
+            Call::Quantum(2, 1000),
+        ],
+    )
 }
 
 #[test]
@@ -52,31 +228,34 @@ fn a_quantum_of_one_byte_needs_a_grant_for_each_byte(rt: HostRuntime) -> Result<
         class: 0,
         head: Some(1514),
     };
-    assert_eq!(rt; take_by_turns(&mut active, &[Some(1514)]), Some(sent));
+    assert_eq!(rt; take(&mut active, &[Some(1514)]), Some(sent));
     assert_eq!(rt; active.turns(), 1514);
     Ok(())
 }
 
 #[test]
 fn classes_come_and_go(rt: HostRuntime) -> Result<(), Fail> {
-    let mut active = Active::new(rt.alloc(), 1514);
-    active.add(9, 300)?;
-    active.add(0, 300)?;
-    active.add(65535, 300)?;
-    active.wake(9);
-    active.wake(0);
-    active.wake(65535);
-    active.sleep(0);
-    assert_eq!(rt; active.is_active(0), false);
-    assert_eq!(rt; active.deficit(0), 0);
-    active.remove(9);
-    assert_eq!(rt; active.front(), Some(65535));
-    active.wake(0);
-    active.sleep(65535);
-    assert_eq!(rt; active.front(), Some(0));
-    active.sleep(0);
-    assert_eq!(rt; active.front(), None);
-    Ok(())
+    play(
+        rt.alloc(),
+        &[
+            Call::Add(9, 300),
+            Call::Add(0, 300),
+            Call::Add(65535, 300),
+            Call::Wake(9),
+            Call::Wake(0),
+            Call::Wake(65535),
+            Call::Sleep(0),
+            Call::IsActive(0, false),
+            Call::Deficit(0, 0),
+            Call::Remove(9),
+            Call::Front(Some(65535)),
+            Call::Wake(0),
+            Call::Sleep(65535),
+            Call::Front(Some(0)),
+            Call::Sleep(0),
+            Call::Front(None),
+        ],
+    )
 }
 
 #[test]
@@ -91,88 +270,109 @@ fn a_whole_take_meets_the_class_that_needs_fewest_grants(rt: HostRuntime) -> Res
         class: 2,
         head: Some(14),
     };
-    assert_eq!(rt;
-        take_by_turns(&mut active, &[None, Some(25), Some(14)]),
-        Some(second)
-    );
+    let met = take(&mut active, &[None, Some(25), Some(14)]);
+    assert_eq!(rt; met, Some(second));
     assert_eq!(rt; active.turns(), 4);
     Ok(())
 }
 
 #[test]
 fn names_may_be_large(rt: HostRuntime) -> Result<(), Fail> {
-    let mut active = Active::new(rt.alloc(), 1514);
-    active.add(1, 300)?;
-    active.add(0xffff, 400)?;
-    active.add(0x8000, 500)?;
-    assert_eq!(rt; active.class_at(1), Some(0xffff));
-    active.wake(0x8000);
-    active.wake(1);
-    assert_eq!(rt; active.front_place(), Some(2));
-
-    active.remove(0xffff);
-    assert_eq!(rt; active.place_of(0xffff), None);
-    assert_eq!(rt; active.front_place(), Some(1));
-    assert_eq!(rt; active.has(0xffff), false);
-    active.add(0xffff, 600)?;
-    assert_eq!(rt; active.class_at(0), Some(1));
-    assert_eq!(rt; active.class_at(1), Some(0x8000));
-    assert_eq!(rt; active.class_at(2), Some(0xffff));
-    assert_eq!(rt; active.class_at(3), None);
-    assert_eq!(rt; active.place_of(1), Some(0));
-    assert_eq!(rt; active.place_of(0x8000), Some(1));
-    assert_eq!(rt; active.place_of(0xffff), Some(2));
-    assert_eq!(rt; active.has(0x8000), true);
-    assert_eq!(rt; active.deficit(0x8000), 500);
-    assert_eq!(rt; active.has(0xffff), true);
-    assert_eq!(rt; active.deficit(0xffff), 0);
-    Ok(())
+    play(
+        rt.alloc(),
+        &[
+            Call::Add(1, 300),
+            Call::Add(0xffff, 400),
+            Call::Add(0x8000, 500),
+            Call::ClassAt(1, Some(0xffff)),
+            Call::Wake(0x8000),
+            Call::Wake(1),
+            Call::FrontPlace(Some(2)),
+            Call::Remove(0xffff),
+            Call::PlaceOf(0xffff, None),
+            Call::FrontPlace(Some(1)),
+            Call::Has(0xffff, false),
+            Call::Add(0xffff, 600),
+            Call::ClassAt(0, Some(1)),
+            Call::ClassAt(1, Some(0x8000)),
+            Call::ClassAt(2, Some(0xffff)),
+            Call::ClassAt(3, None),
+            Call::PlaceOf(1, Some(0)),
+            Call::PlaceOf(0x8000, Some(1)),
+            Call::PlaceOf(0xffff, Some(2)),
+            Call::Has(0x8000, true),
+            Call::Deficit(0x8000, 500),
+            Call::Has(0xffff, true),
+            Call::Deficit(0xffff, 0),
+        ],
+    )
 }
 
 #[test]
 fn the_others_keep_their_turns_when_a_class_is_removed(rt: HostRuntime) -> Result<(), Fail> {
-    let mut active = Active::new(rt.alloc(), 1514);
-    active.add(1, 100)?;
-    active.add(2, 200)?;
-    active.add(3, 300)?;
-    active.add(4, 400)?;
-    active.wake(3);
-    active.wake(4);
-    active.wake(1);
-    active.wake(2);
-    assert_eq!(rt; active.turn(301), Turn::Granted);
-    active.remove(1);
-    assert_eq!(rt; active.active_count(), 3);
-    assert_eq!(rt; active.front(), Some(4));
-    assert_eq!(rt; active.turn(401), Turn::Granted);
-    assert_eq!(rt; active.active_count(), 3);
-    assert_eq!(rt; active.front(), Some(2));
-    assert_eq!(rt; active.turn(201), Turn::Granted);
-    assert_eq!(rt; active.front(), Some(3));
-    assert_eq!(rt; active.has(4), true);
-    assert_eq!(rt; active.deficit(4), 800);
-    assert_eq!(rt; active.has(2), true);
-    assert_eq!(rt; active.deficit(2), 400);
+    play(
+        rt.alloc(),
+        &[
+            Call::Add(1, 100),
+            Call::Add(2, 200),
+            Call::Add(3, 300),
+            Call::Add(4, 400),
+            Call::Wake(3),
+            Call::Wake(4),
+            Call::Wake(1),
+            Call::Wake(2),
+            Call::Turn(301, Turn::Granted),
+            Call::Remove(1),
+            Call::ActiveCount(3),
+            Call::Front(Some(4)),
+            Call::Turn(401, Turn::Granted),
+            Call::ActiveCount(3),
+            Call::Front(Some(2)),
+            Call::Turn(201, Turn::Granted),
+            Call::Front(Some(3)),
+            Call::Has(4, true),
+            Call::Deficit(4, 800),
+            Call::Has(2, true),
+            Call::Deficit(2, 400),
+        ],
+    )
+}
+
+// Wakes the class in a place, where there is one.
+fn wake_at(active: &mut Active, place: usize) -> Result<(), Fail> {
+    if place >= active.count() {
+        return Err(Fail::from("place"));
+    }
+    active.wake_at(place);
     Ok(())
+}
+
+fn sleep_at(active: &mut Active, place: usize) -> Result<(), Fail> {
+    if place >= active.count() {
+        return Err(Fail::from("place"));
+    }
+    active.sleep_at(place);
+    Ok(())
+}
+
+// The class in front, its place, and how many classes there are.
+fn front(active: &Active) -> (Option<u16>, Option<usize>, usize) {
+    (active.front(), active.front_place(), active.count())
 }
 
 #[test]
 fn a_class_is_woken_and_put_to_sleep_by_its_place(rt: HostRuntime) -> Result<(), Fail> {
-    let mut active = Active::new(rt.alloc(), 1514);
+    let mut active = Active::new(rt.alloc(), LONGEST);
     active.add(7, 100)?;
     active.add(5, 200)?;
-    assert_eq!(rt; active.count(), 2);
-    active.wake_at(1);
-    assert_eq!(rt; active.count(), 2);
-    active.wake_at(0);
-    assert_eq!(rt; active.front(), Some(5));
-    assert_eq!(rt; active.front_place(), Some(1));
-    assert_eq!(rt; active.count(), 2);
-    active.sleep_at(1);
-    assert_eq!(rt; active.front(), Some(7));
-    assert_eq!(rt; active.front_place(), Some(0));
-    assert_eq!(rt; active.count(), 2);
-    active.sleep_at(0);
-    assert_eq!(rt; active.front_place(), None);
+    assert_eq!(rt; front(&active), (None, None, 2));
+    wake_at(&mut active, 1)?;
+    assert_eq!(rt; front(&active), (Some(5), Some(1), 2));
+    wake_at(&mut active, 0)?;
+    assert_eq!(rt; front(&active), (Some(5), Some(1), 2));
+    sleep_at(&mut active, 1)?;
+    assert_eq!(rt; front(&active), (Some(7), Some(0), 2));
+    sleep_at(&mut active, 0)?;
+    assert_eq!(rt; front(&active), (None, None, 2));
     Ok(())
 }
