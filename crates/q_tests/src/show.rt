@@ -99,15 +99,22 @@ const COUNTERS: &str =
 const FQ_CODEL: &str =
     "qdisc fq_codel 10: root limit 10240p flows 1024 quantum 1514 target 5000000ns interval 100000000ns ecn drop_batch 1\n";
 
-fn assert_qdisc(rt: &impl Abort, alloc: Global, node: &NodeView, line: &str) -> Result<(), Fail> {
-    let mut plain = Vec::new(alloc);
-    assert_eq!(rt; write_text(&mut plain, &qdisc_text(node, false)), Ok(()));
-    assert_eq!(rt; plain.as_slice(), line.as_bytes(), "{line}");
+/// Looks that a text is written whole, and is this one.
+fn assert_text(rt: &impl Abort, alloc: Global, text: &Text, line: &str) {
+    let mut written = Vec::new(alloc);
+    assert_eq!(rt; write_text(&mut written, text), Ok(()));
+    assert_eq!(rt; written.as_slice(), line.as_bytes(), "{line}");
+}
 
-    let mut counted = Vec::new(alloc);
-    assert_eq!(rt; write_text(&mut counted, &qdisc_text(node, true)), Ok(()));
+/// Looks at what is shown of a qdisc without its counters, or with them.
+fn assert_shown(rt: &impl Abort, alloc: Global, node: &NodeView, counters: bool, line: &str) {
+    assert_text(rt, alloc, &qdisc_text(node, counters), line);
+}
+
+fn assert_qdisc(rt: &impl Abort, alloc: Global, node: &NodeView, line: &str) -> Result<(), Fail> {
+    assert_shown(rt, alloc, node, false, line);
     let whole = format!(in alloc; "{line}{COUNTERS}")?;
-    assert_eq!(rt; counted.as_slice(), whole.as_bytes(), "{line}");
+    assert_shown(rt, alloc, node, true, whole.as_str());
     Ok(())
 }
 
@@ -147,12 +154,10 @@ fn shows_every_kind(rt: HostRuntime) -> Result<(), Fail> {
 fn shows_marks_of_an_fq_codel(rt: HostRuntime) -> Result<(), Fail> {
     let alloc = rt.alloc();
     let node = root(QdiscView::FqCodel(Settings::defaults(1514)));
-    let mut written = Vec::new(alloc);
-    assert_eq!(rt; write_text(&mut written, &qdisc_text(&node, true)), Ok(()));
     let counters =
         " arrived 7p 700b sent 1p 60b refused 2p 140b dropped 3p 400b queued 1p 100b marked 4p 18446744073709551615b\n";
     let whole = format!(in alloc; "{FQ_CODEL}{counters}")?;
-    assert_eq!(rt; written.as_slice(), whole.as_bytes());
+    assert_shown(&rt, alloc, &node, true, whole.as_str());
     Ok(())
 }
 
@@ -180,10 +185,22 @@ fn shows_handles_and_places(rt: HostRuntime) -> Result<(), Fail> {
     Ok(())
 }
 
+fn drr(quantum: u32, deficit: Option<u64>) -> ClassKind {
+    ClassKind::Drr { quantum, deficit }
+}
+
+fn assert_class(rt: &impl Abort, alloc: Global, kind: ClassKind, line: &str) -> Result<(), Fail> {
+    let view = ClassView {
+        class: class(1, 0xa)?,
+        kind,
+    };
+    assert_text(rt, alloc, &class_text(&view), line);
+    Ok(())
+}
+
 #[test]
 fn shows_classes(rt: HostRuntime) -> Result<(), Fail> {
     let alloc = rt.alloc();
-    let drr = |quantum, deficit| ClassKind::Drr { quantum, deficit };
     for (kind, line) in [
         (ClassKind::Prio, "class prio 1:a\n"),
         (ClassKind::Tbf, "class tbf 1:a\n"),
@@ -197,13 +214,7 @@ fn shows_classes(rt: HostRuntime) -> Result<(), Fail> {
             "class drr 1:a quantum 1 active deficit 18446744073709551615\n",
         ),
     ] {
-        let view = ClassView {
-            class: class(1, 0xa)?,
-            kind,
-        };
-        let mut written = Vec::new(alloc);
-        assert_eq!(rt; write_text(&mut written, &class_text(&view)), Ok(()));
-        assert_eq!(rt; written.as_slice(), line.as_bytes());
+        assert_class(&rt, alloc, kind, line)?;
     }
     Ok(())
 }
@@ -230,61 +241,74 @@ fn filter(prio: u16, protocol: Protocol, keys: FilterKeys) -> Result<FilterView,
 }
 
 fn assert_filter(rt: &impl Abort, alloc: Global, view: &FilterView, line: &str) {
-    let mut written = Vec::new(alloc);
-    assert_eq!(rt; write_text(&mut written, &filter_text(view)), Ok(()));
-    assert_eq!(rt; written.as_slice(), line.as_bytes());
+    assert_text(rt, alloc, &filter_text(view), line);
+}
+
+/// The keys of version 4 that a filter may compare.
+fn keys_of_version_4() -> FilterKeys {
+    FilterKeys {
+        ip_proto: Some(17),
+        src_ip: IpPrefix::new(IpVersion::V4, 0x0a01_0203, 8),
+        dst_ip: IpPrefix::new(IpVersion::V4, 0, 0),
+        src_port: Some(0),
+        dst_port: Some(65535),
+    }
+}
+
+/// Addresses of version 6, and no port.
+fn keys_of_version_6() -> FilterKeys {
+    FilterKeys {
+        ip_proto: Some(0xff),
+        src_ip: IpPrefix::new(IpVersion::V6, 0x2001_0db8_0000_0000_0000_0000_0000_0001, 64),
+        dst_ip: IpPrefix::new(IpVersion::V6, u128::MAX, 128),
+        ..NO_KEYS
+    }
 }
 
 #[test]
 fn shows_filters(rt: HostRuntime) -> Result<(), Fail> {
-    let alloc = rt.alloc();
-    let view = filter(65535, Protocol::All, NO_KEYS)?;
-    assert_filter(
-        &rt,
-        alloc,
-        &view,
-        "filter parent 1f: prio 65535 protocol all classid 1f:2\n",
-    );
-
-    let mut keys = NO_KEYS;
-    keys.ip_proto = Some(17);
-    keys.src_ip = IpPrefix::new(IpVersion::V4, 0x0a01_0203, 8);
-    keys.dst_ip = IpPrefix::new(IpVersion::V4, 0, 0);
-    keys.src_port = Some(0);
-    keys.dst_port = Some(65535);
-    assert_filter(
-        &rt,
-        alloc,
-        &filter(1, Protocol::Ip, keys)?,
-        "filter parent 1f: prio 1 protocol ip ip_proto 11 src_ip 10.1.2.3/8 dst_ip 0.0.0.0/0 src_port 0 dst_port 65535 classid 1f:2\n",
-    );
-
-    let mut keys = NO_KEYS;
-    keys.ip_proto = Some(0xff);
-    keys.src_ip = IpPrefix::new(IpVersion::V6, 0x2001_0db8_0000_0000_0000_0000_0000_0001, 64);
-    keys.dst_ip = IpPrefix::new(IpVersion::V6, u128::MAX, 128);
-    assert_filter(
-        &rt,
-        alloc,
-        &filter(1, Protocol::Ipv6, keys)?,
-        "filter parent 1f: prio 1 protocol ipv6 ip_proto ff src_ip 2001:db8:0:0:0:0:0:1/64 dst_ip ffff:ffff:ffff:ffff:ffff:ffff:ffff:ffff/128 classid 1f:2\n",
-    );
+    for (prio, protocol, keys, line) in [
+        (
+            65535,
+            Protocol::All,
+            NO_KEYS,
+            "filter parent 1f: prio 65535 protocol all classid 1f:2\n",
+        ),
+        (
+            1,
+            Protocol::Ip,
+            keys_of_version_4(),
+            "filter parent 1f: prio 1 protocol ip ip_proto 11 src_ip 10.1.2.3/8 dst_ip 0.0.0.0/0 src_port 0 dst_port 65535 classid 1f:2\n",
+        ),
+        (
+            1,
+            Protocol::Ipv6,
+            keys_of_version_6(),
+            "filter parent 1f: prio 1 protocol ipv6 ip_proto ff src_ip 2001:db8:0:0:0:0:0:1/64 dst_ip ffff:ffff:ffff:ffff:ffff:ffff:ffff:ffff/128 classid 1f:2\n",
+        ),
+    ] {
+        assert_filter(&rt, rt.alloc(), &filter(prio, protocol, keys)?, line);
+    }
     Ok(())
+}
+
+/// An fq_codel into a writer that takes so many bytes a time.
+fn assert_sipped(rt: &impl Abort, alloc: Global, node: &NodeView, step: usize) {
+    let mut writer = Sipping::new(alloc, step, usize::MAX);
+    writer.interrupts = step.checked_rem(3).unwrap_or(0);
+    assert_eq!(rt; write_text(&mut writer, &qdisc_text(node, false)), Ok(()));
+    assert_eq!(rt;
+        writer.written.as_slice(),
+        FQ_CODEL.as_bytes(),
+        "{step} bytes a time"
+    );
 }
 
 #[test]
 fn writers_that_take_a_few_bytes_a_time(rt: HostRuntime) {
-    let alloc = rt.alloc();
     let node = root(QdiscView::FqCodel(Settings::defaults(1514)));
     for step in 1..FQ_CODEL.len() {
-        let mut writer = Sipping::new(alloc, step, usize::MAX);
-        writer.interrupts = step % 3;
-        assert_eq!(rt; write_text(&mut writer, &qdisc_text(&node, false)), Ok(()));
-        assert_eq!(rt;
-            writer.written.as_slice(),
-            FQ_CODEL.as_bytes(),
-            "{step} bytes a time"
-        );
+        assert_sipped(&rt, rt.alloc(), &node, step);
     }
 }
 
@@ -293,29 +317,33 @@ const FULL: Result<(), WriteFault> = Err(WriteFault {
     kind: ErrorKind::BrokenPipe,
 });
 
+/// Looks that a writer has a front of a text, as long as it can be.
+fn assert_front(rt: &impl Abort, mut writer: Sipping, text: &Text, whole: &str) {
+    let room = writer.room;
+    assert_eq!(rt; write_text(&mut writer, text), FULL);
+    assert!(rt; Some(writer.written.as_slice()) == whole.as_bytes().get(..room));
+}
+
+fn assert_front_of_qdisc(rt: &impl Abort, alloc: Global, node: &NodeView, room: usize) {
+    let text = qdisc_text(node, false);
+    assert_front(rt, Sipping::new(alloc, 7, room), &text, FQ_CODEL);
+}
+
 #[test]
 fn writers_that_fail(rt: HostRuntime) -> Result<(), Fail> {
     let alloc = rt.alloc();
     let node = root(QdiscView::FqCodel(Settings::defaults(1514)));
     for room in 0..FQ_CODEL.len() {
-        let mut writer = Sipping::new(alloc, 7, room);
-        assert_eq!(rt; write_text(&mut writer, &qdisc_text(&node, false)), FULL);
-        assert!(rt; Some(writer.written.as_slice()) == FQ_CODEL.as_bytes().get(..room));
+        assert_front_of_qdisc(&rt, alloc, &node, room);
     }
-
-    let line = "class prio 1:a\n";
     let view = ClassView {
         class: class(1, 0xa)?,
         kind: ClassKind::Prio,
     };
-    let mut writer = Sipping::new(alloc, 4, 6);
-    assert_eq!(rt; write_text(&mut writer, &class_text(&view)), FULL);
-    assert!(rt; Some(writer.written.as_slice()) == line.as_bytes().get(..6));
-
-    let view = filter(1, Protocol::All, NO_KEYS)?;
-    let mut writer = Sipping::new(alloc, 4, 6);
-    assert_eq!(rt; write_text(&mut writer, &filter_text(&view)), FULL);
-    assert_eq!(rt; writer.written.as_slice(), "filter".as_bytes());
+    let text = class_text(&view);
+    assert_front(&rt, Sipping::new(alloc, 4, 6), &text, "class prio 1:a\n");
+    let text = filter_text(&filter(1, Protocol::All, NO_KEYS)?);
+    assert_front(&rt, Sipping::new(alloc, 4, 6), &text, "filter");
     Ok(())
 }
 
