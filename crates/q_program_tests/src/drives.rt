@@ -23,18 +23,6 @@ pub fn settings(
     )?)
 }
 
-/// A drive by standard input. It promises nothing: what a drive promises is long, and no test needs it.
-pub fn drive<R: Threads + Wait + Sync, W: Write>(
-    rt: &R,
-    alloc: Global,
-    input: &[u8],
-    writer: &mut W,
-    settings: DriveSettings,
-) -> Result<Outcome, RunFault> {
-    let mut reader = input;
-    run_drive(rt, alloc, &mut reader, writer, settings)
-}
-
 /// What standard input and settings come to: the outcome and all that is written.
 pub fn assert_drives<R: Abort + Threads + Wait + Sync>(
     rt: &R,
@@ -44,8 +32,8 @@ pub fn assert_drives<R: Abort + Threads + Wait + Sync>(
     outcome: Outcome,
     report: &str,
 ) {
-    let mut written = Vec::new(alloc);
-    let told = drive(rt, alloc, input, &mut written, settings);
+    let (mut reader, mut written) = (input, Vec::new(alloc));
+    let told = run_drive(rt, alloc, &mut reader, &mut written, settings);
     assert_eq!(rt; told, Ok(outcome), "{report}");
     assert_eq!(rt; written.as_slice(), report.as_bytes(), "{report}");
 }
@@ -151,9 +139,10 @@ fn writers_that_fail_at_each_byte(rt: HostRuntime) -> Result<(), Fail> {
         "line 2: fault 1 UnknownWord word 1\nsettled 2p 14b\narrived 2p 14b\ngiven up 0\ndevice arrived 2p 14b sent 0p 0b refused 2p 14b dropped 0p 0b queued 0p 0b\nqdisc pfifo 1: root limit 0p\n arrived 2p 14b sent 0p 0b refused 2p 14b dropped 0p 0b queued 0p 0b\n";
     let asked = settings(1, 2, 7, 1, true)?;
     for room in 0..report.len() {
+        let mut reader: &[u8] = input;
         let written = Vec::new(alloc);
         let mut writer = Narrow { written, room };
-        let told = drive(&rt, alloc, input, &mut writer, asked);
+        let told = run_drive(&rt, alloc, &mut reader, &mut writer, asked);
         assert_eq!(rt; told, Err(RunFault::Write(ErrorKind::BrokenPipe)), "{room}");
         assert_eq!(rt; writer.written.as_slice(), &report.as_bytes()[..room]);
     }

@@ -5,21 +5,17 @@ use std::alloc::Global;
 use std::process::Abort;
 use std::test::Fail;
 
-/// Runs a script; what is written, and how it went.
-fn play(
-    alloc: Global,
-    script: &[u8],
-    settings: RunSettings,
-) -> (Vec<u8>, Result<Outcome, RunFault>) {
+/// Runs a script with the default settings; what is written, and how it went.
+fn play(alloc: Global, script: &[u8]) -> (Vec<u8>, Result<Outcome, RunFault>) {
     let mut reader = script;
     let mut written = Vec::new(alloc);
-    let told = run(alloc, &mut reader, &mut written, settings);
+    let told = run(alloc, &mut reader, &mut written, RunSettings::defaults());
     (written, told)
 }
 
 fn assert_reports(rt: &impl Abort, alloc: Global, rows: &[(&str, &[u8], &str, Outcome)]) {
     for (name, script, report, outcome) in rows {
-        let (written, told) = play(alloc, script, RunSettings::defaults());
+        let (written, told) = play(alloc, script);
         assert_eq!(rt; written.as_slice(), report.as_bytes(), "{name}");
         assert_eq!(rt; told, Ok(*outcome), "{name}");
     }
@@ -204,12 +200,14 @@ fn faults_and_their_words(rt: HostRuntime) {
 #[test]
 fn settings_of_the_device(rt: HostRuntime) -> Result<(), Fail> {
     let settings = RunSettings::new(100, 1, 7, 0).ok_or("in range")?;
-    let script = b"pkt 100\n\
+    let mut reader = b"pkt 100\n\
       pkt 101\n\
       pkt 50\n\
       poll 2\n\
-      tc -s qdisc show\n";
-    let (written, told) = play(rt.alloc(), script, settings);
+      tc -s qdisc show\n"
+        .as_slice();
+    let mut written = Vec::new(rt.alloc());
+    let told = run(rt.alloc(), &mut reader, &mut written, settings);
     assert_eq!(rt; told, Ok(Outcome::Clean));
     assert_eq!(rt;
         written.as_slice(),
@@ -229,7 +227,7 @@ fn long_lines_and_long_reports(rt: HostRuntime) -> Result<(), Fail> {
     script.extend_from_slice(b"x\npkt ")?;
     script.extend_from_slice(vec![in alloc; b'0'; 1_048_576]?.as_slice())?;
     script.extend_from_slice(b"9\npoll 100000\n")?;
-    let (written, told) = play(alloc, script.as_slice(), RunSettings::defaults());
+    let (written, told) = play(alloc, script.as_slice());
     assert_eq!(rt; told, Ok(Outcome::Refused));
     let mut report = Vec::new(alloc);
     report.extend_from_slice(

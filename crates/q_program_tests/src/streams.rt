@@ -92,32 +92,6 @@ impl Write for Narrow {
     }
 }
 
-/// A run with the default settings. It promises nothing: what a run promises of this reader and this writer is long, and no test
-/// needs it.
-fn run_through<R: Read, W: Write>(
-    alloc: Global,
-    reader: &mut R,
-    writer: &mut W,
-) -> Result<Outcome, RunFault> {
-    run(alloc, reader, writer, RunSettings::defaults())
-}
-
-/// The status of a play with the default settings. It promises nothing either.
-fn play_through<R: Read, W: Write, E: Write>(
-    alloc: Global,
-    reader: &mut R,
-    writer: &mut W,
-    errors: &mut E,
-) -> u8 {
-    play(
-        alloc,
-        RunSettings::defaults(),
-        &mut Source::new(reader),
-        &mut Target::new(writer),
-        errors,
-    )
-}
-
 #[test]
 fn readers_that_are_slow(rt: HostRuntime) {
     let alloc = rt.alloc();
@@ -125,7 +99,7 @@ fn readers_that_are_slow(rt: HostRuntime) {
         let mut reader = Slow::new(TWO_OF_THREE, 0, step);
         reader.interrupts = step % 3;
         let mut written = Vec::new(alloc);
-        let told = run_through(alloc, &mut reader, &mut written);
+        let told = run(alloc, &mut reader, &mut written, RunSettings::defaults());
         assert_eq!(rt; told, Ok(Outcome::Clean), "{step} bytes a time");
         assert_eq!(rt;
             written.as_slice(),
@@ -145,7 +119,7 @@ fn each_read_fails(rt: HostRuntime) {
         let mut reader = Slow::new(TWO_OF_THREE, 0, 1);
         reader.failing = Some(failing);
         let mut written = Vec::new(alloc);
-        let told = run_through(alloc, &mut reader, &mut written);
+        let told = run(alloc, &mut reader, &mut written, RunSettings::defaults());
         let (want, report) = if failing <= last {
             (Err(RunFault::Read(ErrorKind::ConnectionReset)), "")
         } else {
@@ -165,7 +139,7 @@ fn scripts_at_the_greatest_length_and_over_it(rt: HostRuntime) {
     ] {
         let mut reader = Slow::new(b"poll\n", blanks, usize::MAX);
         let mut written = Vec::new(alloc);
-        let told = run_through(alloc, &mut reader, &mut written);
+        let told = run(alloc, &mut reader, &mut written, RunSettings::defaults());
         assert_eq!(rt; told, want);
         assert_eq!(rt; written.as_slice(), report.as_bytes());
     }
@@ -189,7 +163,7 @@ fn interrupted_without_end(rt: HostRuntime) {
     let alloc = rt.alloc();
     let mut reader = Interrupted { reads: 0 };
     let mut written = Vec::new(alloc);
-    let told = run_through(alloc, &mut reader, &mut written);
+    let told = run(alloc, &mut reader, &mut written, RunSettings::defaults());
     assert_eq!(rt; told, Err(RunFault::Read(ErrorKind::Interrupted)));
     assert_eq!(rt; reader.reads, 16_777_218);
     assert!(rt; written.is_empty());
@@ -210,7 +184,7 @@ fn assert_front(
         room,
         fails,
     };
-    let told = run_through(alloc, &mut reader, &mut writer);
+    let told = run(alloc, &mut reader, &mut writer, RunSettings::defaults());
     let kind = if fails {
         ErrorKind::BrokenPipe
     } else {
@@ -251,7 +225,13 @@ fn failures_are_told(rt: HostRuntime) {
     let mut reader = Slow::new(TWO_OF_THREE, 0, 10);
     reader.failing = Some(2);
     let (mut written, mut errors) = (Vec::new(alloc), Vec::new(alloc));
-    let status = play_through(alloc, &mut reader, &mut written, &mut errors);
+    let status = play(
+        alloc,
+        RunSettings::defaults(),
+        &mut Source::new(&mut reader),
+        &mut Target::new(&mut written),
+        &mut errors,
+    );
     assert_eq!(rt; status, 2);
     assert!(rt; written.is_empty());
     assert_eq!(rt;
@@ -270,7 +250,13 @@ fn failures_are_told(rt: HostRuntime) {
             fails,
         };
         let mut errors = Vec::new(alloc);
-        let status = play_through(alloc, &mut reader, &mut writer, &mut errors);
+        let status = play(
+            alloc,
+            RunSettings::defaults(),
+            &mut Source::new(&mut reader),
+            &mut Target::new(&mut writer),
+            &mut errors,
+        );
         assert_eq!(rt; status, 2);
         assert_eq!(rt; errors.as_slice(), told.as_bytes());
     }

@@ -9,7 +9,7 @@ use q_device::{
 };
 use q_model::{ClassView, FilterView, Handle, NodeView, Quantum};
 use q_packet::{Cause, Moment};
-use std::alloc::{AllocError, Global};
+use std::alloc::Global;
 use std::test::Fail;
 
 /// What a line of tc asks for.
@@ -95,8 +95,7 @@ fn match_protocol(major: u16, minor: u16, proto: u8) -> Result<Command, Fail> {
     })
 }
 
-/// The moment of this nanosecond.
-pub fn at(ns: u64) -> Result<Moment, Fail> {
+fn at(ns: u64) -> Result<Moment, Fail> {
     Ok(Moment::new(ns).ok_or("moment")?)
 }
 
@@ -398,20 +397,11 @@ fn events_of(alloc: Global, calls: &[Call]) -> Result<Vec<Event>, Fail> {
     Ok(events)
 }
 
-// A play that promises nothing: what `play` promises is a whole replay, which would be carried through each proof.
-fn replies_once(
-    alloc: Global,
-    settings: Settings,
-    events: &[Event],
-) -> Result<Vec<Reply>, AllocError> {
-    play(alloc, settings, events)
-}
-
 /// What a play of these events answers. Where memory is refused they are played again.
 pub fn replies(alloc: Global, settings: Settings, events: &[Event]) -> Result<Vec<Reply>, Fail> {
-    match replies_once(alloc, settings, events) {
+    match play(alloc, settings, events) {
         Ok(replies) => Ok(replies),
-        Err(_) => Ok(replies_once(alloc, settings, events)?),
+        Err(_) => Ok(play(alloc, settings, events)?),
     }
 }
 

@@ -2,7 +2,6 @@
 //!
 //! With ample memory no call is refused. `rt try --test --fail-alloc N` refuses the Nth allocation of each test, and the tests
 //! pass for every N: a call that was refused has changed nothing that is seen, and the same call with memory then succeeds.
-use crate::device_bench::at;
 use q_device::{Device, Event, Fate, Place, Polled, Row, Settings};
 use q_model::NodeView;
 use q_packet::{Cause, Ecn, FlowKey, Moment, Packet};
@@ -12,6 +11,10 @@ use std::test::Fail;
 // The packet with this number and length.
 fn packet(number: u64, len: u16) -> Result<Packet, Fail> {
     Ok(Packet::new(0, number, 0, len, FlowKey::zero(), 0, 0, Ecn::NotEct).ok_or("packet")?)
+}
+
+fn at(ns: u64) -> Result<Moment, Fail> {
+    Ok(Moment::new(ns).ok_or("moment")?)
 }
 
 // What is seen of a device of one pfifo without a change of it, but for the losses that wait.

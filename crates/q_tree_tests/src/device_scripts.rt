@@ -2,8 +2,9 @@
 //! one goes a nanosecond before the moment that the device tells, and the next one at it. Of 53,480 polls at it 645 give none: what the
 //! moment was told for is not known then of an fq_codel, of a drr's front class, or beneath a tbf over a prio.
 use crate::bench::{New, Spot, packet};
-use crate::device_bench::{Ask, at, set_up};
+use crate::device_bench::{Ask, set_up};
 use q_device::{Device, Polled, Settings};
+use q_packet::Moment;
 use std::alloc::Global;
 use std::test::Fail;
 
@@ -52,8 +53,8 @@ struct Script {
     told: Told,
 }
 
-fn put(spot: Spot, major: u16, new: New) -> Option<Ask> {
-    Some(Ask::Graft(spot, major, new))
+fn at(ns: u64) -> Result<Moment, Fail> {
+    Ok(Moment::new(ns).ok_or("moment")?)
 }
 
 // The trees that the scripts are tried on. In most of them a tbf waits above or beside others.
@@ -61,6 +62,7 @@ fn lines(kind: u64, dice: &mut Dice) -> [Option<Ask>; 8] {
     let outer = dice.shaper();
     let inner = dice.shaper();
     let flows = New::Flows(4);
+    let put = |spot, major, new| Some(Ask::Graft(spot, major, new));
     let mut lines = [None; 8];
     match kind {
         0 => lines[0] = put(Spot::Root, 1, outer),
@@ -166,25 +168,19 @@ impl Script {
     }
 }
 
-// What came of one script.
-fn played_once(alloc: Global, dice: &mut Dice) -> Result<Told, Fail> {
-    let mut script = Script::new(alloc, dice)?;
-    for number in 0..40 {
-        script.step(number, dice)?;
-    }
-    Ok(script.told)
-}
-
 // What came of so many scripts, added up.
 fn played(alloc: Global, seed: u64, scripts: u64) -> Result<Told, Fail> {
     let mut dice = Dice(seed);
     let mut all = NOTHING_TOLD;
     for _ in 0..scripts {
-        let told = played_once(alloc, &mut dice)?;
-        all.gave = all.gave.saturating_add(told.gave);
-        all.gave_none = all.gave_none.saturating_add(told.gave_none);
-        all.broken = all.broken.saturating_add(told.broken);
-        all.not_later = all.not_later.saturating_add(told.not_later);
+        let mut script = Script::new(alloc, &mut dice)?;
+        for number in 0..40 {
+            script.step(number, &mut dice)?;
+        }
+        all.gave = all.gave.saturating_add(script.told.gave);
+        all.gave_none = all.gave_none.saturating_add(script.told.gave_none);
+        all.broken = all.broken.saturating_add(script.told.broken);
+        all.not_later = all.not_later.saturating_add(script.told.not_later);
     }
     Ok(all)
 }

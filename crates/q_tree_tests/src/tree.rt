@@ -1,12 +1,29 @@
 //! A tree of one pfifo: packets that arrive, are refused, peeked at and taken.
-use crate::bench::{make_room, packet};
+ghost use Rattle.std.specs.Prelude.{◌+◌, ◌-◌, ◌≤◌, length, OnOk};
+ghost use Rattle.q_model.specs.Beneath.{beneath};
+
 use q_codel::Losses;
 use q_model::{ClassId, Fate, Handle, Minor, Place};
-use q_packet::Cause;
+use q_packet::{Cause, Ecn, FlowKey, Moment, Packet};
 use q_tree::Tree;
 use std::alloc::Global;
 use std::process::Abort;
 use std::test::Fail;
+
+// The packet with this number and length.
+fn packet(number: u64, len: u16) -> Result<Packet, Fail> {
+    Ok(Packet::new(0, number, 0, len, FlowKey::zero(), 0, 0, Ecn::NotEct).ok_or("packet")?)
+}
+
+// Makes room for every packet that may be lost, and one more.
+fn make_room(tree: &Tree, losses: &mut Losses) -> Result<(), Fail>
+    ensures { OnOk result (length (beneath tree.now.tree.root) + 1 ≤ losses.new.places - length losses.new.waiting) }
+{
+    let row = tree.totals();
+    let queued = row.queued.packets.checked_add(1).ok_or("room")?;
+    losses.reserve(queued as usize)?;
+    Ok(())
+}
 
 // A tree under test, with what it lost.
 #[derive(Drop)]
@@ -26,7 +43,7 @@ impl Bench {
 
     // What becomes of a packet that is put at the latest moment which the tree knows.
     fn put(&mut self, number: u64, len: u16) -> Result<Fate, Fail> {
-        let packet = packet(number, len, 0)?;
+        let packet = packet(number, len)?;
         let tree = &mut self.tree;
         let now = tree.clock();
         let route = tree.route(&packet);
@@ -35,32 +52,18 @@ impl Bench {
         Ok(tree.put(&route, packet, now, &mut self.losses))
     }
 
-    // The number of the packet that a peek shows; 0 where none is.
-    fn peek(&mut self) -> Result<u64, Fail> {
-        let tree = &mut self.tree;
-        let now = tree.clock();
-        make_room(tree, &mut self.losses)?;
-        match tree.peek(now, &mut self.losses) {
-            Some(packet) => Ok(packet.number),
-            None => Ok(0),
-        }
-    }
-
-    // The number of the packet that a take gives; 0 where none is.
-    fn take_any(&mut self) -> Result<u64, Fail> {
-        let tree = &mut self.tree;
-        let now = tree.clock();
-        make_room(tree, &mut self.losses)?;
-        match tree.take(now, &mut self.losses) {
-            Some(packet) => Ok(packet.number),
-            None => Ok(0),
-        }
-    }
-
     // The number of the packet that a take gives, which is the one that a peek shows; 0 where none is.
     fn take(&mut self) -> Result<u64, Fail> {
-        let shown = self.peek()?;
-        let taken = self.take_any()?;
+        let tree = &mut self.tree;
+        let now = tree.clock();
+        make_room(tree, &mut self.losses)?;
+        let shown = tree
+            .peek(now, &mut self.losses)
+            .map_or(0, |packet| packet.number);
+        make_room(tree, &mut self.losses)?;
+        let taken = tree
+            .take(now, &mut self.losses)
+            .map_or(0, |packet| packet.number);
         if taken == shown {
             Ok(taken)
         } else {

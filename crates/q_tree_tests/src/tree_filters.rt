@@ -1,6 +1,8 @@
 //! Filters: each key that they compare, and prefixes of every kind of length.
 use crate::bench::{Bench, Call, New, Spot};
-use q_model::{Filter, FilterKeys, FilterPrio, Handle, IpPrefix, IpVersion, Minor, Protocol};
+use q_model::{
+    ClassId, Filter, FilterKeys, FilterPrio, Handle, IpPrefix, IpVersion, Minor, Place, Protocol,
+};
 use q_packet::{Ecn, FlowKey, Packet};
 use std::alloc::Global;
 use std::test::Fail;
@@ -77,37 +79,25 @@ fn packet(flow: Flow) -> Result<Packet, Fail> {
     Ok(Packet::new(0, 1, 0, 100, key, 0, 0, Ecn::NotEct).ok_or("packet")?)
 }
 
-// A prio of two bands, with a filter of this key into the second.
-fn filtered(alloc: Global, key: Key) -> Result<Bench, Fail> {
+// The band into which a packet goes that has the first one by its priority, with a filter of this key into the second.
+fn band(alloc: Global, key: Key, flow: Flow) -> Result<u16, Fail> {
     let mut bench = Bench::new(alloc)?;
     bench.play(alloc, &[Call::Graft(Spot::Root, 1, New::Prio(2), None)])?;
-    add_filter(&mut bench, filter(key)?)?;
-    Ok(bench)
-}
-
-fn add_filter(bench: &mut Bench, filter: Filter) -> Result<(), Fail> {
     let one = Handle::new(1).ok_or("handle")?;
-    if bench.tree.filter_add(one, one, filter).is_err() {
+    if bench.tree.filter_add(one, one, filter(key)?).is_err() {
         return Err("filter_add".into());
     }
-    Ok(())
-}
-
-// The band that has the only packet.
-fn band_with_packet(bench: &Bench) -> Result<u16, Fail> {
+    bench.put(packet(flow)?)?;
     for minor in 1..3u16 {
-        if bench.counts(Spot::Class(1, minor).place()?) == [1, 0, 0, 0, 1] {
+        let place = Place::Class(ClassId {
+            major: one,
+            minor: Minor::new(minor).ok_or("minor")?,
+        });
+        if bench.counts(place) == [1, 0, 0, 0, 1] {
             return Ok(minor);
         }
     }
     Ok(0)
-}
-
-// The band into which a packet goes that has the first one by its priority, with a filter of this key into the second.
-fn band(alloc: Global, key: Key, flow: Flow) -> Result<u16, Fail> {
-    let mut bench = filtered(alloc, key)?;
-    bench.put(packet(flow)?)?;
-    band_with_packet(&bench)
 }
 
 fn go(alloc: Global, rows: &[(Key, Flow, u16)]) -> Result<(), Fail> {

@@ -172,13 +172,10 @@ fn small_tree(alloc: Global) -> Result<Bench, Fail> {
     Ok(bench)
 }
 
-fn refused_by_small_tree(alloc: Global, rows: &[(Ask, Refusal)]) -> Result<(), Fail> {
-    refused(&mut small_tree(alloc)?, alloc, rows)
-}
-
 #[test]
 fn a_new_qdisc_is_refused(rt: HostRuntime) -> Result<(), Fail> {
-    refused_by_small_tree(
+    refused(
+        &mut small_tree(rt.alloc())?,
         rt.alloc(),
         &[
             // Not with NotClassful: a parent that is not there is of no kind.
@@ -230,7 +227,8 @@ fn a_new_qdisc_is_refused(rt: HostRuntime) -> Result<(), Fail> {
 
 #[test]
 fn a_change_is_refused(rt: HostRuntime) -> Result<(), Fail> {
-    refused_by_small_tree(
+    refused(
+        &mut small_tree(rt.alloc())?,
         rt.alloc(),
         &[
             // Not with CannotChange: a qdisc that is not there is of no kind.
@@ -289,7 +287,8 @@ fn a_change_is_refused(rt: HostRuntime) -> Result<(), Fail> {
 
 #[test]
 fn a_removal_is_refused(rt: HostRuntime) -> Result<(), Fail> {
-    refused_by_small_tree(
+    refused(
+        &mut small_tree(rt.alloc())?,
         rt.alloc(),
         &[
             (Ask::Prune(None, 0), Refusal::NoQdisc),
@@ -308,7 +307,8 @@ fn a_removal_is_refused(rt: HostRuntime) -> Result<(), Fail> {
 
 #[test]
 fn a_class_is_refused(rt: HostRuntime) -> Result<(), Fail> {
-    refused_by_small_tree(
+    refused(
+        &mut small_tree(rt.alloc())?,
         rt.alloc(),
         &[
             (Ask::AddClass(1, 3, 1), Refusal::NoParent),
@@ -342,7 +342,8 @@ fn a_class_is_refused(rt: HostRuntime) -> Result<(), Fail> {
 
 #[test]
 fn a_filter_is_refused(rt: HostRuntime) -> Result<(), Fail> {
-    refused_by_small_tree(
+    refused(
+        &mut small_tree(rt.alloc())?,
         rt.alloc(),
         &[
             // Not with NotClassful: a qdisc that is not there is of no kind.
