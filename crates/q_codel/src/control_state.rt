@@ -389,6 +389,7 @@ impl ControlState {
 }
 
 // Drops the head of a queue that has a packet behind it, and answers what is in front then.
+#[inline(always)]
 fn drop_head<Q: Queue, S: Sink>(queue: &mut Q, sink: &mut S) -> Front
     requires some { 1 < count (Q.packets queue.old) }
     requires room { 1 ≤ S.room sink.old }

@@ -24,24 +24,25 @@ const MOST_PLACES: usize = 1 << 47;
 #[derive(Drop)]
 pub struct Fifo {
     packets: VecDeque<Stamped>,
+    // For so many packets there are places, those of its packets among them.
+    places: usize,
     bytes: u64,
     limit: Limit,
 }
 
 impl Model for Fifo {
-    ghost use Rattle.std.specs.Prelude.{min};
     ghost use Rattle.std.specs.VecDeque.{deque_capacity};
-    ghost use Rattle.q_codel.specs.FifoState.{FifoState, IsCounted, most_places};
+    ghost use Rattle.q_codel.specs.FifoState.{FifoState, IsKept};
 
     ghost Value = { FifoState };
 
     ghost view = { λ f. record {
       packets = f.packets.items;
       limit = f.limit;
-      places = min (deque_capacity f.packets) most_places;
+      places = f.places;
     } };
 
-    ghost invariant = { λ f. IsCounted f.bytes f.packets.items };
+    ghost invariant = { λ f. IsKept f.bytes f.packets.items f.places (deque_capacity f.packets) };
 }
 
 impl Fifo {
@@ -55,6 +56,7 @@ impl Fifo {
     {
         Fifo {
             packets: VecDeque::from_vec(Vec::new(alloc)),
+            places: 0,
             bytes: 0,
             limit,
         }
@@ -70,7 +72,7 @@ impl Fifo {
         ensures full { OnErr result (self.old.places ≤ count self.old.packets) }
     {
         // A place that is there needs no call.
-        if self.packets.len() < self.packets.capacity() && self.packets.len() < MOST_PLACES {
+        if self.packets.len() < self.places {
             return Ok(());
         }
         self.grow()
@@ -88,7 +90,9 @@ impl Fifo {
         if self.packets.len() >= MOST_PLACES {
             return Err(AllocError);
         }
-        self.packets.reserve(1)
+        self.packets.reserve(1)?;
+        self.places = self.packets.capacity().min(MOST_PLACES);
+        Ok(())
     }
 
     /// Whether the limit allows one more packet of `len` bytes.
