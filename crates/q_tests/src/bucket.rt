@@ -6,7 +6,7 @@ use q_packet::Moment;
 use std::test::Fail;
 
 // A call, and what it has to answer. Moments are in nanoseconds, lengths and bursts in bytes, rates in bits a second.
-#[derive(Clone, Copy, Debug)]
+#[derive(Clone, Copy)]
 enum Call {
     // The moment, the length, and whether the packet goes.
     Spend(u64, u16, bool),
@@ -67,9 +67,9 @@ fn answers(bucket: &mut Bucket, call: Call) -> Result<bool, Fail> {
 // Plays these calls on a bucket that is full at moment 0, and fails at the first that does not answer as it has to.
 fn play(rate: u64, burst: u32, calls: &[Call]) -> Result<(), Fail> {
     let mut bucket = full(rate, burst, 0)?;
-    for call in calls {
+    for (nth, call) in calls.iter().enumerate() {
         if !answers(&mut bucket, *call)? {
-            return Err(Fail::new(format_args!("{call:?}")));
+            return Err(Fail::new(format_args!("call {nth} of the table")));
         }
     }
     Ok(())

@@ -20,7 +20,7 @@ fn gaps_are_exact(rt: HostRuntime) {
     ];
     for (interval, count, want) in rows {
         assert!(rt; interval <= 1_000_000_000_000 && count >= 1);
-        assert_eq!(rt; gap(interval, count), want, "gap({interval}, {count})");
+        assert!(rt; gap(interval, count) == want, "gap({interval}, {count})");
     }
 }
 
@@ -38,7 +38,7 @@ fn at(ns: u64) -> Result<Moment, Fail> {
 }
 
 // A call on a queue with its CoDel, and what it has to answer. Moments and times are in nanoseconds.
-#[derive(Clone, Copy, Debug)]
+#[derive(Clone, Copy)]
 enum Call {
     // Packets from the first number to the one before the second are put at moment 0, with this codepoint.
     Put(u64, u64, Ecn),
@@ -178,9 +178,9 @@ impl Bench {
 
     // Fails at the first call that does not answer as it has to.
     fn play(&mut self, calls: &[Call]) -> Result<(), Fail> {
-        for call in calls {
+        for (nth, call) in calls.iter().enumerate() {
             if !self.answers(*call)? {
-                return Err(Fail::new(format_args!("{call:?}")));
+                return Err(Fail::new(format_args!("call {nth} of the table")));
             }
         }
         Ok(())

@@ -11,7 +11,7 @@ use std::test::Fail;
 const LONGEST: u16 = 1514;
 
 // A call, and what it has to answer. A class that it changes or asks for has to be there.
-#[derive(Clone, Copy, Debug)]
+#[derive(Clone, Copy)]
 enum Call {
     // The class, which is not there yet, and its quantum.
     Add(u16, u32),
@@ -151,9 +151,9 @@ impl Bench {
 
     // Fails at the first call that does not answer as it has to.
     fn play(&mut self, calls: &[Call]) -> Result<(), Fail> {
-        for call in calls {
+        for (nth, call) in calls.iter().enumerate() {
             if !self.answers(*call)? {
-                return Err(Fail::new(format_args!("{call:?}")));
+                return Err(Fail::new(format_args!("call {nth} of the table")));
             }
         }
         Ok(())
@@ -258,21 +258,40 @@ fn classes_come_and_go(rt: HostRuntime) -> Result<(), Fail> {
     )
 }
 
-#[test]
-fn a_whole_take_meets_the_class_that_needs_fewest_grants(rt: HostRuntime) -> Result<(), Fail> {
-    let mut active = Active::new(rt.alloc(), 100);
+// What a take meets, and the turns that it took.
+type Taken = (Option<Met>, u64);
+
+// A take of a list on which both classes sleep.
+fn take_of_sleepers(alloc: Global) -> Result<Taken, Fail> {
+    let mut active = Active::new(alloc, 100);
     active.add(1, 10)?;
     active.add(2, 10)?;
-    assert_eq!(rt; take_by_turns(&mut active, &[]), None);
+    let met = take(&mut active, &[]);
+    Ok((met, active.turns()))
+}
+
+// A take of a list on which class 1 is in front of class 2.
+fn take_of_two(alloc: Global, heads: &[Option<u16>; 3]) -> Result<Taken, Fail>
+    requires { All (λ head. IfSome head (λ len. len ≤ 100)) heads.now }
+{
+    let mut active = Active::new(alloc, 100);
+    active.add(1, 10)?;
+    active.add(2, 10)?;
     active.wake(1);
     active.wake(2);
+    let met = take(&mut active, heads);
+    Ok((met, active.turns()))
+}
+
+#[test]
+fn a_whole_take_meets_the_class_that_needs_fewest_grants(rt: HostRuntime) -> Result<(), Fail> {
+    assert_eq!(rt; take_of_sleepers(rt.alloc())?, (None, 0));
     let second = Met {
         class: 2,
         head: Some(14),
     };
-    let met = take(&mut active, &[None, Some(25), Some(14)]);
-    assert_eq!(rt; met, Some(second));
-    assert_eq!(rt; active.turns(), 4);
+    let taken = take_of_two(rt.alloc(), &[None, Some(25), Some(14)])?;
+    assert_eq!(rt; taken, (Some(second), 4));
     Ok(())
 }
 
@@ -355,24 +374,44 @@ fn sleep_at(active: &mut Active, place: usize) -> Result<(), Fail> {
     Ok(())
 }
 
-// The class in front, its place, and how many classes there are.
-fn front(active: &Active) -> (Option<u16>, Option<usize>, usize) {
-    (active.front(), active.front_place(), active.count())
+// The class in front, with no `ensures`: together with its place it is dear to prove.
+fn front(active: &Active) -> Option<u16> {
+    active.front()
+}
+
+fn front_place(active: &Active) -> Option<usize> {
+    active.front_place()
+}
+
+fn two_asleep(alloc: Global) -> Result<Active, Fail> {
+    let mut active = Active::new(alloc, LONGEST);
+    active.add(7, 100)?;
+    active.add(5, 200)?;
+    Ok(active)
 }
 
 #[test]
 fn a_class_is_woken_and_put_to_sleep_by_its_place(rt: HostRuntime) -> Result<(), Fail> {
-    let mut active = Active::new(rt.alloc(), LONGEST);
-    active.add(7, 100)?;
-    active.add(5, 200)?;
-    assert_eq!(rt; front(&active), (None, None, 2));
-    wake_at(&mut active, 1)?;
-    assert_eq!(rt; front(&active), (Some(5), Some(1), 2));
-    wake_at(&mut active, 0)?;
-    assert_eq!(rt; front(&active), (Some(5), Some(1), 2));
-    sleep_at(&mut active, 1)?;
-    assert_eq!(rt; front(&active), (Some(7), Some(0), 2));
-    sleep_at(&mut active, 0)?;
-    assert_eq!(rt; front(&active), (None, None, 2));
+    let mut active = two_asleep(rt.alloc())?;
+    assert!(rt; front(&active).is_none() && front_place(&active).is_none());
+    assert_eq!(rt; active.count(), 2);
+    for (place, wakes, class, place_in_front) in [
+        (1, true, Some(5), Some(1)),
+        (0, true, Some(5), Some(1)),
+        (1, false, Some(7), Some(0)),
+        (0, false, None, None),
+    ] {
+        if wakes {
+            wake_at(&mut active, place)?;
+        } else {
+            sleep_at(&mut active, place)?;
+        }
+        assert!(rt; front(&active) == class, "place {place}, {wakes}");
+        assert!(rt;
+            front_place(&active) == place_in_front,
+            "place {place}, {wakes}"
+        );
+        assert!(rt; active.count() == 2, "place {place}, {wakes}");
+    }
     Ok(())
 }

@@ -1,54 +1,105 @@
 //! One queue of packets.
-use q_codel::{Fifo, Limit, Losses};
+use q_codel::{Fifo, Limit, Loss, Losses};
 use q_packet::{Cause, Ecn, FlowKey, Moment, Packet, Stamped};
+use std::alloc::Global;
 use std::test::Fail;
 
+// Calls by helpers without an `ensures`, so that no test works out what they give and what the queue holds.
+fn packet(number: u64, len: u16) -> Option<Packet> {
+    Packet::new(0, number, 0, len, FlowKey::zero(), 0, 0, Ecn::NotEct)
+}
+
+fn moment(ns: u64) -> Option<Moment> {
+    Moment::new(ns)
+}
+
 fn stamped(number: u64, len: u16) -> Result<Stamped, Fail> {
-    let packet = Packet::new(0, number, 0, len, FlowKey::zero(), 0, 0, Ecn::NotEct);
-    Ok(Stamped {
-        packet: packet.ok_or("a packet in range")?,
-        at: Moment::new(number).ok_or("a moment in range")?,
-    })
+    let packet = packet(number, len).ok_or("a packet in range")?;
+    let at = moment(number).ok_or("a moment in range")?;
+    Ok(Stamped { packet, at })
+}
+
+fn put(queue: &mut Fifo, stamped: Stamped) -> Result<bool, Fail> {
+    queue.reserve()?;
+    let packet = stamped.packet;
+    let fits = queue.fits(packet.len);
+    if fits {
+        queue.put(stamped);
+    }
+    Ok(fits)
+}
+
+fn take(queue: &mut Fifo) -> Option<Stamped> {
+    queue.take()
+}
+
+fn set_limit(queue: &mut Fifo, limit: Limit) {
+    queue.set_limit(limit);
+}
+
+fn fits(queue: &Fifo, len: u16) -> bool {
+    queue.fits(len)
+}
+
+// How many packets it has, their bytes, and the one in front.
+fn held(queue: &Fifo) -> (u64, u64, Option<Stamped>) {
+    (queue.count(), queue.bytes(), queue.head())
+}
+
+// What it loses where it is purged with room for so many.
+fn purge(alloc: Global, queue: &mut Fifo, room: usize) -> Result<Losses, Fail> {
+    let mut losses = Losses::new(alloc);
+    losses.reserve(room)?;
+    if queue.count() > losses.room() {
+        return Err("room".into());
+    }
+    queue.purge(&mut losses);
+    Ok(losses)
+}
+
+fn reap(losses: &mut Losses) -> Option<Loss> {
+    losses.reap()
 }
 
 #[test]
 fn limits_in_packets_and_in_bytes(rt: HostRuntime) {
     let mut queue = Fifo::new(rt.alloc(), Limit::Packets(1));
-    assert!(rt; queue.fits(65535));
-    queue.set_limit(Limit::Packets(0));
-    assert!(rt; !queue.fits(1));
-    queue.set_limit(Limit::Bytes(100));
-    assert!(rt; queue.fits(100));
-    assert!(rt; !queue.fits(101));
-    assert_eq!(rt; queue.limit(), Limit::Bytes(100));
+    assert!(rt; fits(&queue, 65535));
+    for (limit, len, is_fit) in [
+        (Limit::Packets(0), 1, false),
+        (Limit::Bytes(100), 100, true),
+        (Limit::Bytes(100), 101, false),
+    ] {
+        set_limit(&mut queue, limit);
+        assert!(rt; fits(&queue, len) == is_fit, "{len} bytes");
+        assert!(rt; queue.limit() == limit);
+    }
 }
 
 #[test]
 fn packets_leave_in_order(rt: HostRuntime) -> Result<(), Fail> {
     let mut queue = Fifo::new(rt.alloc(), Limit::Bytes(1000));
     for number in 1..6 {
-        let packet = stamped(number, 200)?;
-        queue.reserve()?;
-        assert!(rt; queue.fits(packet.packet.len));
-        queue.put(packet);
+        assert!(rt; put(&mut queue, stamped(number, 200)?)?, "packet {number}");
     }
-    assert!(rt; !queue.fits(1));
-    assert_eq!(rt; (queue.count(), queue.bytes()), (5, 1000));
-    assert_eq!(rt; queue.head(), Some(stamped(1, 200)?));
-    assert_eq!(rt; queue.take(), Some(stamped(1, 200)?));
-    assert_eq!(rt; queue.take(), Some(stamped(2, 200)?));
+    assert!(rt; !fits(&queue, 1));
+    let first = stamped(1, 200)?;
+    assert!(rt; held(&queue) == (5, 1000, Some(first)));
+    assert!(rt; take(&mut queue) == Some(first));
+    assert!(rt; take(&mut queue) == Some(stamped(2, 200)?));
 
-    queue.set_limit(Limit::Packets(1));
-    assert_eq!(rt; (queue.count(), queue.bytes()), (3, 600));
-    let mut losses = Losses::new(rt.alloc());
-    losses.reserve(3)?;
-    assert!(rt; queue.count() <= losses.room());
-    queue.purge(&mut losses);
-    assert_eq!(rt; (queue.count(), queue.bytes(), queue.head()), (0, 0, None));
+    set_limit(&mut queue, Limit::Packets(1));
+    assert!(rt; held(&queue) == (3, 600, Some(stamped(3, 200)?)));
+    let mut losses = purge(rt.alloc(), &mut queue, 3)?;
+    assert!(rt; held(&queue) == (0, 0, None));
     for number in 3..6 {
-        let loss = losses.reap().ok_or("a loss")?;
-        assert_eq!(rt; loss.packet, stamped(number, 200)?.packet);
-        assert_eq!(rt; loss.cause, Cause::Purged);
+        let loss = reap(&mut losses).ok_or("a loss")?;
+        let packet = loss.packet;
+        let lost = stamped(number, 200)?;
+        assert!(rt;
+            packet == lost.packet && loss.cause == Cause::Purged,
+            "packet {number}"
+        );
     }
     Ok(())
 }

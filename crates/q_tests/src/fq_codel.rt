@@ -3,81 +3,203 @@ use q_codel::Losses;
 use q_fqcodel::{FqCodel, Settings};
 use q_packet::{Cause, Ecn, FlowKey, Moment, Packet};
 use std::alloc::Global;
-use std::process::Abort;
 use std::test::Fail;
 
 const MS: u64 = 1_000_000;
 
-// The packet with this number, length, hash and codepoint.
+// A call, and what it has to answer. Moments are in nanoseconds, lengths in bytes.
+#[derive(Clone, Copy)]
+enum Call {
+    // The length and the hash of a packet that is put at moment 0, and whether it is itself lost. Packets are numbered from 1.
+    Put(u16, u32, bool),
+    // Ten packets of 1000 bytes with this codepoint are put in flow 0.
+    PutTen(Ecn),
+    // The number of the packet that is sent unmarked at moment 0; 0 where none is.
+    Take(u64),
+    // The moment of a take, the number of the packet that is sent, 0 where none is, and whether it is marked.
+    TakeAt(u64, u64, bool),
+    // The number of the packet that was lost first of those that wait to be reaped, and why.
+    Lost(u64, Cause),
+    // How many losses wait.
+    Losses(u64),
+    // The packets in all flows, and their bytes.
+    Queued(u64, u64),
+    Purge,
+    // The limit and the quantum from then on.
+    Change(u32, u32),
+}
+
 fn packet(number: u64, len: u16, hash: u32, ecn: Ecn) -> Result<Packet, Fail> {
-    Ok(Packet::new(0, number, 0, len, FlowKey::zero(), hash, 0, ecn).ok_or("packet")?)
+    let packet = Packet::new(0, number, 0, len, FlowKey::zero(), hash, 0, ecn);
+    Ok(packet.ok_or("a packet in range")?)
 }
 
-// Puts a packet at moment 0, and says whether it is itself lost.
-fn put(
-    fq: &mut FqCodel,
-    losses: &mut Losses,
-    number: u64,
-    len: u16,
-    hash: u32,
-) -> Result<bool, Fail> {
-    put_with(fq, losses, packet(number, len, hash, Ecn::NotEct)?)
+fn moment(ns: u64) -> Result<Moment, Fail> {
+    Ok(Moment::new(ns).ok_or("a moment in range")?)
 }
 
-fn put_with(fq: &mut FqCodel, losses: &mut Losses, packet: Packet) -> Result<bool, Fail> {
-    fq.reserve()?;
-    let settings = fq.settings();
-    losses.reserve(settings.drop_batch as usize)?;
-    Ok(fq.put(packet, Moment::zero(), losses))
+// An fq_codel under test, with its losses, and how many packets were put.
+#[derive(Drop)]
+struct Bench {
+    fq: FqCodel,
+    losses: Losses,
+    puts: u64,
 }
 
-// The number of the packet that is sent at this moment, and whether it was marked; number 0 where none is.
-fn take(fq: &mut FqCodel, losses: &mut Losses, ns: u64) -> Result<(u64, bool), Fail> {
-    let (packets, _) = fq.queued();
-    losses.reserve(packets as usize)?;
-    match fq.take(Moment::new(ns).ok_or("moment")?, losses) {
-        Some(taken) => {
-            let packet = taken.packet;
-            Ok((packet.number, taken.marked))
+// No function here has an `ensures`, so that no test works out what is queued.
+impl Bench {
+    fn new(alloc: Global, settings: Settings) -> Result<Bench, Fail> {
+        Ok(Bench {
+            fq: FqCodel::new(alloc, settings)?,
+            losses: Losses::new(alloc),
+            puts: 0,
+        })
+    }
+
+    // Puts a packet at moment 0, and says whether it is itself lost.
+    fn put(&mut self, len: u16, hash: u32, ecn: Ecn) -> Result<bool, Fail> {
+        self.puts = self.puts.saturating_add(1);
+        let packet = packet(self.puts, len, hash, ecn)?;
+        let fq = &mut self.fq;
+        let losses = &mut self.losses;
+        fq.reserve()?;
+        let settings = fq.settings();
+        losses.reserve(settings.drop_batch as usize)?;
+        Ok(fq.put(packet, Moment::zero(), losses))
+    }
+
+    fn put_ten(&mut self, ecn: Ecn) -> Result<bool, Fail> {
+        for _ in 0..10 {
+            if self.put(1000, 0, ecn)? {
+                return Ok(false);
+            }
         }
-        None => Ok((0, false)),
+        Ok(true)
     }
-}
 
-// Takes at moment 0, once for each number that is to be sent.
-fn takes(
-    rt: &impl Abort,
-    fq: &mut FqCodel,
-    losses: &mut Losses,
-    numbers: &[u64],
-) -> Result<(), Fail> {
-    for number in numbers {
-        let sent = take(fq, losses, 0)?;
-        assert_eq!(rt; sent.0, *number);
+    // The number of the packet that is sent at this moment, and whether it was marked; number 0 where none is.
+    fn take(&mut self, ns: u64) -> Result<(u64, bool), Fail> {
+        let fq = &mut self.fq;
+        let losses = &mut self.losses;
+        let (packets, _) = fq.queued();
+        losses.reserve(packets as usize)?;
+        match fq.take(moment(ns)?, losses) {
+            Some(taken) => {
+                let packet = taken.packet;
+                Ok((packet.number, taken.marked))
+            }
+            None => Ok((0, false)),
+        }
     }
-    Ok(())
-}
 
-// Reaps a loss of each of these packets, and no other.
-fn reaps(rt: &impl Abort, losses: &mut Losses, numbers: &[u64], cause: Cause) -> Result<(), Fail> {
-    for number in numbers {
-        let loss = losses.reap().ok_or("a loss")?;
-        let packet = loss.packet;
-        assert_eq!(rt; packet.number, *number);
-        assert!(rt; loss.cause == cause);
+    fn gives(&mut self, ns: u64, number: u64, marked: bool) -> Result<bool, Fail> {
+        let (sent, is_marked) = self.take(ns)?;
+        Ok(sent == number && is_marked == marked)
     }
-    assert_eq!(rt; losses.count(), 0);
-    Ok(())
-}
 
-// The default settings but for the limit and the batch.
-fn limited(limit: u32, drop_batch: u32) -> Settings {
-    let mut settings = Settings::defaults(1500);
-    if limit >= 1 && drop_batch >= 1 && drop_batch <= 65536 {
+    fn has_lost(&mut self, number: u64, cause: Cause) -> bool {
+        match self.losses.reap() {
+            Some(loss) => {
+                let packet = loss.packet;
+                packet.number == number && loss.cause == cause
+            }
+            None => false,
+        }
+    }
+
+    fn purge(&mut self) -> Result<(), Fail> {
+        let fq = &mut self.fq;
+        let losses = &mut self.losses;
+        let (packets, _) = fq.queued();
+        losses.reserve(packets as usize)?;
+        fq.purge(losses);
+        Ok(())
+    }
+
+    fn change(&mut self, limit: u32, quantum: u32) -> bool {
+        let mut settings = self.fq.settings();
+        if limit < 1 || quantum < 1 {
+            return false;
+        }
         settings.limit = limit;
-        settings.drop_batch = drop_batch;
+        settings.quantum = quantum;
+        self.fq.change(settings);
+        true
     }
-    settings
+
+    // Whether a call answers as it has to.
+    fn answers(&mut self, call: Call) -> Result<bool, Fail> {
+        match call {
+            Call::Put(len, hash, is_lost) => Ok(self.put(len, hash, Ecn::NotEct)? == is_lost),
+            Call::PutTen(ecn) => self.put_ten(ecn),
+            Call::Take(number) => self.gives(0, number, false),
+            Call::TakeAt(ns, number, marked) => self.gives(ns, number, marked),
+            Call::Lost(number, cause) => Ok(self.has_lost(number, cause)),
+            Call::Losses(count) => Ok(self.losses.count() == count),
+            Call::Queued(packets, bytes) => Ok(self.fq.queued() == (packets, bytes)),
+            Call::Purge => {
+                self.purge()?;
+                Ok(true)
+            }
+            Call::Change(limit, quantum) => Ok(self.change(limit, quantum)),
+        }
+    }
+
+    // Fails at the first call that does not answer as it has to.
+    fn play(&mut self, calls: &[Call]) -> Result<(), Fail> {
+        for (nth, call) in calls.iter().enumerate() {
+            if !self.answers(*call)? {
+                return Err(Fail::new(format_args!("call {nth} of the table")));
+            }
+        }
+        Ok(())
+    }
+}
+
+// The settings that the tests choose.
+#[derive(Clone, Copy)]
+struct Counts {
+    limit: u32,
+    flows: u32,
+    quantum: u32,
+    drop_batch: u32,
+}
+
+// As the default settings have them.
+const USUAL: Counts = Counts {
+    limit: 10_240,
+    flows: 1024,
+    quantum: 1514,
+    drop_batch: 1,
+};
+
+fn limited(limit: u32, drop_batch: u32) -> Counts {
+    Counts {
+        limit,
+        drop_batch,
+        ..USUAL
+    }
+}
+
+// The default settings but for these.
+fn settings_with(counts: Counts) -> Option<Settings> {
+    let usual = Settings::defaults(1500);
+    Settings::new(
+        counts.limit,
+        counts.flows,
+        counts.quantum,
+        usual.target,
+        usual.interval,
+        usual.ecn,
+        counts.drop_batch,
+        usual.mtu,
+    )
+}
+
+// Plays these calls on an fq_codel without packets.
+fn play(alloc: Global, counts: Counts, calls: &[Call]) -> Result<(), Fail> {
+    let settings = settings_with(counts).ok_or("settings in range")?;
+    Bench::new(alloc, settings)?.play(calls)
 }
 
 // Settings of 0 but for these, in the order of the fields from `limit` to `interval`, then `drop_batch` and `mtu`.
@@ -90,222 +212,277 @@ fn is_in_range(counts: (u32, u32, u32), times: (u64, u64), drop_batch: u32, mtu:
 
 #[test]
 fn settings_are_in_range(rt: HostRuntime) {
+    assert!(rt; settings_with(USUAL) == Some(Settings::defaults(1500)));
     let most: u64 = 1_000_000_000_000;
-    assert!(rt; is_in_range((1, 1, 1), (0, 1000), 1, 1));
-    assert!(rt; is_in_range((u32::MAX, 65536, u32::MAX), (most, most), 65536, u16::MAX));
-    let beyond = [
-        ((0, 1, 1), (0, 1000), 1, 1),
-        ((1, 0, 1), (0, 1000), 1, 1),
-        ((1, 65537, 1), (0, 1000), 1, 1),
-        ((1, 1, 0), (0, 1000), 1, 1),
-        ((1, 1, 1), (most + 1, 1000), 1, 1),
-        ((1, 1, 1), (0, 999), 1, 1),
-        ((1, 1, 1), (0, most + 1), 1, 1),
-        ((1, 1, 1), (0, 1000), 0, 1),
-        ((1, 1, 1), (0, 1000), 65537, 1),
-        ((1, 1, 1), (0, 1000), 1, 0),
+    let rows = [
+        ((1, 1, 1), (0, 1000), 1, 1, true),
+        (
+            (u32::MAX, 65536, u32::MAX),
+            (most, most),
+            65536,
+            u16::MAX,
+            true,
+        ),
+        ((0, 1, 1), (0, 1000), 1, 1, false),
+        ((1, 0, 1), (0, 1000), 1, 1, false),
+        ((1, 65537, 1), (0, 1000), 1, 1, false),
+        ((1, 1, 0), (0, 1000), 1, 1, false),
+        ((1, 1, 1), (most + 1, 1000), 1, 1, false),
+        ((1, 1, 1), (0, 999), 1, 1, false),
+        ((1, 1, 1), (0, most + 1), 1, 1, false),
+        ((1, 1, 1), (0, 1000), 0, 1, false),
+        ((1, 1, 1), (0, 1000), 65537, 1, false),
+        ((1, 1, 1), (0, 1000), 1, 0, false),
     ];
-    for (counts, times, drop_batch, mtu) in beyond.as_slice() {
-        assert!(rt; !is_in_range(*counts, *times, *drop_batch, *mtu));
+    for (counts, times, drop_batch, mtu, is_fit) in rows {
+        assert!(rt; is_in_range(counts, times, drop_batch, mtu) == is_fit);
     }
-}
-
-// Puts packets of these lengths and hashes at moment 0, numbered from `number`; each answers whether it is itself lost.
-fn puts(
-    rt: &impl Abort,
-    fq: &mut FqCodel,
-    losses: &mut Losses,
-    mut number: u64,
-    packets: &[(u16, u32, bool)],
-) -> Result<(), Fail> {
-    for (len, hash, is_lost) in packets {
-        assert_eq!(rt; put(fq, losses, number, *len, *hash)?, *is_lost);
-        number = number.saturating_add(1);
-    }
-    Ok(())
-}
-
-// What is sent of these packets, in order, and what the fat flow loses.
-fn row(
-    rt: &impl Abort,
-    alloc: Global,
-    settings: Settings,
-    packets: &[(u16, u32, bool)],
-    sent: &[u64],
-    lost: &[u64],
-) -> Result<(), Fail> {
-    let mut losses = Losses::new(alloc);
-    let mut fq = FqCodel::new(alloc, settings)?;
-    puts(rt, &mut fq, &mut losses, 1, packets)?;
-    takes(rt, &mut fq, &mut losses, sent)?;
-    reaps(rt, &mut losses, lost, Cause::FatFlow)
 }
 
 // Flow 1 is sent its packet before flow 0 its third: flow 0 has used up its first quantum of 1514 bytes.
 #[test]
 fn flows_share_by_quanta(rt: HostRuntime) -> Result<(), Fail> {
-    let packets = [
-        (1000, 0, false),
-        (1000, 0, false),
-        (1000, 0, false),
-        (100, 1, false),
-    ];
-    row(
-        &rt,
+    play(
         rt.alloc(),
-        Settings::defaults(1500),
-        &packets,
-        &[1, 2, 4, 3, 0],
-        &[],
+        USUAL,
+        &[
+            Call::Put(1000, 0, false),
+            Call::Put(1000, 0, false),
+            Call::Put(1000, 0, false),
+            Call::Put(100, 1, false),
+            Call::Take(1),
+            Call::Take(2),
+            Call::Take(4),
+            Call::Take(3),
+            Call::Take(0),
+            Call::Losses(0),
+        ],
     )
 }
 
 // With a quantum of 1000 flow 0 has none left after its first packet. The last take finds both lists empty.
 #[test]
 fn a_quantum_of_1000(rt: HostRuntime) -> Result<(), Fail> {
-    let mut settings = Settings::defaults(1500);
-    settings.quantum = 1000;
-    let packets = [(1000, 0, false), (1000, 0, false), (100, 1, false)];
-    row(&rt, rt.alloc(), settings, &packets, &[1, 3, 2, 0, 0], &[])
+    play(
+        rt.alloc(),
+        Counts {
+            quantum: 1000,
+            ..USUAL
+        },
+        &[
+            Call::Put(1000, 0, false),
+            Call::Put(1000, 0, false),
+            Call::Put(100, 1, false),
+            Call::Take(1),
+            Call::Take(3),
+            Call::Take(2),
+            Call::Take(0),
+            Call::Take(0),
+            Call::Losses(0),
+        ],
+    )
 }
 
 // Many rounds pass in one take, where a quantum is a byte; and there is a flow for each hash of 16 bits.
 #[test]
 fn a_quantum_of_1_and_65536_flows(rt: HostRuntime) -> Result<(), Fail> {
-    let mut settings = Settings::defaults(1500);
-    settings.quantum = 1;
-    settings.flows = 65536;
-    let packets = [
-        (100, 65535, false),
-        (100, 65535, false),
-        (40, 0, false),
-        (1, 65536, false),
-    ];
-    row(&rt, rt.alloc(), settings, &packets, &[1, 3, 4, 2, 0], &[])
+    play(
+        rt.alloc(),
+        Counts {
+            flows: 65536,
+            quantum: 1,
+            ..USUAL
+        },
+        &[
+            Call::Put(100, 65535, false),
+            Call::Put(100, 65535, false),
+            Call::Put(40, 0, false),
+            Call::Put(1, 65536, false),
+            Call::Take(1),
+            Call::Take(3),
+            Call::Take(4),
+            Call::Take(2),
+            Call::Take(0),
+            Call::Losses(0),
+        ],
+    )
 }
 
 #[test]
 fn the_fat_flow_loses_its_first_packet(rt: HostRuntime) -> Result<(), Fail> {
-    let packets = [(100, 0, false), (200, 0, false)];
-    row(&rt, rt.alloc(), limited(1, 1), &packets, &[2, 0], &[1])
+    play(
+        rt.alloc(),
+        limited(1, 1),
+        &[
+            Call::Put(100, 0, false),
+            Call::Put(200, 0, false),
+            Call::Take(2),
+            Call::Take(0),
+            Call::Lost(1, Cause::FatFlow),
+            Call::Losses(0),
+        ],
+    )
 }
 
 // Flows 3 and 7 have 300 bytes each: flow 3 is the fat one.
 #[test]
 fn a_tie_is_broken_to_the_lower_index(rt: HostRuntime) -> Result<(), Fail> {
-    let packets = [(300, 7, false), (100, 3, false), (200, 3, false)];
-    row(&rt, rt.alloc(), limited(2, 1), &packets, &[1, 3, 0], &[2])
+    play(
+        rt.alloc(),
+        limited(2, 1),
+        &[
+            Call::Put(300, 7, false),
+            Call::Put(100, 3, false),
+            Call::Put(200, 3, false),
+            Call::Take(1),
+            Call::Take(3),
+            Call::Take(0),
+            Call::Lost(2, Cause::FatFlow),
+            Call::Losses(0),
+        ],
+    )
 }
 
 #[test]
 fn a_batch_is_lost_at_once(rt: HostRuntime) -> Result<(), Fail> {
-    let packets = [
-        (500, 0, false),
-        (500, 0, false),
-        (500, 0, false),
-        (100, 1, false),
-    ];
-    row(
-        &rt,
+    play(
         rt.alloc(),
         limited(3, 2),
-        &packets,
-        &[3, 4, 0],
-        &[1, 2],
+        &[
+            Call::Put(500, 0, false),
+            Call::Put(500, 0, false),
+            Call::Put(500, 0, false),
+            Call::Put(100, 1, false),
+            Call::Take(3),
+            Call::Take(4),
+            Call::Take(0),
+            Call::Lost(1, Cause::FatFlow),
+            Call::Lost(2, Cause::FatFlow),
+            Call::Losses(0),
+        ],
     )
 }
 
 #[test]
 fn a_batch_leaves_one_packet(rt: HostRuntime) -> Result<(), Fail> {
-    let packets = [(100, 0, false), (200, 0, false)];
-    row(&rt, rt.alloc(), limited(1, 10), &packets, &[2, 0], &[1])
+    play(
+        rt.alloc(),
+        limited(1, 10),
+        &[
+            Call::Put(100, 0, false),
+            Call::Put(200, 0, false),
+            Call::Take(2),
+            Call::Take(0),
+            Call::Lost(1, Cause::FatFlow),
+            Call::Losses(0),
+        ],
+    )
 }
 
 // The fat flow is the newcomer's, and is lost whole.
 #[test]
 fn a_batch_may_take_the_newcomer(rt: HostRuntime) -> Result<(), Fail> {
-    let packets = [(50, 0, false), (100, 1, false), (100, 1, true)];
-    row(&rt, rt.alloc(), limited(2, 3), &packets, &[1, 0], &[2, 3])
+    play(
+        rt.alloc(),
+        limited(2, 3),
+        &[
+            Call::Put(50, 0, false),
+            Call::Put(100, 1, false),
+            Call::Put(100, 1, true),
+            Call::Take(1),
+            Call::Take(0),
+            Call::Lost(2, Cause::FatFlow),
+            Call::Lost(3, Cause::FatFlow),
+            Call::Losses(0),
+        ],
+    )
 }
-
-// Ten packets of 1000 bytes that arrive at moment 0 in flow 0.
-fn ten(fq: &mut FqCodel, losses: &mut Losses, ecn: Ecn) -> Result<(), Fail> {
-    for number in 1..11u64 {
-        put_with(fq, losses, packet(number, 1000, 0, ecn)?)?;
-    }
-    Ok(())
-}
-
-// The moments of the takes that CoDel's rows make.
-const MOMENTS: [u64; 8] = [
-    10 * MS,
-    110 * MS,
-    210 * MS,
-    280_710_677,
-    280_710_678,
-    338_445_704,
-    338_445_704,
-    338_445_704,
-];
 
 #[test]
 fn codel_drops_within_a_flow(rt: HostRuntime) -> Result<(), Fail> {
-    let mut losses = Losses::new(rt.alloc());
-    let mut fq = FqCodel::new(rt.alloc(), Settings::defaults(1500))?;
-    ten(&mut fq, &mut losses, Ecn::NotEct)?;
-    let sent = [1, 3, 5, 6, 8, 9, 10, 0];
-    for (number, at) in sent.iter().zip(MOMENTS.as_slice()) {
-        assert_eq!(rt; take(&mut fq, &mut losses, *at)?, (*number, false));
-    }
-    reaps(&rt, &mut losses, &[2, 4, 7], Cause::CoDel)
+    play(
+        rt.alloc(),
+        USUAL,
+        &[
+            Call::PutTen(Ecn::NotEct),
+            Call::TakeAt(10 * MS, 1, false),
+            Call::TakeAt(110 * MS, 3, false),
+            Call::TakeAt(210 * MS, 5, false),
+            Call::TakeAt(280_710_677, 6, false),
+            Call::TakeAt(280_710_678, 8, false),
+            Call::TakeAt(338_445_704, 9, false),
+            Call::TakeAt(338_445_704, 10, false),
+            Call::TakeAt(338_445_704, 0, false),
+            Call::Lost(2, Cause::CoDel),
+            Call::Lost(4, Cause::CoDel),
+            Call::Lost(7, Cause::CoDel),
+            Call::Losses(0),
+        ],
+    )
 }
 
 #[test]
 fn codel_marks_within_a_flow(rt: HostRuntime) -> Result<(), Fail> {
-    let mut losses = Losses::new(rt.alloc());
-    let mut fq = FqCodel::new(rt.alloc(), Settings::defaults(1500))?;
-    ten(&mut fq, &mut losses, Ecn::Ect0)?;
-    let marked = [false, true, true, false, true, true, false, false];
-    let mut number = 0u64;
-    for (mark, at) in marked.iter().zip(MOMENTS.as_slice()) {
-        number = number.saturating_add(1);
-        assert_eq!(rt; take(&mut fq, &mut losses, *at)?, (number, *mark));
-    }
-    let (packets, bytes) = fq.queued();
-    assert_eq!(rt; packets, 2);
-    assert_eq!(rt; bytes, 2000);
-    reaps(&rt, &mut losses, &[], Cause::CoDel)
+    play(
+        rt.alloc(),
+        USUAL,
+        &[
+            Call::PutTen(Ecn::Ect0),
+            Call::TakeAt(10 * MS, 1, false),
+            Call::TakeAt(110 * MS, 2, true),
+            Call::TakeAt(210 * MS, 3, true),
+            Call::TakeAt(280_710_677, 4, false),
+            Call::TakeAt(280_710_678, 5, true),
+            Call::TakeAt(338_445_704, 6, true),
+            Call::TakeAt(338_445_704, 7, false),
+            Call::TakeAt(338_445_704, 8, false),
+            Call::Queued(2, 2000),
+            Call::Losses(0),
+        ],
+    )
 }
 
 #[test]
 fn a_purge_takes_flow_by_flow(rt: HostRuntime) -> Result<(), Fail> {
-    let mut losses = Losses::new(rt.alloc());
-    let mut fq = FqCodel::new(rt.alloc(), Settings::defaults(1500))?;
-    let packets = [(100, 5, false), (100, 2, false), (100, 5, false)];
-    puts(&rt, &mut fq, &mut losses, 1, &packets)?;
-    let (queued, bytes) = fq.queued();
-    assert_eq!(rt; bytes, 300);
-    losses.reserve(queued as usize)?;
-    fq.purge(&mut losses);
-    reaps(&rt, &mut losses, &[2, 1, 3], Cause::Purged)?;
-    puts(&rt, &mut fq, &mut losses, 4, &[(100, 5, false)])?;
-    takes(&rt, &mut fq, &mut losses, &[4, 0])
+    play(
+        rt.alloc(),
+        USUAL,
+        &[
+            Call::Put(100, 5, false),
+            Call::Put(100, 2, false),
+            Call::Put(100, 5, false),
+            Call::Queued(3, 300),
+            Call::Purge,
+            Call::Lost(2, Cause::Purged),
+            Call::Lost(1, Cause::Purged),
+            Call::Lost(3, Cause::Purged),
+            Call::Losses(0),
+            Call::Put(100, 5, false),
+            Call::Take(4),
+            Call::Take(0),
+        ],
+    )
 }
 
 // A smaller limit loses nothing; the next put loses one packet, though the flows hold three too many.
 #[test]
 fn a_change_loses_nothing(rt: HostRuntime) -> Result<(), Fail> {
-    let mut losses = Losses::new(rt.alloc());
-    let mut settings = Settings::defaults(1500);
-    let mut fq = FqCodel::new(rt.alloc(), settings)?;
-    let packets = [(100, 0, false), (100, 0, false), (100, 0, false)];
-    puts(&rt, &mut fq, &mut losses, 1, &packets)?;
-    settings.limit = 1;
-    settings.quantum = 2000;
-    let now = fq.settings();
-    assert!(rt; now.flows == settings.flows && now.mtu == settings.mtu);
-    fq.change(settings);
-    puts(&rt, &mut fq, &mut losses, 4, &[(100, 1, false)])?;
-    reaps(&rt, &mut losses, &[1], Cause::FatFlow)?;
-    takes(&rt, &mut fq, &mut losses, &[2, 3, 4, 0])
+    play(
+        rt.alloc(),
+        USUAL,
+        &[
+            Call::Put(100, 0, false),
+            Call::Put(100, 0, false),
+            Call::Put(100, 0, false),
+            Call::Change(1, 2000),
+            Call::Losses(0),
+            Call::Put(100, 1, false),
+            Call::Lost(1, Cause::FatFlow),
+            Call::Losses(0),
+            Call::Take(2),
+            Call::Take(3),
+            Call::Take(4),
+            Call::Take(0),
+        ],
+    )
 }

@@ -109,6 +109,16 @@ impl Twins {
         self.plain.purge(&mut self.plain_lost)
     }
 
+    // The call that a word says: 609 of 1024 put a packet, 407 take one, 7 change the settings and one purges.
+    fn call(&mut self, rt: &impl Abort, number: u64, word: u64, now: Moment) -> Result<(), Fail> {
+        match word % 1024 {
+            0 => self.purge(),
+            1..=7 => self.change(word >> 10),
+            8..=616 => self.put(rt, packet_of(number, word)?, now),
+            _ => self.take(rt, now),
+        }
+    }
+
     // Both have as many packets and bytes, and have lost the same packets in the same order.
     fn compare(&mut self, rt: &impl Abort) {
         let (packets, bytes) = self.fast.queued();
@@ -130,23 +140,33 @@ impl Twins {
     }
 }
 
-/// The packet that a word says: most are of few flows.
-fn packet_of(number: u64, word: u64) -> Result<Packet, Fail> {
-    let len = 60 + ((word >> 10) % 1454) as u16;
-    // Below a power of two, which is at most 65536.
+fn length_of(word: u64) -> u16 {
+    60 + ((word >> 10) % 1454) as u16
+}
+
+// Below a power of two, which is at most 65536.
+fn hash_of(word: u64) -> u32 {
     let most = (1u32 << ((word >> 24) % 17)).saturating_sub(1);
-    let hash = ((word >> 30) % 65536) as u32 & most;
-    let ecn = if (word >> 29) % 2 == 0 {
+    ((word >> 30) % 65536) as u32 & most
+}
+
+fn codepoint_of(word: u64) -> Ecn {
+    if (word >> 29) % 2 == 0 {
         Ecn::Ect0
     } else {
         Ecn::NotEct
-    };
-    Ok(Packet::new(0, number, 0, len, FlowKey::zero(), hash, 0, ecn).ok_or("packet")?)
+    }
 }
 
-/// Makes the calls of the word sequence: 609 of 1024 put a packet, 407 take one, 7 change the settings and one purges.
-fn play(rt: &impl Abort, alloc: Global, flows: u32, drop_batch: u32) -> Result<(), Fail> {
-    let settings = Settings::new(
+/// The packet that a word says: most are of few flows.
+fn packet_of(number: u64, word: u64) -> Result<Packet, Fail> {
+    let (len, hash, ecn) = (length_of(word), hash_of(word), codepoint_of(word));
+    let packet = Packet::new(0, number, 0, len, FlowKey::zero(), hash, 0, ecn);
+    Ok(packet.ok_or("packet")?)
+}
+
+fn settings_with(flows: u32, drop_batch: u32) -> Option<Settings> {
+    Settings::new(
         200,
         flows,
         1514,
@@ -156,7 +176,11 @@ fn play(rt: &impl Abort, alloc: Global, flows: u32, drop_batch: u32) -> Result<(
         drop_batch,
         1514,
     )
-    .ok_or("settings")?;
+}
+
+/// Makes the calls of the word sequence.
+fn play(rt: &impl Abort, alloc: Global, flows: u32, drop_batch: u32) -> Result<(), Fail> {
+    let settings = settings_with(flows, drop_batch).ok_or("settings")?;
     let mut twins = Twins::new(alloc, settings)?;
     let mut words = Words::new();
     let mut ns = 0u64;
@@ -164,12 +188,7 @@ fn play(rt: &impl Abort, alloc: Global, flows: u32, drop_batch: u32) -> Result<(
         let word = words.next();
         ns = ns.saturating_add((word >> 40) % 2_000_000);
         let now = Moment::new(ns).ok_or("moment")?;
-        match word % 1024 {
-            0 => twins.purge()?,
-            1..=7 => twins.change(word >> 10)?,
-            8..=616 => twins.put(rt, packet_of(number, word)?, now)?,
-            _ => twins.take(rt, now)?,
-        }
+        twins.call(rt, number, word, now)?;
         twins.compare(rt);
     }
     // What the calls are to try has come about.

@@ -1,20 +1,37 @@
 //! Packet descriptors, keys and hashes.
 use crate::fnv::Fnv1a;
 use q_packet::{Cause, Ecn, FlowHash, FlowKey, Moment, OneAtATime, Packet, one_at_a_time};
+use std::alloc::{AllocError, Global};
 use std::test::Fail;
 
+// Each helper here is without an `ensures`, so that no test works out what its calls give.
+fn nanoseconds(ns: u64) -> Option<u64> {
+    Some(Moment::new(ns)?.ns())
+}
+
 #[test]
-fn moments_end_at_two_to_the_62(rt: HostRuntime) -> Result<(), Fail> {
-    assert_eq!(rt; Moment::new(0).ok_or("zero")?.ns(), 0);
-    assert_eq!(rt; Moment::new(1 << 62).ok_or("latest")?.ns(), 1 << 62);
-    assert_eq!(rt; Moment::new((1 << 62) + 1), None);
-    assert_eq!(rt; Moment::new(u64::MAX), None);
-    Ok(())
+fn moments_end_at_two_to_the_62(rt: HostRuntime) {
+    for (ns, there) in [
+        (0, true),
+        (1 << 62, true),
+        ((1 << 62) + 1, false),
+        (u64::MAX, false),
+    ] {
+        assert!(rt; nanoseconds(ns) == there.then_some(ns), "{ns} ns");
+    }
+}
+
+fn is_in_range(len: u16, prio: u8) -> bool {
+    Packet::new(0, 1, 2, len, FlowKey::zero(), 3, prio, Ecn::NotEct).is_some()
+}
+
+fn highest() -> Option<Packet> {
+    let (key, most) = (FlowKey::zero(), u32::MAX);
+    Packet::new(most, u64::MAX, most, 1, key, most, 15, Ecn::Ce)
 }
 
 #[test]
 fn lengths_and_priorities_are_in_range(rt: HostRuntime) -> Result<(), Fail> {
-    let key = FlowKey::zero();
     for (len, prio, there) in [
         (0, 0, false),
         (1, 0, true),
@@ -22,17 +39,24 @@ fn lengths_and_priorities_are_in_range(rt: HostRuntime) -> Result<(), Fail> {
         (1, 16, false),
         (1, u8::MAX, false),
     ] {
-        let packet = Packet::new(0, 1, 2, len, key, 3, prio, Ecn::NotEct);
-        assert_eq!(rt; packet.is_some(), there, "{len} bytes of priority {prio}");
+        assert!(rt;
+            is_in_range(len, prio) == there,
+            "{len} bytes of priority {prio}"
+        );
     }
-    let packet = Packet::new(u32::MAX, u64::MAX, u32::MAX, 1, key, u32::MAX, 15, Ecn::Ce);
-    let packet = packet.ok_or("a packet in range")?;
+    let packet = highest().ok_or("a packet in range")?;
     assert_eq!(rt;
         (packet.port, packet.number, packet.buf),
         (u32::MAX, u64::MAX, u32::MAX)
     );
     assert_eq!(rt; (packet.len, packet.hash, packet.prio), (1, u32::MAX, 15));
     Ok(())
+}
+
+// The codepoint of a traffic byte, and its bits.
+fn codepoint(traffic: u8) -> (Ecn, u8) {
+    let ecn = Ecn::from_bits(traffic);
+    (ecn, ecn.bits())
 }
 
 #[test]
@@ -45,9 +69,15 @@ fn codepoints_are_the_low_two_bits(rt: HostRuntime) {
         (0xb8, Ecn::NotEct),
         (0xff, Ecn::Ce),
     ] {
-        assert_eq!(rt; Ecn::from_bits(traffic), ecn, "traffic byte {traffic}");
-        assert_eq!(rt; ecn.bits(), traffic % 4);
+        assert!(rt;
+            codepoint(traffic) == (ecn, traffic % 4),
+            "traffic byte {traffic}"
+        );
     }
+}
+
+fn shown(alloc: Global, cause: Cause) -> Result<String, AllocError> {
+    format!(in alloc; "{cause}")
 }
 
 #[test]
@@ -60,44 +90,50 @@ fn causes_are_shown_by_name(rt: HostRuntime) -> Result<(), Fail> {
         (Cause::FatFlow, "FatFlow", false),
         (Cause::Purged, "Purged", false),
     ] {
-        let shown = format!(in rt.alloc(); "{cause}")?;
-        assert_eq!(rt; shown.as_str(), name);
-        assert_eq!(rt; cause.is_refusal(), refuses, "{cause}");
+        assert_eq!(rt; shown(rt.alloc(), cause)?.as_str(), name);
+        assert!(rt; cause.is_refusal() == refuses, "{name}");
     }
     Ok(())
 }
 
+// The family, the protocol, the source, the destination and the two ports.
+type Fields = (u8, u8, u128, u128, u16, u16);
+
+fn key_of((family, proto, src, dst, sport, dport): Fields) -> Option<FlowKey> {
+    FlowKey::new(family, proto, src, dst, sport, dport)
+}
+
+fn key_bytes(fields: Fields) -> Option<[u8; 38]> {
+    Some(key_of(fields)?.bytes())
+}
+
 #[test]
-fn keys_have_three_families(rt: HostRuntime) -> Result<(), Fail> {
-    assert_eq!(rt; FlowKey::new(0, 0, 0, 0, 0, 0), Some(FlowKey::zero()));
+fn keys_have_three_families(rt: HostRuntime) {
+    assert!(rt; key_of((0, 0, 0, 0, 0, 0)) == Some(FlowKey::zero()));
     let widest = u128::from(u32::MAX);
-    assert!(rt; FlowKey::new(4, u8::MAX, widest, widest, u16::MAX, u16::MAX).is_some());
-    assert_eq!(rt; FlowKey::new(4, 0, widest + 1, 0, 0, 0), None);
-    assert_eq!(rt; FlowKey::new(4, 0, 0, widest + 1, 0, 0), None);
+    assert!(rt; key_of((4, u8::MAX, widest, widest, u16::MAX, u16::MAX)).is_some());
+    assert!(rt; key_of((4, 0, widest + 1, 0, 0, 0)).is_none());
+    assert!(rt; key_of((4, 0, 0, widest + 1, 0, 0)).is_none());
     for family in [1, 3, 5, 7, u8::MAX] {
-        assert_eq!(rt;
-            FlowKey::new(family, 0, 0, 0, 0, 0),
-            None,
+        assert!(rt;
+            key_of((family, 0, 0, 0, 0, 0)).is_none(),
             "family {family}"
         );
     }
-    let key = FlowKey::new(6, u8::MAX, u128::MAX, u128::MAX, u16::MAX, u16::MAX).ok_or("family 6")?;
+    let highest = (6, u8::MAX, u128::MAX, u128::MAX, u16::MAX, u16::MAX);
     let mut all = [255; 38];
     all[0] = 6;
-    assert_eq!(rt; key.bytes(), all);
-    Ok(())
+    assert!(rt; key_bytes(highest) == Some(all));
 }
 
 #[test]
-fn bytes_are_the_fields_in_order(rt: HostRuntime) -> Result<(), Fail> {
-    let key = FlowKey::new(4, 17, 0x0a00_0001, 0x0a00_0002, 53, 0x1234).ok_or("family 4")?;
+fn bytes_are_the_fields_in_order(rt: HostRuntime) {
     let bytes = b"\x04\x11\
         \0\0\0\0\0\0\0\0\0\0\0\0\x0a\x00\x00\x01\
         \0\0\0\0\0\0\0\0\0\0\0\0\x0a\x00\x00\x02\
         \x00\x35\x12\x34";
-    assert_eq!(rt; key.bytes(), *bytes);
-    assert_eq!(rt; FlowKey::zero().bytes(), [0; 38]);
-    Ok(())
+    assert!(rt; key_bytes((4, 17, 0x0a00_0001, 0x0a00_0002, 53, 0x1234)) == Some(*bytes));
+    assert!(rt; key_bytes((0, 0, 0, 0, 0, 0)) == Some([0; 38]));
 }
 
 // The queue of a flow among 1024, as fq_codel finds it.
@@ -119,7 +155,7 @@ fn hashes_bytes_and_keys(rt: HostRuntime) -> Result<(), Fail> {
     // What another program's FNV-1a gives for the 38 bytes of two keys.
     assert_eq!(rt; Fnv1a.hash(&key), 0xf5df_9a1d);
     assert_eq!(rt; queue_of(&Fnv1a, &key), 0xf5df_9a1d % 1024);
-    let key = FlowKey::new(4, 17, 0x0a00_0001, 0x0a00_0002, 53, 0x1234).ok_or("family 4")?;
+    let key = key_of((4, 17, 0x0a00_0001, 0x0a00_0002, 53, 0x1234)).ok_or("family 4")?;
     assert_eq!(rt; Fnv1a.hash(&key), 0x1f20_c41e);
     Ok(())
 }

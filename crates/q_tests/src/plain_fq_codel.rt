@@ -135,9 +135,15 @@ impl PlainFqCodel {
 
     /// The packets in all flows, and their bytes. Only listed flows have any.
     pub fn queued(&self) -> (u64, u64) {
+        let (new, new_bytes) = self.queued_in(&self.new_flows);
+        let (old, old_bytes) = self.queued_in(&self.old_flows);
+        (new.saturating_add(old), new_bytes.saturating_add(old_bytes))
+    }
+
+    fn queued_in(&self, list: &VecDeque<Entry>) -> (u64, u64) {
         let mut packets = 0u64;
         let mut bytes = 0u64;
-        for entry in self.new_flows.iter().chain(self.old_flows.iter()) {
+        for entry in list.iter() {
             if let Some(flow) = self.flows.get(entry.flow as usize) {
                 packets = packets.saturating_add(flow.queue.count());
                 bytes = bytes.saturating_add(flow.queue.bytes());
@@ -148,9 +154,13 @@ impl PlainFqCodel {
 
     // The flow with the most bytes, of equals that with the lower index.
     fn fattest(&self) -> u32 {
-        let mut fat = 0u32;
-        let mut most = 0u64;
-        for entry in self.new_flows.iter().chain(self.old_flows.iter()) {
+        let fat = self.fattest_in(&self.new_flows, (0, 0));
+        self.fattest_in(&self.old_flows, fat).0
+    }
+
+    // The same of a list, or a flow outside of it with its bytes where that is fatter.
+    fn fattest_in(&self, list: &VecDeque<Entry>, (mut fat, mut most): (u32, u64)) -> (u32, u64) {
+        for entry in list.iter() {
             if let Some(flow) = self.flows.get(entry.flow as usize) {
                 let bytes = flow.queue.bytes();
                 if bytes > most || (bytes == most && entry.flow < fat) {
@@ -159,7 +169,7 @@ impl PlainFqCodel {
                 }
             }
         }
-        fat
+        (fat, most)
     }
 
     fn flow(&mut self, index: u32) -> Result<&mut Flow, Fail> {
@@ -193,7 +203,11 @@ impl Flow {
         if self.queue.count() == 0 {
             return Ok(None);
         }
-        losses.reserve(self.queue.count() as usize)?;
+        let count = self.queue.count();
+        losses.reserve(count as usize)?;
+        if count > losses.room() {
+            return Err("room".into());
+        }
         Ok(self.codel.take(&mut self.queue, now, losses))
     }
 }
@@ -208,5 +222,10 @@ fn codel_of(settings: Settings) -> Codel {
 }
 
 fn is_listed(list: &VecDeque<Entry>, flow: u32) -> bool {
-    list.iter().any(|entry| entry.flow == flow)
+    for entry in list.iter() {
+        if entry.flow == flow {
+            return true;
+        }
+    }
+    false
 }
