@@ -2,120 +2,13 @@
 ghost use Rattle.std.specs.Prelude.{◌+◌, ◌-◌, ◌≤◌, length, OnOk};
 ghost use Rattle.q_model.specs.Beneath.{beneath};
 
+use crate::lines::{self, New, Spot};
 use q_codel::Losses;
-use q_model::{
-    Burst, ClassId, Fate, Filter, FilterKeys, FilterPrio, FqCodelOptions, Handle, Kind, Minor,
-    Place, PrioOptions, Protocol, Quantum, Rate, Refusal, TbfLimit,
-};
-use q_packet::{Ecn, FlowKey, Moment, Packet};
+use q_model::{ClassId, Command, Fate, Filter, FilterPrio, Handle, Kind, Place, Quantum, Refusal};
+use q_packet::{Moment, Packet};
 use q_tree::Tree;
 use std::alloc::Global;
 use std::test::Fail;
-
-/// A place of the tree: the class by its major and minor number.
-#[derive(Clone, Copy, Debug)]
-pub enum Spot {
-    Top,
-    Root,
-    Class(u16, u16),
-}
-
-impl Spot {
-    pub fn place(self) -> Result<Place, Fail> {
-        match self {
-            Spot::Top => Ok(Place::Top),
-            Spot::Root => Ok(Place::Root),
-            Spot::Class(major, minor) => Ok(Place::Class(class(major, minor)?)),
-        }
-    }
-}
-
-/// A qdisc to make.
-#[derive(Clone, Copy, Debug)]
-pub enum New {
-    Pfifo,
-    // The limit in packets.
-    Packets(u32),
-    // So many bands; a priority has the band of its number, or the last.
-    Prio(u8),
-    // The limit in bytes.
-    Bfifo(u32),
-    // The limit in packets; there is one flow.
-    FqCodel(u32),
-    // So many flows.
-    Flows(u32),
-    // The burst; the rate is 1 mbit a second, and the limit 10,000 bytes.
-    Tbf(u32),
-    // The rate in bits a second and the burst; the limit is 1,000,000 bytes.
-    Shaper(u64, u32),
-    // It has no classes yet.
-    Drr,
-}
-
-impl New {
-    pub fn kind(self) -> Result<Kind, Fail> {
-        match self {
-            New::Pfifo => Ok(Kind::Pfifo { limit: None }),
-            New::Packets(limit) => Ok(Kind::Pfifo { limit: Some(limit) }),
-            New::Bfifo(bytes) => Ok(Kind::Bfifo { limit: Some(bytes) }),
-            New::FqCodel(limit) => Ok(Kind::FqCodel(fq_codel(Some(limit), 1)?)),
-            New::Flows(count) => Ok(Kind::FqCodel(fq_codel(None, count)?)),
-            New::Prio(bands) => Ok(Kind::Prio(prio(bands)?)),
-            New::Drr => Ok(Kind::Drr),
-            New::Tbf(burst) => tbf(1_000_000, burst, 10_000),
-            New::Shaper(rate, burst) => tbf(rate, burst, 1_000_000),
-        }
-    }
-}
-
-fn tbf(rate: u64, burst: u32, limit: u32) -> Result<Kind, Fail> {
-    let rate = Rate::new(rate).ok_or("rate")?;
-    let burst = Burst::new(burst).ok_or("burst")?;
-    let limit = TbfLimit::Bytes(limit);
-    Ok(Kind::Tbf { rate, burst, limit })
-}
-
-fn prio(bands: u8) -> Result<PrioOptions, Fail> {
-    let mut priomap = [0; 16];
-    for (i, band) in priomap.iter_mut().enumerate() {
-        *band = (i as u8).min(bands.saturating_sub(1));
-    }
-    Ok(PrioOptions::new(bands, priomap).ok_or("prio")?)
-}
-
-fn fq_codel(limit: Option<u32>, flows: u32) -> Result<FqCodelOptions, Fail> {
-    let options = FqCodelOptions::new(limit, Some(flows), None, None, None, None, None);
-    Ok(options.ok_or("fq_codel")?)
-}
-
-/// The packet with this number, length and priority, which is the number of its IP protocol and its hash too.
-pub fn packet(number: u64, len: u16, prio: u8) -> Result<Packet, Fail> {
-    let key = FlowKey::new(4, prio, 0, 0, 0, 0).ok_or("key")?;
-    Ok(Packet::new(0, number, 0, len, key, u32::from(prio), prio, Ecn::NotEct).ok_or("packet")?)
-}
-
-/// The class with these numbers.
-pub fn class(major: u16, minor: u16) -> Result<ClassId, Fail> {
-    let major = Handle::new(major).ok_or("major")?;
-    let minor = Minor::new(minor).ok_or("minor")?;
-    Ok(ClassId { major, minor })
-}
-
-/// A filter for every packet, into the class 1.
-pub fn every_packet() -> Result<Filter, Fail> {
-    Ok(Filter {
-        prio: FilterPrio::new(1).ok_or("prio")?,
-        protocol: Protocol::All,
-        keys: FilterKeys {
-            ip_proto: None,
-            src_ip: None,
-            dst_ip: None,
-            src_port: None,
-            dst_port: None,
-        },
-        minor: Minor::new(1).ok_or("minor")?,
-    })
-}
 
 /// A call, and what it has to answer.
 #[derive(Clone, Copy, Debug)]
@@ -148,6 +41,10 @@ pub enum Call {
     At(u64),
     // The packets that arrived, were sent, refused and dropped, and that are queued.
     Counts(Spot, [u64; 5]),
+    // Their bytes.
+    Bytes(Spot, [u64; 5]),
+    // The totals are what the top counted.
+    Totals,
     // How far on in the order of show, where, and the handle; 0 for an implicit leaf.
     Shown(usize, Spot, u16),
     // How many nodes there are.
@@ -156,8 +53,47 @@ pub enum Call {
     Losses(u64),
 }
 
-/// Makes room for every packet that may be lost, and one more.
-pub fn make_room(tree: &Tree, losses: &mut Losses) -> Result<(), Fail>
+impl Call {
+    // The command that the call is.
+    fn command(self) -> Result<Command, Fail> {
+        match self {
+            Call::Graft(spot, major, new, _) => lines::graft(spot, major, new),
+            Call::Change(major, new, _) => lines::change(None, major, new),
+            Call::Prune(major, _) => lines::prune(None, major),
+            Call::Filter(minor, _) => lines::add_filter(1, (1, minor), None),
+            Call::Match(major, minor, proto, _) => {
+                lines::add_filter(major, (major, minor), Some(proto))
+            }
+            Call::Unfilter(major, _) => lines::del_filters(major, 1),
+            Call::AddClass(major, minor, quantum, _) => {
+                lines::add_class(major, (major, minor), quantum)
+            }
+            Call::ChangeClass(major, minor, quantum, _) => {
+                lines::change_class(0, (major, minor), quantum)
+            }
+            Call::DelClass(major, minor, _) => lines::del_class(0, (major, minor)),
+            _ => Err(Fail::from("no command")),
+        }
+    }
+
+    // How the command has to be refused, if it has to be.
+    fn refusal(self) -> Option<Refusal> {
+        match self {
+            Call::Graft(_, _, _, refusal) => refusal,
+            Call::Change(_, _, refusal) => refusal,
+            Call::Prune(_, refusal) | Call::Filter(_, refusal) | Call::Unfilter(_, refusal) => {
+                refusal
+            }
+            Call::Match(_, _, _, refusal) => refusal,
+            Call::AddClass(_, _, _, refusal) | Call::ChangeClass(_, _, _, refusal) => refusal,
+            Call::DelClass(_, _, refusal) => refusal,
+            _ => None,
+        }
+    }
+}
+
+// Makes room for every packet that may be lost, and one more.
+fn make_room(tree: &Tree, losses: &mut Losses) -> Result<(), Fail>
     ensures { OnOk result (length (beneath tree.now.tree.root) + 1 ≤ losses.new.places - length losses.new.waiting) }
 {
     let row = tree.totals();
@@ -177,134 +113,145 @@ fn later(tree: &Tree, now: Moment) -> Moment
 /// A tree under test, with what it lost.
 #[derive(Drop)]
 pub struct Bench {
-    pub tree: Tree,
-    pub losses: Losses,
+    tree: Tree,
+    losses: Losses,
     // The moment of the calls to come.
     now: Moment,
-    every_packet: Filter,
 }
 
 impl Bench {
-    // A pfifo of 100 packets, of at most 1500 bytes each.
-    pub fn new(alloc: Global) -> Result<Bench, Fail> {
-        Ok(Bench {
-            tree: Tree::new(alloc, 1500, 100),
+    /// A pfifo of so many packets, of at most 1500 bytes each.
+    pub fn new(alloc: Global, limit: u32) -> Bench {
+        Bench {
+            tree: Tree::new(alloc, 1500, limit),
             losses: Losses::new(alloc),
             now: Moment::zero(),
-            every_packet: every_packet()?,
-        })
+        }
     }
 
     fn graft(
         &mut self,
         alloc: Global,
         place: Place,
-        major: u16,
+        handle: Option<Handle>,
         kind: Kind,
     ) -> Result<Option<Refusal>, Fail> {
         let tree = &mut self.tree;
         let now = later(tree, self.now);
         make_room(tree, &mut self.losses)?;
-        let handle = Handle::new(major);
         let answer = tree.graft(alloc, place, handle, kind, now, &mut self.losses);
         Ok(answer.err())
     }
 
-    fn change(&mut self, alloc: Global, major: u16, kind: Kind) -> Result<Option<Refusal>, Fail> {
+    fn change(
+        &mut self,
+        alloc: Global,
+        place: Option<Place>,
+        handle: Option<Handle>,
+        kind: Kind,
+    ) -> Result<Option<Refusal>, Fail> {
         let tree = &mut self.tree;
         let now = later(tree, self.now);
         make_room(tree, &mut self.losses)?;
-        let handle = Handle::new(major);
-        let answer = tree.change(alloc, None, handle, kind, now, &mut self.losses);
+        let answer = tree.change(alloc, place, handle, kind, now, &mut self.losses);
         Ok(answer.err())
     }
 
-    // Puts a qdisc of this kind into a place, or changes the one with the handle where no place is given.
-    fn set(
+    fn prune(
         &mut self,
         alloc: Global,
         place: Option<Place>,
-        major: u16,
-        kind: Kind,
+        handle: Option<Handle>,
     ) -> Result<Option<Refusal>, Fail> {
-        match place {
-            Some(place) => self.graft(alloc, place, major, kind),
-            None => self.change(alloc, major, kind),
-        }
-    }
-
-    fn make(
-        &mut self,
-        alloc: Global,
-        place: Option<Place>,
-        major: u16,
-        new: New,
-    ) -> Result<Option<Refusal>, Fail> {
-        match new.kind() {
-            Ok(kind) => self.set(alloc, place, major, kind),
-            Err(refused) => Err(refused),
-        }
-    }
-
-    fn prune(&mut self, alloc: Global, major: u16) -> Result<Option<Refusal>, Fail> {
         let tree = &mut self.tree;
         make_room(tree, &mut self.losses)?;
-        let answer = tree.prune(alloc, None, Handle::new(major), &mut self.losses);
-        Ok(answer.err())
-    }
-
-    fn filter(&mut self, minor: u16) -> Result<Option<Refusal>, Fail> {
-        let one = Handle::new(1).ok_or("handle")?;
-        let mut filter = self.every_packet;
-        filter.minor = Minor::new(minor).ok_or("minor")?;
-        let answer = self.tree.filter_add(one, one, filter);
-        Ok(answer.err())
-    }
-
-    fn filter_protocol(
-        &mut self,
-        major: u16,
-        minor: u16,
-        proto: u8,
-    ) -> Result<Option<Refusal>, Fail> {
-        let class = class(major, minor)?;
-        let mut filter = self.every_packet;
-        filter.keys.ip_proto = Some(proto);
-        filter.minor = class.minor;
-        let answer = self.tree.filter_add(class.major, class.major, filter);
-        Ok(answer.err())
-    }
-
-    fn unfilter(&mut self, major: u16) -> Result<Option<Refusal>, Fail> {
-        let parent = Handle::new(major).ok_or("handle")?;
-        let answer = self.tree.filter_del(parent, self.every_packet.prio);
+        let answer = tree.prune(alloc, place, handle, &mut self.losses);
         Ok(answer.err())
     }
 
     fn add_class(
         &mut self,
         alloc: Global,
+        parent: Handle,
         class: ClassId,
-        quantum: u32,
+        quantum: Option<Quantum>,
+    ) -> Option<Refusal> {
+        self.tree.class_add(alloc, parent, class, quantum).err()
+    }
+
+    fn change_class(
+        &mut self,
+        parent: Option<Handle>,
+        class: ClassId,
+        quantum: Option<Quantum>,
+    ) -> Option<Refusal> {
+        self.tree.class_change(parent, class, quantum).err()
+    }
+
+    fn del_class(
+        &mut self,
+        parent: Option<Handle>,
+        class: ClassId,
     ) -> Result<Option<Refusal>, Fail> {
-        let quantum = Quantum::new(quantum);
-        let answer = self.tree.class_add(alloc, class.major, class, quantum);
-        Ok(answer.err())
-    }
-
-    fn change_class(&mut self, class: ClassId, quantum: u32) -> Result<Option<Refusal>, Fail> {
-        let quantum = Quantum::new(quantum);
-        let answer = self.tree.class_change(None, class, quantum);
-        Ok(answer.err())
-    }
-
-    fn del_class(&mut self, class: ClassId) -> Result<Option<Refusal>, Fail> {
         let tree = &mut self.tree;
         make_room(tree, &mut self.losses)?;
-        let answer = tree.class_del(None, class, &mut self.losses);
+        let answer = tree.class_del(parent, class, &mut self.losses);
         Ok(answer.err())
     }
 
+    /// What is answered where a filter is added.
+    pub fn add_filter(&mut self, parent: Handle, major: Handle, filter: Filter) -> Option<Refusal> {
+        self.tree.filter_add(parent, major, filter).err()
+    }
+
+    fn del_filters(&mut self, parent: Handle, prio: FilterPrio) -> Option<Refusal> {
+        self.tree.filter_del(parent, prio).err()
+    }
+
+    /// What is answered by the call that is for such commands alone.
+    pub fn call(&mut self, alloc: Global, command: Command) -> Result<Option<Refusal>, Fail> {
+        match command {
+            Command::QdiscAdd {
+                place,
+                handle,
+                kind,
+            } => self.graft(alloc, place, handle, kind),
+            Command::QdiscChange {
+                place,
+                handle,
+                kind,
+            } => self.change(alloc, place, handle, kind),
+            Command::QdiscDel { place, handle } => self.prune(alloc, place, handle),
+            Command::ClassAdd {
+                parent,
+                class,
+                quantum,
+            } => Ok(self.add_class(alloc, parent, class, quantum)),
+            Command::ClassChange {
+                parent,
+                class,
+                quantum,
+            } => Ok(self.change_class(parent, class, quantum)),
+            Command::ClassDel { parent, class } => self.del_class(parent, class),
+            Command::FilterAdd {
+                parent,
+                major,
+                filter,
+            } => Ok(self.add_filter(parent, major, filter)),
+            Command::FilterDel { parent, prio } => Ok(self.del_filters(parent, prio)),
+        }
+    }
+
+    /// What is answered by the call that is for every command.
+    pub fn command(&mut self, alloc: Global, command: Command) -> Result<Option<Refusal>, Fail> {
+        let tree = &mut self.tree;
+        let now = later(tree, self.now);
+        make_room(tree, &mut self.losses)?;
+        let answer = tree.command(alloc, command, now, &mut self.losses);
+        Ok(answer.err())
+    }
+
+    /// What becomes of a packet.
     pub fn put(&mut self, packet: Packet) -> Result<Fate, Fail> {
         let tree = &mut self.tree;
         let now = later(tree, self.now);
@@ -336,7 +283,8 @@ impl Bench {
         }
     }
 
-    pub fn counts(&self, place: Place) -> [u64; 5] {
+    // The packets that a place counted; the most there can be where none stands there.
+    fn counts(&self, place: Place) -> [u64; 5] {
         match self.tree.stats(place) {
             Some(row) => [
                 row.arrived.packets,
@@ -349,54 +297,91 @@ impl Bench {
         }
     }
 
-    // Whether a qdisc with this handle stands here, and comes so far on in the order of show; the handle is 0 for an implicit leaf.
-    fn is_shown(&self, i: usize, place: Place, major: u16) -> bool {
-        let Some(node) = self.tree.node(i) else {
-            return false;
-        };
-        node.place == place && node.handle == Handle::new(major)
-    }
-
-    // Whether a call answers as it has to.
-    pub fn answers(&mut self, alloc: Global, call: Call) -> Result<bool, Fail> {
-        match call {
-            Call::Graft(spot, major, new, refusal) => {
-                Ok(self.make(alloc, Some(spot.place()?), major, new)? == refusal)
-            }
-            Call::Change(major, new, refusal) => Ok(self.make(alloc, None, major, new)? == refusal),
-            Call::Prune(major, refusal) => Ok(self.prune(alloc, major)? == refusal),
-            Call::Filter(minor, refusal) => Ok(self.filter(minor)? == refusal),
-            Call::Match(major, minor, proto, refusal) => {
-                Ok(self.filter_protocol(major, minor, proto)? == refusal)
-            }
-            Call::Unfilter(major, refusal) => Ok(self.unfilter(major)? == refusal),
-            Call::AddClass(major, minor, quantum, refusal) => {
-                Ok(self.add_class(alloc, class(major, minor)?, quantum)? == refusal)
-            }
-            Call::ChangeClass(major, minor, quantum, refusal) => {
-                Ok(self.change_class(class(major, minor)?, quantum)? == refusal)
-            }
-            Call::DelClass(major, minor, refusal) => {
-                Ok(self.del_class(class(major, minor)?)? == refusal)
-            }
-            Call::Put(number, len, prio, fate) => Ok(self.put(packet(number, len, prio)?)? == fate),
-            Call::Take(number) => Ok(self.peek()? == number && self.take()? == number),
-            Call::Peek(number) => Ok(self.peek()? == number),
-            Call::At(ns) => {
-                self.now = Moment::new(ns).ok_or("moment")?;
-                Ok(true)
-            }
-            Call::Counts(spot, counts) => Ok(self.counts(spot.place()?) == counts),
-            Call::Shown(i, spot, major) => Ok(self.is_shown(i, spot.place()?, major)),
-            Call::Nodes(count) => Ok(
-                self.tree.node(count).is_none()
-                    && self.tree.node(count.saturating_sub(1)).is_some(),
-            ),
-            Call::Losses(count) => Ok(self.losses.count() == count),
+    // Their bytes.
+    fn bytes(&self, place: Place) -> [u64; 5] {
+        match self.tree.stats(place) {
+            Some(row) => [
+                row.arrived.bytes,
+                row.sent.bytes,
+                row.refused.bytes,
+                row.dropped.bytes,
+                row.queued.bytes,
+            ],
+            None => [u64::MAX; 5],
         }
     }
 
-    // Fails at the first call that does not answer as it has to.
+    fn has_bytes(&self, spot: Spot, bytes: [u64; 5]) -> Result<bool, Fail> {
+        Ok(self.bytes(spot.place()?) == bytes)
+    }
+
+    fn has_totals(&self) -> bool {
+        self.tree.stats(Place::Top) == Some(self.tree.totals())
+    }
+
+    /// Whether a place has these counts.
+    pub fn has_counts(&self, spot: Spot, counts: [u64; 5]) -> Result<bool, Fail> {
+        Ok(self.counts(spot.place()?) == counts)
+    }
+
+    // Whether a qdisc with this handle stands here, and comes so far on in the order of show; the handle is 0 for an implicit leaf.
+    fn is_shown(&self, i: usize, spot: Spot, major: u16) -> Result<bool, Fail> {
+        let place = spot.place()?;
+        match self.tree.node(i) {
+            Some(node) => Ok(node.place == place && node.handle == Handle::new(major)),
+            None => Ok(false),
+        }
+    }
+
+    fn has_nodes(&self, count: usize) -> bool {
+        self.tree.node(count).is_none() && self.tree.node(count.saturating_sub(1)).is_some()
+    }
+
+    // Whether a command is done, or refused as it has to be.
+    fn is_done(&mut self, alloc: Global, call: Call) -> Result<bool, Fail> {
+        match call.command() {
+            Ok(command) => Ok(self.call(alloc, command)? == call.refusal()),
+            Err(failed) => Err(failed),
+        }
+    }
+
+    fn is_put(&mut self, packet: Result<Packet, Fail>, fate: Fate) -> Result<bool, Fail> {
+        match packet {
+            Ok(packet) => Ok(self.put(packet)? == fate),
+            Err(failed) => Err(failed),
+        }
+    }
+
+    // Whether a take gives the packet of this number, and a peek showed it.
+    fn is_taken(&mut self, number: u64) -> Result<bool, Fail> {
+        Ok(self.peek()? == number && self.take()? == number)
+    }
+
+    fn wait_until(&mut self, ns: u64) -> Result<bool, Fail> {
+        self.now = lines::at(ns)?;
+        Ok(true)
+    }
+
+    /// Whether a call answers as it has to.
+    pub fn answers(&mut self, alloc: Global, call: Call) -> Result<bool, Fail> {
+        match call {
+            Call::Put(number, len, prio, fate) => {
+                self.is_put(lines::packet(number, len, prio), fate)
+            }
+            Call::Take(number) => self.is_taken(number),
+            Call::Peek(number) => Ok(self.peek()? == number),
+            Call::At(ns) => self.wait_until(ns),
+            Call::Counts(spot, counts) => self.has_counts(spot, counts),
+            Call::Bytes(spot, bytes) => self.has_bytes(spot, bytes),
+            Call::Totals => Ok(self.has_totals()),
+            Call::Shown(i, spot, major) => self.is_shown(i, spot, major),
+            Call::Nodes(count) => Ok(self.has_nodes(count)),
+            Call::Losses(count) => Ok(self.losses.count() == count),
+            _ => self.is_done(alloc, call),
+        }
+    }
+
+    /// FFails at the first call that does not answer as it has to.
     pub fn play(&mut self, alloc: Global, calls: &[Call]) -> Result<(), Fail> {
         for call in calls {
             if !self.answers(alloc, *call)? {
@@ -407,7 +392,12 @@ impl Bench {
     }
 }
 
-/// Plays these calls on a new tree.
+/// Plays these calls on a new tree, whose pfifo has so many packets.
+pub fn play_small(alloc: Global, limit: u32, calls: &[Call]) -> Result<(), Fail> {
+    Bench::new(alloc, limit).play(alloc, calls)
+}
+
+/// Plays these calls on a new tree, whose pfifo has 100 packets.
 pub fn play(alloc: Global, calls: &[Call]) -> Result<(), Fail> {
-    Bench::new(alloc)?.play(alloc, calls)
+    play_small(alloc, 100, calls)
 }

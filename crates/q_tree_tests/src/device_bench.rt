@@ -3,13 +3,13 @@
 //! With ample memory no call is refused for want of it. `rt try --test --fail-alloc N` refuses the Nth allocation of each test,
 //! and the tests pass for every N: an event that was refused has changed nothing that is seen, and the same event with memory is
 //! then answered as it has to be.
-use crate::bench::{New, Spot, class, every_packet, packet};
+use crate::lines::{self, New, Spot, at, packet};
 use q_device::{
     Command, Device, Event, Fate, Place, Polled, Refusal, Reply, Row, Settings, Tree, play,
 };
-use q_model::{ClassView, FilterView, Handle, NodeView, Quantum};
+use q_model::{ClassView, FilterView, NodeView};
 use q_packet::{Cause, Moment};
-use std::alloc::Global;
+use std::alloc::{AllocError, Global};
 use std::test::Fail;
 
 /// What a line of tc asks for.
@@ -37,66 +37,37 @@ impl Ask {
     /// The command of the line.
     pub fn command(self) -> Result<Command, Fail> {
         match self {
-            Ask::Graft(spot, major, new) => graft(spot, major, new),
-            Ask::Change(major, new) => Ok(Command::QdiscChange {
-                place: None,
-                handle: Handle::new(major),
-                kind: new.kind()?,
-            }),
-            Ask::Prune(major) => Ok(Command::QdiscDel {
-                place: None,
-                handle: Handle::new(major),
-            }),
-            Ask::AddClass(major, minor, quantum) => add_class(major, minor, quantum),
-            Ask::ChangeClass(major, minor, quantum) => Ok(Command::ClassChange {
-                parent: None,
-                class: class(major, minor)?,
-                quantum: Quantum::new(quantum),
-            }),
-            Ask::DelClass(major, minor) => Ok(Command::ClassDel {
-                parent: None,
-                class: class(major, minor)?,
-            }),
-            Ask::Match(major, minor, proto) => match_protocol(major, minor, proto),
-            Ask::Unfilter(major) => Ok(Command::FilterDel {
-                parent: Handle::new(major).ok_or("handle")?,
-                prio: every_packet()?.prio,
-            }),
+            Ask::Graft(spot, major, new) => lines::graft(spot, major, new),
+            Ask::Change(major, new) => lines::change(None, major, new),
+            Ask::Prune(major) => lines::prune(None, major),
+            Ask::AddClass(major, minor, quantum) => {
+                lines::add_class(major, (major, minor), quantum)
+            }
+            Ask::ChangeClass(major, minor, quantum) => {
+                lines::change_class(0, (major, minor), quantum)
+            }
+            Ask::DelClass(major, minor) => lines::del_class(0, (major, minor)),
+            Ask::Match(major, minor, proto) => {
+                lines::add_filter(major, (major, minor), Some(proto))
+            }
+            Ask::Unfilter(major) => lines::del_filters(major, 1),
         }
     }
 }
 
-fn graft(spot: Spot, major: u16, new: New) -> Result<Command, Fail> {
-    Ok(Command::QdiscAdd {
-        place: spot.place()?,
-        handle: Handle::new(major),
-        kind: new.kind()?,
-    })
+/// The event that a line is done.
+pub fn command_at(ask: Ask, ns: u64) -> Result<Event, Fail> {
+    Ok(Event::Command(ask.command()?, at(ns)?))
 }
 
-fn add_class(major: u16, minor: u16, quantum: u32) -> Result<Command, Fail> {
-    let class = class(major, minor)?;
-    Ok(Command::ClassAdd {
-        parent: class.major,
-        class,
-        quantum: Quantum::new(quantum),
-    })
+/// The event that the packet with this number, length and priority arrives.
+pub fn arrival_at(number: u64, len: u16, prio: u8, ns: u64) -> Result<Event, Fail> {
+    Ok(Event::Arrive(packet(number, len, prio)?, at(ns)?))
 }
 
-fn match_protocol(major: u16, minor: u16, proto: u8) -> Result<Command, Fail> {
-    let class = class(major, minor)?;
-    let mut filter = every_packet()?;
-    filter.keys.ip_proto = Some(proto);
-    filter.minor = class.minor;
-    Ok(Command::FilterAdd {
-        parent: class.major,
-        major: class.major,
-        filter,
-    })
-}
-
-fn at(ns: u64) -> Result<Moment, Fail> {
-    Ok(Moment::new(ns).ok_or("moment")?)
+/// The event that a packet is asked for.
+pub fn poll_at(ns: u64) -> Result<Event, Fail> {
+    Ok(Event::Poll(at(ns)?))
 }
 
 /// A call, and what it has to answer.
@@ -120,6 +91,8 @@ pub enum Call {
     ReapNone,
     // A place in the recorder, and the line and the moment there.
     Recorded(usize, Ask, u64),
+    // A place in the recorder, and the number, the length, the priority and the moment of the arrival there.
+    RecordedArrival(usize, u64, u16, u8, u64),
     // How many events are recorded, and how many there were.
     Events(usize, u64),
     // The packets that arrived, were sent, refused and dropped, and that are queued.
@@ -129,14 +102,13 @@ pub enum Call {
 impl Call {
     // The event that the call is, if it is one.
     fn event(self) -> Result<Option<Event>, Fail> {
-        match self {
-            Call::Do(ask, ns, _) => Ok(Some(Event::Command(ask.command()?, at(ns)?))),
-            Call::Arrive(number, len, prio, ns, _) => {
-                Ok(Some(Event::Arrive(packet(number, len, prio)?, at(ns)?)))
-            }
-            Call::Poll(ns, _) | Call::Later(ns) => Ok(Some(Event::Poll(at(ns)?))),
-            _ => Ok(None),
-        }
+        let event = match self {
+            Call::Do(ask, ns, _) => command_at(ask, ns),
+            Call::Arrive(number, len, prio, ns, _) => arrival_at(number, len, prio, ns),
+            Call::Poll(ns, _) | Call::Later(ns) => poll_at(ns),
+            _ => return Ok(None),
+        };
+        Ok(Some(event?))
     }
 
     // Whether this reply is what the call has to answer.
@@ -243,28 +215,36 @@ fn reply(device: &mut Device, event: Event) -> Option<Reply> {
     }
 }
 
-/// A device under test.
+// A device under test.
 #[derive(Drop)]
-pub struct Bench {
+struct Bench {
     device: Device,
 }
 
-// A pfifo of 100 packets, of at most 1500 bytes each, with a recorder of three events.
-fn settings() -> Result<Settings, Fail> {
-    Ok(Settings::new(1500, 100, 3).ok_or("settings")?)
+// A pfifo of so many packets, of at most 1500 bytes each, with a recorder of three events.
+fn settings(limit: u32) -> Result<Settings, Fail> {
+    Ok(Settings::new(1500, limit, 3).ok_or("settings")?)
 }
 
-/// Does what a line asks for, before any packet arrives.
-pub fn set_up(device: &mut Device, ask: Ask) -> Result<(), Fail> {
+fn set_up_one(device: &mut Device, ask: Ask) -> Result<(), Fail> {
     match reply(device, Event::Command(ask.command()?, Moment::zero())) {
         Some(Reply::Done(Ok(()))) => Ok(()),
         _ => Err(Fail::from("a line was refused")),
     }
 }
 
+/// Does what these lines ask for, before any packet arrives.
+pub fn set_up(device: &mut Device, lines: &[Ask]) -> Result<(), Fail> {
+    for ask in lines {
+        set_up_one(device, *ask)?;
+    }
+    Ok(())
+}
+
 impl Bench {
-    pub fn new(alloc: Global) -> Result<Bench, Fail> {
-        let settings = settings()?;
+    // A pfifo of so many packets.
+    fn new(alloc: Global, limit: u32) -> Result<Bench, Fail> {
+        let settings = settings(limit)?;
         let device = match Device::open(alloc, settings) {
             Ok(device) => device,
             Err(_) => Device::open(alloc, settings)?,
@@ -288,12 +268,18 @@ impl Bench {
         }
     }
 
-    // Whether the event in this place of the recorder is the command of this line at this moment.
-    fn is_recorded(&self, i: usize, ask: Ask, ns: u64) -> Result<bool, Fail> {
-        let event = Event::Command(ask.command()?, at(ns)?);
+    // Whether the event in this place of the recorder is this one.
+    fn is_recorded(&self, i: usize, event: Event) -> bool {
         match self.device.recorded().get(i) {
-            Some(recorded) => Ok(*recorded == event),
-            None => Ok(false),
+            Some(recorded) => *recorded == event,
+            None => false,
+        }
+    }
+
+    fn has_recorded(&self, i: usize, event: Result<Event, Fail>) -> Result<bool, Fail> {
+        match event {
+            Ok(event) => Ok(self.is_recorded(i, event)),
+            Err(failed) => Err(failed),
         }
     }
 
@@ -327,21 +313,41 @@ impl Bench {
         }
     }
 
+    fn has_counts(&self, spot: Spot, counts: [u64; 5]) -> Result<bool, Fail> {
+        Ok(self.counts(spot.place()?) == counts)
+    }
+
+    fn has_events(&self, recorded: usize, events: u64) -> bool {
+        self.device.recorded().len() == recorded && self.device.events() == events
+    }
+
+    // Whether no packet is given before this nanosecond.
+    fn is_ready_at(&self, ns: u64) -> Result<bool, Fail> {
+        let ready = at(ns)?;
+        Ok(self.device.ready_at() == Some(ready))
+    }
+
+    // Whether the loss that comes next is that of the packet with this number.
+    fn is_reaped(&mut self, number: u64, cause: Cause) -> bool {
+        match self.device.reap() {
+            Some(lost) => lost.packet.number == number && lost.cause == cause,
+            None => false,
+        }
+    }
+
     // Whether a call that is no event answers as it has to.
     fn is_seen(&mut self, call: Call) -> Result<bool, Fail> {
         match call {
-            Call::Reap(number, cause) => match self.device.reap() {
-                Some(lost) => Ok(lost.packet.number == number && lost.cause == cause),
-                None => Ok(false),
-            },
-            Call::Ready(ns) => Ok(self.device.ready_at() == Some(at(ns)?)),
+            Call::Reap(number, cause) => Ok(self.is_reaped(number, cause)),
+            Call::Ready(ns) => self.is_ready_at(ns),
             Call::NeverReady => Ok(self.device.ready_at().is_none()),
             Call::ReapNone => Ok(self.device.reap().is_none()),
-            Call::Recorded(i, ask, ns) => self.is_recorded(i, ask, ns),
-            Call::Events(recorded, events) => {
-                Ok(self.device.recorded().len() == recorded && self.device.events() == events)
+            Call::Recorded(i, ask, ns) => self.has_recorded(i, command_at(ask, ns)),
+            Call::RecordedArrival(i, number, len, prio, ns) => {
+                self.has_recorded(i, arrival_at(number, len, prio, ns))
             }
-            Call::Counts(spot, counts) => Ok(self.counts(spot.place()?) == counts),
+            Call::Events(recorded, events) => Ok(self.has_events(recorded, events)),
+            Call::Counts(spot, counts) => self.has_counts(spot, counts),
             _ => Ok(false),
         }
     }
@@ -357,9 +363,14 @@ impl Bench {
     }
 }
 
-/// Does these calls on a new device.
+/// Does these calls on a new device, whose pfifo has so many packets.
+pub fn called_small(alloc: Global, limit: u32, calls: &[Call]) -> Result<(), Fail> {
+    Bench::new(alloc, limit)?.play(calls)
+}
+
+/// Does these calls on a new device, whose pfifo has 100 packets.
 pub fn called(alloc: Global, calls: &[Call]) -> Result<(), Fail> {
-    Bench::new(alloc)?.play(calls)
+    called_small(alloc, 100, calls)
 }
 
 /// Room for so many items. Where memory is refused it is asked for again.
@@ -377,6 +388,14 @@ pub fn add<E: Copy>(items: &mut Vec<E>, item: E) -> Result<(), Fail> {
     }
     items.push_reserved(item);
     Ok(())
+}
+
+/// One event more.
+pub fn add_event(events: &mut Vec<Event>, event: Result<Event, Fail>) -> Result<(), Fail> {
+    match event {
+        Ok(event) => add(events, event),
+        Err(failed) => Err(failed),
+    }
 }
 
 // The event that a call is, if it is one.
@@ -397,26 +416,43 @@ fn events_of(alloc: Global, calls: &[Call]) -> Result<Vec<Event>, Fail> {
     Ok(events)
 }
 
+// A play that promises nothing: what `play` promises is a whole replay, which would be carried through each proof.
+fn replies_once(
+    alloc: Global,
+    settings: Settings,
+    events: &[Event],
+) -> Result<Vec<Reply>, AllocError> {
+    play(alloc, settings, events)
+}
+
 /// What a play of these events answers. Where memory is refused they are played again.
 pub fn replies(alloc: Global, settings: Settings, events: &[Event]) -> Result<Vec<Reply>, Fail> {
-    match play(alloc, settings, events) {
+    match replies_once(alloc, settings, events) {
         Ok(replies) => Ok(replies),
-        Err(_) => Ok(play(alloc, settings, events)?),
+        Err(_) => Ok(replies_once(alloc, settings, events)?),
     }
 }
 
-/// Plays the events among these calls. A new device answers each of them in turn with the same reply.
-pub fn played(alloc: Global, calls: &[Call]) -> Result<(), Fail> {
-    let events = events_of(alloc, calls)?;
-    let replies = replies(alloc, settings()?, events.as_slice())?;
-    let mut bench = Bench::new(alloc)?;
+fn expect_replies(bench: &mut Bench, events: &[Event], replies: &[Reply]) -> Result<(), Fail> {
     for (event, reply) in events.iter().zip(replies.iter()) {
         if bench.reply(*event)? != *reply {
             return Err(Fail::new(format_args!("{event:?}: {reply:?}")));
         }
     }
-    if replies.len() != events.len() {
-        return Err(Fail::from("one reply an event"));
+    if replies.len() == events.len() {
+        Ok(())
+    } else {
+        Err(Fail::from("one reply an event"))
     }
-    Ok(())
+}
+
+fn replied(alloc: Global, events: &[Event], replies: &[Reply]) -> Result<(), Fail> {
+    expect_replies(&mut Bench::new(alloc, 100)?, events, replies)
+}
+
+/// Plays the events among these calls. A new device answers each of them in turn with the same reply.
+pub fn played(alloc: Global, calls: &[Call]) -> Result<(), Fail> {
+    let events = events_of(alloc, calls)?;
+    let replies = replies(alloc, settings(100)?, events.as_slice())?;
+    replied(alloc, events.as_slice(), replies.as_slice())
 }

@@ -1,6 +1,6 @@
 //! Commands on a device: what is refused, lost and recorded, and what takes memory.
-use crate::bench::{New, Spot};
 use crate::device_bench::{Ask, Call, called, played};
+use crate::lines::{New, Spot};
 use q_device::{Fate, Refusal};
 use q_packet::Cause;
 use std::test::Fail;

@@ -1,7 +1,8 @@
 //! From which moment on a device may give its next packet, as long as nothing arrives and no command comes.
-use crate::bench::{New, Spot};
 use crate::device_bench::{Ask, Call, called};
+use crate::lines::{New, Spot};
 use q_device::Fate;
+use std::alloc::Global;
 use std::test::Fail;
 
 const KEPT: Fate = Fate::Kept;
@@ -162,35 +163,37 @@ fn a_drr_is_ready_later_where_its_front_class_cannot_pay(rt: HostRuntime) -> Res
     )
 }
 
+fn wait_for_both(alloc: Global, outer: u64, inner: u64) -> Result<(), Fail> {
+    called(
+        alloc,
+        &[
+            Call::Do(
+                Ask::Graft(Spot::Root, 1, New::Shaper(outer, 1_500)),
+                0,
+                None,
+            ),
+            Call::Do(
+                Ask::Graft(Spot::Class(1, 1), 2, New::Shaper(inner, 1_500)),
+                0,
+                None,
+            ),
+            Call::Arrive(1, 1_000, 0, 0, KEPT),
+            Call::Arrive(2, 1_000, 0, 0, KEPT),
+            Call::Poll(0, 1),
+            Call::Later(0),
+            Call::Ready(SECOND),
+            Call::Later(SECOND - 1),
+            Call::Poll(SECOND, 2),
+            Call::NeverReady,
+        ],
+    )
+}
+
 // The later of the two moments counts, whichever bucket has it.
 #[test]
 fn of_two_tbfs_the_later_one_decides(rt: HostRuntime) -> Result<(), Fail> {
-    for (outer, inner) in [(8_000, 4_000), (4_000, 8_000)] {
-        called(
-            rt.alloc(),
-            &[
-                Call::Do(
-                    Ask::Graft(Spot::Root, 1, New::Shaper(outer, 1_500)),
-                    0,
-                    None,
-                ),
-                Call::Do(
-                    Ask::Graft(Spot::Class(1, 1), 2, New::Shaper(inner, 1_500)),
-                    0,
-                    None,
-                ),
-                Call::Arrive(1, 1_000, 0, 0, KEPT),
-                Call::Arrive(2, 1_000, 0, 0, KEPT),
-                Call::Poll(0, 1),
-                Call::Later(0),
-                Call::Ready(SECOND),
-                Call::Later(SECOND - 1),
-                Call::Poll(SECOND, 2),
-                Call::NeverReady,
-            ],
-        )?;
-    }
-    Ok(())
+    wait_for_both(rt.alloc(), 8_000, 4_000)?;
+    wait_for_both(rt.alloc(), 4_000, 8_000)
 }
 
 #[test]

@@ -1,10 +1,9 @@
 //! Ten thousand scripts, whose numbers come from a fixed seed: after each poll that gives nothing though something is queued, the next
 //! one goes a nanosecond before the moment that the device tells, and the next one at it. Of 53,480 polls at it 645 give none: what the
 //! moment was told for is not known then of an fq_codel, of a drr's front class, or beneath a tbf over a prio.
-use crate::bench::{New, Spot, packet};
 use crate::device_bench::{Ask, set_up};
+use crate::lines::{New, Spot, at, packet};
 use q_device::{Device, Polled, Settings};
-use q_packet::Moment;
 use std::alloc::Global;
 use std::test::Fail;
 
@@ -53,72 +52,100 @@ struct Script {
     told: Told,
 }
 
-fn at(ns: u64) -> Result<Moment, Fail> {
-    Ok(Moment::new(ns).ok_or("moment")?)
+// Two classes of a drr, each with a filter, over a tbf and an fq_codel.
+fn add_classes(device: &mut Device, major: u16, inner: New) -> Result<(), Fail> {
+    set_up(
+        device,
+        &[
+            Ask::AddClass(major, 1, 700),
+            Ask::AddClass(major, 2, 1_500),
+            Ask::Match(major, 1, 1),
+            Ask::Match(major, 2, 2),
+            Ask::Graft(Spot::Class(major, 1), 7, inner),
+            Ask::Graft(Spot::Class(major, 2), 8, New::Flows(4)),
+        ],
+    )
+}
+
+// Two bands beneath a tbf, over an fq_codel each.
+fn graft_bands(device: &mut Device, outer: New) -> Result<(), Fail> {
+    set_up(
+        device,
+        &[
+            Ask::Graft(Spot::Root, 1, outer),
+            Ask::Graft(Spot::Class(1, 1), 2, New::Prio(2)),
+            Ask::Graft(Spot::Class(2, 1), 3, New::Flows(4)),
+            Ask::Graft(Spot::Class(2, 2), 4, New::Flows(4)),
+        ],
+    )
+}
+
+// A qdisc at the root, one in its first class, and one in the first class of that.
+fn graft_chain(device: &mut Device, chain: [New; 3]) -> Result<(), Fail> {
+    let [first, second, third] = chain;
+    set_up(
+        device,
+        &[
+            Ask::Graft(Spot::Root, 1, first),
+            Ask::Graft(Spot::Class(1, 1), 2, second),
+            Ask::Graft(Spot::Class(2, 1), 3, third),
+        ],
+    )
+}
+
+fn graft_two(device: &mut Device, first: New, second: New) -> Result<(), Fail> {
+    set_up(
+        device,
+        &[
+            Ask::Graft(Spot::Root, 1, first),
+            Ask::Graft(Spot::Class(1, 1), 2, second),
+        ],
+    )
 }
 
 // The trees that the scripts are tried on. In most of them a tbf waits above or beside others.
-fn lines(kind: u64, dice: &mut Dice) -> [Option<Ask>; 8] {
-    let outer = dice.shaper();
-    let inner = dice.shaper();
-    let flows = New::Flows(4);
-    let put = |spot, major, new| Some(Ask::Graft(spot, major, new));
-    let mut lines = [None; 8];
+fn graft(device: &mut Device, kind: u64, outer: New, inner: New) -> Result<(), Fail> {
     match kind {
-        0 => lines[0] = put(Spot::Root, 1, outer),
-        1 => {
-            lines[0] = put(Spot::Root, 1, outer);
-            lines[1] = put(Spot::Class(1, 1), 2, New::Prio(2));
-            lines[2] = put(Spot::Class(2, 1), 3, flows);
-            lines[3] = put(Spot::Class(2, 2), 4, flows);
-        }
-        2 => {
-            lines[0] = put(Spot::Root, 1, New::Prio(2));
-            lines[1] = put(Spot::Class(1, 1), 2, inner);
-            lines[2] = put(Spot::Class(2, 1), 3, flows);
-        }
-        3 => {
-            lines[0] = put(Spot::Root, 1, outer);
-            lines[1] = put(Spot::Class(1, 1), 2, inner);
-        }
-        4 => {
-            lines[0] = put(Spot::Root, 1, outer);
-            lines[1] = put(Spot::Class(1, 1), 2, New::Prio(3));
-            lines[2] = put(Spot::Class(2, 1), 3, inner);
+        0 => set_up(device, &[Ask::Graft(Spot::Root, 1, outer)]),
+        1 => graft_bands(device, outer),
+        2 => graft_chain(device, [New::Prio(2), inner, New::Flows(4)]),
+        3 => graft_two(device, outer, inner),
+        4 => graft_chain(device, [outer, New::Prio(3), inner]),
+        5 => {
+            set_up(device, &[Ask::Graft(Spot::Root, 1, New::Drr)])?;
+            add_classes(device, 1, inner)
         }
         _ => {
-            lines[0] = put(Spot::Root, 1, if kind == 5 { New::Drr } else { outer });
-            let major = if kind == 5 { 1 } else { 2 };
-            if kind != 5 {
-                lines[1] = put(Spot::Class(1, 1), 2, New::Drr);
-            }
-            lines[2] = Some(Ask::AddClass(major, 1, 700));
-            lines[3] = Some(Ask::AddClass(major, 2, 1_500));
-            lines[4] = Some(Ask::Match(major, 1, 1));
-            lines[5] = Some(Ask::Match(major, 2, 2));
-            lines[6] = put(Spot::Class(major, 1), 7, inner);
-            lines[7] = put(Spot::Class(major, 2), 8, flows);
+            graft_two(device, outer, New::Drr)?;
+            add_classes(device, 2, inner)
         }
     }
-    lines
 }
 
 impl Script {
-    fn new(alloc: Global, dice: &mut Dice) -> Result<Script, Fail> {
+    fn new(alloc: Global) -> Result<Script, Fail> {
         let settings = Settings::new(1_500, 100, 0).ok_or("settings")?;
-        let mut device = Device::open(alloc, settings)?;
-        let kind = dice.below(7);
-        for line in lines(kind, dice) {
-            if let Some(ask) = line {
-                set_up(&mut device, ask)?;
-            }
-        }
-        let told = NOTHING_TOLD;
         Ok(Script {
-            device,
+            device: Device::open(alloc, settings)?,
             now: 0,
-            told,
+            told: NOTHING_TOLD,
         })
+    }
+
+    fn graft(&mut self, dice: &mut Dice) -> Result<(), Fail> {
+        let kind = dice.below(7);
+        let outer = dice.shaper();
+        let inner = dice.shaper();
+        graft(&mut self.device, kind, outer, inner)
+    }
+
+    // A tree, and forty steps.
+    fn run(&mut self, dice: &mut Dice) -> Result<(), Fail> {
+        self.graft(dice)?;
+        for number in 0..40 {
+            self.step(number, dice)?;
+        }
+        Ok(())
     }
 
     // What happens next: a packet arrives some time later, or is asked for.
@@ -168,19 +195,23 @@ impl Script {
     }
 }
 
+// What came of one script.
+fn played_once(alloc: Global, dice: &mut Dice) -> Result<Told, Fail> {
+    let mut script = Script::new(alloc)?;
+    script.run(dice)?;
+    Ok(script.told)
+}
+
 // What came of so many scripts, added up.
 fn played(alloc: Global, seed: u64, scripts: u64) -> Result<Told, Fail> {
     let mut dice = Dice(seed);
     let mut all = NOTHING_TOLD;
     for _ in 0..scripts {
-        let mut script = Script::new(alloc, &mut dice)?;
-        for number in 0..40 {
-            script.step(number, &mut dice)?;
-        }
-        all.gave = all.gave.saturating_add(script.told.gave);
-        all.gave_none = all.gave_none.saturating_add(script.told.gave_none);
-        all.broken = all.broken.saturating_add(script.told.broken);
-        all.not_later = all.not_later.saturating_add(script.told.not_later);
+        let told = played_once(alloc, &mut dice)?;
+        all.gave = all.gave.saturating_add(told.gave);
+        all.gave_none = all.gave_none.saturating_add(told.gave_none);
+        all.broken = all.broken.saturating_add(told.broken);
+        all.not_later = all.not_later.saturating_add(told.not_later);
     }
     Ok(all)
 }
@@ -199,20 +230,30 @@ const SEEDS: [(u64, u64, u64); 10] = [
     (10, 5_267, 56),
 ];
 
+fn try_seed(alloc: Global, seed: u64, gave: u64, gave_none: u64) -> Result<(), Fail> {
+    let result = played(alloc, seed, 1_000)?;
+    let wanted = Told {
+        gave,
+        gave_none,
+        broken: 0,
+        not_later: 0,
+    };
+    if result == wanted {
+        Ok(())
+    } else {
+        Err(Fail::new(format_args!("{seed}: {result:?}")))
+    }
+}
+
+fn try_seeds(alloc: Global, seeds: &[(u64, u64, u64)]) -> Result<(), Fail> {
+    for (seed, gave, gave_none) in seeds {
+        try_seed(alloc, *seed, *gave, *gave_none)?;
+    }
+    Ok(())
+}
+
 // No poll before the moment that is told gives a packet or makes it sooner, and no moment that is told is past.
 #[test]
 fn ten_thousand_scripts(rt: HostRuntime) -> Result<(), Fail> {
-    for (seed, gave, gave_none) in SEEDS {
-        let result = played(rt.alloc(), seed, 1_000)?;
-        let wanted = Told {
-            gave,
-            gave_none,
-            broken: 0,
-            not_later: 0,
-        };
-        if result != wanted {
-            return Err(Fail::new(format_args!("{seed}: {result:?}")));
-        }
-    }
-    Ok(())
+    try_seeds(rt.alloc(), &SEEDS)
 }

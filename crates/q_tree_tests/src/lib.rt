@@ -19,6 +19,8 @@ mod device_ready;
 #[cfg(test)]
 mod device_scripts;
 #[cfg(test)]
+mod lines;
+#[cfg(test)]
 mod sharing;
 #[cfg(test)]
 mod tree;

@@ -1,9 +1,8 @@
 //! What a play sends of each class of a drr, and of each flow of an fq_codel, while they stay backlogged: sums of lengths, and
 //! what quanta, deficits and credits make of them. A priority is a class or a flow. And what a tbf sends over each stretch of a play.
-use crate::bench::{New, Spot, packet};
-use crate::device_bench::{Ask, add, replies, room};
+use crate::device_bench::{Ask, add, add_event, arrival_at, command_at, poll_at, replies, room};
+use crate::lines::{New, Spot};
 use q_device::{Event, Polled, Reply, Settings};
-use q_packet::Moment;
 use std::alloc::Global;
 use std::test::Fail;
 
@@ -23,18 +22,30 @@ impl Script {
         })
     }
 
-    fn tc(&mut self, line: Ask) -> Result<(), Fail> {
-        add(
-            &mut self.events,
-            Event::Command(line.command()?, Moment::zero()),
-        )
+    fn tc(&mut self, lines: &[Ask]) -> Result<(), Fail> {
+        for line in lines {
+            add_event(&mut self.events, command_at(*line, 0))?;
+        }
+        Ok(())
     }
 
     // So many packets of a length.
     fn packets(&mut self, count: u64, len: u16, prio: u8) -> Result<(), Fail> {
         for number in 0..count {
-            let packet = packet(number, len, prio)?;
-            add(&mut self.events, Event::Arrive(packet, Moment::zero()))?;
+            add_event(&mut self.events, arrival_at(number, len, prio, 0))?;
+        }
+        Ok(())
+    }
+
+    // What a play of all this answers.
+    fn replies(&self, alloc: Global) -> Result<Vec<Reply>, Fail> {
+        let settings = Settings::new(1514, 100, 0).ok_or("settings")?;
+        replies(alloc, settings, self.events.as_slice())
+    }
+
+    fn add_polls(&mut self, count: usize) -> Result<(), Fail> {
+        for _ in 0..count {
+            add_event(&mut self.events, poll_at(0))?;
         }
         Ok(())
     }
@@ -42,11 +53,8 @@ impl Script {
     // The bytes of priority 1 and of priority 2 that so many further polls give.
     fn polls(&mut self, alloc: Global, count: usize) -> Result<[u64; 2], Fail> {
         let before = self.events.len();
-        for _ in 0..count {
-            add(&mut self.events, Event::Poll(Moment::zero()))?;
-        }
-        let settings = Settings::new(1514, 100, 0).ok_or("settings")?;
-        let replies = replies(alloc, settings, self.events.as_slice())?;
+        self.add_polls(count)?;
+        let replies = self.replies(alloc)?;
         let given = replies.get(before..).ok_or("replies")?;
         Ok([bytes(given, 1), bytes(given, 2)])
     }
@@ -76,29 +84,31 @@ fn bytes(replies: &[Reply], prio: u8) -> u64 {
 // A drr with classes of quanta 1000 and 500, and ten packets of 500 bytes for each.
 fn two_classes(alloc: Global) -> Result<Script, Fail> {
     let mut script = Script::new(alloc)?;
-    for line in [
+    script.tc(&[
         Ask::Graft(Spot::Root, 1, New::Drr),
         Ask::AddClass(1, 1, 1000),
         Ask::AddClass(1, 2, 500),
         Ask::Match(1, 1, 1),
         Ask::Match(1, 2, 2),
-    ] {
-        script.tc(line)?;
-    }
+    ])?;
     script.packets(10, 500, 1)?;
     script.packets(10, 500, 2)?;
     Ok(script)
+}
+
+fn expect(given: [u64; 2], expected: [u64; 2]) -> Result<(), Fail> {
+    if given == expected {
+        Ok(())
+    } else {
+        Err(Fail::new(format_args!("{given:?}")))
+    }
 }
 
 // The first class has two grants, and a deficit of 1000 at both ends; the second has one, and uses the quantum that it woke with.
 #[test]
 fn classes_send_as_their_quanta(rt: HostRuntime) -> Result<(), Fail> {
     let mut script = two_classes(rt.alloc())?;
-    let [first, second] = script.polls(rt.alloc(), 6)?;
-    if [first, second] != [2 * 1000, 500 + 500] {
-        return Err(Fail::new(format_args!("{first}, {second}")));
-    }
-    Ok(())
+    expect(script.polls(rt.alloc(), 6)?, [2 * 1000, 500 + 500])
 }
 
 // Another quantum begins another stretch. At 100 the first class has five grants and a deficit of 1000, of which 500 are left; the
@@ -107,26 +117,21 @@ fn classes_send_as_their_quanta(rt: HostRuntime) -> Result<(), Fail> {
 fn a_class_sends_as_its_new_quantum(rt: HostRuntime) -> Result<(), Fail> {
     let mut script = two_classes(rt.alloc())?;
     script.polls(rt.alloc(), 6)?;
-    script.tc(Ask::ChangeClass(1, 1, 100))?;
-    let [first, second] = script.polls(rt.alloc(), 7)?;
-    if [first, second] != [5 * 100 + 1000 - 500, 5 * 500] {
-        return Err(Fail::new(format_args!("{first}, {second}")));
-    }
-    Ok(())
+    script.tc(&[Ask::ChangeClass(1, 1, 100)])?;
+    expect(
+        script.polls(rt.alloc(), 7)?,
+        [5 * 100 + 1000 - 500, 5 * 500],
+    )
 }
 
 // A flow with credits of 1514 is granted once, and has 1028 left; the other gives its packet of 100 bytes.
 #[test]
 fn a_flow_gives_its_grants_and_credits(rt: HostRuntime) -> Result<(), Fail> {
     let mut script = Script::new(rt.alloc())?;
-    script.tc(Ask::Graft(Spot::Root, 1, New::Flows(4)))?;
+    script.tc(&[Ask::Graft(Spot::Root, 1, New::Flows(4))])?;
     script.packets(3, 1000, 1)?;
     script.packets(1, 100, 2)?;
-    let [first, second] = script.polls(rt.alloc(), 3)?;
-    if [first, second] != [1514 + 1514 - 1028, 100] {
-        return Err(Fail::new(format_args!("{first}, {second}")));
-    }
-    Ok(())
+    expect(script.polls(rt.alloc(), 3)?, [1514 + 1514 - 1028, 100])
 }
 
 // A bucket of 2000 bytes that gets 8000 bits, which are 1000 bytes, a second.
@@ -138,32 +143,51 @@ const RATE: u64 = 8_000;
 const POLLS: u64 = 60;
 
 // The nanosecond of a poll, counted from 0.
-fn poll_at(nth: u64) -> u64 {
+fn poll_ns(nth: u64) -> u64 {
     let tenths = if nth < 55 { nth.saturating_sub(4) } else { 200 };
     tenths.saturating_mul(100_000_000)
 }
 
-// What each poll of a tbf gives, over a play in which packets of these lengths wait from the start.
-fn shaped(alloc: Global, lens: &[u16]) -> Result<Vec<u64>, Fail> {
-    let mut script = Script::new(alloc)?;
-    script.tc(Ask::Graft(Spot::Root, 1, New::Shaper(RATE, 2_000)))?;
-    for _ in 0..4 {
-        for len in lens {
-            script.packets(1, *len, 1)?;
-        }
+fn add_arrivals(script: &mut Script, lens: &[u16]) -> Result<(), Fail> {
+    for len in lens {
+        script.packets(1, *len, 1)?;
     }
-    let before = script.events.len();
+    Ok(())
+}
+
+fn add_timed_polls(script: &mut Script) -> Result<(), Fail> {
     for nth in 0..POLLS {
-        let now = Moment::new(poll_at(nth)).ok_or("moment")?;
-        add(&mut script.events, Event::Poll(now))?;
+        add_event(&mut script.events, poll_at(poll_ns(nth)))?;
     }
-    let settings = Settings::new(1514, 100, 0).ok_or("settings")?;
-    let replies = replies(alloc, settings, script.events.as_slice())?;
+    Ok(())
+}
+
+// The bytes of each packet that polls gave.
+fn lengths(alloc: Global, replies: &[Reply]) -> Result<Vec<u64>, Fail> {
     let mut bytes = room(alloc, MOST)?;
-    for reply in replies.get(before..).ok_or("replies")? {
+    for reply in replies {
         add(&mut bytes, given(reply))?;
     }
     Ok(bytes)
+}
+
+// A tbf in which packets of these lengths wait from the start, each four times.
+fn shaper(alloc: Global, lens: &[u16]) -> Result<Script, Fail> {
+    let mut script = Script::new(alloc)?;
+    script.tc(&[Ask::Graft(Spot::Root, 1, New::Shaper(RATE, 2_000))])?;
+    for _ in 0..4 {
+        add_arrivals(&mut script, lens)?;
+    }
+    Ok(script)
+}
+
+// What each poll of such a tbf gives.
+fn shaped(alloc: Global, lens: &[u16]) -> Result<Vec<u64>, Fail> {
+    let mut script = shaper(alloc, lens)?;
+    let before = script.events.len();
+    add_timed_polls(&mut script)?;
+    let replies = script.replies(alloc)?;
+    lengths(alloc, replies.get(before..).ok_or("replies")?)
 }
 
 // All that was given.
@@ -175,35 +199,53 @@ fn sum(bytes: &[u64]) -> u64 {
     sum
 }
 
-// Whether the polls of each stretch give no more than the burst and what the rate brings from its first to its last.
-fn is_within(bytes: &[u64]) -> bool {
-    for from in 0..bytes.len() {
-        let mut spent = 0u64;
-        for (nth, given) in bytes.iter().enumerate().skip(from) {
-            spent = spent.saturating_add(*given);
-            let passed = poll_at(nth as u64).saturating_sub(poll_at(from as u64));
-            let most = (BURST * 8_000_000_000).saturating_add(RATE.saturating_mul(passed));
-            if spent.saturating_mul(8_000_000_000) > most {
-                return false;
-            }
+// Whether the burst and what the rate brings from one poll to another cover what was spent.
+fn covers(from: u64, to: u64, spent: u64) -> bool {
+    let passed = poll_ns(to).saturating_sub(poll_ns(from));
+    let most = (BURST * 8_000_000_000).saturating_add(RATE.saturating_mul(passed));
+    spent.saturating_mul(8_000_000_000) <= most
+}
+
+// Whether the polls from this one on give no more than the burst and what the rate brings.
+fn is_within_from(bytes: &[u64], from: usize) -> bool {
+    let mut spent = 0u64;
+    for nth in from..bytes.len() {
+        spent = spent.saturating_add(bytes[nth]);
+        if !covers(from as u64, nth as u64, spent) {
+            return false;
         }
     }
     true
+}
+
+// Whether the polls of each stretch give no more than the burst and what the rate brings from its first to its last.
+fn is_within(bytes: &[u64]) -> bool {
+    for from in 0..bytes.len() {
+        if !is_within_from(bytes, from) {
+            return false;
+        }
+    }
+    true
+}
+
+fn expect_spent(alloc: Global, lens: &[u16], all: u64) -> Result<(), Fail> {
+    let bytes = shaped(alloc, lens)?;
+    let sum = sum(bytes.as_slice());
+    if sum == all && is_within(bytes.as_slice()) {
+        Ok(())
+    } else {
+        Err(Fail::new(format_args!("{lens:?}: {sum}")))
+    }
 }
 
 // In five seconds 2000 + 5 * 1000 bytes can be spent, and a burst more once the bucket is full again: all of them where packets
 // have 500 bytes, and else the longest beginnings.
 #[test]
 fn a_tbf_spends_its_burst_and_what_the_rate_brings(rt: HostRuntime) -> Result<(), Fail> {
-    for (lens, all) in [
-        ([500, 500, 500, 500, 500], 7000 + 2000),
-        ([1500, 64, 700, 1400, 300], 3964 + 2264 + 1400 + 300),
-    ] {
-        let bytes = shaped(rt.alloc(), &lens)?;
-        let sum = sum(bytes.as_slice());
-        if sum != all || !is_within(bytes.as_slice()) {
-            return Err(Fail::new(format_args!("{lens:?}: {sum}")));
-        }
-    }
-    Ok(())
+    expect_spent(rt.alloc(), &[500, 500, 500, 500, 500], 7000 + 2000)?;
+    expect_spent(
+        rt.alloc(),
+        &[1500, 64, 700, 1400, 300],
+        3964 + 2264 + 1400 + 300,
+    )
 }

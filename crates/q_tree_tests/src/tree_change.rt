@@ -1,8 +1,8 @@
 //! Qdiscs that get other settings: what stays, what goes, and what is refused.
-use crate::bench::{Bench, Call, New, Spot, play};
+use crate::bench::{Call, play};
+use crate::lines::{New, Spot};
 use q_model::{Fate, Refusal};
 use q_packet::Cause;
-use std::alloc::Global;
 use std::test::Fail;
 
 const KEPT: Fate = Fate::Kept;
@@ -118,35 +118,21 @@ fn the_first_refusal_of_a_change_is_told(rt: HostRuntime) -> Result<(), Fail> {
     )
 }
 
-// So many prios of 15 bands, each in a class of the root.
-fn fill_with_prios(bench: &mut Bench, alloc: Global, count: u16) -> Result<(), Fail> {
-    for minor in 1..=count {
-        let call = Call::Graft(Spot::Class(1, minor), 0, New::Prio(15), None);
-        if !bench.answers(alloc, call)? {
-            return Err(Fail::new(format_args!("{call:?}")));
-        }
-    }
-    Ok(())
-}
-
 #[test]
 fn bands_are_added_up_to_256_nodes(rt: HostRuntime) -> Result<(), Fail> {
-    let mut bench = Bench::new(rt.alloc())?;
-    bench.play(
-        rt.alloc(),
-        &[Call::Graft(Spot::Root, 1, New::Prio(16), None)],
-    )?;
-    fill_with_prios(&mut bench, rt.alloc(), 15)?;
-    bench.play(
-        rt.alloc(),
-        &[
-            Call::Graft(Spot::Class(1, 16), 2, New::Prio(14), None),
-            Call::Nodes(256),
-            Call::Change(2, New::Prio(15), Some(Refusal::TooMany)),
-            Call::Change(2, New::Prio(14), None),
-            Call::Change(0x8001, New::Prio(14), None),
-            Call::Change(2, New::Prio(15), None),
-            Call::Nodes(256),
-        ],
-    )
+    let mut calls = Vec::new(rt.alloc());
+    calls.push(Call::Graft(Spot::Root, 1, New::Prio(16), None))?;
+    for minor in 1..16 {
+        calls.push(Call::Graft(Spot::Class(1, minor), 0, New::Prio(15), None))?;
+    }
+    calls.extend_from_slice(&[
+        Call::Graft(Spot::Class(1, 16), 2, New::Prio(14), None),
+        Call::Nodes(256),
+        Call::Change(2, New::Prio(15), Some(Refusal::TooMany)),
+        Call::Change(2, New::Prio(14), None),
+        Call::Change(0x8001, New::Prio(14), None),
+        Call::Change(2, New::Prio(15), None),
+        Call::Nodes(256),
+    ])?;
+    play(rt.alloc(), calls.as_slice())
 }

@@ -1,8 +1,8 @@
 //! Trees with a drr: its classes added, changed and removed, and what they send.
-use crate::bench::{Bench, Call, New, Spot, play};
+use crate::bench::{Call, play};
+use crate::lines::{New, Spot};
 use q_model::{Fate, Refusal};
 use q_packet::Cause;
-use std::alloc::Global;
 use std::test::Fail;
 
 const KEPT: Fate = Fate::Kept;
@@ -208,60 +208,35 @@ fn a_class_stands_on_the_eighth_level_at_most(rt: HostRuntime) -> Result<(), Fai
     )
 }
 
-// A drr of so many classes.
-fn fill_with_classes(bench: &mut Bench, alloc: Global) -> Result<(), Fail> {
-    for minor in 1..256u16 {
-        let call = Call::AddClass(1, minor, 0, None);
-        if !bench.answers(alloc, call)? {
-            return Err(Fail::new(format_args!("{call:?}")));
-        }
-    }
-    Ok(())
-}
-
 #[test]
 fn a_drr_has_at_most_255_classes_at_the_root(rt: HostRuntime) -> Result<(), Fail> {
-    let mut bench = Bench::new(rt.alloc())?;
-    bench.play(rt.alloc(), &[Call::Graft(Spot::Root, 1, New::Drr, None)])?;
-    fill_with_classes(&mut bench, rt.alloc())?;
-    bench.play(
-        rt.alloc(),
-        &[
-            Call::Nodes(256),
-            Call::AddClass(1, 256, 0, Some(Refusal::TooMany)),
-            Call::DelClass(1, 1, None),
-            Call::AddClass(1, 256, 0, None),
-        ],
-    )
-}
-
-// As many filters as a node may have.
-fn fill_with_filters(bench: &mut Bench, alloc: Global) -> Result<(), Fail> {
-    for _ in 0..256u16 {
-        let call = Call::Match(1, 1, 1, None);
-        if !bench.answers(alloc, call)? {
-            return Err(Fail::new(format_args!("{call:?}")));
-        }
+    let mut calls = Vec::new(rt.alloc());
+    calls.push(Call::Graft(Spot::Root, 1, New::Drr, None))?;
+    for minor in 1..256 {
+        calls.push(Call::AddClass(1, minor, 0, None))?;
     }
-    Ok(())
+    calls.extend_from_slice(&[
+        Call::Nodes(256),
+        Call::AddClass(1, 256, 0, Some(Refusal::TooMany)),
+        Call::DelClass(1, 1, None),
+        Call::AddClass(1, 256, 0, None),
+    ])?;
+    play(rt.alloc(), calls.as_slice())
 }
 
 #[test]
 fn a_node_has_at_most_256_filters(rt: HostRuntime) -> Result<(), Fail> {
-    let mut bench = Bench::new(rt.alloc())?;
-    bench.play(
-        rt.alloc(),
-        &[Call::Graft(Spot::Root, 1, New::Prio(2), None)],
-    )?;
-    fill_with_filters(&mut bench, rt.alloc())?;
-    bench.play(
-        rt.alloc(),
-        &[
-            // The class is not there either.
-            Call::Match(1, 3, 1, Some(Refusal::NoClass)),
-            Call::Match(1, 1, 1, Some(Refusal::TooMany)),
-            Call::Unfilter(1, None),
-            Call::Match(1, 1, 1, None),
-        ],
-    )
+    let mut calls = Vec::new(rt.alloc());
+    calls.push(Call::Graft(Spot::Root, 1, New::Prio(2), None))?;
+    for _ in 0..256 {
+        calls.push(Call::Match(1, 1, 1, None))?;
+    }
+    calls.extend_from_slice(&[
+        // The class is not there either.
+        Call::Match(1, 3, 1, Some(Refusal::NoClass)),
+        Call::Match(1, 1, 1, Some(Refusal::TooMany)),
+        Call::Unfilter(1, None),
+        Call::Match(1, 1, 1, None),
+    ])?;
+    play(rt.alloc(), calls.as_slice())
 }

@@ -1,8 +1,8 @@
 //! Trees that commands make: qdiscs put into classes and removed, and packets that go through them.
-use crate::bench::{Bench, Call, New, Spot, play};
+use crate::bench::{Call, play};
+use crate::lines::{New, Spot};
 use q_model::{Fate, Refusal};
 use q_packet::Cause;
-use std::alloc::Global;
 use std::test::Fail;
 
 const KEPT: Fate = Fate::Kept;
@@ -232,67 +232,45 @@ fn a_bfifo_takes_what_fits_its_bytes(rt: HostRuntime) -> Result<(), Fail> {
 }
 
 // A packet of each priority, which goes into the band of its number.
-fn fill_bands(alloc: Global) -> Result<(), Fail> {
-    let mut bench = Bench::new(alloc)?;
-    bench.play(alloc, &[Call::Graft(Spot::Root, 1, New::Prio(16), None)])?;
-    for prio in 0..16u8 {
-        let band = Spot::Class(1, u16::from(prio) + 1);
-        bench.play(
-            alloc,
-            &[
-                Call::Counts(band, [0; 5]),
-                Call::Put(u64::from(prio), 100, prio, KEPT),
-                Call::Counts(band, [1, 0, 0, 0, 1]),
-            ],
-        )?;
-    }
-    Ok(())
-}
-
 #[test]
 fn each_priority_has_a_band_of_sixteen(rt: HostRuntime) -> Result<(), Fail> {
-    fill_bands(rt.alloc())
-}
-
-// A prio of sixteen bands, where a prio of sixteen stands in each of the first fourteen.
-fn bands_in_bands(bench: &mut Bench, alloc: Global) -> Result<(), Fail> {
-    for band in 1..15u16 {
-        let call = Call::Graft(Spot::Class(1, band), band + 1, New::Prio(16), None);
-        if !bench.answers(alloc, call)? {
-            return Err(Fail::new(format_args!("{call:?}")));
-        }
+    let mut calls = Vec::new(rt.alloc());
+    calls.push(Call::Graft(Spot::Root, 1, New::Prio(16), None))?;
+    for prio in 0..16u8 {
+        let band = Spot::Class(1, u16::from(prio) + 1);
+        calls.push(Call::Counts(band, [0; 5]))?;
+        calls.push(Call::Put(u64::from(prio), 100, prio, KEPT))?;
+        calls.push(Call::Counts(band, [1, 0, 0, 0, 1]))?;
     }
-    Ok(())
+    play(rt.alloc(), calls.as_slice())
 }
 
-fn fill_with_nodes(alloc: Global) -> Result<(), Fail> {
-    let mut bench = Bench::new(alloc)?;
-    bench.play(alloc, &[Call::Graft(Spot::Root, 1, New::Prio(16), None)])?;
-    bands_in_bands(&mut bench, alloc)?;
-    bench.play(
-        alloc,
-        &[
-            Call::Nodes(241),
-            Call::Graft(
-                Spot::Class(1, 15),
-                16,
-                New::Prio(16),
-                Some(Refusal::TooMany),
-            ),
-            Call::Graft(Spot::Class(1, 15), 16, New::Prio(15), None),
-            Call::Nodes(256),
-            Call::Graft(
-                Spot::Class(1, 16),
-                17,
-                New::Tbf(1500),
-                Some(Refusal::TooMany),
-            ),
-            Call::Graft(Spot::Class(1, 16), 17, New::Pfifo, None),
-        ],
-    )
-}
-
+// A prio of sixteen stands in each of the first fourteen bands.
 #[test]
 fn a_tree_has_at_most_256_nodes(rt: HostRuntime) -> Result<(), Fail> {
-    fill_with_nodes(rt.alloc())
+    let mut calls = Vec::new(rt.alloc());
+    calls.push(Call::Graft(Spot::Root, 1, New::Prio(16), None))?;
+    for band in 1..15 {
+        let place = Spot::Class(1, band);
+        calls.push(Call::Graft(place, band + 1, New::Prio(16), None))?;
+    }
+    calls.extend_from_slice(&[
+        Call::Nodes(241),
+        Call::Graft(
+            Spot::Class(1, 15),
+            16,
+            New::Prio(16),
+            Some(Refusal::TooMany),
+        ),
+        Call::Graft(Spot::Class(1, 15), 16, New::Prio(15), None),
+        Call::Nodes(256),
+        Call::Graft(
+            Spot::Class(1, 16),
+            17,
+            New::Tbf(1500),
+            Some(Refusal::TooMany),
+        ),
+        Call::Graft(Spot::Class(1, 16), 17, New::Pfifo, None),
+    ])?;
+    play(rt.alloc(), calls.as_slice())
 }

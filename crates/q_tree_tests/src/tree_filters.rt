@@ -1,8 +1,7 @@
 //! Filters: each key that they compare, and prefixes of every kind of length.
-use crate::bench::{Bench, Call, New, Spot};
-use q_model::{
-    ClassId, Filter, FilterKeys, FilterPrio, Handle, IpPrefix, IpVersion, Minor, Place, Protocol,
-};
+use crate::bench::{Bench, Call};
+use crate::lines::{New, Spot, every_packet};
+use q_model::{Filter, Handle, IpPrefix, IpVersion, Protocol};
 use q_packet::{Ecn, FlowKey, Packet};
 use std::alloc::Global;
 use std::test::Fail;
@@ -25,45 +24,23 @@ enum Key {
     TargetPort(u16),
 }
 
+// The prefix of this version, or none where it has no such length.
+fn prefix(version: IpVersion, address: u128, len: u8) -> Option<IpPrefix> {
+    IpPrefix::new(version, address, len)
+}
+
 // A filter of this key, into the class 2.
 fn filter(key: Key) -> Result<Filter, Fail> {
-    let mut filter = Filter {
-        prio: FilterPrio::new(1).ok_or("prio")?,
-        protocol: Protocol::All,
-        keys: FilterKeys {
-            ip_proto: None,
-            src_ip: None,
-            dst_ip: None,
-            src_port: None,
-            dst_port: None,
-        },
-        minor: Minor::new(2).ok_or("minor")?,
-    };
+    let mut filter = every_packet(2)?;
     match key {
         Key::Any => (),
         Key::Ipv4 => filter.protocol = Protocol::Ip,
         Key::Ipv6 => filter.protocol = Protocol::Ipv6,
         Key::Proto(proto) => filter.keys.ip_proto = Some(proto),
-        Key::Source4(address, len) => filter.keys.src_ip = IpPrefix::new(
-            IpVersion::V4,
-            address,
-            len,
-        ),
-        Key::Source6(address, len) => filter.keys.src_ip = IpPrefix::new(
-            IpVersion::V6,
-            address,
-            len,
-        ),
-        Key::Target4(address, len) => filter.keys.dst_ip = IpPrefix::new(
-            IpVersion::V4,
-            address,
-            len,
-        ),
-        Key::Target6(address, len) => filter.keys.dst_ip = IpPrefix::new(
-            IpVersion::V6,
-            address,
-            len,
-        ),
+        Key::Source4(address, len) => filter.keys.src_ip = prefix(IpVersion::V4, address, len),
+        Key::Source6(address, len) => filter.keys.src_ip = prefix(IpVersion::V6, address, len),
+        Key::Target4(address, len) => filter.keys.dst_ip = prefix(IpVersion::V4, address, len),
+        Key::Target6(address, len) => filter.keys.dst_ip = prefix(IpVersion::V6, address, len),
         Key::SourcePort(port) => filter.keys.src_port = Some(port),
         Key::TargetPort(port) => filter.keys.dst_port = Some(port),
     }
@@ -79,30 +56,54 @@ fn packet(flow: Flow) -> Result<Packet, Fail> {
     Ok(Packet::new(0, 1, 0, 100, key, 0, 0, Ecn::NotEct).ok_or("packet")?)
 }
 
-// The band into which a packet goes that has the first one by its priority, with a filter of this key into the second.
-fn band(alloc: Global, key: Key, flow: Flow) -> Result<u16, Fail> {
-    let mut bench = Bench::new(alloc)?;
-    bench.play(alloc, &[Call::Graft(Spot::Root, 1, New::Prio(2), None)])?;
+fn add_filter(bench: &mut Bench, filter: Filter) -> Result<(), Fail> {
     let one = Handle::new(1).ok_or("handle")?;
-    if bench.tree.filter_add(one, one, filter(key)?).is_err() {
-        return Err("filter_add".into());
+    match bench.add_filter(one, one, filter) {
+        None => Ok(()),
+        Some(_) => Err(Fail::from("filter_add")),
     }
-    bench.put(packet(flow)?)?;
+}
+
+// The band that has the only packet.
+fn band_with_packet(bench: &Bench) -> Result<u16, Fail> {
     for minor in 1..3u16 {
-        let place = Place::Class(ClassId {
-            major: one,
-            minor: Minor::new(minor).ok_or("minor")?,
-        });
-        if bench.counts(place) == [1, 0, 0, 0, 1] {
+        if bench.has_counts(Spot::Class(1, minor), [1, 0, 0, 0, 1])? {
             return Ok(minor);
         }
     }
     Ok(0)
 }
 
+// A prio of two bands, with a filter into the second, and the band into which a packet goes that has the first one by its
+// priority.
+fn put(bench: &mut Bench, alloc: Global, filter: Filter, packet: Packet) -> Result<u16, Fail> {
+    bench.play(alloc, &[Call::Graft(Spot::Root, 1, New::Prio(2), None)])?;
+    add_filter(bench, filter)?;
+    bench.put(packet)?;
+    band_with_packet(bench)
+}
+
+fn band(alloc: Global, filter: Filter, packet: Packet) -> Result<u16, Fail> {
+    put(&mut Bench::new(alloc, 100), alloc, filter, packet)
+}
+
+fn band_of_flow(alloc: Global, filter: Filter, flow: Flow) -> Result<u16, Fail> {
+    match packet(flow) {
+        Ok(packet) => band(alloc, filter, packet),
+        Err(failed) => Err(failed),
+    }
+}
+
+fn band_by_key(alloc: Global, key: Key, flow: Flow) -> Result<u16, Fail> {
+    match filter(key) {
+        Ok(filter) => band_of_flow(alloc, filter, flow),
+        Err(failed) => Err(failed),
+    }
+}
+
 fn go(alloc: Global, rows: &[(Key, Flow, u16)]) -> Result<(), Fail> {
     for (key, flow, minor) in rows {
-        let answer = band(alloc, *key, *flow)?;
+        let answer = band_by_key(alloc, *key, *flow)?;
         if answer != *minor {
             return Err(Fail::new(format_args!("{key:?} {flow:?}: {answer}")));
         }

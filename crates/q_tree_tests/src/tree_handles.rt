@@ -1,53 +1,63 @@
 //! Handles of a tree that is edited: each is found where it stands, until it goes, and may then be given again.
-use crate::bench::{Bench, Call, New, Spot, play};
+use crate::bench::{Call, play};
+use crate::lines::{New, Spot};
 use q_model::Refusal;
 use std::test::Fail;
 
-// A drr of 15 prios, each of 16 pfifos, which all have a handle.
-fn grow(rt: &HostRuntime, bench: &mut Bench) -> Result<(), Fail> {
-    bench.play(rt.alloc(), &[Call::Graft(Spot::Root, 1, New::Drr, None)])?;
-    for m in 1..16 {
-        bench.play(
-            rt.alloc(),
-            &[
-                Call::AddClass(1, m, 1500, None),
-                Call::Graft(Spot::Class(1, m), 16 + m, New::Prio(16), None),
-            ],
-        )?;
-        for b in 1..17 {
-            let leaf = Call::Graft(Spot::Class(16 + m, b), 256 * m + b, New::Packets(5), None);
-            bench.play(rt.alloc(), &[leaf])?;
-        }
+// The handle of the prio in a class of the drr.
+fn prio(m: u8) -> u16 {
+    16 + u16::from(m)
+}
+
+// The handle of the pfifo in a band of that prio.
+fn pfifo(m: u8, b: u8) -> u16 {
+    256 * u16::from(m) + u16::from(b)
+}
+
+// A class of the drr, with a prio of 16 pfifos, which all have a handle.
+fn add_class(calls: &mut Vec<Call>, m: u8) -> Result<(), Fail> {
+    let class = u16::from(m);
+    calls.push(Call::AddClass(1, class, 1500, None))?;
+    calls.push(Call::Graft(Spot::Class(1, class), prio(m), New::Prio(16), None))?;
+    for b in 1..17 {
+        let band = Spot::Class(prio(m), u16::from(b));
+        calls.push(Call::Graft(band, pfifo(m, b), New::Packets(5), None))?;
     }
     Ok(())
 }
 
-#[test]
-fn each_of_256_handles_is_found(rt: HostRuntime) -> Result<(), Fail> {
-    let mut bench = Bench::new(rt.alloc())?;
-    grow(&rt, &mut bench)?;
-    bench.play(rt.alloc(), &[Call::Nodes(256)])?;
-    for m in 1..16 {
-        bench.play(
-            rt.alloc(),
-            &[
-                Call::Change(16 + m, New::Prio(16), None),
-                Call::Counts(Spot::Class(1, m), [0; 5]),
-            ],
-        )?;
-        for b in 1..17 {
-            let shown = usize::from(m - 1) * 17 + 1 + usize::from(b);
-            bench.play(
-                rt.alloc(),
-                &[
-                    Call::Change(256 * m + b, New::Packets(7), None),
-                    Call::Counts(Spot::Class(16 + m, b), [0; 5]),
-                    Call::Shown(shown, Spot::Class(16 + m, b), 256 * m + b),
-                ],
-            )?;
-        }
+// Finds a pfifo in a band of a class.
+fn find_pfifo(calls: &mut Vec<Call>, m: u8, b: u8) -> Result<(), Fail> {
+    let band = Spot::Class(prio(m), u16::from(b));
+    let shown = usize::from(m.saturating_sub(1)) * 17 + 1 + usize::from(b);
+    calls.push(Call::Change(pfifo(m, b), New::Packets(7), None))?;
+    calls.push(Call::Counts(band, [0; 5]))?;
+    calls.push(Call::Shown(shown, band, pfifo(m, b)))?;
+    Ok(())
+}
+
+fn find_class(calls: &mut Vec<Call>, m: u8) -> Result<(), Fail> {
+    calls.push(Call::Change(prio(m), New::Prio(16), None))?;
+    calls.push(Call::Counts(Spot::Class(1, u16::from(m)), [0; 5]))?;
+    for b in 1..17 {
+        find_pfifo(calls, m, b)?;
     }
     Ok(())
+}
+
+// A drr of 15 prios, each of 16 pfifos.
+#[test]
+fn each_of_256_handles_is_found(rt: HostRuntime) -> Result<(), Fail> {
+    let mut calls = Vec::new(rt.alloc());
+    calls.push(Call::Graft(Spot::Root, 1, New::Drr, None))?;
+    for m in 1..16 {
+        add_class(&mut calls, m)?;
+    }
+    calls.push(Call::Nodes(256))?;
+    for m in 1..16 {
+        find_class(&mut calls, m)?;
+    }
+    play(rt.alloc(), calls.as_slice())
 }
 
 #[test]

@@ -1,12 +1,13 @@
 //! Each refusal of each command, and commands that two neighbours in the order of refusals would refuse: the earlier is told.
 //!
 //! Memory, the last of each, is refused by an allocator and not by a tree, so that no row has it.
-use crate::bench::{Bench, Call, New, Spot, class, every_packet, make_room};
-use q_model::{Command, FilterPrio, Handle, Place, Refusal};
+use crate::bench::{Bench, Call};
+use crate::lines::{self, New, Spot};
+use q_model::{Command, Refusal};
 use std::alloc::Global;
 use std::test::Fail;
 
-// A command. A handle of 0 is none, and a class has its major and its minor number.
+// A command, by the numbers of `lines`.
 #[derive(Clone, Copy, Debug)]
 enum Ask {
     Graft(Spot, u16, New),
@@ -26,113 +27,26 @@ enum Ask {
 impl Ask {
     fn command(self) -> Result<Command, Fail> {
         match self {
-            Ask::Graft(spot, major, new) => Ok(Command::QdiscAdd {
-                place: spot.place()?,
-                handle: Handle::new(major),
-                kind: new.kind()?,
-            }),
-            Ask::Change(spot, major, new) => Ok(Command::QdiscChange {
-                place: place(spot)?,
-                handle: Handle::new(major),
-                kind: new.kind()?,
-            }),
-            Ask::Prune(spot, major) => Ok(Command::QdiscDel {
-                place: place(spot)?,
-                handle: Handle::new(major),
-            }),
-            Ask::AddClass(parent, major, minor) => Ok(Command::ClassAdd {
-                parent: Handle::new(parent).ok_or("parent")?,
-                class: class(major, minor)?,
-                quantum: None,
-            }),
-            Ask::ChangeClass(parent, major, minor) => Ok(Command::ClassChange {
-                parent: Handle::new(parent),
-                class: class(major, minor)?,
-                quantum: None,
-            }),
-            Ask::DelClass(parent, major, minor) => Ok(Command::ClassDel {
-                parent: Handle::new(parent),
-                class: class(major, minor)?,
-            }),
-            Ask::Filter(parent, major, minor) => filter_add(parent, major, minor),
-            Ask::Unfilter(parent, prio) => Ok(Command::FilterDel {
-                parent: Handle::new(parent).ok_or("parent")?,
-                prio: FilterPrio::new(prio).ok_or("prio")?,
-            }),
+            Ask::Graft(spot, major, new) => lines::graft(spot, major, new),
+            Ask::Change(spot, major, new) => lines::change(spot, major, new),
+            Ask::Prune(spot, major) => lines::prune(spot, major),
+            Ask::AddClass(parent, major, minor) => lines::add_class(parent, (major, minor), 0),
+            Ask::ChangeClass(parent, major, minor) => {
+                lines::change_class(parent, (major, minor), 0)
+            }
+            Ask::DelClass(parent, major, minor) => lines::del_class(parent, (major, minor)),
+            Ask::Filter(parent, major, minor) => lines::add_filter(parent, (major, minor), None),
+            Ask::Unfilter(parent, prio) => lines::del_filters(parent, prio),
         }
     }
 }
 
-fn place(spot: Option<Spot>) -> Result<Option<Place>, Fail> {
-    match spot {
-        None => Ok(None),
-        Some(spot) => Ok(Some(spot.place()?)),
-    }
-}
-
-fn filter_add(parent: u16, major: u16, minor: u16) -> Result<Command, Fail> {
-    let class = class(major, minor)?;
-    let mut filter = every_packet()?;
-    filter.minor = class.minor;
-    Ok(Command::FilterAdd {
-        parent: Handle::new(parent).ok_or("parent")?,
-        major: class.major,
-        filter,
-    })
-}
-
-// What a tree answers by the call that is for such commands alone.
-fn call(bench: &mut Bench, alloc: Global, command: Command) -> Result<Option<Refusal>, Fail> {
-    make_room(&bench.tree, &mut bench.losses)?;
-    let (tree, losses) = (&mut bench.tree, &mut bench.losses);
-    let now = tree.clock();
-    let answer = match command {
-        Command::QdiscAdd {
-            place,
-            handle,
-            kind,
-        } => tree.graft(alloc, place, handle, kind, now, losses),
-        Command::QdiscChange {
-            place,
-            handle,
-            kind,
-        } => tree.change(alloc, place, handle, kind, now, losses),
-        Command::QdiscDel { place, handle } => tree.prune(alloc, place, handle, losses),
-        Command::ClassAdd {
-            parent,
-            class,
-            quantum,
-        } => tree.class_add(alloc, parent, class, quantum),
-        Command::ClassChange {
-            parent,
-            class,
-            quantum,
-        } => tree.class_change(parent, class, quantum),
-        Command::ClassDel { parent, class } => tree.class_del(parent, class, losses),
-        Command::FilterAdd {
-            parent,
-            major,
-            filter,
-        } => tree.filter_add(parent, major, filter),
-        Command::FilterDel { parent, prio } => tree.filter_del(parent, prio),
-    };
-    Ok(answer.err())
-}
-
-// What it answers by the call that is for every command.
-fn command(bench: &mut Bench, alloc: Global, command: Command) -> Result<Option<Refusal>, Fail> {
-    make_room(&bench.tree, &mut bench.losses)?;
-    let now = bench.tree.clock();
-    let answer = bench.tree.command(alloc, command, now, &mut bench.losses);
-    Ok(answer.err())
-}
-
 // Whether a command is refused so by both calls.
 fn both(bench: &mut Bench, alloc: Global, line: Command, refusal: Refusal) -> Result<bool, Fail> {
-    if call(bench, alloc, line)? != Some(refusal) {
+    if bench.call(alloc, line)? != Some(refusal) {
         return Ok(false);
     }
-    Ok(command(bench, alloc, line)? == Some(refusal))
+    Ok(bench.command(alloc, line)? == Some(refusal))
 }
 
 fn is_refused(bench: &mut Bench, alloc: Global, ask: Ask, refusal: Refusal) -> Result<bool, Fail> {
@@ -143,7 +57,7 @@ fn is_refused(bench: &mut Bench, alloc: Global, ask: Ask, refusal: Refusal) -> R
 }
 
 // Fails at the first command that is not refused so by both calls.
-fn refused(bench: &mut Bench, alloc: Global, rows: &[(Ask, Refusal)]) -> Result<(), Fail> {
+fn expect(bench: &mut Bench, alloc: Global, rows: &[(Ask, Refusal)]) -> Result<(), Fail> {
     for (ask, refusal) in rows {
         if !is_refused(bench, alloc, *ask, *refusal)? {
             return Err(Fail::new(format_args!("{ask:?}: {refusal:?}")));
@@ -152,30 +66,41 @@ fn refused(bench: &mut Bench, alloc: Global, rows: &[(Ask, Refusal)]) -> Result<
     Ok(())
 }
 
+fn play_and_expect(
+    bench: &mut Bench,
+    alloc: Global,
+    calls: &[Call],
+    rows: &[(Ask, Refusal)],
+) -> Result<(), Fail> {
+    bench.play(alloc, calls)?;
+    expect(bench, alloc, rows)
+}
+
+// The refusals of a tree that these calls make.
+fn refused(alloc: Global, calls: &[Call], rows: &[(Ask, Refusal)]) -> Result<(), Fail> {
+    play_and_expect(&mut Bench::new(alloc, 100), alloc, calls, rows)
+}
+
 // A prio, 1:, over a pfifo, a drr with the class 3:5, a tbf with its implicit leaf, and an fq_codel. Filters lead to the fourth
 // band of the prio and to the class of the drr.
-fn small_tree(alloc: Global) -> Result<Bench, Fail> {
-    let mut bench = Bench::new(alloc)?;
-    bench.play(
-        alloc,
-        &[
-            Call::Graft(Spot::Root, 1, New::Prio(4), None),
-            Call::Graft(Spot::Class(1, 1), 2, New::Pfifo, None),
-            Call::Graft(Spot::Class(1, 2), 3, New::Drr, None),
-            Call::Graft(Spot::Class(1, 3), 4, New::Tbf(3000), None),
-            Call::Graft(Spot::Class(1, 4), 5, New::FqCodel(5), None),
-            Call::AddClass(3, 5, 0, None),
-            Call::Match(1, 4, 7, None),
-            Call::Match(3, 5, 7, None),
-        ],
-    )?;
-    Ok(bench)
+const SMALL_TREE: [Call; 8] = [
+    Call::Graft(Spot::Root, 1, New::Prio(4), None),
+    Call::Graft(Spot::Class(1, 1), 2, New::Pfifo, None),
+    Call::Graft(Spot::Class(1, 2), 3, New::Drr, None),
+    Call::Graft(Spot::Class(1, 3), 4, New::Tbf(3000), None),
+    Call::Graft(Spot::Class(1, 4), 5, New::FqCodel(5), None),
+    Call::AddClass(3, 5, 0, None),
+    Call::Match(1, 4, 7, None),
+    Call::Match(3, 5, 7, None),
+];
+
+fn refused_by_small_tree(alloc: Global, rows: &[(Ask, Refusal)]) -> Result<(), Fail> {
+    refused(alloc, &SMALL_TREE, rows)
 }
 
 #[test]
 fn a_new_qdisc_is_refused(rt: HostRuntime) -> Result<(), Fail> {
-    refused(
-        &mut small_tree(rt.alloc())?,
+    refused_by_small_tree(
         rt.alloc(),
         &[
             // Not with NotClassful: a parent that is not there is of no kind.
@@ -227,8 +152,7 @@ fn a_new_qdisc_is_refused(rt: HostRuntime) -> Result<(), Fail> {
 
 #[test]
 fn a_change_is_refused(rt: HostRuntime) -> Result<(), Fail> {
-    refused(
-        &mut small_tree(rt.alloc())?,
+    refused_by_small_tree(
         rt.alloc(),
         &[
             // Not with CannotChange: a qdisc that is not there is of no kind.
@@ -287,8 +211,7 @@ fn a_change_is_refused(rt: HostRuntime) -> Result<(), Fail> {
 
 #[test]
 fn a_removal_is_refused(rt: HostRuntime) -> Result<(), Fail> {
-    refused(
-        &mut small_tree(rt.alloc())?,
+    refused_by_small_tree(
         rt.alloc(),
         &[
             (Ask::Prune(None, 0), Refusal::NoQdisc),
@@ -307,8 +230,7 @@ fn a_removal_is_refused(rt: HostRuntime) -> Result<(), Fail> {
 
 #[test]
 fn a_class_is_refused(rt: HostRuntime) -> Result<(), Fail> {
-    refused(
-        &mut small_tree(rt.alloc())?,
+    refused_by_small_tree(
         rt.alloc(),
         &[
             (Ask::AddClass(1, 3, 1), Refusal::NoParent),
@@ -342,8 +264,7 @@ fn a_class_is_refused(rt: HostRuntime) -> Result<(), Fail> {
 
 #[test]
 fn a_filter_is_refused(rt: HostRuntime) -> Result<(), Fail> {
-    refused(
-        &mut small_tree(rt.alloc())?,
+    refused_by_small_tree(
         rt.alloc(),
         &[
             // Not with NotClassful: a qdisc that is not there is of no kind.
@@ -367,36 +288,34 @@ fn a_filter_is_refused(rt: HostRuntime) -> Result<(), Fail> {
 
 // A tree of 256 nodes. Seven prios, 1: to 7:, each in the first band of the one above, lead to a drr, 8:, on the eighth level.
 // The next bands of 1: have nine prios, a drr with a class, 29:, and a pfifo.
-fn full_tree(alloc: Global) -> Result<Bench, Fail> {
-    let mut bench = Bench::new(alloc)?;
-    bench.play(alloc, &[Call::Graft(Spot::Root, 1, New::Prio(16), None)])?;
-    for above in 1..7u16 {
-        let call = Call::Graft(Spot::Class(above, 1), above + 1, New::Prio(16), None);
-        bench.play(alloc, &[call])?;
+fn full_tree(alloc: Global) -> Result<Vec<Call>, Fail> {
+    let mut calls = Vec::new(alloc);
+    calls.push(Call::Graft(Spot::Root, 1, New::Prio(16), None))?;
+    for above in 1..7 {
+        let place = Spot::Class(above, 1);
+        calls.push(Call::Graft(place, above + 1, New::Prio(16), None))?;
     }
-    for band in 2..10u16 {
-        let call = Call::Graft(Spot::Class(1, band), band + 18, New::Prio(16), None);
-        bench.play(alloc, &[call])?;
+    for band in 2..10 {
+        let place = Spot::Class(1, band);
+        calls.push(Call::Graft(place, band + 18, New::Prio(16), None))?;
     }
-    bench.play(
-        alloc,
-        &[
-            Call::Graft(Spot::Class(7, 1), 8, New::Drr, None),
-            Call::Graft(Spot::Class(1, 10), 28, New::Prio(14), None),
-            Call::Graft(Spot::Class(1, 11), 29, New::Drr, None),
-            Call::AddClass(29, 1, 0, None),
-            Call::Graft(Spot::Class(1, 12), 30, New::Pfifo, None),
-            Call::Nodes(256),
-        ],
-    )?;
-    Ok(bench)
+    calls.extend_from_slice(&[
+        Call::Graft(Spot::Class(7, 1), 8, New::Drr, None),
+        Call::Graft(Spot::Class(1, 10), 28, New::Prio(14), None),
+        Call::Graft(Spot::Class(1, 11), 29, New::Drr, None),
+        Call::AddClass(29, 1, 0, None),
+        Call::Graft(Spot::Class(1, 12), 30, New::Pfifo, None),
+        Call::Nodes(256),
+    ])?;
+    Ok(calls)
 }
 
 #[test]
 fn a_tree_too_deep_or_with_too_many_nodes_is_refused(rt: HostRuntime) -> Result<(), Fail> {
+    let calls = full_tree(rt.alloc())?;
     refused(
-        &mut full_tree(rt.alloc())?,
         rt.alloc(),
+        calls.as_slice(),
         &[
             // With TooDeep.
             (

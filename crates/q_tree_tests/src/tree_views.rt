@@ -1,5 +1,6 @@
 //! What is shown of a tree of one pfifo, and a command that it refuses.
-use q_model::{FilterPrio, Handle, Place, QdiscView, Refusal};
+use crate::bench::{Call, play_small};
+use q_model::{Place, QdiscView, Refusal};
 use q_tree::Tree;
 use std::alloc::Global;
 use std::test::Fail;
@@ -17,13 +18,6 @@ fn is_shown_alone(tree: &Tree) -> bool {
         && tree.filter(0, 0).is_none()
 }
 
-// What is answered where the filters of a handle that stands nowhere are to be removed.
-fn removal(tree: &mut Tree) -> Result<Result<(), Refusal>, Fail> {
-    let parent = Handle::new(1).ok_or("parent")?;
-    let prio = FilterPrio::new(1).ok_or("prio")?;
-    Ok(tree.filter_del(parent, prio))
-}
-
 fn shows_one(alloc: Global) -> bool {
     is_shown_alone(&Tree::new(alloc, 1500, 2))
 }
@@ -33,13 +27,7 @@ fn a_pfifo_is_shown_alone(rt: HostRuntime) {
     assert!(rt; shows_one(rt.alloc()));
 }
 
-fn removed_from_one(alloc: Global) -> Result<Result<(), Refusal>, Fail> {
-    removal(&mut Tree::new(alloc, 1500, 2))
-}
-
 #[test]
 fn a_pfifo_takes_no_filter(rt: HostRuntime) -> Result<(), Fail> {
-    let answer = removed_from_one(rt.alloc())?;
-    assert!(rt; answer == Err(Refusal::NoQdisc));
-    Ok(())
+    play_small(rt.alloc(), 2, &[Call::Unfilter(1, Some(Refusal::NoQdisc))])
 }
