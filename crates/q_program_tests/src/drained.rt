@@ -1,5 +1,5 @@
 //! Drives that go on until nothing goes any more, at moments that are computed by hand.
-use crate::drives::{assert_drives, settings};
+use crate::drives::{assert_drives, drive, settings};
 use q_drive::DriveSettings;
 use q_script::{Outcome, RunSettings};
 use std::test::Fail;
@@ -121,17 +121,10 @@ qdisc bfifo 0: parent 1:1 limit 4294967295b
 fn what_is_refused_is_not_drained(rt: HostRuntime) -> Result<(), Fail> {
     let alloc = rt.alloc();
     let told = "settled 6p 600b\narrived 6p 600b\ngiven up 0\ndrained 0p 0b at ";
-    let (mut reader, mut written) = (
-        &b"tc qdisc add dev eth0 root pfifo limit 0\n"[..],
-        Vec::new(alloc),
-    );
-    let outcome = q_drive::run_drive(
-        &rt,
-        alloc,
-        &mut reader,
-        &mut written,
-        drained(1514, 2, 3, 100, false)?,
-    );
+    let input = b"tc qdisc add dev eth0 root pfifo limit 0\n";
+    let mut written = Vec::new(alloc);
+    let asked = drained(1514, 2, 3, 100, false)?;
+    let outcome = drive(&rt, alloc, input, &mut written, asked);
     assert_eq!(rt; outcome, Ok(Outcome::Clean));
     assert!(rt; written.as_slice().starts_with(told.as_bytes()));
     Ok(())

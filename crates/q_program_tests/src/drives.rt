@@ -1,8 +1,9 @@
 //! What drives come to.
+use crate::streams::Narrow;
 use q_drive::{DriveSettings, run_drive};
 use q_script::{Outcome, RunFault, RunSettings};
 use std::alloc::Global;
-use std::io::{Error, ErrorKind, Result as IoResult, Write};
+use std::io::{ErrorKind, Write};
 use std::process::Abort;
 use std::sync::Wait;
 use std::test::Fail;
@@ -23,6 +24,18 @@ pub fn settings(
     )?)
 }
 
+/// A drive by standard input. It promises nothing: what a drive promises is long, and no test needs it.
+pub fn drive<R: Threads + Wait + Sync, W: Write>(
+    rt: &R,
+    alloc: Global,
+    input: &[u8],
+    writer: &mut W,
+    settings: DriveSettings,
+) -> Result<Outcome, RunFault> {
+    let mut reader = input;
+    run_drive(rt, alloc, &mut reader, writer, settings)
+}
+
 /// What standard input and settings come to: the outcome and all that is written.
 pub fn assert_drives<R: Abort + Threads + Wait + Sync>(
     rt: &R,
@@ -32,8 +45,8 @@ pub fn assert_drives<R: Abort + Threads + Wait + Sync>(
     outcome: Outcome,
     report: &str,
 ) {
-    let (mut reader, mut written) = (input, Vec::new(alloc));
-    let told = run_drive(rt, alloc, &mut reader, &mut written, settings);
+    let mut written = Vec::new(alloc);
+    let told = drive(rt, alloc, input, &mut written, settings);
     assert_eq!(rt; told, Ok(outcome), "{report}");
     assert_eq!(rt; written.as_slice(), report.as_bytes(), "{report}");
 }
@@ -51,27 +64,37 @@ fn four_senders_over_the_first_root(rt: HostRuntime) -> Result<(), Fail> {
     Ok(())
 }
 
+/// The senders of a load, the packets of each, their length and the places of a ring, with what is told.
+const LOADS: &[(u8, u32, u16, u32, &str)] = &[
+    (64, 0, 1, 1, "settled 0p 0b\narrived 0p 0b\ngiven up 0\n"),
+    (
+        1,
+        1000,
+        1,
+        1,
+        "settled 1000p 1000b\narrived 1000p 1000b\ngiven up 0\n",
+    ),
+    (
+        64,
+        20,
+        1,
+        1,
+        "settled 1280p 1280b\narrived 1280p 1280b\ngiven up 0\n",
+    ),
+    // Packets longer than the mtu arrive and are refused.
+    (
+        2,
+        3,
+        65535,
+        65536,
+        "settled 6p 393210b\narrived 6p 393210b\ngiven up 0\n",
+    ),
+];
+
 #[test]
 fn loads_that_are_empty_or_longer_than_their_ring(rt: HostRuntime) -> Result<(), Fail> {
-    for (asked, report) in [
-        (
-            settings(64, 0, 1, 1, false)?,
-            "settled 0p 0b\narrived 0p 0b\ngiven up 0\n",
-        ),
-        (
-            settings(1, 1000, 1, 1, false)?,
-            "settled 1000p 1000b\narrived 1000p 1000b\ngiven up 0\n",
-        ),
-        (
-            settings(64, 20, 1, 1, false)?,
-            "settled 1280p 1280b\narrived 1280p 1280b\ngiven up 0\n",
-        ),
-        // Packets longer than the mtu arrive and are refused.
-        (
-            settings(2, 3, 65535, 65536, false)?,
-            "settled 6p 393210b\narrived 6p 393210b\ngiven up 0\n",
-        ),
-    ] {
+    for (senders, count, len, ring, report) in LOADS {
+        let asked = settings(*senders, *count, *len, *ring, false)?;
         assert_drives(&rt, rt.alloc(), b"", asked, Outcome::Clean, report);
     }
     Ok(())
@@ -105,31 +128,6 @@ qdisc fq_codel 10: parent 1:1 limit 10240p flows 1024 quantum 1514 target 500000
     Ok(())
 }
 
-/// A writer that has room for so many bytes, and then fails.
-#[derive(Drop)]
-struct Narrow {
-    written: Vec<u8>,
-    room: usize,
-}
-
-impl Write for Narrow {
-    fn write(&mut self, buf: &[u8]) -> IoResult<usize> {
-        if self.room == 0 {
-            return Err(Error::from(ErrorKind::BrokenPipe));
-        }
-        let count = buf.len().min(self.room);
-        if self.written.extend_from_slice(&buf[..count]).is_err() {
-            return Err(Error::from(ErrorKind::OutOfMemory));
-        }
-        self.room -= count;
-        Ok(count)
-    }
-
-    fn flush(&mut self) -> IoResult<()> {
-        Ok(())
-    }
-}
-
 #[test]
 fn writers_that_fail_at_each_byte(rt: HostRuntime) -> Result<(), Fail> {
     let alloc = rt.alloc();
@@ -139,10 +137,8 @@ fn writers_that_fail_at_each_byte(rt: HostRuntime) -> Result<(), Fail> {
         "line 2: fault 1 UnknownWord word 1\nsettled 2p 14b\narrived 2p 14b\ngiven up 0\ndevice arrived 2p 14b sent 0p 0b refused 2p 14b dropped 0p 0b queued 0p 0b\nqdisc pfifo 1: root limit 0p\n arrived 2p 14b sent 0p 0b refused 2p 14b dropped 0p 0b queued 0p 0b\n";
     let asked = settings(1, 2, 7, 1, true)?;
     for room in 0..report.len() {
-        let mut reader: &[u8] = input;
-        let written = Vec::new(alloc);
-        let mut writer = Narrow { written, room };
-        let told = run_drive(&rt, alloc, &mut reader, &mut writer, asked);
+        let mut writer = Narrow::new(alloc, room, true);
+        let told = drive(&rt, alloc, input, &mut writer, asked);
         assert_eq!(rt; told, Err(RunFault::Write(ErrorKind::BrokenPipe)), "{room}");
         assert_eq!(rt; writer.written.as_slice(), &report.as_bytes()[..room]);
     }

@@ -54,11 +54,7 @@ impl LineRunner {
             Line::Tc(command) => return self.command(alloc, &command),
             Line::Pkt(arrival) => self.arrive(alloc, arrival)?,
             Line::At(moment) => self.moment = moment,
-            Line::Poll(count) => {
-                for _ in 0..count {
-                    let _polled = self.device.poll(self.moment);
-                }
-            }
+            Line::Poll(count) => self.poll(count),
             Line::Reap => {
                 let _lost = self.device.reap();
             }
@@ -83,6 +79,12 @@ impl LineRunner {
         }
     }
 
+    fn poll(&mut self, count: u32) {
+        for _ in 0..count {
+            let _polled = self.device.poll(self.moment);
+        }
+    }
+
     // Does a command; why it is refused, if it is.
     fn refusal(&mut self, command: &Command) -> Option<Refusal> {
         self.device.command(*command, self.moment).err()
@@ -93,14 +95,20 @@ impl LineRunner {
         self.packets = self.packets.saturating_add(1);
         let packet = numbered(arrival, self.packets)?;
         let before = Seen::of(alloc, &self.device)?;
-        if self.device.arrive(packet, self.moment).is_ok() {
+        if self.has_memory_for(packet) {
             return Ok(());
         }
         self.assert_same(alloc, &before)?;
-        match self.device.arrive(packet, self.moment) {
-            Ok(_) => Ok(()),
-            Err(_) => Err(Fail::from("refused with memory")),
+        if self.has_memory_for(packet) {
+            Ok(())
+        } else {
+            Err(Fail::from("refused with memory"))
         }
+    }
+
+    // Lets a packet arrive; whether it was refused no memory.
+    fn has_memory_for(&mut self, packet: Packet) -> bool {
+        self.device.arrive(packet, self.moment).is_ok()
     }
 
     fn assert_same(&self, alloc: Global, before: &Seen) -> Result<(), Fail> {

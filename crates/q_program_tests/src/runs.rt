@@ -2,20 +2,35 @@
 use q_options::run;
 use q_script::{Outcome, RunFault, RunSettings};
 use std::alloc::Global;
+use std::io::{Read, Write};
 use std::process::Abort;
 use std::test::Fail;
 
-/// Runs a script with the default settings; what is written, and how it went.
-fn play(alloc: Global, script: &[u8]) -> (Vec<u8>, Result<Outcome, RunFault>) {
+/// A run of what a reader has. It promises nothing: what a run promises of its reader and its writer is long, and no test needs it.
+pub fn run_through<R: Read, W: Write>(
+    alloc: Global,
+    reader: &mut R,
+    writer: &mut W,
+    settings: RunSettings,
+) -> Result<Outcome, RunFault> {
+    run(alloc, reader, writer, settings)
+}
+
+/// Runs a script; what is written, and how it went.
+fn play(
+    alloc: Global,
+    script: &[u8],
+    settings: RunSettings,
+) -> (Vec<u8>, Result<Outcome, RunFault>) {
     let mut reader = script;
     let mut written = Vec::new(alloc);
-    let told = run(alloc, &mut reader, &mut written, RunSettings::defaults());
+    let told = run_through(alloc, &mut reader, &mut written, settings);
     (written, told)
 }
 
 fn assert_reports(rt: &impl Abort, alloc: Global, rows: &[(&str, &[u8], &str, Outcome)]) {
     for (name, script, report, outcome) in rows {
-        let (written, told) = play(alloc, script);
+        let (written, told) = play(alloc, script, RunSettings::defaults());
         assert_eq!(rt; written.as_slice(), report.as_bytes(), "{name}");
         assert_eq!(rt; told, Ok(*outcome), "{name}");
     }
@@ -200,14 +215,12 @@ fn faults_and_their_words(rt: HostRuntime) {
 #[test]
 fn settings_of_the_device(rt: HostRuntime) -> Result<(), Fail> {
     let settings = RunSettings::new(100, 1, 7, 0).ok_or("in range")?;
-    let mut reader = b"pkt 100\n\
+    let script = b"pkt 100\n\
       pkt 101\n\
       pkt 50\n\
       poll 2\n\
-      tc -s qdisc show\n"
-        .as_slice();
-    let mut written = Vec::new(rt.alloc());
-    let told = run(rt.alloc(), &mut reader, &mut written, settings);
+      tc -s qdisc show\n";
+    let (written, told) = play(rt.alloc(), script, settings);
     assert_eq!(rt; told, Ok(Outcome::Clean));
     assert_eq!(rt;
         written.as_slice(),
@@ -220,15 +233,19 @@ fn settings_of_the_device(rt: HostRuntime) -> Result<(), Fail> {
     Ok(())
 }
 
-#[test]
-fn long_lines_and_long_reports(rt: HostRuntime) -> Result<(), Fail> {
-    let alloc = rt.alloc();
-    let mut script = vec![in alloc; b'0'; 1_048_576]?;
+/// A line of one word of 1 MiB, which is a fault, one with a number as long, and 100,000 polls.
+fn long_script(alloc: Global) -> Result<Vec<u8>, Fail> {
+    let zeros = vec![in alloc; b'0'; 1_048_576]?;
+    let mut script = Vec::new(alloc);
+    script.extend_from_slice(zeros.as_slice())?;
     script.extend_from_slice(b"x\npkt ")?;
-    script.extend_from_slice(vec![in alloc; b'0'; 1_048_576]?.as_slice())?;
+    script.extend_from_slice(zeros.as_slice())?;
     script.extend_from_slice(b"9\npoll 100000\n")?;
-    let (written, told) = play(alloc, script.as_slice());
-    assert_eq!(rt; told, Ok(Outcome::Refused));
+    Ok(script)
+}
+
+/// What that script reports.
+fn long_report(alloc: Global) -> Result<Vec<u8>, Fail> {
     let mut report = Vec::new(alloc);
     report.extend_from_slice(
         b"line 1: fault 1 UnknownWord word 1\n\
@@ -237,6 +254,16 @@ fn long_lines_and_long_reports(rt: HostRuntime) -> Result<(), Fail> {
     for _ in 1..100_000 {
         report.extend_from_slice(b"idle\n")?;
     }
+    Ok(report)
+}
+
+#[test]
+fn long_lines_and_long_reports(rt: HostRuntime) -> Result<(), Fail> {
+    let alloc = rt.alloc();
+    let script = long_script(alloc)?;
+    let (written, told) = play(alloc, script.as_slice(), RunSettings::defaults());
+    assert_eq!(rt; told, Ok(Outcome::Refused));
+    let report = long_report(alloc)?;
     assert!(rt; written.as_slice() == report.as_slice());
     Ok(())
 }

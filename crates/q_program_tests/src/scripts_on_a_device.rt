@@ -6,6 +6,7 @@ use crate::line_runner::LineRunner;
 use crate::runs::TWO_OF_THREE;
 use crate::seen::adds_up;
 use q_device::{Event, Place, Refusal};
+use std::alloc::Global;
 use std::test::Fail;
 
 // A drr whose fq_codel is removed with its packets.
@@ -91,30 +92,38 @@ poll 2
 tc qdisc add dev eth0 parent 10:5 handle 40: prio
 ";
 
-#[test]
-fn a_line_is_done_or_changes_nothing(rt: HostRuntime) -> Result<(), Fail> {
-    for (script, refusals) in [
-        (REMOVAL, &[][..]),
-        (REPLACED, &[(5, Refusal::Exists)]),
-        (
-            REFUSALS,
-            &[
-                (2, Refusal::Exists),
-                (3, Refusal::NoParent),
-                (4, Refusal::NoClass),
-                (5, Refusal::HandleTaken),
-                (6, Refusal::CannotChange),
-                (7, Refusal::NoQdisc),
-                (8, Refusal::NoFilter),
-            ],
-        ),
-        (DEPTH, &[(8, Refusal::TooDeep)]),
-        (NODES, &[(16, Refusal::TooMany)]),
-        (WAITING, &[]),
-    ] {
-        LineRunner::new(rt.alloc(), 0)?.run(rt.alloc(), script, refusals)?;
+/// Scripts, each with the lines that are refused.
+const SCRIPTS: &[(&[u8], &[(usize, Refusal)])] = &[
+    (REMOVAL, &[]),
+    (REPLACED, &[(5, Refusal::Exists)]),
+    (
+        REFUSALS,
+        &[
+            (2, Refusal::Exists),
+            (3, Refusal::NoParent),
+            (4, Refusal::NoClass),
+            (5, Refusal::HandleTaken),
+            (6, Refusal::CannotChange),
+            (7, Refusal::NoQdisc),
+            (8, Refusal::NoFilter),
+        ],
+    ),
+    (DEPTH, &[(8, Refusal::TooDeep)]),
+    (NODES, &[(16, Refusal::TooMany)]),
+    (WAITING, &[]),
+];
+
+/// Runs each script on a device of its own, whichever they are, so that the bytes of none are in the proof.
+fn assert_lines(alloc: Global, scripts: &[(&[u8], &[(usize, Refusal)])]) -> Result<(), Fail> {
+    for (script, refusals) in scripts {
+        LineRunner::new(alloc, 0)?.run(alloc, script, refusals)?;
     }
     Ok(())
+}
+
+#[test]
+fn a_line_is_done_or_changes_nothing(rt: HostRuntime) -> Result<(), Fail> {
+    assert_lines(rt.alloc(), SCRIPTS)
 }
 
 #[test]

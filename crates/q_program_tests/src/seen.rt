@@ -53,17 +53,20 @@ fn look(alloc: Global, device: &Device) -> Option<Seen> {
 
 /// Whether arrived is sent, refused, dropped and queued together, in packets and in bytes.
 pub fn adds_up(row: &Row) -> bool {
-    let packets = row
-        .sent
-        .packets
-        .saturating_add(row.refused.packets)
-        .saturating_add(row.dropped.packets)
-        .saturating_add(row.queued.packets);
-    let bytes = row
-        .sent
-        .bytes
-        .saturating_add(row.refused.bytes)
-        .saturating_add(row.dropped.bytes)
-        .saturating_add(row.queued.bytes);
+    let (sent, refused, dropped, queued) = (row.sent, row.refused, row.dropped, row.queued);
+    let packets = sum(
+        sent.packets,
+        refused.packets,
+        dropped.packets,
+        queued.packets,
+    );
+    let bytes = sum(sent.bytes, refused.bytes, dropped.bytes, queued.bytes);
     row.arrived == Totals { packets, bytes }
+}
+
+// The sum of four counters. It promises nothing, so that the cases of one sum are not multiplied by those of another.
+fn sum(sent: u64, refused: u64, dropped: u64, queued: u64) -> u64 {
+    sent.saturating_add(refused)
+        .saturating_add(dropped)
+        .saturating_add(queued)
 }

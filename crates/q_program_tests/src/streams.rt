@@ -1,9 +1,9 @@
 //! Runs whose reader or writer is slow or fails.
-use crate::runs::{TWO_OF_THREE, TWO_OF_THREE_REPORT};
+use crate::runs::{TWO_OF_THREE, TWO_OF_THREE_REPORT, run_through};
 use crate::shows::{QDISCS, device};
 use q_options::play;
 use q_script::{MAX_LENGTH, Outcome, RunFault, RunSettings, Source};
-use q_session::{ShowFault, run, show_qdiscs};
+use q_session::{ShowFault, show_qdiscs};
 use q_show::Target;
 use std::alloc::Global;
 use std::io::{Error, ErrorKind, Read, Result as IoResult, Write};
@@ -68,10 +68,29 @@ impl Read for Slow<'_> {
 
 /// A writer that has room for so many bytes, and then fails or takes none.
 #[derive(Drop)]
-struct Narrow {
-    written: Vec<u8>,
+pub struct Narrow {
+    pub written: Vec<u8>,
     room: usize,
     fails: bool,
+}
+
+impl Narrow {
+    pub fn new(alloc: Global, room: usize, fails: bool) -> Narrow {
+        Narrow {
+            written: Vec::new(alloc),
+            room,
+            fails,
+        }
+    }
+
+    /// The error of a write that it has no room for.
+    fn failure(&self) -> ErrorKind {
+        if self.fails {
+            ErrorKind::BrokenPipe
+        } else {
+            ErrorKind::WriteZero
+        }
+    }
 }
 
 impl Write for Narrow {
@@ -92,6 +111,22 @@ impl Write for Narrow {
     }
 }
 
+/// The status of a play with the default settings. It promises nothing: what a play promises is long, and no test needs it.
+fn play_through<R: Read, W: Write, E: Write>(
+    alloc: Global,
+    reader: &mut R,
+    writer: &mut W,
+    errors: &mut E,
+) -> u8 {
+    play(
+        alloc,
+        RunSettings::defaults(),
+        &mut Source::new(reader),
+        &mut Target::new(writer),
+        errors,
+    )
+}
+
 #[test]
 fn readers_that_are_slow(rt: HostRuntime) {
     let alloc = rt.alloc();
@@ -99,7 +134,7 @@ fn readers_that_are_slow(rt: HostRuntime) {
         let mut reader = Slow::new(TWO_OF_THREE, 0, step);
         reader.interrupts = step % 3;
         let mut written = Vec::new(alloc);
-        let told = run(alloc, &mut reader, &mut written, RunSettings::defaults());
+        let told = run_through(alloc, &mut reader, &mut written, RunSettings::defaults());
         assert_eq!(rt; told, Ok(Outcome::Clean), "{step} bytes a time");
         assert_eq!(rt;
             written.as_slice(),
@@ -119,7 +154,7 @@ fn each_read_fails(rt: HostRuntime) {
         let mut reader = Slow::new(TWO_OF_THREE, 0, 1);
         reader.failing = Some(failing);
         let mut written = Vec::new(alloc);
-        let told = run(alloc, &mut reader, &mut written, RunSettings::defaults());
+        let told = run_through(alloc, &mut reader, &mut written, RunSettings::defaults());
         let (want, report) = if failing <= last {
             (Err(RunFault::Read(ErrorKind::ConnectionReset)), "")
         } else {
@@ -130,17 +165,20 @@ fn each_read_fails(rt: HostRuntime) {
     }
 }
 
+/// Blanks behind a line of five bytes, each with what a run comes to.
+const LENGTHS: &[(usize, Result<Outcome, RunFault>, &str)] = &[
+    (MAX_LENGTH - 5, Ok(Outcome::Clean), "idle\n"),
+    (MAX_LENGTH - 4, Err(RunFault::TooLong), ""),
+];
+
 #[test]
 fn scripts_at_the_greatest_length_and_over_it(rt: HostRuntime) {
     let alloc = rt.alloc();
-    for (blanks, want, report) in [
-        (MAX_LENGTH - 5, Ok(Outcome::Clean), "idle\n"),
-        (MAX_LENGTH - 4, Err(RunFault::TooLong), ""),
-    ] {
-        let mut reader = Slow::new(b"poll\n", blanks, usize::MAX);
+    for (blanks, want, report) in LENGTHS {
+        let mut reader = Slow::new(b"poll\n", *blanks, usize::MAX);
         let mut written = Vec::new(alloc);
-        let told = run(alloc, &mut reader, &mut written, RunSettings::defaults());
-        assert_eq!(rt; told, want);
+        let told = run_through(alloc, &mut reader, &mut written, RunSettings::defaults());
+        assert_eq!(rt; told, *want);
         assert_eq!(rt; written.as_slice(), report.as_bytes());
     }
 }
@@ -163,7 +201,7 @@ fn interrupted_without_end(rt: HostRuntime) {
     let alloc = rt.alloc();
     let mut reader = Interrupted { reads: 0 };
     let mut written = Vec::new(alloc);
-    let told = run(alloc, &mut reader, &mut written, RunSettings::defaults());
+    let told = run_through(alloc, &mut reader, &mut written, RunSettings::defaults());
     assert_eq!(rt; told, Err(RunFault::Read(ErrorKind::Interrupted)));
     assert_eq!(rt; reader.reads, 16_777_218);
     assert!(rt; written.is_empty());
@@ -179,17 +217,9 @@ fn assert_front(
     fails: bool,
 ) {
     let mut reader = script;
-    let mut writer = Narrow {
-        written: Vec::new(alloc),
-        room,
-        fails,
-    };
-    let told = run(alloc, &mut reader, &mut writer, RunSettings::defaults());
-    let kind = if fails {
-        ErrorKind::BrokenPipe
-    } else {
-        ErrorKind::WriteZero
-    };
+    let mut writer = Narrow::new(alloc, room, fails);
+    let told = run_through(alloc, &mut reader, &mut writer, RunSettings::defaults());
+    let kind = writer.failure();
     assert_eq!(rt; told, Err(RunFault::Write(kind)), "room for {room} bytes");
     assert!(rt;
         Some(writer.written.as_slice()) == report.get(..room),
@@ -219,19 +249,19 @@ fn writers_that_are_full(rt: HostRuntime) -> Result<(), Fail> {
     Ok(())
 }
 
+/// Whether a writer that is full fails, and what is told then.
+const TOLD_OF_WRITERS: &[(bool, &str)] = &[
+    (true, "qtree: the report cannot be written: broken pipe\n"),
+    (false, "qtree: the report cannot be written: write zero\n"),
+];
+
 #[test]
 fn failures_are_told(rt: HostRuntime) {
     let alloc = rt.alloc();
     let mut reader = Slow::new(TWO_OF_THREE, 0, 10);
     reader.failing = Some(2);
     let (mut written, mut errors) = (Vec::new(alloc), Vec::new(alloc));
-    let status = play(
-        alloc,
-        RunSettings::defaults(),
-        &mut Source::new(&mut reader),
-        &mut Target::new(&mut written),
-        &mut errors,
-    );
+    let status = play_through(alloc, &mut reader, &mut written, &mut errors);
     assert_eq!(rt; status, 2);
     assert!(rt; written.is_empty());
     assert_eq!(rt;
@@ -239,24 +269,11 @@ fn failures_are_told(rt: HostRuntime) {
         "qtree: the script cannot be read: connection reset\n".as_bytes()
     );
 
-    for (fails, told) in [
-        (true, "qtree: the report cannot be written: broken pipe\n"),
-        (false, "qtree: the report cannot be written: write zero\n"),
-    ] {
+    for (fails, told) in TOLD_OF_WRITERS {
         let mut reader = TWO_OF_THREE;
-        let mut writer = Narrow {
-            written: Vec::new(alloc),
-            room: 10,
-            fails,
-        };
+        let mut writer = Narrow::new(alloc, 10, *fails);
         let mut errors = Vec::new(alloc);
-        let status = play(
-            alloc,
-            RunSettings::defaults(),
-            &mut Source::new(&mut reader),
-            &mut Target::new(&mut writer),
-            &mut errors,
-        );
+        let status = play_through(alloc, &mut reader, &mut writer, &mut errors);
         assert_eq!(rt; status, 2);
         assert_eq!(rt; errors.as_slice(), told.as_bytes());
     }
@@ -267,19 +284,9 @@ fn show_texts_in_writers_that_are_full(rt: HostRuntime) -> Result<(), Fail> {
     let alloc = rt.alloc();
     let device = device(alloc)?;
     for room in 0..QDISCS.len() {
-        let written = Vec::new(alloc);
-        let fails = room % 2 == 0;
-        let mut writer = Narrow {
-            written,
-            room,
-            fails,
-        };
+        let mut writer = Narrow::new(alloc, room, room % 2 == 0);
         let told = show_qdiscs(alloc, device.tree(), false, &mut writer);
-        let kind = if fails {
-            ErrorKind::BrokenPipe
-        } else {
-            ErrorKind::WriteZero
-        };
+        let kind = writer.failure();
         assert_eq!(rt; told, Err(ShowFault::Write(kind)), "room for {room} bytes");
         assert_eq!(rt; writer.written.as_slice(), &QDISCS.as_bytes()[..room]);
     }
