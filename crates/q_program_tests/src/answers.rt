@@ -5,7 +5,7 @@ use q_script::{RunSettings, Source};
 use q_show::Target;
 use std::alloc::Global;
 use std::fs::Files;
-use std::io::{Error, ErrorKind, Read, Result as IoResult, Write};
+use std::io::{Read, Write};
 use std::process::Abort;
 use std::sync::Wait;
 use std::test::Fail;
@@ -20,64 +20,94 @@ fn words(alloc: Global, line: &str) -> Result<Vec<String>, Fail> {
     Ok(words)
 }
 
-/// What a command line and a script come to: the status, the output and the error output.
-fn assert_answers<R: Abort + Files + Threads + Wait + Sync>(
-    rt: &R,
+/// What a command line asks for; `None` where it is turned down. It promises nothing: what options promise is long, and no test needs
+/// it.
+pub fn asked(alloc: Global, line: &str) -> Result<Option<Options>, Fail> {
+    Ok(options(alloc, &words(alloc, line)?).ok())
+}
+
+/// The status of a command line. It promises nothing: what an answer promises is long, and no test needs it.
+pub fn status_of<H: Files + Threads + Wait + Sync, R: Read, W: Write, E: Write>(
+    rt: &H,
     alloc: Global,
+    line: &str,
+    reader: &mut R,
+    writer: &mut W,
+    errors: &mut E,
+) -> Result<u8, Fail> {
+    let words = Ok(words(alloc, line)?);
+    let (mut source, mut target) = (Source::new(reader), Target::new(writer));
+    Ok(answer(rt, alloc, words, &mut source, &mut target, errors))
+}
+
+/// What a command line and a script come to: the status, the output and the error output.
+pub fn assert_answers<R: Abort + AllocGlobal + Files + Threads + Wait + Sync>(
+    rt: &R,
     line: &str,
     script: &[u8],
     status: u8,
     report: &str,
     told: &str,
 ) -> Result<(), Fail> {
+    let alloc = rt.alloc();
     let (mut reader, mut written, mut errors) = (script, Vec::new(alloc), Vec::new(alloc));
-    let words = Ok(words(alloc, line)?);
-    let (mut source, mut target) = (Source::new(&mut reader), Target::new(&mut written));
-    let answered = answer(rt, alloc, words, &mut source, &mut target, &mut errors);
-    assert_eq!(rt; answered, status, "{line}");
-    assert_eq!(rt; written.as_slice(), report.as_bytes(), "{line}");
+    let answered = status_of(rt, alloc, line, &mut reader, &mut written, &mut errors)?;
     assert_eq!(rt; errors.as_slice(), told.as_bytes(), "{line}");
+    assert_eq!(rt; written.as_slice(), report.as_bytes(), "{line}");
+    assert_eq!(rt; answered, status, "{line}");
     Ok(())
 }
 
-#[test]
-fn scripts_and_their_statuses(rt: HostRuntime) -> Result<(), Fail> {
-    let alloc = rt.alloc();
-    assert_answers(
-        &rt,
-        alloc,
-        "qtree play",
-        TWO_OF_THREE,
-        0,
-        TWO_OF_THREE_REPORT,
-        "",
-    )?;
-    assert_answers(
-        &rt,
-        alloc,
+/// Command lines and scripts of which nothing is told: each with the status and the output.
+const ANSWERS: &[(&str, &[u8], u8, &str)] = &[
+    ("qtree play", TWO_OF_THREE, 0, TWO_OF_THREE_REPORT),
+    (
         "qtree play",
         b"pkt 0\npoll",
         1,
         "line 1: fault 4 OutOfRange word 2\nidle\n",
-        "",
-    )?;
+    ),
     // A packet of 100 bytes is longer than this device takes.
-    assert_answers(
-        &rt,
-        alloc,
+    (
         "qtree play --mtu 99",
         b"tc qdisc show",
         0,
         "qdisc pfifo 0: root limit 1000p\n",
-        "",
-    )
+    ),
+];
+
+#[test]
+fn scripts_and_their_statuses(rt: HostRuntime) -> Result<(), Fail> {
+    for (line, script, status, report) in ANSWERS {
+        assert_answers(&rt, line, script, *status, report, "")?;
+    }
+    Ok(())
 }
+
+/// Command lines that are turned down.
+const TURNED_DOWN: &[&str] = &[
+    "qtree drive",
+    "qtree",
+    "qtree play --loud",
+    "qtree play script script",
+    "qtree play --explain=1",
+    "qtree play --explain --explain",
+    "qtree drive --explain",
+    "qtree play --mtu 0",
+    "qtree play --mtu 65536",
+    "qtree play --mtu",
+    "qtree play --mtu 1 --mtu 2",
+    "qtree play --txqueuelen -1",
+    "qtree play --seed 4294967296",
+    "qtree play --record 1000001",
+    "qtree play --record 1k",
+];
 
 #[test]
 fn options_of_play(rt: HostRuntime) -> Result<(), Fail> {
     let alloc = rt.alloc();
     let settings = RunSettings::new(1, 0, u32::MAX, 1_000_000).ok_or("settings in range")?;
-    for (line, asked) in [
+    for (line, settings) in [
         ("qtree play", RunSettings::defaults()),
         (
             "qtree play --mtu 1 --txqueuelen 0 --seed 4294967295 --record 1000000",
@@ -88,34 +118,15 @@ fn options_of_play(rt: HostRuntime) -> Result<(), Fail> {
             settings,
         ),
     ] {
-        assert_eq!(rt;
-            options(alloc, &words(alloc, line)?)?,
-            Options::Play(PlayOptions {
-                settings: asked,
-                file: None,
-                explain: false,
-            }),
-            "{line}"
-        );
+        let play = PlayOptions {
+            settings,
+            file: None,
+            explain: false,
+        };
+        assert_eq!(rt; asked(alloc, line)?, Some(Options::Play(play)), "{line}");
     }
-    for line in [
-        "qtree drive",
-        "qtree",
-        "qtree play --loud",
-        "qtree play script script",
-        "qtree play --explain=1",
-        "qtree play --explain --explain",
-        "qtree drive --explain",
-        "qtree play --mtu 0",
-        "qtree play --mtu 65536",
-        "qtree play --mtu",
-        "qtree play --mtu 1 --mtu 2",
-        "qtree play --txqueuelen -1",
-        "qtree play --seed 4294967296",
-        "qtree play --record 1000001",
-        "qtree play --record 1k",
-    ] {
-        assert!(rt; options(alloc, &words(alloc, line)?).is_err(), "{line}");
+    for line in TURNED_DOWN {
+        assert!(rt; asked(alloc, line)?.is_none(), "{line}");
     }
     Ok(())
 }

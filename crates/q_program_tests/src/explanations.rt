@@ -1,5 +1,5 @@
 //! What `--explain` says of lines that were not done.
-use crate::messages::assert_answers;
+use crate::answers::assert_answers;
 use std::test::Fail;
 
 /// A script of lines with faults.
