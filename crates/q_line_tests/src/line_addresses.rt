@@ -1,36 +1,67 @@
 //! Lines of the whole language with addresses of both versions, prefixes, and protocols above IP.
 //! What they say is what the grammar gives: q_worked_examples has the same lines, with their answers computed from it.
-use crate::line_reading::{assert_answers, assert_faults, key_in, keys_in};
-use q_model::IpPrefix;
+use crate::line_reading::{Key, Says, assert_answers, assert_faults, assert_lines};
 use q_model::IpVersion::{V4, V6};
 use q_words::LineFault::{BadNumber, OutOfRange};
 use std::test::Fail;
 
+// An address as a source, and what it says.
+const IPV6: [(&str, Says); 14] = [
+    ("::", Says::Flow((6, 0, 0, 0, 0, 0))),
+    (
+        "::2:3:4:5:6:7:8",
+        Says::Flow((6, 0, 0x2000300040005000600070008, 0, 0, 0)),
+    ),
+    (
+        "1::3:4:5:6:7:8",
+        Says::Flow((6, 0, 0x10000000300040005000600070008, 0, 0, 0)),
+    ),
+    (
+        "1:2::4:5:6:7:8",
+        Says::Flow((6, 0, 0x10002000000040005000600070008, 0, 0, 0)),
+    ),
+    (
+        "1:2:3::5:6:7:8",
+        Says::Flow((6, 0, 0x10002000300000005000600070008, 0, 0, 0)),
+    ),
+    (
+        "1:2:3:4::6:7:8",
+        Says::Flow((6, 0, 0x10002000300040000000600070008, 0, 0, 0)),
+    ),
+    (
+        "1:2:3:4:5::7:8",
+        Says::Flow((6, 0, 0x10002000300040005000000070008, 0, 0, 0)),
+    ),
+    (
+        "1:2:3:4:5:6::8",
+        Says::Flow((6, 0, 0x10002000300040005000600000008, 0, 0, 0)),
+    ),
+    (
+        "1:2:3:4:5:6:7::",
+        Says::Flow((6, 0, 0x10002000300040005000600070000, 0, 0, 0)),
+    ),
+    (
+        "1:2:3:4:5:6:7:8",
+        Says::Flow((6, 0, 0x10002000300040005000600070008, 0, 0, 0)),
+    ),
+    ("::8", Says::Flow((6, 0, 8, 0, 0, 0))),
+    (
+        "1::",
+        Says::Flow((6, 0, 0x10000000000000000000000000000, 0, 0, 0)),
+    ),
+    (
+        "1:2::7:8",
+        Says::Flow((6, 0, 0x10002000000000000000000070008, 0, 0, 0)),
+    ),
+    (
+        "FE80::00aB",
+        Says::Flow((6, 0, 0xfe8000000000000000000000000000ab, 0, 0, 0)),
+    ),
+];
+
 #[test]
 fn ipv6_addresses(rt: HostRuntime) -> Result<(), Fail> {
-    for (word, value) in [
-        ("::", (6, 0)),
-        ("::2:3:4:5:6:7:8", (6, 0x2000300040005000600070008)),
-        ("1::3:4:5:6:7:8", (6, 0x10000000300040005000600070008)),
-        ("1:2::4:5:6:7:8", (6, 0x10002000000040005000600070008)),
-        ("1:2:3::5:6:7:8", (6, 0x10002000300000005000600070008)),
-        ("1:2:3:4::6:7:8", (6, 0x10002000300040000000600070008)),
-        ("1:2:3:4:5::7:8", (6, 0x10002000300040005000000070008)),
-        ("1:2:3:4:5:6::8", (6, 0x10002000300040005000600000008)),
-        ("1:2:3:4:5:6:7::", (6, 0x10002000300040005000600070000)),
-        ("1:2:3:4:5:6:7:8", (6, 0x10002000300040005000600070008)),
-        ("::8", (6, 8)),
-        ("1::", (6, 0x10000000000000000000000000000)),
-        ("1:2::7:8", (6, 0x10002000000000000000000070008)),
-        ("FE80::00aB", (6, 0xfe8000000000000000000000000000ab)),
-    ] {
-        let read = key_in(rt.alloc(), "pkt 1 src_ip ", word)?;
-        assert_eq!(rt;
-            read.map(|key| (key.family, key.src)),
-            Some(value),
-            "{word}"
-        );
-    }
+    assert_lines(&rt, rt.alloc(), "pkt 1 src_ip ", &IPV6)?;
     assert_faults(
         &rt,
         rt.alloc(),
@@ -55,19 +86,17 @@ fn ipv6_addresses(rt: HostRuntime) -> Result<(), Fail> {
 
 #[test]
 fn ipv4_addresses(rt: HostRuntime) -> Result<(), Fail> {
-    for (word, value) in [
-        ("0.0.0.0", (4, 0)),
-        ("255.255.255.255", (4, 0xffffffff)),
-        ("10.0.0.1", (4, 0xa000001)),
-        ("010.0.0.001", (4, 0xa000001)),
-    ] {
-        let read = key_in(rt.alloc(), "pkt 1 dst_ip ", word)?;
-        assert_eq!(rt;
-            read.map(|key| (key.family, key.dst)),
-            Some(value),
-            "{word}"
-        );
-    }
+    assert_lines(
+        &rt,
+        rt.alloc(),
+        "pkt 1 dst_ip ",
+        &[
+            ("0.0.0.0", Says::Flow((4, 0, 0, 0, 0, 0))),
+            ("255.255.255.255", Says::Flow((4, 0, 0, 0xffffffff, 0, 0))),
+            ("10.0.0.1", Says::Flow((4, 0, 0, 0xa000001, 0, 0))),
+            ("010.0.0.001", Says::Flow((4, 0, 0, 0xa000001, 0, 0))),
+        ],
+    )?;
     assert_faults(
         &rt,
         rt.alloc(),
@@ -91,47 +120,17 @@ fn ipv4_addresses(rt: HostRuntime) -> Result<(), Fail> {
 
 #[test]
 fn prefixes_of_ipv4(rt: HostRuntime) -> Result<(), Fail> {
-    for (word, value) in [
-        (
-            "1.2.3.4",
-            IpPrefix {
-                version: V4,
-                address: 0x1020304,
-                len: 32,
-            },
-        ),
-        (
-            "1.2.3.4/0",
-            IpPrefix {
-                version: V4,
-                address: 0x1020304,
-                len: 0,
-            },
-        ),
-        (
-            "1.2.3.4/32",
-            IpPrefix {
-                version: V4,
-                address: 0x1020304,
-                len: 32,
-            },
-        ),
-        (
-            "1.2.3.4/008",
-            IpPrefix {
-                version: V4,
-                address: 0x1020304,
-                len: 8,
-            },
-        ),
-    ] {
-        let read = keys_in(
-            rt.alloc(),
-            "tc filter add dev e parent 1: prio 1 flower classid 1:1 src_ip ",
-            word,
-        )?;
-        assert_eq!(rt; read.and_then(|keys| keys.src_ip), Some(value), "{word}");
-    }
+    assert_lines(
+        &rt,
+        rt.alloc(),
+        "tc filter add dev e parent 1: prio 1 flower classid 1:1 src_ip ",
+        &[
+            ("1.2.3.4", Says::Key(Key::SrcIp(V4, 0x1020304, 32))),
+            ("1.2.3.4/0", Says::Key(Key::SrcIp(V4, 0x1020304, 0))),
+            ("1.2.3.4/32", Says::Key(Key::SrcIp(V4, 0x1020304, 32))),
+            ("1.2.3.4/008", Says::Key(Key::SrcIp(V4, 0x1020304, 8))),
+        ],
+    )?;
     assert_faults(
         &rt,
         rt.alloc(),
@@ -151,47 +150,23 @@ fn prefixes_of_ipv4(rt: HostRuntime) -> Result<(), Fail> {
 
 #[test]
 fn prefixes_of_ipv6(rt: HostRuntime) -> Result<(), Fail> {
-    for (word, value) in [
-        (
-            "1::2",
-            IpPrefix {
-                version: V6,
-                address: 0x10000000000000000000000000002,
-                len: 128,
-            },
-        ),
-        (
-            "::/0",
-            IpPrefix {
-                version: V6,
-                address: 0,
-                len: 0,
-            },
-        ),
-        (
-            "::1/128",
-            IpPrefix {
-                version: V6,
-                address: 1,
-                len: 128,
-            },
-        ),
-        (
-            "1:2:3:4:5:6:7::/112",
-            IpPrefix {
-                version: V6,
-                address: 0x10002000300040005000600070000,
-                len: 112,
-            },
-        ),
-    ] {
-        let read = keys_in(
-            rt.alloc(),
-            "tc filter add dev e parent 1: prio 1 flower classid 1:1 dst_ip ",
-            word,
-        )?;
-        assert_eq!(rt; read.and_then(|keys| keys.dst_ip), Some(value), "{word}");
-    }
+    assert_lines(
+        &rt,
+        rt.alloc(),
+        "tc filter add dev e parent 1: prio 1 flower classid 1:1 dst_ip ",
+        &[
+            (
+                "1::2",
+                Says::Key(Key::DstIp(V6, 0x10000000000000000000000000002, 128)),
+            ),
+            ("::/0", Says::Key(Key::DstIp(V6, 0, 0))),
+            ("::1/128", Says::Key(Key::DstIp(V6, 1, 128))),
+            (
+                "1:2:3:4:5:6:7::/112",
+                Says::Key(Key::DstIp(V6, 0x10002000300040005000600070000, 112)),
+            ),
+        ],
+    )?;
     assert_faults(
         &rt,
         rt.alloc(),
@@ -207,20 +182,22 @@ fn prefixes_of_ipv6(rt: HostRuntime) -> Result<(), Fail> {
 
 #[test]
 fn protocols(rt: HostRuntime) -> Result<(), Fail> {
-    for (word, value) in [
-        ("icmp", 1),
-        ("tcp", 6),
-        ("udp", 17),
-        ("icmpv6", 58),
-        ("sctp", 132),
-        ("17", 23),
-        ("6", 6),
-        ("0Ff", 255),
-        ("0011", 17),
-    ] {
-        let read = key_in(rt.alloc(), "pkt 1 ip_proto ", word)?;
-        assert_eq!(rt; read.map(|key| key.proto), Some(value), "{word}");
-    }
+    assert_lines(
+        &rt,
+        rt.alloc(),
+        "pkt 1 ip_proto ",
+        &[
+            ("icmp", Says::Flow((0, 1, 0, 0, 0, 0))),
+            ("tcp", Says::Flow((0, 6, 0, 0, 0, 0))),
+            ("udp", Says::Flow((0, 17, 0, 0, 0, 0))),
+            ("icmpv6", Says::Flow((0, 58, 0, 0, 0, 0))),
+            ("sctp", Says::Flow((0, 132, 0, 0, 0, 0))),
+            ("17", Says::Flow((0, 23, 0, 0, 0, 0))),
+            ("6", Says::Flow((0, 6, 0, 0, 0, 0))),
+            ("0Ff", Says::Flow((0, 255, 0, 0, 0, 0))),
+            ("0011", Says::Flow((0, 17, 0, 0, 0, 0))),
+        ],
+    )?;
     assert_faults(
         &rt,
         rt.alloc(),

@@ -1,34 +1,33 @@
 //! Lines of classes, filters and packets, and moments, with each number at the ends of its range, one below and one above.
 //! What they say is what the grammar gives: q_worked_examples has the same lines, with their answers computed from it.
-use crate::line_reading::{
-    NO_KEYS, assert_class, assert_faults, assert_filter, assert_line, class_id, one_byte,
-};
-use q_line::{Arrival, Line};
-use q_model::FilterKeys;
-use q_packet::{Ecn, FlowKey, Head, Moment};
+use crate::line_reading::{Key, NO_FLOW, Says, assert_faults, assert_lines};
+use q_packet::Ecn;
 use q_words::LineFault::{BadNumber, OutOfRange};
-use std::alloc::Global;
-use std::process::Abort;
 use std::test::Fail;
 
 #[test]
 fn classes(rt: HostRuntime) -> Result<(), Fail> {
-    for (rest, parent, (major, minor), quantum) in [
-        ("1: classid 1:1 drr quantum 1", 1, (1, 1), Some(1)),
-        (
-            "1: classid 1:1 drr quantum 4294967295",
-            1,
-            (1, 1),
-            Some(u32::MAX),
-        ),
-        ("1: classid 1:1 drr", 1, (1, 1), None),
-        ("fffe: classid 1:1 drr", 0xfffe, (1, 1), None),
-        ("1: classid fffe:ffff drr", 1, (0xfffe, 0xffff), None),
-    ] {
-        let class = class_id(major, minor)?;
-        assert_class(&rt, rt.alloc(), rest, parent, class, quantum)?;
-    }
-    Ok(())
+    assert_lines(
+        &rt,
+        rt.alloc(),
+        "tc class add dev e parent ",
+        &[
+            (
+                "1: classid 1:1 drr quantum 1",
+                Says::Class(1, (1, 1), Some(1)),
+            ),
+            (
+                "1: classid 1:1 drr quantum 4294967295",
+                Says::Class(1, (1, 1), Some(u32::MAX)),
+            ),
+            ("1: classid 1:1 drr", Says::Class(1, (1, 1), None)),
+            ("fffe: classid 1:1 drr", Says::Class(0xfffe, (1, 1), None)),
+            (
+                "1: classid fffe:ffff drr",
+                Says::Class(1, (0xfffe, 0xffff), None),
+            ),
+        ],
+    )
 }
 
 #[test]
@@ -52,16 +51,26 @@ fn classes_out_of_range(rt: HostRuntime) -> Result<(), Fail> {
 
 #[test]
 fn filters(rt: HostRuntime) -> Result<(), Fail> {
-    for (rest, parent, (major, minor), prio) in [
-        ("1: prio 1 flower classid 1:1", 1, (1, 1), 1),
-        ("1: prio 65535 flower classid 1:1", 1, (1, 1), 65535),
-        ("fffe: prio 1 flower classid 1:1", 0xfffe, (1, 1), 1),
-        ("1: prio 1 flower classid fffe:ffff", 1, (0xfffe, 0xffff), 1),
-    ] {
-        let class = class_id(major, minor)?;
-        assert_filter(&rt, rt.alloc(), rest, (parent, prio), class, NO_KEYS)?;
-    }
-    Ok(())
+    assert_lines(
+        &rt,
+        rt.alloc(),
+        "tc filter add dev e parent ",
+        &[
+            ("1: prio 1 flower classid 1:1", Says::Filter(1, 1, (1, 1))),
+            (
+                "1: prio 65535 flower classid 1:1",
+                Says::Filter(1, 65535, (1, 1)),
+            ),
+            (
+                "fffe: prio 1 flower classid 1:1",
+                Says::Filter(0xfffe, 1, (1, 1)),
+            ),
+            (
+                "1: prio 1 flower classid fffe:ffff",
+                Says::Filter(1, 1, (0xfffe, 0xffff)),
+            ),
+        ],
+    )
 }
 
 #[test]
@@ -83,41 +92,45 @@ fn filters_out_of_range(rt: HostRuntime) -> Result<(), Fail> {
     )
 }
 
-/// A filter into the class 1:1 has these keys.
-fn assert_keys(rt: &impl Abort, alloc: Global, rest: &str, keys: FilterKeys) -> Result<(), Fail> {
-    let rest = format!(in alloc; "1: prio 1 flower classid 1:1 {rest}")?;
-    let class = class_id(1, 1)?;
-    assert_filter(rt, alloc, rest.as_str(), (1, 1), class, keys)
-}
+const KEYS: &str = "tc filter add dev e parent 1: prio 1 flower classid 1:1 ";
 
 #[test]
 fn protocols_of_a_filter(rt: HostRuntime) -> Result<(), Fail> {
-    for (rest, number) in [("ip_proto 0", 0), ("ip_proto ff", 255)] {
-        let mut keys = NO_KEYS;
-        keys.ip_proto = Some(number);
-        assert_keys(&rt, rt.alloc(), rest, keys)?;
-    }
-    Ok(())
+    assert_lines(
+        &rt,
+        rt.alloc(),
+        KEYS,
+        &[
+            ("ip_proto 0", Says::Key(Key::IpProto(0))),
+            ("ip_proto ff", Says::Key(Key::IpProto(255))),
+        ],
+    )
 }
 
 #[test]
 fn source_ports_of_a_filter(rt: HostRuntime) -> Result<(), Fail> {
-    for (rest, port) in [("src_port 0", 0), ("src_port 65535", 65535)] {
-        let mut keys = NO_KEYS;
-        keys.src_port = Some(port);
-        assert_keys(&rt, rt.alloc(), rest, keys)?;
-    }
-    Ok(())
+    assert_lines(
+        &rt,
+        rt.alloc(),
+        KEYS,
+        &[
+            ("src_port 0", Says::Key(Key::SrcPort(0))),
+            ("src_port 65535", Says::Key(Key::SrcPort(65535))),
+        ],
+    )
 }
 
 #[test]
 fn destination_ports_of_a_filter(rt: HostRuntime) -> Result<(), Fail> {
-    for (rest, port) in [("dst_port 0", 0), ("dst_port 65535", 65535)] {
-        let mut keys = NO_KEYS;
-        keys.dst_port = Some(port);
-        assert_keys(&rt, rt.alloc(), rest, keys)?;
-    }
-    Ok(())
+    assert_lines(
+        &rt,
+        rt.alloc(),
+        KEYS,
+        &[
+            ("dst_port 0", Says::Key(Key::DstPort(0))),
+            ("dst_port 65535", Says::Key(Key::DstPort(65535))),
+        ],
+    )
 }
 
 #[test]
@@ -125,7 +138,7 @@ fn keys_out_of_range(rt: HostRuntime) -> Result<(), Fail> {
     assert_faults(
         &rt,
         rt.alloc(),
-        "tc filter add dev e parent 1: prio 1 flower classid 1:1 ",
+        KEYS,
         &[
             ("ip_proto 100", OutOfRange(14)),
             ("src_port -1", BadNumber(14)),
@@ -136,66 +149,61 @@ fn keys_out_of_range(rt: HostRuntime) -> Result<(), Fail> {
     )
 }
 
-/// A line is this packet.
-fn assert_packet(rt: &impl Abort, alloc: Global, rest: &str, arrival: Arrival) -> Result<(), Fail> {
-    assert_line(rt, alloc, "pkt ", rest, Line::Pkt(arrival))
-}
-
 #[test]
 fn lengths(rt: HostRuntime) -> Result<(), Fail> {
-    for (rest, len) in [("1", 1), ("65535", 65535)] {
-        let mut arrival = one_byte();
-        arrival.len = len;
-        assert_packet(&rt, rt.alloc(), rest, arrival)?;
-    }
-    Ok(())
+    assert_lines(
+        &rt,
+        rt.alloc(),
+        "pkt ",
+        &[("1", Says::Len(1)), ("65535", Says::Len(65535))],
+    )
 }
 
 #[test]
 fn hashes(rt: HostRuntime) -> Result<(), Fail> {
-    for (rest, hash) in [("1 hash 0", 0), ("1 hash 4294967295", u32::MAX)] {
-        let mut arrival = one_byte();
-        arrival.hash = Some(hash);
-        assert_packet(&rt, rt.alloc(), rest, arrival)?;
-    }
-    Ok(())
+    assert_lines(
+        &rt,
+        rt.alloc(),
+        "pkt ",
+        &[
+            ("1 hash 0", Says::Hash(0)),
+            ("1 hash 4294967295", Says::Hash(u32::MAX)),
+        ],
+    )
 }
 
 #[test]
 fn priorities_and_codepoints(rt: HostRuntime) -> Result<(), Fail> {
-    for (rest, prio, ecn) in [
-        ("1 prio 0", 0, Ecn::NotEct),
-        ("1 prio 15", 15, Ecn::NotEct),
-        ("1 ecn 0", 0, Ecn::NotEct),
-        ("1 ecn 1", 0, Ecn::Ect1),
-        ("1 ecn 2", 0, Ecn::Ect0),
-        ("1 ecn 3", 0, Ecn::Ce),
-    ] {
-        let mut arrival = one_byte();
-        arrival.prio = prio;
-        arrival.ecn = ecn;
-        assert_packet(&rt, rt.alloc(), rest, arrival)?;
-    }
-    Ok(())
+    assert_lines(
+        &rt,
+        rt.alloc(),
+        "pkt ",
+        &[
+            ("1 prio 0", Says::Marks(0, Ecn::NotEct)),
+            ("1 prio 15", Says::Marks(15, Ecn::NotEct)),
+            ("1 ecn 0", Says::Marks(0, Ecn::NotEct)),
+            ("1 ecn 1", Says::Marks(0, Ecn::Ect1)),
+            ("1 ecn 2", Says::Marks(0, Ecn::Ect0)),
+            ("1 ecn 3", Says::Marks(0, Ecn::Ce)),
+        ],
+    )
 }
 
 #[test]
 fn keys_of_a_packet(rt: HostRuntime) -> Result<(), Fail> {
-    for (rest, proto, sport, dport) in [
-        ("1 ip_proto 0", 0, 0, 0),
-        ("1 ip_proto ff", 255, 0, 0),
-        ("1 src_port 0", 0, 0, 0),
-        ("1 src_port 65535", 0, 65535, 0),
-        ("1 dst_port 0", 0, 0, 0),
-        ("1 dst_port 65535", 0, 0, 65535),
-    ] {
-        let key = FlowKey::zero();
-        let key = FlowKey::new(key.family, proto, key.src, key.dst, sport, dport);
-        let mut arrival = one_byte();
-        arrival.key = key.ok_or("a key")?;
-        assert_packet(&rt, rt.alloc(), rest, arrival)?;
-    }
-    Ok(())
+    assert_lines(
+        &rt,
+        rt.alloc(),
+        "pkt ",
+        &[
+            ("1 ip_proto 0", Says::Flow(NO_FLOW)),
+            ("1 ip_proto ff", Says::Flow((0, 255, 0, 0, 0, 0))),
+            ("1 src_port 0", Says::Flow(NO_FLOW)),
+            ("1 src_port 65535", Says::Flow((0, 0, 0, 0, 65535, 0))),
+            ("1 dst_port 0", Says::Flow(NO_FLOW)),
+            ("1 dst_port 65535", Says::Flow((0, 0, 0, 0, 0, 65535))),
+        ],
+    )
 }
 
 #[test]
@@ -224,28 +232,38 @@ fn packets_out_of_range(rt: HostRuntime) -> Result<(), Fail> {
 
 #[test]
 fn moments(rt: HostRuntime) -> Result<(), Fail> {
-    for (rest, ns) in [("0", 0), ("4611686018427387904", 4_611_686_018_427_387_904)] {
-        let line = Line::At(Moment::new(ns).ok_or("a moment")?);
-        assert_line(&rt, rt.alloc(), "at ", rest, line)?;
-    }
-    Ok(())
+    assert_lines(
+        &rt,
+        rt.alloc(),
+        "at ",
+        &[
+            ("0", Says::At(0)),
+            ("4611686018427387904", Says::At(4_611_686_018_427_387_904)),
+        ],
+    )
 }
 
 #[test]
 fn polls(rt: HostRuntime) -> Result<(), Fail> {
-    for (rest, count) in [("1", 1), ("100000", 100_000)] {
-        assert_line(&rt, rt.alloc(), "poll ", rest, Line::Poll(count))?;
-    }
-    Ok(())
+    assert_lines(
+        &rt,
+        rt.alloc(),
+        "poll ",
+        &[("1", Says::Poll(1)), ("100000", Says::Poll(100_000))],
+    )
 }
 
 #[test]
 fn frames(rt: HostRuntime) -> Result<(), Fail> {
-    for (rest, len) in [("1 00", 1), ("65535 00", 65535)] {
-        let head = Head::zero();
-        assert_line(&rt, rt.alloc(), "frame ", rest, Line::Frame { len, head })?;
-    }
-    Ok(())
+    assert_lines(
+        &rt,
+        rt.alloc(),
+        "frame ",
+        &[
+            ("1 00", Says::Frame(1, NO_FLOW, 0, Ecn::NotEct)),
+            ("65535 00", Says::Frame(65535, NO_FLOW, 0, Ecn::NotEct)),
+        ],
+    )
 }
 
 #[test]

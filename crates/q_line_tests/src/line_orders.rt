@@ -1,15 +1,8 @@
 //! Lines of the whole language with words that stand twice, with bytes that are no UTF-8, and with a priomap before its bands.
 //! What they say is what the grammar gives: q_worked_examples has the same lines, with their answers computed from it.
-use crate::line_reading::{assert_answers, assert_faults, assert_prio, fault_in};
-use q_words::LineFault::{self, BadNumber, BadUtf8, Missing, OutOfRange, Twice, UnknownWord};
-use std::process::Abort;
+use crate::line_reading::{Says, assert_answers, assert_bytes, assert_faults, assert_lines};
+use q_words::LineFault::{BadNumber, BadUtf8, Missing, OutOfRange, Twice, UnknownWord};
 use std::test::Fail;
-
-fn assert_bytes(rt: &impl Abort, rows: &[(&[u8], Option<LineFault>)]) {
-    for (line, fault) in rows {
-        assert_eq!(rt; fault_in(line), *fault, "{line:?}");
-    }
-}
 
 #[test]
 fn names_of_one_option(rt: HostRuntime) -> Result<(), Fail> {
@@ -210,37 +203,37 @@ fn bytes_of_words(rt: HostRuntime) {
 
 #[test]
 fn bands_given_later(rt: HostRuntime) -> Result<(), Fail> {
-    for (rest, bands, priomap) in [
-        (
-            "priomap 0 0 0 0 0 0 0 0 0 0 0 0 0 0 0 3 bands 4",
-            4,
-            [0, 0, 0, 0, 0, 0, 0, 0, 0, 0, 0, 0, 0, 0, 0, 3],
-        ),
-        (
-            "priomap 4 0 0 0 0 0 0 0 0 0 0 0 0 0 0 0 bands 5",
-            5,
-            [4, 0, 0, 0, 0, 0, 0, 0, 0, 0, 0, 0, 0, 0, 0, 0],
-        ),
-        (
-            "priomap 0 15 0 15 0 15 0 15 0 15 0 15 0 15 0 15 bands 16",
-            16,
-            [0, 15, 0, 15, 0, 15, 0, 15, 0, 15, 0, 15, 0, 15, 0, 15],
-        ),
-        ("priomap 2 2 2 2 2 2 2 2 2 2 2 2 2 2 2 2", 3, [2; 16]),
-        (
-            "priomap 1 1 1 1 1 1 1 1 1 1 1 1 1 1 1 1 bands 2",
-            2,
-            [1; 16],
-        ),
-        (
-            "bands 4 priomap 3 0 0 0 0 0 0 0 0 0 0 0 0 0 0 0",
-            4,
-            [3, 0, 0, 0, 0, 0, 0, 0, 0, 0, 0, 0, 0, 0, 0, 0],
-        ),
-    ] {
-        assert_prio(&rt, rt.alloc(), rest, bands, priomap)?;
-    }
-    Ok(())
+    assert_lines(
+        &rt,
+        rt.alloc(),
+        "tc qdisc add dev e root prio ",
+        &[
+            (
+                "priomap 0 0 0 0 0 0 0 0 0 0 0 0 0 0 0 3 bands 4",
+                Says::Prio(4, [0, 0, 0, 0, 0, 0, 0, 0, 0, 0, 0, 0, 0, 0, 0, 3]),
+            ),
+            (
+                "priomap 4 0 0 0 0 0 0 0 0 0 0 0 0 0 0 0 bands 5",
+                Says::Prio(5, [4, 0, 0, 0, 0, 0, 0, 0, 0, 0, 0, 0, 0, 0, 0, 0]),
+            ),
+            (
+                "priomap 0 15 0 15 0 15 0 15 0 15 0 15 0 15 0 15 bands 16",
+                Says::Prio(16, [0, 15, 0, 15, 0, 15, 0, 15, 0, 15, 0, 15, 0, 15, 0, 15]),
+            ),
+            (
+                "priomap 2 2 2 2 2 2 2 2 2 2 2 2 2 2 2 2",
+                Says::Prio(3, [2; 16]),
+            ),
+            (
+                "priomap 1 1 1 1 1 1 1 1 1 1 1 1 1 1 1 1 bands 2",
+                Says::Prio(2, [1; 16]),
+            ),
+            (
+                "bands 4 priomap 3 0 0 0 0 0 0 0 0 0 0 0 0 0 0 0",
+                Says::Prio(4, [3, 0, 0, 0, 0, 0, 0, 0, 0, 0, 0, 0, 0, 0, 0, 0]),
+            ),
+        ],
+    )
 }
 
 #[test]

@@ -136,79 +136,110 @@ fn first_words(alloc: Global, line: &str, count: usize, behind: &[u8]) -> Result
     Ok(words)
 }
 
+/// What stands behind the first words of a line.
+#[derive(Clone, Copy)]
+enum Behind {
+    Nothing,
+    // A word that is no name and no number.
+    NoWord,
+    Large,
+    // The word before the last again.
+    Again,
+    NoUtf8,
+}
+
+impl Behind {
+    /// The word that stands behind so many words of a line.
+    fn word(self, line: &'static str, count: usize) -> Result<&'static [u8], Fail> {
+        match self {
+            Behind::Nothing => Ok(b""),
+            Behind::NoWord => Ok(b"x"),
+            Behind::Large => Ok(b"99999999999999999999"),
+            Behind::NoUtf8 => Ok(b"\xff"),
+            Behind::Again => {
+                if count == 0 {
+                    return Ok(b"");
+                }
+                let word = line.split(' ').nth(count.saturating_sub(2));
+                Ok(word.ok_or("a word")?.as_bytes())
+            }
+        }
+    }
+
+    /// The letters of the answers, one for each number of words.
+    fn letters(self, long: &Long) -> &'static [u8] {
+        match self {
+            Behind::Nothing => long.ends.as_bytes(),
+            Behind::NoWord => long.no_word.as_bytes(),
+            Behind::Large => long.large.as_bytes(),
+            Behind::Again => long.again.as_bytes(),
+            // As many as there are answers, since such a word is the fault wherever it stands.
+            Behind::NoUtf8 => NO_UTF8.get(..long.ends.len()).unwrap_or(b""),
+        }
+    }
+}
+
+/// A letter for each place of the longest line.
+const NO_UTF8: &[u8] = &[b'8'; 29];
+
+/// How a line is answered that has another word behind so many of its words.
+fn assert_word(
+    rt: &impl Abort,
+    alloc: Global,
+    line: &'static str,
+    count: usize,
+    behind: Behind,
+    expected: u8,
+) -> Result<(), Fail> {
+    let words = first_words(alloc, line, count, behind.word(line, count)?)?;
+    let found = letter(count.saturating_add(1), fault_in(words.as_slice()));
+    assert_eq!(rt; found, expected, "{line}: word {count}");
+    Ok(())
+}
+
 /// The answers to a line whose word behind each front is another.
 fn assert_letters(
     rt: &impl Abort,
     alloc: Global,
-    line: &str,
-    behind: &[u8],
-    letters: &str,
+    line: &'static str,
+    behind: Behind,
+    letters: &[u8],
 ) -> Result<(), Fail> {
-    for (count, expected) in letters.as_bytes().iter().enumerate() {
-        let words = first_words(alloc, line, count, behind)?;
-        let found = letter(count.saturating_add(1), fault_in(words.as_slice()));
-        assert_eq!(rt; found, *expected, "{line}: word {count}");
+    for count in 0..letters.len() {
+        assert_word(rt, alloc, line, count, behind, letters[count])?;
     }
     assert_eq!(rt; letters.len().checked_sub(1), Some(line.split(' ').count()));
     Ok(())
 }
 
-#[test]
-fn lines_that_end(rt: HostRuntime) -> Result<(), Fail> {
+fn assert_long(rt: &impl Abort, alloc: Global, behind: Behind) -> Result<(), Fail> {
     for long in &LONG_LINES {
-        assert_letters(&rt, rt.alloc(), long.line, b"", long.ends)?;
+        assert_letters(rt, alloc, long.line, behind, behind.letters(long))?;
     }
     Ok(())
+}
+
+#[test]
+fn lines_that_end(rt: HostRuntime) -> Result<(), Fail> {
+    assert_long(&rt, rt.alloc(), Behind::Nothing)
 }
 
 #[test]
 fn words_that_are_none(rt: HostRuntime) -> Result<(), Fail> {
-    for long in &LONG_LINES {
-        assert_letters(&rt, rt.alloc(), long.line, b"x", long.no_word)?;
-    }
-    Ok(())
+    assert_long(&rt, rt.alloc(), Behind::NoWord)
 }
 
 #[test]
 fn large_numbers(rt: HostRuntime) -> Result<(), Fail> {
-    for long in &LONG_LINES {
-        assert_letters(
-            &rt,
-            rt.alloc(),
-            long.line,
-            b"99999999999999999999",
-            long.large,
-        )?;
-    }
-    Ok(())
+    assert_long(&rt, rt.alloc(), Behind::Large)
 }
 
 #[test]
 fn words_again(rt: HostRuntime) -> Result<(), Fail> {
-    for long in &LONG_LINES {
-        for (count, expected) in long.again.as_bytes().iter().enumerate() {
-            let word = long
-                .line
-                .split(' ')
-                .nth(count.saturating_sub(2))
-                .ok_or("a word")?;
-            let behind = if count == 0 { b"" } else { word.as_bytes() };
-            let words = first_words(rt.alloc(), long.line, count, behind)?;
-            let found = letter(count.saturating_add(1), fault_in(words.as_slice()));
-            assert_eq!(rt; found, *expected, "{}: word {count}", long.line);
-        }
-    }
-    Ok(())
+    assert_long(&rt, rt.alloc(), Behind::Again)
 }
 
 #[test]
 fn bytes_that_are_no_utf8(rt: HostRuntime) -> Result<(), Fail> {
-    for long in &LONG_LINES {
-        for count in 0..long.ends.len() {
-            let words = first_words(rt.alloc(), long.line, count, b"\xff")?;
-            let found = letter(count.saturating_add(1), fault_in(words.as_slice()));
-            assert_eq!(rt; found, b'8', "{}: word {count}", long.line);
-        }
-    }
-    Ok(())
+    assert_long(&rt, rt.alloc(), Behind::NoUtf8)
 }

@@ -1,38 +1,30 @@
 //! Lines of qdiscs with each number at the ends of its range, one below and one above.
 //! What they say is what the grammar gives: q_worked_examples has the same lines, with their answers computed from it.
-use crate::line_reading::{
-    DEFAULT_PRIOMAP, assert_faults, assert_fq_codel, assert_line, assert_prio, assert_root,
-    assert_tbf, class_id, latency,
-};
-use q_line::Line;
-use q_model::{Command, FqCodelOptions, Handle, Kind, Place, TbfLimit};
+use crate::line_reading::{Codel, DEFAULT_PRIOMAP, Says, assert_faults, assert_lines};
 use q_words::LineFault::{BadNumber, OutOfRange};
-use std::alloc::Global;
-use std::process::Abort;
 use std::test::Fail;
+
+const ROOT: &str = "tc qdisc add dev e root ";
+
+const PRIO: &str = "tc qdisc add dev e root prio ";
+
+const TBF: &str = "tc qdisc add dev e root tbf ";
+
+const FQ_CODEL: &str = "tc qdisc add dev e root fq_codel ";
 
 #[test]
 fn fifos(rt: HostRuntime) -> Result<(), Fail> {
-    let front = "tc qdisc add dev e root ";
-    for (rest, kind) in [
-        ("pfifo limit 0", Kind::Pfifo { limit: Some(0) }),
-        (
-            "pfifo limit 4294967295",
-            Kind::Pfifo {
-                limit: Some(u32::MAX),
-            },
-        ),
-        ("bfifo limit 0", Kind::Bfifo { limit: Some(0) }),
-        (
-            "bfifo limit 4294967295",
-            Kind::Bfifo {
-                limit: Some(u32::MAX),
-            },
-        ),
-    ] {
-        assert_root(&rt, rt.alloc(), front, rest, kind)?;
-    }
-    Ok(())
+    assert_lines(
+        &rt,
+        rt.alloc(),
+        ROOT,
+        &[
+            ("pfifo limit 0", Says::Pfifo(0)),
+            ("pfifo limit 4294967295", Says::Pfifo(u32::MAX)),
+            ("bfifo limit 0", Says::Bfifo(0)),
+            ("bfifo limit 4294967295", Says::Bfifo(u32::MAX)),
+        ],
+    )
 }
 
 #[test]
@@ -40,7 +32,7 @@ fn fifos_out_of_range(rt: HostRuntime) -> Result<(), Fail> {
     assert_faults(
         &rt,
         rt.alloc(),
-        "tc qdisc add dev e root ",
+        ROOT,
         &[
             ("pfifo limit -1", BadNumber(9)),
             ("pfifo limit 4294967296", OutOfRange(9)),
@@ -52,56 +44,60 @@ fn fifos_out_of_range(rt: HostRuntime) -> Result<(), Fail> {
 
 #[test]
 fn prios(rt: HostRuntime) -> Result<(), Fail> {
-    for (rest, bands, priomap) in [
-        (
-            "bands 2 priomap 0 0 0 0 0 0 0 0 0 0 0 0 0 0 0 0",
-            2,
-            [0; 16],
-        ),
-        ("bands 16", 16, DEFAULT_PRIOMAP),
-    ] {
-        assert_prio(&rt, rt.alloc(), rest, bands, priomap)?;
-    }
+    assert_lines(
+        &rt,
+        rt.alloc(),
+        PRIO,
+        &[
+            (
+                "bands 2 priomap 0 0 0 0 0 0 0 0 0 0 0 0 0 0 0 0",
+                Says::Prio(2, [0; 16]),
+            ),
+            ("bands 16", Says::Prio(16, DEFAULT_PRIOMAP)),
+        ],
+    )?;
     assert_faults(
         &rt,
         rt.alloc(),
-        "tc qdisc add dev e root prio ",
+        PRIO,
         &[("bands 1", OutOfRange(9)), ("bands 17", OutOfRange(9))],
     )
 }
 
-const TBF: &str = "tc qdisc add dev e root tbf ";
-
 #[test]
 fn tbfs(rt: HostRuntime) -> Result<(), Fail> {
-    for (rest, rate, burst, limit) in [
-        ("burst 1 limit 0 rate 1", 1, 1, 0),
-        (
-            "burst 1 limit 0 rate 1000000000000",
-            1_000_000_000_000,
-            1,
-            0,
-        ),
-        ("rate 1 limit 0 burst 1", 1, 1, 0),
-        ("rate 1 limit 0 burst 4294967295", 1, u32::MAX, 0),
-        ("rate 1 burst 1 limit 0", 1, 1, 0),
-        ("rate 1 burst 1 limit 4294967295", 1, 1, u32::MAX),
-    ] {
-        let limit = TbfLimit::Bytes(limit);
-        assert_tbf(&rt, rt.alloc(), (TBF, rest), (rate, burst), limit)?;
-    }
-    Ok(())
+    assert_lines(
+        &rt,
+        rt.alloc(),
+        TBF,
+        &[
+            ("burst 1 limit 0 rate 1", Says::Tbf(1, 1, 0)),
+            (
+                "burst 1 limit 0 rate 1000000000000",
+                Says::Tbf(1_000_000_000_000, 1, 0),
+            ),
+            ("rate 1 limit 0 burst 1", Says::Tbf(1, 1, 0)),
+            ("rate 1 limit 0 burst 4294967295", Says::Tbf(1, u32::MAX, 0)),
+            ("rate 1 burst 1 limit 0", Says::Tbf(1, 1, 0)),
+            ("rate 1 burst 1 limit 4294967295", Says::Tbf(1, 1, u32::MAX)),
+        ],
+    )
 }
 
 #[test]
 fn latencies(rt: HostRuntime) -> Result<(), Fail> {
-    for (rest, ns) in [
-        ("rate 1 burst 1 latency 0", 0),
-        ("rate 1 burst 1 latency 1000s", 1_000_000_000_000),
-    ] {
-        assert_tbf(&rt, rt.alloc(), (TBF, rest), (1, 1), latency(ns)?)?;
-    }
-    Ok(())
+    assert_lines(
+        &rt,
+        rt.alloc(),
+        TBF,
+        &[
+            ("rate 1 burst 1 latency 0", Says::Latency(1, 1, 0)),
+            (
+                "rate 1 burst 1 latency 1000s",
+                Says::Latency(1, 1, 1_000_000_000_000),
+            ),
+        ],
+    )
 }
 
 #[test]
@@ -109,7 +105,7 @@ fn tbfs_out_of_range(rt: HostRuntime) -> Result<(), Fail> {
     assert_faults(
         &rt,
         rt.alloc(),
-        "tc qdisc add dev e root tbf ",
+        TBF,
         &[
             ("burst 1 limit 0 rate 0", OutOfRange(13)),
             ("burst 1 limit 0 rate 1000000000001", OutOfRange(13)),
@@ -123,65 +119,71 @@ fn tbfs_out_of_range(rt: HostRuntime) -> Result<(), Fail> {
     )
 }
 
-/// A line adds an fq_codel with a limit, a number of flows, a quantum or a batch alone.
-fn assert_count(
-    rt: &impl Abort,
-    alloc: Global,
-    rest: &str,
-    (limit, flows): (Option<u32>, Option<u32>),
-    (quantum, drop_batch): (Option<u32>, Option<u32>),
-) -> Result<(), Fail> {
-    let options = FqCodelOptions::new(limit, flows, quantum, None, None, None, drop_batch);
-    assert_fq_codel(rt, alloc, rest, options)
-}
-
 #[test]
 fn limits_and_flows_of_an_fq_codel(rt: HostRuntime) -> Result<(), Fail> {
-    for (rest, limit, flows) in [
-        ("limit 1", Some(1), None),
-        ("limit 4294967295", Some(u32::MAX), None),
-        ("flows 1", None, Some(1)),
-        ("flows 65536", None, Some(65536)),
-    ] {
-        assert_count(&rt, rt.alloc(), rest, (limit, flows), (None, None))?;
-    }
-    Ok(())
+    assert_lines(
+        &rt,
+        rt.alloc(),
+        FQ_CODEL,
+        &[
+            ("limit 1", Says::FqCodel(Codel::Limit(1))),
+            ("limit 4294967295", Says::FqCodel(Codel::Limit(u32::MAX))),
+            ("flows 1", Says::FqCodel(Codel::Flows(1))),
+            ("flows 65536", Says::FqCodel(Codel::Flows(65536))),
+        ],
+    )
 }
 
 #[test]
 fn quanta_and_batches_of_an_fq_codel(rt: HostRuntime) -> Result<(), Fail> {
-    for (rest, quantum, batch) in [
-        ("quantum 1", Some(1), None),
-        ("quantum 4294967295", Some(u32::MAX), None),
-        ("drop_batch 1", None, Some(1)),
-        ("drop_batch 65536", None, Some(65536)),
-    ] {
-        assert_count(&rt, rt.alloc(), rest, (None, None), (quantum, batch))?;
-    }
-    Ok(())
+    assert_lines(
+        &rt,
+        rt.alloc(),
+        FQ_CODEL,
+        &[
+            ("quantum 1", Says::FqCodel(Codel::Quantum(1))),
+            (
+                "quantum 4294967295",
+                Says::FqCodel(Codel::Quantum(u32::MAX)),
+            ),
+            ("drop_batch 1", Says::FqCodel(Codel::DropBatch(1))),
+            ("drop_batch 65536", Says::FqCodel(Codel::DropBatch(65536))),
+        ],
+    )
 }
 
 #[test]
 fn times_of_an_fq_codel(rt: HostRuntime) -> Result<(), Fail> {
-    for (rest, target, interval) in [
-        ("target 0", Some(0), None),
-        ("target 1000s", Some(1_000_000_000_000), None),
-        ("interval 1us", None, Some(1000)),
-        ("interval 1000s", None, Some(1_000_000_000_000)),
-    ] {
-        let options = FqCodelOptions::new(None, None, None, target, interval, None, None);
-        assert_fq_codel(&rt, rt.alloc(), rest, options)?;
-    }
-    Ok(())
+    assert_lines(
+        &rt,
+        rt.alloc(),
+        FQ_CODEL,
+        &[
+            ("target 0", Says::FqCodel(Codel::Target(0))),
+            (
+                "target 1000s",
+                Says::FqCodel(Codel::Target(1_000_000_000_000)),
+            ),
+            ("interval 1us", Says::FqCodel(Codel::Interval(1000))),
+            (
+                "interval 1000s",
+                Says::FqCodel(Codel::Interval(1_000_000_000_000)),
+            ),
+        ],
+    )
 }
 
 #[test]
 fn marks_of_an_fq_codel(rt: HostRuntime) -> Result<(), Fail> {
-    for (rest, ecn) in [("ecn", true), ("noecn", false)] {
-        let options = FqCodelOptions::new(None, None, None, None, None, Some(ecn), None);
-        assert_fq_codel(&rt, rt.alloc(), rest, options)?;
-    }
-    Ok(())
+    assert_lines(
+        &rt,
+        rt.alloc(),
+        FQ_CODEL,
+        &[
+            ("ecn", Says::FqCodel(Codel::Ecn(true))),
+            ("noecn", Says::FqCodel(Codel::Ecn(false))),
+        ],
+    )
 }
 
 #[test]
@@ -189,7 +191,7 @@ fn fq_codels_out_of_range(rt: HostRuntime) -> Result<(), Fail> {
     assert_faults(
         &rt,
         rt.alloc(),
-        "tc qdisc add dev e root fq_codel ",
+        FQ_CODEL,
         &[
             ("limit 0", OutOfRange(9)),
             ("limit 4294967296", OutOfRange(9)),
@@ -207,42 +209,30 @@ fn fq_codels_out_of_range(rt: HostRuntime) -> Result<(), Fail> {
     )
 }
 
-/// A line adds a drr.
-fn assert_drr(
-    rt: &impl Abort,
-    alloc: Global,
-    rest: &str,
-    place: Place,
-    handle: Option<Handle>,
-) -> Result<(), Fail> {
-    let kind = Kind::Drr;
-    let add = Command::QdiscAdd {
-        place,
-        handle,
-        kind,
-    };
-    assert_line(rt, alloc, "tc qdisc add dev e ", rest, Line::Tc(add))
-}
-
 #[test]
 fn handles(rt: HostRuntime) -> Result<(), Fail> {
-    for (rest, major) in [("root handle 1: drr", 1), ("root handle fffe: drr", 0xfffe)] {
-        let handle = Handle::new(major).ok_or("handle")?;
-        assert_drr(&rt, rt.alloc(), rest, Place::Root, Some(handle))?;
-    }
-    Ok(())
+    assert_lines(
+        &rt,
+        rt.alloc(),
+        "tc qdisc add dev e ",
+        &[
+            ("root handle 1: drr", Says::Handle(1)),
+            ("root handle fffe: drr", Says::Handle(0xfffe)),
+        ],
+    )
 }
 
 #[test]
 fn parents(rt: HostRuntime) -> Result<(), Fail> {
-    for (rest, major, minor) in [
-        ("parent 1:1 drr", 1, 1),
-        ("parent fffe:ffff drr", 0xfffe, 0xffff),
-    ] {
-        let place = Place::Class(class_id(major, minor)?);
-        assert_drr(&rt, rt.alloc(), rest, place, None)?;
-    }
-    Ok(())
+    assert_lines(
+        &rt,
+        rt.alloc(),
+        "tc qdisc add dev e ",
+        &[
+            ("parent 1:1 drr", Says::Parent(1, 1)),
+            ("parent fffe:ffff drr", Says::Parent(0xfffe, 0xffff)),
+        ],
+    )
 }
 
 #[test]

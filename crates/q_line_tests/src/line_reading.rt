@@ -1,16 +1,16 @@
 //! What a line of the language is read as, for the tests over tables of lines.
 use q_line::{Arrival, Line, read_line};
 use q_model::{
-    Burst, ClassId, Command, Filter, FilterKeys, FilterPrio, FqCodelOptions, Handle, Kind, Latency,
-    Minor, Place, PrioOptions, Protocol, Quantum, Rate, TbfLimit,
+    Burst, ClassId, Command, Filter, FilterKeys, FilterPrio, FqCodelOptions, Handle, IpPrefix,
+    IpVersion, Kind, Latency, Minor, Place, PrioOptions, Protocol, Quantum, Rate, TbfLimit,
 };
-use q_packet::{Ecn, FlowKey};
+use q_packet::{Ecn, FlowKey, Head, Moment};
 use q_words::LineFault;
 use std::alloc::Global;
 use std::process::Abort;
 use std::test::Fail;
 
-pub const NO_KEYS: FilterKeys = FilterKeys {
+const NO_KEYS: FilterKeys = FilterKeys {
     ip_proto: None,
     src_ip: None,
     dst_ip: None,
@@ -21,171 +21,219 @@ pub const NO_KEYS: FilterKeys = FilterKeys {
 /// The priomap where a line gives none (tc-prio(8)).
 pub const DEFAULT_PRIOMAP: [u8; 16] = [1, 2, 2, 2, 1, 2, 0, 0, 1, 1, 1, 1, 1, 1, 1, 1];
 
-/// Reads the line of two parts.
-fn read_both(alloc: Global, front: &str, rest: &str) -> Result<Result<Line, LineFault>, Fail> {
-    let mut line = Vec::new(alloc);
-    line.extend_from_slice(front.as_bytes())?;
-    line.extend_from_slice(rest.as_bytes())?;
-    Ok(read_line(line.as_slice()))
+/// The options of an fq_codel that a line gives; times are in nanoseconds.
+#[derive(Clone, Copy)]
+pub enum Codel {
+    Limit(u32),
+    Flows(u32),
+    Quantum(u32),
+    Target(u64),
+    Interval(u64),
+    Ecn(bool),
+    DropBatch(u32),
+    QuantumAndInterval(u32, u64),
 }
 
-/// The fault of a line, where it has one.
-pub fn fault_in(line: &[u8]) -> Option<LineFault> {
-    match read_line(line) {
-        Ok(_) => None,
-        Err(fault) => Some(fault),
+/// The key of a filter. A prefix is an address and how many of its bits are compared.
+#[derive(Clone, Copy)]
+pub enum Key {
+    IpProto(u8),
+    SrcIp(IpVersion, u128, u8),
+    DstIp(IpVersion, u128, u8),
+    SrcPort(u16),
+    DstPort(u16),
+}
+
+/// The family, the protocol, the source and the destination, and the ports of a packet.
+pub type Flow = (u8, u8, u128, u128, u16, u16);
+
+pub const NO_FLOW: Flow = (0, 0, 0, 0, 0, 0);
+
+/// The numbers of a line. A class has its major and its minor number.
+#[derive(Clone, Copy)]
+pub enum Says {
+    /// A pfifo at the root, with its limit in packets.
+    Pfifo(u32),
+    /// A bfifo at the root, with its limit in bytes.
+    Bfifo(u32),
+    /// A prio at the root: the bands and the priomap.
+    Prio(u8, [u8; 16]),
+    /// A tbf at the root: the rate, the burst, and the limit in bytes.
+    Tbf(u64, u32, u32),
+    /// A tbf at the root: the rate, the burst, and the latency in nanoseconds.
+    Latency(u64, u32, u64),
+    /// An fq_codel at the root.
+    FqCodel(Codel),
+    /// A drr at the root, with this handle.
+    Handle(u16),
+    /// A drr in this class, without a handle.
+    Parent(u16, u16),
+    /// A class of a drr: the parent, the class and the quantum.
+    Class(u16, (u16, u16), Option<u32>),
+    /// A filter for every version of IP: the parent, the priority and the class.
+    Filter(u16, u16, (u16, u16)),
+    /// A filter of 1: with the priority 1 into the class 1:1, with this key.
+    Key(Key),
+    At(u64),
+    Poll(u32),
+    /// A packet of one byte and this flow.
+    Flow(Flow),
+    /// A packet of this length.
+    Len(u16),
+    /// A packet of one byte with this hash.
+    Hash(u32),
+    /// A packet of one byte with this priority and codepoint.
+    Marks(u8, Ecn),
+    /// The length of a frame, and what its head says.
+    Frame(u16, Flow, u8, Ecn),
+}
+
+impl Says {
+    fn line(self) -> Result<Line, Fail> {
+        match self {
+            Says::Pfifo(limit) => Ok(root(Kind::Pfifo { limit: Some(limit) })),
+            Says::Bfifo(limit) => Ok(root(Kind::Bfifo { limit: Some(limit) })),
+            Says::Prio(bands, priomap) => prio(bands, priomap),
+            Says::Tbf(rate, burst, limit) => tbf(rate, burst, TbfLimit::Bytes(limit)),
+            Says::Latency(rate, burst, ns) => tbf(rate, burst, latency(ns)?),
+            Says::FqCodel(options) => options.line(),
+            Says::Handle(major) => Ok(add(Place::Root, Some(handle(major)?), Kind::Drr)),
+            Says::Parent(major, minor) => {
+                Ok(add(Place::Class(class_id(major, minor)?), None, Kind::Drr))
+            }
+            Says::Class(parent, class, quantum) => add_class(parent, class, quantum),
+            Says::Filter(parent, prio, class) => filter(parent, prio, class, NO_KEYS),
+            Says::Key(key) => filter(1, 1, (1, 1), key.keys()?),
+            Says::At(ns) => Ok(Line::At(Moment::new(ns).ok_or("moment")?)),
+            Says::Poll(count) => Ok(Line::Poll(count)),
+            Says::Flow(flow) => Ok(packet(1, flow_key(flow)?, None, (0, Ecn::NotEct))),
+            Says::Len(len) => Ok(packet(len, FlowKey::zero(), None, (0, Ecn::NotEct))),
+            Says::Hash(hash) => Ok(packet(1, FlowKey::zero(), Some(hash), (0, Ecn::NotEct))),
+            Says::Marks(prio, ecn) => Ok(packet(1, FlowKey::zero(), None, (prio, ecn))),
+            Says::Frame(len, flow, prio, ecn) => Ok(frame(len, flow_key(flow)?, prio, ecn)),
+        }
     }
 }
 
-/// The fault of the line of two parts, where it has one.
-fn fault_in_both(alloc: Global, front: &str, rest: &str) -> Result<Option<LineFault>, Fail> {
-    let mut line = Vec::new(alloc);
-    line.extend_from_slice(front.as_bytes())?;
-    line.extend_from_slice(rest.as_bytes())?;
-    Ok(fault_in(line.as_slice()))
+fn handle(major: u16) -> Result<Handle, Fail> {
+    Ok(Handle::new(major).ok_or("handle")?)
 }
 
-/// The key of a packet.
-pub fn key_in(alloc: Global, front: &str, rest: &str) -> Result<Option<FlowKey>, Fail> {
-    match read_both(alloc, front, rest)? {
-        Ok(Line::Pkt(arrival)) => Ok(Some(arrival.key)),
-        _ => Ok(None),
-    }
-}
-
-/// The keys of a filter.
-pub fn keys_in(alloc: Global, front: &str, rest: &str) -> Result<Option<FilterKeys>, Fail> {
-    match read_both(alloc, front, rest)? {
-        Ok(Line::Tc(Command::FilterAdd { filter, .. })) => Ok(Some(filter.keys)),
-        _ => Ok(None),
-    }
-}
-
-pub fn class_id(major: u16, minor: u16) -> Result<ClassId, Fail> {
+fn class_id(major: u16, minor: u16) -> Result<ClassId, Fail> {
     Ok(ClassId {
-        major: Handle::new(major).ok_or("major")?,
+        major: handle(major)?,
         minor: Minor::new(minor).ok_or("minor")?,
     })
 }
 
-/// A packet of one byte, of which nothing else is given.
-pub fn one_byte() -> Arrival {
-    Arrival {
-        len: 1,
-        key: FlowKey::zero(),
-        prio: 0,
-        ecn: Ecn::NotEct,
-        hash: None,
-    }
-}
-
-/// The line of these two parts says what is expected.
-pub fn assert_line(
-    rt: &impl Abort,
-    alloc: Global,
-    front: &str,
-    rest: &str,
-    expected: Line,
-) -> Result<(), Fail> {
-    let read = read_both(alloc, front, rest)?;
-    assert_eq!(rt; read, Ok(expected), "{front}{rest}");
-    Ok(())
-}
-
-/// A line adds this qdisc at the root, without a handle.
-pub fn assert_root(
-    rt: &impl Abort,
-    alloc: Global,
-    front: &str,
-    rest: &str,
-    kind: Kind,
-) -> Result<(), Fail> {
-    let place = Place::Root;
-    let handle = None;
-    let add = Command::QdiscAdd {
+fn add(place: Place, handle: Option<Handle>, kind: Kind) -> Line {
+    Line::Tc(Command::QdiscAdd {
         place,
         handle,
         kind,
-    };
-    assert_line(rt, alloc, front, rest, Line::Tc(add))
+    })
 }
 
-/// A line adds a prio at the root.
-pub fn assert_prio(
-    rt: &impl Abort,
-    alloc: Global,
-    rest: &str,
-    bands: u8,
-    priomap: [u8; 16],
-) -> Result<(), Fail> {
+fn root(kind: Kind) -> Line {
+    add(Place::Root, None, kind)
+}
+
+fn prio(bands: u8, priomap: [u8; 16]) -> Result<Line, Fail> {
     let options = PrioOptions::new(bands, priomap).ok_or("priomap")?;
-    let front = "tc qdisc add dev e root prio ";
-    assert_root(rt, alloc, front, rest, Kind::Prio(options))
+    Ok(root(Kind::Prio(options)))
 }
 
-/// A line adds a tbf at the root. Behind the front, which may have some of the options, stand the others.
-pub fn assert_tbf(
-    rt: &impl Abort,
-    alloc: Global,
-    (front, rest): (&str, &str),
-    (rate, burst): (u64, u32),
-    limit: TbfLimit,
-) -> Result<(), Fail> {
-    let rate = Rate::new(rate).ok_or("rate")?;
-    let burst = Burst::new(burst).ok_or("burst")?;
-    assert_root(rt, alloc, front, rest, Kind::Tbf { rate, burst, limit })
-}
-
-/// A limit of so many nanoseconds.
-pub fn latency(ns: u64) -> Result<TbfLimit, Fail> {
+fn latency(ns: u64) -> Result<TbfLimit, Fail> {
     Ok(TbfLimit::Latency(Latency::new(ns).ok_or("latency")?))
 }
 
-/// A line adds an fq_codel at the root.
-pub fn assert_fq_codel(
-    rt: &impl Abort,
-    alloc: Global,
-    rest: &str,
-    options: Option<FqCodelOptions>,
-) -> Result<(), Fail> {
-    let kind = Kind::FqCodel(options.ok_or("options")?);
-    let front = "tc qdisc add dev e root fq_codel ";
-    assert_root(rt, alloc, front, rest, kind)
+fn tbf(rate: u64, burst: u32, limit: TbfLimit) -> Result<Line, Fail> {
+    let rate = Rate::new(rate).ok_or("rate")?;
+    let burst = Burst::new(burst).ok_or("burst")?;
+    Ok(root(Kind::Tbf { rate, burst, limit }))
 }
 
-/// A line adds a class of a drr.
-pub fn assert_class(
-    rt: &impl Abort,
-    alloc: Global,
-    rest: &str,
-    parent: u16,
-    class: ClassId,
+// The options of an fq_codel that a line gives.
+#[derive(Drop)]
+struct Options {
+    limit: Option<u32>,
+    flows: Option<u32>,
     quantum: Option<u32>,
-) -> Result<(), Fail> {
-    let quantum = match quantum {
-        None => None,
-        Some(bytes) => Some(Quantum::new(bytes).ok_or("quantum")?),
-    };
-    let add = Command::ClassAdd {
-        parent: Handle::new(parent).ok_or("parent")?,
-        class,
-        quantum,
-    };
-    let front = "tc class add dev e parent ";
-    assert_line(rt, alloc, front, rest, Line::Tc(add))
+    target: Option<u64>,
+    interval: Option<u64>,
+    ecn: Option<bool>,
+    drop_batch: Option<u32>,
 }
 
-/// A line adds a filter for every version of IP.
-pub fn assert_filter(
-    rt: &impl Abort,
-    alloc: Global,
-    rest: &str,
-    (parent, prio): (u16, u16),
-    class: ClassId,
+const NO_OPTIONS: Options = Options {
+    limit: None,
+    flows: None,
+    quantum: None,
+    target: None,
+    interval: None,
+    ecn: None,
+    drop_batch: None,
+};
+
+impl Codel {
+    fn options(self) -> Options {
+        let mut options = NO_OPTIONS;
+        match self {
+            Codel::Limit(packets) => options.limit = Some(packets),
+            Codel::Flows(count) => options.flows = Some(count),
+            Codel::Quantum(bytes) => options.quantum = Some(bytes),
+            Codel::Target(ns) => options.target = Some(ns),
+            Codel::Interval(ns) => options.interval = Some(ns),
+            Codel::Ecn(marks) => options.ecn = Some(marks),
+            Codel::DropBatch(packets) => options.drop_batch = Some(packets),
+            Codel::QuantumAndInterval(bytes, ns) => {
+                options.quantum = Some(bytes);
+                options.interval = Some(ns);
+            }
+        }
+        options
+    }
+
+    fn line(self) -> Result<Line, Fail> {
+        let given = self.options();
+        let options = FqCodelOptions::new(
+            given.limit,
+            given.flows,
+            given.quantum,
+            given.target,
+            given.interval,
+            given.ecn,
+            given.drop_batch,
+        );
+        Ok(root(Kind::FqCodel(options.ok_or("options")?)))
+    }
+}
+
+fn quantum(bytes: u32) -> Result<Quantum, Fail> {
+    Ok(Quantum::new(bytes).ok_or("quantum")?)
+}
+
+fn add_class(parent: u16, (major, minor): (u16, u16), bytes: Option<u32>) -> Result<Line, Fail> {
+    let quantum = match bytes {
+        None => None,
+        Some(bytes) => Some(quantum(bytes)?),
+    };
+    Ok(Line::Tc(Command::ClassAdd {
+        parent: handle(parent)?,
+        class: class_id(major, minor)?,
+        quantum,
+    }))
+}
+
+fn filter(
+    parent: u16,
+    prio: u16,
+    (major, minor): (u16, u16),
     keys: FilterKeys,
-) -> Result<(), Fail> {
-    let add = Command::FilterAdd {
-        parent: Handle::new(parent).ok_or("parent")?,
+) -> Result<Line, Fail> {
+    let class = class_id(major, minor)?;
+    Ok(Line::Tc(Command::FilterAdd {
+        parent: handle(parent)?,
         major: class.major,
         filter: Filter {
             prio: FilterPrio::new(prio).ok_or("prio")?,
@@ -193,9 +241,103 @@ pub fn assert_filter(
             keys,
             minor: class.minor,
         },
-    };
-    let front = "tc filter add dev e parent ";
-    assert_line(rt, alloc, front, rest, Line::Tc(add))
+    }))
+}
+
+fn prefix(version: IpVersion, address: u128, len: u8) -> Result<IpPrefix, Fail> {
+    Ok(IpPrefix::new(version, address, len).ok_or("prefix")?)
+}
+
+impl Key {
+    fn keys(self) -> Result<FilterKeys, Fail> {
+        let mut keys = NO_KEYS;
+        match self {
+            Key::IpProto(proto) => keys.ip_proto = Some(proto),
+            Key::SrcIp(version, address, len) => keys.src_ip = Some(prefix(version, address, len)?),
+            Key::DstIp(version, address, len) => keys.dst_ip = Some(prefix(version, address, len)?),
+            Key::SrcPort(port) => keys.src_port = Some(port),
+            Key::DstPort(port) => keys.dst_port = Some(port),
+        }
+        Ok(keys)
+    }
+}
+
+fn flow_key((family, proto, src, dst, sport, dport): Flow) -> Result<FlowKey, Fail> {
+    Ok(FlowKey::new(family, proto, src, dst, sport, dport).ok_or("key")?)
+}
+
+fn packet(len: u16, key: FlowKey, hash: Option<u32>, (prio, ecn): (u8, Ecn)) -> Line {
+    Line::Pkt(Arrival {
+        len,
+        key,
+        prio,
+        ecn,
+        hash,
+    })
+}
+
+fn frame(len: u16, key: FlowKey, prio: u8, ecn: Ecn) -> Line {
+    Line::Frame {
+        len,
+        head: Head { key, prio, ecn },
+    }
+}
+
+fn joined(alloc: Global, front: &str, rest: &str) -> Result<Vec<u8>, Fail> {
+    let mut line = Vec::new(alloc);
+    line.extend_from_slice(front.as_bytes())?;
+    line.extend_from_slice(rest.as_bytes())?;
+    Ok(line)
+}
+
+// A reading that promises nothing: what `read_line` promises is the whole grammar.
+fn read(line: &[u8]) -> Result<Line, LineFault> {
+    read_line(line)
+}
+
+/// The fault of a line, where it has one.
+pub fn fault_in(line: &[u8]) -> Option<LineFault> {
+    match read(line) {
+        Ok(_) => None,
+        Err(fault) => Some(fault),
+    }
+}
+
+fn assert_line(
+    rt: &impl Abort,
+    alloc: Global,
+    front: &str,
+    rest: &str,
+    expected: Line,
+) -> Result<(), Fail> {
+    let line = joined(alloc, front, rest)?;
+    assert_eq!(rt; read(line.as_slice()), Ok(expected), "{front}{rest}");
+    Ok(())
+}
+
+fn assert_answer(
+    rt: &impl Abort,
+    alloc: Global,
+    front: &str,
+    rest: &str,
+    expected: Option<LineFault>,
+) -> Result<(), Fail> {
+    let line = joined(alloc, front, rest)?;
+    assert_eq!(rt; fault_in(line.as_slice()), expected, "{front}{rest}");
+    Ok(())
+}
+
+/// Each line, behind the same front, says what stands beside it.
+pub fn assert_lines(
+    rt: &impl Abort,
+    alloc: Global,
+    front: &str,
+    rows: &[(&str, Says)],
+) -> Result<(), Fail> {
+    for (rest, says) in rows {
+        assert_line(rt, alloc, front, rest, says.line()?)?;
+    }
+    Ok(())
 }
 
 /// Each line, behind the same front, has the fault beside it.
@@ -206,8 +348,7 @@ pub fn assert_faults(
     rows: &[(&str, LineFault)],
 ) -> Result<(), Fail> {
     for (rest, fault) in rows {
-        let found = fault_in_both(alloc, front, rest)?;
-        assert_eq!(rt; found, Some(*fault), "{front}{rest}");
+        assert_answer(rt, alloc, front, rest, Some(*fault))?;
     }
     Ok(())
 }
@@ -220,8 +361,14 @@ pub fn assert_answers(
     rows: &[(&str, Option<LineFault>)],
 ) -> Result<(), Fail> {
     for (rest, fault) in rows {
-        let found = fault_in_both(alloc, front, rest)?;
-        assert_eq!(rt; found, *fault, "{front}{rest}");
+        assert_answer(rt, alloc, front, rest, *fault)?;
     }
     Ok(())
+}
+
+/// Each line of bytes is read, or has the fault beside it.
+pub fn assert_bytes(rt: &impl Abort, rows: &[(&[u8], Option<LineFault>)]) {
+    for (line, fault) in rows {
+        assert_eq!(rt; fault_in(line), *fault, "{line:?}");
+    }
 }

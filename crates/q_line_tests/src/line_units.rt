@@ -1,44 +1,36 @@
 //! Lines of the whole language with each spelling of each unit, and with what is rounded down.
 //! What they say is what the grammar gives: q_worked_examples has the same lines, with their answers computed from it.
-use crate::line_reading::{
-    assert_class, assert_faults, assert_fq_codel, assert_root, assert_tbf, class_id, latency,
-};
-use q_model::{FqCodelOptions, Kind, TbfLimit};
+use crate::line_reading::{Codel, Says, assert_faults, assert_lines};
 use q_words::LineFault::{BadNumber, OutOfRange};
 use std::test::Fail;
 
 #[test]
 fn rates(rt: HostRuntime) -> Result<(), Fail> {
-    for (word, value) in [
-        ("1", 1),
-        ("1bit", 1),
-        ("1kbit", 1000),
-        ("1mbit", 1_000_000),
-        ("1gbit", 1_000_000_000),
-        ("1tbit", 1_000_000_000_000),
-        ("1bps", 8),
-        ("1kbps", 8000),
-        ("1mbps", 8_000_000),
-        ("1gbps", 8_000_000_000),
-        ("0.125tbps", 1_000_000_000_000),
-        ("1KBit", 1000),
-        ("1MBPS", 8_000_000),
-        ("1.5", 1),
-        ("0.0015kbit", 1),
-        ("1.999999999kbit", 1999),
-        ("0.3bps", 2),
-        ("0.000000001tbps", 8000),
-    ] {
-        let front = "tc qdisc add dev e root tbf burst 1 limit 0 rate ";
-        assert_tbf(
-            &rt,
-            rt.alloc(),
-            (front, word),
-            (value, 1),
-            TbfLimit::Bytes(0),
-        )?;
-    }
-    Ok(())
+    assert_lines(
+        &rt,
+        rt.alloc(),
+        "tc qdisc add dev e root tbf burst 1 limit 0 rate ",
+        &[
+            ("1", Says::Tbf(1, 1, 0)),
+            ("1bit", Says::Tbf(1, 1, 0)),
+            ("1kbit", Says::Tbf(1000, 1, 0)),
+            ("1mbit", Says::Tbf(1_000_000, 1, 0)),
+            ("1gbit", Says::Tbf(1_000_000_000, 1, 0)),
+            ("1tbit", Says::Tbf(1_000_000_000_000, 1, 0)),
+            ("1bps", Says::Tbf(8, 1, 0)),
+            ("1kbps", Says::Tbf(8000, 1, 0)),
+            ("1mbps", Says::Tbf(8_000_000, 1, 0)),
+            ("1gbps", Says::Tbf(8_000_000_000, 1, 0)),
+            ("0.125tbps", Says::Tbf(1_000_000_000_000, 1, 0)),
+            ("1KBit", Says::Tbf(1000, 1, 0)),
+            ("1MBPS", Says::Tbf(8_000_000, 1, 0)),
+            ("1.5", Says::Tbf(1, 1, 0)),
+            ("0.0015kbit", Says::Tbf(1, 1, 0)),
+            ("1.999999999kbit", Says::Tbf(1999, 1, 0)),
+            ("0.3bps", Says::Tbf(2, 1, 0)),
+            ("0.000000001tbps", Says::Tbf(8000, 1, 0)),
+        ],
+    )
 }
 
 #[test]
@@ -65,33 +57,33 @@ fn words_that_are_no_rate(rt: HostRuntime) -> Result<(), Fail> {
 
 #[test]
 fn sizes(rt: HostRuntime) -> Result<(), Fail> {
-    for (word, value) in [
-        ("1", 1),
-        ("1b", 1),
-        ("1k", 1024),
-        ("1kb", 1024),
-        ("1m", 1_048_576),
-        ("1mb", 1_048_576),
-        ("1g", 1_073_741_824),
-        ("1gb", 1_073_741_824),
-        ("1kbit", 128),
-        ("1mbit", 131_072),
-        ("1gbit", 134_217_728),
-        ("1KB", 1024),
-        ("1MBit", 131_072),
-        ("1.5", 1),
-        ("1.5k", 1536),
-        ("0.9b", 0),
-        ("0.0009k", 0),
-        ("0.007kbit", 0),
-        ("0.008kbit", 1),
-        ("3.999999999g", 4_294_967_294),
-    ] {
-        let front = "tc qdisc add dev e root bfifo limit ";
-        let limit = Some(value);
-        assert_root(&rt, rt.alloc(), front, word, Kind::Bfifo { limit })?;
-    }
-    Ok(())
+    assert_lines(
+        &rt,
+        rt.alloc(),
+        "tc qdisc add dev e root bfifo limit ",
+        &[
+            ("1", Says::Bfifo(1)),
+            ("1b", Says::Bfifo(1)),
+            ("1k", Says::Bfifo(1024)),
+            ("1kb", Says::Bfifo(1024)),
+            ("1m", Says::Bfifo(1_048_576)),
+            ("1mb", Says::Bfifo(1_048_576)),
+            ("1g", Says::Bfifo(1_073_741_824)),
+            ("1gb", Says::Bfifo(1_073_741_824)),
+            ("1kbit", Says::Bfifo(128)),
+            ("1mbit", Says::Bfifo(131_072)),
+            ("1gbit", Says::Bfifo(134_217_728)),
+            ("1KB", Says::Bfifo(1024)),
+            ("1MBit", Says::Bfifo(131_072)),
+            ("1.5", Says::Bfifo(1)),
+            ("1.5k", Says::Bfifo(1536)),
+            ("0.9b", Says::Bfifo(0)),
+            ("0.0009k", Says::Bfifo(0)),
+            ("0.007kbit", Says::Bfifo(0)),
+            ("0.008kbit", Says::Bfifo(1)),
+            ("3.999999999g", Says::Bfifo(4_294_967_294)),
+        ],
+    )
 }
 
 #[test]
@@ -116,31 +108,31 @@ fn words_that_are_no_size(rt: HostRuntime) -> Result<(), Fail> {
 
 #[test]
 fn times(rt: HostRuntime) -> Result<(), Fail> {
-    for (word, value) in [
-        ("target 1", 1000),
-        ("target 1us", 1000),
-        ("target 1usec", 1000),
-        ("target 1usecs", 1000),
-        ("target 1ms", 1_000_000),
-        ("target 1msec", 1_000_000),
-        ("target 1msecs", 1_000_000),
-        ("target 1s", 1_000_000_000),
-        ("target 1sec", 1_000_000_000),
-        ("target 1secs", 1_000_000_000),
-        ("target 1MS", 1_000_000),
-        ("target 1Sec", 1_000_000_000),
-        ("target 0.5", 500),
-        ("target 0.5us", 500),
-        ("target 0.0005us", 0),
-        ("target 0.1234567us", 123),
-        ("target 0.0000019ms", 1),
-        ("target 0.000000001s", 1),
-    ] {
-        let target = Some(value);
-        let options = FqCodelOptions::new(None, None, None, target, None, None, None);
-        assert_fq_codel(&rt, rt.alloc(), word, options)?;
-    }
-    Ok(())
+    assert_lines(
+        &rt,
+        rt.alloc(),
+        "tc qdisc add dev e root fq_codel ",
+        &[
+            ("target 1", Says::FqCodel(Codel::Target(1000))),
+            ("target 1us", Says::FqCodel(Codel::Target(1000))),
+            ("target 1usec", Says::FqCodel(Codel::Target(1000))),
+            ("target 1usecs", Says::FqCodel(Codel::Target(1000))),
+            ("target 1ms", Says::FqCodel(Codel::Target(1_000_000))),
+            ("target 1msec", Says::FqCodel(Codel::Target(1_000_000))),
+            ("target 1msecs", Says::FqCodel(Codel::Target(1_000_000))),
+            ("target 1s", Says::FqCodel(Codel::Target(1_000_000_000))),
+            ("target 1sec", Says::FqCodel(Codel::Target(1_000_000_000))),
+            ("target 1secs", Says::FqCodel(Codel::Target(1_000_000_000))),
+            ("target 1MS", Says::FqCodel(Codel::Target(1_000_000))),
+            ("target 1Sec", Says::FqCodel(Codel::Target(1_000_000_000))),
+            ("target 0.5", Says::FqCodel(Codel::Target(500))),
+            ("target 0.5us", Says::FqCodel(Codel::Target(500))),
+            ("target 0.0005us", Says::FqCodel(Codel::Target(0))),
+            ("target 0.1234567us", Says::FqCodel(Codel::Target(123))),
+            ("target 0.0000019ms", Says::FqCodel(Codel::Target(1))),
+            ("target 0.000000001s", Says::FqCodel(Codel::Target(1))),
+        ],
+    )
 }
 
 #[test]
@@ -162,49 +154,52 @@ fn words_that_are_no_time(rt: HostRuntime) -> Result<(), Fail> {
 
 #[test]
 fn units_of_a_tbf(rt: HostRuntime) -> Result<(), Fail> {
-    for (rest, rate, burst, limit) in [
-        (
-            "rate 8kbit buffer 2kb latency 70ms",
-            8000,
-            2048,
-            latency(70_000_000)?,
-        ),
-        (
-            "rate 1kbps maxburst 1.5k limit 32kbit",
-            8000,
-            1536,
-            TbfLimit::Bytes(4096),
-        ),
-    ] {
-        let front = "tc qdisc add dev e root tbf ";
-        assert_tbf(&rt, rt.alloc(), (front, rest), (rate, burst), limit)?;
-    }
-    Ok(())
+    assert_lines(
+        &rt,
+        rt.alloc(),
+        "tc qdisc add dev e root tbf ",
+        &[
+            (
+                "rate 8kbit buffer 2kb latency 70ms",
+                Says::Latency(8000, 2048, 70_000_000),
+            ),
+            (
+                "rate 1kbps maxburst 1.5k limit 32kbit",
+                Says::Tbf(8000, 1536, 4096),
+            ),
+        ],
+    )
 }
 
 #[test]
 fn units_of_an_fq_codel(rt: HostRuntime) -> Result<(), Fail> {
-    for (rest, quantum, interval) in [
-        ("quantum 1.5kb interval 0.1s", 1536, 100_000_000),
-        ("quantum 1kbit interval 1.5", 128, 1500),
-    ] {
-        let (quantum, interval) = (Some(quantum), Some(interval));
-        let options = FqCodelOptions::new(None, None, quantum, None, interval, None, None);
-        assert_fq_codel(&rt, rt.alloc(), rest, options)?;
-    }
-    Ok(())
+    assert_lines(
+        &rt,
+        rt.alloc(),
+        "tc qdisc add dev e root fq_codel ",
+        &[
+            (
+                "quantum 1.5kb interval 0.1s",
+                Says::FqCodel(Codel::QuantumAndInterval(1536, 100_000_000)),
+            ),
+            (
+                "quantum 1kbit interval 1.5",
+                Says::FqCodel(Codel::QuantumAndInterval(128, 1500)),
+            ),
+        ],
+    )
 }
 
 #[test]
 fn units_of_a_quantum(rt: HostRuntime) -> Result<(), Fail> {
-    let class = class_id(1, 1)?;
-    assert_class(
+    assert_lines(
         &rt,
         rt.alloc(),
-        "1: classid 1:1 drr quantum 1.5kb",
-        1,
-        class,
-        Some(1536),
+        "tc class add dev e parent ",
+        &[(
+            "1: classid 1:1 drr quantum 1.5kb",
+            Says::Class(1, (1, 1), Some(1536)),
+        )],
     )
 }
 
