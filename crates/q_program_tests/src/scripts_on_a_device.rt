@@ -113,7 +113,7 @@ const SCRIPTS: &[(&[u8], &[(usize, Refusal)])] = &[
     (WAITING, &[]),
 ];
 
-/// Runs each script on a device of its own, whichever they are, so that the bytes of none are in the proof.
+/// Runs each script on a device of its own.
 fn assert_lines(alloc: Global, scripts: &[(&[u8], &[(usize, Refusal)])]) -> Result<(), Fail> {
     for (script, refusals) in scripts {
         LineRunner::new(alloc, 0)?.run(alloc, script, refusals)?;
