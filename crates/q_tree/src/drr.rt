@@ -134,7 +134,6 @@ fn give(active: &mut Active, classes: &mut [Node], place: usize) -> Option<Packe
 }
 
 /// A class with something queued is active, and another is not (tc-drr(8)).
-#[inline(always)]
 pub(crate) fn settle(active: &mut Active, place: usize, is_empty: bool)
     ensures { active.new ≡ settled_class place is_empty active.old }
 {
