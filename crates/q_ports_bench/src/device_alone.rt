@@ -1,27 +1,23 @@
 use crate::one_port::{MOST, RING, STRETCHES};
-use crate::span_since;
+use crate::{device, span_since};
 use q_device::{Device, Given, SOME_PACKET};
 use q_packet::{Moment, Packet};
 use std::alloc::Global;
-use std::io;
 use std::time::{Clock, Instant};
 
-/// The nanoseconds of the calls that turns of 64 make on a device: arrivals of packets that stand in a list, and as many polls. 0 where
-/// memory was refused, or a packet did not go through.
-pub fn calls_of_turns<C: Clock>(
-    clock: &C,
-    alloc: Global,
-    device: Device,
-    given: Packet,
-) -> io::Result<u64> {
-    let mut device = device;
-    let Ok(packets) = vec![in alloc; given; RING] else {
-        return Ok(0);
-    };
-    let start = Instant::now(clock)?;
+/// The nanoseconds of the calls that turns of 64 make on a device: arrivals of packets that stand in a list, and as many polls. `None`
+/// where memory was refused, a packet did not go through, or the clock could not be read.
+pub fn calls_of_turns<C: Clock>(clock: &C, alloc: Global, given: Packet) -> Option<u64> {
+    let packets = vec![in alloc; given; RING].ok()?;
+    let mut device = device(alloc)?;
+    timed(clock, &mut device, packets.as_slice())
+}
+
+fn timed<C: Clock>(clock: &C, device: &mut Device, packets: &[Packet]) -> Option<u64> {
+    let start = Instant::now(clock).ok()?;
     for _ in 0..STRETCHES {
-        if !pass(&mut device, packets.as_slice()) {
-            return Ok(0);
+        if !pass(device, packets) {
+            return None;
         }
     }
     span_since(clock, &start)

@@ -1,8 +1,8 @@
 ghost use Rattle.std.specs.Prelude.{◌≡◌};
 ghost use Rattle.q_model.specs.Tally.{no_totals};
 
-use crate::one_port::{offer_all, take_all};
-use crate::span_since;
+use crate::device;
+use crate::one_port::{take_all, timed_offers};
 use q_device::Device;
 use q_packet::Packet;
 use q_ports::{Booked, Drain, Port, open_ports};
@@ -10,9 +10,8 @@ use std::alloc::Global;
 use std::marker::Brand;
 use std::sync::ledger::{Blank, Ledger};
 use std::sync::{Mutex, Wait};
-use std::thread::Threads;
-use std::time::{Clock, Instant};
-use std::{io, thread};
+use std::thread::{self, Threads};
+use std::time::Clock;
 
 /// The packets that fit each ring: enough that filling it takes many times what starting a thread does.
 const RING: usize = 65_536;
@@ -48,11 +47,11 @@ pub const NO_FILLS: Fills = Fills {
 pub fn offers_at_once<R: Threads + Wait + Sync + Clock>(
     rt: &R,
     alloc: Global,
-    device: Device,
     given: Packet,
-) -> io::Result<Fills>
-    requires { device.device.tree.top.arrived ≡ no_totals }
-{
+) -> Fills {
+    let Some(device) = device(alloc) else {
+        return NO_FILLS;
+    };
     let (packets, bytes) = (Blank::new(65), Blank::new(65));
     booked::<Brand, Brand, R>(rt, alloc, device, given, packets, bytes)
 }
@@ -64,25 +63,33 @@ fn booked<P: Ledger, B: Ledger, R: Threads + Wait + Sync + Clock>(
     given: Packet,
     packets: Blank,
     bytes: Blank,
-) -> io::Result<Fills>
+) -> Fills
     requires nothing { device.device.tree.top.arrived ≡ no_totals }
     requires packets { (packets.name ≡ P.name) × (packets.parts ≡ P.parts) × (P.parts ≡ 65) }
     requires bytes { (bytes.name ≡ B.name) × (bytes.parts ≡ B.parts) × (B.parts ≡ 65) }
 {
     let (booked, seat) = Booked::<P, B>::new(device, packets, bytes);
     let Ok((drain, ports, _gauges)) = open_ports(rt, alloc, seat, 4, RING, 0) else {
-        return Ok(NO_FILLS);
+        return NO_FILLS;
     };
-    let (mut drain, mut ports) = (drain, ports);
+    let mut drain = drain;
     let lock = Mutex::new(booked);
-    let fills = match (ports.pop(), ports.pop(), ports.pop(), ports.pop()) {
-        (Some(a), Some(b), Some(c), Some(d)) => {
-            stretches(rt, alloc, &lock, &mut drain, ((a, b), (c, d)), given)
-        }
-        _ => Ok(NO_FILLS),
+    let fills = match pairs(ports) {
+        Some(ports) => stretches(rt, alloc, &lock, &mut drain, ports, given),
+        None => NO_FILLS,
     };
     drain.end(rt);
     fills
+}
+
+/// Four ports, two by two.
+fn pairs(ports: Vec<Port>) -> Option<(Pair, Pair)> {
+    let mut ports = ports;
+    let one = ports.pop()?;
+    let two = ports.pop()?;
+    let three = ports.pop()?;
+    let four = ports.pop()?;
+    Some(((one, two), (three, four)))
 }
 
 fn stretches<P: Ledger, B: Ledger, R: Threads + Wait + Sync + Clock>(
@@ -92,7 +99,7 @@ fn stretches<P: Ledger, B: Ledger, R: Threads + Wait + Sync + Clock>(
     drain: &mut Drain<P, B>,
     ports: (Pair, Pair),
     given: Packet,
-) -> io::Result<Fills> {
+) -> Fills {
     let mut ports = ports;
     let mut fills = NO_FILLS;
     // The first stretch, in which each place is written for the first time, is not timed.
@@ -100,14 +107,14 @@ fn stretches<P: Ledger, B: Ledger, R: Threads + Wait + Sync + Clock>(
         let ((one, second), right) = ports;
         let (one, alone) = fill(rt, one, given);
         if take_all(rt, alloc, lock, drain, RING) != RING {
-            return Ok(NO_FILLS);
+            return NO_FILLS;
         }
         let (next, at_once) = fill_all(rt, ((one, second), right), given);
         if take_all(rt, alloc, lock, drain, 4 * RING) != 4 * RING {
-            return Ok(NO_FILLS);
+            return NO_FILLS;
         }
         let (Some(alone), Some(at_once)) = (alone, at_once) else {
-            return Ok(NO_FILLS);
+            return NO_FILLS;
         };
         if stretch > 0 {
             fills.alone = fills.alone.saturating_add(alone);
@@ -115,7 +122,7 @@ fn stretches<P: Ledger, B: Ledger, R: Threads + Wait + Sync + Clock>(
         }
         ports = next;
     }
-    Ok(fills)
+    fills
 }
 
 /// Fills four rings at once; the nanoseconds of the slowest.
@@ -154,14 +161,6 @@ fn fill_pair<R: Threads + Sync + Clock>(rt: &R, ports: Pair, given: Packet) -> (
 /// Fills a ring; its nanoseconds, where each packet was placed and the clock was read.
 fn fill<C: Clock>(clock: &C, port: Port, given: Packet) -> (Port, Option<u64>) {
     let mut port = port;
-    let span = timed(clock, &mut port, given);
+    let span = timed_offers(clock, &mut port, given, RING);
     (port, span)
-}
-
-fn timed<C: Clock>(clock: &C, port: &mut Port, given: Packet) -> Option<u64> {
-    let start = Instant::now(clock).ok()?;
-    if !offer_all(port, given, RING) {
-        return None;
-    }
-    span_since(clock, &start).ok()
 }

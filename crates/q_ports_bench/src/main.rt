@@ -3,7 +3,8 @@
 //!
 //! They are those of an offer, of a turn of 64, of the same calls on a device alone, of a turn that finds nothing, of one sender that
 //! fills a long ring and of four at once, and of `drive` with 1, 4, 16 and 64 senders, all into a root pfifo. A static library may not wait, so that these are timed here, and not
-//! beside the other workloads (`q_bench`). The time is 0 where memory or a thread was refused, or a packet did not arrive.
+//! beside the other workloads (`q_bench`). The time is 0 where memory or a thread was refused, a packet did not arrive, or the
+//! clock could not be read.
 //!
 //! - [`one_port`]: offers and turns on one thread.
 //! - [`device_alone`]: the calls of those turns.
@@ -20,8 +21,8 @@ mod one_port;
 mod senders;
 
 use crate::device_alone::calls_of_turns;
-use crate::four_ports::{NO_FILLS, offers_at_once};
-use crate::one_port::{IDLE_TURNS, NO_SPANS, offers_and_turns};
+use crate::four_ports::offers_at_once;
+use crate::one_port::{IDLE_TURNS, offers_and_turns};
 use crate::senders::drive_all;
 use q_device::{Device, Settings};
 use q_packet::{Ecn, FlowKey, Packet};
@@ -34,36 +35,32 @@ const SENT: usize = 262_144;
 
 fn main(rt: HostRuntime) -> io::Result<()> {
     let words: Vec<String> = env::args(&rt)?.collect(rt.alloc())?;
-    if words.len() != 2 {
+    let is_asked = words.len() == 2;
+    drop(words);
+    if !is_asked {
         return Ok(());
     }
     let alloc = rt.alloc();
-    let mut spans = NO_SPANS;
-    if let (Some(device), Some(given)) = (device(alloc), packet()) {
-        spans = offers_and_turns(&rt, alloc, device, given)?;
-    }
+    let Some(given) = packet() else {
+        return Ok(());
+    };
+    let spans = offers_and_turns(&rt, alloc, given);
     println!(rt; "{} {}", spans.offers, one_port::PACKETS)?;
     println!(rt; "{} {}", spans.turns, one_port::PACKETS)?;
-    let mut calls = 0;
-    if let (Some(device), Some(given)) = (device(alloc), packet()) {
-        calls = calls_of_turns(&rt, alloc, device, given)?;
-    }
+    let calls = calls_of_turns(&rt, alloc, given).unwrap_or(0);
     println!(rt; "{calls} {}", one_port::PACKETS)?;
     println!(rt; "{} {IDLE_TURNS}", spans.idle_turns)?;
-    let mut fills = NO_FILLS;
-    if let (Some(device), Some(given)) = (device(alloc), packet()) {
-        fills = offers_at_once(&rt, alloc, device, given)?;
-    }
+    let fills = offers_at_once(&rt, alloc, given);
     println!(rt; "{} {}", fills.alone, four_ports::PACKETS_OF_ONE)?;
     println!(rt; "{} {}", fills.at_once, four_ports::PACKETS)?;
-    for senders in [1, 4, 16, 64] {
-        let mut span = 0;
-        if let (Some(device), Some(given)) = (device(alloc), packet()) {
-            span = drive_all(&rt, alloc, device, given, senders, SENT / senders)?;
-        }
-        println!(rt; "{span} {SENT}")?;
-    }
-    Ok(())
+    let one = drive_all(&rt, alloc, given, 1, SENT).unwrap_or(0);
+    println!(rt; "{one} {SENT}")?;
+    let four = drive_all(&rt, alloc, given, 4, SENT / 4).unwrap_or(0);
+    println!(rt; "{four} {SENT}")?;
+    let sixteen = drive_all(&rt, alloc, given, 16, SENT / 16).unwrap_or(0);
+    println!(rt; "{sixteen} {SENT}")?;
+    let most = drive_all(&rt, alloc, given, 64, SENT / 64).unwrap_or(0);
+    println!(rt; "{most} {SENT}")
 }
 
 /// A device with a root pfifo at which nothing has arrived, in which all packets fit.
@@ -74,11 +71,15 @@ fn device(alloc: Global) -> Option<Device>
 }
 
 fn packet() -> Option<Packet> {
-    let key = FlowKey::new(4, 17, 0x0a00_0001, 0x0a00_0002, 1000, 5000)?;
+    let key = between(0x0a00_0001, 0x0a00_0002)?;
     Packet::new(0, 0, 2, 1000, key, 3, 0, Ecn::NotEct)
 }
 
-/// The nanoseconds since then.
-pub fn span_since<C: Clock>(clock: &C, start: &Instant) -> io::Result<u64> {
-    Ok(u64::try_from(start.elapsed(clock)?.as_nanos()).unwrap_or(0))
+fn between(src: u128, dst: u128) -> Option<FlowKey> {
+    FlowKey::new(4, 17, src, dst, 1000, 5000)
+}
+
+/// The nanoseconds since then; `None` where the clock could not be read.
+pub fn span_since<C: Clock>(clock: &C, start: &Instant) -> Option<u64> {
+    u64::try_from(start.elapsed(clock).ok()?.as_nanos()).ok()
 }

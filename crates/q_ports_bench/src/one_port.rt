@@ -1,12 +1,11 @@
 ghost use Rattle.std.specs.Prelude.{◌≡◌};
 ghost use Rattle.q_model.specs.Tally.{no_totals};
 
-use crate::span_since;
+use crate::{device, span_since};
 use q_device::Device;
 use q_packet::{Moment, Packet};
 use q_ports::{Booked, Drain, Port, open_ports};
 use std::alloc::Global;
-use std::io;
 use std::marker::Brand;
 use std::sync::ledger::{Blank, Ledger};
 use std::sync::{Mutex, Wait};
@@ -46,14 +45,10 @@ pub const NO_SPANS: Spans = Spans {
 };
 
 /// Times offers into one ring and turns that take them, in stretches, and then turns that find nothing.
-pub fn offers_and_turns<R: Wait + Clock>(
-    rt: &R,
-    alloc: Global,
-    device: Device,
-    given: Packet,
-) -> io::Result<Spans>
-    requires { device.device.tree.top.arrived ≡ no_totals }
-{
+pub fn offers_and_turns<R: Wait + Clock>(rt: &R, alloc: Global, given: Packet) -> Spans {
+    let Some(device) = device(alloc) else {
+        return NO_SPANS;
+    };
     let (packets, bytes) = (Blank::new(65), Blank::new(65));
     booked::<Brand, Brand, R>(rt, alloc, device, given, packets, bytes)
 }
@@ -65,20 +60,20 @@ fn booked<P: Ledger, B: Ledger, R: Wait + Clock>(
     given: Packet,
     packets: Blank,
     bytes: Blank,
-) -> io::Result<Spans>
+) -> Spans
     requires nothing { device.device.tree.top.arrived ≡ no_totals }
     requires packets { (packets.name ≡ P.name) × (packets.parts ≡ P.parts) × (P.parts ≡ 65) }
     requires bytes { (bytes.name ≡ B.name) × (bytes.parts ≡ B.parts) × (B.parts ≡ 65) }
 {
     let (booked, seat) = Booked::<P, B>::new(device, packets, bytes);
     let Ok((drain, ports, _gauges)) = open_ports(rt, alloc, seat, 1, RING, 1) else {
-        return Ok(NO_SPANS);
+        return NO_SPANS;
     };
     let (mut drain, mut ports) = (drain, ports);
     let lock = Mutex::new(booked);
     let spans = match ports.pop() {
         Some(port) => stretches(rt, alloc, &lock, &mut drain, port, given),
-        None => Ok(NO_SPANS),
+        None => NO_SPANS,
     };
     drain.end(rt);
     spans
@@ -91,37 +86,60 @@ fn stretches<P: Ledger, B: Ledger, R: Wait + Clock>(
     drain: &mut Drain<P, B>,
     port: Port,
     given: Packet,
-) -> io::Result<Spans> {
+) -> Spans {
     let mut port = port;
-    let (mut offers, mut turns) = (0u64, 0u64);
+    let mut spans = NO_SPANS;
     for _ in 0..STRETCHES {
-        let start = Instant::now(rt)?;
-        if !offer_all(&mut port, given, RING) {
-            return Ok(NO_SPANS);
-        }
-        offers = offers.saturating_add(span_since(rt, &start)?);
-        let start = Instant::now(rt)?;
-        if take_all(rt, alloc, lock, drain, RING) != RING {
-            return Ok(NO_SPANS);
-        }
-        turns = turns.saturating_add(span_since(rt, &start)?);
+        let Some(offers) = timed_offers(rt, &mut port, given, RING) else {
+            return NO_SPANS;
+        };
+        let Some(turns) = timed_turns(rt, alloc, lock, drain, RING, RING) else {
+            return NO_SPANS;
+        };
+        spans.offers = spans.offers.saturating_add(offers);
+        spans.turns = spans.turns.saturating_add(turns);
     }
-    let start = Instant::now(rt)?;
-    let sent = take_all(rt, alloc, lock, drain, IDLE_TURNS * MOST);
-    let idle_turns = span_since(rt, &start)?;
-    Ok(if sent == 0 {
-        Spans {
-            offers,
-            turns,
+    match timed_turns(rt, alloc, lock, drain, IDLE_TURNS * MOST, 0) {
+        Some(idle_turns) => Spans {
             idle_turns,
-        }
-    } else {
-        NO_SPANS
-    })
+            ..spans
+        },
+        None => NO_SPANS,
+    }
+}
+
+/// The nanoseconds in which so many packets are offered; `None` where one was not placed, or the clock could not be read.
+pub fn timed_offers<C: Clock>(
+    clock: &C,
+    port: &mut Port,
+    given: Packet,
+    count: usize,
+) -> Option<u64> {
+    let start = Instant::now(clock).ok()?;
+    if !offer_all(port, given, count) {
+        return None;
+    }
+    span_since(clock, &start)
+}
+
+/// The nanoseconds of the turns that so many packets fill; `None` where not just `wanted` were sent, or the clock could not be read.
+fn timed_turns<P: Ledger, B: Ledger, R: Wait + Clock>(
+    rt: &R,
+    alloc: Global,
+    lock: &Mutex<Booked<P, B>>,
+    drain: &mut Drain<P, B>,
+    count: usize,
+    wanted: usize,
+) -> Option<u64> {
+    let start = Instant::now(rt).ok()?;
+    if take_all(rt, alloc, lock, drain, count) != wanted {
+        return None;
+    }
+    span_since(rt, &start)
 }
 
 /// Offers so many packets; whether each was placed.
-pub fn offer_all(port: &mut Port, given: Packet, count: usize) -> bool {
+fn offer_all(port: &mut Port, given: Packet, count: usize) -> bool {
     for _ in 0..count {
         if port.offer(given).is_err() {
             return false;

@@ -1,12 +1,11 @@
 ghost use Rattle.std.specs.Prelude.{◌≡◌};
 ghost use Rattle.q_model.specs.Tally.{no_totals};
 
-use crate::span_since;
+use crate::{device, span_since};
 use q_device::Device;
 use q_packet::{Moment, Packet};
 use q_ports::{Booked, Gate, Unsettled, drive, open_ports};
 use std::alloc::{AllocError, Global};
-use std::io;
 use std::marker::Brand;
 use std::sync::ledger::{Blank, Ledger};
 use std::sync::{Mutex, Wait};
@@ -31,23 +30,24 @@ impl Gate for FreeGate {
     fn after_offer(&self, _port: u32, _nth: u64) {}
 }
 
-/// The nanoseconds in which so many senders, 1 to 64, place so many packets each; 0 for other numbers, and where one is
-/// given up.
+/// The nanoseconds in which so many senders, 1 to 64, place so many packets each; `None` for other numbers, where a packet is given
+/// up, and where memory was refused or the clock could not be read.
 pub fn drive_all<R: Threads + Wait + Sync + Clock>(
     rt: &R,
     alloc: Global,
-    device: Device,
     given: Packet,
     senders: usize,
     each: usize,
-) -> io::Result<u64>
-    requires { device.device.tree.top.arrived ≡ no_totals }
-{
+) -> Option<u64> {
     let (packets, bytes) = (Blank::new(65), Blank::new(65));
-    match loads(alloc, given, senders, each) {
-        Ok(loads) => booked::<Brand, Brand, R>(rt, alloc, device, loads, packets, bytes),
-        Err(_) => Ok(0),
+    let loads = loads(alloc, given, senders, each).ok()?;
+    let device = device(alloc)?;
+    let from = Instant::now(rt).ok()?;
+    let given_up = booked::<Brand, Brand, R>(rt, alloc, device, loads, packets, bytes)?;
+    if given_up > 0 {
+        return None;
     }
+    span_since(rt, &from)
 }
 
 /// A load for each sender.
@@ -64,6 +64,7 @@ fn loads(
     Ok(loads)
 }
 
+/// How many packets were given up; `None` where memory was refused, or there are not 1 to 64 loads.
 fn booked<P: Ledger + Send + Sync, B: Ledger + Send + Sync, R: Threads + Wait + Sync + Clock>(
     rt: &R,
     alloc: Global,
@@ -71,29 +72,25 @@ fn booked<P: Ledger + Send + Sync, B: Ledger + Send + Sync, R: Threads + Wait + 
     loads: Vec<Vec<Packet>>,
     packets: Blank,
     bytes: Blank,
-) -> io::Result<u64>
+) -> Option<u64>
     requires nothing { device.device.tree.top.arrived ≡ no_totals }
     requires packets { (packets.name ≡ P.name) × (packets.parts ≡ P.parts) × (P.parts ≡ 65) }
     requires bytes { (bytes.name ≡ B.name) × (bytes.parts ≡ B.parts) × (B.parts ≡ 65) }
 {
     let count = loads.len();
     if count < 1 || count > 64 {
-        return Ok(0);
+        return None;
     }
-    let from = Instant::now(rt)?;
     let (booked, seat) = Booked::<P, B>::new(device, packets, bytes);
     let Ok((drain, ports, _gauges)) = open_ports(rt, alloc, seat, count, RING, 0) else {
-        return Ok(0);
+        return None;
     };
     let lock = Mutex::new(booked);
     let start = Moment::zero();
     match drive(
         rt, alloc, &lock, drain, ports, loads, &FreeGate, start, STEP, TRIES,
     ) {
-        Ok(driven) => {
-            let span = span_since(rt, &from)?;
-            Ok(if driven.given_up == 0 { span } else { 0 })
-        }
+        Ok(driven) => Some(driven.given_up),
         Err(
             Unsettled {
                 drain,
@@ -101,7 +98,7 @@ fn booked<P: Ledger + Send + Sync, B: Ledger + Send + Sync, R: Threads + Wait + 
             },
         ) => {
             drain.end(rt);
-            Ok(0)
+            None
         }
     }
 }
