@@ -121,13 +121,11 @@ impl Fifo {
         requires place { count self.old.packets < self.old.places }
         ensures { self.new ≡ record self.old { packets = self.old.packets ++ record { packet = packet.now; at = now } ∷ [] } }
     {
-        let len = packet.len;
-        let bytes = self.bytes + len as u64;
         self.packets.push_back_reserved(Stamped {
             packet: *packet,
             at: now,
         });
-        self.bytes = bytes;
+        self.bytes += packet.len as u64;
     }
 
     /// The packet in front; `None` where the queue is empty.
