@@ -27,6 +27,16 @@ pub fn limited(alloc: Global, limit: u32, recorded: u32) -> Option<Device>
     Device::open(alloc, Settings::new(1514, limit, recorded)?).ok()
 }
 
+/// The device of [`device`], at the second try where memory is refused.
+pub fn retried(alloc: Global, recorded: u32) -> Option<Device>
+    ensures { IfSome result (λ d. d.device.tree.top.arrived ≡ no_totals) }
+{
+    match device(alloc, recorded) {
+        Some(device) => Some(device),
+        None => device(alloc, recorded),
+    }
+}
+
 /// A packet of 100 bytes with this number.
 pub fn packet(number: u64) -> Option<Packet> {
     let key = FlowKey::new(0, 0, 0, 0, 0, 0)?;

@@ -13,12 +13,14 @@ use std::test::Fail;
 
 /// A tbf that begins with 150 bytes of tokens, and gets a byte a second.
 fn slow() -> Option<Command> {
+    let rate = Rate::new(8)?;
+    let burst = Burst::new(150)?;
     Some(Command::QdiscAdd {
         place: Place::Root,
         handle: None,
         kind: Kind::Tbf {
-            rate: Rate::new(8)?,
-            burst: Burst::new(150)?,
+            rate,
+            burst,
             limit: TbfLimit::Bytes(1000),
         },
     })
@@ -26,15 +28,15 @@ fn slow() -> Option<Command> {
 
 #[test]
 fn ready_once_the_bucket_has_enough(rt: HostRuntime) -> Result<(), Fail> {
-    let mut device = device(rt.alloc(), 0).ok_or("memory")?;
-    device.command(slow().ok_or("in range")?, Moment::zero())?;
     let given = packet(1).ok_or("a packet")?;
-    waits::<Brand, Brand, _>(&rt, device, given, Blank::new(65), Blank::new(65));
+    let slow = slow().ok_or("in range")?;
+    let mut device = device(rt.alloc(), 0).ok_or("memory")?;
+    device.command(slow, Moment::zero())?;
+    booked::<Brand, Brand, _>(&rt, device, given, Blank::new(65), Blank::new(65));
     Ok(())
 }
 
-// Two packets of 100 bytes come, of which the bucket pays for one. The other lacks 50 bytes, which come in 50 s.
-fn waits<P: Ledger, B: Ledger, R: Abort>(
+fn booked<P: Ledger, B: Ledger, R: Abort>(
     rt: &R,
     device: Device,
     given: Packet,
@@ -46,9 +48,19 @@ fn waits<P: Ledger, B: Ledger, R: Abort>(
     requires bytes { (bytes.name ≡ B.name) × (bytes.parts ≡ B.parts) × (B.parts ≡ 65) }
 {
     let (mut booked, mut seat) = Booked::<P, B>::new(device, packets, bytes);
+    assert_waits(rt, &mut booked, &mut seat, given);
+}
+
+// Two packets of 100 bytes come, of which the bucket pays for one. The other lacks 50 bytes, which come in 50 s.
+fn assert_waits<P: Ledger, B: Ledger, R: Abort>(
+    rt: &R,
+    booked: &mut Booked<P, B>,
+    seat: &mut Seat<P, B>,
+    given: Packet,
+) {
     assert_eq!(rt; booked.ready_at(), None);
-    arrive(rt, &mut booked, &mut seat, given);
-    arrive(rt, &mut booked, &mut seat, given);
+    arrive(rt, booked, seat, given);
+    arrive(rt, booked, seat, given);
     assert_eq!(rt; booked.ready_at(), Some(Moment::zero()));
     assert_eq!(rt; booked.poll(Moment::zero()), Polled::Packet(given));
     assert_eq!(rt; booked.poll(Moment::zero()), Polled::Later);

@@ -8,7 +8,7 @@ ghost use Rattle.q_ports.specs.Held.{held};
 ghost use Rattle.q_ports.specs.Placed.{ring_of_port};
 ghost use Rattle.q_ports.specs.Rings.{ring_id};
 
-use crate::common::{device, fill, hundreds, packet};
+use crate::common::{fill, hundreds, packet, retried};
 use crate::open_gate::OpenGate;
 use q_device::Device;
 use q_packet::{Moment, Packet};
@@ -31,10 +31,7 @@ const TRIES: u64 = 1_000_000_000;
 fn what_was_refused_succeeds_later(rt: HostRuntime) -> Result<(), Fail> {
     let alloc = rt.alloc();
     let given = packet(5).ok_or("a packet")?;
-    let device = match device(alloc, 4) {
-        Some(device) => device,
-        None => device(alloc, 4).ok_or("memory")?,
-    };
+    let device = retried(alloc, 4).ok_or("memory")?;
     refused::<Brand, Brand, _>(&rt, alloc, device, given, Blank::new(65), Blank::new(65));
     Ok(())
 }
@@ -43,14 +40,11 @@ fn what_was_refused_succeeds_later(rt: HostRuntime) -> Result<(), Fail> {
 fn a_refused_drive_settles_later(rt: HostRuntime) -> Result<(), Fail> {
     let alloc = rt.alloc();
     let given = packet(5).ok_or("a packet")?;
-    let device = match device(alloc, 4) {
-        Some(device) => device,
-        None => device(alloc, 4).ok_or("memory")?,
-    };
     let loads = match load(alloc, given) {
         Ok(loads) => loads,
         Err(_) => load(alloc, given)?,
     };
+    let device = retried(alloc, 4).ok_or("memory")?;
     driven::<Brand, Brand, _>(&rt, alloc, device, loads, Blank::new(65), Blank::new(65));
     Ok(())
 }

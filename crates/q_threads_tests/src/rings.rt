@@ -1,8 +1,10 @@
 //! A ring by itself, each end on a thread of its own.
-use crate::common::{device, hundreds, packet};
+use crate::common::{device, hundreds, packet, retried};
 use q_device::Device;
 use q_packet::{Moment, Packet};
 use q_ports::{Outlet, Port, TakenIn, open_ring};
+use std::alloc::Global;
+use std::process::Abort;
 use std::test::Fail;
 use std::thread;
 
@@ -25,10 +27,14 @@ fn ring_between_threads(rt: HostRuntime) -> Result<(), Fail> {
         move || offer_all(port, given),
         move || take_all(outlet, fed),
     );
+    assert_all_arrived(&rt, &port, &outlet, &fed);
+    Ok(())
+}
+
+fn assert_all_arrived<R: Abort>(rt: &R, port: &Port, outlet: &Outlet, fed: &Device) {
     assert_eq!(rt; port.share(), hundreds(PACKETS));
     assert_eq!(rt; outlet.share(), hundreds(PACKETS));
     assert_eq!(rt; fed.totals().arrived, hundreds(PACKETS));
-    Ok(())
 }
 
 // What is refused memory stays in the ring, and the next call takes it in.
@@ -36,18 +42,32 @@ fn ring_between_threads(rt: HostRuntime) -> Result<(), Fail> {
 fn ring_keeps_what_was_refused(rt: HostRuntime) -> Result<(), Fail> {
     let alloc = rt.alloc();
     let given = packet(5).ok_or("a packet")?;
-    let mut fed = match device(alloc, 0) {
-        Some(device) => device,
-        None => device(alloc, 0).ok_or("memory")?,
-    };
-    let (mut port, mut outlet) = match open_ring(alloc, 3, 4) {
-        Ok(ends) => ends,
-        Err(_) => open_ring(alloc, 3, 4).map_err(|_| "refused twice")?,
-    };
+    let (mut port, mut outlet) = ring(alloc).ok_or("refused twice")?;
+    let mut fed = retried(alloc, 0).ok_or("refused twice")?;
+    assert_keeps(&rt, &mut port, &mut outlet, &mut fed, given);
+    Ok(())
+}
+
+// Both ends of a ring, where memory for it is not refused twice.
+fn ring(alloc: Global) -> Option<(Port, Outlet)> {
+    match open_ring(alloc, 3, 4) {
+        Ok(ends) => Some(ends),
+        Err(_) => open_ring(alloc, 3, 4).ok(),
+    }
+}
+
+// Of three packets two are asked for, and then all. One call at most is refused memory.
+fn assert_keeps<R: Abort>(
+    rt: &R,
+    port: &mut Port,
+    outlet: &mut Outlet,
+    fed: &mut Device,
+    given: Packet,
+) {
     for _packet in 0..3 {
         assert!(rt; port.offer(given).is_ok());
     }
-    let first = outlet.take_in(&mut fed, Moment::zero(), 2);
+    let first = outlet.take_in(fed, Moment::zero(), 2);
     assert!(rt;
         first.memory
             || first
@@ -56,13 +76,12 @@ fn ring_keeps_what_was_refused(rt: HostRuntime) -> Result<(), Fail> {
                     memory: false
                 }
     );
-    let second = outlet.take_in(&mut fed, Moment::zero(), 4);
+    let second = outlet.take_in(fed, Moment::zero(), 4);
     assert_eq!(rt; (first.taken + second.taken, second.memory), (3, false));
     assert_eq!(rt;
         (outlet.share(), fed.totals().arrived),
         (hundreds(3), hundreds(3))
     );
-    Ok(())
 }
 
 // Offers a packet again and again, until so many were placed.
