@@ -103,28 +103,39 @@ const TURNED_DOWN: &[&str] = &[
     "qtree play --record 1k",
 ];
 
+/// Looks that a line asks for a play with these settings.
+fn assert_play(
+    rt: &impl Abort,
+    alloc: Global,
+    line: &str,
+    settings: RunSettings,
+) -> Result<(), Fail> {
+    let play = PlayOptions {
+        settings,
+        file: None,
+        explain: false,
+    };
+    assert_eq!(rt; asked(alloc, line)?, Some(Options::Play(play)), "{line}");
+    Ok(())
+}
+
 #[test]
 fn options_of_play(rt: HostRuntime) -> Result<(), Fail> {
     let alloc = rt.alloc();
     let settings = RunSettings::new(1, 0, u32::MAX, 1_000_000).ok_or("settings in range")?;
-    for (line, settings) in [
-        ("qtree play", RunSettings::defaults()),
-        (
-            "qtree play --mtu 1 --txqueuelen 0 --seed 4294967295 --record 1000000",
-            settings,
-        ),
-        (
-            "qtree play --record=1000000 --seed=4294967295 --txqueuelen=0 --mtu=1",
-            settings,
-        ),
-    ] {
-        let play = PlayOptions {
-            settings,
-            file: None,
-            explain: false,
-        };
-        assert_eq!(rt; asked(alloc, line)?, Some(Options::Play(play)), "{line}");
-    }
+    assert_play(&rt, alloc, "qtree play", RunSettings::defaults())?;
+    assert_play(
+        &rt,
+        alloc,
+        "qtree play --mtu 1 --txqueuelen 0 --seed 4294967295 --record 1000000",
+        settings,
+    )?;
+    assert_play(
+        &rt,
+        alloc,
+        "qtree play --record=1000000 --seed=4294967295 --txqueuelen=0 --mtu=1",
+        settings,
+    )?;
     for line in TURNED_DOWN {
         assert!(rt; asked(alloc, line)?.is_none(), "{line}");
     }

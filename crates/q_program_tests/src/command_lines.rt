@@ -3,45 +3,61 @@ use crate::answers::{asked, assert_answers};
 use q_drive::DriveSettings;
 use q_options::Options;
 use q_script::RunSettings;
+use std::alloc::Global;
+use std::process::Abort;
 use std::test::Fail;
+
+/// Looks that a line asks for a drive with these settings, which are in range.
+fn assert_drive(
+    rt: &impl Abort,
+    alloc: Global,
+    line: &str,
+    settings: Option<DriveSettings>,
+) -> Result<(), Fail> {
+    let settings = settings.ok_or("in range")?;
+    assert_eq!(rt;
+        asked(alloc, line)?,
+        Some(Options::Drive(settings)),
+        "{line}"
+    );
+    Ok(())
+}
 
 #[test]
 fn options_at_their_bounds(rt: HostRuntime) -> Result<(), Fail> {
     let alloc = rt.alloc();
-    let (defaults, widest) = (
-        RunSettings::defaults(),
-        RunSettings::new(65535, u32::MAX, u32::MAX, 1_000_000),
-    );
-    for (line, settings) in [
-        (
-            "qtree drive --senders 1 --count 0 --len 1 --ring 1",
-            DriveSettings::new(defaults, 1, 0, 1, 1, false, false),
-        ),
-        (
-            "qtree drive --show --ring=65536 --len=65535 --count=1000000 --senders=64",
-            DriveSettings::new(defaults, 64, 1_000_000, 65535, 65536, false, true),
-        ),
-        (
-            "qtree drive --senders 2 --count 3 --len 4 --ring 5 --mtu 65535 --txqueuelen 4294967295 --seed 4294967295 --record 1000000",
-            DriveSettings::new(widest.ok_or("in range")?, 2, 3, 4, 5, false, false),
-        ),
-        (
-            "qtree drive --until-idle --senders 2 --count 3 --len 4 --ring 5",
-            DriveSettings::new(defaults, 2, 3, 4, 5, true, false),
-        ),
-        (
-            "qtree drive --senders 2 --show --count 3 --len 4 --ring 5 --until-idle",
-            DriveSettings::new(defaults, 2, 3, 4, 5, true, true),
-        ),
-    ] {
-        let settings = settings.ok_or("in range")?;
-        assert_eq!(rt;
-            asked(alloc, line)?,
-            Some(Options::Drive(settings)),
-            "{line}"
-        );
-    }
-    Ok(())
+    let defaults = RunSettings::defaults();
+    assert_drive(
+        &rt,
+        alloc,
+        "qtree drive --senders 1 --count 0 --len 1 --ring 1",
+        DriveSettings::new(defaults, 1, 0, 1, 1, false, false),
+    )?;
+    assert_drive(
+        &rt,
+        alloc,
+        "qtree drive --show --ring=65536 --len=65535 --count=1000000 --senders=64",
+        DriveSettings::new(defaults, 64, 1_000_000, 65535, 65536, false, true),
+    )?;
+    let widest = RunSettings::new(65535, u32::MAX, u32::MAX, 1_000_000).ok_or("in range")?;
+    assert_drive(
+        &rt,
+        alloc,
+        "qtree drive --senders 2 --count 3 --len 4 --ring 5 --mtu 65535 --txqueuelen 4294967295 --seed 4294967295 --record 1000000",
+        DriveSettings::new(widest, 2, 3, 4, 5, false, false),
+    )?;
+    assert_drive(
+        &rt,
+        alloc,
+        "qtree drive --until-idle --senders 2 --count 3 --len 4 --ring 5",
+        DriveSettings::new(defaults, 2, 3, 4, 5, true, false),
+    )?;
+    assert_drive(
+        &rt,
+        alloc,
+        "qtree drive --senders 2 --show --count 3 --len 4 --ring 5 --until-idle",
+        DriveSettings::new(defaults, 2, 3, 4, 5, true, true),
+    )
 }
 
 /// Command lines that are turned down.

@@ -38,8 +38,8 @@ fn assert_passes(rt: &impl Abort, device: &mut Device, packet: Packet) {
 #[test]
 fn a_device_by_one_crate(rt: HostRuntime) -> Result<(), Fail> {
     let settings = Settings::new(1514, 1000, 0).ok_or("settings")?;
-    let mut device = Device::open(rt.alloc(), settings)?;
     let packet = Packet::new(0, 1, 0, 100, FlowKey::zero(), 0, 0, Ecn::NotEct).ok_or("packet")?;
+    let mut device = Device::open(rt.alloc(), settings)?;
     assert_passes(&rt, &mut device, packet);
     Ok(())
 }

@@ -5,8 +5,9 @@
 use crate::line_runner::LineRunner;
 use crate::runs::TWO_OF_THREE;
 use crate::seen::adds_up;
-use q_device::{Event, Place, Refusal};
+use q_device::{Device, Event, Place, Refusal};
 use std::alloc::Global;
+use std::process::Abort;
 use std::test::Fail;
 
 // A drr whose fq_codel is removed with its packets.
@@ -113,17 +114,18 @@ const SCRIPTS: &[(&[u8], &[(usize, Refusal)])] = &[
     (WAITING, &[]),
 ];
 
-/// Runs each script on a device of its own.
-fn assert_lines(alloc: Global, scripts: &[(&[u8], &[(usize, Refusal)])]) -> Result<(), Fail> {
-    for (script, refusals) in scripts {
-        LineRunner::new(alloc, 0)?.run(alloc, script, refusals)?;
-    }
-    Ok(())
+/// Runs a script on a device of its own.
+fn assert_lines(alloc: Global, script: &[u8], refusals: &[(usize, Refusal)]) -> Result<(), Fail> {
+    let mut runner = LineRunner::new(alloc, 0)?;
+    runner.run(alloc, script, refusals)
 }
 
 #[test]
 fn a_line_is_done_or_changes_nothing(rt: HostRuntime) -> Result<(), Fail> {
-    assert_lines(rt.alloc(), SCRIPTS)
+    for (script, refusals) in SCRIPTS {
+        assert_lines(rt.alloc(), script, refusals)?;
+    }
+    Ok(())
 }
 
 #[test]
@@ -131,7 +133,10 @@ fn a_recorder_of_two_keeps_the_first_two_events(rt: HostRuntime) -> Result<(), F
     let alloc = rt.alloc();
     let mut runner = LineRunner::new(alloc, 2)?;
     runner.run(alloc, TWO_OF_THREE, &[])?;
-    let device = &runner.device;
+    assert_records_two(&rt, &runner.device)
+}
+
+fn assert_records_two(rt: &impl Abort, device: &Device) -> Result<(), Fail> {
     // A command, three arrivals and three polls.
     assert_eq!(rt; device.events(), 7);
     let [Event::Command(..), Event::Arrive(first, _)] = device.recorded() else {

@@ -4,9 +4,10 @@ use q_line::{Line, read_line};
 use q_packet::Moment;
 use q_session::{show_classes, show_filters, show_qdiscs};
 use std::alloc::Global;
+use std::process::Abort;
 use std::test::Fail;
 
-const LINES: [&[u8]; 4] = [
+const LINES: &[&[u8]] = &[
     b"tc qdisc add dev eth0 root handle 1: drr",
     b"tc class add dev eth0 parent 1: classid 1:1 drr quantum 1000",
     b"tc filter add dev eth0 parent 1: prio 1 protocol ip flower ip_proto udp dst_port 53 classid 1:1",
@@ -19,6 +20,11 @@ pub const QDISCS: &str = "qdisc drr 1: root\nqdisc bfifo 2: parent 1:1 limit 300
 pub fn device(alloc: Global) -> Result<Device, Fail> {
     let settings = Settings::new(1500, 1000, 0).ok_or("settings")?;
     let mut device = Device::open(alloc, settings).map_err(|_| "memory")?;
+    set_up(&mut device)?;
+    Ok(device)
+}
+
+fn set_up(device: &mut Device) -> Result<(), Fail> {
     for line in LINES {
         let Ok(Line::Tc(command)) = read_line(line) else {
             return Err(Fail::from("a line of tc"));
@@ -27,13 +33,18 @@ pub fn device(alloc: Global) -> Result<Device, Fail> {
             .command(command, Moment::zero())
             .map_err(|_| "a command")?;
     }
-    Ok(device)
+    Ok(())
 }
 
 #[test]
 fn texts_of_a_tree(rt: HostRuntime) -> Result<(), Fail> {
     let alloc = rt.alloc();
     let device = device(alloc)?;
+    assert_texts(&rt, alloc, &device);
+    Ok(())
+}
+
+fn assert_texts(rt: &impl Abort, alloc: Global, device: &Device) {
     let mut written = Vec::new(alloc);
     assert_eq!(rt;
         show_qdiscs(alloc, device.tree(), false, &mut written),
@@ -52,5 +63,4 @@ fn texts_of_a_tree(rt: HostRuntime) -> Result<(), Fail> {
         written.as_slice(),
         b"filter parent 1: prio 1 protocol ip ip_proto 11 dst_port 53 classid 1:1\n".as_slice()
     );
-    Ok(())
 }
