@@ -71,12 +71,8 @@ fn device(alloc: Global) -> Option<Device>
 }
 
 fn packet() -> Option<Packet> {
-    let key = between(0x0a00_0001, 0x0a00_0002)?;
+    let key = FlowKey::new(4, 17, 0x0a00_0001, 0x0a00_0002, 1000, 5000)?;
     Packet::new(0, 0, 2, 1000, key, 3, 0, Ecn::NotEct)
-}
-
-fn between(src: u128, dst: u128) -> Option<FlowKey> {
-    FlowKey::new(4, 17, src, dst, 1000, 5000)
 }
 
 /// The nanoseconds since then; `None` where the clock could not be read.
