@@ -103,7 +103,8 @@ fn put_for_losses(
     Some(sum)
 }
 
-/// Puts so many packets at moment 0, round and round.
+/// Puts so many packets at moment 0, round and round: a function of its own, which leaves its registers to what is measured.
+#[inline(never)]
 fn fill(queue: &mut Fifo, queued: u32, made: &[Packet]) -> Option<()> {
     let mut next = 0;
     for _ in 0..queued {
