@@ -6,12 +6,13 @@ ghost use Rattle.q_ports.specs.Rings.{ring_id};
 ghost use Rattle.q_ports.specs.Rows.{new_gauge, shown_on, GaugeSeen};
 
 use q_device::{Device, Settings, Totals};
-use q_packet::{Ecn, FlowKey, Packet};
-use q_ports::{Booked, Drain, Full, Gauge, Port, open_ports};
+use q_packet::{Ecn, FlowKey, Moment, Packet};
+use q_ports::{Booked, Drain, Full, Gate, Gauge, Port, drive, open_ports};
 use std::alloc::Global;
 use std::process::Abort;
 use std::sync::ledger::{Blank, Ledger};
 use std::sync::{Mutex, Wait};
+use std::thread::Threads;
 
 /// A device with the default settings at which nothing has arrived, which records so many events. `None` where memory is refused.
 pub fn device(alloc: Global, recorded: u32) -> Option<Device>
@@ -96,6 +97,68 @@ pub fn fill<R: Abort>(rt: &R, ports: &mut Vec<Port>, count: u64, packet: Packet)
 {
     for _offer in 0..count {
         assert!(rt; offer_at(ports, 0, packet).is_ok());
+    }
+}
+
+/// The ring of the first port has no room for a packet, which is given back.
+pub fn assert_full<R: Abort>(rt: &R, ports: &mut Vec<Port>, packet: Packet)
+    requires { 0 < length ports.old.items }
+    ensures rings { map ring_of_port ports.new.items ≡ map ring_of_port ports.old.items }
+    ensures count { length ports.new.items ≡ length ports.old.items }
+{
+    assert_eq!(rt; offer_at(ports, 0, packet), Err(Full(packet)));
+}
+
+/// Settles, and asserts that so much was placed at the ports.
+pub fn assert_settles<P: Ledger, B: Ledger, R: Wait + Abort>(
+    rt: &R,
+    booked: &Mutex<Booked<P, B>>,
+    drain: Drain<P, B>,
+    ports: Vec<Port>,
+    wanted: Totals,
+)
+    requires parts { (P.parts ≡ 65) × (B.parts ≡ 65) }
+    requires ports { map ring_of_port ports.items ≡ map ring_id drain.rings }
+{
+    match drain.settle(rt, booked, ports, Moment::zero()) {
+        Ok(settled) => assert_eq!(rt; settled.share(), wanted),
+        Err(unsettled) => {
+            unsettled.drain.end(rt);
+            panic!(rt; "memory")
+        }
+    }
+}
+
+/// Drives the device from 0 on, and answers how much was settled and how many packets were given up.
+pub fn driven_all<
+    P: Ledger + Send + Sync,
+    B: Ledger + Send + Sync,
+    G: Gate + Sync,
+    R: Threads + Wait + Sync + Abort,
+>(
+    rt: &R,
+    alloc: Global,
+    booked: &Mutex<Booked<P, B>>,
+    drain: Drain<P, B>,
+    ports: Vec<Port>,
+    loads: Vec<Vec<Packet>>,
+    gate: &G,
+    step: u64,
+    tries: u64,
+) -> (Totals, u64)
+    requires parts { (P.parts ≡ 65) × (B.parts ≡ 65) }
+    requires ports { map ring_of_port ports.items ≡ map ring_id drain.rings }
+    requires loads { length loads.items ≡ length ports.items }
+{
+    let start = Moment::zero();
+    match drive(
+        rt, alloc, booked, drain, ports, loads, gate, start, step, tries,
+    ) {
+        Ok(driven) => (driven.settled.share(), driven.given_up),
+        Err(unsettled) => {
+            unsettled.drain.end(rt);
+            panic!(rt; "not settled")
+        }
     }
 }
 

@@ -26,8 +26,8 @@ const ARRIVED: u64 = 200;
 fn senders_and_gauges_outlive_the_drain(rt: HostRuntime) -> Result<(), Fail> {
     let alloc = rt.alloc();
     let given = packet(5).ok_or("a packet")?;
-    let device = device(alloc, 0).ok_or("memory")?;
     let traffic = Arc::new(alloc, Traffic::new())?;
+    let device = device(alloc, 0).ok_or("memory")?;
     let (packets, bytes) = (Blank::new(65), Blank::new(65));
     outlived::<Brand, Brand, _>(&rt, alloc, device, &traffic, given, packets, bytes);
     Ok(())
@@ -48,7 +48,7 @@ fn outlived<P: Ledger, B: Ledger, R: Threads + Wait + Abort>(
     requires packets { (packets.name ≡ P.name) × (packets.parts ≡ P.parts) × (P.parts ≡ 65) }
     requires bytes { (bytes.name ≡ B.name) × (bytes.parts ≡ B.parts) × (B.parts ≡ 65) }
 {
-    let (booked, drain, mut ports, mut gauges) = opened::<P, B, R>(
+    let (booked, mut drain, mut ports, mut gauges) = opened::<P, B, R>(
         rt,
         alloc,
         device,
@@ -56,20 +56,25 @@ fn outlived<P: Ledger, B: Ledger, R: Threads + Wait + Abort>(
         packets,
         bytes,
     );
-    let reading = read_beside(rt, traffic, gauges.pop());
-    let one = offer_beside(rt, traffic, ports.pop(), given);
-    let zero = offer_beside(rt, traffic, ports.pop(), given);
-    let mut drain = drain;
+    let reading = read_beside(rt, traffic, &mut gauges);
+    let one = offer_beside(rt, traffic, &mut ports, given);
+    let zero = offer_beside(rt, traffic, &mut ports, given);
     take_turns(rt, alloc, &booked, &mut drain, traffic);
     drain.end(rt);
     traffic.end();
-    let (zero, one) = (zero.join(rt).share(), one.join(rt).share());
-    let arrived = booked.lock(rt).totals().arrived;
-    assert_eq!(rt;
-        zero.packets.saturating_add(one.packets),
-        arrived.packets.saturating_add(2 * PLACES)
-    );
+    let placed = placed_by(rt, zero).saturating_add(placed_by(rt, one));
+    assert_eq!(rt; placed, arrived(rt, &booked).saturating_add(2 * PLACES));
     assert_eq!(rt; reading.join(rt), 0);
+}
+
+// How many packets a sender has placed, once it has ended.
+fn placed_by<R: Threads>(rt: &R, sender: JoinHandle<Port>) -> u64 {
+    sender.join(rt).share().packets
+}
+
+// How many packets have arrived at the device.
+fn arrived<P: Ledger, B: Ledger, R: Wait>(rt: &R, booked: &Mutex<Booked<P, B>>) -> u64 {
+    booked.lock(rt).totals().arrived.packets
 }
 
 // Takes turns until enough has arrived, and the gauge has read a row.
@@ -83,8 +88,7 @@ fn take_turns<P: Ledger, B: Ledger, R: Wait + Abort>(
     for _turn in 0..10_000_000u64 {
         let turn = drain.turn(rt, alloc, booked, Moment::zero(), 8);
         assert!(rt; turn.is_ok());
-        let arrived = booked.lock(rt).totals().arrived.packets;
-        if arrived >= ARRIVED && traffic.read() > 0 {
+        if arrived(rt, booked) >= ARRIVED && traffic.read() > 0 {
             return;
         }
         thread::yield_now();
@@ -96,10 +100,10 @@ fn take_turns<P: Ledger, B: Ledger, R: Wait + Abort>(
 fn offer_beside<R: Threads + Abort>(
     rt: &R,
     traffic: &Arc<Traffic, Global>,
-    port: Option<Port>,
+    ports: &mut Vec<Port>,
     given: Packet,
 ) -> JoinHandle<Port> {
-    let port = port.expect(rt, "a port");
+    let port = ports.pop().expect(rt, "a port");
     let traffic = Arc::try_clone(traffic).expect(rt, "a count");
     thread::spawn(rt, move || traffic.offer_on(port, given)).expect(rt, "a thread")
 }
@@ -108,9 +112,9 @@ fn offer_beside<R: Threads + Abort>(
 fn read_beside<R: Threads + Abort>(
     rt: &R,
     traffic: &Arc<Traffic, Global>,
-    gauge: Option<Gauge>,
+    gauges: &mut Vec<Gauge>,
 ) -> JoinHandle<u64> {
-    let gauge = gauge.expect(rt, "a gauge");
+    let gauge = gauges.pop().expect(rt, "a gauge");
     let traffic = Arc::try_clone(traffic).expect(rt, "a count");
     thread::spawn(rt, move || traffic.read_on(gauge)).expect(rt, "a thread")
 }

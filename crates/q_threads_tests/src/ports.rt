@@ -4,11 +4,11 @@ ghost use Rattle.q_model.specs.Tally.{no_totals};
 ghost use Rattle.q_ports.specs.Placed.{ring_of_port};
 ghost use Rattle.q_ports.specs.Rings.{ring_id};
 
-use crate::common::{device, hundreds, offer_at, opened, packet};
+use crate::common::{assert_full, assert_settles, device, hundreds, offer_at, opened, packet};
 use crate::rows::NO_ROW;
 use q_device::{Device, Polled, Row};
 use q_packet::{Moment, Packet};
-use q_ports::{Booked, Drain, Full, Gauge, Port, Turn};
+use q_ports::{Booked, Drain, Gauge, Port, Turn};
 use std::alloc::Global;
 use std::marker::Brand;
 use std::process::Abort;
@@ -56,20 +56,34 @@ fn ring_of_one<P: Ledger, B: Ledger, R: Wait + Abort>(
     let Some(mut gauge) = gauges.pop() else {
         panic!(rt; "a gauge");
     };
-    assert_shows(rt, &mut gauge, 0);
-    offer_under_lock(rt, &booked, &mut ports, 0, given);
-    assert_eq!(rt; offer_at(&mut ports, 0, given), Err(Full(given)));
-    turn_and_learn(rt, alloc, &booked, &mut drain, &mut gauge);
-    assert_shows(rt, &mut gauge, 1);
-    offer_under_lock(rt, &booked, &mut ports, 0, given);
-    match drain.settle(rt, &booked, ports, Moment::zero()) {
-        Ok(settled) => assert_eq!(rt; settled.share(), hundreds(2)),
-        Err(unsettled) => {
-            unsettled.drain.end(rt);
-            panic!(rt; "memory")
-        }
-    }
+    place_two(
+        rt, alloc, &booked, &mut drain, &mut ports, &mut gauge, given,
+    );
+    assert_settles(rt, &booked, drain, ports, hundreds(2));
     assert_left(rt, &booked);
+}
+
+// Places a packet, which fills the ring, and another one after a turn.
+fn place_two<P: Ledger, B: Ledger, R: Wait + Abort>(
+    rt: &R,
+    alloc: Global,
+    booked: &Mutex<Booked<P, B>>,
+    drain: &mut Drain<P, B>,
+    ports: &mut Vec<Port>,
+    gauge: &mut Gauge,
+    given: Packet,
+)
+    requires book { gauge.old.book ≡ drain.old.board.book }
+    requires one { 0 < length ports.old.items }
+    ensures drain { map ring_id drain.new.rings ≡ map ring_id drain.old.rings }
+    ensures ports { map ring_of_port ports.new.items ≡ map ring_of_port ports.old.items }
+{
+    assert_shows(rt, gauge, 0);
+    offer_under_lock(rt, booked, ports, 0, given);
+    assert_full(rt, ports, given);
+    turn_and_learn(rt, alloc, booked, drain, gauge);
+    assert_shows(rt, gauge, 1);
+    offer_under_lock(rt, booked, ports, 0, given);
 }
 
 // Of two packets the first was sent, and the second is queued.

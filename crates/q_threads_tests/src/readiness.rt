@@ -29,9 +29,7 @@ fn slow() -> Option<Command> {
 #[test]
 fn ready_once_the_bucket_has_enough(rt: HostRuntime) -> Result<(), Fail> {
     let given = packet(1).ok_or("a packet")?;
-    let slow = slow().ok_or("in range")?;
-    let mut device = device(rt.alloc(), 0).ok_or("memory")?;
-    device.command(slow, Moment::zero())?;
+    let device = device(rt.alloc(), 0).ok_or("memory")?;
     booked::<Brand, Brand, _>(&rt, device, given, Blank::new(65), Blank::new(65));
     Ok(())
 }
@@ -58,19 +56,42 @@ fn assert_waits<P: Ledger, B: Ledger, R: Abort>(
     seat: &mut Seat<P, B>,
     given: Packet,
 ) {
-    assert_eq!(rt; booked.ready_at(), None);
+    set_up(rt, booked);
+    assert_ready_at(rt, booked, None);
     arrive(rt, booked, seat, given);
     arrive(rt, booked, seat, given);
-    assert_eq!(rt; booked.ready_at(), Some(Moment::zero()));
-    assert_eq!(rt; booked.poll(Moment::zero()), Polled::Packet(given));
-    assert_eq!(rt; booked.poll(Moment::zero()), Polled::Later);
-    let ready = Moment::new(50_000_000_000);
-    assert_eq!(rt; booked.ready_at(), ready);
-    let Some(ready) = ready else {
-        panic!(rt; "a moment");
-    };
-    assert_eq!(rt; booked.poll(ready), Polled::Packet(given));
-    assert_eq!(rt; booked.ready_at(), None);
+    assert_ready_at(rt, booked, Some(Moment::zero()));
+    assert_gives(rt, booked, Moment::zero(), Polled::Packet(given));
+    assert_gives(rt, booked, Moment::zero(), Polled::Later);
+    let ready = Moment::new(50_000_000_000).expect(rt, "a moment");
+    assert_ready_at(rt, booked, Some(ready));
+    assert_gives(rt, booked, ready, Polled::Packet(given));
+    assert_ready_at(rt, booked, None);
+}
+
+// Makes the tbf the root.
+fn set_up<P: Ledger, B: Ledger, R: Abort>(rt: &R, booked: &mut Booked<P, B>) {
+    let slow = slow().expect(rt, "in range");
+    assert_eq!(rt; booked.command(slow, Moment::zero()), Ok(()));
+}
+
+// From this moment on the device may give a packet.
+fn assert_ready_at<P: Ledger, B: Ledger, R: Abort>(
+    rt: &R,
+    booked: &Booked<P, B>,
+    wanted: Option<Moment>,
+) {
+    assert_eq!(rt; booked.ready_at(), wanted);
+}
+
+// A poll at this moment answers so.
+fn assert_gives<P: Ledger, B: Ledger, R: Abort>(
+    rt: &R,
+    booked: &mut Booked<P, B>,
+    now: Moment,
+    wanted: Polled,
+) {
+    assert_eq!(rt; booked.poll(now), wanted);
 }
 
 // A packet arrives at the start.

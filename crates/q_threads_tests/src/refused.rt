@@ -12,7 +12,7 @@ use crate::common::{fill, hundreds, packet, retried};
 use crate::open_gate::OpenGate;
 use q_device::Device;
 use q_packet::{Moment, Packet};
-use q_ports::{Booked, Drain, Gauge, Port, Seat, Settled, Share, Unsettled, drive, open_ports};
+use q_ports::{Booked, Drain, Driven, Gauge, Port, Seat, Share, Unsettled, drive, open_ports};
 use std::alloc::{AllocError, Global};
 use std::marker::Brand;
 use std::process::Abort;
@@ -78,13 +78,25 @@ fn driven<P: Ledger + Send + Sync, B: Ledger + Send + Sync, R: Threads + Wait + 
     let share = match drive(
         rt, alloc, &booked, drain, ports, loads, &OpenGate, start, 1, TRIES,
     ) {
-        Ok(driven) => {
-            let share = driven.settled.share();
-            assert_eq!(rt; (share, driven.given_up), (hundreds(PACKETS), 0));
-            share
-        }
+        Ok(driven) => share_of(rt, &driven),
         Err(Unsettled { drain, ports }) => settle_placed(rt, &booked, drain, ports),
     };
+    assert_arrived(rt, &booked, share);
+}
+
+// What a drive has settled, which is all of its load.
+fn share_of<P: Ledger, B: Ledger, R: Abort>(rt: &R, driven: &Driven<P, B>) -> Share {
+    let share = driven.settled.share();
+    assert_eq!(rt; (share, driven.given_up), (hundreds(PACKETS), 0));
+    share
+}
+
+// So much has arrived at the device.
+fn assert_arrived<P: Ledger, B: Ledger, R: Wait + Abort>(
+    rt: &R,
+    booked: &Mutex<Booked<P, B>>,
+    share: Share,
+) {
     assert_eq!(rt; booked.lock(rt).totals().arrived, share);
 }
 
@@ -103,8 +115,7 @@ fn settle_placed<P: Ledger, B: Ledger, R: Wait + Abort>(
     };
     let placed = port.share();
     assert!(rt; placed == hundreds(0) || placed == hundreds(PACKETS));
-    let settled = settle(rt, booked, drain, ports);
-    assert_eq!(rt; settled.share(), placed);
+    assert_eq!(rt; settle(rt, booked, drain, ports), placed);
     placed
 }
 
@@ -123,16 +134,12 @@ fn refused<P: Ledger, B: Ledger, R: Wait + Abort>(
 {
     let (booked, seat) = Booked::<P, B>::new(device, packets, bytes);
     let booked = Mutex::new(booked);
-    let (drain, ports, mut gauges) = open_one(rt, alloc, seat);
-    let (mut drain, mut ports) = (drain, ports);
+    let (mut drain, mut ports, mut gauges) = open_one(rt, alloc, seat);
     fill(rt, &mut ports, PACKETS, given);
-    let Some(gauge) = gauges.get_mut(0) else {
-        panic!(rt; "a gauge");
-    };
-    turn(rt, alloc, &booked, &mut drain, gauge);
-    let settled = settle(rt, &booked, drain, ports);
-    assert_eq!(rt; settled.share(), hundreds(PACKETS));
-    assert_eq!(rt; booked.lock(rt).totals().arrived, hundreds(PACKETS));
+    turn(rt, alloc, &booked, &mut drain, &mut gauges);
+    let share = settle(rt, &booked, drain, ports);
+    assert_eq!(rt; share, hundreds(PACKETS));
+    assert_arrived(rt, &booked, share);
 }
 
 // A drain with a port and a gauge, at the second call where memory was refused.
@@ -161,7 +168,7 @@ fn turn<P: Ledger, B: Ledger, R: Wait + Abort>(
     alloc: Global,
     booked: &Mutex<Booked<P, B>>,
     drain: &mut Drain<P, B>,
-    gauge: &mut Gauge,
+    gauges: &mut Vec<Gauge>,
 )
     ensures { map ring_id drain.new.rings ≡ map ring_id drain.old.rings }
 {
@@ -171,26 +178,32 @@ fn turn<P: Ledger, B: Ledger, R: Wait + Abort>(
         Err(_) => drain.turn(rt, alloc, booked, now, 4).expect(rt, "memory"),
     };
     assert!(rt; turn.memory || turn.taken == 4);
-    let arrived = gauge.read().expect(rt, "a row").arrived;
-    assert!(rt; turn.told.is_none() || arrived.packets == turn.taken as u64);
+    let arrived = arrived(rt, gauges);
+    assert!(rt; turn.told.is_none() || arrived == turn.taken as u64);
 }
 
-// Settles, at the second call where memory was refused.
+// How many packets have arrived, as the first gauge reads it.
+fn arrived<R: Abort>(rt: &R, gauges: &mut Vec<Gauge>) -> u64 {
+    let gauge = gauges.get_mut(0).expect(rt, "a gauge");
+    gauge.read().expect(rt, "a row").arrived.packets
+}
+
+// Settles, at the second call where memory was refused, and answers how much.
 fn settle<P: Ledger, B: Ledger, R: Wait + Abort>(
     rt: &R,
     booked: &Mutex<Booked<P, B>>,
     drain: Drain<P, B>,
     ports: Vec<Port>,
-) -> Settled<P, B>
+) -> Share
     requires parts { (P.parts ≡ 65) × (B.parts ≡ 65) }
     requires ports { map ring_of_port ports.items ≡ map ring_id drain.rings }
 {
     let Unsettled { drain, ports } = match drain.settle(rt, booked, ports, Moment::zero()) {
-        Ok(settled) => return settled,
+        Ok(settled) => return settled.share(),
         Err(unsettled) => unsettled,
     };
     match drain.settle(rt, booked, ports, Moment::zero()) {
-        Ok(settled) => settled,
+        Ok(settled) => settled.share(),
         Err(unsettled) => {
             unsettled.drain.end(rt);
             panic!(rt; "refused twice")

@@ -4,10 +4,9 @@ ghost use Rattle.q_model.specs.Tally.{no_totals};
 ghost use Rattle.q_ports.specs.Placed.{ring_of_port};
 ghost use Rattle.q_ports.specs.Rings.{ring_id};
 
-use crate::common::{device, fill, hundreds, offer_at, opened, packet};
+use crate::common::{assert_full, assert_settles, device, fill, hundreds, opened, packet};
 use q_device::Device;
-use q_packet::{Moment, Packet};
-use q_ports::Full;
+use q_packet::Packet;
 use std::alloc::Global;
 use std::marker::Brand;
 use std::process::Abort;
@@ -41,7 +40,7 @@ fn filled<P: Ledger, B: Ledger, R: Wait + Abort>(
     requires packets { (packets.name ≡ P.name) × (packets.parts ≡ P.parts) × (P.parts ≡ 65) }
     requires bytes { (bytes.name ≡ B.name) × (bytes.parts ≡ B.parts) × (B.parts ≡ 65) }
 {
-    let (booked, drain, ports, _gauges) = opened::<P, B, R>(
+    let (booked, drain, mut ports, _gauges) = opened::<P, B, R>(
         rt,
         alloc,
         device,
@@ -49,14 +48,7 @@ fn filled<P: Ledger, B: Ledger, R: Wait + Abort>(
         packets,
         bytes,
     );
-    let mut ports = ports;
     fill(rt, &mut ports, ring as u64, given);
-    assert_eq!(rt; offer_at(&mut ports, 0, given), Err(Full(given)));
-    match drain.settle(rt, &booked, ports, Moment::zero()) {
-        Ok(settled) => assert_eq!(rt; settled.share(), hundreds(ring as u64)),
-        Err(unsettled) => {
-            unsettled.drain.end(rt);
-            panic!(rt; "memory")
-        }
-    }
+    assert_full(rt, &mut ports, given);
+    assert_settles(rt, &booked, drain, ports, hundreds(ring as u64));
 }

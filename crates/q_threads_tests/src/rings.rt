@@ -7,6 +7,7 @@ use std::alloc::Global;
 use std::process::Abort;
 use std::test::Fail;
 use std::thread;
+use std::thread::Threads;
 
 /// How many packets go through the ring.
 const PACKETS: u64 = 1000;
@@ -18,17 +19,20 @@ const TRIES: u64 = 10_000_000;
 fn ring_between_threads(rt: HostRuntime) -> Result<(), Fail> {
     let alloc = rt.alloc();
     let given = packet(5).ok_or("a packet")?;
+    let (port, outlet) = open_ring(alloc, 3, 4).ok().ok_or("memory")?;
     let fed = device(alloc, 0).ok_or("memory")?;
-    let Ok((port, outlet)) = open_ring(alloc, 3, 4) else {
-        return Err("memory".into());
-    };
+    go_through(&rt, port, outlet, fed, given);
+    Ok(())
+}
+
+// What one thread offers, the other takes in.
+fn go_through<R: Threads + Abort>(rt: &R, port: Port, outlet: Outlet, fed: Device, given: Packet) {
     let (port, (outlet, fed)) = thread::join(
-        &rt,
+        rt,
         move || offer_all(port, given),
         move || take_all(outlet, fed),
     );
-    assert_all_arrived(&rt, &port, &outlet, &fed);
-    Ok(())
+    assert_all_arrived(rt, &port, &outlet, &fed);
 }
 
 fn assert_all_arrived<R: Abort>(rt: &R, port: &Port, outlet: &Outlet, fed: &Device) {

@@ -2,14 +2,14 @@
 ghost use Rattle.std.specs.Prelude.{◌≡◌, ◌≤◌, length};
 ghost use Rattle.q_model.specs.Tally.{no_totals};
 
-use crate::common::{device, hundreds, opened, packet};
+use crate::common::{device, driven_all, hundreds, opened, packet};
 use crate::meeting::{Meeting, READS};
 use crate::open_gate::OpenGate;
 use crate::rows::{NO_ROW, is_balanced};
 use crate::shaped::{kinds, set_up};
 use q_device::{Device, Event, Row, Totals};
 use q_packet::{Moment, Packet};
-use q_ports::{Booked, Gauge, drive};
+use q_ports::{Booked, Gauge};
 use std::alloc::{AllocError, Global};
 use std::marker::Brand;
 use std::process::Abort;
@@ -96,21 +96,10 @@ fn tried<P: Ledger + Send + Sync, B: Ledger + Send + Sync, R: Threads + Wait + S
     let (booked, drain, ports, _gauges) = opened::<P, B, R>(
         rt, alloc, device, counts, packets, bytes,
     );
-    let start = Moment::zero();
-    match drive(
-        rt, alloc, &booked, drain, ports, loads, &OpenGate, start, STEP, tries,
-    ) {
-        Ok(driven) => {
-            assert_eq!(rt;
-                (driven.settled.share(), driven.given_up),
-                (hundreds(placed), all.saturating_sub(placed))
-            );
-        }
-        Err(unsettled) => {
-            unsettled.drain.end(rt);
-            panic!(rt; "not settled")
-        }
-    }
+    let driven = driven_all(
+        rt, alloc, &booked, drain, ports, loads, &OpenGate, STEP, tries,
+    );
+    assert_eq!(rt; driven, (hundreds(placed), all.saturating_sub(placed)));
 }
 
 // How many packets all loads have.
@@ -211,18 +200,12 @@ fn driven<P: Ledger + Send + Sync, B: Ledger + Send + Sync, R: Threads + Wait + 
     if is_shaped {
         set_up(rt, &booked);
     }
-    let zero = read_beside(rt, gate, opening(rt, gauges.pop()), true);
-    let one = read_beside(rt, gate, opening(rt, gauges.pop()), false);
-    let start = Moment::zero();
-    match drive(
-        rt, alloc, &booked, drain, ports, loads, &**gate, start, STEP, TRIES,
-    ) {
-        Ok(driven) => { assert_eq!(rt; (driven.settled.share(), driven.given_up), (all, 0)) }
-        Err(unsettled) => {
-            unsettled.drain.end(rt);
-            panic!(rt; "not settled")
-        }
-    }
+    let zero = read_beside(rt, gate, opening(rt, &mut gauges), true);
+    let one = read_beside(rt, gate, opening(rt, &mut gauges), false);
+    let driven = driven_all(
+        rt, alloc, &booked, drain, ports, loads, &**gate, STEP, TRIES,
+    );
+    assert_eq!(rt; driven, (all, 0));
     assert_eq!(rt; (zero.join(rt), one.join(rt)), (READS, READS));
     assert_ended(rt, &booked, all, is_shaped);
 }
@@ -254,8 +237,8 @@ fn is_counted(row: &Row) -> bool {
 }
 
 // A gauge that has read the row with which the drain opened.
-fn opening<R: Abort>(rt: &R, gauge: Option<Gauge>) -> Gauge {
-    let mut gauge = gauge.expect(rt, "a gauge");
+fn opening<R: Abort>(rt: &R, gauges: &mut Vec<Gauge>) -> Gauge {
+    let mut gauge = gauges.pop().expect(rt, "a gauge");
     assert_eq!(rt; gauge.read(), Some(NO_ROW));
     gauge
 }

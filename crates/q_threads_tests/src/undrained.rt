@@ -3,10 +3,9 @@ ghost use Rattle.std.specs.Prelude.{◌≡◌, ◌≤◌, length};
 ghost use Rattle.q_model.specs.Tally.{no_totals};
 
 use crate::blockade::Blockade;
-use crate::common::{hundreds, limited, opened, packet};
+use crate::common::{driven_all, hundreds, limited, opened, packet};
 use q_device::Device;
-use q_packet::{Moment, Packet};
-use q_ports::drive;
+use q_packet::Packet;
 use std::alloc::Global;
 use std::marker::Brand;
 use std::process::Abort;
@@ -60,20 +59,9 @@ fn undrained<P: Ledger + Send + Sync, B: Ledger + Send + Sync, R: Threads + Wait
         bytes,
     );
     let gate = Blockade::new(rt, &booked, 121, PLACES as u64);
-    let start = Moment::zero();
-    match drive(rt, alloc, &booked, drain, ports, loads, &gate, start, 1, 3) {
-        Ok(driven) => {
-            assert_eq!(rt; gate.missed(), 0);
-            assert_eq!(rt;
-                (driven.settled.share(), driven.given_up),
-                (hundreds(102), GIVEN_UP)
-            );
-        }
-        Err(unsettled) => {
-            unsettled.drain.end(rt);
-            panic!(rt; "not settled")
-        }
-    }
+    let driven = driven_all(rt, alloc, &booked, drain, ports, loads, &gate, 1, 3);
+    assert_eq!(rt; gate.missed(), 0);
+    assert_eq!(rt; driven, (hundreds(102), GIVEN_UP));
     let row = booked.lock(rt).totals();
     assert_eq!(rt; (row.arrived, row.refused), (hundreds(102), hundreds(1)));
 }

@@ -4,5 +4,5 @@ use Rattle.q_threads_tests.proofs.Sharing.{lock_sync}
 use Rattle.q_threads_tests.proofs.undrained.undrained.Goals as goal
 
 -- the senders share the gate, which has the lock
-pub drive-requires-sync-G : goal.drive-requires-sync-G
-drive-requires-sync-G g c κs within = let handle = c.type_bounds.sync-R in search (lock_sync, crossing.crosses, sendable) depth 60 fits 20000
+pub driven_all-driven-requires-sync-G : goal.driven_all-driven-requires-sync-G
+driven_all-driven-requires-sync-G g c κs within = let handle = c.type_bounds.sync-R in search (lock_sync, crossing.crosses, sendable) depth 60 fits 20000
