@@ -1,3 +1,4 @@
+use crate::common::row;
 use q_ports::{Booked, Gate};
 use std::sync::atomic::{AtomicBool, AtomicU64, Ordering};
 use std::sync::ledger::Ledger;
@@ -64,8 +65,7 @@ impl<'a, P: Ledger, B: Ledger, R: Wait> Blockade<'a, P, B, R> {
 
     fn wait_for_turns(&self) {
         for _look in 0..LOOKS {
-            let arrived = self.booked.lock(self.rt).totals().arrived.packets;
-            if arrived >= self.fewest {
+            if row(self.rt, self.booked).arrived.packets >= self.fewest {
                 return;
             }
             thread::yield_now();

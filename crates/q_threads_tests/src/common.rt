@@ -1,13 +1,14 @@
 //! What the tests share: a device, packets, and a drain over both.
 ghost use Rattle.std.specs.Prelude.{◌≡◌, ◌<◌, length, map, All, IfSome};
 ghost use Rattle.q_model.specs.Tally.{no_totals};
+ghost use Rattle.q_ports.specs.Held.{held};
 ghost use Rattle.q_ports.specs.Placed.{ring_of_port};
 ghost use Rattle.q_ports.specs.Rings.{ring_id};
 ghost use Rattle.q_ports.specs.Rows.{new_gauge, shown_on, GaugeSeen};
 
-use q_device::{Device, Settings, Totals};
+use q_device::{Device, Row, Settings, Totals};
 use q_packet::{Ecn, FlowKey, Moment, Packet};
-use q_ports::{Booked, Drain, Full, Gate, Gauge, Port, drive, open_ports};
+use q_ports::{Booked, Drain, Full, Gate, Gauge, Port, Seat, drive, open_ports};
 use std::alloc::Global;
 use std::process::Abort;
 use std::sync::ledger::{Blank, Ledger};
@@ -52,6 +53,31 @@ pub fn hundreds(packets: u64) -> Totals {
     }
 }
 
+/// As many were counted as wanted. It is asked here, since an assert is dear to prove in a test that owns much.
+pub fn assert_count<R: Abort>(rt: &R, found: u64, wanted: u64) {
+    assert_eq!(rt; found, wanted);
+}
+
+/// The same of packets and bytes.
+pub fn assert_totals<R: Abort>(rt: &R, found: Totals, wanted: Totals) {
+    assert_eq!(rt; found, wanted);
+}
+
+/// A new book of the device behind a lock, and its seat.
+pub fn locked<P: Ledger, B: Ledger>(
+    device: Device,
+    packets: Blank,
+    bytes: Blank,
+) -> (Mutex<Booked<P, B>>, Seat<P, B>)
+    requires nothing { device.device.tree.top.arrived ≡ no_totals }
+    requires packets { (packets.name ≡ P.name) × (packets.parts ≡ P.parts) × (P.parts ≡ 65) }
+    requires bytes { (bytes.name ≡ B.name) × (bytes.parts ≡ B.parts) × (B.parts ≡ 65) }
+    ensures { result.1 ≡ held 65 0 0 }
+{
+    let (booked, seat) = Booked::<P, B>::new(device, packets, bytes);
+    (Mutex::new(booked), seat)
+}
+
 /// A drain over a new book of the device, with so many ports and gauges, and rings of so many packets.
 pub fn opened<P: Ledger, B: Ledger, R: Wait + Abort>(
     rt: &R,
@@ -73,9 +99,9 @@ pub fn opened<P: Ledger, B: Ledger, R: Wait + Abort>(
     assert!(rt; 1 <= ports && ports <= 64);
     assert!(rt; 1 <= ring && ring <= 65_536);
     assert!(rt; gauges <= 16);
-    let (booked, seat) = Booked::<P, B>::new(device, packets, bytes);
+    let (booked, seat) = locked::<P, B>(device, packets, bytes);
     match open_ports(rt, alloc, seat, ports, ring, gauges) {
-        Ok((drain, ports, gauges)) => (Mutex::new(booked), drain, ports, gauges),
+        Ok((drain, ports, gauges)) => (booked, drain, ports, gauges),
         Err(_) => panic!(rt; "memory"),
     }
 }
@@ -109,6 +135,11 @@ pub fn assert_full<R: Abort>(rt: &R, ports: &mut Vec<Port>, packet: Packet)
     assert_eq!(rt; offer_at(ports, 0, packet), Err(Full(packet)));
 }
 
+/// The row of the device.
+pub fn row<P: Ledger, B: Ledger, R: Wait>(rt: &R, booked: &Mutex<Booked<P, B>>) -> Row {
+    booked.lock(rt).totals()
+}
+
 /// Settles, and asserts that so much was placed at the ports.
 pub fn assert_settles<P: Ledger, B: Ledger, R: Wait + Abort>(
     rt: &R,
@@ -121,7 +152,7 @@ pub fn assert_settles<P: Ledger, B: Ledger, R: Wait + Abort>(
     requires ports { map ring_of_port ports.items ≡ map ring_id drain.rings }
 {
     match drain.settle(rt, booked, ports, Moment::zero()) {
-        Ok(settled) => assert_eq!(rt; settled.share(), wanted),
+        Ok(settled) => assert_totals(rt, settled.share(), wanted),
         Err(unsettled) => {
             unsettled.drain.end(rt);
             panic!(rt; "memory")

@@ -2,7 +2,7 @@
 ghost use Rattle.std.specs.Prelude.{◌≡◌, ◌≤◌, length};
 ghost use Rattle.q_model.specs.Tally.{no_totals};
 
-use crate::common::{device, opened, packet};
+use crate::common::{assert_count, device, opened, packet, row};
 use crate::traffic::Traffic;
 use q_device::Device;
 use q_packet::{Moment, Packet};
@@ -25,9 +25,9 @@ const ARRIVED: u64 = 200;
 #[test]
 fn senders_and_gauges_outlive_the_drain(rt: HostRuntime) -> Result<(), Fail> {
     let alloc = rt.alloc();
-    let given = packet(5).ok_or("a packet")?;
+    let given = packet(5).expect(&rt, "a packet");
     let traffic = Arc::new(alloc, Traffic::new())?;
-    let device = device(alloc, 0).ok_or("memory")?;
+    let device = device(alloc, 0).expect(&rt, "memory");
     let (packets, bytes) = (Blank::new(65), Blank::new(65));
     outlived::<Brand, Brand, _>(&rt, alloc, device, &traffic, given, packets, bytes);
     Ok(())
@@ -63,18 +63,14 @@ fn outlived<P: Ledger, B: Ledger, R: Threads + Wait + Abort>(
     drain.end(rt);
     traffic.end();
     let placed = placed_by(rt, zero).saturating_add(placed_by(rt, one));
-    assert_eq!(rt; placed, arrived(rt, &booked).saturating_add(2 * PLACES));
-    assert_eq!(rt; reading.join(rt), 0);
+    let wanted = row(rt, &booked).arrived.packets.saturating_add(2 * PLACES);
+    assert_count(rt, placed, wanted);
+    assert_count(rt, reading.join(rt), 0);
 }
 
 // How many packets a sender has placed, once it has ended.
 fn placed_by<R: Threads>(rt: &R, sender: JoinHandle<Port>) -> u64 {
     sender.join(rt).share().packets
-}
-
-// How many packets have arrived at the device.
-fn arrived<P: Ledger, B: Ledger, R: Wait>(rt: &R, booked: &Mutex<Booked<P, B>>) -> u64 {
-    booked.lock(rt).totals().arrived.packets
 }
 
 // Takes turns until enough has arrived, and the gauge has read a row.
@@ -88,7 +84,7 @@ fn take_turns<P: Ledger, B: Ledger, R: Wait + Abort>(
     for _turn in 0..10_000_000u64 {
         let turn = drain.turn(rt, alloc, booked, Moment::zero(), 8);
         assert!(rt; turn.is_ok());
-        if arrived(rt, booked) >= ARRIVED && traffic.read() > 0 {
+        if row(rt, booked).arrived.packets >= ARRIVED && traffic.read() > 0 {
             return;
         }
         thread::yield_now();

@@ -4,7 +4,10 @@ ghost use Rattle.q_model.specs.Tally.{no_totals};
 ghost use Rattle.q_ports.specs.Placed.{ring_of_port};
 ghost use Rattle.q_ports.specs.Rings.{ring_id};
 
-use crate::common::{assert_full, assert_settles, device, hundreds, offer_at, opened, packet};
+use crate::common::{
+    assert_count, assert_full, assert_settles, assert_totals, device, hundreds, offer_at, opened,
+    packet, row,
+};
 use crate::rows::NO_ROW;
 use q_device::{Device, Polled, Row};
 use q_packet::{Moment, Packet};
@@ -19,13 +22,13 @@ use std::test::Fail;
 #[test]
 fn ports_on_one_thread(rt: HostRuntime) -> Result<(), Fail> {
     let alloc = rt.alloc();
-    let given = packet(77).ok_or("a packet")?;
-    let first = device(alloc, 0).ok_or("memory")?;
+    let given = packet(77).expect(&rt, "a packet");
+    let first = device(alloc, 0).expect(&rt, "memory");
     ring_of_one::<Brand, Brand, _>(&rt, alloc, first, given, Blank::new(65), Blank::new(65));
-    for count in [2usize, 4] {
-        let device = device(alloc, 0).ok_or("memory")?;
+    for count in &[2usize, 4] {
+        let device = device(alloc, 0).expect(&rt, "memory");
         let (packets, bytes) = (Blank::new(65), Blank::new(65));
-        going_round::<Brand, Brand, _>(&rt, alloc, device, count, given, packets, bytes);
+        going_round::<Brand, Brand, _>(&rt, alloc, device, *count, given, packets, bytes);
     }
     Ok(())
 }
@@ -88,17 +91,15 @@ fn place_two<P: Ledger, B: Ledger, R: Wait + Abort>(
 
 // Of two packets the first was sent, and the second is queued.
 fn assert_left<P: Ledger, B: Ledger, R: Wait + Abort>(rt: &R, booked: &Mutex<Booked<P, B>>) {
-    let mut locked = booked.lock(rt);
-    let row = locked.totals();
-    let one = hundreds(1);
-    assert_eq!(rt;
-        (row.arrived, row.sent, row.queued),
-        (hundreds(2), one, one)
-    );
-    let Polled::Packet(second) = locked.poll(Moment::zero()) else {
+    let row = row(rt, booked);
+    assert_totals(rt, row.arrived, hundreds(2));
+    assert_totals(rt, row.sent, hundreds(1));
+    assert_totals(rt, row.queued, hundreds(1));
+    let polled = booked.lock(rt).poll(Moment::zero());
+    let Polled::Packet(second) = polled else {
         panic!(rt; "a packet waits");
     };
-    assert_eq!(rt; second.number, 2);
+    assert_count(rt, second.number, 2);
 }
 
 // A packet is placed while the test holds the lock.
@@ -159,11 +160,14 @@ fn turn_and_learn<P: Ledger, B: Ledger, R: Wait + Abort>(
 
 // A turn has taken and sent these packets: of each the port, and its number there.
 fn assert_sends<R: Abort>(rt: &R, turn: &Turn, wanted: &[(u32, u64)]) {
-    assert_eq!(rt; (turn.taken, turn.memory), (wanted.len(), false));
-    assert_eq!(rt; turn.sent.len(), wanted.len());
+    assert_count(rt, turn.taken as u64, wanted.len() as u64);
+    assert_count(rt, turn.sent.len() as u64, wanted.len() as u64);
+    assert!(rt; !turn.memory);
     for at in 0..wanted.len() {
         let packet = turn.sent.get(at).expect(rt, "a packet");
-        assert_eq!(rt; (packet.port, packet.number), wanted[at]);
+        let (port, number) = wanted[at];
+        assert_count(rt, packet.port as u64, port as u64);
+        assert_count(rt, packet.number, number);
     }
 }
 
@@ -226,7 +230,8 @@ fn assert_tells<P: Ledger, B: Ledger, R: Wait + Abort>(
     let Ok(turn) = drain.turn(rt, alloc, booked, Moment::zero(), 64) else {
         panic!(rt; "memory");
     };
-    assert_eq!(rt; (turn.taken, turn.sent.len()), (count, count));
+    assert_count(rt, turn.taken as u64, count as u64);
+    assert_count(rt, turn.sent.len() as u64, count as u64);
     assert!(rt; turn.told.is_some());
 }
 

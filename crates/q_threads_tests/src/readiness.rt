@@ -2,12 +2,13 @@
 ghost use Rattle.std.specs.Prelude.{◌≡◌};
 ghost use Rattle.q_model.specs.Tally.{no_totals};
 
-use crate::common::{device, packet};
+use crate::common::{device, locked, packet};
 use q_device::{Burst, Command, Device, Kind, Place, Polled, Rate, TbfLimit};
 use q_packet::{Moment, Packet};
 use q_ports::{Booked, Seat};
 use std::marker::Brand;
 use std::process::Abort;
+use std::sync::Wait;
 use std::sync::ledger::{Blank, Ledger};
 use std::test::Fail;
 
@@ -28,13 +29,13 @@ fn slow() -> Option<Command> {
 
 #[test]
 fn ready_once_the_bucket_has_enough(rt: HostRuntime) -> Result<(), Fail> {
-    let given = packet(1).ok_or("a packet")?;
-    let device = device(rt.alloc(), 0).ok_or("memory")?;
+    let given = packet(1).expect(&rt, "a packet");
+    let device = device(rt.alloc(), 0).expect(&rt, "memory");
     booked::<Brand, Brand, _>(&rt, device, given, Blank::new(65), Blank::new(65));
     Ok(())
 }
 
-fn booked<P: Ledger, B: Ledger, R: Abort>(
+fn booked<P: Ledger, B: Ledger, R: Wait + Abort>(
     rt: &R,
     device: Device,
     given: Packet,
@@ -45,8 +46,8 @@ fn booked<P: Ledger, B: Ledger, R: Abort>(
     requires packets { (packets.name ≡ P.name) × (packets.parts ≡ P.parts) × (P.parts ≡ 65) }
     requires bytes { (bytes.name ≡ B.name) × (bytes.parts ≡ B.parts) × (B.parts ≡ 65) }
 {
-    let (mut booked, mut seat) = Booked::<P, B>::new(device, packets, bytes);
-    assert_waits(rt, &mut booked, &mut seat, given);
+    let (booked, mut seat) = locked::<P, B>(device, packets, bytes);
+    assert_waits(rt, &mut *booked.lock(rt), &mut seat, given);
 }
 
 // Two packets of 100 bytes come, of which the bucket pays for one. The other lacks 50 bytes, which come in 50 s.

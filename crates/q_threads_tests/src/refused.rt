@@ -8,7 +8,7 @@ ghost use Rattle.q_ports.specs.Held.{held};
 ghost use Rattle.q_ports.specs.Placed.{ring_of_port};
 ghost use Rattle.q_ports.specs.Rings.{ring_id};
 
-use crate::common::{fill, hundreds, packet, retried};
+use crate::common::{assert_count, assert_totals, fill, hundreds, locked, packet, retried, row};
 use crate::open_gate::OpenGate;
 use q_device::Device;
 use q_packet::{Moment, Packet};
@@ -30,8 +30,8 @@ const TRIES: u64 = 1_000_000_000;
 #[test]
 fn what_was_refused_succeeds_later(rt: HostRuntime) -> Result<(), Fail> {
     let alloc = rt.alloc();
-    let given = packet(5).ok_or("a packet")?;
-    let device = retried(alloc, 4).ok_or("memory")?;
+    let given = packet(5).expect(&rt, "a packet");
+    let device = retried(alloc, 4).expect(&rt, "memory");
     refused::<Brand, Brand, _>(&rt, alloc, device, given, Blank::new(65), Blank::new(65));
     Ok(())
 }
@@ -39,12 +39,12 @@ fn what_was_refused_succeeds_later(rt: HostRuntime) -> Result<(), Fail> {
 #[test]
 fn a_refused_drive_settles_later(rt: HostRuntime) -> Result<(), Fail> {
     let alloc = rt.alloc();
-    let given = packet(5).ok_or("a packet")?;
+    let given = packet(5).expect(&rt, "a packet");
     let loads = match load(alloc, given) {
         Ok(loads) => loads,
         Err(_) => load(alloc, given)?,
     };
-    let device = retried(alloc, 4).ok_or("memory")?;
+    let device = retried(alloc, 4).expect(&rt, "memory");
     driven::<Brand, Brand, _>(&rt, alloc, device, loads, Blank::new(65), Blank::new(65));
     Ok(())
 }
@@ -71,33 +71,24 @@ fn driven<P: Ledger + Send + Sync, B: Ledger + Send + Sync, R: Threads + Wait + 
     requires bytes { (bytes.name ≡ B.name) × (bytes.parts ≡ B.parts) × (B.parts ≡ 65) }
 {
     assert!(rt; loads.len() == 1);
-    let (booked, seat) = Booked::<P, B>::new(device, packets, bytes);
-    let booked = Mutex::new(booked);
+    let (booked, seat) = locked::<P, B>(device, packets, bytes);
     let (drain, ports, _gauges) = open_one(rt, alloc, seat);
     let start = Moment::zero();
     let share = match drive(
         rt, alloc, &booked, drain, ports, loads, &OpenGate, start, 1, TRIES,
     ) {
-        Ok(driven) => share_of(rt, &driven),
+        Ok(driven) => share_of(rt, driven),
         Err(Unsettled { drain, ports }) => settle_placed(rt, &booked, drain, ports),
     };
-    assert_arrived(rt, &booked, share);
+    assert_totals(rt, row(rt, &booked).arrived, share);
 }
 
 // What a drive has settled, which is all of its load.
-fn share_of<P: Ledger, B: Ledger, R: Abort>(rt: &R, driven: &Driven<P, B>) -> Share {
+fn share_of<P: Ledger, B: Ledger, R: Abort>(rt: &R, driven: Driven<P, B>) -> Share {
     let share = driven.settled.share();
-    assert_eq!(rt; (share, driven.given_up), (hundreds(PACKETS), 0));
+    assert_totals(rt, share, hundreds(PACKETS));
+    assert_count(rt, driven.given_up, 0);
     share
-}
-
-// So much has arrived at the device.
-fn assert_arrived<P: Ledger, B: Ledger, R: Wait + Abort>(
-    rt: &R,
-    booked: &Mutex<Booked<P, B>>,
-    share: Share,
-) {
-    assert_eq!(rt; booked.lock(rt).totals().arrived, share);
 }
 
 // Settles what a refused drive placed, and answers how much that is.
@@ -110,12 +101,15 @@ fn settle_placed<P: Ledger, B: Ledger, R: Wait + Abort>(
     requires parts { (P.parts ≡ 65) × (B.parts ≡ 65) }
     requires ports { map ring_of_port ports.items ≡ map ring_id drain.rings }
 {
-    let Some(port) = ports.first() else {
-        panic!(rt; "a port");
-    };
-    let placed = port.share();
+    let placed = placed(rt, &ports);
+    assert_totals(rt, settle(rt, booked, drain, ports), placed);
+    placed
+}
+
+// What the port has placed, which is all or nothing.
+fn placed<R: Abort>(rt: &R, ports: &Vec<Port>) -> Share {
+    let placed = ports.first().expect(rt, "a port").share();
     assert!(rt; placed == hundreds(0) || placed == hundreds(PACKETS));
-    assert_eq!(rt; settle(rt, booked, drain, ports), placed);
     placed
 }
 
@@ -132,14 +126,13 @@ fn refused<P: Ledger, B: Ledger, R: Wait + Abort>(
     requires packets { (packets.name ≡ P.name) × (packets.parts ≡ P.parts) × (P.parts ≡ 65) }
     requires bytes { (bytes.name ≡ B.name) × (bytes.parts ≡ B.parts) × (B.parts ≡ 65) }
 {
-    let (booked, seat) = Booked::<P, B>::new(device, packets, bytes);
-    let booked = Mutex::new(booked);
+    let (booked, seat) = locked::<P, B>(device, packets, bytes);
     let (mut drain, mut ports, mut gauges) = open_one(rt, alloc, seat);
     fill(rt, &mut ports, PACKETS, given);
     turn(rt, alloc, &booked, &mut drain, &mut gauges);
     let share = settle(rt, &booked, drain, ports);
-    assert_eq!(rt; share, hundreds(PACKETS));
-    assert_arrived(rt, &booked, share);
+    assert_totals(rt, share, hundreds(PACKETS));
+    assert_totals(rt, row(rt, &booked).arrived, hundreds(PACKETS));
 }
 
 // A drain with a port and a gauge, at the second call where memory was refused.

@@ -17,11 +17,11 @@ use std::test::Fail;
 #[test]
 fn a_ring_has_exactly_its_length(rt: HostRuntime) -> Result<(), Fail> {
     let alloc = rt.alloc();
-    let given = packet(5).ok_or("a packet")?;
-    for ring in [1usize, 2, 16, 65_536] {
-        let device = device(alloc, 0).ok_or("memory")?;
+    let given = packet(5).expect(&rt, "a packet");
+    for ring in &[1usize, 2, 16, 65_536] {
+        let device = device(alloc, 0).expect(&rt, "memory");
         let (packets, bytes) = (Blank::new(65), Blank::new(65));
-        filled::<Brand, Brand, _>(&rt, alloc, device, ring, given, packets, bytes);
+        filled::<Brand, Brand, _>(&rt, alloc, device, *ring, given, packets, bytes);
     }
     Ok(())
 }

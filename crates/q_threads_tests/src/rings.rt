@@ -1,6 +1,6 @@
 //! A ring by itself, each end on a thread of its own.
-use crate::common::{device, hundreds, packet, retried};
-use q_device::Device;
+use crate::common::{assert_count, assert_totals, device, hundreds, packet, retried};
+use q_device::{Device, Totals};
 use q_packet::{Moment, Packet};
 use q_ports::{Outlet, Port, TakenIn, open_ring};
 use std::alloc::Global;
@@ -18,9 +18,9 @@ const TRIES: u64 = 10_000_000;
 #[test]
 fn ring_between_threads(rt: HostRuntime) -> Result<(), Fail> {
     let alloc = rt.alloc();
-    let given = packet(5).ok_or("a packet")?;
-    let (port, outlet) = open_ring(alloc, 3, 4).ok().ok_or("memory")?;
-    let fed = device(alloc, 0).ok_or("memory")?;
+    let given = packet(5).expect(&rt, "a packet");
+    let (port, outlet) = open_ring(alloc, 3, 4).expect(&rt, "memory");
+    let fed = device(alloc, 0).expect(&rt, "memory");
     go_through(&rt, port, outlet, fed, given);
     Ok(())
 }
@@ -32,23 +32,30 @@ fn go_through<R: Threads + Abort>(rt: &R, port: Port, outlet: Outlet, fed: Devic
         move || offer_all(port, given),
         move || take_all(outlet, fed),
     );
-    assert_all_arrived(rt, &port, &outlet, &fed);
+    end(rt, port, outlet, fed, PACKETS);
 }
 
-fn assert_all_arrived<R: Abort>(rt: &R, port: &Port, outlet: &Outlet, fed: &Device) {
-    assert_eq!(rt; port.share(), hundreds(PACKETS));
-    assert_eq!(rt; outlet.share(), hundreds(PACKETS));
-    assert_eq!(rt; fed.totals().arrived, hundreds(PACKETS));
+// Drops the ends of a ring and the device, at which so many packets have arrived.
+fn end<R: Abort>(rt: &R, port: Port, outlet: Outlet, fed: Device, packets: u64) {
+    assert_all_arrived(rt, &port, &outlet, &fed, hundreds(packets));
+}
+
+// So much was placed, taken in and fed to the device.
+fn assert_all_arrived<R: Abort>(rt: &R, port: &Port, outlet: &Outlet, fed: &Device, all: Totals) {
+    assert_totals(rt, port.share(), all);
+    assert_totals(rt, outlet.share(), all);
+    assert_totals(rt, fed.totals().arrived, all);
 }
 
 // What is refused memory stays in the ring, and the next call takes it in.
 #[test]
 fn ring_keeps_what_was_refused(rt: HostRuntime) -> Result<(), Fail> {
     let alloc = rt.alloc();
-    let given = packet(5).ok_or("a packet")?;
-    let (mut port, mut outlet) = ring(alloc).ok_or("refused twice")?;
-    let mut fed = retried(alloc, 0).ok_or("refused twice")?;
+    let given = packet(5).expect(&rt, "a packet");
+    let (mut port, mut outlet) = ring(alloc).expect(&rt, "refused twice");
+    let mut fed = retried(alloc, 0).expect(&rt, "refused twice");
     assert_keeps(&rt, &mut port, &mut outlet, &mut fed, given);
+    end(&rt, port, outlet, fed, 3);
     Ok(())
 }
 
@@ -81,11 +88,8 @@ fn assert_keeps<R: Abort>(
                 }
     );
     let second = outlet.take_in(fed, Moment::zero(), 4);
-    assert_eq!(rt; (first.taken + second.taken, second.memory), (3, false));
-    assert_eq!(rt;
-        (outlet.share(), fed.totals().arrived),
-        (hundreds(3), hundreds(3))
-    );
+    assert_count(rt, (first.taken + second.taken) as u64, 3);
+    assert!(rt; !second.memory);
 }
 
 // Offers a packet again and again, until so many were placed.

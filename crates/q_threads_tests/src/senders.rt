@@ -2,7 +2,9 @@
 ghost use Rattle.std.specs.Prelude.{◌≡◌, ◌≤◌, length};
 ghost use Rattle.q_model.specs.Tally.{no_totals};
 
-use crate::common::{device, driven_all, hundreds, opened, packet};
+use crate::common::{
+    assert_count, assert_totals, device, driven_all, hundreds, opened, packet, row,
+};
 use crate::meeting::{Meeting, READS};
 use crate::open_gate::OpenGate;
 use crate::rows::{NO_ROW, is_balanced};
@@ -29,21 +31,12 @@ fn senders_meet_and_place_all(rt: HostRuntime) -> Result<(), Fail> {
 #[test]
 fn a_packet_is_tried_as_often_as_asked_for(rt: HostRuntime) -> Result<(), Fail> {
     let alloc = rt.alloc();
-    let given = packet(5).ok_or("a packet")?;
-    for (tries, placed) in [(0u64, 0u64), (1, 16)] {
+    let given = packet(5).expect(&rt, "a packet");
+    for wanted in &[(0u64, 0u64), (1, 16)] {
         let loads = loads(alloc, 2, 8, given)?;
-        let device = device(alloc, 0).ok_or("memory")?;
+        let device = device(alloc, 0).expect(&rt, "memory");
         let (packets, bytes) = (Blank::new(65), Blank::new(65));
-        tried::<Brand, Brand, _>(
-            &rt,
-            alloc,
-            device,
-            loads,
-            (2, 8),
-            (tries, placed),
-            packets,
-            bytes,
-        );
+        tried::<Brand, Brand, _>(&rt, alloc, device, loads, (2, 8), *wanted, packets, bytes);
     }
     Ok(())
 }
@@ -52,13 +45,9 @@ fn a_packet_is_tried_as_often_as_asked_for(rt: HostRuntime) -> Result<(), Fail> 
 #[test]
 fn senders_that_offer_nothing_end_beside_others(rt: HostRuntime) -> Result<(), Fail> {
     let alloc = rt.alloc();
-    let given = packet(5).ok_or("a packet")?;
-    let mut loads = Vec::new(alloc);
-    for _pair in 0..32 {
-        loads.push(Vec::new(alloc))?;
-        loads.push(vec![in alloc; given; 8]?)?;
-    }
-    let device = device(alloc, 0).ok_or("memory")?;
+    let given = packet(5).expect(&rt, "a packet");
+    let loads = every_other(alloc, given)?;
+    let device = device(alloc, 0).expect(&rt, "memory");
     let (packets, bytes) = (Blank::new(65), Blank::new(65));
     tried::<Brand, Brand, _>(
         &rt,
@@ -71,6 +60,16 @@ fn senders_that_offer_nothing_end_beside_others(rt: HostRuntime) -> Result<(), F
         bytes,
     );
     Ok(())
+}
+
+// Thirty-two loads of nothing, and a load after each.
+fn every_other(alloc: Global, given: Packet) -> Result<Vec<Vec<Packet>>, AllocError> {
+    let mut loads = Vec::new(alloc);
+    for _pair in 0..32 {
+        loads.push(Vec::new(alloc))?;
+        loads.push(vec![in alloc; given; 8]?)?;
+    }
+    Ok(loads)
 }
 
 // Drives the device with a load for each of so many ports, over rings of so many places. Each packet is tried so often, and so
@@ -96,10 +95,11 @@ fn tried<P: Ledger + Send + Sync, B: Ledger + Send + Sync, R: Threads + Wait + S
     let (booked, drain, ports, _gauges) = opened::<P, B, R>(
         rt, alloc, device, counts, packets, bytes,
     );
-    let driven = driven_all(
+    let (settled, given_up) = driven_all(
         rt, alloc, &booked, drain, ports, loads, &OpenGate, STEP, tries,
     );
-    assert_eq!(rt; driven, (hundreds(placed), all.saturating_sub(placed)));
+    assert_totals(rt, settled, hundreds(placed));
+    assert_count(rt, given_up, all.saturating_sub(placed));
 }
 
 // How many packets all loads have.
@@ -118,19 +118,28 @@ fn senders_place_all<R: Threads + Wait + Sync + Abort>(
     counts: (usize, usize, usize),
     fewest: u64,
 ) -> Result<(), Fail> {
-    let (senders, each, _ring) = counts;
-    let loads = if has_long_rings(counts) {
-        loads(alloc, senders, each, packet(5).ok_or("a packet")?)?
-    } else {
-        mixed_loads(alloc, senders, each, &kinds().ok_or("packets")?)?
-    };
-    let gate = Arc::new(alloc, Meeting::new(each as u64, fewest))?;
-    let device = device(alloc, 4096).ok_or("memory")?;
+    let gate = Arc::new(alloc, Meeting::new(counts.1 as u64, fewest))?;
+    let loads = loads_of(alloc, counts)?;
+    let device = device(alloc, 4096).expect(rt, "memory");
     let (packets, bytes) = (Blank::new(65), Blank::new(65));
     driven::<Brand, Brand, R>(rt, alloc, device, loads, &gate, counts, packets, bytes);
     let all = all_of(counts);
-    assert_eq!(rt; gate.counts(), (0, all, all));
+    let (missed, offered, placed) = gate.counts();
+    assert_count(rt, missed, 0);
+    assert_count(rt, offered, all);
+    assert_count(rt, placed, all);
     Ok(())
+}
+
+// The loads of the senders: one packet again and again where the rings are long, and packets of three kinds otherwise.
+fn loads_of(alloc: Global, counts: (usize, usize, usize)) -> Result<Vec<Vec<Packet>>, Fail> {
+    let (senders, each, _ring) = counts;
+    if has_long_rings(counts) {
+        Ok(loads(alloc, senders, each, packet(5).ok_or("a packet")?)?)
+    } else {
+        let kinds = kinds().ok_or("packets")?;
+        Ok(mixed_loads(alloc, senders, each, &kinds)?)
+    }
 }
 
 // Whether a ring has room for a whole load. All packets may be placed then before the second turn.
@@ -200,13 +209,15 @@ fn driven<P: Ledger + Send + Sync, B: Ledger + Send + Sync, R: Threads + Wait + 
     if is_shaped {
         set_up(rt, &booked);
     }
-    let zero = read_beside(rt, gate, opening(rt, &mut gauges), true);
-    let one = read_beside(rt, gate, opening(rt, &mut gauges), false);
-    let driven = driven_all(
+    let zero = read_beside(rt, gate, &mut gauges, true);
+    let one = read_beside(rt, gate, &mut gauges, false);
+    let (settled, given_up) = driven_all(
         rt, alloc, &booked, drain, ports, loads, &**gate, STEP, TRIES,
     );
-    assert_eq!(rt; driven, (all, 0));
-    assert_eq!(rt; (zero.join(rt), one.join(rt)), (READS, READS));
+    assert_totals(rt, settled, all);
+    assert_count(rt, given_up, 0);
+    assert_count(rt, zero.join(rt), READS);
+    assert_count(rt, one.join(rt), READS);
     assert_ended(rt, &booked, all, is_shaped);
 }
 
@@ -217,11 +228,12 @@ fn assert_ended<P: Ledger, B: Ledger, R: Wait + Abort>(
     all: Totals,
     is_shaped: bool,
 ) {
-    let locked = booked.lock(rt);
-    let row = locked.totals();
-    assert_eq!(rt; (row.arrived, is_balanced(&row)), (all, true));
+    let row = row(rt, booked);
+    assert_totals(rt, row.arrived, all);
+    assert!(rt; is_balanced(&row));
     assert!(rt; !is_shaped || is_counted(&row));
-    assert!(rt; are_in_steps(locked.recorded()));
+    let in_steps = are_in_steps(booked.lock(rt).recorded());
+    assert!(rt; in_steps);
 }
 
 /// The nanoseconds between two turns.
@@ -247,9 +259,10 @@ fn opening<R: Abort>(rt: &R, gauges: &mut Vec<Gauge>) -> Gauge {
 fn read_beside<R: Threads + Abort>(
     rt: &R,
     gate: &Arc<Meeting, Global>,
-    gauge: Gauge,
+    gauges: &mut Vec<Gauge>,
     is_zero: bool,
 ) -> JoinHandle<u64> {
+    let gauge = opening(rt, gauges);
     let gate = Arc::try_clone(gate).expect(rt, "a count");
     thread::spawn(rt, move || gate.read_often(gauge, is_zero)).expect(rt, "a thread")
 }

@@ -14,13 +14,32 @@ use std::sync::{Mutex, Wait};
 pub fn set_up<P: Ledger, B: Ledger, R: Wait + Abort>(rt: &R, booked: &Mutex<Booked<P, B>>) {
     let commands = commands().expect(rt, "in range");
     let mut locked = booked.lock(rt);
-    for command in commands {
-        assert_eq!(rt; locked.command(command, Moment::zero()), Ok(()));
+    for command in &commands {
+        assert_eq!(rt; locked.command(*command, Moment::zero()), Ok(()));
     }
 }
 
 fn commands() -> Option<[Command; 4]> {
-    let flows = FqCodelOptions::new(
+    let bands = PrioOptions::new(2, [0, 1, 1, 1, 1, 1, 1, 1, 1, 1, 1, 1, 1, 1, 1, 1])?;
+    let prio = add(Some(Place::Root), 1, Kind::Prio(bands))?;
+    let tbf = add(class(1, 1), 2, bucket()?)?;
+    let fq_codel = add(class(2, 1), 3, flows()?)?;
+    let pfifo = add(class(1, 2), 4, Kind::Pfifo { limit: Some(0) })?;
+    Some([prio, tbf, fq_codel, pfifo])
+}
+
+fn bucket() -> Option<Kind> {
+    let rate = Rate::new(80_000_000)?;
+    let burst = Burst::new(1514)?;
+    Some(Kind::Tbf {
+        rate,
+        burst,
+        limit: TbfLimit::Bytes(1_000_000),
+    })
+}
+
+fn flows() -> Option<Kind> {
+    let options = FqCodelOptions::new(
         Some(1000),
         Some(1),
         None,
@@ -29,42 +48,31 @@ fn commands() -> Option<[Command; 4]> {
         Some(true),
         None,
     )?;
-    let bucket = Kind::Tbf {
-        rate: Rate::new(80_000_000)?,
-        burst: Burst::new(1514)?,
-        limit: TbfLimit::Bytes(1_000_000),
-    };
-    let bands = PrioOptions::new(2, [0, 1, 1, 1, 1, 1, 1, 1, 1, 1, 1, 1, 1, 1, 1, 1])?;
-    Some([
-        add(Place::Root, 1, Kind::Prio(bands))?,
-        add(class(1, 1)?, 2, bucket)?,
-        add(class(2, 1)?, 3, Kind::FqCodel(flows))?,
-        add(class(1, 2)?, 4, Kind::Pfifo { limit: Some(0) })?,
-    ])
+    Some(Kind::FqCodel(options))
 }
 
-fn add(place: Place, major: u16, kind: Kind) -> Option<Command> {
+fn add(place: Option<Place>, major: u16, kind: Kind) -> Option<Command> {
+    let place = place?;
+    let handle = Some(Handle::new(major)?);
     Some(Command::QdiscAdd {
         place,
-        handle: Some(Handle::new(major)?),
+        handle,
         kind,
     })
 }
 
 fn class(major: u16, minor: u16) -> Option<Place> {
-    Some(Place::Class(ClassId {
-        major: Handle::new(major)?,
-        minor: Minor::new(minor)?,
-    }))
+    let major = Handle::new(major)?;
+    let minor = Minor::new(minor)?;
+    Some(Place::Class(ClassId { major, minor }))
 }
 
 /// Packets of 100 bytes: one that is dropped where it is late, one that is marked then, and one for the second band.
 pub fn kinds() -> Option<[Packet; 3]> {
-    Some([
-        packet(0, Ecn::NotEct)?,
-        packet(0, Ecn::Ect0)?,
-        packet(1, Ecn::NotEct)?,
-    ])
+    let dropped = packet(0, Ecn::NotEct)?;
+    let marked = packet(0, Ecn::Ect0)?;
+    let refused = packet(1, Ecn::NotEct)?;
+    Some([dropped, marked, refused])
 }
 
 fn packet(prio: u8, ecn: Ecn) -> Option<Packet> {
