@@ -5,14 +5,17 @@ use Rattle.q_words.specs.declared.wrong.Wrong.{Wrong}
 use Rattle.q_words.specs.declared.wrong.Wrong.TheVariants.{BadNumber}
 use Rattle.q_words.specs.Values.{is_numeral}
 use Rattle.q_model.specs.Options.{FqOptions}
+use Rattle.q_line.specs.Positions
 use Rattle.q_line.specs.Drafts.{Bands, OptionDraft, band_number, no_options}
 use Rattle.q_line.specs.Grammar.{numbered}
-use Rattle.q_line.specs.Positions.{Position, OptionValue, limit, flows, quantum, target, interval, drop_batch, once, packet_value, key_value, option_value, options}
+use Rattle.q_line.specs.Positions.{HeadValue, Position, OptionValue, limit, flows, quantum, target, interval, drop_batch, once, packet_value, key_value, option_value, options}
 use Rattle.q_line.specs.declared.fq_codel_option.FqCodelOption.{FqCodelOption}
 use Rattle.q_line.specs.declared.fq_codel_option.FqCodelOption.TheVariants as option
 use Rattle.q_line.specs.declared.fq_codel_word.FqCodelWord.{FqCodelWord}
 use Rattle.q_line.specs.declared.fq_codel_word.FqCodelWord.TheVariants as word
 use Rattle.q_line.specs.declared.head_draft.HeadDraft.{HeadDraft}
+use Rattle.q_line.specs.declared.head_option.HeadOption.{HeadOption}
+use Rattle.q_line.specs.declared.head_option.HeadOption.TheVariants as head_option
 use Rattle.q_line.specs.declared.key_draft.KeyDraft.{KeyDraft}
 use Rattle.q_line.specs.declared.key_name.KeyName.{KeyName}
 use Rattle.q_line.specs.declared.key_name.KeyName.TheVariants as key
@@ -38,6 +41,25 @@ band_of word = if is_numeral 10 word then Ok (band_number word) else Err BadNumb
 -- the two addresses of a packet are of one version
 abbrev pub IsAgreed : PacketDraft → Type 0
 IsAgreed p = IfSome p.src_ip (λ (a : Address). IfSome p.dst_ip (λ (b : Address). a.version ≡ b.version))
+
+-- what has been given of a head, and the value of a part of it
+abbrev pub head_has : HeadOption → HeadDraft → Bool
+head_has head_option.Dev h = h.named
+head_has head_option.InClass h = is_some h.place
+head_has head_option.Handle h = is_some h.handle
+head_has head_option.Parent h = is_some h.parent
+head_has head_option.ClassId h = is_some h.class
+head_has head_option.Prio h = is_some h.prio
+head_has head_option.Protocol h = is_some h.protocol
+
+abbrev pub head_value_of : HeadOption → HeadValue
+head_value_of head_option.Dev = Positions.dev
+head_value_of head_option.InClass = Positions.in_class
+head_value_of head_option.Handle = Positions.handle
+head_value_of head_option.Parent = Positions.parent
+head_value_of head_option.ClassId = Positions.class_id
+head_value_of head_option.Prio = Positions.filter_prio
+head_value_of head_option.Protocol = Positions.protocol
 
 -- what has been given of a packet
 abbrev pub packet_has : PacketField → PacketDraft → Bool

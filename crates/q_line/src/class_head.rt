@@ -1,49 +1,54 @@
-ghost use Rattle.std.specs.Prelude.{◌≡◌, None, option_map, suc};
+ghost use Rattle.std.specs.Prelude.{◌≡◌, ◌<◌, ◌∷◌, true, false, codes, length, option_map, suc, None, Err, IfErr, OnOk};
+ghost use Rattle.std.specs.Str.{bytes_eq, is_utf8};
 ghost use Rattle.q_words.specs.Words.{words_in};
 ghost use Rattle.q_line.specs.Drafts.{class_line, no_head, of_class};
 ghost use Rattle.q_line.specs.Grammar.{rest_of, said};
-ghost use Rattle.q_line.specs.Positions.{head, quantum_of};
+ghost use Rattle.q_line.specs.Positions.{head as behind, quantum_of};
 
 use crate::class_verb::ClassVerb;
 use crate::head_draft::HeadDraft;
+use crate::head_option::HeadOption;
 use crate::line::Line;
 use crate::words::Words;
 use q_model::{Command, Quantum};
-use q_words::{LineFault, class, handle, name, size_within};
+use q_words::{LineFault, size_within};
 
 /// Behind `class add`, `change` or `del`: the head, then the kind.
 pub fn class_head(words: &mut Words, verb: ClassVerb) -> Result<Line, LineFault>
-    ensures { result ≡ rest_of (head (of_class verb) no_head) (suc words.old.taken) (words_in words.old.rest.now) }
+    ensures { result ≡ rest_of (behind (of_class verb) no_head) (suc words.old.taken) (words_in words.old.rest.now) }
 {
     let mut head = HeadDraft::new();
     while let Some(word) = words.next()? {
-        match word {
-            "dev" => {
-                let word = words.option(head.named)?;
-                words.placed(name(word.as_bytes()))?;
-                head.named = true;
-            }
-            "parent" => {
-                let word = words.option(head.parent.is_some())?;
-                head.parent = Some(words.placed(handle(word.as_bytes()))?);
-            }
-            "classid" => {
-                let word = words.option(head.class.is_some())?;
-                head.class = Some(words.placed(class(word.as_bytes()))?);
-            }
-            "drr" => {
-                return match verb {
-                    ClassVerb::Add => quantum_line(words, ClassVerb::Add, head),
-                    ClassVerb::Change => quantum_line(words, ClassVerb::Change, head),
-                    ClassVerb::Del => Err(words.unknown()),
-                };
-            }
-            _ => return Err(words.unknown()),
+        if word == "drr" {
+            return match verb {
+                ClassVerb::Add => quantum_line(words, ClassVerb::Add, head),
+                ClassVerb::Change => quantum_line(words, ClassVerb::Change, head),
+                ClassVerb::Del => Err(words.unknown()),
+            };
         }
+        class_option(words, &mut head, word)?;
     }
     match verb {
         ClassVerb::Del => class_made(words, ClassVerb::Del, head, None),
         _ => Err(words.missing()),
+    }
+}
+
+/// What a word says in the head of a class, where it is not `drr`, with the value behind it.
+fn class_option(words: &mut Words, head: &mut HeadDraft, word: &str) -> Result<(), LineFault>
+    requires text { is_utf8 word.now ≡ true }
+    requires other { bytes_eq word.now (codes "drr") ≡ false }
+    ensures ok { OnOk result ((verb : ClassVerb) → rest_of (behind (of_class verb) head.old) words.old.taken (word.now ∷ words_in words.old.rest.now)
+        ≡ rest_of (behind (of_class verb) head.new) (suc words.new.taken) (words_in words.new.rest.now)) }
+    ensures fewer { OnOk result (length (words_in words.new.rest.now) < length (words_in words.old.rest.now)) }
+    ensures err { IfErr result (λ fault. (verb : ClassVerb)
+        → rest_of (behind (of_class verb) head.old) words.old.taken (word.now ∷ words_in words.old.rest.now) ≡ Err fault) }
+{
+    match word {
+        "dev" => head.read(words, HeadOption::Dev),
+        "parent" => head.read(words, HeadOption::Parent),
+        "classid" => head.read(words, HeadOption::ClassId),
+        _ => Err(words.unknown()),
     }
 }
 

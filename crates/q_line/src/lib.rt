@@ -25,6 +25,7 @@ mod fq_codel_option;
 mod fq_codel_word;
 mod frame;
 mod head_draft;
+mod head_option;
 mod key_draft;
 mod key_name;
 mod kind_name;

@@ -1,0 +1,13 @@
+/// A part of a tc line's head that has a value (tc(8)).
+#[derive(Clone, Copy, PartialEq, Eq, Debug)]
+pub enum HeadOption {
+    Dev,
+    /// The class below which a qdisc stands.
+    InClass,
+    Handle,
+    /// The qdisc of a class or a filter.
+    Parent,
+    ClassId,
+    Prio,
+    Protocol,
+}
