@@ -21,6 +21,9 @@ use Rattle.q_line.specs.declared.key_name.KeyName.{KeyName}
 use Rattle.q_line.specs.declared.key_name.KeyName.TheVariants as key
 use Rattle.q_line.specs.declared.kind_name.KindName.TheVariants.{FqCodel}
 use Rattle.q_line.specs.declared.qdisc_verb.QdiscVerb.{QdiscVerb}
+use Rattle.q_line.specs.declared.tbf_draft.TbfDraft.{TbfDraft}
+use Rattle.q_line.specs.declared.tbf_option.TbfOption.{TbfOption}
+use Rattle.q_line.specs.declared.tbf_option.TbfOption.TheVariants as tbf_option
 use Rattle.q_line.specs.declared.packet_draft.PacketDraft.{PacketDraft}
 use Rattle.q_line.specs.declared.packet_field.PacketField.{PacketField}
 use Rattle.q_line.specs.declared.packet_field.PacketField.TheVariants as field
@@ -114,3 +117,19 @@ abbrev pub fq_row : QdiscVerb → HeadDraft → FqOptions → Result FqCodelWord
 fq_row v h o (Ok (word.Option f)) = once (fq_has f o) (option_value (option_value_of f) v h FqCodel (fq_draft o))
 fq_row v h o (Ok (word.Ecn b)) = once (is_some o.ecn) (options v h FqCodel (fq_draft (record o { ecn = Some b })))
 fq_row v h o (Err e) = Err e
+
+-- the options of a tbf so far, and what has been given of them; the limit and the latency are one
+abbrev pub tbf_draft : TbfDraft → OptionDraft
+tbf_draft t = record no_options { rate = t.rate; burst = t.burst; tbf_limit = t.limit }
+
+abbrev pub tbf_has : TbfOption → TbfDraft → Bool
+tbf_has tbf_option.Rate t = is_some t.rate
+tbf_has tbf_option.Burst t = is_some t.burst
+tbf_has tbf_option.Limit t = is_some t.limit
+tbf_has tbf_option.Latency t = is_some t.limit
+
+abbrev pub tbf_value_of : TbfOption → OptionValue
+tbf_value_of tbf_option.Rate = Positions.rate
+tbf_value_of tbf_option.Burst = Positions.burst
+tbf_value_of tbf_option.Limit = limit
+tbf_value_of tbf_option.Latency = Positions.latency

@@ -45,6 +45,8 @@ mod qdisc_verb;
 mod reading;
 mod show;
 mod tbf;
+mod tbf_draft;
+mod tbf_option;
 mod tc;
 mod words;
 
