@@ -16,7 +16,7 @@ const LONGEST: u64 = 1_000_000_000_000;
 const MOST: u64 = 0xffff_ffff;
 
 /// An option of an fq_codel that has a value (tc-fq_codel(8)).
-#[derive(Clone, Copy, PartialEq, Eq, Debug)]
+#[derive(Clone, Copy)]
 pub enum FqCodelOption {
     Limit,
     Flows,

@@ -11,7 +11,7 @@ use crate::fq_codel_option::FqCodelOption;
 use q_words::Wrong;
 
 /// A word of an fq_codel (tc-fq_codel(8)).
-#[derive(Clone, Copy, PartialEq, Eq, Debug)]
+#[derive(Clone, Copy)]
 pub enum FqCodelWord {
     /// An option, whose value follows.
     Option(FqCodelOption),

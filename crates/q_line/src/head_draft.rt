@@ -11,7 +11,7 @@ use q_model::{ClassId, FilterPrio, Handle, Place, Protocol};
 use q_words::{LineFault, Wrong, class, handle, name, number, protocol};
 
 /// What the head of a tc line has given so far, in any order.
-#[derive(Clone, Copy, PartialEq, Eq, Debug)]
+#[derive(Clone, Copy)]
 pub struct HeadDraft {
     /// Whether `dev NAME` is there. The name is compared with nothing, since a script has one device.
     pub named: bool,

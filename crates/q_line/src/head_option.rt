@@ -1,5 +1,5 @@
 /// A part of a tc line's head that has a value (tc(8)).
-#[derive(Clone, Copy, PartialEq, Eq, Debug)]
+#[derive(Clone, Copy)]
 pub enum HeadOption {
     Dev,
     /// The class below which a qdisc stands.

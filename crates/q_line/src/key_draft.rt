@@ -9,7 +9,7 @@ use q_model::{ClassId, FilterKeys, IpPrefix, IpVersion, Protocol};
 use q_words::{Wrong, class, ip_proto, number, prefix};
 
 /// What has been given of a filter so far, behind its head.
-#[derive(Clone, Copy, PartialEq, Eq, Debug)]
+#[derive(Clone, Copy)]
 pub struct KeyDraft {
     pub keys: FilterKeys,
     /// The class to which a matching packet goes.

@@ -8,7 +8,7 @@ ghost use Rattle.q_line.specs.declared.key_draft.KeyDraft.{KeyDraft};
 use q_words::Wrong;
 
 /// What a line can give of a flower filter (tc-flower(8)): a key, or the class of the packets.
-#[derive(Clone, Copy, PartialEq, Eq, Debug)]
+#[derive(Clone, Copy)]
 pub enum KeyName {
     IpProto,
     SrcIp,

@@ -1,5 +1,5 @@
 /// The kinds of qdisc (tc(8)).
-#[derive(Clone, Copy, PartialEq, Eq, Debug)]
+#[derive(Clone, Copy)]
 pub enum KindName {
     Pfifo,
     Bfifo,

@@ -15,7 +15,7 @@ use q_packet::{Ecn, FlowKey};
 use q_words::{IpAddress, Wrong, address, ip_proto, number};
 
 /// What has been given of a packet so far.
-#[derive(Clone, Copy, PartialEq, Eq, Debug)]
+#[derive(Clone, Copy)]
 pub struct PacketDraft {
     /// Its length in bytes, 1 to 65535.
     pub len: u16,

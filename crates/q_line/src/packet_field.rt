@@ -7,7 +7,7 @@ ghost use Rattle.q_line.specs.declared.packet_draft.PacketDraft.{PacketDraft};
 use q_words::Wrong;
 
 /// A field that a `pkt` line can give of its packet.
-#[derive(Clone, Copy, PartialEq, Eq, Debug)]
+#[derive(Clone, Copy)]
 pub enum PacketField {
     Hash,
     Prio,

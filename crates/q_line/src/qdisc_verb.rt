@@ -1,5 +1,5 @@
 /// What a line does with a qdisc (tc(8)).
-#[derive(Clone, Copy, PartialEq, Eq, Debug)]
+#[derive(Clone, Copy)]
 pub enum QdiscVerb {
     Add,
     Change,
