@@ -1,10 +1,10 @@
-ghost use Rattle.std.specs.Prelude.{◌≡◌, ◌<◌, ◌^◌, Ok, Err, IfOk, IfErr, OnOk, IfSome, IsTrue, option_map};
+ghost use Rattle.std.specs.Prelude.{◌≡◌, ◌<◌, ◌^◌, Some, Ok, Err, IfOk, IfErr, OnOk, IfSome, IsTrue, option_map};
 ghost use Rattle.std.specs.Option.{option_map_or, option_or};
 ghost use Rattle.q_packet.specs.Key.{address_bits, is_family};
 ghost use Rattle.q_model.specs.Filters.{family_of};
 ghost use Rattle.q_model.specs.Options.{bits_of};
 ghost use Rattle.q_line.specs.Drafts.{no_fields};
-ghost use Rattle.q_line.specs.Grammar.{arrival, packet_address, packet_version, packet_with};
+ghost use Rattle.q_line.specs.Grammar.{arrival, packet_address, packet_with};
 ghost use Rattle.q_line.specs.Reading.{IsAgreed, packet_has};
 
 use crate::arrival::Arrival;
@@ -87,8 +87,10 @@ impl PacketDraft {
 
     /// An address of the packet, of the version of its other address.
     fn own_address(&self, word: &[u8]) -> Result<IpAddress, Wrong>
+        requires { IsAgreed self.now }
         ensures value { result ≡ packet_address self.now word.now }
-        ensures version { IfOk result (λ a. IfSome (packet_version self.now) (λ v. a.version ≡ v)) }
+        ensures source { IfOk result (λ a. IsAgreed (record self.now { src_ip = Some a })) }
+        ensures destination { IfOk result (λ a. IsAgreed (record self.now { dst_ip = Some a })) }
     {
         let found = address(word)?;
         match version_of(self.src_ip, self.dst_ip) {
