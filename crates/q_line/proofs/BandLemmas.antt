@@ -1,10 +1,11 @@
 -- A priomap in which no number is too large names bands alone.
-use Rattle.std.proofs.Common.{◌≡◌, ◌∙◌, ℕ, ◌+◌, ◌<◌, ◌≤◌, cond, Bool, true, false, List, [], ◌∷◌, length, nat_lt, nat_le, Option, Some, None, option_map, unwrap_or, refl, ap, arith}
+use Rattle.std.proofs.Common.{◌≡◌, ◌∙◌, ℕ, ◌+◌, ◌<◌, ◌≤◌, cond, Bool, true, false, List, [], ◌∷◌, length, nat_lt, nat_le, slice_index_or, Option, Some, None, option_map, unwrap_or, refl, ap, arith}
 use Rattle.std.specs.List.{All, position, position_or_len}
 use Rattle.std.specs.Option.{IfSome}
 use Rattle.std.proofs.lemmas.Bool.{leb-false, ltb-false}
 use Rattle.std.proofs.lemmas.List.Elements.{All-nil, All-cons}
 use Rattle.q_model.specs.Numbers.{IsWithin}
+use Rattle.q_line.specs.Drafts.{default_priomap}
 
 all_below : (bands : ℕ) (xs : List ℕ) → length xs ≤ position_or_len (λ n. nat_le bands n) xs → All (λ band. band < bands) xs
 all_below bands [] h = All-nil (λ band. band < bands)
@@ -29,3 +30,8 @@ no_bad bands from xs e = by_test (nat_lt (position_or_len (λ n. nat_le bands n)
 pub few_bands : (bands : Option ℕ) → IfSome bands (IsWithin 2 16) → IsWithin 2 16 (unwrap_or bands 3)
 few_bands None h = (omega arith, omega arith)
 few_bands (Some n) h = h
+
+pub default_bands : (bands : ℕ) → 3 ≤ bands → All (λ band. band < bands) default_priomap
+default_bands bands h k d within =
+    let first_three : slice_index_or default_priomap k d < 3 = all_below 3 default_priomap (omega arith) k d within in
+    omega arith
