@@ -1,11 +1,14 @@
-ghost use Rattle.std.specs.Prelude.{◌≡◌, ◌<◌, None, Some, Err, IfSome, length, suc};
+ghost use Rattle.std.specs.Prelude.{◌≡◌, ◌<◌, ◌∷◌, true, None, Some, Err, IfErr, IfSome, OnOk, length, suc};
+ghost use Rattle.std.specs.Str.{is_utf8};
 ghost use Rattle.q_words.specs.Words.{words_in};
 ghost use Rattle.q_model.specs.Numbers.{IsWithin};
 ghost use Rattle.q_line.specs.Drafts.{no_options};
 ghost use Rattle.q_line.specs.Grammar.{ended, rest_of};
 ghost use Rattle.q_line.specs.Positions.{options, priomap};
 ghost use Rattle.q_line.specs.Reading.{band_of, prio_draft};
+ghost use Rattle.q_line.specs.declared.head_draft.HeadDraft.{HeadDraft};
 ghost use Rattle.q_line.specs.declared.kind_name.KindName.TheVariants.{Prio};
+ghost use Rattle.q_line.specs.declared.qdisc_verb.QdiscVerb.{QdiscVerb};
 
 use crate::head_draft::HeadDraft;
 use crate::line::Line;
@@ -68,19 +71,39 @@ fn mapped_line(
     ensures { result ≡ rest_of (options verb head Prio (prio_draft bands (Some map))) (suc words.old.taken) (words_in words.old.rest.now) }
 {
     while let Some(word) = words.next()? {
-        match word {
-            "bands" => {
-                words.once(bands.is_some())?;
-                let Some(word) = words.next()? else {
-                    return Err(is_late(words, bands, &map));
-                };
-                bands = Some(words.placed(number(word.as_bytes(), 2, 16))? as u8);
-            }
-            "priomap" => words.once(true)?,
-            _ => return Err(words.unknown()),
-        }
+        mapped_option(words, &mut bands, &map, word)?;
     }
     prio_made(words, verb, head, bands, Some(map))
+}
+
+/// What a word says among the options behind a priomap, with the value behind it.
+fn mapped_option(
+    words: &mut Words,
+    bands: &mut Option<u8>,
+    map: &Priomap,
+    word: &str,
+) -> Result<(), LineFault>
+    requires text { is_utf8 word.now ≡ true }
+    ensures bands { OnOk result (IfSome bands.new (IsWithin 2 16)) }
+    ensures ok { OnOk result ((verb : QdiscVerb) (head : HeadDraft)
+        → rest_of (options verb head Prio (prio_draft bands.old (Some map.now))) words.old.taken (word.now ∷ words_in words.old.rest.now)
+        ≡ rest_of (options verb head Prio (prio_draft bands.new (Some map.now))) (suc words.new.taken) (words_in words.new.rest.now)) }
+    ensures fewer { OnOk result (length (words_in words.new.rest.now) < length (words_in words.old.rest.now)) }
+    ensures err { IfErr result (λ fault. (verb : QdiscVerb) (head : HeadDraft)
+        → rest_of (options verb head Prio (prio_draft bands.old (Some map.now))) words.old.taken (word.now ∷ words_in words.old.rest.now) ≡ Err fault) }
+{
+    match word {
+        "bands" => {
+            words.once(bands.is_some())?;
+            let Some(word) = words.next()? else {
+                return Err(is_late(words, *bands, map));
+            };
+            *bands = Some(words.placed(number(word.as_bytes(), 2, 16))? as u8);
+            Ok(())
+        }
+        "priomap" => Err(words.twice()),
+        _ => Err(words.unknown()),
+    }
 }
 
 /// A number of a priomap; 16 stands for all that are greater.
