@@ -1,5 +1,5 @@
 -- A run whose lines may be explained answers what one answers whose lines are not.
-use Rattle.std.proofs.Common.{◌≡◌, ◌≢◌, ◌∙◌, ℕ, Bool, true, false, List, Option, refl, sym, true≢false}
+use Rattle.std.proofs.Common.{◌≡◌, ◌≢◌, ◌∙◌, ℕ, Bool, true, false, List, Option, ◌⊎◌, inl, inr, refl, subst, sym, true≢false}
 use Rattle.clap.specs.Words.{Text}
 use Rattle.q_script.specs.declared.outcome.Outcome.{Outcome}
 use Rattle.q_script.specs.declared.reads.Reads.{Reads}
@@ -26,3 +26,8 @@ module _ {file : Option Text} {whole : Outcome → List ℕ → Type 0} {partly 
 
     one_is_not_two : ◌≢◌ {A = ℕ} 1 2
     one_is_not_two e = cc
+
+  -- where nothing more was written there, or both hold
+  pub explained_if : {errors_later : Option (List ℕ)} → (errors_later ≡ errors_new) ⊎ ((explains ≡ true) × (status ≡ 1)) → IsAnswered explains file whole partly script old new errors_old errors_later reads writes status
+  explained_if (inl same) = subst (λ (e : Option (List ℕ)). IsAnswered explains file whole partly script old new errors_old e reads writes status) (sym same) unexplained
+  explained_if (inr both) = explained both.0 both.1

@@ -1,9 +1,9 @@
 -- What clap found of the options, by its rows; and a fault of the options where they make no settings.
-use Rattle.std.proofs.Common.{◌≡◌, ◌∙◌, ℕ, ◌≤◌, ◌<◌, ◌⊎◌, inl, inr, Bool, true, false, List, [], ◌∷◌, Option, Some, None, Result, Ok, Err, option_map, Box, refl, sym, ap, subst, arith, codes, slice_index}
+use Rattle.std.proofs.Common.{◌≡◌, ℕ, ◌≤◌, ◌⊎◌, inl, inr, Bool, true, false, List, Option, Some, None, Result, Ok, Err, option_map, Box, refl, sym, subst, arith, codes}
 use Rattle.std.proofs.lemmas.Bool.{leb-true, leb-false}
 use Rattle.std.proofs.Math.Dec.{leb}
 use mathlib.Core.Path.{fun_ext}
-use Rattle.clap.specs.Words.{HasKind, Row, Text, fault_of, first_value, is_simple, is_simple_and_free, kind_of, one_of, one_text, subcommand_of, subcommand_rows}
+use Rattle.clap.specs.Words.{HasKind, Row, Text, fault_of, first_value, is_simple, is_simple_and_free, kind_of, one_text, subcommand_of, subcommand_rows}
 use Rattle.clap.specs.declared.error.Error.{Error}
 use Rattle.clap.specs.declared.error.kind.ErrorKind.{ErrorKind}
 use Rattle.clap.proofs.OnLiterals.{clap_on_literals}
@@ -14,8 +14,7 @@ use Rattle.clap.specs.declared.parser.matches.ArgMatches.TheViews.{out-SubComman
 use Rattle.std.specs.Box.{box_value}
 use Rattle.std.specs.Result.{IfErr, IsErrAnd}
 use Rattle.clap.proofs.WalkLemmas.{first_value-rows, one_text-rows}
-use Rattle.q_options.specs.CommandLine.{HasBadDriveOption, HasBadOption, HasDriveOptionsOf, HasOptionsOf, IsGiven, IsNotGood, IsRefused, IsUnreadable, Texts, number_of, program, texts_in, written_in}
-use Rattle.q_drive.specs.Drive.{Drive, IsInRange}
+use Rattle.q_options.specs.CommandLine.{HasBadDriveOption, HasBadOption, IsGiven, IsNotGood, IsRefused, IsUnreadable, Texts, number_of, program, texts_in, written_in}
 
 -- either way of asking what was found
 pub texts_are : (f : Found) → one_text f ≡ texts_in (rows_of f)

@@ -1,10 +1,13 @@
 -- What the words of a command line ask for: the program's commands with their options, and what clap found of these.
 -- How clap walks over the words is in its own definitions: `subcommand_of` is the command that they name, with its options, and
 -- `fault_of` the kinds of fault that they have. The options, their ranges and defaults are this project's own.
-use Rattle.std.specs.Prelude.{◌≡◌, ◌≤◌, ◌⊎◌, ℕ, pos, Bool, true, false, List, [], ◌∷◌, Option, None, Some, option_map, string_bytes, codes, ⊤}
+use Rattle.std.specs.Prelude.{◌≡◌, ◌≤◌, ◌⊎◌, ℕ, pos, Bool, true, false, List, Option, None, Some, option_map, string_bytes, codes, ⊤}
 use Rattle.std.specs.Str.Parse.{IsNumeral, digits_value, without_leading_plus}
-use Rattle.clap.specs.Words.{App, Row, Rule, Text, IsAmong, fault_of, first_of, new_app, new_rule, one_of, subcommand_of, with_rule, with_subcommand}
+use Rattle.clap.specs.Words.{App, Row, Rule, Text, IsAmong, app_of, fault_of, first_of, new_app, new_rule, one_of, subcommand_of, with_rule, with_subcommand}
 use Rattle.clap.specs.declared.builder.action.ArgAction.TheVariants.{SetTrue}
+use Rattle.clap.specs.declared.Command.TheViews.{out-Command as fields_of}
+use Rattle.clap.specs.declared.builder.command.Command.{Command}
+use Rattle.clap.specs.declared.builder.value_parser.ValueParser.{ValueParser}
 use Rattle.clap.specs.declared.builder.value_parser.ValueParser.TheVariants as vp
 use Rattle.clap.specs.declared.error.kind.ErrorKind.{ErrorKind}
 use Rattle.clap.specs.declared.error.kind.ErrorKind.TheVariants.{OutOfMemory}
@@ -25,6 +28,15 @@ number_rule name low high needed = record (number_named name) { parser = Some (v
 -- an option without a value
 abbrev pub flag_rule : Text → Rule
 flag_rule name = record (new_rule name) { long = Some name; action = Some SetTrue }
+
+-- a command with an option that has a number which this parser takes
+abbrev pub with_number : Text → ValueParser → Bool → App → App
+with_number name parser needed a = with_rule a (record (number_named name) { parser = Some parser; required = needed })
+
+-- what a step makes of a command: this one, to which no global argument came
+pub record Gives (step : App → App) (old new : Command) : Type 0 where
+  pub app : app_of new ≡ step (app_of old)
+  pub local : (fields_of new).has_globals ≡ (fields_of old).has_globals
 
 -- a command with the options of its device
 abbrev pub with_device : App → App

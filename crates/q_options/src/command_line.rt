@@ -1,11 +1,12 @@
-ghost use Rattle.std.specs.Prelude.{◌≡◌, ◌≤◌, ◌⊎◌, IfOk, IfErr, IfSome, IsNone, Some, codes, pos, map, true, false};
-ghost use Rattle.clap.specs.Words.{app_of, first_value, found_of, kind_of, new_app, one_text, rule_of, subcommand_rows_of, with_rule, NarrowsTo};
-ghost use Rattle.q_options.specs.CommandLine.{HasBadDriveOption, HasBadOption, HasDriveOptionsOf, HasOptionsOf, HasPlayOptionsOf, IsAsked, IsAskedBy, IsBad, IsFlag, IsGiven, IsNotGood, IsNumber, IsRefused, IsUnreadable, drive_app, file_rule, flag_rule, number_named, play_app, program};
+ghost use Rattle.std.specs.Prelude.{◌≡◌, ◌≤◌, ◌⊎◌, IfOk, IfErr, IfSome, IsNone, IsOkAnd, Some, codes, pos, map, true, false};
+ghost use Rattle.clap.specs.Words.{app_of, first_value, found_of, kind_of, new_app, one_text, rule_of, subcommand_of, subcommand_rows_of, with_rule, AddsArg, AddsSubcommand, NarrowsTo};
+ghost use Rattle.q_options.specs.CommandLine.{HasBadDriveOption, HasBadOption, HasDriveOptionsOf, HasOptionsOf, HasPlayOptionsOf, IsAsked, IsAskedBy, IsBad, IsFlag, IsGiven, IsNotGood, IsNumber, IsRefused, IsUnreadable, Gives, bare_program, drive_app, file_rule, flag_rule, number_named, play_app, program, with_number};
 ghost use Rattle.clap.specs.declared.Command.TheViews.{out-Command as fields_of};
 ghost use Rattle.q_options.specs.CommandLine as spec;
 
 use crate::play_options::PlayOptions;
 use crate::program_options::Options;
+use clap::builder::ValueParser;
 use clap::error::ErrorKind;
 use clap::{Arg, ArgAction, ArgMatches, Command, Error, value_parser};
 use q_drive::DriveSettings;
@@ -33,25 +34,69 @@ pub fn options<S: AsStr>(alloc: Global, words: &[S]) -> Result<Options, Error>
     ensures refused { IfErr result (λ error. IsRefused (map S.text words.now) (kind_of error)) }
 {
     let mut qtree = qtree(alloc)?;
-    let matches = qtree.try_get_matches_from_mut(words)?;
-    match options_of(alloc, &matches)? {
+    asked(alloc, &mut qtree, words)
+}
+
+/// What the words ask of the program. It is lent the program, so that no way out has to drop it.
+fn asked<'a, S: AsStr>(
+    alloc: Global,
+    qtree: &mut Command<'a>,
+    words: &'a [S],
+) -> Result<Options, Error>
+    requires { app_of qtree.old ≡ program }
+    ensures asked { IfOk result (λ options. IsAsked (map S.text words.now) options) }
+    ensures refused { IfErr result (λ error. IsRefused (map S.text words.now) (kind_of error)) }
+{
+    match found(alloc, qtree, words)? {
         Some(options) => Ok(options),
         // clap has seen to the command, and to each number's range.
         None => Err(qtree.error(ErrorKind::ValueValidation, "an option is out of its range")?),
     }
 }
 
+/// The same, where clap finds no fault in the words; `None` where a text is no number, or one out of range.
+fn found<'a, S: AsStr>(
+    alloc: Global,
+    qtree: &mut Command<'a>,
+    words: &'a [S],
+) -> Result<Option<Options>, Error>
+    requires { app_of qtree.old ≡ program }
+    ensures asked { IfOk result (λ found. IfSome found (IsAsked (map S.text words.now))) }
+    ensures unreadable { IfOk result (λ found. IsNone found → IsUnreadable (subcommand_of program (map S.text words.now))) }
+    ensures refused { IfErr result (λ error. IsRefused (map S.text words.now) (kind_of error)) }
+{
+    let matches = qtree.try_get_matches_from_mut(words)?;
+    Ok(options_of(alloc, &matches)?)
+}
+
 /// The program: its commands, without which it shows its help.
 fn qtree<'a>(alloc: Global) -> Result<Command<'a>, AllocError>
     ensures { IfOk result (λ command. app_of command ≡ program) }
+{
+    let qtree = with_subcommand(Ok(bare(alloc)), play(alloc));
+    with_subcommand(qtree, drive(alloc))
+}
+
+/// The program without its commands.
+fn bare<'a>(alloc: Global) -> Command<'a>
+    ensures { app_of result ≡ bare_program }
 {
     Command::new(alloc, "qtree")
         .about("A packet scheduler with the behaviour of Linux traffic control")
         .version(VERSION)
         .subcommand_required(true)
         .arg_required_else_help(true)
-        .subcommand(play(alloc)?)?
-        .subcommand(drive(alloc)?)
+}
+
+/// A command with a command of its own, where both could be made.
+fn with_subcommand<'a>(
+    command: Result<Command<'a>, AllocError>,
+    sub: Result<Command<'a>, AllocError>,
+) -> Result<Command<'a>, AllocError>
+    ensures { IfOk result (λ r. IsOkAnd command.entry (λ c. IsOkAnd sub.entry (λ s. AddsSubcommand c s r))) }
+{
+    let sub = sub?;
+    command?.subcommand(sub)
 }
 
 /// The command that runs a script.
@@ -64,20 +109,31 @@ fn play<'a>(alloc: Global) -> Result<Command<'a>, AllocError>
             "Reads a script, of a file or of standard input, and writes its report on standard output",
         )
         .after_help(PLAY_END);
-    with_device(alloc, play)?
-        .arg(explain(alloc))?
-        .arg(file(alloc))
+    let play = with_device(alloc, Ok(play));
+    let help = "Explain each line with a fault or a refusal on standard error";
+    let play = with(play, flag(alloc, "explain", help));
+    with(play, file(alloc))
 }
 
-/// Whether each line that is not done is explained.
-fn explain<'a>(alloc: Global) -> Arg<'a>
-    ensures rule { rule_of result ≡ flag_rule (codes "explain") }
+/// A command with an argument, where the command could be made. So one function leaves early, and not each step of a chain.
+fn with<'a>(
+    command: Result<Command<'a>, AllocError>,
+    arg: Arg<'a>,
+) -> Result<Command<'a>, AllocError>
+    ensures { IfOk result (λ r. IsOkAnd command.entry (λ c. AddsArg c arg.entry r)) }
+{
+    command?.arg(arg)
+}
+
+/// An option without a value.
+fn flag<'a>(alloc: Global, name: &'a str, help: &'a str) -> Arg<'a>
+    ensures rule { rule_of result ≡ flag_rule name.entry.now }
     ensures local { result.global ≡ false }
 {
-    Arg::new(alloc, "explain")
-        .long("explain")
+    Arg::new(alloc, name)
+        .long(name)
         .action(ArgAction::SetTrue)
-        .help("Explain each line with a fault or a refusal on standard error")
+        .help(help)
 }
 
 /// The file that has the script.
@@ -98,87 +154,70 @@ fn drive<'a>(alloc: Global) -> Result<Command<'a>, AllocError>
     let drive = Command::new(alloc, "drive")
         .about("Sets up a device by tc's lines on standard input, and drives it from many threads")
         .after_help(DRIVE_END);
-    let drive = with_load(alloc, drive)?
-        .arg(until_idle(alloc))?
-        .arg(show(alloc))?;
+    let drive = with_load(alloc, Ok(drive));
+    let help = "Go on until nothing goes any more, once the senders have ended";
+    let drive = with(drive, flag(alloc, "until-idle", help));
+    let help = "Show the counters of the device and of each qdisc at the end";
+    let drive = with(drive, flag(alloc, "show", help));
     with_device(alloc, drive)
 }
 
-/// Whether the device is drained when the senders have ended.
-fn until_idle<'a>(alloc: Global) -> Arg<'a>
-    ensures rule { rule_of result ≡ flag_rule (codes "until-idle") }
-    ensures local { result.global ≡ false }
-{
-    Arg::new(alloc, "until-idle")
-        .long("until-idle")
-        .action(ArgAction::SetTrue)
-        .help("Go on until nothing goes any more, once the senders have ended")
-}
-
-/// Whether the device and the qdiscs are shown.
-fn show<'a>(alloc: Global) -> Arg<'a>
-    ensures rule { rule_of result ≡ flag_rule (codes "show") }
-    ensures local { result.global ≡ false }
-{
-    Arg::new(alloc, "show")
-        .long("show")
-        .action(ArgAction::SetTrue)
-        .help("Show the counters of the device and of each qdisc at the end")
-}
-
 /// A command with the options of its senders.
-fn with_load<'a>(alloc: Global, command: Command<'a>) -> Result<Command<'a>, AllocError>
-    ensures app { IfOk result (λ r. app_of r ≡ spec.with_load (app_of command.entry)) }
-    ensures local { IfOk result (λ r. (fields_of r).has_globals ≡ (fields_of command.entry).has_globals) }
+fn with_load<'a>(
+    alloc: Global,
+    command: Result<Command<'a>, AllocError>,
+) -> Result<Command<'a>, AllocError>
+    ensures { IfOk result (λ r. IsOkAnd command.entry (λ c. Gives spec.with_load c r)) }
 {
-    command
-        .arg(needed(alloc, "senders", "Senders, from 1 to 64").value_parser(value_parser!(u8).range(
-            1..=64,
-        )))?
-        .arg(needed(alloc, "count", "Packets of each sender, from 0 to 1000000").value_parser(
-            value_parser!(u32).range(..=1_000_000),
-        ))?
-        .arg(needed(alloc, "len", "Bytes of a packet, from 1 to 65535").value_parser(value_parser!(
-            u16
-        ).range(1..)))?
-        .arg(needed(
-            alloc,
-            "ring",
-            "Places of each sender's ring, from 1 to 65536",
-        )
-        .value_parser(value_parser!(u32).range(1..=65_536)))
+    let range = value_parser!(u8).range(1..=64);
+    let help = "Senders, from 1 to 64";
+    let command = with_number(alloc, command, "senders", help, range, true);
+    let range = value_parser!(u32).range(..=1_000_000);
+    let help = "Packets of each sender, from 0 to 1000000";
+    let command = with_number(alloc, command, "count", help, range, true);
+    let range = value_parser!(u16).range(1..);
+    let help = "Bytes of a packet, from 1 to 65535";
+    let command = with_number(alloc, command, "len", help, range, true);
+    let range = value_parser!(u32).range(1..=65_536);
+    let help = "Places of each sender's ring, from 1 to 65536";
+    with_number(alloc, command, "ring", help, range, true)
 }
 
 /// A command with the options of its device.
-fn with_device<'a>(alloc: Global, command: Command<'a>) -> Result<Command<'a>, AllocError>
-    ensures app { IfOk result (λ r. app_of r ≡ spec.with_device (app_of command.entry)) }
-    ensures local { IfOk result (λ r. (fields_of r).has_globals ≡ (fields_of command.entry).has_globals) }
+fn with_device<'a>(
+    alloc: Global,
+    command: Result<Command<'a>, AllocError>,
+) -> Result<Command<'a>, AllocError>
+    ensures { IfOk result (λ r. IsOkAnd command.entry (λ c. Gives spec.with_device c r)) }
 {
-    command
-        .arg(number(
-            alloc,
-            "mtu",
-            "Most bytes of a packet, from 1 to 65535 [default: 1514]",
-        )
-        .value_parser(value_parser!(u16).range(1..)))?
-        .arg(number(
-            alloc,
-            "txqueuelen",
-            "Packets that the root holds at first, from 0 to 4294967295 [default: 1000]",
-        )
-        .value_parser(value_parser!(u32)))?
-        .arg(number(
-            alloc,
-            "seed",
-            "Seed of the hash of flows, from 0 to 4294967295 [default: 0]",
-        )
-        .value_parser(value_parser!(u32)))?
-        .arg(number(
-            alloc,
-            "record",
-            "Events that are recorded, from 0 to 1000000 [default: 4096]",
-        )
-        .value_parser(value_parser!(u32).range(..=1_000_000)))
+    let range = value_parser!(u16).range(1..);
+    let help = "Most bytes of a packet, from 1 to 65535 [default: 1514]";
+    let command = with_number(alloc, command, "mtu", help, range, false);
+    let any = value_parser!(u32);
+    let help = "Packets that the root holds at first, from 0 to 4294967295 [default: 1000]";
+    let command = with_number(alloc, command, "txqueuelen", help, any, false);
+    let help = "Seed of the hash of flows, from 0 to 4294967295 [default: 0]";
+    let command = with_number(alloc, command, "seed", help, any, false);
+    let range = value_parser!(u32).range(..=1_000_000);
+    let help = "Events that are recorded, from 0 to 1000000 [default: 4096]";
+    with_number(alloc, command, "record", help, range, false)
+}
+
+/// A command with an option that has a number of this range.
+fn with_number<'a>(
+    alloc: Global,
+    command: Result<Command<'a>, AllocError>,
+    name: &'a str,
+    help: &'a str,
+    range: ValueParser<'a>,
+    needed: bool,
+) -> Result<Command<'a>, AllocError>
+    ensures { IfOk result (λ r. IsOkAnd command.entry (λ c. Gives (with_number name.entry.now range.entry needed) c r)) }
+{
+    let number = number(alloc, name, help)
+        .value_parser(range)
+        .required(needed);
+    with(command, number)
 }
 
 /// An option with a number.
@@ -187,14 +226,6 @@ fn number<'a>(alloc: Global, name: &'a str, help: &'a str) -> Arg<'a>
     ensures local { result.global ≡ false }
 {
     Arg::new(alloc, name).long(name).value_name("N").help(help)
-}
-
-/// An option with a number, which has to be given.
-fn needed<'a>(alloc: Global, name: &'a str, help: &'a str) -> Arg<'a>
-    ensures rule { rule_of result ≡ record (number_named name.entry.now) { required = true } }
-    ensures local { result.global ≡ false }
-{
-    number(alloc, name, help).required(true)
 }
 
 /// What was asked for; `None` where a text is no number, or one out of range.

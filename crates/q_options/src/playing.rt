@@ -1,4 +1,4 @@
-ghost use Rattle.std.specs.Prelude.{◌≡◌, ◌≤◌, false, option_map};
+ghost use Rattle.std.specs.Prelude.{◌≡◌, ◌≤◌, ◌⊎◌, false, option_map, true};
 ghost use Rattle.q_options.specs.Answer.{IsPlayed, IsPlayedOf};
 ghost use Rattle.q_script.specs.Reads.{no_reads};
 ghost use Rattle.q_session.specs.Session.{opened};
@@ -65,17 +65,37 @@ pub fn play_of<R: Read, W: Write, E: Write>(
         tell_of(file, Fault::Run(RunFault::Memory), errors);
         return FAULT;
     };
+    note_if(explains, alloc, &mut session);
+    let status = play_in(alloc, file, settings, &mut session, source, target, errors);
+    explain_refused(alloc, explains, status, &mut session, errors);
+    status
+}
+
+/// Lets a session note each line that is not done, where such lines are explained.
+fn note_if(explains: bool, alloc: Global, session: &mut DeviceSession)
+    ensures { session.new ≡ session.old }
+{
     if explains {
         session.note_errors(alloc);
     }
-    let status = play_in(alloc, file, settings, &mut session, source, target, errors);
+}
+
+/// Explains what was noted, where that is asked for and a line had a fault or was refused.
+fn explain_refused<E: Write>(
+    alloc: Global,
+    explains: bool,
+    status: u8,
+    session: &mut DeviceSession,
+    errors: &mut E,
+)
+    ensures { (E.contents errors.new ≡ E.contents errors.old) ⊎ ((explains ≡ true) × (status ≡ 1)) }
+{
     if !explains || status != REFUSED {
-        return status;
+        return;
     }
     if let Some(notes) = session.take_notes() {
         explain(alloc, &notes, errors);
     }
-    status
 }
 
 /// The same in a session that was opened with these settings and has run no line. No line is explained.

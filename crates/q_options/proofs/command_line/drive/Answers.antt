@@ -1,23 +1,39 @@
-use Rattle.std.proofs.Common.{rules, ap, ap₂, codes, false, ◌≡◌, ◌∙◌, IfOk}
-use Rattle.std.proofs.lemmas.Result.{IfOk-weaker}
-use Rattle.clap.specs.Words.{App, app_of, new_app, rule_of, with_rule}
+use Rattle.std.proofs.Common.{rules, codes, false, ◌≡◌, Result, Ok}
+use Rattle.std.specs.declared.alloc.AllocError.{AllocError}
+use Rattle.clap.specs.Words.{App, app_of, new_app, with_rule}
 use Rattle.clap.specs.declared.Command.TheViews.{out-Command as fields_of}
-use Rattle.q_options.specs.CommandLine.{drive_app, flag_rule}
+use Rattle.clap.specs.declared.builder.command.Command.{Command}
+use Rattle.q_options.specs.CommandLine.{flag_rule}
 use Rattle.q_options.specs.CommandLine as spec
-use Rattle.q_options.proofs.Chains.{stays_local}
+use Rattle.q_options.proofs.Chains.{Makes, arg_makes, made_app, made_local, then}
 use Rattle.q_options.proofs.command_line.drive.Goals as goal
+
+abbrev until_idle : App → App
+until_idle x = with_rule x (flag_rule (codes "until-idle"))
+
+abbrev shown : App → App
+shown x = with_rule x (flag_rule (codes "show"))
+
+abbrev all : App → App
+all x = spec.with_device (shown (until_idle (spec.with_load x)))
+
+whole : (first load idle show device : Result Command AllocError) → Makes spec.with_load first load → Makes until_idle load idle → Makes shown idle show → Makes spec.with_device show device → Makes all first device
+whole first load idle show device l i s d =
+    then (λ x. shown (until_idle (spec.with_load x))) spec.with_device first show device
+    (then (λ x. until_idle (spec.with_load x)) shown first idle show (then spec.with_load until_idle first load idle l i) s) d
 
 pub returns-clause-app : goal.returns-clause-app
 returns-clause-app c =
     let command : app_of c.after_help-drive.result ≡ new_app (codes "drive") = search rules in
-    let load = c.in_ok-with_load.ensures.app ∙ ap spec.with_load command in
-    let drained = c.in_ok-arg.ensures.shape c.until_idle.ensures.local ∙ ap₂ with_rule load c.until_idle.ensures.rule in
-    let chain = c.in_ok-drive.ensures.shape c.show.ensures.local ∙ ap₂ with_rule drained c.show.ensures.rule in
-    IfOk-weaker c.with_device.result _ (λ r. app_of r ≡ drive_app) (λ r h. h ∙ ap spec.with_device chain) c.with_device.ensures.app
+    let idle = arg_makes c.flag.result (flag_rule (codes "until-idle")) c.with_load-drive.result c.with-drive.result c.flag.ensures.rule c.flag.ensures.local c.with-drive.ensures in
+    let show = arg_makes c.flag-2.result (flag_rule (codes "show")) c.with-drive.result c.with-drive-2.result c.flag-2.ensures.rule c.flag-2.ensures.local c.with-drive-2.ensures in
+    made_app all c.after_help-drive.result (new_app (codes "drive")) c.with_device.result command
+    (whole (Ok c.after_help-drive.result) c.with_load-drive.result c.with-drive.result c.with-drive-2.result c.with_device.result c.with_load-drive.ensures idle show c.with_device.ensures)
 
 pub returns-clause-local : goal.returns-clause-local
 returns-clause-local c =
     let command : (fields_of c.after_help-drive.result).has_globals ≡ false = search rules in
-    let chain = stays_local _ _ _ c.in_ok-drive.ensures.globals c.show.ensures.local
-    ∙ (stays_local _ _ _ c.in_ok-arg.ensures.globals c.until_idle.ensures.local ∙ (c.in_ok-with_load.ensures.local ∙ command)) in
-    IfOk-weaker c.with_device.result _ (λ r. (fields_of r).has_globals ≡ false) (λ r h. h ∙ chain) c.with_device.ensures.local
+    let idle = arg_makes c.flag.result (flag_rule (codes "until-idle")) c.with_load-drive.result c.with-drive.result c.flag.ensures.rule c.flag.ensures.local c.with-drive.ensures in
+    let show = arg_makes c.flag-2.result (flag_rule (codes "show")) c.with-drive.result c.with-drive-2.result c.flag-2.ensures.rule c.flag-2.ensures.local c.with-drive-2.ensures in
+    made_local all c.after_help-drive.result c.with_device.result command
+    (whole (Ok c.after_help-drive.result) c.with_load-drive.result c.with-drive.result c.with-drive-2.result c.with_device.result c.with_load-drive.ensures idle show c.with_device.ensures)

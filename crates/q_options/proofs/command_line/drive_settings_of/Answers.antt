@@ -1,4 +1,4 @@
-use Rattle.std.proofs.Common.{rules, arith, inl, inr, codes, ◌≡◌, ◌≤◌, ◌<◌}
+use Rattle.std.proofs.Common.{rules, arith, ◌≡◌, ◌≤◌, ◌<◌}
 use Rattle.clap.specs.Words.{found_of, one_text}
 use Rattle.q_options.proofs.FoundOptions.{drive_out_of_range}
 use Rattle.q_options.proofs.command_line.drive_settings_of.Goals as goal

@@ -1,4 +1,4 @@
-use Rattle.std.proofs.Common.{Some, IfSome, IsNone, refl, sym, subst, codes}
+use Rattle.std.proofs.Common.{IfSome, IsNone, refl, sym, subst, codes}
 use Rattle.clap.specs.Words.{first_value, found_of, one_text, rows_of, subcommand_rows_of}
 use Rattle.q_options.specs.CommandLine.{HasBadDriveOption, HasBadOption, HasDriveOptionsOf, HasPlayOptionsOf, written_in}
 use Rattle.q_options.proofs.FoundOptions.{command_found, drive_refused, play_refused, texts_are, written_are}
