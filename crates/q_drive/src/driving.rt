@@ -1,8 +1,11 @@
-ghost use Rattle.std.specs.Prelude.{◌≡◌, IfSome};
+ghost use Rattle.std.specs.Prelude.{◌≡◌, ◌+◌, ◌*◌, map, IfSome};
 ghost use Rattle.q_device.specs.DeviceLaws.{IsLawfulDevice, IsReplayed, IsReplayOfRecorded};
 ghost use Rattle.q_drive.specs.Drained.{IsDrainedIf};
 ghost use Rattle.q_drive.specs.Driven.{HasDriven};
+ghost use Rattle.q_drive.specs.Loads.{AreLoads};
 ghost use Rattle.q_model.specs.Tally.{no_totals};
+ghost use Rattle.q_ports.specs.Driven.{packets_of};
+ghost use Rattle.q_ports.specs.Held.{held};
 
 use crate::draining::drain_if;
 use crate::driven::Driven;
@@ -11,9 +14,9 @@ use crate::loads::loads;
 use crate::settings::DriveSettings;
 use q_device::Device;
 use q_device::laws::{device_is_lawful, device_is_replayed};
-use q_packet::Moment;
+use q_packet::{Moment, Packet};
 use q_ports::laws::{booked_is_replayed, settled};
-use q_ports::{Booked, Settled, Unsettled, drive, open_ports};
+use q_ports::{Booked, Seat, Settled, Unsettled, drive, open_ports};
 use std::alloc::Global;
 use std::marker::Brand;
 use std::sync::ledger::{Blank, Ledger};
@@ -58,24 +61,62 @@ fn drive_booked<P: Ledger + Send + Sync, B: Ledger + Send + Sync, R: Threads + W
     requires bytes { (bytes.name ≡ B.name) × (bytes.parts ≡ B.parts) × (B.parts ≡ 65) }
     ensures { IfSome result (HasDriven settings.now) }
 {
-    settings.ranges();
-    let Ok(loads) = loads(alloc, settings) else {
-        return None;
-    };
     let (booked, seat) = Booked::<P, B>::new(device, packets, bytes);
+    let lock = Mutex::new(booked);
+    let driven = drive_seat(rt, alloc, &lock, seat, settings)?;
+    let booked = lock.into_inner();
+    Some(ended(
+        booked,
+        driven.settled,
+        driven.given_up,
+        settings.until_idle(),
+    ))
+}
+
+/// Lets the senders run over the device behind this lock. It is lent, so that no way out has to drop the device.
+fn drive_seat<P: Ledger + Send + Sync, B: Ledger + Send + Sync, R: Threads + Wait + Sync>(
+    rt: &R,
+    alloc: Global,
+    lock: &Mutex<Booked<P, B>>,
+    seat: Seat<P, B>,
+    settings: &DriveSettings,
+) -> Option<q_ports::Driven<P, B>>
+    requires parts { (P.parts ≡ 65) × (B.parts ≡ 65) }
+    requires seat { seat ≡ held 65 0 0 }
+    ensures all { IfSome result (λ d. d.settled.packets + d.given_up ≡ settings.now.senders * settings.now.count) }
+    ensures bytes { IfSome result (λ d. d.settled.bytes ≡ d.settled.packets * settings.now.len) }
+{
+    match loads(alloc, settings) {
+        Ok(loads) => drive_loads(rt, alloc, lock, seat, loads, settings),
+        Err(_) => None,
+    }
+}
+
+/// The same, with the loads of the senders in hand.
+fn drive_loads<P: Ledger + Send + Sync, B: Ledger + Send + Sync, R: Threads + Wait + Sync>(
+    rt: &R,
+    alloc: Global,
+    lock: &Mutex<Booked<P, B>>,
+    seat: Seat<P, B>,
+    loads: Vec<Vec<Packet>>,
+    settings: &DriveSettings,
+) -> Option<q_ports::Driven<P, B>>
+    requires parts { (P.parts ≡ 65) × (B.parts ≡ 65) }
+    requires seat { seat ≡ held 65 0 0 }
+    requires loads { AreLoads settings.now settings.now.senders (map packets_of loads.items) }
+    ensures all { IfSome result (λ d. d.settled.packets + d.given_up ≡ settings.now.senders * settings.now.count) }
+    ensures bytes { IfSome result (λ d. d.settled.bytes ≡ d.settled.packets * settings.now.len) }
+{
+    settings.ranges();
     let (count, ring) = (settings.senders(), settings.ring());
     let Ok((drain, ports, _gauges)) = open_ports(rt, alloc, seat, count, ring, 0) else {
         return None;
     };
-    let lock = Mutex::new(booked);
     let start = Moment::zero();
     match drive(
-        rt, alloc, &lock, drain, ports, loads, &FreeGate, start, STEP, TRIES,
+        rt, alloc, lock, drain, ports, loads, &FreeGate, start, STEP, TRIES,
     ) {
-        Ok(driven) => {
-            let (booked, share) = (lock.into_inner(), driven.settled);
-            Some(ended(booked, share, driven.given_up, settings.until_idle()))
-        }
+        Ok(driven) => Some(driven),
         Err(
             Unsettled {
                 drain,

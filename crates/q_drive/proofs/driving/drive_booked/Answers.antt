@@ -1,21 +1,13 @@
-use Rattle.std.proofs.Common.{◌∙◌, Bool, [], ap, sym, subst, map, replicate}
-use Rattle.q_ports.specs.Driven.{packets_of}
+use Rattle.std.proofs.Common.{◌∙◌, Bool, sym, subst}
 use Rattle.q_drive.specs.Drained.{IsDrainedIf}
-use Rattle.q_drive.proofs.Accounts.{accounted}
 use Rattle.q_drive.proofs.driving.drive_booked.Goals as goal
 
-pub returns-in-Ok-drive : goal.returns-in-Ok-drive
-returns-in-Ok-drive g c =
-    let s = c.args.settings.now in
-    let opened = c.in-Ok-open_ports in
-    let driven = c.in-Ok-drive in
+pub returns : goal.returns
+returns g c =
     let ended = c.ended.ensures in
-    let count = c.senders-count.ensures in
-    let a = accounted s opened.ports.items (map packets_of c.in-Ok.loads.items) driven.driven.settled driven.driven.given_up c.ranges-2.ensures
-    (opened.ensures.count ∙ count) (opened.ensures.placed ∙ ap (λ n. replicate n []) count) c.in-Ok.ensures driven.ensures.driven in
     record {
-      all = rw (ended.settled, ended.given_up) a.all;
-      bytes = rw (ended.settled) a.bytes;
+      all = rw (ended.settled, ended.given_up) c.in_ok-driven.ensures.all;
+      bytes = rw (ended.settled) c.in_ok-driven.ensures.bytes;
       arrived = ended.arrived ∙ sym ended.settled;
       left = c.into_inner-booked.result;
       left_arrived = ended.left ∙ sym ended.settled;
