@@ -17,7 +17,7 @@ use Rattle.q_show.specs.Written.{AppendsFront}
 use Rattle.q_show.specs.declared.writes.Writes.{Writes}
 use Rattle.q_drive.specs.Drive.{Drive}
 use Rattle.q_drive.specs.Driven.{HasDriven}
-use Rattle.q_drive.specs.Reported.{IsDriven, IsPartlyDriven, outcome, set_up}
+use Rattle.q_drive.specs.Reported.{IsDriven, IsPartlyDriven, outcome, outcome_with, set_up}
 use Rattle.q_drive.specs.SetUp.{effect_of}
 use Rattle.q_drive.specs.Texts.{ending_text}
 use Rattle.q_drive.specs.declared.driven.Driven.{Driven}
@@ -28,11 +28,6 @@ in-turn o₀ o₁ o₂ a b first second = second ∙ (ap (λ (o : List ℕ). o +
 
 abbrev pub is_refused : SessionSeen → Bool
 is_refused s = s.state.refused
-
--- the outcome of the script, or Refused where the senders came to nothing
-abbrev pub outcome_with : Option Driven → Outcome → Outcome
-outcome_with None told = Refused
-outcome_with (Some d) told = told
 
 told_is : (s : Drive) (script starved : List ℕ) (told : Outcome) (driven : Option Driven) → told ≡ (if (set_up s script starved).session.state.refused then Refused else Clean) → outcome_with driven told ≡ outcome s script starved driven
 told_is s script starved told None e = refl

@@ -39,3 +39,21 @@ pub record IsPartlyDriven (s : Drive) (script : List ℕ) (old new : Option (Lis
   pub driven : Option Driven
   pub has_driven : IfSome driven (HasDriven s)
   pub text : AppendsFront old new (report s script starved driven)
+
+-- the outcome of the script, or Refused where memory was refused to the senders
+abbrev pub outcome_with : Option Driven → Outcome → Outcome
+outcome_with None told = Refused
+outcome_with (Some d) told = told
+
+-- what the senders came to was written behind the report of a script with this outcome
+pub record IsEnded (s : Drive) (before told : Outcome) (old new : Option (List ℕ)) : Type 0 where
+  pub driven : Option Driven
+  pub has_driven : IfSome driven (HasDriven s)
+  pub text : Appends old new (ending_text s.show driven)
+  pub outcome_is : told ≡ outcome_with driven before
+
+-- or a front of it
+pub record IsPartlyEnded (s : Drive) (old new : Option (List ℕ)) : Type 0 where
+  pub driven : Option Driven
+  pub has_driven : IfSome driven (HasDriven s)
+  pub text : AppendsFront old new (ending_text s.show driven)

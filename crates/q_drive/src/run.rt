@@ -1,16 +1,21 @@
-ghost use Rattle.std.specs.Prelude.{◌≡◌, ◌≤◌, ◌<◌, length, IfOk, IfSome, OnOk, Err};
-ghost use Rattle.std.specs.Io.KnownBytes.{Keeps};
-ghost use Rattle.q_drive.specs.Reported.{IsDriven, IsPartlyDriven};
+ghost use Rattle.std.specs.Prelude.{◌≡◌, ◌≤◌, ◌<◌, [], length, IfErr, IfOk, IfSome, OnErr, OnOk, Err};
+ghost use Rattle.std.specs.Io.KnownBytes.{Appends, Keeps};
+ghost use Rattle.q_drive.specs.Reported.{IsDriven, IsEnded, IsPartlyDriven, IsPartlyEnded, outcome_with};
+ghost use Rattle.q_drive.specs.Texts.{ending_text};
+ghost use Rattle.q_model.specs.Tally.{no_totals};
 ghost use Rattle.q_script.specs.Ended.{Ended};
 ghost use Rattle.q_script.specs.Reads.{no_reads};
-ghost use Rattle.q_show.specs.Writes.{no_writes};
+ghost use Rattle.q_show.specs.Writes.{no_writes, MayWrite, WriteFailed};
+ghost use Rattle.q_show.specs.Written.{AppendsFront};
 
+use crate::driven::Driven;
 use crate::driving::drive_device;
 use crate::ending::write_ending;
 use crate::set_up::SetUp;
 use crate::settings::DriveSettings;
+use q_device::Device;
 use q_script::{Outcome, Output, RunFault, Source};
-use q_show::Target;
+use q_show::{Target, WriteFault};
 use std::alloc::Global;
 use std::io::{ErrorKind, Read, Write};
 use std::sync::Wait;
@@ -49,9 +54,56 @@ pub fn run_drive_between<H: Threads + Wait + Sync, R: Read, W: Write>(
         return Err(RunFault::Memory);
     };
     let outcome = q_script::run_between(alloc, source, target, &mut set_up)?;
-    let driven = drive_device(rt, alloc, set_up.into_device(), &settings);
-    if let Err(fault) = write_ending(&driven, settings.show(), &mut output, target) {
-        return Err(RunFault::Write(fault.kind));
+    let device = set_up.into_device();
+    match drive_and_write(rt, alloc, device, &settings, outcome, &mut output, target) {
+        Ok(outcome) => Ok(outcome),
+        Err(fault) => Err(RunFault::Write(fault.kind)),
+    }
+}
+
+/// Lets the senders run over a device, and writes what they came to behind a report with this outcome. What they came to is dropped
+/// here, where nothing else is owned.
+fn drive_and_write<H: Threads + Wait + Sync, W: Write>(
+    rt: &H,
+    alloc: Global,
+    device: Device,
+    settings: &DriveSettings,
+    outcome: Outcome,
+    output: &mut Output,
+    target: &mut Target<'_, W>,
+) -> Result<Outcome, WriteFault>
+    requires nothing { device.device.tree.top.arrived ≡ no_totals }
+    requires empty { output.old ≡ [] }
+    requires going { MayWrite target.old.writes }
+    ensures same_writer { target.new.writer.ghost_name ≡ target.old.writer.ghost_name }
+    ensures ok { IfOk result (λ told. IsEnded settings.now outcome told (W.contents target.old.writer.now) (W.contents target.new.writer.now)) }
+    ensures err { OnErr result (IsPartlyEnded settings.now (W.contents target.old.writer.now) (W.contents target.new.writer.now)) }
+    ensures going { OnOk result (MayWrite target.new.writes) }
+    ensures failed { IfErr result (λ fault. WriteFailed target.new.writes fault.kind) }
+{
+    let driven = drive_device(rt, alloc, device, settings);
+    write_driven(&driven, settings.show(), outcome, output, target)
+}
+
+/// Writes what the senders came to behind a report with this outcome, and answers the outcome of the whole.
+fn write_driven<W: Write>(
+    driven: &Option<Driven>,
+    show: bool,
+    outcome: Outcome,
+    output: &mut Output,
+    target: &mut Target<'_, W>,
+) -> Result<Outcome, WriteFault>
+    requires empty { output.old ≡ [] }
+    requires going { MayWrite target.old.writes }
+    ensures same_writer { target.new.writer.ghost_name ≡ target.old.writer.ghost_name }
+    ensures outcome { IfOk result (λ told. told ≡ outcome_with driven.now outcome) }
+    ensures ok { OnOk result (Appends (W.contents target.old.writer.now) (W.contents target.new.writer.now) (ending_text show driven.now)) }
+    ensures err { OnErr result (AppendsFront (W.contents target.old.writer.now) (W.contents target.new.writer.now) (ending_text show driven.now)) }
+    ensures going { OnOk result (MayWrite target.new.writes) }
+    ensures failed { IfErr result (λ fault. WriteFailed target.new.writes fault.kind) }
+{
+    if let Err(fault) = write_ending(driven, show, output, target) {
+        return Err(fault);
     }
     match driven {
         Some(_) => Ok(outcome),

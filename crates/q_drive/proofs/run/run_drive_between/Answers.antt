@@ -1,5 +1,4 @@
-use Rattle.std.proofs.Common.{◌≡◌, ◌∙◌, Bool, IfSome, Option, Some, None, Result, Ok, Err, sym, ap, subst}
-use Rattle.std.specs.Io.KnownBytes.{Appends}
+use Rattle.std.proofs.Common.{◌≡◌, ◌∙◌, IfSome, Result, Ok, Err, sym, ap, subst}
 use Rattle.std.specs.Result.{IsErrAnd}
 use Rattle.std.specs.declared.io.ErrorKind.{ErrorKind}
 use Rattle.q_script.specs.Ended.{Ended}
@@ -8,11 +7,8 @@ use Rattle.q_script.specs.declared.reads.Reads.{Reads}
 use Rattle.q_script.specs.declared.run_fault.RunFault.{RunFault}
 use Rattle.q_script.specs.declared.run_fault.RunFault.TheVariants.{Write}
 use Rattle.q_session.specs.Session.{opened}
-use Rattle.q_show.specs.Written.{AppendsFront}
 use Rattle.q_show.specs.declared.writes.Writes.{Writes}
-use Rattle.q_drive.specs.Driven.{HasDriven}
-use Rattle.q_drive.specs.Texts.{ending_text}
-use Rattle.q_drive.specs.declared.driven.Driven.{Driven}
+use Rattle.q_drive.specs.Reported.{IsDriven}
 use Rattle.q_drive.proofs.Reporting.{ended-failed, ended-ok, told-ending, told-lines, told-whole}
 use Rattle.q_drive.proofs.run.run_drive_between.Goals as goal
 
@@ -28,12 +24,12 @@ pub returns-in_err-outcome-clause-ended : goal.returns-in_err-outcome-clause-end
 returns-in_err-outcome-clause-ended g c =
     ended_on c.from_residual.result c.in_err-outcome.field-0.0 _ _ c.from_residual.ensures.1 c.in_err-outcome.ensures.ended
 
-pub returns-in-Err-clause-ended : goal.returns-in-Err-clause-ended
-returns-in-Err-clause-ended g c = ended-failed c.in_ok-outcome.outcome _ _ _ _ c.in_ok-outcome.ensures.ended c.in-Err.ensures.failed
+pub returns-clause-ended : goal.returns-clause-ended
+returns-clause-ended g c = ended-failed c.in_ok-outcome.outcome _ _ _ _ c.in_ok-outcome.ensures.ended c.in-Err.ensures.failed
 
-pub returns-in-Some-clause-ended : goal.returns-in-Some-clause-ended
-returns-in-Some-clause-ended g c =
-    ended-ok c.in_ok-outcome.outcome c.in_ok-outcome.outcome _ _ _ c.in_ok-outcome.ensures.ended c.in_default-write_ending.ensures.going
+pub returns-in-Ok-drive_and_write-clause-ended : goal.returns-in-Ok-drive_and_write-clause-ended
+returns-in-Ok-drive_and_write-clause-ended g c =
+    ended-ok c.in_ok-outcome.outcome c.in-Ok-drive_and_write.outcome _ _ _ c.in_ok-outcome.ensures.ended c.in-Ok-drive_and_write.ensures.going
 
 pub returns-in_err-outcome-clause-partly : goal.returns-in_err-outcome-clause-partly
 returns-in_err-outcome-clause-partly g c = λ kind told.
@@ -41,30 +37,19 @@ returns-in_err-outcome-clause-partly g c = λ kind told.
     c.in-Ok-open.set_up (c.in-Ok-open.ensures.new ∙ ap opened c.device.ensures)
     (c.in_err-outcome.ensures.partly kind (ap Err (passed_on c.from_residual.result c.in_err-outcome.field-0.0 kind c.from_residual.ensures.1 told)))
 
-pub returns-in-Err-clause-partly : goal.returns-in-Err-clause-partly
-returns-in-Err-clause-partly g c = λ kind told.
-    let driven = c.drive_device-driven.result in
-    let mid = g.W.Write.contents c.run_between.new.target.writer.now in
-    let new = g.W.Write.contents c.write_ending.new.target.writer.now in
-    let ending = subst (λ (b : Bool). AppendsFront mid new (ending_text b driven)) c.show.ensures c.in-Err.ensures.err in
-    told-ending (g.R.Read.remaining c.args.source.now.reader.now) c.args.settings driven c.in_ok-outcome.outcome (g.W.Write.contents c.args.target.now.writer.now) mid new
-    c.in-Ok-open.set_up (c.in-Ok-open.ensures.new ∙ ap opened c.device.ensures) c.drive_device-driven.ensures ending c.in_ok-outcome.ensures.report
+pub returns-clause-partly : goal.returns-clause-partly
+returns-clause-partly g c = λ kind told.
+    let ended = c.in-Err.ensures.err in
+    told-ending (g.R.Read.remaining c.args.source.now.reader.now) c.args.settings ended.driven c.in_ok-outcome.outcome (g.W.Write.contents c.args.target.now.writer.now)
+    (g.W.Write.contents c.run_between.new.target.writer.now) (g.W.Write.contents c.drive_and_write.new.target.writer.now)
+    c.in-Ok-open.set_up (c.in-Ok-open.ensures.new ∙ ap opened c.device.ensures) ended.has_driven ended.text c.in_ok-outcome.ensures.report
 
-pub returns-in-Some-clause-report : goal.returns-in-Some-clause-report
-returns-in-Some-clause-report g c =
-    let mid = g.W.Write.contents c.run_between.new.target.writer.now in
-    let new = g.W.Write.contents c.write_ending.new.target.writer.now in
-    let asked = subst (λ (b : Bool). Appends mid new (ending_text b c.drive_device-driven.result)) c.show.ensures c.in_default-write_ending.ensures.ok in
-    told-whole (g.R.Read.remaining c.args.source.now.reader.now) c.args.settings (Some c.in-Some.field-0) c.in_ok-outcome.outcome (g.W.Write.contents c.args.target.now.writer.now) mid new
-    c.in-Ok-open.set_up (c.in-Ok-open.ensures.new ∙ ap opened c.device.ensures)
-    (subst (λ (d : Option Driven). IfSome d (HasDriven c.args.settings)) c.in-Some.is c.drive_device-driven.ensures)
-    (subst (λ (d : Option Driven). Appends mid new (ending_text c.args.settings.show d)) c.in-Some.is asked) c.in_ok-outcome.ensures.report
-
-pub returns-clause-report : goal.returns-clause-report
-returns-clause-report g c =
-    let mid = g.W.Write.contents c.run_between.new.target.writer.now in
-    let new = g.W.Write.contents c.write_ending.new.target.writer.now in
-    let asked = subst (λ (b : Bool). Appends mid new (ending_text b c.drive_device-driven.result)) c.show.ensures c.in_default-write_ending.ensures.ok in
-    told-whole (g.R.Read.remaining c.args.source.now.reader.now) c.args.settings None c.in_ok-outcome.outcome (g.W.Write.contents c.args.target.now.writer.now) mid new
-    c.in-Ok-open.set_up (c.in-Ok-open.ensures.new ∙ ap opened c.device.ensures) tt
-    (subst (λ (d : Option Driven). Appends mid new (ending_text c.args.settings.show d)) c.in-None.is asked) c.in_ok-outcome.ensures.report
+pub returns-in-Ok-drive_and_write-clause-report : goal.returns-in-Ok-drive_and_write-clause-report
+returns-in-Ok-drive_and_write-clause-report g c =
+    let had = g.R.Read.remaining c.args.source.now.reader.now in
+    let old = g.W.Write.contents c.args.target.now.writer.now in
+    let new = g.W.Write.contents c.drive_and_write.new.target.writer.now in
+    let ended = c.in-Ok-drive_and_write.ensures.ok in
+    subst (λ (told : Outcome). IfSome had (λ all. IsDriven c.args.settings all told old new)) (sym ended.outcome_is)
+    (told-whole had c.args.settings ended.driven c.in_ok-outcome.outcome old (g.W.Write.contents c.run_between.new.target.writer.now) new
+    c.in-Ok-open.set_up (c.in-Ok-open.ensures.new ∙ ap opened c.device.ensures) ended.has_driven ended.text c.in_ok-outcome.ensures.report)
