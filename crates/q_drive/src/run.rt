@@ -82,11 +82,11 @@ fn drive_and_write<H: Threads + Wait + Sync, W: Write>(
     ensures failed { IfErr result (λ fault. WriteFailed target.new.writes fault.kind) }
 {
     let driven = drive_device(rt, alloc, device, settings);
-    write_driven(&driven, settings.show(), outcome, output, target)
+    write_end(&driven, settings.show(), outcome, output, target)
 }
 
 /// Writes what the senders came to behind a report with this outcome, and answers the outcome of the whole.
-fn write_driven<W: Write>(
+fn write_end<W: Write>(
     driven: &Option<Driven>,
     show: bool,
     outcome: Outcome,
