@@ -45,6 +45,7 @@ impl HeadDraft {
     }
 
     /// Whether a part that has a value has been given.
+    #[inline(always)]
     fn has(&self, option: HeadOption) -> bool
         ensures { result ≡ head_has option self.now }
     {
@@ -60,6 +61,7 @@ impl HeadDraft {
     }
 
     /// Gives a part the value that a word is.
+    #[inline(always)]
     fn set(&mut self, option: HeadOption, word: &str) -> Result<(), Wrong>
         ensures ok { OnOk result ((verb : Verb) → head_fits (head_value_of option) verb self.old word.now ≡ Ok (head verb self.new)) }
         ensures err { IfErr result (λ e. (verb : Verb) → head_fits (head_value_of option) verb self.old word.now ≡ Err e) }
@@ -84,6 +86,7 @@ impl HeadDraft {
     }
 
     /// Reads the value of a part, which may be given once, behind its name.
+    #[inline(always)]
     pub fn read(&mut self, words: &mut Words, option: HeadOption) -> Result<(), LineFault>
         ensures once { OnOk result (head_has option self.old ≡ false) }
         ensures ok { OnOk result ((verb : Verb) → rest_of (head_value (head_value_of option) verb self.old) (suc words.old.taken) (words_in words.old.rest.now)

@@ -40,6 +40,7 @@ impl TbfDraft {
     }
 
     /// Whether the option, or the one that it is one with, has been given.
+    #[inline(always)]
     fn has(&self, option: TbfOption) -> bool
         ensures { result ≡ tbf_has option self.now }
     {
@@ -51,6 +52,7 @@ impl TbfDraft {
     }
 
     /// Gives the option the value that a word is.
+    #[inline(always)]
     fn set(&mut self, option: TbfOption, word: &[u8]) -> Result<(), Wrong>
         ensures ok { OnOk result ((verb : QdiscVerb) (head : HeadDraft)
             → option_fits (tbf_value_of option) verb head Tbf (tbf_draft self.old) word.now ≡ Ok (options verb head Tbf (tbf_draft self.new))) }
@@ -76,6 +78,7 @@ impl TbfDraft {
     }
 
     /// Reads the value of an option, which may be given once, behind its name.
+    #[inline(always)]
     pub fn read(&mut self, words: &mut Words, option: TbfOption) -> Result<(), LineFault>
         ensures once { OnOk result (tbf_has option self.old ≡ false) }
         ensures ok { OnOk result ((verb : QdiscVerb) (head : HeadDraft)
