@@ -1,4 +1,4 @@
-//! Plays scripts by the program and by plain Rust, and compares what both answer. `./disagree` builds and runs it.
+//! Plays scripts by the program and by plain Rust, and compares what both answer. `tools/disagree` builds and runs it.
 
 mod change;
 mod commands;

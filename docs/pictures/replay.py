@@ -1,4 +1,4 @@
-"""Reads a script and its report for ./picture, and says of each packet when it arrived, and when it was sent or lost."""
+"""Reads a script and its report for tools/picture, and says of each packet when it arrived, and when it was sent or lost."""
 import collections
 import ipaddress
 import math
