@@ -1,6 +1,9 @@
 //! Finds libqtree.a: in the folder that QTREE_LIB names, else where `make -C embed/c` leaves it.
-use std::env;
 use std::path::PathBuf;
+use std::{env, fs};
+
+/// What a library without proofs defines.
+const NOT_PROVED: &[u8] = b"qtree_not_proved";
 
 fn main() {
     println!("cargo::rerun-if-env-changed=QTREE_LIB");
@@ -9,12 +12,15 @@ fn main() {
     let folder = named.unwrap_or_else(|| crate_folder.join("../c/build"));
     let library = folder.join("libqtree.a");
     println!("cargo::rerun-if-changed={}", library.display());
-    if !library.exists() {
+    let Ok(bytes) = fs::read(&library) else {
         println!(
-            "cargo::error=the library {} is missing: build it by `rt lib` in crates/qtree_c and `make` in embed/c, or name the folder of a libqtree.a in QTREE_LIB",
+            "cargo::error=the library {} cannot be read: build it by `rt lib` in crates/qtree_c (or, without proofs, `embed/library --unproved`) and `make` in embed/c, or name the folder of a libqtree.a in QTREE_LIB",
             library.display()
         );
         return;
+    };
+    if bytes.windows(NOT_PROVED.len()).any(|it| it == NOT_PROVED) {
+        println!("cargo::warning={} is NOT proved", library.display());
     }
     println!("cargo::rustc-link-search=native={}", folder.display());
     println!("cargo::rustc-link-lib=static=qtree");
