@@ -8,7 +8,8 @@ import math
 import pathlib
 import sys
 
-WIDTH, HEIGHT, LEFT, RIGHT, TOP, BOTTOM = 800, 360, 64, 784, 72, 310
+WIDTH, HEIGHT, LEFT, RIGHT, TOP, BOTTOM = 800, 400, 64, 784, 110, 350
+CAUSES = ("TooLong", "NoClass", "OverLimit", "CoDel", "FatFlow", "Purged")
 COLOURS = ("#d55e00", "#0072b2", "#009e73")
 STYLE = """
 text{font:11px sans-serif;fill:#222}.title{font-size:15px;font-weight:bold}.axis{font-size:12px}
@@ -28,12 +29,23 @@ def curve(colour, points):
 
 
 def legend(entries):
-    """A row of colours and names beneath the title."""
-    made, x = [], LEFT
-    for colour, words in entries:
-        made += [line(x, 40, x + 12, 40, f'class="key" style="stroke:{colour}"'), text(x + 18, 44, words)]
-        x += 44 + 6 * len(words)
+    """A line of a colour and a name for each entry, below the title."""
+    made = []
+    for number, (colour, words) in enumerate(entries):
+        y = 40 + 16 * number
+        made += [line(LEFT, y, LEFT + 12, y, f'class="key" style="stroke:{colour}"'), text(LEFT + 18, y + 4, words)]
     return made
+
+
+def cross(x, y, colour):
+    style = f'style="stroke:{colour};stroke-width:1.6"'
+    return line(x - 4, y - 4, x + 4, y + 4, style) + line(x - 4, y + 4, x + 4, y - 4, style)
+
+
+def losses_of(one):
+    """How many frames were lost by each cause, in the direction of the downloads."""
+    totals = one["totals"][0]
+    return ", ".join(f"{totals[it]} lost by {it}" for it in CAUSES if totals.get(it)) or "none lost"
 
 
 def seconds_axis(left, right, last):
@@ -58,7 +70,7 @@ def written(path, title, axis, made):
 
 
 def delays(found, path):
-    """On a scale of powers of ten, as one curve is a hundred times as high as the others."""
+    """On a scale of powers of ten, as one curve is a thousand times as high as the others; a cross at the top is a ping without an answer."""
     last = max(at for it in found for at, _ in it["pings"])
     least = math.log10(0.9 * min(ms for it in found for _, ms in it["pings"]))
     most = math.ceil(math.log10(max(ms for it in found for _, ms in it["pings"])))
@@ -72,9 +84,13 @@ def delays(found, path):
     entries = []
     for colour, one in zip(COLOURS, found):
         made.append(curve(colour, ((LEFT + (RIGHT - LEFT) * at / last, y(ms)) for at, ms in one["pings"])))
+        made += [cross(LEFT + (RIGHT - LEFT) * at / last, TOP + 6, colour) for at in one["unanswered_at"]]
         times = sorted(ms for _, ms in one["pings"])
-        entries.append((colour, f"{one['name']}: median {times[len(times) // 2]:.1f} ms"))
-    written(path, "Pings beside four TCP downloads through a tunnel of 20 Mbit/s", "round-trip time, ms", made + legend(entries))
+        median = times[len(times) // 2]
+        unanswered = f", {len(one['unanswered_at'])} pings unanswered (crosses)" if one["unanswered_at"] else ""
+        entries.append((colour, f"{one['name']}: median {median:.{0 if median >= 10 else 1}f} ms{unanswered}; {losses_of(one)}"))
+    title = "Pings beside four TCP downloads through a tunnel of 20 Mbit/s"
+    written(path, title, "round-trip time, ms, on a logarithmic scale", made + legend(entries))
 
 
 def shares(found, path):
