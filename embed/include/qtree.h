@@ -203,8 +203,9 @@ qtree_code qtree_poll(qtree_device *device, uint64_t now, qtree_packet *packet);
 qtree_code qtree_poll_many(qtree_device *device, uint64_t now, qtree_packet *packets, size_t room, size_t *count);
 
 /* The moment before which no poll gives a packet, as long as none arrives and no command comes: a program sleeps till then. It is
- * no earlier than the latest moment that counted. QTREE_NOTHING where none ever will: nothing is queued, or no token bucket will
- * ever hold enough.
+ * no earlier than the latest moment that counted. A poll at that moment may still answer QTREE_LATER: what an fq_codel gives, or which
+ * class of a drr, is not known before it is asked. The moment that follows is then a later one. QTREE_NOTHING where none ever will:
+ * nothing is queued, or no token bucket will ever hold enough.
  * QTREE_DONE, QTREE_NOTHING, QTREE_IS_CLOSED. */
 qtree_code qtree_ready_at(qtree_device *device, uint64_t *moment);
 

@@ -196,8 +196,11 @@ impl Device {
     /// The moment before which no poll gives a packet, as long as nothing arrives and no command comes; `None` where none ever will:
     /// nothing is queued, or no bucket will ever hold what waits for it. It is the clock where a poll may give one at once.
     ///
-    /// A poll at that moment gives a packet where the length that each tbf waits for is known: that of what its child has at
-    /// hand. It changes nothing and takes no memory, and looks at each node of the tree once at most.
+    /// A poll at that moment need not give one. It does where the tree is sure of it (`some`): where every packet that it waits for is
+    /// known, and no drr has to grant a quantum first. Else it may answer `Later`, and then the moment that follows is later: an
+    /// fq_codel that was not asked yet may drop what it would have given, and a drr may pass its turn to another class.
+    ///
+    /// It changes nothing and takes no memory, and looks at each node of the tree once at most.
     pub fn ready_at(&self) -> Option<Moment>
         ensures value { result ≡ ready_at self.now.device.clock self.now.device.tree.root }
         ensures from { IfSome result (λ at. self.now.device.clock ≤ at) }

@@ -10,8 +10,10 @@ use Rattle.q_device.specs.DeviceSeen.{DeviceSeen, Memory}
 use Rattle.q_ports.specs.Collected.{Received, received_one, arrived_one, Collects, HasReceived}
 use Rattle.q_ports.specs.Events.{with_memory}
 use Rattle.q_ports.specs.Rings.{RingSeen, received_from}
+use Rattle.q_ports.specs.Room.{KeepsPlaces, StaysButForPlaces}
 use Rattle.q_ports.specs.Stopped.{HasNoRoomForNext, Stops}
 use Rattle.q_ports.proofs.EventLemmas.{after-memory}
+use Rattle.q_ports.proofs.RoomLemmas.{keeps-same, keeps-then}
 
 pub length-received : (rs : List (List Descriptor)) (ts : List Received) → length (fold received_one rs ts) ≡ length rs
 length-received rs [] = refl
@@ -22,16 +24,22 @@ fold-memory now m d [] = refl
 fold-memory now m d (t ∷ ts) = ap (λ (x : DeviceSeen). fold (arrived_one now) x ts) (after-memory (Arrive t.packet now) m d) ∙ fold-memory now m (arrived_one now d t) ts
 
 pub collects-none : (now : ℕ) (rs : List (List Descriptor)) (d : DeviceSeen) → Collects now rs rs d d 0
-collects-none now rs d = record { takes = []; counted = refl; rings = All-nil (λ (t : Received). t.ring < length rs); received = refl; arrived = refl }
+collects-none now rs d = record { takes = []; counted = refl; rings = All-nil (λ (t : Received). t.ring < length rs); received = refl; arrived = refl; places = keeps-same d }
 
 -- what happens to places is no event
-pub collects-memory : (now : ℕ) (rs rs' : List (List Descriptor)) (d d1 d2 : DeviceSeen) (n : ℕ) → Collects now rs rs' d d1 n → d2 ≡ with_memory d2.memory d1 → Collects now rs rs' d d2 n
-collects-memory now rs rs' d d1 d2 n c e =
-    record { takes = c.takes; counted = c.counted; rings = c.rings; received = c.received; arrived = e ∙ ap (λ (x : DeviceSeen). with_memory d2.memory x) c.arrived }
+pub collects-memory : (now : ℕ) (rs rs' : List (List Descriptor)) (d d1 d2 : DeviceSeen) (n : ℕ) → Collects now rs rs' d d1 n → StaysButForPlaces d1 d2 → Collects now rs rs' d d2 n
+collects-memory now rs rs' d d1 d2 n c s = record {
+  takes = c.takes;
+  counted = c.counted;
+  rings = c.rings;
+  received = c.received;
+  arrived = s.stays ∙ ap (λ (x : DeviceSeen). with_memory d2.memory x) c.arrived;
+  places = keeps-then d d1 d2 c.places s.places;
+}
 
 pub collects-more : (now : ℕ) (rs rs1 rs2 : List (List Descriptor)) (d d1 d2 : DeviceSeen) (n : ℕ) (t : Received) → Collects now rs rs1 d d1 n → t.ring < length rs1 → rs2 ≡ received_one rs1 t
-    → d2 ≡ with_memory d2.memory (arrived_one now d1 t) → Collects now rs rs2 d d2 (n + 1)
-collects-more now rs rs1 rs2 d d1 d2 n t c within more arrives =
+    → d2 ≡ with_memory d2.memory (arrived_one now d1 t) → KeepsPlaces d1 d2 → Collects now rs rs2 d d2 (n + 1)
+collects-more now rs rs1 rs2 d d1 d2 n t c within more arrives places =
     let same : length rs1 ≡ length rs = ap (λ (xs : List (List Descriptor)). length xs) c.received ∙ length-received rs c.takes in
     let long = length_push c.takes t in
     record {
@@ -44,6 +52,7 @@ collects-more now rs rs1 rs2 d d1 d2 n t c within more arrives =
           ∙ (ap (λ (x : DeviceSeen). with_memory d2.memory (arrived_one now x t)) c.arrived
           ∙ (ap (λ (x : DeviceSeen). with_memory d2.memory x) (after-memory (Arrive t.packet now) d1.memory (fold (arrived_one now) d c.takes))
           ∙ ap (λ (x : DeviceSeen). with_memory d2.memory x) (sym (fold_push (arrived_one now) d c.takes t))));
+      places = keeps-then d d1 d2 c.places places;
     }
 
 pub collects-then : (now : ℕ) (rs rs1 rs2 : List (List Descriptor)) (d d1 d2 : DeviceSeen) (n m : ℕ) → Collects now rs rs1 d d1 n → Collects now rs1 rs2 d1 d2 m → Collects now rs rs2 d d2 (n + m)
@@ -60,6 +69,7 @@ collects-then now rs rs1 rs2 d d1 d2 n m a b =
           ∙ (ap (λ (x : DeviceSeen). with_memory d2.memory (fold (arrived_one now) x b.takes)) a.arrived
           ∙ (ap (λ (x : DeviceSeen). with_memory d2.memory x) (fold-memory now d1.memory (fold (arrived_one now) d a.takes) b.takes)
           ∙ ap (λ (x : DeviceSeen). with_memory d2.memory x) (sym (fold-append (arrived_one now) d a.takes b.takes))));
+      places = keeps-then d d1 d2 a.places b.places;
     }
 
 pub collects-same : (now : ℕ) (a a' b b' : List (List Descriptor)) (d e e' : DeviceSeen) (n : ℕ) → a ≡ a' → b ≡ b' → e ≡ e' → Collects now a b d e n → Collects now a' b' d e' n
@@ -70,7 +80,7 @@ collects-same now a a' b b' d e e' n p q r c =
 
 -- a packet that was refused after some were collected
 pub stops-here : (now : ℕ) (before : List (List Descriptor)) (rings rings' : List RingSeen) (device full device' : DeviceSeen) (taken : ℕ) → Collects now before (map received_from rings) device full taken → (taken ≡ 0 → full ≡ device)
-    → map received_from rings' ≡ map received_from rings → HasNoRoomForNext full rings' → device' ≡ with_memory device'.memory full → Stops now before rings' device device' taken
+    → map received_from rings' ≡ map received_from rings → HasNoRoomForNext full rings' → StaysButForPlaces full device' → Stops now before rings' device device' taken
 stops-here now before rings rings' device full device' taken collected first same next stays = record {
   full = full;
   collected = subst (λ (rs : List (List Descriptor)). Collects now before rs device full taken) (sym same) collected;

@@ -10,9 +10,11 @@ use Rattle.q_model.specs.declared.totals.Totals.{Totals}
 use Rattle.q_device.specs.DeviceSeen.{DeviceSeen}
 use Rattle.q_ports.specs.Events.{with_memory}
 use Rattle.q_ports.specs.Rings.{RingSeen, with_known}
+use Rattle.q_ports.specs.Room.{StaysButForPlaces}
 use Rattle.q_ports.specs.TakenIn.{arrived_at, arriving, TakesFirst, TakesIn}
 use Rattle.q_ports.proofs.EventLemmas.{after-memory}
 use Rattle.q_ports.proofs.Prefixes.{prefix_self, prefix_trans}
+use Rattle.q_ports.proofs.RoomLemmas.{keeps-same, keeps-then}
 
 pub takes-none : (now : ℕ) (o : RingSeen) (d : DeviceSeen) → TakesIn now o o d d 0
 takes-none now o d = record {
@@ -24,6 +26,7 @@ takes-none now o d = record {
   arrived = refl;
   packets_counted = omega arith;
   bytes_counted = omega arith;
+  places = keeps-same d;
 }
 
 -- a look at the ring
@@ -37,6 +40,7 @@ takes-look now o o1 o2 d d1 n t e p = record {
   arrived = t.arrived;
   packets_counted = t.packets_counted;
   bytes_counted = t.bytes_counted;
+  places = t.places;
 }
 
 -- a packet more
@@ -64,17 +68,19 @@ takes-more now o o1 o2 d d1 d2 n t f =
           ∙ ap (λ (x : DeviceSeen). with_memory d2.memory x) (sym (fold_push (arriving now) d t.packets p))));
       packets_counted = omega (arith, long, one, t.packets_counted);
       bytes_counted = omega (arith, bytes, len, t.bytes_counted);
+      places = keeps-then d d1 d2 t.places f.places;
     }
 
 -- what happens to places is no event
-pub takes-memory : (now : ℕ) (o o1 : RingSeen) (d d1 d2 : DeviceSeen) (n : ℕ) → TakesIn now o o1 d d1 n → d2 ≡ with_memory d2.memory d1 → TakesIn now o o1 d d2 n
-takes-memory now o o1 d d1 d2 n t e = record {
+pub takes-memory : (now : ℕ) (o o1 : RingSeen) (d d1 d2 : DeviceSeen) (n : ℕ) → TakesIn now o o1 d d1 n → StaysButForPlaces d1 d2 → TakesIn now o o1 d d2 n
+takes-memory now o o1 d d1 d2 n t s = record {
   packets = t.packets;
   counted = t.counted;
   ring = t.ring;
   received = t.received;
   waited = t.waited;
-  arrived = e ∙ ap (λ (x : DeviceSeen). with_memory d2.memory x) t.arrived;
-  packets_counted = ap (λ (x : DeviceSeen). (arrived_at x).packets) e ∙ t.packets_counted;
-  bytes_counted = ap (λ (x : DeviceSeen). (arrived_at x).bytes) e ∙ t.bytes_counted;
+  arrived = s.stays ∙ ap (λ (x : DeviceSeen). with_memory d2.memory x) t.arrived;
+  packets_counted = ap (λ (x : DeviceSeen). (arrived_at x).packets) s.stays ∙ t.packets_counted;
+  bytes_counted = ap (λ (x : DeviceSeen). (arrived_at x).bytes) s.stays ∙ t.bytes_counted;
+  places = keeps-then d d1 d2 t.places s.places;
 }

@@ -6,6 +6,7 @@ use Rattle.q_packet.specs.Descriptor.{Descriptor}
 use Rattle.q_model.specs.declared.event.Event.TheVariants.{Arrive}
 use Rattle.q_device.specs.DeviceSeen.{DeviceSeen}
 use Rattle.q_ports.specs.Events.{after_event, with_memory}
+use Rattle.q_ports.specs.Room.{KeepsPlaces}
 
 -- a packet that was taken, and the ring that it came from
 pub record Received : Type 0 where
@@ -24,13 +25,14 @@ abbrev pub arrived_one : ℕ → DeviceSeen → Received → DeviceSeen
 arrived_one now d t = after_event (Arrive t.packet now) d
 
 -- So many packets were received, in some order of the rings, each after those that were received from its ring before. Each of
--- them arrived at the device, in the same order and with all its fields, and nothing else happened to the device.
+-- them arrived at the device, in the same order and with all its fields, and nothing else happened to the device, which lost no place.
 pub record Collects (now : ℕ) (before after : List (List Descriptor)) (device device' : DeviceSeen) (count : ℕ) : Type 0 where
   pub takes : List Received
   pub counted : length takes ≡ count
   pub rings : All (λ (t : Received). t.ring < length before) takes
   pub received : after ≡ fold received_one before takes
   pub arrived : device' ≡ with_memory device'.memory (fold (arrived_one now) device takes)
+  pub places : KeepsPlaces device device'
 
 -- So many packets were received, in some order of the rings, each after those that were received from its ring before.
 pub record HasReceived (before after : List (List Descriptor)) (count : ℕ) : Type 0 where

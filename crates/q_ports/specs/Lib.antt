@@ -1,5 +1,6 @@
 pub mod Collected
 pub mod Driven
+pub mod DriveTurns
 pub mod Events
 pub mod Held
 pub mod Offered
@@ -8,6 +9,7 @@ pub mod Placed
 pub mod Polls
 pub mod PortRanges
 pub mod Rings
+pub mod Room
 pub mod Rows
 pub mod Rules
 pub mod Stopped

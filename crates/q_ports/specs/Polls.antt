@@ -3,9 +3,13 @@
 use Rattle.std.specs.Prelude.{ℕ, zero, suc, List, [], ◌∷◌, Option, Some, None}
 use Rattle.q_packet.specs.Descriptor.{Descriptor}
 use Rattle.q_model.specs.declared.event.Event.TheVariants.{Poll}
-use Rattle.q_device.specs.DeviceSeen.{DeviceSeen}
+use Rattle.q_device.specs.DeviceSeen.{DeviceSeen, polled_memory}
 use Rattle.q_device.specs.Laws.{given_in}
-use Rattle.q_ports.specs.Events.{after_event, reply_to}
+use Rattle.q_ports.specs.Events.{after_event, reply_to, with_memory}
+
+-- the device after a poll, which takes no memory: the packets that it took have left the tree, and every place is still there
+unfoldable pub after_poll : ℕ → DeviceSeen → DeviceSeen
+after_poll now d = let after = after_event (Poll now) d in with_memory (polled_memory after.device.clock d.memory) after
 
 -- the packet that a poll gives, if any
 abbrev pub given_at : ℕ → DeviceSeen → Option Descriptor
@@ -24,9 +28,9 @@ or_last None last rest = last
 -- what so many polls at most give
 abbrev pub given_by : ℕ → ℕ → DeviceSeen → List Descriptor
 given_by zero now d = []
-given_by (suc n) now d = and_then (given_at now d) (given_by n now (after_event (Poll now) d))
+given_by (suc n) now d = and_then (given_at now d) (given_by n now (after_poll now d))
 
 -- the device after them
 abbrev pub polled : ℕ → ℕ → DeviceSeen → DeviceSeen
 polled zero now d = d
-polled (suc n) now d = or_last (given_at now d) (after_event (Poll now) d) (polled n now (after_event (Poll now) d))
+polled (suc n) now d = or_last (given_at now d) (after_poll now d) (polled n now (after_poll now d))

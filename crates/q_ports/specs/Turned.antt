@@ -6,7 +6,7 @@ use Rattle.q_device.specs.DeviceSeen.{DeviceSeen}
 use Rattle.q_model.specs.Conserved.{IsBalanced}
 use Rattle.q_model.specs.declared.row.Row.{Row}
 use Rattle.q_ports.specs.Collected.{Collects}
-use Rattle.q_ports.specs.Events.{device_row, with_memory}
+use Rattle.q_ports.specs.Events.{device_row}
 use Rattle.q_ports.specs.Polls.{given_by, polled}
 use Rattle.q_ports.specs.Rings.{received_from, AreSeenEmpty, RingSeen}
 use Rattle.q_ports.specs.Rows.{BoardSeen, RowHistorySeen, Publishes, Withholds}
@@ -15,7 +15,7 @@ use Rattle.q_ports.specs.declared.turn.Turn.{Turn}
 
 -- So many packets, `most` at most, were received from the rings and arrived, which makes the device that stands between. Where they
 -- are fewer and no allocation was refused, nothing waited in any ring as it was looked at last. One was refused only for a packet for
--- which the device had no room. Then come the polls.
+-- which the device had no room. Then come the polls, and nothing else.
 pub record Turned (now most : ℕ) (before after : List RingSeen) (device device' : DeviceSeen) (taken : ℕ) (refused : Bool) (sent : List Descriptor) : Type 0 where
   pub between : DeviceSeen
   pub collected : Collects now (map received_from before) (map received_from after) device between taken
@@ -23,7 +23,7 @@ pub record Turned (now most : ℕ) (before after : List RingSeen) (device device
   pub whole : refused ≡ false → taken < most → AreSeenEmpty after
   pub stopped : refused ≡ true → Stops now (map received_from before) after device between taken
   pub gives : sent ≡ given_by most now between
-  pub leaves : device' ≡ with_memory device'.memory (polled most now between)
+  pub leaves : device' ≡ polled most now between
 
 -- what a contract sees of a drain: its rings, and its board
 pub record DrainSeen : Type 0 where

@@ -1,11 +1,12 @@
 ghost use Rattle.std.specs.Prelude.{ℕ, ◌≡◌, ◌<◌, ◌≤◌, ◌^◌, true, None, IfNone, IfSome, IsSome, Ok, IsOk, IfOk, OnOk, OnErr, IfErr, slice_get, unwrap_or};
+ghost use Rattle.q_packet.specs.Descriptor.{Descriptor};
 ghost use Rattle.q_model.specs.Conserved.{IsBalanced};
 ghost use Rattle.q_model.specs.Tally.{no_totals};
 ghost use Rattle.q_model.specs.TreeState.{given, stats};
 ghost use Rattle.q_model.specs.Tally.{totals};
 ghost use Rattle.q_model.specs.declared.event.Event.TheVariants as event;
 ghost use Rattle.q_model.specs.declared.reply.Reply.TheVariants as reply;
-ghost use Rattle.q_device.specs.DeviceSeen.{polled_memory, reaped, HasRoomFor, IsRefusal};
+ghost use Rattle.q_device.specs.DeviceSeen.{polled_memory, reaped, HasNoFewerPlaces, HasRoomFor, IsCommanded, IsRefusal, IsRefusedAt};
 ghost use Rattle.q_device.specs.Giving.{polled_in};
 ghost use Rattle.q_tree.specs.Commanding.{MayTakeMemory};
 ghost use Rattle.q_tree.specs.ReadyAt.{is_sure, ready_at};
@@ -74,7 +75,8 @@ impl<P: Ledger, B: Ledger> Booked<P, B> {
     ///
     /// # Errors
     ///
-    /// Those of [`Device::arrive`]: the packet and `AllocError`. Nothing has changed then but for places.
+    /// Those of [`Device::arrive`]: the packet and `AllocError`. Nothing has changed then but for places: what there was room for there
+    /// is room for still.
     pub fn arrive(
         &mut self,
         seat: &mut Seat<P, B>,
@@ -88,6 +90,10 @@ impl<P: Ledger, B: Ledger> Booked<P, B> {
         ensures same_seat { OnErr result (seat.new ≡ seat.old) }
         ensures back { IfErr result (λ refused. refused.0 ≡ packet) }
         ensures succeeds { HasRoomFor packet self.old → IsOk result }
+        ensures places { self.old.memory.losses ≤ self.new.memory.losses }
+        ensures queues { HasNoFewerPlaces self.old.memory self.new.memory }
+        ensures keeps { OnErr result ((other : Descriptor) → HasRoomFor other self.old → HasRoomFor other self.new) }
+        ensures recorder { self.new.memory.events ≡ self.old.memory.events }
     {
         match self.arrive_at(seat, &packet, now) {
             Ok(fate) => Ok(fate),
@@ -112,6 +118,10 @@ impl<P: Ledger, B: Ledger> Booked<P, B> {
         ensures same { OnErr result (self.new ≡ with_memory self.new.memory self.old) }
         ensures same_seat { OnErr result (seat.new ≡ seat.old) }
         ensures succeeds { HasRoomFor packet.now self.old → IsOk result }
+        ensures places { self.old.memory.losses ≤ self.new.memory.losses }
+        ensures queues { HasNoFewerPlaces self.old.memory self.new.memory }
+        ensures keeps { OnErr result ((other : Descriptor) → HasRoomFor other self.old → HasRoomFor other self.new) }
+        ensures recorder { self.new.memory.events ≡ self.old.memory.events }
     {
         let fate = self.device.arrive_at(packet, now)?;
         self.packets.add(&mut seat.packets, 1);
@@ -138,9 +148,10 @@ impl<P: Ledger, B: Ledger> Booked<P, B> {
         self.device.poll_into(now, out)
     }
 
-    /// The moment before which no poll gives a packet, as [`Device::ready_at`].
+    /// The moment before which no poll gives a packet, as [`Device::ready_at`]. A poll at that moment need not give one.
     pub fn ready_at(&self) -> Option<Moment>
         ensures value { result ≡ ready_at self.now.device.clock self.now.device.tree.root }
+        ensures from { IfSome result (λ at. self.now.device.clock ≤ at) }
         ensures early { IfSome result (λ at. (t : ℕ) → self.now.device.clock ≤ t → t < at → given t self.now.device.tree ≡ None) }
         ensures some { is_sure self.now.device.clock self.now.device.tree.root ≡ true → IfSome result (λ at. IsSome (given at self.now.device.tree)) }
         ensures never { IfNone result ((t : ℕ) → self.now.device.clock ≤ t → t ≤ 2 ^ 62 → given t self.now.device.tree ≡ None) }
@@ -157,8 +168,10 @@ impl<P: Ledger, B: Ledger> Booked<P, B> {
         ensures event { OnOk result (self.new ≡ with_memory self.new.memory (after_event (event.Command command now) self.old)) }
         ensures reply { OnOk result (reply.Done (Ok (record {})) ≡ reply_to (event.Command command now) self.old) }
         ensures refused { IfErr result (IsRefusal (MayTakeMemory command) (reply_to (event.Command command now) self.old)) }
+        ensures memory { IfErr result (IsRefusedAt command now self.old) }
         ensures same { OnErr result (self.new ≡ self.old) }
         ensures places { self.new.memory.losses ≡ self.old.memory.losses }
+        ensures queues { OnOk result (IsCommanded command self.new.device.clock self.old.memory self.new.memory) }
         ensures recorder { self.new.memory.events ≡ self.old.memory.events }
         ensures arrived { self.new.device.tree.top.arrived ≡ self.old.device.tree.top.arrived }
     {
@@ -169,6 +182,7 @@ impl<P: Ledger, B: Ledger> Booked<P, B> {
     pub fn reap(&mut self) -> Option<Lost>
         ensures oldest { result ≡ slice_get self.old.waiting 0 }
         ensures rest { self.new ≡ reaped self.old }
+        ensures keeps { (packet : Descriptor) → HasRoomFor packet self.old → HasRoomFor packet self.new }
     {
         self.device.reap()
     }

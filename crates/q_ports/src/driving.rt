@@ -1,5 +1,7 @@
 ghost use Rattle.std.specs.Prelude.{◌≡◌, ◌≤◌, ◌+◌, ◌-◌, ◌*◌, ◌^◌, min, [], length, map, sum_by, vec_capacity, All, IfOk, IfErr};
+ghost use Rattle.core.specs.Mem.{manually_drop_value};
 ghost use Rattle.q_ports.specs.Driven.{packets_of, port_in, promised_load, promised_port, rest_of, AllOffered, AreBack, Drove, HasDriven, HasKept, IsRoomFor};
+ghost use Rattle.q_ports.specs.DriveTurns.{HasTurned, ShowsTurns};
 ghost use Rattle.q_ports.specs.Offered.{Offered};
 ghost use Rattle.q_ports.specs.Placed.{placed_by, ring_of_port};
 ghost use Rattle.q_ports.specs.Rings.{received_from, ring_id, AreBeginnings};
@@ -9,17 +11,15 @@ use crate::drain::Drain;
 use crate::driven::Driven;
 use crate::ended::Ended;
 use crate::gate::Gate;
-use crate::intake::Intake;
 use crate::port::Port;
-use crate::publisher::Publisher;
 use crate::sender::{Sends, Sent, keep, send};
 use crate::sender_room::SenderRoom;
 use crate::started::Started;
-use crate::turn::turn_parts;
 use crate::turn_moments::TurnMoments;
 use crate::unsettled::Unsettled;
 use q_packet::{Moment, Packet};
 use std::alloc::{AllocError, Global};
+use std::mem::ManuallyDrop;
 use std::snapshot::Snapshot;
 use std::sync::ledger::Ledger;
 use std::sync::{Mutex, Wait};
@@ -65,33 +65,20 @@ pub fn drive<
     ensures again { IfErr result (λ u. map ring_of_port u.ports.items ≡ map ring_id u.drain.rings) }
     ensures back { IfErr result (λ u. AreBack ports.items (map packets_of loads.items) u.ports.items) }
     ensures beginnings { IfErr result (λ u. AreBeginnings (map received_from u.drain.rings) (map placed_by u.ports.items)) }
+    ensures book { IfErr result (λ u. u.drain.board.book ≡ drain.board.book) }
+    ensures turned { IfErr result (λ u. ShowsTurns start step drain u.drain.board) }
 {
-    let Drain {
-        intake,
-        mut publisher,
-    } = drain;
     let Ok((room, mut back)) = rooms(alloc, ports.len()) else {
-        return Err(unsettled(intake, publisher, ports));
+        return Err(unsettled(drain, ports));
     };
     let pace = TurnMoments { start, step };
-    let (intake, sent, all_ran) = run(
-        rt,
-        alloc,
-        booked,
-        intake,
-        &mut publisher,
-        ports,
-        loads,
-        room,
-        gate,
-        pace,
-        tries,
+    let (drain, sent, all_ran) = run(
+        rt, alloc, booked, drain, ports, loads, room, gate, pace, tries,
     );
     let given_up = give_back(sent, &mut back);
     if !all_ran {
-        return Err(unsettled(intake, publisher, back));
+        return Err(unsettled(drain, back));
     }
-    let drain = Drain { intake, publisher };
     match drain.settle(rt, booked, back, start) {
         Ok(settled) => Ok(Driven { settled, given_up }),
         Err(unsettled) => Err(unsettled),
@@ -99,17 +86,18 @@ pub fn drive<
 }
 
 // What is handed back by a drain that does not settle. It looks at the rings, of which it has both ends.
-fn unsettled<P: Ledger, B: Ledger>(
-    intake: Intake<P, B>,
-    publisher: Publisher,
-    ports: Vec<Port>,
-) -> Unsettled<P, B>
-    requires { map ring_of_port ports.items ≡ map ring_id intake }
-    ensures rings { map ring_id result.drain.rings ≡ map ring_id intake }
+fn unsettled<P: Ledger, B: Ledger>(drain: Drain<P, B>, ports: Vec<Port>) -> Unsettled<P, B>
+    requires { map ring_of_port ports.items ≡ map ring_id drain.rings }
+    ensures rings { map ring_id result.drain.rings ≡ map ring_id drain.rings }
     ensures ports { result.ports.items ≡ ports.items }
     ensures beginnings { AreBeginnings (map received_from result.drain.rings) (map placed_by ports.items) }
+    ensures board { result.drain.board ≡ drain.board }
 {
-    let (mut intake, mut ports) = (intake, ports);
+    let Drain {
+        mut intake,
+        publisher,
+    } = drain;
+    let mut ports = ports;
     intake.look_all(&mut ports);
     Unsettled {
         drain: Drain { intake, publisher },
@@ -133,38 +121,43 @@ fn run<P: Ledger + Send + Sync, B: Ledger + Send + Sync, G: Gate + Sync, R: Thre
     rt: &R,
     alloc: Global,
     booked: &Mutex<Booked<P, B>>,
-    intake: Intake<P, B>,
-    publisher: &mut Publisher,
+    drain: Drain<P, B>,
     ports: Vec<Port>,
     loads: Vec<Vec<Packet>>,
     room: SenderRoom,
     gate: &G,
     pace: TurnMoments,
     tries: u64,
-) -> (Intake<P, B>, Vec<Sent>, bool)
+) -> (Drain<P, B>, Vec<Sent>, bool)
     requires loads { length loads.items ≡ length ports.items }
     requires room { IsRoomFor (length ports.items) room }
-    ensures rings { map ring_id result.0 ≡ map ring_id intake }
+    ensures rings { map ring_id result.0.rings ≡ map ring_id drain.rings }
+    ensures book { result.0.board.book ≡ drain.board.book }
+    ensures turned { HasTurned pace.start pace.step drain result.0 }
     ensures drove { Drove ports.items (map packets_of loads.items) result.1.items }
 {
     let all_ended = Ended::new();
     let ended = &all_ended;
-    let (intake, sent) = thread::scope(
+    // A closure may hold only what may be dropped, and a drain may not. This one is called once, and hands the drain back.
+    let held = unsafe { ManuallyDrop::new_unchecked(drain) };
+    let (drain, sent) = thread::scope(
         thread::scope_env(),
         rt,
-        move |scope| -> (Intake<P, B>, Vec<Sent>)
+        move |scope| -> (Drain<P, B>, Vec<Sent>)
             requires loads { length loads.items ≡ length ports.items }
             requires room { IsRoomFor (length ports.items) room }
-            ensures rings { map ring_id result.0 ≡ map ring_id intake }
+            ensures rings { map ring_id result.0.rings ≡ map ring_id (manually_drop_value held).rings }
+            ensures book { result.0.board.book ≡ (manually_drop_value held).board.book }
+            ensures turned { HasTurned pace.start pace.step (manually_drop_value held) result.0 }
             ensures drove { Drove ports.items (map packets_of loads.items) result.1.items }
         {
+            let drain = ManuallyDrop::into_inner(held);
             in_scope(
-                scope, rt, alloc, booked, intake, publisher, ports, loads, room, gate, ended, pace,
-                tries,
+                scope, rt, alloc, booked, drain, ports, loads, room, gate, ended, pace, tries,
             )
         },
     );
-    (intake, sent, !all_ended.was_refused())
+    (drain, sent, !all_ended.was_refused())
 }
 
 // Takes the ports back, and answers how many packets were given up.
@@ -307,13 +300,14 @@ fn take_turns<P: Ledger, B: Ledger, R: Wait>(
     rt: &R,
     alloc: Global,
     booked: &Mutex<Booked<P, B>>,
-    intake: &mut Intake<P, B>,
-    publisher: &mut Publisher,
+    drain: &mut Drain<P, B>,
     ended: &Ended,
     senders: u64,
     pace: TurnMoments,
 )
-    ensures { map ring_id intake.new ≡ map ring_id intake.old }
+    ensures rings { map ring_id drain.new.rings ≡ map ring_id drain.old.rings }
+    ensures book { drain.new.board.book ≡ drain.old.board.book }
+    ensures turned { HasTurned pace.start pace.step drain.old drain.new }
 {
     let start = pace.start.ns();
     let step = pace.step;
@@ -322,32 +316,11 @@ fn take_turns<P: Ledger, B: Ledger, R: Wait>(
         if ended.count() >= senders {
             return;
         }
-        turn_at(
-            rt,
-            alloc,
-            booked,
-            intake,
-            publisher,
-            moment_of(start, step, nth),
-        );
+        // A refused turn is passed over.
+        let _turn = drain.turn(rt, alloc, booked, moment_of(start, step, nth), MOST);
         nth = nth.saturating_add(1);
     }
     unreachable!()
-}
-
-// A turn, which is passed over where it is refused.
-fn turn_at<P: Ledger, B: Ledger, R: Wait>(
-    rt: &R,
-    alloc: Global,
-    booked: &Mutex<Booked<P, B>>,
-    intake: &mut Intake<P, B>,
-    publisher: &mut Publisher,
-    now: Moment,
-)
-    ensures { map ring_id intake.new ≡ map ring_id intake.old }
-{
-    let mut locked = booked.lock(rt);
-    let _turn = turn_parts(intake, publisher, rt, alloc, &mut *locked, now, MOST);
 }
 
 // The moment of turn k, from 0: k steps after the first, or the latest moment.
@@ -377,8 +350,7 @@ fn in_scope<'s, E, P: Ledger, B: Ledger, G: Gate + Sync, R: Threads + Wait>(
     rt: &R,
     alloc: Global,
     booked: &Mutex<Booked<P, B>>,
-    intake: Intake<P, B>,
-    publisher: &mut Publisher,
+    drain: Drain<P, B>,
     ports: Vec<Port>,
     loads: Vec<Vec<Packet>>,
     room: SenderRoom,
@@ -386,26 +358,19 @@ fn in_scope<'s, E, P: Ledger, B: Ledger, G: Gate + Sync, R: Threads + Wait>(
     ended: &'s Ended,
     pace: TurnMoments,
     tries: u64,
-) -> (Intake<P, B>, Vec<Sent>)
+) -> (Drain<P, B>, Vec<Sent>)
     requires loads { length loads.items ≡ length ports.items }
     requires room { IsRoomFor (length ports.items) room }
-    ensures rings { map ring_id result.0 ≡ map ring_id intake }
+    ensures rings { map ring_id result.0.rings ≡ map ring_id drain.rings }
+    ensures book { result.0.board.book ≡ drain.board.book }
+    ensures turned { HasTurned pace.start pace.step drain result.0 }
     ensures drove { Drove ports.items (map packets_of loads.items) result.1.items }
 {
-    let mut intake = intake;
+    let mut drain = drain;
     let SenderRoom { started, sent } = room;
     let started = start_all(scope, ports, loads, started, gate, ended, tries);
     let senders = started.len() as u64;
-    take_turns(
-        rt,
-        alloc,
-        booked,
-        &mut intake,
-        publisher,
-        ended,
-        senders,
-        pace,
-    );
+    take_turns(rt, alloc, booked, &mut drain, ended, senders, pace);
     let sent = join_all(rt, started, sent);
-    (intake, sent)
+    (drain, sent)
 }

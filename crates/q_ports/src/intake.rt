@@ -1,14 +1,15 @@
 ghost use Rattle.std.specs.Prelude.{◌≡◌, ◌≢◌, ◌≤◌, ◌<◌, ℕ, true, false, [], length, get_or, map, replicate, IfOk, IfSome, IfNone, OnOk, OnErr};
 ghost use Rattle.q_ports.specs.Collected.{Collects, CollectsOnly, CollectsSome};
 ghost use Rattle.q_ports.specs.Held.{held};
-ghost use Rattle.q_ports.specs.Events.{with_memory};
 ghost use Rattle.q_ports.specs.Placed.{placed_by, ring_of_port, share_of};
 ghost use Rattle.q_ports.specs.Rings.{all_of, ring_id, received_from, ring_seen, AreEmptyWithin, AreSameFrom, AreSeenEmpty, Looks, LooksBeside, RingSeen};
+ghost use Rattle.q_ports.specs.Room.{StaysButForPlaces};
 ghost use Rattle.q_ports.specs.Stopped.{HasNoRoomForNext, Stops, StopsSome};
 ghost use Rattle.q_ports.specs.TakenAt.{TakesAt, TakesKnown};
 
 use crate::booked::Booked;
 use crate::countable::PacketConsumer;
+use crate::laws::booked_has_its_memory;
 use crate::port::Port;
 use crate::seat::Seat;
 use crate::settled::Settled;
@@ -81,12 +82,13 @@ impl<P: Ledger, B: Ledger> Intake<P, B> {
         requires known { (d : RingSeen) → 0 < length (get_or self.old at d).known }
         ensures taken { OnOk result (TakesKnown at now self.old self.new booked.old booked.new) }
         ensures same { OnErr result (self.new ≡ self.old) }
-        ensures same_device { OnErr result (booked.new ≡ with_memory booked.new.memory booked.old) }
+        ensures same_device { OnErr result (StaysButForPlaces booked.old booked.new) }
         ensures refused { OnErr result (HasNoRoomForNext booked.old self.new) }
     {
         let Intake { seat, rings, .. } = self;
         let ring = &mut rings[at];
         let packet = ring.peek_known();
+        booked_has_its_memory(booked);
         let Ok(_) = booked.arrive_at(seat, packet, now) else {
             return Err(AllocError);
         };
@@ -109,7 +111,7 @@ impl<P: Ledger, B: Ledger> Intake<P, B> {
         ensures empty { IfOk result (λ taken. taken ≡ false → (d : RingSeen) → (get_or self.new at d).known ≡ []) }
         ensures none_device { IfOk result (λ taken. taken ≡ false → booked.new ≡ booked.old) }
         ensures err { OnErr result (map received_from self.new ≡ map received_from self.old) }
-        ensures err_device { OnErr result (booked.new ≡ with_memory booked.new.memory booked.old) }
+        ensures err_device { OnErr result (StaysButForPlaces booked.old booked.new) }
         ensures refused { OnErr result (HasNoRoomForNext booked.old self.new) }
     {
         if self.is_empty(at) {
@@ -138,7 +140,7 @@ impl<P: Ledger, B: Ledger> Intake<P, B> {
         ensures empty { IfOk result (λ taken. IfNone taken (AreEmptyWithin from to self.new)) }
         ensures none_device { IfOk result (λ taken. IfNone taken (booked.new ≡ booked.old)) }
         ensures err { OnErr result (map received_from self.new ≡ map received_from self.old) }
-        ensures err_device { OnErr result (booked.new ≡ with_memory booked.new.memory booked.old) }
+        ensures err_device { OnErr result (StaysButForPlaces booked.old booked.new) }
         ensures refused { OnErr result (HasNoRoomForNext booked.old self.new) }
     {
         for at in from..to {
@@ -181,7 +183,7 @@ impl<P: Ledger, B: Ledger> Intake<P, B> {
         ensures empty { IfOk result (λ taken. IfNone taken (AreSeenEmpty self.new)) }
         ensures none_device { IfOk result (λ taken. IfNone taken (booked.new ≡ booked.old)) }
         ensures err { OnErr result (map received_from self.new ≡ map received_from self.old) }
-        ensures err_device { OnErr result (booked.new ≡ with_memory booked.new.memory booked.old) }
+        ensures err_device { OnErr result (StaysButForPlaces booked.old booked.new) }
         ensures refused { OnErr result (HasNoRoomForNext booked.old self.new) }
     {
         let start = self.start();

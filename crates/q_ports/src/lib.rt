@@ -30,6 +30,7 @@ mod seat;
 mod sender;
 mod sender_room;
 mod settled;
+mod settling;
 mod started;
 mod taken_in;
 mod told;

@@ -1,13 +1,16 @@
-ghost use Rattle.std.specs.Prelude.{◌≡◌, ◌≤◌, ◌<◌, [], true, false, length, OnOk, OnErr};
+ghost use Rattle.std.specs.Prelude.{◌≡◌, ◌≤◌, ◌<◌, ◌++◌, [], true, false, length, OnOk, OnErr};
 ghost use mathlib.Core.List.{IsPrefix};
 ghost use Rattle.q_model.specs.Beneath.{totals_in};
-ghost use Rattle.q_ports.specs.Events.{with_memory};
+ghost use Rattle.q_ports.specs.Placed.{placed_by, ring_of_port};
 ghost use Rattle.q_ports.specs.Rings.{ring_seen, with_known};
+ghost use Rattle.q_ports.specs.Room.{StaysButForPlaces};
 ghost use Rattle.q_ports.specs.TakenIn.{HasNoRoomForFirst, StopsAtFirst, TakesFirst, TakesIn};
 ghost use Rattle.rtrb.specs.Ring.{received};
 
 use crate::countable::PacketConsumer;
+use crate::port::Port;
 use crate::taken_in::TakenIn;
+use q_device::laws::device_has_its_memory;
 use q_device::{Device, Totals as Share};
 use q_packet::Moment;
 use std::alloc::AllocError;
@@ -91,6 +94,18 @@ impl Outlet {
         self.share
     }
 
+    /// Looks at the ring with its port in hand, and answers how many packets wait there.
+    pub(crate) fn look_beside(&mut self, port: &mut Port) -> usize
+        requires { ring_of_port port.old ≡ self.old.ring }
+        ensures same { port.new ≡ port.old }
+        ensures looked { self.new ≡ with_known self.new.known self.old }
+        ensures whole { self.old.received ++ self.new.known ≡ placed_by port.old }
+        ensures waiting { result ≡ length self.new.known }
+    {
+        port.look(&mut self.ring);
+        self.ring.cached_slots()
+    }
+
     // Whether nothing waits in the ring.
     fn is_empty(&mut self) -> bool
         ensures looked { self.new ≡ with_known self.new.known self.old }
@@ -106,11 +121,12 @@ impl Outlet {
         requires { 0 < length self.old.known }
         ensures taken { OnOk result (TakesFirst now self.old self.new device.old device.new) }
         ensures same { OnErr result (self.new ≡ self.old) }
-        ensures same_device { OnErr result (device.new ≡ with_memory device.new.memory device.old) }
+        ensures same_device { OnErr result (StaysButForPlaces device.old device.new) }
         ensures refused { OnErr result (HasNoRoomForFirst device.old self.old) }
     {
         let packet = self.ring.peek_known();
         let len = u64::from(packet.len);
+        device_has_its_memory(device);
         let Ok(_) = device.arrive_at(packet, now) else {
             return Err(AllocError);
         };

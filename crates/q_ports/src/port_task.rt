@@ -11,8 +11,8 @@ pub trait PortTask: Sized {
     /// What it gives.
     type Output;
 
-    /// What is true of what it gives: whatever its own clauses say, or nothing.
-    ghost gives: { Self → Self.Output → Type 0 } = { λ _ _. ⊤ };
+    /// What is true of what it gives, for a device with these settings and so many ports: whatever its own clauses say, or nothing.
+    ghost gives: { Self → DeviceSettings → PortCounts → Self.Output → Type 0 } = { λ _ _ _ _. ⊤ };
 
     /// Does it. The device is a new one, nothing was placed at a port, and nothing was received; `P` and `B` are the ledgers of the
     /// device's book.
@@ -26,8 +26,10 @@ pub trait PortTask: Sized {
     ) -> Self::Output
         requires parts { (P.parts ≡ 65) × (B.parts ≡ 65) }
         requires opened { AreOpened settings counts opened.booked opened.drain opened.ports.items opened.gauges.items }
-        ensures { Self.gives self result };
+        ensures { Self.gives self settings counts result };
 
     ghost use Rattle.std.specs.Prelude.{◌≡◌, ⊤};
+    ghost use Rattle.q_model.specs.Settings.{DeviceSettings};
+    ghost use Rattle.q_ports.specs.declared.port_counts.PortCounts.{PortCounts};
     ghost use Rattle.q_ports.specs.Opened.{AreOpened};
 }

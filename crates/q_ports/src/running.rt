@@ -17,7 +17,7 @@ use std::thread::Threads;
 /// How many parts the right to let packets in has.
 const PARTS: u64 = 65;
 
-/// Opens a device with its book, drain, ports and gauges, and runs a task with them. It may wait for gauges, and for what the task
+/// Opens a device with these settings, with its book and with so many ports and gauges, and runs a task with them. It may wait for gauges, and for what the task
 /// waits for.
 ///
 /// # Errors
@@ -30,7 +30,7 @@ pub fn run_with_ports<T: PortTask + Drop, R: Threads + Wait + Sync>(
     counts: PortCounts,
     task: T,
 ) -> Result<T::Output, AllocError>
-    ensures { IfOk result (λ output. T.gives task output) }
+    ensures { IfOk result (λ output. T.gives task settings counts output) }
 {
     let device = Device::open(alloc, settings)?;
     let (packets, bytes) = (Blank::new(PARTS), Blank::new(PARTS));
@@ -56,7 +56,7 @@ fn run_booked<
     requires device { device ≡ opened settings device.memory }
     requires packets { (packets.name ≡ P.name) × (packets.parts ≡ P.parts) × (P.parts ≡ 65) }
     requires bytes { (bytes.name ≡ B.name) × (bytes.parts ≡ B.parts) × (B.parts ≡ 65) }
-    ensures { IfOk result (λ output. T.gives task output) }
+    ensures { IfOk result (λ output. T.gives task settings counts output) }
 {
     let (booked, seat) = Booked::<P, B>::new(device, packets, bytes);
     match open_ports(rt, alloc, seat, counts.ports, counts.ring, counts.gauges) {

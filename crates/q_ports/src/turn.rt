@@ -1,14 +1,14 @@
+//! A turn of the drain: packets arrive at the device, then it is polled, and its row is published.
 ghost use Rattle.std.specs.Prelude.{◌≡◌, ◌≤◌, [], length, map, vec_capacity, IfOk, IfSome, IfNone, OnOk, OnErr};
 ghost use Rattle.q_model.specs.Conserved.{IsBalanced};
-ghost use Rattle.q_ports.specs.Events.{device_row, with_memory};
+ghost use Rattle.q_ports.specs.Events.{device_row};
 ghost use Rattle.q_ports.specs.Polls.{given_by, polled};
 ghost use Rattle.q_ports.specs.Rings.{ring_id};
 ghost use Rattle.q_ports.specs.Rows.{shown_on, Publishes, Withholds};
 ghost use Rattle.q_ports.specs.Turned.{Turned};
 
 use crate::booked::Booked;
-use crate::intake::Intake;
-use crate::publisher::Publisher;
+use crate::drain::Drain;
 use crate::told::Told;
 use q_device::{Given, SOME_PACKET};
 use q_packet::{Moment, Packet};
@@ -30,27 +30,35 @@ pub struct Turn {
     pub told: Option<Told>,
 }
 
-/// A turn, of the two parts of a drain. It may wait for gauges.
-pub(crate) fn turn_parts<P: Ledger, B: Ledger, R: Wait>(
-    intake: &mut Intake<P, B>,
-    publisher: &mut Publisher,
+/// The work of [`Drain::turn`], with the locked value in hand. It may wait for gauges.
+///
+/// The device is changed by one arrival for each packet that was received, in the order of each ring, and then by the polls up to
+/// `most`, or to the first that gives no packet; `sent` is what they gave. `told` is there where the board then shows the row after the turn.
+///
+/// # Errors
+///
+/// `AllocError` where memory for the list of sent packets is refused. Nothing has changed then.
+pub fn turn_on<P: Ledger, B: Ledger, R: Wait>(
+    drain: &mut Drain<P, B>,
     rt: &R,
     alloc: Global,
     booked: &mut Booked<P, B>,
     now: Moment,
     most: usize,
 ) -> Result<Turn, AllocError>
-    ensures rings { map ring_id intake.new ≡ map ring_id intake.old }
-    ensures ok { IfOk result (λ t. Turned now most intake.old intake.new booked.old booked.new t.taken t.memory t.sent.items) }
+    requires { (1 ≤ most) × (most ≤ 1024) }
+    ensures rings { map ring_id drain.new.rings ≡ map ring_id drain.old.rings }
+    ensures turned { IfOk result (λ t. Turned now most drain.old.rings drain.new.rings booked.old booked.new t.taken t.memory t.sent.items) }
     ensures few_sent { IfOk result (λ t. length t.sent.items ≤ most) }
     ensures balanced { OnOk result (IsBalanced (device_row booked.new)) }
-    ensures book { publisher.new.book ≡ publisher.old.book }
-    ensures told { IfOk result (λ t. IfSome t.told (λ f. f ≡ shown_on publisher.new)) }
-    ensures published { IfOk result (λ t. IfSome t.told (λ f. Publishes publisher.old (device_row booked.new) publisher.new)) }
-    ensures untold { IfOk result (λ t. IfNone t.told (Withholds publisher.old (device_row booked.new) publisher.new)) }
-    ensures same { OnErr result ((intake.new ≡ intake.old) × (publisher.new ≡ publisher.old)) }
+    ensures book { drain.new.board.book ≡ drain.old.board.book }
+    ensures told { IfOk result (λ t. IfSome t.told (λ f. f ≡ shown_on drain.new.board)) }
+    ensures published { IfOk result (λ t. IfSome t.told (λ f. Publishes drain.old.board (device_row booked.new) drain.new.board)) }
+    ensures untold { IfOk result (λ t. IfNone t.told (Withholds drain.old.board (device_row booked.new) drain.new.board)) }
+    ensures same { OnErr result (drain.new ≡ drain.old) }
     ensures same_device { OnErr result (booked.new ≡ booked.old) }
 {
+    let Drain { intake, publisher } = drain;
     let mut sent = Vec::with_capacity(alloc, most)?;
     let (taken, memory) = intake.collect(booked, now, most);
     poll_all(booked, &mut sent, now, most);
@@ -73,7 +81,7 @@ fn poll_all<P: Ledger, B: Ledger>(
     requires { (sent.old.items ≡ []) × (most ≤ vec_capacity sent.old) }
     ensures sent { sent.new.items ≡ given_by most now booked.old }
     ensures few { length sent.new.items ≤ most }
-    ensures polled { booked.new ≡ with_memory booked.new.memory (polled most now booked.old) }
+    ensures polled { booked.new ≡ polled most now booked.old }
 {
     let mut packet = SOME_PACKET;
     for _poll in 0..most {

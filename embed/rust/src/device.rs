@@ -105,6 +105,9 @@ impl Device {
     }
 
     /// The moment before which no poll gives a packet, as long as none arrives and no command comes; `None` where none ever will.
+    ///
+    /// A poll at that moment may still answer [`Polled::Later`]: what an fq_codel gives, or which class of a drr, is not known before it is
+    /// asked. The moment that follows is then a later one.
     pub fn ready_at(&mut self) -> Option<u64> {
         let (code, moment) = self.0.ready_at();
         (code == sys::QTREE_DONE).then_some(moment)

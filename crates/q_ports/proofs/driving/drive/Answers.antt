@@ -2,7 +2,7 @@ use Rattle.std.proofs.Common.{◌∙◌, List, map, sym, ap, subst}
 use Rattle.q_ports.specs.Driven.{packets_of, AreBack}
 use Rattle.q_ports.specs.Placed.{PortSeen, ring_of_port}
 use Rattle.q_ports.specs.Rings.{ring_id}
-use Rattle.q_ports.specs.Turned.{DrainSeen}
+use Rattle.q_ports.proofs.DriveTurnLemmas.{no-turns, shows-turns}
 use Rattle.q_ports.proofs.DriveLemmas.{back-again, none-sent, sent-back}
 use Rattle.q_ports.proofs.driving.drive.Goals as goal
 
@@ -12,20 +12,21 @@ returns-in_default-clause-back g c =
     let loads = map packets_of c.args.loads.items in
     subst (λ (ps : List PortSeen). AreBack before loads ps) (sym c.unsettled.ensures.ports) (none-sent before loads)
 
+pub returns-in_default-clause-turned : goal.returns-in_default-clause-turned
+returns-in_default-clause-turned g c = shows-turns c.args.start c.args.step c.args.drain c.args.drain c.unsettled.result.drain.board (no-turns c.args.start c.args.step c.args.drain) c.unsettled.ensures.board
+
 pub unsettled-requires-then-not-all_ran : goal.unsettled-requires-then-not-all_ran
 unsettled-requires-then-not-all_ran g c =
-    let ran = c.run-intake in
+    let ran = c.run-drain in
     let back = c.give_back-given_up in
-    let same = ran.ensures.rings ∙ ap (λ (d : DrainSeen). map ring_id d.rings) c.drain.view_is in
-    back-again c.args.ports.items (map packets_of c.args.loads.items) ran.result.1.items back.new.back.items c.args.drain.rings ran.result.0 ran.ensures.drove back.ensures.ports c.requires.ports same
+    back-again c.args.ports.items (map packets_of c.args.loads.items) ran.result.1.items back.new.back.items c.args.drain.rings ran.result.0.rings ran.ensures.drove back.ensures.ports c.requires.ports ran.ensures.rings
 
 pub returns-then-not-all_ran-clause-again : goal.returns-then-not-all_ran-clause-again
 returns-then-not-all_ran-clause-again g c =
-    let ran = c.run-intake in
+    let ran = c.run-drain in
     let back = c.give_back-given_up in
-    let same = ran.ensures.rings ∙ ap (λ (d : DrainSeen). map ring_id d.rings) c.drain.view_is in
     ap (λ (ps : List PortSeen). map ring_of_port ps) c.unsettled-then-not-all_ran.ensures.ports
-    ∙ (back-again c.args.ports.items (map packets_of c.args.loads.items) ran.result.1.items back.new.back.items c.args.drain.rings ran.result.0 ran.ensures.drove back.ensures.ports c.requires.ports same
+    ∙ (back-again c.args.ports.items (map packets_of c.args.loads.items) ran.result.1.items back.new.back.items c.args.drain.rings ran.result.0.rings ran.ensures.drove back.ensures.ports c.requires.ports ran.ensures.rings
     ∙ sym c.unsettled-then-not-all_ran.ensures.rings)
 
 pub returns-then-not-all_ran-clause-back : goal.returns-then-not-all_ran-clause-back
@@ -33,22 +34,20 @@ returns-then-not-all_ran-clause-back g c =
     let before = c.args.ports.items in
     let loads = map packets_of c.args.loads.items in
     subst (λ (ps : List PortSeen). AreBack before loads ps) (sym c.unsettled-then-not-all_ran.ensures.ports)
-    (sent-back before loads c.run-intake.result.1.items c.give_back-given_up.new.back.items c.run-intake.ensures.drove.each c.give_back-given_up.ensures.ports)
+    (sent-back before loads c.run-drain.result.1.items c.give_back-given_up.new.back.items c.run-drain.ensures.drove.each c.give_back-given_up.ensures.ports)
 
 pub settle-requires-clause-ports : goal.settle-requires-clause-ports
 settle-requires-clause-ports g c =
-    let ran = c.run-intake in
+    let ran = c.run-drain in
     let back = c.give_back-given_up in
-    let same = ran.ensures.rings ∙ ap (λ (d : DrainSeen). map ring_id d.rings) c.drain.view_is in
-    back-again c.args.ports.items (map packets_of c.args.loads.items) ran.result.1.items back.new.back.items c.args.drain.rings ran.result.0 ran.ensures.drove back.ensures.ports c.requires.ports same
+    back-again c.args.ports.items (map packets_of c.args.loads.items) ran.result.1.items back.new.back.items c.args.drain.rings ran.result.0.rings ran.ensures.drove back.ensures.ports c.requires.ports ran.ensures.rings
 
 pub returns-in-Err-clause-again : goal.returns-in-Err-clause-again
 returns-in-Err-clause-again g c =
-    let ran = c.run-intake in
+    let ran = c.run-drain in
     let back = c.give_back-given_up in
-    let same = ran.ensures.rings ∙ ap (λ (d : DrainSeen). map ring_id d.rings) c.drain.view_is in
     ap (λ (ps : List PortSeen). map ring_of_port ps) c.in-Err.ensures.ports
-    ∙ (back-again c.args.ports.items (map packets_of c.args.loads.items) ran.result.1.items back.new.back.items c.args.drain.rings ran.result.0 ran.ensures.drove back.ensures.ports c.requires.ports same
+    ∙ (back-again c.args.ports.items (map packets_of c.args.loads.items) ran.result.1.items back.new.back.items c.args.drain.rings ran.result.0.rings ran.ensures.drove back.ensures.ports c.requires.ports ran.ensures.rings
     ∙ sym c.in-Err.ensures.rings)
 
 pub returns-in-Err-clause-back : goal.returns-in-Err-clause-back
@@ -56,4 +55,4 @@ returns-in-Err-clause-back g c =
     let before = c.args.ports.items in
     let loads = map packets_of c.args.loads.items in
     subst (λ (ps : List PortSeen). AreBack before loads ps) (sym c.in-Err.ensures.ports)
-    (sent-back before loads c.run-intake.result.1.items c.give_back-given_up.new.back.items c.run-intake.ensures.drove.each c.give_back-given_up.ensures.ports)
+    (sent-back before loads c.run-drain.result.1.items c.give_back-given_up.new.back.items c.run-drain.ensures.drove.each c.give_back-given_up.ensures.ports)

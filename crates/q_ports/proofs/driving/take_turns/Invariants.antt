@@ -1,6 +1,11 @@
 use Rattle.std.proofs.Common.{◌≡◌, map}
+use Rattle.q_ports.specs.DriveTurns.{HasTurned}
 use Rattle.q_ports.specs.Rings.{ring_id}
 use Rattle.q_ports.proofs.driving.take_turns.Given as goal
 
 abbrev pub invariant-loop-turn : goal.invariant-loop-turn
-invariant-loop-turn g l = map ring_id l.intake ≡ map ring_id l.initial.intake
+invariant-loop-turn g l = record {
+  rings : map ring_id l.drain.rings ≡ map ring_id l.initial.drain.rings;
+  book : l.drain.board.book ≡ l.initial.drain.board.book;
+  turned : HasTurned l.start l.step l.initial.drain l.drain;
+}

@@ -2,15 +2,13 @@ use Rattle.std.proofs.Common.{◌≡◌, ◌∙◌, ℕ, suc, ◌+◌, ◌-◌, 
 use Rattle.std.proofs.lemmas.List.{append-nil}
 use Rattle.q_packet.specs.Descriptor.{Descriptor}
 use Rattle.q_model.specs.declared.reply.Reply.{Reply}
-use Rattle.q_device.specs.DeviceSeen.{DeviceSeen}
 use Rattle.q_model.specs.declared.reply.Reply.TheVariants as reply
 use Rattle.q_device.specs.declared.given.Given.{Given}
 use Rattle.q_device.specs.declared.given.Given.TheVariants as given
 use Rattle.q_device.specs.Giving.{polled_in}
 use Rattle.q_device.specs.Laws.{given_in}
-use Rattle.q_ports.specs.Events.{with_memory}
 use Rattle.q_ports.specs.Polls.{given_at, given_by, polled}
-use Rattle.q_ports.proofs.PollLemmas.{given-more, given-none, polled-more, polled-none}
+use Rattle.q_ports.proofs.PollLemmas.{given-more, given-none, poll-is, polled-more, polled-none}
 use Rattle.q_ports.proofs.turn.poll_all.Goals as goal
 
 -- a poll that gave no packet
@@ -24,18 +22,18 @@ loop-poll-preserved g c =
     let now = c.args.now in
     let d = c.loop-poll.booked in
     let d' = c.poll_into.new.self in
-    let m = c.args.booked.now.memory in
     let p = c.poll_into.new.out in
     let old = c.loop-poll.sent.items in
     let inv = c.loop-poll.invariant in
+    let is = poll-is now d d' c.poll_into.ensures.event c.poll_into.ensures.memory in
     let push = c.push_reserved.ensures in
     let n = c.args.most - (c.loop-poll._poll + 1) in
     let left : c.args.most - c.loop-poll._poll ≡ suc n = omega (arith, c.loop-poll-test.true) in
     let gives : given_at now d ≡ Some p = ap (λ (r : Reply). given_in r) (sym c.poll_into.ensures.reply) ∙ ap (λ (v : Given). given_in (reply.Polled (polled_in p v))) c.in-Packet.is in
-    let more : given_by (c.args.most - c.loop-poll._poll) now d ≡ p ∷ given_by n now d' = ap (λ (k : ℕ). given_by k now d) left ∙ given-more n now d d' p gives c.poll_into.ensures.event in
+    let more : given_by (c.args.most - c.loop-poll._poll) now d ≡ p ∷ given_by n now d' = ap (λ (k : ℕ). given_by k now d) left ∙ given-more n now d d' p gives is in
     record {
       sent = ap (λ (xs : List Descriptor). xs ++ given_by n now d') push.items ∙ (append_assoc old (p ∷ []) (given_by n now d') ∙ (ap (λ (xs : List Descriptor). old ++ xs) (sym more) ∙ inv.sent));
-      polled = sym (ap (λ (k : ℕ). with_memory m (polled k now d)) left ∙ polled-more n now m d d' p gives c.poll_into.ensures.event) ∙ inv.polled;
+      polled = sym (ap (λ (k : ℕ). polled k now d) left ∙ polled-more n now d d' p gives is) ∙ inv.polled;
       count = omega (arith, push.len, inv.count);
       room = push.capacity ∙ inv.room;
     }
@@ -54,5 +52,5 @@ returns-in-Idle g c =
     record {
       sent = sym (append-nil items) ∙ (ap (λ (xs : List Descriptor). items ++ xs) (sym (ap (λ (k : ℕ). given_by k now d) left ∙ given-none n now d none)) ∙ inv.sent);
       few = omega (arith, inv.count, c.loop-poll.sent.ok.0, c.loop-poll-test.true);
-      polled = c.poll_into.ensures.event ∙ (ap (λ (x : DeviceSeen). with_memory d'.memory x) (sym last) ∙ ap (λ (x : DeviceSeen). with_memory d'.memory x) inv.polled);
+      polled = poll-is now d d' c.poll_into.ensures.event c.poll_into.ensures.memory ∙ (sym last ∙ inv.polled);
     }

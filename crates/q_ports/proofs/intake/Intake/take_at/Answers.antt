@@ -52,4 +52,5 @@ returns-in-Ok-clause-some g c h =
           (omega (arith, c.requires, looks-length c.args.at c.args.self.now c.is_empty.new.self c.is_empty.result c.is_empty.ensures))
           ∙ ap (λ (rs : List (List Descriptor)). received_one rs (take c.args.at t.packet)) (looks-received c.args.at c.args.self.now c.is_empty.new.self c.is_empty.result c.is_empty.ensures);
       arrived = t.arrived;
+      places = t.places;
     }

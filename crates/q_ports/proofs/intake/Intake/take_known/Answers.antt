@@ -52,6 +52,7 @@ returns-clause-taken g c =
             e ∙ ap (λ (ks : List Descriptor). p ∷ drop 1 ks) (sym e);
       };
       arrived = c.in-Ok.ensures.event;
+      places = record { queues = c.arrive_at.ensures.queues; losses = c.arrive_at.ensures.places; events = c.arrive_at.ensures.recorder };
     }
 
 pub returns-in_default-clause-refused : goal.returns-in_default-clause-refused
@@ -70,5 +71,6 @@ returns-in_default-clause-refused g c =
       within = c.requires.at;
       packet = p;
       waits = λ d. there d ∙ ap (λ (ks : List Descriptor). p ∷ drop 1 ks) (sym (there d));
+      memory = c.booked_has_its_memory.ensures;
       room = λ h. false≢true (c.in_default.ensures.succeeds h);
     })

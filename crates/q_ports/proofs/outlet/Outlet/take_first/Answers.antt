@@ -23,6 +23,7 @@ returns-clause-taken c =
       received = seen-popped a b p c.pop_known.ensures.ring all known ∙ ap (λ (r : RingSeen). popped p r) c.self.view_is;
       arrived = c.in-Ok.ensures.event;
       counted = c.in-Ok.ensures.arrived;
+      places = record { queues = c.arrive_at.ensures.queues; losses = c.arrive_at.ensures.places; events = c.arrive_at.ensures.recorder };
     }
 
 pub returns-in_default-clause-refused : goal.returns-in_default-clause-refused
@@ -33,5 +34,6 @@ returns-in_default-clause-refused c =
     record {
       packet = p;
       waits = there ∙ ap (λ (ks : List Descriptor). p ∷ drop 1 ks) (sym there);
+      memory = c.device_has_its_memory.ensures;
       room = λ h. false≢true (c.in_default.ensures.succeeds h);
     }

@@ -6,7 +6,7 @@ use Rattle.q_ports.specs.Stopped.{Stops}
 use Rattle.q_ports.specs.Turned.{DrainSeen}
 use Rattle.q_ports.proofs.CollectLemmas.{collects-same}
 use Rattle.q_ports.proofs.SettleLemmas.{received-all, received-begins}
-use Rattle.q_ports.proofs.laws.settle_on.Goals as goal
+use Rattle.q_ports.proofs.settling.settle_parts.Goals as goal
 
 pub returns-in-Err-clause-beginnings : goal.returns-in-Err-clause-beginnings
 returns-in-Err-clause-beginnings g c = received-begins c.empty_all.new.self (map placed_by c.args.ports.items) (c.empty_all.ensures.all ∙ c.look_all.ensures.all)

@@ -1,0 +1,28 @@
+use Rattle.std.proofs.Common.{◌∙◌}
+use Rattle.q_ports.proofs.DriveTurnLemmas.{turn-more}
+use Rattle.q_ports.proofs.driving.take_turns.Goals as goal
+
+pub loop-turn-preserved-else-count-senders : goal.loop-turn-preserved-else-count-senders
+loop-turn-preserved-else-count-senders g c =
+    let turn = c.turn-turn in
+    let inv = c.loop-turn.invariant in
+    record {
+      rings = turn.ensures.rings ∙ inv.rings;
+      book = turn.ensures.book ∙ inv.book;
+      turned =
+          turn-more c.ns-start.result c.args.pace.step c.loop-turn.nth c.moment_of.result c.args.drain.now c.loop-turn.drain turn.new.self turn.result c.moment_of.ensures inv.turned turn.ensures.turned
+          turn.ensures.same;
+    }
+
+-- the same where the turn told nothing
+pub loop-turn-preserved-else-count-senders-2 : goal.loop-turn-preserved-else-count-senders-2
+loop-turn-preserved-else-count-senders-2 g c =
+    let turn = c.turn-turn in
+    let inv = c.loop-turn.invariant in
+    record {
+      rings = turn.ensures.rings ∙ inv.rings;
+      book = turn.ensures.book ∙ inv.book;
+      turned =
+          turn-more c.ns-start.result c.args.pace.step c.loop-turn.nth c.moment_of.result c.args.drain.now c.loop-turn.drain turn.new.self turn.result c.moment_of.ensures inv.turned turn.ensures.turned
+          turn.ensures.same;
+    }
