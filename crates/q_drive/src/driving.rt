@@ -1,4 +1,4 @@
-ghost use Rattle.std.specs.Prelude.{◌≡◌, ◌+◌, ◌*◌, map, IfSome};
+ghost use Rattle.std.specs.Prelude.{◌≡◌, ◌+◌, ◌*◌, [], length, map, replicate, All, IfSome};
 ghost use Rattle.q_device.specs.DeviceLaws.{IsLawfulDevice, IsReplayed, IsReplayOfRecorded};
 ghost use Rattle.q_drive.specs.Drained.{IsDrainedIf};
 ghost use Rattle.q_drive.specs.Driven.{HasDriven};
@@ -6,17 +6,20 @@ ghost use Rattle.q_drive.specs.Loads.{AreLoads};
 ghost use Rattle.q_model.specs.Tally.{no_totals};
 ghost use Rattle.q_ports.specs.Driven.{packets_of};
 ghost use Rattle.q_ports.specs.Held.{held};
+ghost use Rattle.q_ports.specs.Placed.{placed_by, ring_of_port, HasRing};
+ghost use Rattle.q_ports.specs.Rings.{ring_id};
 
 use crate::draining::drain_if;
 use crate::driven::Driven;
 use crate::free_gate::FreeGate;
 use crate::loads::loads;
+use crate::pace::{Pace, drive_pace};
 use crate::settings::DriveSettings;
 use q_device::Device;
 use q_device::laws::{device_is_lawful, device_is_replayed};
-use q_packet::{Moment, Packet};
+use q_packet::Packet;
 use q_ports::laws::{booked_is_replayed, settled};
-use q_ports::{Booked, Seat, Settled, Unsettled, drive, open_ports};
+use q_ports::{Booked, Drain, Port, Seat, Settled, Unsettled, drive, open_ports};
 use std::alloc::Global;
 use std::marker::Brand;
 use std::sync::ledger::{Blank, Ledger};
@@ -25,12 +28,6 @@ use std::thread::Threads;
 
 /// How many parts the right to let packets in has.
 const PARTS: u64 = 65;
-
-/// How often a packet is offered.
-const TRIES: u64 = 1_000_000_000;
-
-/// The nanoseconds between two turns.
-const STEP: u64 = 1000;
 
 /// Lets the senders run over a device at which nothing has arrived. `None` where memory is refused, or a thread could not be
 /// started.
@@ -108,13 +105,10 @@ fn drive_loads<P: Ledger + Send + Sync, B: Ledger + Send + Sync, R: Threads + Wa
     ensures bytes { IfSome result (λ d. d.settled.bytes ≡ d.settled.packets * settings.now.len) }
 {
     settings.ranges();
-    let (count, ring) = (settings.senders(), settings.ring());
-    let Ok((drain, ports, _gauges)) = open_ports(rt, alloc, seat, count, ring, 0) else {
-        return None;
-    };
-    let start = Moment::zero();
+    let (drain, ports) = open_drain(rt, alloc, seat, settings)?;
+    let Pace { start, step, tries } = drive_pace();
     match drive(
-        rt, alloc, lock, drain, ports, loads, &FreeGate, start, STEP, TRIES,
+        rt, alloc, lock, drain, ports, loads, &FreeGate, start, step, tries,
     ) {
         Ok(driven) => Some(driven),
         Err(
@@ -126,6 +120,26 @@ fn drive_loads<P: Ledger + Send + Sync, B: Ledger + Send + Sync, R: Threads + Wa
             drain.end(rt);
             None
         }
+    }
+}
+
+/// The drain, and the ports that were asked for: one for each sender, each with a ring of so many places.
+fn open_drain<P: Ledger, B: Ledger, R: Wait>(
+    rt: &R,
+    alloc: Global,
+    seat: Seat<P, B>,
+    settings: &DriveSettings,
+) -> Option<(Drain<P, B>, Vec<Port>)>
+    requires { seat ≡ held 65 0 0 }
+    ensures ports { IfSome result (λ r. map ring_of_port r.1.items ≡ map ring_id r.0.rings) }
+    ensures count { IfSome result (λ r. length r.1.items ≡ settings.now.senders) }
+    ensures lengths { IfSome result (λ r. All (HasRing settings.now.ring) r.1.items) }
+    ensures placed { IfSome result (λ r. map placed_by r.1.items ≡ replicate settings.now.senders []) }
+{
+    settings.ranges();
+    match open_ports(rt, alloc, seat, settings.senders(), settings.ring(), 0) {
+        Ok((drain, ports, _gauges)) => Some((drain, ports)),
+        Err(_) => None,
     }
 }
 

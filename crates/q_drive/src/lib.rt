@@ -20,6 +20,7 @@ mod driving;
 mod ending;
 mod free_gate;
 mod loads;
+mod pace;
 mod run;
 mod set_up;
 mod set_up_line;

@@ -129,3 +129,36 @@ fn what_is_refused_is_not_drained(rt: HostRuntime) -> Result<(), Fail> {
     assert!(rt; written.as_slice().starts_with(told.as_bytes()));
     Ok(())
 }
+
+// A drive begins at 0 and takes a turn each microsecond. So the clock at its end is a number of microseconds, below a second, and not
+// each time a number of milliseconds.
+#[test]
+fn the_clock_of_a_drive_is_that_of_its_turns(rt: HostRuntime) -> Result<(), Fail> {
+    let mut in_milliseconds = 0u64;
+    for _drive in 0..8 {
+        let mut written = Vec::new(rt.alloc());
+        let told = drive(
+            &rt,
+            rt.alloc(),
+            b"",
+            &mut written,
+            drained(1514, 1, 3, 100, false)?,
+        );
+        assert_eq!(rt; told, Ok(Outcome::Clean));
+        let end = end_of(written.as_slice()).ok_or("a clock")?;
+        assert_eq!(rt; end % 1000, 0);
+        assert!(rt; end < 1_000_000_000);
+        if end % 1_000_000 == 0 {
+            in_milliseconds = in_milliseconds.saturating_add(1);
+        }
+    }
+    assert!(rt; in_milliseconds < 8);
+    Ok(())
+}
+
+/// The number in which a report ends.
+fn end_of(report: &[u8]) -> Option<u64> {
+    let report = std::str::from_utf8(report).ok()?;
+    let (_, number) = report.trim_end().rsplit_once(" at ")?;
+    number.parse::<u64>().ok()
+}

@@ -9,7 +9,7 @@ use std::thread;
 const LOOKS: u64 = 10_000_000;
 
 /// A gate that lets the drain take nothing until the sender of port 0 has come to its last packet: the sender of port 1 holds the
-/// lock so long. The last packet is offered once enough have arrived.
+/// lock so long. The last packet is offered once enough have arrived, and once it was placed it arrives too.
 #[derive(Drop)]
 pub struct Blockade<'a, P: Ledger, B: Ledger, R: Wait> {
     rt: &'a R,
@@ -21,6 +21,9 @@ pub struct Blockade<'a, P: Ledger, B: Ledger, R: Wait> {
     held: AtomicBool,
     over: AtomicBool,
     missed: AtomicU64,
+    /// How many packets were placed, and the sum of their places in the loads.
+    placed: AtomicU64,
+    places: AtomicU64,
 }
 
 impl<'a, P: Ledger, B: Ledger, R: Wait> Blockade<'a, P, B, R> {
@@ -39,12 +42,22 @@ impl<'a, P: Ledger, B: Ledger, R: Wait> Blockade<'a, P, B, R> {
             held: AtomicBool::new(false),
             over: AtomicBool::new(false),
             missed: AtomicU64::new(0),
+            placed: AtomicU64::new(0),
+            places: AtomicU64::new(0),
         }
     }
 
     /// How often somebody has waited in vain.
     pub fn missed(&self) -> u64 {
         self.missed.load(Ordering::SeqCst)
+    }
+
+    /// How many packets were placed, and the sum of their places in the loads.
+    pub fn placed(&self) -> (u64, u64) {
+        (
+            self.placed.load(Ordering::SeqCst),
+            self.places.load(Ordering::SeqCst),
+        )
     }
 
     fn hold(&self) {
@@ -63,9 +76,9 @@ impl<'a, P: Ledger, B: Ledger, R: Wait> Blockade<'a, P, B, R> {
         self.missed.fetch_add(1, Ordering::SeqCst);
     }
 
-    fn wait_for_turns(&self) {
+    fn wait_for_turns(&self, fewest: u64) {
         for _look in 0..LOOKS {
-            if row(self.rt, self.booked).arrived.packets >= self.fewest {
+            if row(self.rt, self.booked).arrived.packets >= fewest {
                 return;
             }
             thread::yield_now();
@@ -84,9 +97,16 @@ impl<P: Ledger, B: Ledger, R: Wait> Gate for Blockade<'_, P, B, R> {
         }
         if port == 0 && nth == self.last {
             self.over.store(true, Ordering::SeqCst);
-            self.wait_for_turns();
+            self.wait_for_turns(self.fewest);
         }
     }
 
-    fn after_offer(&self, _port: u32, _nth: u64) {}
+    fn after_offer(&self, port: u32, nth: u64) {
+        self.placed.fetch_add(1, Ordering::SeqCst);
+        self.places.fetch_add(nth, Ordering::SeqCst);
+        // With this packet and the one of port 1 they are two more.
+        if port == 0 && nth == self.last {
+            self.wait_for_turns(self.fewest.saturating_add(2));
+        }
+    }
 }

@@ -151,12 +151,36 @@ pub fn assert_settles<P: Ledger, B: Ledger, R: Wait + Abort>(
     requires parts { (P.parts ≡ 65) × (B.parts ≡ 65) }
     requires ports { map ring_of_port ports.items ≡ map ring_id drain.rings }
 {
-    match drain.settle(rt, booked, ports, Moment::zero()) {
+    assert_settles_at(rt, booked, drain, ports, wanted, 0);
+}
+
+/// The same at this moment.
+pub fn assert_settles_at<P: Ledger, B: Ledger, R: Wait + Abort>(
+    rt: &R,
+    booked: &Mutex<Booked<P, B>>,
+    drain: Drain<P, B>,
+    ports: Vec<Port>,
+    wanted: Totals,
+    now: u64,
+)
+    requires parts { (P.parts ≡ 65) × (B.parts ≡ 65) }
+    requires ports { map ring_of_port ports.items ≡ map ring_id drain.rings }
+{
+    let now = moment(now);
+    match drain.settle(rt, booked, ports, now) {
         Ok(settled) => assert_totals(rt, settled.share(), wanted),
         Err(unsettled) => {
             unsettled.drain.end(rt);
             panic!(rt; "memory")
         }
+    }
+}
+
+/// This moment, which is in range.
+pub fn moment(now: u64) -> Moment {
+    match Moment::new(now) {
+        Some(moment) => moment,
+        None => Moment::zero(),
     }
 }
 

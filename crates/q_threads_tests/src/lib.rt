@@ -7,6 +7,10 @@ mod blockade;
 #[cfg(test)]
 mod common;
 #[cfg(test)]
+mod crowd;
+#[cfg(test)]
+mod drive_walk;
+#[cfg(test)]
 mod endings;
 #[cfg(test)]
 mod meeting;
@@ -15,7 +19,11 @@ mod open_gate;
 #[cfg(test)]
 mod pair;
 #[cfg(test)]
+mod port_calls;
+#[cfg(test)]
 mod ports;
+#[cfg(test)]
+mod published;
 #[cfg(test)]
 mod readiness;
 #[cfg(test)]
@@ -33,4 +41,8 @@ mod shaped;
 #[cfg(test)]
 mod traffic;
 #[cfg(test)]
+mod under_lock;
+#[cfg(test)]
 mod undrained;
+#[cfg(test)]
+mod watch;

@@ -1,46 +1,56 @@
+use crate::crowd::Crowd;
 use crate::pair::Pair;
+use crate::port_calls::PortCalls;
 use crate::rows::{NO_ROW, is_balanced, is_not_lower};
 use q_device::Row;
 use q_ports::{Gate, Gauge};
+use std::alloc::{AllocError, Global};
 use std::sync::atomic::{AtomicU64, Ordering};
 
 /// How many rows each gauge reads.
 pub const READS: u64 = 1000;
 
-/// A gate at which the senders of ports 0 and 1 meet, before the first offer of each and before the last. Half way they let two
-/// gauges begin, for which they wait before the last offer.
+/// A gate at which the senders of all ports meet, before the first offer of each and before the last. Half way those of ports 0 and 1
+/// let two gauges begin, for which they wait before the last offer. It is called for each packet of each load in order, before its
+/// offer and after it.
 ///
 /// Senders that ran on one thread, or one after the other, would miss each other, and so would gauges that were held up.
 #[derive(Drop)]
 pub struct Meeting {
     last: u64,
     fewest: u64,
-    at_first: Pair,
-    at_last: Pair,
+    at_first: Crowd,
+    at_last: Crowd,
     begun: Pair,
     read: Pair,
     missed: AtomicU64,
+    calls: Vec<PortCalls>,
     offered: AtomicU64,
     placed: AtomicU64,
 }
 
 impl Meeting {
-    /// A gate at which nobody has come, for loads of so many packets. Half way so many arrivals are to be seen.
-    pub fn new(last: u64, fewest: u64) -> Meeting {
-        Meeting {
+    /// A gate at which nobody has come, for so many ports with loads of so many packets. Half way so many arrivals are to be seen.
+    pub fn new(alloc: Global, ports: usize, last: u64, fewest: u64) -> Result<Meeting, AllocError> {
+        let mut calls = Vec::with_capacity(alloc, ports)?;
+        for _port in 0..ports {
+            calls.push(PortCalls::new())?;
+        }
+        Ok(Meeting {
             last,
             fewest,
-            at_first: Pair::new(),
-            at_last: Pair::new(),
+            at_first: Crowd::new(ports as u64),
+            at_last: Crowd::new(ports as u64),
             begun: Pair::new(),
             read: Pair::new(),
             missed: AtomicU64::new(0),
+            calls,
             offered: AtomicU64::new(0),
             placed: AtomicU64::new(0),
-        }
+        })
     }
 
-    /// How often somebody has waited in vain, how many packets were offered, and how many were placed.
+    /// How often somebody has waited in vain or was called out of order, how many packets were offered, and how many were placed.
     pub fn counts(&self) -> (u64, u64, u64) {
         (
             self.missed.load(Ordering::SeqCst),
@@ -73,33 +83,42 @@ impl Meeting {
     }
 
     fn wait_for(&self, pair: &Pair) {
-        if !pair.have_come() {
-            self.missed.fetch_add(1, Ordering::SeqCst);
-        }
+        self.expect(pair.have_come());
     }
 
-    fn meet(&self, pair: &Pair, port: u32) {
-        pair.come(port == 0);
-        self.wait_for(pair);
+    fn expect(&self, holds: bool) {
+        if !holds {
+            self.missed.fetch_add(1, Ordering::SeqCst);
+        }
     }
 }
 
 impl Gate for Meeting {
     fn before_offer(&self, port: u32, nth: u64) {
         self.offered.fetch_add(1, Ordering::SeqCst);
-        if port <= 1 && nth == 1 {
-            self.meet(&self.at_first, port);
+        self.expect(match self.calls.get(port as usize) {
+            Some(calls) => calls.before(nth),
+            None => false,
+        });
+        if nth == 1 {
+            self.expect(self.at_first.meet());
         }
         if port <= 1 && nth == self.last / 2 {
             self.begun.come(port == 0);
         }
+        if nth == self.last {
+            self.expect(self.at_last.meet());
+        }
         if port <= 1 && nth == self.last {
-            self.meet(&self.at_last, port);
             self.wait_for(&self.read);
         }
     }
 
-    fn after_offer(&self, _port: u32, _nth: u64) {
+    fn after_offer(&self, port: u32, nth: u64) {
+        self.expect(match self.calls.get(port as usize) {
+            Some(calls) => calls.after(nth),
+            None => false,
+        });
         self.placed.fetch_add(1, Ordering::SeqCst);
     }
 }

@@ -1,8 +1,9 @@
 //! Ports, the drain and gauges on one thread.
-ghost use Rattle.std.specs.Prelude.{◌≡◌, ◌≤◌, ◌<◌, length, map};
+ghost use Rattle.std.specs.Prelude.{◌≡◌, ◌≤◌, ◌<◌, length, map, All};
 ghost use Rattle.q_model.specs.Tally.{no_totals};
 ghost use Rattle.q_ports.specs.Placed.{ring_of_port};
 ghost use Rattle.q_ports.specs.Rings.{ring_id};
+ghost use Rattle.q_ports.specs.Rows.{new_gauge, shown_on, GaugeSeen};
 
 use crate::common::{
     assert_count, assert_full, assert_settles, assert_totals, device, hundreds, offer_at, opened,
@@ -31,6 +32,85 @@ fn ports_on_one_thread(rt: HostRuntime) -> Result<(), Fail> {
         going_round::<Brand, Brand, _>(&rt, alloc, device, *count, given, packets, bytes);
     }
     Ok(())
+}
+
+// As many gauges as there may be, and none: each shows the turns before, learns of one more, and shows it.
+#[test]
+fn each_number_of_gauges_reads_and_learns(rt: HostRuntime) -> Result<(), Fail> {
+    let alloc = rt.alloc();
+    let given = packet(77).expect(&rt, "a packet");
+    for count in 0..17usize {
+        let device = device(alloc, 0).expect(&rt, "memory");
+        let (packets, bytes) = (Blank::new(65), Blank::new(65));
+        gauged::<Brand, Brand, _>(&rt, alloc, device, count, given, packets, bytes);
+    }
+    Ok(())
+}
+
+// Opens a port with so many gauges, and takes a turn for each.
+fn gauged<P: Ledger, B: Ledger, R: Wait + Abort>(
+    rt: &R,
+    alloc: Global,
+    device: Device,
+    count: usize,
+    given: Packet,
+    packets: Blank,
+    bytes: Blank,
+)
+    requires nothing { device.device.tree.top.arrived ≡ no_totals }
+    requires packets { (packets.name ≡ P.name) × (packets.parts ≡ P.parts) × (P.parts ≡ 65) }
+    requires bytes { (bytes.name ≡ B.name) × (bytes.parts ≡ B.parts) × (B.parts ≡ 65) }
+{
+    let (booked, mut drain, mut ports, gauges) = opened::<P, B, R>(
+        rt,
+        alloc,
+        device,
+        (1, 1, count),
+        packets,
+        bytes,
+    );
+    assert_count(rt, gauges.len() as u64, count as u64);
+    read_each(rt, alloc, &booked, &mut drain, &mut ports, gauges, given);
+    drain.end(rt);
+}
+
+// A packet is placed and a turn taken for each gauge.
+fn read_each<P: Ledger, B: Ledger, R: Wait + Abort>(
+    rt: &R,
+    alloc: Global,
+    booked: &Mutex<Booked<P, B>>,
+    drain: &mut Drain<P, B>,
+    ports: &mut Vec<Port>,
+    gauges: Vec<Gauge>,
+    given: Packet,
+)
+    requires { All (λ (g : GaugeSeen). g ≡ new_gauge (shown_on drain.old.board)) gauges.items }
+{
+    let mut number = 0u64;
+    for gauge in gauges {
+        offer_at_each(rt, ports, 1, given);
+        let before = number;
+        number = number.saturating_add(1);
+        read_and_learn(rt, alloc, booked, drain, gauge, (before, number));
+    }
+}
+
+// The gauge shows so many packets before a turn, and so many after it.
+fn read_and_learn<P: Ledger, B: Ledger, R: Wait + Abort>(
+    rt: &R,
+    alloc: Global,
+    booked: &Mutex<Booked<P, B>>,
+    drain: &mut Drain<P, B>,
+    gauge: Gauge,
+    shown: (u64, u64),
+)
+    requires { gauge.book ≡ drain.old.board.book }
+    ensures { drain.new.board.book ≡ drain.old.board.book }
+{
+    let mut gauge = gauge;
+    assert_shows(rt, &mut gauge, shown.0);
+    turn_and_learn(rt, alloc, booked, drain, &mut gauge, shown.1);
+    assert_shows(rt, &mut gauge, shown.1);
 }
 
 // A ring of one gives the second packet back as it was given, and takes it after a turn. The gauge reads the opening row, and
@@ -84,7 +164,7 @@ fn place_two<P: Ledger, B: Ledger, R: Wait + Abort>(
     assert_shows(rt, gauge, 0);
     offer_under_lock(rt, booked, ports, 0, given);
     assert_full(rt, ports, given);
-    turn_and_learn(rt, alloc, booked, drain, gauge);
+    turn_and_learn(rt, alloc, booked, drain, gauge, 1);
     assert_shows(rt, gauge, 1);
     offer_under_lock(rt, booked, ports, 0, given);
 }
@@ -136,21 +216,23 @@ fn assert_shows<R: Abort>(rt: &R, gauge: &mut Gauge, packets: u64)
     assert_eq!(rt; row, all_sent(packets));
 }
 
-// A turn takes and sends the one packet that waits, and the gauge learns of it.
+// A turn takes and sends the one packet that waits, which has this number, and the gauge learns of it.
 fn turn_and_learn<P: Ledger, B: Ledger, R: Wait + Abort>(
     rt: &R,
     alloc: Global,
     booked: &Mutex<Booked<P, B>>,
     drain: &mut Drain<P, B>,
     gauge: &mut Gauge,
+    number: u64,
 )
     requires { gauge.old.book ≡ drain.old.board.book }
     ensures rings { map ring_id drain.new.rings ≡ map ring_id drain.old.rings }
+    ensures book { drain.new.board.book ≡ drain.old.board.book }
 {
     let Ok(turn) = drain.turn(rt, alloc, booked, Moment::zero(), 1) else {
         panic!(rt; "memory");
     };
-    assert_sends(rt, &turn, &[(0, 1)]);
+    assert_sends(rt, &turn, &[(0, number)]);
     let Turn { told, .. } = turn;
     match told {
         Some(told) => gauge.learn(told),

@@ -118,7 +118,8 @@ fn senders_place_all<R: Threads + Wait + Sync + Abort>(
     counts: (usize, usize, usize),
     fewest: u64,
 ) -> Result<(), Fail> {
-    let gate = Arc::new(alloc, Meeting::new(counts.1 as u64, fewest))?;
+    let meeting = Meeting::new(alloc, counts.0, counts.1 as u64, fewest)?;
+    let gate = Arc::new(alloc, meeting)?;
     let loads = loads_of(alloc, counts)?;
     let device = device(alloc, 4096).expect(rt, "memory");
     let (packets, bytes) = (Blank::new(65), Blank::new(65));

@@ -55,6 +55,22 @@ impl Traffic {
         port
     }
 
+    /// Reads rows without a pause until the drain has ended; the most arrivals that one of them shows.
+    pub fn most_arrivals(&self, gauge: Gauge) -> u64 {
+        let mut gauge = gauge;
+        let mut most = 0u64;
+        for _read in 0..LOOKS {
+            if self.ended.load(Ordering::SeqCst) {
+                break;
+            }
+            if let Some(row) = gauge.read() {
+                most = most.max(row.arrived.packets);
+                self.read.fetch_add(1, Ordering::SeqCst);
+            }
+        }
+        most
+    }
+
     /// Reads rows until the drain has ended, and some more; how many were not balanced, or lower than the one before.
     pub fn read_on(&self, gauge: Gauge) -> u64 {
         let mut gauge = gauge;

@@ -1,4 +1,5 @@
-//! Loads that are longer than their rings while nobody drains, and what the first turn of a drive takes after that.
+//! Loads that are longer than their rings while nobody drains, what the first turn of a drive takes after that, and that nothing else
+//! happens to the device.
 ghost use Rattle.std.specs.Prelude.{◌≡◌, ◌≤◌, length, map};
 ghost use Rattle.q_model.specs.Tally.{no_totals};
 ghost use Rattle.q_ports.specs.Placed.{ring_of_port};
@@ -8,6 +9,7 @@ use crate::blockade::Blockade;
 use crate::common::{
     assert_count, assert_totals, driven_all, hundreds, limited, opened, packet, row,
 };
+use crate::drive_walk::DriveWalk;
 use q_device::Device;
 use q_packet::Packet;
 use q_ports::{Booked, Drain, Port};
@@ -22,6 +24,12 @@ use std::thread::Threads;
 /// The places of a ring.
 const PLACES: usize = 100;
 
+/// How many packets the queue takes: one less than a turn of a drive.
+const LIMIT: u64 = 63;
+
+/// How many events are recorded: a drive takes idle turns until its senders begin.
+const RECORDED: u64 = 1_000_000;
+
 /// How many packets are given up: each is tried three times while the ring is full.
 const GIVEN_UP: u64 = 20;
 
@@ -30,10 +38,10 @@ fn what_finds_its_ring_full_is_given_up(rt: HostRuntime) -> Result<(), Fail> {
     let alloc = rt.alloc();
     let given = packet(5).expect(&rt, "a packet");
     let loads = loads(alloc, given)?;
-    // One packet less than a turn of a drive takes.
-    let device = limited(alloc, 63, 0).expect(&rt, "memory");
+    let device = limited(alloc, LIMIT as u32, RECORDED as u32).expect(&rt, "memory");
+    let walk = DriveWalk::new(alloc, given, LIMIT, 1);
     let (packets, bytes) = (Blank::new(65), Blank::new(65));
-    undrained::<Brand, Brand, _>(&rt, alloc, device, loads, packets, bytes);
+    undrained::<Brand, Brand, _>(&rt, alloc, device, loads, walk, packets, bytes);
     Ok(())
 }
 
@@ -53,6 +61,7 @@ fn undrained<P: Ledger + Send + Sync, B: Ledger + Send + Sync, R: Threads + Wait
     alloc: Global,
     device: Device,
     loads: Vec<Vec<Packet>>,
+    walk: DriveWalk,
     packets: Blank,
     bytes: Blank,
 )
@@ -73,6 +82,30 @@ fn undrained<P: Ledger + Send + Sync, B: Ledger + Send + Sync, R: Threads + Wait
     let row = row(rt, &booked);
     assert_totals(rt, row.arrived, hundreds(102));
     assert_totals(rt, row.refused, hundreds(1));
+    let mut walk = walk;
+    assert_walked(rt, &booked, &mut walk);
+}
+
+// The recorded events are those of such a drive, and every packet that was refused comes back, and no other. What came behind a full
+// recorder is not looked at.
+fn assert_walked<P: Ledger, B: Ledger, R: Wait + Abort>(
+    rt: &R,
+    booked: &Mutex<Booked<P, B>>,
+    walk: &mut DriveWalk,
+) {
+    let followed = walk.follow(booked.lock(rt).recorded());
+    if booked.lock(rt).events() > RECORDED {
+        return;
+    }
+    assert!(rt; matches!(&followed, Ok(true)));
+    for lost in walk.lost() {
+        let reaped = booked.lock(rt).reap();
+        assert_eq!(rt; reaped, Some(*lost));
+    }
+    assert!(rt; booked.lock(rt).reap().is_none());
+    let (queued, placed) = walk.left();
+    assert_totals(rt, row(rt, booked).queued, hundreds(queued));
+    assert_eq!(rt; placed, [101u64, 1]);
 }
 
 // Drives the ports past the blockade.
@@ -95,6 +128,7 @@ fn drive_blocked<
     let gate = Blockade::new(rt, booked, 121, PLACES as u64);
     let (settled, given_up) = driven_all(rt, alloc, booked, drain, ports, loads, &gate, 1, 3);
     assert_count(rt, gate.missed(), 0);
+    assert_eq!(rt; gate.placed(), (102u64, 5172u64));
     assert_totals(rt, settled, hundreds(102));
     assert_count(rt, given_up, GIVEN_UP);
 }

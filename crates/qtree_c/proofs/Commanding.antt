@@ -1,6 +1,6 @@
 -- A command that was done, or refused.
 use Rattle.std.proofs.Common.{◌≡◌, ℕ, Ok, ap, arith, refl, sym}
-use Rattle.q_device.specs.DeviceSeen.{DeviceSeen, IsRefusal}
+use Rattle.q_device.specs.DeviceSeen.{DeviceSeen, IsRefusal, IsRefusedAt}
 use Rattle.q_model.specs.Refusal.{refusal_number}
 use Rattle.q_model.specs.declared.command.Command.{Command}
 use Rattle.q_model.specs.declared.event.Event.TheVariants as event
@@ -37,10 +37,10 @@ command-done c now d n is told = record {
 }
 
 pub command-refused : (c : Command) (now : ℕ) (d n : DeviceSeen) (r : Refusal) → IsRefusal (MayTakeMemory c) (reply_to (event.Command c now) d) r
-    → n ≡ d → IsCommand c now (refusal_number r) d n
-command-refused c now d n r told is = record {
+    → IsRefusedAt c now d r → n ≡ d → IsCommand c now (refusal_number r) d n
+command-refused c now d n r told memory is = record {
   done = λ e. absurd (not-done r e);
   allowed = λ e. absurd (not-done r e);
-  refused = λ _. (r, refl, told);
+  refused = λ _. (r, refl, told, memory);
   same = λ _. is;
 }

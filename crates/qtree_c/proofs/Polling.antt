@@ -3,9 +3,9 @@ use Rattle.std.proofs.Common.{◌≡◌, ℕ, suc, ◌+◌, ◌-◌, ◌<◌, Li
 use Rattle.std.specs.Prelude.{drop, length, set}
 use Rattle.std.proofs.lemmas.List.{append-nil}
 use Rattle.q_model.specs.declared.event.Event.TheVariants.{Poll}
-use Rattle.q_device.specs.DeviceSeen.{DeviceSeen, Memory}
+use Rattle.q_device.specs.DeviceSeen.{DeviceSeen}
 use Rattle.qtree_c.specs.Codes.{reply_number}
-use Rattle.qtree_c.specs.Events.{after_event, reply_to, with_memory}
+use Rattle.qtree_c.specs.Events.{after_poll, reply_to}
 use Rattle.qtree_c.specs.Folds.{IsPolls, answer_by, given_at, given_by, polled_by}
 use Rattle.qtree_c.specs.declared.c_packet.CPacket.{CPacket}
 use Rattle.qtree_c.proofs.PlaceLemmas.{filled-more, length-more}
@@ -17,7 +17,7 @@ pub record IsPolling (i n now : ℕ) (before after : List CPacket) (d d' : Devic
   pub counted : length firsts ≡ i
   pub places : after ≡ firsts ++ drop i before
   pub given : firsts ++ given_by (n - i) now d' ≡ given_by n now d
-  pub polled : with_memory d.memory (polled_by (n - i) now d') ≡ with_memory d.memory (polled_by n now d)
+  pub polled : polled_by (n - i) now d' ≡ polled_by n now d
   pub answer : answer_by (n - i) now d' ≡ answer_by n now d
 
 pub polling-begins : (n now : ℕ) (before : List CPacket) (d : DeviceSeen) → IsPolling 0 n now before before d d
@@ -28,12 +28,12 @@ polling-begins n now before d =
       counted = refl;
       places = refl;
       given = ap (λ (k : ℕ). given_by k now d) whole;
-      polled = ap (λ (k : ℕ). with_memory d.memory (polled_by k now d)) whole;
+      polled = ap (λ (k : ℕ). polled_by k now d) whole;
       answer = ap (λ (k : ℕ). answer_by k now d) whole;
     }
 
 pub polling-more : (i n now : ℕ) (before after : List CPacket) (d d' d'' : DeviceSeen) (p : CPacket) → IsPolling i n now before after d d' → i < n → length before ≡ n
-    → given_at now d' ≡ Some p → d'' ≡ with_memory d''.memory (after_event (Poll now) d') → IsPolling (i + 1) n now before (set after i p) d d''
+    → given_at now d' ≡ Some p → d'' ≡ after_poll now d' → IsPolling (i + 1) n now before (set after i p) d d''
 polling-more i n now before after d d' d'' p inv lt len gives is =
     let left : n - i ≡ suc (n - (i + 1)) = omega (arith, lt) in
     let next : suc i ≡ i + 1 = omega arith in
@@ -46,7 +46,7 @@ polling-more i n now before after d d' d'' p inv lt len gives is =
           (filled-more inv.firsts before p (omega (arith, inv.counted, lt, len)))
           ∙ ap (λ (k : ℕ). (inv.firsts ++ p ∷ []) ++ drop k before) next);
       given = append_assoc inv.firsts (p ∷ []) (given_by (n - (i + 1)) now d'') ∙ (ap (λ (xs : List CPacket). inv.firsts ++ xs) (sym more) ∙ inv.given);
-      polled = sym (ap (λ (k : ℕ). with_memory d.memory (polled_by k now d')) left ∙ polled-more (n - (i + 1)) now d.memory d' d'' p gives is) ∙ inv.polled;
+      polled = sym (ap (λ (k : ℕ). polled_by k now d') left ∙ polled-more (n - (i + 1)) now d' d'' p gives is) ∙ inv.polled;
       answer = sym (ap (λ (k : ℕ). answer_by k now d') left ∙ answer-more (n - (i + 1)) now d' d'' p gives is) ∙ inv.answer;
     }
 
@@ -55,10 +55,10 @@ pub polling-ends : (i n now : ℕ) (before after : List CPacket) (d d' : DeviceS
 polling-ends i n now before after d d' inv end len =
     let none : n - i ≡ 0 = omega (arith, end) in
     let given : inv.firsts ≡ given_by n now d = sym (append-nil inv.firsts) ∙ (ap (λ (k : ℕ). inv.firsts ++ given_by k now d') (sym none) ∙ inv.given) in
-    let polled : with_memory d.memory d' ≡ with_memory d.memory (polled_by n now d) = ap (λ (k : ℕ). with_memory d.memory (polled_by k now d')) (sym none) ∙ inv.polled in
+    let polled : d' ≡ polled_by n now d = ap (λ (k : ℕ). polled_by k now d') (sym none) ∙ inv.polled in
     let answer : 0 ≡ answer_by n now d = ap (λ (k : ℕ). answer_by k now d') (sym none) ∙ inv.answer in
     record {
-      polled = ap (λ (x : DeviceSeen). with_memory d'.memory x) polled ∙ ap (λ (k : ℕ). with_memory d'.memory (polled_by k now d)) (sym len);
+      polled = polled ∙ ap (λ (k : ℕ). polled_by k now d) (sym len);
       answer = answer ∙ ap (λ (k : ℕ). answer_by k now d) (sym len);
       given = sym inv.counted ∙ (ap length given ∙ ap (λ (k : ℕ). length (given_by k now d)) (sym len));
       packets = inv.places ∙ (ap (λ (xs : List CPacket). xs ++ drop i before) given ∙ ap (λ (k : ℕ). given_by k now d ++ drop i before) (sym len));
@@ -66,16 +66,16 @@ polling-ends i n now before after d d' inv end len =
 
 -- the next one gave none
 pub polling-stops : (i n now code : ℕ) (before after : List CPacket) (d d' d'' : DeviceSeen) → IsPolling i n now before after d d' → i < n → length before ≡ n
-    → given_at now d' ≡ None → d'' ≡ with_memory d''.memory (after_event (Poll now) d') → code ≡ reply_number (reply_to (Poll now) d') → IsPolls now code i before after d d''
+    → given_at now d' ≡ None → d'' ≡ after_poll now d' → code ≡ reply_number (reply_to (Poll now) d') → IsPolls now code i before after d d''
 polling-stops i n now code before after d d' d'' inv lt len gives is answer =
     let left : n - i ≡ suc (n - (i + 1)) = omega (arith, lt) in
     let rest : given_by (n - i) now d' ≡ [] = ap (λ (k : ℕ). given_by k now d') left ∙ given-none (n - (i + 1)) now d' gives in
     let given : inv.firsts ≡ given_by n now d = sym (append-nil inv.firsts) ∙ (ap (λ (xs : List CPacket). inv.firsts ++ xs) (sym rest) ∙ inv.given) in
-    let last : polled_by (n - i) now d' ≡ after_event (Poll now) d' = ap (λ (k : ℕ). polled_by k now d') left ∙ polled-none (n - (i + 1)) now d' gives in
-    let polled : with_memory d.memory (after_event (Poll now) d') ≡ with_memory d.memory (polled_by n now d) = ap (λ (x : DeviceSeen). with_memory d.memory x) (sym last) ∙ inv.polled in
+    let last : polled_by (n - i) now d' ≡ after_poll now d' = ap (λ (k : ℕ). polled_by k now d') left ∙ polled-none (n - (i + 1)) now d' gives in
+    let polled : after_poll now d' ≡ polled_by n now d = sym last ∙ inv.polled in
     let told : reply_number (reply_to (Poll now) d') ≡ answer_by n now d = sym (ap (λ (k : ℕ). answer_by k now d') left ∙ answer-none (n - (i + 1)) now d' gives) ∙ inv.answer in
     record {
-      polled = is ∙ (ap (λ (x : DeviceSeen). with_memory d''.memory x) polled ∙ ap (λ (k : ℕ). with_memory d''.memory (polled_by k now d)) (sym len));
+      polled = is ∙ (polled ∙ ap (λ (k : ℕ). polled_by k now d) (sym len));
       answer = answer ∙ (told ∙ ap (λ (k : ℕ). answer_by k now d) (sym len));
       given = sym inv.counted ∙ (ap length given ∙ ap (λ (k : ℕ). length (given_by k now d)) (sym len));
       packets = inv.places ∙ (ap (λ (xs : List CPacket). xs ++ drop i before) given ∙ ap (λ (k : ℕ). given_by k now d ++ drop i before) (sym len));

@@ -1,6 +1,7 @@
 -- What each call from C does to an open device, and what it answers.
 -- The calls are this project's own; what their events do stands in q_model's specs/Step.antt.
 use Rattle.std.specs.Prelude.{◌≡◌, ◌≢◌, ℕ, ◌<◌, ◌≤◌, length, slice_get, Option, Some, None}
+use Rattle.q_packet.specs.Descriptor.{Descriptor}
 use Rattle.q_codel.specs.declared.loss.Loss.{Loss}
 use Rattle.q_model.specs.declared.event.Event.{Event}
 use Rattle.q_model.specs.declared.event.Event.TheVariants as event
@@ -10,7 +11,8 @@ use Rattle.q_model.specs.Tally.{totals}
 use Rattle.q_model.specs.TreeState.{stats}
 use Rattle.q_device.specs.DeviceSeen.{DeviceSeen, HasRoomFor, reaped}
 use Rattle.qtree_c.specs.Codes.{reply_number}
-use Rattle.qtree_c.specs.Events.{after_event, reply_to, with_memory}
+use Rattle.q_ports.specs.Room.{KeepsPlaces}
+use Rattle.qtree_c.specs.Events.{after_event, after_poll, reply_to, with_memory}
 use Rattle.qtree_c.specs.Structs.{IsPacket, descriptor, event_of, given_or, loss_of, row_of}
 use Rattle.qtree_c.specs.declared.c_event.CEvent.{CEvent}
 use Rattle.qtree_c.specs.declared.c_loss.CLoss.{CLoss}
@@ -23,7 +25,8 @@ Calls does code None new = (code ≡ 50) × (new ≡ None)
 Calls does code (Some d) None = ⊥
 Calls does code (Some d) (Some n) = does d n
 
--- A packet arrived, and its fate is answered; or a field is out of its range, or memory is refused, and nothing happened.
+-- A packet arrived, and its fate is answered; or a field is out of its range, or memory is refused, and nothing happened but that there may
+-- be more places.
 pub record IsArrival (c : CPacket) (now : ℕ) (code : ℕ) (d n : DeviceSeen) : Type 0 where
   pub arrived : code ≤ 6 → n ≡ with_memory n.memory (after_event (event.Arrive (descriptor c) now) d)
   pub fate : code ≤ 6 → code ≡ reply_number (reply_to (event.Arrive (descriptor c) now) d)
@@ -32,10 +35,12 @@ pub record IsArrival (c : CPacket) (now : ℕ) (code : ℕ) (d n : DeviceSeen) :
   pub out_of_range : IsPacket c → code ≢ 42
   pub memory : 6 < code → code ≢ 42 → code ≡ 90
   pub succeeds : IsPacket c → HasRoomFor (descriptor c) d → code ≤ 6
+  pub places : KeepsPlaces d n
+  pub keeps : 6 < code → (other : Descriptor) → HasRoomFor other d → HasRoomFor other n
 
--- a poll, and the packet that it gives where one stood before
+-- a poll, which takes no memory, and the packet that it gives where one stood before
 pub record IsPoll (now code : ℕ) (before after : CPacket) (d n : DeviceSeen) : Type 0 where
-  pub polled : n ≡ with_memory n.memory (after_event (event.Poll now) d)
+  pub polled : n ≡ after_poll now d
   pub answer : code ≡ reply_number (reply_to (event.Poll now) d)
   pub packet : after ≡ given_or before (reply_to (event.Poll now) d)
 
@@ -52,7 +57,7 @@ abbrev pub row_or : CRow → Option Row → CRow
 row_or before None = before
 row_or before (Some r) = row_of r
 
--- the oldest loss is handed out
+-- the oldest loss is handed out, which takes no memory
 pub record IsReap (code : ℕ) (before after : CLoss) (d n : DeviceSeen) : Type 0 where
   pub rest : n ≡ reaped d
   pub answer : code ≡ found_number (slice_get d.waiting 0)

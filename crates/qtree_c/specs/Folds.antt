@@ -3,10 +3,12 @@
 use Rattle.std.specs.Prelude.{◌≡◌, ◌≢◌, ℕ, zero, suc, ◌+◌, ◌<◌, ◌≤◌, List, [], ◌∷◌, ◌++◌, All, map, take, drop, length, slice_index_or, Option, Some, None, option_map}
 use Rattle.q_model.specs.declared.event.Event.{Event}
 use Rattle.q_model.specs.declared.event.Event.TheVariants.{Arrive, Poll}
-use Rattle.q_device.specs.DeviceSeen.{DeviceSeen}
+use Rattle.q_device.specs.DeviceSeen.{DeviceSeen, HasRoomFor}
 use Rattle.q_device.specs.Laws.{given_in}
 use Rattle.qtree_c.specs.Codes.{reply_number}
-use Rattle.qtree_c.specs.Events.{after_event, reply_to, with_memory}
+use Rattle.q_device.specs.DeviceLaws.{HasItsMemory}
+use Rattle.q_ports.specs.Room.{KeepsPlaces, StaysButForPlaces}
+use Rattle.qtree_c.specs.Events.{after_event, after_poll, reply_to, with_memory}
 use Rattle.qtree_c.specs.Structs.{IsPacket, descriptor, loss_of, packet_of, zero_packet}
 use Rattle.qtree_c.specs.declared.c_loss.CLoss.{CLoss}
 use Rattle.qtree_c.specs.declared.c_packet.CPacket.{CPacket}
@@ -30,19 +32,19 @@ or_last None last rest = last
 -- the packets that so many polls at most give, the device after them, and the answer to the last
 abbrev pub given_by : ℕ → ℕ → DeviceSeen → List CPacket
 given_by zero now d = []
-given_by (suc n) now d = and_then (given_at now d) (given_by n now (after_event (Poll now) d))
+given_by (suc n) now d = and_then (given_at now d) (given_by n now (after_poll now d))
 
 abbrev pub polled_by : ℕ → ℕ → DeviceSeen → DeviceSeen
 polled_by zero now d = d
-polled_by (suc n) now d = or_last (given_at now d) (after_event (Poll now) d) (polled_by n now (after_event (Poll now) d))
+polled_by (suc n) now d = or_last (given_at now d) (after_poll now d) (polled_by n now (after_poll now d))
 
 abbrev pub answer_by : ℕ → ℕ → DeviceSeen → ℕ
 answer_by zero now d = 0
-answer_by (suc n) now d = or_last (given_at now d) (reply_number (reply_to (Poll now) d)) (answer_by n now (after_event (Poll now) d))
+answer_by (suc n) now d = or_last (given_at now d) (reply_number (reply_to (Poll now) d)) (answer_by n now (after_poll now d))
 
--- polls into lent places, of which those behind the last packet stay as they were
+-- polls into lent places, of which those behind the last packet stay as they were; they take no memory
 pub record IsPolls (now code count : ℕ) (before after : List CPacket) (d n : DeviceSeen) : Type 0 where
-  pub polled : n ≡ with_memory n.memory (polled_by (length before) now d)
+  pub polled : n ≡ polled_by (length before) now d
   pub answer : code ≡ answer_by (length before) now d
   pub given : count ≡ length (given_by (length before) now d)
   pub packets : after ≡ given_by (length before) now d ++ drop count before
@@ -61,6 +63,17 @@ abbrev pub fates_by : ℕ → List CPacket → DeviceSeen → List ℕ
 fates_by now [] d = []
 fates_by now (c ∷ cs) d = reply_number (reply_to (arrival now c) d) ∷ fates_by now cs (after_event (arrival now c) d)
 
+-- These packets arrived, for which no place was lost. The device then had no room for the next one, and but for more places it has stayed
+-- as it was. Where no packet had arrived it was the very device of before. So who gave the device room for all is never refused.
+pub record StopsAtNext (now : ℕ) (arrived : List CPacket) (next : CPacket) (d n : DeviceSeen) : Type 0 where
+  pub full : DeviceSeen
+  pub made : full ≡ with_memory full.memory (arrived_by now arrived d)
+  pub places : KeepsPlaces d full
+  pub first : length arrived ≡ 0 → full ≡ d
+  pub memory : HasItsMemory full
+  pub room : HasRoomFor (descriptor next) full → ⊥
+  pub stays : StaysButForPlaces full n
+
 -- The first packets arrived, to the end, or to one that is out of its range (42) or for which memory is refused (90). What
 -- stands behind the numbers of their fates stays as it was.
 pub record IsArrivals (now : ℕ) (packets : List CPacket) (code done : ℕ) (before after : List ℕ) (d n : DeviceSeen) : Type 0 where
@@ -72,6 +85,9 @@ pub record IsArrivals (now : ℕ) (packets : List CPacket) (code done : ℕ) (be
   pub stopped : code ≢ 0 → done < length packets
   pub out_of_range : code ≢ 0 → code ≢ 42 → code ≡ 90
   pub next : code ≡ 42 → IsPacket (slice_index_or packets done zero_packet) → ⊥
+  pub next_in_range : code ≡ 90 → IsPacket (slice_index_or packets done zero_packet)
+  pub full : code ≡ 90 → StopsAtNext now (take done packets) (slice_index_or packets done zero_packet) d n
+  pub places : KeepsPlaces d n
 
 -- ---- losses
 

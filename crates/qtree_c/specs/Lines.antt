@@ -1,7 +1,7 @@
 -- What a line of tc does to an open device, and what C is answered.
 -- The lines are those of the script language; what a command does stands in q_model's specs/Step.antt.
 use Rattle.std.specs.Prelude.{◌≡◌, ◌≢◌, ℕ, Result, Ok, Err}
-use Rattle.q_device.specs.DeviceSeen.{DeviceSeen, IsRefusal}
+use Rattle.q_device.specs.DeviceSeen.{DeviceSeen, IsRefusal, IsRefusedAt}
 use Rattle.q_line.specs.declared.line.Line.{Line}
 use Rattle.q_line.specs.declared.line.Line.TheVariants as line
 use Rattle.q_model.specs.Refusal.{refusal_number}
@@ -23,7 +23,7 @@ fault_of f = record { word = fault_word f; number = fault_number f }
 pub record IsCommand (c : Command) (now code : ℕ) (d n : DeviceSeen) : Type 0 where
   pub done : code ≡ 0 → n ≡ with_memory n.memory (after_event (event.Command c now) d)
   pub allowed : code ≡ 0 → reply_number (reply_to (event.Command c now) d) ≡ 0
-  pub refused : code ≢ 0 → (refusal : Refusal) × (code ≡ refusal_number refusal) × IsRefusal (MayTakeMemory c) (reply_to (event.Command c now) d) refusal
+  pub refused : code ≢ 0 → (refusal : Refusal) × (code ≡ refusal_number refusal) × IsRefusal (MayTakeMemory c) (reply_to (event.Command c now) d) refusal × IsRefusedAt c now d refusal
   pub same : code ≢ 0 → n ≡ d
 
 -- a line that is none of the language

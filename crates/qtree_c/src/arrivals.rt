@@ -1,8 +1,12 @@
 //! Packets arrive.
-ghost use Rattle.std.specs.Prelude.{◌≡◌, ◌≢◌, ◌≤◌, ◌<◌, ◌^◌, length};
+ghost use Rattle.std.specs.Prelude.{◌≡◌, ◌≢◌, ◌≤◌, ◌<◌, ◌^◌, ⊥, length};
+ghost use Rattle.q_device.specs.DeviceLaws.{HasItsMemory};
+ghost use Rattle.q_device.specs.DeviceSeen.{HasRoomFor};
+ghost use Rattle.q_ports.specs.Room.{StaysButForPlaces};
 ghost use Rattle.qtree_c.specs.Calls.{Calls, IsArrival};
 ghost use Rattle.qtree_c.specs.Folds.{IsArrivals};
 ghost use Rattle.qtree_c.specs.Codes.{fate_number};
+ghost use Rattle.qtree_c.specs.Structs.{descriptor};
 
 use crate::c_device::CDevice;
 use crate::c_packet::CPacket;
@@ -72,6 +76,8 @@ pub extern "C" fn qtree_arrive_many(
 #[inline(always)]
 fn arrive(device: &mut Device, packet: &CPacket, now: Moment) -> u32
     ensures arrival { IsArrival packet.now now result device.old device.new }
+    ensures full { result ≡ 90 → HasItsMemory device.old × StaysButForPlaces device.old device.new }
+    ensures no_room { result ≡ 90 → HasRoomFor (descriptor packet.now) device.old → ⊥ }
     ensures codes { result ≢ 50 }
     ensures room { result ≢ 43 }
 {

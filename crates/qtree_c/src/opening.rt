@@ -19,6 +19,7 @@ pub extern "C" fn qtree_open(alloc: Global, device: &mut CDevice, settings: &CSe
     ensures new { result ≡ 0 → IfSome device.new.held.device (λ d. d ≡ opened (settings_of settings.now) d.memory) }
     ensures in_range { result ≡ 0 → IsInRange (settings_of settings.now) }
     ensures taken { device.old.held.device ≡ None → IsInRange (settings_of settings.now) → result ≢ 42 }
+    ensures memory { result ≡ 90 → IsInRange (settings_of settings.now) }
     ensures same { result ≢ 0 → device.new.held.device ≡ device.old.held.device }
     ensures codes { device.old.held.device ≡ None → result ≢ 0 → result ≢ 42 → result ≡ 90 }
 {

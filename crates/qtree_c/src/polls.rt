@@ -3,7 +3,7 @@ ghost use Rattle.std.specs.Prelude.{◌≡◌, ◌≤◌, ◌<◌, ◌^◌, Some
 ghost use Rattle.q_model.specs.declared.event.Event.TheVariants as event;
 ghost use Rattle.qtree_c.specs.Calls.{Calls, IsPoll};
 ghost use Rattle.qtree_c.specs.Codes.{reply_number};
-ghost use Rattle.qtree_c.specs.Events.{after_event, reply_to, with_memory};
+ghost use Rattle.qtree_c.specs.Events.{after_poll, reply_to};
 ghost use Rattle.qtree_c.specs.Folds.{given_at, IsPolls};
 
 use crate::c_device::CDevice;
@@ -102,7 +102,7 @@ fn poll_many(device: &mut Device, packets: &mut [CPacket], now: Moment) -> (usiz
 /// What the poll is answered where it gives none.
 #[inline(always)]
 fn next(device: &mut Device, now: Moment, place: &mut Packet) -> Result<CPacket, u32>
-    ensures event { device.new ≡ with_memory device.new.memory (after_event (event.Poll now) device.old) }
+    ensures polled { device.new ≡ after_poll now device.old }
     ensures given { IfOk result (λ packet. given_at now device.old ≡ Some packet) }
     ensures none { OnErr result (given_at now device.old ≡ None) }
     ensures answer { IfErr result (λ code. code ≡ reply_number (reply_to (event.Poll now) device.old)) }

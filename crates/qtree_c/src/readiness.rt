@@ -8,7 +8,7 @@ use crate::codes::{DONE, IS_CLOSED, NOTHING};
 use q_device::Device;
 use std::alloc::Global;
 
-/// The moment before which no poll gives a packet, as things stand.
+/// The moment before which no poll gives a packet, as things stand. A poll at that moment need not give one.
 #[unsafe(no_mangle)]
 pub extern "C" fn qtree_ready_at(alloc: Global, device: &mut CDevice, moment: &mut u64) -> u32
     ensures ready { Calls (IsReady result moment.old moment.new) result device.old.held.device device.new.held.device }

@@ -25,6 +25,7 @@ pub extern "C" fn qtree_ring_open(
     ensures opened { result ≡ 0 → AreOpened index places port.new.held.port outlet.new.held.outlet }
     ensures in_range { result ≡ 0 → (1 ≤ places) × (places ≤ 65536) }
     ensures taken { port.old.held.port ≡ None → outlet.old.held.outlet ≡ None → 1 ≤ places → places ≤ 65536 → result ≢ 42 }
+    ensures memory { result ≡ 90 → (1 ≤ places) × (places ≤ 65536) }
     ensures same { result ≢ 0 → port.new.held.port ≡ port.old.held.port }
     ensures same_outlet { result ≢ 0 → outlet.new.held.outlet ≡ outlet.old.held.outlet }
     ensures codes { port.old.held.port ≡ None → outlet.old.held.outlet ≡ None → result ≢ 0 → result ≢ 42 → result ≡ 90 }

@@ -11,7 +11,7 @@ loop-i-init c = arriving-begins c.args.now c.args.packets.now c.args.codes.now c
 pub returns-then-code-gt6-clause-arrivals : goal.returns-then-code-gt6-clause-arrivals
 returns-then-code-gt6-clause-arrivals c =
     arriving-stops c.loop-i.i c.args.now c.arrive-code.result c.args.packets.now c.args.codes.now c.loop-i.codes c.args.device.now c.loop-i.device c.arrive-code.new.device
-    (slice_index_or c.args.packets.now c.loop-i.i zero_packet) c.loop-i.invariant c.loop-i-test.true refl c.arrive-code.ensures.arrival c.if-code-gt6.true
+    (slice_index_or c.args.packets.now c.loop-i.i zero_packet) c.loop-i.invariant c.loop-i-test.true refl c.arrive-code.ensures.arrival c.if-code-gt6.true c.arrive-code.ensures.full c.arrive-code.ensures.no_room
 
 pub loop-i-preserved : goal.loop-i-preserved
 loop-i-preserved c =

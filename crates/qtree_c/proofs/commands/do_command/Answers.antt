@@ -9,4 +9,4 @@ returns-in-Ok c = command-done c.args.command c.args.now c.args.device.now c.com
 pub returns-in-Err : goal.returns-in-Err
 returns-in-Err c =
     subst (λ (k : ℕ). IsCommand c.args.command c.args.now k c.args.device.now c.command.new.device) (sym c.number.ensures)
-    (command-refused c.args.command c.args.now c.args.device.now c.command.new.device c.in-Err.refusal c.in-Err.ensures.refused c.in-Err.ensures.same)
+    (command-refused c.args.command c.args.now c.args.device.now c.command.new.device c.in-Err.refusal c.in-Err.ensures.refused c.in-Err.ensures.memory c.in-Err.ensures.same)

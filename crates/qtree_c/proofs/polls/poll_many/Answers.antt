@@ -9,12 +9,12 @@ loop-i-init c = polling-begins (length c.args.packets.now) c.args.now c.args.pac
 pub returns-in-Err-clause-polls : goal.returns-in-Err-clause-polls
 returns-in-Err-clause-polls c =
     polling-stops c.loop-i.i (length c.args.packets.now) c.args.now c.in-Err.code c.args.packets.now c.loop-i.packets c.args.device.now c.loop-i.device c.next.new.device
-    c.loop-i.invariant c.loop-i-test.true refl c.in-Err.ensures.none c.next.ensures.event c.in-Err.ensures.answer
+    c.loop-i.invariant c.loop-i-test.true refl c.in-Err.ensures.none c.next.ensures.polled c.in-Err.ensures.answer
 
 pub loop-i-preserved : goal.loop-i-preserved
 loop-i-preserved c =
     polling-more c.loop-i.i (length c.args.packets.now) c.args.now c.args.packets.now c.loop-i.packets c.args.device.now c.loop-i.device c.next.new.device c.in-Ok.packet
-    c.loop-i.invariant c.loop-i-test.true refl c.in-Ok.ensures.given c.next.ensures.event
+    c.loop-i.invariant c.loop-i-test.true refl c.in-Ok.ensures.given c.next.ensures.polled
 
 pub returns-clause-polls : goal.returns-clause-polls
 returns-clause-polls c =

@@ -8,3 +8,6 @@ returns-in-Ok-clause-event c = c.in-Ok.ensures.event
 pub returns-in-Ok-clause-fate : goal.returns-in-Ok-clause-fate
 unfolding reply_to
 returns-in-Ok-clause-fate c = c.in-Ok.ensures.fate
+
+pub returns-in-Ok-clause-places : goal.returns-in-Ok-clause-places
+returns-in-Ok-clause-places c = record { queues = c.arrive_at.ensures.queues; losses = c.arrive_at.ensures.places; events = c.arrive_at.ensures.recorder }

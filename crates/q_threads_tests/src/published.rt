@@ -1,0 +1,164 @@
+//! What gauges may see of a drain: the row after each turn, and nothing of what settles.
+ghost use Rattle.std.specs.Prelude.{◌≡◌, ◌≤◌, ◌<◌, length, map};
+ghost use Rattle.q_model.specs.Tally.{no_totals};
+ghost use Rattle.q_ports.specs.Placed.{ring_of_port};
+ghost use Rattle.q_ports.specs.Rings.{ring_id};
+
+use crate::common::{
+    assert_count, assert_settles, assert_totals, device, driven_all, fill, hundreds, opened, packet,
+};
+use crate::traffic::Traffic;
+use crate::watch::Watch;
+use q_device::Device;
+use q_packet::{Moment, Packet};
+use q_ports::{Booked, Drain, Gauge, Port};
+use std::alloc::{AllocError, Global};
+use std::marker::Brand;
+use std::process::Abort;
+use std::sync::ledger::{Blank, Ledger};
+use std::sync::{Arc, Mutex, Wait};
+use std::test::Fail;
+use std::thread;
+use std::thread::{JoinHandle, Threads};
+
+/// How many packets are driven.
+const PACKETS: usize = 200;
+
+/// How often packets settle while a gauge reads.
+const ROUNDS: u64 = 40;
+
+#[test]
+fn each_turn_of_a_drive_is_shown(rt: HostRuntime) -> Result<(), Fail> {
+    let alloc = rt.alloc();
+    let given = packet(5).expect(&rt, "a packet");
+    let loads = one_load(alloc, given)?;
+    let device = device(alloc, 0).expect(&rt, "memory");
+    let (packets, bytes) = (Blank::new(65), Blank::new(65));
+    watched::<Brand, Brand, _>(&rt, alloc, device, loads, packets, bytes);
+    Ok(())
+}
+
+// The load of one port.
+fn one_load(alloc: Global, given: Packet) -> Result<Vec<Vec<Packet>>, AllocError> {
+    let mut loads = Vec::with_capacity(alloc, 1)?;
+    loads.push(vec![in alloc; given; PACKETS]?)?;
+    Ok(loads)
+}
+
+// Drives one port with a gauge at its gate.
+fn watched<P: Ledger + Send + Sync, B: Ledger + Send + Sync, R: Threads + Wait + Sync + Abort>(
+    rt: &R,
+    alloc: Global,
+    device: Device,
+    loads: Vec<Vec<Packet>>,
+    packets: Blank,
+    bytes: Blank,
+)
+    requires nothing { device.device.tree.top.arrived ≡ no_totals }
+    requires packets { (packets.name ≡ P.name) × (packets.parts ≡ P.parts) × (P.parts ≡ 65) }
+    requires bytes { (bytes.name ≡ B.name) × (bytes.parts ≡ B.parts) × (B.parts ≡ 65) }
+{
+    assert!(rt; loads.len() == 1);
+    let (booked, drain, ports, mut gauges) = opened::<P, B, R>(
+        rt,
+        alloc,
+        device,
+        (1, 4, 1),
+        packets,
+        bytes,
+    );
+    let gauge = gauges.pop().expect(rt, "a gauge");
+    drive_watched(rt, alloc, &booked, drain, ports, loads, gauge);
+}
+
+// Drives past the watch.
+fn drive_watched<
+    P: Ledger + Send + Sync,
+    B: Ledger + Send + Sync,
+    R: Threads + Wait + Sync + Abort,
+>(
+    rt: &R,
+    alloc: Global,
+    booked: &Mutex<Booked<P, B>>,
+    drain: Drain<P, B>,
+    ports: Vec<Port>,
+    loads: Vec<Vec<Packet>>,
+    gauge: Gauge,
+)
+    requires parts { (P.parts ≡ 65) × (B.parts ≡ 65) }
+    requires ports { map ring_of_port ports.items ≡ map ring_id drain.rings }
+    requires loads { length loads.items ≡ length ports.items }
+{
+    let gate = Watch::new(rt, booked, gauge);
+    let (settled, given_up) = driven_all(rt, alloc, booked, drain, ports, loads, &gate, 1, 1);
+    assert_eq!(rt; gate.counts(), (0u64, 0u64));
+    assert_totals(rt, settled, hundreds(PACKETS as u64));
+    assert_count(rt, given_up, 0);
+}
+
+#[test]
+fn what_settles_is_not_shown(rt: HostRuntime) -> Result<(), Fail> {
+    let alloc = rt.alloc();
+    let given = packet(5).expect(&rt, "a packet");
+    for _round in 0..ROUNDS {
+        let traffic = Arc::new(alloc, Traffic::new())?;
+        let device = device(alloc, 0).expect(&rt, "memory");
+        let (packets, bytes) = (Blank::new(65), Blank::new(65));
+        settled::<Brand, Brand, _>(&rt, alloc, device, &traffic, given, packets, bytes);
+    }
+    Ok(())
+}
+
+// A turn takes one packet of three, and the others settle, while a gauge reads.
+fn settled<P: Ledger, B: Ledger, R: Threads + Wait + Abort>(
+    rt: &R,
+    alloc: Global,
+    device: Device,
+    traffic: &Arc<Traffic, Global>,
+    given: Packet,
+    packets: Blank,
+    bytes: Blank,
+)
+    requires nothing { device.device.tree.top.arrived ≡ no_totals }
+    requires packets { (packets.name ≡ P.name) × (packets.parts ≡ P.parts) × (P.parts ≡ 65) }
+    requires bytes { (bytes.name ≡ B.name) × (bytes.parts ≡ B.parts) × (B.parts ≡ 65) }
+{
+    let (booked, mut drain, mut ports, mut gauges) = opened::<P, B, R>(
+        rt,
+        alloc,
+        device,
+        (1, 4, 1),
+        packets,
+        bytes,
+    );
+    fill(rt, &mut ports, 3, given);
+    let turn = drain.turn(rt, alloc, &booked, Moment::zero(), 1);
+    assert!(rt; turn.is_ok());
+    let reading = read_beside(rt, traffic, &mut gauges);
+    wait_for_reads(rt, traffic);
+    assert_settles(rt, &booked, drain, ports, hundreds(3));
+    traffic.end();
+    assert_count(rt, reading.join(rt), 1);
+}
+
+// Waits until the gauge reads.
+fn wait_for_reads<R: Abort>(rt: &R, traffic: &Traffic) {
+    for _look in 0..10_000_000u64 {
+        if traffic.read() > 0 {
+            return;
+        }
+        thread::yield_now();
+    }
+    panic!(rt; "no row was read");
+}
+
+// A thread in which a gauge reads: the most arrivals that it sees.
+fn read_beside<R: Threads + Abort>(
+    rt: &R,
+    traffic: &Arc<Traffic, Global>,
+    gauges: &mut Vec<Gauge>,
+) -> JoinHandle<u64> {
+    let gauge = gauges.pop().expect(rt, "a gauge");
+    let traffic = Arc::try_clone(traffic).expect(rt, "a count");
+    thread::spawn(rt, move || traffic.most_arrivals(gauge)).expect(rt, "a thread")
+}
