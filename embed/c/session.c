@@ -145,7 +145,14 @@ static bool play_words(struct session *session, uint64_t number, struct reader *
     return true;
 }
 
-static void play_line(struct session *session, uint64_t number, const uint8_t *line, size_t len, struct text *report) {
+bool session_open(struct session *session, const struct play_options *options) {
+    *session = (struct session){ .device = QTREE_CLOSED, .seed = options->seed };
+    return qtree_open(&session->device, &options->settings) == QTREE_DONE;
+}
+
+void session_close(struct session *session) { qtree_close(&session->device); }
+
+void session_line(struct session *session, uint64_t number, const uint8_t *line, size_t len, struct text *report) {
     struct reader reader = reader_of(line, len);
     struct word first;
     bool is_read = next_word(&reader, &first);
@@ -180,18 +187,18 @@ bool take_option(struct play_options *options, const char *name, const char *val
 }
 
 int play_script(const struct play_options *options, const uint8_t *script, size_t len, struct text *report) {
-    struct session session = { .device = QTREE_CLOSED, .seed = options->seed };
-    if (qtree_open(&session.device, &options->settings) != QTREE_DONE) {
+    struct session session;
+    if (!session_open(&session, options)) {
         return 2;
     }
     for (uint64_t number = 1; len > 0; number++) {
         const uint8_t *end = memchr(script, '\n', len);
         size_t line = end == NULL ? len : (size_t)(end - script);
-        play_line(&session, number, script, line, report);
+        session_line(&session, number, script, line, report);
         size_t gone = end == NULL ? len : line + 1;
         script += gone;
         len -= gone;
     }
-    qtree_close(&session.device);
+    session_close(&session);
     return report->is_short ? 2 : session.is_refused ? 1 : 0;
 }
