@@ -1,4 +1,4 @@
-//! Finds libqtree.a: in the folder that QTREE_LIB names, else where `make -C embed/c` leaves it.
+//! Finds libqtree.a: in the folder that QTREE_LIB names, else in `lib`, where a package has it, or where `make -C embed/c` leaves it.
 use std::path::PathBuf;
 use std::{env, fs};
 
@@ -9,7 +9,11 @@ fn main() {
     println!("cargo::rerun-if-env-changed=QTREE_LIB");
     let named = env::var_os("QTREE_LIB").map(PathBuf::from);
     let crate_folder = PathBuf::from(env::var_os("CARGO_MANIFEST_DIR").unwrap_or_default());
-    let folder = named.unwrap_or_else(|| crate_folder.join("../c/build"));
+    let beside = ["lib", "../c/build"].map(|it| crate_folder.join(it));
+    let folder = named.unwrap_or_else(|| {
+        let found = beside.iter().find(|it| it.join("libqtree.a").exists());
+        found.unwrap_or(&beside[1]).clone()
+    });
     let library = folder.join("libqtree.a");
     println!("cargo::rerun-if-changed={}", library.display());
     let Ok(bytes) = fs::read(&library) else {
