@@ -1,6 +1,7 @@
 -- The bytes of a queue of short packets are bounded by their number, so that 64 bits hold them.
-use Rattle.std.proofs.Common.{◌≡◌, ℕ, ◌+◌, ◌-◌, ◌*◌, ◌^◌, ◌<◌, ◌≤◌, List, [], ◌∷◌, length, drop, slice_index_or, nat_lt, true, arith, ap, sym, ◌∙◌}
-use Rattle.std.proofs.lemmas.Bool.{false≢true}
+use Rattle.std.proofs.Common.{◌≡◌, ℕ, ◌+◌, ◌-◌, ◌*◌, ◌^◌, ◌<◌, ◌≤◌, List, [], ◌∷◌, length, drop, arith, ap, sym, ◌∙◌}
+use Rattle.std.specs.Prelude.{slice_get, Some}
+use Rattle.std.proofs.lemmas.Option.{none-some, same_Some}
 use Rattle.std.specs.List.{All}
 use Rattle.std.proofs.lemmas.List.Elements.{All-drop}
 use Rattle.q_packet.proofs.TotalsLemmas.{size-cons, size-le}
@@ -25,7 +26,7 @@ IsCounted-front bytes front queue h = record {
 
 -- and so does what is read in front, before it is taken
 pub IsCounted-dropped : (bytes : ℕ) (queue : List Stamped) (front : Stamped) (rest : List Stamped) (len : ℕ)
-    → IsCounted bytes queue → true ≡ nat_lt 0 (length queue) → front ≡ slice_index_or queue 0 front → rest ≡ drop 1 queue → len ≡ front.packet.len → IsCounted (bytes - len) rest
-IsCounted-dropped bytes [] front rest len h some at rest_is same = absurd (false≢true (sym some))
-IsCounted-dropped bytes (s ∷ queue) front rest len h some at rest_is same =
-    rw rest_is (rw (same ∙ ap (λ (s : Stamped). s.packet.len) at) (IsCounted-front bytes s queue h))
+    → IsCounted bytes queue → slice_get queue 0 ≡ Some front → rest ≡ drop 1 queue → len ≡ front.packet.len → IsCounted (bytes - len) rest
+IsCounted-dropped bytes [] front rest len h at rest_is same = absurd (none-some front at)
+IsCounted-dropped bytes (s ∷ queue) front rest len h at rest_is same =
+    rw rest_is (rw (same ∙ sym (ap (λ (s : Stamped). s.packet.len) (same_Some s front at))) (IsCounted-front bytes s queue h))

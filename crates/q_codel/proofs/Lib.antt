@@ -4,5 +4,6 @@ pub mod FrontLemmas
 pub mod Law
 pub mod Promises
 pub mod RangeLaw
+pub mod RingLemmas
 pub mod Root
 pub mod TakeLaws

@@ -26,8 +26,7 @@ pub record IsCounted (bytes : ℕ) (packets : List Stamped) : Type 0 where
   pub short : All (λ s. s.packet.len < 2 ^ 16) packets
   pub few : count packets ≤ most_places
 
--- and of the places that memory was taken for, no more are counted than may be used
-pub record IsKept (bytes : ℕ) (packets : List Stamped) (places : ℕ) (capacity : ℕ) : Type 0 where
+-- nor are the places
+pub record IsKept (bytes : ℕ) (packets : List Stamped) (places : ℕ) : Type 0 where
   pub counted : IsCounted bytes packets
-  pub there : places ≤ capacity
   pub usable : places ≤ most_places

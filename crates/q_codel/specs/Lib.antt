@@ -4,3 +4,4 @@ pub mod Front
 pub mod Gap
 pub mod Laws
 pub mod Losses
+pub mod Ring

@@ -8,14 +8,11 @@ ghost use Rattle.std.specs.Option.{option_map_or};
 use crate::front::Front;
 use crate::limit::Limit;
 use crate::queue::Queue;
+use crate::ring::Ring;
 use crate::sink::Sink;
 use q_packet::{Cause, Moment, Packet, Stamped};
 use std::alloc::{AllocError, Global};
-use std::collections::VecDeque;
 use std::marker::Model;
-
-// No fifo has places for more packets than this: more than any machine has memory for, and their bytes fit a `u64`.
-const MOST_PLACES: usize = 1 << 47;
 
 /// A first-in first-out queue of stamped packets, limited in packets or in bytes (tc-pfifo(8), tc-bfifo(8)).
 ///
@@ -23,26 +20,23 @@ const MOST_PLACES: usize = 1 << 47;
 /// for. Memory is taken by [`Fifo::reserve`] alone; every other call takes none, and `put`, `take` and `head` are O(1).
 #[derive(Drop)]
 pub struct Fifo {
-    packets: VecDeque<Stamped>,
-    // For so many packets there are places, those of its packets among them.
-    places: usize,
+    packets: Ring,
     bytes: u64,
     limit: Limit,
 }
 
 impl Model for Fifo {
-    ghost use Rattle.std.specs.VecDeque.{deque_capacity};
     ghost use Rattle.q_codel.specs.FifoState.{FifoState, IsKept};
 
     ghost Value = { FifoState };
 
     ghost view = { λ f. record {
-      packets = f.packets.items;
+      packets = f.packets.packets;
       limit = f.limit;
-      places = f.places;
+      places = f.packets.places;
     } };
 
-    ghost invariant = { λ f. IsKept f.bytes f.packets.items f.places (deque_capacity f.packets) };
+    ghost invariant = { λ f. IsKept f.bytes f.packets.packets f.packets.places };
 }
 
 impl Fifo {
@@ -55,8 +49,7 @@ impl Fifo {
         ensures places { result.places ≡ 0 }
     {
         Fifo {
-            packets: VecDeque::from_vec(Vec::new(alloc)),
-            places: 0,
+            packets: Ring::new(alloc),
             bytes: 0,
             limit,
         }
@@ -67,32 +60,28 @@ impl Fifo {
     /// It fails only where there was none, and memory for it was refused or 2^47 packets are held. The packets stay.
     pub fn reserve(&mut self) -> Result<(), AllocError>
         ensures same { self.new ≡ record self.old { places = self.new.places } }
+        ensures room { count self.old.packets < self.old.places → self.new ≡ self.old }
         ensures grows { self.old.places ≤ self.new.places }
         ensures ok { OnOk result (count self.new.packets < self.new.places) }
         ensures full { OnErr result (self.old.places ≤ count self.old.packets) }
     {
         // A place that is there needs no call.
-        if self.packets.len() < self.places {
+        if self.packets.len() < self.packets.places() {
             return Ok(());
         }
         self.grow()
     }
 
-    // The same where there may be no place.
+    // The same where there is no place.
     #[cold]
     #[inline(never)]
     fn grow(&mut self) -> Result<(), AllocError>
+        requires { self.old.places ≡ count self.old.packets }
         ensures same { self.new ≡ record self.old { places = self.new.places } }
         ensures grows { self.old.places ≤ self.new.places }
         ensures ok { OnOk result (count self.new.packets < self.new.places) }
-        ensures full { OnErr result (self.old.places ≤ count self.old.packets) }
     {
-        if self.packets.len() >= MOST_PLACES {
-            return Err(AllocError);
-        }
-        self.packets.reserve(1)?;
-        self.places = self.packets.capacity().min(MOST_PLACES);
-        Ok(())
+        self.packets.grow()
     }
 
     /// Whether the limit allows one more packet of `len` bytes.
@@ -121,10 +110,7 @@ impl Fifo {
         requires place { count self.old.packets < self.old.places }
         ensures { self.new ≡ record self.old { packets = self.old.packets ++ record { packet = packet.now; at = now } ∷ [] } }
     {
-        self.packets.push_back_reserved(Stamped {
-            packet: *packet,
-            at: now,
-        });
+        self.packets.push(packet, now);
         self.bytes += packet.len as u64;
     }
 
@@ -140,11 +126,11 @@ impl Fifo {
         ensures front { result ≡ slice_get self.old.packets 0 }
         ensures rest { self.new ≡ record self.old { packets = drop 1 self.old.packets } }
     {
-        let front = self.packets.front()?;
-        let packet = front.packet;
-        // Counted where it stands, and given last: it is then copied once, to where the caller wants it.
+        let front = *self.packets.front()?;
+        let packet = &front.packet;
         self.bytes -= packet.len as u64;
-        self.packets.pop_front()
+        self.packets.advance();
+        Some(front)
     }
 
     /// What CoDel looks at of the packet in front; `None` where the queue is empty. No packet is copied.
@@ -160,18 +146,6 @@ impl Fifo {
         })
     }
 
-    /// The length in bytes of the packet in front; 0 where the queue is empty, since every packet has a byte.
-    pub fn head_len(&self) -> u16
-        ensures value { result ≡ option_map_or (λ (s : Stamped). s.packet.len) (slice_get self.now.packets 0) 0 }
-        ensures some { (0 < result) ↔ (0 < count self.now.packets) }
-    {
-        let Some(front) = self.packets.front() else {
-            return 0;
-        };
-        let packet = &front.packet;
-        packet.len
-    }
-
     /// Takes the packet in front into `out`, and answers its length in bytes; 0 where the queue is empty, and `out` stays
     /// then. The packet is copied once. Its place stays reserved.
     pub fn take_into(&mut self, out: &mut Packet) -> u16
@@ -183,11 +157,12 @@ impl Fifo {
         let Some(front) = self.packets.front() else {
             return 0;
         };
-        // Copied whole from where it stands: of a packet that was taken out first a compiler copies its fields.
-        *out = front.packet;
-        let _ = self.packets.pop_front();
-        self.bytes -= out.len as u64;
-        out.len
+        let packet = &front.packet;
+        let len = packet.len;
+        *out = *packet;
+        self.packets.advance();
+        self.bytes -= len as u64;
+        len
     }
 
     /// The bytes of all its packets. The number is kept, not summed.

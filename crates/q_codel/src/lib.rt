@@ -2,7 +2,7 @@
 //!
 //! - [`Fifo`] is a first-in first-out queue under a [`Limit`] in packets or in bytes. Its memory is taken by `reserve`
 //!   alone; `put`, `take` and `head` are O(1). Each contract says what the call does to the list of packets.
-//!   `put_from` and `take_into` copy a packet once, from and to where the caller has it; `head_len` copies none.
+//!   `put_from` and `take_into` copy a packet once, from and to where the caller has it.
 //! - [`Queue`] is what CoDel takes from. Its ghost members are the list of packets and a frame, `keeps`, which says what a
 //!   take leaves alone: so a queue may be a view of a larger whole. [`Fifo`] is one.
 //! - [`Sink`] is where lost packets go, in order. It is asked for nothing but room. [`Losses`] is one that keeps each
@@ -28,6 +28,7 @@ mod loss;
 mod losses;
 mod parameters;
 mod queue;
+mod ring;
 mod sink;
 mod taken;
 

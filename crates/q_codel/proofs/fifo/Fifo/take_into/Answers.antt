@@ -1,14 +1,13 @@
 use Rattle.std.proofs.Common.{ap, arith}
 use Rattle.q_packet.specs.Descriptor.{Descriptor}
+use Rattle.q_codel.specs.Ring.{RingState}
 use Rattle.q_codel.proofs.Counted.{IsCounted-dropped}
 use Rattle.q_codel.proofs.fifo.Fifo.take_into.Goals as goal
 
 pub invariant_of-self : goal.invariant_of-self
 invariant_of-self c =
-    let h = c.in-Some.ensures in
     record {
-      counted = IsCounted-dropped _ _ c.in-Some.front.now _ c.out-2.inside.len c.self.invariant.counted h.item.0 h.lookup c.pop_front.ensures.rest
-          (ap (λ (p : Descriptor). p.len) c.out-2.view_is);
-      there = let there = c.self.invariant.there in let capacity = c.pop_front.ensures.capacity in omega arith;
-      usable = c.self.invariant.usable;
+      counted = IsCounted-dropped _ _ c.in-Some.front.now _ c.packet.inside.len c.self.invariant.counted c.in-Some.ensures (ap (λ (r : RingState). r.packets) c.advance.ensures)
+          (ap (λ (p : Descriptor). p.len) c.packet.view_is);
+      usable = omega (arith, c.self.invariant.usable, ap (λ (r : RingState). r.places) c.advance.ensures);
     }
