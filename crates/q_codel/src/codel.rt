@@ -7,7 +7,7 @@ use crate::parameters::Parameters;
 use crate::queue::Queue;
 use crate::sink::Sink;
 use crate::taken::Taken;
-use q_packet::{Cause, Moment};
+use q_packet::{Cause, Moment, SOME_PACKET};
 use std::marker::Model;
 
 /// The settings and the state of CoDel on one queue, put together (RFC 8289, section 5).
@@ -101,7 +101,7 @@ impl Codel {
     /// Takes the next packet to send, at the moment `now`, and tells `sink` of those that are dropped before it, with the
     /// cause `CoDel`. The answer is `None` exactly where the queue is empty. It takes no memory.
     ///
-    /// `sink` needs room for as many packets as the queue holds. [`ControlState::take`] says what late packets and marks do.
+    /// `sink` needs room for as many packets as the queue holds. [`ControlState::take_into`] says what late packets and marks do.
     pub fn take<Q: Queue, S: Sink>(
         &mut self,
         queue: &mut Q,
@@ -120,6 +120,10 @@ impl Codel {
         ensures kept { Q.keeps queue.old queue.new }
         ensures sink_kept { S.keeps sink.old sink.new }
     {
-        self.state.take(&self.parameters, queue, now, sink)
+        let mut packet = SOME_PACKET;
+        let marked = self
+            .state
+            .take_into(&self.parameters, queue, now, sink, &mut packet)?;
+        Some(Taken { packet, marked })
     }
 }

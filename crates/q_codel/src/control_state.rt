@@ -1,24 +1,24 @@
-ghost use Rattle.std.specs.Prelude.{◌≡◌, ◌≤◌, ◌<◌, ◌+◌, ◌^◌, ◌↔◌, ◌∷◌, ◌++◌, List, true, false, drop, take, option_map, IsSome, IfSome, IfNone};
+ghost use Rattle.std.specs.Prelude.{◌≡◌, ◌≤◌, ◌<◌, ◌+◌, ◌^◌, ◌↔◌, ◌∷◌, ◌++◌, List, Some, true, false, drop, take, option_map, slice_get, IsSome, IfSome, IfNone};
 ghost use Rattle.std.specs.Option.{option_map_or};
 ghost use Rattle.q_packet.specs.Totals.{count, size};
 ghost use Rattle.q_packet.specs.declared.stamped.Stamped.{Stamped};
 ghost use Rattle.q_codel.specs.Front.{front_of, IsFront};
 ghost use Rattle.q_codel.specs.declared.taken.Taken.{Taken};
 ghost use Rattle.q_codel.specs.Losses.{losses_of};
+ghost use Rattle.q_codel.specs.Codel.{leaving};
 
 use crate::control_law::gap;
 use crate::front::Front;
 use crate::parameters::Parameters;
 use crate::queue::Queue;
 use crate::sink::Sink;
-use crate::taken::Taken;
 use q_packet::{Cause, Ecn, Moment, Packet};
 use std::marker::Model;
 
 /// The state of CoDel on one queue, without its settings: 32 bytes, so that many queues may each have one.
 ///
 /// A contract sees it as the record `CodelVars`, and puts it together with the settings by `joined`. It holds no packet:
-/// [`ControlState::take`] is lent the queue and the settings. The settings may differ from call to call.
+/// [`ControlState::take_into`] is lent the queue and the settings. The settings may differ from call to call.
 #[derive(Clone, Copy, PartialEq, Eq, Debug)]
 pub struct ControlState {
     pub(crate) first_above_time: u64,
@@ -106,48 +106,13 @@ impl ControlState {
         self.dropping
     }
 
-    /// Takes the next packet to send, at the moment `now`, and tells `sink` of those that are dropped before it, with the
-    /// cause `CoDel`. The answer is `None` exactly where the queue is empty. It takes no memory.
+    /// Takes the next packet to send into `out`, at the moment `now`, and tells `sink` of those that are dropped before it, with
+    /// the cause `CoDel`. The answer is whether the packet was marked; `None` exactly where the queue is empty, and `out` stays
+    /// then. The packet is copied once, and no memory is taken.
     ///
     /// `sink` needs room for as many packets as the queue holds. A packet that is stamped later than `now` counts as one
     /// that came just now. A mark sets the packet's codepoint to `Ce` and does to the state what a drop does (RFC 8289,
     /// section 5.5; RFC 3168, section 5); that it also ends the call is this project's choice.
-    pub fn take<Q: Queue, S: Sink>(
-        &mut self,
-        parameters: &Parameters,
-        queue: &mut Q,
-        now: Moment,
-        sink: &mut S,
-    ) -> Option<Taken>
-        requires { count (Q.packets queue.old) ≤ S.room sink.old }
-        ensures taken { result ≡ taken (joined parameters.now self.old) now (Q.packets queue.old) }
-        ensures some { IsSome result ↔ (0 < count (Q.packets queue.old)) }
-        ensures left { Q.packets queue.new ≡ left (joined parameters.now self.old) now (Q.packets queue.old) }
-        ensures state { joined parameters.now self.new
-            ≡ after (joined parameters.now self.old) now (Q.packets queue.old) }
-        ensures lost { let all = Q.packets queue.old in
-            S.losses sink.new ≡ S.losses sink.old
-            ++ losses_of Cause.CoDel (take (drops (joined parameters.now self.old) now all) all) }
-        ensures room { S.room sink.new + drops (joined parameters.now self.old) now (Q.packets queue.old)
-            ≡ S.room sink.old }
-        ensures kept { Q.keeps queue.old queue.new }
-        ensures sink_kept { S.keeps sink.old sink.new }
-    {
-        let Some(front) = queue.front() else {
-            self.first_above_time = 0;
-            self.dropping = false;
-            return None;
-        };
-        let marked = self.choose(parameters, front, queue, now, sink);
-        let mut packet = queue.take().unwrap().packet;
-        if marked {
-            packet.ecn = Ecn::Ce;
-        }
-        Some(Taken { packet, marked })
-    }
-
-    /// Does what [`ControlState::take`] does, and writes the packet into `out`, so that it is copied once. The answer is whether
-    /// it was marked; `None` where the queue is empty, and `out` stays then.
     pub fn take_into<Q: Queue, S: Sink>(
         &mut self,
         parameters: &Parameters,
@@ -177,15 +142,43 @@ impl ControlState {
             return None;
         };
         let marked = self.choose(parameters, front, queue, now, sink);
-        queue.take_into(out);
-        if marked {
-            out.ecn = Ecn::Ce;
-        }
+        give_head(queue, marked, out);
         Some(marked)
     }
 
-    /// What is kept once the head goes as it stands (RFC 8289, section 5.6); `None` where it is late, and [`ControlState::take_into`] is
-    /// to drop or mark.
+    /// Does what [`ControlState::take_into`] does, where [`ControlState::passed`] found the head late, which is not judged again:
+    /// `front` is what is looked at of it. The answer is whether the packet was marked.
+    pub fn take_late_into<Q: Queue, S: Sink>(
+        &mut self,
+        parameters: &Parameters,
+        front: Front,
+        queue: &mut Q,
+        now: Moment,
+        sink: &mut S,
+        out: &mut Packet,
+    ) -> bool
+        requires front { IsFront front (Q.packets queue.old) }
+        requires late { is_late (joined parameters.now self.old) now (Q.packets queue.old) ≡ true }
+        requires room { count (Q.packets queue.old) ≤ S.room sink.old }
+        ensures taken { Some (record { packet = out.new; marked = result }) ≡ taken (joined parameters.now self.old) now (Q.packets queue.old) }
+        ensures left { Q.packets queue.new ≡ left (joined parameters.now self.old) now (Q.packets queue.old) }
+        ensures state { joined parameters.now self.new
+            ≡ after (joined parameters.now self.old) now (Q.packets queue.old) }
+        ensures lost { let all = Q.packets queue.old in
+            S.losses sink.new ≡ S.losses sink.old
+            ++ losses_of Cause.CoDel (take (drops (joined parameters.now self.old) now all) all) }
+        ensures room { S.room sink.new + drops (joined parameters.now self.old) now (Q.packets queue.old)
+            ≡ S.room sink.old }
+        ensures kept { Q.keeps queue.old queue.new }
+        ensures sink_kept { S.keeps sink.old sink.new }
+    {
+        let marked = self.choose_late(parameters, front, queue, now, sink);
+        give_head(queue, marked, out);
+        marked
+    }
+
+    /// What is kept once the head goes as it stands (RFC 8289, section 5.6); `None` where it is late, and
+    /// [`ControlState::take_late_into`] is to drop or mark.
     ///
     /// `front` is what is looked at of the head, and `behind` the bytes of all packets behind it.
     pub fn passed(
@@ -385,6 +378,20 @@ impl ControlState {
             return false;
         }
         self.first_above_time <= now.ns()
+    }
+}
+
+// Takes the head of a queue that has one into `out`, with the codepoint `Ce` where it is marked.
+#[inline(always)]
+fn give_head<Q: Queue>(queue: &mut Q, marked: bool, out: &mut Packet)
+    requires some { 0 < count (Q.packets queue.old) }
+    ensures given { Some out.new ≡ option_map (λ (s : Stamped). leaving marked s.packet) (slice_get (Q.packets queue.old) 0) }
+    ensures rest { Q.packets queue.new ≡ drop 1 (Q.packets queue.old) }
+    ensures kept { Q.keeps queue.old queue.new }
+{
+    queue.take_into(out);
+    if marked {
+        out.ecn = Ecn::Ce;
     }
 }
 

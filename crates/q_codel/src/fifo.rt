@@ -126,11 +126,10 @@ impl Fifo {
         ensures front { result ≡ slice_get self.old.packets 0 }
         ensures rest { self.new ≡ record self.old { packets = drop 1 self.old.packets } }
     {
-        let front = *self.packets.front()?;
+        let front = self.packets.front()?;
         let packet = &front.packet;
         self.bytes -= packet.len as u64;
-        self.packets.advance();
-        Some(front)
+        Some(self.packets.pop())
     }
 
     /// What CoDel looks at of the packet in front; `None` where the queue is empty. No packet is copied.
@@ -160,7 +159,7 @@ impl Fifo {
         let packet = &front.packet;
         let len = packet.len;
         *out = *packet;
-        self.packets.advance();
+        let _ = self.packets.pop();
         self.bytes -= len as u64;
         len
     }

@@ -10,9 +10,10 @@
 //! - [`gap`] is the interval over the root of the count, exactly: its contract says so in two ways, as the greatest number
 //!   that fits and as the definition's.
 //! - [`ControlState`] is the state of one queue's CoDel, in 32 bytes, and [`Parameters`] are its settings, which many states
-//!   may be lent. The contract of [`ControlState::take`] says what is sent and whether it is marked ([`Taken`]), what is
+//!   may be lent. The contract of [`ControlState::take_into`] says what is sent and whether it is marked, what is
 //!   lost, what stays in the queue and what the state becomes, each as a function of the queue, the state, the settings and
-//!   the moment. These functions (`specs/Codel.antt`) count the heads that go by a least number.
+//!   the moment. These functions (`specs/Codel.antt`) count the heads that go by a least number. A caller that takes most
+//!   heads by itself asks [`ControlState::passed`] first, and leaves only the late ones to [`ControlState::take_late_into`].
 //! - [`Codel`] is the two together, for one queue that has settings of its own.
 //! - [`laws`] states what RFC 8289 promises, over those functions.
 #![tactic(auto)]

@@ -113,13 +113,16 @@ impl Ring {
         Some(&self.cells[cell_of(self.first, self.cells.len())])
     }
 
-    /// Lets the packet in front go. Its place stays.
+    /// Takes the packet in front, which is there. It is copied last, from its cell to where the caller wants it.
     #[inline(always)]
-    pub(crate) fn advance(&mut self)
+    pub(crate) fn pop(&mut self) -> Stamped
         requires { 0 < length self.old.packets }
-        ensures { self.new ≡ record self.old { packets = drop 1 self.old.packets } }
+        ensures front { slice_get self.old.packets 0 ≡ Some result }
+        ensures rest { self.new ≡ record self.old { packets = drop 1 self.old.packets } }
     {
+        let cell = cell_of(self.first, self.cells.len());
         self.first = self.first.wrapping_add(1);
+        self.cells[cell]
     }
 }
 

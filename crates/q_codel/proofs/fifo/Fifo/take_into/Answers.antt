@@ -7,7 +7,7 @@ use Rattle.q_codel.proofs.fifo.Fifo.take_into.Goals as goal
 pub invariant_of-self : goal.invariant_of-self
 invariant_of-self c =
     record {
-      counted = IsCounted-dropped _ _ c.in-Some.front.now _ c.packet.inside.len c.self.invariant.counted c.in-Some.ensures (ap (λ (r : RingState). r.packets) c.advance.ensures)
+      counted = IsCounted-dropped _ _ c.in-Some.front.now _ c.packet.inside.len c.self.invariant.counted c.in-Some.ensures (ap (λ (r : RingState). r.packets) c.pop.ensures.rest)
           (ap (λ (p : Descriptor). p.len) c.packet.view_is);
-      usable = omega (arith, c.self.invariant.usable, ap (λ (r : RingState). r.places) c.advance.ensures);
+      usable = omega (arith, c.self.invariant.usable, ap (λ (r : RingState). r.places) c.pop.ensures.rest);
     }
