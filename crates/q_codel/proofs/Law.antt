@@ -1,5 +1,5 @@
 -- How the heads go one by one, against the definition of how many go at once.
-use Rattle.std.proofs.Common.{◌≡◌, ℕ, zero, suc, ◌+◌, ◌-◌, ◌^◌, ◌<◌, ◌≤◌, min, Bool, true, false, not, ◌&&◌, ◌||◌, nat_lt, nat_le, Option, Some, List, [], ◌∷◌, length, drop, arith, refl, sym, ap, ◌∙◌, subst, below_more, take, ◌++◌, append_assoc, drop-cons, length-drop}
+use Rattle.std.proofs.Common.{◌≡◌, ℕ, zero, suc, ◌+◌, ◌-◌, ◌^◌, ◌<◌, ◌≤◌, min, Bool, true, false, not, ◌&&◌, ◌||◌, nat_lt, nat_le, Some, List, [], ◌∷◌, length, drop, arith, refl, sym, ap, ◌∙◌, subst, below_more, take, ◌++◌, append_assoc, drop-cons, length-drop}
 use Rattle.std.specs.Prelude.{slice_get, ◌==◌}
 use Rattle.std.proofs.lemmas.Bool.{lt-ltb, le-ltb, le-leb, lt-leb, ltb-true, ne_eqb, and_parts, or_left, or_right, or_from, not_from_true, not_from_false, cond-true, cond-false}
 use Rattle.std.proofs.lemmas.Option.{slice_get-get_or}
@@ -249,11 +249,6 @@ module _ (s : CodelState) (now : ℕ) (all : List Stamped) (j : ℕ) (t : CodelS
           more_state =
               ap (λ (y : CodelVars). joined p (record y { drop_next = y.drop_next + g })) unmoved
               ∙ next_state g (length ∙ ap (λ (y : CodelVars). gap_of p.interval y.count) unmoved)
-
--- what was taken from the front, and what is left
-pub front-is : (queue rest : List Stamped) (front : Stamped) (taken : Option Stamped) → taken ≡ slice_get queue 0 → taken ≡ Some front → rest ≡ drop 1 queue → queue ≡ front ∷ rest
-front-is [] rest front taken e f r = cc
-front-is (x ∷ queue) rest front taken e f r = cc
 
 -- one loss more
 pub lost_more : (cause : Cause) (all : List Stamped) (j : ℕ) (head : Stamped) (rest : List Stamped) → drop j all ≡ head ∷ rest → losses_of cause (take j all) ++ record { packet = head.packet; cause = cause } ∷ [] ≡ losses_of cause (take (suc j) all)

@@ -5,7 +5,7 @@ use native.Mathlib.Nat.{mod-eq-sub-mod, mod-add-mod, mul-add, add-mul}
 use Rattle.std.proofs.Math.Pow.{mod-mod-pow}
 use Rattle.std.proofs.Math.Nat.{div-add-mod, mul-add-mod_self_left, two-pow-succ, pow-le-pow_right}
 use Rattle.std.proofs.lemmas.Bool.{cases_lt}
-use Rattle.std.proofs.lemmas.Nat.{mod_below, pow_pos}
+use Rattle.std.proofs.lemmas.Nat.{mod_below}
 use Rattle.std.proofs.lemmas.List.{get_or_append_left, get_or-append_right, get_or-set_same, get_or-set_other, length-take, length-replicate}
 use Rattle.q_packet.specs.declared.stamped.Stamped.{Stamped}
 use Rattle.q_codel.specs.Ring.{RingState, blank, standing, between, IsPower, IsRing}
@@ -19,9 +19,6 @@ mod_round n x p =
 
 mod_next : (a b n : ℕ) → a % n ≡ b % n → (a + 1) % n ≡ (b + 1) % n
 mod_next a b n e = sym (mod-add-mod a n 1) ∙ ap (λ (x : ℕ). (x + 1) % n) e ∙ mod-add-mod b n 1
-
-pub power_pos : (n : ℕ) → IsPower n → 0 < n
-power_pos n p = subst (λ (m : ℕ). 0 < m) (sym p.is) (pow_pos p.exponent)
 
 -- the remainder of a sum wraps once at most
 wraps_once : (n r d : ℕ) → r < n → d < n → ((r + d < n) × ((r + d) % n ≡ r + d)) ⊎ ((n ≤ r + d) × ((r + d) % n ≡ r + d - n))

@@ -47,13 +47,6 @@ names_rotated states (p ∷ ps) = map-append (name_in states) ps (p ∷ [])
 pub names_pushed : (states : List NamedState) (ps : List ℕ) (p n : ℕ) → name_in states p ≡ n → names_in states (ps ++ p ∷ []) ≡ names_in states ps ++ n ∷ []
 names_pushed states ps p n e = map-append (name_in states) ps (p ∷ []) ∙ ap (λ m. names_in states ps ++ m ∷ []) e
 
--- the names of a table that has changed
-names_by : (old new : List NamedState) (ps : List ℕ) → All (λ p. name_in new p ≡ name_in old p) ps → names_in new ps ≡ names_in old ps
-names_by old new [] same = refl
-names_by old new (p ∷ ps) same =
-    ap (λ n. n ∷ names_in new ps) (All-head (λ p. name_in new p ≡ name_in old p) p ps same)
-    ∙ ap (λ ns. name_in old p ∷ ns) (names_by old new ps (All-tail (λ p. name_in new p ≡ name_in old p) p ps same))
-
 name_with : (new : NamedState) (states : List NamedState) (p : ℕ) → name_in (with_state new states) p ≡ name_in states p
 name_with new [] p = refl
 name_with new (c ∷ states) zero = elim (cases_Bool (eqb new.name c.name)) [

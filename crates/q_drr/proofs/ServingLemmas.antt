@@ -169,7 +169,3 @@ one_place {X} key xs differ i j x y at_i at_j same = elim (cases_lt i j) [
     apart i j x y before at_i at_j same =
         differ i j x before (slice_get_within xs j y at_j)
         (ap key (get_or_from_slice_get xs i x x at_i) ∙ same ∙ sym (ap key (get_or_from_slice_get xs j y x at_j)))
-
--- so no class that is asked in its turn was asked before
-pub serving-unasked : (first : Schedule) (i j : ℕ) (e f : Entry) → IsLawful first → slice_get first.active i ≡ Some e → slice_get first.active j ≡ Some f → e.class ≡ f.class → i ≡ j
-serving-unasked first i j e f law at_i at_j same = one_place (λ (x : Entry). x.class) first.active law.entries_differ i j e f at_i at_j same

@@ -53,9 +53,6 @@ module _ (max_len turns : ℕ) (states : List NamedState) (circle : Circle) (h :
   pub spare : (n : ℕ) → n < 2 ^ 16 → has_state n states ≡ false → length states < 2 ^ 16
   spare n small absent = place_to_spare states n (2 ^ 16) differ (All-weaker (IsState max_len) (λ c. c.name < 2 ^ 16) (λ c i. i.small_name) states h.kept.each) absent small
 
-  pub has_room : (place : ℕ) → place < length states → place < circle.room
-  has_room place lt = omega (arith, lt, h.room)
-
   pub lawful : (s : Schedule) → shown max_len turns states (names_in states circle.order) ≡ s → IsLawful s
   lawful s view = lawful_view max_len turns states (names_in states circle.order) s view h.counted_turns h.kept
 

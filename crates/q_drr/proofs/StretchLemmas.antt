@@ -8,10 +8,6 @@ use Rattle.q_drr.proofs.DifferLemmas.{EntriesDiffer, entries_apart}
 use Rattle.q_drr.proofs.KeyLemmas.{differ_push}
 use Rattle.q_drr.proofs.LookupLemmas.{deficit-here, deficit-behind}
 
-or_true : (x y : Bool) → y ≡ true → (x || y) ≡ true
-or_true true y e = refl
-or_true false y e = e
-
 or_exchange : (a b c : Bool) → (a || (b || c)) ≡ (b || (a || c))
 or_exchange true true c = refl
 or_exchange true false c = refl

@@ -1,8 +1,6 @@
 -- What an active list shows after a turn of the class in front.
 use Rattle.std.proofs.Common.{◌≡◌, ℕ, ◌+◌, ◌-◌, ◌<◌, ◌≤◌, Bool, true, false, List, [], ◌∷◌, ◌++◌, map, refl, sym, ap, ◌∙◌, subst, arith, take, drop, Some}
 use Rattle.std.specs.Prelude.{if◌then◌else◌, slice_get, nat_le}
-use Rattle.std.specs.List.{All}
-use Rattle.std.proofs.lemmas.List.Elements.{All-head}
 use Rattle.std.proofs.lemmas.Bool.{le-leb, lt-leb}
 use Rattle.std.proofs.lemmas.List.{map-append}
 use Rattle.q_drr.specs.Links.{is_among}
@@ -42,11 +40,6 @@ granted_shown max_len turns len states n order new differ there absent short nam
     same_schedule max_len _ _ _ _ _ _ (classes_with new states differ (quantum ∙ ap (λ m. (state_of m states).quantum) (sym name)))
     (e ∙ sym (ap (λ (t : Bool). if t then record (entry_in states n) { deficit = (state_of n states).deficit - len } ∷ map (entry_in states) order
     else map (entry_in states) order ++ after_grants (quantum_of n (map class_in states)) 1 (entry_in states n) ∷ []) (lt-leb len (state_of n states).deficit short))) refl
-
--- the class in front
-pub front_there : (states : List NamedState) (order : List ℕ) (n : ℕ) → slice_get order 0 ≡ Some n → All (λ m. has_state m states ≡ true) order → has_state n states ≡ true
-front_there states [] n front known = cc
-front_there states (m ∷ order) n front known = let e : m ≡ n = cc in ap (λ k. has_state k states) (sym e) ∙ All-head (λ m. has_state m states ≡ true) m order known
 
 pub front_deficit : (max_len turns : ℕ) (states : List NamedState) (order : List ℕ) (n len : ℕ) → slice_get order 0 ≡ Some n
     → turn_answer len (shown max_len turns states order).active ≡ (if nat_le len (state_of n states).deficit then Send else Granted)

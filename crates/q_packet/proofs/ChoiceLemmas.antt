@@ -1,5 +1,5 @@
 -- The choice by least need: that it is the chosen place and no other, and what one more need at either end makes of it.
-use Rattle.std.proofs.Common.{◌≡◌, ℕ, zero, suc, ◌<◌, ◌≤◌, nat_le, Bool, true, false, cond, List, [], ◌∷◌, ◌++◌, length, Option, Some, None, IfSome, refl, sym, ap, ap₂, ◌∙◌, arith, inl, inr, subst}
+use Rattle.std.proofs.Common.{◌≡◌, ℕ, zero, suc, ◌<◌, ◌≤◌, nat_le, Bool, true, false, cond, List, [], ◌∷◌, ◌++◌, length, Option, Some, None, IfSome, refl, sym, ap, ◌∙◌, arith, inl, inr, subst}
 use Rattle.std.specs.Prelude.{slice_index_or}
 use Rattle.std.proofs.lemmas.Bool.{cases_lt, le-leb, lt-leb, cond-true, cond-false}
 use Rattle.q_packet.specs.Choice.{Choice, later, sooner, choose, IsChosen}
@@ -150,32 +150,9 @@ choice_is (Some j ∷ needs) = sooner_is j needs (choose needs) (choice_is needs
 pub chosen_is : (needs : List (Option ℕ)) (c : Choice) → choose needs ≡ Some c → IsChosen needs c
 chosen_is needs c e = subst (IsChoiceOf needs) e (choice_is needs)
 
-pub none_is : (needs : List (Option ℕ)) → choose needs ≡ None → NoneNeeds needs
-none_is needs e = subst (IsChoiceOf needs) e (choice_is needs)
-
 -- the choice stands within its list
 pub choose-within : (needs : List (Option ℕ)) → IfSome (choose needs) (λ c. c.place < length needs)
 choose-within needs = within (choose needs) (choice_is needs) where
   within : (o : Option Choice) → IsChoiceOf needs o → IfSome o (λ c. c.place < length needs)
   within None h = tt
   within (Some c) h = h.inside
-
--- two places that are both the chosen one are one
-pub chosen_same : (needs : List (Option ℕ)) (c d : Choice) → IsChosen needs c → IsChosen needs d → c ≡ d
-chosen_same needs c d h i =
-    let rounds : c.rounds ≡ d.rounds = omega (arith, h.least d.place d.rounds i.needed, i.least c.place c.rounds h.needed) in
-    let place : c.place ≡ d.place = elim (cases_lt c.place d.place) [
-      | inl before ↦ absurd (omega (arith, rounds, i.first c.place c.rounds before h.needed))
-      | inr after ↦ elim (cases_lt d.place c.place) [
-        | inl beyond ↦ absurd (omega (arith, rounds, h.first d.place d.rounds beyond i.needed))
-        | inr within ↦ omega arith
-      ]
-    ] in
-    ap₂ (λ (r p : ℕ). record { rounds = r; place = p }) rounds place
-
--- so the choice is the one place of which that holds
-pub choose-is : (needs : List (Option ℕ)) (c : Choice) → IsChosen needs c → choose needs ≡ Some c
-choose-is needs c h = choice (choose needs) (choice_is needs) where
-  choice : (o : Option Choice) → IsChoiceOf needs o → o ≡ Some c
-  choice None none = let nothing = none c.place in let something = h.needed in cc
-  choice (Some d) i = ap Some (chosen_same needs d c i h)

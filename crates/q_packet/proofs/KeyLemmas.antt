@@ -1,5 +1,5 @@
 -- The bytes of a flow key: there are 38, and keys whose numbers fit their bytes have the same bytes only where they are equal.
-use Rattle.std.proofs.Common.{◌≡◌, ℕ, ◌<◌, ◌^◌, Bool, true, false, List, [], ◌++◌, length, get_or, drop, refl, sym, ap, ◌∙◌, arith}
+use Rattle.std.proofs.Common.{◌≡◌, ℕ, ◌<◌, ◌^◌, Bool, true, false, List, [], ◌++◌, get_or, drop, sym, ap, ◌∙◌, arith}
 use Rattle.std.specs.Prelude.{if◌then◌else◌, ◌==◌, IsTrue}
 use Rattle.std.proofs.lemmas.Grind.{common_steps}
 use Rattle.std.proofs.lemmas.List.{drop_at}
@@ -35,10 +35,6 @@ front_number n x y xs ys x_fits y_fits e =
 behind_number : (n x y : ℕ) (xs ys : List ℕ) → big_bytes n x ++ xs ≡ big_bytes n y ++ ys → xs ≡ ys
 behind_number n x y xs ys e =
     sym (drop_at (big_bytes n x) xs n (length-bytes_high_first n x)) ∙ ap (drop n) e ∙ drop_at (big_bytes n y) ys n (length-bytes_high_first n y)
-
-pub length-key_bytes : (k : Key) → length (key_bytes k) ≡ 38
-unfolding key_bytes
-length-key_bytes k = refl
 
 -- keys with the same bytes are the same key
 pub key_from_bytes : (a b : Key) → FitsBytes a → FitsBytes b → key_bytes a ≡ key_bytes b → a ≡ b

@@ -1,6 +1,6 @@
 -- The least number below a bound at which a test holds: it is within the bound, the test holds there and at no lower
 -- number, and nothing else is so. `p` is the test and `n` the bound throughout.
-use Rattle.std.proofs.Common.{◌≡◌, ℕ, zero, suc, ◌+◌, ◌-◌, ◌<◌, ◌≤◌, Bool, true, false, inl, inr, refl, sym, ap, ◌∙◌, arith}
+use Rattle.std.proofs.Common.{◌≡◌, ℕ, zero, suc, ◌<◌, ◌≤◌, Bool, true, false, inl, inr, refl, sym, ap, ◌∙◌, arith}
 use Rattle.std.proofs.lemmas.Bool.{cases_Bool, cases_lt, cond-true, cond-false, true≢false}
 use Rattle.q_packet.specs.Least.{least}
 
@@ -73,41 +73,8 @@ least_is p n k within holds fails =
 pub least_none : (p : ℕ → Bool) (n : ℕ) → ((i : ℕ) → i < n → p i ≡ false) → least p n ≡ n
 least_none p n fails = least_is p n n (omega arith) (λ below. absurd (omega arith)) fails
 
--- a higher bound changes nothing once the test holds below the lower one
-pub least_bound : (p : ℕ → Bool) (m n : ℕ) → m ≤ n → least p m < m → least p n ≡ least p m
-least_bound p m n within below =
-    least_is p n (least p m) (omega arith) (λ _. least_holds p m below) (least_gt p m)
-
--- any two bounds above a number at which it holds give the same
-pub least_bounds : (p : ℕ → Bool) (m n k : ℕ) → k < m → k < n → p k ≡ true → least p m ≡ least p n
-least_bounds p m n k in_m in_n holds = elim (cases_lt m n) [
-  | inl lower ↦ sym (least_bound p m n (omega arith) (least_lt p m k in_m holds))
-  | inr higher ↦ least_bound p n m higher (least_lt p n k in_n holds)
-]
-
 -- tests that agree below the bound have the same least number
 pub least_same : (p q : ℕ → Bool) (n : ℕ) → ((i : ℕ) → i < n → p i ≡ q i) → least p n ≡ least q n
 least_same p q n agree = least_is p n (least q n) (least_le q n)
     (λ below. agree (least q n) below ∙ least_holds q n below)
     (λ i lower. agree i (omega (arith, least_le q n)) ∙ least_gt q n i lower)
-
--- a test that holds wherever another does has no higher least number
-pub least_weaker : (p q : ℕ → Bool) (n : ℕ) → ((i : ℕ) → i < n → q i ≡ true → p i ≡ true) → least p n ≤ least q n
-least_weaker p q n weaker = elim (cases_lt (least q n) n) [
-  | inl below ↦ least_at_most p n (least q n) (weaker (least q n) below (least_holds q n below))
-  | inr at_end ↦ omega (arith, least_le p n)
-]
-
--- from k on, where it fails at each number below k
-pub least_from : (p : ℕ → Bool) (n k : ℕ) → ((i : ℕ) → i < k → p i ≡ false) → least p (n + k) ≡ least (λ i. p (i + k)) n + k
-least_from p n k fails =
-    let rest : ℕ → Bool = λ i. p (i + k) in
-    let top : least rest n ≤ n = least_le rest n in
-    least_is p (n + k) (least rest n + k) (omega arith)
-    (λ below. least_holds rest n (omega arith))
-    (λ i lower. elim (cases_lt i k) [
-      | inl before ↦ fails i before
-      | inr after ↦
-          let e : (i - k) + k ≡ i = omega arith in
-          ap p (sym e) ∙ least_gt rest n (i - k) (omega arith)
-    ])
