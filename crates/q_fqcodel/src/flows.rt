@@ -65,8 +65,9 @@ impl Flows {
         })
     }
 
-    /// Makes room for one packet more.
+    /// Makes a place for one packet more, where there is none.
     pub(crate) fn reserve(&mut self) -> Result<(), AllocError>
+        ensures had_room { packets_of self.old.flows < self.old.places → self.new ≡ self.old }
         ensures flows { self.new.flows ≡ self.old.flows }
         ensures grows { self.old.places ≤ self.new.places }
         ensures ok { OnOk result (packets_of self.new.flows < self.new.places) }

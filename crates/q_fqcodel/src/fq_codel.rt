@@ -157,8 +157,9 @@ impl FqCodel {
         self.flows.count() < settings.limit as u64
     }
 
-    /// Makes a place for one packet more.
+    /// Makes a place for one packet more; where there is one, nothing changes.
     pub fn reserve(&mut self) -> Result<(), AllocError>
+        ensures had_room { packets_of self.old.state.flows < self.old.places → self.new ≡ self.old }
         ensures ok { OnOk result (packets_of self.new.state.flows < self.new.places) }
         ensures state { self.new.state ≡ self.old.state }
         ensures grows { self.old.places ≤ self.new.places }

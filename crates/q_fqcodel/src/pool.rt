@@ -51,8 +51,9 @@ impl Pool {
         })
     }
 
-    /// Makes a place for one packet more.
+    /// Makes a place for one packet more, where there is none.
     pub(crate) fn reserve(&mut self) -> Result<(), AllocError>
+        ensures had_room { packets_in self.old.queues < self.old.places → self.new ≡ self.old }
         ensures queues { self.new.queues ≡ self.old.queues }
         ensures grows { self.old.places ≤ self.new.places }
         ensures ok { OnOk result (packets_in self.new.queues < self.new.places) }

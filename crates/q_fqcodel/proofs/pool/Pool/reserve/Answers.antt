@@ -22,6 +22,11 @@ returns-in_err-reserve-clause-succeeds c h =
     let d = (goal.at.returns-in_err-reserve-clause-succeeds c).After-count in
     absurd (omega (arith, h, held d, c.if-count-self.false, ap (λ (s : PoolState). s.places) c.self.view_is))
 
+pub returns-clause-had_room : goal.returns-clause-had_room
+returns-clause-had_room c h =
+    let d = (goal.at.returns-clause-had_room c).After-count in
+    absurd (omega (arith, h, held d, c.if-count-self.false, ap (λ (s : PoolState). s.places) c.self.view_is))
+
 pub returns-clause-ok : goal.returns-clause-ok
 returns-clause-ok c =
     let p = c.self.inside in
