@@ -1,10 +1,10 @@
 -- The tree of winners: the root is the greatest rank of all, and after one rank is written it is enough to climb from there.
-use Rattle.std.proofs.Common.{◌≡◌, ◌≢◌, ℕ, zero, suc, ◌+◌, ◌-◌, ◌*◌, ◌/◌, ◌%◌, ◌<◌, ◌≤◌, max, List, length, get_or, map, drop, set, replicate, sym, ap, ap₂, ◌∙◌, arith, subst, ⊎_elim}
+use Rattle.std.proofs.Common.{◌≡◌, ◌≢◌, ℕ, zero, suc, ◌+◌, ◌-◌, ◌*◌, ◌/◌, ◌%◌, ◌^◌, ◌<◌, ◌≤◌, max, List, length, get_or, map, drop, set, replicate, sym, ap, ap₂, ◌∙◌, arith, subst, ⊎_elim}
 use Rattle.std.proofs.Math.Nat.{max_comm}
 use Rattle.std.proofs.lemmas.Bool.{cases_lt, cases_eq}
 use Rattle.std.proofs.Math.ListN.{get_or-map}
 use Rattle.std.proofs.lemmas.List.{get_or-set_same, get_or-set_other, get_or-drop, get_or-replicate, length-set, length-drop, length-map, length-replicate, drop-set-add, map-set, ext_get_or}
-use Rattle.q_fqcodel.specs.Winners.{rank, rank_at, bytes_in, bytes_at, Leads, IsRightBut, IsTournament}
+use Rattle.q_fqcodel.specs.Winners.{rank, rank_at, above, bytes_in, bytes_at, Leads, IsRightBut, IsTournament}
 
 -- ---- the root
 
@@ -136,7 +136,7 @@ bytes_none ranks n even leaves =
 
 -- ---- the leaf of a flow is written, and the ranks above it are right
 
-module _ (ranks now : List ℕ) (flow bytes v leaf : ℕ) (tree : IsTournament ranks) (within : flow < length ranks / 2) (small : flow < 65536) (is : v ≡ rank flow bytes) (place : leaf ≡ length ranks / 2 + flow)
+module _ (ranks now : List ℕ) (flow bytes v leaf : ℕ) (tree : IsTournament ranks) (within : flow < length ranks / 2) (small : flow < 65536) (low : bytes < 2 ^ 48 - 1) (is : v ≡ rank flow bytes) (place : leaf ≡ length ranks / 2 + flow)
     (len : length now ≡ length (set ranks leaf v)) (leaves : drop (length (set ranks leaf v) / 2) now ≡ drop (length (set ranks leaf v) / 2) (set ranks leaf v)) where
   abbrev lot : ℕ
   lot = length ranks / 2
@@ -164,10 +164,23 @@ module _ (ranks now : List ℕ) (flow bytes v leaf : ℕ) (tree : IsTournament r
       omega (arith, at_leaf i, there, tree.leaf i (omega (arith, h, now_lot))))
       (cases_eq i flow)
 
-  pub tree_written : IsRightBut 0 now → IsTournament now
-  tree_written each = record {
+  leaf_below : (i : ℕ) → i < length now / 2 → rank_at now (length now / 2 + i) < above
+  leaf_below i h =
+      ⊎_elim
+      (λ (own : i ≡ flow).
+      let there : rank_at (set ranks leaf v) (lot + i) ≡ v = ap (rank_at (set ranks leaf v)) (omega (arith, own, place)) ∙ get_or-set_same ranks leaf v 0 (omega (arith, place, within, tree.even)) in
+      omega (arith, at_leaf i, there, is, low))
+      (λ (other : i ≢ flow).
+      let there : rank_at (set ranks leaf v) (lot + i) ≡ rank_at ranks (lot + i) = get_or-set_other ranks leaf (lot + i) v 0 (λ e. other (omega (arith, e, place))) in
+      omega (arith, at_leaf i, there, tree.below i (omega (arith, h, now_lot))))
+      (cases_eq i flow)
+
+  pub tree_written : rank_at now 0 ≡ above → IsRightBut 0 now → IsTournament now
+  tree_written past each = record {
     even = omega (arith, len, length-set ranks leaf v, tree.even);
     leaf = leaf_right;
+    below = leaf_below;
+    past = past;
     each = each;
   }
 

@@ -2,11 +2,15 @@
 -- Nodes are numbered from the root, 1: below node k are 2 k and 2 k + 1, and the n flows are the leaves n to 2 n - 1. At each
 -- inner node stands the greater of the two ranks below it.
 -- This is how the crate keeps them; nothing public names it.
-use Rattle.std.specs.Prelude.{◌≡◌, ◌≢◌, ℕ, ◌+◌, ◌-◌, ◌*◌, ◌/◌, ◌%◌, ◌<◌, ◌≤◌, max, List, get_or, length, map, drop}
+use Rattle.std.specs.Prelude.{◌≡◌, ◌≢◌, ℕ, ◌+◌, ◌-◌, ◌*◌, ◌/◌, ◌%◌, ◌^◌, ◌<◌, ◌≤◌, max, List, get_or, length, map, drop}
 
 -- the rank of a flow below 65536 with so many bytes
 abbrev pub rank : ℕ → ℕ → ℕ
 rank flow bytes = bytes * 65536 + (65535 - flow)
+
+-- what stands before the root, above the rank of each flow
+abbrev pub above : ℕ
+above = 2 ^ 64 - 1
 
 -- the rank at a node
 abbrev pub rank_at : List ℕ → ℕ → ℕ
@@ -34,4 +38,6 @@ IsRightBut except ranks =
 pub record IsTournament (ranks : List ℕ) : Type 0 where
   pub even : length ranks ≡ 2 * (length ranks / 2)
   pub leaf : (i : ℕ) → i < length ranks / 2 → rank_at ranks (length ranks / 2 + i) % 65536 ≡ 65535 - i
+  pub below : (i : ℕ) → i < length ranks / 2 → rank_at ranks (length ranks / 2 + i) < above
+  pub past : rank_at ranks 0 ≡ above
   pub each : IsRightBut 0 ranks

@@ -1,4 +1,4 @@
-ghost use Rattle.std.specs.Prelude.{ℕ, ◌≡◌, ◌+◌, ◌*◌, ◌<◌, ◌≤◌, ◌%◌, ◌^◌, [], ◌∷◌, ◌++◌, length, Some, option_map, slice_get, get_or, take, drop, set, replicate, IsOk, IfOk, OnOk, OnErr};
+ghost use Rattle.std.specs.Prelude.{ℕ, ◌≡◌, ◌+◌, ◌-◌, ◌*◌, ◌<◌, ◌≤◌, ◌%◌, ◌^◌, [], ◌∷◌, ◌++◌, length, Some, option_map, slice_get, get_or, take, drop, set, replicate, IsOk, IfOk, OnOk, OnErr};
 ghost use Rattle.q_packet.specs.Totals.{count, size};
 ghost use Rattle.q_packet.specs.declared.stamped.Stamped.{Stamped};
 ghost use Rattle.q_codel.specs.Front.{front_of};
@@ -84,7 +84,7 @@ impl Pool {
         ensures queues { self.new.queues ≡ set self.old.queues flow (get_or self.old.queues flow [] ++ stamp packet.now now ∷ []) }
         ensures places { self.new.places ≡ self.old.places }
         ensures bytes { result ≡ size (get_or self.new.queues flow []) }
-        ensures bytes_few { result < 2 ^ 48 }
+        ensures bytes_few { result < 2 ^ 48 - 1 }
     {
         let list = list_at(&self.lists, flow);
         let longer = append(&mut self.nodes, list, packet, now);
@@ -175,7 +175,7 @@ impl Pool {
         ensures queues { self.new.queues ≡ moved from flow (stamp packet.now now) self.old.queues }
         ensures places { self.new.places ≡ self.old.places }
         ensures bytes { result ≡ size (get_or self.new.queues flow []) }
-        ensures bytes_few { result < 2 ^ 48 }
+        ensures bytes_few { result < 2 ^ 48 - 1 }
         ensures lost { S.losses sink.new ≡ S.losses sink.old ++ losses_of Cause.FatFlow (take 1 (get_or self.old.queues from [])) }
         ensures room { S.room sink.new + 1 ≡ S.room sink.old }
         ensures kept { S.keeps sink.old sink.new }
@@ -196,7 +196,7 @@ impl Pool {
     /// The bytes in a flow: at most 65535 of each packet, of which there are no more than 2^32.
     pub(crate) fn bytes_of(&self, flow: u32) -> u64
         ensures value { result ≡ size (get_or self.now.queues flow []) }
-        ensures few { result < 2 ^ 48 }
+        ensures few { result < 2 ^ 48 - 1 }
     {
         list_of(&self.lists, flow).bytes
     }

@@ -1,12 +1,13 @@
 use Rattle.std.proofs.Common.{◌≡◌, ◌+◌, ◌-◌, ◌*◌, ◌/◌, ◌<◌, ◌≤◌, max, length, drop}
-use Rattle.q_fqcodel.specs.Winners.{rank_at, IsRightBut}
+use Rattle.q_fqcodel.specs.Winners.{rank_at, above, IsRightBut}
 use Rattle.q_fqcodel.proofs.winners.lower.Given as goal
 
-abbrev pub invariant-loop-node : goal.invariant-loop-node
-invariant-loop-node l = record {
+abbrev pub invariant-loop-ranks : goal.invariant-loop-ranks
+invariant-loop-ranks l = record {
   below : l.node ≡ l.child / 2;
   high : l.child < length l.ranks;
   len : length l.ranks ≡ length l.fn.ranks;
+  past : rank_at l.ranks 0 ≡ above;
   leaves : drop (length l.fn.ranks / 2) l.ranks ≡ drop (length l.fn.ranks / 2) l.fn.ranks;
   right : IsRightBut (l.child / 2) l.ranks;
   best : l.best ≡ rank_at l.ranks l.child;
@@ -14,5 +15,5 @@ invariant-loop-node l = record {
   above : 1 ≤ l.child / 2 → rank_at l.ranks (l.child / 2) ≡ max l.fn.old (rank_at l.ranks (4 * (l.child / 2) + 1 - l.child));
 }
 
-abbrev pub decreases-loop-node : goal.decreases-loop-node
-decreases-loop-node l = l.node
+abbrev pub decreases-loop-ranks : goal.decreases-loop-ranks
+decreases-loop-ranks l = l.node
