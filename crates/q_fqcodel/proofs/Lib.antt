@@ -1,5 +1,6 @@
 pub mod ChainLemmas
 pub mod ClearedLemmas
+pub mod CountLemmas
 pub mod FatLemmas
 pub mod FlowLemmas
 pub mod GivenLemmas

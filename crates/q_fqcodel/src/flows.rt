@@ -86,7 +86,8 @@ impl Flows {
 
     /// Their bytes.
     pub(crate) fn bytes(&self) -> u64
-        ensures { result ≡ bytes_of self.now.flows }
+        ensures value { result ≡ bytes_of self.now.flows }
+        ensures few { result < 2 ^ 48 }
     {
         self.pool.bytes()
     }

@@ -1,11 +1,12 @@
 ghost use Rattle.std.specs.Prelude.{ℕ, ◌≡◌, ◌+◌, ◌%◌, ◌<◌, nat_lt, ◌≤◌, ◌↔◌, ◌==◌, [], ◌∷◌, ◌++◌, length, set, slice_get, pos, true, false, if◌then◌else◌, IsSome, IsNone, IsOk, IfOk, OnOk, OnErr};
 ghost use Rattle.std.specs.Option.{option_map_or};
-ghost use Rattle.q_packet.specs.Totals.{count};
+ghost use Rattle.q_packet.specs.Totals.{count, size};
 ghost use Rattle.q_packet.specs.Descriptor.{Descriptor};
 ghost use Rattle.q_codel.specs.declared.taken.Taken.{Taken};
 ghost use Rattle.q_codel.specs.Losses.{losses_of};
 
 use crate::active_lists::ActiveLists;
+use crate::dropped::Dropped;
 use crate::entry::Entry;
 use crate::flow_list::FlowList;
 use crate::flows::Flows;
@@ -136,15 +137,45 @@ impl FqCodel {
         ensures room { S.room sink.new + count (lost_by_put self.old.state packet.now now) ≡ S.room sink.old }
         ensures kept { S.keeps sink.old sink.new }
     {
+        self.put_counted(packet, now, sink).itself
+    }
+
+    /// Does what [`FqCodel::put_from`] does, and tells how much the fat flow lost, so that no caller counts before and after.
+    #[inline(always)]
+    pub fn put_counted<S: Sink>(&mut self, packet: &Packet, now: Moment, sink: &mut S) -> Dropped
+        requires place { packets_of self.old.state.flows < self.old.places }
+        requires room { min self.old.state.settings.drop_batch (packets_of self.old.state.flows + 1) ≤ S.room sink.old }
+        ensures itself { result.itself ≡ is_lost_itself self.old.state packet.now now }
+        ensures packets { result.packets ≡ count (lost_by_put self.old.state packet.now now) }
+        ensures bytes { result.bytes ≡ size (lost_by_put self.old.state packet.now now) }
+        ensures after { self.new.state ≡ after_put self.old.state packet.now now }
+        ensures places { self.new.places ≡ self.old.places }
+        ensures lost { S.losses sink.new ≡ S.losses sink.old ++ losses_of Cause.FatFlow (lost_by_put self.old.state packet.now now) }
+        ensures room { S.room sink.new + count (lost_by_put self.old.state packet.now now) ≡ S.room sink.old }
+        ensures kept { S.keeps sink.old sink.new }
+    {
         let settings = self.settings;
         let flow = flow_by_hash(packet.hash, settings.flows);
         self.lists.enlist(flow, settings.quantum);
         if self.flows.count() < settings.limit as u64 {
             self.flows.push(flow, packet, now);
-            return false;
+            return Dropped {
+                packets: 0,
+                bytes: 0,
+                itself: false,
+            };
         }
+        let packets = self.flows.count() + 1;
+        let bytes = self.flows.bytes() + packet.len as u64;
         let batch = settings.drop_batch;
-        self.flows.push_over(flow, packet, now, batch, sink)
+        let itself = self.flows.push_over(flow, packet, now, batch, sink);
+        let packets_after = self.flows.count();
+        let bytes_after = self.flows.bytes();
+        Dropped {
+            packets: packets - packets_after,
+            bytes: bytes - bytes_after,
+            itself,
+        }
     }
 
     /// Whether one packet more stays within the limit: nothing is lost by a put then.

@@ -8,6 +8,7 @@
 //! - [`FqCodel::take`] gives the next packet to send, with CoDel's drops and marks.
 //! - [`FqCodel::put_from`] and [`FqCodel::take_into`] do the same with a packet that stays, or is wanted, where the caller has
 //!   it, so that it is copied once. [`Sent`] says what a take did, and [`FqCodel::fits`] beforehand that a put loses nothing.
+//! - [`FqCodel::put_counted`] tells how many packets and bytes a put dropped, as [`Dropped`].
 //! - [`FqCodel::change`] replaces the settings, [`FqCodel::purge`] loses every packet, [`FqCodel::queued`] counts.
 //!
 //! A contract sees an fq_codel as the record `FqView` (`specs/FqState.antt`): its state, `FqState`, and how many packets there
@@ -30,6 +31,7 @@
 
 mod active_lists;
 mod chain;
+mod dropped;
 mod ends;
 mod entry;
 mod flow_list;
@@ -47,6 +49,7 @@ mod sent;
 mod settings;
 mod winners;
 
+pub use dropped::Dropped;
 pub use fq_codel::FqCodel;
 pub use sent::Sent;
 pub use settings::Settings;

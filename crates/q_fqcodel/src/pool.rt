@@ -211,7 +211,8 @@ impl Pool {
 
     /// The bytes in all flows.
     pub(crate) fn bytes(&self) -> u64
-        ensures { result ≡ bytes_in self.now.queues }
+        ensures value { result ≡ bytes_in self.now.queues }
+        ensures few { result < 2 ^ 48 }
     {
         self.bytes
     }

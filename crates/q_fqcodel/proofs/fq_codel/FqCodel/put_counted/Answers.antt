@@ -1,21 +1,22 @@
 use Rattle.std.proofs.Common.{◌≡◌, ℕ, ◌+◌, ◌%◌, ◌<◌, ◌≤◌, List, [], ◌++◌, length, take, refl, sym, ap, ap₂, ◌∙◌, arith, append-nil, subst}
 use Rattle.std.proofs.lemmas.List.{length-take}
-use Rattle.q_packet.specs.Totals.{count}
+use Rattle.q_packet.specs.Totals.{count, size}
 use Rattle.q_packet.specs.Descriptor.{Descriptor}
 use Rattle.q_packet.specs.declared.stamped.Stamped.{Stamped}
 use Rattle.q_packet.specs.declared.cause.Cause.TheVariants.{FatFlow}
 use Rattle.q_codel.specs.Losses.{losses_of}
 use Rattle.q_fqcodel.specs.Cleared.{adjust}
 use Rattle.q_fqcodel.specs.FlowsState.{state_of}
-use Rattle.q_fqcodel.specs.FqState.{FqSettings, Flow, FqState, FqView, queue_of, packets_of}
+use Rattle.q_fqcodel.specs.FqState.{FqSettings, Flow, FqState, FqView, queue_of, packets_of, bytes_of}
 use Rattle.q_fqcodel.specs.Lawful.{IsLawful}
 use Rattle.q_fqcodel.specs.Links.{ListsState}
 use Rattle.q_fqcodel.specs.Put.{flow_of, joined, appended, fattest, shed_count, cut_back, shed, after_put, lost_by_put}
 use Rattle.q_fqcodel.specs.Ranges.{IsInRange}
+use Rattle.q_fqcodel.proofs.CountLemmas.{IsCountedPut, put-counted}
 use Rattle.q_fqcodel.proofs.KeptLemmas.{lawful_after_put}
 use Rattle.q_fqcodel.proofs.PutLemmas.{place_for, listed-not, packets-joined, appended-is, cut-none, cut-some, shed-none, shed-some, lost-none, lost-some, shed-within, shed-batch}
-use Rattle.q_fqcodel.proofs.fq_codel.FqCodel.put_from.Goals as goal
-use Rattle.q_fqcodel.proofs.fq_codel.FqCodel.put_from.Goals.{After-enlist, After-count, After-push, After-push_over}
+use Rattle.q_fqcodel.proofs.fq_codel.FqCodel.put_counted.Goals as goal
+use Rattle.q_fqcodel.proofs.fq_codel.FqCodel.put_counted.Goals.{After-enlist, After-count, After-push, After-bytes-bytes_after}
 
 -- the state as it was opened
 abbrev opened : (g : _) → After-enlist g → FqState
@@ -119,14 +120,20 @@ invariant_of-self g c =
       ap (λ (v : ListsState). v.room) c.enlist.ensures ∙ c.self.invariant.1,
     )
 
-pub returns-then-count-settings-clause-answer : goal.returns-then-count-settings-clause-answer
+pub returns-then-count-settings-clause-itself : goal.returns-then-count-settings-clause-itself
 unfolding before
-returns-then-count-settings-clause-answer g c =
+returns-then-count-settings-clause-itself g c =
     let at = before g c in
     sym (lost-none c.args.self.now.state (fuller g at) c.args.packet.now c.args.now (own g at) (arrived g at) (fuller_is g at)
     (own_is g at ∙ ap (λ (x : FqState). flow_of x c.args.packet.now) (opened_is g at)) (in_limit g c)
     (ap (λ (x : FqState). adjust (joined (arrived g at)) (own g at) x.flows) (opened_is g at))
     (omega (arith, within g at, ap (λ (x : FqState). length x.flows) (opened_is g at))))
+
+pub returns-then-count-settings-clause-packets : goal.returns-then-count-settings-clause-packets
+returns-then-count-settings-clause-packets g c = ap count (none_lost g c)
+
+pub returns-then-count-settings-clause-bytes : goal.returns-then-count-settings-clause-bytes
+returns-then-count-settings-clause-bytes g c = ap size (none_lost g c)
 
 pub returns-then-count-settings-clause-after : goal.returns-then-count-settings-clause-after
 returns-then-count-settings-clause-after g c = stays g c
@@ -143,12 +150,12 @@ returns-then-count-settings-clause-room g c = omega (arith, ap count (none_lost 
 batch : (g : _) (c : After-enlist g) → c.settings.inside.drop_batch ≡ c.self.inside.settings.drop_batch
 batch g c = ap (λ (x : FqSettings). x.drop_batch) c.settings.view_is
 
-pub push_over-requires-clause-own : goal.push_over-requires-clause-own
-push_over-requires-clause-own g c = own_flow g (goal.at.push_over-requires-clause-own g c).After-enlist
+pub push_over-itself-requires-clause-own : goal.push_over-itself-requires-clause-own
+push_over-itself-requires-clause-own g c = own_flow g (goal.at.push_over-itself-requires-clause-own g c).After-enlist
 
-pub push_over-requires-clause-room : goal.push_over-requires-clause-room
-push_over-requires-clause-room g c =
-    let at = (goal.at.push_over-requires-clause-room g c).After-enlist in
+pub push_over-itself-requires-clause-room : goal.push_over-itself-requires-clause-room
+push_over-itself-requires-clause-room g c =
+    let at = (goal.at.push_over-itself-requires-clause-room g c).After-enlist in
     omega (
       arith,
       shed-batch (joins g at) c.settings.inside.drop_batch,
@@ -159,27 +166,27 @@ push_over-requires-clause-room g c =
       batch g at,
     )
 
-opening : (g : _) → After-push_over g → After-enlist g
+opening : (g : _) → After-bytes-bytes_after g → After-enlist g
 opening g c = (goal.at.invariant_of-self-2 g c).After-enlist
 
-past_limit : (g : _) (c : After-push_over g) → c.self.inside.settings.limit < packets_of (joins g (opening g c))
+past_limit : (g : _) (c : After-bytes-bytes_after g) → c.self.inside.settings.limit < packets_of (joins g (opening g c))
 unfolding opening
 past_limit g c = omega (arith, c.if-count-settings.false, c.count.ensures, more g (opening g c), ap (λ (x : FqSettings). x.limit) c.settings.view_is)
 
-lost_is : (g : _) (c : After-push_over g) → shed_count (joins g (opening g c)) c.settings.inside.drop_batch ≡ shed_count (joins g (opening g c)) c.self.inside.settings.drop_batch
+lost_is : (g : _) (c : After-bytes-bytes_after g) → shed_count (joins g (opening g c)) c.settings.inside.drop_batch ≡ shed_count (joins g (opening g c)) c.self.inside.settings.drop_batch
 unfolding opening
 lost_is g c = ap (shed_count (joins g (opening g c))) (batch g (opening g c))
 
-cut : (g : _) (c : After-push_over g) → record (fuller g (opening g c)) { flows = c.push_over.new.self.flows } ≡ after_put c.args.self.now.state c.args.packet.now c.args.now
+cut : (g : _) (c : After-bytes-bytes_after g) → record (fuller g (opening g c)) { flows = c.push_over-itself.new.self.flows } ≡ after_put c.args.self.now.state c.args.packet.now c.args.now
 unfolding opening
 cut g c =
     let at = opening g c in
     let a = fuller g at in
-    ap (λ (f : List Flow). record a { flows = f }) c.push_over.ensures.flows
+    ap (λ (f : List Flow). record a { flows = f }) c.push_over-itself.ensures.flows
     ∙ sym (cut-some a (fattest (joins g at)) (shed_count (joins g at) c.settings.inside.drop_batch) (past_limit g c) refl (lost_is g c))
     ∙ ap cut_back (fuller_is g at)
 
-shed_is : (g : _) (c : After-push_over g)
+shed_is : (g : _) (c : After-bytes-bytes_after g)
     → take (shed_count (joins g (opening g c)) c.settings.inside.drop_batch) (queue_of (joins g (opening g c)) (fattest (joins g (opening g c)))) ≡ lost_by_put c.args.self.now.state c.args.packet.now c.args.now
 unfolding opening
 shed_is g c =
@@ -192,15 +199,52 @@ invariant_of-self-2 g c =
     let at = opening g c in (
       subst (λ (s : FqState). IsLawful s) (sym (cut g c))
           (lawful_after_put c.args.self.now.state c.args.packet.now c.args.now (lawful g at) (ranges g at)
-          (λ _. subst (λ (x : FqState). 0 < count (queue_of x.flows (fattest x.flows))) (fuller_is g at) c.push_over.ensures.some)),
+          (λ _. subst (λ (x : FqState). 0 < count (queue_of x.flows (fattest x.flows))) (fuller_is g at) c.push_over-itself.ensures.some)),
       ap (λ (v : ListsState). v.room) c.enlist.ensures ∙ c.self.invariant.1,
     )
 
-pub returns-clause-answer : goal.returns-clause-answer
+-- what is counted before the put and after it
+counted : (g : _) (c : After-enlist g) → IsCountedPut c.args.self.now.state c.args.packet.now c.args.now
+counted g c =
+    put-counted c.args.self.now.state c.args.packet.now c.args.now
+    (omega (arith, within g c, own_is g c, ap (λ (x : FqState). flow_of x c.args.packet.now) (opened_is g c), ap (λ (x : FqState). length x.flows) (opened_is g c)))
+
+counted_after : (g : _) (c : After-bytes-bytes_after g)
+    → (c.count-packets_after.result + count (lost_by_put c.args.self.now.state c.args.packet.now c.args.now) ≡ c.count-packets.result + 1)
+    × (c.bytes-bytes_after.result + size (lost_by_put c.args.self.now.state c.args.packet.now c.args.now) ≡ c.bytes.result + c.packet.inside.len)
 unfolding opening
-returns-clause-answer g c =
+counted_after g c =
     let at = opening g c in
-    c.push_over.ensures.answer
+    let put = counted g at in (
+      omega (arith, put.packets, c.count-packets_after.ensures, c.count-packets.ensures, ap (λ (x : FqState). packets_of x.flows) (cut g c), ap (λ (x : FqState). packets_of x.flows) (opened_is g at)),
+      omega (
+        arith,
+        put.bytes,
+        c.bytes-bytes_after.ensures.value,
+        c.bytes.ensures.value,
+        ap (λ (x : FqState). bytes_of x.flows) (cut g c),
+        ap (λ (x : FqState). bytes_of x.flows) (opened_is g at),
+        ap (λ (p : Descriptor). p.len) c.packet.view_is,
+      ),
+    )
+
+pub overflow_sub-result : goal.overflow_sub-result
+overflow_sub-result g c = omega (arith, (counted_after g c).0)
+
+pub overflow_sub-result-2 : goal.overflow_sub-result-2
+overflow_sub-result-2 g c = omega (arith, (counted_after g c).1)
+
+pub returns-clause-packets : goal.returns-clause-packets
+returns-clause-packets g c = omega (arith, (counted_after g c).0)
+
+pub returns-clause-bytes : goal.returns-clause-bytes
+returns-clause-bytes g c = omega (arith, (counted_after g c).1)
+
+pub returns-clause-itself : goal.returns-clause-itself
+unfolding opening
+returns-clause-itself g c =
+    let at = opening g c in
+    c.push_over-itself.ensures.answer
     ∙ sym (lost-some c.args.self.now.state (fuller g at) c.args.packet.now c.args.now (own g at) (fattest (joins g at)) (shed_count (joins g at) c.settings.inside.drop_batch) (fuller_is g at)
     (own_is g at ∙ ap (λ (x : FqState). flow_of x c.args.packet.now) (opened_is g at)) (past_limit g c) refl (lost_is g c))
 
@@ -210,10 +254,10 @@ returns-clause-after g c = cut g c
 
 pub returns-clause-lost : goal.returns-clause-lost
 unfolding opening
-returns-clause-lost g c = c.push_over.ensures.lost ∙ ap (λ (l : List Stamped). g.S.Sink.losses c.args.sink.now ++ losses_of FatFlow l) (shed_is g c)
+returns-clause-lost g c = c.push_over-itself.ensures.lost ∙ ap (λ (l : List Stamped). g.S.Sink.losses c.args.sink.now ++ losses_of FatFlow l) (shed_is g c)
 
 pub returns-clause-room : goal.returns-clause-room
 unfolding opening
 returns-clause-room g c =
     let at = opening g c in
-    omega (arith, c.push_over.ensures.room, ap count (shed_is g c), length-take (shed_count (joins g at) c.settings.inside.drop_batch) (queue_of (joins g at) (fattest (joins g at))), shed-within (joins g at) c.settings.inside.drop_batch)
+    omega (arith, c.push_over-itself.ensures.room, ap count (shed_is g c), length-take (shed_count (joins g at) c.settings.inside.drop_batch) (queue_of (joins g at) (fattest (joins g at))), shed-within (joins g at) c.settings.inside.drop_batch)
