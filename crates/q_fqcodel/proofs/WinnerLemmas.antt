@@ -56,7 +56,7 @@ module _ (ranks : List ℕ) (j v : ℕ) (within : j < length ranks) where
   others k ne = get_or-set_other ranks j k v 0 ne
 
   -- Each node is right then but the one above, where the written one is a leaf's or right.
-  pub right_written : (except : ℕ) → IsRightBut except ranks → ((k : ℕ) → 1 ≤ k → k ≢ j → k ≢ except)
+  right_written : (except : ℕ) → IsRightBut except ranks → ((k : ℕ) → 1 ≤ k → k ≢ j → k ≢ except)
       → (j < length ranks / 2 → v ≡ max (rank_at ranks (2 * j)) (rank_at ranks (2 * j + 1))) → IsRightBut (j / 2) (set ranks j v)
   right_written except right apart is k low high ne =
       let len : length (set ranks j v) ≡ length ranks = length-set ranks j v in
@@ -72,16 +72,8 @@ module _ (ranks : List ℕ) (j v : ℕ) (within : j < length ranks) where
       (λ (away : k ≢ j). others k away ∙ right k low (omega (arith, high, len)) (apart k low away) ∙ sym (ap₂ (λ (x y : ℕ). max x y) two three))
       (cases_eq k j)
 
--- the last one was right too
-pub right_now : (ranks : List ℕ) (except : ℕ) → IsRightBut except ranks → rank_at ranks except ≡ max (rank_at ranks (2 * except)) (rank_at ranks (2 * except + 1)) → IsRightBut 0 ranks
-right_now ranks except right is k low high _ =
-    ⊎_elim
-    (λ (e : k ≡ except). subst (λ (m : ℕ). rank_at ranks m ≡ max (rank_at ranks (2 * m)) (rank_at ranks (2 * m + 1))) (sym e) is)
-    (λ (ne : k ≢ except). right k low high ne)
-    (cases_eq k except)
-
 -- the two nodes below that above this one: this one and the one beside it
-pub two_below : (ranks : List ℕ) (c : ℕ) → max (rank_at ranks c) (rank_at ranks (4 * (c / 2) + 1 - c)) ≡ max (rank_at ranks (2 * (c / 2))) (rank_at ranks (2 * (c / 2) + 1))
+two_below : (ranks : List ℕ) (c : ℕ) → max (rank_at ranks c) (rank_at ranks (4 * (c / 2) + 1 - c)) ≡ max (rank_at ranks (2 * (c / 2))) (rank_at ranks (2 * (c / 2) + 1))
 two_below ranks c =
     ⊎_elim
     (λ (first : c ≡ 2 * (c / 2)).
@@ -92,6 +84,53 @@ two_below ranks c =
     let beside : 4 * (c / 2) + 1 - c ≡ 2 * (c / 2) = omega (arith, other) in
     max_comm (rank_at ranks c) (rank_at ranks (4 * (c / 2) + 1 - c)) ∙ ap₂ (λ (x y : ℕ). max (rank_at ranks x) (rank_at ranks y)) beside second)
     (cases_eq c (2 * (c / 2)))
+
+-- ---- one step of a climb: a rank is written at this node, and the node above is next
+
+module _ (ranks : List ℕ) (node rank : ℕ) (some : 1 ≤ node) (within : node < length ranks) (right : IsRightBut node ranks) where
+  abbrev beside : ℕ
+  beside = 4 * (node / 2) + 1 - node
+
+  pub beside_kept : rank_at (set ranks node rank) beside ≡ rank_at ranks beside
+  beside_kept = get_or-set_other ranks node beside rank 0 (λ e. absurd (omega (arith, e)))
+
+  pub above_kept : rank_at (set ranks node rank) (node / 2) ≡ rank_at ranks (node / 2)
+  above_kept = get_or-set_other ranks node (node / 2) rank 0 (λ e. absurd (omega (arith, e, some)))
+
+  -- what stands above is the greater of the rank that stood here and the one beside it
+  pub above_was : 1 ≤ node / 2 → node / 2 < length ranks / 2 → rank_at ranks (node / 2) ≡ max (rank_at ranks node) (rank_at ranks beside)
+  above_was low high = right (node / 2) low high (λ e. absurd (omega (arith, e, some))) ∙ sym (two_below ranks node)
+
+  -- what belongs there is the greater of the rank that is written and the one beside it
+  pub above_is : max rank (rank_at ranks beside) ≡ max (rank_at (set ranks node rank) (2 * (node / 2))) (rank_at (set ranks node rank) (2 * (node / 2) + 1))
+  above_is = sym (ap₂ (λ (x y : ℕ). max x y) (get_or-set_same ranks node rank 0 within) beside_kept) ∙ two_below (set ranks node rank) node
+
+  pub step_right : (node < length ranks / 2 → rank ≡ max (rank_at ranks (2 * node)) (rank_at ranks (2 * node + 1))) → IsRightBut (node / 2) (set ranks node rank)
+  step_right is = right_written ranks node rank within node right (λ k low ne. ne) is
+
+  -- after a rank that is no less than the one before
+  module _ (past : rank_at ranks 0 ≡ above) (fits : rank ≤ above) (grown : rank_at ranks node ≤ rank) (low : node / 2 < length ranks / 2) where
+    pub past_kept : rank_at (set ranks node rank) 0 ≡ above
+    past_kept = get_or-set_other ranks node 0 rank 0 (λ e. absurd (omega (arith, e, some))) ∙ past
+
+    pub greater_above : rank_at (set ranks node rank) (node / 2) < rank → rank ≡ max (rank_at (set ranks node rank) (2 * (node / 2))) (rank_at (set ranks node rank) (2 * (node / 2) + 1))
+    greater_above h =
+        ⊎_elim
+        (λ (e : node / 2 ≡ 0). absurd (omega (arith, ap (rank_at (set ranks node rank)) e, past_kept, h, fits)))
+        (λ (ne : node / 2 ≢ 0). omega (arith, above_is, above_kept, h, above_was (omega (arith, ne)) low))
+        (cases_eq (node / 2) 0)
+
+    pub stays_above : rank ≤ rank_at (set ranks node rank) (node / 2) → 1 ≤ node / 2
+        → rank_at (set ranks node rank) (node / 2) ≡ max (rank_at (set ranks node rank) (2 * (node / 2))) (rank_at (set ranks node rank) (2 * (node / 2) + 1))
+    stays_above h high = omega (arith, above_is, above_kept, h, above_was high low, grown)
+
+-- each node is right where the last one is
+pub right_all : (ranks : List ℕ) (node : ℕ) → IsRightBut node ranks → (1 ≤ node → node < length ranks / 2 → rank_at ranks node ≡ max (rank_at ranks (2 * node)) (rank_at ranks (2 * node + 1))) → IsRightBut 0 ranks
+right_all ranks node right is k low high _ =
+    ⊎_elim
+    (λ (e : k ≡ node). subst (λ (m : ℕ). rank_at ranks m ≡ max (rank_at ranks (2 * m)) (rank_at ranks (2 * m + 1))) (sym e) (is (omega (arith, e, low)) (omega (arith, e, high))))
+    (λ (ne : k ≢ node). right k low high ne)
+    (cases_eq k node)
 
 -- ---- the bytes of the flows
 

@@ -8,6 +8,7 @@ ghost use Rattle.q_fqcodel.specs.Put.{joined, shortened, fattest, shed_count};
 ghost use Rattle.q_fqcodel.specs.Take.{taken_as, packet_sent, packets_dropped, flow_after};
 ghost use Rattle.q_fqcodel.specs.Pool.{stamp, cleared};
 
+use crate::course::Course;
 use crate::flow_queue::send_from_into;
 use crate::pool::Pool;
 use crate::sent::Sent;
@@ -117,7 +118,7 @@ impl Flows {
         ensures places { self.new.places ≡ self.old.places }
     {
         let held = self.pool.push(packet, now, flow);
-        self.winners.renew(flow, held);
+        self.winners.renew(flow, held, Course::Rose);
     }
 
     /// Notes that a flow was met empty, with credits.
@@ -167,7 +168,7 @@ impl Flows {
         };
         self.pool.take_of_into(flow, out);
         self.states[flow as usize].pass(after);
-        self.winners.renew(flow, behind);
+        self.winners.renew(flow, behind, Course::Fell);
         Sent {
             len: front.len,
             marked: false,
@@ -213,7 +214,7 @@ impl Flows {
         );
         let rest = self.pool.count_of(flow);
         let bytes = self.pool.bytes_of(flow);
-        self.winners.renew(flow, bytes);
+        self.winners.renew(flow, bytes, Course::Either);
         Sent {
             len: out.len,
             marked,
@@ -250,7 +251,7 @@ impl Flows {
         lose_from(&mut self.pool, flow, lost, cause, sink);
         // Once for the whole batch, and not for each packet.
         let rest = self.pool.bytes_of(flow);
-        self.winners.renew(flow, rest);
+        self.winners.renew(flow, rest, Course::Either);
     }
 
     // How many packets the fat flow loses where the limit is passed.
@@ -290,7 +291,7 @@ impl Flows {
         lose_from(&mut self.pool, flow, lost, Cause::FatFlow, sink);
         // Once for what it gains and loses.
         let kept = self.pool.bytes_of(flow);
-        self.winners.renew(flow, kept);
+        self.winners.renew(flow, kept, Course::Either);
     }
 
     // Whether a flow has a packet, and a batch is of one.
@@ -321,12 +322,12 @@ impl Flows {
         ensures kept { S.keeps sink.old sink.new }
     {
         let own = self.pool.replace(fat, flow, packet, now, sink);
-        self.winners.renew(flow, own);
+        self.winners.renew(flow, own, Course::Either);
         if fat == flow {
             return;
         }
         let rest = self.pool.bytes_of(fat);
-        self.winners.renew(fat, rest);
+        self.winners.renew(fat, rest, Course::Either);
     }
 
     /// Appends a packet to a flow where the limit is passed with it: the fat flow then loses packets from its front. Says

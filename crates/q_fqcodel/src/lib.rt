@@ -31,6 +31,7 @@
 
 mod active_lists;
 mod chain;
+mod course;
 mod dropped;
 mod ends;
 mod entry;

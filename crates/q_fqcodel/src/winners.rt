@@ -1,6 +1,7 @@
 ghost use Rattle.std.specs.Prelude.{ℕ, ◌≡◌, ◌+◌, ◌-◌, ◌*◌, ◌/◌, ◌%◌, ◌^◌, ◌<◌, ◌≤◌, max, length, drop, set, replicate, IfOk};
 ghost use Rattle.q_fqcodel.specs.Winners.{rank, rank_at, above, bytes_at, Leads, IsRightBut};
 
+use crate::course::Course;
 use std::alloc::{AllocError, Global};
 use std::marker::Model;
 
@@ -53,14 +54,17 @@ impl Winners {
         flow_of(rank_of(flow, bytes).max(top))
     }
 
-    /// Notes how many bytes a flow has now.
-    pub(crate) fn renew(&mut self, flow: u32, bytes: u64)
+    /// Notes how many bytes a flow has now, where its bytes went this way.
+    #[inline(always)]
+    pub(crate) fn renew(&mut self, flow: u32, bytes: u64, course: Course)
         requires in_range { flow < length self.old }
         requires few { bytes < 2 ^ 48 - 1 }
+        requires rose { course ≡ Course.Rose → bytes_at self.old flow ≤ bytes }
+        requires fell { course ≡ Course.Fell → bytes ≤ bytes_at self.old flow }
         ensures { self.new ≡ set self.old flow bytes }
     {
         let leaf = self.ranks.len() / 2 + flow as usize;
-        climb(&mut self.ranks, leaf, rank_of(flow, bytes));
+        climb(&mut self.ranks, leaf, rank_of(flow, bytes), course);
     }
 }
 
@@ -105,13 +109,74 @@ fn play(ranks: &mut Vec<u64>)
 
 // Writes the rank of a leaf, and makes those above it right again: each is the greater of the two below it. The leaf's rank, before
 // or now, tells at each node whether the climb ends there, so that this does not wait for what is found below.
-fn climb(ranks: &mut [u64], leaf: usize, rank: u64)
+#[inline(always)]
+fn climb(ranks: &mut [u64], leaf: usize, rank: u64, course: Course)
     requires even { length ranks.old ≡ 2 * (length ranks.old / 2) }
     requires few { length ranks.old ≤ 131072 }
     requires low { length ranks.old / 2 ≤ leaf }
     requires high { leaf < length ranks.old }
     requires past { rank_at ranks.old 0 ≡ above }
     requires below { rank_at ranks.old leaf < above }
+    requires rose { course ≡ Course.Rose → rank_at ranks.old leaf ≤ rank }
+    requires fell { course ≡ Course.Fell → rank ≤ rank_at ranks.old leaf }
+    requires each { IsRightBut 0 ranks.old }
+    ensures len { length ranks.new ≡ length ranks.old }
+    ensures leaves { drop (length ranks.old / 2) ranks.new ≡ drop (length ranks.old / 2) (set ranks.old leaf rank) }
+    ensures past { rank_at ranks.new 0 ≡ above }
+    ensures each { IsRightBut 0 ranks.new }
+{
+    match course {
+        Course::Rose => raise(ranks, leaf, rank),
+        Course::Fell => lower(ranks, leaf, rank),
+        Course::Either => {
+            // A flow that is alone has no node above it: whether it grew, which a processor cannot foresee, is not asked.
+            if leaf < 2 {
+                ranks[leaf] = rank;
+                return;
+            }
+            if ranks[leaf] < rank {
+                return raise(ranks, leaf, rank);
+            }
+            lower(ranks, leaf, rank)
+        }
+    }
+}
+
+// Writes a rank that has grown at its leaf, and at those above it as far as it is the greater. No node beside is read, since none
+// is greater than the one above it.
+#[inline(always)]
+fn raise(ranks: &mut [u64], leaf: usize, rank: u64)
+    requires even { length ranks.old ≡ 2 * (length ranks.old / 2) }
+    requires few { length ranks.old ≤ 131072 }
+    requires low { length ranks.old / 2 ≤ leaf }
+    requires high { leaf < length ranks.old }
+    requires past { rank_at ranks.old 0 ≡ above }
+    requires grown { rank_at ranks.old leaf ≤ rank }
+    requires each { IsRightBut 0 ranks.old }
+    ensures len { length ranks.new ≡ length ranks.old }
+    ensures leaves { drop (length ranks.old / 2) ranks.new ≡ drop (length ranks.old / 2) (set ranks.old leaf rank) }
+    ensures past { rank_at ranks.new 0 ≡ above }
+    ensures each { IsRightBut 0 ranks.new }
+{
+    ranks[leaf] = rank;
+    let mut node = leaf / 2;
+    while ranks[node] < rank {
+        ranks[node] = rank;
+        node /= 2;
+    }
+}
+
+// Writes a rank that has not grown at its leaf, and above it the greater of two where the rank stood that it had: where another one
+// stands, that was the greater, and stays.
+#[inline(always)]
+fn lower(ranks: &mut [u64], leaf: usize, rank: u64)
+    requires even { length ranks.old ≡ 2 * (length ranks.old / 2) }
+    requires few { length ranks.old ≤ 131072 }
+    requires low { length ranks.old / 2 ≤ leaf }
+    requires high { leaf < length ranks.old }
+    requires past { rank_at ranks.old 0 ≡ above }
+    requires below { rank_at ranks.old leaf < above }
+    requires fallen { rank ≤ rank_at ranks.old leaf }
     requires each { IsRightBut 0 ranks.old }
     ensures len { length ranks.new ≡ length ranks.old }
     ensures leaves { drop (length ranks.old / 2) ranks.new ≡ drop (length ranks.old / 2) (set ranks.old leaf rank) }
@@ -119,66 +184,11 @@ fn climb(ranks: &mut [u64], leaf: usize, rank: u64)
     ensures each { IsRightBut 0 ranks.new }
 {
     let old = ranks[leaf];
-    ranks[leaf] = rank;
-    // A flow that is alone has no node above it: whether it grew, which a processor cannot foresee, is not asked.
-    if leaf < 2 {
-        return;
-    }
-    if old < rank {
-        raise(ranks, leaf, rank);
-    } else {
-        lower(ranks, leaf, rank, old);
-    }
-}
-
-// Makes the ranks right again above a node whose own rank has grown: it goes up as far as it is the greater. No node beside is
-// read, since none is greater than the one above it.
-fn raise(ranks: &mut [u64], from: usize, rank: u64)
-    requires even { length ranks.old ≡ 2 * (length ranks.old / 2) }
-    requires few { length ranks.old ≤ 131072 }
-    requires within { from < length ranks.old }
-    requires past { rank_at ranks.old 0 ≡ above }
-    requires own { rank ≡ rank_at ranks.old from }
-    requires others { IsRightBut (from / 2) ranks.old }
-    requires no_less { 1 ≤ from / 2 → rank_at ranks.old (4 * (from / 2) + 1 - from) ≤ rank_at ranks.old (from / 2) }
-    requires no_more { 1 ≤ from / 2 → rank_at ranks.old (from / 2) ≤ max rank (rank_at ranks.old (4 * (from / 2) + 1 - from)) }
-    ensures len { length ranks.new ≡ length ranks.old }
-    ensures leaves { drop (length ranks.old / 2) ranks.new ≡ drop (length ranks.old / 2) ranks.old }
-    ensures past { rank_at ranks.new 0 ≡ above }
-    ensures each { IsRightBut 0 ranks.new }
-{
-    let mut node = from / 2;
-    while ranks[node] < rank {
-        prove!(node > 0);
-        ranks[node] = rank;
-        node /= 2;
-    }
-}
-
-// The same where the rank was `old` and has not grown: where another one stands, it was the greater, and stays.
-fn lower(ranks: &mut [u64], from: usize, rank: u64, old: u64)
-    requires even { length ranks.old ≡ 2 * (length ranks.old / 2) }
-    requires few { length ranks.old ≤ 131072 }
-    requires within { from < length ranks.old }
-    requires past { rank_at ranks.old 0 ≡ above }
-    requires below { old < above }
-    requires own { rank ≡ rank_at ranks.old from }
-    requires others { IsRightBut (from / 2) ranks.old }
-    requires above { 1 ≤ from / 2 → rank_at ranks.old (from / 2) ≡ max old (rank_at ranks.old (4 * (from / 2) + 1 - from)) }
-    requires fallen { rank ≤ old }
-    ensures len { length ranks.new ≡ length ranks.old }
-    ensures leaves { drop (length ranks.old / 2) ranks.new ≡ drop (length ranks.old / 2) ranks.old }
-    ensures past { rank_at ranks.new 0 ≡ above }
-    ensures each { IsRightBut 0 ranks.new }
-{
-    let mut child = from;
-    let mut node = from / 2;
+    let mut node = leaf;
     let mut best = rank;
     while ranks[node] == old {
-        prove!(node > 0);
-        best = best.max(ranks[beside(child)]);
         ranks[node] = best;
-        child = node;
+        best = best.max(ranks[beside(node)]);
         node /= 2;
     }
 }

@@ -1,18 +1,19 @@
-use Rattle.std.proofs.Common.{◌≡◌, ◌+◌, ◌-◌, ◌*◌, ◌/◌, ◌<◌, ◌≤◌, max, length, drop}
+use Rattle.std.proofs.Common.{◌≡◌, ◌≢◌, ℕ, ◌+◌, ◌-◌, ◌*◌, ◌/◌, ◌<◌, ◌≤◌, max, length, drop, set}
 use Rattle.q_fqcodel.specs.Winners.{rank_at, above, IsRightBut}
 use Rattle.q_fqcodel.proofs.winners.lower.Given as goal
 
+-- The climb has come to this node: each other one is right, and `best` belongs there, or it is right as it is.
 abbrev pub invariant-loop-ranks : goal.invariant-loop-ranks
 invariant-loop-ranks l = record {
-  below : l.node ≡ l.child / 2;
-  high : l.child < length l.ranks;
+  high : l.node < length l.ranks;
   len : length l.ranks ≡ length l.fn.ranks;
   past : rank_at l.ranks 0 ≡ above;
-  leaves : drop (length l.fn.ranks / 2) l.ranks ≡ drop (length l.fn.ranks / 2) l.fn.ranks;
-  right : IsRightBut (l.child / 2) l.ranks;
-  best : l.best ≡ rank_at l.ranks l.child;
-  fallen : l.best ≤ l.fn.old;
-  above : 1 ≤ l.child / 2 → rank_at l.ranks (l.child / 2) ≡ max l.fn.old (rank_at l.ranks (4 * (l.child / 2) + 1 - l.child));
+  first : length l.fn.ranks / 2 ≤ l.node → (l.node ≡ l.fn.leaf) × (l.ranks ≡ l.fn.ranks) × (l.best ≡ l.fn.rank);
+  leaves : l.node < length l.fn.ranks / 2 → drop (length l.fn.ranks / 2) l.ranks ≡ drop (length l.fn.ranks / 2) (set l.fn.ranks l.fn.leaf l.fn.rank);
+  right : IsRightBut l.node l.ranks;
+  best : l.node < length l.fn.ranks / 2 → l.best ≡ max (rank_at l.ranks (2 * l.node)) (rank_at l.ranks (2 * l.node + 1));
+  fallen : rank_at l.ranks l.node ≡ l.old → l.best ≤ l.old;
+  stays : rank_at l.ranks l.node ≢ l.old → 1 ≤ l.node → l.node < length l.fn.ranks / 2 → rank_at l.ranks l.node ≡ l.best;
 }
 
 abbrev pub decreases-loop-ranks : goal.decreases-loop-ranks

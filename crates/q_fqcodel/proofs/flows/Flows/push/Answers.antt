@@ -5,8 +5,10 @@ use Rattle.q_fqcodel.specs.FlowsState.{FlowsState}
 use Rattle.q_fqcodel.specs.FqState.{packets_of}
 use Rattle.q_fqcodel.specs.Pool.{stamp, flows_from, codels_in}
 use Rattle.q_fqcodel.specs.Put.{joined}
-use Rattle.q_fqcodel.proofs.PooledLemmas.{length-flows, queue_written, packets-pooled, length-sizes, sizes_renewed}
-use Rattle.std.proofs.lemmas.List.{length-set}
+use Rattle.q_fqcodel.proofs.PooledLemmas.{length-flows, queue_written, packets-pooled, length-sizes, sizes_at, sizes_renewed}
+use Rattle.std.proofs.lemmas.List.{length-set, get_or-set_same}
+use Rattle.std.proofs.lemmas.List.Sums.{sum_by-append}
+use Rattle.q_packet.specs.Totals.{size}
 use Rattle.q_fqcodel.proofs.flows.Flows.push.Goals as goal
 use Rattle.q_fqcodel.proofs.flows.Flows.push.Goals.{After-push-held}
 
@@ -40,6 +42,22 @@ pub renew-requires-clause-in_range : goal.renew-requires-clause-in_range
 renew-requires-clause-in_range c =
     let qs = c.self.inside.pool.queues in
     omega (arith, within (goal.at.renew-requires-clause-in_range c).After-push-held, ap length c.self.invariant.2, length-sizes qs)
+
+pub renew-requires-clause-rose : goal.renew-requires-clause-rose
+renew-requires-clause-rose c _ =
+    let n : ℕ = c.args.flow in
+    let qs : List (List Stamped) = c.self.inside.pool.queues in
+    let s : Stamped = stamp c.args.packet.now c.args.now in
+    let q : List Stamped = get_or qs n [] ++ s ∷ [] in
+    omega (
+      arith,
+      ap (λ (l : List ℕ). get_or l n 0) c.self.invariant.2,
+      sizes_at qs n,
+      c.push-held.ensures.bytes,
+      ap (λ (l : List (List Stamped)). size (get_or l n [])) c.push-held.ensures.queues,
+      ap size (get_or-set_same qs n q [] (within (goal.at.renew-requires-clause-rose c).After-push-held)),
+      sum_by-append (λ (x : Stamped). x.packet.len) (get_or qs n []) (s ∷ []),
+    )
 
 pub invariant_of-self : goal.invariant_of-self
 invariant_of-self c =

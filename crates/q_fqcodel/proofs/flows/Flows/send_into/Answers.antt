@@ -12,7 +12,7 @@ use Rattle.q_fqcodel.specs.FqState.{Flow, queue_of}
 use Rattle.q_fqcodel.specs.Pool.{flows_from, codels_in}
 use Rattle.q_fqcodel.specs.Take.{taken_as, packet_sent, packets_dropped, flow_after}
 use Rattle.q_fqcodel.proofs.PassedLemmas.{Passed, passed, some_front, front_within, behind_is}
-use Rattle.q_fqcodel.proofs.PooledLemmas.{length-flows, flow_read, queue_there, flow_written, length-sizes, sizes_renewed, length-codels, codel_at, codels-set}
+use Rattle.q_fqcodel.proofs.PooledLemmas.{length-flows, flow_read, queue_there, flow_written, length-sizes, sizes_at, sizes_renewed, length-codels, codel_at, codels-set}
 use Rattle.q_fqcodel.proofs.flows.Flows.send_into.Goals as goal
 use Rattle.q_fqcodel.proofs.flows.Flows.send_into.Goals.{After-front_of, After-index-codel, After-take_of_into, After-index_mut}
 
@@ -84,6 +84,9 @@ pass-requires g c =
 pub renew-requires-clause-in_range : goal.renew-requires-clause-in_range
 renew-requires-clause-in_range g c =
     omega (arith, within g (goal.at.renew-requires-clause-in_range g c).After-index-codel, c.self.invariant.0, ap length c.self.invariant.2, length-sizes c.self.inside.pool.queues)
+
+pub renew-requires-clause-fell : goal.renew-requires-clause-fell
+renew-requires-clause-fell g c _ = omega (arith, ap (λ (l : List ℕ). get_or l c.args.flow 0) c.self.invariant.2, sizes_at c.self.inside.pool.queues c.args.flow, c.bytes_of.ensures.value)
 
 pub invariant_of-self : goal.invariant_of-self
 invariant_of-self g c =

@@ -1,7 +1,7 @@
 use Rattle.std.proofs.Common.{◌≡◌, ℕ, ◌+◌, ◌/◌, ◌<◌, ◌≤◌, List, ◌++◌, length, take, drop, set, sym, ap, ◌∙◌, arith, subst}
 use Rattle.std.proofs.lemmas.List.{length-set, take-append-le, take_all}
-use Rattle.q_fqcodel.specs.Winners.{bytes_in, IsTournament}
-use Rattle.q_fqcodel.proofs.WinnerLemmas.{length-bytes, tree_written, bytes_renewed}
+use Rattle.q_fqcodel.specs.Winners.{rank, rank_at, bytes_in, bytes_at, IsTournament}
+use Rattle.q_fqcodel.proofs.WinnerLemmas.{length-bytes, bytes_read, tree_written, bytes_renewed}
 use Rattle.q_fqcodel.proofs.winners.Winners.renew.Goals as goal
 use Rattle.q_fqcodel.proofs.winners.Winners.renew.Goals.{After-len, After-climb}
 
@@ -23,6 +23,28 @@ pub climb-requires-clause-high : goal.climb-requires-clause-high
 climb-requires-clause-high c =
     let d = (goal.at.climb-requires-clause-high c).After-len in
     omega (arith, within d, place d, c.self.invariant.0.even, ap length c.deref_mut.ensures.value)
+
+-- the rank of the leaf before
+leaf_was : (c : After-len) → rank_at c.self.inside.ranks.items (c.len.result / 2 + c.args.flow) ≡ rank c.args.flow (bytes_at c.args.self.now c.args.flow)
+leaf_was c =
+    let xs : List ℕ = c.self.inside.ranks.items in
+    omega (arith, ap (rank_at xs) (place c), c.self.invariant.0.leaf c.args.flow (within c), bytes_read xs c.args.flow, ap (λ (l : List ℕ). bytes_at l c.args.flow) c.self.view_is)
+
+pub climb-requires-clause-below : goal.climb-requires-clause-below
+climb-requires-clause-below c =
+    let d = (goal.at.climb-requires-clause-below c).After-len in
+    let leaf : ℕ = c.len.result / 2 + c.args.flow in
+    omega (arith, ap (λ (l : List ℕ). rank_at l leaf) c.deref_mut.ensures.value, ap (rank_at c.self.inside.ranks.items) (place d), c.self.invariant.0.below c.args.flow (within d))
+
+pub climb-requires-clause-rose : goal.climb-requires-clause-rose
+climb-requires-clause-rose c h =
+    let d = (goal.at.climb-requires-clause-rose c).After-len in
+    omega (arith, ap (λ (l : List ℕ). rank_at l (c.len.result / 2 + c.args.flow)) c.deref_mut.ensures.value, leaf_was d, c.rank_of.ensures, c.requires.rose h)
+
+pub climb-requires-clause-fell : goal.climb-requires-clause-fell
+climb-requires-clause-fell c h =
+    let d = (goal.at.climb-requires-clause-fell c).After-len in
+    omega (arith, ap (λ (l : List ℕ). rank_at l (c.len.result / 2 + c.args.flow)) c.deref_mut.ensures.value, leaf_was d, c.rank_of.ensures, c.requires.fell h)
 
 -- the ranks with the leaf written, and those after the climb
 abbrev told : After-climb → List ℕ
