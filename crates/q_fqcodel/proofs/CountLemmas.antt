@@ -9,6 +9,7 @@ use Rattle.q_fqcodel.specs.FqState.{Flow, FqState, packets_of, bytes_of, all_pac
 use Rattle.q_fqcodel.specs.Put.{after_put, lost_by_put, flow_of}
 use Rattle.q_fqcodel.proofs.FlowLemmas.{packets-cons, packets-nil}
 use Rattle.q_fqcodel.proofs.LawLemmas.{all_packets-cons, put_keeps_all}
+use Rattle.q_fqcodel.proofs.ShedLemmas.{all_packets-nil}
 
 abbrev one : Stamped → ℕ
 one s = 1
@@ -19,10 +20,6 @@ len s = s.packet.len
 count-sum : (queue : List Stamped) → sum_by one queue ≡ count queue
 count-sum [] = refl
 count-sum (s ∷ queue) = omega (arith, sum_by-cons one s queue, count-sum queue)
-
-all_packets-nil : all_packets [] ≡ []
-unfolding all_packets
-all_packets-nil = refl
 
 bytes-cons : (f : Flow) (fs : List Flow) → bytes_of (f ∷ fs) ≡ size f.queue + bytes_of fs
 unfolding bytes_of

@@ -1,5 +1,5 @@
 -- What a change of one flow does to the others, to the packets of all, and to which flows are empty.
-use Rattle.std.proofs.Common.{◌≡◌, ℕ, zero, suc, ◌+◌, ◌≤◌, Bool, true, false, nat_eq, List, [], ◌∷◌, length, get_or, set, sum_by, refl, sym, ap, ◌∙◌, arith}
+use Rattle.std.proofs.Common.{◌≡◌, ℕ, zero, suc, ◌+◌, ◌≤◌, Bool, true, false, nat_eq, List, [], ◌∷◌, length, get_or, sum_by, refl, sym, ap, ◌∙◌, arith}
 use Rattle.std.proofs.lemmas.Bool.{ne_eqb, eqb-true, eqb-false}
 use Rattle.std.proofs.lemmas.List.Sums.{sum_by-cons}
 use Rattle.q_packet.specs.Totals.{count}
@@ -12,13 +12,6 @@ unfolding adjust
 length-adjust g n [] = refl
 length-adjust g zero (x ∷ xs) = refl
 length-adjust g (suc n) (x ∷ xs) = ap suc (length-adjust g n xs)
-
--- a list with one element written
-pub adjust-set : {F : Type 0} (g : F → F) (n : ℕ) (xs : List F) (d : F) → adjust g n xs ≡ set xs n (g (get_or xs n d))
-unfolding adjust
-adjust-set g n [] d = refl
-adjust-set g zero (x ∷ xs) d = refl
-adjust-set g (suc n) (x ∷ xs) d = ap (λ (l : List _). x ∷ l) (adjust-set g n xs d)
 
 -- a change that leaves every queue as it is
 pub queues-adjust : (g : Flow → Flow) → ((f : Flow) → (g f).queue ≡ f.queue) → (n : ℕ) (flows : List Flow) → queues (adjust g n flows) ≡ queues flows

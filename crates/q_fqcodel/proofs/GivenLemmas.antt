@@ -159,15 +159,15 @@ module _ (q n : ℕ) (idle : ℕ → Bool) (new_flows old_flows : List Entry) (p
       ∙ ap (λ (z : ℤ). z +ℤ pos (quanta_turned q n old (Some c) * q)) (old_credits r.0 r.1 r.2)
       ∙ quanta-more e.credits (quanta_in q n 1 over) (quanta_turned q n old (Some c)) q
 
-  no_fresh : (a : Entry) (o : Option Choice) → In a ((turned q old o).new_flows ++ (turned q old o).old_flows) → In a (turned q old o).old_flows
+  no_new : (a : Entry) (o : Option Choice) → In a ((turned q old o).new_flows ++ (turned q old o).old_flows) → In a (turned q old o).old_flows
   unfolding turned
-  no_fresh a None h = h
-  no_fresh a (Some c) h = h
+  no_new a None h = h
+  no_new a (Some c) h = h
 
   after_all : (a : Entry) (rest : List Entry) → drop p new_flows ≡ rest → In a ((with_rest q idle rest old).new_flows ++ (with_rest q idle rest old).old_flows) → a.flow ≡ n
       → a.credits ≡ e.credits +ℤ pos ((quanta_in q n 1 over + quanta_old q idle n rest old) * q)
   unfolding with_rest quanta_old
-  after_all a [] none h own' = after_turn a (chosen q idle old) (no_fresh a (chosen q idle old) h) own'
+  after_all a [] none h own' = after_turn a (chosen q idle old) (no_new a (chosen q idle old) h) own'
   after_all a (r ∷ rs) left h own' =
       let same : e.credits +ℤ pos (quanta_in q n 1 over * q) ≡ e.credits +ℤ pos ((quanta_in q n 1 over + 0) * q) =
       ap (λ (k : ℕ). e.credits +ℤ pos (k * q)) (let z : quanta_in q n 1 over ≡ quanta_in q n 1 over + 0 = omega arith in z) in

@@ -24,7 +24,7 @@ use Rattle.q_fqcodel.proofs.LawLemmas.{queues-clear, appended-packets}
 use Rattle.q_fqcodel.proofs.LawfulLemmas.{lawful_shrunk, lawful_written}
 use Rattle.q_fqcodel.proofs.PutLemmas.{own_queue, other_queue, busy_put, busy_shed, cut-none, cut-some, lawful_put, packets-shortened, shed-within, shed-positive}
 use Rattle.q_fqcodel.proofs.SentLemmas.{front-is, front-none, after-none, after-written, lists-written, written, count-after, flow-paid}
-use Rattle.q_fqcodel.proofs.TurnLemmas.{LeadsOn, fresh_granted, fresh_moves, fresh_ready, stale_granted, stale_leaves, stale_ready, none_left}
+use Rattle.q_fqcodel.proofs.TurnLemmas.{LeadsOn, new_granted, new_moves, new_ready, old_granted, old_leaves, old_ready, none_left}
 
 -- ---- the selection keeps the packets
 
@@ -87,22 +87,22 @@ cases_credits (negsuc n) = inl (omega (arith, ints))
 at_new : (s : FqState) (e : Entry) (rest : List Entry) → s.new_flows ≡ e ∷ rest → IsLawful s → 1 ≤ s.settings.quantum → Onward s → IsLawful (selected s)
 at_new s e rest front lawful positive onward =
     ⊎_elim
-    (λ (low : e.credits ≤ℤ pos 0). led_on s _ onward (fresh_granted s lawful e rest front positive low) positive)
+    (λ (low : e.credits ≤ℤ pos 0). led_on s _ onward (new_granted s lawful e rest front positive low) positive)
     (λ (high : pos 0 <ℤ e.credits).
     ⊎_elim
-    (λ (empty : is_idle s.flows e.flow ≡ true). led_on s _ onward (fresh_moves s lawful e rest front high empty) positive)
-    (λ (busy : is_idle s.flows e.flow ≡ false). stops s lawful (fresh_ready s lawful e rest front high busy))
+    (λ (empty : is_idle s.flows e.flow ≡ true). led_on s _ onward (new_moves s lawful e rest front high empty) positive)
+    (λ (busy : is_idle s.flows e.flow ≡ false). stops s lawful (new_ready s lawful e rest front high busy))
     (cases_Bool (is_idle s.flows e.flow)))
     (cases_credits e.credits)
 
 at_old : (s : FqState) (e : Entry) (rest : List Entry) → s.new_flows ≡ [] → s.old_flows ≡ e ∷ rest → IsLawful s → 1 ≤ s.settings.quantum → Onward s → IsLawful (selected s)
 at_old s e rest none front lawful positive onward =
     ⊎_elim
-    (λ (low : e.credits ≤ℤ pos 0). led_on s _ onward (stale_granted s lawful e rest none front positive low) positive)
+    (λ (low : e.credits ≤ℤ pos 0). led_on s _ onward (old_granted s lawful e rest none front positive low) positive)
     (λ (high : pos 0 <ℤ e.credits).
     ⊎_elim
-    (λ (empty : is_idle s.flows e.flow ≡ true). led_on s _ onward (stale_leaves s lawful e rest none front high empty) positive)
-    (λ (busy : is_idle s.flows e.flow ≡ false). stops s lawful (stale_ready s lawful e rest none front high busy))
+    (λ (empty : is_idle s.flows e.flow ≡ true). led_on s _ onward (old_leaves s lawful e rest none front high empty) positive)
+    (λ (busy : is_idle s.flows e.flow ≡ false). stops s lawful (old_ready s lawful e rest none front high busy))
     (cases_Bool (is_idle s.flows e.flow)))
     (cases_credits e.credits)
 

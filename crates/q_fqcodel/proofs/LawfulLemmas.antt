@@ -115,9 +115,9 @@ lawful_written s e m rest new_flows old_flows lawful front same written =
 
 -- where both lists are empty no flow has a packet
 pub none_waits : (s : FqState) → IsLawful s → s.new_flows ≡ [] → s.old_flows ≡ [] → packets_of s.flows ≡ 0
-none_waits s lawful no_fresh no_stale =
+none_waits s lawful no_new no_old =
     packets-none s.flows (λ n. true_from_ne_false (is_idle s.flows n)
-    (λ busy. absurd (omega (arith, lawful.busy n busy, times-append n s.new_flows s.old_flows, ap (times n) no_fresh, ap (times n) no_stale))))
+    (λ busy. absurd (omega (arith, lawful.busy n busy, times-append n s.new_flows s.old_flows, ap (times n) no_new, ap (times n) no_old))))
 
 -- ---- a new fq_codel, and one with other settings
 

@@ -10,20 +10,20 @@ use Rattle.q_fqcodel.specs.Put.{is_listed}
 use Rattle.q_fqcodel.specs.declared.ends.Ends.{Ends}
 use Rattle.q_fqcodel.specs.declared.link.Link.{Link}
 use Rattle.q_fqcodel.specs.declared.place.Place.{Place}
-use Rattle.q_fqcodel.specs.declared.place.Place.TheVariants.{Unlisted, Fresh, Stale}
+use Rattle.q_fqcodel.specs.declared.place.Place.TheVariants.{Unlisted, New, Old}
 use Rattle.q_fqcodel.proofs.LinkedLemmas.{chain-none, chain-more, kept, kept_items, there, tail_of, Leads, alone, alone_items, longer, longer_items, shorter, shorter_items, rewritten, rewritten_items}
 
 -- ---- one link
 
 listed_is : (x y : Link) (place : Place) → where_listed x place ≡ Some y → y ≡ x
 listed_is x y Unlisted e = absurd cc
-listed_is x y Fresh e = cc
-listed_is x y Stale e = cc
+listed_is x y New e = cc
+listed_is x y Old e = cc
 
 listed_shows : (x : Link) (place : Place) → place ≢ Unlisted → where_listed x place ≡ Some x
 listed_shows x Unlisted ne = absurd (ne refl)
-listed_shows x Fresh ne = refl
-listed_shows x Stale ne = refl
+listed_shows x New ne = refl
+listed_shows x Old ne = refl
 
 place_listed : (x y : Link) (place : Place) → where_listed x place ≡ Some y → place ≢ Unlisted
 place_listed x y place e none = let p : None ≡ Some y = ap (where_listed x) (sym none) ∙ e in absurd cc

@@ -11,7 +11,7 @@ use Rattle.q_fqcodel.specs.Put.{is_listed}
 use Rattle.q_fqcodel.specs.declared.ends.Ends.{Ends}
 use Rattle.q_fqcodel.specs.declared.link.Link.{Link}
 use Rattle.q_fqcodel.specs.declared.place.Place.{Place}
-use Rattle.q_fqcodel.specs.declared.place.Place.TheVariants.{Unlisted, Fresh, Stale}
+use Rattle.q_fqcodel.specs.declared.place.Place.TheVariants.{Unlisted, New, Old}
 use Rattle.q_fqcodel.proofs.LinkedLemmas.{length-chain}
 use Rattle.q_fqcodel.proofs.LinkLemmas.{no_entries, front_entry, listed_there, free_at, head_within, renewed_entries, renewed_line, renewed_keeps}
 
@@ -79,8 +79,8 @@ turned_alone [] e h = absurd (omega (arith, h))
 turned_alone (x ∷ []) e h = refl
 turned_alone (x ∷ y ∷ l) e h = absurd (omega (arith, h))
 
-pub fresh_or_stale : Fresh ≢ Stale
-fresh_or_stale e = absurd cc
+pub new_or_old : New ≢ Old
+new_or_old e = absurd cc
 
 -- both lists, once the flow in front is written
 module _ (links : List Link) (new_flows old_flows : Ends) (lists : IsLists links new_flows old_flows) (e : Entry) where
@@ -94,28 +94,28 @@ module _ (links : List Link) (new_flows old_flows : Ends) (lists : IsLists links
     pub written_new_lists : IsLists written_links new_flows old_flows
     written_new_lists = record {
       room = omega (arith, lists.room, long);
-      new = paid_line links Fresh new_flows some lists.new e own;
-      old = (paid_keeps links Fresh new_flows some lists.new e own).linked Stale old_flows (λ at. fresh_or_stale (sym at)) lists.old;
+      new = paid_line links New new_flows some lists.new e own;
+      old = (paid_keeps links New new_flows some lists.new e own).linked Old old_flows (λ at. new_or_old (sym at)) lists.old;
     }
 
     pub written_new_entries : (entries_in written_links new_flows ≡ set (entries_in links new_flows) 0 e) × (entries_in written_links old_flows ≡ entries_in links old_flows)
     written_new_entries = (
-      paid_entries links Fresh new_flows some lists.new e own,
-      (paid_keeps links Fresh new_flows some lists.new e own).same Stale old_flows (λ at. fresh_or_stale (sym at)) lists.old,
+      paid_entries links New new_flows some lists.new e own,
+      (paid_keeps links New new_flows some lists.new e own).same Old old_flows (λ at. new_or_old (sym at)) lists.old,
     )
 
   module _ (some : 0 < old_flows.count) (own : old_flows.head ≡ e.flow) where
     pub written_old_lists : IsLists written_links new_flows old_flows
     written_old_lists = record {
       room = omega (arith, lists.room, long);
-      new = (paid_keeps links Stale old_flows some lists.old e own).linked Fresh new_flows fresh_or_stale lists.new;
-      old = paid_line links Stale old_flows some lists.old e own;
+      new = (paid_keeps links Old old_flows some lists.old e own).linked New new_flows new_or_old lists.new;
+      old = paid_line links Old old_flows some lists.old e own;
     }
 
     pub written_old_entries : (entries_in written_links new_flows ≡ entries_in links new_flows) × (entries_in written_links old_flows ≡ set (entries_in links old_flows) 0 e)
     written_old_entries = (
-      (paid_keeps links Stale old_flows some lists.old e own).same Fresh new_flows fresh_or_stale lists.new,
-      paid_entries links Stale old_flows some lists.old e own,
+      (paid_keeps links Old old_flows some lists.old e own).same New new_flows new_or_old lists.new,
+      paid_entries links Old old_flows some lists.old e own,
     )
 
 -- ---- whether a flow is listed
@@ -150,8 +150,8 @@ module _ (links : List Link) (new_flows old_flows : Ends) (lists : IsLists links
 
   pub not_listed : (link_of links n).place ≡ Unlisted → false ≡ is_listed n all
   not_listed free = sym (unless (is_listed n all) (λ h. ⊎_elim
-      (λ (a : is_listed n (entries_in links new_flows) ≡ true). nowhere (listed_there (link_at links) Fresh new_flows.tail new_flows.count new_flows.head n lists.new.linked a))
-      (λ (b : is_listed n (entries_in links old_flows) ≡ true). nowhere (listed_there (link_at links) Stale old_flows.tail old_flows.count old_flows.head n lists.old.linked b))
+      (λ (a : is_listed n (entries_in links new_flows) ≡ true). nowhere (listed_there (link_at links) New new_flows.tail new_flows.count new_flows.head n lists.new.linked a))
+      (λ (b : is_listed n (entries_in links old_flows) ≡ true). nowhere (listed_there (link_at links) Old old_flows.tail old_flows.count old_flows.head n lists.old.linked b))
       (listed-append n (entries_in links new_flows) (entries_in links old_flows) h)))
     where
       unless : (b : Bool) → (b ≡ true → false ≡ true) → b ≡ false
@@ -161,10 +161,10 @@ module _ (links : List Link) (new_flows old_flows : Ends) (lists : IsLists links
       nowhere : {P : Link → Type 0} → (x : Link) × (link_at links n ≡ Some x) × P x → false ≡ true
       nowhere x = let p : None ≡ Some x.0 = sym (free_at links n free) ∙ x.1 in absurd cc
 
-  pub listed_new : (link_of links n).place ≡ Fresh → true ≡ is_listed n all
+  pub listed_new : (link_of links n).place ≡ New → true ≡ is_listed n all
   listed_new at = sym (listed_left n (entries_in links new_flows) (entries_in links old_flows) (lists.new.whole n (link_of links n) (ap (where_listed (link_of links n)) at) at))
 
-  pub listed_old : (link_of links n).place ≡ Stale → true ≡ is_listed n all
+  pub listed_old : (link_of links n).place ≡ Old → true ≡ is_listed n all
   listed_old at = sym (listed_right n (entries_in links new_flows) (entries_in links old_flows) (lists.old.whole n (link_of links n) (ap (where_listed (link_of links n)) at) at))
 
 -- ---- no flow is listed
@@ -186,7 +186,7 @@ empty_line n place = record {
 
 pub empty_lists : (n : ℕ) (links : List Link) (new_flows old_flows : Ends) → links ≡ replicate n no_link → new_flows ≡ no_ends → old_flows ≡ no_ends → n ≤ 65536 → IsLists links new_flows old_flows
 empty_lists n links new_flows old_flows all new old few =
-    rw (all, new, old) (record { room = omega (arith, few, length-replicate n no_link); new = empty_line n Fresh; old = empty_line n Stale })
+    rw (all, new, old) (record { room = omega (arith, few, length-replicate n no_link); new = empty_line n New; old = empty_line n Old })
 
 pub empty_state : (n : ℕ) (links : List Link) (new_flows old_flows : Ends) → links ≡ replicate n no_link → new_flows ≡ no_ends → old_flows ≡ no_ends
     → ◌≡◌ {A = ListsState} (record { new_flows = entries_in links new_flows; old_flows = entries_in links old_flows; room = length links }) (record { new_flows = []; old_flows = []; room = n })

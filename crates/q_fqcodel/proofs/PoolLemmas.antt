@@ -11,7 +11,7 @@ use Rattle.q_fqcodel.specs.Pool.{no_list, queues_in, packets_in, bytes_in, IsPoo
 use Rattle.q_fqcodel.specs.declared.node.Node.{Node}
 use Rattle.q_fqcodel.specs.declared.flow_list.FlowList.{FlowList}
 use Rattle.q_fqcodel.proofs.ChainLemmas.{counted, few_bytes, enough_bytes}
-use Rattle.q_fqcodel.proofs.LinkedLemmas.{chain-none, kept, kept_items}
+use Rattle.q_fqcodel.proofs.LinkedLemmas.{chain-none, kept_items}
 
 pub length-queues : (at : ℕ → Option Node) (lists : List FlowList) → length (queues_in at lists) ≡ length lists
 unfolding queues_in
@@ -198,14 +198,3 @@ pool_first at count n none = record {
 pub queues_alike : (at at2 : ℕ → Option Node) (lists : List FlowList) → ((j : ℕ) → at2 j ≡ at j) → ((n : ℕ) → IsList at (length lists) n (get_or lists n no_list)) → queues_in at2 lists ≡ queues_in at lists
 queues_alike at at2 lists same each =
     queues_same at at2 lists (λ m. kept_items packets (IsNode (length lists) m) at at2 (get_or lists m no_list).tail (get_or lists m no_list).count (get_or lists m no_list).head (each m).linked (λ _ j _ _. same j))
-
-pub pool_alike : (at at2 : ℕ → Option Node) (nodes : ℕ) (lists : List FlowList) (bytes : ℕ) → IsPool at nodes lists bytes → ((j : ℕ) → at2 j ≡ at j) → IsPool at2 nodes lists bytes
-pool_alike at at2 nodes lists bytes pool same = record {
-  each = λ m. record {
-    linked = kept packets (IsNode (length lists) m) at at2 (get_or lists m no_list).tail (get_or lists m no_list).count (get_or lists m no_list).head (pool.each m).linked (λ _ j _ _. same j);
-    bytes = (pool.each m).bytes ∙ ap size (sym (kept_items packets (IsNode (length lists) m) at at2 (get_or lists m no_list).tail (get_or lists m no_list).count (get_or lists m no_list).head (pool.each m).linked (λ _ j _ _. same j)));
-  };
-  counted = pool.counted;
-  summed = pool.summed;
-  few = pool.few;
-}

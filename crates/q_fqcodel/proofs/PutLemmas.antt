@@ -1,5 +1,5 @@
 -- A put: the flow that the packet joins is listed once, there is a place in the new list for it, and the packets stay few.
-use Rattle.std.proofs.Common.{◌≡◌, ◌≢◌, ℕ, zero, suc, ◌+◌, ◌<◌, ◌≤◌, ◌^◌, ◌==◌, ◌&&◌, min, pos, Bool, true, false, cond, nat_eq, nat_le, List, [], ◌∷◌, ◌++◌, length, take, ◌⊎◌, inl, inr, refl, sym, ap, ap₂, ◌∙◌, arith, ⊎_elim, length-append}
+use Rattle.std.proofs.Common.{◌≡◌, ◌≢◌, ℕ, zero, suc, ◌+◌, ◌<◌, ◌≤◌, ◌^◌, ◌==◌, ◌&&◌, min, pos, true, false, cond, nat_eq, nat_le, List, [], ◌∷◌, ◌++◌, length, take, ◌⊎◌, inl, inr, refl, sym, ap, ap₂, ◌∙◌, arith, ⊎_elim, length-append}
 use Rattle.std.proofs.lemmas.Bool.{cases_eq, cases_lt, cases_Bool, cond-true, cond-false, le-leb, lt-leb, eqb-true, eqb-false, true≢false, or_parts, or_cases, and_right}
 use Rattle.std.proofs.lemmas.List.{length-drop}
 use Rattle.q_packet.specs.Totals.{count}
@@ -87,13 +87,6 @@ listed-not n [] h = refl
 listed-not n (e ∷ es) h =
     let parts = or_parts (e.flow == n) (is_listed n es) h in
     omega (arith, times-cons n e es, one-other n e (eqb-false e.flow n parts.0), listed-not n es parts.1)
-
-true_unless : (b : Bool) → (b ≡ false → ⊥) → b ≡ true
-true_unless true h = refl
-true_unless false h = absurd (h refl)
-
-pub listed-some : (n : ℕ) (es : List Entry) → 1 ≤ times n es → is_listed n es ≡ true
-listed-some n es h = true_unless (is_listed n es) (λ none. absurd (omega (arith, h, listed-not n es none)))
 
 pub listed-yes : (n : ℕ) (es : List Entry) → is_listed n es ≡ true → 1 ≤ times n es
 listed-yes n [] h = absurd (true≢false (sym h))

@@ -102,19 +102,19 @@ after-new_flows s e rest now front = ap (λ (l : List Entry). with_sent now s l 
 
 pub after-none : (s : FqState) (now : ℕ) → s.new_flows ≡ [] → s.old_flows ≡ [] → after_sending now s ≡ s
 unfolding after_sending with_sent
-after-none s now no_fresh no_stale =
-    ap₂ (λ (l m : List Entry). with_sent now s l m) no_fresh no_stale
-    ∙ ap₂ (λ (l m : List Entry). record s { new_flows = l; old_flows = m }) (sym no_fresh) (sym no_stale)
+after-none s now no_new no_old =
+    ap₂ (λ (l m : List Entry). with_sent now s l m) no_new no_old
+    ∙ ap₂ (λ (l m : List Entry). record s { new_flows = l; old_flows = m }) (sym no_new) (sym no_old)
 
 pub sent-none : (s : FqState) (now : ℕ) → s.new_flows ≡ [] → s.old_flows ≡ [] → sent_from now s ≡ None
 unfolding sent_from sender front
-sent-none s now no_fresh no_stale =
-    ap₂ (λ (l m : List Entry). option_and_then (packet_sent now) (option_and_then (λ (e : Entry). slice_get s.flows e.flow) (slice_get (l ++ m) 0))) no_fresh no_stale
+sent-none s now no_new no_old =
+    ap₂ (λ (l m : List Entry). option_and_then (packet_sent now) (option_and_then (λ (e : Entry). slice_get s.flows e.flow) (slice_get (l ++ m) 0))) no_new no_old
 
 pub dropped-none : (s : FqState) (now : ℕ) → s.new_flows ≡ [] → s.old_flows ≡ [] → dropped_from now s ≡ []
 unfolding dropped_from sender front
-dropped-none s now no_fresh no_stale =
-    ap₂ (λ (l m : List Entry). unwrap_or (option_map (packets_dropped now) (option_and_then (λ (e : Entry). slice_get s.flows e.flow) (slice_get (l ++ m) 0))) []) no_fresh no_stale
+dropped-none s now no_new no_old =
+    ap₂ (λ (l m : List Entry). unwrap_or (option_map (packets_dropped now) (option_and_then (λ (e : Entry). slice_get s.flows e.flow) (slice_get (l ++ m) 0))) []) no_new no_old
 
 -- a flow that has sent has no more packets than before
 pub count-after : (now : ℕ) (f : Flow) → count (flow_after now f).queue ≤ count f.queue
@@ -132,8 +132,8 @@ flow-paid (Some t) e = refl
 
 pub sender-none : (s : FqState) → s.new_flows ≡ [] → s.old_flows ≡ [] → sender s ≡ None
 unfolding sender front
-sender-none s no_fresh no_stale =
-    ap₂ (λ (l m : List Entry). option_and_then (λ (e : Entry). slice_get s.flows e.flow) (slice_get (l ++ m) 0)) no_fresh no_stale
+sender-none s no_new no_old =
+    ap₂ (λ (l m : List Entry). option_and_then (λ (e : Entry). slice_get s.flows e.flow) (slice_get (l ++ m) 0)) no_new no_old
 
 -- ---- for the code, which reads the front of both lists
 

@@ -1,7 +1,7 @@
 -- Packets leave the front of a flow one by one; a list changed from its first element to its last.
-use Rattle.std.proofs.Common.{◌≡◌, ℕ, zero, suc, ◌+◌, ◌<◌, ◌≤◌, Bool, List, [], ◌∷◌, ◌++◌, map, length, get_or, set, take, drop, replicate, Some, IsSome, refl, sym, ap, ◌∙◌, arith, subst, append_assoc, append-nil, drop-drop, add-one}
+use Rattle.std.proofs.Common.{◌≡◌, ℕ, zero, suc, ◌+◌, ◌<◌, ◌≤◌, Bool, List, [], ◌∷◌, ◌++◌, map, length, take, drop, replicate, Some, refl, sym, ap, ◌∙◌, arith, append_assoc, append-nil, add-one}
 use Rattle.std.specs.Prelude.{slice_get}
-use Rattle.std.proofs.lemmas.List.{map-append, length-drop, drop_all}
+use Rattle.std.proofs.lemmas.List.{map-append, drop_all}
 use Rattle.q_packet.specs.Totals.{count}
 use Rattle.q_packet.specs.declared.stamped.Stamped.{Stamped}
 use Rattle.q_packet.specs.declared.cause.Cause.{Cause}
@@ -13,19 +13,12 @@ use Rattle.q_fqcodel.specs.FqState.{Flow, queue_of, packets_of, all_packets, ret
 use Rattle.q_fqcodel.specs.Put.{shortened}
 use Rattle.q_fqcodel.specs.Pool.{flows_from, cleared}
 use Rattle.q_fqcodel.proofs.FlowLemmas.{packets-cons, packets-nil}
-use Rattle.q_fqcodel.proofs.SentLemmas.{slice_there}
 
 pub adjust-adjust : {F : Type 0} (g h : F → F) (n : ℕ) (xs : List F) → adjust h n (adjust g n xs) ≡ adjust (λ x. h (g x)) n xs
 unfolding adjust
 adjust-adjust g h n [] = refl
 adjust-adjust g h zero (x ∷ xs) = refl
 adjust-adjust g h (suc n) (x ∷ xs) = ap (λ (l : List _). x ∷ l) (adjust-adjust g h n xs)
-
-pub adjust-same : {F : Type 0} (g h : F → F) (n : ℕ) (xs : List F) → ((x : F) → g x ≡ h x) → adjust g n xs ≡ adjust h n xs
-unfolding adjust
-adjust-same g h n [] e = refl
-adjust-same g h zero (x ∷ xs) e = ap (λ (y : _). y ∷ xs) (e x)
-adjust-same g h (suc n) (x ∷ xs) e = ap (λ (l : List _). x ∷ l) (adjust-same g h n xs e)
 
 pub adjust-id : {F : Type 0} (g : F → F) (n : ℕ) (xs : List F) → ((x : F) → g x ≡ x) → adjust g n xs ≡ xs
 unfolding adjust
@@ -36,25 +29,6 @@ adjust-id g (suc n) (x ∷ xs) e = ap (λ (l : List _). x ∷ l) (adjust-id g n 
 -- no packet less
 pub shortened-none : (n : ℕ) (flows : List Flow) → adjust (shortened 0) n flows ≡ flows
 shortened-none n flows = adjust-id (shortened 0) n flows (λ f. refl)
-
--- one packet more
-pub shortened-more : (i n : ℕ) (flows : List Flow) → adjust (shortened 1) n (adjust (shortened i) n flows) ≡ adjust (shortened (i + 1)) n flows
-shortened-more i n flows =
-    adjust-adjust (shortened i) (shortened 1) n flows
-    ∙ adjust-same (λ f. shortened 1 (shortened i f)) (shortened (i + 1)) n flows (λ f. ap (λ (q : List Stamped). record f { queue = q }) (drop-drop 1 i f.queue))
-
--- what is left in the flow
-pub queue-shortened : (i n : ℕ) (flows : List Flow) → queue_of (adjust (shortened i) n flows) n ≡ drop i (queue_of flows n)
-unfolding adjust
-queue-shortened zero n [] = refl
-queue-shortened (suc i) n [] = refl
-queue-shortened i zero (f ∷ fs) = refl
-queue-shortened i (suc n) (f ∷ fs) = queue-shortened i n fs
-
-pub front_left : (i n : ℕ) (flows : List Flow) → i < count (queue_of flows n) → IsSome (slice_get (queue_of (adjust (shortened i) n flows) n) 0)
-front_left i n flows h =
-    subst (λ (q : List Stamped). IsSome (slice_get q 0)) (sym (queue-shortened i n flows))
-    (slice_there (drop i (queue_of flows n)) 0 (omega (arith, length-drop i (queue_of flows n))))
 
 -- a queue read at its i-th packet
 pub taken_more : (q : List Stamped) (i : ℕ) (x : Stamped) → slice_get (drop i q) 0 ≡ Some x → take (suc i) q ≡ take i q ++ x ∷ []
@@ -120,16 +94,6 @@ packets_of-part (suc n) [] = omega arith
 packets_of-part (suc n) (f ∷ fs) = omega (arith, packets-cons f (take n fs), packets-cons f fs, packets_of-part n fs)
 
 -- ---- every flow is changed alike
-
-pub changed-next : {X : Type 0} (g : X → X) (n : ℕ) (xs : List X) (d : X) → n < length xs → set (map g (take n xs) ++ drop n xs) n (g (get_or xs n d)) ≡ map g (take (suc n) xs) ++ drop (suc n) xs
-changed-next g n [] d h = absurd (omega arith)
-changed-next g zero (x ∷ xs) d h = refl
-changed-next g (suc n) (x ∷ xs) d h = ap (λ (l : List _). g x ∷ l) (changed-next g n xs d (omega arith))
-
-pub changed-at : {X : Type 0} (g : X → X) (n : ℕ) (xs : List X) (d : X) → n < length xs → get_or (map g (take n xs) ++ drop n xs) n d ≡ get_or xs n d
-changed-at g zero xs d h = refl
-changed-at g (suc n) [] d h = absurd (omega arith)
-changed-at g (suc n) (x ∷ xs) d h = changed-at g n xs d (omega arith)
 
 pub flows-retuned : (target interval : ℕ) (ecn : Bool) (qs : List (List Stamped)) (cs : List CodelState)
     → flows_from qs (map (λ (c : CodelState). record c { target = target; interval = interval; ecn = ecn }) cs) ≡ map (retuned target interval ecn) (flows_from qs cs)

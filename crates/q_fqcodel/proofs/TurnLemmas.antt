@@ -36,23 +36,23 @@ same_selected s t settings agree =
     ∙ ap₂ (λ (x y : List Entry). record t { flows = clear rested_flow (arranged_in t).gone t.flows; new_flows = x; old_flows = y }) agree.new_flows agree.old_flows
     ∙ sym (selected-is t)
 
-fresh_turns : ℕ → Entry → ℕ
-fresh_turns q e = suc (suc (need q e))
+new_turns : ℕ → Entry → ℕ
+new_turns q e = suc (suc (need q e))
 
-stale_turns : ℕ → Entry → ℕ
-stale_turns q e = suc (need q e)
+old_turns : ℕ → Entry → ℕ
+old_turns q e = suc (need q e)
 
-turns-is : (s : FqState) → turns s ≡ sum_by (fresh_turns s.settings.quantum) s.new_flows + sum_by (stale_turns s.settings.quantum) s.old_flows
-unfolding turns fresh_turns stale_turns
+turns-is : (s : FqState) → turns s ≡ sum_by (new_turns s.settings.quantum) s.new_flows + sum_by (old_turns s.settings.quantum) s.old_flows
+unfolding turns new_turns old_turns
 turns-is s = refl
 
-fresh_turns-is : (q : ℕ) (e : Entry) → fresh_turns q e ≡ suc (suc (need q e))
-unfolding fresh_turns
-fresh_turns-is q e = refl
+new_turns-is : (q : ℕ) (e : Entry) → new_turns q e ≡ suc (suc (need q e))
+unfolding new_turns
+new_turns-is q e = refl
 
-stale_turns-is : (q : ℕ) (e : Entry) → stale_turns q e ≡ suc (need q e)
-unfolding stale_turns
-stale_turns-is q e = refl
+old_turns-is : (q : ℕ) (e : Entry) → old_turns q e ≡ suc (need q e)
+unfolding old_turns
+old_turns-is q e = refl
 
 -- the entry in front, where there is one, and where no flow is listed
 pub first_in_front : (s : FqState) (e : Entry) (rest : List Entry) → s.new_flows ++ s.old_flows ≡ e ∷ rest → Some e ≡ front s
@@ -71,9 +71,9 @@ pub record LeadsOn (s t : FqState) : Type 0 where
 -- ---- the new list
 
 module _ (s : FqState) (lawful : IsLawful s) (e : Entry) (rest : List Entry) (front : s.new_flows ≡ e ∷ rest) where
-  fresh_granted_on : 1 ≤ s.settings.quantum → e.credits ≤ℤ pos 0 → GoesOn s (record s { new_flows = rest; old_flows = s.old_flows ++ given s.settings.quantum 1 e ∷ [] })
+  new_granted_on : 1 ≤ s.settings.quantum → e.credits ≤ℤ pos 0 → GoesOn s (record s { new_flows = rest; old_flows = s.old_flows ++ given s.settings.quantum 1 e ∷ [] })
   unfolding arranged_in
-  fresh_granted_on positive low =
+  new_granted_on positive low =
       let q : ℕ = s.settings.quantum in
       let t : FqState = record s { new_flows = rest; old_flows = s.old_flows ++ given q 1 e ∷ [] } in
       let lists : arranged_in s ≡ arranged_in t =
@@ -81,18 +81,18 @@ module _ (s : FqState) (lawful : IsLawful s) (e : Entry) (rest : List Entry) (fr
       record {
         same = sym (same_selected s t refl (same_lists rested_flow s.flows (arranged_in s) (arranged_in t) lists));
         fewer =
-            let a : sum_by (fresh_turns q) s.new_flows ≡ fresh_turns q e + sum_by (fresh_turns q) rest = ap (sum_by (fresh_turns q)) front ∙ sum_by-cons (fresh_turns q) e rest in
-            let b : sum_by (stale_turns q) (s.old_flows ++ given q 1 e ∷ []) ≡ sum_by (stale_turns q) s.old_flows + stale_turns q (given q 1 e) = sum_by_push (stale_turns q) s.old_flows (given q 1 e) in
-            omega (arith, a, b, turns-is s, turns-is t, fresh_turns-is q e, stale_turns-is q (given q 1 e), need-more q e positive low);
+            let a : sum_by (new_turns q) s.new_flows ≡ new_turns q e + sum_by (new_turns q) rest = ap (sum_by (new_turns q)) front ∙ sum_by-cons (new_turns q) e rest in
+            let b : sum_by (old_turns q) (s.old_flows ++ given q 1 e ∷ []) ≡ sum_by (old_turns q) s.old_flows + old_turns q (given q 1 e) = sum_by_push (old_turns q) s.old_flows (given q 1 e) in
+            omega (arith, a, b, turns-is s, turns-is t, new_turns-is q e, old_turns-is q (given q 1 e), need-more q e positive low);
         packets = refl;
       }
 
-  pub fresh_granted : 1 ≤ s.settings.quantum → e.credits ≤ℤ pos 0 → LeadsOn s (record s { new_flows = rest; old_flows = s.old_flows ++ given s.settings.quantum 1 e ∷ [] })
-  fresh_granted positive low = record { lawful = lawful_moved s e (given s.settings.quantum 1 e) rest lawful front (flow-given s.settings.quantum 1 e); on = fresh_granted_on positive low }
+  pub new_granted : 1 ≤ s.settings.quantum → e.credits ≤ℤ pos 0 → LeadsOn s (record s { new_flows = rest; old_flows = s.old_flows ++ given s.settings.quantum 1 e ∷ [] })
+  new_granted positive low = record { lawful = lawful_moved s e (given s.settings.quantum 1 e) rest lawful front (flow-given s.settings.quantum 1 e); on = new_granted_on positive low }
 
-  fresh_moves_on : pos 0 <ℤ e.credits → is_idle s.flows e.flow ≡ true → GoesOn s (record s { flows = adjust rested_flow e.flow s.flows; new_flows = rest; old_flows = s.old_flows ++ e ∷ [] })
+  new_moves_on : pos 0 <ℤ e.credits → is_idle s.flows e.flow ≡ true → GoesOn s (record s { flows = adjust rested_flow e.flow s.flows; new_flows = rest; old_flows = s.old_flows ++ e ∷ [] })
   unfolding arranged_in
-  fresh_moves_on high empty =
+  new_moves_on high empty =
       let q : ℕ = s.settings.quantum in
       let t : FqState = record s { flows = adjust rested_flow e.flow s.flows; new_flows = rest; old_flows = s.old_flows ++ e ∷ [] } in
       let ready : need q e ≡ 0 = need-none q e high in
@@ -110,18 +110,18 @@ module _ (s : FqState) (lawful : IsLawful s) (e : Entry) (rest : List Entry) (fr
               ∙ ap (λ (l : Lists). clear rested_flow l.gone t.flows) lists';
         }));
         fewer =
-            let a : sum_by (fresh_turns q) s.new_flows ≡ fresh_turns q e + sum_by (fresh_turns q) rest = ap (sum_by (fresh_turns q)) front ∙ sum_by-cons (fresh_turns q) e rest in
-            let b : sum_by (stale_turns q) (s.old_flows ++ e ∷ []) ≡ sum_by (stale_turns q) s.old_flows + stale_turns q e = sum_by_push (stale_turns q) s.old_flows e in
-            omega (arith, a, b, turns-is s, turns-is t, fresh_turns-is q e, stale_turns-is q e);
+            let a : sum_by (new_turns q) s.new_flows ≡ new_turns q e + sum_by (new_turns q) rest = ap (sum_by (new_turns q)) front ∙ sum_by-cons (new_turns q) e rest in
+            let b : sum_by (old_turns q) (s.old_flows ++ e ∷ []) ≡ sum_by (old_turns q) s.old_flows + old_turns q e = sum_by_push (old_turns q) s.old_flows e in
+            omega (arith, a, b, turns-is s, turns-is t, new_turns-is q e, old_turns-is q e);
         packets = packets-rested e.flow s.flows;
       }
 
-  pub fresh_moves : pos 0 <ℤ e.credits → is_idle s.flows e.flow ≡ true → LeadsOn s (record s { flows = adjust rested_flow e.flow s.flows; new_flows = rest; old_flows = s.old_flows ++ e ∷ [] })
-  fresh_moves high empty = record { lawful = lawful_rested (record s { new_flows = rest; old_flows = s.old_flows ++ e ∷ [] }) e.flow (lawful_moved s e e rest lawful front refl); on = fresh_moves_on high empty }
+  pub new_moves : pos 0 <ℤ e.credits → is_idle s.flows e.flow ≡ true → LeadsOn s (record s { flows = adjust rested_flow e.flow s.flows; new_flows = rest; old_flows = s.old_flows ++ e ∷ [] })
+  new_moves high empty = record { lawful = lawful_rested (record s { new_flows = rest; old_flows = s.old_flows ++ e ∷ [] }) e.flow (lawful_moved s e e rest lawful front refl); on = new_moves_on high empty }
 
-  pub fresh_ready : pos 0 <ℤ e.credits → is_idle s.flows e.flow ≡ false → selected s ≡ s
+  pub new_ready : pos 0 <ℤ e.credits → is_idle s.flows e.flow ≡ false → selected s ≡ s
   unfolding arranged_in with_lists
-  fresh_ready high busy =
+  new_ready high busy =
       let q : ℕ = s.settings.quantum in
       let lists : arranged_in s ≡ record { new_flows = s.new_flows; old_flows = s.old_flows; gone = [] } =
       ap (λ (l : List Entry). arranged q (is_idle s.flows) l s.old_flows) front
@@ -140,9 +140,9 @@ module _ (s : FqState) (lawful : IsLawful s) (e : Entry) (rest : List Entry) (no
       ap₂ (λ (l m : List Entry). arranged s.settings.quantum (is_idle s.flows) l m) none front
       ∙ arranged-nil s.settings.quantum (is_idle s.flows) (e ∷ rest)
 
-  stale_granted_on : 1 ≤ s.settings.quantum → e.credits ≤ℤ pos 0 → GoesOn s (record s { old_flows = rest ++ given s.settings.quantum 1 e ∷ [] })
+  old_granted_on : 1 ≤ s.settings.quantum → e.credits ≤ℤ pos 0 → GoesOn s (record s { old_flows = rest ++ given s.settings.quantum 1 e ∷ [] })
   unfolding arranged_in
-  stale_granted_on positive low =
+  old_granted_on positive low =
       let q : ℕ = s.settings.quantum in
       let last : List Entry = rest ++ given q 1 e ∷ [] in
       let t : FqState = record s { old_flows = last } in
@@ -154,18 +154,18 @@ module _ (s : FqState) (lawful : IsLawful s) (e : Entry) (rest : List Entry) (no
             (subst (λ (b : Lists). Agree rested_flow s.flows s.flows (arranged_in s) b) (sym lists')
             (subst (λ (a : Lists). Agree rested_flow s.flows s.flows a (turned q last (chosen q (is_idle s.flows) last))) (sym old_lists) agree)));
         fewer =
-            let a : sum_by (stale_turns q) s.old_flows ≡ stale_turns q e + sum_by (stale_turns q) rest = ap (sum_by (stale_turns q)) front ∙ sum_by-cons (stale_turns q) e rest in
-            let b : sum_by (stale_turns q) last ≡ sum_by (stale_turns q) rest + stale_turns q (given q 1 e) = sum_by_push (stale_turns q) rest (given q 1 e) in
-            omega (arith, a, b, turns-is s, turns-is t, stale_turns-is q e, stale_turns-is q (given q 1 e), need-more q e positive low);
+            let a : sum_by (old_turns q) s.old_flows ≡ old_turns q e + sum_by (old_turns q) rest = ap (sum_by (old_turns q)) front ∙ sum_by-cons (old_turns q) e rest in
+            let b : sum_by (old_turns q) last ≡ sum_by (old_turns q) rest + old_turns q (given q 1 e) = sum_by_push (old_turns q) rest (given q 1 e) in
+            omega (arith, a, b, turns-is s, turns-is t, old_turns-is q e, old_turns-is q (given q 1 e), need-more q e positive low);
         packets = refl;
       }
 
-  pub stale_granted : 1 ≤ s.settings.quantum → e.credits ≤ℤ pos 0 → LeadsOn s (record s { old_flows = rest ++ given s.settings.quantum 1 e ∷ [] })
-  stale_granted positive low = record { lawful = lawful_turned s e (given s.settings.quantum 1 e) rest lawful front (flow-given s.settings.quantum 1 e); on = stale_granted_on positive low }
+  pub old_granted : 1 ≤ s.settings.quantum → e.credits ≤ℤ pos 0 → LeadsOn s (record s { old_flows = rest ++ given s.settings.quantum 1 e ∷ [] })
+  old_granted positive low = record { lawful = lawful_turned s e (given s.settings.quantum 1 e) rest lawful front (flow-given s.settings.quantum 1 e); on = old_granted_on positive low }
 
-  stale_leaves_on : pos 0 <ℤ e.credits → is_idle s.flows e.flow ≡ true → GoesOn s (record s { flows = adjust rested_flow e.flow s.flows; old_flows = rest })
+  old_leaves_on : pos 0 <ℤ e.credits → is_idle s.flows e.flow ≡ true → GoesOn s (record s { flows = adjust rested_flow e.flow s.flows; old_flows = rest })
   unfolding arranged_in
-  stale_leaves_on high empty =
+  old_leaves_on high empty =
       let q : ℕ = s.settings.quantum in
       let flows' : List Flow = adjust rested_flow e.flow s.flows in
       let t : FqState = record s { flows = flows'; old_flows = rest } in
@@ -177,17 +177,17 @@ module _ (s : FqState) (lawful : IsLawful s) (e : Entry) (rest : List Entry) (no
             (subst (λ (b : Lists). Agree rested_flow s.flows flows' (arranged_in s) b) (sym lists')
             (subst (λ (a : Lists). Agree rested_flow s.flows flows' a (turned q rest (chosen q (is_idle s.flows) rest))) (sym old_lists) agree)));
         fewer =
-            let a : sum_by (stale_turns q) s.old_flows ≡ stale_turns q e + sum_by (stale_turns q) rest = ap (sum_by (stale_turns q)) front ∙ sum_by-cons (stale_turns q) e rest in
-            omega (arith, a, turns-is s, turns-is t, stale_turns-is q e);
+            let a : sum_by (old_turns q) s.old_flows ≡ old_turns q e + sum_by (old_turns q) rest = ap (sum_by (old_turns q)) front ∙ sum_by-cons (old_turns q) e rest in
+            omega (arith, a, turns-is s, turns-is t, old_turns-is q e);
         packets = packets-rested e.flow s.flows;
       }
 
-  pub stale_leaves : pos 0 <ℤ e.credits → is_idle s.flows e.flow ≡ true → LeadsOn s (record s { flows = adjust rested_flow e.flow s.flows; old_flows = rest })
-  stale_leaves high empty = record { lawful = lawful_rested (record s { old_flows = rest }) e.flow (lawful_left s e rest lawful front empty); on = stale_leaves_on high empty }
+  pub old_leaves : pos 0 <ℤ e.credits → is_idle s.flows e.flow ≡ true → LeadsOn s (record s { flows = adjust rested_flow e.flow s.flows; old_flows = rest })
+  old_leaves high empty = record { lawful = lawful_rested (record s { old_flows = rest }) e.flow (lawful_left s e rest lawful front empty); on = old_leaves_on high empty }
 
-  pub stale_ready : pos 0 <ℤ e.credits → is_idle s.flows e.flow ≡ false → selected s ≡ s
+  pub old_ready : pos 0 <ℤ e.credits → is_idle s.flows e.flow ≡ false → selected s ≡ s
   unfolding with_lists
-  stale_ready high busy =
+  old_ready high busy =
       let q : ℕ = s.settings.quantum in
       let lists : arranged_in s ≡ record { new_flows = s.new_flows; old_flows = s.old_flows; gone = [] } =
       old_lists
@@ -199,12 +199,12 @@ module _ (s : FqState) (lawful : IsLawful s) (e : Entry) (rest : List Entry) (no
 
 pub none_left : (s : FqState) → s.new_flows ≡ [] → s.old_flows ≡ [] → selected s ≡ s
 unfolding with_lists arranged_in chosen turned
-none_left s no_fresh no_stale =
+none_left s no_new no_old =
     let q : ℕ = s.settings.quantum in
     let lists : arranged_in s ≡ record { new_flows = s.new_flows; old_flows = s.old_flows; gone = [] } =
-    ap₂ (λ (l m : List Entry). arranged q (is_idle s.flows) l m) no_fresh no_stale
+    ap₂ (λ (l m : List Entry). arranged q (is_idle s.flows) l m) no_new no_old
     ∙ arranged-nil q (is_idle s.flows) []
-    ∙ ap₂ (λ (l m : List Entry). record { new_flows = l; old_flows = m; gone = [] }) (sym no_fresh) (sym no_stale) in
+    ∙ ap₂ (λ (l m : List Entry). record { new_flows = l; old_flows = m; gone = [] }) (sym no_new) (sym no_old) in
     selected-is s
     ∙ ap (λ (l : Lists). with_lists s (clear rested_flow l.gone s.flows) l.new_flows l.old_flows) lists
     ∙ ap (λ (l : List Flow). with_lists s l s.new_flows s.old_flows) (clear-nil rested_flow s.flows)
@@ -249,10 +249,10 @@ module _ {a s : FqState} {e x : Entry} {rest : List Entry} (look : Looks a s e x
 -- no flow is listed
 pub settled_none : (s : FqState) → s.new_flows ≡ [] → s.old_flows ≡ [] → IsSettled s
 unfolding front
-settled_none s no_fresh no_stale =
-    let none : s.new_flows ++ s.old_flows ≡ [] = ap₂ (λ (l m : List Entry). l ++ m) no_fresh no_stale in
+settled_none s no_new no_old =
+    let none : s.new_flows ++ s.old_flows ≡ [] = ap₂ (λ (l m : List Entry). l ++ m) no_new no_old in
     record {
-      chosen = none_left s no_fresh no_stale;
+      chosen = none_left s no_new no_old;
       credits = subst (λ (l : List Entry). IfSome (slice_get l 0) (λ (e : Entry). pos 0 <ℤ e.credits)) (sym none) tt;
       busy = subst (λ (l : List Entry). IfSome (slice_get l 0) (λ (e : Entry). is_idle s.flows e.flow ≡ false)) (sym none) tt;
     }

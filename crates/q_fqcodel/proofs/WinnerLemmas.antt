@@ -124,14 +124,6 @@ module _ (ranks : List ℕ) (node rank : ℕ) (some : 1 ≤ node) (within : node
         → rank_at (set ranks node rank) (node / 2) ≡ max (rank_at (set ranks node rank) (2 * (node / 2))) (rank_at (set ranks node rank) (2 * (node / 2) + 1))
     stays_above h high = omega (arith, above_is, above_kept, h, above_was high low, grown)
 
--- each node is right where the last one is
-pub right_all : (ranks : List ℕ) (node : ℕ) → IsRightBut node ranks → (1 ≤ node → node < length ranks / 2 → rank_at ranks node ≡ max (rank_at ranks (2 * node)) (rank_at ranks (2 * node + 1))) → IsRightBut 0 ranks
-right_all ranks node right is k low high _ =
-    ⊎_elim
-    (λ (e : k ≡ node). subst (λ (m : ℕ). rank_at ranks m ≡ max (rank_at ranks (2 * m)) (rank_at ranks (2 * m + 1))) (sym e) (is (omega (arith, e, low)) (omega (arith, e, high))))
-    (λ (ne : k ≢ node). right k low high ne)
-    (cases_eq k node)
-
 -- ---- the bytes of the flows
 
 pub bytes_kept : (ranks now : List ℕ) → length now ≡ length ranks → drop (length ranks / 2) now ≡ drop (length ranks / 2) ranks → bytes_in now ≡ bytes_in ranks

@@ -7,7 +7,7 @@ use Rattle.q_fqcodel.specs.Put.{is_listed}
 use Rattle.q_fqcodel.specs.declared.ends.Ends.{Ends}
 use Rattle.q_fqcodel.specs.declared.link.Link.{Link}
 use Rattle.q_fqcodel.specs.declared.place.Place.{Place}
-use Rattle.q_fqcodel.specs.declared.place.Place.TheVariants.{Unlisted, Fresh, Stale}
+use Rattle.q_fqcodel.specs.declared.place.Place.TheVariants.{Unlisted, New, Old}
 
 -- what a contract sees of both lists: their flows, and the number below which each index is that of a flow
 pub record ListsState : Type 0 where
@@ -29,8 +29,8 @@ no_ends = record { head = 0; tail = 0; count = 0 }
 -- a link, where its flow is in a list
 abbrev pub where_listed : Link → Place → Option Link
 where_listed x Unlisted = None
-where_listed x Fresh = Some x
-where_listed x Stale = Some x
+where_listed x New = Some x
+where_listed x Old = Some x
 
 abbrev pub link_at : List Link → ℕ → Option Link
 link_at links n = where_listed (link_of links n) (link_of links n).place
@@ -58,8 +58,8 @@ pub record IsLine (links : List Link) (place : Place) (ends : Ends) : Type 0 whe
 -- both lists, in links that have room for at most 65536 flows
 pub record IsLists (links : List Link) (new_flows old_flows : Ends) : Type 0 where
   pub room : length links ≤ 65536
-  pub new : IsLine links Fresh new_flows
-  pub old : IsLine links Stale old_flows
+  pub new : IsLine links New new_flows
+  pub old : IsLine links Old old_flows
 
 -- every list but the one at this place keeps its flows
 pub record KeepsLines (place : Place) (links links2 : List Link) : Type 0 where

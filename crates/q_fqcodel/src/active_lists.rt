@@ -65,7 +65,7 @@ impl ActiveLists {
         self.new_flows = append_flow(
             &mut self.links,
             self.new_flows,
-            Place::Fresh,
+            Place::New,
             flow,
             quantum as i64,
         );
@@ -78,7 +78,7 @@ impl ActiveLists {
     {
         match self.links[flow as usize].place {
             Place::Unlisted => false,
-            Place::Fresh | Place::Stale => true,
+            Place::New | Place::Old => true,
         }
     }
 
@@ -109,7 +109,7 @@ impl ActiveLists {
     }
 
     /// Moves the flow in front of the new list to the end of the old one, with the credits of `entry`, which is its own.
-    pub(crate) fn age(&mut self, entry: Entry)
+    pub(crate) fn move_to_old(&mut self, entry: Entry)
         requires own { IfSome (slice_get self.old.new_flows 0) (λ e. e.flow ≡ entry.flow) }
         requires some { 0 < length self.old.new_flows }
         requires few { length self.old.old_flows < 65536 }
@@ -119,7 +119,7 @@ impl ActiveLists {
         self.old_flows = append_flow(
             &mut self.links,
             self.old_flows,
-            Place::Stale,
+            Place::Old,
             entry.flow,
             entry.credits,
         );
@@ -137,17 +137,11 @@ impl ActiveLists {
             return write_credits(&mut self.links, entry);
         }
         let rest = remove_first(&mut self.links, self.old_flows);
-        self.old_flows = append_flow(
-            &mut self.links,
-            rest,
-            Place::Stale,
-            entry.flow,
-            entry.credits,
-        );
+        self.old_flows = append_flow(&mut self.links, rest, Place::Old, entry.flow, entry.credits);
     }
 
     /// Takes the flow in front of the old list out of it.
-    pub(crate) fn retire(&mut self)
+    pub(crate) fn remove_old(&mut self)
         requires { 0 < length self.old.old_flows }
         ensures { self.new ≡ record self.old { old_flows = drop 1 self.old.old_flows } }
     {

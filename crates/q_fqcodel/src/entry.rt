@@ -25,16 +25,6 @@ impl Model for Entry {
 }
 
 impl Entry {
-    /// A flow that becomes new, with one quantum.
-    pub(crate) fn first(flow: u32, quantum: u32) -> Entry
-        ensures { result ≡ record { flow = flow; credits = pos quantum } }
-    {
-        Entry {
-            flow,
-            credits: quantum as i64,
-        }
-    }
-
     /// The flow with one quantum more.
     pub(crate) fn granted(self, quantum: u32) -> Entry
         requires { self.credits ≤ℤ pos 0 }

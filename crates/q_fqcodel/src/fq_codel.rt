@@ -305,13 +305,13 @@ impl FqCodel {
         let entry = self.lists.first_new().unwrap();
         // Its quantum is spent: it is given the next, and is new no longer.
         if entry.credits <= 0 {
-            self.lists.age(entry.granted(settings.quantum));
+            self.lists.move_to_old(entry.granted(settings.quantum));
             return None;
         }
         // Emptied: it becomes old, since a flow forgotten here would be new again with its next packet, before all old ones.
         if self.flows.is_idle(entry.flow) {
             self.flows.rest(entry.flow);
-            self.lists.age(entry);
+            self.lists.move_to_old(entry);
             return None;
         }
         Some(entry)
@@ -339,7 +339,7 @@ impl FqCodel {
         // Emptied, and met a round later: it leaves, and its next packet makes it new again.
         if self.flows.is_idle(entry.flow) {
             self.flows.rest(entry.flow);
-            self.lists.retire();
+            self.lists.remove_old();
             return None;
         }
         Some(entry)

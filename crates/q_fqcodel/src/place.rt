@@ -4,7 +4,7 @@ pub(crate) enum Place {
     /// In none.
     Unlisted,
     /// In the list of new flows.
-    Fresh,
+    New,
     /// In the list of old flows.
-    Stale,
+    Old,
 }

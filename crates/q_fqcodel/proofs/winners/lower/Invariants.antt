@@ -1,4 +1,4 @@
-use Rattle.std.proofs.Common.{◌≡◌, ◌≢◌, ℕ, ◌+◌, ◌-◌, ◌*◌, ◌/◌, ◌<◌, ◌≤◌, max, length, drop, set}
+use Rattle.std.proofs.Common.{◌≡◌, ◌≢◌, ◌+◌, ◌*◌, ◌/◌, ◌<◌, ◌≤◌, max, length, drop, set}
 use Rattle.q_fqcodel.specs.Winners.{rank_at, above, IsRightBut}
 use Rattle.q_fqcodel.proofs.winners.lower.Given as goal
 

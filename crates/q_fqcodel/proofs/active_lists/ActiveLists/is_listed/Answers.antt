@@ -3,7 +3,7 @@ use Rattle.std.proofs.lemmas.List.{get_or_read}
 use Rattle.q_fqcodel.specs.Links.{ListsState, no_link, link_of}
 use Rattle.q_fqcodel.specs.Put.{is_listed}
 use Rattle.q_fqcodel.specs.declared.link.Link.{Link}
-use Rattle.q_fqcodel.specs.declared.place.Place.TheVariants.{Fresh, Stale}
+use Rattle.q_fqcodel.specs.declared.place.Place.TheVariants.{New, Old}
 use Rattle.q_fqcodel.proofs.ListsLemmas.{not_listed, listed_new, listed_old}
 use Rattle.q_fqcodel.proofs.active_lists.ActiveLists.is_listed.Goals as goal
 use Rattle.q_fqcodel.proofs.active_lists.ActiveLists.is_listed.Goals.{After-index}
@@ -18,11 +18,11 @@ returns-in-Unlisted c =
     not_listed c.self.inside.links.items c.self.inside.new_flows c.self.inside.old_flows c.self.invariant c.args.flow (ap (λ (x : Link). x.place) (sym (read d)) ∙ c.in-Unlisted.is)
     ∙ ap (λ (v : ListsState). is_listed c.args.flow (v.new_flows ++ v.old_flows)) c.self.view_is
 
-pub returns-in-Fresh : goal.returns-in-Fresh
-returns-in-Fresh c =
-    let d = (goal.at.returns-in-Fresh c).After-index in
+pub returns-in-New : goal.returns-in-New
+returns-in-New c =
+    let d = (goal.at.returns-in-New c).After-index in
     ⊎_elim
-    (λ (new : c.index.result.now.place ≡ Fresh). listed_new c.self.inside.links.items c.self.inside.new_flows c.self.inside.old_flows c.self.invariant c.args.flow (ap (λ (x : Link). x.place) (sym (read d)) ∙ new))
-    (λ (old : c.index.result.now.place ≡ Stale). listed_old c.self.inside.links.items c.self.inside.new_flows c.self.inside.old_flows c.self.invariant c.args.flow (ap (λ (x : Link). x.place) (sym (read d)) ∙ old))
-    c.in-Fresh.is
+    (λ (new : c.index.result.now.place ≡ New). listed_new c.self.inside.links.items c.self.inside.new_flows c.self.inside.old_flows c.self.invariant c.args.flow (ap (λ (x : Link). x.place) (sym (read d)) ∙ new))
+    (λ (old : c.index.result.now.place ≡ Old). listed_old c.self.inside.links.items c.self.inside.new_flows c.self.inside.old_flows c.self.invariant c.args.flow (ap (λ (x : Link). x.place) (sym (read d)) ∙ old))
+    c.in-New.is
     ∙ ap (λ (v : ListsState). is_listed c.args.flow (v.new_flows ++ v.old_flows)) c.self.view_is

@@ -5,7 +5,7 @@ use Rattle.q_fqcodel.specs.Entry.{Entry}
 use Rattle.q_fqcodel.specs.Links.{ListsState, link_of, entries_in, IsLists}
 use Rattle.q_fqcodel.specs.declared.ends.Ends.{Ends}
 use Rattle.q_fqcodel.specs.declared.link.Link.{Link}
-use Rattle.q_fqcodel.specs.declared.place.Place.TheVariants.{Fresh, Stale}
+use Rattle.q_fqcodel.specs.declared.place.Place.TheVariants.{New, Old}
 use Rattle.q_fqcodel.proofs.ListsLemmas.{counted, front_flow, front_flow_all, some_or_none, own_within, written_new_lists, written_new_entries, written_old_lists, written_old_entries, written_new, written_old}
 use Rattle.q_fqcodel.proofs.active_lists.ActiveLists.write_front.Goals as goal
 
@@ -13,20 +13,20 @@ use Rattle.q_fqcodel.proofs.active_lists.ActiveLists.write_front.Goals as goal
 module _ (links : List Link) (new_flows old_flows : Ends) (lists : IsLists links new_flows old_flows) (e : Entry)
     (own : IfSome (slice_get (entries_in links new_flows ++ entries_in links old_flows) 0) (λ f. f.flow ≡ e.flow)) (some : 0 < new_flows.count + old_flows.count) where
   own_new : 0 < new_flows.count → new_flows.head ≡ e.flow
-  own_new h = front_flow_all links Fresh new_flows (entries_in links old_flows) e.flow lists.new h own
+  own_new h = front_flow_all links New new_flows (entries_in links old_flows) e.flow lists.new h own
 
   none : new_flows.count ≡ 0 → entries_in links new_flows ≡ []
-  none h = nil_from_length (entries_in links new_flows) (counted links Fresh new_flows lists.new ∙ h)
+  none h = nil_from_length (entries_in links new_flows) (counted links New new_flows lists.new ∙ h)
 
   own_old : new_flows.count ≡ 0 → old_flows.head ≡ e.flow
   own_old h =
-      front_flow links Stale old_flows e.flow lists.old (omega (arith, some, h))
+      front_flow links Old old_flows e.flow lists.old (omega (arith, some, h))
       (subst (λ (l : List Entry). IfSome (slice_get (l ++ entries_in links old_flows) 0) (λ f. f.flow ≡ e.flow)) (none h) own)
 
   within : e.flow < length links
   within = ⊎_elim
-      (λ (h : 0 < new_flows.count). own_within links Fresh new_flows h lists.new e (own_new h))
-      (λ (h : new_flows.count ≡ 0). own_within links Stale old_flows (omega (arith, some, h)) lists.old e (own_old h))
+      (λ (h : 0 < new_flows.count). own_within links New new_flows h lists.new e (own_new h))
+      (λ (h : new_flows.count ≡ 0). own_within links Old old_flows (omega (arith, some, h)) lists.old e (own_old h))
       (some_or_none new_flows.count)
 
   abbrev paid : List Link
@@ -48,11 +48,11 @@ module _ (links : List Link) (new_flows old_flows : Ends) (lists : IsLists links
   both = ⊎_elim
       (λ (h : 0 < new_flows.count).
       let w = written_new_entries links new_flows old_flows lists e h (own_new h) in
-      let some_new : not (length news == 0) ≡ true = ap not (ne_eqb (length news) 0 (omega (arith, h, counted links Fresh new_flows lists.new))) in
+      let some_new : not (length news == 0) ≡ true = ap not (ne_eqb (length news) 0 (omega (arith, h, counted links New new_flows lists.new))) in
       (w.0, w.1 ∙ written_new news olds e some_new))
       (λ (h : new_flows.count ≡ 0).
       let w = written_old_entries links new_flows old_flows lists e (omega (arith, some, h)) (own_old h) in
-      let no_new : not (length news == 0) ≡ false = ap not (eq-eqb (length news) 0 (counted links Fresh new_flows lists.new ∙ h)) in
+      let no_new : not (length news == 0) ≡ false = ap not (eq-eqb (length news) 0 (counted links New new_flows lists.new ∙ h)) in
       let v = written_old news olds e no_new in
       (w.0 ∙ v.0, w.1 ∙ v.1))
       (some_or_none new_flows.count)
@@ -66,8 +66,8 @@ write_credits-requires c =
       arith,
       c.requires.some,
       ap (λ (v : ListsState). length v.new_flows + length v.old_flows) c.self.view_is,
-      counted p.links.items Fresh p.new_flows c.self.invariant.new,
-      counted p.links.items Stale p.old_flows c.self.invariant.old,
+      counted p.links.items New p.new_flows c.self.invariant.new,
+      counted p.links.items Old p.old_flows c.self.invariant.old,
     ))
 
 pub invariant_of-self : goal.invariant_of-self
@@ -79,8 +79,8 @@ invariant_of-self c =
       arith,
       c.requires.some,
       ap (λ (v : ListsState). length v.new_flows + length v.old_flows) c.self.view_is,
-      counted p.links.items Fresh p.new_flows c.self.invariant.new,
-      counted p.links.items Stale p.old_flows c.self.invariant.old,
+      counted p.links.items New p.new_flows c.self.invariant.new,
+      counted p.links.items Old p.old_flows c.self.invariant.old,
     )))
 
 pub returns : goal.returns
@@ -94,8 +94,8 @@ returns c =
       arith,
       c.requires.some,
       ap (λ (v : ListsState). length v.new_flows + length v.old_flows) c.self.view_is,
-      counted p.links.items Fresh p.new_flows c.self.invariant.new,
-      counted p.links.items Stale p.old_flows c.self.invariant.old,
+      counted p.links.items New p.new_flows c.self.invariant.new,
+      counted p.links.items Old p.old_flows c.self.invariant.old,
     )) in
     let new : entries_in c.write_credits.new.links.items p.new_flows ≡ set s.new_flows 0 e =
     ap (λ (l : List Link). entries_in l p.new_flows) c.write_credits.ensures ∙ w.0 ∙ ap (λ (v : ListsState). set v.new_flows 0 e) c.self.view_is in

@@ -8,9 +8,9 @@ use Rattle.q_fqcodel.specs.Links.{ListsState}
 use Rattle.q_fqcodel.specs.Quanta.{given}
 use Rattle.q_fqcodel.specs.Take.{front}
 use Rattle.q_fqcodel.proofs.QuantaLemmas.{given-flow}
-use Rattle.q_fqcodel.proofs.TurnLemmas.{Looks, LeadsOn, front_at, front_some, in_flows, is_spent, has_credits, idle_is, rested_is, goes_from, settled_at, first_in_front, fresh_granted, fresh_moves, fresh_ready}
+use Rattle.q_fqcodel.proofs.TurnLemmas.{Looks, LeadsOn, front_at, front_some, in_flows, is_spent, has_credits, idle_is, rested_is, goes_from, settled_at, first_in_front, new_granted, new_moves, new_ready}
 use Rattle.q_fqcodel.proofs.fq_codel.FqCodel.turn_new.Goals as goal
-use Rattle.q_fqcodel.proofs.fq_codel.FqCodel.turn_new.Goals.{After-unwrap-entry, After-granted, After-age, After-age-then-is_idle}
+use Rattle.q_fqcodel.proofs.fq_codel.FqCodel.turn_new.Goals.{After-unwrap-entry, After-granted, After-move_to_old, After-move_to_old-then-is_idle}
 
 -- the state as it was opened, and the flows behind the front
 abbrev opened : After-unwrap-entry → FqState
@@ -42,17 +42,17 @@ granted c =
     let quantum : c.settings.inside.quantum ≡ c.self.inside.settings.quantum = ap (λ (x : FqSettings). x.quantum) c.settings.view_is in
     c.granted.ensures ∙ ap (λ (q : ℕ). given q 1 c.unwrap-entry.result) quantum
 
-pub age-requires-clause-own : goal.age-requires-clause-own
-age-requires-clause-own c =
-    let d = (goal.at.age-requires-clause-own c).After-granted in
+pub move_to_old-requires-clause-own : goal.move_to_old-requires-clause-own
+move_to_old-requires-clause-own c =
+    let d = (goal.at.move_to_old-requires-clause-own c).After-granted in
     subst (λ (o : Option Entry). IfSome o (λ e. e.flow ≡ c.granted.result.flow)) (sym c.unwrap-entry.ensures ∙ c.first_new.ensures)
     (sym (ap (λ (e : Entry). e.flow) (granted d) ∙ given-flow c.self.inside.settings.quantum 1 c.unwrap-entry.result))
 
-pub age-requires-clause-some : goal.age-requires-clause-some
-age-requires-clause-some c = omega (arith, c.requires, ap (λ (v : FqView). length v.state.new_flows) c.self.view_is)
+pub move_to_old-requires-clause-some : goal.move_to_old-requires-clause-some
+move_to_old-requires-clause-some c = omega (arith, c.requires, ap (λ (v : FqView). length v.state.new_flows) c.self.view_is)
 
-pub age-requires-clause-few : goal.age-requires-clause-few
-age-requires-clause-few c =
+pub move_to_old-requires-clause-few : goal.move_to_old-requires-clause-few
+move_to_old-requires-clause-few c =
     omega (
       arith,
       c.self.invariant.0.within,
@@ -62,7 +62,7 @@ age-requires-clause-few c =
       ap (λ (v : FqView). length v.state.new_flows) c.self.view_is,
     )
 
-spent : (c : After-age) → LeadsOn (opened (goal.at.invariant_of-self c).After-unwrap-entry) (state_of c.self.inside.settings c.self.inside.flows c.age.new.self.new_flows c.age.new.self.old_flows)
+spent : (c : After-move_to_old) → LeadsOn (opened (goal.at.invariant_of-self c).After-unwrap-entry) (state_of c.self.inside.settings c.self.inside.flows c.move_to_old.new.self.new_flows c.move_to_old.new.self.old_flows)
 spent c =
     let at = (goal.at.invariant_of-self c).After-unwrap-entry in
     let s = opened at in
@@ -70,26 +70,26 @@ spent c =
     let quantum : c.settings.inside.quantum ≡ s.settings.quantum = ap (λ (x : FqSettings). x.quantum) c.settings.view_is in
     let positive : 1 ≤ s.settings.quantum = omega (arith, quantum, c.settings.invariant.quantum_low) in
     let low : e.credits ≤ℤ pos 0 = is_spent (looks at _ c.entry.view_is) (grind (arith, ints, c.if-entry-le0.true)) in
-    subst₂ (λ (l k : List Entry). LeadsOn s (record s { new_flows = l; old_flows = k })) (sym (ap (λ (v : ListsState). v.new_flows) c.age.ensures))
-    (sym (ap (λ (v : ListsState). v.old_flows) c.age.ensures ∙ ap (λ (m : Entry). s.old_flows ++ m ∷ []) (granted (goal.at.invariant_of-self c).After-granted)))
-    (fresh_granted s c.self.invariant.0 e (behind at) (at_front at) positive low)
+    subst₂ (λ (l k : List Entry). LeadsOn s (record s { new_flows = l; old_flows = k })) (sym (ap (λ (v : ListsState). v.new_flows) c.move_to_old.ensures))
+    (sym (ap (λ (v : ListsState). v.old_flows) c.move_to_old.ensures ∙ ap (λ (m : Entry). s.old_flows ++ m ∷ []) (granted (goal.at.invariant_of-self c).After-granted)))
+    (new_granted s c.self.invariant.0 e (behind at) (at_front at) positive low)
 
 pub invariant_of-self : goal.invariant_of-self
-invariant_of-self c = ((spent c).lawful, ap (λ (v : ListsState). v.room) c.age.ensures ∙ c.self.invariant.1)
+invariant_of-self c = ((spent c).lawful, ap (λ (v : ListsState). v.room) c.move_to_old.ensures ∙ c.self.invariant.1)
 
 pub returns-then-entry-le0-clause-on : goal.returns-then-entry-le0-clause-on
 returns-then-entry-le0-clause-on c = λ _. goes_from (looks (goal.at.invariant_of-self c).After-unwrap-entry _ c.entry.view_is) _ (spent c)
 
 -- it has credits and no packet
-pub age-requires-then-is_idle-clause-own : goal.age-requires-then-is_idle-clause-own
-age-requires-then-is_idle-clause-own c =
+pub move_to_old-requires-then-is_idle-clause-own : goal.move_to_old-requires-then-is_idle-clause-own
+move_to_old-requires-then-is_idle-clause-own c =
     subst (λ (o : Option Entry). IfSome o (λ e. e.flow ≡ c.unwrap-entry.result.flow)) (sym c.unwrap-entry.ensures ∙ c.first_new.ensures) refl
 
-pub age-requires-then-is_idle-clause-some : goal.age-requires-then-is_idle-clause-some
-age-requires-then-is_idle-clause-some c = omega (arith, c.requires, ap (λ (v : FqView). length v.state.new_flows) c.self.view_is)
+pub move_to_old-requires-then-is_idle-clause-some : goal.move_to_old-requires-then-is_idle-clause-some
+move_to_old-requires-then-is_idle-clause-some c = omega (arith, c.requires, ap (λ (v : FqView). length v.state.new_flows) c.self.view_is)
 
-pub age-requires-then-is_idle-clause-few : goal.age-requires-then-is_idle-clause-few
-age-requires-then-is_idle-clause-few c =
+pub move_to_old-requires-then-is_idle-clause-few : goal.move_to_old-requires-then-is_idle-clause-few
+move_to_old-requires-then-is_idle-clause-few c =
     omega (
       arith,
       c.self.invariant.0.within,
@@ -99,7 +99,7 @@ age-requires-then-is_idle-clause-few c =
       ap (λ (v : FqView). length v.state.new_flows) c.self.view_is,
     )
 
-emptied : (c : After-age-then-is_idle) → LeadsOn (opened (goal.at.invariant_of-self-then-is_idle c).After-unwrap-entry) (state_of c.self.inside.settings c.rest.new.self c.age-then-is_idle.new.self.new_flows c.age-then-is_idle.new.self.old_flows)
+emptied : (c : After-move_to_old-then-is_idle) → LeadsOn (opened (goal.at.invariant_of-self-then-is_idle c).After-unwrap-entry) (state_of c.self.inside.settings c.rest.new.self c.move_to_old-then-is_idle.new.self.new_flows c.move_to_old-then-is_idle.new.self.old_flows)
 emptied c =
     let positive : pos 0 <ℤ c.entry.inside.credits = grind (arith, ints, c.if-entry-le0.false) in
     let at = (goal.at.invariant_of-self-then-is_idle c).After-unwrap-entry in
@@ -108,14 +108,14 @@ emptied c =
     let look = looks at _ c.entry.view_is in
     let high : pos 0 <ℤ e.credits = has_credits look positive in
     let empty = idle_is look _ true c.is_idle.ensures c.if-is_idle.true in
-    subst (λ (f : List Flow). LeadsOn s (record s { flows = f; new_flows = c.age-then-is_idle.new.self.new_flows; old_flows = c.age-then-is_idle.new.self.old_flows }))
+    subst (λ (f : List Flow). LeadsOn s (record s { flows = f; new_flows = c.move_to_old-then-is_idle.new.self.new_flows; old_flows = c.move_to_old-then-is_idle.new.self.old_flows }))
     (sym (rested_is look _ c.rest.ensures.flows))
     (subst₂ (λ (l k : List Entry). LeadsOn s (record s { flows = adjust rested_flow e.flow s.flows; new_flows = l; old_flows = k }))
-    (sym (ap (λ (v : ListsState). v.new_flows) c.age-then-is_idle.ensures)) (sym (ap (λ (v : ListsState). v.old_flows) c.age-then-is_idle.ensures))
-    (fresh_moves s c.self.invariant.0 e (behind at) (at_front at) high empty))
+    (sym (ap (λ (v : ListsState). v.new_flows) c.move_to_old-then-is_idle.ensures)) (sym (ap (λ (v : ListsState). v.old_flows) c.move_to_old-then-is_idle.ensures))
+    (new_moves s c.self.invariant.0 e (behind at) (at_front at) high empty))
 
 pub invariant_of-self-then-is_idle : goal.invariant_of-self-then-is_idle
-invariant_of-self-then-is_idle c = ((emptied c).lawful, ap (λ (v : ListsState). v.room) c.age-then-is_idle.ensures ∙ c.self.invariant.1)
+invariant_of-self-then-is_idle c = ((emptied c).lawful, ap (λ (v : ListsState). v.room) c.move_to_old-then-is_idle.ensures ∙ c.self.invariant.1)
 
 pub returns-then-is_idle-clause-on : goal.returns-then-is_idle-clause-on
 returns-then-is_idle-clause-on c = λ _. goes_from (looks (goal.at.invariant_of-self-then-is_idle c).After-unwrap-entry _ c.entry.view_is) _ (emptied c)
@@ -130,7 +130,7 @@ returns-clause-settled c = λ _.
     let look = looks at _ c.entry.view_is in
     let high : pos 0 <ℤ e.credits = has_credits look positive in
     let busy = idle_is look _ false c.is_idle.ensures c.if-is_idle.false in
-    settled_at look (fresh_ready s c.self.invariant.0 e (behind at) (at_front at) high busy) high busy
+    settled_at look (new_ready s c.self.invariant.0 e (behind at) (at_front at) high busy) high busy
 
 pub returns-clause-first : goal.returns-clause-first
 returns-clause-first c = λ _.

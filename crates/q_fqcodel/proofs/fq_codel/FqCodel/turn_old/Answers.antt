@@ -8,9 +8,9 @@ use Rattle.q_fqcodel.specs.Links.{ListsState}
 use Rattle.q_fqcodel.specs.Quanta.{given}
 use Rattle.q_fqcodel.specs.Take.{front}
 use Rattle.q_fqcodel.proofs.QuantaLemmas.{given-flow}
-use Rattle.q_fqcodel.proofs.TurnLemmas.{Looks, LeadsOn, front_at, front_some, in_flows, is_spent, has_credits, idle_is, rested_is, goes_from, settled_at, first_in_front, stale_granted, stale_leaves, stale_ready}
+use Rattle.q_fqcodel.proofs.TurnLemmas.{Looks, LeadsOn, front_at, front_some, in_flows, is_spent, has_credits, idle_is, rested_is, goes_from, settled_at, first_in_front, old_granted, old_leaves, old_ready}
 use Rattle.q_fqcodel.proofs.fq_codel.FqCodel.turn_old.Goals as goal
-use Rattle.q_fqcodel.proofs.fq_codel.FqCodel.turn_old.Goals.{After-unwrap-entry, After-granted, After-rotate, After-retire}
+use Rattle.q_fqcodel.proofs.fq_codel.FqCodel.turn_old.Goals.{After-unwrap-entry, After-granted, After-rotate, After-remove_old}
 
 -- the state as it was opened, and the flows behind the front
 abbrev opened : After-unwrap-entry → FqState
@@ -73,7 +73,7 @@ spent c =
     let low : e.credits ≤ℤ pos 0 = is_spent (looks at _ c.entry.view_is) (grind (arith, ints, c.if-entry-le0.true)) in
     subst₂ (λ (l k : List Entry). LeadsOn s (record s { new_flows = l; old_flows = k })) (sym (ap (λ (v : ListsState). v.new_flows) c.rotate.ensures))
     (sym (ap (λ (v : ListsState). v.old_flows) c.rotate.ensures ∙ ap (λ (m : Entry). behind at ++ m ∷ []) (granted (goal.at.invariant_of-self c).After-granted)))
-    (stale_granted s c.self.invariant.0 e (behind at) (none_new at) (at_front at) positive low)
+    (old_granted s c.self.invariant.0 e (behind at) (none_new at) (at_front at) positive low)
 
 pub invariant_of-self : goal.invariant_of-self
 invariant_of-self c = ((spent c).lawful, ap (λ (v : ListsState). v.room) c.rotate.ensures ∙ c.self.invariant.1)
@@ -85,10 +85,10 @@ pub returns-then-entry-le0-clause-no_new : goal.returns-then-entry-le0-clause-no
 returns-then-entry-le0-clause-no_new c = ap (λ (v : ListsState). v.new_flows) c.rotate.ensures ∙ none_new (goal.at.invariant_of-self c).After-unwrap-entry
 
 -- it has credits and no packet
-pub retire-requires : goal.retire-requires
-retire-requires c = omega (arith, c.requires.waiting, ap (λ (v : FqView). length v.state.old_flows) c.self.view_is)
+pub remove_old-requires : goal.remove_old-requires
+remove_old-requires c = omega (arith, c.requires.waiting, ap (λ (v : FqView). length v.state.old_flows) c.self.view_is)
 
-emptied : (c : After-retire) → LeadsOn (opened (goal.at.invariant_of-self-then-is_idle c).After-unwrap-entry) (state_of c.self.inside.settings c.rest.new.self c.retire.new.self.new_flows c.retire.new.self.old_flows)
+emptied : (c : After-remove_old) → LeadsOn (opened (goal.at.invariant_of-self-then-is_idle c).After-unwrap-entry) (state_of c.self.inside.settings c.rest.new.self c.remove_old.new.self.new_flows c.remove_old.new.self.old_flows)
 emptied c =
     let positive : pos 0 <ℤ c.entry.inside.credits = grind (arith, ints, c.if-entry-le0.false) in
     let at = (goal.at.invariant_of-self-then-is_idle c).After-unwrap-entry in
@@ -97,19 +97,19 @@ emptied c =
     let look = looks at _ c.entry.view_is in
     let high : pos 0 <ℤ e.credits = has_credits look positive in
     let empty = idle_is look _ true c.is_idle.ensures c.if-is_idle.true in
-    subst (λ (f : List Flow). LeadsOn s (record s { flows = f; new_flows = c.retire.new.self.new_flows; old_flows = c.retire.new.self.old_flows })) (sym (rested_is look _ c.rest.ensures.flows))
+    subst (λ (f : List Flow). LeadsOn s (record s { flows = f; new_flows = c.remove_old.new.self.new_flows; old_flows = c.remove_old.new.self.old_flows })) (sym (rested_is look _ c.rest.ensures.flows))
     (subst₂ (λ (k l : List Entry). LeadsOn s (record s { flows = adjust rested_flow e.flow s.flows; new_flows = k; old_flows = l }))
-    (sym (ap (λ (v : ListsState). v.new_flows) c.retire.ensures)) (sym (ap (λ (v : ListsState). v.old_flows) c.retire.ensures))
-    (stale_leaves s c.self.invariant.0 e (behind at) (none_new at) (at_front at) high empty))
+    (sym (ap (λ (v : ListsState). v.new_flows) c.remove_old.ensures)) (sym (ap (λ (v : ListsState). v.old_flows) c.remove_old.ensures))
+    (old_leaves s c.self.invariant.0 e (behind at) (none_new at) (at_front at) high empty))
 
 pub invariant_of-self-then-is_idle : goal.invariant_of-self-then-is_idle
-invariant_of-self-then-is_idle c = ((emptied c).lawful, ap (λ (v : ListsState). v.room) c.retire.ensures ∙ c.self.invariant.1)
+invariant_of-self-then-is_idle c = ((emptied c).lawful, ap (λ (v : ListsState). v.room) c.remove_old.ensures ∙ c.self.invariant.1)
 
 pub returns-then-is_idle-clause-on : goal.returns-then-is_idle-clause-on
 returns-then-is_idle-clause-on c = λ _. goes_from (looks (goal.at.invariant_of-self-then-is_idle c).After-unwrap-entry _ c.entry.view_is) _ (emptied c)
 
 pub returns-then-is_idle-clause-no_new : goal.returns-then-is_idle-clause-no_new
-returns-then-is_idle-clause-no_new c = ap (λ (v : ListsState). v.new_flows) c.retire.ensures ∙ none_new (goal.at.invariant_of-self-then-is_idle c).After-unwrap-entry
+returns-then-is_idle-clause-no_new c = ap (λ (v : ListsState). v.new_flows) c.remove_old.ensures ∙ none_new (goal.at.invariant_of-self-then-is_idle c).After-unwrap-entry
 
 -- it has credits and a packet
 pub returns-clause-settled : goal.returns-clause-settled
@@ -121,7 +121,7 @@ returns-clause-settled c = λ _.
     let look = looks at _ c.entry.view_is in
     let high : pos 0 <ℤ e.credits = has_credits look positive in
     let busy = idle_is look _ false c.is_idle.ensures c.if-is_idle.false in
-    settled_at look (stale_ready s c.self.invariant.0 e (behind at) (none_new at) (at_front at) high busy) high busy
+    settled_at look (old_ready s c.self.invariant.0 e (behind at) (none_new at) (at_front at) high busy) high busy
 
 pub returns-clause-first : goal.returns-clause-first
 returns-clause-first c = λ _.
