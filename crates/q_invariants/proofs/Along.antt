@@ -52,3 +52,25 @@ module _ (P : DeviceState (List Note) → Type 0) where
         λ seen. ap (λ (x : Replay (List Note)). x.device) (replay-twice (nothing_yet history settings) before seen) in
         subst (λ (d : DeviceState (List Note)). Moves r.device d) (sym (on during))
         (moves-along r during (replay-kept settings before range all_before) all_during (along-from r during (λ seen later is. subst P (on seen) (h seen later is))))
+
+  -- the same where what is moved is counted along the events
+  module _ (Moves : DeviceState (List Note) → List Event → DeviceState (List Note) → Type 0)
+      (still : (d : DeviceState (List Note)) → IsKept d → P d → Moves d [] d)
+      (more : (d : DeviceState (List Note)) (e : Event) (during : List Event) (end : DeviceState (List Note)) → IsKept d → IsEvent e → P d → P (step history d e).device
+      → Moves (step history d e).device during end → Moves d (e ∷ during) end) where
+    counted-along : (r : Replay (List Note)) (during : List Event) → IsKept r.device → All IsEvent during → Along r during → Moves r.device during (replay_from history r during).device
+    counted-along r [] kept all h = still r.device kept h
+    counted-along r (e ∷ during) kept all h =
+        let next : Replay (List Note) = with_step r (step history r.device e) in
+        let event : IsEvent e = All-head IsEvent e during all in
+        more r.device e during (replay_from history next during).device kept event h.0 (first-of next during h.1)
+        (counted-along next during (step-kept r.device e kept event) (All-tail IsEvent e during all) h.1)
+
+    pub counted : (settings : DeviceSettings) (before during : List Event) → IsInRange settings → All IsEvent before → All IsEvent during → Throughout P settings before during
+        → Moves (replay history settings before).device during (replay history settings (before ++ during)).device
+    counted settings before during range all_before all_during h =
+        let r : Replay (List Note) = replay history settings before in
+        let on : (seen : List Event) → (replay history settings (before ++ seen)).device ≡ (replay_from history r seen).device =
+        λ seen. ap (λ (x : Replay (List Note)). x.device) (replay-twice (nothing_yet history settings) before seen) in
+        subst (λ (d : DeviceState (List Note)). Moves r.device during d) (sym (on during))
+        (counted-along r during (replay-kept settings before range all_before) all_during (along-from r during (λ seen later is. subst P (on seen) (h seen later is))))

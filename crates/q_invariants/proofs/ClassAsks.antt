@@ -19,7 +19,7 @@ use Rattle.q_model.specs.Beneath.{is_empty}
 use Rattle.q_model.specs.Grants.{granted_notes}
 use Rattle.q_model.specs.Work.{Worked, booked, settled_class}
 use Rattle.q_model.specs.Ask.{Asked, befores, holding, Dequeue, dequeued, length_of, service_of, place_met, gives_nothing, class_gives, class_serves, ask_drr, ask_discipline, ask_own, ask}
-use Rattle.q_model.specs.Stretches.{bytes_sent, granted_by, grants_to}
+use Rattle.q_model.specs.Stretches.{sent_by, bytes_sent, granted_by, grants_to}
 use Rattle.q_invariants.proofs.Forests.{nodes-side}
 use Rattle.q_invariants.proofs.Kept.{IsLawfulRoot}
 use Rattle.q_invariants.proofs.Told.{noted-history}
@@ -32,10 +32,11 @@ use Rattle.q_invariants.proofs.Risen.{rise-service, all-rise}
 use Rattle.q_invariants.proofs.AskStages.{IsStageOf, IsAskOf, asked-related}
 use Rattle.q_invariants.proofs.SentStages.{sum-each}
 use Rattle.q_invariants.proofs.SameTurns.{SameTurns, same-all, same-settled}
+use Rattle.q_invariants.proofs.AgainstTurns.{left_before, asleep-left, quiet-against, take-against}
 use Rattle.q_invariants.proofs.TakeTurns.{one_if, Stands, stands, take-books, take-even, grants-noted, absent-noted, deficit-at}
 use Rattle.q_invariants.proofs.ClassChildren.{child_for, child-at}
 use Rattle.q_invariants.proofs.ClassLooks.{answer-for, before-at, booked-child}
-use Rattle.q_invariants.proofs.ClassTakes.{heads, none-sends, looked-gives, service-gives, met-sends}
+use Rattle.q_invariants.proofs.ClassTakes.{heads, none-sends, looked-gives, service-gives, met-sends, asleep-sends}
 use Rattle.q_invariants.proofs.ClassSteps.{DrrStep, Stays, quiet-step}
 use Rattle.q_invariants.proofs.StepNodes.{IsAsked}
 
@@ -235,6 +236,42 @@ module _ (mtu now : ℕ) (least : 1 ≤ mtu) (low : now ≤ 2 ^ 62) (n : Node (L
           ∙ (same-settled gave.place (is_empty gave.answer.taken) (served shows s)).order i j (active-served i shows s ∙ a.before) (active-served j shows s ∙ b.before)
           (ap (λ (y : Schedule). is_active i y.active) (sym gave.schedule) ∙ a.after) (ap (λ (y : Schedule). is_active j y.active) (sym gave.schedule) ∙ b.after)
 
+  -- a class against one that stays, whatever becomes of it
+  served-against : (t : Schedule) (w : Worked) (ws : List Worked) (h : Served now (shape n).below s apart t w ws) (i j : ℕ) → i ≢ j → Stays i s t → (v : Worked) → child_for j s.classes ws ≡ Some v
+      → bytes_sent v.memory + left_before i j (quantum_of j s.classes) t.active ≤ grants_to i w.memory * quantum_of j s.classes + left_before i j (quantum_of j s.classes) s.active
+  served-against t w ws h i j differ stays v there = elim (cases_Bool (is_active j s.active)) [
+    | inr asleep ↦ omega (arith, gives-none asleep h.how, settles h.how, asleep-left i j (quantum_of j s.classes) (served shows s).active (active-served j shows s ∙ asleep))
+    | inl active ↦
+        let p : Stands i s.active = stands i s.active stays.before in
+        let q : Stands j s.active = stands j s.active active in
+        let g : grants_to i w.memory ≡ grants_at (choice_of shows s) p.place = h.granted i ∙ grants-noted i s.active (choice_of shows s) p apart in
+        let product : grants_to i w.memory * quantum_of j s.classes ≡ grants_at (choice_of shows s) p.place * quantum_of j s.classes = ap (λ k. k * quantum_of j s.classes) g in
+        omega (arith, product, sends q h.how, settles h.how, take-against i j differ s shows law fits p q stays.before)
+  ]
+    where
+      sends : (at : Stands j s.active) → Nothing now (shape n).below s apart t ws ⊎ Gave now (shape n).below s apart t ws → bytes_sent v.memory ≡ bytes_at (choice_of shows s) at.place (shows j)
+      sends at (inl nothing) =
+          service-gives now (shape n).below s apart j v (sym (ap (child_for j s.classes) nothing.children) ∙ there)
+          ∙ sym (none-sends now (shape n).below s apart nothing.hidden j at)
+      sends at (inr gave) =
+          met-sends now (shape n).below s apart gave.place gave.answer gave.packet gave.placed gave.there gave.shows j at v (sym (ap (child_for j s.classes) gave.children) ∙ there)
+
+      gives-none : is_active j s.active ≡ false → Nothing now (shape n).below s apart t ws ⊎ Gave now (shape n).below s apart t ws → bytes_sent v.memory ≡ 0
+      gives-none asleep (inl nothing) = service-gives now (shape n).below s apart j v (sym (ap (child_for j s.classes) nothing.children) ∙ there)
+      gives-none asleep (inr gave) =
+          asleep-sends now (shape n).below s apart gave.place gave.answer gave.packet gave.placed gave.there gave.shows j v asleep (sym (ap (child_for j s.classes) gave.children) ∙ there)
+
+      settles : Nothing now (shape n).below s apart t ws ⊎ Gave now (shape n).below s apart t ws
+          → left_before i j (quantum_of j s.classes) t.active ≤ left_before i j (quantum_of j s.classes) (served shows s).active
+      settles (inl nothing) = omega (arith, ap (λ (u : Schedule). left_before i j (quantum_of j s.classes) u.active) nothing.schedule)
+      settles (inr gave) =
+          let turns : SameTurns (served shows s) t = subst (SameTurns (served shows s)) (sym gave.schedule) (same-settled gave.place (is_empty gave.answer.taken) (served shows s)) in
+          let before : quantum_of j (served shows s).classes ≡ quantum_of j s.classes = ap (quantum_of j) (classes-served shows s) in
+          let after : quantum_of j t.classes ≡ quantum_of j (served shows s).classes =
+          ap (λ (y : Schedule). quantum_of j y.classes) gave.schedule ∙ ap (quantum_of j) (class-settled gave.place (is_empty gave.answer.taken) (served shows s)) in
+          subst (λ q. left_before i j q t.active ≤ left_before i j q (served shows s).active) before
+          (quiet-against i j (served shows s) t turns (active-served i shows s ∙ stays.before) stays.after after)
+
   -- a poll wakes no class
   served-wakes : (t : Schedule) (w : Worked) (ws : List Worked) (h : Served now (shape n).below s apart t w ws) (c : ℕ) → is_active c s.active ≡ false → is_active c t.active ≡ true
       → deficit_of c t.active ≡ quantum_of c t.classes
@@ -301,9 +338,9 @@ module _ (mtu now : ℕ) (least : 1 ≤ mtu) (low : now ≤ 2 ^ 62) (n : Node (L
       by : (t : Schedule) (ws : List Worked) → side_by_side ws ≡ asked.worked.below → AsWas now (shape n).below s apart t asked.worked ws ⊎ Served now (shape n).below s apart t asked.worked ws → DrrStep now s t n after
       by t ws below_is (inl h) =
           quiet-step now s t n after asked.worked.memory memory h.granted (same-all s t (ap (λ (y : Schedule). y.active) h.same))
-          (λ c k m before later queued.
+          (λ c k m before later.
           let g = child-of ws t below_is (ap (λ (y : Schedule). y.classes) h.same) c k m before later in
-          (g.0.memory, g.2, looked-gives now (shape n).below s apart c g.0 (before-at s.classes (each (ask_own now) (shape n).below) c g.0 (sym (ap (child_for c s.classes) h.children) ∙ g.1))))
+          inl (g.0.memory, g.2, looked-gives now (shape n).below s apart c g.0 (before-at s.classes (each (ask_own now) (shape n).below) c g.0 (sym (ap (child_for c s.classes) h.children) ∙ g.1))))
       by t ws below_is (inr h) = record {
         notes = asked.worked.memory;
         is = memory;
@@ -313,4 +350,8 @@ module _ (mtu now : ℕ) (least : 1 ≤ mtu) (low : now ≤ 2 ^ 62) (n : Node (L
         even = λ i j differ a b. served-even t asked.worked ws h i j differ a b;
         short = λ c k kid there some. served-short t asked.worked ws h c k kid there some;
         wakes = λ c before after. served-wakes t asked.worked ws h c before after;
+        against = λ i j k m differ stays quantum before later.
+            let g = child-of ws t below_is (same-classes t asked.worked ws (inr h)) j k m before later in
+            let sent : bytes_sent m.memory ≡ bytes_sent k.memory + bytes_sent g.0.memory = ap bytes_sent g.2 ∙ sum_by-append sent_by k.memory g.0.memory in
+            omega (arith, sent, served-against t asked.worked ws h i j differ stays g.0 g.1);
       }

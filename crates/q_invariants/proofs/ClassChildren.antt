@@ -1,5 +1,5 @@
 -- The child of a drr's class, by its number, over what becomes of the classes and of the children.
-use Rattle.std.proofs.Common.{◌≡◌, ℕ, zero, suc, Bool, true, false, eqb, not, cond, ◌⊎◌, inl, inr, List, [], ◌∷◌, ◌++◌, map, length, set, refl, sym, ap, ◌∙◌, Option, Some, None, option_map, option_and_then, arith}
+use Rattle.std.proofs.Common.{◌≡◌, ℕ, zero, suc, Bool, true, false, eqb, not, cond, ◌⊎◌, inl, inr, List, [], ◌∷◌, ◌++◌, map, set, refl, sym, ap, ◌∙◌, Option, Some, None, option_map, option_and_then, arith}
 use Rattle.std.specs.Prelude.{◌==◌, slice_get, if◌then◌else◌}
 use Rattle.std.specs.List.{position, remove}
 use Rattle.std.proofs.lemmas.Bool.{cases_Bool, eqb-true, false≢true, or_parts, or_left, or_right}
@@ -103,21 +103,13 @@ module _ {X : Type 0} (c : ℕ) where
 
   -- ---- a class more, a class less, another quantum
 
-  pub child-added : (classes : List Class) (xs : List X) (k : Class) (y v : X) → length classes ≡ length xs → child_for c (classes ++ k ∷ []) (xs ++ y ∷ []) ≡ Some v → (child_for c classes xs ≡ Some v) ⊎ (v ≡ y)
-  child-added [] [] k y v same e = elim (cases_Bool (eqb c k.name)) [
-    | inl here ↦ inr (sym (same_Some y v (sym (here-is k [] y [] here) ∙ e)))
-    | inr there ↦ absurd (none-some v (sym (there-is k [] y [] there) ∙ e))
+  pub child-added : (classes : List Class) (xs : List X) (k : Class) (y v : X) → child_for c classes xs ≡ Some v → child_for c (classes ++ k ∷ []) (xs ++ y ∷ []) ≡ Some v
+  child-added [] xs k y v e = absurd (none-some v e)
+  child-added (l ∷ classes) [] k y v e = absurd (none-some v e)
+  child-added (l ∷ classes) (x ∷ xs) k y v e = elim (cases_Bool (eqb c l.name)) [
+    | inl here ↦ here-is l (classes ++ k ∷ []) x (xs ++ y ∷ []) here ∙ sym (here-is l classes x xs here) ∙ e
+    | inr there ↦ there-is l (classes ++ k ∷ []) x (xs ++ y ∷ []) there ∙ child-added classes xs k y v (sym (there-is l classes x xs there) ∙ e)
   ]
-  child-added [] (x ∷ xs) k y v same e = absurd (omega (arith, same))
-  child-added (l ∷ classes) [] k y v same e = absurd (omega (arith, same))
-  child-added (l ∷ classes) (x ∷ xs) k y v same e = elim (cases_Bool (eqb c l.name)) [
-    | inl here ↦ inl (here-is l classes x xs here ∙ sym (here-is l (classes ++ k ∷ []) x (xs ++ y ∷ []) here) ∙ e)
-    | inr there ↦ by there (child-added classes xs k y v (omega (arith, same)) (sym (there-is l (classes ++ k ∷ []) x (xs ++ y ∷ []) there) ∙ e))
-  ]
-    where
-      by : eqb c l.name ≡ false → (child_for c classes xs ≡ Some v) ⊎ (v ≡ y) → (child_for c (l ∷ classes) (x ∷ xs) ≡ Some v) ⊎ (v ≡ y)
-      by there (inl h) = inl (there-is l classes x xs there ∙ h)
-      by there (inr h) = inr h
 
   no-child : (classes : List Class) → child_for {X = X} c classes [] ≡ None
   no-child [] = refl

@@ -1,12 +1,12 @@
 -- The child of a drr's class among children that were asked, that a step has booked, or that are counted empty.
-use Rattle.std.proofs.Common.{◌≡◌, ℕ, Bool, true, false, eqb, not, ◌⊎◌, inl, inr, List, [], ◌∷◌, map, refl, sym, ap, subst, ◌∙◌, Some}
+use Rattle.std.proofs.Common.{◌≡◌, ℕ, Bool, true, false, eqb, not, ◌⊎◌, inl, inr, List, [], ◌∷◌, map, sym, ap, subst, ◌∙◌, Some}
 use Rattle.std.specs.Prelude.{if◌then◌else◌}
 use Rattle.std.specs.List.{zip}
 use Rattle.std.proofs.lemmas.Bool.{cases_Bool, eqb-true}
 use Rattle.std.proofs.lemmas.Option.{none-some, same_Some}
 use Rattle.q_drr.specs.Schedule.{Class}
 use Rattle.q_model.specs.Tally.{Note, history}
-use Rattle.q_model.specs.Node.{Forest, none, more, Node, Shape, nodes_in, side_by_side, each, shape}
+use Rattle.q_model.specs.Node.{Forest, none, more, Node, Shape, nodes_in, each, shape}
 use Rattle.q_model.specs.Beneath.{beneath, is_empty}
 use Rattle.q_model.specs.Work.{Worked, each_booked, booked}
 use Rattle.q_model.specs.Ask.{Asked, ask_own, ask}

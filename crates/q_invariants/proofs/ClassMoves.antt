@@ -1,9 +1,9 @@
 -- What one event, and then a stretch of events, comes to at a class of a drr, and at two classes of one.
-use Rattle.std.proofs.Common.{◌≡◌, ◌≢◌, ℕ, ◌+◌, ◌*◌, ◌<◌, ◌≤◌, true, false, eqb, not, inl, inr, List, [], ◌∷◌, ◌++◌, map, length, refl, sym, ap, subst, ◌∙◌, Option, Some, None, option_map, option_and_then, arith, suc}
+use Rattle.std.proofs.Common.{◌≡◌, ◌≢◌, ℕ, ◌+◌, ◌-◌, ◌*◌, ◌<◌, ◌≤◌, true, false, eqb, not, inl, inr, List, [], ◌∷◌, ◌++◌, map, refl, sym, ap, subst, ◌∙◌, Option, Some, None, option_map, option_and_then, arith, suc}
 use Rattle.std.specs.Prelude.{All, slice_get, IsSomeAnd}
 use Rattle.std.proofs.Math.Nat.{add-mul}
 use Rattle.std.proofs.lemmas.Bool.{cases_Bool, eqb-true}
-use Rattle.std.proofs.lemmas.List.{append-nil, append_assoc, length-map}
+use Rattle.std.proofs.lemmas.List.{append-nil, append_assoc}
 use Rattle.std.proofs.lemmas.List.Elements.{All-head, All-tail}
 use Rattle.std.proofs.lemmas.List.Sums.{sum_by-append}
 use Rattle.std.proofs.lemmas.Option.{none-some, same_Some, option_and_then_some}
@@ -24,12 +24,12 @@ use Rattle.q_model.specs.Lawful.{IsLawfulDiscipline, IsLawfulDrr}
 use Rattle.q_model.specs.Step.{DeviceState, step}
 use Rattle.q_model.specs.Stretches.{sent_by, bytes_sent, granted_by, grants_to, qdisc, ClassAt, class_of, class_in}
 use Rattle.q_invariants.proofs.Kept.{IsLawfulRoot}
-use Rattle.q_invariants.proofs.Exact.{exact-length}
 use Rattle.q_invariants.proofs.EditLater.{root-later}
 use Rattle.q_invariants.proofs.Forests.{lawful-with_memory, each-nodes}
 use Rattle.q_invariants.proofs.Replays.{IsKept, step-kept}
 use Rattle.q_invariants.proofs.Within.{found, lawful-of}
 use Rattle.q_invariants.proofs.StepNodes.{Becomes, becomes, clock-rises}
+use Rattle.q_invariants.proofs.AgainstTurns.{left_before}
 use Rattle.q_invariants.proofs.TakeTurns.{one_if}
 use Rattle.q_invariants.proofs.ClassChildren.{child_for, child-at}
 use Rattle.q_invariants.proofs.ClassLooks.{active-of}
@@ -90,9 +90,6 @@ drr-step major d e n after s t kept range there later is now_is = by e kept_afte
     law : IsLawfulDrr d.tree.device.mtu s (map beneath (children n))
     law = drr-lawful major d n s kept there is
 
-    size : length s.classes ≡ length (children n)
-    size = exact-length (λ c. is_active c s.active) s.classes (map beneath (children n)) law.exact ∙ length-map (children n) beneath
-
     here : (now : ℕ) → d.clock ≤ now → IsLawfulRoot d.tree.device.mtu now (shape n)
     here now rises =
         let f = found major d n there in
@@ -104,7 +101,7 @@ drr-step major d e n after s t kept range there later is now_is = by e kept_afte
         asked-step d.tree.device.mtu (step history d (event.Poll moment)).device.clock kept.least_mtu kept_then.moment n s is law.schedule law.longest (here (step history d (event.Poll moment)).device.clock rises) after t now_is h
     by (event.Command c moment) kept_then rises now_is (inl same) = same-step (step history d (event.Command c moment)).device.clock n s is after t now_is same
     by (event.Command c moment) kept_then rises now_is (inr edit) =
-        edited-step (step history d (event.Command c moment)).device.clock n s is law.schedule (differ-from_pairs (λ (c : Class). c.name) s.classes law.schedule.classes_differ) size after t now_is edit
+        edited-step (step history d (event.Command c moment)).device.clock n s is law.schedule (differ-from_pairs (λ (c : Class). c.name) s.classes law.schedule.classes_differ) after t now_is edit
 
 -- ---- one class
 
@@ -194,6 +191,42 @@ more-pair-moves i j x y z a b = record {
 
 pub no-pair-moves : (i j : ℕ) (x : ClassAt) → PairMoves i j x x
 no-pair-moves i j x = record { notes = []; is = sym (append-nil x.noted); even = refl }
+
+-- ---- a class against another, which stays backlogged
+
+pub record AgainstMoves (i j : ℕ) (x y z w : ClassAt) : Type 0 where
+  pub notes : List Note
+  pub is : y.noted ≡ x.noted ++ notes
+  pub within : (bytes_sent w.child.memory - bytes_sent z.child.memory) + left_before i j (quantum_of j z.schedule.classes) y.schedule.active
+      ≤ grants_to i notes * quantum_of j z.schedule.classes + left_before i j (quantum_of j z.schedule.classes) x.schedule.active
+
+pub against-moves : (major i j : ℕ) (d : DeviceState (List Note)) (e : Event) (x y z w : ClassAt) → i ≢ j → IsKept d → IsEvent e
+    → class_in major i d ≡ Some x → class_in major i (step history d e).device ≡ Some y → class_in major j d ≡ Some z → class_in major j (step history d e).device ≡ Some w
+    → is_empty x.child ≡ false → is_empty y.child ≡ false → quantum_of j w.schedule.classes ≡ quantum_of j z.schedule.classes → AgainstMoves i j x y z w
+against-moves major i j d e x y z w apart kept range is_x is_y is_z is_w queued_x queued_y quantum =
+    let next : DeviceState (List Note) = (step history d e).device in
+    let a = class-node major i d x is_x in
+    let b = class-node major i next y is_y in
+    let f = class-node major j d z is_z in
+    let g = class-node major j next w is_w in
+    let s = drr-step major d e a.node b.node x.schedule y.schedule kept range a.there b.there a.discipline b.discipline in
+    let first : Stays i x.schedule y.schedule = record { before = backlogged-active major i d x kept a queued_x; after = backlogged-active major i next y (step-kept d e kept range) b queued_y } in
+    let same : z.schedule ≡ x.schedule = same-drr major i j d x z a f in
+    let same_then : w.schedule ≡ y.schedule = same-drr major i j next y w b g in
+    let quantum_then : quantum_of j y.schedule.classes ≡ quantum_of j x.schedule.classes =
+    ap (λ (u : Schedule). quantum_of j u.classes) (sym same_then) ∙ quantum ∙ ap (λ (u : Schedule). quantum_of j u.classes) same in
+    let child : child_for j x.schedule.classes (children a.node) ≡ Some z.child = child-so x.schedule z.schedule a.node f.node z.child same (same_Some f.node a.node (sym f.there ∙ a.there)) f.child in
+    let child_then : child_for j y.schedule.classes (children b.node) ≡ Some w.child = child-so y.schedule w.schedule b.node g.node w.child same_then (same_Some g.node b.node (sym g.there ∙ b.there)) g.child in
+    record {
+      notes = s.notes;
+      is = sym b.noted ∙ s.is ∙ ap (λ ns. ns ++ s.notes) a.noted;
+      within = subst (λ (u : Schedule). (bytes_sent w.child.memory - bytes_sent z.child.memory) + left_before i j (quantum_of j u.classes) y.schedule.active
+          ≤ grants_to i s.notes * quantum_of j u.classes + left_before i j (quantum_of j u.classes) x.schedule.active) (sym same)
+          (s.against i j z.child w.child apart first quantum_then child child_then);
+    }
+  where
+    child-so : (s t : Schedule) (n m : Node (List Note)) (c : Node (List Note)) → t ≡ s → m ≡ n → child_for j t.classes (children m) ≡ Some c → child_for j s.classes (children n) ≡ Some c
+    child-so s t n m c schedule node e = ap (λ (u : Schedule). child_for j u.classes (children n)) (sym schedule) ∙ ap (λ (k : Node (List Note)). child_for j t.classes (children k)) (sym node) ∙ e
 
 -- ---- every deficit is below a quantum and the mtu
 

@@ -6,7 +6,7 @@ use Rattle.std.proofs.lemmas.List.Quantifiers.{position-Some}
 use Rattle.std.proofs.lemmas.Option.{none-some, same_Some}
 use Rattle.q_packet.specs.Choice.{Choice}
 use Rattle.q_packet.specs.Descriptor.{Descriptor}
-use Rattle.q_drr.specs.Schedule.{Class, Entry, Schedule}
+use Rattle.q_drr.specs.Schedule.{Class, Entry, Schedule, is_active}
 use Rattle.q_drr.specs.Take.{choice_of}
 use Rattle.q_drr.specs.Turns.{bytes_at}
 use Rattle.q_drr.specs.declared.met.Met.{Met}
@@ -94,24 +94,24 @@ module _ (now : ℕ) (x : Forest (Unit {0})) (s : Schedule) (differ : EntriesDif
 
   -- where it shows a packet, its child gives that
   module _ (i : ℕ) (a : Asked) (p : Descriptor) (placed : place_met s below ≡ Some i) (answer : slice_get below i ≡ Some a) (shown : a.shown ≡ Some p) where
+    no-choice : choice_of heads s ≡ None → place_met s below ≡ None
+    no-choice e =
+        ap (option_and_then (λ (m : Met). class_at m.class s))
+        (chosen_is_met s heads ∙ ap (λ (o : Option Choice). option_map (λ (e : Entry). record { class = e.class; head = heads e.class }) (option_and_then (λ (c : Choice). slice_get s.active c.place) o)) e)
+
+    no-entry : (ch : Choice) → choice_of heads s ≡ Some ch → slice_get s.active ch.place ≡ None → place_met s below ≡ None
+    no-entry ch e at =
+        ap (option_and_then (λ (m : Met). class_at m.class s))
+        (chosen_is_met s heads
+        ∙ ap (λ (o : Option Choice). option_map (λ (e : Entry). record { class = e.class; head = heads e.class }) (option_and_then (λ (c : Choice). slice_get s.active c.place) o)) e
+        ∙ ap (option_map (λ (e : Entry). record { class = e.class; head = heads e.class })) at)
+
     pub met-sends : (c : ℕ) (at : Stands c s.active) (v : Worked) → child_for c s.classes (set (service_of s below).below i a.taken) ≡ Some v
         → bytes_sent v.memory ≡ bytes_at (choice_of heads s) at.place (heads c)
     met-sends c at v e = by (choice_of heads s) refl
       where
         set_is : IsSet c s.classes (service_of s below).below i a.taken v
         set_is = child-set c s.classes (service_of s below).below i a.taken v e
-
-        no-choice : choice_of heads s ≡ None → place_met s below ≡ None
-        no-choice e =
-            ap (option_and_then (λ (m : Met). class_at m.class s))
-            (chosen_is_met s heads ∙ ap (λ (o : Option Choice). option_map (λ (e : Entry). record { class = e.class; head = heads e.class }) (option_and_then (λ (c : Choice). slice_get s.active c.place) o)) e)
-
-        no-entry : (ch : Choice) → choice_of heads s ≡ Some ch → slice_get s.active ch.place ≡ None → place_met s below ≡ None
-        no-entry ch e at =
-            ap (option_and_then (λ (m : Met). class_at m.class s))
-            (chosen_is_met s heads
-            ∙ ap (λ (o : Option Choice). option_map (λ (e : Entry). record { class = e.class; head = heads e.class }) (option_and_then (λ (c : Choice). slice_get s.active c.place) o)) e
-            ∙ ap (option_map (λ (e : Entry). record { class = e.class; head = heads e.class })) at)
 
         own : (ch : Choice) (m : Entry) → slice_get s.active ch.place ≡ Some m → class_at m.class s ≡ Some i → c ≡ m.class
             → ((place_in c s.classes ≡ Some i) × (v ≡ a.taken)) ⊎ ((child_for c s.classes (service_of s below).below ≡ Some v) × (place_in c s.classes ≡ Some i → ⊥))
@@ -145,3 +145,20 @@ module _ (now : ℕ) (x : Forest (Unit {0})) (s : Schedule) (differ : EntriesDif
         by : (o : Option Choice) → choice_of heads s ≡ o → bytes_sent v.memory ≡ bytes_at o at.place (heads c)
         by None e = absurd (none-some i (sym (no-choice e) ∙ placed))
         by (Some ch) e = entry ch (slice_get s.active ch.place) e refl
+
+    -- the child of a class that is asleep gives nothing
+    pub asleep-sends : (c : ℕ) (v : Worked) → is_active c s.active ≡ false → child_for c s.classes (set (service_of s below).below i a.taken) ≡ Some v → bytes_sent v.memory ≡ 0
+    asleep-sends c v asleep e = by (choice_of heads s) refl (child-set c s.classes (service_of s below).below i a.taken v e).which
+      where
+        entry : (ch : Choice) (o : Option Entry) → choice_of heads s ≡ Some ch → slice_get s.active ch.place ≡ o → place_in c s.classes ≡ Some i → ⊥
+        entry ch None e there at = none-some i (sym (no-entry ch e there) ∙ placed)
+        entry ch (Some m) e there at =
+            let name : c ≡ m.class = same-class s.classes c m.class i at (sym (met-at ch m e there) ∙ placed) in
+            false≢true (sym asleep ∙ passes-at (λ (y : Entry). c == y.class) s.active ch.place m there (eq-eqb c m.class name))
+
+        by : (o : Option Choice) → choice_of heads s ≡ o
+            → ((place_in c s.classes ≡ Some i) × (v ≡ a.taken)) ⊎ ((child_for c s.classes (service_of s below).below ≡ Some v) × (place_in c s.classes ≡ Some i → ⊥))
+            → bytes_sent v.memory ≡ 0
+        by o e (inr left) = service-gives c v left.0
+        by None e (inl taken) = absurd (none-some i (sym (no-choice e) ∙ placed))
+        by (Some ch) e (inl taken) = absurd (entry ch (slice_get s.active ch.place) e refl taken.0)

@@ -1,3 +1,4 @@
+pub mod AgainstTurns
 pub mod Along
 pub mod Answer
 pub mod AskClasses

@@ -17,14 +17,32 @@ abbrev name_of : Entry → ℕ
 name_of e = e.class
 
 -- classes that are active before and after, with one quantum, keep their deficits and their order, and one that wakes gets a
--- quantum
+-- quantum and stands behind those that are active before and after
 pub record SameTurns (s t : Schedule) : Type 0 where
   pub deficit : (c : ℕ) → is_active c s.active ≡ true → is_active c t.active ≡ true → quantum_of c t.classes ≡ quantum_of c s.classes → deficit_of c t.active ≡ deficit_of c s.active
   pub order : (i j : ℕ) → is_active i s.active ≡ true → is_active j s.active ≡ true → is_active i t.active ≡ true → is_active j t.active ≡ true
       → stands_first i j t.active ≡ stands_first i j s.active
   pub wakes : (c : ℕ) → is_active c s.active ≡ false → is_active c t.active ≡ true → deficit_of c t.active ≡ quantum_of c t.classes
+  pub behind : (i j : ℕ) → is_active i s.active ≡ true → is_active j s.active ≡ false → stands_first j i t.active ≡ false
+
+-- an absent class stands before none
+pub absent-behind : (i j : ℕ) (es : List Entry) → is_active j es ≡ false → stands_first j i es ≡ false
+absent-behind i j [] absent = refl
+absent-behind i j (e ∷ es) absent =
+    let parts = or_parts (eqb j e.class) (is_active j es) absent in
+    ap (λ (t : Bool). if t then true else (if eqb i e.class then false else stands_first j i es)) parts.0
+    ∙ elim (cases_Bool (eqb i e.class)) [
+      | inl here ↦ ap (λ (t : Bool). if t then false else stands_first j i es) here
+      | inr there ↦ ap (λ (t : Bool). if t then false else stands_first j i es) there ∙ absent-behind i j es parts.1
+    ]
 
 -- where no class wakes
+still-asleep : (s t : Schedule) → ((c : ℕ) → is_active c t.active ≡ true → is_active c s.active ≡ true) → (j : ℕ) → is_active j s.active ≡ false → is_active j t.active ≡ false
+still-asleep s t were j before = elim (cases_Bool (is_active j t.active)) [
+  | inl after ↦ absurd (false≢true (sym before ∙ were j after))
+  | inr asleep ↦ asleep
+]
+
 none-wakes : (s t : Schedule) → ((c : ℕ) → is_active c t.active ≡ true → is_active c s.active ≡ true) → (c : ℕ) → is_active c s.active ≡ false → is_active c t.active ≡ true
     → deficit_of c t.active ≡ quantum_of c t.classes
 none-wakes s t were c before after = absurd (false≢true (sym before ∙ were c after))
@@ -34,6 +52,7 @@ same-all s t e = record {
   deficit = λ c a b q. ap (deficit_of c) e;
   order = λ i j a b c d. ap (stands_first i j) e;
   wakes = none-wakes s t (λ c after. ap (is_active c) (sym e) ∙ after);
+  behind = λ i j there absent. absent-behind i j t.active (still-asleep s t (λ c after. ap (is_active c) (sym e) ∙ after) j absent);
 }
 
 -- ---- one that falls asleep
@@ -74,10 +93,14 @@ module _ (m : ℕ) where
     deficit = λ c before after q. ap (deficit_of c) e ∙ deficit-others c s.active (other-name c s.active (ap (is_active c) (sym e) ∙ after));
     order = λ i j a b c d. ap (stands_first i j) e
         ∙ order-others i j s.active (other-name i s.active (ap (is_active i) (sym e) ∙ c)) (other-name j s.active (ap (is_active j) (sym e) ∙ d));
-    wakes = none-wakes s t (λ c after.
-        let there : is_active c (others name_of m s.active) ≡ true = ap (is_active c) (sym e) ∙ after in
-        sym (has_others name_of c m s.active (other-name c s.active there)) ∙ there);
+    wakes = none-wakes s t were;
+    behind = λ i j there absent. absent-behind i j t.active (still-asleep s t were j absent);
   }
+    where
+      were : (c : ℕ) → is_active c t.active ≡ true → is_active c s.active ≡ true
+      were c after =
+          let there : is_active c (others name_of m s.active) ≡ true = ap (is_active c) (sym e) ∙ after in
+          sym (has_others name_of c m s.active (other-name c s.active there)) ∙ there
 
 -- ---- one that wakes
 
@@ -94,7 +117,7 @@ order-push i j x (e ∷ es) a b = elim (cases_Bool (eqb i e.class)) [
   ]
 ]
 
-deficit-last : (c : ℕ) (x : Entry) (es : List Entry) → is_active c es ≡ false → eqb c x.class ≡ true → deficit_of c (es ++ x ∷ []) ≡ x.deficit
+pub deficit-last : (c : ℕ) (x : Entry) (es : List Entry) → is_active c es ≡ false → eqb c x.class ≡ true → deficit_of c (es ++ x ∷ []) ≡ x.deficit
 deficit-last c x [] absent same = deficit-here c x [] same
 deficit-last c x (e ∷ es) absent same =
     let parts = or_parts (eqb c e.class) (is_active c es) absent in
@@ -106,6 +129,17 @@ absent-push c x (e ∷ es) absent apart =
     let parts = or_parts (eqb c e.class) (is_active c es) absent in
     or_from (eqb c e.class) (is_active c (es ++ x ∷ [])) parts.0 (absent-push c x es parts.1 apart)
 
+-- one that wasn't there stands behind, where another or it itself goes to the end
+pub push-behind : (i j : ℕ) (x : Entry) (es : List Entry) → is_active i es ≡ true → is_active j es ≡ false → stands_first j i (es ++ x ∷ []) ≡ false
+push-behind i j x [] there absent = absurd (false≢true there)
+push-behind i j x (e ∷ es) there absent =
+    let parts = or_parts (eqb j e.class) (is_active j es) absent in
+    ap (λ (t : Bool). if t then true else (if eqb i e.class then false else stands_first j i (es ++ x ∷ []))) parts.0
+    ∙ elim (cases_Bool (eqb i e.class)) [
+      | inl here ↦ ap (λ (t : Bool). if t then false else stands_first j i (es ++ x ∷ [])) here
+      | inr far ↦ ap (λ (t : Bool). if t then false else stands_first j i (es ++ x ∷ [])) far ∙ push-behind i j x es (sym (ap (λ t. t || is_active i es) far) ∙ there) parts.1
+    ]
+
 same-more : (x : Entry) (s t : Schedule) → t.active ≡ s.active ++ x ∷ [] → x.deficit ≡ quantum_of x.class t.classes → SameTurns s t
 same-more x s t e quantum = record {
   deficit = λ c before after q. ap (deficit_of c) e ∙ ap (λ (o : Option Entry). option_map_or (λ (e : Entry). e.deficit) o 0) (find_push name_of c x s.active before);
@@ -114,6 +148,7 @@ same-more x s t e quantum = record {
     | inl same ↦ ap (deficit_of c) e ∙ deficit-last c x s.active before same ∙ quantum ∙ ap (λ k. quantum_of k t.classes) (sym (eqb-true c x.class same))
     | inr apart ↦ absurd (false≢true (sym (absent-push c x s.active before apart) ∙ ap (is_active c) (sym e) ∙ after))
   ];
+  behind = λ i j there absent. ap (stands_first j i) e ∙ push-behind i j x s.active there absent;
 }
 
 same-woken : (m : ℕ) (s : Schedule) → SameTurns s (woken m s)
@@ -191,4 +226,5 @@ same-quantum n q s law = record {
       (λ equal there. sym (set-here n q s.max_len s.classes there) ∙ ap (λ k. quantum_of k (with_quantum n q s).classes) (eqb-true n c equal) ∙ quantum ∙ ap (λ k. quantum_of k s.classes) (sym (eqb-true n c equal)));
   order = λ i j a b c d. order-cut n q s.max_len i j s.active;
   wakes = none-wakes s (with_quantum n q s) (λ c after. sym (active-cut n q s.max_len c s.active) ∙ after);
+  behind = λ i j there absent. absent-behind i j (with_quantum n q s).active (active-cut n q s.max_len j s.active ∙ absent);
 }

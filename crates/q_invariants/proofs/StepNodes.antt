@@ -1,5 +1,5 @@
 -- What an event makes of the qdisc with one handle, where it is there before the event and after it.
-use Rattle.std.proofs.Common.{◌≡◌, ℕ, ◌≤◌, max, Bool, true, false, ◌⊎◌, inl, inr, List, length, refl, sym, ap, subst, ◌∙◌, Option, Some, None, Ok, Err, Result, arith}
+use Rattle.std.proofs.Common.{◌≡◌, ℕ, ◌≤◌, max, Bool, true, false, ◌⊎◌, inl, inr, List, [], length, refl, sym, ap, subst, ◌∙◌, Option, Some, None, Ok, Err, Result, arith}
 use Rattle.std.specs.Prelude.{is_some, ◌==◌, if◌then◌else◌}
 use Rattle.std.proofs.lemmas.Option.{same_Some}
 use Rattle.std.proofs.lemmas.List.{length-map}
@@ -57,10 +57,14 @@ pub record IsRemadeSo (now : ℕ) (notes : List Note) (n after : Node (List Note
   pub is : after ≡ record { own = own; memory = noted history n.memory notes; below = side_by_side below }
   pub form : IsRemade now n own below
 
+-- a node put in anew has nothing queued and has noted nothing
+abbrev pub IsNew : Node (List Note) → Type 0
+IsNew n = (is_empty n ≡ true) × (n.memory ≡ [])
+
 pub record IsEdited (now : ℕ) (n after : Node (List Note)) : Type 0 where
   pub purged : List Descriptor
   pub f : Node (List Note) → Node (List Note)
-  pub ends : (old : Node (List Note)) → (is_empty (f old) ≡ true) ⊎ ((f old).memory ≡ noted history old.memory (losses_of Purged purged))
+  pub ends : (old : Node (List Note)) → IsNew (f old) ⊎ ((f old).memory ≡ noted history old.memory (losses_of Purged purged))
   pub by : IsEditOf (losses_of Purged purged) f (IsRemadeSo now (losses_of Purged purged)) n after
 
 abbrev pub Becomes : ℕ → Event → Node (List Note) → Node (List Note) → Type 0
@@ -131,7 +135,7 @@ module _ (h clock now : ℕ) (d : DeviceState (List Note)) (kept : IsKept d) (sa
       record {
         purged = purged;
         f = f;
-        ends = λ old. inl (ap (λ (ps : List Descriptor). length ps == 0) (new_beneath d.tree.device.mtu now plan.fresh new plan.suits));
+        ends = λ old. inl (ap (λ (ps : List Descriptor). length ps == 0) (new_beneath d.tree.device.mtu now plan.fresh new plan.suits), refl);
         by = settle notes f (IsRemadeSo now notes) after
             (comes-edited notes f (IsRemadeSo now notes) h path root after
             (λ old at in_root k of_new has. absurd (let free = plan.free h in omega (arith, of-counts h k (blank history new) of_new has, new_times d.tree.device.mtu now plan.fresh new plan.suits h, free, of-counts h n root before.there before.handle)))
