@@ -72,7 +72,7 @@ classes-wake settings range events e major minor class next all event is at empt
 pub at-start : (P : DeviceState (List Note) → Type 0) (settings : DeviceSettings) (before during : List Event) → Throughout P settings before during → P (device_after settings before)
 at-start P settings before during stays = subst (λ (es : List Event). P (device_after settings es)) (append-nil before) (stays [] during refl)
 
-at-end : (P : DeviceState (List Note) → Type 0) (settings : DeviceSettings) (before during : List Event) → Throughout P settings before during → P (device_after settings (before ++ during))
+pub at-end : (P : DeviceState (List Note) → Type 0) (settings : DeviceSettings) (before during : List Event) → Throughout P settings before during → P (device_after settings (before ++ during))
 at-end P settings before during stays = stays during [] (append-nil during)
 
 module _ (major minor quantum : ℕ) where
@@ -122,7 +122,7 @@ classes-share settings range before during major minor quantum first last all_be
 -- ---- two classes
 
 -- what two lists have behind one front
-same-rest : (xs ys zs : List Note) → xs ++ ys ≡ xs ++ zs → ys ≡ zs
+pub same-rest : (xs ys zs : List Note) → xs ++ ys ≡ xs ++ zs → ys ≡ zs
 same-rest [] ys zs e = e
 same-rest (x ∷ xs) ys zs e = same-rest xs ys zs (ap (drop 1) e)
 

@@ -7,6 +7,7 @@ pub mod FlowStretches
 pub mod FlowsShow
 pub mod KeptLemmas
 pub mod LawfulLemmas
+pub mod LeastShare
 pub mod Moved
 pub mod MovedAsks
 pub mod MovedTrees
@@ -19,6 +20,7 @@ pub mod RenewedBands
 pub mod RenewedTrees
 pub mod ReplayLemmas
 pub mod ReplayedLemmas
+pub mod ServiceStretches
 pub mod ShrinkLemmas
 pub mod StatsStands
 pub mod StepStands

@@ -1,6 +1,6 @@
 -- Where a node showed nothing its packet comes after that moment, and where it showed one that is at hand: bands, a tbf.
 use Rattle.std.proofs.Common.{◌≡◌, ℕ, suc, ◌<◌, ◌∙◌, refl, sym, ap, subst, arith, inl, inr, List, [], ◌∷◌, map, Option, Some, None}
-use Rattle.std.specs.Prelude.{true, false, is_some}
+use Rattle.std.specs.Prelude.{false, is_some}
 use Rattle.std.proofs.lemmas.Bool.{cases_lt, false≢true}
 use Rattle.std.proofs.lemmas.Option.{none-some}
 use Rattle.q_packet.specs.Descriptor.{Descriptor}

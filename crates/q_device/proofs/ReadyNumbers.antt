@@ -1,7 +1,7 @@
 -- The places of a tree's queues are memory, and say nothing of when it is ready and of what a take gives.
 use Rattle.std.proofs.Common.{◌≡◌, ℕ, ap}
 use Rattle.q_model.specs.Ask.{ask}
-use Rattle.q_model.specs.Node.{Node, Shape, with_memory}
+use Rattle.q_model.specs.Node.{Shape}
 use Rattle.q_model.specs.TreeState.{TreeState, given}
 use Rattle.q_model.proofs.ShrinkLemmas.{each-each_memory, shape-with_memory}
 use Rattle.q_tree.specs.Kept.{Kept}

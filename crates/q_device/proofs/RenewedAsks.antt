@@ -1,5 +1,5 @@
 -- What is known of a node once it was asked, against what was known before: by its discipline, and of a whole tree.
-use Rattle.std.proofs.Common.{◌≡◌, ℕ, zero, suc, ◌+◌, ◌<◌, ◌≤◌, ◌∙◌, ◌⊎◌, refl, sym, ap, subst, arith, inl, inr, List, [], ◌∷◌, ◌++◌, map, length, Option, Some, None, option_map, option_and_then}
+use Rattle.std.proofs.Common.{◌≡◌, ℕ, zero, suc, ◌<◌, ◌≤◌, ◌∙◌, ◌⊎◌, refl, sym, ap, subst, arith, inl, inr, List, [], ◌∷◌, ◌++◌, map, length, Option, Some, None, option_map, option_and_then}
 use Rattle.std.specs.Prelude.{Bool, true, false, ◌==◌, if◌then◌else◌, is_some, slice_get}
 use Rattle.std.specs.List.{position_or_len}
 use Rattle.std.specs.Option.{option_map_or}
@@ -33,7 +33,7 @@ use Rattle.q_invariants.proofs.SecondPeek.{node}
 use Rattle.q_tree.specs.ReadyAt.{no_packet, at_best, shaped, with_bands, paid, of_fifo, of_flows, of_class, outlook_own, outlook}
 use Rattle.q_tree.proofs.FlowCounts.{one, packets-all}
 use Rattle.q_tree.proofs.Foreseeing.{Foresees, Covers}
-use Rattle.q_tree.proofs.ForeseenAsks.{Follows, follows, foreseen}
+use Rattle.q_tree.proofs.ForeseenAsks.{Follows, follows}
 use Rattle.q_device.proofs.Renewed.{Outlook, Formed, Renews, covers-in, comes-before, none-formed, none-renews, hand-renews, held-renews, best-formed, best-renews, shaped-renews}
 use Rattle.q_device.proofs.RenewedBands.{AllRenew, bands-renew, paid-at, paid-least, paid-open, paid-renews, past-renews}
 

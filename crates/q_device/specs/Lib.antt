@@ -6,5 +6,6 @@ pub mod Giving
 pub mod Keeping
 pub mod Laws
 pub mod Replayed
+pub mod Service
 pub mod Sharing
 pub mod Waiting

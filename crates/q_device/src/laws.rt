@@ -1,6 +1,7 @@
 //! What is true of every device and every replay. Each law is the contract of a function that does nothing.
 ghost use Rattle.q_device.specs.DeviceLaws.{ArrivesByArrivals, CountersNeverFall, EveryCounterIsCompared, HasItsMemory, IsLawfulDevice, IsReplayed, IsReplayOfRecorded, TellsItsLosses};
 ghost use Rattle.q_device.specs.Laws.{ReplayGoesOn, ShrinkCommutes, ReplayShrinks, EveryReplayIsSound, TotalsAreLawful, EveryReplayTellsAll};
+ghost use Rattle.q_device.specs.Service.{ClassAgainstAny, ClassesGetTheirParts};
 ghost use Rattle.q_device.specs.Sharing.{ClassesSendTheirShares, DeficitsAreBounded, GrantsComeWhereShort, ClassesWakeWithAQuantum, ClassesShareByQuanta, BucketsAreBounded, FlowsGiveTheirShares, FlowsBeginNew, FlowsAreGrantedEvenly};
 ghost use Rattle.q_device.specs.Waiting.{EarlyPollsGiveNothing, ReadyPassesEmptyPolls};
 
@@ -86,6 +87,31 @@ pub fn bucket_stretch(settings: Settings)
 pub fn flow_stretch(settings: Settings)
     ensures share { FlowsGiveTheirShares settings }
     ensures begins { FlowsBeginNew settings }
+{
+    settings.ranges();
+}
+
+/// Whatever comes to the other classes of its drr, a class that stays backlogged with one quantum over a stretch of events is held up by
+/// each of them no longer than by one that stays backlogged too. Another class that is there with one quantum sends at most its first
+/// deficit and a quantum for each grant to the first: it may get packets, empty, wake again, and have its child removed or
+/// replaced. Where it did not stand before the first class in the active list, it sends nothing until that one is granted, but for what
+/// its deficit is above a quantum. In the quanta of both, what it sends times the quantum of the first is at most what
+/// the first sends times its own, and two products of the quanta and a longest packet less a byte times their sum.
+///
+/// For all settings and every list of events whose fields are in their ranges: polls, arrivals and commands anywhere in the
+/// tree. Bytes are those that a class's child gives to the drr, which may hold one packet.
+pub fn class_against_any(settings: Settings)
+    ensures { ClassAgainstAny settings }
+{
+    settings.ranges();
+}
+
+/// Of all bytes that the classes of a drr send over a stretch in which the drr keeps its classes and their quanta, a class that stays
+/// backlogged sends its quantum's part of the sum of the quanta, whatever comes to the others, but for a number of bytes
+/// that does not grow with the stretch: twice its quantum times those of the others, and a longest packet less a byte times the others'
+/// quanta and, for each of the others, its own.
+pub fn least_share(settings: Settings)
+    ensures { ClassesGetTheirParts settings }
 {
     settings.ranges();
 }

@@ -1,0 +1,92 @@
+-- What is true of service over every stretch of every replay: what a class of a drr gets whatever comes to its other classes.
+-- What a stretch is stands in q_model's specs/Stretches.antt. Deficit round robin: M. Shreedhar and G. Varghese, "Efficient Fair
+-- Queuing Using Deficit Round-Robin" (1995), and tc-drr(8).
+use Rattle.std.specs.Prelude.{◌≡◌, ◌≢◌, ℕ, ◌+◌, ◌-◌, ◌*◌, ◌≤◌, false, List, [], ◌∷◌, ◌++◌, All, Option, Some, None, option_and_then, length, sum_by}
+use Rattle.std.specs.Option.{option_map_or}
+use Rattle.q_drr.specs.Schedule.{Class, quantum_of, deficit_of}
+use Rattle.q_drr.specs.Stretch.{stands_first}
+use Rattle.q_model.specs.declared.event.Event.{Event}
+use Rattle.q_model.specs.Tally.{Note, history}
+use Rattle.q_model.specs.Node.{Discipline, Fifo, Prio, Tbf, Drr, FqCodel, Node}
+use Rattle.q_model.specs.Events.{IsEvent}
+use Rattle.q_model.specs.Settings.{DeviceSettings}
+use Rattle.q_model.specs.Step.{DeviceState, step}
+use Rattle.q_model.specs.Stretches.{bytes_sent, grants_to, qdisc, ClassAt, class_in, IsBackloggedClass, Throughout}
+use Rattle.q_device.specs.Sharing.{device_after}
+
+-- ---- what a class sends
+
+-- the bytes that the child of a class has given to the drr so far, 0 where the class is not there
+abbrev pub given_so_far : ℕ → ℕ → DeviceState (List Note) → ℕ
+given_so_far major minor d = option_map_or (λ (class : ClassAt). bytes_sent class.child.memory) (class_in major minor d) 0
+
+-- The bytes that a class sends over these events: what its child gives to the drr in each of them. A child that a command puts
+-- there has given nothing yet.
+abbrev pub class_sent : ℕ → ℕ → DeviceState (List Note) → List Event → ℕ
+class_sent major minor d [] = 0
+class_sent major minor d (e ∷ events) =
+    let next = (step history d e).device in
+    (given_so_far major minor next - given_so_far major minor d) + class_sent major minor next events
+
+-- the class is there with this quantum, backlogged or not
+pub record IsClass (major minor quantum : ℕ) (d : DeviceState (List Note)) : Type 0 where
+  pub class : ClassAt
+  pub there : class_in major minor d ≡ Some class
+  pub same_quantum : quantum_of minor class.schedule.classes ≡ quantum
+
+-- ---- a class against any other
+
+-- Class i stays backlogged over a stretch in which the drr noted `notes`, and class j is there throughout, whatever comes to
+-- it: packets, sleep, another child. Class i sent its grants times its quantum and its first deficit less its last. Class j sent at most
+-- its first deficit and a quantum for each grant to class i; and where it did not stand before class i at first, that deficit
+-- counts only as far as it is above a quantum, so that a class that was asleep sends nothing until class i is granted.
+pub record SendsNoMore (i j quantum_i quantum_j mtu sent_i sent_j : ℕ) (first last : ClassAt) : Type 0 where
+  pub notes : List Note
+  pub goes_on : last.noted ≡ first.noted ++ notes
+  pub share : sent_i + deficit_of i last.schedule.active ≡ grants_to i notes * quantum_i + deficit_of i first.schedule.active
+  pub no_more : sent_j ≤ grants_to i notes * quantum_j + deficit_of j first.schedule.active
+  pub behind : stands_first j i first.schedule.active ≡ false → sent_j ≤ grants_to i notes * quantum_j + (deficit_of j first.schedule.active - quantum_j)
+  pub in_quanta : sent_j * quantum_i ≤ sent_i * quantum_j + 2 * (quantum_i * quantum_j) + (mtu - 1) * (quantum_i + quantum_j)
+
+abbrev pub ClassAgainstAny : DeviceSettings → Type 0
+ClassAgainstAny settings =
+    (before during : List Event) (major i j quantum_i quantum_j : ℕ) (first last : ClassAt) → i ≢ j → All IsEvent before → All IsEvent during
+    → Throughout (IsBackloggedClass major i quantum_i) settings before during → Throughout (IsClass major j quantum_j) settings before during
+    → class_in major i (device_after settings before) ≡ Some first → class_in major i (device_after settings (before ++ during)) ≡ Some last
+    → SendsNoMore i j quantum_i quantum_j settings.mtu (class_sent major i (device_after settings before) during) (class_sent major j (device_after settings before) during) first last
+
+-- ---- the least share of a class
+
+-- the classes of the drr with this handle
+abbrev pub classes_of : Discipline → Option (List Class)
+classes_of (Drr s) = Some s.classes
+classes_of (Fifo limit queue) = None
+classes_of (Prio priomap) = None
+classes_of (Tbf bucket limit) = None
+classes_of (FqCodel s) = None
+
+abbrev pub classes_in : ℕ → DeviceState (List Note) → Option (List Class)
+classes_in major d = option_and_then (λ (n : Node (List Note)). classes_of n.own.discipline) (qdisc major d)
+
+-- the drr has these classes with these quanta
+abbrev pub HasClasses : ℕ → List Class → DeviceState (List Note) → Type 0
+HasClasses major classes d = classes_in major d ≡ Some classes
+
+abbrev pub quanta_of : List Class → ℕ
+quanta_of classes = sum_by (λ (c : Class). c.quantum) classes
+
+-- the bytes that all classes send
+abbrev pub all_sent : ℕ → List Class → DeviceState (List Note) → List Event → ℕ
+all_sent major classes d events = sum_by (λ (c : Class). class_sent major c.name d events) classes
+
+-- Of `all` bytes that the classes of a drr send, whose quanta are `quanta` together, a class that stays backlogged sends its part,
+-- less two quanta and a longest packet for itself and each other class.
+abbrev pub GetsItsPart : ℕ → ℕ → ℕ → ℕ → ℕ → ℕ → Type 0
+GetsItsPart classes quantum quanta mtu sent all =
+    all * quantum ≤ sent * quanta + 2 * (quantum * (quanta - quantum)) + (mtu - 1) * ((classes - 1) * quantum + (quanta - quantum))
+
+abbrev pub ClassesGetTheirParts : DeviceSettings → Type 0
+ClassesGetTheirParts settings =
+    (before during : List Event) (major i quantum : ℕ) (classes : List Class) → All IsEvent before → All IsEvent during
+    → Throughout (HasClasses major classes) settings before during → Throughout (IsBackloggedClass major i quantum) settings before during
+    → GetsItsPart (length classes) quantum (quanta_of classes) settings.mtu (class_sent major i (device_after settings before) during) (all_sent major classes (device_after settings before) during)
