@@ -27,14 +27,28 @@ pub trait Queue {
 
     /// What CoDel looks at of the packet in front; `None` where the queue is empty. No packet is copied.
     fn front(&self) -> Option<Front>
-        ensures { result ≡ option_map front_of (slice_get (packets self.now) 0) };
+        ensures { result ≡ option_map front_of (slice_get (packets self.now) 0) }
+    {
+        let stamped = self.head()?;
+        Some(Front {
+            at: stamped.at,
+            len: stamped.packet.len,
+            ecn: stamped.packet.ecn,
+        })
+    }
 
     /// Takes the packet in front, which is there, into `out`: it is copied once.
     fn take_into(&mut self, out: &mut Packet)
         requires { 0 < count (packets self.old) }
         ensures given { Some out.new ≡ option_map (λ (s : Stamped). s.packet) (slice_get (packets self.old) 0) }
         ensures rest { packets self.new ≡ drop 1 (packets self.old) }
-        ensures kept { keeps self.old self.new };
+        ensures kept { keeps self.old self.new }
+    {
+        let Some(stamped) = self.take() else {
+            unreachable!()
+        };
+        *out = stamped.packet;
+    }
 
     /// The bytes of all its packets.
     fn bytes(&self) -> u64
