@@ -2,19 +2,36 @@
  *
  *     bench [PACKETS [ROUNDS]]     so many packets for each row, 2,000,000 where no number stands there, in 5 rounds
  *
- * Packets are made before, 8192 of them in turn; 1000 are queued first, and the clock goes on by 100 ns a packet. That is what
- * bench/run does from Rattle in its row `root pfifo, 1000 queued`. A row is the least of the rounds, in nanoseconds a packet.
- * Packets are looked at again as they come out. */
-#define _POSIX_C_SOURCE 199309L
+ * Packets are made before, 8192 of them in turn, and some are queued first. Trees, packets and times are those of the rows of the same
+ * names that bench/run measures from Rattle. A row is the least of the rounds, in nanoseconds a packet. */
+#define _POSIX_C_SOURCE 200809L
 #include "check.h"
 #include "qtree.h"
 
 #include <string.h>
 #include <time.h>
 
-enum { BATCH = 32, QUEUED = 1000, STEP = 100, MADE = 8192 };
+enum { BATCH = 32, MADE = 8192, CLASSES = 8, FIRST_PORT = 5000, MTU = 1514 };
 
-/* The packets, with their places as numbers. */
+/* What a row sets up: the root's kind, the leaf in each class of a drr if there is one, and the packets. */
+struct row {
+    const char *name, *root, *leaf;
+    uint32_t flows, queued, step;
+};
+
+static const char FLOWS[] = "fq_codel limit 10240 flows 1024 noecn drop_batch 64";
+
+static const struct row rows[] = {
+    { "root pfifo, 1000 queued", "pfifo limit 200000", NULL, 1, 1000, 100 },
+    { "prio of 3 pfifos", "prio bands 3 priomap 1 2 2 2 1 2 0 0 1 1 1 1 1 1 1 1", NULL, 1, 1000, 100 },
+    { "tbf that never waits", "tbf rate 34gbit burst 1gb limit 1gb", NULL, 1, 1000, 1000 },
+    { "drr of 8 pfifos", "drr", "pfifo limit 200000", 1, 1000, 100 },
+    { "drr of 8 fq_codels", "drr", FLOWS, 64, 1000, 100 },
+    { "fq_codel, 1024 flows, 0 queued", FLOWS, NULL, 1024, 0, 100 },
+    { "fq_codel, 1024 flows, 10000 queued", FLOWS, NULL, 1024, 10000, 100 },
+};
+
+/* The packets, with their indexes as buf. */
 static qtree_packet made[MADE];
 
 static double seconds(void) {
@@ -23,57 +40,91 @@ static double seconds(void) {
     return (double)now.tv_sec + (double)now.tv_nsec * 1e-9;
 }
 
-static void open_with(qtree_device *device, const char *line) {
-    qtree_fault fault;
-    CHECK(qtree_open(device, &(qtree_settings){ 1000, 0, 1514 }) == QTREE_DONE);
-    CHECK(qtree_command(device, (const uint8_t *)line, strlen(line), 0, &fault) == QTREE_DONE);
-    for (uint32_t i = 0; i < QUEUED; i++) {
-        CHECK(qtree_arrive(device, &made[i], 0) == QTREE_DONE);
+/* Marsaglia's xorshift: a number below this one, the same in every run. */
+static uint32_t below(uint64_t *state, uint32_t end) {
+    *state ^= *state << 13;
+    *state ^= *state >> 7;
+    *state ^= *state << 17;
+    return (uint32_t)((*state >> 20) % end);
+}
+
+static void make_packets(const struct row *row) {
+    uint64_t state = 0x9e3779b97f4a7c15;
+    for (uint32_t i = 0; i < MADE; i++) {
+        made[i] = (qtree_packet){ .len = 1000, .buf = i, .family = 4, .proto = 17, .sport = 1000 };
+        made[i].src_low = 0x0a000001;
+        made[i].dst_low = 0x0a000002;
+        made[i].hash = i % row->flows;
+        made[i].prio = (uint8_t)below(&state, 16);
+        made[i].dport = (uint16_t)(FIRST_PORT + below(&state, CLASSES));
     }
 }
 
-static double one_at_a_time(qtree_device *device, uint32_t packets) {
+static void command(qtree_device *device, const char *line) {
+    qtree_fault fault;
+    CHECK(qtree_command(device, (const uint8_t *)line, strlen(line), 0, &fault) == QTREE_DONE);
+}
+
+static void open_with(qtree_device *device, const struct row *row) {
+    char line[256];
+    CHECK(qtree_open(device, &(qtree_settings){ .txqueuelen = 200000, .mtu = MTU }) == QTREE_DONE);
+    snprintf(line, sizeof line, "tc qdisc add dev a root handle 1: %s", row->root);
+    command(device, line);
+    for (int class = 1; row->leaf != NULL && class <= CLASSES; class++) {
+        snprintf(line, sizeof line, "tc class add dev a parent 1: classid 1:%d drr quantum %d", class, MTU);
+        command(device, line);
+        snprintf(line, sizeof line, "tc filter add dev a parent 1: prio %d protocol ip flower ip_proto udp dst_port %d classid 1:%d", class,
+                 FIRST_PORT + class - 1, class);
+        command(device, line);
+        snprintf(line, sizeof line, "tc qdisc add dev a parent 1:%d handle 1%d: %s", class, class, row->leaf);
+        command(device, line);
+    }
+    for (uint32_t i = 0; i < row->queued; i++) {
+        CHECK(qtree_arrive(device, &made[i % MADE], 0) == QTREE_DONE);
+    }
+}
+
+static double one_at_a_time(const struct row *row, qtree_device *device, uint32_t packets) {
     qtree_packet given;
     double begun = seconds();
     for (uint32_t i = 0; i < packets; i++) {
-        uint64_t now = (uint64_t)i * STEP;
-        CHECK(qtree_arrive(device, &made[(QUEUED + i) % MADE], now) == QTREE_DONE);
-        CHECK(qtree_poll(device, now, &given) == QTREE_DONE && given.buf == i % MADE);
+        uint64_t now = (uint64_t)i * row->step;
+        CHECK(qtree_arrive(device, &made[(row->queued + i) % MADE], now) == QTREE_DONE);
+        CHECK(qtree_poll(device, now, &given) == QTREE_DONE && given.len == 1000);
     }
     return (seconds() - begun) / packets;
 }
 
-static double in_batches(qtree_device *device, uint32_t packets) {
+static double in_batches(const struct row *row, qtree_device *device, uint32_t packets) {
     qtree_packet given[BATCH];
     uint8_t codes[BATCH];
     size_t count;
     double begun = seconds();
     for (uint32_t at = 0; at + BATCH <= packets; at += BATCH) {
-        uint64_t now = (uint64_t)at * STEP;
+        uint64_t now = (uint64_t)at * row->step;
         const qtree_packet *sent = &made[at % MADE];
         CHECK(qtree_arrive_many(device, sent, BATCH, codes, BATCH, &count, now) == QTREE_DONE && count == BATCH);
         CHECK(qtree_poll_many(device, now, given, BATCH, &count) == QTREE_DONE && count == BATCH);
-        CHECK(at < QUEUED || given[0].buf == (at - QUEUED) % MADE);
+        CHECK(given[0].len == 1000);
     }
     return (seconds() - begun) / (packets / BATCH * BATCH);
 }
 
-static double by_ring(qtree_device *device, uint32_t packets) {
+static double by_ring(const struct row *row, qtree_device *device, uint32_t packets) {
     qtree_port port = QTREE_CLOSED;
     qtree_outlet outlet = QTREE_CLOSED;
-    qtree_packet packet = { .len = 1000 }, given[BATCH];
+    qtree_packet given[BATCH];
     size_t count;
     CHECK(qtree_ring_open(&port, &outlet, 0, 256) == QTREE_DONE);
     double begun = seconds();
     for (uint32_t at = 0; at + BATCH <= packets; at += BATCH) {
-        uint64_t now = (uint64_t)at * STEP;
+        uint64_t now = (uint64_t)at * row->step;
         for (uint32_t i = 0; i < BATCH; i++) {
-            packet.buf = QUEUED + at + i;
-            CHECK(qtree_offer(&port, &packet) == QTREE_DONE);
+            CHECK(qtree_offer(&port, &made[(at + i) % MADE]) == QTREE_DONE);
         }
         CHECK(qtree_take_in(device, &outlet, now, BATCH, &count) == QTREE_DONE && count == BATCH);
         CHECK(qtree_poll_many(device, now, given, BATCH, &count) == QTREE_DONE && count == BATCH);
-        CHECK(given[0].buf == at && given[BATCH - 1].buf == at + BATCH - 1);
+        CHECK(given[0].len == 1000);
     }
     double taken = seconds() - begun;
     qtree_port_close(&port);
@@ -81,38 +132,31 @@ static double by_ring(qtree_device *device, uint32_t packets) {
     return taken / (packets / BATCH * BATCH);
 }
 
-static double least(double (*play)(qtree_device *, uint32_t), const char *line, uint32_t packets, uint32_t rounds) {
+/* Every packet that arrived was sent or is queued, and in an fq_codel none was dropped. */
+static double least(double (*play)(const struct row *, qtree_device *, uint32_t), const struct row *row, uint32_t packets, uint32_t rounds) {
     double best = 1e9;
     for (uint32_t round = 0; round < rounds; round++) {
         qtree_device device = QTREE_CLOSED;
-        open_with(&device, line);
-        double cost = play(&device, packets);
+        open_with(&device, row);
+        double cost = play(row, &device, packets);
         best = cost < best ? cost : best;
-        qtree_row row;
-        CHECK(qtree_totals(&device, &row) == QTREE_DONE && row.queued.packets == QUEUED);
-        CHECK(row.arrived.packets == row.sent.packets + QUEUED);
+        qtree_row totals;
+        CHECK(qtree_totals(&device, &totals) == QTREE_DONE && totals.queued.packets == row->queued);
+        CHECK(totals.arrived.packets == totals.sent.packets + row->queued);
         qtree_close(&device);
     }
     return best * 1e9;
 }
 
 int main(int argc, char **argv) {
-    static const char *const lines[] = {
-        "tc qdisc add dev a root handle 1: pfifo limit 2000",
-        "tc qdisc add dev a root handle 1: fq_codel limit 2000",
-    };
     uint32_t packets = argc > 1 ? (uint32_t)strtoul(argv[1], NULL, 10) : 2000000;
     uint32_t rounds = argc > 2 ? (uint32_t)strtoul(argv[2], NULL, 10) : 5;
     CHECK(packets >= BATCH && rounds >= 1);
-    for (uint32_t i = 0; i < MADE; i++) {
-        made[i] = (qtree_packet){ .len = 1000, .buf = i, .family = 4, .proto = 17, .sport = 1000, .dport = 5000 };
-        made[i].src_low = 0x0a000001;
-        made[i].dst_low = 0x0a000002;
-    }
-    for (size_t i = 0; i < sizeof lines / sizeof lines[0]; i++) {
-        double one = least(one_at_a_time, lines[i], packets, rounds), many = least(in_batches, lines[i], packets, rounds);
-        printf("%-24s %7.1f ns one at a time %7.1f ns by %d %7.1f ns by a ring\n", strstr(lines[i], "1: ") + 3, one, many, BATCH,
-               least(by_ring, lines[i], packets, rounds));
+    for (size_t i = 0; i < sizeof rows / sizeof rows[0]; i++) {
+        make_packets(&rows[i]);
+        printf("%-36s %7.1f ns one at a time %7.1f ns by %d", rows[i].name, least(one_at_a_time, &rows[i], packets, rounds),
+               least(in_batches, &rows[i], packets, rounds), BATCH);
+        printf(" %7.1f ns by a ring\n", least(by_ring, &rows[i], packets, rounds));
     }
     return 0;
 }
