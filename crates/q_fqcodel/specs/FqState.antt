@@ -17,6 +17,19 @@ pub record FqSettings : Type 0 where
   pub drop_batch : ℕ
   pub mtu : ℕ
 
+-- the settings with these values, in the order of the fields
+abbrev pub settings_of : ℕ → ℕ → ℕ → ℕ → ℕ → Bool → ℕ → ℕ → FqSettings
+settings_of limit flows quantum target interval ecn drop_batch mtu = record {
+  limit = limit;
+  flows = flows;
+  quantum = quantum;
+  target = target;
+  interval = interval;
+  ecn = ecn;
+  drop_batch = drop_batch;
+  mtu = mtu;
+}
+
 -- a flow: its packets, front first, and what CoDel knows of it
 pub record Flow : Type 0 where
   pub queue : List Stamped

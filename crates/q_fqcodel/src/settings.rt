@@ -1,4 +1,5 @@
 ghost use Rattle.std.specs.Prelude.{◌≡◌, ◌≤◌, ◌↔◌, ◌^◌, true, IfSome, IsSome};
+ghost use Rattle.q_fqcodel.specs.FqState.{settings_of};
 ghost use Rattle.q_fqcodel.specs.Ranges.{IsInRange};
 
 use std::marker::Model;
@@ -28,32 +29,14 @@ pub struct Settings {
 }
 
 impl Model for Settings {
-    ghost use Rattle.q_fqcodel.specs.FqState.{FqSettings};
+    ghost use Rattle.q_fqcodel.specs.FqState.{FqSettings, settings_of};
     ghost use Rattle.q_fqcodel.specs.Ranges.{IsInRange};
 
     ghost Value = { FqSettings };
 
-    ghost view = { λ s. record {
-      limit = s.limit;
-      flows = s.flows;
-      quantum = s.quantum;
-      target = s.target;
-      interval = s.interval;
-      ecn = s.ecn;
-      drop_batch = s.drop_batch;
-      mtu = s.mtu;
-    } };
+    ghost view = { λ s. settings_of s.limit s.flows s.quantum s.target s.interval s.ecn s.drop_batch s.mtu };
 
-    ghost invariant = { λ s. IsInRange (record {
-      limit = s.limit;
-      flows = s.flows;
-      quantum = s.quantum;
-      target = s.target;
-      interval = s.interval;
-      ecn = s.ecn;
-      drop_batch = s.drop_batch;
-      mtu = s.mtu;
-    }) };
+    ghost invariant = { λ s. IsInRange (settings_of s.limit s.flows s.quantum s.target s.interval s.ecn s.drop_batch s.mtu) };
 
     ghost inverse = { λ s. record {
       limit = s.limit;
@@ -107,26 +90,8 @@ impl Settings {
         drop_batch: u32,
         mtu: u16,
     ) -> Option<Settings>
-        ensures in_range { IsSome result ↔ IsInRange (record {
-          limit = limit;
-          flows = flows;
-          quantum = quantum;
-          target = target;
-          interval = interval;
-          ecn = ecn;
-          drop_batch = drop_batch;
-          mtu = mtu;
-        }) }
-        ensures value { IfSome result (λ s. s ≡ record {
-          limit = limit;
-          flows = flows;
-          quantum = quantum;
-          target = target;
-          interval = interval;
-          ecn = ecn;
-          drop_batch = drop_batch;
-          mtu = mtu;
-        }) }
+        ensures in_range { IsSome result ↔ IsInRange (settings_of limit flows quantum target interval ecn drop_batch mtu) }
+        ensures value { IfSome result (λ s. s ≡ settings_of limit flows quantum target interval ecn drop_batch mtu) }
     {
         let counts_fit = limit >= 1 && flows >= 1 && flows <= 65536 && quantum >= 1;
         let times_fit = target <= Settings::LONGEST
