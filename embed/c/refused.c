@@ -222,6 +222,26 @@ static void play_without_memory(void) {
     CHECK(after.device.queued.packets == 0);
 }
 
+/* Once a device has room for so many packets, they arrive by one call and go without an allocation. */
+static void play_in_room(void) {
+    enum { MANY = 300 };
+    static qtree_packet sent[MANY];
+    static uint8_t codes[MANY];
+    qtree_device roomy = QTREE_CLOSED;
+    size_t count = 7;
+    CHECK(qtree_open(&roomy, &(qtree_settings){ 1000, 0, 1514 }) == QTREE_DONE);
+    for (uint32_t i = 0; i < MANY; i++) {
+        sent[i] = packet(i);
+    }
+    for (int round = 0; round < 2; round++) {
+        granted = round == 0 ? -1 : 0;
+        CHECK(qtree_arrive_many(&roomy, sent, MANY, codes, MANY, &count, 0) == QTREE_DONE && count == MANY);
+        CHECK(qtree_poll_many(&roomy, 0, sent, MANY, &count) == QTREE_DONE && count == MANY);
+        granted = -1;
+    }
+    qtree_close(&roomy);
+}
+
 int main(void) {
     const qtree_settings settings = { 1000, 16, 1514 };
     CHECK(insist(opens, &settings) == QTREE_DONE);
@@ -232,6 +252,7 @@ int main(void) {
         CHECK(insist(shows, &what) == QTREE_DONE);
     }
     play_without_memory();
+    play_in_room();
     CHECK(insist(commands, "tc qdisc del dev a root") == QTREE_DONE);
     qtree_port_close(&port);
     qtree_outlet_close(&outlet);

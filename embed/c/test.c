@@ -170,8 +170,41 @@ static void rings(void) {
     qtree_close(&device);
 }
 
+/* Many packets by one call each: all of them arrive, go, and are taken in from a ring. */
+static void bursts(void) {
+    enum { MANY = 300 };
+    static qtree_packet sent[MANY], given[MANY];
+    static uint8_t codes[MANY];
+    qtree_device device = QTREE_CLOSED;
+    qtree_port port = QTREE_CLOSED;
+    qtree_outlet outlet = QTREE_CLOSED;
+    size_t count = 7;
+    CHECK(qtree_open(&device, &(qtree_settings){ 1000, 0, 1514 }) == QTREE_DONE);
+    CHECK(qtree_ring_open(&port, &outlet, 5, 512) == QTREE_DONE);
+    for (uint32_t i = 0; i < MANY; i++) {
+        sent[i] = (qtree_packet){ .len = 100, .buf = i };
+        codes[i] = 9;
+        CHECK(qtree_offer(&port, &sent[i]) == QTREE_DONE);
+    }
+    CHECK(qtree_arrive_many(&device, sent, MANY, codes, MANY, &count, 0) == QTREE_DONE && count == MANY);
+    CHECK(qtree_poll_many(&device, 0, given, MANY, &count) == QTREE_DONE && count == MANY);
+    for (uint32_t i = 0; i < MANY; i++) {
+        CHECK(codes[i] == 0 && given[i].buf == i && given[i].len == 100);
+    }
+    CHECK(qtree_take_in(&device, &outlet, 0, 512, &count) == QTREE_DONE && count == MANY);
+    CHECK(qtree_poll_many(&device, 0, given, MANY, &count) == QTREE_DONE && count == MANY);
+    for (uint32_t i = 0; i < MANY; i++) {
+        CHECK(given[i].buf == i && given[i].port == 5 && given[i].number == i + 1);
+    }
+    CHECK(qtree_poll_many(&device, 0, given, MANY, &count) == QTREE_IDLE && count == 0);
+    qtree_port_close(&port);
+    qtree_outlet_close(&outlet);
+    qtree_close(&device);
+}
+
 int main(void) {
     layout();
+    bursts();
     sizes();
     opening();
     ring_opening();
