@@ -19,7 +19,7 @@ use Rattle.q_fqcodel.specs.Turns.{turns, GoesOn, IsSettled}
 use Rattle.q_fqcodel.proofs.KeptLemmas.{take_keeps_lawful}
 use Rattle.q_fqcodel.proofs.LawfulLemmas.{front_within}
 use Rattle.q_fqcodel.proofs.SentLemmas.{slice_there, sender-is, front-is, front-none, sent-none, dropped-none, after-none}
-use Rattle.q_fqcodel.proofs.TurnLemmas.{LeadsOn, fresh_granted, fresh_moves, fresh_ready, stale_granted, stale_leaves, stale_ready, none_left, Looks, settled_at, settled_none}
+use Rattle.q_fqcodel.proofs.TurnLemmas.{LeadsOn, new_granted, new_moves, new_ready, old_granted, old_leaves, old_ready, none_left, Looks, settled_at, settled_none}
 use Rattle.q_model.specs.declared.filter.Filter.{Filter}
 use Rattle.q_model.specs.Tally.{Note, FlowGranted}
 use Rattle.q_model.specs.Node.{FqCodel, Own}
@@ -51,22 +51,22 @@ module _ (s : FqState) (e : Entry) (rest : List Entry) (lawful : IsLawful s) (po
 
   at-new : s.new_flows ≡ e ∷ rest → IsSettled (selected s)
   at-new new = ⊎_elim
-      (λ (low : e.credits ≤ℤ pos 0). led-on s _ onward (fresh_granted s lawful e rest new positive low) positive)
+      (λ (low : e.credits ≤ℤ pos 0). led-on s _ onward (new_granted s lawful e rest new positive low) positive)
       (λ (high : pos 0 <ℤ e.credits). ⊎_elim
-      (λ (empty : is_idle s.flows e.flow ≡ true). led-on s _ onward (fresh_moves s lawful e rest new high empty) positive)
+      (λ (empty : is_idle s.flows e.flow ≡ true). led-on s _ onward (new_moves s lawful e rest new high empty) positive)
       (λ (busy : is_idle s.flows e.flow ≡ false).
-      let chosen : selected s ≡ s = fresh_ready s lawful e rest new high busy in
+      let chosen : selected s ≡ s = new_ready s lawful e rest new high busy in
       stops s chosen (settled_at (looks (rest ++ s.old_flows) (ap (λ (es : List Entry). es ++ s.old_flows) new)) chosen high busy))
       (cases_Bool (is_idle s.flows e.flow)))
       (cases-credits e.credits)
 
   at-old : s.new_flows ≡ [] → s.old_flows ≡ e ∷ rest → IsSettled (selected s)
   at-old none old = ⊎_elim
-      (λ (low : e.credits ≤ℤ pos 0). led-on s _ onward (stale_granted s lawful e rest none old positive low) positive)
+      (λ (low : e.credits ≤ℤ pos 0). led-on s _ onward (old_granted s lawful e rest none old positive low) positive)
       (λ (high : pos 0 <ℤ e.credits). ⊎_elim
-      (λ (empty : is_idle s.flows e.flow ≡ true). led-on s _ onward (stale_leaves s lawful e rest none old high empty) positive)
+      (λ (empty : is_idle s.flows e.flow ≡ true). led-on s _ onward (old_leaves s lawful e rest none old high empty) positive)
       (λ (busy : is_idle s.flows e.flow ≡ false).
-      let chosen : selected s ≡ s = stale_ready s lawful e rest none old high busy in
+      let chosen : selected s ≡ s = old_ready s lawful e rest none old high busy in
       stops s chosen (settled_at (looks rest (ap₂ (λ (a b : List Entry). a ++ b) none old)) chosen high busy))
       (cases_Bool (is_idle s.flows e.flow)))
       (cases-credits e.credits)
