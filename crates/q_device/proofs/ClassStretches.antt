@@ -45,7 +45,7 @@ from-mtu : (r : Replay (List Note)) (events : List Event) → (replay_from histo
 from-mtu r [] = refl
 from-mtu r (e ∷ events) = from-mtu (with_step r (step history r.device e)) events ∙ step-mtu r.device e
 
-mtu-stays : (settings : DeviceSettings) (events : List Event) → (device_after settings events).tree.device.mtu ≡ settings.mtu
+pub mtu-stays : (settings : DeviceSettings) (events : List Event) → (device_after settings events).tree.device.mtu ≡ settings.mtu
 mtu-stays settings events = from-mtu (nothing_yet history settings) events
 
 pub deficits-bounded : (settings : DeviceSettings) → IsInRange settings → DeficitsAreBounded settings

@@ -3,6 +3,7 @@ pub mod ClassStretches
 pub mod CountLemmas
 pub mod DeviceLaws
 pub mod EventLemmas
+pub mod FlowService
 pub mod FlowStretches
 pub mod FlowsShow
 pub mod KeptLemmas

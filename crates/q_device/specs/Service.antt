@@ -1,17 +1,18 @@
--- What is true of service over every stretch of every replay: what a class of a drr gets whatever comes to its other classes.
--- What a stretch is stands in q_model's specs/Stretches.antt. Deficit round robin: M. Shreedhar and G. Varghese, "Efficient Fair
--- Queuing Using Deficit Round-Robin" (1995), and tc-drr(8).
-use Rattle.std.specs.Prelude.{◌≡◌, ◌≢◌, ℕ, ◌+◌, ◌-◌, ◌*◌, ◌≤◌, false, List, [], ◌∷◌, ◌++◌, All, Option, Some, None, option_and_then, length, sum_by}
+-- What is true of service over every stretch of every replay: what a class of a drr, or a flow of an fq_codel, gets whatever comes to
+-- the others. What a stretch is stands in q_model's specs/Stretches.antt. Deficit round robin: M. Shreedhar and G. Varghese, "Efficient
+-- Fair Queuing Using Deficit Round-Robin" (1995), and tc-drr(8); flows: RFC 8290, section 4.2.
+use Rattle.std.specs.Prelude.{◌≡◌, ◌≢◌, ℕ, ◌+◌, ◌-◌, ◌*◌, ◌≤◌, max, ℤ, pos, false, List, [], ◌∷◌, ◌++◌, All, Option, Some, None, option_and_then, unwrap_or, length, sum_by}
 use Rattle.std.specs.Option.{option_map_or}
 use Rattle.q_drr.specs.Schedule.{Class, quantum_of, deficit_of}
 use Rattle.q_drr.specs.Stretch.{stands_first}
+use Rattle.q_fqcodel.specs.Laws.{credits_of}
 use Rattle.q_model.specs.declared.event.Event.{Event}
 use Rattle.q_model.specs.Tally.{Note, history}
 use Rattle.q_model.specs.Node.{Discipline, Fifo, Prio, Tbf, Drr, FqCodel, Node}
 use Rattle.q_model.specs.Events.{IsEvent}
 use Rattle.q_model.specs.Settings.{DeviceSettings}
 use Rattle.q_model.specs.Step.{DeviceState, step}
-use Rattle.q_model.specs.Stretches.{bytes_sent, grants_to, qdisc, ClassAt, class_in, IsBackloggedClass, Throughout}
+use Rattle.q_model.specs.Stretches.{bytes_sent, grants_to, flow_grants_to, bytes_given, reach, qdisc, ClassAt, class_in, IsBackloggedClass, FqAt, fq_in, IsBackloggedFlow, Throughout}
 use Rattle.q_device.specs.Sharing.{device_after}
 
 -- ---- what a class sends
@@ -90,3 +91,36 @@ ClassesGetTheirParts settings =
     (before during : List Event) (major i quantum : ℕ) (classes : List Class) → All IsEvent before → All IsEvent during
     → Throughout (HasClasses major classes) settings before during → Throughout (IsBackloggedClass major i quantum) settings before during
     → GetsItsPart (length classes) quantum (quanta_of classes) settings.mtu (class_sent major i (device_after settings before) during) (all_sent major classes (device_after settings before) during)
+
+-- ---- a flow against any other
+
+-- what a flow has in credits, none where it is in neither list
+abbrev pub credits_in : ℕ → FqAt → ℤ
+credits_in flow fq = unwrap_or (credits_of flow (fq.state.new_flows ++ fq.state.old_flows)) (pos 0)
+
+-- Flow i stays backlogged over a stretch in which the fq_codel noted `notes`; anything may come to flow j. It gave at most what
+-- it could give at first before it waits for a quantum, a quantum, and for each grant to flow i two quanta less a byte. Where
+-- it stood in the new list at first, it gave that without the first quantum.
+pub record GivesNoMore (i j quantum mtu : ℕ) (first last : FqAt) : Type 0 where
+  pub notes : List Note
+  pub goes_on : last.noted ≡ first.noted ++ notes
+  pub no_more : bytes_given j notes ≤ flow_grants_to i notes * (2 * quantum - 1) + quantum + reach mtu (credits_in j first)
+  pub in_new : (credits : ℤ) → credits_of j first.state.new_flows ≡ Some credits → bytes_given j notes ≤ flow_grants_to i notes * (2 * quantum - 1) + reach mtu credits
+
+abbrev pub FlowAgainstAny : DeviceSettings → Type 0
+FlowAgainstAny settings =
+    (before during : List Event) (major i j quantum : ℕ) (first last : FqAt) → i ≢ j → All IsEvent before → All IsEvent during
+    → Throughout (IsBackloggedFlow major i quantum) settings before during
+    → fq_in major (device_after settings before) ≡ Some first → fq_in major (device_after settings (before ++ during)) ≡ Some last
+    → GivesNoMore i j quantum settings.mtu first last
+
+-- From an event on, be it one that grants flow i, until flow i is granted again: flow j gives at most what it could give at first
+-- before it waits for a quantum, or with a quantum of credits where that is more, and a quantum less a byte. So it is two quanta and
+-- the mtu less two bytes where its credits were at most a quantum, as they are unless the quantum fell.
+abbrev pub NoFlowStarves : DeviceSettings → Type 0
+NoFlowStarves settings =
+    (before : List Event) (e : Event) (during : List Event) (major i j quantum : ℕ) (first next last : FqAt) → i ≢ j → All IsEvent before → IsEvent e → All IsEvent during
+    → Throughout (IsBackloggedFlow major i quantum) settings before (e ∷ during)
+    → fq_in major (device_after settings before) ≡ Some first → fq_in major (device_after settings (before ++ e ∷ [])) ≡ Some next → fq_in major (device_after settings (before ++ e ∷ during)) ≡ Some last
+    → flow_grants_to i last.noted ≡ flow_grants_to i next.noted
+    → bytes_given j last.noted ≤ bytes_given j first.noted + max (reach settings.mtu (pos quantum)) (reach settings.mtu (credits_in j first)) + (quantum - 1)

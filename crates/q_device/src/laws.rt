@@ -1,7 +1,7 @@
 //! What is true of every device and every replay. Each law is the contract of a function that does nothing.
 ghost use Rattle.q_device.specs.DeviceLaws.{ArrivesByArrivals, CountersNeverFall, EveryCounterIsCompared, HasItsMemory, IsLawfulDevice, IsReplayed, IsReplayOfRecorded, TellsItsLosses};
 ghost use Rattle.q_device.specs.Laws.{ReplayGoesOn, ShrinkCommutes, ReplayShrinks, EveryReplayIsSound, TotalsAreLawful, EveryReplayTellsAll};
-ghost use Rattle.q_device.specs.Service.{ClassAgainstAny, ClassesGetTheirParts};
+ghost use Rattle.q_device.specs.Service.{ClassAgainstAny, ClassesGetTheirParts, FlowAgainstAny, NoFlowStarves};
 ghost use Rattle.q_device.specs.Sharing.{ClassesSendTheirShares, DeficitsAreBounded, GrantsComeWhereShort, ClassesWakeWithAQuantum, ClassesShareByQuanta, BucketsAreBounded, FlowsGiveTheirShares, FlowsBeginNew, FlowsAreGrantedEvenly};
 ghost use Rattle.q_device.specs.Waiting.{EarlyPollsGiveNothing, ReadyPassesEmptyPolls};
 
@@ -112,6 +112,28 @@ pub fn class_against_any(settings: Settings)
 /// quanta and, for each of the others, its own.
 pub fn least_share(settings: Settings)
     ensures { ClassesGetTheirParts settings }
+{
+    settings.ranges();
+}
+
+/// Whatever comes to the other flows of its fq_codel, while a flow stays backlogged each of them gives at most two quanta less a byte for each
+/// grant to it, a quantum, and what the other's credits at first let it give, which is those and a longest packet less a byte.
+/// A flow that joins anew each time comes near to that, at twice what a backlogged one gets: sparse flows go first (RFC 8290, section
+/// 4.2). A flow in neither list at first counts with no credits, and one in the new list gives a quantum less.
+///
+/// For all settings and every list of events whose fields are in their ranges: polls, arrivals and commands anywhere in the tree. Packets
+/// that CoDel or the fat flow loses are not among the bytes.
+pub fn flow_against_any(settings: Settings)
+    ensures { FlowAgainstAny settings }
+{
+    settings.ranges();
+}
+
+/// Between two grants of a flow of an fq_codel that stays backlogged, each other flow gives at most two quanta and the mtu less two bytes,
+/// whatever comes to it, where its credits were at most a quantum at the first of the two; so no flow waits for ever while packets
+/// are taken. Credits can be above a quantum only where a command has lowered it, and count then in place of one quantum.
+pub fn no_flow_starves(settings: Settings)
+    ensures { NoFlowStarves settings }
 {
     settings.ranges();
 }

@@ -19,12 +19,12 @@ use Rattle.q_model.specs.Tally.{Note, history}
 use Rattle.q_model.specs.Step.{DeviceState, step}
 use Rattle.q_model.specs.Stretches.{FqAt, fq_in}
 use Rattle.q_invariants.proofs.Replays.{IsKept}
-use Rattle.q_invariants.proofs.FlowSteps.{lists_of, Changes}
+use Rattle.q_invariants.proofs.FlowSteps.{lists_of, SameLists, same-whole, Changes}
 use Rattle.q_invariants.proofs.FlowMoves.{fq-step}
 use Rattle.q_invariants.proofs.FlowLists.{credits-here, credits-behind}
 
 -- the entry of a flow behind those of others
-credits-last : (n : ℕ) (x : Entry) (es : List Entry) → times n es ≡ 0 → (x.flow == n) ≡ true → credits_of n (es ++ x ∷ []) ≡ Some x.credits
+pub credits-last : (n : ℕ) (x : Entry) (es : List Entry) → times n es ≡ 0 → (x.flow == n) ≡ true → credits_of n (es ++ x ∷ []) ≡ Some x.credits
 credits-last n x [] none own = credits-here n x [] own
 credits-last n x (e ∷ es) none own = elim (cases_Bool (e.flow == n)) [
   | inl here ↦ absurd (omega (arith, none, times-cons n e es, one-at n e (eqb-true e.flow n here)))
@@ -63,8 +63,8 @@ put-begins n s p now none some = by (is_listed (flow_of s p) (lists_of s)) some
 step-begins : (n now : ℕ) (s t : FqState) (notes : List Note) → Changes now s t notes → times n (lists_of s) ≡ 0 → 1 ≤ times n (lists_of t) → credits_of n t.new_flows ≡ Some (pos t.settings.quantum)
 step-begins n now s t notes (inl quiet) none some = by quiet.lists
   where
-    by : (lists_of t ≡ lists_of s) ⊎ ((p : Descriptor) × (at : ℕ) × (t ≡ after_put s p at)) → credits_of n t.new_flows ≡ Some (pos t.settings.quantum)
-    by (inl same) = absurd (omega (arith, none, some, ap (times n) same))
+    by : SameLists s t ⊎ ((p : Descriptor) × (at : ℕ) × (t ≡ after_put s p at)) → credits_of n t.new_flows ≡ Some (pos t.settings.quantum)
+    by (inl same) = absurd (omega (arith, none, some, ap (times n) (same-whole s t same)))
     by (inr put) =
         ap (λ (x : FqState). credits_of n x.new_flows) put.2
         ∙ put-begins n s put.0 put.1 none (omega (arith, some, ap (λ (x : FqState). times n (lists_of x)) put.2))

@@ -21,7 +21,7 @@ use Rattle.q_model.specs.Tally.{FlowGranted}
 use Rattle.q_model.specs.Quanta.{flows_granted, flow_gave}
 use Rattle.q_model.specs.Stretches.{flow_granted_by, flow_grants_to, bytes_given}
 
-paid-none : (e : Entry) → paid None e ≡ e
+pub paid-none : (e : Entry) → paid None e ≡ e
 unfolding paid
 paid-none e = refl
 
@@ -51,7 +51,7 @@ module _ (n : ℕ) where
 
   -- ---- a put
 
-  credits-joined : (x : Entry) (xs ys : List Entry) → (x.flow == n) ≡ false → credits_of n ((xs ++ x ∷ []) ++ ys) ≡ credits_of n (xs ++ ys)
+  pub credits-joined : (x : Entry) (xs ys : List Entry) → (x.flow == n) ≡ false → credits_of n ((xs ++ x ∷ []) ++ ys) ≡ credits_of n (xs ++ ys)
   credits-joined x [] ys other = credits-behind x ys other
   credits-joined x (e ∷ xs) ys other = elim (cases_Bool (e.flow == n)) [
     | inl own ↦ credits-here e ((xs ++ x ∷ []) ++ ys) own ∙ sym (credits-here e (xs ++ ys) own)

@@ -30,7 +30,7 @@ use Rattle.q_invariants.proofs.StepNodes.{becomes}
 use Rattle.q_invariants.proofs.Replays.{IsKept}
 use Rattle.q_invariants.proofs.Within.{found, lawful-of}
 use Rattle.q_invariants.proofs.FlowLists.{listed-credits, credits-put, credits-sent, quanta-noted}
-use Rattle.q_invariants.proofs.FlowSteps.{lists_of, Takes, Changes, FqStep, event-step}
+use Rattle.q_invariants.proofs.FlowSteps.{lists_of, SameLists, same-whole, Takes, Changes, FqStep, event-step}
 
 -- the credits of a flow after some notes, from those before
 pub record FlowBooks (n quantum : ℕ) (notes : List Note) (t : FqState) (z : ℤ) : Type 0 where
@@ -63,8 +63,8 @@ module _ (n now : ℕ) (s : FqState) (z : ℤ) (is_z : credits_of n (lists_of s)
   step-books t notes (inr take) = take-books t notes take
   step-books t notes (inl quiet) = quiet-books n s.settings.quantum notes t z (by quiet.lists) (quiet.no_bytes n) (quiet.no_grants n)
     where
-      by : (lists_of t ≡ lists_of s) ⊎ ((p : Descriptor) × (at : ℕ) × (t ≡ after_put s p at)) → credits_of n (lists_of t) ≡ Some z
-      by (inl same) = ap (credits_of n) same ∙ is_z
+      by : SameLists s t ⊎ ((p : Descriptor) × (at : ℕ) × (t ≡ after_put s p at)) → credits_of n (lists_of t) ≡ Some z
+      by (inl same) = ap (credits_of n) (same-whole s t same) ∙ is_z
       by (inr put) = ap (λ (x : FqState). credits_of n (lists_of x)) put.2 ∙ credits-put n s put.0 put.1 z is_z
 
 -- ---- what stands in a device

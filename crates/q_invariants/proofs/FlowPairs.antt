@@ -20,7 +20,7 @@ use Rattle.q_model.specs.Step.{DeviceState, step}
 use Rattle.q_model.specs.Stretches.{flow_granted_by, flow_grants_to, FqAt, fq_in}
 use Rattle.q_invariants.proofs.Replays.{IsKept}
 use Rattle.q_invariants.proofs.FlowLists.{quanta-noted}
-use Rattle.q_invariants.proofs.FlowSteps.{lists_of, Changes}
+use Rattle.q_invariants.proofs.FlowSteps.{lists_of, SameLists, same-whole, Changes}
 use Rattle.q_invariants.proofs.FlowMoves.{fq-node, fq-lawful, fq-step}
 
 -- ---- the order of two flows with packets over one event
@@ -58,8 +58,8 @@ step-even : (i j now : ℕ) (s t : FqState) (notes : List Note) → IsLawful s �
     → flow_grants_to i notes + one_if (stands_first i j (lists_of t)) ≡ flow_grants_to j notes + one_if (stands_first i j (lists_of s))
 step-even i j now s t notes law busy_i busy_j (inl quiet) = omega (arith, quiet.no_grants i, quiet.no_grants j, ap one_if (by quiet.lists))
   where
-    by : (lists_of t ≡ lists_of s) ⊎ ((p : Descriptor) × (at : ℕ) × (t ≡ after_put s p at)) → stands_first i j (lists_of t) ≡ stands_first i j (lists_of s)
-    by (inl same) = ap (stands_first i j) same
+    by : SameLists s t ⊎ ((p : Descriptor) × (at : ℕ) × (t ≡ after_put s p at)) → stands_first i j (lists_of t) ≡ stands_first i j (lists_of s)
+    by (inl same) = ap (stands_first i j) (same-whole s t same)
     by (inr put) = ap (λ (x : FqState). stands_first i j (lists_of x)) put.2 ∙ order-put i j s law busy_i busy_j put.0 put.1
 step-even i j now s t notes law busy_i busy_j (inr take) =
     let sent : stands_first i j (lists_of t) ≡ stands_first i j (lists_of (selected s)) = ap (λ (x : FqState). stands_first i j (lists_of x)) take.is ∙ order-sent i j now (selected s) in

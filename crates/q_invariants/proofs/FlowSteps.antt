@@ -1,5 +1,5 @@
 -- What one event makes of an fq_codel: what it notes of quanta and of bytes given, and what becomes of the two lists.
-use Rattle.std.proofs.Common.{◌≡◌, ℕ, Bool, ◌⊎◌, inl, inr, List, [], ◌++◌, map, refl, sym, ap, subst, ◌∙◌, Option, Some, None, option_to_list, arith}
+use Rattle.std.proofs.Common.{◌≡◌, ℕ, Bool, ◌⊎◌, inl, inr, List, [], ◌++◌, map, refl, sym, ap, ap₂, subst, ◌∙◌, Option, Some, None, option_to_list, arith}
 use Rattle.std.specs.Option.{option_map_or}
 use Rattle.std.proofs.lemmas.List.{append-nil}
 use Rattle.std.proofs.lemmas.List.Sums.{sum_by-append}
@@ -36,11 +36,17 @@ use Rattle.q_invariants.proofs.StepNodes.{IsAsked, IsPut, IsRemadeSo, IsEdited, 
 abbrev pub lists_of : FqState → List Entry
 lists_of s = s.new_flows ++ s.old_flows
 
+abbrev pub SameLists : FqState → FqState → Type 0
+SameLists s t = (t.new_flows ≡ s.new_flows) × (t.old_flows ≡ s.old_flows)
+
+pub same-whole : (s t : FqState) → SameLists s t → lists_of t ≡ lists_of s
+same-whole s t e = ap₂ (λ (a b : List Entry). a ++ b) e.0 e.1
+
 -- no flow is granted a quantum or gives a byte, and the lists stay, or change as an arrival changes them
 pub record StaysQuiet (s t : FqState) (notes : List Note) : Type 0 where
   pub no_bytes : (n : ℕ) → bytes_given n notes ≡ 0
   pub no_grants : (n : ℕ) → flow_grants_to n notes ≡ 0
-  pub lists : (lists_of t ≡ lists_of s) ⊎ ((p : Descriptor) × (now : ℕ) × (t ≡ after_put s p now))
+  pub lists : SameLists s t ⊎ ((p : Descriptor) × (now : ℕ) × (t ≡ after_put s p now))
 
 -- a flow is selected, and sends
 pub record Takes (now : ℕ) (s t : FqState) (notes : List Note) : Type 0 where
@@ -110,7 +116,7 @@ module _ (now : ℕ) (s : FqState) where
 
   module _ (own : Own) (below : List Asked) (is : own.discipline ≡ FqCodel s) where
     still : (w : Worked) → w.own.discipline ≡ own.discipline → ((n : ℕ) → bytes_given n w.memory ≡ 0) → ((n : ℕ) → flow_grants_to n w.memory ≡ 0) → FqStage w
-    still w e no_bytes no_grants = record { state = s; is = e ∙ is; by = inl (record { no_bytes = no_bytes; no_grants = no_grants; lists = inl refl }) }
+    still w e no_bytes no_grants = record { state = s; is = e ∙ is; by = inl (record { no_bytes = no_bytes; no_grants = no_grants; lists = inl (refl, refl) }) }
 
     asked-stage : AllRise below → (w : Worked) → IsStageOf (ask_fq_codel now own below s) w → FqStage w
     asked-stage rise w stage = by stage
@@ -159,12 +165,12 @@ same-state s t e = cc
 
 module _ (now : ℕ) (node : Node (List Note)) (s : FqState) (is : node.own.discipline ≡ FqCodel s) where
   quiet-step : (after : Node (List Note)) (t : FqState) (notes : List Note) → after.memory ≡ node.memory ++ notes → ((n : ℕ) → bytes_given n notes ≡ 0) → ((n : ℕ) → flow_grants_to n notes ≡ 0)
-      → (lists_of t ≡ lists_of s) ⊎ ((p : Descriptor) × (now : ℕ) × (t ≡ after_put s p now)) → FqStep now s t node.memory after.memory
+      → SameLists s t ⊎ ((p : Descriptor) × (now : ℕ) × (t ≡ after_put s p now)) → FqStep now s t node.memory after.memory
   quiet-step after t notes memory no_bytes no_grants lists = record { notes = notes; is = memory; by = inl (record { no_bytes = no_bytes; no_grants = no_grants; lists = lists }) }
 
   -- lists that stay, where the state does
-  stays : (t : FqState) → s ≡ t → (lists_of t ≡ lists_of s) ⊎ ((p : Descriptor) × (now : ℕ) × (t ≡ after_put s p now))
-  stays t e = inl (ap lists_of (sym e))
+  stays : (t : FqState) → s ≡ t → SameLists s t ⊎ ((p : Descriptor) × (now : ℕ) × (t ≡ after_put s p now))
+  stays t e = inl (ap (λ (x : FqState). x.new_flows) (sym e), ap (λ (x : FqState). x.old_flows) (sym e))
 
   put-step : (p : Descriptor) (after : Node (List Note)) (t : FqState) → after.own.discipline ≡ FqCodel t → IsPut now p node after → FqStep now s t node.memory after.memory
   put-step p after t now_is put =
@@ -175,7 +181,7 @@ module _ (now : ℕ) (node : Node (List Note)) (s : FqState) (is : node.own.disc
       (by st.discipline (ap (λ (k : Node (List Note)). k.own.discipline) put.is ∙ now_is))
     where
       by : (put.worked.own.discipline ≡ node.own.discipline) ⊎ (put.worked.own.discipline ≡ queued_in p now node.own.discipline) ⊎ ((i : ℕ) × (emptied : Bool) × (put.worked.own.discipline ≡ settled_in i emptied node.own.discipline))
-          → put.worked.own.discipline ≡ FqCodel t → (lists_of t ≡ lists_of s) ⊎ ((p : Descriptor) × (now : ℕ) × (t ≡ after_put s p now))
+          → put.worked.own.discipline ≡ FqCodel t → SameLists s t ⊎ ((p : Descriptor) × (now : ℕ) × (t ≡ after_put s p now))
       by (inl e) there = stays t (same-state s t (sym (e ∙ is) ∙ there))
       by (inr (inl e)) there = inr (p, now, sym (same-state (after_put s p now) t (sym (e ∙ ap (queued_in p now) is) ∙ there)))
       by (inr (inr e)) there = stays t (same-state s t (sym (e.2 ∙ ap (settled_in e.0 e.1) is) ∙ there))
@@ -194,9 +200,9 @@ module _ (now : ℕ) (node : Node (List Note)) (s : FqState) (is : node.own.disc
       no_grants : (n : ℕ) → flow_grants_to n (losses_of Purged edit.purged) ≡ 0
       no_grants n = sum-risen (flow_granted_by n) (past-flow_granted n) (losses_of Purged edit.purged) (risen-losses Purged edit.purged)
 
-      changed : (t ≡ s) ⊎ ((settings : FqSettings) × (t ≡ flows.after_change s settings)) → (lists_of t ≡ lists_of s) ⊎ ((p : Descriptor) × (now : ℕ) × (t ≡ after_put s p now))
+      changed : (t ≡ s) ⊎ ((settings : FqSettings) × (t ≡ flows.after_change s settings)) → SameLists s t ⊎ ((p : Descriptor) × (now : ℕ) × (t ≡ after_put s p now))
       changed (inl e) = stays t (sym e)
-      changed (inr e) = inl (ap lists_of e.1)
+      changed (inr e) = inl (ap (λ (x : FqState). x.new_flows) e.1, ap (λ (x : FqState). x.old_flows) e.1)
 
       by : (after ≡ node) ⊎ IsRemadeSo now (losses_of Purged edit.purged) node after ⊎ IsAbove (losses_of Purged edit.purged) edit.f node after → FqStep now s t node.memory after.memory
       by (inl same) = same-step after t now_is same

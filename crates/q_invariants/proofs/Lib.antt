@@ -43,12 +43,15 @@ pub mod EditSizes
 pub mod EditSuits
 pub mod Edits
 pub mod Exact
+pub mod FlowAgainst
 pub mod FlowBegins
 pub mod FlowLists
 pub mod FlowMoves
 pub mod FlowNotes
 pub mod FlowPairs
+pub mod FlowReach
 pub mod FlowSteps
+pub mod FlowVisits
 pub mod Forests
 pub mod Joined
 pub mod Kept

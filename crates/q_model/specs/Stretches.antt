@@ -1,7 +1,7 @@
 -- What is counted of sharing: a class of a drr, a tbf and a flow of an fq_codel as they stand in a device that keeps whole
 -- histories, and the stretch, a part of a replay over which one of them stays.
 -- tc-drr(8), tc-tbf(8), tc-fq_codel(8); the counts are sums over what the nodes have noted, and are shown in no report.
-use Rattle.std.specs.Prelude.{◌≡◌, ℕ, Bool, false, ◌==◌, if◌then◌else◌, List, ◌++◌, Option, Some, None, option_map, option_and_then, slice_get, find, sum_by}
+use Rattle.std.specs.Prelude.{◌≡◌, ℕ, suc, ◌+◌, ◌-◌, ℤ, pos, negsuc, Bool, false, ◌==◌, if◌then◌else◌, List, ◌++◌, Option, Some, None, option_map, option_and_then, slice_get, find, sum_by}
 use Rattle.std.specs.Option.{option_map_or}
 use Rattle.q_packet.specs.Descriptor.{Descriptor}
 use Rattle.q_fqcodel.specs.FqState.{FqState, is_idle}
@@ -58,6 +58,12 @@ flow_grants_to flow notes = sum_by (flow_granted_by flow) notes
 
 abbrev pub bytes_given : ℕ → List Note → ℕ
 bytes_given flow notes = sum_by (given_by flow) notes
+
+-- The bytes that a flow with these credits may give before it waits for a quantum. It gives while it has credits, and its last
+-- packet may be longer than they are by all but a byte.
+abbrev pub reach : ℕ → ℤ → ℕ
+reach mtu (pos n) = n + (mtu - 1)
+reach mtu (negsuc n) = (mtu - 1) - suc n
 
 -- the length of a packet that is held, and 0 where none is
 abbrev pub length_held : Option Descriptor → ℕ
