@@ -18,7 +18,7 @@ use Rattle.q_fqcodel.proofs.FlowLemmas.{idle-rested}
 use Rattle.q_fqcodel.proofs.InLemmas.{one-at}
 use Rattle.q_fqcodel.proofs.LawfulLemmas.{times-cons, one-other}
 use Rattle.q_fqcodel.proofs.QuantaLemmas.{flow-given}
-use Rattle.q_fqcodel.proofs.TurnLemmas.{LeadsOn, fresh_granted, fresh_moves, fresh_ready, stale_granted, stale_leaves, stale_ready, none_left, first_in_front, none_in_front}
+use Rattle.q_fqcodel.proofs.TurnLemmas.{LeadsOn, new_granted, new_moves, new_ready, old_granted, old_leaves, old_ready, none_left, first_in_front, none_in_front}
 use Rattle.q_model.specs.Stretches.{reach}
 use Rattle.q_invariants.proofs.FlowBegins.{credits-last}
 use Rattle.q_invariants.proofs.FlowLists.{credits-here, credits-behind, credits-joined}
@@ -134,7 +134,7 @@ module _ (i j mtu : ℕ) (apart : i ≢ j) where
                   t,
                   1,
                   record {
-                    led = fresh_granted s lawful e rest is positive low;
+                    led = new_granted s lawful e rest is positive low;
                     same_quantum = refl;
                     busy = busy;
                     credits = λ z c. ap (credits_of i) (new-turned m)
@@ -153,7 +153,7 @@ module _ (i j mtu : ℕ) (apart : i ≢ j) where
               t,
               0,
               record {
-                led = fresh_granted s lawful e rest is positive low;
+                led = new_granted s lawful e rest is positive low;
                 same_quantum = refl;
                 busy = busy;
                 credits = λ z c. ap (credits_of i) (new-turned m) ∙ turn-passed e m (rest ++ s.old_flows) z far (flow-given q 1 e) (ap (credits_of i) (sym all-new) ∙ c) ∙ ap Some (once-none z q);
@@ -171,7 +171,7 @@ module _ (i j mtu : ℕ) (apart : i ≢ j) where
             t,
             0,
             record {
-              led = fresh_moves s lawful e rest is high empty;
+              led = new_moves s lawful e rest is high empty;
               same_quantum = refl;
               busy = ap (λ (f : ℕ → Bool). f i) (idle-rested e.flow s.flows) ∙ busy;
               credits = λ z c. ap (credits_of i) (new-turned e) ∙ turn-passed e e (rest ++ s.old_flows) z far refl (ap (credits_of i) (sym all-new) ∙ c) ∙ ap Some (once-none z q);
@@ -185,7 +185,7 @@ module _ (i j mtu : ℕ) (apart : i ≢ j) where
         | inl low ↦ fresh-spent low
         | inr high ↦ elim (cases_Bool (is_idle s.flows e.flow)) [
           | inl empty ↦ fresh-empty high empty
-          | inr full ↦ inr (fresh_ready s lawful e rest is high full, ready e (rest ++ s.old_flows) all-new high)
+          | inr full ↦ inr (new_ready s lawful e rest is high full, ready e (rest ++ s.old_flows) all-new high)
         ]
       ]
 
@@ -216,7 +216,7 @@ module _ (i j mtu : ℕ) (apart : i ≢ j) where
                   t,
                   1,
                   record {
-                    led = stale_granted s lawful e rest none is positive low;
+                    led = old_granted s lawful e rest none is positive low;
                     same_quantum = refl;
                     busy = busy;
                     credits = λ z c. ap (credits_of i) (lists-then (rest ++ m ∷ []))
@@ -236,7 +236,7 @@ module _ (i j mtu : ℕ) (apart : i ≢ j) where
               t,
               0,
               record {
-                led = stale_granted s lawful e rest none is positive low;
+                led = old_granted s lawful e rest none is positive low;
                 same_quantum = refl;
                 busy = busy;
                 credits = λ z c. ap (credits_of i) (lists-then (rest ++ m ∷ [])) ∙ turn-passed e m rest z far (flow-given q 1 e) (ap (credits_of i) (sym all-old) ∙ c) ∙ ap Some (once-none z q);
@@ -266,7 +266,7 @@ module _ (i j mtu : ℕ) (apart : i ≢ j) where
             t,
             0,
             record {
-              led = stale_leaves s lawful e rest none is high empty;
+              led = old_leaves s lawful e rest none is high empty;
               same_quantum = refl;
               busy = ap (λ (f : ℕ → Bool). f i) (idle-rested e.flow s.flows) ∙ busy;
               credits = λ z c. ap (credits_of i) (lists-then rest ∙ refl) ∙ sym (credits-behind i e rest (ne_eqb e.flow i far)) ∙ ap (credits_of i) (sym all-old) ∙ c ∙ ap Some (once-none z q);
@@ -298,7 +298,7 @@ module _ (i j mtu : ℕ) (apart : i ≢ j) where
         | inl low ↦ stale-spent low
         | inr high ↦ elim (cases_Bool (is_idle s.flows e.flow)) [
           | inl empty ↦ stale-empty high empty
-          | inr full ↦ inr (stale_ready s lawful e rest none is high full, ready e rest all-old high)
+          | inr full ↦ inr (old_ready s lawful e rest none is high full, ready e rest all-old high)
         ]
       ]
 
