@@ -1,12 +1,15 @@
 -- What one turn, and then any list of turns, does to an active class and to the order of two.
-use Rattle.std.proofs.Common.{◌≡◌, ◌≢◌, ℕ, ◌+◌, ◌-◌, ◌*◌, ◌<◌, ◌≤◌, Bool, true, false, eqb, ◌||◌, List, [], ◌∷◌, ◌++◌, refl, sym, ap, ◌∙◌, subst, inl, inr, arith}
-use Rattle.std.specs.Prelude.{if◌then◌else◌}
+use Rattle.std.proofs.Common.{◌≡◌, ◌≢◌, ℕ, ◌+◌, ◌-◌, ◌*◌, ◌<◌, ◌≤◌, Bool, true, false, eqb, ◌||◌, List, [], ◌∷◌, ◌++◌, length, refl, sym, ap, ◌∙◌, subst, inl, inr, arith}
+use Rattle.std.specs.Prelude.{◌^◌, if◌then◌else◌}
+use Rattle.std.specs.List.{All}
+use Rattle.std.proofs.Math.Nat.{add-mul}
 use Rattle.std.proofs.lemmas.Bool.{eqb-true, ne_eqb, false≢true, or_parts, cases_Bool, le-leb, lt-leb, cases_lt}
-use Rattle.q_drr.specs.Schedule.{Class, Entry, Schedule, quantum_of, after_grants, is_active, deficit_of, active_after, turned}
-use Rattle.q_drr.specs.Stretch.{after_turns, grant_in, bytes_in, grants, sent, stands_first, EachSendsItsShare, AreEven, GrantsAreEven}
+use Rattle.std.proofs.lemmas.List.Elements.{All-head, All-tail}
+use Rattle.q_drr.specs.Schedule.{Class, Entry, Schedule, quantum_of, after_grants, is_active, deficit_of, granted_of, counted, active_after, turned, IsEntry}
+use Rattle.q_drr.specs.Stretch.{after_turns, grant_in, bytes_in, grants, sent, stands_first, EachSendsItsShare, GrantsAreCounted, TurnsAreCounted, AreEven, GrantsAreEven}
 use Rattle.q_drr.proofs.DifferLemmas.{EntriesDiffer, entries_apart}
 use Rattle.q_drr.proofs.KeyLemmas.{differ_push}
-use Rattle.q_drr.proofs.LookupLemmas.{deficit-here, deficit-behind}
+use Rattle.q_drr.proofs.LookupLemmas.{deficit-here, deficit-behind, granted-here, granted-behind}
 
 or_exchange : (a b c : Bool) → (a || (b || c)) ≡ (b || (a || c))
 or_exchange true true c = refl
@@ -31,6 +34,47 @@ deficit_last n x [] absent same = deficit-here n x [] same
 deficit_last n x (e ∷ es) absent same =
     let parts = or_parts (eqb n e.class) (is_active n es) absent in
     deficit-behind n e (es ++ x ∷ []) parts.0 ∙ deficit_last n x es parts.1 same
+
+-- the same of the bytes granted
+granted_kept : (n : ℕ) (x : Entry) (es : List Entry) → is_active n es ≡ true → granted_of n (es ++ x ∷ []) ≡ granted_of n es
+granted_kept n x [] there = absurd (false≢true there)
+granted_kept n x (e ∷ es) there = elim (cases_Bool (eqb n e.class)) [
+  | inl q ↦ granted-here n e (es ++ x ∷ []) q ∙ sym (granted-here n e es q)
+  | inr q ↦ granted-behind n e (es ++ x ∷ []) q ∙ granted_kept n x es (sym (ap (λ t. t || is_active n es) q) ∙ there) ∙ sym (granted-behind n e es q)
+]
+
+granted_last : (n : ℕ) (x : Entry) (es : List Entry) → is_active n es ≡ false → eqb n x.class ≡ true → granted_of n (es ++ x ∷ []) ≡ x.granted
+granted_last n x [] absent same = granted-here n x [] same
+granted_last n x (e ∷ es) absent same =
+    let parts = or_parts (eqb n e.class) (is_active n es) absent in
+    granted-behind n e (es ++ x ∷ []) parts.0 ∙ granted_last n x es parts.1 same
+
+granted_in_range : (max_len : ℕ) (classes : List Class) (n : ℕ) (es : List Entry) → All (IsEntry max_len classes) es → granted_of n es < 2 ^ 64
+granted_in_range max_len classes n [] h = omega arith
+granted_in_range max_len classes n (e ∷ es) h = elim (cases_Bool (eqb n e.class)) [
+  | inl q ↦
+      let i : IsEntry max_len classes e = All-head (IsEntry max_len classes) e es h in
+      omega (arith, i.in_range, granted-here n e es q)
+  | inr q ↦ omega (arith, granted_in_range max_len classes n es (All-tail (IsEntry max_len classes) e es h), granted-behind n e es q)
+]
+
+-- a count to which no grant is added, and one to which grants are added twice
+counted_none : (g k q : ℕ) → k ≡ 0 → g < 2 ^ 64 → g ≡ counted (g + k * q)
+counted_none g k q none range = omega (arith, ap (λ k. k * q) none)
+
+counted_twice : (g k l q : ℕ) → counted (counted (g + k * q) + l * q) ≡ counted (g + (k + l) * q)
+counted_twice g k l q = omega (arith, add-mul k l q)
+
+if_same : (t : Bool) → ◌≡◌ {A = ℕ} (if t then 0 else 0) 0
+if_same true = refl
+if_same false = refl
+
+-- whether the class in front is granted
+grant_short : (len : ℕ) (n : ℕ) (e : Entry) (es : List Entry) → e.deficit < len → grant_in n len (e ∷ es) ≡ (if eqb n e.class then 1 else 0)
+grant_short len n e es short = ap (λ (t : Bool). if eqb n e.class then (if t then 0 else 1) else 0) (lt-leb len e.deficit short)
+
+grant_covered : (len : ℕ) (n : ℕ) (e : Entry) (es : List Entry) → len ≤ e.deficit → grant_in n len (e ∷ es) ≡ 0
+grant_covered len n e es covers = ap (λ (t : Bool). if eqb n e.class then (if t then 0 else 1) else 0) (le-leb len e.deficit covers) ∙ if_same (eqb n e.class)
 
 -- one turn
 module _ (len : ℕ) (classes : List Class) (e : Entry) (es : List Entry) where
@@ -64,7 +108,7 @@ module _ (len : ℕ) (classes : List Class) (e : Entry) (es : List Entry) where
     | inl short ↦
         let list = ap (deficit_of n) (grants_one short) in
         let bytes : bytes_in n len (e ∷ es) ≡ (if eqb n e.class then 0 else 0) = ap (λ (t : Bool). if eqb n e.class then (if t then len else 0) else 0) (lt-leb len e.deficit short) in
-        let grant : grant_in n len (e ∷ es) ≡ (if eqb n e.class then 1 else 0) = ap (λ (t : Bool). if eqb n e.class then (if t then 0 else 1) else 0) (lt-leb len e.deficit short) in
+        let grant = grant_short len n e es short in
         elim (cases_Bool (eqb n e.class)) [
           | inl q ↦
               let same : n ≡ e.class = eqb-true n e.class q in
@@ -101,6 +145,35 @@ module _ (len : ℕ) (classes : List Class) (e : Entry) (es : List Entry) where
         ]
   ]
 
+  turn_counts : (n : ℕ) → EntriesDiffer (e ∷ es) → is_active n (e ∷ es) ≡ true → granted_of n (e ∷ es) < 2 ^ 64
+      → granted_of n (active_after len classes (e ∷ es)) ≡ counted (granted_of n (e ∷ es) + grant_in n len (e ∷ es) * quantum_of n classes)
+  turn_counts n d there range =
+      let before : ℕ = granted_of n (e ∷ es) in
+      elim (cases_lt e.deficit len) [
+        | inl short ↦
+            let list = ap (granted_of n) (grants_one short) in
+            let grant = grant_short len n e es short in
+            elim (cases_Bool (eqb n e.class)) [
+              | inl q ↦
+                  let same : n ≡ e.class = eqb-true n e.class q in
+                  let after : granted_of n (active_after len classes (e ∷ es)) ≡ counted (e.granted + 1 * quantum_of e.class classes) =
+                  list ∙ granted_last n last es (ap (λ m. is_active m es) same ∙ d.0) q in
+                  after ∙ ap (λ m. counted (e.granted + 1 * quantum_of m classes)) (sym same)
+                  ∙ ap (λ g. counted (g + 1 * quantum_of n classes)) (sym (granted-here n e es q))
+                  ∙ ap (λ k. counted (granted_of n (e ∷ es) + k * quantum_of n classes)) (sym (grant ∙ ap (λ (t : Bool). if t then 1 else 0) q))
+              | inr q ↦
+                  list ∙ granted_kept n last es (sym (ap (λ t. t || is_active n es) q) ∙ there) ∙ sym (granted-behind n e es q)
+                  ∙ counted_none before (grant_in n len (e ∷ es)) (quantum_of n classes) (grant ∙ ap (λ (t : Bool). if t then 1 else 0) q) range
+            ]
+        | inr covers ↦
+            let kept : granted_of n (less ∷ es) ≡ granted_of n (e ∷ es) = elim (cases_Bool (eqb n e.class)) [
+              | inl q ↦ granted-here n less es q ∙ sym (granted-here n e es q)
+              | inr q ↦ granted-behind n less es q ∙ sym (granted-behind n e es q)
+            ] in
+            ap (granted_of n) (sends covers) ∙ kept
+            ∙ counted_none before (grant_in n len (e ∷ es)) (quantum_of n classes) (grant_covered len n e es covers) range
+      ]
+
 -- any schedule's turn
 pub list_differ : (len : ℕ) (classes : List Class) (es : List Entry) → EntriesDiffer es → EntriesDiffer (active_after len classes es)
 list_differ len classes [] d = tt
@@ -109,6 +182,11 @@ list_differ len classes (e ∷ es) d = turn_differ len classes e es d
 pub list_active : (len : ℕ) (classes : List Class) (es : List Entry) (n : ℕ) → is_active n (active_after len classes es) ≡ is_active n es
 list_active len classes [] n = refl
 list_active len classes (e ∷ es) n = turn_active len classes e es n
+
+list_counts : (len : ℕ) (classes : List Class) (es : List Entry) (n : ℕ) → EntriesDiffer es → is_active n es ≡ true → granted_of n es < 2 ^ 64
+    → granted_of n (active_after len classes es) ≡ counted (granted_of n es + grant_in n len es * quantum_of n classes)
+list_counts len classes [] n d there range = absurd (false≢true there)
+list_counts len classes (e ∷ es) n d there range = turn_counts len classes e es n d there range
 
 list_books : (len : ℕ) (classes : List Class) (es : List Entry) (n : ℕ) → EntriesDiffer es → is_active n es ≡ true
     → bytes_in n len es + deficit_of n (active_after len classes es) ≡ grant_in n len es * quantum_of n classes + deficit_of n es
@@ -125,9 +203,25 @@ stretch_books (len ∷ lens) s n d there =
 pub each_sends_its_share : EachSendsItsShare
 each_sends_its_share s lens n law there = stretch_books lens s n (entries_apart s.active law.entries_differ) there
 
-if_same : (t : Bool) → ◌≡◌ {A = ℕ} (if t then 0 else 0) 0
-if_same true = refl
-if_same false = refl
+stretch_counts : (lens : List ℕ) (s : Schedule) (n : ℕ) → EntriesDiffer s.active → is_active n s.active ≡ true → granted_of n s.active < 2 ^ 64
+    → granted_of n (after_turns lens s).active ≡ counted (granted_of n s.active + grants n lens s * quantum_of n s.classes)
+stretch_counts [] s n d there range = counted_none (granted_of n s.active) 0 (quantum_of n s.classes) refl range
+stretch_counts (len ∷ lens) s n d there range =
+    let one = list_counts len s.classes s.active n d there range in
+    let rest = stretch_counts lens (turned len s) n (list_differ len s.classes s.active d) (list_active len s.classes s.active n ∙ there) (omega (arith, one)) in
+    rest ∙ ap (λ g. counted (g + grants n lens (turned len s) * quantum_of n s.classes)) one
+    ∙ counted_twice (granted_of n s.active) (grant_in n len s.active) (grants n lens (turned len s)) (quantum_of n s.classes)
+
+pub grants_are_counted : GrantsAreCounted
+grants_are_counted s lens n law there =
+    stretch_counts lens s n (entries_apart s.active law.entries_differ) there (granted_in_range s.max_len s.classes n s.active law.entries)
+
+stretch_turns : (lens : List ℕ) (s : Schedule) → s.turns < 2 ^ 64 → (after_turns lens s).turns ≡ counted (s.turns + length lens)
+stretch_turns [] s range = omega arith
+stretch_turns (len ∷ lens) s range = omega (arith, stretch_turns lens (turned len s) (omega arith))
+
+pub turns_are_counted : TurnsAreCounted
+turns_are_counted s lens law = stretch_turns lens s law.counted_turns
 
 -- the order of two classes once another, or one of them, has gone to the end
 module _ (i j : ℕ) where
@@ -161,12 +255,6 @@ module _ (i j : ℕ) where
   head_of : Bool → ℕ
   head_of true = 1
   head_of false = 0
-
-  grant_short : (len : ℕ) (n : ℕ) (e : Entry) (es : List Entry) → e.deficit < len → grant_in n len (e ∷ es) ≡ (if eqb n e.class then 1 else 0)
-  grant_short len n e es short = ap (λ (t : Bool). if eqb n e.class then (if t then 0 else 1) else 0) (lt-leb len e.deficit short)
-
-  grant_covered : (len : ℕ) (n : ℕ) (e : Entry) (es : List Entry) → len ≤ e.deficit → grant_in n len (e ∷ es) ≡ 0
-  grant_covered len n e es covers = ap (λ (t : Bool). if eqb n e.class then (if t then 0 else 1) else 0) (le-leb len e.deficit covers) ∙ if_same (eqb n e.class)
 
   turn_even : (len : ℕ) (classes : List Class) (e : Entry) (es : List Entry) → i ≢ j → EntriesDiffer (e ∷ es) → is_active i (e ∷ es) ≡ true → is_active j (e ∷ es) ≡ true
       → grant_in i len (e ∷ es) + head_of (stands_first i j (active_after len classes (e ∷ es))) ≡ grant_in j len (e ∷ es) + head_of (stands_first i j (e ∷ es))

@@ -1,7 +1,7 @@
 -- Any list of turns on a set of classes that all stay active: what each is granted and sends in deficit round robin.
 -- After M. Shreedhar and G. Varghese, "Efficient Fair Queuing Using Deficit Round-Robin" (1995), and tc-drr(8).
-use Rattle.std.specs.Prelude.{◌≡◌, ◌≢◌, ℕ, ◌+◌, ◌*◌, ◌<◌, ◌≤◌, Bool, true, false, ◌==◌, nat_le, if◌then◌else◌, List, [], ◌∷◌, All}
-use Rattle.q_drr.specs.Schedule.{Entry, Schedule, turned, is_active, deficit_of, quantum_of, IsLawful}
+use Rattle.std.specs.Prelude.{◌≡◌, ◌≢◌, ℕ, ◌+◌, ◌*◌, ◌<◌, ◌≤◌, Bool, true, false, ◌==◌, nat_le, if◌then◌else◌, List, [], ◌∷◌, length, All}
+use Rattle.q_drr.specs.Schedule.{Entry, Schedule, turned, is_active, deficit_of, granted_of, quantum_of, counted, IsLawful}
 
 -- after turns of classes whose heads have these lengths, in this order
 abbrev pub after_turns : List ℕ → Schedule → Schedule
@@ -36,6 +36,15 @@ abbrev pub EachSendsItsShare : Type 0
 EachSendsItsShare =
     (s : Schedule) (lens : List ℕ) (n : ℕ) → IsLawful s → is_active n s.active ≡ true
     → sent n lens s + deficit_of n (after_turns lens s).active ≡ grants n lens s * quantum_of n s.classes + deficit_of n s.active
+
+-- the bytes granted to a class grow by a quantum with each grant, and the count of turns by one with each turn
+abbrev pub GrantsAreCounted : Type 0
+GrantsAreCounted =
+    (s : Schedule) (lens : List ℕ) (n : ℕ) → IsLawful s → is_active n s.active ≡ true
+    → granted_of n (after_turns lens s).active ≡ counted (granted_of n s.active + grants n lens s * quantum_of n s.classes)
+
+abbrev pub TurnsAreCounted : Type 0
+TurnsAreCounted = (s : Schedule) (lens : List ℕ) → IsLawful s → (after_turns lens s).turns ≡ counted (s.turns + length lens)
 
 -- two classes are granted equally often over turns that leave them in the order that they had, and one that stood before
 -- the other and then stands behind it was granted once more

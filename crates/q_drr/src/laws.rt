@@ -1,7 +1,7 @@
 //! Laws of the definitions that the contracts cite. Each function does nothing: its contract is the law. [`take_by_turns`] alone
 //! does something: it leads from turns to a whole take.
 ghost use Rattle.q_drr.specs.Changes.{EmptyIsLawful, AddedIsLawful, RemovedIsLawful, WokenIsLawful, AsleepIsLawful, WithQuantumIsLawful, TurnedIsLawful, ServedIsLawful};
-ghost use Rattle.q_drr.specs.Stretch.{EachSendsItsShare, GrantsAreEven, SharesAreFair};
+ghost use Rattle.q_drr.specs.Stretch.{EachSendsItsShare, GrantsAreCounted, TurnsAreCounted, GrantsAreEven, SharesAreFair};
 ghost use Rattle.q_drr.specs.Turns.{TakesAreTurns, LeastNeedIsMet, ChosenIsMet, TurnsGrantWhereShort, TakesGrantWhereShort};
 
 pub use crate::met::Met;
@@ -11,6 +11,14 @@ pub use crate::take::take_by_turns;
 /// it had at first, less the deficit that it has at last.
 pub fn each_sends_its_share()
     ensures { EachSendsItsShare }
+{}
+
+/// Over any stretch of turns the bytes granted to a class that is active grow by its quantum with each of its grants, and
+/// the count of turns by one with each turn, of whichever class. Both stay at 2^64 - 1 once they are there: below that,
+/// `granted` is the bytes granted since the class became active, and `turns` the number of turns.
+pub fn grants_are_counted()
+    ensures granted { GrantsAreCounted }
+    ensures turns { TurnsAreCounted }
 {}
 
 /// Over any stretch of turns the grants of two active classes differ by one at most: a class that stood before the other

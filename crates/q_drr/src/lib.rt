@@ -19,10 +19,10 @@
 //! turns end.
 //!
 //! [`laws`] carries the shares: [`laws::each_sends_its_share`], [`laws::grants_are_even`] and [`laws::shares_are_fair`], over
-//! every list of turns (`specs/Stretch.antt`). They reach takes by [`laws::takes_are_turns`]; [`laws::least_need_is_met`]
-//! says which class a take meets, and [`laws::grants_come_where_short`] that no class is granted whose deficit covers its
-//! head (`specs/Turns.antt`). [`laws::changes_stay_lawful`] says of each change that it keeps `IsLawful`
-//! (`specs/Changes.antt`).
+//! every list of turns (`specs/Stretch.antt`); [`laws::grants_are_counted`] says what [`Active::granted`] and
+//! [`Active::turns`] count over it. These laws reach takes by [`laws::takes_are_turns`]; [`laws::least_need_is_met`] says
+//! which class a take meets, and [`laws::grants_come_where_short`] that no class is granted whose deficit covers its head
+//! (`specs/Turns.antt`). [`laws::changes_stay_lawful`] says of each change that it keeps `IsLawful` (`specs/Changes.antt`).
 //!
 //! Only [`Active::add`] takes memory, as much for a class of a large name as for one of a small. But for it and
 //! [`Active::remove`] each call takes the same few steps however many classes there are: a map in order of adding has what
