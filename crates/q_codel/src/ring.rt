@@ -13,8 +13,8 @@ const FIRST_PLACES: usize = 4;
 
 /// Packets in the order in which they came, in a ring of cells whose number is a power of two.
 ///
-/// Its two counters go up alone, and go round at 2^64: a packet's cell is told by the low bits of its number, so that a step
-/// is a sum, and a ring that doubles has each packet in one of its two halves already.
+/// Packets are numbered as they come, by counters that go round at 2^64, and the low bits of a packet's number tell its cell.
+/// So a step is one addition; and once the cells are doubled by a copy of them all, each packet stands where its number says.
 #[derive(Drop)]
 pub(crate) struct Ring {
     cells: Vec<Stamped>,

@@ -1,4 +1,4 @@
--- The bytes of a flow key: there are 38, and keys whose numbers fit their bytes have the same bytes only where they are equal.
+-- Keys whose numbers fit their bytes have the same bytes only where they are equal.
 use Rattle.std.proofs.Common.{◌≡◌, ℕ, ◌<◌, ◌^◌, Bool, true, false, List, [], ◌++◌, get_or, drop, sym, ap, ◌∙◌, arith}
 use Rattle.std.specs.Prelude.{if◌then◌else◌, ◌==◌, IsTrue}
 use Rattle.std.proofs.lemmas.Grind.{common_steps}

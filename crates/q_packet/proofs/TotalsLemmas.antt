@@ -1,4 +1,4 @@
--- How many packets a queue holds and how many bytes they have, where queues are joined, cut or lengthened.
+-- How many bytes a queue has with one packet more, and at most.
 use Rattle.std.proofs.Common.{◌≡◌, ℕ, ◌+◌, ◌*◌, ◌≤◌, List, [], ◌∷◌, ◌++◌}
 use Rattle.std.specs.Prelude.{All}
 use Rattle.std.proofs.lemmas.List.Sums.{sum_by-cons, sum_by_push, sum_by-le}
