@@ -95,9 +95,10 @@ impl Flows {
 
     /// Whether a flow is empty.
     pub(crate) fn is_idle(&self, flow: u32) -> bool
+        requires { flow < length self.now.flows }
         ensures { result ≡ is_idle self.now.flows flow }
     {
-        self.pool.count_of(flow) == 0
+        self.pool.count_at(flow) == 0
     }
 
     /// The packets in a flow.
@@ -154,8 +155,8 @@ impl Flows {
             (λ f. S.room sink.new + count (packets_dropped now f) ≡ S.room sink.old) }
         ensures kept { S.keeps sink.old sink.new }
     {
-        let front = self.pool.front_of(flow).unwrap();
-        let behind = self.pool.bytes_of(flow) - front.len as u64;
+        let (front, bytes) = self.pool.peek(flow);
+        let behind = bytes - front.len as u64;
         let codel = &self.states[flow as usize];
         let Some(after) = codel.passed(&self.parameters, &front, behind, now) else {
             let late = self.send_late_into(flow, now, out, sink);

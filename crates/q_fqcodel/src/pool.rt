@@ -116,6 +116,19 @@ impl Pool {
         Some(node.front())
     }
 
+    /// What CoDel looks at of the packet in front of a flow, which has one, and the flow's bytes: its list is read once.
+    #[inline(always)]
+    pub(crate) fn peek(&self, flow: u32) -> (Front, u64)
+        requires { 0 < count (get_or self.now.queues flow []) }
+        ensures front { Some result.0 ≡ option_map front_of (slice_get (get_or self.now.queues flow []) 0) }
+        ensures bytes { result.1 ≡ size (get_or self.now.queues flow []) }
+        ensures few { result.1 < 2 ^ 48 - 1 }
+    {
+        let list = list_at(&self.lists, flow);
+        let node = self.nodes.at(list.head);
+        (node.front(), list.bytes)
+    }
+
     /// Takes the packet in front of a flow.
     pub(crate) fn take_of(&mut self, flow: u32) -> Option<Stamped>
         ensures front { result ≡ slice_get (get_or self.old.queues flow []) 0 }
@@ -191,6 +204,14 @@ impl Pool {
         ensures { result ≡ count (get_or self.now.queues flow []) }
     {
         list_of(&self.lists, flow).count
+    }
+
+    /// The same, of a flow that is there.
+    pub(crate) fn count_at(&self, flow: u32) -> u64
+        requires { flow < length self.now.queues }
+        ensures { result ≡ count (get_or self.now.queues flow []) }
+    {
+        list_at(&self.lists, flow).count
     }
 
     /// The bytes in a flow: at most 65535 of each packet, of which there are no more than 2^32.

@@ -1,4 +1,4 @@
-use Rattle.std.proofs.Common.{◌≡◌, ℕ, ◌+◌, ◌-◌, ◌<◌, ◌==◌, not, List, [], ◌++◌, length, take, drop, get_or, set, sym, ap, ap₂, ◌∙◌, arith, subst, Option, IfSome, IsSome, Some, false}
+use Rattle.std.proofs.Common.{◌≡◌, ℕ, ◌+◌, ◌-◌, ◌<◌, ◌==◌, not, List, [], ◌++◌, length, take, drop, get_or, set, sym, ap, ap₂, ◌∙◌, arith, subst, Option, IfSome, Some, false}
 use Rattle.std.specs.Prelude.{slice_get}
 use Rattle.std.proofs.lemmas.List.{length-set, get_or_default, get_or-set_same, append-nil}
 use Rattle.q_packet.specs.Totals.{count, size}
@@ -11,14 +11,13 @@ use Rattle.q_fqcodel.specs.FlowsState.{FlowsState}
 use Rattle.q_fqcodel.specs.FqState.{Flow, queue_of}
 use Rattle.q_fqcodel.specs.Pool.{flows_from, codels_in}
 use Rattle.q_fqcodel.specs.Take.{taken_as, packet_sent, packets_dropped, flow_after}
-use Rattle.q_fqcodel.proofs.PassedLemmas.{Passed, passed, some_front, front_within, behind_is}
+use Rattle.q_fqcodel.proofs.PassedLemmas.{Passed, passed, front_within, behind_is}
 use Rattle.q_fqcodel.proofs.PooledLemmas.{length-flows, flow_read, queue_there, flow_written, length-sizes, sizes_at, sizes_renewed, length-codels, codel_at, codels-set}
 use Rattle.q_fqcodel.proofs.flows.Flows.send_into.Goals as goal
-use Rattle.q_fqcodel.proofs.flows.Flows.send_into.Goals.{After-front_of, After-index-codel, After-take_of_into, After-index_mut}
+use Rattle.q_fqcodel.proofs.flows.Flows.send_into.Goals.{After-index-codel, After-take_of_into, After-index_mut}
 
--- the flow's queue has a packet
-some : (g : _) (c : After-front_of g) → 0 < count (get_or c.self.inside.pool.queues c.args.flow [])
-some g c =
+pub peek-front-requires : goal.peek-front-requires
+peek-front-requires g c =
     let same = ap (λ (f : FlowsState). f.flows) c.self.view_is in
     omega (
       arith,
@@ -27,11 +26,8 @@ some g c =
       ap (λ (fs : List Flow). count (queue_of fs c.args.flow)) same,
     )
 
-pub unwrap-front-requires : goal.unwrap-front-requires
-unwrap-front-requires g c = subst (λ o. IsSome o) (sym c.front_of.ensures) (some_front _ (some g c))
-
 pub overflow_sub-behind : goal.overflow_sub-behind
-overflow_sub-behind g c = front_within _ c.unwrap-front.result c.bytes_of.result (sym c.unwrap-front.ensures ∙ c.front_of.ensures) c.bytes_of.ensures.value
+overflow_sub-behind g c = front_within _ c.peek-front.result.0 c.peek-front.result.1 c.peek-front.ensures.front c.peek-front.ensures.bytes
 
 pub index-codel-requires : goal.index-codel-requires
 index-codel-requires g c =
@@ -62,11 +58,11 @@ there g c =
 
 -- its head has gone
 passes : (g : _) (c : After-take_of_into g)
-    → Passed (joined c.self.inside.parameters c.index-codel.result.now) c.args.now (get_or c.self.inside.pool.queues c.args.flow []) c.unwrap-front.result c.take_of_into.new.out
+    → Passed (joined c.self.inside.parameters c.index-codel.result.now) c.args.now (get_or c.self.inside.pool.queues c.args.flow []) c.peek-front.result.0 c.take_of_into.new.out
     (joined c.self.inside.parameters c.in-Some.after)
 passes g c =
-    passed _ _ c.args.now _ c.unwrap-front.result c.bytes_of.result c.take_of_into.new.out
-    (sym c.unwrap-front.ensures ∙ c.front_of.ensures) c.bytes_of.ensures.value c.take_of_into.ensures.given c.in-Some.ensures.passed
+    passed _ _ c.args.now _ c.peek-front.result.0 c.peek-front.result.1 c.take_of_into.new.out
+    c.peek-front.ensures.front c.peek-front.ensures.bytes c.take_of_into.ensures.given c.in-Some.ensures.passed
 
 -- the state that is written is the one that was read
 same : (g : _) (c : After-index_mut g) → c.index_mut.result.now ≡ c.index-codel.result.now
@@ -86,7 +82,7 @@ renew-requires-clause-in_range g c =
     omega (arith, within g (goal.at.renew-requires-clause-in_range g c).After-index-codel, c.self.invariant.0, ap length c.self.invariant.2, length-sizes c.self.inside.pool.queues)
 
 pub renew-requires-clause-fell : goal.renew-requires-clause-fell
-renew-requires-clause-fell g c _ = omega (arith, ap (λ (l : List ℕ). get_or l c.args.flow 0) c.self.invariant.2, sizes_at c.self.inside.pool.queues c.args.flow, c.bytes_of.ensures.value)
+renew-requires-clause-fell g c _ = omega (arith, ap (λ (l : List ℕ). get_or l c.args.flow 0) c.self.invariant.2, sizes_at c.self.inside.pool.queues c.args.flow, c.peek-front.ensures.bytes)
 
 pub invariant_of-self : goal.invariant_of-self
 invariant_of-self g c =
@@ -101,9 +97,9 @@ invariant_of-self g c =
     let inside : n < length qs = omega (arith, within g d.After-index-codel, c.self.invariant.0) in (
       ap length c.take_of_into.ensures.queues ∙ length-set qs n q ∙ c.self.invariant.0 ∙ length-codels p vs ∙ sym (length-set vs n v) ∙ sym (length-codels p (set vs n v)),
       omega (arith, c.self.invariant.1, length-set vs n v),
-      sizes_renewed qs new n q c.renew.new.self (c.bytes_of.result - c.unwrap-front.result.len) c.take_of_into.ensures.queues inside
-          (c.renew.ensures ∙ ap (λ (l : List ℕ). set l n (c.bytes_of.result - c.unwrap-front.result.len)) c.self.invariant.2)
-          (behind_is _ c.unwrap-front.result c.bytes_of.result (sym c.unwrap-front.ensures ∙ c.front_of.ensures) c.bytes_of.ensures.value
+      sizes_renewed qs new n q c.renew.new.self (c.peek-front.result.1 - c.peek-front.result.0.len) c.take_of_into.ensures.queues inside
+          (c.renew.ensures ∙ ap (λ (l : List ℕ). set l n (c.peek-front.result.1 - c.peek-front.result.0.len)) c.self.invariant.2)
+          (behind_is _ c.peek-front.result.0 c.peek-front.result.1 c.peek-front.ensures.front c.peek-front.ensures.bytes
           ∙ ap size (sym (get_or-set_same qs n q [] inside))
           ∙ ap (λ (l : List (List Stamped)). size (get_or l n [])) (sym c.take_of_into.ensures.queues)),
       c.self.invariant.3,

@@ -34,6 +34,9 @@ looks c x read = record { opened = opened_is c; lawful = c.self.invariant.0; rea
 pub rest-requires : goal.rest-requires
 rest-requires c = in_flows (looks (goal.at.rest-requires c).After-unwrap-entry _ c.entry.view_is)
 
+pub is_idle-requires : goal.is_idle-requires
+is_idle-requires c = in_flows (looks (goal.at.is_idle-requires c).After-unwrap-entry _ c.entry.view_is)
+
 pub unwrap-entry-requires : goal.unwrap-entry-requires
 unwrap-entry-requires c =
     subst (λ (o : Option Entry). IsSome o) (sym c.first_old.ensures)
