@@ -12,6 +12,7 @@ pub mod LeastShare
 pub mod Moved
 pub mod MovedAsks
 pub mod MovedTrees
+pub mod NewFlowService
 pub mod PlayLemmas
 pub mod ReadyNumbers
 pub mod RecorderLemmas

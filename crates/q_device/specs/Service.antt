@@ -1,11 +1,12 @@
 -- What is true of service over every stretch of every replay: what a class of a drr, or a flow of an fq_codel, gets whatever comes to
 -- the others. What a stretch is stands in q_model's specs/Stretches.antt. Deficit round robin: M. Shreedhar and G. Varghese, "Efficient
 -- Fair Queuing Using Deficit Round-Robin" (1995), and tc-drr(8); flows: RFC 8290, section 4.2.
-use Rattle.std.specs.Prelude.{◌≡◌, ◌≢◌, ℕ, ◌+◌, ◌-◌, ◌*◌, ◌≤◌, max, ℤ, pos, false, List, [], ◌∷◌, ◌++◌, All, Option, Some, None, option_and_then, unwrap_or, length, sum_by}
+use Rattle.std.specs.Prelude.{◌≡◌, ◌≢◌, ℕ, ◌+◌, ◌-◌, ◌*◌, ◌≤◌, max, ℤ, pos, true, false, List, [], ◌∷◌, ◌++◌, All, Option, Some, None, option_and_then, unwrap_or, length, sum_by}
 use Rattle.std.specs.Option.{option_map_or}
 use Rattle.q_drr.specs.Schedule.{Class, quantum_of, deficit_of}
 use Rattle.q_drr.specs.Stretch.{stands_first}
 use Rattle.q_fqcodel.specs.Laws.{credits_of}
+use Rattle.q_fqcodel.specs.Put.{is_listed}
 use Rattle.q_model.specs.declared.event.Event.{Event}
 use Rattle.q_model.specs.Tally.{Note, history}
 use Rattle.q_model.specs.Node.{Discipline, Fifo, Prio, Tbf, Drr, FqCodel, Node}
@@ -124,3 +125,19 @@ NoFlowStarves settings =
     → fq_in major (device_after settings before) ≡ Some first → fq_in major (device_after settings (before ++ e ∷ [])) ≡ Some next → fq_in major (device_after settings (before ++ e ∷ during)) ≡ Some last
     → flow_grants_to i last.noted ≡ flow_grants_to i next.noted
     → bytes_given j last.noted ≤ bytes_given j first.noted + max (reach settings.mtu (pos quantum)) (reach settings.mtu (credits_in j first)) + (quantum - 1)
+
+-- ---- a flow that joins
+
+-- A packet joined flow j, which was in neither list. From then on, as long as it stays backlogged and has given nothing, another flow
+-- gave at most what it could give before it waits for a quantum, where it stood in the new list, and nothing where it did not.
+pub record GoesFirst (k mtu : ℕ) (first last : FqAt) : Type 0 where
+  pub in_new : (credits : ℤ) → credits_of k first.state.new_flows ≡ Some credits → bytes_given k last.noted ≤ bytes_given k first.noted + reach mtu credits
+  pub others : is_listed k first.state.new_flows ≡ false → bytes_given k last.noted ≡ bytes_given k first.noted
+
+abbrev pub NewFlowFirst : DeviceSettings → Type 0
+NewFlowFirst settings =
+    (before : List Event) (e : Event) (during : List Event) (major j k quantum : ℕ) (first next last : FqAt) → j ≢ k → All IsEvent before → IsEvent e → All IsEvent during
+    → fq_in major (device_after settings before) ≡ Some first → fq_in major (device_after settings (before ++ e ∷ [])) ≡ Some next → fq_in major (device_after settings (before ++ e ∷ during)) ≡ Some last
+    → is_listed j (first.state.new_flows ++ first.state.old_flows) ≡ false → is_listed j (next.state.new_flows ++ next.state.old_flows) ≡ true
+    → Throughout (IsBackloggedFlow major j quantum) settings (before ++ e ∷ []) during → bytes_given j last.noted ≡ bytes_given j first.noted
+    → GoesFirst k settings.mtu first last

@@ -1,7 +1,7 @@
 //! What is true of every device and every replay. Each law is the contract of a function that does nothing.
 ghost use Rattle.q_device.specs.DeviceLaws.{ArrivesByArrivals, CountersNeverFall, EveryCounterIsCompared, HasItsMemory, IsLawfulDevice, IsReplayed, IsReplayOfRecorded, TellsItsLosses};
 ghost use Rattle.q_device.specs.Laws.{ReplayGoesOn, ShrinkCommutes, ReplayShrinks, EveryReplayIsSound, TotalsAreLawful, EveryReplayTellsAll};
-ghost use Rattle.q_device.specs.Service.{ClassAgainstAny, ClassesGetTheirParts, FlowAgainstAny, NoFlowStarves};
+ghost use Rattle.q_device.specs.Service.{ClassAgainstAny, ClassesGetTheirParts, FlowAgainstAny, NoFlowStarves, NewFlowFirst};
 ghost use Rattle.q_device.specs.Sharing.{ClassesSendTheirShares, DeficitsAreBounded, GrantsComeWhereShort, ClassesWakeWithAQuantum, ClassesShareByQuanta, BucketsAreBounded, FlowsGiveTheirShares, FlowsBeginNew, FlowsAreGrantedEvenly};
 ghost use Rattle.q_device.specs.Waiting.{EarlyPollsGiveNothing, ReadyPassesEmptyPolls};
 
@@ -134,6 +134,15 @@ pub fn flow_against_any(settings: Settings)
 /// are taken. Credits can be above a quantum only where a command has lowered it, and count then in place of one quantum.
 pub fn no_flow_starves(settings: Settings)
     ensures { NoFlowStarves settings }
+{
+    settings.ranges();
+}
+
+/// A flow that joins an fq_codel from neither list goes before all old flows: until it gives a packet, or has none left, only the flows
+/// that stood in the new list give any, each at most its credits and a longest packet less a byte, whatever comes meanwhile.
+/// So a sparse flow, as a name lookup, passes the flows of a download (RFC 8290, section 4.2).
+pub fn new_flow_first(settings: Settings)
+    ensures { NewFlowFirst settings }
 {
     settings.ranges();
 }

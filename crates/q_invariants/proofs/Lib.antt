@@ -45,6 +45,7 @@ pub mod Edits
 pub mod Exact
 pub mod FlowAgainst
 pub mod FlowBegins
+pub mod FlowJoins
 pub mod FlowLists
 pub mod FlowMoves
 pub mod FlowNotes
