@@ -23,7 +23,7 @@ use Rattle.q_fqcodel.proofs.LawfulLemmas.{times-cons, times-append, one-other}
 use Rattle.q_fqcodel.proofs.ListedLemmas.{times-selected, times-sent}
 use Rattle.q_fqcodel.proofs.PutLemmas.{listed-not, listed-yes}
 use Rattle.q_fqcodel.proofs.SentLemmas.{flow-paid, paid-is, after-new_flows}
-use Rattle.q_fqcodel.proofs.TurnLemmas.{LeadsOn, fresh_granted, fresh_moves, fresh_ready, first_in_front}
+use Rattle.q_fqcodel.proofs.TurnLemmas.{LeadsOn, new_granted, new_moves, new_ready, first_in_front}
 use Rattle.q_model.specs.declared.event.Event.{Event}
 use Rattle.q_model.specs.Events.{IsEvent}
 use Rattle.q_model.specs.Tally.{Note, history}
@@ -142,7 +142,7 @@ module _ (j k mtu : ℕ) (apart : j ≢ k) where
           inl (
             record s { new_flows = rest; old_flows = s.old_flows ++ given s.settings.quantum 1 e ∷ [] },
             record {
-              led = fresh_granted s lawful e rest is positive low;
+              led = new_granted s lawful e rest is positive low;
               same_quantum = refl;
               busy = busy;
               credits = sym (ap (credits_of j) is ∙ credits-behind j e rest (ne_eqb e.flow j far));
@@ -155,14 +155,14 @@ module _ (j k mtu : ℕ) (apart : j ≢ k) where
             inl (
               record s { flows = adjust rested_flow e.flow s.flows; new_flows = rest; old_flows = s.old_flows ++ e ∷ [] },
               record {
-                led = fresh_moves s lawful e rest is some empty;
+                led = new_moves s lawful e rest is some empty;
                 same_quantum = refl;
                 busy = ap (λ (f : ℕ → Bool). f j) (idle-rested e.flow s.flows) ∙ busy;
                 credits = sym (ap (credits_of j) is ∙ credits-behind j e rest (ne_eqb e.flow j far));
                 less = passed far;
               },
             )
-        | inr full ↦ inr (record { chosen = fresh_ready s lawful e rest is some full; first = e; rest = rest; is = is; high = some })
+        | inr full ↦ inr (record { chosen = new_ready s lawful e rest is some full; first = e; rest = rest; is = is; high = some })
       ]
     ]
       where
