@@ -1,6 +1,6 @@
 //! What turns and settling do to the device behind its lock, event by event and loss by loss. A contract can't name what is behind a
 //! lock, so that a packet that got lost there in the very call would be seen here alone.
-ghost use Rattle.std.specs.Prelude.{◌≡◌, ◌≤◌, length, map};
+ghost use Rattle.std.specs.Prelude.{◌≡◌, ◌≤◌, ◌<◌, length, map};
 ghost use Rattle.q_model.specs.Tally.{no_totals};
 ghost use Rattle.q_ports.specs.Placed.{ring_of_port};
 ghost use Rattle.q_ports.specs.Rings.{ring_id};
@@ -97,11 +97,18 @@ fn offer<R: Abort>(rt: &R, ports: &mut Vec<Port>, counts: (u64, u64), given: Pac
     ensures rings { map ring_of_port ports.new.items ≡ map ring_of_port ports.old.items }
     ensures count { length ports.new.items ≡ length ports.old.items }
 {
-    for _offer in 0..counts.0 {
-        assert!(rt; offer_at(ports, 0, given).is_ok());
-    }
-    for _offer in 0..counts.1 {
-        assert!(rt; offer_at(ports, 1, given).is_ok());
+    place(rt, ports, 0, counts.0, given);
+    place(rt, ports, 1, counts.1, given);
+}
+
+// Places so many packets at this port.
+fn place<R: Abort>(rt: &R, ports: &mut Vec<Port>, at: usize, count: u64, given: Packet)
+    requires { at < length ports.old.items }
+    ensures rings { map ring_of_port ports.new.items ≡ map ring_of_port ports.old.items }
+    ensures count { length ports.new.items ≡ length ports.old.items }
+{
+    for _offer in 0..count {
+        assert!(rt; offer_at(ports, at, given).is_ok());
     }
 }
 
