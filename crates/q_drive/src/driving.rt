@@ -105,7 +105,9 @@ fn drive_loads<P: Ledger + Send + Sync, B: Ledger + Send + Sync, R: Threads + Wa
     ensures bytes { IfSome result (λ d. d.settled.bytes ≡ d.settled.packets * settings.now.len) }
 {
     settings.ranges();
-    let (drain, ports) = open_drain(rt, alloc, seat, settings)?;
+    let Some((drain, ports)) = open_drain(rt, alloc, seat, settings) else {
+        return None;
+    };
     let Pace { start, step, tries } = drive_pace();
     match drive(
         rt, alloc, lock, drain, ports, loads, &FreeGate, start, step, tries,

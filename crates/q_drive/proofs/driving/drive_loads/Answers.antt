@@ -5,14 +5,14 @@ use Rattle.q_drive.proofs.driving.drive_loads.Goals as goal
 
 pub returns-in-Ok-clause-all : goal.returns-in-Ok-clause-all
 returns-in-Ok-clause-all g c =
-    let opened = c.in_ok-drain.ensures in
+    let opened = c.in-Some.ensures in
     let driven = c.in-Ok in
-    let a = accounted c.args.settings.now c.in_ok-drain.result.1.items (map packets_of c.args.loads.items) driven.driven.settled driven.driven.given_up c.ranges.ensures opened.count opened.placed c.requires.loads driven.ensures.driven in
+    let a = accounted c.args.settings.now c.in-Some.ports.items (map packets_of c.args.loads.items) driven.driven.settled driven.driven.given_up c.ranges-2.ensures opened.count opened.placed c.requires.loads driven.ensures.driven in
     a.all
 
 pub returns-in-Ok-clause-bytes : goal.returns-in-Ok-clause-bytes
 returns-in-Ok-clause-bytes g c =
-    let opened = c.in_ok-drain.ensures in
+    let opened = c.in-Some.ensures in
     let driven = c.in-Ok in
-    let a = accounted c.args.settings.now c.in_ok-drain.result.1.items (map packets_of c.args.loads.items) driven.driven.settled driven.driven.given_up c.ranges.ensures opened.count opened.placed c.requires.loads driven.ensures.driven in
+    let a = accounted c.args.settings.now c.in-Some.ports.items (map packets_of c.args.loads.items) driven.driven.settled driven.driven.given_up c.ranges-2.ensures opened.count opened.placed c.requires.loads driven.ensures.driven in
     a.bytes
