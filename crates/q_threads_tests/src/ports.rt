@@ -6,8 +6,8 @@ ghost use Rattle.q_ports.specs.Rings.{ring_id};
 ghost use Rattle.q_ports.specs.Rows.{new_gauge, shown_on, GaugeSeen};
 
 use crate::common::{
-    assert_count, assert_full, assert_settles, assert_totals, device, hundreds, offer_at, opened,
-    packet, row,
+    assert_count, assert_full, assert_settles, assert_totals, device, fill, hundreds, limited,
+    offer_at, opened, packet, row,
 };
 use crate::rows::NO_ROW;
 use q_device::{Device, Polled, Row};
@@ -32,6 +32,60 @@ fn ports_on_one_thread(rt: HostRuntime) -> Result<(), Fail> {
         going_round::<Brand, Brand, _>(&rt, alloc, device, *count, given, packets, bytes);
     }
     Ok(())
+}
+
+// A turn of 1024, the most that it may take, takes and sends a ring of as many.
+#[test]
+fn a_turn_takes_1024_packets(rt: HostRuntime) -> Result<(), Fail> {
+    let alloc = rt.alloc();
+    let given = packet(77).expect(&rt, "a packet");
+    let device = limited(alloc, 2000, 0).expect(&rt, "memory");
+    let (packets, bytes) = (Blank::new(65), Blank::new(65));
+    long_turn::<Brand, Brand, _>(&rt, alloc, device, given, packets, bytes);
+    Ok(())
+}
+
+// Fills a ring of 1024 places, and takes a turn of as many.
+fn long_turn<P: Ledger, B: Ledger, R: Wait + Abort>(
+    rt: &R,
+    alloc: Global,
+    device: Device,
+    given: Packet,
+    packets: Blank,
+    bytes: Blank,
+)
+    requires nothing { device.device.tree.top.arrived ≡ no_totals }
+    requires packets { (packets.name ≡ P.name) × (packets.parts ≡ P.parts) × (P.parts ≡ 65) }
+    requires bytes { (bytes.name ≡ B.name) × (bytes.parts ≡ B.parts) × (B.parts ≡ 65) }
+{
+    let (booked, mut drain, mut ports, _gauges) = opened::<P, B, R>(
+        rt,
+        alloc,
+        device,
+        (1, 1024, 0),
+        packets,
+        bytes,
+    );
+    fill(rt, &mut ports, 1024, given);
+    assert_takes(rt, alloc, &booked, &mut drain, 1024);
+    drain.end(rt);
+}
+
+// A turn of so many takes and sends as many.
+fn assert_takes<P: Ledger, B: Ledger, R: Wait + Abort>(
+    rt: &R,
+    alloc: Global,
+    booked: &Mutex<Booked<P, B>>,
+    drain: &mut Drain<P, B>,
+    most: usize,
+)
+    requires { (1 ≤ most) × (most ≤ 1024) }
+{
+    let Ok(turn) = drain.turn(rt, alloc, booked, Moment::zero(), most) else {
+        panic!(rt; "memory");
+    };
+    assert_count(rt, turn.taken as u64, most as u64);
+    assert_count(rt, turn.sent.len() as u64, most as u64);
 }
 
 // As many gauges as there may be, and none: each shows the turns before, learns of one more, and shows it.
@@ -291,6 +345,10 @@ fn going_round<P: Ledger, B: Ledger, R: Wait + Abort>(
         assert_tells(rt, alloc, &booked, &mut drain, count);
         assert_shows(rt, &mut gauge, shown);
     }
+    // A turn that finds nothing tells of the same row once more.
+    assert_tells(rt, alloc, &booked, &mut drain, 0);
+    assert_tells(rt, alloc, &booked, &mut drain, 0);
+    assert_shows(rt, &mut gauge, shown);
     drain.end(rt);
 }
 
