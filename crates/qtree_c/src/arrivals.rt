@@ -1,5 +1,5 @@
 //! Packets arrive.
-ghost use Rattle.std.specs.Prelude.{◌≡◌, ◌≢◌, ◌≤◌, ◌<◌, ◌^◌, ⊥, length};
+ghost use Rattle.std.specs.Prelude.{◌≡◌, ◌≢◌, ◌≤◌, ◌<◌, ◌^◌, length};
 ghost use Rattle.q_device.specs.DeviceLaws.{HasItsMemory};
 ghost use Rattle.q_device.specs.DeviceSeen.{HasRoomFor};
 ghost use Rattle.q_ports.specs.Room.{StaysButForPlaces};
