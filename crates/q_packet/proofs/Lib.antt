@@ -2,4 +2,5 @@ pub mod ChoiceLemmas
 pub mod HeadLemmas
 pub mod KeyLemmas
 pub mod LeastLemmas
+pub mod MarkingLemmas
 pub mod TotalsLemmas

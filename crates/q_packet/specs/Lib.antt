@@ -5,5 +5,6 @@ pub mod Ecn
 pub mod Head
 pub mod Key
 pub mod Least
+pub mod Marking
 pub mod OneAtATime
 pub mod Totals

@@ -4,7 +4,8 @@
 //! - [`Packet`] is a `Copy` descriptor; payload bytes never enter. [`Stamped`] is a packet with the moment of its arrival.
 //! - [`FlowKey`] is what tells flows apart, with its 38 bytes for a hash. [`Ecn`] is the packet's ECN codepoint.
 //! - [`Cause`] says why a packet was lost.
-//! - [`read_head`] reads a packet's key, priority and ECN codepoint from its first bytes, as a [`Head`].
+//! - [`read_head`] reads a packet's key, priority and ECN codepoint from its first bytes, as a [`Head`], and [`mark_head`]
+//!   writes Congestion Experienced into them.
 //! - [`FlowHash`] hashes keys to 32 bits. [`OneAtATime`] is [`one_at_a_time`] over a key's bytes.
 //!
 //! What the contracts carry:
@@ -12,6 +13,8 @@
 //! - The constructors: a value is made exactly where each field is within its range, which the types keep from then on.
 //! - [`read_head`]: for every byte string the result is `head` of it, which `specs/Head.antt` states by the places of the
 //!   bytes in the RFCs' diagrams.
+//! - [`mark_head`]: which bytes it writes (`specs/Marking.antt`), that the head is the same but for its codepoint, and that a
+//!   right checksum stays right.
 //! - [`FlowKey::bytes`]: the fields in order, and different keys have different bytes.
 //! - [`one_at_a_time`] and each [`FlowHash`]: the result is the hash of the bytes as `specs/OneAtATime.antt` folds it, and
 //!   equal keys hash equally.
@@ -27,6 +30,7 @@ mod flow_hash;
 mod flow_key;
 mod head;
 mod jenkins;
+mod marking;
 mod moment;
 mod packet;
 mod stamped;
@@ -37,6 +41,7 @@ pub use flow_hash::FlowHash;
 pub use flow_key::FlowKey;
 pub use head::{Head, read_head};
 pub use jenkins::{OneAtATime, one_at_a_time};
+pub use marking::mark_head;
 pub use moment::Moment;
 pub use packet::{Packet, SOME_PACKET};
 pub use stamped::Stamped;
