@@ -1,3 +1,4 @@
+pub mod ChecksumLemmas
 pub mod ChoiceLemmas
 pub mod HeadLemmas
 pub mod KeyLemmas

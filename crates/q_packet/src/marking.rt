@@ -1,8 +1,7 @@
-ghost use Rattle.std.specs.Prelude.{◌≡◌, ◌≢◌, ◌≤◌, ℕ, true, false, length, slice_index};
+ghost use Rattle.std.specs.Prelude.{◌≡◌, ◌≢◌, ◌≤◌, ◌↔◌, ℕ, true, false, length, slice_index};
 ghost use Rattle.std.specs.Bool.{OnTrue};
-ghost use Rattle.byteorder.specs.Endian.{big_from};
 ghost use Rattle.q_packet.specs.Ecn.{is_capable};
-ghost use Rattle.q_packet.specs.Head.{head, is_ipv4, is_ipv6};
+ghost use Rattle.q_packet.specs.Head.{head, is_ipv4};
 ghost use Rattle.q_packet.specs.Marking.{HasRightChecksum, marked, marked_ipv4, marked_ipv6, ones_sum, renewed_checksum, with_checksum};
 ghost use Rattle.q_packet.specs.declared.ecn.Ecn.TheVariants.{Ce};
 
@@ -22,7 +21,8 @@ pub fn mark_head(packet: &mut [u8]) -> bool
     ensures read { OnTrue result (head packet.new ≡ record (head packet.old) { ecn = Ce }) }
     ensures same { result ≡ false → packet.new ≡ packet.old }
     ensures checksum { is_ipv4 packet.old ≡ true → HasRightChecksum packet.old → HasRightChecksum packet.new }
-    ensures length { length packet.new ≡ length packet.old }
+    ensures damage { is_ipv4 packet.old ≡ true → HasRightChecksum packet.new → HasRightChecksum packet.old }
+    ensures len { length packet.new ≡ length packet.old }
     ensures others { (i : ℕ) → i ≢ 1 → i ≢ 10 → i ≢ 11 → slice_index packet.new i ≡ slice_index packet.old i }
     ensures one_byte { is_ipv4 packet.old ≡ false → (i : ℕ) → i ≢ 1 → slice_index packet.new i ≡ slice_index packet.old i }
 {
@@ -44,7 +44,7 @@ pub fn mark_head(packet: &mut [u8]) -> bool
 fn mark_ipv4(packet: &mut [u8])
     requires { is_ipv4 packet.old ≡ true }
     ensures value { packet.new ≡ marked_ipv4 packet.old }
-    ensures checksum { HasRightChecksum packet.old → HasRightChecksum packet.new }
+    ensures checksum { HasRightChecksum packet.old ↔ HasRightChecksum packet.new }
 {
     let checksum = BigEndian::read_u16(&packet[10..]);
     let old = BigEndian::read_u16(packet);

@@ -1,5 +1,5 @@
 -- The head says whether a packet is marked, and its version how.
-use Rattle.std.proofs.Common.{◌≡◌, false, ◌∙◌, ap, sym, subst, arith}
+use Rattle.std.proofs.Common.{◌∙◌, ap, sym, subst, arith}
 use Rattle.std.proofs.lemmas.Bool.{both_ways}
 use Rattle.q_packet.specs.Head.{is_ipv4}
 use Rattle.q_packet.specs.Marking.{becomes_ce}
@@ -53,7 +53,10 @@ returns-then-packet-eq4-clause-read c =
     head_marked4 packet _ marks (ipv4_parts packet (capable4 packet codes.1 c.if-packet-eq4.true))
 
 pub returns-then-packet-eq4-clause-checksum : goal.returns-then-packet-eq4-clause-checksum
-returns-then-packet-eq4-clause-checksum c whole right = c.mark_ipv4.ensures.checksum right
+returns-then-packet-eq4-clause-checksum c whole right = c.mark_ipv4.ensures.checksum.0 right
+
+pub returns-then-packet-eq4-clause-damage : goal.returns-then-packet-eq4-clause-damage
+returns-then-packet-eq4-clause-damage c whole right = c.mark_ipv4.ensures.checksum.1 right
 
 pub returns-then-packet-eq4-clause-others : goal.returns-then-packet-eq4-clause-others
 returns-then-packet-eq4-clause-others c =

@@ -1,11 +1,11 @@
 -- The two bytes of the checksum are those of the word that the words before and after make.
-use Rattle.std.proofs.Common.{◌≡◌, ◌≤◌, ◌/◌, ◌%◌, ◌∙◌, length, set, slice_index, sym, ap, subst, arith}
+use Rattle.std.proofs.Common.{◌≡◌, ◌∙◌, set, slice_index, sym, ap, subst, arith}
 use Rattle.std.specs.Int.Bits.{bit_or}
 use Rattle.byteorder.specs.Endian.{big_from}
-use Rattle.q_packet.specs.Head.{header_length}
-use Rattle.q_packet.specs.Marking.{HasRightChecksum, marked_ipv4, renewed_checksum, with_ce_ipv4}
+use Rattle.q_packet.specs.Marking.{marked_ipv4, renewed_checksum, with_ce_ipv4}
+use Rattle.q_packet.proofs.ChecksumLemmas.{checksum_stays}
 use Rattle.q_packet.proofs.HeadLemmas.{number_from}
-use Rattle.q_packet.proofs.MarkingLemmas.{Marks4, checksum_stays, ipv4_parts, marks4, set_low_two}
+use Rattle.q_packet.proofs.MarkingLemmas.{Marks4, ipv4_parts, marks4, set_low_two}
 use Rattle.q_packet.proofs.marking.mark_ipv4.Goals as goal
 
 pub returns-clause-value : goal.returns-clause-value
@@ -26,8 +26,7 @@ pub returns-clause-checksum : goal.returns-clause-checksum
 returns-clause-checksum c =
     let packet = c.args.packet.now in
     let is = ipv4_parts packet c.requires in
-    let value = returns-clause-value c in
-    let marks = subst (Marks4 packet) (sym value) (marks4 packet (omega (arith, is.least, is.there))) in
+    let marks = subst (Marks4 packet) (sym (returns-clause-value c)) (marks4 packet (omega (arith, is.least, is.there))) in
     let checksum : c.read_u16-checksum.result ≡ big_from 10 2 packet =
     c.read_u16-checksum.ensures ∙ number_from packet 10 2 (omega (arith, is.least, is.there)) in
     checksum_stays packet _ marks is (λ i. omega (arith, c.type_inv.packet i)) (omega arith)
