@@ -1,8 +1,8 @@
 -- The lists of new and old flows as linked values: one flow more at the end, the first taken out, and the first written anew.
-use Rattle.std.proofs.Common.{◌≡◌, ◌≢◌, ℕ, zero, suc, ◌+◌, ◌<◌, ◌≤◌, ℤ, Bool, true, false, ◌||◌, ◌==◌, List, [], ◌∷◌, ◌++◌, length, set, drop, ◌⊎◌, inl, inr, Option, Some, None, refl, sym, ap, ◌∙◌, arith, eq-eqb, subst, ⊎_elim}
+use Rattle.std.proofs.Common.{◌≡◌, ◌≢◌, ℕ, zero, suc, ◌+◌, ◌<◌, ◌≤◌, ℤ, Bool, true, false, ◌||◌, ◌==◌, List, [], ◌∷◌, ◌++◌, length, set, drop, ◌⊎◌, inl, inr, Option, Some, None, refl, sym, ap, ap₂, ◌∙◌, arith, eq-eqb, subst, subst₂, ⊎_elim}
 use Rattle.std.specs.Prelude.{◌-◌}
 use Rattle.std.proofs.lemmas.Bool.{cases_eq, cases_lt, false≢true, eqb-true}
-use Rattle.std.proofs.lemmas.List.{length-set, get_or-set_same, get_or-set_other, get_or_past}
+use Rattle.std.proofs.lemmas.List.{length-set, get_or-set_same, get_or-set_other, get_or_past, set-set}
 use Rattle.q_fqcodel.specs.Entry.{Entry}
 use Rattle.q_fqcodel.specs.Linked.{chain, IsChain, IsAppended}
 use Rattle.q_fqcodel.specs.Links.{no_link, link_of, where_listed, link_at, listing, led_on, IsAt, entries_in, IsLine, KeepsLines}
@@ -117,9 +117,10 @@ lines_kept place links links2 stays back = record { linked = λ q ends ne line. 
 leading : (place : Place) → Leads listing (IsAt place) led_on
 leading place = record { next = λ k x. refl; item = λ j k x. refl; mine = λ k x o. o }
 
-module _ (links : List Link) (place : Place) (ends : Ends) (flow : ℕ) (credits : ℤ) (within : flow < length links) (free : link_at links flow ≡ None) (named : place ≢ Unlisted) (line : IsLine links place ends) where
+-- no flow is behind it, whatever its link says is
+module _ (links : List Link) (place : Place) (ends : Ends) (flow : ℕ) (credits : ℤ) (next : ℕ) (within : flow < length links) (free : link_at links flow ≡ None) (named : place ≢ Unlisted) (line : IsLine links place ends) where
   abbrev new : Link
-  new = record { credits = credits; next = 0; place = place }
+  new = record { credits = credits; next = next; place = place }
 
   abbrev entry : Entry
   entry = record { flow = flow; credits = credits }
@@ -268,6 +269,11 @@ module _ (links : List Link) (place : Place) (ends : Ends) (some : 0 < ends.coun
   pub head_within : ends.head < length links
   head_within = (link_there links ends.head at_head.0 at_head.1).1
 
+  pub tail_there : ends.tail < length links
+  tail_there =
+      let x = tail_of listing (IsAt place) (link_at links) ends.tail (ends.count - 1) ends.head cut in
+      (link_there links ends.tail x.0 x.1).1
+
   head_read : link_at links ends.head ≡ Some head
   head_read = at_head.1 ∙ ap (λ (x : Link). Some x) head_is
 
@@ -362,3 +368,73 @@ module _ (links : List Link) (place : Place) (ends : Ends) (some : 0 < ends.coun
 
     pub renewed_keeps : KeepsLines place links (after renewed)
     renewed_keeps = keeps renewed (inr head_place)
+
+-- ---- the first goes behind the others
+
+module _ (links : List Link) (place : Place) (ends : Ends) (credits : ℤ) (several : 1 < ends.count) (line : IsLine links place ends) where
+  some : 0 < ends.count
+  some = omega (arith, several)
+
+  abbrev front : Link
+  front = link_of links ends.head
+
+  -- as if it were taken out first
+  abbrev without : List Link
+  without = set links ends.head no_link
+
+  abbrev others : Ends
+  others = record { head = front.next; tail = ends.tail; count = ends.count - 1 }
+
+  free : link_at without ends.head ≡ None
+  free = freed_at links place ends some line
+
+  left : IsLine without place others
+  left = removed_line links place ends some line
+
+  inside : ends.head < length without
+  inside = omega (arith, head_within links place ends some line, length-set links ends.head no_link)
+
+  more_than_none : others.count ≢ 0
+  more_than_none e = omega (arith, several, e)
+
+  abbrev paid : List Link
+  paid = set links ends.head (record front { credits = credits })
+
+  paid_is : set without ends.head (record { credits = credits; next = front.next; place = place }) ≡ paid
+  paid_is =
+      set-set links ends.head no_link (record { credits = credits; next = front.next; place = place })
+      ∙ ap (λ (p : Place). set links ends.head (record { credits = credits; next = front.next; place = p })) (sym (head_place links place ends some line))
+
+  abbrev turned : List Link
+  turned = set paid ends.tail (led_on ends.head (link_of paid ends.tail))
+
+  abbrev turned_ends : Ends
+  turned_ends = record { head = front.next; tail = ends.head; count = ends.count }
+
+  appended_is : set (set without ends.head (record { credits = credits; next = front.next; place = place })) ends.tail
+      (led_on ends.head (link_of (set without ends.head (record { credits = credits; next = front.next; place = place })) ends.tail)) ≡ turned
+  appended_is = ap (λ (l : List Link). set l ends.tail (led_on ends.head (link_of l ends.tail))) paid_is
+
+  ends_are : ◌≡◌ {A = Ends} (record { head = front.next; tail = ends.head; count = ends.count - 1 + 1 }) turned_ends
+  ends_are = let e : ends.count - 1 + 1 ≡ ends.count = omega (arith, several) in ap (λ (n : ℕ). record { head = front.next; tail = ends.head; count = n }) e
+
+  pub turned_entries : entries_in turned turned_ends ≡ drop 1 (entries_in links ends) ++ record { flow = ends.head; credits = credits } ∷ []
+  turned_entries =
+      ap₂ (λ (l : List Link) (e : Ends). entries_in l e) (sym appended_is) (sym ends_are)
+      ∙ next_entries without place others ends.head credits front.next inside free (named links place ends some line) left more_than_none
+      ∙ ap (λ (l : List Entry). l ++ record { flow = ends.head; credits = credits } ∷ []) (removed_entries links place ends some line)
+
+  pub turned_line : IsLine turned place turned_ends
+  turned_line =
+      subst₂ (λ (l : List Link) (e : Ends). IsLine l place e) appended_is ends_are
+      (next_line without place others ends.head credits front.next inside free (named links place ends some line) left more_than_none)
+
+  pub turned_keeps : KeepsLines place links turned
+  turned_keeps =
+      let away : KeepsLines place links without = removed_keeps links place ends some line in
+      let back : KeepsLines place without turned = subst (λ (l : List Link). KeepsLines place without l) appended_is
+      (next_keeps without place others ends.head credits front.next inside free (named links place ends some line) left more_than_none) in
+      record {
+        linked = λ q e ne l. back.linked q e ne (away.linked q e ne l);
+        same = λ q e ne l. back.same q e ne (away.linked q e ne l) ∙ away.same q e ne l;
+      }

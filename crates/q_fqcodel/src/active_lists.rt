@@ -4,7 +4,7 @@ ghost use Rattle.q_fqcodel.specs.Put.{is_listed};
 use crate::ends::Ends;
 use crate::entry::Entry;
 use crate::link::Link;
-use crate::links::{append_flow, first_of, remove_first, write_credits};
+use crate::links::{append_flow, first_of, move_first_to_end, remove_first, write_credits};
 use crate::place::Place;
 use std::alloc::{AllocError, Global};
 use std::marker::Model;
@@ -136,8 +136,7 @@ impl ActiveLists {
         if self.old_flows.count == 1 {
             return write_credits(&mut self.links, entry);
         }
-        let rest = remove_first(&mut self.links, self.old_flows);
-        self.old_flows = append_flow(&mut self.links, rest, Place::Old, entry.flow, entry.credits);
+        self.old_flows = move_first_to_end(&mut self.links, self.old_flows, entry);
     }
 
     /// Takes the flow in front of the old list out of it.

@@ -1,4 +1,5 @@
-//! The lists of new and of old flows, each linked through the flows' links: one flow appended, the first taken out, one written.
+//! The lists of new and of old flows, each linked through the flows' links: one flow appended, the first taken out or moved to the
+//! end, one written.
 ghost use Rattle.std.specs.Prelude.{◌≡◌, ◌≢◌, ◌<◌, None, [], ◌∷◌, ◌++◌, length, set, drop, slice_get};
 ghost use Rattle.q_fqcodel.specs.Links.{link_of, led_on, link_at, entries_in, IsLine, KeepsLines};
 
@@ -57,6 +58,27 @@ pub(crate) fn remove_first(links: &mut Vec<Link>, list: Ends) -> Ends
         head: first.next,
         tail: list.tail,
         count: list.count - 1,
+    }
+}
+
+/// Moves the first flow of a list, which has others behind it, to the end, with the credits of `entry`, which is its own. It stays
+/// listed at this place all the time, so that its link is neither cleared nor written anew.
+pub(crate) fn move_first_to_end(links: &mut Vec<Link>, list: Ends, entry: Entry) -> Ends
+    requires several { 1 < list.count }
+    requires own { list.head ≡ entry.flow }
+    requires linked { (place : Place) × IsLine links.old.items place list }
+    ensures entries { entries_in links.new.items result ≡ drop 1 (entries_in links.old.items list) ++ entry ∷ [] }
+    ensures linked { (place : Place) → IsLine links.old.items place list → IsLine links.new.items place result }
+    ensures others { (place : Place) → IsLine links.old.items place list → KeepsLines place links.old.items links.new.items }
+    ensures len { length links.new.items ≡ length links.old.items }
+{
+    let front = read(links, list.head);
+    write_credits(links, entry);
+    write_next(links, list.tail, list.head);
+    Ends {
+        head: front.next,
+        tail: list.head,
+        count: list.count,
     }
 }
 
