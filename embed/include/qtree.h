@@ -14,6 +14,8 @@
  *   - No function is called from a signal handler, or in the child of a fork of a program with threads. A thread that calls
  *     has 64 KB of stack left at least.
  *   - malloc, realloc and free are the C library's or behave as they have to.
+ *   - The processor is x86-64-v2 or later (SSE4.2 and POPCNT), and the system Linux, whichever its C library (glibc, musl). The
+ *     compiler refuses others here; that an x86-64 processor is older, it cannot see.
  *
  * No function waits, prints, aborts or calls back. An offer, a poll and a reap take no memory, and neither do those that read
  * heads, counters, shares and moments.
@@ -23,6 +25,10 @@
  */
 #ifndef QTREE_H
 #define QTREE_H
+
+#if !defined(__x86_64__) || defined(__ILP32__) || !defined(__linux__)
+#error "qtree is compiled for Linux on x86-64-v2 with pointers of 64 bits, and for nothing else"
+#endif
 
 #include <stdbool.h>
 #include <stddef.h>
@@ -92,7 +98,11 @@ typedef struct qtree_device {
     void *at;
     uint64_t state;
 } qtree_device;
+#ifdef __cplusplus
+#define QTREE_CLOSED { nullptr, 0 }
+#else
 #define QTREE_CLOSED { 0, 0 }
+#endif
 
 /* The two ends of a ring, by which a sender on a thread of its own brings packets to a device without a lock. Both begin with
  * QTREE_CLOSED. The sender's end, and the device's: */

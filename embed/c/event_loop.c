@@ -1,0 +1,166 @@
+/* A device that sleeps until a packet may go or a sender has brought one, and senders that sleep while their ring is full, as
+ * docs/EMBEDDING.md shows them. */
+#define _GNU_SOURCE
+#include "check.h"
+#include "qtree.h"
+
+#include <poll.h>
+#include <pthread.h>
+#include <stdatomic.h>
+#include <string.h>
+#include <sys/eventfd.h>
+#include <sys/timerfd.h>
+#include <time.h>
+
+enum { SENDERS = 2, BURSTS = 25, BURST = 20, PLACES = 16 };
+
+/* Wakes a thread that sleeps in poll or epoll. */
+struct bell {
+    int fd; /* an eventfd, which is ready to be read once it has rung */
+    atomic_bool is_listened_to;
+};
+
+/* A thread says that it is about to sleep. Then it looks once more for what it waits for: that is what came before, and who brings
+ * something later will ring. Both sides exchange the flag, so that one of them always sees what the other did. */
+static void bell_listen(struct bell *bell) { atomic_exchange(&bell->is_listened_to, true); }
+
+/* After something was brought. This is no call of the system unless the other thread sleeps. */
+static void bell_ring(struct bell *bell) {
+    if (atomic_exchange(&bell->is_listened_to, false)) {
+        eventfd_write(bell->fd, 1);
+    }
+}
+
+/* After sleeping. One that rings just now wakes the thread once more, for nothing. */
+static void bell_hush(struct bell *bell) {
+    eventfd_t count;
+    atomic_exchange(&bell->is_listened_to, false);
+    eventfd_read(bell->fd, &count);
+}
+
+struct sender {
+    qtree_port port;
+    qtree_outlet outlet; /* the drain's */
+    struct bell room;    /* rings once its ring has room */
+    pthread_t thread;
+};
+
+static struct sender senders[SENDERS];
+static struct bell arrivals; /* rings once a ring has a packet, or a sender has ended */
+static atomic_int open_senders = SENDERS;
+
+static uint64_t clock_ns(clockid_t clock) {
+    struct timespec now;
+    clock_gettime(clock, &now);
+    return (uint64_t)now.tv_sec * 1000000000 + (uint64_t)now.tv_nsec;
+}
+
+/* Waits for room where the ring is full. */
+static void bring(struct sender *sender, const qtree_packet *packet) {
+    struct pollfd room = { .fd = sender->room.fd, .events = POLLIN };
+    while (qtree_offer(&sender->port, packet) == QTREE_FULL) {
+        bell_ring(&arrivals);
+        bell_listen(&sender->room);
+        if (qtree_offer(&sender->port, packet) == QTREE_DONE) {
+            return;
+        }
+        poll(&room, 1, -1);
+        bell_hush(&sender->room);
+    }
+}
+
+static void *send_all(void *its) {
+    struct sender *sender = its;
+    for (int burst = 0; burst < BURSTS; burst++) {
+        for (uint32_t buf = 0; buf < BURST; buf++) {
+            bring(sender, &(qtree_packet){ .len = 1000, .buf = buf });
+        }
+        bell_ring(&arrivals);
+        nanosleep(&(struct timespec){ .tv_nsec = 2000000 }, NULL);
+    }
+    atomic_fetch_sub(&open_senders, 1);
+    bell_ring(&arrivals);
+    return NULL;
+}
+
+/* Takes in, polls and reaps; whether there was something to do. A ring is empty where qtree_take_in takes nothing of it. */
+static bool turn(qtree_device *device) {
+    uint64_t now = clock_ns(CLOCK_MONOTONIC);
+    bool is_busy = false;
+    for (int i = 0; i < SENDERS; i++) {
+        size_t taken;
+        CHECK(qtree_take_in(device, &senders[i].outlet, now, 32, &taken) == QTREE_DONE);
+        if (taken > 0) {
+            bell_ring(&senders[i].room);
+            is_busy = true;
+        }
+    }
+    qtree_packet packet;
+    while (qtree_poll(device, now, &packet) == QTREE_DONE) {
+        is_busy = true; /* transmits packet.buf of the sender packet.port */
+    }
+    qtree_loss loss;
+    while (qtree_reap(device, &loss) == QTREE_DONE) {
+        is_busy = true; /* frees loss.packet.buf of that sender */
+    }
+    return is_busy;
+}
+
+/* Sleeps until a sender rings or a moment comes; for 0, which disarms the timer, until a sender rings. */
+static void sleep_until(int timer, uint64_t moment) {
+    struct itimerspec at = { .it_value = { (time_t)(moment / 1000000000), (long)(moment % 1000000000) } };
+    timerfd_settime(timer, TFD_TIMER_ABSTIME, &at, NULL);
+    struct pollfd either[] = { { arrivals.fd, POLLIN, 0 }, { timer, POLLIN, 0 } };
+    poll(either, 2, -1);
+}
+
+/* Until all senders have ended and nothing is left. How often it slept. */
+static uint64_t drain(qtree_device *device, int timer) {
+    for (uint64_t sleeps = 0;;) {
+        do {
+            bell_hush(&arrivals);
+            while (turn(device)) {
+            }
+            bell_listen(&arrivals);
+        } while (turn(device));
+        uint64_t moment;
+        bool is_due = qtree_ready_at(device, &moment) == QTREE_DONE;
+        if (is_due || atomic_load(&open_senders) > 0) {
+            sleep_until(timer, is_due ? moment : 0);
+            sleeps++;
+        } else if (!turn(device)) { /* nothing that a sender brought just before it ended */
+            return sleeps;
+        }
+    }
+}
+
+int main(void) {
+    static const char line[] = "tc qdisc add dev wan root handle 1: tbf rate 80mbit burst 20000 limit 1mb";
+    qtree_device device = QTREE_CLOSED;
+    qtree_fault fault;
+    CHECK(qtree_open(&device, &(qtree_settings){ .txqueuelen = 1000, .mtu = 1514 }) == QTREE_DONE);
+    CHECK(qtree_command(&device, (const uint8_t *)line, strlen(line), 0, &fault) == QTREE_DONE);
+    int timer = timerfd_create(CLOCK_MONOTONIC, TFD_CLOEXEC);
+    arrivals.fd = eventfd(0, EFD_CLOEXEC | EFD_NONBLOCK);
+    CHECK(timer >= 0 && arrivals.fd >= 0);
+    for (uint32_t i = 0; i < SENDERS; i++) {
+        senders[i].room.fd = eventfd(0, EFD_CLOEXEC | EFD_NONBLOCK);
+        CHECK(senders[i].room.fd >= 0);
+        CHECK(qtree_ring_open(&senders[i].port, &senders[i].outlet, i, PLACES) == QTREE_DONE);
+        CHECK(pthread_create(&senders[i].thread, NULL, send_all, &senders[i]) == 0);
+    }
+    uint64_t begun = clock_ns(CLOCK_MONOTONIC), processor = clock_ns(CLOCK_THREAD_CPUTIME_ID);
+    uint64_t sleeps = drain(&device, timer);
+    processor = clock_ns(CLOCK_THREAD_CPUTIME_ID) - processor;
+    CHECK(sleeps > 0 && processor < (clock_ns(CLOCK_MONOTONIC) - begun) / 2);
+    qtree_row row;
+    CHECK(qtree_totals(&device, &row) == QTREE_DONE && row.sent.packets == row.arrived.packets);
+    for (int i = 0; i < SENDERS; i++) {
+        pthread_join(senders[i].thread, NULL);
+        qtree_port_close(&senders[i].port);
+        qtree_outlet_close(&senders[i].outlet);
+    }
+    qtree_close(&device);
+    printf("%d of %d sent, and slept meanwhile\n", (int)row.sent.packets, SENDERS * BURSTS * BURST);
+    return 0;
+}

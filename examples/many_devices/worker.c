@@ -1,0 +1,95 @@
+#include "worker.h"
+
+#include <time.h>
+
+enum { FLOWS = 1024, CLASSES = 4, FIRST_PORT = 5000, LEN = 1000 };
+
+atomic_bool workers_stop;
+
+static uint64_t clock_ns(clockid_t clock) {
+    struct timespec now;
+    clock_gettime(clock, &now);
+    return (uint64_t)now.tv_sec * 1000000000 + (uint64_t)now.tv_nsec;
+}
+
+uint64_t now_ns(void) { return clock_ns(CLOCK_MONOTONIC); }
+
+qtree_code worker_open(struct worker *worker, uint32_t index) {
+    *worker = (struct worker){ .device = QTREE_CLOSED, .next_flow = index * FLOWS };
+    for (uint32_t buf = 0; buf < BUFFERS; buf++) {
+        worker->free[worker->free_count++] = buf;
+    }
+    mailbox_open(&worker->mailbox);
+    return qtree_open(&worker->device, &(qtree_settings){ .txqueuelen = 1000, .mtu = 1514 });
+}
+
+void worker_close(struct worker *worker) {
+    qtree_close(&worker->device);
+    mailbox_close(&worker->mailbox);
+}
+
+/* As many packets as there are buffers, up to a burst. A program reads frames here, and their heads by qtree_read_head. */
+static size_t make(struct worker *worker, qtree_packet *packets) {
+    size_t count = 0;
+    while (count < BURST && worker->free_count > 0) {
+        uint32_t flow = worker->next_flow++ % FLOWS;
+        packets[count++] = (qtree_packet){
+            .buf = worker->free[--worker->free_count], .len = LEN, .family = 4, .proto = 17, .src_low = 0x0a000000 + flow,
+            .dport = (uint16_t)(FIRST_PORT + flow % CLASSES), .hash = flow * 2654435761u,
+        };
+    }
+    worker->account.made += count;
+    return count;
+}
+
+/* Those that have not arrived, for want of memory, keep no buffer; those that are lost are reaped. */
+static void arrive(struct worker *worker, const qtree_packet *packets, size_t count, uint64_t now) {
+    uint8_t codes[BURST];
+    size_t done = 0;
+    qtree_arrive_many(&worker->device, packets, count, codes, BURST, &done, now);
+    worker->account.made -= count - done;
+    for (size_t i = done; i < count; i++) {
+        worker->free[worker->free_count++] = packets[i].buf;
+    }
+}
+
+/* A program transmits the packets here. */
+static void send(struct worker *worker, uint64_t now) {
+    qtree_packet packets[BURST];
+    size_t count;
+    qtree_poll_many(&worker->device, now, packets, BURST, &count);
+    for (size_t i = 0; i < count; i++) {
+        worker->free[worker->free_count++] = packets[i].buf;
+    }
+    worker->account.sent += count;
+}
+
+static void reap(struct worker *worker) {
+    qtree_loss losses[BURST];
+    size_t count;
+    do {
+        qtree_reap_many(&worker->device, losses, BURST, &count);
+        for (size_t i = 0; i < count; i++) {
+            worker->account.lost[losses[i].cause]++;
+            worker->free[worker->free_count++] = losses[i].packet.buf;
+        }
+    } while (count == BURST);
+}
+
+/* Bursts, and a look into the mailbox after each, until it is to stop. */
+static void *run(void *its) {
+    struct worker *worker = its;
+    uint64_t begun = clock_ns(CLOCK_THREAD_CPUTIME_ID);
+    while (!atomic_load_explicit(&workers_stop, memory_order_relaxed)) {
+        qtree_packet packets[BURST];
+        uint64_t now = now_ns();
+        arrive(worker, packets, make(worker, packets), now);
+        send(worker, now);
+        reap(worker);
+        mailbox_look(&worker->mailbox, &worker->device);
+    }
+    worker->account.processor_ns = clock_ns(CLOCK_THREAD_CPUTIME_ID) - begun;
+    return NULL;
+}
+
+bool worker_start(struct worker *worker) { return pthread_create(&worker->thread, NULL, run, worker) == 0; }
