@@ -5,8 +5,8 @@ use Rattle.std.specs.Prelude.{◌≡◌, ℕ, zero, suc, ◌≤◌, ◌<◌, ◌
 use Rattle.q_packet.specs.Least.{least}
 use Rattle.q_packet.specs.Totals.{size}
 use Rattle.q_packet.specs.Descriptor.{Descriptor}
-use Rattle.q_packet.specs.declared.ecn.Ecn.{Ecn}
-use Rattle.q_packet.specs.declared.ecn.Ecn.TheVariants.{NotEct, Ect1, Ect0, Ce}
+pub use Rattle.q_packet.specs.Ecn.{is_capable}
+use Rattle.q_packet.specs.declared.ecn.Ecn.TheVariants.{Ce}
 use Rattle.q_packet.specs.declared.stamped.Stamped.{Stamped}
 use Rattle.q_codel.specs.Gap.{gap_of}
 use Rattle.q_codel.specs.declared.taken.Taken.{Taken}
@@ -85,13 +85,6 @@ is_standing s now (head ∷ rest) = nat_le s.target (now - head.at) && nat_lt s.
 -- the queue has stood for an interval (section 5.6, `ok_to_drop`)
 abbrev pub is_late : CodelState → ℕ → List Stamped → Bool
 is_late s now queue = is_standing s now queue && nat_lt 0 s.first_above_time && nat_le s.first_above_time now
-
--- whether a packet's transport understands a mark (RFC 3168, section 5)
-abbrev pub is_capable : Ecn → Bool
-is_capable NotEct = false
-is_capable Ect1 = true
-is_capable Ect0 = true
-is_capable Ce = true
 
 -- the head is marked where it would be dropped
 abbrev pub is_markable : CodelState → List Stamped → Bool

@@ -1,5 +1,6 @@
 //! fq_codel beside plain lists: the same calls give the same packets, losses, marks and counts.
 use crate::plain_fq_codel::PlainFqCodel;
+use crate::words::Words;
 use q_codel::Losses;
 use q_fqcodel::{FqCodel, Settings};
 use q_packet::{Cause, Ecn, FlowKey, Moment, Packet};
@@ -8,27 +9,6 @@ use std::process::Abort;
 use std::test::Fail;
 
 const CALLS: u64 = 10_000;
-
-/// Marsaglia's xorshift, with 64 bits of state.
-#[derive(Drop)]
-struct Words {
-    state: u64,
-}
-
-impl Words {
-    fn new() -> Words {
-        Words {
-            state: 0x9e37_79b9_7f4a_7c15,
-        }
-    }
-
-    fn next(&mut self) -> u64 {
-        self.state ^= self.state << 13;
-        self.state ^= self.state >> 7;
-        self.state ^= self.state << 17;
-        self.state
-    }
-}
 
 /// Both bodies, with what each has lost, and how much of each kind was seen.
 #[derive(Drop)]

@@ -21,8 +21,12 @@ mod fq_codel_twins;
 #[cfg(test)]
 mod head;
 #[cfg(test)]
+mod marking;
+#[cfg(test)]
 mod packet;
 #[cfg(test)]
 mod plain_fq_codel;
 #[cfg(test)]
 mod show;
+#[cfg(test)]
+mod words;

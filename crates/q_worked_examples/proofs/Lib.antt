@@ -23,6 +23,7 @@ pub mod LineTable
 mod LineUnits
 mod LineValues
 mod MadeValues
+mod MarkingValues
 mod NoteScripts
 mod PacketValues
 mod PeekScripts
