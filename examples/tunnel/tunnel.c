@@ -6,6 +6,7 @@
  * device. SIGUSR1 prints what `tc -s qdisc show` does, SIGHUP plays the lines of the file that are new or changed, and SIGTERM and
  * SIGINT stop, with a count of what became of every frame. The status is 0 where each is accounted for. */
 
+#include "mark.h"
 #include "names.h"
 #include "qtree.h"
 
@@ -25,7 +26,7 @@
 #include <time.h>
 #include <unistd.h>
 
-enum { MTU = 1500, BUFFERS = 4096, SPARE = BUFFERS, BATCH = 64, CE = 3, LINES = 256, LINE_SIZE = 512 };
+enum { MTU = 1500, BUFFERS = 4096, SPARE = BUFFERS, BATCH = 64, LINES = 256, LINE_SIZE = 512 };
 
 /* The bytes of a frame; one that fills them is longer than the MTU, and lost. */
 struct frame {
@@ -103,20 +104,6 @@ static bool way_read(struct way *way) {
         }
     }
     return true;
-}
-
-/* Writes Ce into a head (RFC 3168), which is whole, since its codepoint was read, and mends IPv4's checksum (RFC 1624). */
-static void mark(uint8_t *head) {
-    if (head[0] >> 4 == 6) {
-        head[1] |= CE << 4;
-        return;
-    }
-    uint32_t sum = (0xffffu ^ (uint32_t)(head[10] << 8 | head[11])) + (0xffffu ^ head[1]) + (head[1] | CE);
-    sum = (sum & 0xffff) + (sum >> 16);
-    sum = (sum + (sum >> 16)) ^ 0xffff;
-    head[1] |= CE;
-    head[10] = (uint8_t)(sum >> 8);
-    head[11] = (uint8_t)sum;
 }
 
 /* Writes the frames whose turn it is, and brings next down to the moment of the one after; false where the device is gone. */

@@ -1,0 +1,156 @@
+/* A device whose counters Prometheus reads, with packets that it makes itself.
+ *
+ *     exporter DEVICE <FILE                plays the lines of a file, goes on for ten seconds of its own clock, and writes the text
+ *     exporter DEVICE --listen PORT <FILE  goes on with the time of the system, and answers GET /metrics on 127.0.0.1 */
+#include "metrics.h"
+#include "names.h"
+
+#include <arpa/inet.h>
+#include <poll.h>
+#include <stdlib.h>
+#include <string.h>
+#include <sys/socket.h>
+#include <sys/time.h>
+#include <time.h>
+#include <unistd.h>
+
+enum { LINE_SIZE = 512, REQUEST_SIZE = 4096, FLOWS = 64, CLASSES = 4, FIRST_PORT = 5000, PACKETS = 2, MILLISECOND = 1000000 };
+
+struct exporter {
+    const char *name;
+    qtree_device device;
+    struct losses losses;
+    uint32_t made;
+};
+
+static uint64_t now_ns(void) {
+    struct timespec now;
+    clock_gettime(CLOCK_MONOTONIC, &now);
+    return (uint64_t)now.tv_sec * 1000000000 + (uint64_t)now.tv_nsec;
+}
+
+static bool set_up(struct exporter *exporter, FILE *file) {
+    char line[LINE_SIZE];
+    if (qtree_open(&exporter->device, &(qtree_settings){ .txqueuelen = 1000, .mtu = 1514 }) != QTREE_DONE) {
+        return false;
+    }
+    while (fgets(line, sizeof line, file) != NULL) {
+        qtree_fault fault;
+        line[strcspn(line, "\n")] = '\0';
+        if (line[0] == '#' || line[0] == '\0') {
+            continue;
+        }
+        qtree_code code = qtree_command(&exporter->device, (const uint8_t *)line, strlen(line), 0, &fault);
+        if (code != QTREE_DONE) {
+            fprintf(stderr, "exporter: %s: %s\n", code == QTREE_FAULTY ? fault_name(fault.number) : code_name(code), line);
+            return false;
+        }
+    }
+    return true;
+}
+
+/* Some packets of several flows arrive, those that may go are sent, and losses are reaped. */
+static void turn(struct exporter *exporter, uint64_t now) {
+    for (int i = 0; i < PACKETS; i++) {
+        uint32_t flow = exporter->made++ % FLOWS;
+        qtree_packet packet = {
+            .len = (uint16_t)(100 + exporter->made * 37 % 1400), .family = 4, .proto = 17, .src_low = 0x0a000000 + flow, .hash = flow,
+            .dport = (uint16_t)(FIRST_PORT + flow % CLASSES), .ecn = flow % 3 == 0 ? 2 : 0,
+        };
+        qtree_arrive(&exporter->device, &packet, now);
+    }
+    qtree_packet packet;
+    while (qtree_poll(&exporter->device, now, &packet) == QTREE_DONE) {
+        /* transmits packet.buf */
+    }
+    qtree_loss loss;
+    while (qtree_reap(&exporter->device, &loss) == QTREE_DONE) {
+        exporter->losses.by_cause[loss.cause].packets++;
+        exporter->losses.by_cause[loss.cause].bytes += loss.packet.len;
+    }
+}
+
+static bool write_all(struct exporter *exporter, FILE *file) {
+    struct tree tree;
+    bool is_read = tree_read(&tree, &exporter->device) == QTREE_DONE;
+    if (is_read) {
+        metrics_write(file, exporter->name, &tree, &exporter->losses);
+    }
+    tree_free(&tree);
+    return is_read;
+}
+
+/* Whether a request is one for the text. It is read to its blank line, or until a second has gone. */
+static bool read_request(int client) {
+    char request[REQUEST_SIZE + 1];
+    size_t len = 0;
+    setsockopt(client, SOL_SOCKET, SO_RCVTIMEO, &(struct timeval){ .tv_sec = 1 }, sizeof(struct timeval));
+    for (ssize_t got; len < REQUEST_SIZE && (got = recv(client, request + len, REQUEST_SIZE - len, 0)) > 0;) {
+        len += (size_t)got;
+        request[len] = '\0';
+        if (strstr(request, "\r\n\r\n") != NULL) {
+            return strncmp(request, "GET /metrics ", 13) == 0;
+        }
+    }
+    return false;
+}
+
+static void answer(struct exporter *exporter, int client) {
+    static const char form[] = "HTTP/1.1 %s\r\nContent-Type: text/plain; version=0.0.4; charset=utf-8\r\nContent-Length: %zu\r\nConnection: close\r\n\r\n";
+    char *text = NULL;
+    size_t len = 0;
+    FILE *file = open_memstream(&text, &len);
+    bool is_asked = read_request(client), is_written = is_asked && file != NULL && write_all(exporter, file);
+    if (file != NULL) {
+        fclose(file);
+    }
+    len = is_written ? len : 0;
+    dprintf(client, form, is_written ? "200 OK" : is_asked ? "503 Service Unavailable" : "404 Not Found", len);
+    for (size_t sent = 0; sent < len;) {
+        ssize_t more = send(client, text + sent, len - sent, MSG_NOSIGNAL);
+        sent = more > 0 ? sent + (size_t)more : len;
+    }
+    free(text);
+    close(client);
+}
+
+/* One thread has the device, and answers between its turns. */
+static int serve(struct exporter *exporter, uint16_t port) {
+    struct sockaddr_in here = { .sin_family = AF_INET, .sin_port = htons(port), .sin_addr.s_addr = htonl(INADDR_LOOPBACK) };
+    struct pollfd asked = { .fd = socket(AF_INET, SOCK_STREAM, 0), .events = POLLIN };
+    setsockopt(asked.fd, SOL_SOCKET, SO_REUSEADDR, &(int){ 1 }, sizeof(int));
+    if (asked.fd < 0 || bind(asked.fd, (struct sockaddr *)&here, sizeof here) < 0 || listen(asked.fd, 8) < 0) {
+        perror("exporter");
+        return 1;
+    }
+    for (;;) {
+        turn(exporter, now_ns());
+        if (poll(&asked, 1, 1) > 0) {
+            int client = accept(asked.fd, NULL, NULL);
+            if (client >= 0) {
+                answer(exporter, client);
+            }
+        }
+    }
+}
+
+int main(int argc, char **argv) {
+    if (argc != 2 && (argc != 4 || strcmp(argv[2], "--listen") != 0)) {
+        fprintf(stderr, "usage: exporter DEVICE [--listen PORT] <FILE\n");
+        return 2;
+    }
+    struct exporter exporter = { .name = argv[1], .device = QTREE_CLOSED };
+    int status;
+    if (!set_up(&exporter, stdin)) {
+        status = 1;
+    } else if (argc == 4) {
+        status = serve(&exporter, (uint16_t)strtoul(argv[3], NULL, 10));
+    } else {
+        for (uint64_t now = 0; now < 10000 * (uint64_t)MILLISECOND; now += MILLISECOND) {
+            turn(&exporter, now);
+        }
+        status = write_all(&exporter, stdout) ? 0 : 1;
+    }
+    qtree_close(&exporter.device);
+    return status;
+}

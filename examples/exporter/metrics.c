@@ -1,0 +1,107 @@
+#include "metrics.h"
+#include "names.h"
+
+#include <inttypes.h>
+
+/* The counts of a row, by where they stand in it. */
+static const struct {
+    const char *name, *help;
+    size_t at;
+    bool is_gauge;
+} counts[] = {
+    { "arrived", "that arrived", offsetof(qtree_row, arrived), false },
+    { "sent", "that were sent", offsetof(qtree_row, sent), false },
+    { "refused", "that were lost as they arrived", offsetof(qtree_row, refused), false },
+    { "dropped", "that were lost from a queue", offsetof(qtree_row, dropped), false },
+    { "marked", "that were marked with Ce", offsetof(qtree_row, marked), false },
+    { "queued", "that are queued", offsetof(qtree_row, queued), true },
+};
+
+/* A label's value: a backslash, a quote and a new line are written in two bytes. */
+static void write_value(FILE *file, const char *value) {
+    for (; *value != '\0'; value++) {
+        if (*value == '\n') {
+            fputs("\\n", file);
+        } else {
+            fprintf(file, "%s%c", *value == '\\' || *value == '"' ? "\\" : "", *value);
+        }
+    }
+}
+
+static void write_head(FILE *file, const char *name, const char *type, const char *help, const char *more) {
+    fprintf(file, "# HELP %s %s%s\n# TYPE %s %s\n", name, help, more, name, type);
+}
+
+/* The name and the first label; the caller writes further labels, each with a comma before it, and closes the brace. */
+static void write_begin(FILE *file, const char *name, const char *device) {
+    fprintf(file, "%s{device=\"", name);
+    write_value(file, device);
+    fputs("\"", file);
+}
+
+static uint64_t count_of(const qtree_row *row, size_t at, bool in_bytes) {
+    const qtree_count *count = (const qtree_count *)((const char *)row + at);
+    return in_bytes ? count->bytes : count->packets;
+}
+
+static void write_qdisc(FILE *file, const struct qdisc *qdisc) {
+    fprintf(file, ",kind=\"%s\",handle=\"%" PRIx16 ":\",parent=\"", qdisc->kind, qdisc->handle);
+    if (qdisc->is_root) {
+        fputs("root\"}", file);
+    } else {
+        fprintf(file, "%" PRIx16 ":%" PRIx16 "\"}", qdisc->parent_major, qdisc->parent_minor);
+    }
+}
+
+/* One family: a count of the device itself and of each qdisc, in packets or in bytes. */
+static void write_counts(FILE *file, const char *device, const struct tree *tree, size_t which, bool in_bytes) {
+    char name[64];
+    const char *unit = in_bytes ? "bytes" : "packets";
+    snprintf(name, sizeof name, "qtree_%s_%s%s", counts[which].name, unit, counts[which].is_gauge ? "" : "_total");
+    write_head(file, name, counts[which].is_gauge ? "gauge" : "counter", in_bytes ? "Bytes of packets " : "Packets ", counts[which].help);
+    write_begin(file, name, device);
+    fprintf(file, ",kind=\"device\",handle=\"\",parent=\"\"} %" PRIu64 "\n", count_of(&tree->device, counts[which].at, in_bytes));
+    for (size_t i = 0; i < tree->qdisc_count; i++) {
+        write_begin(file, name, device);
+        write_qdisc(file, &tree->qdiscs[i]);
+        fprintf(file, " %" PRIu64 "\n", count_of(&tree->qdiscs[i].row, counts[which].at, in_bytes));
+    }
+}
+
+static void write_losses(FILE *file, const char *device, const struct losses *losses) {
+    write_head(file, "qtree_lost_packets_total", "counter", "Packets that were reaped, by cause", "");
+    for (uint32_t cause = QTREE_LOST_TOO_LONG; cause <= QTREE_LOST_PURGED; cause++) {
+        write_begin(file, "qtree_lost_packets_total", device);
+        fprintf(file, ",cause=\"%s\"} %" PRIu64 "\n", code_name(cause), losses->by_cause[cause].packets);
+    }
+    write_head(file, "qtree_lost_bytes_total", "counter", "Bytes of packets that were reaped, by cause", "");
+    for (uint32_t cause = QTREE_LOST_TOO_LONG; cause <= QTREE_LOST_PURGED; cause++) {
+        write_begin(file, "qtree_lost_bytes_total", device);
+        fprintf(file, ",cause=\"%s\"} %" PRIu64 "\n", code_name(cause), losses->by_cause[cause].bytes);
+    }
+}
+
+/* One family of the classes of drrs: its first number is the quantum, then the deficit, then whether it is active. */
+static void write_classes(FILE *file, const char *device, const struct tree *tree, int which) {
+    static const char *const names[] = { "qtree_class_quantum_bytes", "qtree_class_deficit_bytes", "qtree_class_active" };
+    static const char *const helps[] = { "Quantum of a class of a drr", "What an active class may send before the next quantum",
+                                         "Whether a class of a drr has packets" };
+    write_head(file, names[which], "gauge", helps[which], "");
+    for (size_t i = 0; i < tree->class_count; i++) {
+        const struct drr_class *class = &tree->classes[i];
+        const uint64_t numbers[] = { class->quantum, class->deficit, class->is_active };
+        write_begin(file, names[which], device);
+        fprintf(file, ",class=\"%" PRIx16 ":%" PRIx16 "\"} %" PRIu64 "\n", class->major, class->minor, numbers[which]);
+    }
+}
+
+void metrics_write(FILE *file, const char *device, const struct tree *tree, const struct losses *losses) {
+    for (size_t which = 0; which < sizeof counts / sizeof counts[0]; which++) {
+        write_counts(file, device, tree, which, false);
+        write_counts(file, device, tree, which, true);
+    }
+    write_losses(file, device, losses);
+    for (int which = 0; which < 3; which++) {
+        write_classes(file, device, tree, which);
+    }
+}

@@ -1,0 +1,16 @@
+/* A device in the text format of Prometheus, version 0.0.4. */
+#ifndef METRICS_H
+#define METRICS_H
+
+#include "tree.h"
+
+#include <stdio.h>
+
+/* What the program reaped, by cause: the device tells causes with its losses alone. */
+struct losses {
+    qtree_count by_cause[QTREE_LOST_PURGED + 1];
+};
+
+void metrics_write(FILE *file, const char *device, const struct tree *tree, const struct losses *losses);
+
+#endif
