@@ -1,5 +1,5 @@
 //! The packets of one flow among the nodes of all: one appended, or the first taken.
-ghost use Rattle.std.specs.Prelude.{ℕ, ◌≡◌, ◌+◌, ◌<◌, ◌≤◌, ◌%◌, [], ◌∷◌, ◌++◌, ◌^◌, Some, drop, option_map, slice_get};
+ghost use Rattle.std.specs.Prelude.{ℕ, ◌≡◌, ◌≢◌, ◌+◌, ◌<◌, ◌≤◌, ◌%◌, [], ◌∷◌, ◌++◌, ◌^◌, Some, drop, option_map, slice_get};
 ghost use Rattle.q_packet.specs.declared.stamped.Stamped.{Stamped};
 ghost use Rattle.q_fqcodel.specs.Chain.{queue_in, IsList, KeepsOthers};
 ghost use Rattle.q_fqcodel.specs.Nodes.{used};
@@ -20,6 +20,7 @@ pub(crate) fn append(nodes: &mut Nodes, list: FlowList, packet: &Packet, now: Mo
     ensures others { (flows : ℕ) → IsList (used nodes.old) flows (packet.now.hash % flows) list
         → KeepsOthers flows (packet.now.hash % flows) (used nodes.old) (used nodes.new) }
     ensures count { result.count ≡ list.count + 1 }
+    ensures head { list.count ≢ 0 → result.head ≡ list.head }
     ensures bytes { result.bytes ≡ list.bytes + packet.now.len }
     ensures len { nodes.new.count ≡ nodes.old.count + 1 }
     ensures capacity { nodes.new.slab.capacity ≡ nodes.old.slab.capacity }

@@ -293,6 +293,7 @@ impl FqCodel {
     }
 
     // The flow in front of the new list, if it sends; where it does not, it goes to the end of the old list.
+    #[inline(always)]
     fn turn_new(&mut self) -> Option<Entry>
         requires { 0 < length self.old.state.new_flows }
         ensures first { IsSome result → result ≡ front self.old.state }

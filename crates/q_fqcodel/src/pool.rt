@@ -1,4 +1,4 @@
-ghost use Rattle.std.specs.Prelude.{ℕ, ◌≡◌, ◌+◌, ◌-◌, ◌*◌, ◌<◌, ◌≤◌, ◌%◌, ◌^◌, [], ◌∷◌, ◌++◌, length, Some, option_map, slice_get, get_or, take, drop, set, replicate, IsOk, IfOk, OnOk, OnErr};
+ghost use Rattle.std.specs.Prelude.{ℕ, ◌≡◌, ◌≢◌, ◌+◌, ◌-◌, ◌*◌, ◌<◌, ◌≤◌, ◌%◌, ◌^◌, [], ◌∷◌, ◌++◌, length, Some, option_map, slice_get, get_or, take, drop, set, replicate, IsOk, IfOk, OnOk, OnErr};
 ghost use Rattle.q_packet.specs.Totals.{count, size};
 ghost use Rattle.q_packet.specs.declared.stamped.Stamped.{Stamped};
 ghost use Rattle.q_codel.specs.Front.{front_of};
@@ -88,7 +88,7 @@ impl Pool {
     {
         let list = list_at(&self.lists, flow);
         let longer = append(&mut self.nodes, list, packet, now);
-        self.lists[flow as usize] = longer;
+        write_longer(&mut self.lists, flow, longer);
         self.bytes += packet.len as u64;
         longer.bytes
     }
@@ -267,4 +267,19 @@ fn write_rest(lists: &mut Vec<FlowList>, flow: u32, rest: FlowList)
     list.head = rest.head;
     list.count = rest.count;
     list.bytes = rest.bytes;
+}
+
+// Writes the list of a flow that has got a packet: but for its head, which stays, where the packet is not the first.
+fn write_longer(lists: &mut Vec<FlowList>, flow: u32, longer: FlowList)
+    requires within { flow < length lists.old.items }
+    requires head { longer.count ≢ 1 → longer.head ≡ (get_or lists.old.items flow no_list).head }
+    ensures { lists.new.items ≡ set lists.old.items flow longer }
+{
+    let list = &mut lists[flow as usize];
+    list.tail = longer.tail;
+    list.count = longer.count;
+    list.bytes = longer.bytes;
+    if longer.count == 1 {
+        list.head = longer.head;
+    }
 }

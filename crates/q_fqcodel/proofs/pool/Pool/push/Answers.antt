@@ -1,6 +1,7 @@
 use Rattle.std.proofs.Common.{◌≡◌, ℕ, ◌+◌, ◌%◌, get_or, refl, ◌<◌, List, [], ◌∷◌, ◌++◌, length, set, sym, ap, ap₂, ◌∙◌, arith, subst}
 use Rattle.std.proofs.lemmas.List.{get_or-set_same}
 use Rattle.q_fqcodel.specs.Nodes.{used}
+use Rattle.q_packet.specs.Totals.{size}
 use Rattle.q_packet.specs.Descriptor.{Descriptor}
 use Rattle.q_packet.specs.declared.stamped.Stamped.{Stamped}
 use Rattle.q_fqcodel.specs.Chain.{IsList, KeepsOthers}
@@ -57,8 +58,12 @@ within c =
     let p = c.self.inside in
     within_read (used p.nodes) p.nodes.count p.lists.items p.bytes c.self.invariant.0 c.args.self.now.queues (same c) c.args.flow c.list_at-list.result c.list_at-list.ensures c.requires.in_range
 
-pub index_mut-requires : goal.index_mut-requires
-index_mut-requires c = omega (arith, within (goal.at.index_mut-requires c).After-list_at-list, c.self.inside.lists.ok.0)
+pub write_longer-requires-clause-within : goal.write_longer-requires-clause-within
+write_longer-requires-clause-within c = within (goal.at.write_longer-requires-clause-within c).After-list_at-list
+
+pub write_longer-requires-clause-head : goal.write_longer-requires-clause-head
+write_longer-requires-clause-head c more =
+    c.append-longer.ensures.head (λ none. more (omega (arith, c.append-longer.ensures.count, none))) ∙ ap (λ (l : FlowList). l.head) c.list_at-list.ensures
 
 pub overflow_add-self : goal.overflow_add-self
 overflow_add-self c =
@@ -105,7 +110,7 @@ pool2 c len is =
 
 pub invariant_of-self : goal.invariant_of-self
 invariant_of-self c = (
-  pool2 (goal.at.invariant_of-self c).After-append-longer _ (ap (λ (x : Descriptor). x.len) c.packet.view_is),
+  rw c.write_longer.ensures (pool2 (goal.at.invariant_of-self c).After-append-longer _ (ap (λ (x : Descriptor). x.len) c.packet.view_is)),
   omega (arith, c.self.invariant.1, c.append-longer.ensures.capacity),
 )
 
@@ -116,6 +121,7 @@ pub returns-clause-bytes : goal.returns-clause-bytes
 returns-clause-bytes c =
     let d = (goal.at.returns-clause-bytes c).After-append-longer in
     bytes_read (used c.append-longer.new.nodes) c.append-longer.new.nodes.count _ _ (pool2 d c.args.packet.now.len refl) _ refl c.args.flow c.append-longer.result (own_list d)
+    ∙ ap (λ (l : List FlowList). size (get_or (queues_in (used c.append-longer.new.nodes) l) c.args.flow [])) (sym c.write_longer.ensures)
 
 pub returns-clause-bytes_few : goal.returns-clause-bytes_few
 returns-clause-bytes_few c =
@@ -136,6 +142,7 @@ returns-clause-queues c =
     let n = c.args.flow in
     let qs : List (List Stamped) = c.args.self.now.queues in
     let more : List Stamped = stamp c.args.packet.now c.args.now ∷ [] in
-    written (used p.nodes) (used c.append-longer.new.nodes) p.nodes.count p.lists.items p.bytes c.self.invariant.0 n c.append-longer.result (within2 d) (others d) (linked d)
+    ap (queues_in (used c.append-longer.new.nodes)) c.write_longer.ensures
+    ∙ written (used p.nodes) (used c.append-longer.new.nodes) p.nodes.count p.lists.items p.bytes c.self.invariant.0 n c.append-longer.result (within2 d) (others d) (linked d)
     ∙ ap₂ (λ (l : List (List Stamped)) (q : List Stamped). set l n q) (same2 d)
     (c.append-longer.ensures.queue ∙ ap (λ (q : List Stamped). q ++ more) (queue_read (used p.nodes) p.nodes.count p.lists.items p.bytes c.self.invariant.0 qs (same2 d) n c.list_at-list.result c.list_at-list.ensures))
