@@ -10,6 +10,7 @@ use Rattle.q_ports.specs.declared.sender.Sent.{Sent}
 use Rattle.q_ports.specs.Driven.{HasDriven, port_in, rest_of}
 use Rattle.q_ports.specs.Offered.{Offer, Offered, given_up_in, offering, packet_in}
 use Rattle.q_ports.specs.Placed.{PortSeen, bytes_in, placed_by, port_seen, share_of, written}
+use Rattle.q_ports.specs.Turned.{DrainSeen}
 use Rattle.q_ports.proofs.RingLemmas.{no_ring}
 use Rattle.q_drive.specs.Drive.{Drive, IsInRange}
 use Rattle.q_drive.specs.Loads.{AreLoads, packet_of}
@@ -52,8 +53,8 @@ offer_all v (o ∷ os) (suc n) p count given_up e h =
     let all = offer_all (offering v o) os n p (count + 1) (given_up + given_up_in o) rest two in
     record { all = omega (arith, all.all, sum_by-cons given_up_in o os); bytes = all.bytes }
 
-offered-sent : (before after : PortSeen) (load : List Descriptor) (given_up n : ℕ) (p : Descriptor) → before.placed ≡ [] → load ≡ replicate n p → Offered before load after given_up → IsSent n p.len after.placed given_up
-offered-sent before after load given_up n p none is o =
+offered-sent : (tries : ℕ) (ran : Bool) (before after : PortSeen) (load : List Descriptor) (given_up n : ℕ) (p : Descriptor) → before.placed ≡ [] → load ≡ replicate n p → Offered tries ran before load after given_up → IsSent n p.len after.placed given_up
+offered-sent tries ran before after load given_up n p none is o =
     let start : IsSent 0 p.len before.placed 0 = rw none (record { all = refl; bytes = sym (zero-mul p.len) }) in
     let all = offer_all before o.offers n p 0 0 (o.all ∙ is) start in
     let placed = ap (λ (v : PortSeen). v.placed) o.after_is in
@@ -102,13 +103,13 @@ pub record IsAccounted (s : Drive) (share : Totals) (given_up : ℕ) : Type 0 wh
   pub all : share.packets + given_up ≡ s.senders * s.count
   pub bytes : share.bytes ≡ share.packets * s.len
 
-pub accounted : (s : Drive) (ports : List PortSeen) (loads : List (List Descriptor)) (share : Totals) (given_up : ℕ)
-    → IsInRange s → length ports ≡ s.senders → map placed_by ports ≡ replicate s.senders [] → AreLoads s s.senders loads → HasDriven ports loads share given_up → IsAccounted s share given_up
-accounted s ports loads share given_up range long none asked d =
+pub accounted : {start step tries : ℕ} {drain : DrainSeen} (s : Drive) (ports : List PortSeen) (loads : List (List Descriptor)) (share : Totals) (given_up : ℕ)
+    → IsInRange s → length ports ≡ s.senders → map placed_by ports ≡ replicate s.senders [] → AreLoads s s.senders loads → HasDriven start step tries drain ports loads share given_up → IsAccounted s share given_up
+accounted {start} {step} {tries} {drain} s ports loads share given_up range long none asked d =
     let sent = all-sent s.count s.len d.after (λ k x lt.
     let few : k < length ports = omega (arith, lt, d.drove.count) in
     let in_range : k < s.senders = omega (arith, few, long) in
-    offered-sent (get_or ports k no_port) (get_or d.after k x).port (get_or loads k []) (get_or d.after k x).given_up s.count (packet_of s.len k)
+    offered-sent tries (get_or d.after k x).ran (get_or ports k no_port) (get_or d.after k x).port (get_or loads k []) (get_or d.after k x).given_up s.count (packet_of s.len k)
     (nothing_placed ports s.senders k none few in_range) (asked.each k in_range) (d.drove.each k no_port x lt)) in
     let count : length d.after ≡ s.senders = d.drove.count ∙ long in
     let few : s.senders * s.count ≤ 64 * 1000000 = mul-le-mul range.senders.1 range.count in

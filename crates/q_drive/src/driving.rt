@@ -29,7 +29,7 @@ use std::thread::Threads;
 /// How many parts the right to let packets in has.
 const PARTS: u64 = 65;
 
-/// Lets the senders run over a device at which nothing has arrived. `None` where memory is refused, or a thread could not be
+/// Lets the senders run over a device at which nothing has arrived. `None` where an allocation fails, or a thread could not be
 /// started.
 pub fn drive_device<R: Threads + Wait + Sync>(
     rt: &R,

@@ -18,7 +18,7 @@ no_port : PortSeen
 no_port = port_seen 0 no_ring.ring []
 
 no_sent : Sent
-no_sent = record { port = no_port; given_up = 0 }
+no_sent = record { port = no_port; given_up = 0; ran = false }
 
 offering-ring : (v : PortSeen) (p : Descriptor) (b : Bool) → (offering v (record { packet = p; placed = b })).ring ≡ v.ring
 offering-ring v p true = refl
@@ -29,8 +29,8 @@ offers-ring v [] = refl
 offers-ring v (o ∷ os) = offers-ring (offering v o) os ∙ offering-ring v o.packet o.placed
 
 -- the ports that all senders handed back are of the rings of those that they got
-pub drove-rings : (before : List PortSeen) (loads : List (List Descriptor)) (after : List Sent) → Drove before loads after → map ring_of_port (map port_in after) ≡ map ring_of_port before
-drove-rings before loads after d =
+pub drove-rings : (tries : ℕ) (before : List PortSeen) (loads : List (List Descriptor)) (after : List Sent) → Drove tries before loads after → map ring_of_port (map port_in after) ≡ map ring_of_port before
+drove-rings tries before loads after d =
     let one = length-map after port_in in
     let two = length-map (map port_in after) ring_of_port in
     let long = length-map before ring_of_port in
@@ -46,20 +46,21 @@ drove-rings before loads after d =
     ∙ sym (get_or-map ring_of_port before k no_port r (omega (arith, hk, d.count)))))))
 
 -- so they are of the drain's rings
-pub back-again : (before : List PortSeen) (loads : List (List Descriptor)) (after : List Sent) (back : List PortSeen) (rings rings' : List RingSeen) → Drove before loads after → back ≡ map port_in after
+pub back-again : (tries : ℕ) (before : List PortSeen) (loads : List (List Descriptor)) (after : List Sent) (back : List PortSeen) (rings rings' : List RingSeen) → Drove tries before loads after → back ≡ map port_in after
     → map ring_of_port before ≡ map ring_id rings → map ring_id rings' ≡ map ring_id rings → map ring_of_port back ≡ map ring_id rings'
-back-again before loads after back rings rings' drove is pairs same =
-    ap (λ (ps : List PortSeen). map ring_of_port ps) is ∙ (drove-rings before loads after drove ∙ (pairs ∙ sym same))
+back-again tries before loads after back rings rings' drove is pairs same =
+    ap (λ (ps : List PortSeen). map ring_of_port ps) is ∙ (drove-rings tries before loads after drove ∙ (pairs ∙ sym same))
 
 -- as ports show it
-pub sent-back : (before : List PortSeen) (loads : List (List Descriptor)) (after : List Sent) (back : List PortSeen) → AllOffered before loads after → back ≡ map port_in after → AreBack before loads back
-sent-back before loads after back each is k p lt =
-    let s : Sent = record { port = p; given_up = 0 } in
+pub sent-back : (tries : ℕ) (before : List PortSeen) (loads : List (List Descriptor)) (after : List Sent) (back : List PortSeen) → AllOffered tries before loads after → back ≡ map port_in after → AreBack tries before loads back
+sent-back tries before loads after back each is k p lt =
+    let s : Sent = record { port = p; given_up = 0; ran = false } in
     let hk : k < length after = omega (arith, lt, ap (λ (ps : List PortSeen). length ps) is, length-map after port_in) in
     let at : (get_or after k s).port ≡ get_or back k p = sym (get_or-map port_in after k s p hk) ∙ ap (λ (ps : List PortSeen). get_or ps k p) (sym is) in
     record {
+      ran = (get_or after k s).ran;
       given_up = (get_or after k s).given_up;
-      offered = subst (λ (x : PortSeen). Offered (get_or before k p) (get_or loads k []) x (get_or after k s).given_up) at (each k p s hk);
+      offered = subst (λ (x : PortSeen). Offered tries (get_or after k s).ran (get_or before k p) (get_or loads k []) x (get_or after k s).given_up) at (each k p s hk);
     }
 
 -- ---- where no sender ran
@@ -84,13 +85,13 @@ declined-count (p ∷ ps) =
     omega (arith, sum_by-cons given_up_in (declined p) (map declined ps), declined-count ps)
 
 -- nothing was offered, and all is given up
-pub offered-nothing : (v : PortSeen) (load : List Descriptor) → Offered v load v (length load)
-offered-nothing v load = record { offers = map declined load; all = declined-all load; after_is = declined-port v load; rest = declined-count load }
+pub offered-nothing : (tries : ℕ) (v : PortSeen) (load : List Descriptor) → Offered tries false v load v (length load)
+offered-nothing tries v load = record { offers = map declined load; all = declined-all load; after_is = declined-port v load; rest = declined-count load; full = λ ran t. cc }
 
-pub none-sent : (before : List PortSeen) (loads : List (List Descriptor)) → AreBack before loads before
-none-sent before loads k p lt =
+pub none-sent : (tries : ℕ) (before : List PortSeen) (loads : List (List Descriptor)) → AreBack tries before loads before
+none-sent tries before loads k p lt =
     let load = get_or loads k [] in
-    record { given_up = length load; offered = offered-nothing (get_or before k p) load }
+    record { ran = false; given_up = length load; offered = offered-nothing tries (get_or before k p) load }
 
 -- ---- starting and joining one sender more
 
@@ -111,19 +112,19 @@ next-rest running n h rest e = ap (λ (hs : List Started). drop 1 hs) (sym (drop
 next-is : (running : List Started) (n : ℕ) (h : Started) (rest : List Started) → drop n running ≡ h ∷ rest → get_or running n h ≡ h
 next-is running n h rest e = ap (λ (hs : List Started). get_or hs 0 h) (sym (drop_more running n h (next-left running n h rest e)) ∙ e)
 
-pub offered-next : (running : List Started) (sent : List Sent) (h : Started) (rest : List Started) (r : Sent) → AllOffered (map promised_port running) (map promised_load running) sent → drop (length sent) running ≡ h ∷ rest
-    → Offered (promised_port h) (promised_load h) r.port r.given_up → AllOffered (map promised_port running) (map promised_load running) (sent ++ r ∷ [])
-offered-next running sent h rest r each e new k p s lt =
+pub offered-next : (tries : ℕ) (running : List Started) (sent : List Sent) (h : Started) (rest : List Started) (r : Sent) → AllOffered tries (map promised_port running) (map promised_load running) sent → drop (length sent) running ≡ h ∷ rest
+    → Offered tries r.ran (promised_port h) (promised_load h) r.port r.given_up → AllOffered tries (map promised_port running) (map promised_load running) (sent ++ r ∷ [])
+offered-next tries running sent h rest r each e new k p s lt =
     let ps = map promised_port running in
     let ls = map promised_load running in
     ⊎_elim
-    (λ (l : k < length sent). subst (λ (x : Sent). Offered (get_or ps k p) (get_or ls k []) x.port x.given_up) (sym (get_or_append_left sent (r ∷ []) s k l)) (each k p s l))
+    (λ (l : k < length sent). subst (λ (x : Sent). Offered tries x.ran (get_or ps k p) (get_or ls k []) x.port x.given_up) (sym (get_or_append_left sent (r ∷ []) s k l)) (each k p s l))
     (λ (g : length sent ≤ k).
     let is : length sent ≡ k = omega (arith, lt, g, length-append sent (r ∷ [])) in
     let e' : drop k running ≡ h ∷ rest = subst (λ (j : ℕ). drop j running ≡ h ∷ rest) is e in
     let low = next-left running k h rest e' in
     let a : promised_port h ≡ get_or ps k p = sym (get_or-map promised_port running k h p low ∙ ap promised_port (next-is running k h rest e')) in
     let b : promised_load h ≡ get_or ls k [] = sym (get_or-map promised_load running k h [] low ∙ ap promised_load (next-is running k h rest e')) in
-    subst (λ (x : Sent). Offered (get_or ps k p) (get_or ls k []) x.port x.given_up) (sym (get_or_push sent r s k is))
-    (subst (λ (x : PortSeen). Offered x (get_or ls k []) r.port r.given_up) a (subst (λ (l : List Descriptor). Offered (promised_port h) l r.port r.given_up) b new)))
+    subst (λ (x : Sent). Offered tries x.ran (get_or ps k p) (get_or ls k []) x.port x.given_up) (sym (get_or_push sent r s k is))
+    (subst (λ (x : PortSeen). Offered tries r.ran x (get_or ls k []) r.port r.given_up) a (subst (λ (l : List Descriptor). Offered tries r.ran (promised_port h) l r.port r.given_up) b new)))
     (cases_lt k (length sent))

@@ -50,7 +50,7 @@ impl BoardWriter {
         Ok(BoardWriter { writer })
     }
 
-    /// Takes in a history to be shown; `false` where memory is refused.
+    /// Takes in a history to be shown; `false` where an allocation fails.
     pub(crate) fn append(&mut self, front: RowHistory) -> bool
         requires { Continues (newest self.old) front }
         ensures { MatchBool result (self.new ≡ appending self.old front) (self.new ≡ self.old) }

@@ -163,7 +163,7 @@ impl<P: Ledger, B: Ledger> Booked<P, B> {
     ///
     /// # Errors
     ///
-    /// Those of [`Device::command`]: the first refusal of the command that holds, or want of memory. Nothing has changed then.
+    /// Those of [`Device::command`]: the first refusal of the command that holds, or that an allocation failed. Nothing has changed then.
     pub fn command(&mut self, command: Command, now: Moment) -> Result<(), Refusal>
         ensures event { OnOk result (self.new ≡ with_memory self.new.memory (after_event (event.Command command now) self.old)) }
         ensures reply { OnOk result (reply.Done (Ok (record {})) ≡ reply_to (event.Command command now) self.old) }

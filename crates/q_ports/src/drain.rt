@@ -75,7 +75,7 @@ impl<P: Ledger, B: Ledger> Drain<P, B> {
     ///
     /// # Errors
     ///
-    /// The drain and its ports, for want of memory: what was taken stays taken, and `settle` may be called again.
+    /// The drain and its ports, where an allocation fails: what was taken stays taken, and `settle` may be called again.
     pub fn settle<R: Wait>(
         self,
         rt: &R,

@@ -1,6 +1,6 @@
-ghost use Rattle.std.specs.Prelude.{◌≡◌, ◌≤◌, ◌+◌, ◌-◌, ◌*◌, ◌^◌, min, [], length, map, sum_by, vec_capacity, All, IfOk, IfErr};
+ghost use Rattle.std.specs.Prelude.{◌≡◌, ℕ, ◌≤◌, ◌+◌, ◌-◌, ◌*◌, ◌^◌, min, true, [], length, map, sum_by, vec_capacity, All, IfOk, IfErr};
 ghost use Rattle.core.specs.Mem.{manually_drop_value};
-ghost use Rattle.q_ports.specs.Driven.{packets_of, port_in, promised_load, promised_port, rest_of, AllOffered, AreBack, Drove, HasDriven, HasKept, IsRoomFor};
+ghost use Rattle.q_ports.specs.Driven.{packets_of, port_in, promised_load, promised_port, rest_of, AllOffered, AreBack, Drove, HasDriven, HasKept, HasRun, IsRoomFor};
 ghost use Rattle.q_ports.specs.DriveTurns.{HasTurned, ShowsTurns};
 ghost use Rattle.q_ports.specs.Offered.{Offered};
 ghost use Rattle.q_ports.specs.Placed.{placed_by, ring_of_port};
@@ -38,7 +38,7 @@ const MOST: usize = 64;
 ///
 /// # Errors
 ///
-/// The drain and all its ports: as of `settle`, for want of memory; or where a thread could not be started, whose sender has then
+/// The drain and all its ports: as of `settle`, where an allocation fails; or where a thread could not be started, whose sender has then
 /// offered nothing. What was placed and taken stays so, and `settle` may follow.
 pub fn drive<
     P: Ledger + Send + Sync,
@@ -60,10 +60,10 @@ pub fn drive<
     requires parts { (P.parts ≡ 65) × (B.parts ≡ 65) }
     requires ports { map ring_of_port ports.items ≡ map ring_id drain.rings }
     requires loads { length loads.items ≡ length ports.items }
-    ensures driven { IfOk result (λ d. HasDriven ports.items (map packets_of loads.items) d.settled d.given_up) }
+    ensures driven { IfOk result (λ d. HasDriven start step tries drain ports.items (map packets_of loads.items) d.settled d.given_up) }
     ensures rings { IfErr result (λ u. map ring_id u.drain.rings ≡ map ring_id drain.rings) }
     ensures again { IfErr result (λ u. map ring_of_port u.ports.items ≡ map ring_id u.drain.rings) }
-    ensures back { IfErr result (λ u. AreBack ports.items (map packets_of loads.items) u.ports.items) }
+    ensures back { IfErr result (λ u. AreBack tries ports.items (map packets_of loads.items) u.ports.items) }
     ensures beginnings { IfErr result (λ u. AreBeginnings (map received_from u.drain.rings) (map placed_by u.ports.items)) }
     ensures book { IfErr result (λ u. u.drain.board.book ≡ drain.board.book) }
     ensures turned { IfErr result (λ u. ShowsTurns start step drain u.drain.board) }
@@ -72,10 +72,10 @@ pub fn drive<
         return Err(unsettled(drain, ports));
     };
     let pace = TurnMoments { start, step };
-    let (drain, sent, all_ran) = run(
+    let (drain, sent) = run(
         rt, alloc, booked, drain, ports, loads, room, gate, pace, tries,
     );
-    let given_up = give_back(sent, &mut back);
+    let (given_up, all_ran) = give_back(sent, &mut back);
     if !all_ran {
         return Err(unsettled(drain, back));
     }
@@ -116,7 +116,7 @@ fn rooms(alloc: Global, count: usize) -> Result<(SenderRoom, Vec<Port>), AllocEr
     Ok((SenderRoom { started, sent }, back))
 }
 
-// Runs a sender for each port while the drain takes turns; and whether there was a thread for each.
+// Runs a sender for each port while the drain takes turns.
 fn run<P: Ledger + Send + Sync, B: Ledger + Send + Sync, G: Gate + Sync, R: Threads + Wait + Sync>(
     rt: &R,
     alloc: Global,
@@ -128,19 +128,19 @@ fn run<P: Ledger + Send + Sync, B: Ledger + Send + Sync, G: Gate + Sync, R: Thre
     gate: &G,
     pace: TurnMoments,
     tries: u64,
-) -> (Drain<P, B>, Vec<Sent>, bool)
+) -> (Drain<P, B>, Vec<Sent>)
     requires loads { length loads.items ≡ length ports.items }
     requires room { IsRoomFor (length ports.items) room }
     ensures rings { map ring_id result.0.rings ≡ map ring_id drain.rings }
     ensures book { result.0.board.book ≡ drain.board.book }
     ensures turned { HasTurned pace.start pace.step drain result.0 }
-    ensures drove { Drove ports.items (map packets_of loads.items) result.1.items }
+    ensures drove { Drove tries ports.items (map packets_of loads.items) result.1.items }
 {
     let all_ended = Ended::new();
     let ended = &all_ended;
     // A closure may hold only what may be dropped, and a drain may not. This one is called once, and hands the drain back.
     let held = unsafe { ManuallyDrop::new_unchecked(drain) };
-    let (drain, sent) = thread::scope(
+    thread::scope(
         thread::scope_env(),
         rt,
         move |scope| -> (Drain<P, B>, Vec<Sent>)
@@ -149,39 +149,50 @@ fn run<P: Ledger + Send + Sync, B: Ledger + Send + Sync, G: Gate + Sync, R: Thre
             ensures rings { map ring_id result.0.rings ≡ map ring_id (manually_drop_value held).rings }
             ensures book { result.0.board.book ≡ (manually_drop_value held).board.book }
             ensures turned { HasTurned pace.start pace.step (manually_drop_value held) result.0 }
-            ensures drove { Drove ports.items (map packets_of loads.items) result.1.items }
+            ensures drove { Drove tries ports.items (map packets_of loads.items) result.1.items }
         {
             let drain = ManuallyDrop::into_inner(held);
             in_scope(
                 scope, rt, alloc, booked, drain, ports, loads, room, gate, ended, pace, tries,
             )
         },
-    );
-    (drain, sent, !all_ended.was_refused())
+    )
 }
 
-// Takes the ports back, and answers how many packets were given up.
-fn give_back(sent: Vec<Sent>, back: &mut Vec<Port>) -> u64
+// Takes the ports back, and answers how many packets were given up, and whether each sender ran.
+fn give_back(sent: Vec<Sent>, back: &mut Vec<Port>) -> (u64, bool)
     requires { (back.old.items ≡ []) × (length sent.items ≤ vec_capacity back.old) }
     ensures ports { back.new.items ≡ map port_in sent.items }
-    ensures given_up { result ≡ min (sum_by rest_of sent.items) (2 ^ 64 - 1) }
+    ensures given_up { result.0 ≡ min (sum_by rest_of sent.items) (2 ^ 64 - 1) }
+    ensures ran { result.1 ≡ true → All HasRun sent.items }
 {
     let mut given_up = 0u64;
+    let mut all_ran = true;
     for sender in sent {
         given_up = given_up.saturating_add(sender.given_up);
+        all_ran = both(all_ran, sender.ran);
         back.push_reserved(sender.port);
     }
-    given_up
+    (given_up, all_ran)
+}
+
+// Whether both hold.
+fn both(one: bool, other: bool) -> bool
+    ensures { result ≡ true → (one ≡ true) × (other ≡ true) }
+{
+    one && other
 }
 
 // What a sender of this port and this load promises.
-fn promise(port: &Port, load: &Vec<Packet>) -> Sends
+fn promise(port: &Port, load: &Vec<Packet>, tries: u64) -> Sends
     ensures port { result.port.value ≡ port.now }
     ensures load { result.load.value ≡ load.now }
+    ensures tries { result.tries ≡ tries }
 {
     Sends {
         port: Snapshot::of(port),
         load: Snapshot::of(load),
+        tries,
     }
 }
 
@@ -196,13 +207,13 @@ fn start<'s, E, G: Gate + Sync>(
 ) -> Started
     ensures port { promised_port result ≡ port }
     ensures load { promised_load result ≡ load.items }
-    ensures kept { HasKept result }
+    ensures kept { HasKept tries result }
 {
-    let promised = promise(&port, &load);
-    let of_thread = promise(&port, &load);
+    let promised = promise(&port, &load, tries);
+    let of_thread = promise(&port, &load, tries);
     let index = port.index();
     let job = move || -> Sent
-        ensures { Offered port load.items result.port result.given_up }
+        ensures { Offered tries result.ran port load.items result.port result.given_up }
     {
         let sent = send_unless_refused(port, load, gate, ended, tries);
         ended.add();
@@ -231,7 +242,7 @@ fn send_unless_refused<G: Gate>(
     ended: &Ended,
     tries: u64,
 ) -> Sent
-    ensures { Offered port load.items result.port result.given_up }
+    ensures { Offered tries result.ran port load.items result.port result.given_up }
 {
     if ended.is_refused(port.index()) {
         return keep(port, load);
@@ -253,7 +264,7 @@ fn start_all<'s, E, G: Gate + Sync>(
     requires room { (room.items ≡ []) × (length ports.items ≤ vec_capacity room) }
     ensures ports { map promised_port result.items ≡ ports.items }
     ensures loads { map promised_load result.items ≡ map packets_of loads.items }
-    ensures kept { All HasKept result.items }
+    ensures kept { All (HasKept tries) result.items }
 {
     let mut started = room;
     let mut loads = loads.into_iter();
@@ -268,8 +279,7 @@ fn start_all<'s, E, G: Gate + Sync>(
 
 // What a sender hands back, once it has ended.
 fn join<R: Threads>(rt: &R, sender: Started) -> Sent
-    requires { HasKept sender }
-    ensures { Offered (promised_port sender) (promised_load sender) result.port result.given_up }
+    ensures { (tries : ℕ) → HasKept tries sender → Offered tries result.ran (promised_port sender) (promised_load sender) result.port result.given_up }
 {
     let Started {
         promise: _promise,
@@ -283,10 +293,9 @@ fn join<R: Threads>(rt: &R, sender: Started) -> Sent
 
 // What the senders hand back, once each has ended.
 fn join_all<R: Threads>(rt: &R, started: Vec<Started>, room: Vec<Sent>) -> Vec<Sent>
-    requires kept { All HasKept started.items }
     requires room { (room.items ≡ []) × (length started.items ≤ vec_capacity room) }
     ensures count { length result.items ≡ length started.items }
-    ensures each { AllOffered (map promised_port started.items) (map promised_load started.items) result.items }
+    ensures each { (tries : ℕ) → All (HasKept tries) started.items → AllOffered tries (map promised_port started.items) (map promised_load started.items) result.items }
 {
     let mut sent = room;
     for sender in started {
@@ -364,7 +373,7 @@ fn in_scope<'s, E, P: Ledger, B: Ledger, G: Gate + Sync, R: Threads + Wait>(
     ensures rings { map ring_id result.0.rings ≡ map ring_id drain.rings }
     ensures book { result.0.board.book ≡ drain.board.book }
     ensures turned { HasTurned pace.start pace.step drain result.0 }
-    ensures drove { Drove ports.items (map packets_of loads.items) result.1.items }
+    ensures drove { Drove tries ports.items (map packets_of loads.items) result.1.items }
 {
     let mut drain = drain;
     let SenderRoom { started, sent } = room;

@@ -39,9 +39,4 @@ impl Ended {
     pub(crate) fn is_refused(&self, index: u32) -> bool {
         self.refused.load(Ordering::SeqCst) == u64::from(index)
     }
-
-    /// Whether some sender got no thread.
-    pub(crate) fn was_refused(&self) -> bool {
-        self.refused.load(Ordering::SeqCst) != NOBODY
-    }
 }

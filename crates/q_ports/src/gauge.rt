@@ -42,8 +42,9 @@ impl Gauge {
     /// The last row that the board shows, which is the device's as it was after some turn. It is balanced, and in no counter lower
     /// than a row that was read or learnt of before. It waits for nobody and takes no memory.
     ///
-    /// `None`, and nothing has changed, where the entry is refused, as it may be once the drain has ended. It is `None` too where
-    /// the board shows fewer rows than the gauge has learnt of, which never is so.
+    /// `None`, and nothing has changed, where the entry is refused, as it may be once the drain has ended. It is `None` too if the
+    /// board shows fewer rows than the gauge has learnt of: a turn publishes its row before it tells of it, but no proof says that
+    /// the board shows it by then.
     pub fn read(&mut self) -> Option<Row>
         ensures row { IfSome result (λ r. r ≡ last_of self.new.rows) }
         ensures reads { IfSome result (λ r. self.new.reads ≡ self.old.reads + 1) }

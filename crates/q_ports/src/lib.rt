@@ -1,4 +1,29 @@
-//! Senders with a ring each, the drain that feeds a device from them, and gauges of its row.
+//! Many sender threads, one thread that drains, and readers of the counters around one [`Device`](q_device::Device).
+//!
+//! Each sender has a [`Port`], the producer's end of a ring of packets. [`Port::offer`] waits for nobody: it places the packet, or
+//! returns it where the ring is full. One thread has the [`Drain`]. Each [`Drain::turn`] takes the lock of the device once: packets
+//! leave the rings and arrive at the device, and then it is polled. A [`Gauge`] reads the device's counters as they were after
+//! some turn, and takes no lock.
+//!
+//! ```
+//! // On a sender's thread: a packet that finds the ring full comes back.
+//! if let Err(Full(packet)) = port.offer(packet) {
+//!     retry(packet);
+//! }
+//!
+//! // On the thread that drains: 64 arrivals at most, then 64 polls at most.
+//! let turn = drain.turn(rt, alloc, &lock, now, 64)?;
+//! for packet in &turn.sent {
+//!     transmit(packet);
+//! }
+//! ```
+//!
+//! [`open_ports`] opens the drain, ports and gauges of a device that the program guards by a `Mutex`. [`run_with_ports`] opens all of
+//! this for a [`PortTask`], and [`drive`] runs senders with a load each. A program that may not wait feeds its device from single rings, by
+//! [`open_ring`] and [`Outlet`].
+//!
+//! No packet is lost between a port and the device. The device stands in a [`Booked`], whose ledger counts what has arrived, so that after
+//! [`Drain::settle`] the device's count of arrivals is the sum of what the ports placed ([`laws::settled`]).
 #![tactic(auto)]
 
 mod board;

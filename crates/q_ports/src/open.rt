@@ -24,7 +24,7 @@ use std::sync::ledger::Ledger;
 ///
 /// # Errors
 ///
-/// The seat and `AllocError` where memory is refused, or a gauge finds no place to read from.
+/// The seat and `AllocError` where an allocation fails, or a gauge finds no place to read from.
 pub fn open_ports<P: Ledger, B: Ledger, R: Wait>(
     rt: &R,
     alloc: Global,
@@ -63,7 +63,7 @@ pub fn open_ports<P: Ledger, B: Ledger, R: Wait>(
 ///
 /// # Errors
 ///
-/// `AllocError` where memory is refused.
+/// `AllocError` where an allocation fails.
 pub fn open_ring(alloc: Global, index: u32, places: usize) -> Result<(Port, Outlet), AllocError>
     requires { (1 ≤ places) × (places ≤ 65536) }
     ensures port { IfOk result (λ r. r.0 ≡ port_seen index r.1.ring []) }

@@ -57,7 +57,7 @@ impl Outlet {
     /// Takes up to `most` packets, oldest first: each arrives at the device at this moment, as by [`Device::arrive_at`], and only then
     /// leaves the ring. It waits for nobody, and takes memory only as the arrivals do.
     ///
-    /// Where an arrival is refused memory, its packet stays first in the ring, and nothing more is taken.
+    /// Where an arrival fails to allocate, its packet stays first in the ring, and nothing more is taken.
     pub fn take_in(&mut self, device: &mut Device, now: Moment, most: usize) -> TakenIn
         ensures few { result.taken ≤ most }
         ensures taken { TakesIn now self.old self.new device.old device.new result.taken }

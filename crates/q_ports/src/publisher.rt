@@ -40,7 +40,7 @@ impl Publisher {
     ///
     /// # Errors
     ///
-    /// `AllocError` where memory is refused, or a gauge finds no place.
+    /// `AllocError` where an allocation fails, or a gauge finds no place.
     pub(crate) fn open<R: Wait>(
         rt: &R,
         alloc: Global,

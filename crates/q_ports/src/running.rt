@@ -22,7 +22,7 @@ const PARTS: u64 = 65;
 ///
 /// # Errors
 ///
-/// `AllocError` where memory is refused before the task runs.
+/// `AllocError` where an allocation fails before the task runs.
 pub fn run_with_ports<T: PortTask + Drop, R: Threads + Wait + Sync>(
     rt: &R,
     alloc: Global,

@@ -1,5 +1,5 @@
-ghost use Rattle.std.specs.Prelude.{◌≡◌, ◌≤◌};
-ghost use Rattle.q_ports.specs.Offered.{Offered, OffersOne};
+ghost use Rattle.std.specs.Prelude.{◌≡◌, ℕ, ◌≤◌, true, false};
+ghost use Rattle.q_ports.specs.Offered.{MayBeFull, Offered, OffersOne};
 
 use crate::full::Full;
 use crate::gate::Gate;
@@ -9,29 +9,33 @@ use std::snapshot::Snapshot;
 use std::thread;
 use std::thread::Promise;
 
-/// What a sender hands back: its port, and how many packets of its load the port did not take.
+/// What a sender hands back: its port, how many packets of its load the port did not take, and whether it ran: it did not where it
+/// got no thread.
 #[derive(Drop)]
 pub struct Sent {
     pub port: Port,
     pub given_up: u64,
+    pub ran: bool,
 }
 
-/// What a sender promises: each packet of the load was offered at the port, in order.
+/// What a sender promises: each packet of the load was offered at the port, in order, at most `tries` times.
 #[derive(Drop)]
 pub struct Sends {
     pub port: Snapshot<Port>,
     pub load: Snapshot<Vec<Packet>>,
+    pub tries: u64,
 }
 
 impl Promise<Sent> for Sends {
     ghost use Rattle.q_ports.specs.Offered.{Offered};
 
-    ghost kept_by = { λ p r. Offered p.port.value p.load.value.items r.port r.given_up };
+    ghost kept_by = { λ p r. Offered p.tries r.ran p.port.value p.load.value.items r.port r.given_up };
 }
 
 /// Offers a load at a port, in order, each packet at most `tries` times.
 pub(crate) fn send<G: Gate>(port: Port, load: Vec<Packet>, gate: &G, tries: u64) -> Sent
-    ensures { Offered port load.items result.port result.given_up }
+    ensures offered { Offered tries result.ran port load.items result.port result.given_up }
+    ensures ran { result.ran ≡ true }
 {
     let mut port = port;
     let mut given_up = 0u64;
@@ -40,17 +44,23 @@ pub(crate) fn send<G: Gate>(port: Port, load: Vec<Packet>, gate: &G, tries: u64)
         nth = nth.saturating_add(1);
         given_up += offer_one(&mut port, *packet, gate, nth, tries);
     }
-    Sent { port, given_up }
+    Sent {
+        port,
+        given_up,
+        ran: true,
+    }
 }
 
 /// Offers nothing: the port as it is, and the whole load is given up.
 pub(crate) fn keep(port: Port, load: Vec<Packet>) -> Sent
     ensures port { result.port ≡ port }
-    ensures offered { Offered port load.items result.port result.given_up }
+    ensures offered { (tries : ℕ) → Offered tries result.ran port load.items result.port result.given_up }
+    ensures ran { result.ran ≡ false }
 {
     Sent {
         port,
         given_up: load.len() as u64,
+        ran: false,
     }
 }
 
@@ -58,6 +68,7 @@ pub(crate) fn keep(port: Port, load: Vec<Packet>) -> Sent
 fn offer_one<G: Gate>(port: &mut Port, packet: Packet, gate: &G, nth: u64, tries: u64) -> u64
     ensures offered { OffersOne port.old packet port.new result }
     ensures few { result ≤ 1 }
+    ensures full { 1 ≤ result → 1 ≤ tries → MayBeFull port.old packet }
 {
     let index = port.index();
     gate.before_offer(index, nth);

@@ -21,7 +21,7 @@ use std::sync::ledger::Ledger;
 ///
 /// # Errors
 ///
-/// The drain and its ports, for want of memory: the device has no room for a packet that waits. What was received is then a
+/// The drain and its ports, where an allocation fails: the device has no room for a packet that waits. What was received is then a
 /// beginning of what was placed.
 pub fn settle_on<P: Ledger, B: Ledger, R: Wait>(
     drain: Drain<P, B>,

@@ -81,6 +81,14 @@ const LOADS: &[(u8, u32, u16, u32, &str)] = &[
         1,
         "settled 1280p 1280b\narrived 1280p 1280b\ngiven up 0\n",
     ),
+    // As many as a sender may have.
+    (
+        1,
+        1_000_000,
+        1,
+        65536,
+        "settled 1000000p 1000000b\narrived 1000000p 1000000b\ngiven up 0\n",
+    ),
     // Packets longer than the mtu arrive and are refused.
     (
         2,

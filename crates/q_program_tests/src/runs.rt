@@ -267,3 +267,29 @@ fn long_lines_and_long_reports(rt: HostRuntime) -> Result<(), Fail> {
     assert!(rt; written.as_slice() == report.as_slice());
     Ok(())
 }
+
+/// More packets than 16 bits count, which all stay queued.
+fn packets_that_stay(alloc: Global) -> Result<Vec<u8>, Fail> {
+    let mut script = Vec::new(alloc);
+    script.extend_from_slice(b"tc qdisc add dev eth0 root handle 1: pfifo limit 100000\n")?;
+    for _ in 0..65_537 {
+        script.extend_from_slice(b"pkt 1\n")?;
+    }
+    script.extend_from_slice(b"tc -s qdisc show\n")?;
+    Ok(script)
+}
+
+#[test]
+fn more_packets_than_16_bits_count_stay_queued(rt: HostRuntime) -> Result<(), Fail> {
+    let alloc = rt.alloc();
+    let script = packets_that_stay(alloc)?;
+    let (written, told) = play(alloc, script.as_slice(), RunSettings::defaults());
+    assert_eq!(rt; told, Ok(Outcome::Clean));
+    assert_eq!(rt;
+        written.as_slice(),
+        b"qdisc pfifo 1: root limit 100000p\n \
+          arrived 65537p 65537b sent 0p 0b refused 0p 0b dropped 0p 0b queued 65537p 65537b\n"
+            .as_slice()
+    );
+    Ok(())
+}

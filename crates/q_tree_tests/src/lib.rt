@@ -21,6 +21,8 @@ mod device_scripts;
 #[cfg(test)]
 mod lines;
 #[cfg(test)]
+mod many_packets;
+#[cfg(test)]
 mod sharing;
 #[cfg(test)]
 mod tree;

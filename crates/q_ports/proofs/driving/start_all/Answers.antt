@@ -25,7 +25,7 @@ loop-port-preserved g c =
       loads =
           moved promised_load old new one (map packets_of (into_iter_items c.loop-port.loads)) loads (map packets_of c.args.loads.items) pushed.items
           (ap (λ (ls : List (Vec Descriptor Global)). map packets_of ls) c.in-Some-next.ensures.items ∙ ap (λ (l : List Descriptor). l ∷ loads) (sym c.start.ensures.load)) at.loads;
-      kept = All-same HasKept new (old ++ one ∷ []) pushed.items (All-push HasKept old one at.kept c.start.ensures.kept);
+      kept = All-same (HasKept c.args.tries) new (old ++ one ∷ []) pushed.items (All-push (HasKept c.args.tries) old one at.kept c.start.ensures.kept);
       same = search rules;
       room = search rules;
     }

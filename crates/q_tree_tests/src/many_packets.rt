@@ -1,0 +1,53 @@
+//! More packets and events than 16 bits count: neither a queue, nor the list of losses, nor a play ends at 65,536.
+use crate::device_bench::{Ask, add_event, arrival_at, command_at, poll_at, replies, room};
+use crate::lines::{New, Spot};
+use q_device::{Event, Fate, Polled, Reply, Settings};
+use q_packet::Cause;
+use std::alloc::Global;
+use std::test::Fail;
+
+// One more than 16 bits count, and a packet that finds no room.
+const QUEUED: u64 = 65_537;
+
+const EVENTS: usize = 131_076;
+
+// A pfifo that is filled, overflows by one packet, and is emptied.
+fn events(alloc: Global) -> Result<Vec<Event>, Fail> {
+    let mut events = room(alloc, EVENTS)?;
+    let limit = u32::try_from(QUEUED).map_err(|_| "limit")?;
+    let pfifo = Ask::Graft(Spot::Root, 1, New::Packets(limit));
+    add_event(&mut events, command_at(pfifo, 0))?;
+    for number in 0..QUEUED + 1 {
+        add_event(&mut events, arrival_at(number, 1, 0, 0))?;
+    }
+    for _ in 0..QUEUED {
+        add_event(&mut events, poll_at(0))?;
+    }
+    Ok(events)
+}
+
+// What the event of this place has to answer: the command first, then the arrivals, then the polls.
+fn is_answered(place: u64, reply: Reply) -> bool {
+    match reply {
+        Reply::Done(done) => place == 0 && done.is_ok(),
+        Reply::Fate(Fate::Kept) => 1 <= place && place <= QUEUED,
+        Reply::Fate(fate) => place == QUEUED + 1 && fate == Fate::Lost(Cause::OverLimit),
+        Reply::Polled(Polled::Packet(packet)) => packet.number.saturating_add(QUEUED + 2) == place,
+        Reply::Polled(_) => false,
+    }
+}
+
+#[test]
+fn more_packets_than_16_bits_count(rt: HostRuntime) -> Result<(), Fail> {
+    let settings = Settings::new(1514, 1000, 0).ok_or("settings")?;
+    let events = events(rt.alloc())?;
+    let replies = replies(rt.alloc(), settings, events.as_slice())?;
+    assert_eq!(rt; replies.len(), events.len());
+    for (place, reply) in replies.iter().enumerate() {
+        assert!(rt;
+            is_answered(place as u64, *reply),
+            "event {place}: {reply:?}"
+        );
+    }
+    Ok(())
+}
