@@ -1,11 +1,9 @@
 -- Marks and their checksums, on a known datagram and on the numbers of RFC 1624, section 4. The checksums of the datagram
 -- with other traffic bytes were summed apart from these definitions.
-use Rattle.std.proofs.Common.{◌≡◌, ℕ, true, false, List, [], ◌∷◌, ◌++◌, map, refl}
+use Rattle.std.proofs.Common.{◌≡◌, ℕ, List, [], ◌∷◌, ◌++◌, refl}
 use Rattle.std.specs.Prelude.{replicate}
-use Rattle.q_packet.specs.Ecn.{is_capable}
 use Rattle.q_packet.specs.Head.{head, ipv4_head, ipv6_head}
 use Rattle.q_packet.specs.Marking.{HasRightChecksum, marked, marked_ipv4, marked_ipv6, ones_sum, renewed_checksum, words_sum}
-use Rattle.q_packet.specs.declared.ecn.Ecn.TheVariants.{NotEct, Ect1, Ect0, Ce}
 
 -- of 115 bytes, from 192.168.0.1 to 192.168.0.199: its identification, traffic byte and checksum
 datagram : ℕ → ℕ → ℕ → ℕ → ℕ → List ℕ
@@ -21,9 +19,6 @@ routed traffic low =
 -- version 6 with bytes 0 and 1
 ipv6 : ℕ → ℕ → List ℕ
 ipv6 first second = first ∷ second ∷ 0x35 ∷ 0x54 ∷ 0 ∷ 0 ∷ 17 ∷ 64 ∷ replicate 15 0 ++ 1 ∷ replicate 15 0 ++ 2 ∷ []
-
-capable : map is_capable (NotEct ∷ Ect1 ∷ Ect0 ∷ Ce ∷ []) ≡ false ∷ true ∷ true ∷ true ∷ []
-capable = refl
 
 -- 0xfffe and 2 carry into the lowest bit, and 0xffff is the other zero
 carries : ones_sum 0xfffe 2 ∷ ones_sum 0xffff 0xffff ∷ ones_sum 0x1234 0x4321 ∷ [] ≡ 1 ∷ 0xffff ∷ 0x5555 ∷ []
