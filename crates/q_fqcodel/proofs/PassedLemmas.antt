@@ -1,10 +1,10 @@
 -- A head that is not late: it is sent as it stands, none is dropped before it, and the others stay.
-use Rattle.std.proofs.Common.{◌≡◌, ℕ, suc, ◌-◌, ◌<◌, ◌≤◌, Bool, true, false, List, [], ◌∷◌, length, drop, Option, Some, IsSome, arith, refl, sym, ap, ap₂, ◌∙◌, subst}
+use Rattle.std.proofs.Common.{◌≡◌, ℕ, suc, ◌-◌, ◌≤◌, Bool, true, false, List, [], ◌∷◌, length, drop, Option, Some, IsSome, arith, refl, sym, ap, ap₂, ◌∙◌, subst}
 use Rattle.std.specs.Prelude.{option_map, slice_get}
 use Rattle.std.proofs.lemmas.Option.{none-some, same_Some}
 use Rattle.std.proofs.lemmas.List.{length-drop}
 use Rattle.q_packet.proofs.TotalsLemmas.{size-cons}
-use Rattle.q_packet.specs.Totals.{count, size}
+use Rattle.q_packet.specs.Totals.{size}
 use Rattle.q_packet.specs.Descriptor.{Descriptor}
 use Rattle.q_packet.specs.declared.stamped.Stamped.{Stamped}
 use Rattle.q_codel.specs.Codel.{CodelState, is_late, Chooses, drops, taken, left, after, leaving}
@@ -14,10 +14,6 @@ use Rattle.q_fqcodel.specs.Take.{taken_as}
 use Rattle.q_fqcodel.proofs.SentLemmas.{slice_within}
 
 -- what is in front of a queue with a packet
-pub some_front : (q : List Stamped) → 0 < count q → IsSome (option_map front_of (slice_get q 0))
-some_front [] h = absurd (omega arith)
-some_front (s ∷ q) h = refl
-
 pub front_within : (q : List Stamped) (front : Front) (bytes : ℕ) → Some front ≡ option_map front_of (slice_get q 0) → bytes ≡ size q → front.len ≤ bytes
 front_within [] front bytes f b = absurd (none-some front (sym f))
 front_within (s ∷ q) front bytes f b = omega (arith, b, size-cons s q, ap (λ (x : Front). x.len) (same_Some front (front_of s) f))
