@@ -28,6 +28,9 @@ pub struct Tree {
     pub drop_batch: u32,
     /// The packets that wait before the work begins, and then at each arrival.
     pub queued: u32,
+    /// Whether plain Rust keeps the winners of an fq_codel near its limit alone: it does less then than a device of Rattle, whose
+    /// fat flow stands at the top after each put and take.
+    pub lazy: bool,
 }
 
 impl Tree {
@@ -74,6 +77,14 @@ pub fn all() -> Vec<Row> {
             pairs(&name, tree, STEP)
         }));
     }
+    for queued in [0, 10_000] {
+        let name = format!("fq_codel, 1024 flows, {queued} queued, lazy");
+        let tree = Tree {
+            lazy: true,
+            ..tree(Shape::FqCodel, queued)
+        };
+        rows.push(pairs(&name, tree, STEP));
+    }
     rows.extend(lossy());
     rows.push(pairs("path of 8 qdiscs", tree(Shape::Deep, 1000), STEP));
     rows
@@ -86,6 +97,7 @@ fn tree(shape: Shape, queued: u32) -> Tree {
         flows: 1024,
         drop_batch: 64,
         queued,
+        lazy: false,
     }
 }
 
@@ -128,7 +140,7 @@ fn pairs_of(name: &str, tree: Tree, step: u32, passes: u32, ecn: bool) -> Row {
             let (for_rattle, for_plain) = (Rc::clone(&plan), Rc::clone(&plan));
             Sides {
                 rattle: Box::new(move |passes| rattle::pairs(&tree, &for_rattle, step, passes)),
-                plain: Box::new(move |passes| work::pairs(&lines, &for_plain, tree.queued, step, passes)),
+                plain: Box::new(move |passes| work::pairs(&lines, &for_plain, tree.queued, tree.lazy, step, passes)),
                 kernel: kernel::pairs(tree, plan, step),
             }
         }),

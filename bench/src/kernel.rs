@@ -99,6 +99,7 @@ mod linked {
             flows: 1,
             drop_batch: 1,
             queued: 0,
+            lazy: false,
         };
         Some(Box::new(move |passes| unsafe {
             kernel_harness(&Load::of(&tree, &plan), passes)

@@ -30,6 +30,8 @@ pub struct Device {
     /// The first events, so many at most.
     recorded: Vec<Event>,
     recorder: usize,
+    /// Whether an fq_codel that is added keeps its winners near the limit alone.
+    pub lazy: bool,
 }
 
 impl Device {
@@ -44,6 +46,7 @@ impl Device {
             root: Node::fifo(Limit::Packets(txqueuelen.into())),
             recorded: Vec::with_capacity(recorder),
             recorder,
+            lazy: false,
         }
     }
 

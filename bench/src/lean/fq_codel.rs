@@ -10,7 +10,8 @@ use crate::plain::packet::{Cause, Packet, Put};
 use crate::plain::place::{at, at_mut};
 use crate::plain::toll::Toll;
 
-pub struct FqCodel {
+/// Keeps its winners `ALWAYS`, at each put and take, or only near the limit.
+pub struct FqCodel<const ALWAYS: bool> {
     settings: Settings,
     /// In place of a division, where the number of flows is a power of two.
     mask: Option<u32>,
@@ -22,9 +23,13 @@ pub struct FqCodel {
     winners: Winners,
 }
 
-impl FqCodel {
-    pub fn new(settings: Settings) -> FqCodel {
+impl<const ALWAYS: bool> FqCodel<ALWAYS> {
+    pub fn new(settings: Settings) -> FqCodel<ALWAYS> {
         let flows = settings.flows;
+        let mut winners = Winners::new(flows as usize);
+        if ALWAYS {
+            winners.arm((0..flows).map(|_| 0));
+        }
         FqCodel {
             settings,
             mask: flows.is_power_of_two().then(|| flows - 1),
@@ -33,7 +38,7 @@ impl FqCodel {
             fresh: Ends::default(),
             stale: Ends::default(),
             count: 0,
-            winners: Winners::new(flows as usize),
+            winners,
         }
     }
 
@@ -56,11 +61,19 @@ impl FqCodel {
         flow.tail = place;
         flow.count += 1;
         flow.bytes += u64::from(packet.len);
+        let bytes = flow.bytes;
         if flow.listed == Listed::Nowhere {
             flow.credits = self.settings.quantum.into();
             self.fresh.append(&mut self.table, index as u16, Listed::Fresh);
         }
         self.count += 1;
+        if ALWAYS {
+            self.winners.raise(index, bytes);
+            if self.count <= self.settings.limit {
+                return Put::Kept;
+            }
+            return self.shed(index, toll);
+        }
         if self.winners.armed || self.count > self.settings.limit {
             return self.put_late(index, toll);
         }
@@ -78,13 +91,19 @@ impl FqCodel {
         if self.count <= self.settings.limit {
             return Put::Kept;
         }
+        self.shed(index, toll)
+    }
+
+    /// The batch that the fat flow loses after a put into this flow.
+    #[inline(never)]
+    fn shed(&mut self, index: u32, toll: &mut Toll) -> Put {
         let fat = self.winners.top();
         let held = at(&self.table, fat as usize).count;
         let batch = held.min(self.count - 1).min(self.settings.drop_batch);
         for _ in 0..batch {
             self.drop_head(fat as usize, Cause::FatFlow, toll);
         }
-        self.winners.renew(fat, at(&self.table, fat as usize).bytes);
+        self.winners.lower(fat, at(&self.table, fat as usize).bytes);
         if fat == index && held <= batch {
             Put::Lost(Cause::FatFlow)
         } else {
@@ -154,8 +173,10 @@ impl FqCodel {
         let bytes = flow.bytes;
         self.slab.release(place);
         self.count -= 1;
-        if self.winners.armed {
-            self.winners.renew(index.into(), bytes);
+        if ALWAYS {
+            self.winners.lower(index.into(), bytes);
+        } else if self.winners.armed {
+            self.winners.lower(index.into(), bytes);
             self.winners.armed = self.count > self.settings.limit / 2;
         }
         len
@@ -177,7 +198,7 @@ impl FqCodel {
 }
 
 /// CoDel's rare way.
-impl FqCodel {
+impl<const ALWAYS: bool> FqCodel<ALWAYS> {
     #[cold]
     #[inline(never)]
     fn send_late(&mut self, index: u16, now: u64, toll: &mut Toll, out: &mut Packet) -> u16 {

@@ -43,7 +43,9 @@ pub enum Discipline {
         minors: Vec<u16>,
         classes: Vec<Node>,
     },
-    FqCodel(Box<FqCodel>),
+    FqCodel(Box<FqCodel<true>>),
+    /// The same with winners near the limit alone.
+    Lazy(Box<FqCodel<false>>),
 }
 
 impl Node {
@@ -67,6 +69,7 @@ impl Node {
         let put = match &mut self.discipline {
             Discipline::Fifo(fifo) => fifo.put(packet, now, toll),
             Discipline::FqCodel(queue) => queue.put(packet, now, toll),
+            Discipline::Lazy(queue) => queue.put(packet, now, toll),
             _ => self.put_beneath(packet, now, toll),
         };
         if matches!(put, Put::NoMemory) {
@@ -112,7 +115,7 @@ impl Node {
                 }
                 put
             }
-            Discipline::Fifo(_) | Discipline::FqCodel(_) => unreachable!(),
+            Discipline::Fifo(_) | Discipline::FqCodel(_) | Discipline::Lazy(_) => unreachable!(),
         }
     }
 
@@ -177,6 +180,7 @@ impl Discipline {
         match self {
             Discipline::Fifo(fifo) => fifo.take_into(out),
             Discipline::FqCodel(queue) => queue.take_into(now, toll, out),
+            Discipline::Lazy(queue) => queue.take_into(now, toll, out),
             _ => self.take_beneath(now, toll, out),
         }
     }
@@ -198,7 +202,7 @@ impl Discipline {
                 }
             }
             Discipline::Drr { active, classes, .. } => serve(active, classes, now, toll, &mut before, out),
-            Discipline::Fifo(_) | Discipline::FqCodel(_) => unreachable!(),
+            Discipline::Fifo(_) | Discipline::FqCodel(_) | Discipline::Lazy(_) => unreachable!(),
         };
         gather(toll, &mut before);
         len

@@ -97,7 +97,14 @@ impl Device {
                 minors: Vec::new(),
                 classes: Vec::new(),
             },
-            Kind::FqCodel(options) => Discipline::FqCodel(Box::new(FqCodel::new(settings(&options, self.mtu)))),
+            Kind::FqCodel(options) => {
+                let settings = settings(&options, self.mtu);
+                if self.lazy {
+                    Discipline::Lazy(Box::new(FqCodel::new(settings)))
+                } else {
+                    Discipline::FqCodel(Box::new(FqCodel::new(settings)))
+                }
+            }
         };
         Node::new(handle, discipline)
     }
@@ -126,7 +133,7 @@ pub fn find(node: &mut Node, handle: u16) -> Option<&mut Node> {
 impl Node {
     pub fn children(&mut self) -> &mut [Node] {
         match &mut self.discipline {
-            Discipline::Fifo(_) | Discipline::FqCodel(_) => &mut [],
+            Discipline::Fifo(_) | Discipline::FqCodel(_) | Discipline::Lazy(_) => &mut [],
             Discipline::Prio { bands, .. } => bands,
             Discipline::Tbf { child, .. } => std::slice::from_mut(child),
             Discipline::Drr { classes, .. } => classes,

@@ -1,5 +1,5 @@
-//! A tree of winners by ranks, kept only while it may be asked: from the first put over the limit until half of that is
-//! queued. The fat flow stands at its top.
+//! A tree of winners by ranks, with the fat flow at its top. It is kept at all times, or only while it may be asked: from the first
+//! put over the limit until half of that is queued.
 
 use crate::plain::place::{at, at_mut};
 
@@ -33,6 +33,8 @@ impl Winners {
         for node in (1..flows).rev() {
             self.ranks[node] = self.ranks[2 * node].max(self.ranks[2 * node + 1]);
         }
+        // Above every rank, so that each climb ends there.
+        self.ranks[0] = u64::MAX;
         self.armed = true;
     }
 
@@ -44,17 +46,41 @@ impl Winners {
 
     #[inline(always)]
     pub fn renew(&mut self, flow: u32, bytes: u64) {
-        let mut child = self.ranks.len() / 2 + flow as usize;
+        if *at(&self.ranks, self.leaf(flow)) < rank_of(flow, bytes) {
+            self.raise(flow, bytes);
+        } else {
+            self.lower(flow, bytes);
+        }
+    }
+
+    #[inline(always)]
+    fn leaf(&self, flow: u32) -> usize {
+        self.ranks.len() / 2 + flow as usize
+    }
+
+    /// The flow has no fewer bytes than before.
+    #[inline(always)]
+    pub fn raise(&mut self, flow: u32, bytes: u64) {
+        let rank = rank_of(flow, bytes);
+        let leaf = self.leaf(flow);
+        *at_mut(&mut self.ranks, leaf) = rank;
+        let mut node = leaf / 2;
+        while *at(&self.ranks, node) < rank {
+            *at_mut(&mut self.ranks, node) = rank;
+            node /= 2;
+        }
+    }
+
+    /// The flow has no more bytes than before.
+    #[inline(always)]
+    pub fn lower(&mut self, flow: u32, bytes: u64) {
         let mut best = rank_of(flow, bytes);
-        *at_mut(&mut self.ranks, child) = best;
-        while child > 1 {
-            best = best.max(*at(&self.ranks, child ^ 1));
-            child /= 2;
-            let rank = at_mut(&mut self.ranks, child);
-            if *rank == best {
-                return;
-            }
-            *rank = best;
+        let mut node = self.leaf(flow);
+        let old = *at(&self.ranks, node);
+        while *at(&self.ranks, node) == old {
+            *at_mut(&mut self.ranks, node) = best;
+            best = best.max(*at(&self.ranks, node ^ 1));
+            node /= 2;
         }
     }
 }

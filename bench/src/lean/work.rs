@@ -54,18 +54,19 @@ struct Ready {
     sum: u64,
 }
 
+/// With `lazy`, each fq_codel keeps its winners near the limit alone.
 #[inline(never)]
-pub fn pairs(lines: &Lines, plan: &Plan, queued: u32, step: u32, passes: u32) -> u64 {
-    pass_pairs(lines, plan, queued, step, passes).unwrap_or(0)
+pub fn pairs(lines: &Lines, plan: &Plan, queued: u32, lazy: bool, step: u32, passes: u32) -> u64 {
+    pass_pairs(lines, plan, queued, lazy, step, passes).unwrap_or(0)
 }
 
-fn pass_pairs(lines: &Lines, plan: &Plan, queued: u32, step: u32, passes: u32) -> Option<u64> {
+fn pass_pairs(lines: &Lines, plan: &Plan, queued: u32, lazy: bool, step: u32, passes: u32) -> Option<u64> {
     let made = made(plan)?;
     let Ready {
         mut device,
         mut now,
         mut sum,
-    } = ready(lines, &made, queued)?;
+    } = ready(lines, &made, queued, lazy)?;
     let mut out = Packet::NONE;
     for _ in 0..passes {
         for packet in &made {
@@ -88,7 +89,7 @@ fn pass_losses(lines: &Lines, plan: &Plan, queued: u32, waits: &[u32]) -> Option
         mut device,
         mut now,
         mut sum,
-    } = ready(lines, &made, queued)?;
+    } = ready(lines, &made, queued, false)?;
     let mut out = Packet::NONE;
     let mut next = 0;
     for wait in waits {
@@ -124,8 +125,9 @@ fn pass_wire(made: &[Packet], step: u32, passes: u32) -> Option<u64> {
     Some(sum)
 }
 
-fn ready(lines: &Lines, made: &[Packet], queued: u32) -> Option<Ready> {
+fn ready(lines: &Lines, made: &[Packet], queued: u32, lazy: bool) -> Option<Ready> {
     let mut device = Device::new(MTU, TXQUEUELEN, 0);
+    device.lazy = lazy;
     set_up(&mut device, lines)?;
     let (mut now, mut sum) = (0, 1);
     for (_, packet) in (0..queued).zip(made.iter().cycle()) {

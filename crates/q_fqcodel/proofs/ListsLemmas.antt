@@ -2,7 +2,7 @@
 use Rattle.std.proofs.Common.{◌≡◌, ◌≢◌, ℕ, zero, suc, ◌<◌, ◌≤◌, Bool, true, false, not, ◌==◌, ◌||◌, List, [], ◌∷◌, ◌++◌, length, set, drop, replicate, slice_get, if◌then◌else◌, Some, None, IfSome, refl, sym, ap, ◌∙◌, arith, subst, ⊎_elim, ◌⊎◌, inl, inr}
 use Rattle.std.proofs.Math.ListN.{length-replicate}
 use Rattle.std.proofs.lemmas.List.{length-set}
-use Rattle.std.proofs.lemmas.Bool.{false≢true, cond-true, cond-false, eqb-true, eqb-false, not-true, not-false}
+use Rattle.std.proofs.lemmas.Bool.{false≢true, cond-true, cond-false, eqb-true, not-true, not-false}
 use Rattle.std.proofs.lemmas.List.{nil_from_length}
 use Rattle.q_fqcodel.specs.Entry.{Entry}
 use Rattle.q_fqcodel.specs.Linked.{IsChain}
@@ -29,9 +29,6 @@ front_flow_all links place ends behind n line some own =
     subst (λ (l : List Entry). IfSome (slice_get (l ++ behind) 0) (λ e. e.flow ≡ n)) (front_entry links place ends some line) own
 
 -- ---- the front is written: in the old list where the new one is empty
-
-pub some_new : (n : ℕ) → not (n == 0) ≡ true → 0 < n
-some_new n h = omega (arith, eqb-false n 0 (not-true (n == 0) h))
 
 pub none_new : (n : ℕ) → not (n == 0) ≡ false → n ≡ 0
 none_new n h = eqb-true n 0 (not-false (n == 0) h)

@@ -1,23 +1,19 @@
 -- A head that is not late: it is sent as it stands, none is dropped before it, and the others stay.
-use Rattle.std.proofs.Common.{◌≡◌, ℕ, suc, ◌-◌, ◌<◌, ◌≤◌, Bool, false, List, [], ◌∷◌, length, drop, Option, Some, IsSome, arith, refl, sym, ap, ap₂, ◌∙◌, subst}
+use Rattle.std.proofs.Common.{◌≡◌, ℕ, suc, ◌-◌, ◌≤◌, Bool, true, false, List, [], ◌∷◌, length, drop, Option, Some, IsSome, arith, refl, sym, ap, ap₂, ◌∙◌, subst}
 use Rattle.std.specs.Prelude.{option_map, slice_get}
 use Rattle.std.proofs.lemmas.Option.{none-some, same_Some}
 use Rattle.std.proofs.lemmas.List.{length-drop}
 use Rattle.q_packet.proofs.TotalsLemmas.{size-cons}
-use Rattle.q_packet.specs.Totals.{count, size}
+use Rattle.q_packet.specs.Totals.{size}
 use Rattle.q_packet.specs.Descriptor.{Descriptor}
 use Rattle.q_packet.specs.declared.stamped.Stamped.{Stamped}
-use Rattle.q_codel.specs.Codel.{CodelState, Chooses, drops, taken, left, after, leaving}
+use Rattle.q_codel.specs.Codel.{CodelState, is_late, Chooses, drops, taken, left, after, leaving}
 use Rattle.q_codel.specs.Front.{front_of}
 use Rattle.q_codel.specs.declared.front.Front.{Front}
 use Rattle.q_fqcodel.specs.Take.{taken_as}
 use Rattle.q_fqcodel.proofs.SentLemmas.{slice_within}
 
 -- what is in front of a queue with a packet
-pub some_front : (q : List Stamped) → 0 < count q → IsSome (option_map front_of (slice_get q 0))
-some_front [] h = absurd (omega arith)
-some_front (s ∷ q) h = refl
-
 pub front_within : (q : List Stamped) (front : Front) (bytes : ℕ) → Some front ≡ option_map front_of (slice_get q 0) → bytes ≡ size q → front.len ≤ bytes
 front_within [] front bytes f b = absurd (none-some front (sym f))
 front_within (s ∷ q) front bytes f b = omega (arith, b, size-cons s q, ap (λ (x : Front). x.len) (same_Some front (front_of s) f))
@@ -56,3 +52,11 @@ passed s t now (head ∷ rest) front bytes packet f b p chooses =
       left_is = chosen.rest_is;
       after_is = chosen.state_is;
     }
+
+-- a head that is late is so whatever is known of it
+pub late : (s : CodelState) (now : ℕ) (queue : List Stamped) (front : Front) (bytes : ℕ) → Some front ≡ option_map front_of (slice_get queue 0) → bytes ≡ size queue
+    → ((head : Stamped) (rest : List Stamped) → front ≡ front_of head → bytes - front.len ≡ size rest → is_late s now (head ∷ rest) ≡ true) → is_late s now queue ≡ true
+late s now [] front bytes f b judged = absurd (none-some front (sym f))
+late s now (head ∷ rest) front bytes f b judged =
+    let front_is = same_Some front (front_of head) f in
+    judged head rest front_is (omega (arith, b, size-cons head rest, ap (λ (x : Front). x.len) front_is))

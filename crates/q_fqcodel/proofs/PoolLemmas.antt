@@ -74,9 +74,6 @@ part_le f (l ∷ ls) zero none = omega (arith, sum_by-cons f l ls)
 part_le f (l ∷ ls) (suc n) none = omega (arith, sum_by-cons f l ls, part_le f ls n none)
 
 module _ (at : ℕ → Option Node) (nodes : ℕ) (lists : List FlowList) (bytes : ℕ) (pool : IsPool at nodes lists bytes) where
-  pub count_at : (n : ℕ) → (get_or lists n no_list).count ≡ count (queue_in at (get_or lists n no_list))
-  count_at n = sym (counted at (length lists) n (get_or lists n no_list).tail (get_or lists n no_list).count (get_or lists n no_list).head (pool.each n).linked)
-
   pub count_le : (n : ℕ) → (get_or lists n no_list).count ≤ nodes
   count_le n = omega (arith, part_le (λ (l : FlowList). l.count) lists n refl, pool.counted)
 

@@ -1,7 +1,8 @@
-ghost use Rattle.std.specs.Prelude.{◌≡◌, ◌+◌, ◌<◌, ◌≤◌, [], ◌++◌, take, get_or, refl};
+ghost use Rattle.std.specs.Prelude.{◌≡◌, ◌+◌, ◌≤◌, [], ◌++◌, take, get_or, true, refl};
 ghost use Rattle.std.proofs.Common.{◌∙◌};
 ghost use Rattle.q_packet.specs.Totals.{count};
-ghost use Rattle.q_codel.specs.Codel.{joined, drops, taken, left, after};
+ghost use Rattle.q_codel.specs.Codel.{joined, drops, taken, left, after, is_late};
+ghost use Rattle.q_codel.specs.Front.{IsFront};
 ghost use Rattle.q_codel.specs.Losses.{losses_of};
 ghost use Rattle.q_fqcodel.specs.Pool.{SameBeside};
 ghost use Rattle.q_fqcodel.specs.Take.{taken_as};
@@ -57,17 +58,20 @@ impl<'a> Queue for FlowQueue<'a> {
     ghost keeps_on = { λ q r s a b. (kept_on q.flow r.flow q.pool.now.queues r.pool.now.queues s.pool.now.queues a.1 a.0 b.0, b.1 ∙ a.1, b.2 ∙ a.2, b.3 ∙ a.3) };
 }
 
-/// Lets a flow, which has a packet, send by CoDel's law into `out`, and says whether the packet was marked.
-pub(crate) fn send_from_into<S: Sink>(
+/// Lets a flow whose head was found late send by CoDel's law into `out`, and says whether the packet was marked. `front` is what CoDel
+/// looks at of the head, which is not judged again.
+pub(crate) fn send_late_from<S: Sink>(
     pool: &mut Pool,
     codel: &mut ControlState,
     parameters: &Parameters,
     flow: u32,
+    front: Front,
     now: Moment,
     out: &mut Packet,
     sink: &mut S,
 ) -> bool
-    requires some { 0 < count (get_or pool.old.queues flow []) }
+    requires front { IsFront front (get_or pool.old.queues flow []) }
+    requires late { is_late (joined parameters.now codel.old) now (get_or pool.old.queues flow []) ≡ true }
     requires room { count (get_or pool.old.queues flow []) ≤ S.room sink.old }
     ensures sent { taken_as out.new result ≡ taken (joined parameters.now codel.old) now (get_or pool.old.queues flow []) }
     ensures left { get_or pool.new.queues flow [] ≡ left (joined parameters.now codel.old) now (get_or pool.old.queues flow []) }
@@ -80,7 +84,5 @@ pub(crate) fn send_from_into<S: Sink>(
     ensures kept { S.keeps sink.old sink.new }
 {
     let mut queue = FlowQueue { pool, flow };
-    codel
-        .take_into(parameters, &mut queue, now, sink, out)
-        .unwrap()
+    codel.take_late_into(parameters, front, &mut queue, now, sink, out)
 }

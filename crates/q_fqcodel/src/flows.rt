@@ -1,6 +1,8 @@
 ghost use Rattle.std.specs.Prelude.{◌≡◌, ◌+◌, ◌<◌, ◌≤◌, ◌%◌, ◌^◌, [], ◌++◌, ◌&&◌, ◌==◌, not, true, nat_le, length, map, replicate, take, drop, set, slice_get, get_or, ◌↔◌, IsSome, IfSome, IsOk, IfOk, OnOk, OnErr};
 ghost use Rattle.q_packet.specs.Totals.{count};
 ghost use Rattle.q_packet.specs.declared.stamped.Stamped.{Stamped};
+ghost use Rattle.q_codel.specs.Codel.{is_late};
+ghost use Rattle.q_codel.specs.Front.{IsFront};
 ghost use Rattle.q_codel.specs.Losses.{losses_of};
 ghost use Rattle.q_fqcodel.specs.Cleared.{adjust};
 ghost use Rattle.q_fqcodel.specs.FqState.{queue_of, is_idle, packets_of, bytes_of, rested_flow, retuned, all_packets, first_flow};
@@ -9,12 +11,12 @@ ghost use Rattle.q_fqcodel.specs.Take.{taken_as, packet_sent, packets_dropped, f
 ghost use Rattle.q_fqcodel.specs.Pool.{stamp, cleared};
 
 use crate::course::Course;
-use crate::flow_queue::send_from_into;
+use crate::flow_queue::send_late_from;
 use crate::pool::Pool;
 use crate::sent::Sent;
 use crate::settings::Settings;
 use crate::winners::Winners;
-use q_codel::{ControlState, Parameters, Sink};
+use q_codel::{ControlState, Front, Parameters, Sink};
 use q_packet::{Cause, Moment, Packet};
 use std::alloc::{AllocError, Global};
 use std::marker::Model;
@@ -159,7 +161,7 @@ impl Flows {
         let behind = bytes - front.len as u64;
         let codel = &self.states[flow as usize];
         let Some(after) = codel.passed(&self.parameters, &front, behind, now) else {
-            let late = self.send_late_into(flow, now, out, sink);
+            let late = self.send_late_into(flow, front, now, out, sink);
             // Field by field: as a whole it would be read where two narrower numbers were just written.
             return Sent {
                 len: late.len,
@@ -177,18 +179,20 @@ impl Flows {
         }
     }
 
-    // The same where the head may be late: a function of its own, so that the common way saves no registers for it.
+    // The same where the head is late: a function of its own, so that the common way saves no registers for it.
     #[cold]
     #[inline(never)]
     fn send_late_into<S: Sink>(
         &mut self,
         flow: u32,
+        front: Front,
         now: Moment,
         out: &mut Packet,
         sink: &mut S,
     ) -> Sent
         requires in_range { flow < length self.old.flows }
-        requires some { 0 < count (queue_of self.old.flows flow) }
+        requires front { IsFront front (queue_of self.old.flows flow) }
+        requires late { IfSome (slice_get self.old.flows flow) (λ f. is_late f.codel now f.queue ≡ true) }
         requires room { count (queue_of self.old.flows flow) ≤ S.room sink.old }
         ensures sent { IfSome (slice_get self.old.flows flow) (λ f. taken_as out.new result.marked ≡ packet_sent now f) }
         ensures len { result.len ≡ out.new.len }
@@ -204,11 +208,12 @@ impl Flows {
     {
         let held = self.pool.count_of(flow);
         let codel = &mut self.states[flow as usize];
-        let marked = send_from_into(
+        let marked = send_late_from(
             &mut self.pool,
             codel,
             &self.parameters,
             flow,
+            front,
             now,
             out,
             sink,

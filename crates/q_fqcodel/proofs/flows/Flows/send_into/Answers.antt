@@ -1,17 +1,18 @@
-use Rattle.std.proofs.Common.{◌≡◌, ℕ, ◌+◌, ◌-◌, ◌<◌, ◌==◌, not, List, [], ◌++◌, length, take, drop, get_or, set, sym, ap, ap₂, ◌∙◌, arith, subst, Option, IfSome, Some, false}
+use Rattle.std.proofs.Common.{◌≡◌, ℕ, ◌+◌, ◌-◌, ◌<◌, ◌==◌, not, List, [], ◌++◌, length, take, drop, get_or, set, sym, ap, ap₂, ◌∙◌, arith, subst, Option, IfSome, Some, true, false}
 use Rattle.std.specs.Prelude.{slice_get}
 use Rattle.std.proofs.lemmas.List.{length-set, get_or_default, get_or-set_same, append-nil}
 use Rattle.q_packet.specs.Totals.{count, size}
 use Rattle.q_packet.specs.declared.stamped.Stamped.{Stamped}
 use Rattle.q_packet.specs.declared.cause.Cause.TheVariants.{CoDel}
-use Rattle.q_codel.specs.Codel.{CodelState, CodelVars, joined}
+use Rattle.q_codel.specs.Codel.{CodelState, CodelVars, joined, is_late}
+use Rattle.q_codel.specs.Front.{IsFront}
 use Rattle.q_codel.specs.Losses.{losses_of}
 use Rattle.q_fqcodel.specs.Cleared.{adjust}
 use Rattle.q_fqcodel.specs.FlowsState.{FlowsState}
 use Rattle.q_fqcodel.specs.FqState.{Flow, queue_of}
 use Rattle.q_fqcodel.specs.Pool.{flows_from, codels_in}
 use Rattle.q_fqcodel.specs.Take.{taken_as, packet_sent, packets_dropped, flow_after}
-use Rattle.q_fqcodel.proofs.PassedLemmas.{Passed, passed, front_within, behind_is}
+use Rattle.q_fqcodel.proofs.PassedLemmas.{Passed, passed, front_within, behind_is, late}
 use Rattle.q_fqcodel.proofs.PooledLemmas.{length-flows, flow_read, queue_there, flow_written, length-sizes, sizes_at, sizes_renewed, length-codels, codel_at, codels-set}
 use Rattle.q_fqcodel.proofs.flows.Flows.send_into.Goals as goal
 use Rattle.q_fqcodel.proofs.flows.Flows.send_into.Goals.{After-index-codel, After-take_of_into, After-index_mut}
@@ -55,6 +56,20 @@ there : (g : _) (c : After-index-codel g) → slice_get c.args.self.now.flows c.
 there g c =
     flow_read c.args.flow c.self.inside.pool.queues (codels_in c.self.inside.parameters c.self.inside.states.items) (was g c) c.args.self.now.flows c.self.invariant.0 (within g c) (read g c)
     (ap (λ (f : FlowsState). f.flows) c.self.view_is)
+
+-- its head is late
+pub send_late_into-late-requires-clause-front : goal.send_late_into-late-requires-clause-front
+send_late_into-late-requires-clause-front g c =
+    let qs : List (List Stamped) = c.self.inside.pool.queues in
+    let queue : queue_of c.args.self.now.flows c.args.flow ≡ get_or qs c.args.flow [] =
+    ap (λ (f : FlowsState). queue_of f.flows c.args.flow) (sym c.self.view_is) ∙ queue_there c.args.flow qs (codels_in c.self.inside.parameters c.self.inside.states.items) c.self.invariant.0 in
+    subst (λ (q : List Stamped). IsFront c.peek-front.result.0 q) (sym queue) c.peek-front.ensures.front
+
+pub send_late_into-late-requires-clause-late : goal.send_late_into-late-requires-clause-late
+send_late_into-late-requires-clause-late g c =
+    let d = (goal.at.send_late_into-late-requires-clause-late g c).After-index-codel in
+    subst (λ (o : Option Flow). IfSome o (λ f. is_late f.codel c.args.now f.queue ≡ true)) (sym (there g d))
+    (late (was g d) c.args.now (get_or c.self.inside.pool.queues c.args.flow []) c.peek-front.result.0 c.peek-front.result.1 c.peek-front.ensures.front c.peek-front.ensures.bytes c.in_default.ensures.late)
 
 -- its head has gone
 passes : (g : _) (c : After-take_of_into g)
