@@ -28,3 +28,5 @@ pub mod StatsStands
 pub mod StepStands
 pub mod ToldLemmas
 pub mod WaitingLemmas
+mod WorkAsks
+mod WorkTrees

@@ -9,3 +9,4 @@ pub mod Replayed
 pub mod Service
 pub mod Sharing
 pub mod Waiting
+pub mod Work

@@ -4,6 +4,7 @@ ghost use Rattle.q_device.specs.Laws.{ReplayGoesOn, ShrinkCommutes, ReplayShrink
 ghost use Rattle.q_device.specs.Service.{ClassAgainstAny, ClassesGetTheirParts, FlowAgainstAny, NoFlowStarves, NewFlowFirst};
 ghost use Rattle.q_device.specs.Sharing.{ClassesSendTheirShares, DeficitsAreBounded, GrantsComeWhereShort, ClassesWakeWithAQuantum, ClassesShareByQuanta, BucketsAreBounded, FlowsGiveTheirShares, FlowsBeginNew, FlowsAreGrantedEvenly};
 ghost use Rattle.q_device.specs.Waiting.{EarlyPollsGiveNothing, ReadyPassesEmptyPolls};
+ghost use Rattle.q_device.specs.Work.{BandsAreStrict, WorkIsConserved};
 
 use crate::device::Device;
 use q_model::Settings;
@@ -143,6 +144,27 @@ pub fn no_flow_starves(settings: Settings)
 /// So a sparse flow, as a name lookup, passes the flows of a download (RFC 8290, section 4.2).
 pub fn new_flow_first(settings: Settings)
     ensures { NewFlowFirst settings }
+{
+    settings.ranges();
+}
+
+/// A tree without a tbf leaves no link idle that has something to send: a poll gives a packet wherever one is queued, at any node, and is
+/// answered `Idle` where nothing is; it is never answered `Later` (tc-prio(8) calls this work-conserving).
+///
+/// For all settings and every list of events whose fields are in their ranges.
+pub fn work_is_conserved(settings: Settings)
+    ensures { WorkIsConserved settings }
+{
+    settings.ranges();
+}
+
+/// Where a poll has a prio send a packet of a band, each band before that one gave nothing when it was asked at that moment; and if no
+/// tbf stands there or beneath, nothing was queued there (tc-prio(8)).
+///
+/// For all settings and every list of events whose fields are in their ranges. A tbf in an earlier band may hold a packet back, and
+/// lets the bands behind it send meanwhile.
+pub fn bands_are_strict(settings: Settings)
+    ensures { BandsAreStrict settings }
 {
     settings.ranges();
 }
