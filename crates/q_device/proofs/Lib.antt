@@ -1,3 +1,4 @@
+mod BucketPays
 mod BucketStretches
 pub mod ClassStretches
 pub mod CountLemmas
@@ -9,11 +10,13 @@ pub mod FlowsShow
 pub mod KeptLemmas
 pub mod LawfulLemmas
 pub mod LeastShare
+mod LinkStretches
 pub mod Moved
 pub mod MovedAsks
 pub mod MovedTrees
 pub mod NewFlowService
 pub mod PlayLemmas
+mod RateStretches
 pub mod ReadyNumbers
 pub mod RecorderLemmas
 pub mod Renewed

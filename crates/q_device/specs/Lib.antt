@@ -5,6 +5,7 @@ pub mod DeviceSeen
 pub mod Giving
 pub mod Keeping
 pub mod Laws
+pub mod Rate
 pub mod Replayed
 pub mod Service
 pub mod Sharing

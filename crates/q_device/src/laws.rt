@@ -1,6 +1,7 @@
 //! What is true of every device and every replay. Each law is the contract of a function that does nothing.
 ghost use Rattle.q_device.specs.DeviceLaws.{ArrivesByArrivals, CountersNeverFall, EveryCounterIsCompared, HasItsMemory, IsLawfulDevice, IsReplayed, IsReplayOfRecorded, TellsItsLosses};
 ghost use Rattle.q_device.specs.Laws.{ReplayGoesOn, ShrinkCommutes, ReplayShrinks, EveryReplayIsSound, TotalsAreLawful, EveryReplayTellsAll};
+ghost use Rattle.q_device.specs.Rate.{RateIsDelivered, RateIsSpent};
 ghost use Rattle.q_device.specs.Service.{ClassAgainstAny, ClassesGetTheirParts, FlowAgainstAny, NoFlowStarves, NewFlowFirst};
 ghost use Rattle.q_device.specs.Sharing.{ClassesSendTheirShares, DeficitsAreBounded, GrantsComeWhereShort, ClassesWakeWithAQuantum, ClassesShareByQuanta, BucketsAreBounded, FlowsGiveTheirShares, FlowsBeginNew, FlowsAreGrantedEvenly};
 ghost use Rattle.q_device.specs.Waiting.{EarlyPollsGiveNothing, ReadyPassesEmptyPolls};
@@ -144,6 +145,22 @@ pub fn no_flow_starves(settings: Settings)
 /// So a sparse flow, as a name lookup, passes the flows of a download (RFC 8290, section 4.2).
 pub fn new_flow_first(settings: Settings)
     ensures { NewFlowFirst settings }
+{
+    settings.ranges();
+}
+
+/// A tbf delivers its rate. Where it keeps its rate and its burst over a stretch of events and its level is cut by its burst at none of them,
+/// what its bucket pays is what its rate brings in the time between, but for what its level was at first and is at last (`exact`).
+///
+/// That is so of a tbf at the root with no other beneath, while something is queued, if its burst has room for a longest packet
+/// and for what its rate brings in a nanosecond, and no event comes after the moment that [`Device::ready_at`] answers before it: what it
+/// pays is then within a longest packet of what its rate brings, both ways, between moments at which a poll gives nothing (`in_time`).
+///
+/// For all settings and every list of events whose fields are in their ranges. Bytes are counted in units of 1/(8*10^9), so that
+/// nothing is rounded. What the tbf pays for it may still hold, as it may at the first of the two moments: one packet.
+pub fn rate_is_delivered(settings: Settings)
+    ensures exact { RateIsSpent settings }
+    ensures in_time { RateIsDelivered settings }
 {
     settings.ranges();
 }
