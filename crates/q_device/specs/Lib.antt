@@ -3,6 +3,7 @@ pub mod DeviceCode
 pub mod DeviceLaws
 pub mod DeviceSeen
 pub mod Giving
+pub mod InTime
 pub mod Keeping
 pub mod Laws
 pub mod Rate

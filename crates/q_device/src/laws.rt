@@ -1,5 +1,6 @@
 //! What is true of every device and every replay. Each law is the contract of a function that does nothing.
 ghost use Rattle.q_device.specs.DeviceLaws.{ArrivesByArrivals, CountersNeverFall, EveryCounterIsCompared, HasItsMemory, IsLawfulDevice, IsReplayed, IsReplayOfRecorded, TellsItsLosses};
+ghost use Rattle.q_device.specs.InTime.{ClassesShareInTime, SharesMultiply};
 ghost use Rattle.q_device.specs.Laws.{ReplayGoesOn, ShrinkCommutes, ReplayShrinks, EveryReplayIsSound, TotalsAreLawful, EveryReplayTellsAll};
 ghost use Rattle.q_device.specs.Rate.{RateIsDelivered, RateIsSpent};
 ghost use Rattle.q_device.specs.Service.{ClassAgainstAny, ClassesGetTheirParts, FlowAgainstAny, NoFlowStarves, NewFlowFirst};
@@ -161,6 +162,24 @@ pub fn new_flow_first(settings: Settings)
 pub fn rate_is_delivered(settings: Settings)
     ensures exact { RateIsSpent settings }
     ensures in_time { RateIsDelivered settings }
+{
+    settings.ranges();
+}
+
+/// A class of a drr gets its part of a rate, in time. A tbf at the root stands over the drr alone, with no other tbf beneath, and is
+/// polled as [`rate_is_delivered`] says; the drr keeps its classes and their quanta. A class that stays backlogged then sends its quantum's
+/// part of what the rate brings in the time between, less a number of bytes that does not grow: its part of two longest packets, and what
+/// [`least_share`] says that it may lack (`below`).
+///
+/// Where the child of a class is a drr again, and so on, the parts multiply: a class at the end of such a way down, all of whose classes stay
+/// backlogged, sends the product of their parts of the rate, less what may lack at each level and a longest packet for each drr that may
+/// hold one (`nested`).
+///
+/// For all settings and every list of events whose fields are in their ranges, whatever comes to the other classes. Bytes are counted in
+/// units of 1/(8*10^9), times the sums of the quanta, so that nothing is rounded; they are those that the class's child gives to its drr.
+pub fn share_in_time(settings: Settings)
+    ensures below { ClassesShareInTime settings }
+    ensures nested { SharesMultiply settings }
 {
     settings.ranges();
 }
