@@ -40,14 +40,14 @@ child-of c (k ∷ classes) (x ∷ xs) same has = elim (cases_Bool (eqb c k.name)
 ]
 
 -- the drr of a device that has these classes
-record DrrNode (major : ℕ) (classes : List Class) (d : DeviceState (List Note)) : Type 0 where
-  node : Node (List Note)
-  schedule : Schedule
-  there : qdisc major d ≡ Some node
-  discipline : node.own.discipline ≡ Drr schedule
-  same : schedule.classes ≡ classes
+pub record DrrNode (major : ℕ) (classes : List Class) (d : DeviceState (List Note)) : Type 0 where
+  pub node : Node (List Note)
+  pub schedule : Schedule
+  pub there : qdisc major d ≡ Some node
+  pub discipline : node.own.discipline ≡ Drr schedule
+  pub same : schedule.classes ≡ classes
 
-drr-node : (major : ℕ) (classes : List Class) (d : DeviceState (List Note)) → HasClasses major classes d → DrrNode major classes d
+pub drr-node : (major : ℕ) (classes : List Class) (d : DeviceState (List Note)) → HasClasses major classes d → DrrNode major classes d
 drr-node major classes d e = option_and_then_some (λ (n : Node (List Note)). classes_of n.own.discipline) (qdisc major d) classes e (λ n there at. by n n.own.discipline refl there at)
   where
     by : (n : Node (List Note)) (k : Discipline) → n.own.discipline ≡ k → qdisc major d ≡ Some n → classes_of k ≡ Some classes → DrrNode major classes d
@@ -57,7 +57,7 @@ drr-node major classes d e = option_and_then_some (λ (n : Node (List Note)). cl
     by n (Tbf bucket limit) is there at = absurd (none-some classes at)
     by n (FqCodel s) is there at = absurd (none-some classes at)
 
-is-class : (major : ℕ) (classes : List Class) (d : DeviceState (List Note)) → IsKept d → HasClasses major classes d → (c quantum : ℕ) → has_class c classes ≡ true → quantum_of c classes ≡ quantum → IsClass major c quantum d
+pub is-class : (major : ℕ) (classes : List Class) (d : DeviceState (List Note)) → IsKept d → HasClasses major classes d → (c quantum : ℕ) → has_class c classes ≡ true → quantum_of c classes ≡ quantum → IsClass major c quantum d
 is-class major classes d kept e c quantum has is =
     let at = drr-node major classes d e in
     let s : Schedule = at.schedule in

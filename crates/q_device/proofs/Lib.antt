@@ -1,3 +1,4 @@
+mod BucketPays
 mod BucketStretches
 pub mod ClassStretches
 pub mod CountLemmas
@@ -9,11 +10,15 @@ pub mod FlowsShow
 pub mod KeptLemmas
 pub mod LawfulLemmas
 pub mod LeastShare
+mod LinkAsks
+mod LinkStretches
 pub mod Moved
 pub mod MovedAsks
 pub mod MovedTrees
 pub mod NewFlowService
+mod PassedStretches
 pub mod PlayLemmas
+mod RateStretches
 pub mod ReadyNumbers
 pub mod RecorderLemmas
 pub mod Renewed
@@ -23,8 +28,12 @@ pub mod RenewedTrees
 pub mod ReplayLemmas
 pub mod ReplayedLemmas
 pub mod ServiceStretches
+mod ShareInTime
 pub mod ShrinkLemmas
 pub mod StatsStands
 pub mod StepStands
 pub mod ToldLemmas
 pub mod WaitingLemmas
+mod WayStretches
+mod WorkAsks
+mod WorkTrees

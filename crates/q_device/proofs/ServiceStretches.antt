@@ -23,7 +23,7 @@ use Rattle.q_device.specs.Sharing.{device_after}
 use Rattle.q_device.specs.Service.{given_so_far, class_sent, IsClass, ClassAgainstAny}
 use Rattle.q_device.proofs.ClassStretches.{at-start, at-end, same-rest, deficits-bounded}
 
-given-at : (major minor : ℕ) (d : DeviceState (List Note)) (x : ClassAt) → class_in major minor d ≡ Some x → given_so_far major minor d ≡ bytes_sent x.child.memory
+pub given-at : (major minor : ℕ) (d : DeviceState (List Note)) (x : ClassAt) → class_in major minor d ≡ Some x → given_so_far major minor d ≡ bytes_sent x.child.memory
 given-at major minor d x there = ap (λ (o : Option ClassAt). option_map_or (λ (class : ClassAt). bytes_sent class.child.memory) o 0) there
 
 module _ (major i j quantum_i quantum_j : ℕ) (apart : i ≢ j) where

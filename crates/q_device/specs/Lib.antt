@@ -3,9 +3,12 @@ pub mod DeviceCode
 pub mod DeviceLaws
 pub mod DeviceSeen
 pub mod Giving
+pub mod InTime
 pub mod Keeping
 pub mod Laws
+pub mod Rate
 pub mod Replayed
 pub mod Service
 pub mod Sharing
 pub mod Waiting
+pub mod Work

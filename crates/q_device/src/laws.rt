@@ -1,9 +1,12 @@
 //! What is true of every device and every replay. Each law is the contract of a function that does nothing.
 ghost use Rattle.q_device.specs.DeviceLaws.{ArrivesByArrivals, CountersNeverFall, EveryCounterIsCompared, HasItsMemory, IsLawfulDevice, IsReplayed, IsReplayOfRecorded, TellsItsLosses};
+ghost use Rattle.q_device.specs.InTime.{ClassesShareInTime, SharesMultiply};
 ghost use Rattle.q_device.specs.Laws.{ReplayGoesOn, ShrinkCommutes, ReplayShrinks, EveryReplayIsSound, TotalsAreLawful, EveryReplayTellsAll};
+ghost use Rattle.q_device.specs.Rate.{RateIsDelivered, RateIsSpent};
 ghost use Rattle.q_device.specs.Service.{ClassAgainstAny, ClassesGetTheirParts, FlowAgainstAny, NoFlowStarves, NewFlowFirst};
 ghost use Rattle.q_device.specs.Sharing.{ClassesSendTheirShares, DeficitsAreBounded, GrantsComeWhereShort, ClassesWakeWithAQuantum, ClassesShareByQuanta, BucketsAreBounded, FlowsGiveTheirShares, FlowsBeginNew, FlowsAreGrantedEvenly};
 ghost use Rattle.q_device.specs.Waiting.{EarlyPollsGiveNothing, ReadyPassesEmptyPolls};
+ghost use Rattle.q_device.specs.Work.{BandsAreStrict, WorkIsConserved};
 
 use crate::device::Device;
 use q_model::Settings;
@@ -143,6 +146,61 @@ pub fn no_flow_starves(settings: Settings)
 /// So a sparse flow, as a name lookup, passes the flows of a download (RFC 8290, section 4.2).
 pub fn new_flow_first(settings: Settings)
     ensures { NewFlowFirst settings }
+{
+    settings.ranges();
+}
+
+/// A tbf delivers its rate. Where it keeps its rate and its burst over a stretch of events and its level is cut by its burst at none of them,
+/// what its bucket pays is what its rate brings in the time between, but for what its level was at first and is at last (`exact`).
+///
+/// That is so of a tbf at the root with no other beneath, while something is queued, if its burst has room for a longest packet
+/// and for what its rate brings in a nanosecond, and no event comes after the moment that [`Device::ready_at`] answers before it: what it
+/// pays is then within a longest packet of what its rate brings, both ways, between moments at which a poll gives nothing (`in_time`).
+///
+/// For all settings and every list of events whose fields are in their ranges. Bytes are counted in units of 1/(8*10^9), so that
+/// nothing is rounded. What the tbf pays for it may still hold, as it may at the first of the two moments: one packet.
+pub fn rate_is_delivered(settings: Settings)
+    ensures exact { RateIsSpent settings }
+    ensures in_time { RateIsDelivered settings }
+{
+    settings.ranges();
+}
+
+/// A class of a drr gets its part of a rate, in time. A tbf at the root stands over the drr alone, with no other tbf beneath, and is
+/// polled as [`rate_is_delivered`] says; the drr keeps its classes and their quanta. A class that stays backlogged then sends its quantum's
+/// part of what the rate brings in the time between, less a number of bytes that does not grow: its part of two longest packets, and what
+/// [`least_share`] says that it may lack (`below`).
+///
+/// Where the child of a class is a drr again, and so on, the parts multiply: a class at the end of such a way down, all of whose classes stay
+/// backlogged, sends the product of their parts of the rate, less what may lack at each level and a longest packet for each drr that may
+/// hold one (`nested`).
+///
+/// For all settings and every list of events whose fields are in their ranges, whatever comes to the other classes. Bytes are counted in
+/// units of 1/(8*10^9), times the sums of the quanta, so that nothing is rounded; they are those that the class's child gives to its drr.
+pub fn share_in_time(settings: Settings)
+    ensures below { ClassesShareInTime settings }
+    ensures nested { SharesMultiply settings }
+{
+    settings.ranges();
+}
+
+/// A tree without a tbf leaves no link idle that has something to send: a poll gives a packet wherever one is queued, at any node, and is
+/// answered `Idle` where nothing is; it is never answered `Later` (tc-prio(8) calls this work-conserving).
+///
+/// For all settings and every list of events whose fields are in their ranges.
+pub fn work_is_conserved(settings: Settings)
+    ensures { WorkIsConserved settings }
+{
+    settings.ranges();
+}
+
+/// Where a poll has a prio send a packet of a band, each band before that one gave nothing when it was asked at that moment; and if no
+/// tbf stands there or beneath, nothing was queued there (tc-prio(8)).
+///
+/// For all settings and every list of events whose fields are in their ranges. A tbf in an earlier band may hold a packet back, and
+/// lets the bands behind it send meanwhile.
+pub fn bands_are_strict(settings: Settings)
+    ensures { BandsAreStrict settings }
 {
     settings.ranges();
 }
