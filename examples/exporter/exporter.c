@@ -6,7 +6,8 @@
 #include "names.h"
 
 #include <arpa/inet.h>
-#include <poll.h>
+#include <pthread.h>
+#include <signal.h>
 #include <stdlib.h>
 #include <string.h>
 #include <sys/socket.h>
@@ -18,6 +19,7 @@ enum { LINE_SIZE = 512, REQUEST_SIZE = 4096, FLOWS = 64, CLASSES = 4, FIRST_PORT
 
 struct exporter {
     const char *name;
+    pthread_mutex_t lock; /* of the device and the losses */
     qtree_device device;
     struct losses losses;
     uint32_t made;
@@ -70,11 +72,15 @@ static void turn(struct exporter *exporter, uint64_t now) {
     }
 }
 
+/* The lock is held while the numbers are read, and not while they are written. */
 static bool write_all(struct exporter *exporter, FILE *file) {
     struct tree tree;
+    pthread_mutex_lock(&exporter->lock);
     bool is_read = tree_read(&tree, &exporter->device) == QTREE_DONE;
+    struct losses losses = exporter->losses;
+    pthread_mutex_unlock(&exporter->lock);
     if (is_read) {
-        metrics_write(file, exporter->name, &tree, &exporter->losses);
+        metrics_write(file, exporter->name, &tree, &losses);
     }
     tree_free(&tree);
     return is_read;
@@ -107,29 +113,40 @@ static void answer(struct exporter *exporter, int client) {
     len = is_written ? len : 0;
     dprintf(client, form, is_written ? "200 OK" : is_asked ? "503 Service Unavailable" : "404 Not Found", len);
     for (size_t sent = 0; sent < len;) {
-        ssize_t more = send(client, text + sent, len - sent, MSG_NOSIGNAL);
+        ssize_t more = send(client, text + sent, len - sent, 0);
         sent = more > 0 ? sent + (size_t)more : len;
     }
     free(text);
     close(client);
 }
 
-/* One thread has the device, and answers between its turns. */
+/* The packets go on, however slow those are that ask. */
+static void *go_on(void *its) {
+    struct exporter *exporter = its;
+    for (;;) {
+        pthread_mutex_lock(&exporter->lock);
+        turn(exporter, now_ns());
+        pthread_mutex_unlock(&exporter->lock);
+        nanosleep(&(struct timespec){ .tv_nsec = MILLISECOND }, NULL);
+    }
+    return NULL;
+}
+
 static int serve(struct exporter *exporter, uint16_t port) {
     struct sockaddr_in here = { .sin_family = AF_INET, .sin_port = htons(port), .sin_addr.s_addr = htonl(INADDR_LOOPBACK) };
-    struct pollfd asked = { .fd = socket(AF_INET, SOCK_STREAM, 0), .events = POLLIN };
-    setsockopt(asked.fd, SOL_SOCKET, SO_REUSEADDR, &(int){ 1 }, sizeof(int));
-    if (asked.fd < 0 || bind(asked.fd, (struct sockaddr *)&here, sizeof here) < 0 || listen(asked.fd, 8) < 0) {
+    int server = socket(AF_INET, SOCK_STREAM, 0);
+    pthread_t thread;
+    signal(SIGPIPE, SIG_IGN);
+    setsockopt(server, SOL_SOCKET, SO_REUSEADDR, &(int){ 1 }, sizeof(int));
+    if (server < 0 || bind(server, (struct sockaddr *)&here, sizeof here) < 0 || listen(server, 8) < 0 ||
+        pthread_create(&thread, NULL, go_on, exporter) != 0) {
         perror("exporter");
         return 1;
     }
     for (;;) {
-        turn(exporter, now_ns());
-        if (poll(&asked, 1, 1) > 0) {
-            int client = accept(asked.fd, NULL, NULL);
-            if (client >= 0) {
-                answer(exporter, client);
-            }
+        int client = accept(server, NULL, NULL);
+        if (client >= 0) {
+            answer(exporter, client);
         }
     }
 }
@@ -139,7 +156,7 @@ int main(int argc, char **argv) {
         fprintf(stderr, "usage: exporter DEVICE [--listen PORT] <FILE\n");
         return 2;
     }
-    struct exporter exporter = { .name = argv[1], .device = QTREE_CLOSED };
+    struct exporter exporter = { .name = argv[1], .lock = PTHREAD_MUTEX_INITIALIZER, .device = QTREE_CLOSED };
     int status;
     if (!set_up(&exporter, stdin)) {
         status = 1;
