@@ -61,6 +61,9 @@ static qtree_packet packet(struct input *input) {
     return made;
 }
 
+/* What stands behind the last field is no part of a packet. */
+static bool same_packet(const qtree_packet *a, const qtree_packet *b) { return memcmp(a, b, offsetof(qtree_packet, ecn) + 1) == 0; }
+
 static size_t known_line(struct input *input, char *line, size_t room) {
     static const char *const forms[] = {
         "tc qdisc add dev a root handle 1: prio bands %u",
@@ -208,7 +211,13 @@ static void look(qtree_device *device, struct input *input) {
     }
     code = qtree_hash((uint32_t)take(input, 1), &one);
     CHECK(code == QTREE_DONE || code == QTREE_OUT_OF_RANGE);
+    qtree_packet hashed = one, bare = one;
     qtree_read_head(bytes, count, 0, &one);
+    qtree_read_fields_hashed(bytes, count, one.hash, &hashed);
+    qtree_read_fields(bytes, count, &bare);
+    CHECK(same_packet(&hashed, &one) && bare.hash == 0);
+    bare.hash = one.hash;
+    CHECK(same_packet(&bare, &one));
     CHECK(one.prio <= 15 && one.ecn <= 3 && (one.family == 0 || one.family == 4 || one.family == 6));
 }
 
@@ -238,7 +247,7 @@ static void offer(qtree_device *device, struct input *input) {
         qtree_packet given = packet(input), kept = given;
         qtree_count before = { 0, 0 }, after = { 0, 0 };
         qtree_code shared = qtree_port_share(port, &before), code = qtree_offer(port, &given);
-        CHECK(memcmp(&given, &kept, offsetof(qtree_packet, ecn) + 1) == 0 && qtree_port_share(port, &after) == shared);
+        CHECK(same_packet(&given, &kept) && qtree_port_share(port, &after) == shared);
         CHECK(code == QTREE_DONE || code == QTREE_FULL || code == QTREE_OUT_OF_RANGE || code == QTREE_IS_CLOSED);
         CHECK((code == QTREE_IS_CLOSED) == (shared == QTREE_IS_CLOSED));
         CHECK(after.packets == before.packets + (code == QTREE_DONE));

@@ -93,6 +93,10 @@ static void packets(qtree_device *device) {
     qtree_packet packet = { .len = 1500, .buf = 77 };
     qtree_read_head(head, sizeof head, 0, &packet);
     CHECK(packet.family == 4 && packet.proto == 17 && packet.src_low == 0x0a000001 && packet.dport == 5001 && packet.ecn == 3);
+    qtree_packet hashed = { .len = 1500, .buf = 77 }, bare = { .len = 1500, .buf = 77 };
+    qtree_read_fields_hashed(head, sizeof head, 0x1234, &hashed);
+    qtree_read_fields(head, sizeof head, &bare);
+    CHECK(hashed.hash == 0x1234 && hashed.dport == 5001 && bare.hash == 0 && bare.src_low == 0x0a000001 && bare.buf == 77);
     uint64_t at = 7;
     CHECK(qtree_ready_at(device, &at) == QTREE_NOTHING && at == 7);
     const qtree_packet all[] = { packet, packet, packet };

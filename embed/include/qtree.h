@@ -191,6 +191,11 @@ qtree_code qtree_command(qtree_device *device, const uint8_t *line, size_t line_
  * hash, which has this seed. number, port, buf and len stay. */
 void qtree_read_head(const uint8_t *bytes, size_t count, uint32_t seed, qtree_packet *packet);
 
+/* The same, without hashing, which is most of that time: hash is 0, or one that the program has, as that of a network card. Where no
+ * fq_codel stands in the tree nothing reads a hash. An fq_codel puts what has the same hash into one flow. */
+void qtree_read_fields(const uint8_t *bytes, size_t count, qtree_packet *packet);
+void qtree_read_fields_hashed(const uint8_t *bytes, size_t count, uint32_t hash, qtree_packet *packet);
+
 /* Fills in hash, with this seed, from family, proto, addresses and ports. QTREE_DONE, QTREE_OUT_OF_RANGE. */
 qtree_code qtree_hash(uint32_t seed, qtree_packet *packet);
 
