@@ -152,6 +152,22 @@ static void poll_many(qtree_device *device, struct input *input) {
     }
 }
 
+static void poll_bufs(qtree_device *device, struct input *input) {
+    qtree_sent sent[PLACES + 1];
+    size_t room = (size_t)take(input, 1) % (PLACES + 1), count = 99;
+    memset(sent, GUARD, sizeof sent);
+    qtree_code code = qtree_poll_bufs(device, moment(input), sent, room, &count);
+    CHECK(code == QTREE_DONE || code == QTREE_IDLE || code == QTREE_LATER || code == QTREE_OUT_OF_RANGE || code == QTREE_IS_CLOSED);
+    CHECK(count <= room && (code != QTREE_DONE || count == room));
+    for (size_t i = count * sizeof sent[0]; i < sizeof sent; i++) {
+        CHECK(((uint8_t *)sent)[i] == GUARD);
+    }
+    qtree_sent one = { .len = 0 };
+    code = qtree_poll_buf(device, moment(input), &one);
+    CHECK(code == QTREE_DONE || code == QTREE_IDLE || code == QTREE_LATER || code == QTREE_OUT_OF_RANGE || code == QTREE_IS_CLOSED);
+    CHECK((code == QTREE_DONE) == (one.len > 0) && one.ecn <= 3);
+}
+
 static void reap(qtree_device *device, struct input *input) {
     qtree_loss losses[PLACES + 1];
     size_t room = (size_t)take(input, 1) % (PLACES + 1), count = 99;
@@ -284,7 +300,7 @@ static void adds_up(qtree_device *device) {
 int LLVMFuzzerTestOneInput(const uint8_t *data, size_t size);
 int LLVMFuzzerTestOneInput(const uint8_t *data, size_t size) {
     static void (*const each[])(qtree_device *, struct input *) = {
-        single, command, arrive_many, poll_many, reap, show, look, open_or_close, open_or_close_ring, offer, take_in,
+        single, command, arrive_many, poll_many, poll_bufs, reap, show, look, open_or_close, open_or_close_ring, offer, take_in,
     };
     static bool is_begun;
     if (!is_begun) {

@@ -34,11 +34,12 @@ static void sizes(void) {
     static const size_t bytes[] = {
         sizeof(qtree_device), sizeof(qtree_settings), sizeof(qtree_packet), sizeof(qtree_loss),   sizeof(qtree_row),    sizeof(qtree_event),
         sizeof(qtree_fault),  sizeof(qtree_count),    sizeof(qtree_port),   sizeof(qtree_outlet), sizeof(qtree_layout),
+        sizeof(qtree_sent),
     };
-    for (uint32_t what = QTREE_TYPE_DEVICE; what <= QTREE_TYPE_LAYOUT; what++) {
+    for (uint32_t what = QTREE_TYPE_DEVICE; what <= QTREE_TYPE_SENT; what++) {
         CHECK(qtree_size_of(what) == bytes[what]);
     }
-    CHECK(qtree_size_of(QTREE_TYPE_LAYOUT + 1) == 0 && qtree_size_of(UINT32_MAX) == 0);
+    CHECK(qtree_size_of(QTREE_TYPE_SENT + 1) == 0 && qtree_size_of(UINT32_MAX) == 0);
     qtree_fault fault;
     qtree_sample_fault(&fault);
     CHECK(fault.word == 1 && fault.number == 2);
@@ -174,6 +175,26 @@ static void rings(void) {
     qtree_close(&device);
 }
 
+/* What is told of packets that go is as by the other polls, and a poll that gives none writes nothing. */
+static void brief_polls(qtree_device *device, qtree_port *port, qtree_outlet *outlet) {
+    qtree_sent one = { .buf = 9 }, all[4] = { { .buf = 9 }, { .buf = 9 }, { .buf = 9 }, { .buf = 9 } };
+    size_t count = 7;
+    CHECK(qtree_poll_buf(device, 0, &one) == QTREE_IDLE && one.buf == 9);
+    for (uint32_t i = 0; i < 4; i++) {
+        CHECK(qtree_offer(port, &(qtree_packet){ .len = (uint16_t)(100 + i), .buf = i, .ecn = (uint8_t)i }) == QTREE_DONE);
+    }
+    CHECK(qtree_take_in(device, outlet, 0, 4, &count) == QTREE_DONE && count == 4);
+    CHECK(qtree_poll_buf(device, QTREE_MOMENT_MAX + 1, &one) == QTREE_OUT_OF_RANGE && one.buf == 9);
+    CHECK(qtree_poll_bufs(device, QTREE_MOMENT_MAX + 1, all, 4, &count) == QTREE_OUT_OF_RANGE && count == 0);
+    CHECK(qtree_poll_buf(device, 0, &one) == QTREE_DONE && one.buf == 0 && one.len == 100 && one.port == 5 && one.ecn == 0);
+    uint64_t first = one.number + 1;
+    CHECK(qtree_poll_bufs(device, 0, all, 2, &count) == QTREE_DONE && count == 2 && all[2].buf == 9);
+    CHECK(qtree_poll_bufs(device, 0, all + 2, 2, &count) == QTREE_IDLE && count == 1 && all[3].buf == 9);
+    for (uint32_t i = 0; i < 3; i++) {
+        CHECK(all[i].buf == i + 1 && all[i].len == 101 + i && all[i].ecn == i + 1 && all[i].port == 5 && all[i].number == first + i);
+    }
+}
+
 /* Many packets by one call each: all of them arrive, go, and are taken in from a ring. */
 static void bursts(void) {
     enum { MANY = 300 };
@@ -200,6 +221,7 @@ static void bursts(void) {
     for (uint32_t i = 0; i < MANY; i++) {
         CHECK(given[i].buf == i && given[i].port == 5 && given[i].number == i + 1);
     }
+    brief_polls(&device, &port, &outlet);
     CHECK(qtree_poll_many(&device, 0, given, MANY, &count) == QTREE_IDLE && count == 0);
     qtree_port_close(&port);
     qtree_outlet_close(&outlet);

@@ -217,6 +217,18 @@ qtree_code qtree_poll(qtree_device *device, uint64_t now, qtree_packet *packet);
  * QTREE_DONE, QTREE_IDLE, QTREE_LATER, QTREE_OUT_OF_RANGE, QTREE_IS_CLOSED. */
 qtree_code qtree_poll_many(qtree_device *device, uint64_t now, qtree_packet *packets, size_t room, size_t *count);
 
+/* The same two, of which a program that only sends on gets no more than it needs: buf, len and ecn, and of a packet that came by a ring
+ * its sender's port and number there. */
+typedef struct qtree_sent {
+    uint64_t number;
+    uint32_t port;
+    uint32_t buf;
+    uint16_t len;
+    uint8_t ecn; /* 3 where the program writes that into the packet's head */
+} qtree_sent;
+qtree_code qtree_poll_buf(qtree_device *device, uint64_t now, qtree_sent *sent);
+qtree_code qtree_poll_bufs(qtree_device *device, uint64_t now, qtree_sent *sent, size_t room, size_t *count);
+
 /* The moment before which no poll gives a packet, as long as none arrives and no command comes: a program sleeps till then. It is
  * no earlier than the latest moment that counted. A poll at that moment may still answer QTREE_LATER: what an fq_codel gives, or which
  * class of a drr, is not known before it is asked. The moment that follows is then a later one. QTREE_NOTHING where none ever will:
@@ -313,7 +325,8 @@ enum {
     QTREE_TYPE_COUNT = 7,
     QTREE_TYPE_PORT = 8,
     QTREE_TYPE_OUTLET = 9,
-    QTREE_TYPE_LAYOUT = 10
+    QTREE_TYPE_LAYOUT = 10,
+    QTREE_TYPE_SENT = 11
 };
 size_t qtree_size_of(uint32_t what);
 

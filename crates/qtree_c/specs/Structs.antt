@@ -24,6 +24,7 @@ use Rattle.qtree_c.specs.declared.c_event.CEvent.{CEvent}
 use Rattle.qtree_c.specs.declared.c_loss.CLoss.{CLoss}
 use Rattle.qtree_c.specs.declared.c_packet.CPacket.{CPacket}
 use Rattle.qtree_c.specs.declared.c_row.CRow.{CRow}
+use Rattle.qtree_c.specs.declared.c_sent.CSent.{CSent}
 use Rattle.qtree_c.specs.declared.c_settings.CSettings.{CSettings}
 
 -- the flow key that C's fields say
@@ -143,3 +144,7 @@ with_fields hash h c = record c {
 -- a packet of which the head was read, and whose flow has the hash with this seed
 abbrev pub with_head : ℕ → Head → CPacket → CPacket
 with_head seed h c = with_fields (one_at_a_time seed (key_bytes h.key)) h c
+
+-- what is told of a packet that was sent
+abbrev pub sent_of : CPacket → CSent
+sent_of c = record { number = c.number; port = c.port; buf = c.buf; len = c.len; ecn = c.ecn }

@@ -9,6 +9,7 @@ use crate::place::Place;
 use crate::polled::Polled;
 use crate::raw::{RawDevice, sys};
 use crate::row::Row;
+use crate::sent::Sent;
 use crate::settings::Settings;
 use crate::show::Show;
 use alloc::string::String;
@@ -87,6 +88,53 @@ impl Device {
             (sys::QTREE_DONE, packet) => Ok(Polled::Packet(Packet(packet))),
             (sys::QTREE_IDLE, _) => Ok(Polled::Idle),
             (sys::QTREE_LATER, _) => Ok(Polled::Later),
+            (code, _) => Err(Error::of(code)),
+        }
+    }
+
+    /// Takes the packet whose turn it is, as [`poll`](Device::poll) does, and hands out what it takes to send it on.
+    ///
+    /// ```
+    /// # use qtree::{Device, Error, Packet, Polled, Settings};
+    /// let mut device = Device::open(Settings::default())?;
+    /// device.arrive(&Packet::builder(1500).buf(7).build(), 0)?;
+    /// assert!(matches!(device.poll_buf(0)?, Polled::Packet(sent) if (sent.buf(), sent.len()) == (7, 1500)));
+    /// assert_eq!(device.poll_buf(0)?, Polled::Idle);
+    /// # Ok::<(), Error>(())
+    /// ```
+    ///
+    /// # Errors
+    ///
+    /// `OutOfRange` (the moment).
+    pub fn poll_buf(&mut self, now: u64) -> Result<Polled<Sent>, Error> {
+        match self.0.poll_buf(now) {
+            (sys::QTREE_DONE, sent) => Ok(Polled::Packet(Sent(sent))),
+            (sys::QTREE_IDLE, _) => Ok(Polled::Idle),
+            (sys::QTREE_LATER, _) => Ok(Polled::Later),
+            (code, _) => Err(Error::of(code)),
+        }
+    }
+
+    /// Polls until `sent` is full, or to the first poll that gives none; how many packets there are.
+    ///
+    /// ```
+    /// # use qtree::{Device, Error, Packet, Sent, Settings};
+    /// let mut device = Device::open(Settings::default())?;
+    /// for buf in 0..3 {
+    ///     device.arrive(&Packet::builder(1500).buf(buf).build(), 0)?;
+    /// }
+    /// let mut sent = [Sent::default(); 32];
+    /// let count = device.poll_bufs(0, &mut sent)?;
+    /// assert_eq!(sent[..count].iter().map(|it| it.buf()).collect::<Vec<_>>(), [0, 1, 2]);
+    /// # Ok::<(), Error>(())
+    /// ```
+    ///
+    /// # Errors
+    ///
+    /// `OutOfRange` (the moment).
+    pub fn poll_bufs(&mut self, now: u64, sent: &mut [Sent]) -> Result<usize, Error> {
+        match self.0.poll_bufs(now, sent) {
+            (sys::QTREE_DONE | sys::QTREE_IDLE | sys::QTREE_LATER, count) => Ok(count),
             (code, _) => Err(Error::of(code)),
         }
     }
