@@ -124,6 +124,21 @@ static void show(qtree_device *device, struct input *input) {
     }
 }
 
+/* A packet arrives by its first bytes. */
+static void arrive_frame(qtree_device *device, struct input *input) {
+    uint8_t bytes[80];
+    size_t count = (size_t)take(input, 1) % sizeof bytes;
+    for (size_t i = 0; i < count; i++) {
+        bytes[i] = (uint8_t)take(input, 1);
+    }
+    uint16_t len = (uint16_t)take(input, 2);
+    uint64_t at = moment(input);
+    qtree_code code = take(input, 1) % 2 == 0 ? qtree_arrive_frame(device, bytes, count, len, 7, (uint32_t)take(input, 4), at)
+                                               : qtree_arrive_frame_seeded(device, bytes, count, len, 7, (uint32_t)take(input, 4), at);
+    CHECK(code <= QTREE_LOST_OVER_LIMIT || code == QTREE_OUT_OF_RANGE || code == QTREE_IS_CLOSED || code == QTREE_MEMORY);
+    CHECK(code == QTREE_IS_CLOSED || (code == QTREE_OUT_OF_RANGE) == (len == 0 || at > QTREE_MOMENT_MAX));
+}
+
 static void arrive_many(qtree_device *device, struct input *input) {
     qtree_packet packets[PLACES];
     uint8_t codes[PLACES + 8];
@@ -300,7 +315,7 @@ static void adds_up(qtree_device *device) {
 int LLVMFuzzerTestOneInput(const uint8_t *data, size_t size);
 int LLVMFuzzerTestOneInput(const uint8_t *data, size_t size) {
     static void (*const each[])(qtree_device *, struct input *) = {
-        single, command, arrive_many, poll_many, poll_bufs, reap, show, look, open_or_close, open_or_close_ring, offer, take_in,
+        single, command, arrive_frame, arrive_many, poll_many, poll_bufs, reap, show, look, open_or_close, open_or_close_ring, offer, take_in,
     };
     static bool is_begun;
     if (!is_begun) {

@@ -89,6 +89,27 @@ static void shows(qtree_device *device) {
     CHECK(qtree_show(device, 4, text, sizeof text, &needed) == QTREE_OUT_OF_RANGE && needed == 0);
 }
 
+/* A packet that arrives by its first bytes is the one that is read of them. */
+static void same_arrivals(const qtree_packet *packet, const uint8_t *head, size_t count) {
+    qtree_device device = QTREE_CLOSED;
+    qtree_packet given;
+    CHECK(qtree_arrive_frame(&device, head, count, 1500, 77, 0x1234, 0) == QTREE_IS_CLOSED);
+    CHECK(qtree_open(&device, &(qtree_settings){ 2, 0, 1514 }) == QTREE_DONE);
+    CHECK(qtree_arrive_frame(&device, head, count, 0, 77, 0x1234, 0) == QTREE_OUT_OF_RANGE);
+    CHECK(qtree_arrive_frame(&device, head, count, 1500, 77, 0x1234, QTREE_MOMENT_MAX + 1) == QTREE_OUT_OF_RANGE);
+    CHECK(qtree_arrive_frame(&device, head, count, 1515, 77, 0x1234, 0) == QTREE_LOST_TOO_LONG);
+    CHECK(qtree_arrive_frame(&device, head, count, 1500, 77, 0x1234, 0) == QTREE_DONE);
+    CHECK(qtree_arrive_frame_seeded(&device, head, count, 1500, 77, 0, 0) == QTREE_DONE);
+    CHECK(qtree_arrive_frame(&device, head, count, 1500, 77, 0x1234, 0) == QTREE_LOST_OVER_LIMIT);
+    CHECK(qtree_poll(&device, 0, &given) == QTREE_DONE && given.hash == 0x1234);
+    given.hash = packet->hash;
+    CHECK(memcmp(&given, packet, offsetof(qtree_packet, ecn) + 1) == 0);
+    CHECK(qtree_poll(&device, 0, &given) == QTREE_DONE && memcmp(&given, packet, offsetof(qtree_packet, ecn) + 1) == 0);
+    CHECK(qtree_arrive_frame(&device, NULL, 0, 1, 5, 0, 0) == QTREE_DONE);
+    CHECK(qtree_poll(&device, 0, &given) == QTREE_DONE && given.buf == 5 && given.len == 1 && given.family == 0);
+    qtree_close(&device);
+}
+
 static void packets(qtree_device *device) {
     uint8_t head[28] = { 0x45, 3, 0, 28, 0, 0, 0, 0, 64, 17, 0, 0, 10, 0, 0, 1, 10, 0, 0, 2, 0x10, 0, 0x13, 0x89, 0, 8, 0, 0 };
     qtree_packet packet = { .len = 1500, .buf = 77 };
@@ -100,6 +121,7 @@ static void packets(qtree_device *device) {
     CHECK(hashed.hash == 0x1234 && hashed.dport == 5001 && bare.hash == 0 && bare.src_low == 0x0a000001 && bare.buf == 77);
     uint64_t at = 7;
     CHECK(qtree_ready_at(device, &at) == QTREE_NOTHING && at == 7);
+    same_arrivals(&packet, head, sizeof head);
     const qtree_packet all[] = { packet, packet, packet };
     uint8_t codes[3] = { 9, 9, 9 };
     size_t count;

@@ -203,6 +203,15 @@ qtree_code qtree_hash(uint32_t seed, qtree_packet *packet);
  * QTREE_DONE, QTREE_LOST_.., QTREE_OUT_OF_RANGE, QTREE_IS_CLOSED, QTREE_MEMORY. */
 qtree_code qtree_arrive(qtree_device *device, const qtree_packet *packet, uint64_t now);
 
+/* A packet arrives of len bytes, of which these are the first, count of them, from its IP head on: as by qtree_arrive of what
+ * qtree_read_fields_hashed fills in, with this buf, and the number and the port 0. hash may be 0 where no fq_codel stands in the tree;
+ * the second one hashes the flow with a seed, as qtree_read_head does. QTREE_OUT_OF_RANGE is for a len of 0 and for the moment.
+ * QTREE_DONE, QTREE_LOST_.., QTREE_OUT_OF_RANGE, QTREE_IS_CLOSED, QTREE_MEMORY. */
+qtree_code qtree_arrive_frame(qtree_device *device, const uint8_t *bytes, size_t count, uint16_t len, uint32_t buf, uint32_t hash,
+                              uint64_t now);
+qtree_code qtree_arrive_frame_seeded(qtree_device *device, const uint8_t *bytes, size_t count, uint16_t len, uint32_t buf,
+                                     uint32_t seed, uint64_t now);
+
 /* Packets arrive in order, to the first that is out of range or for which memory is refused, which the answer tells. done is
  * how many arrived, and codes[i] what the ith of them was answered: codes_len is count at least, else QTREE_ROOM.
  * QTREE_DONE, QTREE_OUT_OF_RANGE, QTREE_ROOM, QTREE_IS_CLOSED, QTREE_MEMORY. */

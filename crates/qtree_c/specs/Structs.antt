@@ -145,6 +145,10 @@ with_fields hash h c = record c {
 abbrev pub with_head : ℕ → Head → CPacket → CPacket
 with_head seed h c = with_fields (one_at_a_time seed (key_bytes h.key)) h c
 
+-- a packet of this length in this buffer, of which the head was read, with this hash; its number and port are 0
+abbrev pub framed : ℕ → ℕ → ℕ → Head → CPacket
+framed len buf hash h = with_fields hash h (record zero_packet { len = len; buf = buf })
+
 -- what is told of a packet that was sent
 abbrev pub sent_of : CPacket → CSent
 sent_of c = record { number = c.number; port = c.port; buf = c.buf; len = c.len; ecn = c.ecn }

@@ -70,12 +70,49 @@ impl Device {
     ///
     /// `OutOfRange` for a length of 0, a priority above 15, an ECN codepoint above 3 or the moment; `Memory`.
     pub fn arrive(&mut self, packet: &Packet, now: u64) -> Result<Fate, Error> {
-        let code = self.0.arrive(&packet.0, now);
-        match (code, Cause::of(code)) {
-            (sys::QTREE_DONE, _) => Ok(Fate::Kept),
-            (_, Some(cause)) => Ok(Fate::Lost(cause)),
-            (code, None) => Err(Error::of(code)),
-        }
+        fate(self.0.arrive(&packet.0, now))
+    }
+
+    /// A packet of this length arrives, whose first bytes, from its IP head on, say the rest, as
+    /// [`Packet::read_hashed`] reads them.
+    ///
+    /// ```
+    /// # use qtree::{Device, Error, Fate, Polled, Settings};
+    /// let mut device = Device::open(Settings::default())?;
+    /// let udp = [0x45, 0, 0, 28, 0, 0, 0, 0, 64, 17, 0, 0, 10, 0, 0, 1, 10, 0, 0, 2, 0x10, 0, 0x13, 0x89, 0, 8, 0, 0];
+    /// assert_eq!(device.arrive_frame(&udp, 28, 7, 0, 0)?, Fate::Kept);
+    /// assert!(matches!(device.poll(0)?, Polled::Packet(it) if (it.buf(), it.ports()) == (7, (4096, 5001))));
+    /// # Ok::<(), Error>(())
+    /// ```
+    ///
+    /// # Errors
+    ///
+    /// `OutOfRange` for a length of 0 or the moment; `Memory`.
+    pub fn arrive_frame(
+        &mut self,
+        bytes: &[u8],
+        len: u16,
+        buf: u32,
+        hash: u32,
+        now: u64,
+    ) -> Result<Fate, Error> {
+        fate(self.0.arrive_frame(bytes, len, buf, hash, now))
+    }
+
+    /// The same, with the hash that [`Packet::read`] makes with this seed.
+    ///
+    /// # Errors
+    ///
+    /// `OutOfRange` for a length of 0 or the moment; `Memory`.
+    pub fn arrive_frame_seeded(
+        &mut self,
+        bytes: &[u8],
+        len: u16,
+        buf: u32,
+        seed: u32,
+        now: u64,
+    ) -> Result<Fate, Error> {
+        fate(self.0.arrive_frame_seeded(bytes, len, buf, seed, now))
     }
 
     /// Takes the packet whose turn it is. It takes no memory.
@@ -217,5 +254,13 @@ impl Device {
                 code => return Err(Error::of(code)),
             }
         }
+    }
+}
+
+fn fate(code: u32) -> Result<Fate, Error> {
+    match (code, Cause::of(code)) {
+        (sys::QTREE_DONE, _) => Ok(Fate::Kept),
+        (_, Some(cause)) => Ok(Fate::Lost(cause)),
+        (code, None) => Err(Error::of(code)),
     }
 }

@@ -38,6 +38,32 @@ impl RawDevice {
         unsafe { sys::qtree_arrive(&mut self.0, packet, now) }
     }
 
+    pub(crate) fn arrive_frame(
+        &mut self,
+        bytes: &[u8],
+        len: u16,
+        buf: u32,
+        hash: u32,
+        now: u64,
+    ) -> u32 {
+        let (at, count) = (bytes.as_ptr(), bytes.len());
+        // SAFETY: the device is open; pointer and length are those of `bytes`.
+        unsafe { sys::qtree_arrive_frame(&mut self.0, at, count, len, buf, hash, now) }
+    }
+
+    pub(crate) fn arrive_frame_seeded(
+        &mut self,
+        bytes: &[u8],
+        len: u16,
+        buf: u32,
+        seed: u32,
+        now: u64,
+    ) -> u32 {
+        let (at, count) = (bytes.as_ptr(), bytes.len());
+        // SAFETY: the device is open; pointer and length are those of `bytes`.
+        unsafe { sys::qtree_arrive_frame_seeded(&mut self.0, at, count, len, buf, seed, now) }
+    }
+
     pub(crate) fn poll(&mut self, now: u64) -> (u32, sys::Packet) {
         let mut packet = sys::Packet::default();
         // SAFETY: the device is open, and `packet` is another place.

@@ -166,6 +166,24 @@ unsafe extern "C" {
     pub fn qtree_read_fields_hashed(bytes: *const u8, count: usize, hash: u32, packet: *mut Packet);
     pub fn qtree_hash(seed: u32, packet: *mut Packet) -> u32;
     pub fn qtree_arrive(device: *mut Device, packet: *const Packet, now: u64) -> u32;
+    pub fn qtree_arrive_frame(
+        device: *mut Device,
+        bytes: *const u8,
+        count: usize,
+        len: u16,
+        buf: u32,
+        hash: u32,
+        now: u64,
+    ) -> u32;
+    pub fn qtree_arrive_frame_seeded(
+        device: *mut Device,
+        bytes: *const u8,
+        count: usize,
+        len: u16,
+        buf: u32,
+        seed: u32,
+        now: u64,
+    ) -> u32;
     pub fn qtree_arrive_many(
         device: *mut Device,
         packets: *const Packet,
