@@ -61,6 +61,9 @@ static qtree_packet packet(struct input *input) {
     return made;
 }
 
+/* What stands behind the last field is no part of a packet. */
+static bool same_packet(const qtree_packet *a, const qtree_packet *b) { return memcmp(a, b, offsetof(qtree_packet, ecn) + 1) == 0; }
+
 static size_t known_line(struct input *input, char *line, size_t room) {
     static const char *const forms[] = {
         "tc qdisc add dev a root handle 1: prio bands %u",
@@ -121,6 +124,21 @@ static void show(qtree_device *device, struct input *input) {
     }
 }
 
+/* A packet arrives by its first bytes. */
+static void arrive_frame(qtree_device *device, struct input *input) {
+    uint8_t bytes[80];
+    size_t count = (size_t)take(input, 1) % sizeof bytes;
+    for (size_t i = 0; i < count; i++) {
+        bytes[i] = (uint8_t)take(input, 1);
+    }
+    uint16_t len = (uint16_t)take(input, 2);
+    uint64_t at = moment(input);
+    qtree_code code = take(input, 1) % 2 == 0 ? qtree_arrive_frame(device, bytes, count, len, 7, (uint32_t)take(input, 4), at)
+                                               : qtree_arrive_frame_seeded(device, bytes, count, len, 7, (uint32_t)take(input, 4), at);
+    CHECK(code <= QTREE_LOST_OVER_LIMIT || code == QTREE_OUT_OF_RANGE || code == QTREE_IS_CLOSED || code == QTREE_MEMORY);
+    CHECK(code == QTREE_IS_CLOSED || (code == QTREE_OUT_OF_RANGE) == (len == 0 || at > QTREE_MOMENT_MAX));
+}
+
 static void arrive_many(qtree_device *device, struct input *input) {
     qtree_packet packets[PLACES];
     uint8_t codes[PLACES + 8];
@@ -147,6 +165,22 @@ static void poll_many(qtree_device *device, struct input *input) {
     for (size_t i = count * sizeof packets[0]; i < sizeof packets; i++) {
         CHECK(((uint8_t *)packets)[i] == GUARD);
     }
+}
+
+static void poll_bufs(qtree_device *device, struct input *input) {
+    qtree_sent sent[PLACES + 1];
+    size_t room = (size_t)take(input, 1) % (PLACES + 1), count = 99;
+    memset(sent, GUARD, sizeof sent);
+    qtree_code code = qtree_poll_bufs(device, moment(input), sent, room, &count);
+    CHECK(code == QTREE_DONE || code == QTREE_IDLE || code == QTREE_LATER || code == QTREE_OUT_OF_RANGE || code == QTREE_IS_CLOSED);
+    CHECK(count <= room && (code != QTREE_DONE || count == room));
+    for (size_t i = count * sizeof sent[0]; i < sizeof sent; i++) {
+        CHECK(((uint8_t *)sent)[i] == GUARD);
+    }
+    qtree_sent one = { .len = 0 };
+    code = qtree_poll_buf(device, moment(input), &one);
+    CHECK(code == QTREE_DONE || code == QTREE_IDLE || code == QTREE_LATER || code == QTREE_OUT_OF_RANGE || code == QTREE_IS_CLOSED);
+    CHECK((code == QTREE_DONE) == (one.len > 0) && one.ecn <= 3);
 }
 
 static void reap(qtree_device *device, struct input *input) {
@@ -208,7 +242,13 @@ static void look(qtree_device *device, struct input *input) {
     }
     code = qtree_hash((uint32_t)take(input, 1), &one);
     CHECK(code == QTREE_DONE || code == QTREE_OUT_OF_RANGE);
+    qtree_packet hashed = one, bare = one;
     qtree_read_head(bytes, count, 0, &one);
+    qtree_read_fields_hashed(bytes, count, one.hash, &hashed);
+    qtree_read_fields(bytes, count, &bare);
+    CHECK(same_packet(&hashed, &one) && bare.hash == 0);
+    bare.hash = one.hash;
+    CHECK(same_packet(&bare, &one));
     CHECK(one.prio <= 15 && one.ecn <= 3 && (one.family == 0 || one.family == 4 || one.family == 6));
 }
 
@@ -238,7 +278,7 @@ static void offer(qtree_device *device, struct input *input) {
         qtree_packet given = packet(input), kept = given;
         qtree_count before = { 0, 0 }, after = { 0, 0 };
         qtree_code shared = qtree_port_share(port, &before), code = qtree_offer(port, &given);
-        CHECK(memcmp(&given, &kept, offsetof(qtree_packet, ecn) + 1) == 0 && qtree_port_share(port, &after) == shared);
+        CHECK(same_packet(&given, &kept) && qtree_port_share(port, &after) == shared);
         CHECK(code == QTREE_DONE || code == QTREE_FULL || code == QTREE_OUT_OF_RANGE || code == QTREE_IS_CLOSED);
         CHECK((code == QTREE_IS_CLOSED) == (shared == QTREE_IS_CLOSED));
         CHECK(after.packets == before.packets + (code == QTREE_DONE));
@@ -275,7 +315,7 @@ static void adds_up(qtree_device *device) {
 int LLVMFuzzerTestOneInput(const uint8_t *data, size_t size);
 int LLVMFuzzerTestOneInput(const uint8_t *data, size_t size) {
     static void (*const each[])(qtree_device *, struct input *) = {
-        single, command, arrive_many, poll_many, reap, show, look, open_or_close, open_or_close_ring, offer, take_in,
+        single, command, arrive_frame, arrive_many, poll_many, poll_bufs, reap, show, look, open_or_close, open_or_close_ring, offer, take_in,
     };
     static bool is_begun;
     if (!is_begun) {

@@ -34,11 +34,12 @@ static void sizes(void) {
     static const size_t bytes[] = {
         sizeof(qtree_device), sizeof(qtree_settings), sizeof(qtree_packet), sizeof(qtree_loss),   sizeof(qtree_row),    sizeof(qtree_event),
         sizeof(qtree_fault),  sizeof(qtree_count),    sizeof(qtree_port),   sizeof(qtree_outlet), sizeof(qtree_layout),
+        sizeof(qtree_sent),
     };
-    for (uint32_t what = QTREE_TYPE_DEVICE; what <= QTREE_TYPE_LAYOUT; what++) {
+    for (uint32_t what = QTREE_TYPE_DEVICE; what <= QTREE_TYPE_SENT; what++) {
         CHECK(qtree_size_of(what) == bytes[what]);
     }
-    CHECK(qtree_size_of(QTREE_TYPE_LAYOUT + 1) == 0 && qtree_size_of(UINT32_MAX) == 0);
+    CHECK(qtree_size_of(QTREE_TYPE_SENT + 1) == 0 && qtree_size_of(UINT32_MAX) == 0);
     qtree_fault fault;
     qtree_sample_fault(&fault);
     CHECK(fault.word == 1 && fault.number == 2);
@@ -88,13 +89,39 @@ static void shows(qtree_device *device) {
     CHECK(qtree_show(device, 4, text, sizeof text, &needed) == QTREE_OUT_OF_RANGE && needed == 0);
 }
 
+/* A packet that arrives by its first bytes is the one that is read of them. */
+static void same_arrivals(const qtree_packet *packet, const uint8_t *head, size_t count) {
+    qtree_device device = QTREE_CLOSED;
+    qtree_packet given;
+    CHECK(qtree_arrive_frame(&device, head, count, 1500, 77, 0x1234, 0) == QTREE_IS_CLOSED);
+    CHECK(qtree_open(&device, &(qtree_settings){ 2, 0, 1514 }) == QTREE_DONE);
+    CHECK(qtree_arrive_frame(&device, head, count, 0, 77, 0x1234, 0) == QTREE_OUT_OF_RANGE);
+    CHECK(qtree_arrive_frame(&device, head, count, 1500, 77, 0x1234, QTREE_MOMENT_MAX + 1) == QTREE_OUT_OF_RANGE);
+    CHECK(qtree_arrive_frame(&device, head, count, 1515, 77, 0x1234, 0) == QTREE_LOST_TOO_LONG);
+    CHECK(qtree_arrive_frame(&device, head, count, 1500, 77, 0x1234, 0) == QTREE_DONE);
+    CHECK(qtree_arrive_frame_seeded(&device, head, count, 1500, 77, 0, 0) == QTREE_DONE);
+    CHECK(qtree_arrive_frame(&device, head, count, 1500, 77, 0x1234, 0) == QTREE_LOST_OVER_LIMIT);
+    CHECK(qtree_poll(&device, 0, &given) == QTREE_DONE && given.hash == 0x1234);
+    given.hash = packet->hash;
+    CHECK(memcmp(&given, packet, offsetof(qtree_packet, ecn) + 1) == 0);
+    CHECK(qtree_poll(&device, 0, &given) == QTREE_DONE && memcmp(&given, packet, offsetof(qtree_packet, ecn) + 1) == 0);
+    CHECK(qtree_arrive_frame(&device, NULL, 0, 1, 5, 0, 0) == QTREE_DONE);
+    CHECK(qtree_poll(&device, 0, &given) == QTREE_DONE && given.buf == 5 && given.len == 1 && given.family == 0);
+    qtree_close(&device);
+}
+
 static void packets(qtree_device *device) {
     uint8_t head[28] = { 0x45, 3, 0, 28, 0, 0, 0, 0, 64, 17, 0, 0, 10, 0, 0, 1, 10, 0, 0, 2, 0x10, 0, 0x13, 0x89, 0, 8, 0, 0 };
     qtree_packet packet = { .len = 1500, .buf = 77 };
     qtree_read_head(head, sizeof head, 0, &packet);
     CHECK(packet.family == 4 && packet.proto == 17 && packet.src_low == 0x0a000001 && packet.dport == 5001 && packet.ecn == 3);
+    qtree_packet hashed = { .len = 1500, .buf = 77 }, bare = { .len = 1500, .buf = 77 };
+    qtree_read_fields_hashed(head, sizeof head, 0x1234, &hashed);
+    qtree_read_fields(head, sizeof head, &bare);
+    CHECK(hashed.hash == 0x1234 && hashed.dport == 5001 && bare.hash == 0 && bare.src_low == 0x0a000001 && bare.buf == 77);
     uint64_t at = 7;
     CHECK(qtree_ready_at(device, &at) == QTREE_NOTHING && at == 7);
+    same_arrivals(&packet, head, sizeof head);
     const qtree_packet all[] = { packet, packet, packet };
     uint8_t codes[3] = { 9, 9, 9 };
     size_t count;
@@ -170,6 +197,26 @@ static void rings(void) {
     qtree_close(&device);
 }
 
+/* What is told of packets that go is as by the other polls, and a poll that gives none writes nothing. */
+static void brief_polls(qtree_device *device, qtree_port *port, qtree_outlet *outlet) {
+    qtree_sent one = { .buf = 9 }, all[4] = { { .buf = 9 }, { .buf = 9 }, { .buf = 9 }, { .buf = 9 } };
+    size_t count = 7;
+    CHECK(qtree_poll_buf(device, 0, &one) == QTREE_IDLE && one.buf == 9);
+    for (uint32_t i = 0; i < 4; i++) {
+        CHECK(qtree_offer(port, &(qtree_packet){ .len = (uint16_t)(100 + i), .buf = i, .ecn = (uint8_t)i }) == QTREE_DONE);
+    }
+    CHECK(qtree_take_in(device, outlet, 0, 4, &count) == QTREE_DONE && count == 4);
+    CHECK(qtree_poll_buf(device, QTREE_MOMENT_MAX + 1, &one) == QTREE_OUT_OF_RANGE && one.buf == 9);
+    CHECK(qtree_poll_bufs(device, QTREE_MOMENT_MAX + 1, all, 4, &count) == QTREE_OUT_OF_RANGE && count == 0);
+    CHECK(qtree_poll_buf(device, 0, &one) == QTREE_DONE && one.buf == 0 && one.len == 100 && one.port == 5 && one.ecn == 0);
+    uint64_t first = one.number + 1;
+    CHECK(qtree_poll_bufs(device, 0, all, 2, &count) == QTREE_DONE && count == 2 && all[2].buf == 9);
+    CHECK(qtree_poll_bufs(device, 0, all + 2, 2, &count) == QTREE_IDLE && count == 1 && all[3].buf == 9);
+    for (uint32_t i = 0; i < 3; i++) {
+        CHECK(all[i].buf == i + 1 && all[i].len == 101 + i && all[i].ecn == i + 1 && all[i].port == 5 && all[i].number == first + i);
+    }
+}
+
 /* Many packets by one call each: all of them arrive, go, and are taken in from a ring. */
 static void bursts(void) {
     enum { MANY = 300 };
@@ -196,6 +243,7 @@ static void bursts(void) {
     for (uint32_t i = 0; i < MANY; i++) {
         CHECK(given[i].buf == i && given[i].port == 5 && given[i].number == i + 1);
     }
+    brief_polls(&device, &port, &outlet);
     CHECK(qtree_poll_many(&device, 0, given, MANY, &count) == QTREE_IDLE && count == 0);
     qtree_port_close(&port);
     qtree_outlet_close(&outlet);

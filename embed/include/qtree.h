@@ -191,12 +191,26 @@ qtree_code qtree_command(qtree_device *device, const uint8_t *line, size_t line_
  * hash, which has this seed. number, port, buf and len stay. */
 void qtree_read_head(const uint8_t *bytes, size_t count, uint32_t seed, qtree_packet *packet);
 
+/* The same, without hashing, which is most of that time: hash is 0, or one that the program has, as that of a network card. Where no
+ * fq_codel stands in the tree nothing reads a hash. An fq_codel puts what has the same hash into one flow. */
+void qtree_read_fields(const uint8_t *bytes, size_t count, qtree_packet *packet);
+void qtree_read_fields_hashed(const uint8_t *bytes, size_t count, uint32_t hash, qtree_packet *packet);
+
 /* Fills in hash, with this seed, from family, proto, addresses and ports. QTREE_DONE, QTREE_OUT_OF_RANGE. */
 qtree_code qtree_hash(uint32_t seed, qtree_packet *packet);
 
 /* A packet arrives: QTREE_DONE where it is queued, else the cause for which it is lost, by which it is also to be reaped.
  * QTREE_DONE, QTREE_LOST_.., QTREE_OUT_OF_RANGE, QTREE_IS_CLOSED, QTREE_MEMORY. */
 qtree_code qtree_arrive(qtree_device *device, const qtree_packet *packet, uint64_t now);
+
+/* A packet arrives of len bytes, of which these are the first, count of them, from its IP head on: as by qtree_arrive of what
+ * qtree_read_fields_hashed fills in, with this buf, and the number and the port 0. hash may be 0 where no fq_codel stands in the tree;
+ * the second one hashes the flow with a seed, as qtree_read_head does. QTREE_OUT_OF_RANGE is for a len of 0 and for the moment.
+ * QTREE_DONE, QTREE_LOST_.., QTREE_OUT_OF_RANGE, QTREE_IS_CLOSED, QTREE_MEMORY. */
+qtree_code qtree_arrive_frame(qtree_device *device, const uint8_t *bytes, size_t count, uint16_t len, uint32_t buf, uint32_t hash,
+                              uint64_t now);
+qtree_code qtree_arrive_frame_seeded(qtree_device *device, const uint8_t *bytes, size_t count, uint16_t len, uint32_t buf,
+                                     uint32_t seed, uint64_t now);
 
 /* Packets arrive in order, to the first that is out of range or for which memory is refused, which the answer tells. done is
  * how many arrived, and codes[i] what the ith of them was answered: codes_len is count at least, else QTREE_ROOM.
@@ -211,6 +225,18 @@ qtree_code qtree_poll(qtree_device *device, uint64_t now, qtree_packet *packet);
 /* Polls until there are room packets, or to the first poll that gives none, which the answer tells. count is how many there are.
  * QTREE_DONE, QTREE_IDLE, QTREE_LATER, QTREE_OUT_OF_RANGE, QTREE_IS_CLOSED. */
 qtree_code qtree_poll_many(qtree_device *device, uint64_t now, qtree_packet *packets, size_t room, size_t *count);
+
+/* The same two, of which a program that only sends on gets no more than it needs: buf, len and ecn, and of a packet that came by a ring
+ * its sender's port and number there. */
+typedef struct qtree_sent {
+    uint64_t number;
+    uint32_t port;
+    uint32_t buf;
+    uint16_t len;
+    uint8_t ecn; /* 3 where the program writes that into the packet's head */
+} qtree_sent;
+qtree_code qtree_poll_buf(qtree_device *device, uint64_t now, qtree_sent *sent);
+qtree_code qtree_poll_bufs(qtree_device *device, uint64_t now, qtree_sent *sent, size_t room, size_t *count);
 
 /* The moment before which no poll gives a packet, as long as none arrives and no command comes: a program sleeps till then. It is
  * no earlier than the latest moment that counted. A poll at that moment may still answer QTREE_LATER: what an fq_codel gives, or which
@@ -308,7 +334,8 @@ enum {
     QTREE_TYPE_COUNT = 7,
     QTREE_TYPE_PORT = 8,
     QTREE_TYPE_OUTLET = 9,
-    QTREE_TYPE_LAYOUT = 10
+    QTREE_TYPE_LAYOUT = 10,
+    QTREE_TYPE_SENT = 11
 };
 size_t qtree_size_of(uint32_t what);
 

@@ -2,6 +2,7 @@ pub mod Cause
 pub mod Choice
 pub mod Descriptor
 pub mod Ecn
+pub mod Ethernet
 pub mod Head
 pub mod Key
 pub mod Least

@@ -5,7 +5,7 @@
 //! - [`FlowKey`] is what tells flows apart, with its 38 bytes for a hash. [`Ecn`] is the packet's ECN codepoint.
 //! - [`Cause`] says why a packet was lost.
 //! - [`read_head`] reads a packet's key, priority and ECN codepoint from its first bytes, as a [`Head`], and [`mark_head`]
-//!   writes Congestion Experienced into them.
+//!   writes Congestion Experienced into them. [`ip_at`] finds them in an Ethernet frame.
 //! - [`FlowHash`] hashes keys to 32 bits. [`OneAtATime`] is [`one_at_a_time`] over a key's bytes.
 //!
 //! What the contracts carry:
@@ -13,6 +13,7 @@
 //! - The constructors: a value is made exactly where each field is within its range, which the types keep from then on.
 //! - [`read_head`]: for every byte string the result is `head` of it, which `specs/Head.antt` states by the places of the
 //!   bytes in the RFCs' diagrams.
+//! - [`ip_at`]: for every byte string the result is `ip_at` of it (`specs/Ethernet.antt`).
 //! - [`mark_head`]: which bytes it writes (`specs/Marking.antt`), that the head is the same but for its codepoint, and that a
 //!   right checksum stays right.
 //! - [`FlowKey::bytes`]: the fields in order, and different keys have different bytes.
@@ -26,6 +27,7 @@
 
 mod cause;
 mod ecn;
+mod ethernet;
 mod flow_hash;
 mod flow_key;
 mod head;
@@ -37,6 +39,7 @@ mod stamped;
 
 pub use cause::Cause;
 pub use ecn::Ecn;
+pub use ethernet::ip_at;
 pub use flow_hash::FlowHash;
 pub use flow_key::FlowKey;
 pub use head::{Head, read_head};

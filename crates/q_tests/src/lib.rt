@@ -11,6 +11,8 @@ mod codel;
 #[cfg(test)]
 mod drr;
 #[cfg(test)]
+mod ethernet;
+#[cfg(test)]
 mod fifo;
 #[cfg(test)]
 mod fnv;

@@ -7,3 +7,4 @@ pub mod PollLemmas
 pub mod Polling
 pub mod Readying
 pub mod Reaping
+pub mod SentPolling

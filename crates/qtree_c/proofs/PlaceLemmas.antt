@@ -6,7 +6,7 @@ abbrev is_there : {A : Type 0} → Option A → Bool
 is_there None = false
 is_there (Some x) = true
 
-none-is-none : {A : Type 0} {x : A} → None ≡ Some x → ⊥
+pub none-is-none : {A : Type 0} {x : A} → None ≡ Some x → ⊥
 none-is-none e = true≢false (sym (ap is_there e))
 
 some-is-some : {A : Type 0} {x : A} → Some x ≡ None → ⊥
@@ -16,7 +16,7 @@ abbrev item_or : {A : Type 0} → A → Option A → A
 item_or x None = x
 item_or x (Some y) = y
 
-some-item : {A : Type 0} {x y : A} → Some x ≡ Some y → x ≡ y
+pub some-item : {A : Type 0} {x y : A} → Some x ≡ Some y → x ≡ y
 some-item {x = x} e = ap (item_or x) e
 
 pub length-more : {A : Type 0} (xs : List A) (x : A) → length (xs ++ x ∷ []) ≡ suc (length xs)

@@ -20,7 +20,7 @@ pub record IsPolling (i n now : ℕ) (before after : List CPacket) (d d' : Devic
   pub polled : polled_by (n - i) now d' ≡ polled_by n now d
   pub answer : answer_by (n - i) now d' ≡ answer_by n now d
 
-pub polling-begins : (n now : ℕ) (before : List CPacket) (d : DeviceSeen) → IsPolling 0 n now before before d d
+unfoldable pub polling-begins : (n now : ℕ) (before : List CPacket) (d : DeviceSeen) → IsPolling 0 n now before before d d
 polling-begins n now before d =
     let whole : n - 0 ≡ n = omega arith in
     record {
@@ -32,7 +32,7 @@ polling-begins n now before d =
       answer = ap (λ (k : ℕ). answer_by k now d) whole;
     }
 
-pub polling-more : (i n now : ℕ) (before after : List CPacket) (d d' d'' : DeviceSeen) (p : CPacket) → IsPolling i n now before after d d' → i < n → length before ≡ n
+unfoldable pub polling-more : (i n now : ℕ) (before after : List CPacket) (d d' d'' : DeviceSeen) (p : CPacket) → IsPolling i n now before after d d' → i < n → length before ≡ n
     → given_at now d' ≡ Some p → d'' ≡ after_poll now d' → IsPolling (i + 1) n now before (set after i p) d d''
 polling-more i n now before after d d' d'' p inv lt len gives is =
     let left : n - i ≡ suc (n - (i + 1)) = omega (arith, lt) in

@@ -24,6 +24,7 @@ use Rattle.qtree_c.specs.declared.c_event.CEvent.{CEvent}
 use Rattle.qtree_c.specs.declared.c_loss.CLoss.{CLoss}
 use Rattle.qtree_c.specs.declared.c_packet.CPacket.{CPacket}
 use Rattle.qtree_c.specs.declared.c_row.CRow.{CRow}
+use Rattle.qtree_c.specs.declared.c_sent.CSent.{CSent}
 use Rattle.qtree_c.specs.declared.c_settings.CSettings.{CSettings}
 
 -- the flow key that C's fields say
@@ -124,14 +125,14 @@ event_of (event.Arrive p moment) = record { packet = packet_of p; moment = momen
 event_of (event.Poll moment) = record { packet = zero_packet; moment = moment; kind = 1 }
 event_of (event.Command c moment) = record { packet = zero_packet; moment = moment; kind = 2 }
 
--- a packet of which the head was read, and whose flow has the hash with this seed
-abbrev pub with_head : ℕ → Head → CPacket → CPacket
-with_head seed h c = record c {
+-- a packet of which the head was read, with this hash
+abbrev pub with_fields : ℕ → Head → CPacket → CPacket
+with_fields hash h c = record c {
   src_high = h.key.src / 2 ^ 64;
   src_low = h.key.src % 2 ^ 64;
   dst_high = h.key.dst / 2 ^ 64;
   dst_low = h.key.dst % 2 ^ 64;
-  hash = one_at_a_time seed (key_bytes h.key);
+  hash = hash;
   sport = h.key.sport;
   dport = h.key.dport;
   proto = h.key.proto;
@@ -139,3 +140,15 @@ with_head seed h c = record c {
   prio = h.prio;
   ecn = codepoint h.ecn;
 }
+
+-- a packet of which the head was read, and whose flow has the hash with this seed
+abbrev pub with_head : ℕ → Head → CPacket → CPacket
+with_head seed h c = with_fields (one_at_a_time seed (key_bytes h.key)) h c
+
+-- a packet of this length in this buffer, of which the head was read, with this hash; its number and port are 0
+abbrev pub framed : ℕ → ℕ → ℕ → Head → CPacket
+framed len buf hash h = with_fields hash h (record zero_packet { len = len; buf = buf })
+
+-- what is told of a packet that was sent
+abbrev pub sent_of : CPacket → CSent
+sent_of c = record { number = c.number; port = c.port; buf = c.buf; len = c.len; ecn = c.ecn }

@@ -113,7 +113,7 @@ fn arrive_many(
 }
 
 /// The number of a fate: 0, or the cause's.
-fn number(fate: Fate) -> u32
+pub fn number(fate: Fate) -> u32
     ensures value { result ≡ fate_number fate }
     ensures few { result ≤ 6 }
 {

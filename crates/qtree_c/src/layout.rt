@@ -12,6 +12,7 @@ use crate::c_outlet::COutlet;
 use crate::c_packet::CPacket;
 use crate::c_port::CPort;
 use crate::c_row::CRow;
+use crate::c_sent::CSent;
 use crate::c_settings::CSettings;
 
 /// The version of these functions: the major number in the high 16 bits, the minor one in the low 16.
@@ -40,7 +41,7 @@ pub extern "C" fn qtree_layout_of(layout: &mut CLayout)
     };
 }
 
-/// The bytes of the struct with this number, 0 to 10; 0 for any other.
+/// The bytes of the struct with this number, 0 to 11; 0 for any other.
 #[unsafe(no_mangle)]
 pub extern "C" fn qtree_size_of(what: u32) -> usize
     ensures { result ≡ size_of_struct what }
@@ -57,6 +58,7 @@ pub extern "C" fn qtree_size_of(what: u32) -> usize
         8 => size_of::<CPort>(),
         9 => size_of::<COutlet>(),
         10 => size_of::<CLayout>(),
+        11 => size_of::<CSent>(),
         _ => 0,
     }
 }

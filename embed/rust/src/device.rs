@@ -9,6 +9,7 @@ use crate::place::Place;
 use crate::polled::Polled;
 use crate::raw::{RawDevice, sys};
 use crate::row::Row;
+use crate::sent::Sent;
 use crate::settings::Settings;
 use crate::show::Show;
 use alloc::string::String;
@@ -69,12 +70,49 @@ impl Device {
     ///
     /// `OutOfRange` for a length of 0, a priority above 15, an ECN codepoint above 3 or the moment; `Memory`.
     pub fn arrive(&mut self, packet: &Packet, now: u64) -> Result<Fate, Error> {
-        let code = self.0.arrive(&packet.0, now);
-        match (code, Cause::of(code)) {
-            (sys::QTREE_DONE, _) => Ok(Fate::Kept),
-            (_, Some(cause)) => Ok(Fate::Lost(cause)),
-            (code, None) => Err(Error::of(code)),
-        }
+        fate(self.0.arrive(&packet.0, now))
+    }
+
+    /// A packet of this length arrives, whose first bytes, from its IP head on, say the rest, as
+    /// [`Packet::read_hashed`] reads them.
+    ///
+    /// ```
+    /// # use qtree::{Device, Error, Fate, Polled, Settings};
+    /// let mut device = Device::open(Settings::default())?;
+    /// let udp = [0x45, 0, 0, 28, 0, 0, 0, 0, 64, 17, 0, 0, 10, 0, 0, 1, 10, 0, 0, 2, 0x10, 0, 0x13, 0x89, 0, 8, 0, 0];
+    /// assert_eq!(device.arrive_frame(&udp, 28, 7, 0, 0)?, Fate::Kept);
+    /// assert!(matches!(device.poll(0)?, Polled::Packet(it) if (it.buf(), it.ports()) == (7, (4096, 5001))));
+    /// # Ok::<(), Error>(())
+    /// ```
+    ///
+    /// # Errors
+    ///
+    /// `OutOfRange` for a length of 0 or the moment; `Memory`.
+    pub fn arrive_frame(
+        &mut self,
+        bytes: &[u8],
+        len: u16,
+        buf: u32,
+        hash: u32,
+        now: u64,
+    ) -> Result<Fate, Error> {
+        fate(self.0.arrive_frame(bytes, len, buf, hash, now))
+    }
+
+    /// The same, with the hash that [`Packet::read`] makes with this seed.
+    ///
+    /// # Errors
+    ///
+    /// `OutOfRange` for a length of 0 or the moment; `Memory`.
+    pub fn arrive_frame_seeded(
+        &mut self,
+        bytes: &[u8],
+        len: u16,
+        buf: u32,
+        seed: u32,
+        now: u64,
+    ) -> Result<Fate, Error> {
+        fate(self.0.arrive_frame_seeded(bytes, len, buf, seed, now))
     }
 
     /// Takes the packet whose turn it is. It takes no memory.
@@ -87,6 +125,53 @@ impl Device {
             (sys::QTREE_DONE, packet) => Ok(Polled::Packet(Packet(packet))),
             (sys::QTREE_IDLE, _) => Ok(Polled::Idle),
             (sys::QTREE_LATER, _) => Ok(Polled::Later),
+            (code, _) => Err(Error::of(code)),
+        }
+    }
+
+    /// Takes the packet whose turn it is, as [`poll`](Device::poll) does, and hands out what it takes to send it on.
+    ///
+    /// ```
+    /// # use qtree::{Device, Error, Packet, Polled, Settings};
+    /// let mut device = Device::open(Settings::default())?;
+    /// device.arrive(&Packet::builder(1500).buf(7).build(), 0)?;
+    /// assert!(matches!(device.poll_buf(0)?, Polled::Packet(sent) if (sent.buf(), sent.len()) == (7, 1500)));
+    /// assert_eq!(device.poll_buf(0)?, Polled::Idle);
+    /// # Ok::<(), Error>(())
+    /// ```
+    ///
+    /// # Errors
+    ///
+    /// `OutOfRange` (the moment).
+    pub fn poll_buf(&mut self, now: u64) -> Result<Polled<Sent>, Error> {
+        match self.0.poll_buf(now) {
+            (sys::QTREE_DONE, sent) => Ok(Polled::Packet(Sent(sent))),
+            (sys::QTREE_IDLE, _) => Ok(Polled::Idle),
+            (sys::QTREE_LATER, _) => Ok(Polled::Later),
+            (code, _) => Err(Error::of(code)),
+        }
+    }
+
+    /// Polls until `sent` is full, or to the first poll that gives none; how many packets there are.
+    ///
+    /// ```
+    /// # use qtree::{Device, Error, Packet, Sent, Settings};
+    /// let mut device = Device::open(Settings::default())?;
+    /// for buf in 0..3 {
+    ///     device.arrive(&Packet::builder(1500).buf(buf).build(), 0)?;
+    /// }
+    /// let mut sent = [Sent::default(); 32];
+    /// let count = device.poll_bufs(0, &mut sent)?;
+    /// assert_eq!(sent[..count].iter().map(|it| it.buf()).collect::<Vec<_>>(), [0, 1, 2]);
+    /// # Ok::<(), Error>(())
+    /// ```
+    ///
+    /// # Errors
+    ///
+    /// `OutOfRange` (the moment).
+    pub fn poll_bufs(&mut self, now: u64, sent: &mut [Sent]) -> Result<usize, Error> {
+        match self.0.poll_bufs(now, sent) {
+            (sys::QTREE_DONE | sys::QTREE_IDLE | sys::QTREE_LATER, count) => Ok(count),
             (code, _) => Err(Error::of(code)),
         }
     }
@@ -169,5 +254,13 @@ impl Device {
                 code => return Err(Error::of(code)),
             }
         }
+    }
+}
+
+fn fate(code: u32) -> Result<Fate, Error> {
+    match (code, Cause::of(code)) {
+        (sys::QTREE_DONE, _) => Ok(Fate::Kept),
+        (_, Some(cause)) => Ok(Fate::Lost(cause)),
+        (code, None) => Err(Error::of(code)),
     }
 }

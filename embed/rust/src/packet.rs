@@ -1,5 +1,5 @@
 use crate::builder::PacketBuilder;
-use crate::raw::{read_head, sys};
+use crate::raw::{read_hashed, read_head, sys};
 use core::fmt;
 use core::net::{IpAddr, Ipv4Addr, Ipv6Addr};
 
@@ -32,6 +32,24 @@ impl Packet {
         Packet(packet)
     }
 
+    /// A packet that is read in the same way, with a hash that the program has, as that of a network card: hashing takes most of the time
+    /// of [`Packet::read`]. Where no fq_codel stands in the tree, nothing reads a hash, and 0 serves.
+    ///
+    /// ```
+    /// let udp = [0x45, 0, 0, 28, 0, 0, 0, 0, 64, 17, 0, 0, 10, 0, 0, 1, 10, 0, 0, 2, 0x10, 0, 0x13, 0x89, 0, 8, 0, 0];
+    /// let packet = qtree::Packet::read_hashed(&udp, 28, 7, 0x1234);
+    /// assert_eq!((packet.hash(), packet.ports()), (0x1234, (4096, 5001)));
+    /// ```
+    pub fn read_hashed(bytes: &[u8], len: u16, buf: u32, hash: u32) -> Packet {
+        let mut packet = sys::Packet {
+            len,
+            buf,
+            ..sys::Packet::default()
+        };
+        read_hashed(bytes, hash, &mut packet);
+        Packet(packet)
+    }
+
     /// The program's own number.
     pub fn buf(&self) -> u32 {
         self.0.buf
@@ -45,6 +63,11 @@ impl Packet {
     /// Its number among those of its port, counted from 1 by a [`Port`](crate::Port).
     pub fn number(&self) -> u64 {
         self.0.number
+    }
+
+    /// The hash of its flow, by which an fq_codel chooses the flow.
+    pub fn hash(&self) -> u32 {
+        self.0.hash
     }
 
     /// Its length in bytes.

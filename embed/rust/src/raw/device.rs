@@ -1,5 +1,6 @@
 use super::sys;
 use crate::packet::Packet;
+use crate::sent::Sent;
 use alloc::vec::Vec;
 use core::ptr;
 
@@ -37,11 +38,52 @@ impl RawDevice {
         unsafe { sys::qtree_arrive(&mut self.0, packet, now) }
     }
 
+    pub(crate) fn arrive_frame(
+        &mut self,
+        bytes: &[u8],
+        len: u16,
+        buf: u32,
+        hash: u32,
+        now: u64,
+    ) -> u32 {
+        let (at, count) = (bytes.as_ptr(), bytes.len());
+        // SAFETY: the device is open; pointer and length are those of `bytes`.
+        unsafe { sys::qtree_arrive_frame(&mut self.0, at, count, len, buf, hash, now) }
+    }
+
+    pub(crate) fn arrive_frame_seeded(
+        &mut self,
+        bytes: &[u8],
+        len: u16,
+        buf: u32,
+        seed: u32,
+        now: u64,
+    ) -> u32 {
+        let (at, count) = (bytes.as_ptr(), bytes.len());
+        // SAFETY: the device is open; pointer and length are those of `bytes`.
+        unsafe { sys::qtree_arrive_frame_seeded(&mut self.0, at, count, len, buf, seed, now) }
+    }
+
     pub(crate) fn poll(&mut self, now: u64) -> (u32, sys::Packet) {
         let mut packet = sys::Packet::default();
         // SAFETY: the device is open, and `packet` is another place.
         let code = unsafe { sys::qtree_poll(&mut self.0, now, &mut packet) };
         (code, packet)
+    }
+
+    pub(crate) fn poll_buf(&mut self, now: u64) -> (u32, sys::Sent) {
+        let mut sent = sys::Sent::default();
+        // SAFETY: the device is open, and `sent` is another place.
+        let code = unsafe { sys::qtree_poll_buf(&mut self.0, now, &mut sent) };
+        (code, sent)
+    }
+
+    /// Also how many packets there are.
+    pub(crate) fn poll_bufs(&mut self, now: u64, sent: &mut [Sent]) -> (u32, usize) {
+        let (at, mut count) = (sent.as_mut_ptr().cast(), 0);
+        // SAFETY: the device is open; pointer and length are those of `sent`, as `Sent` is laid out like one of C.
+        let code = unsafe { sys::qtree_poll_bufs(&mut self.0, now, at, sent.len(), &mut count) };
+        (code, count)
     }
 
     /// Polls up to `most` times, and appends what that gives to `sent`, which has room for so many; also how many there are.

@@ -6,6 +6,12 @@ pub(crate) fn read_head(bytes: &[u8], seed: u32, packet: &mut sys::Packet) {
     unsafe { sys::qtree_read_head(bytes.as_ptr(), bytes.len(), seed, packet) }
 }
 
+/// The same with a hash that the caller has.
+pub(crate) fn read_hashed(bytes: &[u8], hash: u32, packet: &mut sys::Packet) {
+    // SAFETY: pointer and length are those of `bytes`, and `packet` is another place.
+    unsafe { sys::qtree_read_fields_hashed(bytes.as_ptr(), bytes.len(), hash, packet) }
+}
+
 /// Fills in the hash of its addresses, ports and protocol.
 pub(crate) fn hash(seed: u32, packet: &mut sys::Packet) {
     // SAFETY: `packet` is borrowed for the call.

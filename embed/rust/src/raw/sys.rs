@@ -68,6 +68,16 @@ pub struct Packet {
 
 #[repr(C)]
 #[derive(Clone, Copy, Default)]
+pub struct Sent {
+    pub number: u64,
+    pub port: u32,
+    pub buf: u32,
+    pub len: u16,
+    pub ecn: u8,
+}
+
+#[repr(C)]
+#[derive(Clone, Copy, Default)]
 pub struct Loss {
     pub packet: Packet,
     pub cause: u32,
@@ -132,6 +142,7 @@ layout!(Outlet, 16: at 0, state 8);
 layout!(Settings, 12: txqueuelen 0, recorder 4, mtu 8);
 layout!(Packet, 64: src_high 0, src_low 8, dst_high 16, dst_low 24, number 32, port 40, buf 44, hash 48, len 52,
     sport 54, dport 56, proto 58, family 59, prio 60, ecn 61);
+layout!(Sent, 24: number 0, port 8, buf 12, len 16, ecn 18);
 layout!(Loss, 72: packet 0, cause 64);
 layout!(Count, 16: packets 0, bytes 8);
 layout!(Row, 96: arrived 0, sent 16, refused 32, dropped 48, queued 64, marked 80);
@@ -151,8 +162,28 @@ unsafe extern "C" {
         fault: *mut Fault,
     ) -> u32;
     pub fn qtree_read_head(bytes: *const u8, count: usize, seed: u32, packet: *mut Packet);
+    pub fn qtree_read_fields(bytes: *const u8, count: usize, packet: *mut Packet);
+    pub fn qtree_read_fields_hashed(bytes: *const u8, count: usize, hash: u32, packet: *mut Packet);
     pub fn qtree_hash(seed: u32, packet: *mut Packet) -> u32;
     pub fn qtree_arrive(device: *mut Device, packet: *const Packet, now: u64) -> u32;
+    pub fn qtree_arrive_frame(
+        device: *mut Device,
+        bytes: *const u8,
+        count: usize,
+        len: u16,
+        buf: u32,
+        hash: u32,
+        now: u64,
+    ) -> u32;
+    pub fn qtree_arrive_frame_seeded(
+        device: *mut Device,
+        bytes: *const u8,
+        count: usize,
+        len: u16,
+        buf: u32,
+        seed: u32,
+        now: u64,
+    ) -> u32;
     pub fn qtree_arrive_many(
         device: *mut Device,
         packets: *const Packet,
@@ -167,6 +198,14 @@ unsafe extern "C" {
         device: *mut Device,
         now: u64,
         packets: *mut Packet,
+        room: usize,
+        count: *mut usize,
+    ) -> u32;
+    pub fn qtree_poll_buf(device: *mut Device, now: u64, sent: *mut Sent) -> u32;
+    pub fn qtree_poll_bufs(
+        device: *mut Device,
+        now: u64,
+        sent: *mut Sent,
         room: usize,
         count: *mut usize,
     ) -> u32;

@@ -1,0 +1,85 @@
+//! Packets arrive by their first bytes.
+ghost use Rattle.std.specs.Prelude.{◌≡◌, ◌≤◌, ◌<◌, ◌^◌};
+ghost use Rattle.q_packet.specs.Head.{head};
+ghost use Rattle.q_packet.specs.Key.{key_bytes};
+ghost use Rattle.q_packet.specs.OneAtATime.{one_at_a_time};
+ghost use Rattle.qtree_c.specs.Calls.{Calls, IsArrival};
+ghost use Rattle.qtree_c.specs.Structs.{framed};
+
+use crate::arrivals::number;
+use crate::c_device::CDevice;
+use crate::codes::{IS_CLOSED, MEMORY, OUT_OF_RANGE};
+use crate::steps;
+use q_device::Device;
+use q_packet::{FlowHash, Head, Moment, OneAtATime, Packet, read_head};
+use std::alloc::Global;
+
+/// A packet arrives that has these first bytes, and this hash of its flow.
+#[unsafe(no_mangle)]
+pub extern "C" fn qtree_arrive_frame(
+    alloc: Global,
+    device: &mut CDevice,
+    bytes: &[u8],
+    len: u16,
+    buf: u32,
+    hash: u32,
+    now: u64,
+) -> u32
+    ensures arrival { now ≤ 2 ^ 62 → Calls (IsArrival (framed len buf hash (head bytes.now)) now result) result device.old.held.device device.new.held.device }
+    ensures moment { 2 ^ 62 < now → (result ≡ 42) × (device.new.held.device ≡ device.old.held.device) }
+    ensures len { now ≤ 2 ^ 62 → result ≡ 42 → len ≡ 0 }
+{
+    let Some(now) = Moment::new(now) else {
+        return OUT_OF_RANGE;
+    };
+    let Some(mut opened) = device.take(alloc) else {
+        return IS_CLOSED;
+    };
+    let code = arrive(&mut opened, &read_head(bytes), len, buf, hash, now);
+    device.put(opened);
+    code
+}
+
+/// A packet arrives that has these first bytes, whose flow is hashed with this seed.
+#[unsafe(no_mangle)]
+pub extern "C" fn qtree_arrive_frame_seeded(
+    alloc: Global,
+    device: &mut CDevice,
+    bytes: &[u8],
+    len: u16,
+    buf: u32,
+    seed: u32,
+    now: u64,
+) -> u32
+    ensures arrival { now ≤ 2 ^ 62 → Calls (IsArrival (framed len buf (one_at_a_time seed (key_bytes (head bytes.now).key)) (head bytes.now)) now result) result device.old.held.device device.new.held.device }
+    ensures moment { 2 ^ 62 < now → (result ≡ 42) × (device.new.held.device ≡ device.old.held.device) }
+    ensures len { now ≤ 2 ^ 62 → result ≡ 42 → len ≡ 0 }
+{
+    let Some(now) = Moment::new(now) else {
+        return OUT_OF_RANGE;
+    };
+    let Some(mut opened) = device.take(alloc) else {
+        return IS_CLOSED;
+    };
+    let head = read_head(bytes);
+    let hash = OneAtATime { seed }.hash(&head.key);
+    let code = arrive(&mut opened, &head, len, buf, hash, now);
+    device.put(opened);
+    code
+}
+
+/// A packet with this head arrives at an open device.
+#[inline(always)]
+fn arrive(device: &mut Device, head: &Head, len: u16, buf: u32, hash: u32, now: Moment) -> u32
+    requires { head.now.prio ≤ 15 }
+    ensures arrival { IsArrival (framed len buf hash head.now) now result device.old device.new }
+    ensures len { result ≡ 42 → len ≡ 0 }
+{
+    let Some(packet) = Packet::new(0, 0, buf, len, head.key, hash, head.prio, head.ecn) else {
+        return OUT_OF_RANGE;
+    };
+    match steps::arrive(device, &packet, now) {
+        Ok(fate) => number(fate),
+        Err(_) => MEMORY,
+    }
+}

@@ -1,0 +1,54 @@
+use crate::raw::sys;
+use core::fmt;
+
+/// What a program needs of a packet to send it on.
+#[derive(Clone, Copy, Default)]
+#[repr(transparent)]
+pub struct Sent(pub(crate) sys::Sent);
+
+impl Sent {
+    /// The program's own number.
+    pub fn buf(&self) -> u32 {
+        self.0.buf
+    }
+
+    /// Its length in bytes.
+    #[allow(clippy::len_without_is_empty)]
+    pub fn len(&self) -> u16 {
+        self.0.len
+    }
+
+    /// Its ECN codepoint, 0 to 3. The program writes 3 into the packet's bytes.
+    pub fn ecn(&self) -> u8 {
+        self.0.ecn
+    }
+
+    /// The index of the sender's port that placed it, where one did.
+    pub fn port(&self) -> u32 {
+        self.0.port
+    }
+
+    /// Its number among those of its port, counted from 1 by a [`Port`](crate::Port).
+    pub fn number(&self) -> u64 {
+        self.0.number
+    }
+}
+
+impl PartialEq for Sent {
+    fn eq(&self, other: &Sent) -> bool {
+        let fields = |s: &Sent| (s.buf(), s.len(), s.ecn(), s.port(), s.number());
+        fields(self) == fields(other)
+    }
+}
+
+impl Eq for Sent {}
+
+impl fmt::Debug for Sent {
+    fn fmt(&self, f: &mut fmt::Formatter<'_>) -> fmt::Result {
+        f.debug_struct("Sent")
+            .field("buf", &self.buf())
+            .field("len", &self.len())
+            .field("ecn", &self.ecn())
+            .finish()
+    }
+}
