@@ -69,7 +69,7 @@ impl Codel {
         };
     }
 
-    /// What a take from an empty queue leaves: nothing stands, and nothing is being dropped.
+    /// What a take from an empty queue leaves: `first_above_time` is unset, and CoDel is not in the dropping state.
     pub fn rest(&mut self)
         ensures { self.new ≡ rested self.old }
     {

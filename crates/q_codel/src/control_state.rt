@@ -76,7 +76,7 @@ impl ControlState {
         }
     }
 
-    /// What a take from an empty queue leaves: nothing stands, and nothing is being dropped.
+    /// What a take from an empty queue leaves: `first_above_time` is unset, and CoDel is not in the dropping state.
     pub fn rest(&mut self)
         ensures { self.new ≡ record self.old { first_above_time = 0; dropping = false } }
     {
