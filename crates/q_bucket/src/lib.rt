@@ -6,6 +6,14 @@
 //! - [`Bucket::ready_at`] is the least moment at which a packet may go, if there is one.
 //! - [`Bucket::change`] gives the bucket another rate and burst. [`Bucket::rate`] and [`Bucket::burst`] read them.
 //!
+//! ```
+//! // 8 Mbit/s and a burst of 2000 bytes: the first packet goes at once, the second after the bytes that it lacks.
+//! let mut bucket = Bucket::new(8_000_000, 2000, now);
+//! if !bucket.spend(now, 1500) {
+//!     let then = bucket.ready_at(1500);
+//! }
+//! ```
+//!
 //! A contract sees a bucket as the record `TokenBucket` of `specs/Level.antt`: its rate, its burst, and the level that it had
 //! at the moment of the last true spend, of the last change or of its making, whichever came last. That file says what the
 //! level is at a later moment, which lengths it allows, and what a spend and a change leave; the contracts of `level_at`,

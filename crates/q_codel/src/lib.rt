@@ -16,6 +16,17 @@
 //!   heads by itself asks [`ControlState::passed`] first, and leaves only the late ones to [`ControlState::take_late_into`].
 //! - [`Codel`] is the two together, for one queue that has settings of its own.
 //! - [`laws`] states what RFC 8289 promises, over those functions.
+//!
+//! ```
+//! // A queue of 1000 packets under CoDel with its defaults: 5 ms of target, 100 ms of interval.
+//! let mut queue = Fifo::new(alloc, Limit::Packets(1000));
+//! let mut codel = Codel::new(5_000_000, 100_000_000, 1514, true);
+//! queue.reserve()?;
+//! queue.put(Stamped { packet, at: now });
+//! while let Some(taken) = codel.take(&mut queue, later, &mut losses) {
+//!     transmit(taken.packet);
+//! }
+//! ```
 #![tactic(auto)]
 
 mod codel;

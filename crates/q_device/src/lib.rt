@@ -11,6 +11,20 @@
 //! - A [`Command`] and its settings, places, views and rows are those of [`Tree`], which is `q_tree`'s. A [`Packet`] with its
 //!   key and hash is `q_packet`'s. So a program that embeds a device needs this crate alone.
 //!
+//! ```
+//! let mut device = Device::open(alloc, Settings::new(1514, 1000, 0)?)?;
+//! device.command(command, now)?;
+//! if let Fate::Lost(cause) = device.arrive(packet, now)? {
+//!     count(cause);
+//! }
+//! while let Polled::Packet(packet) = device.poll(now) {
+//!     transmit(packet);
+//! }
+//! while let Some(lost) = device.reap() {
+//!     free(lost.packet.buf);
+//! }
+//! ```
+//!
 //! What an event makes of a device is defined in `q_model` (`specs/Step.antt`), and what a list of them does
 //! (`specs/Replay.antt`). A device is the replay of all that happened to it (`specs/Replayed.antt`). [`laws`] carries what is
 //! true of every device and of every replay: that of a longer list is the step of the replay, and a device that keeps totals
@@ -30,8 +44,8 @@ pub use playing::{Replies, play};
 pub use q_codel::Loss as Lost;
 pub use q_model::{Event, Fate, Polled, Reply, Settings};
 pub use q_packet::{
-    Cause, Ecn, FlowHash, FlowKey, Head, Moment, OneAtATime, Packet, SOME_PACKET, one_at_a_time,
-    read_head,
+    Cause, Ecn, FlowHash, FlowKey, Head, Moment, OneAtATime, Packet, SOME_PACKET, ip_at, mark_head,
+    one_at_a_time, read_head,
 };
 pub use q_tree::{
     Burst, ClassId, ClassKind, ClassView, Command, Filter, FilterKeys, FilterPrio, FilterView,

@@ -11,6 +11,19 @@
 //!   [`Active::granted`] and [`Active::turns`] show what came of it.
 //! - [`laws`] states what holds over every list of turns, of every take, and after every change.
 //!
+//! ```
+//! // The caller sends from the class in front until its turn is over; a class whose queue is empty goes to sleep.
+//! while let Some(class) = active.front() {
+//!     match active.turn(head_len_of(class)) {
+//!         Turn::Send => send_one_of(class),
+//!         Turn::Granted => {}
+//!     }
+//!     if is_empty(class) {
+//!         active.sleep(class);
+//!     }
+//! }
+//! ```
+//!
 //! Each contract says what a call makes of a plain list of classes, and of those active their place, deficit and grants
 //! (`specs/Schedule.antt`). That no two classes have one name, that no class is twice in the list and that every deficit is
 //! below a quantum and a longest packet is `IsLawful`, which [`Active::front`], [`Active::front_place`], [`Active::has`],

@@ -11,6 +11,15 @@
 //! - [`FqCodel::put_counted`] tells how many packets and bytes a put dropped, as [`Dropped`].
 //! - [`FqCodel::change`] replaces the settings, [`FqCodel::purge`] loses every packet, [`FqCodel::queued`] counts.
 //!
+//! ```
+//! let mut fq_codel = FqCodel::new(alloc, Settings::defaults(1514))?;
+//! fq_codel.reserve()?;
+//! let is_queued = fq_codel.put(packet, now, &mut losses);
+//! while let Some(taken) = fq_codel.take(later, &mut losses) {
+//!     transmit(taken.packet);
+//! }
+//! ```
+//!
 //! A contract sees an fq_codel as the record `FqView` (`specs/FqState.antt`): its state, `FqState`, and how many packets there
 //! is memory for. `put` is `after_put` and `lost_by_put` of `specs/Put.antt`: the fat flow and its batch. `take` is `selected`
 //! and what is sent from it (`specs/Take.antt`): for each listed flow the least number of quanta that makes its credits

@@ -8,6 +8,16 @@
 //!   writes Congestion Experienced into them. [`ip_at`] finds them in an Ethernet frame.
 //! - [`FlowHash`] hashes keys to 32 bits. [`OneAtATime`] is [`one_at_a_time`] over a key's bytes.
 //!
+//! ```
+//! // A frame that came in becomes a descriptor; one that is sent is marked where CoDel says so.
+//! let head = read_head(ip_packet);
+//! let hash = OneAtATime { seed }.hash(&head.key);
+//! let packet = Packet::new(number, port, buf, len, head.key, hash, head.prio, head.ecn)?;
+//! if sent.ecn == Ecn::Ce {
+//!     mark_head(ip_packet);
+//! }
+//! ```
+//!
 //! What the contracts carry:
 //!
 //! - The constructors: a value is made exactly where each field is within its range, which the types keep from then on.
