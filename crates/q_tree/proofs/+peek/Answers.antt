@@ -12,6 +12,7 @@ use Rattle.q_fqcodel.specs.FqState.{FqView}
 use Rattle.q_model.specs.Ask.{ask}
 use Rattle.q_model.specs.Node as spec
 use Rattle.q_model.specs.Node.{Node, shape, side_by_side}
+use Rattle.q_model.specs.Pop.{pop}
 use Rattle.q_tree.specs.AskSteps.{IsGivenBy, IsToldOf, answers, own_of, toll_of}
 use Rattle.q_tree.specs.NodeCode.{forest_size}
 use Rattle.q_tree.specs.Seen.{children_seen, discipline_seen, places_seen}
