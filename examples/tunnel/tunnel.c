@@ -105,27 +105,13 @@ static bool way_read(struct way *way) {
     return true;
 }
 
-/* Writes Ce into a head (RFC 3168), which is whole, since its codepoint was read, and mends IPv4's checksum (RFC 1624). */
-static void mark(uint8_t *head) {
-    if (head[0] >> 4 == 6) {
-        head[1] |= CE << 4;
-        return;
-    }
-    uint32_t sum = (0xffffu ^ (uint32_t)(head[10] << 8 | head[11])) + (0xffffu ^ head[1]) + (head[1] | CE);
-    sum = (sum & 0xffff) + (sum >> 16);
-    sum = (sum + (sum >> 16)) ^ 0xffff;
-    head[1] |= CE;
-    head[10] = (uint8_t)(sum >> 8);
-    head[11] = (uint8_t)sum;
-}
-
 /* Writes the frames whose turn it is, and brings next down to the moment of the one after; false where the device is gone. */
 static bool way_write(struct way *way, uint64_t *next) {
     qtree_packet packet;
     while (qtree_poll(&way->device, now_ns(), &packet) == QTREE_DONE) {
         struct frame *frame = &way->frames[packet.buf];
         if (packet.ecn == CE) {
-            mark(frame->bytes);
+            qtree_mark_head(frame->bytes, frame->len);
         }
         bool is_written = write(way->to, frame->bytes, frame->len) == frame->len;
         way->written += is_written;

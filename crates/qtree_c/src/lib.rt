@@ -25,6 +25,7 @@ mod held_port;
 mod intakes;
 mod layout;
 mod losses;
+mod marks;
 mod offers;
 mod opening;
 mod polls;
