@@ -255,6 +255,8 @@ static void look(qtree_device *device, struct input *input) {
     for (size_t i = 0; i < count; i++) {
         bytes[i] = (uint8_t)take(input, 1);
     }
+    size_t at = qtree_ip_at(bytes, count);
+    CHECK((at == 0 || at == 14 || at == 18 || at == 22) && at <= count);
     code = qtree_hash((uint32_t)take(input, 1), &one);
     CHECK(code == QTREE_DONE || code == QTREE_OUT_OF_RANGE);
     qtree_packet hashed = one, bare = one;

@@ -184,6 +184,22 @@ static void marks(void) {
     CHECK(marked > 70000 && marked < 80000);
 }
 
+/* The IP head of a frame: behind no tag, one or two; and no head. */
+static void frames(void) {
+    uint8_t frame[64] = { 0 };
+    CHECK(qtree_ip_at(NULL, 0) == 0 && qtree_ip_at(frame, sizeof frame) == 0);
+    memcpy(frame + 12, (uint8_t[]){ 8, 0 }, 2);
+    CHECK(qtree_ip_at(frame, 13) == 0 && qtree_ip_at(frame, 14) == 14);
+    memcpy(frame + 12, (uint8_t[]){ 0x81, 0, 0, 5, 0x86, 0xdd }, 6);
+    CHECK(qtree_ip_at(frame, 17) == 0 && qtree_ip_at(frame, 18) == 18);
+    memcpy(frame + 12, (uint8_t[]){ 0x88, 0xa8, 0, 5, 0x81, 0, 0, 7, 8, 0 }, 10);
+    CHECK(qtree_ip_at(frame, 21) == 0 && qtree_ip_at(frame, sizeof frame) == 22);
+    memcpy(frame + 20, (uint8_t[]){ 0x81, 0, 0, 7, 8, 0 }, 6);
+    CHECK(qtree_ip_at(frame, sizeof frame) == 0);
+    memcpy(frame + 12, (uint8_t[]){ 8, 6 }, 2);
+    CHECK(qtree_ip_at(frame, sizeof frame) == 0);
+}
+
 static void ring_opening(void) {
     qtree_port port = QTREE_CLOSED, other = QTREE_CLOSED;
     qtree_outlet outlet = QTREE_CLOSED, another = QTREE_CLOSED;
@@ -299,6 +315,7 @@ int main(void) {
     bursts();
     sizes();
     marks();
+    frames();
     opening();
     ring_opening();
     rings();

@@ -196,6 +196,11 @@ void qtree_read_head(const uint8_t *bytes, size_t count, uint32_t seed, qtree_pa
 void qtree_read_fields(const uint8_t *bytes, size_t count, qtree_packet *packet);
 void qtree_read_fields_hashed(const uint8_t *bytes, size_t count, uint32_t hash, qtree_packet *packet);
 
+/* The byte at which the IP head of an Ethernet frame begins, from the first bytes of the frame: 14, or 18 or 22 behind one or two VLAN
+ * tags (IEEE 802.1Q, 802.1ad). 0 where the frame has another type, as ARP, or more tags, or ends before its type does. Whether a whole
+ * head follows, reading it from there on says. */
+size_t qtree_ip_at(const uint8_t *bytes, size_t count);
+
 /* Fills in hash, with this seed, from family, proto, addresses and ports. QTREE_DONE, QTREE_OUT_OF_RANGE. */
 qtree_code qtree_hash(uint32_t seed, qtree_packet *packet);
 

@@ -17,6 +17,7 @@ mod c_settings;
 mod codes;
 mod commands;
 mod counters;
+mod ethernet;
 mod frames;
 mod heads;
 mod held_device;

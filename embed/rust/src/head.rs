@@ -14,3 +14,19 @@ use crate::raw;
 pub fn mark_head(packet: &mut [u8]) -> bool {
     raw::mark_head(packet)
 }
+
+/// The byte at which the IP head of an Ethernet frame begins: 14, or 18 or 22 behind one or two VLAN tags (IEEE 802.1Q, 802.1ad). `None`
+/// where the frame has another type, as ARP, or more tags, or ends before its type does.
+///
+/// ```
+/// let mut frame = [0; 60];
+/// frame[12..18].copy_from_slice(&[0x81, 0, 0, 5, 8, 0]);
+/// assert_eq!(qtree::ip_at(&frame), Some(18));
+/// assert_eq!(qtree::ip_at(&frame[..17]), None);
+/// ```
+pub fn ip_at(frame: &[u8]) -> Option<usize> {
+    match raw::ip_at(frame) {
+        0 => None,
+        at => Some(at),
+    }
+}

@@ -66,7 +66,7 @@ pub use error::Error;
 pub use fate::Fate;
 pub use fault::Fault;
 pub use gauge::Gauge;
-pub use head::mark_head;
+pub use head::{ip_at, mark_head};
 pub use loss::Loss;
 pub use losses::Losses;
 pub use offer_error::OfferError;

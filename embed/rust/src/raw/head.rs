@@ -18,6 +18,12 @@ pub(crate) fn mark_head(bytes: &mut [u8]) -> bool {
     unsafe { sys::qtree_mark_head(bytes.as_mut_ptr(), bytes.len()) }
 }
 
+/// The byte at which the IP head of an Ethernet frame begins; 0 where none does.
+pub(crate) fn ip_at(frame: &[u8]) -> usize {
+    // SAFETY: pointer and length are those of `frame`.
+    unsafe { sys::qtree_ip_at(frame.as_ptr(), frame.len()) }
+}
+
 /// Fills in the hash of its addresses, ports and protocol.
 pub(crate) fn hash(seed: u32, packet: &mut sys::Packet) {
     // SAFETY: `packet` is borrowed for the call.
