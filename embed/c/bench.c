@@ -2,6 +2,9 @@
  *
  *     bench [PACKETS [ROUNDS]]     so many packets for each row, 2,000,000 where no number stands there, in 5 rounds
  *
+ * A packet that arrives from its bytes goes one at a time too, by qtree_arrive_frame and qtree_poll_buf, with the hash of the packet. Two
+ * rows behind are of reading a head with a hash and without.
+ *
  * Packets are made before, 8192 of them in turn, and some are queued first. Trees, packets and times are those of the rows of the same
  * names that bench/run measures from Rattle. A row is the least of the rounds, in nanoseconds a packet. */
 #define _POSIX_C_SOURCE 200809L
@@ -11,7 +14,7 @@
 #include <string.h>
 #include <time.h>
 
-enum { BATCH = 32, MADE = 8192, CLASSES = 8, FIRST_PORT = 5000, MTU = 1514 };
+enum { BATCH = 32, MADE = 8192, CLASSES = 8, FIRST_PORT = 5000, HEAD = 28, MTU = 1514 };
 
 /* What a row sets up: the root's kind, the leaf in each class of a drr if there is one, and the packets. */
 struct row {
@@ -33,6 +36,9 @@ static const struct row rows[] = {
 
 /* The packets, with their indexes as buf. */
 static qtree_packet made[MADE];
+
+/* The heads of UDP from which the same flows are read, with the priority 0. */
+static uint8_t heads[MADE][HEAD];
 
 static double seconds(void) {
     struct timespec now;
@@ -57,6 +63,10 @@ static void make_packets(const struct row *row) {
         made[i].hash = i % row->flows;
         made[i].prio = (uint8_t)below(&state, 16);
         made[i].dport = (uint16_t)(FIRST_PORT + below(&state, CLASSES));
+        const uint8_t head[HEAD] = { 0x45, 0, 3, 232, 0, 0, 0, 0, 64, 17, 0, 0, 10, 0, 0, 1, 10, 0, 0, 2, 1000 / 256, 1000 % 256 };
+        memcpy(heads[i], head, sizeof head);
+        heads[i][22] = (uint8_t)(made[i].dport >> 8);
+        heads[i][23] = (uint8_t)made[i].dport;
     }
 }
 
@@ -91,6 +101,18 @@ static double one_at_a_time(const struct row *row, qtree_device *device, uint32_
         uint64_t now = (uint64_t)i * row->step;
         CHECK(qtree_arrive(device, &made[(row->queued + i) % MADE], now) == QTREE_DONE);
         CHECK(qtree_poll(device, now, &given) == QTREE_DONE && given.len == 1000);
+    }
+    return (seconds() - begun) / packets;
+}
+
+static double from_bytes(const struct row *row, qtree_device *device, uint32_t packets) {
+    qtree_sent sent;
+    double begun = seconds();
+    for (uint32_t i = 0; i < packets; i++) {
+        uint64_t now = (uint64_t)i * row->step;
+        uint32_t at = (row->queued + i) % MADE;
+        CHECK(qtree_arrive_frame(device, heads[at], HEAD, 1000, at, made[at].hash, now) == QTREE_DONE);
+        CHECK(qtree_poll_buf(device, now, &sent) == QTREE_DONE && sent.len == 1000);
     }
     return (seconds() - begun) / packets;
 }
@@ -148,6 +170,26 @@ static double least(double (*play)(const struct row *, qtree_device *, uint32_t)
     return best * 1e9;
 }
 
+/* Reads heads, with a hash or without, in the least of the rounds. */
+static double read_heads(bool is_hashed, uint32_t packets, uint32_t rounds) {
+    double best = 1e9;
+    for (uint32_t round = 0; round < rounds; round++) {
+        qtree_packet packet = { .len = 1000 };
+        double begun = seconds();
+        for (uint32_t i = 0; i < packets; i++) {
+            if (is_hashed) {
+                qtree_read_head(heads[i % MADE], HEAD, 0, &packet);
+            } else {
+                qtree_read_fields(heads[i % MADE], HEAD, &packet);
+            }
+            CHECK(packet.sport == 1000 && (packet.hash != 0) == is_hashed);
+        }
+        double cost = (seconds() - begun) / packets;
+        best = cost < best ? cost : best;
+    }
+    return best * 1e9;
+}
+
 int main(int argc, char **argv) {
     uint32_t packets = argc > 1 ? (uint32_t)strtoul(argv[1], NULL, 10) : 2000000;
     uint32_t rounds = argc > 2 ? (uint32_t)strtoul(argv[2], NULL, 10) : 5;
@@ -156,7 +198,10 @@ int main(int argc, char **argv) {
         make_packets(&rows[i]);
         printf("%-36s %7.1f ns one at a time %7.1f ns by %d", rows[i].name, least(one_at_a_time, &rows[i], packets, rounds),
                least(in_batches, &rows[i], packets, rounds), BATCH);
-        printf(" %7.1f ns by a ring\n", least(by_ring, &rows[i], packets, rounds));
+        printf(" %7.1f ns by a ring %7.1f ns from its bytes\n", least(by_ring, &rows[i], packets, rounds),
+               least(from_bytes, &rows[i], packets, rounds));
     }
+    printf("%-36s %7.1f ns\n", "qtree_read_head", read_heads(true, packets, rounds));
+    printf("%-36s %7.1f ns\n", "qtree_read_fields", read_heads(false, packets, rounds));
     return 0;
 }

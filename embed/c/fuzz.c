@@ -223,6 +223,21 @@ static void open_or_close(qtree_device *device, struct input *input) {
     }
 }
 
+/* What is read of a head that was marked is as before but for the codepoint, and few bytes are written. */
+static void mark(uint8_t *bytes, size_t count, const qtree_packet *one) {
+    uint8_t before[80];
+    qtree_packet marked = *one;
+    memcpy(before, bytes, sizeof before);
+    bool is_marked = qtree_mark_head(bytes, count);
+    CHECK(is_marked == (one->ecn != 0));
+    qtree_read_head(bytes, count, 0, &marked);
+    marked.ecn = is_marked ? one->ecn : marked.ecn;
+    CHECK(same_packet(&marked, one));
+    for (size_t i = 0; i < sizeof before; i++) {
+        CHECK(bytes[i] == before[i] || (is_marked && (i == 1 || i == 10 || i == 11)));
+    }
+}
+
 static void look(qtree_device *device, struct input *input) {
     qtree_row row;
     qtree_event event;
@@ -235,11 +250,13 @@ static void look(qtree_device *device, struct input *input) {
     code = qtree_recorded(device, (size_t)take(input, 1), &event);
     CHECK(code == QTREE_DONE ? event.kind <= QTREE_COMMANDED : code == QTREE_NOTHING || code == QTREE_IS_CLOSED);
     qtree_packet one = packet(input);
-    uint8_t bytes[80];
+    uint8_t bytes[80] = { 0 };
     size_t count = (size_t)take(input, 1) % sizeof bytes;
     for (size_t i = 0; i < count; i++) {
         bytes[i] = (uint8_t)take(input, 1);
     }
+    size_t at = qtree_ip_at(bytes, count);
+    CHECK((at == 0 || at == 14 || at == 18 || at == 22) && at <= count);
     code = qtree_hash((uint32_t)take(input, 1), &one);
     CHECK(code == QTREE_DONE || code == QTREE_OUT_OF_RANGE);
     qtree_packet hashed = one, bare = one;
@@ -249,6 +266,7 @@ static void look(qtree_device *device, struct input *input) {
     CHECK(same_packet(&hashed, &one) && bare.hash == 0);
     bare.hash = one.hash;
     CHECK(same_packet(&bare, &one));
+    mark(bytes, count, &one);
     CHECK(one.prio <= 15 && one.ecn <= 3 && (one.family == 0 || one.family == 4 || one.family == 6));
 }
 

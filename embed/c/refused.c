@@ -7,7 +7,7 @@
 
 #include <string.h>
 
-enum { TEXT = 4000, PLACES = 8, PACKETS = 40 };
+enum { TEXT = 4000, PLACES = 8, PACKETS = 40, FRAMES = 2 };
 
 /* The allocations that are still granted; none is counted below 0. */
 static long granted = -1;
@@ -108,6 +108,8 @@ static qtree_code commands(const void *given) {
 
 static qtree_code arrives(const void *given) { return qtree_arrive(&device, given, 1000); }
 
+static qtree_code frame_arrives(const void *given) { return qtree_arrive_frame(&device, given, 24, 900, 0, 0, 1000); }
+
 static qtree_code opens_ring(const void *given) {
     qtree_code code = qtree_ring_open(&port, &outlet, 3, *(const size_t *)given);
     CHECK(code == QTREE_DONE || (port.state == 0 && outlet.state == 0));
@@ -167,6 +169,10 @@ static void play_lines(void) {
 
 /* Packets arrive by calls and through the ring, each with every allocation refused once. */
 static void play_packets(void) {
+    const uint8_t udp[24] = { 0x45, 0, 0, 24, 0, 0, 0, 0, 64, 17, 0, 0, 10, 0, 0, 1, 10, 0, 0, 2, 0, 1, 0, 2 };
+    for (uint32_t i = 0; i < FRAMES; i++) {
+        CHECK(insist(frame_arrives, udp) <= QTREE_LOST_OVER_LIMIT);
+    }
     for (uint32_t i = 0; i < PACKETS; i++) {
         qtree_packet given = packet(i);
         CHECK(insist(arrives, &given) <= QTREE_LOST_OVER_LIMIT);
@@ -184,7 +190,7 @@ static void play_packets(void) {
     }
     look(&after);
     CHECK(after.taken.packets == PLACES && after.placed.packets == PLACES && after.taken.bytes == after.placed.bytes);
-    CHECK(after.device.arrived.packets == PACKETS + PLACES);
+    CHECK(after.device.arrived.packets == PACKETS + FRAMES + PLACES);
 }
 
 /* Takes whole rings in while the first or second allocation of a call is refused: what had arrived by then has left the ring, and
@@ -215,6 +221,10 @@ static void play_without_memory(void) {
     granted = 0;
     while (qtree_reap(&device, &loss) == QTREE_DONE) {
     }
+    qtree_sent sent[4];
+    size_t count;
+    CHECK(qtree_poll_buf(&device, 1000000000, &sent[0]) == QTREE_DONE);
+    CHECK(qtree_poll_bufs(&device, 1000000000, sent, 4, &count) == QTREE_DONE && count == 4);
     while (qtree_poll(&device, 1000000000, &given) == QTREE_DONE) {
     }
     granted = -1;

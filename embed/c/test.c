@@ -140,6 +140,66 @@ static void packets(qtree_device *device) {
     CHECK(qtree_stats(device, QTREE_CLASS, 1, 2, &row) == QTREE_NOTHING && qtree_stats(device, 3, 0, 0, &row) == QTREE_OUT_OF_RANGE);
 }
 
+/* The one's complement sum of the words of a head (RFC 1071), which is 0xffff where its checksum is right. */
+static uint32_t words_sum(const uint8_t *head, size_t count) {
+    uint32_t sum = 0;
+    for (size_t i = 0; i + 1 < count; i += 2) {
+        sum += (uint32_t)head[i] << 8 | head[i + 1];
+    }
+    sum = (sum & 0xffff) + (sum >> 16);
+    return (sum & 0xffff) + (sum >> 16);
+}
+
+/* 100,000 random heads: a mark changes the codepoint alone, and a right checksum stays right. */
+static void marks(void) {
+    uint64_t random = 1;
+    size_t marked = 0;
+    for (int round = 0; round < 100000; round++) {
+        uint8_t head[60], before[60];
+        for (size_t i = 0; i < sizeof head; i++) {
+            random = random * 6364136223846793005u + 1442695040888963407u;
+            head[i] = (uint8_t)(random >> 56);
+        }
+        head[0] = round % 2 == 0 ? (uint8_t)(0x45 + head[0] % 11) : (uint8_t)(0x60 | head[0] % 16);
+        size_t len = round % 2 == 0 ? 4u * (head[0] & 15u) : 40;
+        if (round % 2 == 0) {
+            head[10] = head[11] = 0;
+            uint32_t sum = 0xffff ^ words_sum(head, len);
+            head[10] = (uint8_t)(sum >> 8);
+            head[11] = (uint8_t)sum;
+        }
+        memcpy(before, head, sizeof head);
+        qtree_packet was = { 0 }, is = { 0 };
+        qtree_read_head(head, sizeof head, 0, &was);
+        bool is_marked = qtree_mark_head(head, sizeof head);
+        qtree_read_head(head, sizeof head, 0, &is);
+        CHECK(is_marked == (was.ecn != 0) && is.ecn == (is_marked ? 3 : 0));
+        CHECK(is.prio == was.prio && is.hash == was.hash && is.proto == was.proto);
+        CHECK(round % 2 == 1 || words_sum(head, len) == 0xffff);
+        head[1] = before[1];
+        CHECK(memcmp(head, before, 10) == 0 && memcmp(head + 12, before + 12, sizeof head - 12) == 0);
+        CHECK(round % 2 == 0 || memcmp(head, before, sizeof head) == 0);
+        marked += is_marked;
+    }
+    CHECK(marked > 70000 && marked < 80000);
+}
+
+/* The IP head of a frame: behind no tag, one or two; and no head. */
+static void frames(void) {
+    uint8_t frame[64] = { 0 };
+    CHECK(qtree_ip_at(NULL, 0) == 0 && qtree_ip_at(frame, sizeof frame) == 0);
+    memcpy(frame + 12, (uint8_t[]){ 8, 0 }, 2);
+    CHECK(qtree_ip_at(frame, 13) == 0 && qtree_ip_at(frame, 14) == 14);
+    memcpy(frame + 12, (uint8_t[]){ 0x81, 0, 0, 5, 0x86, 0xdd }, 6);
+    CHECK(qtree_ip_at(frame, 17) == 0 && qtree_ip_at(frame, 18) == 18);
+    memcpy(frame + 12, (uint8_t[]){ 0x88, 0xa8, 0, 5, 0x81, 0, 0, 7, 8, 0 }, 10);
+    CHECK(qtree_ip_at(frame, 21) == 0 && qtree_ip_at(frame, sizeof frame) == 22);
+    memcpy(frame + 20, (uint8_t[]){ 0x81, 0, 0, 7, 8, 0 }, 6);
+    CHECK(qtree_ip_at(frame, sizeof frame) == 0);
+    memcpy(frame + 12, (uint8_t[]){ 8, 6 }, 2);
+    CHECK(qtree_ip_at(frame, sizeof frame) == 0);
+}
+
 static void ring_opening(void) {
     qtree_port port = QTREE_CLOSED, other = QTREE_CLOSED;
     qtree_outlet outlet = QTREE_CLOSED, another = QTREE_CLOSED;
@@ -254,6 +314,8 @@ int main(void) {
     layout();
     bursts();
     sizes();
+    marks();
+    frames();
     opening();
     ring_opening();
     rings();

@@ -137,7 +137,7 @@ typedef struct qtree_packet {
     uint8_t proto;
     uint8_t family; /* 0 (not IP), 4 or 6 */
     uint8_t prio;   /* 0 to 15, as skb->priority */
-    uint8_t ecn;    /* 0 to 3, the ECN codepoint; 3 in a packet that is given: the program writes it into the packet's head */
+    uint8_t ecn;    /* 0 to 3, the ECN codepoint; 3 in a packet that is given: qtree_mark_head writes it into its bytes */
 } qtree_packet;
 
 typedef struct qtree_loss {
@@ -196,8 +196,18 @@ void qtree_read_head(const uint8_t *bytes, size_t count, uint32_t seed, qtree_pa
 void qtree_read_fields(const uint8_t *bytes, size_t count, qtree_packet *packet);
 void qtree_read_fields_hashed(const uint8_t *bytes, size_t count, uint32_t hash, qtree_packet *packet);
 
+/* The byte at which the IP head of an Ethernet frame begins, from the first bytes of the frame: 14, or 18 or 22 behind one or two VLAN
+ * tags (IEEE 802.1Q, 802.1ad). 0 where the frame has another type, as ARP, or more tags, or ends before its type does. Whether a whole
+ * head follows, reading it from there on says. */
+size_t qtree_ip_at(const uint8_t *bytes, size_t count);
+
 /* Fills in hash, with this seed, from family, proto, addresses and ports. QTREE_DONE, QTREE_OUT_OF_RANGE. */
 qtree_code qtree_hash(uint32_t seed, qtree_packet *packet);
+
+/* Writes Congestion Experienced (RFC 3168) into a packet that begins with its IP head, and renews the checksum of IPv4; whether the
+ * packet is marked now. It is where qtree_read_head reads an ecn that is not 0 of these bytes; else no byte is written. A program does
+ * so with each packet that is given with the ecn 3: else its sender never learns of the congestion. */
+bool qtree_mark_head(uint8_t *bytes, size_t count);
 
 /* A packet arrives: QTREE_DONE where it is queued, else the cause for which it is lost, by which it is also to be reaped.
  * QTREE_DONE, QTREE_LOST_.., QTREE_OUT_OF_RANGE, QTREE_IS_CLOSED, QTREE_MEMORY. */
@@ -233,7 +243,7 @@ typedef struct qtree_sent {
     uint32_t port;
     uint32_t buf;
     uint16_t len;
-    uint8_t ecn; /* 3 where the program writes that into the packet's head */
+    uint8_t ecn; /* 3 where qtree_mark_head is to write it into the bytes */
 } qtree_sent;
 qtree_code qtree_poll_buf(qtree_device *device, uint64_t now, qtree_sent *sent);
 qtree_code qtree_poll_bufs(qtree_device *device, uint64_t now, qtree_sent *sent, size_t room, size_t *count);

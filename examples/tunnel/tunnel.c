@@ -112,7 +112,7 @@ static bool way_write(struct way *way, uint64_t *next) {
     while (qtree_poll(&way->device, now_ns(), &packet) == QTREE_DONE) {
         struct frame *frame = &way->frames[packet.buf];
         if (packet.ecn == CE) {
-            mark(frame->bytes);
+            qtree_mark_head(frame->bytes, frame->len);
         }
         bool is_written = write(way->to, frame->bytes, frame->len) == frame->len;
         way->written += is_written;

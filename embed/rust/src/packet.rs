@@ -101,7 +101,7 @@ impl Packet {
         self.0.prio
     }
 
-    /// Its ECN codepoint, 0 to 3. Where a poll gives 3 the program writes it into the packet's head (RFC 3168).
+    /// Its ECN codepoint, 0 to 3. Where a poll gives 3, [`mark_head`](crate::mark_head) writes it into the packet's bytes.
     pub fn ecn(&self) -> u8 {
         self.0.ecn
     }

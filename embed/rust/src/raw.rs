@@ -10,6 +10,6 @@ mod port;
 pub(crate) mod sys;
 
 pub(crate) use device::RawDevice;
-pub(crate) use head::{hash, read_hashed, read_head};
+pub(crate) use head::{hash, ip_at, mark_head, read_hashed, read_head};
 pub(crate) use outlet::RawOutlet;
 pub(crate) use port::{RawPort, open_ring};

@@ -164,6 +164,8 @@ unsafe extern "C" {
     pub fn qtree_read_head(bytes: *const u8, count: usize, seed: u32, packet: *mut Packet);
     pub fn qtree_read_fields(bytes: *const u8, count: usize, packet: *mut Packet);
     pub fn qtree_read_fields_hashed(bytes: *const u8, count: usize, hash: u32, packet: *mut Packet);
+    pub fn qtree_mark_head(bytes: *mut u8, count: usize) -> bool;
+    pub fn qtree_ip_at(bytes: *const u8, count: usize) -> usize;
     pub fn qtree_hash(seed: u32, packet: *mut Packet) -> u32;
     pub fn qtree_arrive(device: *mut Device, packet: *const Packet, now: u64) -> u32;
     pub fn qtree_arrive_frame(
