@@ -40,7 +40,7 @@ extern "C" {
 
 /* The version that this header is of. Within one major number functions and numbers are only added, and no struct changes. */
 #define QTREE_VERSION_MAJOR 1
-#define QTREE_VERSION_MINOR 1
+#define QTREE_VERSION_MINOR 2
 
 /* That of the library: the major number in the high 16 bits, the minor one in the low 16. */
 uint32_t qtree_version(void);

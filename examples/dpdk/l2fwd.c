@@ -2,7 +2,6 @@
  *
  *     l2fwd EAL.. -- FILE [COUNT [MADE]]     until COUNT frames came and none waits, or a signal; MADE are sent to port 0 before
  *     l2fwd EAL.. -- --bench ROUNDS FILE..   cycles a packet of a ring, of rte_sched and of devices, of which a file sets up each */
-#include "mark.h"
 #include "qtree.h"
 
 #include <rte_cycles.h>
@@ -17,7 +16,7 @@
 #include <signal.h>
 #include <string.h>
 
-enum { BURST = 32, MTU = 1518, QUEUED = 16384, LINE_SIZE = 512, POOL = 16383, FRAME = 1000, FLOWS = 1024, FRAMES = 4096, WAITING = 1024 };
+enum { CE = 3, BURST = 32, MTU = 1518, QUEUED = 16384, LINE_SIZE = 512, POOL = 16383, FRAME = 1000, FLOWS = 1024, FRAMES = 4096, WAITING = 1024 };
 
 /* What holds mbufs until it is their turn: a bare ring, DPDK's own rte_sched, or a device of qtree. */
 struct scheduler {
@@ -138,7 +137,8 @@ static unsigned qtree_dequeue(struct scheduler *it, struct rte_mbuf **mbufs, uin
     for (size_t i = 0; i < count; i++) {
         mbufs[i] = (struct rte_mbuf *)(uintptr_t)packets[i].number;
         if (unlikely(packets[i].ecn == CE)) {
-            mark(ip_head(mbufs[i], &bytes));
+            uint8_t *head = ip_head(mbufs[i], &bytes);
+            qtree_mark_head(head, bytes);
             it->marked++;
         }
     }

@@ -1,7 +1,6 @@
 /* A device beneath a netif of lwIP: the frames of two bulk flows wait in it until it is their turn, and go out by a TAP device.
  *
  *     lwip_tap TAP SECONDS <FILE      plays the lines of tc of a file, sends to port 5001 of 10.78.0.1, and accounts for every frame */
-#include "mark.h"
 #include "qtree.h"
 
 #include <lwip/api.h>
@@ -20,7 +19,7 @@
 #include <time.h>
 #include <unistd.h>
 
-enum { HELD = 1024, FRAME = 1514, FLOWS = 2, LINE_SIZE = 512 };
+enum { CE = 3, HELD = 1024, FRAME = 1514, FLOWS = 2, LINE_SIZE = 512 };
 
 static int tap, timer;
 static struct netif netif;
@@ -54,7 +53,7 @@ static void drain(void) {
     qtree_packet packet;
     while (qtree_poll(&device, now_ns(), &packet) == QTREE_DONE) {
         if (packet.ecn == CE) {
-            mark((uint8_t *)held[packet.buf]->payload + SIZEOF_ETH_HDR);
+            qtree_mark_head((uint8_t *)held[packet.buf]->payload + SIZEOF_ETH_HDR, held[packet.buf]->len - SIZEOF_ETH_HDR);
         }
         *(transmit(held[packet.buf]) ? &sent : &failed) += 1;
         release(packet.buf);

@@ -6,7 +6,6 @@
  * device. SIGUSR1 prints what `tc -s qdisc show` does, SIGHUP plays the lines of the file that are new or changed, and SIGTERM and
  * SIGINT stop, with a count of what became of every frame. The status is 0 where each is accounted for. */
 
-#include "mark.h"
 #include "names.h"
 #include "qtree.h"
 
@@ -26,7 +25,7 @@
 #include <time.h>
 #include <unistd.h>
 
-enum { MTU = 1500, BUFFERS = 4096, SPARE = BUFFERS, BATCH = 64, LINES = 256, LINE_SIZE = 512 };
+enum { CE = 3, MTU = 1500, BUFFERS = 4096, SPARE = BUFFERS, BATCH = 64, LINES = 256, LINE_SIZE = 512 };
 
 /* The bytes of a frame; one that fills them is longer than the MTU, and lost. */
 struct frame {
