@@ -17,17 +17,19 @@ pub(crate) struct Winners {
     // the second of the list, and the first is above every rank, so that each climb ends there at the latest. A rank has bytes and
     // flow in one number, so that a level of the tree costs one comparison.
     ranks: Vec<u64>,
+    // Where the flows' ranks begin: as many as there are flows.
+    leaves: usize,
 }
 
 impl Model for Winners {
-    ghost use Rattle.std.specs.Prelude.{ℕ, List, ◌≤◌, length};
+    ghost use Rattle.std.specs.Prelude.{ℕ, List, ◌≡◌, ◌≤◌, ◌/◌, length};
     ghost use Rattle.q_fqcodel.specs.Winners.{bytes_in, IsTournament};
 
     ghost Value = { List ℕ };
 
     ghost view = { λ w. bytes_in w.ranks.items };
 
-    ghost invariant = { λ w. IsTournament w.ranks.items × (length w.ranks.items ≤ 131072) };
+    ghost invariant = { λ w. IsTournament w.ranks.items × (length w.ranks.items ≤ 131072) × (w.leaves ≡ length w.ranks.items / 2) };
 }
 
 impl Winners {
@@ -39,7 +41,10 @@ impl Winners {
     {
         let mut ranks = vec![in alloc; 0u64; 2 * flows as usize]?;
         play(&mut ranks);
-        Ok(Winners { ranks })
+        Ok(Winners {
+            ranks,
+            leaves: flows as usize,
+        })
     }
 
     /// The flow with the most bytes, of equals the first, if this flow had so many bytes: as many as it has, or more.
@@ -63,7 +68,7 @@ impl Winners {
         requires fell { course ≡ Course.Fell → bytes ≤ bytes_at self.old flow }
         ensures { self.new ≡ set self.old flow bytes }
     {
-        let leaf = self.ranks.len() / 2 + flow as usize;
+        let leaf = self.leaves + flow as usize;
         climb(&mut self.ranks, leaf, rank_of(flow, bytes), course);
     }
 }
