@@ -18,7 +18,7 @@
  *     compiler refuses others here; that an x86-64 processor is older, it cannot see.
  *
  * No function waits, prints, aborts or calls back. An offer, a poll and a reap take no memory, and neither do those that read
- * heads, counters, shares and moments.
+ * or mark heads, or read counters, shares and moments.
  *
  * A moment is nanoseconds since some moment of the program's choice, QTREE_MOMENT_MAX at most. One before an earlier one counts
  * as that.
@@ -236,8 +236,8 @@ qtree_code qtree_poll(qtree_device *device, uint64_t now, qtree_packet *packet);
  * QTREE_DONE, QTREE_IDLE, QTREE_LATER, QTREE_OUT_OF_RANGE, QTREE_IS_CLOSED. */
 qtree_code qtree_poll_many(qtree_device *device, uint64_t now, qtree_packet *packets, size_t room, size_t *count);
 
-/* The same two, of which a program that only sends on gets no more than it needs: buf, len and ecn, and of a packet that came by a ring
- * its sender's port and number there. */
+/* The same two, with the same answers, of which a program that only sends on gets no more than it needs. number and port are the
+ * program's own, or those of the ring by which the packet came. */
 typedef struct qtree_sent {
     uint64_t number;
     uint32_t port;
