@@ -1,5 +1,5 @@
 //! What sends a packet straight to the caller's place, where a peek would dequeue and hold it.
-ghost use Rattle.std.specs.Prelude.{◌≡◌, ◌<◌, ◌≤◌, ◌+◌, ◌++◌, [], ◌∷◌, length, List, ℕ, Some, slice_get, drop, option_map, is_some, unwrap_or, if◌then◌else◌};
+ghost use Rattle.std.specs.Prelude.{◌≡◌, ◌<◌, ◌≤◌, ◌+◌, ◌++◌, [], ◌∷◌, length, List, ℕ, Some, slice_get, drop, option_map, unwrap_or, if◌then◌else◌};
 ghost use Rattle.q_codel.specs.Losses.{losses_of};
 ghost use Rattle.q_packet.specs.declared.stamped.Stamped.{Stamped};
 ghost use Rattle.q_model.specs.Tally.{no_totals, with_packet};
@@ -26,8 +26,9 @@ use q_fqcodel::FqCodel;
 use q_model::Totals;
 use q_packet::{Cause, Moment, Packet};
 
-/// Asks the classes of the active list in turn, as [`crate::drr::serve`] does, and gives the packet of the one that is met to
-/// `out` (tc-drr(8)).
+/// Asks the classes of the active list in turn, and grants to each whose packet is longer than its deficit, until one is met
+/// that can send its packet, which it gives to `out`, or that shows none (tc-drr(8)).
+#[cycle(peek)]
 pub(crate) fn dequeue_class<S: Sink>(
     active: &mut Active,
     classes: &mut [Node],
@@ -79,8 +80,8 @@ fn give_class(active: &mut Active, classes: &mut [Node], place: usize, out: &mut
     settle(active, place, classes[place].is_empty());
 }
 
-/// Asks the child of a tbf, as [`crate::tbf::ask_child`] does, and gives the packet that it shows to `out` where the bucket allows
-/// it (tc-tbf(8)).
+/// Asks the child of a tbf, and gives the packet that it shows to `out` where the bucket allows it (tc-tbf(8)).
+#[cycle(peek)]
 pub(crate) fn dequeue_child<S: Sink>(
     bucket: &mut Bucket,
     child: &mut Node,

@@ -1,22 +1,21 @@
-ghost use Rattle.std.specs.Prelude.{◌≡◌, ◌<◌, ◌≤◌, length, true, false, slice_get, Some, None};
+ghost use Rattle.std.specs.Prelude.{◌≡◌, ◌≤◌, length, true, false, None};
 ghost use Rattle.q_model.specs.Ask.{ask, ask_drr};
 ghost use Rattle.q_model.specs.Node as spec;
 ghost use Rattle.q_model.specs.Node.{Own, shape};
 ghost use Rattle.q_model.specs.Pop.{pop};
 ghost use Rattle.q_model.specs.Work.{settled_class};
-ghost use Rattle.q_tree.specs.AskSteps.{CanAskOnce, CanServe, AreAsked, IsAskedOnce, IsGivenBy, IsToldOf, answers, no_toll, toll_of};
-ghost use Rattle.q_tree.specs.Kept.{Kept};
+ghost use Rattle.q_tree.specs.AskSteps.{CanAskOnce, CanServe, AreAsked, IsAskedOnce, IsToldOf, answers, no_toll, toll_of};
 ghost use Rattle.q_tree.specs.PutSteps.{packets_beneath};
 
+use crate::dequeue::dequeue_class;
 use crate::node::Node;
 use crate::shown::Shown;
 use crate::toll::{NO_TOLL, Toll};
 use q_codel::Sink;
-use q_drr::{Active, Turn};
-use q_packet::{Moment, Packet};
+use q_drr::Active;
+use q_packet::{Moment, Packet, SOME_PACKET};
 
-/// Asks the classes of the active list in turn, and grants to each whose packet is longer than its deficit, until one is met
-/// that can send its packet, which is then taken and held, or that shows none (tc-drr(8)).
+/// Dequeues the packet that a drr sends, as [`dequeue_class`] does, to hold it (tc-drr(8)).
 #[cycle(peek)]
 #[inline(never)]
 pub(crate) fn serve<S: Sink>(
@@ -38,27 +37,12 @@ pub(crate) fn serve<S: Sink>(
     ensures toll { toll.new ≡ toll_of result }
     ensures kept { S.keeps sink.old sink.new }
 {
-    let mut shown = Shown::at_hand(&None);
-    // In the first round each class is asked once; in a later one it has at hand what it showed.
-    let mut unasked = active.active_count();
-    while let Some(place) = active.front_place() {
-        shown = ask_class(&mut classes[place], unasked > 0, shown, now, toll, sink);
-        unasked = unasked.saturating_sub(1);
-        let Some(len) = shown.packet_len() else {
-            return shown;
-        };
-        match active.turn(len) {
-            Turn::Send => {
-                // What is given is what was shown.
-                *held = give(active, classes, place);
-                return shown;
-            }
-            Turn::Granted => {}
-        }
+    let mut packet = SOME_PACKET;
+    let shown = dequeue_class(active, classes, &mut packet, now, toll, sink);
+    if shown.has_packet() {
+        *held = Some(packet);
     }
-    // No class was active, so nobody was asked.
-    *toll = NO_TOLL;
-    Shown::at_hand(&None)
+    shown
 }
 
 /// What a class shows: it is asked, or has its packet at hand. What was counted so far is counted on.
@@ -120,17 +104,6 @@ fn show_again(class: &Node, so_far: Shown) -> Shown
     ensures { result ≡ record so_far { packet = (pop class.now).shown } }
 {
     so_far.showing(&class.at_hand())
-}
-
-// The class in this place gives its packet, and sleeps where that was its last.
-fn give(active: &mut Active, classes: &mut [Node], place: usize) -> Option<Packet>
-    requires { place < length classes.old }
-    ensures packet { (c : spec.Node Kept) → slice_get classes.old place ≡ Some c → result ≡ (pop c).shown }
-    ensures given { (c : spec.Node Kept) → slice_get classes.old place ≡ Some c → IsGivenBy place c active.old active.new classes.old classes.new }
-{
-    let packet = classes[place].pop();
-    settle(active, place, classes[place].is_empty());
-    packet
 }
 
 /// A class with something queued is active, and another is not (tc-drr(8)).

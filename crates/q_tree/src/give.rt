@@ -11,8 +11,8 @@ use crate::pop::ready_band;
 use q_packet::Packet;
 
 impl Node {
-    /// Gives the packet that the node has at hand into `out`, as [`Node::pop`] takes it, and says whether there was one. Where
-    /// there was none, nothing changes.
+    /// Gives the packet that the node has at hand into `out`, counts it as sent here, and in the bands that it comes from, and says
+    /// whether there was one. Nobody is asked: after a peek it is the packet that was shown. Where there was none, nothing changes.
     #[cycle(give)]
     #[inline(always)]
     pub(crate) fn give(&mut self, out: &mut Packet) -> bool

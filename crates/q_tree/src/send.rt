@@ -1,4 +1,4 @@
-ghost use Rattle.std.specs.Prelude.{◌≡◌, ◌≤◌, ◌+◌, ◌++◌, length, ℕ, List, Option, None, is_some, unwrap_or};
+ghost use Rattle.std.specs.Prelude.{◌≡◌, ◌≤◌, ◌+◌, ◌++◌, length, ℕ, List, Option, is_some, unwrap_or};
 ghost use Rattle.q_model.specs.Ask.{ask, ask_prio, take_from};
 ghost use Rattle.q_model.specs.Beneath.{beneath};
 ghost use Rattle.q_model.specs.Node.{Own, shape};
@@ -52,7 +52,7 @@ impl Tree {
 }
 
 impl Node {
-    /// Asks the node for its packet and gives it into `out`, which is what a peek and a pop come to. Where the node shows none,
+    /// Asks the node for its packet and gives it into `out`, which is what a peek and a give come to. Where the node shows none,
     /// `out` stays as it is.
     ///
     /// What a tbf, a drr or an fq_codel dequeues goes straight to `out`, and is not held. It takes no memory. `sink` needs room

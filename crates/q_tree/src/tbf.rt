@@ -4,14 +4,15 @@ ghost use Rattle.q_model.specs.Beneath.{beneath};
 ghost use Rattle.q_model.specs.Node.{Own, Tbf};
 ghost use Rattle.q_tree.specs.AskSteps.{CanAsk, AreAsked, IsToldOf, answers, no_toll, toll_of};
 
+use crate::dequeue::dequeue_child;
 use crate::node::Node;
 use crate::shown::Shown;
 use crate::toll::Toll;
 use q_bucket::Bucket;
 use q_codel::Sink;
-use q_packet::{Moment, Packet};
+use q_packet::{Moment, Packet, SOME_PACKET};
 
-/// Asks the child, and takes the packet that it shows where the bucket allows it, to hold it (tc-tbf(8)).
+/// Dequeues the packet that a tbf sends, as [`dequeue_child`] does, to hold it (tc-tbf(8)).
 #[cycle(peek)]
 #[inline(never)]
 pub(crate) fn ask_child<S: Sink>(
@@ -34,14 +35,10 @@ pub(crate) fn ask_child<S: Sink>(
     ensures toll { toll.new ≡ toll_of result }
     ensures kept { S.keeps sink.old sink.new }
 {
-    let shown = child.peek(now, toll, sink);
-    let Some(len) = shown.packet_len() else {
-        return shown;
-    };
-    if !bucket.spend(now, len) {
-        return shown.showing(&None);
+    let mut packet = SOME_PACKET;
+    let shown = dequeue_child(bucket, child, &mut packet, now, toll, sink);
+    if shown.has_packet() {
+        *held = Some(packet);
     }
-    // What is given is what was shown.
-    *held = child.pop();
     shown
 }

@@ -20,7 +20,7 @@ ghost use Rattle.q_tree.specs.RouteSeen.{RouteSeen, route_seen};
 ghost use Rattle.q_tree.specs.Showing.{IsNumbered, standing};
 ghost use Rattle.q_tree.specs.TreeSeen.{CanArrive, IsArrived, IsRouteIn, numbers};
 
-use crate::booking::{book_arrival, book_dropped, book_sent, book_shown};
+use crate::booking::{book_arrival, book_dropped, book_shown};
 use crate::counters::Counters;
 use crate::handles::Handles;
 use crate::link_settings::LinkSettings;
@@ -32,7 +32,7 @@ use crate::route::Route;
 use crate::toll::NO_TOLL;
 use q_codel::{Limit, Sink};
 use q_model::{ClassView, Fate, FilterView, NodeView, Place, Refusal, Row};
-use q_packet::{Cause, Moment, Packet};
+use q_packet::{Cause, Moment, Packet, SOME_PACKET};
 use std::alloc::{AllocError, Global};
 use std::marker::Model;
 
@@ -311,21 +311,10 @@ impl Tree {
         ensures room { S.room sink.new + length (losses_in (noted_by_take now self.old.tree)) ≡ S.room sink.old }
         ensures kept { S.keeps sink.old sink.new }
     {
-        // A moment is at most 2^62 nanoseconds.
-        let _ = now.ns();
-        self.top.fit();
-        let mut toll = NO_TOLL;
-        let shown = self.root.peek(now, &mut toll, sink);
-        book_shown(&mut self.top, &shown, &toll);
-        self.clock = now;
-        if !shown.has_packet() {
+        let mut packet = SOME_PACKET;
+        if !self.send(now, &mut packet, sink) {
             return None;
         }
-        // The root gives what it has shown: one copy less than to give that here.
-        let Some(packet) = self.root.pop() else {
-            unreachable!()
-        };
-        book_sent(&mut self.top, &packet);
         Some(packet)
     }
 }

@@ -1,5 +1,5 @@
 use Rattle.std.proofs.Common.{◌∙◌, ◌<◌, ◌≤◌, [], ◌∷◌, set, length, add-one, refl, sym, ap, subst, arith}
-use Rattle.std.specs.Prelude.{slice_index_or}
+use Rattle.std.specs.Prelude.{slice_index_or, unwrap_or}
 use Rattle.std.specs.List.{sum_by}
 use Rattle.std.proofs.lemmas.List.{length-set}
 use Rattle.std.specs.Box.{with_value}
@@ -12,6 +12,7 @@ use Rattle.q_fqcodel.specs.FqState.{FqView}
 use Rattle.q_model.specs.Ask.{ask}
 use Rattle.q_model.specs.Node as spec
 use Rattle.q_model.specs.Node.{Node, shape, side_by_side}
+use Rattle.q_model.specs.Pop.{pop}
 use Rattle.q_tree.specs.AskSteps.{IsGivenBy, IsToldOf, answers, own_of, toll_of}
 use Rattle.q_tree.specs.NodeCode.{forest_size}
 use Rattle.q_tree.specs.Seen.{children_seen, discipline_seen, places_seen}
@@ -39,33 +40,60 @@ drr::ask_further-then-requires-clause-marked_packets g t c = (fits-beside c.args
 pub drr::ask_further-then-requires-clause-marked_bytes : goal.drr::ask_further-then-requires-clause-marked_bytes
 drr::ask_further-then-requires-clause-marked_bytes g t c = (fits-beside c.args.now c.args.class.now c.args.so_far c.peek-next.result (g.S.Sink.room c.args.sink.now) c.requires.ready c.peek-next.ensures.shown).marked_bytes
 
-pub drr::serve-loop-place-init : goal.drr::serve-loop-place-init
-drr::serve-loop-place-init g t c = (
+pub dequeue::dequeue_child-returns-in_default-clause-after :
+    goal.dequeue::dequeue_child-returns-in_default-clause-after
+dequeue::dequeue_child-returns-in_default-clause-after g t c = λ own limit.
+    tbf-none c.args.now own c.args.bucket.now limit c.args.child.now c.peek-shown.new.self c.peek-shown.result c.peek-shown.ensures.after c.peek-shown.ensures.arrived c.peek-shown.ensures.shown (c.packet_len.ensures.none c.in_default.is)
+
+pub dequeue::dequeue_child-returns-clause-after : goal.dequeue::dequeue_child-returns-clause-after
+dequeue::dequeue_child-returns-clause-after g t c = λ own limit.
+    let offer = shown-len c.peek-shown.result.packet c.packet_len.result c.in-Some.len c.packet_len.ensures.some c.in-Some.is in
+    let shown = sym c.peek-shown.ensures.shown.packet ∙ offer.1 in
+    let given = hand-asked c.args.now c.args.child.now c.peek-shown.new.self c.requires.ready c.peek-shown.ensures.after in
+    tbf-gave c.args.now own c.args.bucket.now limit c.args.child.now c.peek-shown.new.self c.give.new.self offer.0 c.peek-shown.result
+    c.requires.ready c.peek-shown.ensures.after shown (ap (allows c.args.bucket.now c.args.now) offer.2 ∙ sym c.spend.ensures.answer ∙ c.if-not-spend.false) c.give.ensures.after (c.give.ensures.arrived ∙ c.peek-shown.ensures.arrived) (c.peek-shown.ensures.shown.packet ∙ sym given) c.peek-shown.ensures.shown.dropped c.peek-shown.ensures.shown.marked
+
+pub dequeue::dequeue_child-returns-clause-packet : goal.dequeue::dequeue_child-returns-clause-packet
+dequeue::dequeue_child-returns-clause-packet g t c =
+    c.give.ensures.packet
+    ∙ ap (λ o. unwrap_or o c.args.out.now) (hand-asked c.args.now c.args.child.now c.peek-shown.new.self c.requires.ready c.peek-shown.ensures.after ∙ sym c.peek-shown.ensures.shown.packet)
+
+pub dequeue::dequeue_child-returns-in_default-clause-packet : goal.dequeue::dequeue_child-returns-in_default-clause-packet
+dequeue::dequeue_child-returns-in_default-clause-packet g t c = ap (λ o. unwrap_or o c.args.out.now) (sym (c.packet_len.ensures.none c.in_default.is))
+
+pub dequeue::dequeue_child-returns-then-not-spend-clause-packet : goal.dequeue::dequeue_child-returns-then-not-spend-clause-packet
+dequeue::dequeue_child-returns-then-not-spend-clause-packet g t c = ap (λ (s : Shown). unwrap_or s.packet c.args.out.now) (sym c.showing.ensures)
+
+pub dequeue::dequeue_child-returns-then-not-spend-clause-toll : goal.dequeue::dequeue_child-returns-then-not-spend-clause-toll
+dequeue::dequeue_child-returns-then-not-spend-clause-toll g t c = c.peek-shown.ensures.toll ∙ sym (ap toll_of c.showing.ensures)
+
+pub dequeue::dequeue_class-loop-place-init : goal.dequeue::dequeue_class-loop-place-init
+dequeue::dequeue_class-loop-place-init g t c = (
   classes-start c.args.now c.args.active.now c.args.classes.now c.active_count-unasked.result c.at_hand-shown.result (g.S.Sink.losses c.args.sink.now) (g.S.Sink.room c.args.sink.now) c.requires.ready c.active_count-unasked.ensures
       (record { dropped = ap (λ (s : Shown). s.dropped) c.at_hand-shown.ensures; marked = ap (λ (s : Shown). s.marked) c.at_hand-shown.ensures }),
   g.met.S.Sink.keeps_same c.args.sink.now,
-  c.requires.none,
+  refl,
   c.requires.clean ∙ sym (ap toll_of c.at_hand-shown.ensures),
 )
 
-pub drr::serve-offset_bounds-classes-place : goal.drr::serve-offset_bounds-classes-place
-drr::serve-offset_bounds-classes-place g t c =
+pub dequeue::dequeue_class-offset_bounds-classes-place : goal.dequeue::dequeue_class-offset_bounds-classes-place
+dequeue::dequeue_class-offset_bounds-classes-place g t c =
     let told : SinkTold = record { losses = g.S.Sink.losses c.args.sink.now; losses_now = g.S.Sink.losses c.loop-place.sink; room = g.S.Sink.room c.args.sink.now; room_now = g.S.Sink.room c.loop-place.sink } in
     let at = front-at c.loop-place.active c.in-Some.place (sym c.in-Some.is ∙ c.front_place.ensures.place) in
     let front = front_is at.class c.loop-place.active at.front in
     let place = class-in-front c.args.now c.args.active.now c.loop-place.active c.args.classes.now c.loop-place.classes c.loop-place.unasked c.loop-place.shown told c.requires.ready c.loop-place.invariant.0 at.class c.front_place.ensures.lawful front c.in-Some.place at.found in
     omega (arith, place-within c.args.now c.args.active.now c.loop-place.active c.args.classes.now c.loop-place.classes c.loop-place.unasked c.loop-place.shown told c.requires.ready c.loop-place.invariant.0 at.class c.front_place.ensures.lawful front c.in-Some.place place, c.loop-place.auto.classes)
 
-pub drr::serve-bounds-classes-place : goal.drr::serve-bounds-classes-place
-drr::serve-bounds-classes-place g t c =
+pub dequeue::dequeue_class-bounds-classes-place : goal.dequeue::dequeue_class-bounds-classes-place
+dequeue::dequeue_class-bounds-classes-place g t c =
     let told : SinkTold = record { losses = g.S.Sink.losses c.args.sink.now; losses_now = g.S.Sink.losses c.loop-place.sink; room = g.S.Sink.room c.args.sink.now; room_now = g.S.Sink.room c.loop-place.sink } in
     let at = front-at c.loop-place.active c.in-Some.place (sym c.in-Some.is ∙ c.front_place.ensures.place) in
     let front = front_is at.class c.loop-place.active at.front in
     let place = class-in-front c.args.now c.args.active.now c.loop-place.active c.args.classes.now c.loop-place.classes c.loop-place.unasked c.loop-place.shown told c.requires.ready c.loop-place.invariant.0 at.class c.front_place.ensures.lawful front c.in-Some.place at.found in
     place-within c.args.now c.args.active.now c.loop-place.active c.args.classes.now c.loop-place.classes c.loop-place.unasked c.loop-place.shown told c.requires.ready c.loop-place.invariant.0 at.class c.front_place.ensures.lawful front c.in-Some.place place
 
-pub drr::serve-ask_class-shown-requires : goal.drr::serve-ask_class-shown-requires
-drr::serve-ask_class-shown-requires g t c κs within =
+pub dequeue::dequeue_class-ask_class-shown-requires : goal.dequeue::dequeue_class-ask_class-shown-requires
+dequeue::dequeue_class-ask_class-shown-requires g t c κs within =
     let told : SinkTold = record { losses = g.S.Sink.losses c.args.sink.now; losses_now = g.S.Sink.losses c.loop-place.sink; room = g.S.Sink.room c.args.sink.now; room_now = g.S.Sink.room c.loop-place.sink } in
     let at = front-at c.loop-place.active c.in-Some.place (sym c.in-Some.is ∙ c.front_place.ensures.place) in
     let front = front_is at.class c.loop-place.active at.front in
@@ -75,8 +103,8 @@ drr::serve-ask_class-shown-requires g t c κs within =
       (within, ((λ some. class-once c.args.now c.args.active.now c.loop-place.active c.args.classes.now c.loop-place.classes c.loop-place.unasked c.loop-place.shown told c.requires.ready c.loop-place.invariant.0 at.class c.front_place.ensures.lawful front c.in-Some.place place c.index-classes-place.result some c.requires.sink), c.loop-place.invariant.3)),
     )
 
-pub drr::serve-returns-in_default-packet_len-clause-active : goal.drr::serve-returns-in_default-packet_len-clause-active
-drr::serve-returns-in_default-packet_len-clause-active g t c =
+pub dequeue::dequeue_class-returns-in_default-packet_len-clause-active : goal.dequeue::dequeue_class-returns-in_default-packet_len-clause-active
+dequeue::dequeue_class-returns-in_default-packet_len-clause-active g t c =
     let told : SinkTold = record { losses = g.S.Sink.losses c.args.sink.now; losses_now = g.S.Sink.losses c.loop-place.sink; room = g.S.Sink.room c.args.sink.now; room_now = g.S.Sink.room c.loop-place.sink } in
     let at = front-at c.loop-place.active c.in-Some.place (sym c.in-Some.is ∙ c.front_place.ensures.place) in
     let front = front_is at.class c.loop-place.active at.front in
@@ -86,8 +114,8 @@ drr::serve-returns-in_default-packet_len-clause-active g t c =
     λ own. nothing-schedule c.args.now c.args.active.now c.loop-place.active c.args.classes.now c.loop-place.classes c.loop-place.unasked c.loop-place.shown told c.requires.ready c.loop-place.invariant.0 at.class c.front_place.ensures.lawful front c.in-Some.place place
     c.ask_class-shown.new.class c.ask_class-shown.result (g.S.Sink.losses c.ask_class-shown.new.sink) (g.S.Sink.room c.ask_class-shown.new.sink) class_shows (c.packet_len.ensures.none c.in_default-packet_len.is) own
 
-pub drr::serve-returns-in_default-packet_len-clause-after : goal.drr::serve-returns-in_default-packet_len-clause-after
-drr::serve-returns-in_default-packet_len-clause-after g t c =
+pub dequeue::dequeue_class-returns-in_default-packet_len-clause-after : goal.dequeue::dequeue_class-returns-in_default-packet_len-clause-after
+dequeue::dequeue_class-returns-in_default-packet_len-clause-after g t c =
     let told : SinkTold = record { losses = g.S.Sink.losses c.args.sink.now; losses_now = g.S.Sink.losses c.loop-place.sink; room = g.S.Sink.room c.args.sink.now; room_now = g.S.Sink.room c.loop-place.sink } in
     let at = front-at c.loop-place.active c.in-Some.place (sym c.in-Some.is ∙ c.front_place.ensures.place) in
     let front = front_is at.class c.loop-place.active at.front in
@@ -97,8 +125,8 @@ drr::serve-returns-in_default-packet_len-clause-after g t c =
     λ own. nothing-asked c.args.now c.args.active.now c.loop-place.active c.args.classes.now c.loop-place.classes c.loop-place.unasked c.loop-place.shown told c.requires.ready c.loop-place.invariant.0 at.class c.front_place.ensures.lawful front c.in-Some.place place
     c.ask_class-shown.new.class c.ask_class-shown.result (g.S.Sink.losses c.ask_class-shown.new.sink) (g.S.Sink.room c.ask_class-shown.new.sink) class_shows (c.packet_len.ensures.none c.in_default-packet_len.is) own
 
-pub drr::serve-returns-in_default-packet_len-clause-told : goal.drr::serve-returns-in_default-packet_len-clause-told
-drr::serve-returns-in_default-packet_len-clause-told g t c =
+pub dequeue::dequeue_class-returns-in_default-packet_len-clause-told : goal.dequeue::dequeue_class-returns-in_default-packet_len-clause-told
+dequeue::dequeue_class-returns-in_default-packet_len-clause-told g t c =
     let told : SinkTold = record { losses = g.S.Sink.losses c.args.sink.now; losses_now = g.S.Sink.losses c.loop-place.sink; room = g.S.Sink.room c.args.sink.now; room_now = g.S.Sink.room c.loop-place.sink } in
     let at = front-at c.loop-place.active c.in-Some.place (sym c.in-Some.is ∙ c.front_place.ensures.place) in
     let front = front_is at.class c.loop-place.active at.front in
@@ -108,12 +136,12 @@ drr::serve-returns-in_default-packet_len-clause-told g t c =
     λ own. nothing-told c.args.now c.args.active.now c.loop-place.active c.args.classes.now c.loop-place.classes c.loop-place.unasked c.loop-place.shown told c.requires.ready c.loop-place.invariant.0 at.class c.front_place.ensures.lawful front c.in-Some.place place
     c.ask_class-shown.new.class c.ask_class-shown.result (g.S.Sink.losses c.ask_class-shown.new.sink) (g.S.Sink.room c.ask_class-shown.new.sink) class_shows (c.packet_len.ensures.none c.in_default-packet_len.is) own
 
-pub drr::serve-returns-in_default-packet_len-clause-kept : goal.drr::serve-returns-in_default-packet_len-clause-kept
-drr::serve-returns-in_default-packet_len-clause-kept g t c =
+pub dequeue::dequeue_class-returns-in_default-packet_len-clause-kept : goal.dequeue::dequeue_class-returns-in_default-packet_len-clause-kept
+dequeue::dequeue_class-returns-in_default-packet_len-clause-kept g t c =
     g.met.S.Sink.keeps_on c.args.sink.now c.loop-place.sink c.ask_class-shown.new.sink c.loop-place.invariant.1 c.ask_class-shown.ensures.kept
 
-pub drr::serve-turn-requires-clause-in_range : goal.drr::serve-turn-requires-clause-in_range
-drr::serve-turn-requires-clause-in_range g t c =
+pub dequeue::dequeue_class-turn-requires-clause-in_range : goal.dequeue::dequeue_class-turn-requires-clause-in_range
+dequeue::dequeue_class-turn-requires-clause-in_range g t c =
     let told : SinkTold = record { losses = g.S.Sink.losses c.args.sink.now; losses_now = g.S.Sink.losses c.loop-place.sink; room = g.S.Sink.room c.args.sink.now; room_now = g.S.Sink.room c.loop-place.sink } in
     let at = front-at c.loop-place.active c.in-Some.place (sym c.in-Some.is ∙ c.front_place.ensures.place) in
     let front = front_is at.class c.loop-place.active at.front in
@@ -121,18 +149,19 @@ drr::serve-turn-requires-clause-in_range g t c =
     let class_shows = class-shown c.args.now c.args.active.now c.loop-place.active c.args.classes.now c.loop-place.classes c.loop-place.unasked c.loop-place.shown told c.requires.ready c.loop-place.invariant.0 at.class c.front_place.ensures.lawful front c.in-Some.place place c.index-classes-place.result c.ask_class-shown.new.class c.ask_class-shown.result (g.S.Sink.losses c.ask_class-shown.new.sink) (g.S.Sink.room c.ask_class-shown.new.sink)
     c.ask_class-shown.ensures.asked c.ask_class-shown.ensures.told c.ask_class-shown.ensures.at_hand c.ask_class-shown.ensures.not_lost in
     let offer = shown-len c.ask_class-shown.result.packet c.packet_len.result c.in-Some-packet_len.len c.packet_len.ensures.some c.in-Some-packet_len.is in
-    omega (arith, short-enough c.args.now c.args.active.now c.loop-place.active c.args.classes.now c.loop-place.classes c.loop-place.unasked c.loop-place.shown told c.requires.ready c.loop-place.invariant.0 at.class c.front_place.ensures.lawful front c.in-Some.place place offer.0 (sym class_shows.shown ∙ offer.1), (sym offer.2))
+    let len = sym offer.2 in
+    omega (arith, short-enough c.args.now c.args.active.now c.loop-place.active c.args.classes.now c.loop-place.classes c.loop-place.unasked c.loop-place.shown told c.requires.ready c.loop-place.invariant.0 at.class c.front_place.ensures.lawful front c.in-Some.place place offer.0 (sym class_shows.shown ∙ offer.1), len)
 
-pub drr::serve-give-requires : goal.drr::serve-give-requires
-drr::serve-give-requires g t c =
+pub dequeue::dequeue_class-give_class-requires : goal.dequeue::dequeue_class-give_class-requires
+dequeue::dequeue_class-give_class-requires g t c =
     let told : SinkTold = record { losses = g.S.Sink.losses c.args.sink.now; losses_now = g.S.Sink.losses c.loop-place.sink; room = g.S.Sink.room c.args.sink.now; room_now = g.S.Sink.room c.loop-place.sink } in
     let at = front-at c.loop-place.active c.in-Some.place (sym c.in-Some.is ∙ c.front_place.ensures.place) in
     let front = front_is at.class c.loop-place.active at.front in
     let place = class-in-front c.args.now c.args.active.now c.loop-place.active c.args.classes.now c.loop-place.classes c.loop-place.unasked c.loop-place.shown told c.requires.ready c.loop-place.invariant.0 at.class c.front_place.ensures.lawful front c.in-Some.place at.found in
     omega (arith, place-within c.args.now c.args.active.now c.loop-place.active c.args.classes.now c.loop-place.classes c.loop-place.unasked c.loop-place.shown told c.requires.ready c.loop-place.invariant.0 at.class c.front_place.ensures.lawful front c.in-Some.place place, length-set c.loop-place.classes c.in-Some.place c.ask_class-shown.new.class)
 
-pub drr::serve-returns-in-Send-clause-active : goal.drr::serve-returns-in-Send-clause-active
-drr::serve-returns-in-Send-clause-active g t c =
+pub dequeue::dequeue_class-returns-in-Send-clause-active : goal.dequeue::dequeue_class-returns-in-Send-clause-active
+dequeue::dequeue_class-returns-in-Send-clause-active g t c =
     let told : SinkTold = record { losses = g.S.Sink.losses c.args.sink.now; losses_now = g.S.Sink.losses c.loop-place.sink; room = g.S.Sink.room c.args.sink.now; room_now = g.S.Sink.room c.loop-place.sink } in
     let at = front-at c.loop-place.active c.in-Some.place (sym c.in-Some.is ∙ c.front_place.ensures.place) in
     let front = front_is at.class c.loop-place.active at.front in
@@ -144,11 +173,11 @@ drr::serve-returns-in-Send-clause-active g t c =
     let pays = subst (λ m. m ≤ front.first.deficit) len (covers c.loop-place.active at.class c.in-Some-packet_len.len front (sym c.in-Send.is ∙ c.turn.ensures.answer)) in
     let turn = c.turn.ensures.after ∙ ap (λ m. turned m c.loop-place.active) len in
     λ own. given-schedule c.args.now c.args.active.now c.loop-place.active c.args.classes.now c.loop-place.classes c.loop-place.unasked c.loop-place.shown told c.requires.ready c.loop-place.invariant.0 at.class c.front_place.ensures.lawful front c.in-Some.place place
-    c.ask_class-shown.new.class c.ask_class-shown.result (g.S.Sink.losses c.ask_class-shown.new.sink) (g.S.Sink.room c.ask_class-shown.new.sink) class_shows offer.0 offer.1 pays c.give.new.active c.give.new.classes
-    (λ class at. subst (λ s. IsGivenBy c.in-Some.place class s c.give.new.active (set c.loop-place.classes c.in-Some.place c.ask_class-shown.new.class) c.give.new.classes) turn (c.give.ensures.given class at)) own
+    c.ask_class-shown.new.class c.ask_class-shown.result (g.S.Sink.losses c.ask_class-shown.new.sink) (g.S.Sink.room c.ask_class-shown.new.sink) class_shows offer.0 offer.1 pays c.give_class.new.active c.give_class.new.classes
+    (λ class at. subst (λ s. IsGivenBy c.in-Some.place class s c.give_class.new.active (set c.loop-place.classes c.in-Some.place c.ask_class-shown.new.class) c.give_class.new.classes) turn (c.give_class.ensures.given class at)) own
 
-pub drr::serve-returns-in-Send-clause-after : goal.drr::serve-returns-in-Send-clause-after
-drr::serve-returns-in-Send-clause-after g t c =
+pub dequeue::dequeue_class-returns-in-Send-clause-after : goal.dequeue::dequeue_class-returns-in-Send-clause-after
+dequeue::dequeue_class-returns-in-Send-clause-after g t c =
     let told : SinkTold = record { losses = g.S.Sink.losses c.args.sink.now; losses_now = g.S.Sink.losses c.loop-place.sink; room = g.S.Sink.room c.args.sink.now; room_now = g.S.Sink.room c.loop-place.sink } in
     let at = front-at c.loop-place.active c.in-Some.place (sym c.in-Some.is ∙ c.front_place.ensures.place) in
     let front = front_is at.class c.loop-place.active at.front in
@@ -160,29 +189,30 @@ drr::serve-returns-in-Send-clause-after g t c =
     let pays = subst (λ m. m ≤ front.first.deficit) len (covers c.loop-place.active at.class c.in-Some-packet_len.len front (sym c.in-Send.is ∙ c.turn.ensures.answer)) in
     let turn = c.turn.ensures.after ∙ ap (λ m. turned m c.loop-place.active) len in
     λ own. given-asked c.args.now c.args.active.now c.loop-place.active c.args.classes.now c.loop-place.classes c.loop-place.unasked c.loop-place.shown told c.requires.ready c.loop-place.invariant.0 at.class c.front_place.ensures.lawful front c.in-Some.place place
-    c.ask_class-shown.new.class c.ask_class-shown.result (g.S.Sink.losses c.ask_class-shown.new.sink) (g.S.Sink.room c.ask_class-shown.new.sink) class_shows offer.0 offer.1 pays c.give.new.active c.give.new.classes
-    (λ class at. subst (λ s. IsGivenBy c.in-Some.place class s c.give.new.active (set c.loop-place.classes c.in-Some.place c.ask_class-shown.new.class) c.give.new.classes) turn (c.give.ensures.given class at)) own
+    c.ask_class-shown.new.class c.ask_class-shown.result (g.S.Sink.losses c.ask_class-shown.new.sink) (g.S.Sink.room c.ask_class-shown.new.sink) class_shows offer.0 offer.1 pays c.give_class.new.active c.give_class.new.classes
+    (λ class at. subst (λ s. IsGivenBy c.in-Some.place class s c.give_class.new.active (set c.loop-place.classes c.in-Some.place c.ask_class-shown.new.class) c.give_class.new.classes) turn (c.give_class.ensures.given class at)) own
 
-pub drr::serve-returns-in-Send-clause-held : goal.drr::serve-returns-in-Send-clause-held
-drr::serve-returns-in-Send-clause-held g t c =
+pub dequeue::dequeue_class-returns-in-Send-clause-packet : goal.dequeue::dequeue_class-returns-in-Send-clause-packet
+dequeue::dequeue_class-returns-in-Send-clause-packet g t c =
     let told : SinkTold = record { losses = g.S.Sink.losses c.args.sink.now; losses_now = g.S.Sink.losses c.loop-place.sink; room = g.S.Sink.room c.args.sink.now; room_now = g.S.Sink.room c.loop-place.sink } in
     let at = front-at c.loop-place.active c.in-Some.place (sym c.in-Some.is ∙ c.front_place.ensures.place) in
     let front = front_is at.class c.loop-place.active at.front in
     let place = class-in-front c.args.now c.args.active.now c.loop-place.active c.args.classes.now c.loop-place.classes c.loop-place.unasked c.loop-place.shown told c.requires.ready c.loop-place.invariant.0 at.class c.front_place.ensures.lawful front c.in-Some.place at.found in
     let class_shows = class-shown c.args.now c.args.active.now c.loop-place.active c.args.classes.now c.loop-place.classes c.loop-place.unasked c.loop-place.shown told c.requires.ready c.loop-place.invariant.0 at.class c.front_place.ensures.lawful front c.in-Some.place place c.index-classes-place.result c.ask_class-shown.new.class c.ask_class-shown.result (g.S.Sink.losses c.ask_class-shown.new.sink) (g.S.Sink.room c.ask_class-shown.new.sink)
     c.ask_class-shown.ensures.asked c.ask_class-shown.ensures.told c.ask_class-shown.ensures.at_hand c.ask_class-shown.ensures.not_lost in
-    c.give.ensures.packet c.ask_class-shown.new.class class_shows.stored
-    ∙ given-packet c.args.now c.args.active.now c.loop-place.active c.args.classes.now c.loop-place.classes c.loop-place.unasked c.loop-place.shown told c.requires.ready c.loop-place.invariant.0 at.class c.front_place.ensures.lawful front c.in-Some.place place
-    c.ask_class-shown.new.class c.ask_class-shown.result (g.S.Sink.losses c.ask_class-shown.new.sink) (g.S.Sink.room c.ask_class-shown.new.sink) class_shows
+    c.give_class.ensures.packet c.ask_class-shown.new.class class_shows.stored
+    ∙ ap (λ o. unwrap_or (pop c.ask_class-shown.new.class).shown o) c.loop-place.invariant.2
+    ∙ ap (λ o. unwrap_or o c.args.out.now) (given-packet c.args.now c.args.active.now c.loop-place.active c.args.classes.now c.loop-place.classes c.loop-place.unasked c.loop-place.shown told c.requires.ready c.loop-place.invariant.0 at.class c.front_place.ensures.lawful front c.in-Some.place place
+    c.ask_class-shown.new.class c.ask_class-shown.result (g.S.Sink.losses c.ask_class-shown.new.sink) (g.S.Sink.room c.ask_class-shown.new.sink) class_shows)
 
-pub drr::serve-returns-in_default-packet_len-clause-held : goal.drr::serve-returns-in_default-packet_len-clause-held
-drr::serve-returns-in_default-packet_len-clause-held g t c = c.loop-place.invariant.2 ∙ sym (c.packet_len.ensures.none c.in_default-packet_len.is)
+pub dequeue::dequeue_class-returns-in_default-packet_len-clause-packet : goal.dequeue::dequeue_class-returns-in_default-packet_len-clause-packet
+dequeue::dequeue_class-returns-in_default-packet_len-clause-packet g t c = c.loop-place.invariant.2 ∙ ap (λ o. unwrap_or o c.args.out.now) (sym (c.packet_len.ensures.none c.in_default-packet_len.is))
 
-pub drr::serve-returns-clause-held : goal.drr::serve-returns-clause-held
-drr::serve-returns-clause-held g t c = c.loop-place.invariant.2 ∙ sym (ap (λ (s : Shown). s.packet) c.at_hand.ensures)
+pub dequeue::dequeue_class-returns-clause-packet : goal.dequeue::dequeue_class-returns-clause-packet
+dequeue::dequeue_class-returns-clause-packet g t c = c.loop-place.invariant.2 ∙ ap (λ o. unwrap_or o c.args.out.now) (sym (ap (λ (s : Shown). s.packet) c.at_hand.ensures))
 
-pub drr::serve-returns-in-Send-clause-told : goal.drr::serve-returns-in-Send-clause-told
-drr::serve-returns-in-Send-clause-told g t c =
+pub dequeue::dequeue_class-returns-in-Send-clause-told : goal.dequeue::dequeue_class-returns-in-Send-clause-told
+dequeue::dequeue_class-returns-in-Send-clause-told g t c =
     let told : SinkTold = record { losses = g.S.Sink.losses c.args.sink.now; losses_now = g.S.Sink.losses c.loop-place.sink; room = g.S.Sink.room c.args.sink.now; room_now = g.S.Sink.room c.loop-place.sink } in
     let at = front-at c.loop-place.active c.in-Some.place (sym c.in-Some.is ∙ c.front_place.ensures.place) in
     let front = front_is at.class c.loop-place.active at.front in
@@ -194,15 +224,15 @@ drr::serve-returns-in-Send-clause-told g t c =
     let pays = subst (λ m. m ≤ front.first.deficit) len (covers c.loop-place.active at.class c.in-Some-packet_len.len front (sym c.in-Send.is ∙ c.turn.ensures.answer)) in
     let turn = c.turn.ensures.after ∙ ap (λ m. turned m c.loop-place.active) len in
     λ own. given-told c.args.now c.args.active.now c.loop-place.active c.args.classes.now c.loop-place.classes c.loop-place.unasked c.loop-place.shown told c.requires.ready c.loop-place.invariant.0 at.class c.front_place.ensures.lawful front c.in-Some.place place
-    c.ask_class-shown.new.class c.ask_class-shown.result (g.S.Sink.losses c.ask_class-shown.new.sink) (g.S.Sink.room c.ask_class-shown.new.sink) class_shows offer.0 offer.1 pays c.give.new.active c.give.new.classes
-    (λ class at. subst (λ s. IsGivenBy c.in-Some.place class s c.give.new.active (set c.loop-place.classes c.in-Some.place c.ask_class-shown.new.class) c.give.new.classes) turn (c.give.ensures.given class at)) own
+    c.ask_class-shown.new.class c.ask_class-shown.result (g.S.Sink.losses c.ask_class-shown.new.sink) (g.S.Sink.room c.ask_class-shown.new.sink) class_shows offer.0 offer.1 pays c.give_class.new.active c.give_class.new.classes
+    (λ class at. subst (λ s. IsGivenBy c.in-Some.place class s c.give_class.new.active (set c.loop-place.classes c.in-Some.place c.ask_class-shown.new.class) c.give_class.new.classes) turn (c.give_class.ensures.given class at)) own
 
-pub drr::serve-returns-in-Send-clause-kept : goal.drr::serve-returns-in-Send-clause-kept
-drr::serve-returns-in-Send-clause-kept g t c =
+pub dequeue::dequeue_class-returns-in-Send-clause-kept : goal.dequeue::dequeue_class-returns-in-Send-clause-kept
+dequeue::dequeue_class-returns-in-Send-clause-kept g t c =
     g.met.S.Sink.keeps_on c.args.sink.now c.loop-place.sink c.ask_class-shown.new.sink c.loop-place.invariant.1 c.ask_class-shown.ensures.kept
 
-pub drr::serve-loop-place-smaller : goal.drr::serve-loop-place-smaller
-drr::serve-loop-place-smaller g t c =
+pub dequeue::dequeue_class-loop-place-smaller : goal.dequeue::dequeue_class-loop-place-smaller
+dequeue::dequeue_class-loop-place-smaller g t c =
     let told : SinkTold = record { losses = g.S.Sink.losses c.args.sink.now; losses_now = g.S.Sink.losses c.loop-place.sink; room = g.S.Sink.room c.args.sink.now; room_now = g.S.Sink.room c.loop-place.sink } in
     let at = front-at c.loop-place.active c.in-Some.place (sym c.in-Some.is ∙ c.front_place.ensures.place) in
     let front = front_is at.class c.loop-place.active at.front in
@@ -217,8 +247,8 @@ drr::serve-loop-place-smaller g t c =
     (measure_falls (heads_of c.args.now c.args.active.now c.args.classes.now) c.loop-place.active at.class offer.0.len front (offered-head c.args.now c.args.active.now c.loop-place.active c.args.classes.now c.loop-place.classes c.loop-place.unasked c.loop-place.shown told c.requires.ready c.loop-place.invariant.0 at.class c.front_place.ensures.lawful front c.in-Some.place place
     c.ask_class-shown.new.class c.ask_class-shown.result (g.S.Sink.losses c.ask_class-shown.new.sink) (g.S.Sink.room c.ask_class-shown.new.sink) class_shows offer.0 offer.1) (front_quantum c.loop-place.active at.class front c.front_place.ensures.lawful) short)
 
-pub drr::serve-loop-place-preserved : goal.drr::serve-loop-place-preserved
-drr::serve-loop-place-preserved g t c =
+pub dequeue::dequeue_class-loop-place-preserved : goal.dequeue::dequeue_class-loop-place-preserved
+dequeue::dequeue_class-loop-place-preserved g t c =
     let told : SinkTold = record { losses = g.S.Sink.losses c.args.sink.now; losses_now = g.S.Sink.losses c.loop-place.sink; room = g.S.Sink.room c.args.sink.now; room_now = g.S.Sink.room c.loop-place.sink } in
     let at = front-at c.loop-place.active c.in-Some.place (sym c.in-Some.is ∙ c.front_place.ensures.place) in
     let front = front_is at.class c.loop-place.active at.front in
@@ -238,24 +268,30 @@ drr::serve-loop-place-preserved g t c =
       c.ask_class-shown.ensures.toll,
     )
 
-pub drr::serve-returns-clause-active : goal.drr::serve-returns-clause-active
-drr::serve-returns-clause-active g t c =
+pub dequeue::dequeue_class-returns-clause-active : goal.dequeue::dequeue_class-returns-clause-active
+dequeue::dequeue_class-returns-clause-active g t c =
     let told : SinkTold = record { losses = g.S.Sink.losses c.args.sink.now; losses_now = g.S.Sink.losses c.loop-place.sink; room = g.S.Sink.room c.args.sink.now; room_now = g.S.Sink.room c.loop-place.sink } in
-    λ own. idle-schedule c.args.now c.args.active.now c.loop-place.active c.args.classes.now c.loop-place.classes c.loop-place.unasked c.loop-place.shown told c.requires.ready c.loop-place.invariant.0 c.front_place.ensures.lawful (empty_front c.loop-place.active (nobody-at c.loop-place.active _ c.in_default.is c.front_place.ensures.found)) own
+    let nobody = empty_front c.loop-place.active (nobody-at c.loop-place.active _ c.in_default.is c.front_place.ensures.found) in
+    λ own. idle-schedule c.args.now c.args.active.now c.loop-place.active c.args.classes.now c.loop-place.classes c.loop-place.unasked c.loop-place.shown told c.requires.ready c.loop-place.invariant.0 c.front_place.ensures.lawful nobody own
 
-pub drr::serve-returns-clause-after : goal.drr::serve-returns-clause-after
-drr::serve-returns-clause-after g t c =
+pub dequeue::dequeue_class-returns-clause-after : goal.dequeue::dequeue_class-returns-clause-after
+dequeue::dequeue_class-returns-clause-after g t c =
     let told : SinkTold = record { losses = g.S.Sink.losses c.args.sink.now; losses_now = g.S.Sink.losses c.loop-place.sink; room = g.S.Sink.room c.args.sink.now; room_now = g.S.Sink.room c.loop-place.sink } in
-    λ own. idle-asked c.args.now c.args.active.now c.loop-place.active c.args.classes.now c.loop-place.classes c.loop-place.unasked c.loop-place.shown told c.requires.ready c.loop-place.invariant.0 c.front_place.ensures.lawful (empty_front c.loop-place.active (nobody-at c.loop-place.active _ c.in_default.is c.front_place.ensures.found)) c.at_hand.result (ap (λ (s : Shown). s.packet) c.at_hand.ensures)
+    let nobody = empty_front c.loop-place.active (nobody-at c.loop-place.active _ c.in_default.is c.front_place.ensures.found) in
+    λ own. idle-asked c.args.now c.args.active.now c.loop-place.active c.args.classes.now c.loop-place.classes c.loop-place.unasked c.loop-place.shown told c.requires.ready c.loop-place.invariant.0 c.front_place.ensures.lawful nobody c.at_hand.result (ap (λ (s : Shown). s.packet) c.at_hand.ensures)
     (record { dropped = ap (λ (s : Shown). s.dropped) c.at_hand.ensures; marked = ap (λ (s : Shown). s.marked) c.at_hand.ensures }) own
 
-pub drr::serve-returns-clause-told : goal.drr::serve-returns-clause-told
-drr::serve-returns-clause-told g t c =
+pub dequeue::dequeue_class-returns-clause-told : goal.dequeue::dequeue_class-returns-clause-told
+dequeue::dequeue_class-returns-clause-told g t c =
     let told : SinkTold = record { losses = g.S.Sink.losses c.args.sink.now; losses_now = g.S.Sink.losses c.loop-place.sink; room = g.S.Sink.room c.args.sink.now; room_now = g.S.Sink.room c.loop-place.sink } in
-    λ own. idle-told c.args.now c.args.active.now c.loop-place.active c.args.classes.now c.loop-place.classes c.loop-place.unasked c.loop-place.shown told c.requires.ready c.loop-place.invariant.0 c.front_place.ensures.lawful (empty_front c.loop-place.active (nobody-at c.loop-place.active _ c.in_default.is c.front_place.ensures.found)) own
+    let nobody = empty_front c.loop-place.active (nobody-at c.loop-place.active _ c.in_default.is c.front_place.ensures.found) in
+    λ own. idle-told c.args.now c.args.active.now c.loop-place.active c.args.classes.now c.loop-place.classes c.loop-place.unasked c.loop-place.shown told c.requires.ready c.loop-place.invariant.0 c.front_place.ensures.lawful nobody own
 
-pub drr::serve-returns-clause-kept : goal.drr::serve-returns-clause-kept
-drr::serve-returns-clause-kept g t c = c.loop-place.invariant.1
+pub dequeue::dequeue_class-returns-clause-kept : goal.dequeue::dequeue_class-returns-clause-kept
+dequeue::dequeue_class-returns-clause-kept g t c = c.loop-place.invariant.1
+
+pub dequeue::dequeue_class-returns-clause-toll : goal.dequeue::dequeue_class-returns-clause-toll
+dequeue::dequeue_class-returns-clause-toll g t c = sym (ap toll_of c.at_hand.ensures)
 
 pub node::Discipline::ask-ask_bands-requires : goal.node::Discipline::ask-ask_bands-requires
 node::Discipline::ask-ask_bands-requires g t c κs within =
@@ -476,20 +512,3 @@ prio::ask_bands-returns-clause-told g t c = λ own.
 
 pub prio::ask_bands-returns-clause-kept : goal.prio::ask_bands-returns-clause-kept
 prio::ask_bands-returns-clause-kept g t c = c.loop-place.invariant.2
-
-pub tbf::ask_child-returns-in_default-clause-after :
-    goal.tbf::ask_child-returns-in_default-clause-after
-tbf::ask_child-returns-in_default-clause-after g t c = λ own limit.
-    tbf-none c.args.now own c.args.bucket.now limit c.args.child.now c.peek-shown.new.self c.peek-shown.result c.peek-shown.ensures.after c.peek-shown.ensures.arrived c.peek-shown.ensures.shown (c.packet_len.ensures.none c.in_default.is)
-
-pub tbf::ask_child-returns-clause-after : goal.tbf::ask_child-returns-clause-after
-tbf::ask_child-returns-clause-after g t c = λ own limit.
-    let offer = shown-len c.peek-shown.result.packet c.packet_len.result c.in-Some.len c.packet_len.ensures.some c.in-Some.is in
-    let shown = sym c.peek-shown.ensures.shown.packet ∙ offer.1 in
-    let given = hand-asked c.args.now c.args.child.now c.peek-shown.new.self c.requires.ready c.peek-shown.ensures.after in
-    tbf-gave c.args.now own c.args.bucket.now limit c.args.child.now c.peek-shown.new.self c.pop.new.self offer.0 c.peek-shown.result
-    c.requires.ready c.peek-shown.ensures.after shown (ap (allows c.args.bucket.now c.args.now) offer.2 ∙ sym c.spend.ensures.answer ∙ c.if-not-spend.false) c.pop.ensures.after (c.pop.ensures.arrived ∙ c.peek-shown.ensures.arrived) (c.peek-shown.ensures.shown.packet ∙ sym given) c.peek-shown.ensures.shown.dropped c.peek-shown.ensures.shown.marked
-
-pub tbf::ask_child-returns-clause-held : goal.tbf::ask_child-returns-clause-held
-tbf::ask_child-returns-clause-held g t c =
-    c.pop.ensures.packet ∙ hand-asked c.args.now c.args.child.now c.peek-shown.new.self c.requires.ready c.peek-shown.ensures.after ∙ sym c.peek-shown.ensures.shown.packet

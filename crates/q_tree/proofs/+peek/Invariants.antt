@@ -10,17 +10,17 @@ use Rattle.q_tree.proofs.AskBands.{AreBandsAsked, told_to}
 use Rattle.q_tree.proofs.ServeLemmas.{AreClassesAsked, heads_of}
 use Rattle.q_tree.proofs.+peek.Given as goal
 
-abbrev pub invariant-drr::serve-loop-place : goal.invariant-drr::serve-loop-place
-invariant-drr::serve-loop-place g l =
+abbrev pub invariant-dequeue::dequeue_class-loop-place : goal.invariant-dequeue::dequeue_class-loop-place
+invariant-dequeue::dequeue_class-loop-place g l =
     AreClassesAsked l.fn.now l.fn.active l.active l.fn.classes l.classes l.unasked l.shown
     (record { losses = g.S.Sink.losses l.fn.sink; losses_now = g.S.Sink.losses l.sink; room = g.S.Sink.room l.fn.sink; room_now = g.S.Sink.room l.sink })
     × g.S.Sink.keeps l.fn.sink l.sink
-    × (l.held ≡ None)
+    × (l.out ≡ l.fn.out)
     × (l.toll ≡ toll_of l.shown)
 
 -- each grant lowers one class's need of grants by one
-abbrev pub decreases-drr::serve-loop-place : goal.decreases-drr::serve-loop-place
-decreases-drr::serve-loop-place g l = sum_by (need (λ m. quantum_of m l.active.classes) (heads_of l.fn.now l.fn.active l.fn.classes)) l.active.active
+abbrev pub decreases-dequeue::dequeue_class-loop-place : goal.decreases-dequeue::dequeue_class-loop-place
+decreases-dequeue::dequeue_class-loop-place g l = sum_by (need (λ m. quantum_of m l.active.classes) (heads_of l.fn.now l.fn.active l.fn.classes)) l.active.active
 
 abbrev pub invariant-prio::ask_bands-loop-place : goal.invariant-prio::ask_bands-loop-place
 invariant-prio::ask_bands-loop-place g l =
@@ -40,7 +40,7 @@ abbrev pub decreases-prio::ask_bands : goal.decreases-prio::ask_bands
 decreases-prio::ask_bands g l = 3 * forest_size (side_by_side l.bands.now) + 1
 
 abbrev pub decreases-tbf::ask_child : goal.decreases-tbf::ask_child
-decreases-tbf::ask_child g l = 3 * node_size l.child.now + 1
+decreases-tbf::ask_child g l = 3 * node_size l.child.now + 2
 
 abbrev pub decreases-drr::serve : goal.decreases-drr::serve
 decreases-drr::serve g l = 3 * forest_size (side_by_side l.classes.now) + 1
@@ -50,3 +50,9 @@ decreases-drr::ask_class g l = 3 * node_size l.class.now + 2
 
 abbrev pub decreases-drr::ask_further : goal.decreases-drr::ask_further
 decreases-drr::ask_further g l = 3 * node_size l.class.now + 1
+
+abbrev pub decreases-dequeue::dequeue_class : goal.decreases-dequeue::dequeue_class
+decreases-dequeue::dequeue_class g l = 3 * forest_size (side_by_side l.classes.now)
+
+abbrev pub decreases-dequeue::dequeue_child : goal.decreases-dequeue::dequeue_child
+decreases-dequeue::dequeue_child g l = 3 * node_size l.child.now + 1
