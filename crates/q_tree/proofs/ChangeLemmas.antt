@@ -46,10 +46,10 @@ use Rattle.q_tree.specs.Kept as own_kept
 use Rattle.q_tree.specs.Making.{AreNew, IsNewNode}
 use Rattle.q_tree.specs.PutSteps.{packets_beneath}
 use Rattle.q_tree.specs.Reshaping.{AreReady, IsFresh, TakesMore, bands_going, bands_staying, children_after, discipline_after, leaf_limited, leaves_limited, limited, lost_with, rebucketed, remapped, reoptioned}
-use Rattle.q_tree.specs.declared.edit.Edit.TheVariants.{DisciplineChange}
-use Rattle.q_tree.specs.declared.planned.Planned.{Planned}
-use Rattle.q_tree.specs.declared.discipline_change.DisciplineChange as shapes
-use Rattle.q_tree.specs.declared.discipline_change.DisciplineChange.TheVariants.{Nothing, SetLimit, SetBucket, SetOptions}
+use Rattle.q_tree.specs.declared.commands.edit.Edit.TheVariants.{DisciplineChange}
+use Rattle.q_tree.specs.declared.commands.planned.Planned.{Planned}
+use Rattle.q_tree.specs.declared.commands.discipline_change.DisciplineChange as shapes
+use Rattle.q_tree.specs.declared.commands.discipline_change.DisciplineChange.TheVariants.{Nothing, SetLimit, SetBucket, SetOptions}
 use Rattle.q_tree.proofs.MakingLemmas.{new-counts, nothing-beneath}
 use Rattle.q_tree.proofs.Plans.{all-passed, all-stay, few, remade-planned, reshape-does, same-refusal, shallow}
 use Rattle.q_tree.proofs.TargetLemmas.{reached-at, target-none, target-some}

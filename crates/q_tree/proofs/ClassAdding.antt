@@ -38,9 +38,9 @@ use Rattle.q_tree.specs.Kept.{Kept}
 use Rattle.q_tree.specs.Making.{IsNewNode}
 use Rattle.q_tree.specs.Reshaping.{discipline_after}
 use Rattle.q_tree.specs.Showing.{IsNumbered}
-use Rattle.q_tree.specs.declared.edit.Edit.TheVariants.{DisciplineChange}
-use Rattle.q_tree.specs.declared.planned.Planned.{Planned}
-use Rattle.q_tree.specs.declared.discipline_change.DisciplineChange.TheVariants.{AddClass, RemoveClass}
+use Rattle.q_tree.specs.declared.commands.edit.Edit.TheVariants.{DisciplineChange}
+use Rattle.q_tree.specs.declared.commands.planned.Planned.{Planned}
+use Rattle.q_tree.specs.declared.commands.discipline_change.DisciplineChange.TheVariants.{AddClass, RemoveClass}
 use Rattle.q_tree.proofs.ClassPlans.{IsPassed, at-class, drr-done, drr-passed, drr-refused, first-passed, kids-joined, kids-left, none-lost, one-lost, one_less, one_more, own-joined, own-left, sized-is, there-known}
 use Rattle.q_tree.proofs.MakingLemmas.{new-counts, nothing-beneath}
 use Rattle.q_tree.proofs.Plans.{few, remade-planned, reshape-does, shallow}

@@ -43,8 +43,8 @@ use Rattle.q_tree.specs.Grafting.{graft_checks, nodes_at}
 use Rattle.q_tree.specs.Kept.{Kept, kept}
 use Rattle.q_tree.specs.Making.{IsNewNode, NeedsMemory}
 use Rattle.q_tree.specs.Showing.{IsNumbered}
-use Rattle.q_tree.specs.declared.edit.Edit.TheVariants.{Graft}
-use Rattle.q_tree.specs.declared.planned.Planned.{Planned}
+use Rattle.q_tree.specs.declared.commands.edit.Edit.TheVariants.{Graft}
+use Rattle.q_tree.specs.declared.commands.planned.Planned.{Planned}
 use Rattle.q_tree.proofs.MakingLemmas.{new-counts, nothing-beneath}
 use Rattle.q_tree.proofs.FindLemmas.{take-front}
 use Rattle.q_tree.proofs.Plans.{all-passed, few, same-refusal, shallow}

@@ -38,11 +38,11 @@ use Rattle.q_tree.specs.Editing.{IsReady, LosesNothing, TakesMemory, edited_by, 
 use Rattle.q_tree.specs.Reshaping.{KeepsAll, children_after, discipline_after, lost_with}
 use Rattle.q_tree.specs.Kept.{Kept, kept}
 use Rattle.q_tree.specs.TreeSeen.{IsKeptDevice, numbers, tree_numbers}
-use Rattle.q_tree.specs.declared.edit.Edit.{Edit}
-use Rattle.q_tree.specs.declared.edit.Edit.TheVariants.{Graft, AddFilter, RemoveFilters, DisciplineChange}
-use Rattle.q_tree.specs.declared.discipline_change.DisciplineChange as shapes
-use Rattle.q_tree.specs.declared.discipline_change.DisciplineChange.TheVariants.{Nothing, SetLimit, SetBands, SetBucket, SetOptions, AddClass, SetQuantum, RemoveClass}
-use Rattle.q_tree.specs.declared.planned.Planned.{Planned}
+use Rattle.q_tree.specs.declared.commands.edit.Edit.{Edit}
+use Rattle.q_tree.specs.declared.commands.edit.Edit.TheVariants.{Graft, AddFilter, RemoveFilters, DisciplineChange}
+use Rattle.q_tree.specs.declared.commands.discipline_change.DisciplineChange as shapes
+use Rattle.q_tree.specs.declared.commands.discipline_change.DisciplineChange.TheVariants.{Nothing, SetLimit, SetBands, SetBucket, SetOptions, AddClass, SetQuantum, RemoveClass}
+use Rattle.q_tree.specs.declared.commands.planned.Planned.{Planned}
 use Rattle.q_tree.specs.declared.tree.Tree.TheInside.{Inside}
 use Rattle.q_tree.proofs.TreeLemmas.{lawful-root, same-shape, stands}
 use Rattle.q_tree.specs.Showing.{IsNumbered}

@@ -26,8 +26,8 @@ use Rattle.q_tree.specs.Kept.{Kept}
 use Rattle.q_tree.specs.PutSteps.{packets_beneath}
 use Rattle.q_tree.specs.Reshaping.{AreReady, IsFresh, bands_going, bands_staying, can_join, children_after, class_child, discipline_after, leaf_limited, leaves_limited, limited, lost_with, place_in, rebucketed, remapped, reoptioned, requantum, rescheduled, resettled}
 use Rattle.q_tree.specs.Seen.{IsCountedWithin}
-use Rattle.q_tree.specs.declared.discipline_change.DisciplineChange.{DisciplineChange}
-use Rattle.q_tree.specs.declared.discipline_change.DisciplineChange.TheVariants.{Nothing, SetLimit, SetBands, SetBucket, SetOptions, AddClass, SetQuantum, RemoveClass}
+use Rattle.q_tree.specs.declared.commands.discipline_change.DisciplineChange.{DisciplineChange}
+use Rattle.q_tree.specs.declared.commands.discipline_change.DisciplineChange.TheVariants.{Nothing, SetLimit, SetBands, SetBucket, SetOptions, AddClass, SetQuantum, RemoveClass}
 
 -- what is beneath nodes side by side, and what is held there
 abbrev waits : (Descriptor → ℕ) → List (Node Kept) → ℕ

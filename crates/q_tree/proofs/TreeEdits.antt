@@ -16,7 +16,7 @@ use Rattle.q_tree.specs.Commands.{IsPlanned, device_edited}
 use Rattle.q_tree.specs.Editing.{CanDrop, edited_by, notes_of, removed_at, with_dropped}
 use Rattle.q_tree.specs.Kept.{Kept, kept}
 use Rattle.q_tree.specs.TreeSeen.{tree_seen, IsKeptDevice}
-use Rattle.q_tree.specs.declared.edit.Edit.{Edit}
+use Rattle.q_tree.specs.declared.commands.edit.Edit.{Edit}
 use Rattle.q_tree.specs.declared.tree.Tree.TheInside.{Inside}
 use Rattle.q_tree.proofs.EditLemmas.{IsAnswer, Loses, can-drop, edited-loses, noted-purged, same-total}
 use Rattle.q_tree.proofs.Rows.{counts_in_row, same-totals, weigh-bytes}

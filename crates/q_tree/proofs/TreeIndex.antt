@@ -30,10 +30,10 @@ use Rattle.q_tree.specs.Kept.{Kept, kept}
 use Rattle.q_tree.specs.Places.{unplaced}
 use Rattle.q_tree.specs.Reshaping.{adds_children, bands_staying, children_after, leaves_limited, place_in}
 use Rattle.q_tree.specs.TreeSeen.{IsIndexedDevice, IsKeptDevice}
-use Rattle.q_tree.specs.declared.edit.Edit.{Edit}
-use Rattle.q_tree.specs.declared.edit.Edit.TheVariants.{Graft, AddFilter, RemoveFilters, DisciplineChange}
-use Rattle.q_tree.specs.declared.discipline_change.DisciplineChange as shapes
-use Rattle.q_tree.specs.declared.discipline_change.DisciplineChange.TheVariants.{Nothing, SetLimit, SetBands, SetBucket, SetOptions, AddClass, SetQuantum, RemoveClass}
+use Rattle.q_tree.specs.declared.commands.edit.Edit.{Edit}
+use Rattle.q_tree.specs.declared.commands.edit.Edit.TheVariants.{Graft, AddFilter, RemoveFilters, DisciplineChange}
+use Rattle.q_tree.specs.declared.commands.discipline_change.DisciplineChange as shapes
+use Rattle.q_tree.specs.declared.commands.discipline_change.DisciplineChange.TheVariants.{Nothing, SetLimit, SetBands, SetBucket, SetOptions, AddClass, SetQuantum, RemoveClass}
 use Rattle.q_tree.specs.declared.tree.Tree.TheInside.{Inside}
 use Rattle.q_tree.proofs.Asking.{answered, asked-told}
 use Rattle.q_tree.proofs.Peeks.{popped-asked}

@@ -21,8 +21,8 @@ use Rattle.q_invariants.proofs.SizeChecks.{numbers}
 use Rattle.q_tree.specs.Commands.{IsRefused}
 use Rattle.q_tree.specs.Kept.{Kept, kept}
 use Rattle.q_tree.specs.Reshaping.{AreReady, TakesMore, children_after, discipline_after, lost_with}
-use Rattle.q_tree.specs.declared.discipline_change.DisciplineChange.{DisciplineChange}
-use Rattle.q_tree.specs.declared.discipline_change.DisciplineChange.TheVariants.{Nothing, SetLimit, SetBucket, SetOptions}
+use Rattle.q_tree.specs.declared.commands.discipline_change.DisciplineChange.{DisciplineChange}
+use Rattle.q_tree.specs.declared.commands.discipline_change.DisciplineChange.TheVariants.{Nothing, SetLimit, SetBucket, SetOptions}
 
 abbrev pub pfifo_answer : Option ℕ → Discipline → Result DisciplineChange Refusal
 pfifo_answer limit (Fifo (Packets old) queue) = Ok (SetLimit (Packets (unwrap_or limit old)))

@@ -18,8 +18,8 @@ use Rattle.q_model.specs.TreeState.{plan, with_edit}
 use Rattle.q_invariants.proofs.SizeChecks.{sizes}
 use Rattle.q_tree.specs.Editing.{removed_at, notes_of, edited_by, IsReady, TakesMemory}
 use Rattle.q_tree.specs.Kept.{Kept, kept}
-use Rattle.q_tree.specs.declared.edit.Edit.{Edit}
-use Rattle.q_tree.specs.declared.planned.Planned.{Planned}
+use Rattle.q_tree.specs.declared.commands.edit.Edit.{Edit}
+use Rattle.q_tree.specs.declared.commands.planned.Planned.{Planned}
 
 -- what the model plans for a command
 abbrev pub plan_of : Command → ℕ → DeviceState Kept → Result model.Edit Refusal

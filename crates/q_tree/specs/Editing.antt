@@ -18,10 +18,10 @@ use Rattle.q_model.specs.Work.{losses_of, settled_in}
 use Rattle.q_tree.specs.Arrivals.{plus, minus}
 use Rattle.q_tree.specs.Kept.{Kept, kept}
 use Rattle.q_tree.specs.Reshaping.{AreReady, IsFresh, KeepsAll, TakesMore, adds_children, children_after, discipline_after, lost_with}
-use Rattle.q_tree.specs.declared.discipline_change.DisciplineChange as shapes
+use Rattle.q_tree.specs.declared.commands.discipline_change.DisciplineChange as shapes
 use Rattle.q_tree.specs.Seen.{children_seen, discipline_seen, places_seen}
-use Rattle.q_tree.specs.declared.edit.Edit.{Edit}
-use Rattle.q_tree.specs.declared.edit.Edit.TheVariants.{Graft, AddFilter, RemoveFilters, DisciplineChange}
+use Rattle.q_tree.specs.declared.commands.edit.Edit.{Edit}
+use Rattle.q_tree.specs.declared.commands.edit.Edit.TheVariants.{Graft, AddFilter, RemoveFilters, DisciplineChange}
 use Rattle.q_tree.specs.declared.node.Discipline.{Discipline}
 
 abbrev pub with_filters : List Filter → Node Kept → Node Kept

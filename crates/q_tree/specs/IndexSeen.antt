@@ -2,7 +2,7 @@
 use Rattle.std.specs.Prelude.{◌+◌, [], ◌++◌, length}
 use Rattle.std.specs.HashMap.{spare}
 use Rattle.q_tree.specs.Index.{Index, listed, own_address}
-use Rattle.q_tree.specs.declared.handles.Handles.TheInside.{Inside}
+use Rattle.q_tree.specs.declared.commands.handles.Handles.TheInside.{Inside}
 
 abbrev pub index_seen : Inside → Index
 index_seen a = record {

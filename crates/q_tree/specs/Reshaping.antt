@@ -20,8 +20,8 @@ use Rattle.q_tree.specs.Kept.{Kept}
 use Rattle.q_tree.specs.PutSteps.{packets_beneath}
 use Rattle.q_tree.specs.Seen.{children_seen, discipline_seen, places_seen}
 use Rattle.q_tree.specs.declared.node.Discipline.{Discipline}
-use Rattle.q_tree.specs.declared.discipline_change.DisciplineChange.{DisciplineChange}
-use Rattle.q_tree.specs.declared.discipline_change.DisciplineChange.TheVariants.{Nothing, SetLimit, SetBands, SetBucket, SetOptions, AddClass, SetQuantum, RemoveClass}
+use Rattle.q_tree.specs.declared.commands.discipline_change.DisciplineChange.{DisciplineChange}
+use Rattle.q_tree.specs.declared.commands.discipline_change.DisciplineChange.TheVariants.{Nothing, SetLimit, SetBands, SetBucket, SetOptions, AddClass, SetQuantum, RemoveClass}
 
 -- ---- a drr
 

@@ -1,6 +1,6 @@
-ghost use Rattle.std.specs.Prelude.{◌≡◌, ◌≤◌, ◌+◌, ◌∷◌, ◌++◌, [], Some, true};
+ghost use Rattle.std.specs.Prelude.{◌≡◌, ◌≤◌, ◌+◌, [], ◌∷◌, ◌++◌, Some, true};
 ghost use Rattle.q_model.specs.Conserved.{IsBalanced};
-ghost use Rattle.q_model.specs.Tally.{with_packet, no_totals};
+ghost use Rattle.q_model.specs.Tally.{no_totals, with_packet};
 ghost use Rattle.q_tree.specs.Arrivals.{CanCount, IsLostOf, with_arrival};
 ghost use Rattle.q_tree.specs.ArriveSteps.{nothing_lost};
 
@@ -20,6 +20,13 @@ pub(crate) struct Arrived {
     outcome: Snapshot<Outcome>,
 }
 
+/// Nothing is lost.
+pub(crate) const NOTHING_LOST: Outcome = Outcome {
+    loss: None,
+    refused: NOTHING,
+    dropped: NOTHING,
+};
+
 impl Model for Arrived {
     ghost use Rattle.std.specs.Prelude.{◌≡◌, true};
     ghost use Rattle.q_tree.specs.ArriveSteps.{nothing_lost};
@@ -31,13 +38,6 @@ impl Model for Arrived {
 
     ghost invariant = { λ a. a.is_kept ≡ true → a.outcome.value ≡ nothing_lost };
 }
-
-/// Nothing is lost.
-pub(crate) const NOTHING_LOST: Outcome = Outcome {
-    loss: None,
-    refused: NOTHING,
-    dropped: NOTHING,
-};
 
 impl Arrived {
     /// The packet is kept, and none is lost for it.

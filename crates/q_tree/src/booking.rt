@@ -1,7 +1,7 @@
 ghost use Rattle.std.specs.Prelude.{◌≡◌, ◌<◌, ◌≤◌, ◌+◌, ◌^◌};
 ghost use Rattle.q_model.specs.Conserved.{IsBalanced};
-ghost use Rattle.q_model.specs.Tally.{with_packet, no_totals};
-ghost use Rattle.q_tree.specs.Arrivals.{CanCount, IsLostOf, plus, minus, with_arrival};
+ghost use Rattle.q_model.specs.Tally.{no_totals, with_packet};
+ghost use Rattle.q_tree.specs.Arrivals.{CanCount, IsLostOf, minus, plus, with_arrival};
 ghost use Rattle.q_tree.specs.AskSteps.{CanShow, toll_of, with_shown};
 ghost use Rattle.q_tree.specs.Editing.{CanDrop, with_dropped};
 ghost use Rattle.q_tree.specs.PopSteps.{IsAmong, with_sent};

@@ -1,5 +1,5 @@
 ghost use Rattle.std.specs.Prelude.{◌≡◌, ◌<◌, ◌^◌};
-ghost use Rattle.q_tree.specs.CountersSeen.{no_row, HasArrivals};
+ghost use Rattle.q_tree.specs.CountersSeen.{HasArrivals, no_row};
 
 use q_model::{Row, Totals};
 use std::marker::Model;

@@ -1,197 +1,196 @@
-//! What sends a packet straight to the caller's place, where a peek would dequeue and hold it.
-ghost use Rattle.std.specs.Prelude.{◌≡◌, ◌<◌, ◌≤◌, ◌+◌, ◌++◌, [], ◌∷◌, length, List, ℕ, Some, slice_get, drop, option_map, unwrap_or, if◌then◌else◌};
-ghost use Rattle.q_codel.specs.Losses.{losses_of};
-ghost use Rattle.q_packet.specs.declared.stamped.Stamped.{Stamped};
-ghost use Rattle.q_model.specs.Tally.{no_totals, with_packet};
-ghost use Rattle.q_fqcodel.specs.FqState.{packets_of};
-ghost use Rattle.q_fqcodel.specs.Take.{selected, after_sending, dropped_from};
-ghost use Rattle.q_model.specs.Ask.{Asked, ask_drr, ask_fq_codel, ask_tbf};
+ghost use Rattle.std.specs.Prelude.{◌≡◌, ◌≤◌, ◌+◌, ◌++◌, List, Option, is_some, length, unwrap_or, ℕ};
+ghost use Rattle.q_model.specs.Ask.{ask, take_from};
 ghost use Rattle.q_model.specs.Beneath.{beneath};
-ghost use Rattle.q_model.specs.Node as spec;
-ghost use Rattle.q_model.specs.Node.{Own, Tbf};
+ghost use Rattle.q_model.specs.Node.{shape};
 ghost use Rattle.q_model.specs.Pop.{pop};
-ghost use Rattle.q_tree.specs.AskSteps.{CanAsk, CanServe, AreAsked, IsGivenBy, IsShown, IsToldOf, answers, no_toll, toll_of};
-ghost use Rattle.q_tree.specs.Kept.{Kept};
-ghost use Rattle.q_tree.specs.PutSteps.{packets_beneath};
+ghost use Rattle.q_model.specs.Step.{losses_in};
+ghost use Rattle.q_model.specs.TreeState.{given, noted_by_take, take_packet};
+ghost use Rattle.q_model.specs.Work.{booked};
+ghost use Rattle.q_model.specs.declared.filter.Filter.{Filter};
+ghost use Rattle.q_tree.specs.AskSteps.{CanAsk, CanAskIn, IsShown, IsToldOf, answer_of, no_toll, packets_within, toll_of};
+ghost use Rattle.q_tree.specs.Kept.{kept};
+ghost use Rattle.q_tree.specs.PopSteps.{IsPoppedIn, popping_of};
+ghost use Rattle.q_tree.specs.SendSteps.{IsSentIn};
 
-use crate::booking::{NOTHING, difference, one_packet};
-use crate::drr::{ask_class, settle};
-use crate::node::Node;
+use crate::booking::{book_sent, book_shown};
+use crate::disciplines::drr::dequeue_class;
+use crate::disciplines::fifo::dequeue_head;
+use crate::disciplines::fq_codel::dequeue_flow;
+use crate::disciplines::prio::{ready_band, send_first};
+use crate::disciplines::tbf::dequeue_child;
+use crate::node::{Discipline, Node};
 use crate::shown::Shown;
 use crate::toll::{NO_TOLL, Toll};
-use q_bucket::Bucket;
-use q_codel::{Fifo, Sink};
-use q_drr::{Active, Turn};
-use q_fqcodel::FqCodel;
-use q_model::Totals;
-use q_packet::{Cause, Moment, Packet};
+use crate::tree::Tree;
+use q_codel::Sink;
+use q_packet::{Moment, Packet};
 
-/// Asks the classes of the active list in turn, and grants to each whose packet is longer than its deficit, until one is met
-/// that can send its packet, which it gives to `out`, or that shows none (tc-drr(8)).
-#[cycle(peek)]
-pub(crate) fn dequeue_class<S: Sink>(
-    active: &mut Active,
-    classes: &mut [Node],
-    out: &mut Packet,
-    now: Moment,
-    toll: &mut Toll,
-    sink: &mut S,
-) -> Shown
-    requires ready { CanServe now active.old classes.old }
-    requires sink { length (packets_beneath classes.old) ≤ S.room sink.old }
-    requires clean { toll.old ≡ no_toll }
-    ensures active { (own : Own) → spec.Drr active.new ≡ (ask_drr own (answers now classes.old) active.old).peeked.own.discipline }
-    ensures after { (own : Own) → AreAsked (ask_drr own (answers now classes.old) active.old) classes.old classes.new result }
-    ensures packet { out.new ≡ unwrap_or result.packet out.old }
-    ensures told { (own : Own) → IsToldOf (ask_drr own (answers now classes.old) active.old).rises (S.losses sink.old) (S.losses sink.new) (S.room sink.old) (S.room sink.new) }
-    ensures toll { toll.new ≡ toll_of result }
-    ensures kept { S.keeps sink.old sink.new }
-{
-    let mut shown = Shown::at_hand(&None);
-    // In the first round each class is asked once; in a later one it has at hand what it showed.
-    let mut unasked = active.active_count();
-    while let Some(place) = active.front_place() {
-        shown = ask_class(&mut classes[place], unasked > 0, shown, now, toll, sink);
-        unasked = unasked.saturating_sub(1);
-        let Some(len) = shown.packet_len() else {
+impl Tree {
+    /// Takes the packet whose turn it is into `out`, as [`Tree::take`] does, and says whether there was one: `false`, and `out`
+    /// stays as it is, where none may go now. `now` is at or after the latest moment that the tree was given.
+    ///
+    /// The packet is written once, to the caller's place. It takes no memory. What CoDel drops on the way goes to `sink`, which
+    /// needs room for what is queued.
+    pub fn send<S: Sink>(&mut self, now: Moment, out: &mut Packet, sink: &mut S) -> bool
+        requires order { self.old.clock ≤ now }
+        requires sink { length (beneath self.old.tree.root) ≤ S.room sink.old }
+        ensures sent { result ≡ is_some (given now self.old.tree) }
+        ensures packet { out.new ≡ unwrap_or (given now self.old.tree) out.old }
+        ensures after { self.new ≡ record { clock = now; tree = take_packet kept now self.old.tree } }
+        ensures lost { S.losses sink.new ≡ S.losses sink.old ++ losses_in (noted_by_take now self.old.tree) }
+        ensures room { S.room sink.new + length (losses_in (noted_by_take now self.old.tree)) ≡ S.room sink.old }
+        ensures kept { S.keeps sink.old sink.new }
+    {
+        // A moment is at most 2^62 nanoseconds.
+        let _ = now.ns();
+        self.top.fit();
+        let mut toll = NO_TOLL;
+        let shown = self.root.send(now, out, &mut toll, sink);
+        book_shown(&mut self.top, &shown, &toll);
+        self.clock = now;
+        if !shown.has_packet() {
+            return false;
+        }
+        book_sent(&mut self.top, out);
+        true
+    }
+}
+
+impl Node {
+    /// Asks the node for its packet and gives it into `out`, which is what a peek and a give come to. Where the node shows none,
+    /// `out` stays as it is.
+    ///
+    /// What a tbf, a drr or an fq_codel dequeues goes straight to `out`, and is not held. It takes no memory. `sink` needs room
+    /// for what is queued.
+    #[cycle(send)]
+    #[inline(always)]
+    pub(crate) fn send<S: Sink>(
+        &mut self,
+        now: Moment,
+        out: &mut Packet,
+        toll: &mut Toll,
+        sink: &mut S,
+    ) -> Shown
+        requires ready { CanAsk now self.old }
+        requires sink { length (beneath self.old) ≤ S.room sink.old }
+        requires clean { toll.old ≡ no_toll }
+        ensures after { self.new ≡ booked kept self.old (take_from now (shape self.old)).node }
+        ensures arrived { self.new.memory.counts.arrived ≡ self.old.memory.counts.arrived }
+        ensures shown { IsShown (ask now (shape self.old)) result }
+        ensures packet { out.new ≡ unwrap_or result.packet out.old }
+        ensures lost { S.losses sink.new ≡ S.losses sink.old ++ losses_in (ask now (shape self.old)).rises }
+        ensures room { S.room sink.new + length (losses_in (ask now (shape self.old)).rises) ≡ S.room sink.old }
+        ensures toll { toll.new ≡ toll_of result }
+        ensures kept { S.keeps sink.old sink.new }
+    {
+        self.row.fit();
+        if let Some(packet) = self.held {
+            self.held = None;
+            book_sent(&mut self.row, &packet);
+            *out = packet;
+            return Shown::sending(&packet, &NO_TOLL);
+        }
+        let shown = self.discipline.send(now, out, toll, sink);
+        book_shown(&mut self.row, &shown, toll);
+        if !shown.has_packet() {
             return shown;
-        };
-        match active.turn(len) {
-            Turn::Send => {
-                // What is given is what was shown.
-                give_class(active, classes, place, out);
-                return shown;
+        }
+        book_sent(&mut self.row, out);
+        shown
+    }
+
+    /// Gives the packet that the node has at hand into `out`, counts it as sent here, and in the bands that it comes from, and says
+    /// whether there was one. Nobody is asked: after a peek it is the packet that was shown. Where there was none, nothing changes.
+    #[cycle(give)]
+    #[inline(always)]
+    pub(crate) fn give(&mut self, out: &mut Packet) -> bool
+        ensures given { result ≡ is_some (pop self.old).shown }
+        ensures packet { out.new ≡ unwrap_or (pop self.old).shown out.old }
+        ensures after { self.new ≡ booked kept self.old (pop self.old).after }
+        ensures arrived { self.new.memory.counts.arrived ≡ self.old.memory.counts.arrived }
+    {
+        self.row.fit();
+        if let Some(packet) = self.held {
+            self.held = None;
+            book_sent(&mut self.row, &packet);
+            *out = packet;
+            return true;
+        }
+        if !self.discipline.give(out) {
+            return false;
+        }
+        book_sent(&mut self.row, out);
+        true
+    }
+}
+
+impl Discipline {
+    // What a node with this discipline shows that holds no packet, and its packet in `out`.
+    #[cycle(send)]
+    #[inline(always)]
+    fn send<S: Sink>(
+        &mut self,
+        now: Moment,
+        out: &mut Packet,
+        toll: &mut Toll,
+        sink: &mut S,
+    ) -> Shown
+        requires ready { CanAskIn now self.old }
+        requires sink { length (packets_within self.old) ≤ S.room sink.old }
+        requires clean { toll.old ≡ no_toll }
+        ensures after { (handle : Option ℕ) (filters : List Filter) → IsSentIn (answer_of now handle filters self.old) self.old self.new result }
+        ensures packet { out.new ≡ unwrap_or result.packet out.old }
+        ensures told { (handle : Option ℕ) (filters : List Filter) → IsToldOf (answer_of now handle filters self.old).rises (S.losses sink.old) (S.losses sink.new) (S.room sink.old) (S.room sink.new) }
+        ensures toll { toll.new ≡ toll_of result }
+        ensures kept { S.keeps sink.old sink.new }
+    {
+        match self {
+            Discipline::Fifo(fifo) => return dequeue_head(fifo, out),
+            Discipline::Prio { bands, .. } => return send_first(bands, now, out, toll, sink),
+            Discipline::Tbf { bucket, child, .. } => {
+                return dequeue_child(bucket, child, out, now, toll, sink);
             }
-            Turn::Granted => {}
+            Discipline::Drr { active, classes } => {
+                return dequeue_class(active, classes, out, now, toll, sink);
+            }
+            Discipline::FqCodel(queue) => return dequeue_flow(queue, out, now, toll, sink),
         }
     }
-    // No class was active, so nobody was asked.
-    *toll = NO_TOLL;
-    Shown::at_hand(&None)
-}
 
-// The class in this place gives its packet, and sleeps where that was its last.
-fn give_class(active: &mut Active, classes: &mut [Node], place: usize, out: &mut Packet)
-    requires { place < length classes.old }
-    ensures packet { (c : spec.Node Kept) → slice_get classes.old place ≡ Some c → out.new ≡ unwrap_or (pop c).shown out.old }
-    ensures given { (c : spec.Node Kept) → slice_get classes.old place ≡ Some c → IsGivenBy place c active.old active.new classes.old classes.new }
-{
-    classes[place].give(out);
-    settle(active, place, classes[place].is_empty());
-}
+    // Gives a fifo's head, or the packet of a prio's first band that has one.
+    #[cycle(give)]
+    #[inline(always)]
+    fn give(&mut self, out: &mut Packet) -> bool
+        ensures given { result ≡ is_some (popping_of self.old).shown }
+        ensures packet { out.new ≡ unwrap_or (popping_of self.old).shown out.old }
+        ensures after { IsPoppedIn self.old self.new }
+    {
+        // A fifo is met with no call, as where a packet arrives.
+        match self {
+            Discipline::Fifo(fifo) => return dequeue_head(fifo, out).has_packet(),
+            _ => return self.give_further(out),
+        }
+    }
 
-/// Asks the child of a tbf, and gives the packet that it shows to `out` where the bucket allows it (tc-tbf(8)).
-#[cycle(peek)]
-pub(crate) fn dequeue_child<S: Sink>(
-    bucket: &mut Bucket,
-    child: &mut Node,
-    out: &mut Packet,
-    now: Moment,
-    toll: &mut Toll,
-    sink: &mut S,
-) -> Shown
-    requires ready { CanAsk now child.old }
-    requires order { bucket.old.last ≤ now }
-    requires sink { length (beneath child.old) ≤ S.room sink.old }
-    requires clean { toll.old ≡ no_toll }
-    ensures bucket { (own : Own) (limit : ℕ) → own.discipline ≡ Tbf bucket.old limit → Tbf bucket.new limit ≡ (ask_tbf now own (answers now (child.old ∷ [])) bucket.old limit).peeked.own.discipline }
-    ensures after { (own : Own) (limit : ℕ) → AreAsked (ask_tbf now own (answers now (child.old ∷ [])) bucket.old limit) (child.old ∷ []) (child.new ∷ []) result }
-    ensures told { (own : Own) (limit : ℕ) → IsToldOf (ask_tbf now own (answers now (child.old ∷ [])) bucket.old limit).rises (S.losses sink.old) (S.losses sink.new) (S.room sink.old) (S.room sink.new) }
-    ensures packet { out.new ≡ unwrap_or result.packet out.old }
-    ensures toll { toll.new ≡ toll_of result }
-    ensures kept { S.keeps sink.old sink.new }
-{
-    let shown = child.peek(now, toll, sink);
-    let Some(len) = shown.packet_len() else {
-        return shown;
-    };
-    if !bucket.spend(now, len) {
-        return shown.showing(&None);
+    // The same, by a call.
+    #[cycle(give)]
+    #[inline(never)]
+    fn give_further(&mut self, out: &mut Packet) -> bool
+        ensures given { result ≡ is_some (popping_of self.old).shown }
+        ensures packet { out.new ≡ unwrap_or (popping_of self.old).shown out.old }
+        ensures after { IsPoppedIn self.old self.new }
+    {
+        match self {
+            Discipline::Fifo(fifo) => return dequeue_head(fifo, out).has_packet(),
+            Discipline::Prio { bands, .. } => {
+                let Some(place) = ready_band(bands) else {
+                    return false;
+                };
+                return bands[place].give(out);
+            }
+            Discipline::Tbf { .. } => return false,
+            Discipline::Drr { .. } => return false,
+            Discipline::FqCodel(_) => return false,
+        }
     }
-    // What is given is what was shown.
-    child.give(out);
-    shown
-}
-
-/// Gives the head of a fifo to `out`.
-#[inline(always)]
-pub(crate) fn dequeue_head(fifo: &mut Fifo, out: &mut Packet) -> Shown
-    ensures shown { result.packet ≡ option_map (λ (s : Stamped). s.packet) (slice_get fifo.old.packets 0) }
-    ensures dropped { result.dropped ≡ no_totals }
-    ensures marked { result.marked ≡ no_totals }
-    ensures packet { out.new ≡ unwrap_or result.packet out.old }
-    ensures rest { fifo.new ≡ record fifo.old { packets = drop 1 fifo.old.packets } }
-{
-    if fifo.take_into(out) == 0 {
-        return Shown::at_hand(&None);
-    }
-    Shown::sending(out, &NO_TOLL)
-}
-
-/// Gives the packet that the flow in front sends (RFC 8290, section 4.2) to `out`, and counts what CoDel drops and marks.
-pub(crate) fn dequeue_flow<S: Sink>(
-    queue: &mut FqCodel,
-    out: &mut Packet,
-    now: Moment,
-    toll: &mut Toll,
-    sink: &mut S,
-) -> Shown
-    requires sink { packets_of queue.old.state.flows ≤ S.room sink.old }
-    requires clean { toll.old ≡ no_toll }
-    ensures after { queue.new.state ≡ after_sending now (selected queue.old.state) }
-    ensures places { queue.new.places ≡ queue.old.places }
-    ensures shown { (own : Own) (below : List Asked) → IsShown (ask_fq_codel now own below queue.old.state) result }
-    ensures packet { out.new ≡ unwrap_or result.packet out.old }
-    ensures lost { S.losses sink.new ≡ S.losses sink.old ++ losses_of Cause.CoDel (dropped_from now (selected queue.old.state)) }
-    ensures room { S.room sink.new + length (dropped_from now (selected queue.old.state)) ≡ S.room sink.old }
-    ensures toll { toll.new ≡ toll_of result }
-    ensures kept { S.keeps sink.old sink.new }
-{
-    let (packets, bytes) = queue.queued();
-    let sent = queue.take_into(now, out, sink);
-    if sent.len == 0 {
-        // CoDel drops none of an empty fq_codel.
-        return Shown::at_hand(&None);
-    }
-    if !sent.dropped {
-        return show_marked(sent.marked, out, toll);
-    }
-    let (packets_after, bytes_after) = queue.queued();
-    let gone = Totals {
-        packets: packets - packets_after,
-        bytes: bytes - bytes_after,
-    };
-    let one = one_packet(out);
-    *toll = Toll {
-        dropped: difference(gone, one),
-        marked: marking(sent.marked, out),
-    };
-    Shown::sending(out, toll)
-}
-
-// Shows the packet, where nothing was dropped for it. Mostly it was not marked either, and nothing is written then.
-#[inline(always)]
-fn show_marked(is_marked: bool, out: &Packet, toll: &mut Toll) -> Shown
-    requires { toll.old ≡ no_toll }
-    ensures shown { result ≡ record { packet = Some out.now; dropped = no_totals; marked = if is_marked then with_packet no_totals out.now else no_totals } }
-    ensures toll { toll.new ≡ toll_of result }
-{
-    if !is_marked {
-        return Shown::sending(out, &NO_TOLL);
-    }
-    *toll = Toll {
-        dropped: NOTHING,
-        marked: one_packet(out),
-    };
-    Shown::sending(out, toll)
-}
-
-// The packet, where it was marked.
-fn marking(is_marked: bool, packet: &Packet) -> Totals
-    ensures { result ≡ (if is_marked then with_packet no_totals packet.now else no_totals) }
-{
-    if is_marked {
-        return one_packet(packet);
-    }
-    NOTHING
 }

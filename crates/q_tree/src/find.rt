@@ -2,10 +2,10 @@ ghost use Rattle.std.specs.Prelude.{◌≡◌, option_copied, option_map};
 ghost use Rattle.q_model.specs.Beneath.{row};
 ghost use Rattle.q_model.specs.Find.{addresses, class_place, node_at, path_of};
 ghost use Rattle.q_model.specs.Node.{children};
-ghost use Rattle.q_tree.specs.Finding.{qdisc_with, class_with};
+ghost use Rattle.q_tree.specs.Finding.{class_with, qdisc_with};
 ghost use Rattle.q_tree.specs.Kept.{kept};
 
-use crate::handles::Handles;
+use crate::commands::handles::Handles;
 use crate::node::{Discipline, Node, child_at};
 use arrayvec::ArrayVec;
 use q_model::{Handle, Minor, Row};

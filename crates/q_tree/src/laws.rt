@@ -1,10 +1,10 @@
 //! Laws of a tree and of its calls. Each function does nothing: its contract is the law.
-ghost use Rattle.std.specs.Prelude.{ℕ, List, ◌≡◌, ◌≤◌, []};
+ghost use Rattle.std.specs.Prelude.{◌≡◌, ◌≤◌, [], List, ℕ};
 ghost use Rattle.q_model.specs.Lawful.{IsLawfulTree};
 ghost use Rattle.q_model.specs.Tally.{totals};
 ghost use Rattle.q_model.specs.TreeState.{given, noted_by_take, peek_packet, take_packet};
 ghost use Rattle.q_tree.specs.Kept.{kept};
-ghost use Rattle.q_tree.specs.Laws.{EditLeavesOtherSubtrees, PutKeepsPlaces, PutLeavesOtherSubtrees, PutCountsItsLosses, PeekCountsItsLosses, TakeCountsItsLosses};
+ghost use Rattle.q_tree.specs.Laws.{EditLeavesOtherSubtrees, PeekCountsItsLosses, PutCountsItsLosses, PutKeepsPlaces, PutLeavesOtherSubtrees, TakeCountsItsLosses};
 ghost use Rattle.q_tree.specs.Places.{places_at};
 ghost use Rattle.q_tree.specs.TreeSeen.{tree_numbers};
 

@@ -1,23 +1,20 @@
-ghost use Rattle.std.specs.Prelude.{◌≡◌, ◌≤◌, ◌<◌, ◌+◌, ◌-◌, [], length, None, slice_get, slice_index, option_copied, option_and_then};
-ghost use Rattle.std.specs.Option.{option_map_or};
-ghost use Rattle.q_drr.specs.Schedule.{place_of};
-ghost use Rattle.q_model.specs.Beneath.{is_empty, beneath, totals_in};
-ghost use Rattle.q_model.specs.Filters.{named_class};
+ghost use Rattle.std.specs.Prelude.{◌≡◌, ◌<◌, ◌≤◌, ◌+◌, None, length, option_copied, slice_get};
+ghost use Rattle.q_model.specs.Beneath.{beneath, is_empty, totals_in};
 ghost use Rattle.q_model.specs.Find.{depth, greatest};
 ghost use Rattle.q_model.specs.Route.{route, through};
-ghost use Rattle.q_tree.specs.Ahead.{ahead, ways, depths};
+ghost use Rattle.q_tree.specs.Ahead.{ahead, depths, ways};
 
 use crate::counters::Counters;
+use crate::disciplines::drr::class_place;
+use crate::disciplines::prio::band;
 use crate::masked_filter::MaskedFilter;
-use crate::matching::named_class;
 use crate::node_route::NodeRoute;
 use q_bucket::Bucket;
-use q_codel::{Fifo, Limit};
+use q_codel::Fifo;
 use q_drr::Active;
 use q_fqcodel::FqCodel;
 use q_model::{Handle, Totals};
 use q_packet::{Cause, Packet};
-use std::alloc::Global;
 use std::marker::Model;
 
 /// A qdisc of the tree, with those beneath it.
@@ -86,22 +83,6 @@ impl Node {
     ghost use Rattle.q_model.specs.Make.{node_of};
     ghost use Rattle.q_model.specs.Node as spec;
     ghost use Rattle.q_model.specs.Tally.{no_counts};
-
-    /// A fifo without packets, which has counted nothing. It takes no memory yet.
-    pub(crate) fn fifo(alloc: Global, handle: Option<Handle>, limit: Limit) -> Node
-        ensures own { result.own ≡ (node_of handle (spec.Fifo limit []) []).own }
-        ensures counts { result.memory.counts ≡ no_counts }
-        ensures places { result.memory.places ≡ 0 }
-        ensures alone { result.below ≡ spec.none }
-    {
-        Node {
-            handle,
-            held: None,
-            filters: Vec::new(alloc),
-            row: Counters::none(),
-            discipline: Discipline::Fifo(Fifo::new(alloc, limit)),
-        }
-    }
 
     /// Whether nothing is queued at the node or beneath it.
     pub(crate) fn is_empty(&self) -> bool
@@ -183,44 +164,4 @@ pub(crate) fn child_at(children: &[Node], place: usize) -> Option<&Node>
     ensures { option_copied result ≡ slice_get children.now place }
 {
     children.get(place)
-}
-
-/// The band of a packet: the class that a filter names, else that of its priority (tc-prio(8)).
-pub(crate) fn band(filters: &[MaskedFilter], priomap: &[u8; 16], packet: &Packet) -> usize
-    ensures { result ≡ option_map_or (λ minor. minor - 1) (named_class filters.now packet.now) (slice_index priomap.now packet.now.prio) }
-{
-    match named_class(filters, packet) {
-        Some(minor) => usize::from(minor.number()) - 1,
-        None => usize::from(priomap[usize::from(packet.prio)]),
-    }
-}
-
-/// The place of the class that a filter names, if there is one (tc-drr(8)).
-pub(crate) fn class_place(
-    active: &Active,
-    filters: &[MaskedFilter],
-    packet: &Packet,
-) -> Option<usize>
-    ensures { result ≡ option_and_then (λ minor. place_of minor active.now.classes) (named_class filters.now packet.now) }
-{
-    let minor = named_class(filters, packet)?;
-    place_of(active, minor.number())
-}
-
-// The place of a class, if there is one. Where classes were added in the order of their numbers, with none left out, no name is
-// hashed.
-#[inline(always)]
-fn place_of(active: &Active, class: u16) -> Option<usize>
-    ensures { result ≡ place_of class active.now.classes }
-{
-    let Some(first) = active.class_at(0) else {
-        return active.place_of(class);
-    };
-    let place = usize::from(class.wrapping_sub(first));
-    if let Some(name) = active.class_at(place) {
-        if name == class {
-            return Some(place);
-        }
-    }
-    active.place_of(class)
 }

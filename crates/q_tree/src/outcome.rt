@@ -1,5 +1,5 @@
 ghost use Rattle.std.specs.Prelude.{◌≡◌, ◌≤◌, ◌+◌, [], ◌∷◌, ◌++◌, Some};
-ghost use Rattle.q_model.specs.Tally.{with_packet, no_totals};
+ghost use Rattle.q_model.specs.Tally.{no_totals, with_packet};
 
 use crate::booking::{NOTHING, one_packet};
 use q_codel::Sink;

@@ -1,22 +1,23 @@
-ghost use Rattle.std.specs.Prelude.{◌≡◌, ◌≤◌, ◌+◌, ◌++◌, length, ℕ, List, Option, None};
+ghost use Rattle.std.specs.Prelude.{◌≡◌, ◌≤◌, ◌+◌, ◌++◌, List, None, Option, is_some, length, ℕ};
 ghost use Rattle.q_model.specs.Ask.{ask};
 ghost use Rattle.q_model.specs.Beneath.{beneath};
-ghost use Rattle.q_model.specs.declared.filter.Filter.{Filter};
 ghost use Rattle.q_model.specs.Node.{shape};
+ghost use Rattle.q_model.specs.Pop.{pop};
 ghost use Rattle.q_model.specs.Step.{losses_in};
 ghost use Rattle.q_model.specs.Work.{booked};
-ghost use Rattle.q_tree.specs.AskSteps.{CanAsk, CanAskIn, IsShown, IsAskedIn, IsToldOf, answer_of, held_in, no_toll, packets_within, toll_of};
+ghost use Rattle.q_model.specs.declared.filter.Filter.{Filter};
+ghost use Rattle.q_tree.specs.AskSteps.{CanAsk, CanAskIn, IsAskedIn, IsShown, IsToldOf, answer_of, held_in, no_toll, packets_within, toll_of};
 ghost use Rattle.q_tree.specs.Kept.{kept};
 ghost use Rattle.q_tree.specs.Seen.{discipline_seen};
 
 use crate::booking::book_shown;
-use crate::drr::serve;
-use crate::fq_codel::take_from_flows;
+use crate::disciplines::drr::serve;
+use crate::disciplines::fifo::first_packet;
+use crate::disciplines::fq_codel::take_from_flows;
+use crate::disciplines::prio::{ask_bands, first_at_hand, ready_band};
+use crate::disciplines::tbf::ask_child;
 use crate::node::{Discipline, Node};
-use crate::prio::ask_bands;
-use crate::ready_packet::first_packet;
 use crate::shown::Shown;
-use crate::tbf::ask_child;
 use crate::toll::Toll;
 use q_codel::Sink;
 use q_packet::{Moment, Packet};
@@ -47,6 +48,41 @@ impl Node {
         let shown = self.discipline.ask(&mut self.held, now, toll, sink);
         book_shown(&mut self.row, &shown, toll);
         shown
+    }
+
+    /// The packet that the node has at hand, without being asked: the one that it holds, a fifo's head, and for a prio that of
+    /// its first band which has one. Once it was asked, it is the packet that it showed.
+    #[cycle(at_hand)]
+    pub(crate) fn at_hand(&self) -> Option<Packet>
+        ensures { result ≡ (pop self.now).shown }
+    {
+        if self.held.is_some() {
+            return self.held;
+        }
+        match &self.discipline {
+            Discipline::Fifo(fifo) => return first_packet(fifo),
+            Discipline::Prio { bands, .. } => return first_at_hand(bands),
+            Discipline::Tbf { .. } | Discipline::Drr { .. } | Discipline::FqCodel(_) => {
+                return None;
+            }
+        }
+    }
+
+    /// Whether the node has a packet at hand. None is copied for that.
+    #[cycle(has_packet)]
+    pub(crate) fn has_packet(&self) -> bool
+        ensures { result ≡ is_some (pop self.now).shown }
+    {
+        if self.held.is_some() {
+            return true;
+        }
+        match &self.discipline {
+            Discipline::Fifo(fifo) => return first_packet(fifo).is_some(),
+            Discipline::Prio { bands, .. } => return ready_band(bands).is_some(),
+            Discipline::Tbf { .. } | Discipline::Drr { .. } | Discipline::FqCodel(_) => {
+                return false;
+            }
+        }
     }
 }
 

@@ -1,8 +1,8 @@
-ghost use Rattle.std.specs.Prelude.{◌≡◌, ◌≤◌, ◌∷◌, ℕ, List, map, IsSome, IsOk, OnOk};
+ghost use Rattle.std.specs.Prelude.{◌≡◌, ◌≤◌, IsOk, IsSome, List, OnOk, map, ℕ};
 ghost use Rattle.q_model.specs.Find.{node_at};
 ghost use Rattle.q_tree.specs.Arrivals.{HasPlace, HasPlaceIn};
-ghost use Rattle.q_tree.specs.Places.{unplaced, places_at, places_under, Leads, HasPlaceAt};
-ghost use Rattle.q_tree.specs.Seen.{discipline_seen, children_seen, places_seen};
+ghost use Rattle.q_tree.specs.Places.{HasPlaceAt, Leads, places_at, places_under, unplaced};
+ghost use Rattle.q_tree.specs.Seen.{children_seen, discipline_seen, places_seen};
 
 use crate::node::{Discipline, Node};
 use std::alloc::AllocError;

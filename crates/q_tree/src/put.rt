@@ -1,29 +1,23 @@
-ghost use Rattle.std.specs.Prelude.{◌≡◌, ◌<◌, ◌≤◌, ◌+◌, ◌++◌, ◌^◌, length, slice_get, Some, None, IsTrue, if◌then◌else◌};
-ghost use Rattle.q_fqcodel.specs.FqState.{packets_of, bytes_of};
-ghost use Rattle.q_fqcodel.specs.Put.{is_lost_itself, after_put, lost_by_put};
+ghost use Rattle.std.specs.Prelude.{◌≡◌, ◌≤◌, ◌+◌, ◌++◌, Some, length, slice_get};
 ghost use Rattle.q_model.specs.Beneath as beneath;
 ghost use Rattle.q_model.specs.Node as spec;
 ghost use Rattle.q_model.specs.Node.{shape};
 ghost use Rattle.q_model.specs.Put.{put_along};
 ghost use Rattle.q_model.specs.Step.{losses_in};
-ghost use Rattle.q_model.specs.Tally.{with_packet, no_totals};
+ghost use Rattle.q_model.specs.Tally.{with_packet};
 ghost use Rattle.q_model.specs.TreeState.{loss_at_end};
-ghost use Rattle.q_model.specs.Work.{booked, settled_class};
+ghost use Rattle.q_model.specs.Work.{booked};
 ghost use Rattle.q_tree.specs.Arrivals.{CanPut, IsOutcome};
 ghost use Rattle.q_tree.specs.Kept.{Kept, kept};
-ghost use Rattle.q_tree.specs.PutSteps.{CanFlow, CanQueue, IsQueued, CanPutInto, IsPutInto, rises_here, packets_beneath};
-ghost use Rattle.q_codel.specs.Losses.{losses_of};
-ghost use Rattle.q_tree.specs.Seen.{discipline_seen, children_seen, places_seen};
+ghost use Rattle.q_tree.specs.PutSteps.{CanPutInto, CanQueue, IsPutInto, IsQueued, packets_beneath, rises_here};
+ghost use Rattle.q_tree.specs.Seen.{children_seen, discipline_seen, places_seen};
 
-use crate::booking::{NOTHING, book_arrival, one_packet};
-use crate::drr::settle;
-use crate::fq_codel::put_in_flow;
+use crate::booking::{NOTHING, book_arrival};
+use crate::disciplines::drr::settle;
+use crate::disciplines::fq_codel::put_in_flow;
 use crate::node::{Discipline, Node};
 use crate::outcome::{Outcome, refuse};
-use q_codel::{Fifo, Sink};
-use q_drr::Active;
-use q_fqcodel::FqCodel;
-use q_model::Totals;
+use q_codel::Sink;
 use q_packet::{Cause, Moment, Packet, Stamped};
 
 impl Node {

@@ -1,6 +1,6 @@
-ghost use Rattle.std.specs.Prelude.{◌≡◌, ◌<◌, ◌≤◌, ◌+◌, ◌^◌, Some, None, true, is_some, IfSome, IsSomeAnd};
-ghost use Rattle.q_tree.specs.AskSteps.{no_toll, toll_of};
+ghost use Rattle.std.specs.Prelude.{◌≡◌, ◌<◌, ◌≤◌, ◌+◌, ◌^◌, IfSome, IsSomeAnd, None, Some, is_some, true};
 ghost use Rattle.q_tree.specs.Arrivals.{plus};
+ghost use Rattle.q_tree.specs.AskSteps.{no_toll, toll_of};
 ghost use Rattle.q_tree.specs.Shown.{length_of};
 
 use crate::toll::{NO_TOLL, Toll};

@@ -1,6 +1,6 @@
 ghost use Rattle.std.specs.Prelude.{◌≡◌, ◌<◌, ◌+◌, ◌^◌, true};
-ghost use Rattle.q_tree.specs.AskSteps.{no_toll};
 ghost use Rattle.q_tree.specs.Arrivals.{plus};
+ghost use Rattle.q_tree.specs.AskSteps.{no_toll};
 
 use crate::booking::{NOTHING, sum};
 use q_model::Totals;

@@ -1,7 +1,7 @@
-ghost use Rattle.std.specs.Prelude.{◌≡◌, ◌+◌, IfSome, length, None, option_map, slice_get, unwrap_or};
-ghost use Rattle.q_model.specs.declared.place.Place.TheVariants as place;
+ghost use Rattle.std.specs.Prelude.{◌≡◌, ◌+◌, IfSome, None, length, option_map, slice_get, unwrap_or};
 ghost use Rattle.q_model.specs.Node.{children};
 ghost use Rattle.q_model.specs.Views.{class_ids, class_kind, class_views, filter_views, minors, node_view, places_below, qdisc_view};
+ghost use Rattle.q_model.specs.declared.place.Place.TheVariants as place;
 ghost use Rattle.q_tree.specs.Kept.{kept};
 ghost use Rattle.q_tree.specs.Showing.{HasClass, IsNumbered, standing};
 

@@ -4,19 +4,19 @@ use Rattle.q_tree.proofs.AtHandLemmas.{found, passed, nobody, prio-shown, none-h
 use Rattle.q_tree.proofs.RouteLemmas.{child-size, children-size}
 use Rattle.q_tree.proofs.+at_hand.Goals as goal
 
-pub ready_packet::first_at_hand-loop-band-init : goal.ready_packet::first_at_hand-loop-band-init
-ready_packet::first_at_hand-loop-band-init t c = refl
+pub disciplines::prio::first_at_hand-loop-band-init : goal.disciplines::prio::first_at_hand-loop-band-init
+disciplines::prio::first_at_hand-loop-band-init t c = refl
 
-pub ready_packet::first_at_hand-returns-in-Some : goal.ready_packet::first_at_hand-returns-in-Some
-ready_packet::first_at_hand-returns-in-Some t c =
+pub disciplines::prio::first_at_hand-returns-in-Some : goal.disciplines::prio::first_at_hand-returns-in-Some
+disciplines::prio::first_at_hand-returns-in-Some t c =
     found c.args.bands.now c.loop-band.band-index c.band-item.result c.in-Some.packet c.loop-band-test.true c.band-item.is c.loop-band.invariant (sym c.at_hand.ensures ∙ c.in-Some.is)
 
-pub ready_packet::first_at_hand-loop-band-preserved : goal.ready_packet::first_at_hand-loop-band-preserved
-ready_packet::first_at_hand-loop-band-preserved t c =
+pub disciplines::prio::first_at_hand-loop-band-preserved : goal.disciplines::prio::first_at_hand-loop-band-preserved
+disciplines::prio::first_at_hand-loop-band-preserved t c =
     passed c.args.bands.now c.loop-band.band-index c.band-item.result c.loop-band-test.true c.band-item.is c.loop-band.invariant (sym c.at_hand.ensures ∙ c.in_default.is)
 
-pub ready_packet::first_at_hand-returns : goal.ready_packet::first_at_hand-returns
-ready_packet::first_at_hand-returns t c = nobody c.args.bands.now c.loop-band.band-index c.loop-band-test.false c.loop-band.invariant
+pub disciplines::prio::first_at_hand-returns : goal.disciplines::prio::first_at_hand-returns
+disciplines::prio::first_at_hand-returns t c = nobody c.args.bands.now c.loop-band.band-index c.loop-band-test.false c.loop-band.invariant
 
 pub node::Node::at_hand-first_at_hand-requires : goal.node::Node::at_hand-first_at_hand-requires
 node::Node::at_hand-first_at_hand-requires t c =
@@ -28,8 +28,8 @@ node::Node::at_hand-returns-in-Prio t c =
     c.first_at_hand.ensures
     ∙ prio-shown c.self.inside c.args.self.now c.deref.result.now c.in-Prio.priomap c.self.view_is (none-held c.self.inside.held c.if-is_some.ensures) (ap discipline_seen c.in-Prio.is) (c.deref.ensures.value ∙ sym (ap children_seen c.in-Prio.is))
 
-pub ready_packet::first_at_hand-at_hand-requires : goal.ready_packet::first_at_hand-at_hand-requires
-ready_packet::first_at_hand-at_hand-requires t c = (
+pub disciplines::prio::first_at_hand-at_hand-requires : goal.disciplines::prio::first_at_hand-at_hand-requires
+disciplines::prio::first_at_hand-at_hand-requires t c = (
   omega (arith, child-size c.args.bands.now c.loop-band.band-index c.band-item.result (there-at c.args.bands.now c.loop-band.band-index c.band-item.result c.loop-band-test.true c.band-item.is), c.decreases),
   tt,
 )

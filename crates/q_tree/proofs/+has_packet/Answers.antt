@@ -8,28 +8,28 @@ use Rattle.q_tree.proofs.PopLemmas.{ready-here, ready-next, ready-none, ready-so
 use Rattle.q_tree.proofs.RouteLemmas.{child-size, children-size}
 use Rattle.q_tree.proofs.+has_packet.Goals as goal
 
-pub pop::ready_band-loop-place-init : goal.pop::ready_band-loop-place-init
-pop::ready_band-loop-place-init t c = omega arith
+pub disciplines::prio::ready_band-loop-place-init : goal.disciplines::prio::ready_band-loop-place-init
+disciplines::prio::ready_band-loop-place-init t c = omega arith
 
-pub pop::ready_band-has_packet-requires : goal.pop::ready_band-has_packet-requires
-pop::ready_band-has_packet-requires t c = (
+pub disciplines::prio::ready_band-has_packet-requires : goal.disciplines::prio::ready_band-has_packet-requires
+disciplines::prio::ready_band-has_packet-requires t c = (
   omega (arith, child-size c.args.bands.now c.loop-place.place c.index-bands-place.result (there-at c.args.bands.now c.loop-place.place c.index-bands-place.result c.loop-place-test.true c.index-bands-place.is), c.decreases),
   tt,
 )
 
-pub pop::ready_band-returns-then-has_packet : goal.pop::ready_band-returns-then-has_packet
-pop::ready_band-returns-then-has_packet t c =
+pub disciplines::prio::ready_band-returns-then-has_packet : goal.disciplines::prio::ready_band-returns-then-has_packet
+disciplines::prio::ready_band-returns-then-has_packet t c =
     let some = sym c.has_packet.ensures ∙ c.if-has_packet.true in (
       ready-here c.args.bands.now c.loop-place.place c.index-bands-place.result c.loop-place-test.true c.index-bands-place.is some c.loop-place.invariant,
       omega (arith, c.loop-place-test.true, length-map c.args.bands.now pop),
     )
 
-pub pop::ready_band-loop-place-preserved : goal.pop::ready_band-loop-place-preserved
-pop::ready_band-loop-place-preserved t c =
+pub disciplines::prio::ready_band-loop-place-preserved : goal.disciplines::prio::ready_band-loop-place-preserved
+disciplines::prio::ready_band-loop-place-preserved t c =
     ready-next c.args.bands.now c.loop-place.place c.index-bands-place.result c.loop-place-test.true c.index-bands-place.is (sym c.has_packet.ensures ∙ c.if-has_packet.false) c.loop-place.invariant
 
-pub pop::ready_band-returns : goal.pop::ready_band-returns
-pop::ready_band-returns t c = ready-none c.args.bands.now c.loop-place.place c.loop-place-test.false c.loop-place.auto.place-end c.loop-place.invariant
+pub disciplines::prio::ready_band-returns : goal.disciplines::prio::ready_band-returns
+disciplines::prio::ready_band-returns t c = ready-none c.args.bands.now c.loop-place.place c.loop-place-test.false c.loop-place.auto.place-end c.loop-place.invariant
 
 pub node::Node::has_packet-ready_band-requires : goal.node::Node::has_packet-ready_band-requires
 node::Node::has_packet-ready_band-requires t c =

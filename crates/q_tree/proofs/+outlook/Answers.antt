@@ -27,42 +27,42 @@ node::Node::outlook-returns-in-Drr t c =
     c.of_front.ensures
     ∙ outlook-is c.args.now c.self.inside c.args.self.now c.deref-in-Drr.result.now (spec.Drr c.in-Drr.active) c.self.view_is (no-held c.self.inside.held c.in_default.not-Some) (ap discipline_seen c.in-Drr.is) (c.deref-in-Drr.ensures.value ∙ sym (ap children_seen c.in-Drr.is))
 
-pub ready_at::of_front-deficit-deficit-requires : goal.ready_at::of_front-deficit-deficit-requires
-ready_at::of_front-deficit-deficit-requires t c =
+pub disciplines::drr::of_front-deficit-deficit-requires : goal.disciplines::drr::of_front-deficit-deficit-requires
+disciplines::drr::of_front-deficit-deficit-requires t c =
     front-known c.args.active.now c.in-Some.class c.front.ensures.lawful (sym c.front.ensures.front ∙ c.in-Some.is)
 
-pub ready_at::of_front-returns-in_default-place_of :
-    goal.ready_at::of_front-returns-in_default-place_of
-ready_at::of_front-returns-in_default-place_of t c =
+pub disciplines::drr::of_front-returns-in_default-place_of :
+    goal.disciplines::drr::of_front-returns-in_default-place_of
+disciplines::drr::of_front-returns-in_default-place_of t c =
     sym (no-place c.args.now c.args.active.now c.in-Some.class c.args.classes.now (sym c.front.ensures.front ∙ c.in-Some.is) (sym c.place_of.ensures.value ∙ c.in_default-place_of.is))
 
-pub ready_at::of_front-outlook-requires : goal.ready_at::of_front-outlook-requires
-ready_at::of_front-outlook-requires t c = (
+pub disciplines::drr::of_front-outlook-requires : goal.disciplines::drr::of_front-outlook-requires
+disciplines::drr::of_front-outlook-requires t c = (
   omega (arith, child-size c.args.classes.now c.in-Some-place_of.place c.index-classes-place.result (there-at c.args.classes.now c.in-Some-place_of.place c.index-classes-place.result (omega arith) c.index-classes-place.is), c.decreases),
   tt,
 )
 
-pub ready_at::of_front-returns : goal.ready_at::of_front-returns
-ready_at::of_front-returns t c =
+pub disciplines::drr::of_front-returns : goal.disciplines::drr::of_front-returns
+disciplines::drr::of_front-returns t c =
     c.paid.ensures ∙ ap₂ paid c.deficit-deficit.ensures.value c.outlook.ensures
     ∙ sym (at-front c.args.now c.args.active.now c.in-Some.class c.args.classes.now (sym c.front.ensures.front ∙ c.in-Some.is) c.in-Some-place_of.place (sym c.place_of.ensures.value ∙ c.in-Some-place_of.is)
     (Some c.index-classes-place.result) (there-at c.args.classes.now c.in-Some-place_of.place c.index-classes-place.result (omega arith) c.index-classes-place.is))
 
-pub ready_at::of_bands-outlook-requires : goal.ready_at::of_bands-outlook-requires
-ready_at::of_bands-outlook-requires t c = (
+pub disciplines::prio::of_bands-outlook-requires : goal.disciplines::prio::of_bands-outlook-requires
+disciplines::prio::of_bands-outlook-requires t c = (
   omega (arith, child-size c.args.bands.now c.loop-band.band-index c.band-item.result (there-at c.args.bands.now c.loop-band.band-index c.band-item.result c.loop-band-test.true c.band-item.is), c.decreases),
   tt,
 )
 
-pub ready_at::of_bands-loop-band-init : goal.ready_at::of_bands-loop-band-init
-ready_at::of_bands-loop-band-init t c = refl
+pub disciplines::prio::of_bands-loop-band-init : goal.disciplines::prio::of_bands-loop-band-init
+disciplines::prio::of_bands-loop-band-init t c = refl
 
-pub ready_at::of_bands-loop-band-preserved : goal.ready_at::of_bands-loop-band-preserved
-ready_at::of_bands-loop-band-preserved t c =
+pub disciplines::prio::of_bands-loop-band-preserved : goal.disciplines::prio::of_bands-loop-band-preserved
+disciplines::prio::of_bands-loop-band-preserved t c =
     ap (λ o. with_bands o (map (outlook c.args.now) (drop (c.loop-band.band-index + 1) c.args.bands.now))) (c.with_band-outlook.ensures ∙ ap (with_band c.loop-band.outlook) c.outlook.ensures)
     ∙ sym (band-next c.args.now c.args.bands.now c.loop-band.band-index c.band-item.result c.loop-band.outlook c.loop-band-test.true c.band-item.is)
     ∙ c.loop-band.invariant
 
-pub ready_at::of_bands-returns : goal.ready_at::of_bands-returns
-ready_at::of_bands-returns t c =
+pub disciplines::prio::of_bands-returns : goal.disciplines::prio::of_bands-returns
+disciplines::prio::of_bands-returns t c =
     sym (bands-end c.args.now c.args.bands.now c.loop-band.band-index c.loop-band.outlook c.loop-band-test.false) ∙ c.loop-band.invariant

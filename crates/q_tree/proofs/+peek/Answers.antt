@@ -28,47 +28,47 @@ use Rattle.q_tree.proofs.RouteLemmas.{child-size, children-size}
 use Rattle.q_tree.proofs.TakeCounts.{flow-told}
 use Rattle.q_tree.proofs.+peek.Goals as goal
 
-pub drr::ask_further-then-requires-clause-dropped_packets : goal.drr::ask_further-then-requires-clause-dropped_packets
-drr::ask_further-then-requires-clause-dropped_packets g t c = (fits-beside c.args.now c.args.class.now c.args.so_far c.peek-next.result (g.S.Sink.room c.args.sink.now) c.requires.ready c.peek-next.ensures.shown).dropped_packets
+pub disciplines::drr::ask_further-then-requires-clause-dropped_packets : goal.disciplines::drr::ask_further-then-requires-clause-dropped_packets
+disciplines::drr::ask_further-then-requires-clause-dropped_packets g t c = (fits-beside c.args.now c.args.class.now c.args.so_far c.peek-next.result (g.S.Sink.room c.args.sink.now) c.requires.ready c.peek-next.ensures.shown).dropped_packets
 
-pub drr::ask_further-then-requires-clause-dropped_bytes : goal.drr::ask_further-then-requires-clause-dropped_bytes
-drr::ask_further-then-requires-clause-dropped_bytes g t c = (fits-beside c.args.now c.args.class.now c.args.so_far c.peek-next.result (g.S.Sink.room c.args.sink.now) c.requires.ready c.peek-next.ensures.shown).dropped_bytes
+pub disciplines::drr::ask_further-then-requires-clause-dropped_bytes : goal.disciplines::drr::ask_further-then-requires-clause-dropped_bytes
+disciplines::drr::ask_further-then-requires-clause-dropped_bytes g t c = (fits-beside c.args.now c.args.class.now c.args.so_far c.peek-next.result (g.S.Sink.room c.args.sink.now) c.requires.ready c.peek-next.ensures.shown).dropped_bytes
 
-pub drr::ask_further-then-requires-clause-marked_packets : goal.drr::ask_further-then-requires-clause-marked_packets
-drr::ask_further-then-requires-clause-marked_packets g t c = (fits-beside c.args.now c.args.class.now c.args.so_far c.peek-next.result (g.S.Sink.room c.args.sink.now) c.requires.ready c.peek-next.ensures.shown).marked_packets
+pub disciplines::drr::ask_further-then-requires-clause-marked_packets : goal.disciplines::drr::ask_further-then-requires-clause-marked_packets
+disciplines::drr::ask_further-then-requires-clause-marked_packets g t c = (fits-beside c.args.now c.args.class.now c.args.so_far c.peek-next.result (g.S.Sink.room c.args.sink.now) c.requires.ready c.peek-next.ensures.shown).marked_packets
 
-pub drr::ask_further-then-requires-clause-marked_bytes : goal.drr::ask_further-then-requires-clause-marked_bytes
-drr::ask_further-then-requires-clause-marked_bytes g t c = (fits-beside c.args.now c.args.class.now c.args.so_far c.peek-next.result (g.S.Sink.room c.args.sink.now) c.requires.ready c.peek-next.ensures.shown).marked_bytes
+pub disciplines::drr::ask_further-then-requires-clause-marked_bytes : goal.disciplines::drr::ask_further-then-requires-clause-marked_bytes
+disciplines::drr::ask_further-then-requires-clause-marked_bytes g t c = (fits-beside c.args.now c.args.class.now c.args.so_far c.peek-next.result (g.S.Sink.room c.args.sink.now) c.requires.ready c.peek-next.ensures.shown).marked_bytes
 
-pub dequeue::dequeue_child-returns-in_default-clause-after :
-    goal.dequeue::dequeue_child-returns-in_default-clause-after
-dequeue::dequeue_child-returns-in_default-clause-after g t c = λ own limit.
+pub disciplines::tbf::dequeue_child-returns-in_default-clause-after :
+    goal.disciplines::tbf::dequeue_child-returns-in_default-clause-after
+disciplines::tbf::dequeue_child-returns-in_default-clause-after g t c = λ own limit.
     tbf-none c.args.now own c.args.bucket.now limit c.args.child.now c.peek-shown.new.self c.peek-shown.result c.peek-shown.ensures.after c.peek-shown.ensures.arrived c.peek-shown.ensures.shown (c.packet_len.ensures.none c.in_default.is)
 
-pub dequeue::dequeue_child-returns-clause-after : goal.dequeue::dequeue_child-returns-clause-after
-dequeue::dequeue_child-returns-clause-after g t c = λ own limit.
+pub disciplines::tbf::dequeue_child-returns-clause-after : goal.disciplines::tbf::dequeue_child-returns-clause-after
+disciplines::tbf::dequeue_child-returns-clause-after g t c = λ own limit.
     let offer = shown-len c.peek-shown.result.packet c.packet_len.result c.in-Some.len c.packet_len.ensures.some c.in-Some.is in
     let shown = sym c.peek-shown.ensures.shown.packet ∙ offer.1 in
     let given = hand-asked c.args.now c.args.child.now c.peek-shown.new.self c.requires.ready c.peek-shown.ensures.after in
     tbf-gave c.args.now own c.args.bucket.now limit c.args.child.now c.peek-shown.new.self c.give.new.self offer.0 c.peek-shown.result
     c.requires.ready c.peek-shown.ensures.after shown (ap (allows c.args.bucket.now c.args.now) offer.2 ∙ sym c.spend.ensures.answer ∙ c.if-not-spend.false) c.give.ensures.after (c.give.ensures.arrived ∙ c.peek-shown.ensures.arrived) (c.peek-shown.ensures.shown.packet ∙ sym given) c.peek-shown.ensures.shown.dropped c.peek-shown.ensures.shown.marked
 
-pub dequeue::dequeue_child-returns-clause-packet : goal.dequeue::dequeue_child-returns-clause-packet
-dequeue::dequeue_child-returns-clause-packet g t c =
+pub disciplines::tbf::dequeue_child-returns-clause-packet : goal.disciplines::tbf::dequeue_child-returns-clause-packet
+disciplines::tbf::dequeue_child-returns-clause-packet g t c =
     c.give.ensures.packet
     ∙ ap (λ o. unwrap_or o c.args.out.now) (hand-asked c.args.now c.args.child.now c.peek-shown.new.self c.requires.ready c.peek-shown.ensures.after ∙ sym c.peek-shown.ensures.shown.packet)
 
-pub dequeue::dequeue_child-returns-in_default-clause-packet : goal.dequeue::dequeue_child-returns-in_default-clause-packet
-dequeue::dequeue_child-returns-in_default-clause-packet g t c = ap (λ o. unwrap_or o c.args.out.now) (sym (c.packet_len.ensures.none c.in_default.is))
+pub disciplines::tbf::dequeue_child-returns-in_default-clause-packet : goal.disciplines::tbf::dequeue_child-returns-in_default-clause-packet
+disciplines::tbf::dequeue_child-returns-in_default-clause-packet g t c = ap (λ o. unwrap_or o c.args.out.now) (sym (c.packet_len.ensures.none c.in_default.is))
 
-pub dequeue::dequeue_child-returns-then-not-spend-clause-packet : goal.dequeue::dequeue_child-returns-then-not-spend-clause-packet
-dequeue::dequeue_child-returns-then-not-spend-clause-packet g t c = ap (λ (s : Shown). unwrap_or s.packet c.args.out.now) (sym c.showing.ensures)
+pub disciplines::tbf::dequeue_child-returns-then-not-spend-clause-packet : goal.disciplines::tbf::dequeue_child-returns-then-not-spend-clause-packet
+disciplines::tbf::dequeue_child-returns-then-not-spend-clause-packet g t c = ap (λ (s : Shown). unwrap_or s.packet c.args.out.now) (sym c.showing.ensures)
 
-pub dequeue::dequeue_child-returns-then-not-spend-clause-toll : goal.dequeue::dequeue_child-returns-then-not-spend-clause-toll
-dequeue::dequeue_child-returns-then-not-spend-clause-toll g t c = c.peek-shown.ensures.toll ∙ sym (ap toll_of c.showing.ensures)
+pub disciplines::tbf::dequeue_child-returns-then-not-spend-clause-toll : goal.disciplines::tbf::dequeue_child-returns-then-not-spend-clause-toll
+disciplines::tbf::dequeue_child-returns-then-not-spend-clause-toll g t c = c.peek-shown.ensures.toll ∙ sym (ap toll_of c.showing.ensures)
 
-pub dequeue::dequeue_class-loop-place-init : goal.dequeue::dequeue_class-loop-place-init
-dequeue::dequeue_class-loop-place-init g t c = (
+pub disciplines::drr::dequeue_class-loop-place-init : goal.disciplines::drr::dequeue_class-loop-place-init
+disciplines::drr::dequeue_class-loop-place-init g t c = (
   classes-start c.args.now c.args.active.now c.args.classes.now c.active_count-unasked.result c.at_hand-shown.result (g.S.Sink.losses c.args.sink.now) (g.S.Sink.room c.args.sink.now) c.requires.ready c.active_count-unasked.ensures
       (record { dropped = ap (λ (s : Shown). s.dropped) c.at_hand-shown.ensures; marked = ap (λ (s : Shown). s.marked) c.at_hand-shown.ensures }),
   g.met.S.Sink.keeps_same c.args.sink.now,
@@ -76,24 +76,24 @@ dequeue::dequeue_class-loop-place-init g t c = (
   c.requires.clean ∙ sym (ap toll_of c.at_hand-shown.ensures),
 )
 
-pub dequeue::dequeue_class-offset_bounds-classes-place : goal.dequeue::dequeue_class-offset_bounds-classes-place
-dequeue::dequeue_class-offset_bounds-classes-place g t c =
+pub disciplines::drr::dequeue_class-offset_bounds-classes-place : goal.disciplines::drr::dequeue_class-offset_bounds-classes-place
+disciplines::drr::dequeue_class-offset_bounds-classes-place g t c =
     let told : SinkTold = record { losses = g.S.Sink.losses c.args.sink.now; losses_now = g.S.Sink.losses c.loop-place.sink; room = g.S.Sink.room c.args.sink.now; room_now = g.S.Sink.room c.loop-place.sink } in
     let at = front-at c.loop-place.active c.in-Some.place (sym c.in-Some.is ∙ c.front_place.ensures.place) in
     let front = front_is at.class c.loop-place.active at.front in
     let place = class-in-front c.args.now c.args.active.now c.loop-place.active c.args.classes.now c.loop-place.classes c.loop-place.unasked c.loop-place.shown told c.requires.ready c.loop-place.invariant.0 at.class c.front_place.ensures.lawful front c.in-Some.place at.found in
     omega (arith, place-within c.args.now c.args.active.now c.loop-place.active c.args.classes.now c.loop-place.classes c.loop-place.unasked c.loop-place.shown told c.requires.ready c.loop-place.invariant.0 at.class c.front_place.ensures.lawful front c.in-Some.place place, c.loop-place.auto.classes)
 
-pub dequeue::dequeue_class-bounds-classes-place : goal.dequeue::dequeue_class-bounds-classes-place
-dequeue::dequeue_class-bounds-classes-place g t c =
+pub disciplines::drr::dequeue_class-bounds-classes-place : goal.disciplines::drr::dequeue_class-bounds-classes-place
+disciplines::drr::dequeue_class-bounds-classes-place g t c =
     let told : SinkTold = record { losses = g.S.Sink.losses c.args.sink.now; losses_now = g.S.Sink.losses c.loop-place.sink; room = g.S.Sink.room c.args.sink.now; room_now = g.S.Sink.room c.loop-place.sink } in
     let at = front-at c.loop-place.active c.in-Some.place (sym c.in-Some.is ∙ c.front_place.ensures.place) in
     let front = front_is at.class c.loop-place.active at.front in
     let place = class-in-front c.args.now c.args.active.now c.loop-place.active c.args.classes.now c.loop-place.classes c.loop-place.unasked c.loop-place.shown told c.requires.ready c.loop-place.invariant.0 at.class c.front_place.ensures.lawful front c.in-Some.place at.found in
     place-within c.args.now c.args.active.now c.loop-place.active c.args.classes.now c.loop-place.classes c.loop-place.unasked c.loop-place.shown told c.requires.ready c.loop-place.invariant.0 at.class c.front_place.ensures.lawful front c.in-Some.place place
 
-pub dequeue::dequeue_class-ask_class-shown-requires : goal.dequeue::dequeue_class-ask_class-shown-requires
-dequeue::dequeue_class-ask_class-shown-requires g t c κs within =
+pub disciplines::drr::dequeue_class-ask_class-shown-requires : goal.disciplines::drr::dequeue_class-ask_class-shown-requires
+disciplines::drr::dequeue_class-ask_class-shown-requires g t c κs within =
     let told : SinkTold = record { losses = g.S.Sink.losses c.args.sink.now; losses_now = g.S.Sink.losses c.loop-place.sink; room = g.S.Sink.room c.args.sink.now; room_now = g.S.Sink.room c.loop-place.sink } in
     let at = front-at c.loop-place.active c.in-Some.place (sym c.in-Some.is ∙ c.front_place.ensures.place) in
     let front = front_is at.class c.loop-place.active at.front in
@@ -103,8 +103,8 @@ dequeue::dequeue_class-ask_class-shown-requires g t c κs within =
       (within, ((λ some. class-once c.args.now c.args.active.now c.loop-place.active c.args.classes.now c.loop-place.classes c.loop-place.unasked c.loop-place.shown told c.requires.ready c.loop-place.invariant.0 at.class c.front_place.ensures.lawful front c.in-Some.place place c.index-classes-place.result some c.requires.sink), c.loop-place.invariant.3)),
     )
 
-pub dequeue::dequeue_class-returns-in_default-packet_len-clause-active : goal.dequeue::dequeue_class-returns-in_default-packet_len-clause-active
-dequeue::dequeue_class-returns-in_default-packet_len-clause-active g t c =
+pub disciplines::drr::dequeue_class-returns-in_default-packet_len-clause-active : goal.disciplines::drr::dequeue_class-returns-in_default-packet_len-clause-active
+disciplines::drr::dequeue_class-returns-in_default-packet_len-clause-active g t c =
     let told : SinkTold = record { losses = g.S.Sink.losses c.args.sink.now; losses_now = g.S.Sink.losses c.loop-place.sink; room = g.S.Sink.room c.args.sink.now; room_now = g.S.Sink.room c.loop-place.sink } in
     let at = front-at c.loop-place.active c.in-Some.place (sym c.in-Some.is ∙ c.front_place.ensures.place) in
     let front = front_is at.class c.loop-place.active at.front in
@@ -114,8 +114,8 @@ dequeue::dequeue_class-returns-in_default-packet_len-clause-active g t c =
     λ own. nothing-schedule c.args.now c.args.active.now c.loop-place.active c.args.classes.now c.loop-place.classes c.loop-place.unasked c.loop-place.shown told c.requires.ready c.loop-place.invariant.0 at.class c.front_place.ensures.lawful front c.in-Some.place place
     c.ask_class-shown.new.class c.ask_class-shown.result (g.S.Sink.losses c.ask_class-shown.new.sink) (g.S.Sink.room c.ask_class-shown.new.sink) class_shows (c.packet_len.ensures.none c.in_default-packet_len.is) own
 
-pub dequeue::dequeue_class-returns-in_default-packet_len-clause-after : goal.dequeue::dequeue_class-returns-in_default-packet_len-clause-after
-dequeue::dequeue_class-returns-in_default-packet_len-clause-after g t c =
+pub disciplines::drr::dequeue_class-returns-in_default-packet_len-clause-after : goal.disciplines::drr::dequeue_class-returns-in_default-packet_len-clause-after
+disciplines::drr::dequeue_class-returns-in_default-packet_len-clause-after g t c =
     let told : SinkTold = record { losses = g.S.Sink.losses c.args.sink.now; losses_now = g.S.Sink.losses c.loop-place.sink; room = g.S.Sink.room c.args.sink.now; room_now = g.S.Sink.room c.loop-place.sink } in
     let at = front-at c.loop-place.active c.in-Some.place (sym c.in-Some.is ∙ c.front_place.ensures.place) in
     let front = front_is at.class c.loop-place.active at.front in
@@ -125,8 +125,8 @@ dequeue::dequeue_class-returns-in_default-packet_len-clause-after g t c =
     λ own. nothing-asked c.args.now c.args.active.now c.loop-place.active c.args.classes.now c.loop-place.classes c.loop-place.unasked c.loop-place.shown told c.requires.ready c.loop-place.invariant.0 at.class c.front_place.ensures.lawful front c.in-Some.place place
     c.ask_class-shown.new.class c.ask_class-shown.result (g.S.Sink.losses c.ask_class-shown.new.sink) (g.S.Sink.room c.ask_class-shown.new.sink) class_shows (c.packet_len.ensures.none c.in_default-packet_len.is) own
 
-pub dequeue::dequeue_class-returns-in_default-packet_len-clause-told : goal.dequeue::dequeue_class-returns-in_default-packet_len-clause-told
-dequeue::dequeue_class-returns-in_default-packet_len-clause-told g t c =
+pub disciplines::drr::dequeue_class-returns-in_default-packet_len-clause-told : goal.disciplines::drr::dequeue_class-returns-in_default-packet_len-clause-told
+disciplines::drr::dequeue_class-returns-in_default-packet_len-clause-told g t c =
     let told : SinkTold = record { losses = g.S.Sink.losses c.args.sink.now; losses_now = g.S.Sink.losses c.loop-place.sink; room = g.S.Sink.room c.args.sink.now; room_now = g.S.Sink.room c.loop-place.sink } in
     let at = front-at c.loop-place.active c.in-Some.place (sym c.in-Some.is ∙ c.front_place.ensures.place) in
     let front = front_is at.class c.loop-place.active at.front in
@@ -136,12 +136,12 @@ dequeue::dequeue_class-returns-in_default-packet_len-clause-told g t c =
     λ own. nothing-told c.args.now c.args.active.now c.loop-place.active c.args.classes.now c.loop-place.classes c.loop-place.unasked c.loop-place.shown told c.requires.ready c.loop-place.invariant.0 at.class c.front_place.ensures.lawful front c.in-Some.place place
     c.ask_class-shown.new.class c.ask_class-shown.result (g.S.Sink.losses c.ask_class-shown.new.sink) (g.S.Sink.room c.ask_class-shown.new.sink) class_shows (c.packet_len.ensures.none c.in_default-packet_len.is) own
 
-pub dequeue::dequeue_class-returns-in_default-packet_len-clause-kept : goal.dequeue::dequeue_class-returns-in_default-packet_len-clause-kept
-dequeue::dequeue_class-returns-in_default-packet_len-clause-kept g t c =
+pub disciplines::drr::dequeue_class-returns-in_default-packet_len-clause-kept : goal.disciplines::drr::dequeue_class-returns-in_default-packet_len-clause-kept
+disciplines::drr::dequeue_class-returns-in_default-packet_len-clause-kept g t c =
     g.met.S.Sink.keeps_on c.args.sink.now c.loop-place.sink c.ask_class-shown.new.sink c.loop-place.invariant.1 c.ask_class-shown.ensures.kept
 
-pub dequeue::dequeue_class-turn-requires-clause-in_range : goal.dequeue::dequeue_class-turn-requires-clause-in_range
-dequeue::dequeue_class-turn-requires-clause-in_range g t c =
+pub disciplines::drr::dequeue_class-turn-requires-clause-in_range : goal.disciplines::drr::dequeue_class-turn-requires-clause-in_range
+disciplines::drr::dequeue_class-turn-requires-clause-in_range g t c =
     let told : SinkTold = record { losses = g.S.Sink.losses c.args.sink.now; losses_now = g.S.Sink.losses c.loop-place.sink; room = g.S.Sink.room c.args.sink.now; room_now = g.S.Sink.room c.loop-place.sink } in
     let at = front-at c.loop-place.active c.in-Some.place (sym c.in-Some.is ∙ c.front_place.ensures.place) in
     let front = front_is at.class c.loop-place.active at.front in
@@ -152,16 +152,16 @@ dequeue::dequeue_class-turn-requires-clause-in_range g t c =
     let len = sym offer.2 in
     omega (arith, short-enough c.args.now c.args.active.now c.loop-place.active c.args.classes.now c.loop-place.classes c.loop-place.unasked c.loop-place.shown told c.requires.ready c.loop-place.invariant.0 at.class c.front_place.ensures.lawful front c.in-Some.place place offer.0 (sym class_shows.shown ∙ offer.1), len)
 
-pub dequeue::dequeue_class-give_class-requires : goal.dequeue::dequeue_class-give_class-requires
-dequeue::dequeue_class-give_class-requires g t c =
+pub disciplines::drr::dequeue_class-give_class-requires : goal.disciplines::drr::dequeue_class-give_class-requires
+disciplines::drr::dequeue_class-give_class-requires g t c =
     let told : SinkTold = record { losses = g.S.Sink.losses c.args.sink.now; losses_now = g.S.Sink.losses c.loop-place.sink; room = g.S.Sink.room c.args.sink.now; room_now = g.S.Sink.room c.loop-place.sink } in
     let at = front-at c.loop-place.active c.in-Some.place (sym c.in-Some.is ∙ c.front_place.ensures.place) in
     let front = front_is at.class c.loop-place.active at.front in
     let place = class-in-front c.args.now c.args.active.now c.loop-place.active c.args.classes.now c.loop-place.classes c.loop-place.unasked c.loop-place.shown told c.requires.ready c.loop-place.invariant.0 at.class c.front_place.ensures.lawful front c.in-Some.place at.found in
     omega (arith, place-within c.args.now c.args.active.now c.loop-place.active c.args.classes.now c.loop-place.classes c.loop-place.unasked c.loop-place.shown told c.requires.ready c.loop-place.invariant.0 at.class c.front_place.ensures.lawful front c.in-Some.place place, length-set c.loop-place.classes c.in-Some.place c.ask_class-shown.new.class)
 
-pub dequeue::dequeue_class-returns-in-Send-clause-active : goal.dequeue::dequeue_class-returns-in-Send-clause-active
-dequeue::dequeue_class-returns-in-Send-clause-active g t c =
+pub disciplines::drr::dequeue_class-returns-in-Send-clause-active : goal.disciplines::drr::dequeue_class-returns-in-Send-clause-active
+disciplines::drr::dequeue_class-returns-in-Send-clause-active g t c =
     let told : SinkTold = record { losses = g.S.Sink.losses c.args.sink.now; losses_now = g.S.Sink.losses c.loop-place.sink; room = g.S.Sink.room c.args.sink.now; room_now = g.S.Sink.room c.loop-place.sink } in
     let at = front-at c.loop-place.active c.in-Some.place (sym c.in-Some.is ∙ c.front_place.ensures.place) in
     let front = front_is at.class c.loop-place.active at.front in
@@ -176,8 +176,8 @@ dequeue::dequeue_class-returns-in-Send-clause-active g t c =
     c.ask_class-shown.new.class c.ask_class-shown.result (g.S.Sink.losses c.ask_class-shown.new.sink) (g.S.Sink.room c.ask_class-shown.new.sink) class_shows offer.0 offer.1 pays c.give_class.new.active c.give_class.new.classes
     (λ class at. subst (λ s. IsGivenBy c.in-Some.place class s c.give_class.new.active (set c.loop-place.classes c.in-Some.place c.ask_class-shown.new.class) c.give_class.new.classes) turn (c.give_class.ensures.given class at)) own
 
-pub dequeue::dequeue_class-returns-in-Send-clause-after : goal.dequeue::dequeue_class-returns-in-Send-clause-after
-dequeue::dequeue_class-returns-in-Send-clause-after g t c =
+pub disciplines::drr::dequeue_class-returns-in-Send-clause-after : goal.disciplines::drr::dequeue_class-returns-in-Send-clause-after
+disciplines::drr::dequeue_class-returns-in-Send-clause-after g t c =
     let told : SinkTold = record { losses = g.S.Sink.losses c.args.sink.now; losses_now = g.S.Sink.losses c.loop-place.sink; room = g.S.Sink.room c.args.sink.now; room_now = g.S.Sink.room c.loop-place.sink } in
     let at = front-at c.loop-place.active c.in-Some.place (sym c.in-Some.is ∙ c.front_place.ensures.place) in
     let front = front_is at.class c.loop-place.active at.front in
@@ -192,8 +192,8 @@ dequeue::dequeue_class-returns-in-Send-clause-after g t c =
     c.ask_class-shown.new.class c.ask_class-shown.result (g.S.Sink.losses c.ask_class-shown.new.sink) (g.S.Sink.room c.ask_class-shown.new.sink) class_shows offer.0 offer.1 pays c.give_class.new.active c.give_class.new.classes
     (λ class at. subst (λ s. IsGivenBy c.in-Some.place class s c.give_class.new.active (set c.loop-place.classes c.in-Some.place c.ask_class-shown.new.class) c.give_class.new.classes) turn (c.give_class.ensures.given class at)) own
 
-pub dequeue::dequeue_class-returns-in-Send-clause-packet : goal.dequeue::dequeue_class-returns-in-Send-clause-packet
-dequeue::dequeue_class-returns-in-Send-clause-packet g t c =
+pub disciplines::drr::dequeue_class-returns-in-Send-clause-packet : goal.disciplines::drr::dequeue_class-returns-in-Send-clause-packet
+disciplines::drr::dequeue_class-returns-in-Send-clause-packet g t c =
     let told : SinkTold = record { losses = g.S.Sink.losses c.args.sink.now; losses_now = g.S.Sink.losses c.loop-place.sink; room = g.S.Sink.room c.args.sink.now; room_now = g.S.Sink.room c.loop-place.sink } in
     let at = front-at c.loop-place.active c.in-Some.place (sym c.in-Some.is ∙ c.front_place.ensures.place) in
     let front = front_is at.class c.loop-place.active at.front in
@@ -205,14 +205,14 @@ dequeue::dequeue_class-returns-in-Send-clause-packet g t c =
     ∙ ap (λ o. unwrap_or o c.args.out.now) (given-packet c.args.now c.args.active.now c.loop-place.active c.args.classes.now c.loop-place.classes c.loop-place.unasked c.loop-place.shown told c.requires.ready c.loop-place.invariant.0 at.class c.front_place.ensures.lawful front c.in-Some.place place
     c.ask_class-shown.new.class c.ask_class-shown.result (g.S.Sink.losses c.ask_class-shown.new.sink) (g.S.Sink.room c.ask_class-shown.new.sink) class_shows)
 
-pub dequeue::dequeue_class-returns-in_default-packet_len-clause-packet : goal.dequeue::dequeue_class-returns-in_default-packet_len-clause-packet
-dequeue::dequeue_class-returns-in_default-packet_len-clause-packet g t c = c.loop-place.invariant.2 ∙ ap (λ o. unwrap_or o c.args.out.now) (sym (c.packet_len.ensures.none c.in_default-packet_len.is))
+pub disciplines::drr::dequeue_class-returns-in_default-packet_len-clause-packet : goal.disciplines::drr::dequeue_class-returns-in_default-packet_len-clause-packet
+disciplines::drr::dequeue_class-returns-in_default-packet_len-clause-packet g t c = c.loop-place.invariant.2 ∙ ap (λ o. unwrap_or o c.args.out.now) (sym (c.packet_len.ensures.none c.in_default-packet_len.is))
 
-pub dequeue::dequeue_class-returns-clause-packet : goal.dequeue::dequeue_class-returns-clause-packet
-dequeue::dequeue_class-returns-clause-packet g t c = c.loop-place.invariant.2 ∙ ap (λ o. unwrap_or o c.args.out.now) (sym (ap (λ (s : Shown). s.packet) c.at_hand.ensures))
+pub disciplines::drr::dequeue_class-returns-clause-packet : goal.disciplines::drr::dequeue_class-returns-clause-packet
+disciplines::drr::dequeue_class-returns-clause-packet g t c = c.loop-place.invariant.2 ∙ ap (λ o. unwrap_or o c.args.out.now) (sym (ap (λ (s : Shown). s.packet) c.at_hand.ensures))
 
-pub dequeue::dequeue_class-returns-in-Send-clause-told : goal.dequeue::dequeue_class-returns-in-Send-clause-told
-dequeue::dequeue_class-returns-in-Send-clause-told g t c =
+pub disciplines::drr::dequeue_class-returns-in-Send-clause-told : goal.disciplines::drr::dequeue_class-returns-in-Send-clause-told
+disciplines::drr::dequeue_class-returns-in-Send-clause-told g t c =
     let told : SinkTold = record { losses = g.S.Sink.losses c.args.sink.now; losses_now = g.S.Sink.losses c.loop-place.sink; room = g.S.Sink.room c.args.sink.now; room_now = g.S.Sink.room c.loop-place.sink } in
     let at = front-at c.loop-place.active c.in-Some.place (sym c.in-Some.is ∙ c.front_place.ensures.place) in
     let front = front_is at.class c.loop-place.active at.front in
@@ -227,12 +227,12 @@ dequeue::dequeue_class-returns-in-Send-clause-told g t c =
     c.ask_class-shown.new.class c.ask_class-shown.result (g.S.Sink.losses c.ask_class-shown.new.sink) (g.S.Sink.room c.ask_class-shown.new.sink) class_shows offer.0 offer.1 pays c.give_class.new.active c.give_class.new.classes
     (λ class at. subst (λ s. IsGivenBy c.in-Some.place class s c.give_class.new.active (set c.loop-place.classes c.in-Some.place c.ask_class-shown.new.class) c.give_class.new.classes) turn (c.give_class.ensures.given class at)) own
 
-pub dequeue::dequeue_class-returns-in-Send-clause-kept : goal.dequeue::dequeue_class-returns-in-Send-clause-kept
-dequeue::dequeue_class-returns-in-Send-clause-kept g t c =
+pub disciplines::drr::dequeue_class-returns-in-Send-clause-kept : goal.disciplines::drr::dequeue_class-returns-in-Send-clause-kept
+disciplines::drr::dequeue_class-returns-in-Send-clause-kept g t c =
     g.met.S.Sink.keeps_on c.args.sink.now c.loop-place.sink c.ask_class-shown.new.sink c.loop-place.invariant.1 c.ask_class-shown.ensures.kept
 
-pub dequeue::dequeue_class-loop-place-smaller : goal.dequeue::dequeue_class-loop-place-smaller
-dequeue::dequeue_class-loop-place-smaller g t c =
+pub disciplines::drr::dequeue_class-loop-place-smaller : goal.disciplines::drr::dequeue_class-loop-place-smaller
+disciplines::drr::dequeue_class-loop-place-smaller g t c =
     let told : SinkTold = record { losses = g.S.Sink.losses c.args.sink.now; losses_now = g.S.Sink.losses c.loop-place.sink; room = g.S.Sink.room c.args.sink.now; room_now = g.S.Sink.room c.loop-place.sink } in
     let at = front-at c.loop-place.active c.in-Some.place (sym c.in-Some.is ∙ c.front_place.ensures.place) in
     let front = front_is at.class c.loop-place.active at.front in
@@ -247,8 +247,8 @@ dequeue::dequeue_class-loop-place-smaller g t c =
     (measure_falls (heads_of c.args.now c.args.active.now c.args.classes.now) c.loop-place.active at.class offer.0.len front (offered-head c.args.now c.args.active.now c.loop-place.active c.args.classes.now c.loop-place.classes c.loop-place.unasked c.loop-place.shown told c.requires.ready c.loop-place.invariant.0 at.class c.front_place.ensures.lawful front c.in-Some.place place
     c.ask_class-shown.new.class c.ask_class-shown.result (g.S.Sink.losses c.ask_class-shown.new.sink) (g.S.Sink.room c.ask_class-shown.new.sink) class_shows offer.0 offer.1) (front_quantum c.loop-place.active at.class front c.front_place.ensures.lawful) short)
 
-pub dequeue::dequeue_class-loop-place-preserved : goal.dequeue::dequeue_class-loop-place-preserved
-dequeue::dequeue_class-loop-place-preserved g t c =
+pub disciplines::drr::dequeue_class-loop-place-preserved : goal.disciplines::drr::dequeue_class-loop-place-preserved
+disciplines::drr::dequeue_class-loop-place-preserved g t c =
     let told : SinkTold = record { losses = g.S.Sink.losses c.args.sink.now; losses_now = g.S.Sink.losses c.loop-place.sink; room = g.S.Sink.room c.args.sink.now; room_now = g.S.Sink.room c.loop-place.sink } in
     let at = front-at c.loop-place.active c.in-Some.place (sym c.in-Some.is ∙ c.front_place.ensures.place) in
     let front = front_is at.class c.loop-place.active at.front in
@@ -268,30 +268,30 @@ dequeue::dequeue_class-loop-place-preserved g t c =
       c.ask_class-shown.ensures.toll,
     )
 
-pub dequeue::dequeue_class-returns-clause-active : goal.dequeue::dequeue_class-returns-clause-active
-dequeue::dequeue_class-returns-clause-active g t c =
+pub disciplines::drr::dequeue_class-returns-clause-active : goal.disciplines::drr::dequeue_class-returns-clause-active
+disciplines::drr::dequeue_class-returns-clause-active g t c =
     let told : SinkTold = record { losses = g.S.Sink.losses c.args.sink.now; losses_now = g.S.Sink.losses c.loop-place.sink; room = g.S.Sink.room c.args.sink.now; room_now = g.S.Sink.room c.loop-place.sink } in
     let nobody = empty_front c.loop-place.active (nobody-at c.loop-place.active _ c.in_default.is c.front_place.ensures.found) in
     λ own. idle-schedule c.args.now c.args.active.now c.loop-place.active c.args.classes.now c.loop-place.classes c.loop-place.unasked c.loop-place.shown told c.requires.ready c.loop-place.invariant.0 c.front_place.ensures.lawful nobody own
 
-pub dequeue::dequeue_class-returns-clause-after : goal.dequeue::dequeue_class-returns-clause-after
-dequeue::dequeue_class-returns-clause-after g t c =
+pub disciplines::drr::dequeue_class-returns-clause-after : goal.disciplines::drr::dequeue_class-returns-clause-after
+disciplines::drr::dequeue_class-returns-clause-after g t c =
     let told : SinkTold = record { losses = g.S.Sink.losses c.args.sink.now; losses_now = g.S.Sink.losses c.loop-place.sink; room = g.S.Sink.room c.args.sink.now; room_now = g.S.Sink.room c.loop-place.sink } in
     let nobody = empty_front c.loop-place.active (nobody-at c.loop-place.active _ c.in_default.is c.front_place.ensures.found) in
     λ own. idle-asked c.args.now c.args.active.now c.loop-place.active c.args.classes.now c.loop-place.classes c.loop-place.unasked c.loop-place.shown told c.requires.ready c.loop-place.invariant.0 c.front_place.ensures.lawful nobody c.at_hand.result (ap (λ (s : Shown). s.packet) c.at_hand.ensures)
     (record { dropped = ap (λ (s : Shown). s.dropped) c.at_hand.ensures; marked = ap (λ (s : Shown). s.marked) c.at_hand.ensures }) own
 
-pub dequeue::dequeue_class-returns-clause-told : goal.dequeue::dequeue_class-returns-clause-told
-dequeue::dequeue_class-returns-clause-told g t c =
+pub disciplines::drr::dequeue_class-returns-clause-told : goal.disciplines::drr::dequeue_class-returns-clause-told
+disciplines::drr::dequeue_class-returns-clause-told g t c =
     let told : SinkTold = record { losses = g.S.Sink.losses c.args.sink.now; losses_now = g.S.Sink.losses c.loop-place.sink; room = g.S.Sink.room c.args.sink.now; room_now = g.S.Sink.room c.loop-place.sink } in
     let nobody = empty_front c.loop-place.active (nobody-at c.loop-place.active _ c.in_default.is c.front_place.ensures.found) in
     λ own. idle-told c.args.now c.args.active.now c.loop-place.active c.args.classes.now c.loop-place.classes c.loop-place.unasked c.loop-place.shown told c.requires.ready c.loop-place.invariant.0 c.front_place.ensures.lawful nobody own
 
-pub dequeue::dequeue_class-returns-clause-kept : goal.dequeue::dequeue_class-returns-clause-kept
-dequeue::dequeue_class-returns-clause-kept g t c = c.loop-place.invariant.1
+pub disciplines::drr::dequeue_class-returns-clause-kept : goal.disciplines::drr::dequeue_class-returns-clause-kept
+disciplines::drr::dequeue_class-returns-clause-kept g t c = c.loop-place.invariant.1
 
-pub dequeue::dequeue_class-returns-clause-toll : goal.dequeue::dequeue_class-returns-clause-toll
-dequeue::dequeue_class-returns-clause-toll g t c = sym (ap toll_of c.at_hand.ensures)
+pub disciplines::drr::dequeue_class-returns-clause-toll : goal.disciplines::drr::dequeue_class-returns-clause-toll
+disciplines::drr::dequeue_class-returns-clause-toll g t c = sym (ap toll_of c.at_hand.ensures)
 
 pub node::Discipline::ask-ask_bands-requires : goal.node::Discipline::ask-ask_bands-requires
 node::Discipline::ask-ask_bands-requires g t c κs within =
@@ -432,65 +432,65 @@ pub node::Node::peek-returns-clause-room :
 node::Node::peek-returns-clause-room g t c =
     (told-here c.args.now c.self.inside c.args.self.now c.self.invariant c.self.view_is c.requires.ready (none-held c.self.inside.held c.if-is_some.ensures) (g.S.Sink.losses c.args.sink.now) (g.S.Sink.losses c.ask-shown.new.sink) (g.S.Sink.room c.args.sink.now) (g.S.Sink.room c.ask-shown.new.sink) (c.ask-shown.ensures.told c.self.inside.handle c.self.inside.filters.items)).room_taken
 
-pub prio::ask_bands-loop-place-init : goal.prio::ask_bands-loop-place-init
-prio::ask_bands-loop-place-init g t c = (
+pub disciplines::prio::ask_bands-loop-place-init : goal.disciplines::prio::ask_bands-loop-place-init
+disciplines::prio::ask_bands-loop-place-init g t c = (
   bands-start c.args.now c.args.bands.now c.at_hand-shown.result (record { dropped = ap (λ (s : Shown). s.dropped) c.at_hand-shown.ensures; marked = ap (λ (s : Shown). s.marked) c.at_hand-shown.ensures }) (ap (λ (s : Shown). s.packet) c.at_hand-shown.ensures),
   told-nothing (g.S.Sink.losses c.args.sink.now) (g.S.Sink.room c.args.sink.now),
   g.met.S.Sink.keeps_same c.args.sink.now,
   c.requires.clean ∙ sym (ap toll_of c.at_hand-shown.ensures),
 )
 
-pub prio::ask_bands-peek-next-requires : goal.prio::ask_bands-peek-next-requires
-prio::ask_bands-peek-next-requires g t c κs within =
+pub disciplines::prio::ask_bands-peek-next-requires : goal.disciplines::prio::ask_bands-peek-next-requires
+disciplines::prio::ask_bands-peek-next-requires g t c κs within =
     let at = band-at c.args.now c.args.bands.now c.loop-place.bands c.loop-place.place c.loop-place.shown c.loop-place.invariant.0 c.index-bands-place.result c.loop-place-test.true in
     let once = (band-once c.args.now c.args.bands.now c.loop-place.bands c.loop-place.place c.loop-place.shown c.requires.ready c.loop-place.invariant.0 (slice_index_or c.loop-place.bands c.loop-place.place c.index-bands-place.result) (band-at c.args.now c.args.bands.now c.loop-place.bands c.loop-place.place c.loop-place.shown c.loop-place.invariant.0 c.index-bands-place.result c.loop-place-test.true) (g.S.Sink.losses c.args.sink.now) (g.S.Sink.losses c.loop-place.sink) (g.S.Sink.room c.args.sink.now) (g.S.Sink.room c.loop-place.sink) c.loop-place.invariant.1 c.requires.sink) in
     (omega (arith, child-size c.args.bands.now c.loop-place.place (slice_index_or c.loop-place.bands c.loop-place.place c.index-bands-place.result) at, c.decreases), (within, (once.ready, (once.sink, refl))))
 
-pub prio::ask_bands-then-shown-requires-clause-dropped_packets :
-    goal.prio::ask_bands-then-shown-requires-clause-dropped_packets
-prio::ask_bands-then-shown-requires-clause-dropped_packets g t c =
+pub disciplines::prio::ask_bands-then-shown-requires-clause-dropped_packets :
+    goal.disciplines::prio::ask_bands-then-shown-requires-clause-dropped_packets
+disciplines::prio::ask_bands-then-shown-requires-clause-dropped_packets g t c =
     (fits-beside c.args.now (slice_index_or c.loop-place.bands c.loop-place.place c.index-bands-place.result) c.loop-place.shown c.peek-next.result (g.S.Sink.room c.loop-place.sink)
     (band-once c.args.now c.args.bands.now c.loop-place.bands c.loop-place.place c.loop-place.shown c.requires.ready c.loop-place.invariant.0 (slice_index_or c.loop-place.bands c.loop-place.place c.index-bands-place.result) (band-at c.args.now c.args.bands.now c.loop-place.bands c.loop-place.place c.loop-place.shown c.loop-place.invariant.0 c.index-bands-place.result c.loop-place-test.true) (g.S.Sink.losses c.args.sink.now) (g.S.Sink.losses c.loop-place.sink) (g.S.Sink.room c.args.sink.now) (g.S.Sink.room c.loop-place.sink) c.loop-place.invariant.1 c.requires.sink) c.peek-next.ensures.shown).dropped_packets
 
-pub prio::ask_bands-then-shown-requires-clause-dropped_bytes :
-    goal.prio::ask_bands-then-shown-requires-clause-dropped_bytes
-prio::ask_bands-then-shown-requires-clause-dropped_bytes g t c =
+pub disciplines::prio::ask_bands-then-shown-requires-clause-dropped_bytes :
+    goal.disciplines::prio::ask_bands-then-shown-requires-clause-dropped_bytes
+disciplines::prio::ask_bands-then-shown-requires-clause-dropped_bytes g t c =
     (fits-beside c.args.now (slice_index_or c.loop-place.bands c.loop-place.place c.index-bands-place.result) c.loop-place.shown c.peek-next.result (g.S.Sink.room c.loop-place.sink)
     (band-once c.args.now c.args.bands.now c.loop-place.bands c.loop-place.place c.loop-place.shown c.requires.ready c.loop-place.invariant.0 (slice_index_or c.loop-place.bands c.loop-place.place c.index-bands-place.result) (band-at c.args.now c.args.bands.now c.loop-place.bands c.loop-place.place c.loop-place.shown c.loop-place.invariant.0 c.index-bands-place.result c.loop-place-test.true) (g.S.Sink.losses c.args.sink.now) (g.S.Sink.losses c.loop-place.sink) (g.S.Sink.room c.args.sink.now) (g.S.Sink.room c.loop-place.sink) c.loop-place.invariant.1 c.requires.sink) c.peek-next.ensures.shown).dropped_bytes
 
-pub prio::ask_bands-then-shown-requires-clause-marked_packets :
-    goal.prio::ask_bands-then-shown-requires-clause-marked_packets
-prio::ask_bands-then-shown-requires-clause-marked_packets g t c =
+pub disciplines::prio::ask_bands-then-shown-requires-clause-marked_packets :
+    goal.disciplines::prio::ask_bands-then-shown-requires-clause-marked_packets
+disciplines::prio::ask_bands-then-shown-requires-clause-marked_packets g t c =
     (fits-beside c.args.now (slice_index_or c.loop-place.bands c.loop-place.place c.index-bands-place.result) c.loop-place.shown c.peek-next.result (g.S.Sink.room c.loop-place.sink)
     (band-once c.args.now c.args.bands.now c.loop-place.bands c.loop-place.place c.loop-place.shown c.requires.ready c.loop-place.invariant.0 (slice_index_or c.loop-place.bands c.loop-place.place c.index-bands-place.result) (band-at c.args.now c.args.bands.now c.loop-place.bands c.loop-place.place c.loop-place.shown c.loop-place.invariant.0 c.index-bands-place.result c.loop-place-test.true) (g.S.Sink.losses c.args.sink.now) (g.S.Sink.losses c.loop-place.sink) (g.S.Sink.room c.args.sink.now) (g.S.Sink.room c.loop-place.sink) c.loop-place.invariant.1 c.requires.sink) c.peek-next.ensures.shown).marked_packets
 
-pub prio::ask_bands-then-shown-requires-clause-marked_bytes :
-    goal.prio::ask_bands-then-shown-requires-clause-marked_bytes
-prio::ask_bands-then-shown-requires-clause-marked_bytes g t c =
+pub disciplines::prio::ask_bands-then-shown-requires-clause-marked_bytes :
+    goal.disciplines::prio::ask_bands-then-shown-requires-clause-marked_bytes
+disciplines::prio::ask_bands-then-shown-requires-clause-marked_bytes g t c =
     (fits-beside c.args.now (slice_index_or c.loop-place.bands c.loop-place.place c.index-bands-place.result) c.loop-place.shown c.peek-next.result (g.S.Sink.room c.loop-place.sink)
     (band-once c.args.now c.args.bands.now c.loop-place.bands c.loop-place.place c.loop-place.shown c.requires.ready c.loop-place.invariant.0 (slice_index_or c.loop-place.bands c.loop-place.place c.index-bands-place.result) (band-at c.args.now c.args.bands.now c.loop-place.bands c.loop-place.place c.loop-place.shown c.loop-place.invariant.0 c.index-bands-place.result c.loop-place-test.true) (g.S.Sink.losses c.args.sink.now) (g.S.Sink.losses c.loop-place.sink) (g.S.Sink.room c.args.sink.now) (g.S.Sink.room c.loop-place.sink) c.loop-place.invariant.1 c.requires.sink) c.peek-next.ensures.shown).marked_bytes
 
-pub prio::ask_bands-returns-then-has_packet-clause-after :
-    goal.prio::ask_bands-returns-then-has_packet-clause-after
-prio::ask_bands-returns-then-has_packet-clause-after g t c = λ own.
+pub disciplines::prio::ask_bands-returns-then-has_packet-clause-after :
+    goal.disciplines::prio::ask_bands-returns-then-has_packet-clause-after
+disciplines::prio::ask_bands-returns-then-has_packet-clause-after g t c = λ own.
     band-shown c.args.now c.args.bands.now c.loop-place.bands c.loop-place.place c.loop-place.shown c.requires.ready c.loop-place.invariant.0 (slice_index_or c.loop-place.bands c.loop-place.place c.index-bands-place.result) (band-at c.args.now c.args.bands.now c.loop-place.bands c.loop-place.place c.loop-place.shown c.loop-place.invariant.0 c.index-bands-place.result c.loop-place-test.true) c.peek-next.new.self c.peek-next.result c.then-shown.result c.peek-next.ensures.after c.peek-next.ensures.arrived c.peek-next.ensures.shown
     (ap (λ (s : Shown). s.dropped) c.then-shown.ensures.asked) (ap (λ (s : Shown). s.marked) c.then-shown.ensures.asked) (ap (λ (s : Shown). s.packet) c.then-shown.ensures.asked) (sym c.if-has_packet.ensures) own
 
-pub prio::ask_bands-returns-then-has_packet-clause-told :
-    goal.prio::ask_bands-returns-then-has_packet-clause-told
-prio::ask_bands-returns-then-has_packet-clause-told g t c = λ own.
+pub disciplines::prio::ask_bands-returns-then-has_packet-clause-told :
+    goal.disciplines::prio::ask_bands-returns-then-has_packet-clause-told
+disciplines::prio::ask_bands-returns-then-has_packet-clause-told g t c = λ own.
     subst (λ notes. IsToldOf notes (g.S.Sink.losses c.args.sink.now) (g.S.Sink.losses c.peek-next.new.sink) (g.S.Sink.room c.args.sink.now) (g.S.Sink.room c.peek-next.new.sink))
     (band-rises c.args.now c.args.bands.now c.loop-place.bands c.loop-place.place c.loop-place.shown c.requires.ready c.loop-place.invariant.0 (slice_index_or c.loop-place.bands c.loop-place.place c.index-bands-place.result) (band-at c.args.now c.args.bands.now c.loop-place.bands c.loop-place.place c.loop-place.shown c.loop-place.invariant.0 c.index-bands-place.result c.loop-place-test.true) c.peek-next.new.self c.peek-next.result c.then-shown.result c.peek-next.ensures.after c.peek-next.ensures.arrived c.peek-next.ensures.shown
     (ap (λ (s : Shown). s.dropped) c.then-shown.ensures.asked) (ap (λ (s : Shown). s.marked) c.then-shown.ensures.asked) (ap (λ (s : Shown). s.packet) c.then-shown.ensures.asked) (sym c.if-has_packet.ensures) own)
     (told-then (told_to c.loop-place.place (answers c.args.now c.args.bands.now)) (ask c.args.now (shape (slice_index_or c.loop-place.bands c.loop-place.place c.index-bands-place.result))).rises (g.S.Sink.losses c.args.sink.now) (g.S.Sink.losses c.loop-place.sink) (g.S.Sink.losses c.peek-next.new.sink)
     (g.S.Sink.room c.args.sink.now) (g.S.Sink.room c.loop-place.sink) (g.S.Sink.room c.peek-next.new.sink) c.loop-place.invariant.1 (record { lost = c.peek-next.ensures.lost; room_taken = c.peek-next.ensures.room }))
 
-pub prio::ask_bands-returns-then-has_packet-clause-kept :
-    goal.prio::ask_bands-returns-then-has_packet-clause-kept
-prio::ask_bands-returns-then-has_packet-clause-kept g t c = g.met.S.Sink.keeps_on c.args.sink.now c.loop-place.sink c.peek-next.new.sink c.loop-place.invariant.2 c.peek-next.ensures.kept
+pub disciplines::prio::ask_bands-returns-then-has_packet-clause-kept :
+    goal.disciplines::prio::ask_bands-returns-then-has_packet-clause-kept
+disciplines::prio::ask_bands-returns-then-has_packet-clause-kept g t c = g.met.S.Sink.keeps_on c.args.sink.now c.loop-place.sink c.peek-next.new.sink c.loop-place.invariant.2 c.peek-next.ensures.kept
 
-pub prio::ask_bands-loop-place-preserved : goal.prio::ask_bands-loop-place-preserved
-prio::ask_bands-loop-place-preserved g t c = (
+pub disciplines::prio::ask_bands-loop-place-preserved : goal.disciplines::prio::ask_bands-loop-place-preserved
+disciplines::prio::ask_bands-loop-place-preserved g t c = (
   subst (λ n. AreBandsAsked c.args.now c.args.bands.now (set c.loop-place.bands c.loop-place.place c.peek-next.new.self) n c.then-shown.result) (sym (add-one c.loop-place.place))
       (band-passed c.args.now c.args.bands.now c.loop-place.bands c.loop-place.place c.loop-place.shown c.requires.ready c.loop-place.invariant.0 (slice_index_or c.loop-place.bands c.loop-place.place c.index-bands-place.result) (band-at c.args.now c.args.bands.now c.loop-place.bands c.loop-place.place c.loop-place.shown c.loop-place.invariant.0 c.index-bands-place.result c.loop-place-test.true) c.peek-next.new.self c.peek-next.result c.then-shown.result c.peek-next.ensures.after c.peek-next.ensures.arrived c.peek-next.ensures.shown
       (ap (λ (s : Shown). s.dropped) c.then-shown.ensures.asked) (ap (λ (s : Shown). s.marked) c.then-shown.ensures.asked) (ap (λ (s : Shown). s.packet) c.then-shown.ensures.asked) (sym c.if-has_packet.ensures)),
@@ -503,12 +503,12 @@ prio::ask_bands-loop-place-preserved g t c = (
   c.then-shown.ensures.toll,
 )
 
-pub prio::ask_bands-returns-clause-after : goal.prio::ask_bands-returns-clause-after
-prio::ask_bands-returns-clause-after g t c = λ own. bands-end c.args.now c.args.bands.now c.loop-place.bands c.loop-place.place c.loop-place.shown c.loop-place.invariant.0 c.loop-place-test.false c.loop-place.auto.place-end own
+pub disciplines::prio::ask_bands-returns-clause-after : goal.disciplines::prio::ask_bands-returns-clause-after
+disciplines::prio::ask_bands-returns-clause-after g t c = λ own. bands-end c.args.now c.args.bands.now c.loop-place.bands c.loop-place.place c.loop-place.shown c.loop-place.invariant.0 c.loop-place-test.false c.loop-place.auto.place-end own
 
-pub prio::ask_bands-returns-clause-told : goal.prio::ask_bands-returns-clause-told
-prio::ask_bands-returns-clause-told g t c = λ own.
+pub disciplines::prio::ask_bands-returns-clause-told : goal.disciplines::prio::ask_bands-returns-clause-told
+disciplines::prio::ask_bands-returns-clause-told g t c = λ own.
     subst (λ notes. IsToldOf notes (g.S.Sink.losses c.args.sink.now) (g.S.Sink.losses c.loop-place.sink) (g.S.Sink.room c.args.sink.now) (g.S.Sink.room c.loop-place.sink)) (bands-rises c.args.now c.args.bands.now c.loop-place.bands c.loop-place.place c.loop-place.shown c.loop-place.invariant.0 c.loop-place-test.false c.loop-place.auto.place-end own) c.loop-place.invariant.1
 
-pub prio::ask_bands-returns-clause-kept : goal.prio::ask_bands-returns-clause-kept
-prio::ask_bands-returns-clause-kept g t c = c.loop-place.invariant.2
+pub disciplines::prio::ask_bands-returns-clause-kept : goal.disciplines::prio::ask_bands-returns-clause-kept
+disciplines::prio::ask_bands-returns-clause-kept g t c = c.loop-place.invariant.2

@@ -10,8 +10,8 @@ use Rattle.q_tree.proofs.AskBands.{AreBandsAsked, told_to}
 use Rattle.q_tree.proofs.ServeLemmas.{AreClassesAsked, heads_of}
 use Rattle.q_tree.proofs.+peek.Given as goal
 
-abbrev pub invariant-dequeue::dequeue_class-loop-place : goal.invariant-dequeue::dequeue_class-loop-place
-invariant-dequeue::dequeue_class-loop-place g l =
+abbrev pub invariant-disciplines::drr::dequeue_class-loop-place : goal.invariant-disciplines::drr::dequeue_class-loop-place
+invariant-disciplines::drr::dequeue_class-loop-place g l =
     AreClassesAsked l.fn.now l.fn.active l.active l.fn.classes l.classes l.unasked l.shown
     (record { losses = g.S.Sink.losses l.fn.sink; losses_now = g.S.Sink.losses l.sink; room = g.S.Sink.room l.fn.sink; room_now = g.S.Sink.room l.sink })
     × g.S.Sink.keeps l.fn.sink l.sink
@@ -19,11 +19,11 @@ invariant-dequeue::dequeue_class-loop-place g l =
     × (l.toll ≡ toll_of l.shown)
 
 -- each grant lowers one class's need of grants by one
-abbrev pub decreases-dequeue::dequeue_class-loop-place : goal.decreases-dequeue::dequeue_class-loop-place
-decreases-dequeue::dequeue_class-loop-place g l = sum_by (need (λ m. quantum_of m l.active.classes) (heads_of l.fn.now l.fn.active l.fn.classes)) l.active.active
+abbrev pub decreases-disciplines::drr::dequeue_class-loop-place : goal.decreases-disciplines::drr::dequeue_class-loop-place
+decreases-disciplines::drr::dequeue_class-loop-place g l = sum_by (need (λ m. quantum_of m l.active.classes) (heads_of l.fn.now l.fn.active l.fn.classes)) l.active.active
 
-abbrev pub invariant-prio::ask_bands-loop-place : goal.invariant-prio::ask_bands-loop-place
-invariant-prio::ask_bands-loop-place g l =
+abbrev pub invariant-disciplines::prio::ask_bands-loop-place : goal.invariant-disciplines::prio::ask_bands-loop-place
+invariant-disciplines::prio::ask_bands-loop-place g l =
     AreBandsAsked l.fn.now l.fn.bands l.bands l.place l.shown
     × IsToldOf (told_to l.place (answers l.fn.now l.fn.bands)) (g.S.Sink.losses l.fn.sink) (g.S.Sink.losses l.sink) (g.S.Sink.room l.fn.sink) (g.S.Sink.room l.sink)
     × g.S.Sink.keeps l.fn.sink l.sink
@@ -36,23 +36,23 @@ decreases-node::Node::peek g l = 3 * node_size l.self.now
 abbrev pub decreases-node::Discipline::ask : goal.decreases-node::Discipline::ask
 decreases-node::Discipline::ask g l = 3 * forest_size (side_by_side (children_seen l.self.now)) + 2
 
-abbrev pub decreases-prio::ask_bands : goal.decreases-prio::ask_bands
-decreases-prio::ask_bands g l = 3 * forest_size (side_by_side l.bands.now) + 1
+abbrev pub decreases-disciplines::prio::ask_bands : goal.decreases-disciplines::prio::ask_bands
+decreases-disciplines::prio::ask_bands g l = 3 * forest_size (side_by_side l.bands.now) + 1
 
-abbrev pub decreases-tbf::ask_child : goal.decreases-tbf::ask_child
-decreases-tbf::ask_child g l = 3 * node_size l.child.now + 2
+abbrev pub decreases-disciplines::tbf::ask_child : goal.decreases-disciplines::tbf::ask_child
+decreases-disciplines::tbf::ask_child g l = 3 * node_size l.child.now + 2
 
-abbrev pub decreases-drr::serve : goal.decreases-drr::serve
-decreases-drr::serve g l = 3 * forest_size (side_by_side l.classes.now) + 1
+abbrev pub decreases-disciplines::drr::serve : goal.decreases-disciplines::drr::serve
+decreases-disciplines::drr::serve g l = 3 * forest_size (side_by_side l.classes.now) + 1
 
-abbrev pub decreases-drr::ask_class : goal.decreases-drr::ask_class
-decreases-drr::ask_class g l = 3 * node_size l.class.now + 2
+abbrev pub decreases-disciplines::drr::ask_class : goal.decreases-disciplines::drr::ask_class
+decreases-disciplines::drr::ask_class g l = 3 * node_size l.class.now + 2
 
-abbrev pub decreases-drr::ask_further : goal.decreases-drr::ask_further
-decreases-drr::ask_further g l = 3 * node_size l.class.now + 1
+abbrev pub decreases-disciplines::drr::ask_further : goal.decreases-disciplines::drr::ask_further
+decreases-disciplines::drr::ask_further g l = 3 * node_size l.class.now + 1
 
-abbrev pub decreases-dequeue::dequeue_class : goal.decreases-dequeue::dequeue_class
-decreases-dequeue::dequeue_class g l = 3 * forest_size (side_by_side l.classes.now)
+abbrev pub decreases-disciplines::drr::dequeue_class : goal.decreases-disciplines::drr::dequeue_class
+decreases-disciplines::drr::dequeue_class g l = 3 * forest_size (side_by_side l.classes.now)
 
-abbrev pub decreases-dequeue::dequeue_child : goal.decreases-dequeue::dequeue_child
-decreases-dequeue::dequeue_child g l = 3 * node_size l.child.now + 1
+abbrev pub decreases-disciplines::tbf::dequeue_child : goal.decreases-disciplines::tbf::dequeue_child
+decreases-disciplines::tbf::dequeue_child g l = 3 * node_size l.child.now + 1

@@ -116,8 +116,8 @@ node::Node::purge-returns-clause-room g t c =
       ap (λ d. length (packets_beneath (children_seen d))) c.in-Drr.is,
     )
 
-pub purge::purge_each-purge-requires : goal.purge::purge_each-purge-requires
-purge::purge_each-purge-requires g t c κs within =
+pub commands::purge::purge_each-purge-requires : goal.commands::purge::purge_each-purge-requires
+commands::purge::purge_each-purge-requires g t c κs within =
     let at = c.loop-node in
     let rest = into_iter_items c.next.new.self in
     let all : at.yielded ++ c.in-Some.node ∷ rest ≡ c.args.nodes.items =

@@ -9,11 +9,11 @@ use Rattle.q_tree.proofs.+purge.Given as goal
 abbrev pub decreases-node::Node::purge : goal.decreases-node::Node::purge
 decreases-node::Node::purge g l = node_size l.self
 
-abbrev pub decreases-purge::purge_each : goal.decreases-purge::purge_each
-decreases-purge::purge_each g l = forest_size (side_by_side l.nodes.items)
+abbrev pub decreases-commands::purge::purge_each : goal.decreases-commands::purge::purge_each
+decreases-commands::purge::purge_each g l = forest_size (side_by_side l.nodes.items)
 
-abbrev pub invariant-purge::purge_each-loop-node : goal.invariant-purge::purge_each-loop-node
-invariant-purge::purge_each-loop-node g l =
+abbrev pub invariant-commands::purge::purge_each-loop-node : goal.invariant-commands::purge::purge_each-loop-node
+invariant-commands::purge::purge_each-loop-node g l =
     (l.yielded ++ into_iter_items l.node-iterator ≡ into_iter_items l.initial.node-iterator)
     × (into_iter_len l.node-iterator ≡ length (into_iter_items l.node-iterator))
     × (g.S.Sink.losses l.sink ≡ g.S.Sink.losses l.fn.sink ++ purged (packets_beneath l.yielded))

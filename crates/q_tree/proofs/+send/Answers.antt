@@ -34,8 +34,8 @@ use Rattle.q_tree.proofs.SendLemmas.{given-some, given-none, left-some, left-non
 use Rattle.q_tree.proofs.TakeCounts.{flow-told}
 use Rattle.q_tree.proofs.+send.Goals as goal
 
-pub send::send_first-loop-place-init : goal.send::send_first-loop-place-init
-send::send_first-loop-place-init g t c = (
+pub disciplines::prio::send_first-loop-place-init : goal.disciplines::prio::send_first-loop-place-init
+disciplines::prio::send_first-loop-place-init g t c = (
   bands-start c.args.now c.args.bands.now c.at_hand-shown.result (record { dropped = ap (λ (s : Shown). s.dropped) c.at_hand-shown.ensures; marked = ap (λ (s : Shown). s.marked) c.at_hand-shown.ensures }) (ap (λ (s : Shown). s.packet) c.at_hand-shown.ensures),
   told-nothing (g.S.Sink.losses c.args.sink.now) (g.S.Sink.room c.args.sink.now),
   g.met.S.Sink.keeps_same c.args.sink.now,
@@ -43,49 +43,49 @@ send::send_first-loop-place-init g t c = (
   c.requires.clean ∙ sym (ap toll_of c.at_hand-shown.ensures),
 )
 
-pub send::send_first-send-next-requires : goal.send::send_first-send-next-requires
-send::send_first-send-next-requires g t c κs within =
+pub disciplines::prio::send_first-send-next-requires : goal.disciplines::prio::send_first-send-next-requires
+disciplines::prio::send_first-send-next-requires g t c κs within =
     let band = slice_index_or c.loop-place.bands c.loop-place.place c.index-bands-place.result in
     let at = band-at c.args.now c.args.bands.now c.loop-place.bands c.loop-place.place c.loop-place.shown c.loop-place.invariant.0 c.index-bands-place.result c.loop-place-test.true in
     let once = band-once c.args.now c.args.bands.now c.loop-place.bands c.loop-place.place c.loop-place.shown c.requires.ready c.loop-place.invariant.0 band at (g.S.Sink.losses c.args.sink.now) (g.S.Sink.losses c.loop-place.sink) (g.S.Sink.room c.args.sink.now) (g.S.Sink.room c.loop-place.sink) c.loop-place.invariant.1 c.requires.sink in
     (omega (arith, child-size c.args.bands.now c.loop-place.place band at, c.decreases), (within, (once.ready, (once.sink, refl))))
 
-pub send::send_first-then-shown-requires-clause-dropped_packets : goal.send::send_first-then-shown-requires-clause-dropped_packets
-send::send_first-then-shown-requires-clause-dropped_packets g t c =
+pub disciplines::prio::send_first-then-shown-requires-clause-dropped_packets : goal.disciplines::prio::send_first-then-shown-requires-clause-dropped_packets
+disciplines::prio::send_first-then-shown-requires-clause-dropped_packets g t c =
     let band = slice_index_or c.loop-place.bands c.loop-place.place c.index-bands-place.result in
     let at = band-at c.args.now c.args.bands.now c.loop-place.bands c.loop-place.place c.loop-place.shown c.loop-place.invariant.0 c.index-bands-place.result c.loop-place-test.true in
     let once = band-once c.args.now c.args.bands.now c.loop-place.bands c.loop-place.place c.loop-place.shown c.requires.ready c.loop-place.invariant.0 band at (g.S.Sink.losses c.args.sink.now) (g.S.Sink.losses c.loop-place.sink) (g.S.Sink.room c.args.sink.now) (g.S.Sink.room c.loop-place.sink) c.loop-place.invariant.1 c.requires.sink in
     (fits-beside c.args.now band c.loop-place.shown c.send-next.result (g.S.Sink.room c.loop-place.sink) once c.send-next.ensures.shown).dropped_packets
 
-pub send::send_first-then-shown-requires-clause-dropped_bytes : goal.send::send_first-then-shown-requires-clause-dropped_bytes
-send::send_first-then-shown-requires-clause-dropped_bytes g t c =
+pub disciplines::prio::send_first-then-shown-requires-clause-dropped_bytes : goal.disciplines::prio::send_first-then-shown-requires-clause-dropped_bytes
+disciplines::prio::send_first-then-shown-requires-clause-dropped_bytes g t c =
     let band = slice_index_or c.loop-place.bands c.loop-place.place c.index-bands-place.result in
     let at = band-at c.args.now c.args.bands.now c.loop-place.bands c.loop-place.place c.loop-place.shown c.loop-place.invariant.0 c.index-bands-place.result c.loop-place-test.true in
     let once = band-once c.args.now c.args.bands.now c.loop-place.bands c.loop-place.place c.loop-place.shown c.requires.ready c.loop-place.invariant.0 band at (g.S.Sink.losses c.args.sink.now) (g.S.Sink.losses c.loop-place.sink) (g.S.Sink.room c.args.sink.now) (g.S.Sink.room c.loop-place.sink) c.loop-place.invariant.1 c.requires.sink in
     (fits-beside c.args.now band c.loop-place.shown c.send-next.result (g.S.Sink.room c.loop-place.sink) once c.send-next.ensures.shown).dropped_bytes
 
-pub send::send_first-then-shown-requires-clause-marked_packets : goal.send::send_first-then-shown-requires-clause-marked_packets
-send::send_first-then-shown-requires-clause-marked_packets g t c =
+pub disciplines::prio::send_first-then-shown-requires-clause-marked_packets : goal.disciplines::prio::send_first-then-shown-requires-clause-marked_packets
+disciplines::prio::send_first-then-shown-requires-clause-marked_packets g t c =
     let band = slice_index_or c.loop-place.bands c.loop-place.place c.index-bands-place.result in
     let at = band-at c.args.now c.args.bands.now c.loop-place.bands c.loop-place.place c.loop-place.shown c.loop-place.invariant.0 c.index-bands-place.result c.loop-place-test.true in
     let once = band-once c.args.now c.args.bands.now c.loop-place.bands c.loop-place.place c.loop-place.shown c.requires.ready c.loop-place.invariant.0 band at (g.S.Sink.losses c.args.sink.now) (g.S.Sink.losses c.loop-place.sink) (g.S.Sink.room c.args.sink.now) (g.S.Sink.room c.loop-place.sink) c.loop-place.invariant.1 c.requires.sink in
     (fits-beside c.args.now band c.loop-place.shown c.send-next.result (g.S.Sink.room c.loop-place.sink) once c.send-next.ensures.shown).marked_packets
 
-pub send::send_first-then-shown-requires-clause-marked_bytes : goal.send::send_first-then-shown-requires-clause-marked_bytes
-send::send_first-then-shown-requires-clause-marked_bytes g t c =
+pub disciplines::prio::send_first-then-shown-requires-clause-marked_bytes : goal.disciplines::prio::send_first-then-shown-requires-clause-marked_bytes
+disciplines::prio::send_first-then-shown-requires-clause-marked_bytes g t c =
     let band = slice_index_or c.loop-place.bands c.loop-place.place c.index-bands-place.result in
     let at = band-at c.args.now c.args.bands.now c.loop-place.bands c.loop-place.place c.loop-place.shown c.loop-place.invariant.0 c.index-bands-place.result c.loop-place-test.true in
     let once = band-once c.args.now c.args.bands.now c.loop-place.bands c.loop-place.place c.loop-place.shown c.requires.ready c.loop-place.invariant.0 band at (g.S.Sink.losses c.args.sink.now) (g.S.Sink.losses c.loop-place.sink) (g.S.Sink.room c.args.sink.now) (g.S.Sink.room c.loop-place.sink) c.loop-place.invariant.1 c.requires.sink in
     (fits-beside c.args.now band c.loop-place.shown c.send-next.result (g.S.Sink.room c.loop-place.sink) once c.send-next.ensures.shown).marked_bytes
 
-pub send::send_first-then-shown-requires-clause-so_far : goal.send::send_first-then-shown-requires-clause-so_far
-send::send_first-then-shown-requires-clause-so_far g t c = c.loop-place.invariant.4
+pub disciplines::prio::send_first-then-shown-requires-clause-so_far : goal.disciplines::prio::send_first-then-shown-requires-clause-so_far
+disciplines::prio::send_first-then-shown-requires-clause-so_far g t c = c.loop-place.invariant.4
 
-pub send::send_first-then-shown-requires-clause-toll : goal.send::send_first-then-shown-requires-clause-toll
-send::send_first-then-shown-requires-clause-toll g t c = c.send-next.ensures.toll
+pub disciplines::prio::send_first-then-shown-requires-clause-toll : goal.disciplines::prio::send_first-then-shown-requires-clause-toll
+disciplines::prio::send_first-then-shown-requires-clause-toll g t c = c.send-next.ensures.toll
 
-pub send::send_first-returns-then-has_packet-clause-after : goal.send::send_first-returns-then-has_packet-clause-after
-send::send_first-returns-then-has_packet-clause-after g t c =
+pub disciplines::prio::send_first-returns-then-has_packet-clause-after : goal.disciplines::prio::send_first-returns-then-has_packet-clause-after
+disciplines::prio::send_first-returns-then-has_packet-clause-after g t c =
     let band = slice_index_or c.loop-place.bands c.loop-place.place c.index-bands-place.result in
     let at = band-at c.args.now c.args.bands.now c.loop-place.bands c.loop-place.place c.loop-place.shown c.loop-place.invariant.0 c.index-bands-place.result c.loop-place-test.true in
     let same = ap (λ (s : Shown). s.packet) c.then-shown.ensures.asked in
@@ -94,8 +94,8 @@ send::send_first-returns-then-has_packet-clause-after g t c =
     band-sent c.args.now c.args.bands.now c.loop-place.bands c.loop-place.place c.loop-place.shown c.requires.ready c.loop-place.invariant.0 band at c.send-next.new.self c.send-next.result c.then-shown.result c.send-next.new.out gone c.send-next.ensures.arrived c.send-next.ensures.shown
     (ap (λ (s : Shown). s.dropped) c.then-shown.ensures.asked) (ap (λ (s : Shown). s.marked) c.then-shown.ensures.asked) same some
 
-pub send::send_first-returns-then-has_packet-clause-told : goal.send::send_first-returns-then-has_packet-clause-told
-send::send_first-returns-then-has_packet-clause-told g t c =
+pub disciplines::prio::send_first-returns-then-has_packet-clause-told : goal.disciplines::prio::send_first-returns-then-has_packet-clause-told
+disciplines::prio::send_first-returns-then-has_packet-clause-told g t c =
     let band = slice_index_or c.loop-place.bands c.loop-place.place c.index-bands-place.result in
     let at = band-at c.args.now c.args.bands.now c.loop-place.bands c.loop-place.place c.loop-place.shown c.loop-place.invariant.0 c.index-bands-place.result c.loop-place-test.true in
     let same = ap (λ (s : Shown). s.packet) c.then-shown.ensures.asked in
@@ -107,17 +107,17 @@ send::send_first-returns-then-has_packet-clause-told g t c =
     (told-then (told_to c.loop-place.place (answers c.args.now c.args.bands.now)) (ask c.args.now (shape band)).rises (g.S.Sink.losses c.args.sink.now) (g.S.Sink.losses c.loop-place.sink) (g.S.Sink.losses c.send-next.new.sink)
     (g.S.Sink.room c.args.sink.now) (g.S.Sink.room c.loop-place.sink) (g.S.Sink.room c.send-next.new.sink) c.loop-place.invariant.1 (record { lost = c.send-next.ensures.lost; room_taken = c.send-next.ensures.room }))
 
-pub send::send_first-returns-then-has_packet-clause-kept : goal.send::send_first-returns-then-has_packet-clause-kept
-send::send_first-returns-then-has_packet-clause-kept g t c =
+pub disciplines::prio::send_first-returns-then-has_packet-clause-kept : goal.disciplines::prio::send_first-returns-then-has_packet-clause-kept
+disciplines::prio::send_first-returns-then-has_packet-clause-kept g t c =
     g.met.S.Sink.keeps_on c.args.sink.now c.loop-place.sink c.send-next.new.sink c.loop-place.invariant.2 c.send-next.ensures.kept
 
-pub send::send_first-returns-then-has_packet-clause-packet : goal.send::send_first-returns-then-has_packet-clause-packet
-send::send_first-returns-then-has_packet-clause-packet g t c =
+pub disciplines::prio::send_first-returns-then-has_packet-clause-packet : goal.disciplines::prio::send_first-returns-then-has_packet-clause-packet
+disciplines::prio::send_first-returns-then-has_packet-clause-packet g t c =
     let same = ap (λ (s : Shown). s.packet) c.then-shown.ensures.asked in
     c.send-next.ensures.packet ∙ ap (λ o. unwrap_or o c.loop-place.out) (sym same) ∙ ap (unwrap_or c.then-shown.result.packet) c.loop-place.invariant.3
 
-pub send::send_first-loop-place-preserved : goal.send::send_first-loop-place-preserved
-send::send_first-loop-place-preserved g t c =
+pub disciplines::prio::send_first-loop-place-preserved : goal.disciplines::prio::send_first-loop-place-preserved
+disciplines::prio::send_first-loop-place-preserved g t c =
     let band = slice_index_or c.loop-place.bands c.loop-place.place c.index-bands-place.result in
     let at = band-at c.args.now c.args.bands.now c.loop-place.bands c.loop-place.place c.loop-place.shown c.loop-place.invariant.0 c.index-bands-place.result c.loop-place-test.true in
     let same = ap (λ (s : Shown). s.packet) c.then-shown.ensures.asked in
@@ -136,21 +136,21 @@ send::send_first-loop-place-preserved g t c =
       c.then-shown.ensures.toll,
     )
 
-pub send::send_first-returns-clause-after : goal.send::send_first-returns-clause-after
-send::send_first-returns-clause-after g t c =
+pub disciplines::prio::send_first-returns-clause-after : goal.disciplines::prio::send_first-returns-clause-after
+disciplines::prio::send_first-returns-clause-after g t c =
     λ own. let all = bands-end c.args.now c.args.bands.now c.loop-place.bands c.loop-place.place c.loop-place.shown c.loop-place.invariant.0 c.loop-place-test.false c.loop-place.auto.place-end own in asked-sent (ask_prio own (answers c.args.now c.args.bands.now)) c.args.bands.now c.loop-place.bands c.loop-place.shown (sym all.shown.packet ∙ c.loop-place.invariant.0.nothing) all
 
-pub send::send_first-returns-clause-told : goal.send::send_first-returns-clause-told
-send::send_first-returns-clause-told g t c =
+pub disciplines::prio::send_first-returns-clause-told : goal.disciplines::prio::send_first-returns-clause-told
+disciplines::prio::send_first-returns-clause-told g t c =
     λ own.
     subst (λ notes. IsToldOf notes (g.S.Sink.losses c.args.sink.now) (g.S.Sink.losses c.loop-place.sink) (g.S.Sink.room c.args.sink.now) (g.S.Sink.room c.loop-place.sink)) (bands-rises c.args.now c.args.bands.now c.loop-place.bands c.loop-place.place c.loop-place.shown c.loop-place.invariant.0 c.loop-place-test.false c.loop-place.auto.place-end own) c.loop-place.invariant.1
 
-pub send::send_first-returns-clause-kept : goal.send::send_first-returns-clause-kept
-send::send_first-returns-clause-kept g t c =
+pub disciplines::prio::send_first-returns-clause-kept : goal.disciplines::prio::send_first-returns-clause-kept
+disciplines::prio::send_first-returns-clause-kept g t c =
     c.loop-place.invariant.2
 
-pub send::send_first-returns-clause-packet : goal.send::send_first-returns-clause-packet
-send::send_first-returns-clause-packet g t c =
+pub disciplines::prio::send_first-returns-clause-packet : goal.disciplines::prio::send_first-returns-clause-packet
+disciplines::prio::send_first-returns-clause-packet g t c =
     c.loop-place.invariant.3 ∙ ap (λ o. unwrap_or o c.args.out.now) (sym c.loop-place.invariant.0.nothing)
 
 pub node::Discipline::send-returns-in-Fifo-clause-after : goal.node::Discipline::send-returns-in-Fifo-clause-after

@@ -6,8 +6,8 @@ use Rattle.q_tree.specs.Seen.{children_seen}
 use Rattle.q_tree.proofs.AskBands.{AreBandsAsked, told_to}
 use Rattle.q_tree.proofs.+send.Given as goal
 
-abbrev pub invariant-send::send_first-loop-place : goal.invariant-send::send_first-loop-place
-invariant-send::send_first-loop-place g l =
+abbrev pub invariant-disciplines::prio::send_first-loop-place : goal.invariant-disciplines::prio::send_first-loop-place
+invariant-disciplines::prio::send_first-loop-place g l =
     AreBandsAsked l.fn.now l.fn.bands l.bands l.place l.shown
     × IsToldOf (told_to l.place (answers l.fn.now l.fn.bands)) (g.S.Sink.losses l.fn.sink) (g.S.Sink.losses l.sink) (g.S.Sink.room l.fn.sink) (g.S.Sink.room l.sink)
     × g.S.Sink.keeps l.fn.sink l.sink
@@ -21,5 +21,5 @@ decreases-node::Node::send g l = 3 * node_size l.self.now
 abbrev pub decreases-node::Discipline::send : goal.decreases-node::Discipline::send
 decreases-node::Discipline::send g l = 3 * forest_size (side_by_side (children_seen l.self.now)) + 2
 
-abbrev pub decreases-send::send_first : goal.decreases-send::send_first
-decreases-send::send_first g l = 3 * forest_size (side_by_side l.bands.now) + 1
+abbrev pub decreases-disciplines::prio::send_first : goal.decreases-disciplines::prio::send_first
+decreases-disciplines::prio::send_first g l = 3 * forest_size (side_by_side l.bands.now) + 1

@@ -7,7 +7,7 @@ use Rattle.q_model.specs.Options.{PrioSettings}
 use Rattle.q_tree.specs.Changing.{IsRemade, MakesChildren}
 use Rattle.q_tree.specs.Commands.{IsRefused}
 use Rattle.q_tree.specs.Making.{AreNew}
-use Rattle.q_tree.specs.declared.discipline_change.DisciplineChange.TheVariants.{SetBands}
+use Rattle.q_tree.specs.declared.commands.discipline_change.DisciplineChange.TheVariants.{SetBands}
 use Rattle.q_tree.proofs.ChangeLemmas.{HasRoom, bands-made, bands-passed, bands-refused, more-made, plans_of, rebanded-is}
 use Rattle.q_tree.proofs.Plans.{refused-plan}
 use Rattle.q_tree.proofs.node.Node.bands.Goals as goal

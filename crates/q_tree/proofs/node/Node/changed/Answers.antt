@@ -6,7 +6,7 @@ use Rattle.q_model.specs.Node.{shape}
 use Rattle.q_model.specs.TreeState.{plan}
 use Rattle.q_invariants.proofs.MadeSizes.{count-shape}
 use Rattle.q_tree.specs.Changing.{IsChange, NeedsMore}
-use Rattle.q_tree.specs.declared.edit.Edit.TheVariants.{DisciplineChange}
+use Rattle.q_tree.specs.declared.commands.edit.Edit.TheVariants.{DisciplineChange}
 use Rattle.q_tree.proofs.ChangeLemmas.{change-lawful, change-nowhere, change-planned, change-refused, change-within, plans_of}
 use Rattle.q_tree.proofs.Plans.{refused-plan}
 use Rattle.q_tree.proofs.node.Node.changed.Goals as goal

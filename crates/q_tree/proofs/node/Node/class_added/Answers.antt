@@ -6,8 +6,8 @@ use Rattle.q_model.specs.Make.{Device}
 use Rattle.q_model.specs.Node.{shape}
 use Rattle.q_model.specs.TreeState.{plan}
 use Rattle.q_tree.specs.Commands.{takes_memory}
-use Rattle.q_tree.specs.declared.edit.Edit.TheVariants.{DisciplineChange}
-use Rattle.q_tree.specs.declared.discipline_change.DisciplineChange.TheVariants.{AddClass}
+use Rattle.q_tree.specs.declared.commands.edit.Edit.TheVariants.{DisciplineChange}
+use Rattle.q_tree.specs.declared.commands.discipline_change.DisciplineChange.TheVariants.{AddClass}
 use Rattle.q_tree.proofs.ClassAdding.{add-nowhere, add-refused, class-add-planned}
 use Rattle.q_tree.proofs.Plans.{refused-plan}
 use Rattle.q_tree.proofs.TargetLemmas.{path-short, reached-at}

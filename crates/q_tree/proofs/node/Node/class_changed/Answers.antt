@@ -10,8 +10,8 @@ use Rattle.q_model.specs.ClassCommands.{class_change_checks, class_changed, of_s
 use Rattle.q_model.specs.QdiscCommands.{retuned}
 use Rattle.q_invariants.proofs.SizedPlans.{plan-class_change}
 use Rattle.q_tree.specs.Reshaping.{requantum, rescheduled}
-use Rattle.q_tree.specs.declared.edit.Edit.TheVariants.{DisciplineChange}
-use Rattle.q_tree.specs.declared.discipline_change.DisciplineChange.TheVariants.{SetQuantum}
+use Rattle.q_tree.specs.declared.commands.edit.Edit.TheVariants.{DisciplineChange}
+use Rattle.q_tree.specs.declared.commands.discipline_change.DisciplineChange.TheVariants.{SetQuantum}
 use Rattle.q_tree.proofs.ClassPlans.{at-class, change-done, drr-refused}
 use Rattle.q_tree.proofs.Plans.{few, own-kept, own-planned, refused-plan, shallow}
 use Rattle.q_tree.proofs.node.Node.class_changed.Goals as goal

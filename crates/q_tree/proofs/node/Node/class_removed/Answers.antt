@@ -4,8 +4,8 @@ use Rattle.q_model.specs.declared.refusal.Refusal.TheVariants.{NoQdisc}
 use Rattle.q_model.specs.Node.{shape}
 use Rattle.q_model.specs.TreeState.{plan}
 use Rattle.q_tree.specs.Commands.{takes_none}
-use Rattle.q_tree.specs.declared.edit.Edit.TheVariants.{DisciplineChange}
-use Rattle.q_tree.specs.declared.discipline_change.DisciplineChange.TheVariants.{RemoveClass}
+use Rattle.q_tree.specs.declared.commands.edit.Edit.TheVariants.{DisciplineChange}
+use Rattle.q_tree.specs.declared.commands.discipline_change.DisciplineChange.TheVariants.{RemoveClass}
 use Rattle.q_tree.proofs.ClassAdding.{class-del-planned, del-nowhere, del-refused}
 use Rattle.q_tree.proofs.Plans.{refused-plan}
 use Rattle.q_tree.proofs.node.Node.class_removed.Goals as goal

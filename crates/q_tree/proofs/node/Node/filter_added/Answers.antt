@@ -10,7 +10,7 @@ use Rattle.q_model.specs.Filters.{with_filter}
 use Rattle.q_model.specs.FilterCommands.{filter_add_checks, filter_added, with_filters}
 use Rattle.q_model.specs.Numbers.{IsHandle}
 use Rattle.q_invariants.proofs.SizedPlans.{plan-filter_add}
-use Rattle.q_tree.specs.declared.edit.Edit.TheVariants.{AddFilter}
+use Rattle.q_tree.specs.declared.commands.edit.Edit.TheVariants.{AddFilter}
 use Rattle.q_tree.proofs.Plans.{all-passed, few, own-planned, refused-plan, same-refusal, shallow}
 use Rattle.q_tree.proofs.node.Node.filter_added.Goals as goal
 

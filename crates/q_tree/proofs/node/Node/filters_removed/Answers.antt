@@ -12,7 +12,7 @@ use Rattle.q_model.specs.declared.filter.Filter.{Filter}
 use Rattle.q_model.specs.FilterCommands.{filter_del_checks, filters_removed, with_filters}
 use Rattle.q_model.specs.Numbers.{IsFilterPrio, IsHandle}
 use Rattle.q_invariants.proofs.SizedPlans.{plan-filter_del}
-use Rattle.q_tree.specs.declared.edit.Edit.TheVariants.{RemoveFilters}
+use Rattle.q_tree.specs.declared.commands.edit.Edit.TheVariants.{RemoveFilters}
 use Rattle.q_tree.proofs.Plans.{all-passed, few, own-planned, refused-plan, same-refusal, shallow}
 use Rattle.q_tree.proofs.node.Node.filters_removed.Goals as goal
 

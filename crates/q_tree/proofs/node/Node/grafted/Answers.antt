@@ -15,7 +15,7 @@ use Rattle.q_invariants.proofs.EditSuits.{done_is}
 use Rattle.q_tree.specs.Commands.{IsRefused}
 use Rattle.q_tree.specs.Grafting.{graft_checks}
 use Rattle.q_tree.specs.Making.{IsNewNode, NeedsMemory}
-use Rattle.q_tree.specs.declared.edit.Edit.TheVariants.{Graft}
+use Rattle.q_tree.specs.declared.commands.edit.Edit.TheVariants.{Graft}
 use Rattle.q_tree.proofs.GraftLemmas.{free-shape, graft-planned, graft-planned-for, graft-refused, made-takes, place-refused, there}
 use Rattle.q_tree.proofs.Plans.{refused-plan}
 use Rattle.q_tree.proofs.node.Node.grafted.Goals as goal

@@ -10,7 +10,7 @@ use Rattle.q_model.specs.TreeState.{plan}
 use Rattle.q_invariants.proofs.SizedPlans.{plan-qdisc_del}
 use Rattle.q_tree.specs.Commands.{takes_none}
 use Rattle.q_tree.specs.Making.{IsNewNode}
-use Rattle.q_tree.specs.declared.edit.Edit.TheVariants.{Graft}
+use Rattle.q_tree.specs.declared.commands.edit.Edit.TheVariants.{Graft}
 use Rattle.q_tree.proofs.GraftLemmas.{graft-planned-for, leaf-alone, leaf-new}
 use Rattle.q_tree.proofs.Plans.{few, refused-plan, shallow}
 use Rattle.q_tree.proofs.TargetLemmas.{reached-at, target-none, target-some}

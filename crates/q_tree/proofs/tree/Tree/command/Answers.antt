@@ -8,7 +8,7 @@ use Rattle.q_model.specs.Node.{Node, shape}
 use Rattle.q_model.specs.Step.{DeviceState}
 use Rattle.q_model.specs.TreeState.{plan}
 use Rattle.q_tree.specs.Commands.{IsPlanOf, plan_of}
-use Rattle.q_tree.specs.declared.planned.Planned.{Planned}
+use Rattle.q_tree.specs.declared.commands.planned.Planned.{Planned}
 use Rattle.q_tree.specs.Commanding.{WantsMemory}
 use Rattle.q_tree.specs.Kept.{Kept}
 use Rattle.q_tree.proofs.Plans.{bounded, tree-answered, tree-lost, tree-room, tree-room-for}

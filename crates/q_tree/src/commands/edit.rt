@@ -1,0 +1,183 @@
+ghost use Rattle.std.specs.Prelude.{◌≡◌, ◌≤◌, ◌+◌, ◌++◌, ◌==◌, IsSome, Ok, OnErr, OnOk, Some, length, nat_le, not, slice_get};
+ghost use Rattle.std.specs.List.{filter, take_while};
+ghost use Rattle.q_model.specs.Beneath.{totals_in};
+ghost use Rattle.q_model.specs.Filters.{with_filter};
+ghost use Rattle.q_model.specs.Find.{node_at};
+ghost use Rattle.q_model.specs.Node as spec;
+ghost use Rattle.q_model.specs.declared.filter.Filter.{Filter};
+ghost use Rattle.q_tree.specs.Editing.{IsEditedBeneath, IsReady, TakesMemory, adds_nodes, edited_by, effect, removed, removed_at};
+ghost use Rattle.q_tree.specs.Kept.{Kept};
+ghost use Rattle.q_tree.specs.Places.{Leads};
+ghost use Rattle.q_tree.specs.Purging.{purged};
+ghost use Rattle.q_tree.specs.Reshaping.{IsUnchanged};
+ghost use Rattle.q_tree.specs.Seen.{children_seen};
+
+use crate::booking::{NOTHING, book_dropped};
+use crate::commands::discipline_change::DisciplineChange;
+use crate::disciplines::drr::settle;
+use crate::masked_filter::MaskedFilter;
+use crate::node::{Discipline, Node};
+use q_codel::Sink;
+use q_model::{Filter, FilterPrio, Totals};
+use std::alloc::AllocError;
+
+/// What a command makes of the node at the end of its way.
+#[derive(Drop)]
+pub(crate) enum Edit {
+    /// This new node stands in its place.
+    Graft(Node),
+    /// It has a filter more, behind those of the same priority.
+    AddFilter(Filter),
+    /// It has no filters of this priority.
+    RemoveFilters(FilterPrio),
+    /// Its discipline and its children are reshaped.
+    DisciplineChange(DisciplineChange),
+}
+
+impl Edit {
+    /// Whether it brings nodes beneath another.
+    pub(crate) fn adds_nodes(&self) -> bool
+        ensures { result ≡ adds_nodes self.now }
+    {
+        match self {
+            Edit::Graft(node) => return !node.children().is_empty(),
+            Edit::AddFilter(_) | Edit::RemoveFilters(_) => return false,
+            Edit::DisciplineChange(reshape) => return reshape.adds_children(),
+        }
+    }
+}
+
+impl Node {
+    /// Edits the node at the end of this way, and says what was lost there, which each node on the way books as dropped.
+    ///
+    /// # Errors
+    ///
+    /// `AllocError` where memory is refused; nothing has changed then.
+    #[cycle(edit)]
+    pub(crate) fn edit<S: Sink>(
+        &mut self,
+        path: &[usize],
+        edit: Edit,
+        sink: &mut S,
+    ) -> Result<Totals, AllocError>
+        requires there { IsSome (node_at path.now self.old) }
+        requires ready { IsReady edit }
+        requires sink { length (removed_at edit path.now self.old) ≤ S.room sink.old }
+        ensures after { OnOk result (self.new ≡ edited_by edit path.now self.old) }
+        ensures totals { OnOk result (result ≡ Ok (totals_in (removed_at edit path.now self.old))) }
+        ensures lost { OnOk result (S.losses sink.new ≡ S.losses sink.old ++ purged (removed_at edit path.now self.old)) }
+        ensures room { OnOk result (S.room sink.new + length (removed_at edit path.now self.old) ≡ S.room sink.old) }
+        ensures memory { OnErr result (TakesMemory edit) }
+        ensures same { OnErr result (self.new ≡ self.old) }
+        ensures not_lost { OnErr result ((S.losses sink.new ≡ S.losses sink.old) × (S.room sink.new ≡ S.room sink.old)) }
+        ensures kept { S.keeps sink.old sink.new }
+    {
+        let Some((&place, rest)) = path.split_first() else {
+            return self.apply(edit, sink);
+        };
+        self.row.fit();
+        let lost = self.discipline.edit_beneath(place, rest, edit, sink)?;
+        book_dropped(&mut self.row, lost);
+        Ok(lost)
+    }
+
+    // Edits this node.
+    fn apply<S: Sink>(&mut self, edit: Edit, sink: &mut S) -> Result<Totals, AllocError>
+        requires ready { IsReady edit }
+        requires sink { length (removed edit self.old) ≤ S.room sink.old }
+        ensures after { OnOk result (self.new ≡ effect edit self.old) }
+        ensures totals { OnOk result (result ≡ Ok (totals_in (removed edit self.old))) }
+        ensures lost { OnOk result (S.losses sink.new ≡ S.losses sink.old ++ purged (removed edit self.old)) }
+        ensures room { OnOk result (S.room sink.new + length (removed edit self.old) ≡ S.room sink.old) }
+        ensures memory { OnErr result (TakesMemory edit) }
+        ensures same { OnErr result (self.new ≡ self.old) }
+        ensures not_lost { OnErr result ((S.losses sink.new ≡ S.losses sink.old) × (S.room sink.new ≡ S.room sink.old)) }
+        ensures kept { S.keeps sink.old sink.new }
+    {
+        match edit {
+            Edit::Graft(node) => {
+                let old = std::mem::replace(self, node);
+                let lost = old.queued();
+                old.purge(sink);
+                return Ok(lost);
+            }
+            Edit::AddFilter(filter) => {
+                add_filter(&mut self.filters, filter)?;
+                return Ok(NOTHING);
+            }
+            Edit::RemoveFilters(prio) => {
+                remove_filters(&mut self.filters, prio);
+                return Ok(NOTHING);
+            }
+            Edit::DisciplineChange(reshape) => {
+                self.row.fit();
+                let lost = self.discipline.reshape(reshape, sink)?;
+                book_dropped(&mut self.row, lost);
+                return Ok(lost);
+            }
+        }
+    }
+}
+
+impl Discipline {
+    // Edits the node at the end of the way that goes on beneath the child in this place.
+    #[cycle(edit)]
+    fn edit_beneath<S: Sink>(
+        &mut self,
+        place: usize,
+        rest: &[usize],
+        edit: Edit,
+        sink: &mut S,
+    ) -> Result<Totals, AllocError>
+        requires there { Leads rest.now place (children_seen self.old) }
+        requires ready { IsReady edit }
+        requires sink { (c : spec.Node Kept) → slice_get (children_seen self.old) place ≡ Some c → length (removed_at edit rest.now c) ≤ S.room sink.old }
+        ensures after { OnOk result ((c : spec.Node Kept) → slice_get (children_seen self.old) place ≡ Some c → IsEditedBeneath edit rest.now place c self.old self.new) }
+        ensures totals { OnOk result ((c : spec.Node Kept) → slice_get (children_seen self.old) place ≡ Some c → result ≡ Ok (totals_in (removed_at edit rest.now c))) }
+        ensures lost { OnOk result ((c : spec.Node Kept) → slice_get (children_seen self.old) place ≡ Some c → S.losses sink.new ≡ S.losses sink.old ++ purged (removed_at edit rest.now c)) }
+        ensures room { OnOk result ((c : spec.Node Kept) → slice_get (children_seen self.old) place ≡ Some c → S.room sink.new + length (removed_at edit rest.now c) ≡ S.room sink.old) }
+        ensures memory { OnErr result (TakesMemory edit) }
+        ensures same { OnErr result (IsUnchanged self.old self.new) }
+        ensures not_lost { OnErr result ((S.losses sink.new ≡ S.losses sink.old) × (S.room sink.new ≡ S.room sink.old)) }
+        ensures kept { S.keeps sink.old sink.new }
+    {
+        match self {
+            Discipline::Prio { bands, .. } => return bands[place].edit(rest, edit, sink),
+            Discipline::Tbf { child, .. } => return child.edit(rest, edit, sink),
+            Discipline::Drr { active, classes } => {
+                let lost = classes[place].edit(rest, edit, sink)?;
+                settle(active, place, classes[place].is_empty());
+                return Ok(lost);
+            }
+            Discipline::Fifo(_) | Discipline::FqCodel(_) => unreachable!(),
+        }
+    }
+}
+
+// Adds a filter behind those of its priority, before those of a higher one (tc(8)).
+fn add_filter(filters: &mut Vec<MaskedFilter>, filter: Filter) -> Result<(), AllocError>
+    ensures ok { OnOk result (filters.new.items ≡ with_filter filter filters.old.items) }
+    ensures err { OnErr result (filters.new.items ≡ filters.old.items) }
+{
+    let place = place_behind(filters, filter.prio.number());
+    filters.insert(place, MaskedFilter::new(filter))?;
+    Ok(())
+}
+
+// The place behind the filters of this priority and of lower ones, up to the first of a higher one.
+fn place_behind(filters: &[MaskedFilter], prio: u16) -> usize
+    ensures { result ≡ length (take_while (λ (f : Filter). nat_le f.prio prio) filters.now) }
+{
+    filters
+        .iter()
+        .take_while(|filter| filter.filter().prio.number() <= prio)
+        .count()
+}
+
+// Removes the filters of this priority.
+fn remove_filters(filters: &mut Vec<MaskedFilter>, prio: FilterPrio)
+    ensures { filters.new.items ≡ filter (λ (f : Filter). not (f.prio == prio)) filters.old.items }
+{
+    let prio = prio.number();
+    filters.retain(|filter| filter.filter().prio.number() != prio);
+}

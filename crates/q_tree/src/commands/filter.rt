@@ -1,0 +1,162 @@
+ghost use Rattle.std.specs.Prelude.{◌≡◌, IfOk, ℕ};
+ghost use Rattle.std.specs.List.{list_any};
+ghost use Rattle.q_model.specs.FilterCommands.{filter_add_checks, filter_del_checks, has_prio};
+ghost use Rattle.q_model.specs.Find.{addresses};
+ghost use Rattle.q_model.specs.Make.{Device};
+ghost use Rattle.q_model.specs.Node.{shape};
+ghost use Rattle.q_model.specs.Refusals.{done_unless, has_filters};
+ghost use Rattle.q_model.specs.declared.command.Command.TheVariants.{FilterAdd, FilterDel};
+ghost use Rattle.q_tree.specs.Commands.{IsAnswered, IsBounded, IsPlanOf, plan_of, takes_memory, takes_none};
+ghost use Rattle.q_tree.specs.Editing.{LosesNothing};
+
+use crate::commands::edit::Edit;
+use crate::commands::handles::Handles;
+use crate::commands::one_loss_sink::OneLossSink;
+use crate::commands::planned::Planned;
+use crate::masked_filter::MaskedFilter;
+use crate::node::{Discipline, Node};
+use crate::tree::Tree;
+use q_model::{Filter, FilterPrio, Handle, Refusal};
+
+/// The most filters that a qdisc has.
+const MOST_FILTERS: usize = 256;
+
+impl Tree {
+    /// Adds a filter to the qdisc with this handle, behind those of the same priority (`tc filter add`, tc(8)). `major` is the
+    /// handle in the class that the line names.
+    ///
+    /// # Errors
+    ///
+    /// The first that holds: `NoQdisc` where no qdisc has the handle; `NotClassful` where it is no prio and no drr; `NoClass`
+    /// where it has no such class; `TooMany` where it has 256 filters; `Memory`. The tree is as it was.
+    pub fn filter_add(
+        &mut self,
+        parent: Handle,
+        major: Handle,
+        filter: Filter,
+    ) -> Result<(), Refusal>
+        ensures { IsAnswered takes_memory self.old.clock (plan_of (FilterAdd parent major filter) self.old.clock self.old) self.old self.new result }
+    {
+        match self.root.filter_added(&self.handles, parent, major, filter) {
+            Err(refusal) => return Err(refusal),
+            Ok(planned) => return self.edit(planned, self.clock, &mut OneLossSink { told: None }),
+        }
+    }
+
+    /// Removes all filters of this priority from the qdisc with this handle (`tc filter del`, tc(8)).
+    ///
+    /// # Errors
+    ///
+    /// The first that holds: `NoQdisc` where no qdisc has the handle; `NotClassful` where it is no prio and no drr; `NoFilter`
+    /// where no filter has the priority. The tree is as it was.
+    pub fn filter_del(&mut self, parent: Handle, prio: FilterPrio) -> Result<(), Refusal>
+        ensures { IsAnswered takes_none self.old.clock (plan_of (FilterDel parent prio) self.old.clock self.old) self.old self.new result }
+    {
+        match self.root.filters_removed(&self.handles, parent, prio) {
+            Err(refusal) => return Err(refusal),
+            Ok(planned) => return self.edit(planned, self.clock, &mut OneLossSink { told: None }),
+        }
+    }
+}
+
+impl Node {
+    // The edit that adds a filter, or the first refusal that holds.
+    pub(crate) fn filter_added(
+        &self,
+        handles: &Handles,
+        parent: Handle,
+        major: Handle,
+        filter: Filter,
+    ) -> Result<Planned, Refusal>
+        requires index { handles.now.addresses ≡ addresses self.now }
+        requires bounded { IsBounded self.now }
+        ensures plan { (device : Device) (now : ℕ) → IsPlanOf takes_memory (FilterAdd parent major filter) now device self.now result }
+        ensures quiet { IfOk result (λ p. LosesNothing p.edit) }
+    {
+        filter.ranges();
+        let _ = (parent.major(), major.major());
+        let Some((path, node)) = self.qdisc(handles, parent) else {
+            return Err(Refusal::NoQdisc);
+        };
+        if let Err(refusal) = node.can_add_filter(parent, major, &filter) {
+            return Err(refusal);
+        }
+        let edit = Edit::AddFilter(filter);
+        Ok(Planned { path, edit })
+    }
+
+    // The edit that removes filters, or the first refusal that holds.
+    pub(crate) fn filters_removed(
+        &self,
+        handles: &Handles,
+        parent: Handle,
+        prio: FilterPrio,
+    ) -> Result<Planned, Refusal>
+        requires index { handles.now.addresses ≡ addresses self.now }
+        requires bounded { IsBounded self.now }
+        ensures plan { (device : Device) (now : ℕ) → IsPlanOf takes_none (FilterDel parent prio) now device self.now result }
+        ensures quiet { IfOk result (λ p. LosesNothing p.edit) }
+    {
+        let _ = (parent.major(), prio.number());
+        let Some((path, node)) = self.qdisc(handles, parent) else {
+            return Err(Refusal::NoQdisc);
+        };
+        if let Err(refusal) = node.can_remove_filters(prio) {
+            return Err(refusal);
+        }
+        let edit = Edit::RemoveFilters(prio);
+        Ok(Planned { path, edit })
+    }
+
+    // Whether the qdisc takes a filter into this class.
+    fn can_add_filter(&self, parent: Handle, major: Handle, filter: &Filter) -> Result<(), Refusal>
+        ensures { result ≡ done_unless (filter_add_checks parent major filter.now (shape self.now)) (record {}) }
+    {
+        if !self.has_filters() {
+            return Err(Refusal::NotClassful);
+        }
+        if major != parent {
+            return Err(Refusal::NoClass);
+        }
+        if self.class_place(filter.minor).is_none() {
+            return Err(Refusal::NoClass);
+        }
+        if self.filters.len() >= MOST_FILTERS {
+            return Err(Refusal::TooMany);
+        }
+        Ok(())
+    }
+
+    // Whether it has filters of this priority.
+    fn can_remove_filters(&self, prio: FilterPrio) -> Result<(), Refusal>
+        ensures { result ≡ done_unless (filter_del_checks prio (shape self.now)) (record {}) }
+    {
+        if !self.has_filters() {
+            return Err(Refusal::NotClassful);
+        }
+        if !has_prio(&self.filters, prio) {
+            return Err(Refusal::NoFilter);
+        }
+        Ok(())
+    }
+
+    // Filters choose among the classes of a prio and of a drr.
+    fn has_filters(&self) -> bool
+        ensures { result ≡ has_filters self.now.own.discipline }
+    {
+        match &self.discipline {
+            Discipline::Prio { .. } | Discipline::Drr { .. } => return true,
+            Discipline::Fifo(_) | Discipline::Tbf { .. } | Discipline::FqCodel(_) => return false,
+        }
+    }
+}
+
+// Whether one of these filters has this priority.
+fn has_prio(filters: &[MaskedFilter], prio: FilterPrio) -> bool
+    ensures { result ≡ list_any (has_prio prio) filters.now }
+{
+    let prio = prio.number();
+    filters
+        .iter()
+        .any(|filter| filter.filter().prio.number() == prio)
+}

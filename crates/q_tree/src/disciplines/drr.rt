@@ -1,0 +1,346 @@
+//! drr: how one chooses a class, dequeues, shows its packet, is ready, and changes (tc-drr(8)).
+ghost use Rattle.std.specs.Prelude.{◌≡◌, ◌<◌, ◌≤◌, ◌+◌, ◌++◌, None, OnErr, OnOk, Some, false, length, map, option_and_then, slice_get, true, unwrap_or};
+ghost use Rattle.q_drr.specs.Schedule.{place_of};
+ghost use Rattle.q_model.specs.Ask.{ask, ask_drr};
+ghost use Rattle.q_model.specs.Beneath.{totals_in};
+ghost use Rattle.q_model.specs.Filters.{named_class};
+ghost use Rattle.q_model.specs.Node as spec;
+ghost use Rattle.q_model.specs.Node.{Own, shape};
+ghost use Rattle.q_model.specs.Pop.{pop};
+ghost use Rattle.q_model.specs.Work.{settled_class};
+ghost use Rattle.q_tree.specs.AskSteps.{AreAsked, CanAskOnce, CanServe, IsAskedOnce, IsGivenBy, IsToldOf, answers, no_toll, toll_of};
+ghost use Rattle.q_tree.specs.Changing.{drr_same};
+ghost use Rattle.q_tree.specs.Kept.{Kept};
+ghost use Rattle.q_tree.specs.Purging.{purged};
+ghost use Rattle.q_tree.specs.PutSteps.{packets_beneath};
+ghost use Rattle.q_tree.specs.ReadyAt.{of_class, outlook, paid};
+ghost use Rattle.q_tree.specs.Reshaping.{IsReshaped, IsUnchanged, lost_with, requantum};
+ghost use Rattle.q_tree.specs.Seen.{children_seen, discipline_seen};
+ghost use Rattle.q_tree.specs.declared.commands.discipline_change.DisciplineChange.TheVariants.{AddClass, RemoveClass, SetQuantum};
+
+use crate::booking::NOTHING;
+use crate::commands::discipline_change::DisciplineChange;
+use crate::masked_filter::MaskedFilter;
+use crate::matching::named_class;
+use crate::node::{Discipline, Node};
+use crate::ready_at::Outlook;
+use crate::shown::Shown;
+use crate::toll::{NO_TOLL, Toll};
+use q_codel::Sink;
+use q_drr::{Active, Turn};
+use q_model::{Minor, Quantum, Refusal, Totals};
+use q_packet::{Moment, Packet, SOME_PACKET};
+use std::alloc::AllocError;
+
+/// The place of the class that a filter names, if there is one (tc-drr(8)).
+pub(crate) fn class_place(
+    active: &Active,
+    filters: &[MaskedFilter],
+    packet: &Packet,
+) -> Option<usize>
+    ensures { result ≡ option_and_then (λ minor. place_of minor active.now.classes) (named_class filters.now packet.now) }
+{
+    let minor = named_class(filters, packet)?;
+    place_of(active, minor.number())
+}
+
+// The place of a class, if there is one. Where classes were added in the order of their numbers, with none left out, no name is
+// hashed.
+#[inline(always)]
+fn place_of(active: &Active, class: u16) -> Option<usize>
+    ensures { result ≡ place_of class active.now.classes }
+{
+    let Some(first) = active.class_at(0) else {
+        return active.place_of(class);
+    };
+    let place = usize::from(class.wrapping_sub(first));
+    if let Some(name) = active.class_at(place) {
+        if name == class {
+            return Some(place);
+        }
+    }
+    active.place_of(class)
+}
+
+/// A class with something queued is active, and another is not (tc-drr(8)).
+pub(crate) fn settle(active: &mut Active, place: usize, is_empty: bool)
+    ensures { active.new ≡ settled_class place is_empty active.old }
+{
+    if place >= active.count() {
+        return;
+    }
+    if is_empty {
+        active.sleep_at(place);
+    } else {
+        active.wake_at(place);
+    }
+}
+
+/// Asks the classes of the active list in turn, and grants to each whose packet is longer than its deficit, until one is met
+/// that can send its packet, which it gives to `out`, or that shows none (tc-drr(8)).
+#[cycle(peek)]
+pub(crate) fn dequeue_class<S: Sink>(
+    active: &mut Active,
+    classes: &mut [Node],
+    out: &mut Packet,
+    now: Moment,
+    toll: &mut Toll,
+    sink: &mut S,
+) -> Shown
+    requires ready { CanServe now active.old classes.old }
+    requires sink { length (packets_beneath classes.old) ≤ S.room sink.old }
+    requires clean { toll.old ≡ no_toll }
+    ensures active { (own : Own) → spec.Drr active.new ≡ (ask_drr own (answers now classes.old) active.old).peeked.own.discipline }
+    ensures after { (own : Own) → AreAsked (ask_drr own (answers now classes.old) active.old) classes.old classes.new result }
+    ensures packet { out.new ≡ unwrap_or result.packet out.old }
+    ensures told { (own : Own) → IsToldOf (ask_drr own (answers now classes.old) active.old).rises (S.losses sink.old) (S.losses sink.new) (S.room sink.old) (S.room sink.new) }
+    ensures toll { toll.new ≡ toll_of result }
+    ensures kept { S.keeps sink.old sink.new }
+{
+    let mut shown = Shown::at_hand(&None);
+    // In the first round each class is asked once; in a later one it has at hand what it showed.
+    let mut unasked = active.active_count();
+    while let Some(place) = active.front_place() {
+        shown = ask_class(&mut classes[place], unasked > 0, shown, now, toll, sink);
+        unasked = unasked.saturating_sub(1);
+        let Some(len) = shown.packet_len() else {
+            return shown;
+        };
+        match active.turn(len) {
+            Turn::Send => {
+                // What is given is what was shown.
+                give_class(active, classes, place, out);
+                return shown;
+            }
+            Turn::Granted => {}
+        }
+    }
+    // No class was active, so nobody was asked.
+    *toll = NO_TOLL;
+    Shown::at_hand(&None)
+}
+
+// The class in this place gives its packet, and sleeps where that was its last.
+fn give_class(active: &mut Active, classes: &mut [Node], place: usize, out: &mut Packet)
+    requires { place < length classes.old }
+    ensures packet { (c : spec.Node Kept) → slice_get classes.old place ≡ Some c → out.new ≡ unwrap_or (pop c).shown out.old }
+    ensures given { (c : spec.Node Kept) → slice_get classes.old place ≡ Some c → IsGivenBy place c active.old active.new classes.old classes.new }
+{
+    classes[place].give(out);
+    settle(active, place, classes[place].is_empty());
+}
+
+/// Dequeues the packet that a drr sends, as [`dequeue_class`] does, to hold it (tc-drr(8)).
+#[cycle(peek)]
+#[inline(never)]
+pub(crate) fn serve<S: Sink>(
+    active: &mut Active,
+    classes: &mut [Node],
+    held: &mut Option<Packet>,
+    now: Moment,
+    toll: &mut Toll,
+    sink: &mut S,
+) -> Shown
+    requires none { held.old ≡ None }
+    requires ready { CanServe now active.old classes.old }
+    requires sink { length (packets_beneath classes.old) ≤ S.room sink.old }
+    requires clean { toll.old ≡ no_toll }
+    ensures active { (own : Own) → spec.Drr active.new ≡ (ask_drr own (answers now classes.old) active.old).peeked.own.discipline }
+    ensures after { (own : Own) → AreAsked (ask_drr own (answers now classes.old) active.old) classes.old classes.new result }
+    ensures held { held.new ≡ result.packet }
+    ensures told { (own : Own) → IsToldOf (ask_drr own (answers now classes.old) active.old).rises (S.losses sink.old) (S.losses sink.new) (S.room sink.old) (S.room sink.new) }
+    ensures toll { toll.new ≡ toll_of result }
+    ensures kept { S.keeps sink.old sink.new }
+{
+    let mut packet = SOME_PACKET;
+    let shown = dequeue_class(active, classes, &mut packet, now, toll, sink);
+    if shown.has_packet() {
+        *held = Some(packet);
+    }
+    shown
+}
+
+/// What a class shows: it is asked, or has its packet at hand. What was counted so far is counted on.
+#[cycle(peek)]
+#[inline(always)]
+pub(crate) fn ask_class<S: Sink>(
+    class: &mut Node,
+    is_unasked: bool,
+    so_far: Shown,
+    now: Moment,
+    toll: &mut Toll,
+    sink: &mut S,
+) -> Shown
+    requires ready { is_unasked ≡ true → CanAskOnce now class.old so_far (S.room sink.old) }
+    requires counted { toll.old ≡ toll_of so_far }
+    ensures asked { is_unasked ≡ true → IsAskedOnce now class.old class.new so_far result }
+    ensures told { is_unasked ≡ true → IsToldOf (ask now (shape class.old)).rises (S.losses sink.old) (S.losses sink.new) (S.room sink.old) (S.room sink.new) }
+    ensures at_hand { is_unasked ≡ false → (class.new ≡ class.old) × (result ≡ record so_far { packet = (pop class.old).shown }) }
+    ensures not_lost { is_unasked ≡ false → (S.losses sink.new ≡ S.losses sink.old) × (S.room sink.new ≡ S.room sink.old) }
+    ensures toll { toll.new ≡ toll_of result }
+    ensures kept { S.keeps sink.old sink.new }
+{
+    if is_unasked {
+        // Mostly nothing was dropped or marked so far, and the place is clean.
+        if so_far.is_quiet() {
+            return class.peek(now, toll, sink);
+        }
+        return ask_further(class, so_far, now, toll, sink);
+    }
+    show_again(class, so_far)
+}
+
+// Asks a class where something was dropped or marked already, which is counted on.
+#[cycle(peek)]
+#[cold]
+#[inline(never)]
+fn ask_further<S: Sink>(
+    class: &mut Node,
+    so_far: Shown,
+    now: Moment,
+    toll: &mut Toll,
+    sink: &mut S,
+) -> Shown
+    requires ready { CanAskOnce now class.old so_far (S.room sink.old) }
+    requires counted { toll.old ≡ toll_of so_far }
+    ensures asked { IsAskedOnce now class.old class.new so_far result }
+    ensures told { IsToldOf (ask now (shape class.old)).rises (S.losses sink.old) (S.losses sink.new) (S.room sink.old) (S.room sink.new) }
+    ensures toll { toll.new ≡ toll_of result }
+    ensures kept { S.keeps sink.old sink.new }
+{
+    let mut asked = NO_TOLL;
+    let next = class.peek(now, &mut asked, sink);
+    so_far.then(next, toll, &asked)
+}
+
+// What a class shows that was asked already. A call by itself, since it copies the packet.
+#[inline(never)]
+fn show_again(class: &Node, so_far: Shown) -> Shown
+    ensures { result ≡ record so_far { packet = (pop class.now).shown } }
+{
+    so_far.showing(&class.at_hand())
+}
+
+/// The class in front of a drr: no other is asked before it has shown a packet.
+#[cycle(outlook)]
+pub(crate) fn of_front(active: &Active, classes: &[Node], now: Moment) -> Outlook
+    ensures { result ≡ of_class active.now (map (outlook now) classes.now) (slice_get active.now.active 0) }
+{
+    let Some(class) = active.front() else {
+        return Outlook::NO_PACKET;
+    };
+    let deficit = active.deficit(class);
+    let Some(place) = active.place_of(class) else {
+        return Outlook::NO_PACKET;
+    };
+    if place >= classes.len() {
+        return Outlook::NO_PACKET;
+    }
+    classes[place].outlook(now).paid(deficit)
+}
+
+impl Outlook {
+    // What a drr shows whose front class has this deficit, and a child of which this is known (tc-drr(8)).
+    fn paid(&self, deficit: u64) -> Outlook
+        ensures { result ≡ paid deficit self.now }
+    {
+        let Some(len) = self.len else {
+            return Outlook::at_best(self.at, 0);
+        };
+        if u64::from(len) > deficit {
+            return Outlook::at_best(self.at, 0);
+        }
+        Outlook {
+            at: self.at,
+            least: 0,
+            len: self.len,
+            until: self.until,
+        }
+    }
+}
+
+impl Node {
+    /// A drr has no settings of its own.
+    pub(crate) fn same_drr(&self) -> Result<DisciplineChange, Refusal>
+        ensures { result ≡ drr_same self.now.own.discipline }
+    {
+        let Discipline::Drr { .. } = &self.discipline else {
+            return Err(Refusal::CannotChange);
+        };
+        Ok(DisciplineChange::Nothing)
+    }
+}
+
+impl Discipline {
+    /// Adds a class to a drr, asleep, behind the others (tc-drr(8)). One that it has already stays as it is.
+    ///
+    /// # Errors
+    ///
+    /// `AllocError` where memory is refused; nothing has changed then.
+    pub(crate) fn add_class(
+        &mut self,
+        class: Minor,
+        quantum: Quantum,
+        leaf: Node,
+    ) -> Result<(), AllocError>
+        ensures after { OnOk result (IsReshaped (AddClass class quantum leaf) self.old self.new) }
+        ensures same { OnErr result (IsUnchanged self.old self.new) }
+    {
+        let Discipline::Drr { active, classes } = self else {
+            return Ok(());
+        };
+        if active.has(class.number()) {
+            return Ok(());
+        }
+        classes.reserve(1)?;
+        active.add(class.number(), quantum.bytes())?;
+        classes.push_reserved(leaf);
+        Ok(())
+    }
+
+    /// Gives a class of a drr another quantum, where one is given and the class is there (tc-drr(8)).
+    pub(crate) fn set_quantum(&mut self, class: Minor, quantum: Option<Quantum>)
+        ensures { IsReshaped (SetQuantum class quantum) self.old self.new }
+    {
+        if let Discipline::Drr { active, .. } = self {
+            set_class_quantum(active, class.number(), quantum);
+        }
+    }
+
+    /// Removes a class of a drr, with all that is beneath it, and says what was lost (tc-drr(8)).
+    pub(crate) fn remove_class<S: Sink>(&mut self, class: Minor, sink: &mut S) -> Totals
+        requires sink { length (lost_with (RemoveClass class) (discipline_seen self.old) (children_seen self.old)) ≤ S.room sink.old }
+        ensures after { IsReshaped (RemoveClass class) self.old self.new }
+        ensures totals { result ≡ totals_in (lost_with (RemoveClass class) (discipline_seen self.old) (children_seen self.old)) }
+        ensures lost { S.losses sink.new ≡ S.losses sink.old ++ purged (lost_with (RemoveClass class) (discipline_seen self.old) (children_seen self.old)) }
+        ensures room { S.room sink.new + length (lost_with (RemoveClass class) (discipline_seen self.old) (children_seen self.old)) ≡ S.room sink.old }
+        ensures kept { S.keeps sink.old sink.new }
+    {
+        let Discipline::Drr { active, classes } = self else {
+            return NOTHING;
+        };
+        let Some(place) = active.place_of(class.number()) else {
+            return NOTHING;
+        };
+        if place >= classes.len() {
+            return NOTHING;
+        }
+        active.remove(class.number());
+        let child = classes.remove(place);
+        let lost = child.queued();
+        child.purge(sink);
+        lost
+    }
+}
+
+// The same in the schedule.
+fn set_class_quantum(active: &mut Active, class: u16, quantum: Option<Quantum>)
+    ensures { active.new ≡ requantum class quantum active.old }
+{
+    let Some(quantum) = quantum else {
+        return;
+    };
+    if active.has(class) {
+        active.set_quantum(class, quantum.bytes());
+    }
+}

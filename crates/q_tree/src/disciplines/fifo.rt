@@ -1,0 +1,168 @@
+//! pfifo and bfifo: how one is made, enqueues, dequeues, shows its packet, is ready, and changes (tc-pfifo(8), tc-bfifo(8)).
+ghost use Rattle.std.specs.Prelude.{◌≡◌, ◌<◌, ◌≤◌, ◌*◌, [], IfOk, IsOk, List, OnErr, drop, length, option_map, slice_get, true, unwrap_or};
+ghost use Rattle.q_codel.specs.FifoState.{takes};
+ghost use Rattle.q_model.specs.Beneath.{packets_of};
+ghost use Rattle.q_model.specs.Make.{implicit_pfifo};
+ghost use Rattle.q_model.specs.Tally.{no_totals};
+ghost use Rattle.q_model.specs.declared.filter.Filter.{Filter};
+ghost use Rattle.q_packet.specs.declared.stamped.Stamped.{Stamped};
+ghost use Rattle.q_tree.specs.ArriveSteps.{HasComeIn, IsPlacedIn, nothing_lost};
+ghost use Rattle.q_tree.specs.Changing.{bfifo_answer, pfifo_answer};
+ghost use Rattle.q_tree.specs.Making.{IsNewNode};
+ghost use Rattle.q_tree.specs.ReadyAt.{of_fifo};
+ghost use Rattle.q_tree.specs.Reshaping.{IsReshaped};
+ghost use Rattle.q_tree.specs.declared.commands.discipline_change.DisciplineChange.TheVariants.{SetLimit};
+ghost use Rattle.q_tree.specs.declared.node.Discipline.TheVariants as code;
+
+use crate::arrived::{Arrived, refuse};
+use crate::commands::discipline_change::DisciplineChange;
+use crate::commands::link_settings::LinkSettings;
+use crate::counters::Counters;
+use crate::node::{Discipline, Node};
+use crate::outcome::Outcome;
+use crate::ready_at::Outlook;
+use crate::shown::Shown;
+use crate::toll::NO_TOLL;
+use q_codel::{Fifo, Limit, Sink};
+use q_model::{Handle, Refusal};
+use q_packet::{Cause, Moment, Packet};
+use std::alloc::{AllocError, Global};
+
+impl Node {
+    ghost use Rattle.q_model.specs.Tally.{no_counts};
+    ghost use Rattle.q_model.specs.Node as spec;
+    ghost use Rattle.q_model.specs.Make.{node_of};
+
+    /// A fifo without packets, which has counted nothing. It takes no memory yet.
+    pub(crate) fn fifo(alloc: Global, handle: Option<Handle>, limit: Limit) -> Node
+        ensures own { result.own ≡ (node_of handle (spec.Fifo limit []) []).own }
+        ensures counts { result.memory.counts ≡ no_counts }
+        ensures places { result.memory.places ≡ 0 }
+        ensures alone { result.below ≡ spec.none }
+    {
+        Node {
+            handle,
+            held: None,
+            filters: Vec::new(alloc),
+            row: Counters::none(),
+            discipline: Discipline::Fifo(Fifo::new(alloc, limit)),
+        }
+    }
+}
+
+// The leaf that stands where nothing else does, but beneath a tbf.
+pub(crate) fn implicit_pfifo(alloc: Global, link: LinkSettings) -> Node
+    ensures { IsNewNode result (implicit_pfifo (record { mtu = link.mtu; txqueuelen = link.txqueuelen })) }
+{
+    let packets = u64::from(link.txqueuelen);
+    Node::fifo(alloc, None, Limit::Packets(packets))
+}
+
+/// The bytes that a bfifo takes: as many as are given, or those of the device's queue of packets as long as the mtu.
+pub(crate) fn bfifo_bytes(link: LinkSettings, limit: Option<u32>) -> u64
+    ensures { result ≡ unwrap_or limit (link.txqueuelen * link.mtu) }
+{
+    match limit {
+        None => u64::from(link.txqueuelen) * u64::from(link.mtu),
+        Some(bytes) => u64::from(bytes),
+    }
+}
+
+/// The packet is queued behind the others, or refused at the limit (tc-pfifo(8)).
+#[inline(always)]
+pub(crate) fn arrive_in_fifo<S: Sink>(
+    fifo: &mut Fifo,
+    packet: &Packet,
+    now: Moment,
+    lost: &mut Outcome,
+    sink: &mut S,
+) -> Result<Arrived, AllocError>
+    requires sink { 1 ≤ S.room sink.old }
+    requires clean { lost.old ≡ nothing_lost }
+    ensures after { (filters : List Filter) → IfOk result (λ outcome. HasComeIn now packet.now filters (code.Fifo fifo.old) (code.Fifo fifo.new) outcome (S.losses sink.old) (S.losses sink.new) (S.room sink.old) (S.room sink.new)) }
+    ensures same { OnErr result (IsPlacedIn (code.Fifo fifo.old) (code.Fifo fifo.new)) }
+    ensures not_lost { OnErr result ((S.losses sink.new ≡ S.losses sink.old) × (S.room sink.new ≡ S.room sink.old)) }
+    ensures succeeds { (takes fifo.old.limit fifo.old.packets packet.now.len ≡ true → length fifo.old.packets < fifo.old.places) → IsOk result }
+    ensures lost_is { IfOk result (λ outcome. lost.new ≡ outcome) }
+    ensures kept { S.keeps sink.old sink.new }
+{
+    if !fifo.fits(packet.len) {
+        return Ok(refuse(packet, Cause::OverLimit, lost, sink));
+    }
+    fifo.reserve()?;
+    fifo.put_from(packet, now);
+    Ok(Arrived::kept())
+}
+
+/// Gives the head of a fifo to `out`.
+#[inline(always)]
+pub(crate) fn dequeue_head(fifo: &mut Fifo, out: &mut Packet) -> Shown
+    ensures shown { result.packet ≡ option_map (λ (s : Stamped). s.packet) (slice_get fifo.old.packets 0) }
+    ensures dropped { result.dropped ≡ no_totals }
+    ensures marked { result.marked ≡ no_totals }
+    ensures packet { out.new ≡ unwrap_or result.packet out.old }
+    ensures rest { fifo.new ≡ record fifo.old { packets = drop 1 fifo.old.packets } }
+{
+    if fifo.take_into(out) == 0 {
+        return Shown::at_hand(&None);
+    }
+    Shown::sending(out, &NO_TOLL)
+}
+
+/// The packet at the head of a fifo.
+pub(crate) fn first_packet(fifo: &Fifo) -> Option<Packet>
+    ensures { result ≡ slice_get (packets_of fifo.now.packets) 0 }
+{
+    Some(fifo.head()?.packet)
+}
+
+/// A fifo shows its head.
+pub(crate) fn of_fifo(head: Option<Packet>, now: Moment) -> Outlook
+    ensures { result ≡ of_fifo now head }
+{
+    let Some(packet) = head else {
+        return Outlook::NO_PACKET;
+    };
+    Outlook::at_hand(now, packet.len)
+}
+
+impl Node {
+    /// A pfifo keeps its limit in packets where none is given.
+    pub(crate) fn packet_limit(&self, limit: Option<u32>) -> Result<DisciplineChange, Refusal>
+        ensures { result ≡ pfifo_answer limit self.now.own.discipline }
+    {
+        let Discipline::Fifo(fifo) = &self.discipline else {
+            return Err(Refusal::CannotChange);
+        };
+        let Limit::Packets(old) = fifo.limit() else {
+            return Err(Refusal::CannotChange);
+        };
+        let packets = limit.map_or(old, u64::from);
+        Ok(DisciplineChange::SetLimit(Limit::Packets(packets)))
+    }
+
+    /// A bfifo keeps its limit in bytes where none is given.
+    pub(crate) fn byte_limit(&self, limit: Option<u32>) -> Result<DisciplineChange, Refusal>
+        ensures { result ≡ bfifo_answer limit self.now.own.discipline }
+    {
+        let Discipline::Fifo(fifo) = &self.discipline else {
+            return Err(Refusal::CannotChange);
+        };
+        let Limit::Bytes(old) = fifo.limit() else {
+            return Err(Refusal::CannotChange);
+        };
+        let bytes = limit.map_or(old, u64::from);
+        Ok(DisciplineChange::SetLimit(Limit::Bytes(bytes)))
+    }
+}
+
+impl Discipline {
+    /// Gives a fifo another limit; its packets stay (tc-pfifo(8)).
+    pub(crate) fn set_limit(&mut self, new: Limit)
+        ensures { IsReshaped (SetLimit new) self.old self.new }
+    {
+        if let Discipline::Fifo(fifo) = self {
+            fifo.set_limit(new);
+        }
+    }
+}

@@ -1,0 +1,292 @@
+//! fq_codel: how one is made, enqueues, dequeues, shows its packet, is ready, and changes (tc-fq_codel(8)).
+ghost use Rattle.std.specs.Prelude.{◌≡◌, ◌<◌, ◌≤◌, ◌+◌, ◌++◌, IfOk, IsOk, List, None, OnErr, OnOk, Some, length, unwrap_or, if◌then◌else◌};
+ghost use Rattle.q_codel.specs.Losses.{losses_of};
+ghost use Rattle.q_fqcodel.specs.FqState.{first_state, packets_of};
+ghost use Rattle.q_fqcodel.specs.Put.{after_put, is_lost_itself, lost_by_put};
+ghost use Rattle.q_fqcodel.specs.Take.{after_sending, dropped_from, selected};
+ghost use Rattle.q_model.specs.Ask.{Asked, ask_fq_codel};
+ghost use Rattle.q_model.specs.Beneath as beneath;
+ghost use Rattle.q_model.specs.Beneath.{beneath};
+ghost use Rattle.q_model.specs.Make.{with_options};
+ghost use Rattle.q_model.specs.Node.{Own};
+ghost use Rattle.q_model.specs.Tally.{no_totals, with_packet};
+ghost use Rattle.q_tree.specs.ArriveSteps.{nothing_lost};
+ghost use Rattle.q_tree.specs.AskSteps.{IsShown, no_toll, toll_of};
+ghost use Rattle.q_tree.specs.Changing.{fq_codel_answer};
+ghost use Rattle.q_tree.specs.PutSteps.{CanFlow};
+ghost use Rattle.q_tree.specs.ReadyAt.{of_flows};
+ghost use Rattle.q_tree.specs.Reshaping.{IsReshaped};
+ghost use Rattle.q_tree.specs.declared.commands.discipline_change.DisciplineChange.TheVariants.{SetOptions};
+
+use crate::arrived::Arrived;
+use crate::booking::{NOTHING, difference, one_packet};
+use crate::commands::discipline_change::DisciplineChange;
+use crate::node::{Discipline, Node};
+use crate::outcome::Outcome;
+use crate::ready_at::Outlook;
+use crate::shown::Shown;
+use crate::toll::{NO_TOLL, Toll};
+use q_codel::Sink;
+use q_fqcodel::{FqCodel, Settings};
+use q_model::{FqCodelOptions, Refusal, Totals};
+use q_packet::{Cause, Moment, Packet, SOME_PACKET};
+use std::alloc::{AllocError, Global};
+
+/// The queue of an fq_codel with these settings.
+pub(crate) fn new_queue(alloc: Global, settings: Settings) -> Result<Box<FqCodel>, AllocError>
+    ensures state { IfOk result (λ q. q.value.state ≡ first_state settings) }
+    ensures places { IfOk result (λ q. q.value.places ≡ 0) }
+{
+    let queue = FqCodel::new(alloc, settings)?;
+    Ok(Box::new(alloc, queue)?)
+}
+
+// The settings with those that are given in place of theirs.
+pub(crate) fn with_options(options: &FqCodelOptions, old: Settings) -> Settings
+    ensures { result ≡ with_options options.now old }
+{
+    options.ranges();
+    let _ = &old.mtu;
+    Settings {
+        limit: options.limit.unwrap_or(old.limit),
+        flows: options.flows.unwrap_or(old.flows),
+        quantum: options.quantum.unwrap_or(old.quantum),
+        target: options.target.unwrap_or(old.target),
+        interval: options.interval.unwrap_or(old.interval),
+        ecn: options.ecn.unwrap_or(old.ecn),
+        drop_batch: options.drop_batch.unwrap_or(old.drop_batch),
+        mtu: old.mtu,
+    }
+}
+
+/// The packet is queued in its flow, and what the fattest flow loses is counted.
+pub(crate) fn arrive_in_flows<S: Sink>(
+    queue: &mut FqCodel,
+    packet: &Packet,
+    now: Moment,
+    lost: &mut Outcome,
+    sink: &mut S,
+) -> Result<Arrived, AllocError>
+    requires flow { CanFlow packet.now queue.old.state }
+    requires sink { packets_of queue.old.state.flows + 1 ≤ S.room sink.old }
+    requires clean { lost.old ≡ nothing_lost }
+    ensures after { OnOk result (queue.new.state ≡ after_put queue.old.state packet.now now) }
+    ensures place { OnOk result (packets_of queue.old.state.flows < queue.new.places) }
+    ensures loss { IfOk result (λ outcome. outcome.loss ≡ (if is_lost_itself queue.old.state packet.now now then Some Cause.FatFlow else None)) }
+    ensures refused { IfOk result (λ outcome. outcome.refused ≡ no_totals) }
+    ensures dropped { IfOk result (λ outcome. outcome.dropped ≡ beneath.totals_in (beneath.packets_of (lost_by_put queue.old.state packet.now now))) }
+    ensures lost { OnOk result (S.losses sink.new ≡ S.losses sink.old ++ losses_of Cause.FatFlow (lost_by_put queue.old.state packet.now now)) }
+    ensures room { OnOk result (S.room sink.new + length (lost_by_put queue.old.state packet.now now) ≡ S.room sink.old) }
+    ensures same { OnErr result (queue.new.state ≡ queue.old.state) }
+    ensures not_lost { OnErr result ((S.losses sink.new ≡ S.losses sink.old) × (S.room sink.new ≡ S.room sink.old)) }
+    ensures grows { queue.old.places ≤ queue.new.places }
+    ensures succeeds { packets_of queue.old.state.flows < queue.old.places → IsOk result }
+    ensures lost_is { IfOk result (λ outcome. lost.new ≡ outcome) }
+    ensures kept { S.keeps sink.old sink.new }
+{
+    queue.reserve()?;
+    if queue.fits() {
+        let _ = queue.put_from(packet, now, sink);
+        return Ok(Arrived::kept());
+    }
+    Ok(arrive_over(queue, packet, now, lost, sink))
+}
+
+// The same over the limit. A call by itself, so that the usual way makes no place for an outcome.
+#[cold]
+#[inline(never)]
+fn arrive_over<S: Sink>(
+    queue: &mut FqCodel,
+    packet: &Packet,
+    now: Moment,
+    lost: &mut Outcome,
+    sink: &mut S,
+) -> Arrived
+    requires place { packets_of queue.old.state.flows < queue.old.places }
+    requires flow { CanFlow packet.now queue.old.state }
+    requires sink { packets_of queue.old.state.flows + 1 ≤ S.room sink.old }
+    ensures after { queue.new.state ≡ after_put queue.old.state packet.now now }
+    ensures places { queue.new.places ≡ queue.old.places }
+    ensures loss { result.loss ≡ (if is_lost_itself queue.old.state packet.now now then Some Cause.FatFlow else None) }
+    ensures refused { result.refused ≡ no_totals }
+    ensures dropped { result.dropped ≡ beneath.totals_in (beneath.packets_of (lost_by_put queue.old.state packet.now now)) }
+    ensures lost { S.losses sink.new ≡ S.losses sink.old ++ losses_of Cause.FatFlow (lost_by_put queue.old.state packet.now now) }
+    ensures room { S.room sink.new + length (lost_by_put queue.old.state packet.now now) ≡ S.room sink.old }
+    ensures lost_is { lost.new ≡ result }
+    ensures kept { S.keeps sink.old sink.new }
+{
+    *lost = put_in_flow(queue, packet, now, sink);
+    Arrived::with(lost)
+}
+
+/// Puts a packet into its flow, and counts what the fattest flow loses.
+#[inline(never)]
+pub(crate) fn put_in_flow<S: Sink>(
+    queue: &mut FqCodel,
+    packet: &Packet,
+    now: Moment,
+    sink: &mut S,
+) -> Outcome
+    requires place { packets_of queue.old.state.flows < queue.old.places }
+    requires flow { CanFlow packet.now queue.old.state }
+    requires sink { packets_of queue.old.state.flows + 1 ≤ S.room sink.old }
+    ensures after { queue.new.state ≡ after_put queue.old.state packet.now now }
+    ensures places { queue.new.places ≡ queue.old.places }
+    ensures loss { result.loss ≡ (if is_lost_itself queue.old.state packet.now now then Some Cause.FatFlow else None) }
+    ensures refused { result.refused ≡ no_totals }
+    ensures dropped { result.dropped ≡ beneath.totals_in (beneath.packets_of (lost_by_put queue.old.state packet.now now)) }
+    ensures lost { S.losses sink.new ≡ S.losses sink.old ++ losses_of Cause.FatFlow (lost_by_put queue.old.state packet.now now) }
+    ensures room { S.room sink.new + length (lost_by_put queue.old.state packet.now now) ≡ S.room sink.old }
+    ensures kept { S.keeps sink.old sink.new }
+{
+    let (packets, bytes) = queue.queued();
+    let is_lost = queue.put_from(packet, now, sink);
+    let (packets_after, bytes_after) = queue.queued();
+    Outcome {
+        loss: is_lost.then_some(Cause::FatFlow),
+        refused: NOTHING,
+        dropped: Totals {
+            packets: packets + 1 - packets_after,
+            bytes: bytes + u64::from(packet.len) - bytes_after,
+        },
+    }
+}
+
+/// Gives the packet that the flow in front sends (RFC 8290, section 4.2) to `out`, and counts what CoDel drops and marks.
+pub(crate) fn dequeue_flow<S: Sink>(
+    queue: &mut FqCodel,
+    out: &mut Packet,
+    now: Moment,
+    toll: &mut Toll,
+    sink: &mut S,
+) -> Shown
+    requires sink { packets_of queue.old.state.flows ≤ S.room sink.old }
+    requires clean { toll.old ≡ no_toll }
+    ensures after { queue.new.state ≡ after_sending now (selected queue.old.state) }
+    ensures places { queue.new.places ≡ queue.old.places }
+    ensures shown { (own : Own) (below : List Asked) → IsShown (ask_fq_codel now own below queue.old.state) result }
+    ensures packet { out.new ≡ unwrap_or result.packet out.old }
+    ensures lost { S.losses sink.new ≡ S.losses sink.old ++ losses_of Cause.CoDel (dropped_from now (selected queue.old.state)) }
+    ensures room { S.room sink.new + length (dropped_from now (selected queue.old.state)) ≡ S.room sink.old }
+    ensures toll { toll.new ≡ toll_of result }
+    ensures kept { S.keeps sink.old sink.new }
+{
+    let (packets, bytes) = queue.queued();
+    let sent = queue.take_into(now, out, sink);
+    if sent.len == 0 {
+        // CoDel drops none of an empty fq_codel.
+        return Shown::at_hand(&None);
+    }
+    if !sent.dropped {
+        return show_marked(sent.marked, out, toll);
+    }
+    let (packets_after, bytes_after) = queue.queued();
+    let gone = Totals {
+        packets: packets - packets_after,
+        bytes: bytes - bytes_after,
+    };
+    let one = one_packet(out);
+    *toll = Toll {
+        dropped: difference(gone, one),
+        marked: marking(sent.marked, out),
+    };
+    Shown::sending(out, toll)
+}
+
+// Shows the packet, where nothing was dropped for it. Mostly it was not marked either, and nothing is written then.
+#[inline(always)]
+fn show_marked(is_marked: bool, out: &Packet, toll: &mut Toll) -> Shown
+    requires { toll.old ≡ no_toll }
+    ensures shown { result ≡ record { packet = Some out.now; dropped = no_totals; marked = if is_marked then with_packet no_totals out.now else no_totals } }
+    ensures toll { toll.new ≡ toll_of result }
+{
+    if !is_marked {
+        return Shown::sending(out, &NO_TOLL);
+    }
+    *toll = Toll {
+        dropped: NOTHING,
+        marked: one_packet(out),
+    };
+    Shown::sending(out, toll)
+}
+
+// The packet, where it was marked.
+fn marking(is_marked: bool, packet: &Packet) -> Totals
+    ensures { result ≡ (if is_marked then with_packet no_totals packet.now else no_totals) }
+{
+    if is_marked {
+        return one_packet(packet);
+    }
+    NOTHING
+}
+
+/// Takes the packet that the flow in front sends (RFC 8290, section 4.2), to hold it, and counts what CoDel drops and marks.
+#[inline(never)]
+pub(crate) fn take_from_flows<S: Sink>(
+    queue: &mut FqCodel,
+    held: &mut Option<Packet>,
+    now: Moment,
+    toll: &mut Toll,
+    sink: &mut S,
+) -> Shown
+    requires none { held.old ≡ None }
+    requires sink { packets_of queue.old.state.flows ≤ S.room sink.old }
+    requires clean { toll.old ≡ no_toll }
+    ensures after { queue.new.state ≡ after_sending now (selected queue.old.state) }
+    ensures places { queue.new.places ≡ queue.old.places }
+    ensures shown { (own : Own) (below : List Asked) → IsShown (ask_fq_codel now own below queue.old.state) result }
+    ensures held { held.new ≡ result.packet }
+    ensures lost { S.losses sink.new ≡ S.losses sink.old ++ losses_of Cause.CoDel (dropped_from now (selected queue.old.state)) }
+    ensures room { S.room sink.new + length (dropped_from now (selected queue.old.state)) ≡ S.room sink.old }
+    ensures toll { toll.new ≡ toll_of result }
+    ensures kept { S.keeps sink.old sink.new }
+{
+    let mut packet = SOME_PACKET;
+    let shown = dequeue_flow(queue, &mut packet, now, toll, sink);
+    if shown.has_packet() {
+        *held = Some(packet);
+    }
+    shown
+}
+
+/// An fq_codel with packets shows one, but CoDel decides which when it is asked.
+pub(crate) fn of_flows(packets: u64, now: Moment) -> Outlook
+    ensures { result ≡ of_flows now packets }
+{
+    if packets == 0 {
+        return Outlook::NO_PACKET;
+    }
+    Outlook::at_best(Some(now), 0)
+}
+
+impl Node {
+    /// An fq_codel keeps its number of flows.
+    pub(crate) fn options(&self, options: &FqCodelOptions) -> Result<DisciplineChange, Refusal>
+        ensures { result ≡ fq_codel_answer options.now self.now.own.discipline }
+    {
+        let Discipline::FqCodel(queue) = &self.discipline else {
+            return Err(Refusal::CannotChange);
+        };
+        let flows = queue.settings().flows;
+        if options.flows.is_some_and(|given| given != flows) {
+            return Err(Refusal::CannotChange);
+        }
+        Ok(DisciplineChange::SetOptions(*options))
+    }
+}
+
+impl Discipline {
+    /// Gives an fq_codel other options, but for the number of flows (tc-fq_codel(8)).
+    pub(crate) fn set_options(&mut self, options: &FqCodelOptions)
+        ensures { IsReshaped (SetOptions options.now) self.old self.new }
+    {
+        if let Discipline::FqCodel(queue) = self {
+            let old = queue.settings();
+            let new = with_options(options, old);
+            queue.change(Settings {
+                flows: old.flows,
+                ..new
+            });
+        }
+    }
+}

@@ -1,0 +1,324 @@
+//! prio: how one is made, chooses a band, dequeues, shows its packet, is ready, and changes (tc-prio(8)).
+ghost use Rattle.std.specs.Prelude.{◌≡◌, ◌<◌, ◌≤◌, ◌+◌, ◌-◌, ◌++◌, IfOk, Ok, OnErr, OnOk, drop, length, map, nat_lt, replicate, slice_index, take, unwrap_or, ℕ};
+ghost use Rattle.std.specs.List.{list_any};
+ghost use Rattle.std.specs.Option.{option_map_or};
+ghost use Rattle.q_invariants.proofs.SizedChanges.{change_sized};
+ghost use Rattle.q_model.specs.Ask.{ask_prio};
+ghost use Rattle.q_model.specs.Beneath.{totals_in};
+ghost use Rattle.q_model.specs.Filters.{named_class};
+ghost use Rattle.q_model.specs.Find.{count_nodes};
+ghost use Rattle.q_model.specs.Make.{implicit_pfifo};
+ghost use Rattle.q_model.specs.Node.{Own, Shape, shape};
+ghost use Rattle.q_model.specs.Pop.{first_shown, pop};
+ghost use Rattle.q_model.specs.Refusals.{most_nodes};
+ghost use Rattle.q_model.specs.declared.filter.Filter.{Filter};
+ghost use Rattle.q_model.specs.declared.kind.Kind.TheVariants as kind;
+ghost use Rattle.q_tree.specs.AskSteps.{AreAsked, CanAskEach, IsToldOf, answers, no_toll, toll_of};
+ghost use Rattle.q_tree.specs.Changing.{IsChange, MakesChildren, leaves_answer, nodes_from};
+ghost use Rattle.q_tree.specs.Kept.{kept};
+ghost use Rattle.q_tree.specs.Making.{AreNew};
+ghost use Rattle.q_tree.specs.PopSteps.{IsFirstReady};
+ghost use Rattle.q_tree.specs.Purging.{purged};
+ghost use Rattle.q_tree.specs.PutSteps.{packets_beneath};
+ghost use Rattle.q_tree.specs.ReadyAt.{no_packet, outlook, with_band, with_bands};
+ghost use Rattle.q_tree.specs.Reshaping.{FitsCounters, IsReshaped, IsUnchanged, lost_with, remapped};
+ghost use Rattle.q_tree.specs.Seen.{children_seen, discipline_seen, places_seen};
+ghost use Rattle.q_tree.specs.SendSteps.{AreSent};
+ghost use Rattle.q_tree.specs.declared.commands.discipline_change.DisciplineChange.TheVariants.{SetBands};
+
+use crate::booking::{NOTHING, sum};
+use crate::commands::counting::MOST_NODES;
+use crate::commands::discipline_change::DisciplineChange;
+use crate::commands::link_settings::LinkSettings;
+use crate::disciplines::fifo::implicit_pfifo;
+use crate::masked_filter::MaskedFilter;
+use crate::matching::named_class;
+use crate::node::{Discipline, Node};
+use crate::ready_at::{Outlook, sooner};
+use crate::shown::Shown;
+use crate::toll::{NO_TOLL, Toll};
+use q_codel::Sink;
+use q_model::{PrioOptions, Refusal, Totals};
+use q_packet::{Moment, Packet};
+use std::alloc::{AllocError, Global};
+
+// So many implicit pfifos, each of the device's queue length.
+pub(crate) fn leaves(
+    alloc: Global,
+    link: LinkSettings,
+    count: usize,
+) -> Result<Vec<Node>, AllocError>
+    ensures new { IfOk result (λ v. AreNew v.items (replicate count (implicit_pfifo (record { mtu = link.mtu; txqueuelen = link.txqueuelen })))) }
+    ensures memory { OnErr result (0 < count) }
+{
+    let mut nodes = Vec::with_capacity(alloc, count)?;
+    for _ in 0..count {
+        nodes.push(implicit_pfifo(alloc, link))?;
+    }
+    Ok(nodes)
+}
+
+/// The band of a packet: the class that a filter names, else that of its priority (tc-prio(8)).
+pub(crate) fn band(filters: &[MaskedFilter], priomap: &[u8; 16], packet: &Packet) -> usize
+    ensures { result ≡ option_map_or (λ minor. minor - 1) (named_class filters.now packet.now) (slice_index priomap.now packet.now.prio) }
+{
+    match named_class(filters, packet) {
+        Some(minor) => usize::from(minor.number()) - 1,
+        None => usize::from(priomap[usize::from(packet.prio)]),
+    }
+}
+
+/// Sends the packet of the first band that shows one; the bands before it are asked (tc-prio(8)).
+#[cycle(send)]
+pub(crate) fn send_first<S: Sink>(
+    bands: &mut [Node],
+    now: Moment,
+    out: &mut Packet,
+    toll: &mut Toll,
+    sink: &mut S,
+) -> Shown
+    requires ready { CanAskEach now bands.old }
+    requires sink { length (packets_beneath bands.old) ≤ S.room sink.old }
+    requires clean { toll.old ≡ no_toll }
+    ensures after { (own : Own) → AreSent (ask_prio own (answers now bands.old)) bands.old bands.new result }
+    ensures packet { out.new ≡ unwrap_or result.packet out.old }
+    ensures told { (own : Own) → IsToldOf (ask_prio own (answers now bands.old)).rises (S.losses sink.old) (S.losses sink.new) (S.room sink.old) (S.room sink.new) }
+    ensures toll { toll.new ≡ toll_of result }
+    ensures kept { S.keeps sink.old sink.new }
+{
+    let mut shown = Shown::at_hand(&None);
+    for place in 0..bands.len() {
+        let mut asked = NO_TOLL;
+        let next = bands[place].send(now, out, &mut asked, sink);
+        shown = shown.then(next, toll, &asked);
+        if shown.has_packet() {
+            return shown;
+        }
+    }
+    shown
+}
+
+/// The first band that has a packet at hand.
+#[cycle(has_packet)]
+pub(crate) fn ready_band(bands: &[Node]) -> Option<usize>
+    ensures { IsFirstReady (map pop bands.now) result }
+{
+    for place in 0..bands.len() {
+        if bands[place].has_packet() {
+            return Some(place);
+        }
+    }
+    None
+}
+
+/// Asks the bands in order, up to the first that shows a packet, and shows that one (tc-prio(8)).
+#[cycle(peek)]
+#[inline(never)]
+pub(crate) fn ask_bands<S: Sink>(
+    bands: &mut [Node],
+    now: Moment,
+    toll: &mut Toll,
+    sink: &mut S,
+) -> Shown
+    requires ready { CanAskEach now bands.old }
+    requires sink { length (packets_beneath bands.old) ≤ S.room sink.old }
+    requires clean { toll.old ≡ no_toll }
+    ensures after { (own : Own) → AreAsked (ask_prio own (answers now bands.old)) bands.old bands.new result }
+    ensures told { (own : Own) → IsToldOf (ask_prio own (answers now bands.old)).rises (S.losses sink.old) (S.losses sink.new) (S.room sink.old) (S.room sink.new) }
+    ensures toll { toll.new ≡ toll_of result }
+    ensures kept { S.keeps sink.old sink.new }
+{
+    let mut shown = Shown::at_hand(&None);
+    for place in 0..bands.len() {
+        let mut asked = NO_TOLL;
+        let next = bands[place].peek(now, &mut asked, sink);
+        shown = shown.then(next, toll, &asked);
+        if shown.has_packet() {
+            return shown;
+        }
+    }
+    shown
+}
+
+/// That of the first band which has one.
+#[cycle(at_hand)]
+pub(crate) fn first_at_hand(bands: &[Node]) -> Option<Packet>
+    ensures { result ≡ first_shown (map pop bands.now) }
+{
+    for band in bands {
+        if let Some(packet) = band.at_hand() {
+            return Some(packet);
+        }
+    }
+    None
+}
+
+/// The bands in order.
+#[cycle(outlook)]
+pub(crate) fn of_bands(bands: &[Node], now: Moment) -> Outlook
+    ensures { result ≡ with_bands no_packet (map (outlook now) bands.now) }
+{
+    let mut outlook = Outlook::NO_PACKET;
+    for band in bands {
+        outlook = outlook.with_band(&band.outlook(now));
+    }
+    outlook
+}
+
+impl Outlook {
+    // What a prio shows, of whose first bands this is known, and that of the next one (tc-prio(8)).
+    fn with_band(&self, next: &Outlook) -> Outlook
+        ensures { result ≡ with_band self.now next.now }
+    {
+        let Some(first_at) = self.at else {
+            return *next;
+        };
+        let Some(next_at) = next.at else {
+            return *self;
+        };
+        let least = self.least.min(next.least);
+        if next_at < first_at {
+            return Outlook {
+                at: next.at,
+                least,
+                len: next.len,
+                until: sooner(self.at, next.until),
+            };
+        }
+        Outlook {
+            at: self.at,
+            least,
+            len: self.len,
+            until: self.until,
+        }
+    }
+}
+
+impl Node {
+    /// A prio gets the leaves that it needs for its bands.
+    pub(crate) fn bands(
+        &self,
+        alloc: Global,
+        link: LinkSettings,
+        nodes: usize,
+        options: &PrioOptions,
+    ) -> Result<DisciplineChange, Refusal>
+        requires within { count_nodes self.now ≤ nodes }
+        requires few { nodes ≤ most_nodes }
+        ensures { (root : Shape) (now : ℕ) → count_nodes root ≡ nodes → IsChange MakesChildren (λ path. change_sized (record { mtu = link.mtu; txqueuelen = link.txqueuelen }) now root (shape self.now) path self.now.own.discipline (kind.Prio options.now)) self.now result }
+    {
+        let more = match self.leaves_needed(options.bands, nodes) {
+            Err(refusal) => return Err(refusal),
+            Ok(more) => more,
+        };
+        let Ok(leaves) = leaves(alloc, link, more) else {
+            return Err(Refusal::Memory);
+        };
+        Ok(DisciplineChange::SetBands(*options, leaves))
+    }
+
+    // How many leaves a prio needs for so many bands, in a tree of so many nodes.
+    fn leaves_needed(&self, bands: u8, nodes: usize) -> Result<usize, Refusal>
+        requires within { count_nodes self.now ≤ nodes }
+        requires few { nodes ≤ most_nodes }
+        ensures { result ≡ leaves_answer bands nodes self.now self.now.own.discipline }
+    {
+        let Discipline::Prio { .. } = &self.discipline else {
+            return Err(Refusal::CannotChange);
+        };
+        let bands = usize::from(bands);
+        if names_beyond(&self.filters, bands) {
+            return Err(Refusal::Busy);
+        }
+        let more = bands.saturating_sub(self.children().len());
+        if nodes + more > MOST_NODES + self.nodes_from(bands) {
+            return Err(Refusal::TooMany);
+        }
+        Ok(more)
+    }
+
+    // How many nodes stand at the children from this place on, and beneath them.
+    fn nodes_from(&self, place: usize) -> usize
+        requires { count_nodes self.now ≤ most_nodes }
+        ensures value { result ≡ nodes_from place self.now }
+        ensures few { result ≤ most_nodes }
+    {
+        let children = self.children();
+        let mut nodes = 0;
+        for child in &children[place.min(children.len())..] {
+            nodes += child.count_nodes();
+        }
+        nodes
+    }
+}
+
+impl Discipline {
+    /// Gives a prio other options and these leaves behind its bands, of which the last go that are too many (tc-prio(8)).
+    ///
+    /// # Errors
+    ///
+    /// `AllocError` where memory is refused; nothing has changed then.
+    pub(crate) fn set_bands<S: Sink>(
+        &mut self,
+        options: PrioOptions,
+        leaves: Vec<Node>,
+        sink: &mut S,
+    ) -> Result<Totals, AllocError>
+        requires few { FitsCounters (lost_with (SetBands options leaves) (discipline_seen self.old) (children_seen self.old)) }
+        requires sink { length (lost_with (SetBands options leaves) (discipline_seen self.old) (children_seen self.old)) ≤ S.room sink.old }
+        ensures after { OnOk result (IsReshaped (SetBands options leaves) self.old self.new) }
+        ensures totals { OnOk result (result ≡ Ok (totals_in (lost_with (SetBands options leaves) (discipline_seen self.old) (children_seen self.old)))) }
+        ensures lost { OnOk result (S.losses sink.new ≡ S.losses sink.old ++ purged (lost_with (SetBands options leaves) (discipline_seen self.old) (children_seen self.old))) }
+        ensures room { OnOk result (S.room sink.new + length (lost_with (SetBands options leaves) (discipline_seen self.old) (children_seen self.old)) ≡ S.room sink.old) }
+        ensures memory { OnErr result (0 < length leaves.items) }
+        ensures same { OnErr result (IsUnchanged self.old self.new) }
+        ensures not_lost { OnErr result ((S.losses sink.new ≡ S.losses sink.old) × (S.room sink.new ≡ S.room sink.old)) }
+        ensures kept { S.keeps sink.old sink.new }
+    {
+        let Discipline::Prio { bands, .. } = self else {
+            return Ok(NOTHING);
+        };
+        let mut leaves = leaves;
+        bands.append(&mut leaves)?;
+        let lost = keep_first(bands, usize::from(options.bands), sink);
+        self.set_priomap(options.priomap);
+        Ok(lost)
+    }
+
+    // Gives a prio the band, from 0, of each priority.
+    fn set_priomap(&mut self, new: [u8; 16])
+        ensures discipline { discipline_seen self.new ≡ remapped new (discipline_seen self.old) }
+        ensures children { children_seen self.new ≡ children_seen self.old }
+        ensures places { places_seen self.new ≡ places_seen self.old }
+    {
+        if let Discipline::Prio { priomap, .. } = self {
+            *priomap = new;
+        }
+    }
+}
+
+// Whether one of these filters names a band beyond so many.
+fn names_beyond(filters: &[MaskedFilter], bands: usize) -> bool
+    ensures { result ≡ list_any (λ (f : Filter). nat_lt bands f.minor) filters.now }
+{
+    filters.iter().any(|filter| bands < usize::from(filter.filter().minor.number()))
+}
+
+// Keeps so many nodes in front, removes the others in their order, and says what was lost with them.
+fn keep_first<S: Sink>(nodes: &mut Vec<Node>, count: usize, sink: &mut S) -> Totals
+    requires few { FitsCounters (packets_beneath (drop count nodes.old.items)) }
+    requires sink { length (packets_beneath (drop count nodes.old.items)) ≤ S.room sink.old }
+    ensures after { nodes.new.items ≡ take count nodes.old.items }
+    ensures totals { result ≡ totals_in (packets_beneath (drop count nodes.old.items)) }
+    ensures lost { S.losses sink.new ≡ S.losses sink.old ++ purged (packets_beneath (drop count nodes.old.items)) }
+    ensures room { S.room sink.new + length (packets_beneath (drop count nodes.old.items)) ≡ S.room sink.old }
+    ensures kept { S.keeps sink.old sink.new }
+{
+    let mut lost = NOTHING;
+    while nodes.len() > count {
+        let node = nodes.remove(count);
+        lost = sum(lost, node.queued());
+        node.purge(sink);
+    }
+    lost
+}

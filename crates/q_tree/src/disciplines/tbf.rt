@@ -1,0 +1,212 @@
+//! tbf: how one is made, dequeues, shows its packet, is ready, and changes (tc-tbf(8)).
+ghost use Rattle.std.specs.Prelude.{◌≡◌, ◌≤◌, [], ◌∷◌, IfOk, None, length, unwrap_or, ℕ};
+ghost use Rattle.q_invariants.proofs.Kept.{IsLawfulRoot};
+ghost use Rattle.q_model.specs.Ask.{ask_tbf};
+ghost use Rattle.q_model.specs.Beneath.{beneath};
+ghost use Rattle.q_model.specs.Make.{limit_bytes};
+ghost use Rattle.q_model.specs.Node.{Own, Tbf, shape};
+ghost use Rattle.q_tree.specs.AskSteps.{AreAsked, CanAsk, IsToldOf, answers, no_toll, toll_of};
+ghost use Rattle.q_tree.specs.Changing.{tbf_answer};
+ghost use Rattle.q_tree.specs.Making.{IsNewTbf};
+ghost use Rattle.q_tree.specs.ReadyAt.{covers_at, shaped, shaped_after};
+ghost use Rattle.q_tree.specs.Reshaping.{IsReshaped, leaf_limited};
+ghost use Rattle.q_tree.specs.declared.commands.discipline_change.DisciplineChange.TheVariants.{SetBucket};
+
+use crate::commands::discipline_change::DisciplineChange;
+use crate::commands::link_settings::LinkSettings;
+use crate::node::{Discipline, Node};
+use crate::ready_at::{Outlook, is_before, later};
+use crate::shown::Shown;
+use crate::toll::Toll;
+use q_bucket::Bucket;
+use q_codel::{Limit, Sink};
+use q_model::{Burst, Rate, Refusal, TbfLimit};
+use q_packet::{Moment, Packet, SOME_PACKET};
+use std::alloc::{AllocError, Global};
+
+/// A tbf with its bucket, over an implicit bfifo of so many bytes.
+pub(crate) fn new_tbf(alloc: Global, bucket: Bucket, limit: u64) -> Result<Discipline, AllocError>
+    ensures { IfOk result (λ d. IsNewTbf d bucket limit) }
+{
+    let leaf = Node::fifo(alloc, None, Limit::Bytes(limit));
+    let child = Box::new(alloc, leaf)?;
+    Ok(Discipline::Tbf {
+        bucket,
+        limit,
+        child,
+    })
+}
+
+// The bytes that the implicit bfifo of a tbf holds: as given, or what the rate brings in the latency, and the burst (tc-tbf(8)).
+pub(crate) fn limit_bytes(rate: Rate, burst: Burst, limit: TbfLimit) -> u64
+    ensures { result ≡ limit_bytes rate burst limit }
+{
+    match limit {
+        TbfLimit::Bytes(bytes) => u64::from(bytes),
+        TbfLimit::Latency(latency) => {
+            let brought = u128::from(rate.bits()) * u128::from(latency.nanoseconds())
+                / UNITS_IN_BYTE;
+            brought as u64 + u64::from(burst.bytes())
+        }
+    }
+}
+
+/// Units of a bucket's level in a byte: a nanosecond brings as many units as the rate has bits a second.
+const UNITS_IN_BYTE: u128 = 8_000_000_000;
+
+/// Asks the child of a tbf, and gives the packet that it shows to `out` where the bucket allows it (tc-tbf(8)).
+#[cycle(peek)]
+pub(crate) fn dequeue_child<S: Sink>(
+    bucket: &mut Bucket,
+    child: &mut Node,
+    out: &mut Packet,
+    now: Moment,
+    toll: &mut Toll,
+    sink: &mut S,
+) -> Shown
+    requires ready { CanAsk now child.old }
+    requires order { bucket.old.last ≤ now }
+    requires sink { length (beneath child.old) ≤ S.room sink.old }
+    requires clean { toll.old ≡ no_toll }
+    ensures bucket { (own : Own) (limit : ℕ) → own.discipline ≡ Tbf bucket.old limit → Tbf bucket.new limit ≡ (ask_tbf now own (answers now (child.old ∷ [])) bucket.old limit).peeked.own.discipline }
+    ensures after { (own : Own) (limit : ℕ) → AreAsked (ask_tbf now own (answers now (child.old ∷ [])) bucket.old limit) (child.old ∷ []) (child.new ∷ []) result }
+    ensures told { (own : Own) (limit : ℕ) → IsToldOf (ask_tbf now own (answers now (child.old ∷ [])) bucket.old limit).rises (S.losses sink.old) (S.losses sink.new) (S.room sink.old) (S.room sink.new) }
+    ensures packet { out.new ≡ unwrap_or result.packet out.old }
+    ensures toll { toll.new ≡ toll_of result }
+    ensures kept { S.keeps sink.old sink.new }
+{
+    let shown = child.peek(now, toll, sink);
+    let Some(len) = shown.packet_len() else {
+        return shown;
+    };
+    if !bucket.spend(now, len) {
+        return shown.showing(&None);
+    }
+    // What is given is what was shown.
+    child.give(out);
+    shown
+}
+
+/// Dequeues the packet that a tbf sends, as [`dequeue_child`] does, to hold it (tc-tbf(8)).
+#[cycle(peek)]
+#[inline(never)]
+pub(crate) fn ask_child<S: Sink>(
+    bucket: &mut Bucket,
+    child: &mut Node,
+    held: &mut Option<Packet>,
+    now: Moment,
+    toll: &mut Toll,
+    sink: &mut S,
+) -> Shown
+    requires ready { CanAsk now child.old }
+    requires order { bucket.old.last ≤ now }
+    requires none { held.old ≡ None }
+    requires sink { length (beneath child.old) ≤ S.room sink.old }
+    requires clean { toll.old ≡ no_toll }
+    ensures bucket { (own : Own) (limit : ℕ) → own.discipline ≡ Tbf bucket.old limit → Tbf bucket.new limit ≡ (ask_tbf now own (answers now (child.old ∷ [])) bucket.old limit).peeked.own.discipline }
+    ensures after { (own : Own) (limit : ℕ) → AreAsked (ask_tbf now own (answers now (child.old ∷ [])) bucket.old limit) (child.old ∷ []) (child.new ∷ []) result }
+    ensures told { (own : Own) (limit : ℕ) → IsToldOf (ask_tbf now own (answers now (child.old ∷ [])) bucket.old limit).rises (S.losses sink.old) (S.losses sink.new) (S.room sink.old) (S.room sink.new) }
+    ensures held { held.new ≡ result.packet }
+    ensures toll { toll.new ≡ toll_of result }
+    ensures kept { S.keeps sink.old sink.new }
+{
+    let mut packet = SOME_PACKET;
+    let shown = dequeue_child(bucket, child, &mut packet, now, toll, sink);
+    if shown.has_packet() {
+        *held = Some(packet);
+    }
+    shown
+}
+
+impl Outlook {
+    /// What a tbf with this bucket shows, whose child this is known of (tc-tbf(8)).
+    pub(crate) fn shaped(&self, bucket: &Bucket) -> Outlook
+        ensures { result ≡ shaped bucket.now self.now }
+    {
+        let Some(len) = self.len else {
+            return self.shaped_after(bucket, self.at);
+        };
+        let at = later(self.at, covers_at(bucket, len));
+        let known = at;
+        if is_before(at, self.until) {
+            return Outlook {
+                at: known,
+                least: self.least,
+                len: self.len,
+                until: self.until,
+            };
+        }
+        self.shaped_after(bucket, self.until)
+    }
+
+    // The same from this moment on, where no more is known of the child than how short its packets are.
+    fn shaped_after(&self, bucket: &Bucket, from: Option<Moment>) -> Outlook
+        ensures { result ≡ shaped_after bucket.now self.now from }
+    {
+        let at = later(from, covers_at(bucket, self.least));
+        Outlook::at_best(at, self.least)
+    }
+}
+
+// The least moment, from its last spend on, at which the bucket covers this length.
+fn covers_at(bucket: &Bucket, len: u16) -> Option<Moment>
+    ensures { result ≡ covers_at bucket.now len }
+{
+    // A bucket is in range, and a moment is at most 2^62 nanoseconds.
+    let _ = bucket.rate();
+    let at = bucket.ready_at(len)?;
+    let _ = at.ns();
+    Some(at)
+}
+
+impl Node {
+    /// A tbf's bucket fills up to now, before it is another.
+    pub(crate) fn bucket(
+        &self,
+        link: LinkSettings,
+        rate: Rate,
+        burst: Burst,
+        limit: TbfLimit,
+        now: Moment,
+    ) -> Result<DisciplineChange, Refusal>
+        requires lawful { IsLawfulRoot link.mtu now (shape self.now) }
+        ensures { result ≡ tbf_answer link.mtu now rate burst limit self.now.own.discipline }
+    {
+        let Discipline::Tbf { bucket, .. } = &self.discipline else {
+            return Err(Refusal::CannotChange);
+        };
+        if burst.bytes() < bucket.burst().min(u32::from(link.mtu)) {
+            return Err(Refusal::SmallBurst);
+        }
+        let bucket = bucket.changed(rate.bits(), burst.bytes(), now);
+        let bytes = limit_bytes(rate, burst, limit);
+        Ok(DisciplineChange::SetBucket(bucket, bytes))
+    }
+
+    // Gives an implicit bfifo this limit in bytes. A qdisc with a handle has its own.
+    fn limit_leaf(&mut self, bytes: u64)
+        ensures { self.new ≡ leaf_limited bytes self.old }
+    {
+        if self.handle.is_none() {
+            self.discipline.set_limit(Limit::Bytes(bytes));
+        }
+    }
+}
+
+impl Discipline {
+    /// Gives a tbf another bucket and limit, which its implicit leaf has too (tc-tbf(8)).
+    pub(crate) fn set_bucket(&mut self, new: Bucket, bytes: u64)
+        ensures { IsReshaped (SetBucket new bytes) self.old self.new }
+    {
+        if let Discipline::Tbf {
+            bucket,
+            limit,
+            child,
+        } = self
+        {
+            *bucket = new;
+            *limit = bytes;
+            child.limit_leaf(bytes);
+        }
+    }
+}

@@ -1,0 +1,222 @@
+ghost use Rattle.std.specs.Prelude.{◌≡◌, ◌≤◌, ◌+◌, ◌++◌, IfOk, IsOk, List, None, OnErr, OnOk, length, ℕ};
+ghost use Rattle.q_model.specs.Beneath as beneath;
+ghost use Rattle.q_model.specs.Beneath.{beneath};
+ghost use Rattle.q_model.specs.Node.{shape};
+ghost use Rattle.q_model.specs.Route.{device_route, route};
+ghost use Rattle.q_model.specs.Step.{fate_of, losses_in};
+ghost use Rattle.q_model.specs.Tally.{totals};
+ghost use Rattle.q_model.specs.TreeState.{noted_by_put, own_loss, put, put_on};
+ghost use Rattle.q_packet.specs.Descriptor.{Descriptor};
+ghost use Rattle.q_tree.specs.Arrivals.{CanCount, HasPlace};
+ghost use Rattle.q_tree.specs.ArriveSteps.{CanCome, CanComeIn, HasCome, HasComeBelow, HasComeIn, HasPlaceOn, IsPlaced, IsPlacedIn, nothing_lost, rises_along, way_in};
+ghost use Rattle.q_tree.specs.AskSteps.{IsToldOf, packets_within};
+ghost use Rattle.q_tree.specs.Places.{places_at};
+ghost use Rattle.q_tree.specs.RouteSeen.{RouteSeen, route_seen};
+ghost use Rattle.q_tree.specs.TreeSeen.{CanArrive, numbers, tree_numbers};
+
+use crate::arrived::{Arrived, NOTHING_LOST, book_arrival, refuse};
+use crate::disciplines::drr::{class_place, settle};
+use crate::disciplines::fifo::arrive_in_fifo;
+use crate::disciplines::fq_codel::arrive_in_flows;
+use crate::disciplines::prio::band;
+use crate::masked_filter::MaskedFilter;
+use crate::node::{Discipline, Node};
+use crate::outcome::Outcome;
+use crate::tree::{Tree, fate_of};
+use q_codel::Sink;
+use q_model::Fate;
+use q_packet::{Cause, Moment, Packet};
+use std::alloc::AllocError;
+
+impl Tree {
+    /// A packet arrives: in one walk down its route a place is made where it is queued, and it is put there, or lost. `now` is at
+    /// or after the latest moment that the tree was given. It is [`Tree::route`], [`Tree::prepare`] and [`Tree::put`] in one.
+    ///
+    /// What is lost for it goes to `sink`, which needs room for what is queued and one packet more. It takes memory for the place
+    /// alone, and none for a packet that is refused.
+    ///
+    /// # Errors
+    ///
+    /// `AllocError` where memory is refused, or the packet would take what the device counts of arrivals past 2^64 - 1, in packets
+    /// or in bytes; never where [`Tree::prepare`] has made the place. The tree is as it was, but for places, of which no queue has
+    /// fewer, and nothing is lost.
+    pub fn arrive<S: Sink>(
+        &mut self,
+        packet: &Packet,
+        now: Moment,
+        sink: &mut S,
+    ) -> Result<Fate, AllocError>
+        requires order { self.old.clock ≤ now }
+        requires sink { length (beneath self.old.tree.root) + 1 ≤ S.room sink.old }
+        ensures fate { IfOk result (λ fate. fate ≡ fate_of (own_loss now packet.now self.old.tree.device (shape self.old.tree.root))) }
+        ensures after { OnOk result (numbers self.new ≡ record { clock = now; tree = put totals now packet.now (tree_numbers self.old.tree) }) }
+        ensures lost { OnOk result (S.losses sink.new ≡ S.losses sink.old ++ losses_in (noted_by_put now packet.now self.old.tree)) }
+        ensures room { OnOk result (S.room sink.new + length (losses_in (noted_by_put now packet.now self.old.tree)) ≡ S.room sink.old) }
+        ensures counted { OnOk result (CanCount self.old.tree.top.counts.arrived packet.now) }
+        ensures same { OnErr result (numbers self.new ≡ numbers self.old) }
+        ensures not_lost { OnErr result ((S.losses sink.new ≡ S.losses sink.old) × (S.room sink.new ≡ S.room sink.old)) }
+        ensures routes { OnErr result ((p : Descriptor) → device_route p self.new.tree.device.mtu self.new.tree.root ≡ device_route p self.old.tree.device.mtu self.old.tree.root) }
+        ensures keeps { OnErr result ((other : RouteSeen) → CanArrive other self.old → CanArrive other self.new) }
+        ensures places { (path : List ℕ) → places_at path self.old.tree.root ≤ places_at path self.new.tree.root }
+        ensures succeeds { CanArrive (route_seen packet.now self.old.tree.device.mtu self.old.tree.root) self.old → IsOk result }
+        ensures kept { S.keeps sink.old sink.new }
+    {
+        // A moment is at most 2^62 nanoseconds, and a packet has a byte at least.
+        let _ = (now.ns(), packet.len);
+        self.top.fit();
+        let arrived = self.top.arrived();
+        if arrived.packets == u64::MAX || arrived.bytes > u64::MAX - u64::from(packet.len) {
+            return Err(AllocError);
+        }
+        let mut lost = NOTHING_LOST;
+        let outcome = arrive_below(&mut self.root, self.mtu, packet, now, &mut lost, sink)?;
+        book_arrival(&mut self.top, packet, &outcome, &lost);
+        self.clock = now;
+        Ok(fate_of(lost.loss))
+    }
+}
+
+impl Node {
+    /// A packet arrives at the node, and goes down its route: a place is made where it is queued, and it is put there, or lost. It
+    /// is booked at each node on the way back, and at none where memory is refused.
+    #[cycle(arrive)]
+    #[inline(always)]
+    pub(crate) fn arrive<S: Sink>(
+        &mut self,
+        packet: &Packet,
+        now: Moment,
+        lost: &mut Outcome,
+        sink: &mut S,
+    ) -> Result<Arrived, AllocError>
+        requires ready { CanCome now packet.now self.old }
+        requires sink { length (beneath self.old) + 1 ≤ S.room sink.old }
+        requires clean { lost.old ≡ nothing_lost }
+        ensures after { IfOk result (λ outcome. HasCome now packet.now self.old self.new outcome) }
+        ensures told { OnOk result (IsToldOf (rises_along now packet.now self.old) (S.losses sink.old) (S.losses sink.new) (S.room sink.old) (S.room sink.new)) }
+        ensures same { OnErr result (IsPlaced self.old self.new) }
+        ensures not_lost { OnErr result ((S.losses sink.new ≡ S.losses sink.old) × (S.room sink.new ≡ S.room sink.old)) }
+        ensures succeeds { ((route packet.now self.old).refusal ≡ None → HasPlace (route packet.now self.old).path self.old) → IsOk result }
+        ensures lost_is { IfOk result (λ outcome. lost.new ≡ outcome) }
+        ensures kept { S.keeps sink.old sink.new }
+    {
+        // A fifo is met with no call: most packets end in one.
+        match &mut self.discipline {
+            Discipline::Fifo(fifo) => {
+                let arrived = arrive_in_fifo(fifo, packet, now, lost, sink)?;
+                book_arrival(&mut self.row, packet, &arrived, lost);
+                return Ok(arrived);
+            }
+            _ => return self.arrive_further(packet, now, lost, sink),
+        }
+    }
+
+    // The same, by a call.
+    #[cycle(arrive)]
+    #[inline(never)]
+    fn arrive_further<S: Sink>(
+        &mut self,
+        packet: &Packet,
+        now: Moment,
+        lost: &mut Outcome,
+        sink: &mut S,
+    ) -> Result<Arrived, AllocError>
+        requires ready { CanCome now packet.now self.old }
+        requires sink { length (beneath self.old) + 1 ≤ S.room sink.old }
+        requires clean { lost.old ≡ nothing_lost }
+        ensures after { IfOk result (λ outcome. HasCome now packet.now self.old self.new outcome) }
+        ensures told { OnOk result (IsToldOf (rises_along now packet.now self.old) (S.losses sink.old) (S.losses sink.new) (S.room sink.old) (S.room sink.new)) }
+        ensures same { OnErr result (IsPlaced self.old self.new) }
+        ensures not_lost { OnErr result ((S.losses sink.new ≡ S.losses sink.old) × (S.room sink.new ≡ S.room sink.old)) }
+        ensures succeeds { ((route packet.now self.old).refusal ≡ None → HasPlace (route packet.now self.old).path self.old) → IsOk result }
+        ensures lost_is { IfOk result (λ outcome. lost.new ≡ outcome) }
+        ensures kept { S.keeps sink.old sink.new }
+    {
+        let outcome = self
+            .discipline
+            .arrive(&self.filters, packet, now, lost, sink)?;
+        book_arrival(&mut self.row, packet, &outcome, lost);
+        Ok(outcome)
+    }
+}
+
+impl Discipline {
+    // A packet arrives at a node with this discipline and these filters.
+    #[cycle(arrive)]
+    #[inline(always)]
+    fn arrive<S: Sink>(
+        &mut self,
+        filters: &[MaskedFilter],
+        packet: &Packet,
+        now: Moment,
+        lost: &mut Outcome,
+        sink: &mut S,
+    ) -> Result<Arrived, AllocError>
+        requires ready { CanComeIn now packet.now self.old }
+        requires sink { length (packets_within self.old) + 1 ≤ S.room sink.old }
+        requires clean { lost.old ≡ nothing_lost }
+        ensures after { IfOk result (λ outcome. HasComeIn now packet.now filters.now self.old self.new outcome (S.losses sink.old) (S.losses sink.new) (S.room sink.old) (S.room sink.new)) }
+        ensures same { OnErr result (IsPlacedIn self.old self.new) }
+        ensures not_lost { OnErr result ((S.losses sink.new ≡ S.losses sink.old) × (S.room sink.new ≡ S.room sink.old)) }
+        ensures succeeds { ((way_in packet.now filters.now self.old).refusal ≡ None → HasPlaceOn (way_in packet.now filters.now self.old).path self.old) → IsOk result }
+        ensures lost_is { IfOk result (λ outcome. lost.new ≡ outcome) }
+        ensures kept { S.keeps sink.old sink.new }
+    {
+        match self {
+            Discipline::Fifo(fifo) => return arrive_in_fifo(fifo, packet, now, lost, sink),
+            Discipline::FqCodel(queue) => return arrive_in_flows(queue, packet, now, lost, sink),
+            Discipline::Prio { priomap, .. } => {
+                let place = band(filters, priomap, packet);
+                let Discipline::Prio { bands, .. } = self else {
+                    unreachable!()
+                };
+                if place >= bands.len() {
+                    return Ok(refuse(packet, Cause::NoClass, lost, sink));
+                }
+                return bands[place].arrive(packet, now, lost, sink);
+            }
+            Discipline::Tbf { bucket, child, .. } => {
+                if u32::from(packet.len) > bucket.burst() {
+                    return Ok(refuse(packet, Cause::TooLong, lost, sink));
+                }
+                return child.arrive(packet, now, lost, sink);
+            }
+            Discipline::Drr { active, classes } => {
+                let Some(place) = class_place(active, filters, packet) else {
+                    return Ok(refuse(packet, Cause::NoClass, lost, sink));
+                };
+                if place >= classes.len() {
+                    return Ok(refuse(packet, Cause::NoClass, lost, sink));
+                }
+                let outcome = classes[place].arrive(packet, now, lost, sink)?;
+                settle(active, place, classes[place].is_empty());
+                return Ok(outcome);
+            }
+        }
+    }
+}
+
+// The packet arrives at the root, or is refused above it where it is longer than the mtu.
+fn arrive_below<S: Sink>(
+    root: &mut Node,
+    mtu: u16,
+    packet: &Packet,
+    now: Moment,
+    lost: &mut Outcome,
+    sink: &mut S,
+) -> Result<Arrived, AllocError>
+    requires ready { packet.now.len ≤ mtu → CanCome now packet.now root.old }
+    requires sink { length (beneath root.old) + 1 ≤ S.room sink.old }
+    requires clean { lost.old ≡ nothing_lost }
+    ensures after { IfOk result (λ outcome. HasComeBelow now packet.now (device_route packet.now mtu root.old) root.old root.new outcome) }
+    ensures told { OnOk result (IsToldOf (put_on now packet.now (device_route packet.now mtu root.old) (shape root.old)).rises (S.losses sink.old) (S.losses sink.new) (S.room sink.old) (S.room sink.new)) }
+    ensures same { OnErr result (IsPlaced root.old root.new) }
+    ensures not_lost { OnErr result ((S.losses sink.new ≡ S.losses sink.old) × (S.room sink.new ≡ S.room sink.old)) }
+    ensures succeeds { (packet.now.len ≤ mtu → (route packet.now root.old).refusal ≡ None → HasPlace (route packet.now root.old).path root.old) → IsOk result }
+    ensures lost_is { IfOk result (λ outcome. lost.new ≡ outcome) }
+    ensures kept { S.keeps sink.old sink.new }
+{
+    if packet.len > mtu {
+        return Ok(refuse(packet, Cause::TooLong, lost, sink));
+    }
+    root.arrive(packet, now, lost, sink)
+}
