@@ -6,7 +6,7 @@
 //!   device counts the same as arrived, and that the others of the loads were given up. Where that is asked for, the device is then
 //!   polled at each moment from which it is ready until it never is again, and a line says what that sent.
 //! - [`run_drive_between`] does the same from a `Source` to a `Target`, which keep what their reads and writes came to. Its contract
-//!   says when each fault comes.
+//!   says when each fault comes. [`run_drive_noting`] does so with `Notes` of the lines that were not done.
 //! - [`DriveSettings`] are the options of a drive, in their ranges.
 //!
 //! `specs/SetUp.antt` says what a line of standard input does, `specs/Loads.antt` what is offered, `specs/Driven.antt` what the senders
@@ -26,5 +26,5 @@ mod set_up;
 mod set_up_line;
 mod settings;
 
-pub use run::{run_drive, run_drive_between};
+pub use run::{run_drive, run_drive_between, run_drive_noting};
 pub use settings::DriveSettings;

@@ -15,6 +15,7 @@ use crate::set_up::SetUp;
 use crate::settings::DriveSettings;
 use q_device::Device;
 use q_script::{Outcome, Output, RunFault, Source};
+use q_session::Notes;
 use q_show::{Target, WriteFault};
 use std::alloc::Global;
 use std::io::{ErrorKind, Read, Write};
@@ -47,13 +48,43 @@ pub fn run_drive_between<H: Threads + Wait + Sync, R: Read, W: Write>(
     ensures too_long_unwritten { result ≡ Err RunFault.TooLong → target.new ≡ target.old }
     ensures memory_unwritten { result ≡ Err RunFault.Memory → target.new ≡ target.old }
 {
+    let mut notes = Notes::counting(alloc);
+    run_drive_noting(rt, alloc, source, target, settings, &mut notes)
+}
+
+/// The same. Notes that are handed over are those of its lines afterwards, where it answers an outcome.
+pub fn run_drive_noting<H: Threads + Wait + Sync, R: Read, W: Write>(
+    rt: &H,
+    alloc: Global,
+    source: &mut Source<'_, R>,
+    target: &mut Target<'_, W>,
+    settings: DriveSettings,
+    notes: &mut Notes,
+) -> Result<Outcome, RunFault>
+    requires unread { source.old.reads ≡ no_reads }
+    requires unwritten { target.old.writes ≡ no_writes }
+    ensures same_reader { source.new.reader.ghost_name ≡ source.old.reader.ghost_name }
+    ensures same_writer { target.new.writer.ghost_name ≡ target.old.writer.ghost_name }
+    ensures report { IfOk result (λ outcome. IfSome (R.remaining source.old.reader.now) (λ script.
+        IsDriven settings script outcome (W.contents target.old.writer.now) (W.contents target.new.writer.now))) }
+    ensures short { OnOk result (IfSome (R.remaining source.old.reader.now) (λ script. length script ≤ 16777216)) }
+    ensures too_long_only { result ≡ Err RunFault.TooLong → IfSome (R.remaining source.old.reader.now) (λ script. 16777216 < length script) }
+    ensures partly { (kind : ErrorKind) → result ≡ Err (RunFault.Write kind) → IfSome (R.remaining source.old.reader.now) (λ script.
+        IsPartlyDriven settings script (W.contents target.old.writer.now) (W.contents target.new.writer.now)) }
+    ensures ended { Ended result source.new.reads target.new.writes }
+    ensures read_unwritten { (kind : ErrorKind) → result ≡ Err (RunFault.Read kind) → target.new ≡ target.old }
+    ensures too_long_unwritten { result ≡ Err RunFault.TooLong → target.new ≡ target.old }
+    ensures memory_unwritten { result ≡ Err RunFault.Memory → target.new ≡ target.old }
+{
     let Ok(mut output) = Output::new(alloc) else {
         return Err(RunFault::Memory);
     };
     let Ok(mut set_up) = SetUp::open(alloc, &settings.device()) else {
         return Err(RunFault::Memory);
     };
+    set_up.exchange_notes(notes);
     let outcome = q_script::run_between(alloc, source, target, &mut set_up)?;
+    set_up.exchange_notes(notes);
     let device = set_up.into_device();
     match drive_and_write(rt, alloc, device, &settings, outcome, &mut output, target) {
         Ok(outcome) => Ok(outcome),

@@ -5,7 +5,7 @@ ghost use Rattle.q_session.specs.Session.{opened};
 use crate::set_up_line::{SetUpLine, read_set_up_line};
 use q_device::Device;
 use q_script::{Output, RunSettings, Session};
-use q_session::DeviceSession;
+use q_session::{DeviceSession, Notes};
 use q_show::{Target, WriteFault};
 use std::alloc::{AllocError, Global};
 use std::io::Write;
@@ -46,6 +46,13 @@ impl SetUp {
         })
     }
 
+    /// Takes what was noted of the lines, and begins these notes. The session stays as it is.
+    pub fn exchange_notes(&mut self, notes: &mut Notes)
+        ensures { self.new ≡ self.old }
+    {
+        self.session.exchange_notes(notes);
+    }
+
     /// The device, when its lines were run.
     pub fn into_device(self) -> Device
         ensures device { result.device ≡ self.state.device }
@@ -76,12 +83,12 @@ impl Session for SetUp {
             Ok(SetUpLine::Show(show)) => self.session.show(show, output, target),
             Ok(SetUpLine::Tc(command)) => {
                 output.make_room(target)?;
-                self.session.command(number, command, output);
+                self.session.command(number, line, command, output);
                 Ok(())
             }
             Err(fault) => {
                 output.make_room(target)?;
-                self.session.fault(number, fault, output);
+                self.session.fault(number, line, fault, output);
                 Ok(())
             }
         }

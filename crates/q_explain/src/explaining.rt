@@ -1,7 +1,8 @@
 use crate::fault_sentence::push_fault;
 use crate::marked::push_marked;
 use crate::refusal_sentence::refusal_sentence;
-use crate::refused_word::refused_word;
+use crate::refused_word::{marked_word, refused_word};
+use crate::remark::Remark;
 use crate::spot::Spot;
 use crate::word::Word;
 use crate::words::Words;
@@ -35,7 +36,7 @@ pub fn explain_fault(
     let mut text = String::new(alloc);
     push_marked(&mut text, number, line, word.start, word.bytes.len())?;
     text.push_str("  ")?;
-    push_fault(&mut text, fault, &spot, word.bytes)?;
+    push_fault(&mut text, fault, &spot, word.bytes, words)?;
     text.push_str("\n")?;
     Ok(text)
 }
@@ -61,6 +62,40 @@ pub fn explain_refusal(
     text.push_str(refusal_sentence(refusal, head))?;
     text.push_str("\n")?;
     Ok(text)
+}
+
+/// The same of a line that was done, of which there is a remark.
+///
+/// # Errors
+///
+/// `AllocError` where memory for the text is refused.
+pub fn explain_remark(
+    alloc: Global,
+    number: u64,
+    line: &[u8],
+    remark: Remark,
+) -> Result<String, AllocError> {
+    let line = trimmed(line);
+    let word = marked_word(alloc, Words::new(line), remark.words())?.unwrap_or(behind(line));
+    let mut text = String::new(alloc);
+    push_marked(&mut text, number, line, word.start, word.bytes.len())?;
+    text.push_str("  ")?;
+    push_remark(&mut text, remark)?;
+    text.push_str("\n")?;
+    Ok(text)
+}
+
+/// Adds the sentences on a remark.
+fn push_remark(text: &mut String, remark: Remark) -> Result<(), AllocError> {
+    match remark {
+        Remark::SmallBurst { mtu } => write!(
+            text,
+            "the burst is below the mtu of {mtu} bytes: each packet longer than the burst is lost. Give a burst of the mtu or more."
+        ),
+        Remark::OtherDevice => text.push_str(
+            "a line before this one has another name. A script has one device, and each line is for it, whatever name it has.",
+        ),
+    }
 }
 
 /// No word, behind the last byte of a line.

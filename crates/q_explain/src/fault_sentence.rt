@@ -1,22 +1,29 @@
 //! What a fault of a line means.
 use crate::missing::{push_entries, push_missing};
+use crate::near::{meant, shortened};
 use crate::place::Place;
 use crate::quoting::push_word;
 use crate::spot::{Spot, find};
 use crate::tables::{ALTERNATIVES, entries};
-use crate::tc_only::words_of_tc;
+use crate::tc_only::{filter_of_handle, instead, words_of_tc};
+use crate::value::Value;
+use crate::words::Words;
 use q_words::LineFault;
 use std::alloc::AllocError;
 
-/// Adds the sentence on a fault, at a word with this spot.
+/// Adds the sentence on a fault, at a word with this spot, behind which stands the rest of the line.
 pub fn push_fault(
     text: &mut String,
     fault: LineFault,
     spot: &Spot,
     word: &[u8],
+    rest: Words<'_>,
 ) -> Result<(), AllocError> {
     match fault {
-        LineFault::UnknownWord(_) => push_unknown(text, spot, word),
+        LineFault::UnknownWord(_) | LineFault::BadNumber(_) if word.starts_with(b"#") => {
+            text.push_str("a comment needs a line of its own, which begins with #.")
+        }
+        LineFault::UnknownWord(_) => push_unknown(text, spot, word, rest),
         LineFault::Missing(_) => push_missing(text, spot),
         LineFault::BadNumber(_) => push_form(text, spot, word),
         LineFault::OutOfRange(_) => push_range(text, spot, word),
@@ -35,7 +42,17 @@ fn push_form(text: &mut String, spot: &Spot, word: &[u8]) -> Result<(), AllocErr
     text.push_str(name)?;
     text.push_str(", which takes ")?;
     text.push_str(value.form())?;
+    push_units(text, value)?;
     text.push_str(".")
+}
+
+/// Adds the units of a value that may have one.
+fn push_units(text: &mut String, value: Value) -> Result<(), AllocError> {
+    let Some(units) = value.units() else {
+        return Ok(());
+    };
+    text.push_str("; its units are ")?;
+    text.push_str(units)
 }
 
 /// Of a value outside its range.
@@ -48,6 +65,9 @@ fn push_range(text: &mut String, spot: &Spot, word: &[u8]) -> Result<(), AllocEr
     text.push_str(name)?;
     text.push_str(" takes ")?;
     text.push_str(value.range())?;
+    if word.last().is_some_and(|byte| byte.is_ascii_digit()) {
+        push_units(text, value)?;
+    }
     text.push_str(".")
 }
 
@@ -81,9 +101,19 @@ fn beside(spot: &Spot, word: &[u8]) -> Option<&'static str> {
 }
 
 /// Of a word that does not stand there.
-fn push_unknown(text: &mut String, spot: &Spot, word: &[u8]) -> Result<(), AllocError> {
+fn push_unknown(
+    text: &mut String,
+    spot: &Spot,
+    word: &[u8],
+    rest: Words<'_>,
+) -> Result<(), AllocError> {
     if spot.value().is_some() {
         return push_form(text, spot, word);
+    }
+    if let Some(filter) = filter_of_handle(spot.place, word, rest) {
+        text.push_str("tc has the filter ")?;
+        text.push_str(filter)?;
+        return text.push_str(", qtree does not; the handle is one of its words. Use flower.");
     }
     if words_of_tc(spot.place)
         .iter()
@@ -91,9 +121,16 @@ fn push_unknown(text: &mut String, spot: &Spot, word: &[u8]) -> Result<(), Alloc
     {
         text.push_str("tc has ")?;
         push_word(text, word)?;
-        return text.push_str(", qtree does not.");
+        text.push_str(", qtree does not")?;
+        text.push_str(instead(spot.place, word))?;
+        return text.push_str(".");
     }
     push_word(text, word)?;
+    if spot.place == Place::First && find(spot.place, word).is_some() {
+        return text.push_str(
+            " sets up no device; qtree drive reads lines of tc, blank ones and comments alone.",
+        );
+    }
     if spot.place == Place::End {
         return text.push_str(" is one word too many: the line is whole before it.");
     }
@@ -102,21 +139,39 @@ fn push_unknown(text: &mut String, spot: &Spot, word: &[u8]) -> Result<(), Alloc
         text.push_str(spot.seen.last().map_or("the kind", |entry| entry.name()))?;
         return text.push_str(".");
     }
-    push_no_word(text, spot.place)
+    push_no_word(text, spot.place, word)
 }
 
-/// Adds that a word is none of those at a place, and these.
-fn push_no_word(text: &mut String, place: Place) -> Result<(), AllocError> {
+/// Adds that a word is none of those at a place, and the one that was meant, or all of these.
+fn push_no_word(text: &mut String, place: Place, word: &[u8]) -> Result<(), AllocError> {
     if place == Place::First {
-        text.push_str(" begins no line; a line begins with ")?;
+        text.push_str(" begins no line")?;
     } else {
         text.push_str(what(place))?;
         text.push_str(place.name())?;
-        text.push_str("; it has")?;
-        if entries(place).is_empty() {
-            return text.push_str(" none.");
-        }
-        text.push_str(": ")?;
+    }
+    text.push_str("; ")?;
+    if let Some(name) = shortened(place, word) {
+        text.push_str("words are not shortened: write ")?;
+        text.push_str(name)?;
+        return text.push_str(".");
+    }
+    if let Some(name) = meant(place, word) {
+        text.push_str("did you mean ")?;
+        text.push_str(name)?;
+        return text.push_str("?");
+    }
+    push_all_words(text, place)
+}
+
+/// Adds the words that stand at a place.
+fn push_all_words(text: &mut String, place: Place) -> Result<(), AllocError> {
+    if place == Place::First {
+        text.push_str("a line begins with ")?;
+    } else if entries(place).is_empty() {
+        return text.push_str("it has none.");
+    } else {
+        text.push_str("it has: ")?;
     }
     push_entries(text, place)?;
     text.push_str(".")

@@ -1,7 +1,8 @@
-//! Why a line of a script was not done, in words for its writer.
+//! Why a line of a script was not done, or what it does that its writer may not want, in words for its writer.
 //!
 //! - [`explain_fault`] is the line, a mark under the word that has the fault, and a sentence that says what stands there or what is
-//!   missing; [`explain_refusal`] the same of a command that was refused, with what to do.
+//!   missing; [`explain_refusal`] the same of a command that was refused, with what to do; [`explain_remark`] the same of a line that
+//!   was done and of which there is a [`Remark`].
 //!
 //! The words that stand at a place are the tables of `tables`, after the grammar of `q_line`. A text has no
 //! contract: it is for people, and tests alone look at it. No control character of a script is written raw.
@@ -13,10 +14,12 @@ mod explaining;
 mod fault_sentence;
 mod marked;
 mod missing;
+mod near;
 mod place;
 mod quoting;
 mod refusal_sentence;
 mod refused_word;
+mod remark;
 mod spot;
 mod tables;
 mod tc_only;
@@ -24,4 +27,5 @@ mod value;
 mod word;
 mod words;
 
-pub use explaining::{explain_fault, explain_refusal};
+pub use explaining::{explain_fault, explain_refusal, explain_remark};
+pub use remark::Remark;

@@ -32,7 +32,16 @@ pub fn refused_word<'a>(
     words: Words<'a>,
     refusal: Refusal,
 ) -> Result<Option<Word<'a>>, AllocError> {
-    for name in candidates(refusal) {
+    marked_word(alloc, words, candidates(refusal))
+}
+
+/// The first of these words that a line without a fault has, or its value; the line's first word where it has none of them.
+pub fn marked_word<'a>(
+    alloc: Global,
+    words: Words<'a>,
+    names: &[&str],
+) -> Result<Option<Word<'a>>, AllocError> {
+    for name in names {
         if let Some(word) = named(alloc, words, name)? {
             return Ok(Some(word));
         }

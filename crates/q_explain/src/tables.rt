@@ -21,7 +21,7 @@ const PRIO: Value = Value::Number("1 to 65535");
 
 const PROTOCOL: Value = Value::Other("ip, ipv6 or all", "ip, ipv6 or all");
 
-const RATE: Value = Value::Other("a rate, as 10mbit or 1mbps", "1 bit to 1 tbit a second");
+const RATE: Value = Value::Rate("1 bit to 1 tbit a second");
 
 const BAND: Value = Value::Other(
     "16 bands in decimal digits",

@@ -1,4 +1,42 @@
+//! What tc has and qtree has not, and what to use in its place.
 use crate::place::Place;
+use crate::words::Words;
+
+/// The kinds of filter that tc has besides flower.
+const FILTERS: &[&str] = &[
+    "u32", "fw", "basic", "bpf", "cgroup", "flow", "matchall", "route",
+];
+
+/// What to use in the place of a word that tc alone has; empty where nothing does the same.
+pub fn instead(place: Place, word: &[u8]) -> &'static str {
+    match (place, word) {
+        (Place::Filter, b"replace" | b"change") => ": use del and add",
+        (Place::Qdisc | Place::Class, b"replace") => ": use change, or del and add",
+        (Place::Tc | Place::TcCounters, b"-stats" | b"-statistics") => ": use -s",
+        _ => "",
+    }
+}
+
+/// The kind of filter that has a `handle` of its own, where that stands in the head of a line on filters: the first of its kinds in
+/// the rest of the line.
+pub fn filter_of_handle(place: Place, word: &[u8], rest: Words<'_>) -> Option<&'static str> {
+    let of_filter = matches!(place, Place::FilterAdd | Place::FilterDel);
+    if !of_filter || word != "handle".as_bytes() {
+        return None;
+    }
+    let mut rest = rest;
+    for _ in 0..usize::MAX {
+        let Some(word) = rest.next() else {
+            break;
+        };
+        for name in FILTERS {
+            if name.as_bytes() == word.bytes {
+                return Some(name);
+            }
+        }
+    }
+    None
+}
 
 /// The words that tc reads at a place, and qtree does not.
 pub fn words_of_tc(place: Place) -> &'static [&'static str] {

@@ -7,6 +7,8 @@ pub enum Value {
     Size(&'static str),
     /// A time with a unit, of this range.
     Time(&'static str),
+    /// A number of bits or bytes a second with a unit, of this range.
+    Rate(&'static str),
     /// A value of this form and this range.
     Other(&'static str, &'static str),
 }
@@ -18,6 +20,7 @@ impl Value {
             Value::Number(_) => "decimal digits alone",
             Value::Size(_) => "a size, as 1500 or 10kb",
             Value::Time(_) => "a time, as 5ms or 100us",
+            Value::Rate(_) => "a rate, as 10mbit or 1mbps",
             Value::Other(form, _) => form,
         }
     }
@@ -25,8 +28,27 @@ impl Value {
     /// Its range, in words.
     pub fn range(self) -> &'static str {
         match self {
-            Value::Number(range) | Value::Size(range) | Value::Time(range) => range,
-            Value::Other(_, range) => range,
+            Value::Number(range)
+            | Value::Size(range)
+            | Value::Time(range)
+            | Value::Rate(range)
+            | Value::Other(_, range) => range,
+        }
+    }
+
+    /// The units that may stand behind its digits, in words; `None` where it has none.
+    pub fn units(self) -> Option<&'static str> {
+        match self {
+            Value::Size(_) => Some(
+                "b, k, kb, m, mb, g and gb of bytes, kbit, mbit and gbit of bits, and without one it is bytes",
+            ),
+            Value::Time(_) => Some(
+                "us, usec, usecs, ms, msec, msecs, s, sec and secs, and without one it is microseconds",
+            ),
+            Value::Rate(_) => Some(
+                "bit, kbit, mbit, gbit and tbit of bits a second, bps, kbps, mbps, gbps and tbps of bytes a second, and without one it is bits a second",
+            ),
+            Value::Number(_) | Value::Other(_, _) => None,
         }
     }
 }

@@ -1,33 +1,37 @@
--- A run whose lines may be explained answers what one answers whose lines are not.
-use Rattle.std.proofs.Common.{◌≡◌, ◌≢◌, ◌∙◌, ℕ, Bool, true, false, List, Option, ◌⊎◌, inl, inr, refl, subst, sym, true≢false}
+-- What is told of lines, behind what a run answers without it.
+use Rattle.std.proofs.Common.{◌≡◌, ◌≢◌, ◌∙◌, ℕ, Bool, true, false, List, Option, Some, None, Err, refl, subst, sym}
+use Rattle.std.specs.Io.KnownBytes.{Keeps}
 use Rattle.clap.specs.Words.{Text}
+use Rattle.q_script.specs.Ended.{Ended}
 use Rattle.q_script.specs.declared.outcome.Outcome.{Outcome}
 use Rattle.q_script.specs.declared.reads.Reads.{Reads}
+use Rattle.q_script.specs.declared.run_fault.RunFault.{RunFault}
 use Rattle.q_show.specs.declared.writes.Writes.{Writes}
-use Rattle.q_options.specs.Answer.{IsAnswered}
+use Rattle.q_options.specs.declared.fault.Fault.TheVariants.{Run}
+use Rattle.q_options.specs.Answer.{IsAnswered, IsCounted, IsToldOf, Leaves}
 
-module _ {file : Option Text} {whole : Outcome → List ℕ → Type 0} {partly : List ℕ → Type 0} {script old new errors_old errors_new : Option (List ℕ)} {reads : Reads} {writes : Writes} {status : ℕ} (explains : Bool)
-    (a : IsAnswered false file whole partly script old new errors_old errors_new reads writes status) where
-  -- where nothing more was written on the error output
-  pub unexplained : IsAnswered explains file whole partly script old new errors_old errors_new reads writes status
-  unexplained = record { clean = a.clean; refused = a.refused; silent = λ _. a.silent refl; clean_silent = a.clean_silent; fault = a.fault }
+keeps_itself : (e : Option (List ℕ)) → Keeps e e
+keeps_itself None = tt
+keeps_itself (Some xs) = refl
 
-  -- whatever was written there, behind a whole report in which something was refused
-  pub explained : {errors_later : Option (List ℕ)} → explains ≡ true → status ≡ 1 → IsAnswered explains file whole partly script old new errors_old errors_later reads writes status
-  explained asked one = record {
-    clean = a.clean;
-    refused = a.refused;
-    silent = λ unasked. absurd (true≢false (sym asked ∙ unasked));
-    clean_silent = λ zero. absurd (one_is_not_zero (sym one ∙ zero));
-    fault = λ two. absurd (one_is_not_two (sym one ∙ two));
-  } where
-    one_is_not_zero : ◌≢◌ {A = ℕ} 1 0
-    one_is_not_zero e = cc
+zero_is_not_two : (status : ℕ) → status ≡ 0 → status ≢ 2
+zero_is_not_two status zero two = cc
 
-    one_is_not_two : ◌≢◌ {A = ℕ} 1 2
-    one_is_not_two e = cc
+one_is_not_two : (status : ℕ) → status ≡ 1 → status ≢ 2
+one_is_not_two status one two = cc
 
-  -- where nothing more was written there, or both hold
-  pub explained_if : {errors_later : Option (List ℕ)} → (errors_later ≡ errors_new) ⊎ ((explains ≡ true) × (status ≡ 1)) → IsAnswered explains file whole partly script old new errors_old errors_later reads writes status
-  explained_if (inl same) = subst (λ (e : Option (List ℕ)). IsAnswered explains file whole partly script old new errors_old e reads writes status) (sym same) unexplained
-  explained_if (inr both) = explained both.0 both.1
+-- of `lines` lines at most their number is told, and where they are explained, whatever it is
+pub told_lines : {file : Option Text} {whole : Outcome → List ℕ → Type 0} {partly : List ℕ → Type 0} {script old new errors_old errors_new errors_later : Option (List ℕ)} {reads : Reads} {writes : Writes} {status : ℕ}
+    (explains : Bool) → IsAnswered true file whole partly script old new errors_old errors_new reads writes status
+    → (status ≢ 2 → errors_new ≡ errors_old)
+    → (status ≡ 2 → errors_later ≡ errors_new)
+    → (explains ≡ false → status ≡ 0 → errors_later ≡ errors_new)
+    → (explains ≡ false → status ≡ 1 → (lines : ℕ) × IsCounted lines errors_new errors_later)
+    → IsAnswered explains file whole partly script old new errors_old errors_later reads writes status
+told_lines {file} {whole} {partly} {script} {old} {new} {errors_old} {errors_new} {errors_later} {reads} {writes} {status} explains a kept fault clean counted = record {
+  clean = a.clean;
+  refused = a.refused;
+  silent = λ unasked zero. subst (λ (e : Option (List ℕ)). Keeps errors_old e) (sym (clean unasked zero ∙ kept (zero_is_not_two status zero))) (keeps_itself errors_old);
+  counted = λ unasked one. subst (λ (e : Option (List ℕ)). (lines : ℕ) × IsCounted lines e errors_later) (kept (one_is_not_two status one)) (counted unasked one);
+  fault = λ two. subst (λ (e : Option (List ℕ)). (fault : RunFault) × IsToldOf file (Run fault) errors_old e × Leaves partly fault script old new × Ended (Err fault) reads writes) (sym (fault two)) (a.fault two);
+}

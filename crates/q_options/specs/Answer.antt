@@ -1,6 +1,6 @@
 -- What the program answers: its exit status, the report on its output and one line on its error output, or what explains lines there.
 -- The statuses and the words are this project's own.
-use Rattle.std.specs.Prelude.{◌≡◌, ◌≢◌, ℕ, Bool, false, ◌⊎◌, List, [], ◌∷◌, ◌++◌, Option, Some, None, IfSome, Ok, Err, codes, take, min, length, option_map, string_bytes}
+use Rattle.std.specs.Prelude.{◌≡◌, ℕ, ◌<◌, Bool, false, ◌⊎◌, List, [], ◌∷◌, ◌++◌, Option, Some, None, IfSome, Ok, Err, codes, decimal, take, min, length, option_map, string_bytes}
 use Rattle.std.specs.Io.KnownBytes.{Appends, Keeps}
 use Rattle.std.specs.declared.io.ErrorKind.{ErrorKind}
 use Rattle.q_drive.specs.Drive.{Drive}
@@ -64,6 +64,16 @@ Leaves partly TooLong script old new = Keeps old new
 Leaves partly (Write kind) script old new = IfSome script partly
 Leaves partly Memory script old new = Keeps old new
 
+-- the line that says how many lines were not done, and names the option that explains them
+abbrev pub counted_line : ℕ → List ℕ
+counted_line lines = codes "qtree: lines that were not done: " ++ decimal lines ++ codes "; --explain says why\n"
+
+-- The error output has that line and nothing else, or a front of it where it could not be written. Where no line is counted, it has
+-- nothing: a drive is refused too where memory is refused to its senders.
+pub record IsCounted (lines : ℕ) (old new : Option (List ℕ)) : Type 0 where
+  pub none : lines ≡ 0 → Keeps old new
+  pub some : 0 < lines → Appends old new (counted_line lines) ⊎ AppendsFront old new (counted_line lines)
+
 -- Standard input or a file was read: what the output and the error output had before and have now, what the reads and writes came
 -- to, and the status. What is reported whole of a script, with its outcome, and what in part, is the command's own. Where lines that
 -- were not done are explained, the error output says of them what it will.
@@ -72,8 +82,9 @@ pub record IsAnswered (explained : Bool) (file : Option Text) (whole : Outcome �
   pub clean : status ≡ 0 → IfSome script (whole Clean) × Ended (Ok Clean) reads writes
   -- the whole report, in which something had a fault or was refused
   pub refused : status ≡ 1 → IfSome script (whole Refused) × Ended (Ok Refused) reads writes
-  pub silent : explained ≡ false → status ≢ 2 → Keeps errors_old errors_new
-  pub clean_silent : status ≡ 0 → Keeps errors_old errors_new
+  -- without explanations nothing is told of lines that were done, and how many were not
+  pub silent : explained ≡ false → status ≡ 0 → Keeps errors_old errors_new
+  pub counted : explained ≡ false → status ≡ 1 → (lines : ℕ) × IsCounted lines errors_old errors_new
   -- not the whole report, and a line that says why
   pub fault : status ≡ 2 → (fault : RunFault) × IsToldOf file (Run fault) errors_old errors_new × Leaves partly fault script old new × Ended (Err fault) reads writes
 
@@ -101,9 +112,12 @@ pub record IsPlayedFrom {F S T : Type 0} (remaining : F → Option (List ℕ)) (
       ⊎ ((file : F) × (file_reads : Reads) × IsPlayedOf options.explain (Some path) options.settings (remaining file) old new errors_old errors_new file_reads writes status)
 
 -- a device was set up and driven
+abbrev pub IsDriveAnsweredOf : Bool → Drive → Option (List ℕ) → Option (List ℕ) → Option (List ℕ) → Option (List ℕ) → Option (List ℕ) → Reads → Writes → ℕ → Type 0
+IsDriveAnsweredOf explained settings script old new errors_old errors_new reads writes status =
+    IsAnswered explained None (λ told all. IsDriven settings all told old new) (λ all. IsPartlyDriven settings all old new) script old new errors_old errors_new reads writes status
+
 abbrev pub IsDriveAnswered : Drive → Option (List ℕ) → Option (List ℕ) → Option (List ℕ) → Option (List ℕ) → Option (List ℕ) → Reads → Writes → ℕ → Type 0
-IsDriveAnswered settings script old new errors_old errors_new reads writes status =
-    IsAnswered false None (λ told all. IsDriven settings all told old new) (λ all. IsPartlyDriven settings all old new) script old new errors_old errors_new reads writes status
+IsDriveAnswered settings script old new errors_old errors_new reads writes status = IsDriveAnsweredOf false settings script old new errors_old errors_new reads writes status
 
 -- No read was made: help or the version was shown, or the command line was refused. Where the output was written to and the status
 -- is 2, a write failed.

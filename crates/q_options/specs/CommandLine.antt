@@ -1,7 +1,8 @@
 -- What the words of a command line ask for: the program's commands with their options, and what clap found of these.
 -- How clap walks over the words is in its own definitions: `subcommand_of` is the command that they name, with its options, and
 -- `fault_of` the kinds of fault that they have. The options, their ranges and defaults are this project's own.
-use Rattle.std.specs.Prelude.{◌≡◌, ◌≤◌, ◌⊎◌, ℕ, pos, Bool, true, false, List, Option, None, Some, option_map, string_bytes, codes, ⊤}
+use Rattle.std.specs.Prelude.{◌≡◌, ◌≤◌, ◌⊎◌, ℕ, pos, Bool, true, false, List, Option, None, Some, option_map, string_bytes, codes, ⊤, if◌then◌else◌}
+use Rattle.std.specs.Str.{bytes_eq}
 use Rattle.std.specs.Str.Parse.{IsNumeral, digits_value, without_leading_plus}
 use Rattle.clap.specs.Words.{App, Row, Rule, Text, IsAmong, app_of, fault_of, first_of, new_app, new_rule, one_of, subcommand_of, with_rule, with_subcommand}
 use Rattle.clap.specs.declared.builder.action.ArgAction.TheVariants.{SetTrue}
@@ -12,6 +13,7 @@ use Rattle.clap.specs.declared.builder.value_parser.ValueParser.TheVariants as v
 use Rattle.clap.specs.declared.error.kind.ErrorKind.{ErrorKind}
 use Rattle.clap.specs.declared.error.kind.ErrorKind.TheVariants.{OutOfMemory}
 use Rattle.q_drive.specs.Drive.{Drive}
+use Rattle.q_options.specs.declared.drive_options.DriveOptions.{DriveOptions}
 use Rattle.q_options.specs.declared.play_options.PlayOptions.{PlayOptions}
 use Rattle.q_options.specs.declared.program_options.Options.{Options}
 use Rattle.q_options.specs.declared.program_options.Options.TheVariants as options
@@ -64,7 +66,7 @@ with_load a =
     (number_rule (codes "ring") 1 65536 true)
 
 abbrev pub drive_app : App
-drive_app = with_device (with_rule (with_rule (with_load (new_app (codes "drive"))) (flag_rule (codes "until-idle"))) (flag_rule (codes "show")))
+drive_app = with_rule (with_device (with_rule (with_rule (with_load (new_app (codes "drive"))) (flag_rule (codes "until-idle"))) (flag_rule (codes "show")))) (flag_rule (codes "explain"))
 
 -- the program: it has a version, and needs a command
 abbrev pub bare_program : App
@@ -111,14 +113,19 @@ pub record HasOptionsOf (found : Texts) (s : Settings) : Type 0 where
   pub seed : IsNumber (found (codes "seed")) 0 s.seed
   pub recorder : IsNumber (found (codes "record")) 4096 s.recorder
 
+-- the file that a word names: `-` names standard input, as no word does
+abbrev pub script_file : Option Text → Option Text
+script_file None = None
+script_file (Some path) = if bytes_eq path (codes "-") then None else Some path
+
 -- And so is what is asked of play. A path is taken as it is written.
 pub record HasPlayOptionsOf (found written : Texts) (o : PlayOptions) : Type 0 where
   pub device : HasOptionsOf found o.settings
-  pub file : option_map string_bytes o.file ≡ written (codes "file")
+  pub file : option_map string_bytes o.file ≡ script_file (written (codes "file"))
   pub explain : IsFlag (found (codes "explain")) o.explain
 
 -- and so are those of a drive
-pub record HasDriveOptionsOf (found : Texts) (s : Drive) : Type 0 where
+pub record HasDriveSettingsOf (found : Texts) (s : Drive) : Type 0 where
   pub device : HasOptionsOf found s.device
   pub senders : IsGiven (found (codes "senders")) s.senders
   pub count : IsGiven (found (codes "count")) s.count
@@ -126,6 +133,11 @@ pub record HasDriveOptionsOf (found : Texts) (s : Drive) : Type 0 where
   pub ring : IsGiven (found (codes "ring")) s.ring
   pub until_idle : IsFlag (found (codes "until-idle")) s.until_idle
   pub show : IsFlag (found (codes "show")) s.show
+
+-- and what is asked of it
+pub record HasDriveOptionsOf (found : Texts) (o : DriveOptions) : Type 0 where
+  pub settings : HasDriveSettingsOf found o.settings
+  pub explain : IsFlag (found (codes "explain")) o.explain
 
 -- what is asked for, by the command that was found with its options
 abbrev pub IsAskedBy : Option (Text × List Row) → Options → Type 0

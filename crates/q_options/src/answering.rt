@@ -3,17 +3,17 @@ ghost use Rattle.std.specs.Io.KnownBytes.{Keeps};
 ghost use Rattle.std.specs.IoError.{error_kind};
 ghost use Rattle.clap.specs.Words.{kind_of as clap_kind};
 ghost use Rattle.clap.specs.declared.error.kind.ErrorKind.TheVariants.{DisplayHelp, DisplayVersion};
-ghost use Rattle.q_options.specs.Answer.{IsDriveAnswered, IsPlayedFrom, IsShown, IsTold, IsTurnedDown};
+ghost use Rattle.q_options.specs.Answer.{IsDriveAnsweredOf, IsPlayedFrom, IsShown, IsTold, IsTurnedDown};
 ghost use Rattle.q_options.specs.CommandLine.{IsAsked};
+ghost use Rattle.q_options.specs.declared.drive_options.DriveOptions.{DriveOptions};
 ghost use Rattle.q_options.specs.declared.play_options.PlayOptions.{PlayOptions};
 ghost use Rattle.q_options.specs.declared.program_options.Options.{Options as Asked};
-ghost use Rattle.q_drive.specs.Drive.{Drive};
 ghost use Rattle.q_options.specs.declared.fault.Fault.{Fault as SomeFault};
 ghost use Rattle.q_script.specs.Reads.{no_reads};
 ghost use Rattle.q_show.specs.Writes.{no_writes, WriteFailed};
 
 use crate::command_line::options;
-use crate::driving::drive;
+use crate::driving::drive_of;
 use crate::fault::Fault;
 use crate::play_asked::play_asked;
 use crate::playing::FAULT;
@@ -52,7 +52,7 @@ pub fn answer<H: Files + Threads + Wait + Sync, R: Read, W: Write, E: Write>(
         ⊎ ((options : PlayOptions) × IfOk words (λ all. IsAsked (map string_bytes all.items) (Asked.Play options)) × IsPlayedFrom H.File.Read.remaining options source.old source.new target.old target.new
         (R.remaining source.old.reader.now) (W.contents target.old.writer.now) (W.contents target.new.writer.now)
         (E.contents errors.old) (E.contents errors.new) source.new.reads target.new.writes result)
-        ⊎ ((settings : Drive) × IfOk words (λ all. IsAsked (map string_bytes all.items) (Asked.Drive settings)) × IsDriveAnswered settings (R.remaining source.old.reader.now)
+        ⊎ ((options : DriveOptions) × IfOk words (λ all. IsAsked (map string_bytes all.items) (Asked.Drive options)) × IsDriveAnsweredOf options.explain options.settings (R.remaining source.old.reader.now)
         (W.contents target.old.writer.now) (W.contents target.new.writer.now)
         (E.contents errors.old) (E.contents errors.new) source.new.reads target.new.writes result) }
     // The words of the command line could not be had: one is not UTF-8, or there is no memory for them.
@@ -74,7 +74,15 @@ pub fn answer<H: Files + Threads + Wait + Sync, R: Read, W: Write, E: Write>(
     };
     match options {
         Options::Play(options) => play_asked(rt, alloc, &options, source, target, errors),
-        Options::Drive(settings) => drive(rt, alloc, settings, source, target, errors),
+        Options::Drive(options) => drive_of(
+            rt,
+            alloc,
+            options.settings,
+            options.explain,
+            source,
+            target,
+            errors,
+        ),
     }
 }
 

@@ -1,9 +1,10 @@
-ghost use Rattle.std.specs.Prelude.{◌≡◌, ◌≤◌, ◌⊎◌, IfOk, IfErr, IfSome, IsNone, IsOkAnd, Some, codes, pos, map, true, false};
+ghost use Rattle.std.specs.Prelude.{◌≡◌, ◌≤◌, ◌⊎◌, IfOk, IfErr, IfSome, IsNone, IsOkAnd, Some, codes, pos, map, option_map, string_bytes, true, false};
 ghost use Rattle.clap.specs.Words.{app_of, first_value, found_of, kind_of, new_app, one_text, rule_of, subcommand_of, subcommand_rows_of, with_rule, AddsArg, AddsSubcommand, NarrowsTo};
-ghost use Rattle.q_options.specs.CommandLine.{HasBadDriveOption, HasBadOption, HasDriveOptionsOf, HasOptionsOf, HasPlayOptionsOf, IsAsked, IsAskedBy, IsBad, IsFlag, IsGiven, IsNotGood, IsNumber, IsRefused, IsUnreadable, Gives, bare_program, drive_app, file_rule, flag_rule, number_named, play_app, program, with_number};
+ghost use Rattle.q_options.specs.CommandLine.{HasBadDriveOption, HasBadOption, HasDriveOptionsOf, HasDriveSettingsOf, HasOptionsOf, HasPlayOptionsOf, IsAsked, IsAskedBy, IsBad, IsFlag, IsGiven, IsNotGood, IsNumber, IsRefused, IsUnreadable, Gives, bare_program, drive_app, file_rule, flag_rule, number_named, play_app, program, script_file, with_number};
 ghost use Rattle.clap.specs.declared.Command.TheViews.{out-Command as fields_of};
 ghost use Rattle.q_options.specs.CommandLine as spec;
 
+use crate::drive_options::DriveOptions;
 use crate::play_options::PlayOptions;
 use crate::program_options::Options;
 use clap::builder::ValueParser;
@@ -110,8 +111,7 @@ fn play<'a>(alloc: Global) -> Result<Command<'a>, AllocError>
         )
         .after_help(PLAY_END);
     let play = with_device(alloc, Ok(play));
-    let help = "Explain each line with a fault or a refusal on standard error";
-    let play = with(play, flag(alloc, "explain", help));
+    let play = with(play, explain_flag(alloc));
     with(play, file(alloc))
 }
 
@@ -136,13 +136,22 @@ fn flag<'a>(alloc: Global, name: &'a str, help: &'a str) -> Arg<'a>
         .help(help)
 }
 
+/// The option that asks for explanations.
+fn explain_flag<'a>(alloc: Global) -> Arg<'a>
+    ensures rule { rule_of result ≡ flag_rule (codes "explain") }
+    ensures local { result.global ≡ false }
+{
+    let help = "Explain each line with a fault or a refusal on standard error";
+    flag(alloc, "explain", help)
+}
+
 /// The file that has the script.
 fn file<'a>(alloc: Global) -> Arg<'a>
     ensures rule { rule_of result ≡ file_rule }
     ensures local { result.global ≡ false }
 {
     Arg::new(alloc, "file").value_name("FILE").help(
-        "The file that has the script; standard input where none is named",
+        "The file that has the script; standard input where none is named, or -",
     )
 }
 
@@ -159,7 +168,8 @@ fn drive<'a>(alloc: Global) -> Result<Command<'a>, AllocError>
     let drive = with(drive, flag(alloc, "until-idle", help));
     let help = "Show the counters of the device and of each qdisc at the end";
     let drive = with(drive, flag(alloc, "show", help));
-    with_device(alloc, drive)
+    let drive = with_device(alloc, drive);
+    with(drive, explain_flag(alloc))
 }
 
 /// A command with the options of its senders.
@@ -242,8 +252,8 @@ fn options_of(alloc: Global, matches: &ArgMatches) -> Result<Option<Options>, Al
     let Some(drive) = matches.subcommand_matches("drive") else {
         return Ok(None);
     };
-    match drive_settings_of(drive) {
-        Some(settings) => Ok(Some(Options::Drive(settings))),
+    match drive_options_of(drive) {
+        Some(options) => Ok(Some(Options::Drive(options))),
         None => Ok(None),
     }
 }
@@ -256,10 +266,7 @@ fn play_options_of(alloc: Global, play: &ArgMatches) -> Result<Option<PlayOption
     let Some(settings) = settings_of(play) else {
         return Ok(None);
     };
-    let file = match play.get_str("file") {
-        Some(path) => Some(String::from_str(alloc, path)?),
-        None => None,
-    };
+    let file = file_of(alloc, play.get_str("file"))?;
     let explain = play.get_flag("explain");
     Ok(Some(PlayOptions {
         settings,
@@ -268,9 +275,29 @@ fn play_options_of(alloc: Global, play: &ArgMatches) -> Result<Option<PlayOption
     }))
 }
 
+/// The file that a word names, if it is not standard input, which `-` is too.
+fn file_of(alloc: Global, word: Option<&str>) -> Result<Option<String>, AllocError>
+    ensures { IfOk result (λ file. option_map string_bytes file ≡ script_file (option_map (λ w. w.now) word.entry)) }
+{
+    match word {
+        Some(path) if path != "-" => Ok(Some(String::from_str(alloc, path)?)),
+        _ => Ok(None),
+    }
+}
+
+/// The options of a drive that were given; `None` where a text is no number, or one out of range, or is not there.
+fn drive_options_of(drive: &ArgMatches) -> Option<DriveOptions>
+    ensures given { IfSome result (HasDriveOptionsOf (one_text (found_of drive.now))) }
+    ensures refused { IsNone result → HasBadDriveOption (one_text (found_of drive.now)) }
+{
+    let settings = drive_settings_of(drive)?;
+    let explain = drive.get_flag("explain");
+    Some(DriveOptions { settings, explain })
+}
+
 /// The settings of a drive that were given; `None` where a text is no number, or one out of range, or is not there.
 fn drive_settings_of(drive: &ArgMatches) -> Option<DriveSettings>
-    ensures given { IfSome result (HasDriveOptionsOf (one_text (found_of drive.now))) }
+    ensures given { IfSome result (HasDriveSettingsOf (one_text (found_of drive.now))) }
     ensures refused { IsNone result → HasBadDriveOption (one_text (found_of drive.now)) }
 {
     let device = settings_of(drive)?;

@@ -1,5 +1,5 @@
-use q_explain::{explain_fault, explain_refusal};
-use q_session::{LineError, NotedLine, Notes};
+use q_explain::{Remark, explain_fault, explain_refusal, explain_remark};
+use q_session::{LineNote, NotedLine, Notes};
 use q_show::write_whole;
 use std::alloc::{AllocError, Global};
 use std::io::Write;
@@ -27,8 +27,13 @@ pub fn explain<E: Write>(alloc: Global, notes: &Notes, errors: &mut E) {
 
 /// The text on a line.
 fn explanation(alloc: Global, line: &NotedLine) -> Result<String, AllocError> {
-    match line.error {
-        LineError::Fault(fault) => explain_fault(alloc, line.number, &line.text, fault),
-        LineError::Refusal(refusal) => explain_refusal(alloc, line.number, &line.text, refusal),
+    let (number, text) = (line.number, line.text.as_slice());
+    match line.note {
+        LineNote::Fault(fault) => explain_fault(alloc, number, text, fault),
+        LineNote::Refusal(refusal) => explain_refusal(alloc, number, text, refusal),
+        LineNote::SmallBurst { mtu } => {
+            explain_remark(alloc, number, text, Remark::SmallBurst { mtu })
+        }
+        LineNote::OtherDevice => explain_remark(alloc, number, text, Remark::OtherDevice),
     }
 }

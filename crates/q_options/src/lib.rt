@@ -4,7 +4,7 @@
 //!   status. `main` calls it and nothing else.
 //! - [`play`] is the part of it that runs a script, and [`drive`] the one that drives a device: the status, the report, and the line
 //!   that tells of a [`Fault`].
-//!   Where lines are to be explained, it writes what q_explain says of each that has a fault or was refused.
+//!   Where lines are to be explained, it writes what q_explain says of each that has a fault or was refused; else how many there are.
 //! - [`options`] reads what the command line asks for, as [`Options`].
 //! - [`run`] runs a script with [`RunSettings`], and [`run_drive`] drives a device with [`DriveSettings`], from any reader to any
 //!   writer: what a program calls that has no command line. They answer an [`Outcome`] or a [`RunFault`], and stand in q_session
@@ -18,6 +18,7 @@
 
 mod answering;
 mod command_line;
+mod drive_options;
 mod driving;
 mod explaining;
 mod fault;
@@ -28,9 +29,11 @@ mod program_options;
 mod prompted_reader;
 mod standard;
 mod telling;
+mod telling_of_lines;
 
 pub use answering::answer;
 pub use command_line::options;
+pub use drive_options::DriveOptions;
 pub use driving::drive;
 pub use fault::Fault;
 pub use play_options::PlayOptions;

@@ -1,12 +1,12 @@
-ghost use Rattle.std.specs.Prelude.{◌≡◌, ◌≤◌, ◌⊎◌, false, option_map, true};
+ghost use Rattle.std.specs.Prelude.{◌≡◌, ◌≢◌, ◌≤◌, option_map, true};
 ghost use Rattle.q_options.specs.Answer.{IsPlayed, IsPlayedOf};
 ghost use Rattle.q_script.specs.Reads.{no_reads};
 ghost use Rattle.q_session.specs.Session.{opened};
 ghost use Rattle.q_show.specs.Writes.{no_writes};
 
-use crate::explaining::explain;
 use crate::fault::Fault;
 use crate::telling::tell_of;
+use crate::telling_of_lines::{notes_for, tell_lines};
 use q_script::{RunFault, RunSettings, Source};
 use q_session::{DeviceSession, run_session};
 use q_show::Target;
@@ -16,12 +16,9 @@ use std::io::{Read, Write};
 /// The status where nothing was run, or the report not written: usage, input, output or memory.
 pub const FAULT: u8 = 2;
 
-/// The status of a whole report in which a line had a fault or was refused.
-const REFUSED: u8 = 1;
-
 /// Reads a script, writes its report, and answers the exit status of `qtree play`: 0; 1 where a line had a fault or was
-/// refused; 2 where nothing was run or the report not written, with one line on the error output that says why. The source and
-/// the target are new.
+/// refused, with a line on the error output that says how many were; 2 where nothing was run or the report not written, with one line
+/// there that says why. The source and the target are new.
 pub fn play<R: Read, W: Write, E: Write>(
     alloc: Global,
     settings: RunSettings,
@@ -42,7 +39,7 @@ pub fn play<R: Read, W: Write, E: Write>(
 }
 
 /// The same, of a script whose file is named where it could not be read. Where it is asked for, each line that has a fault or was
-/// refused is explained on the error output, behind the whole report; where the report is not written, none is.
+/// refused, or may not be wanted so, is explained on the error output, behind the whole report; where the report is not written, none is.
 pub fn play_of<R: Read, W: Write, E: Write>(
     alloc: Global,
     file: Option<&str>,
@@ -65,40 +62,15 @@ pub fn play_of<R: Read, W: Write, E: Write>(
         tell_of(file, Fault::Run(RunFault::Memory), errors);
         return FAULT;
     };
-    note_if(explains, alloc, &mut session);
+    let mut notes = notes_for(alloc, explains);
+    session.exchange_notes(&mut notes);
     let status = play_in(alloc, file, settings, &mut session, source, target, errors);
-    explain_refused(alloc, explains, status, &mut session, errors);
+    session.exchange_notes(&mut notes);
+    tell_lines(alloc, explains, status, &notes, errors);
     status
 }
 
-/// Lets a session note each line that is not done, where such lines are explained.
-fn note_if(explains: bool, alloc: Global, session: &mut DeviceSession)
-    ensures { session.new ≡ session.old }
-{
-    if explains {
-        session.note_errors(alloc);
-    }
-}
-
-/// Explains what was noted, where that is asked for and a line had a fault or was refused.
-fn explain_refused<E: Write>(
-    alloc: Global,
-    explains: bool,
-    status: u8,
-    session: &mut DeviceSession,
-    errors: &mut E,
-)
-    ensures { (E.contents errors.new ≡ E.contents errors.old) ⊎ ((explains ≡ true) × (status ≡ 1)) }
-{
-    if !explains || status != REFUSED {
-        return;
-    }
-    if let Some(notes) = session.take_notes() {
-        explain(alloc, &notes, errors);
-    }
-}
-
-/// The same in a session that was opened with these settings and has run no line. No line is explained.
+/// The same in a session that was opened with these settings and has run no line. Of lines nothing is told.
 fn play_in<R: Read, W: Write, E: Write>(
     alloc: Global,
     file: Option<&str>,
@@ -114,9 +86,10 @@ fn play_in<R: Read, W: Write, E: Write>(
     ensures same_reader { source.new.reader.ghost_name ≡ source.old.reader.ghost_name }
     ensures same_writer { target.new.writer.ghost_name ≡ target.old.writer.ghost_name }
     ensures statuses { result ≤ 2 }
-    ensures played { IsPlayedOf false (option_map (λ path. path.now) file.entry) settings (R.remaining source.old.reader.now)
+    ensures played { IsPlayedOf true (option_map (λ path. path.now) file.entry) settings (R.remaining source.old.reader.now)
         (W.contents target.old.writer.now) (W.contents target.new.writer.now)
         (E.contents errors.old) (E.contents errors.new) source.new.reads target.new.writes result }
+    ensures silent { result ≢ 2 → E.contents errors.new ≡ E.contents errors.old }
 {
     match run_session(alloc, source, target, settings, session) {
         Ok(outcome) => outcome.status(),

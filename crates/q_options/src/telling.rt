@@ -1,4 +1,4 @@
-ghost use Rattle.std.specs.Prelude.{◌≡◌, ◌++◌, List, ℕ, option_map};
+ghost use Rattle.std.specs.Prelude.{◌≡◌, ◌≤◌, ◌++◌, IfSome, List, ℕ, length, option_map};
 ghost use Rattle.q_show.specs.Lengths.{GrowsBy, HasRoom};
 ghost use Rattle.q_options.specs.Answer.{IsTold, IsToldOf, line_with, named};
 
@@ -57,7 +57,7 @@ fn put_name(line: &mut Text, file: Option<&str>)
     }
 }
 
-/// The words for the kind of a fault: Rust's, but for a standard input or output that is closed.
+/// The words for the kind of a fault: those for a standard input or output that is closed, or the system's, or else Rust's.
 fn put_words(line: &mut Text, fault: Fault, kind: ErrorKind)
     requires { HasRoom line.old 64 }
     ensures text { (words : List ℕ) × (line.new ≡ line.old ++ words) }
@@ -71,6 +71,30 @@ fn put_words(line: &mut Text, fault: Fault, kind: ErrorKind)
         | Fault::Help(ErrorKind::NotConnected) => {
             line.put(b"standard output is closed");
         }
-        _ => line.put(InlineText::<WORDS>::of(kind).as_str().as_bytes()),
+        _ => match system_words(kind) {
+            Some(words) => line.put(words),
+            None => line.put(InlineText::<WORDS>::of(kind).as_str().as_bytes()),
+        },
+    }
+}
+
+/// What strerror(3) of glibc says of the errors of this kind that a file or a stream can have.
+fn system_words(kind: ErrorKind) -> Option<&'static [u8]>
+    ensures { IfSome result (λ words. length words.now ≤ 64) }
+{
+    match kind {
+        ErrorKind::NotFound => Some(b"No such file or directory"),
+        ErrorKind::PermissionDenied => Some(b"Permission denied"),
+        ErrorKind::IsADirectory => Some(b"Is a directory"),
+        ErrorKind::NotADirectory => Some(b"Not a directory"),
+        ErrorKind::FilesystemLoop => Some(b"Too many levels of symbolic links"),
+        ErrorKind::InvalidFilename => Some(b"File name too long"),
+        ErrorKind::StorageFull => Some(b"No space left on device"),
+        ErrorKind::QuotaExceeded => Some(b"Disk quota exceeded"),
+        ErrorKind::FileTooLarge => Some(b"File too large"),
+        ErrorKind::BrokenPipe => Some(b"Broken pipe"),
+        ErrorKind::Interrupted => Some(b"Interrupted system call"),
+        ErrorKind::WouldBlock => Some(b"Resource temporarily unavailable"),
+        _ => None,
     }
 }

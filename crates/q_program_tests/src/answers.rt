@@ -58,14 +58,15 @@ pub fn assert_answers<R: Abort + AllocGlobal + Files + Threads + Wait + Sync>(
     Ok(())
 }
 
-/// Command lines and scripts of which nothing is told: each with the status and the output.
-const ANSWERS: &[(&str, &[u8], u8, &str)] = &[
-    ("qtree play", TWO_OF_THREE, 0, TWO_OF_THREE_REPORT),
+/// Command lines and scripts: each with the status, the output, and what is told.
+const ANSWERS: &[(&str, &[u8], u8, &str, &str)] = &[
+    ("qtree play", TWO_OF_THREE, 0, TWO_OF_THREE_REPORT, ""),
     (
         "qtree play",
         b"pkt 0\npoll",
         1,
         "line 1: fault 4 OutOfRange word 2\nidle\n",
+        "qtree: lines that were not done: 1; --explain says why\n",
     ),
     // A packet of 100 bytes is longer than this device takes.
     (
@@ -73,13 +74,14 @@ const ANSWERS: &[(&str, &[u8], u8, &str)] = &[
         b"tc qdisc show",
         0,
         "qdisc pfifo 0: root limit 1000p\n",
+        "",
     ),
 ];
 
 #[test]
 fn scripts_and_their_statuses(rt: HostRuntime) -> Result<(), Fail> {
-    for (line, script, status, report) in ANSWERS {
-        assert_answers(&rt, line, script, *status, report, "")?;
+    for (line, script, status, report, told) in ANSWERS {
+        assert_answers(&rt, line, script, *status, report, told)?;
     }
     Ok(())
 }

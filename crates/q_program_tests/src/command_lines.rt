@@ -1,13 +1,13 @@
 //! The options of `qtree drive`, and what the program answers.
 use crate::answers::{asked, assert_answers};
 use q_drive::DriveSettings;
-use q_options::Options;
+use q_options::{DriveOptions, Options};
 use q_script::RunSettings;
 use std::alloc::Global;
 use std::process::Abort;
 use std::test::Fail;
 
-/// Looks that a line asks for a drive with these settings, which are in range.
+/// Looks that a line asks for a drive with these settings, which are in range; and that with `--explain` it asks for the same, explained.
 fn assert_drive(
     rt: &impl Abort,
     alloc: Global,
@@ -15,11 +15,15 @@ fn assert_drive(
     settings: Option<DriveSettings>,
 ) -> Result<(), Fail> {
     let settings = settings.ok_or("in range")?;
-    assert_eq!(rt;
-        asked(alloc, line)?,
-        Some(Options::Drive(settings)),
-        "{line}"
-    );
+    for explain in [false, true] {
+        let option = if explain { " --explain" } else { "" };
+        let line = format!(in alloc; "{line}{option}")?;
+        assert_eq!(rt;
+            asked(alloc, &line)?,
+            Some(Options::Drive(DriveOptions { settings, explain })),
+            "{line}"
+        );
+    }
     Ok(())
 }
 
@@ -78,6 +82,7 @@ const PAST_THEIR_BOUNDS: &[&str] = &[
     "qtree drive --senders 1 --count 1 --len 1 --ring 65537",
     "qtree drive --senders 1 --senders 1 --count 1 --len 1 --ring 1",
     "qtree drive --show --show --senders 1 --count 1 --len 1 --ring 1",
+    "qtree drive --explain --explain --senders 1 --count 1 --len 1 --ring 1",
     "qtree drive --show=1 --senders 1 --count 1 --len 1 --ring 1",
     "qtree drive --until-idle --until-idle --senders 1 --count 1 --len 1 --ring 1",
     "qtree drive --until-idle=1 --senders 1 --count 1 --len 1 --ring 1",
@@ -99,21 +104,27 @@ fn options_past_their_bounds(rt: HostRuntime) -> Result<(), Fail> {
     Ok(())
 }
 
-/// Lines of standard input for four senders of 16 packets: each with the status and the output.
-const DRIVES: &[(&[u8], u8, &str)] = &[
-    (b"", 0, "settled 64p 6400b\narrived 64p 6400b\ngiven up 0\n"),
+/// Lines of standard input for four senders of 16 packets: each with the status, the output, and what is told.
+const DRIVES: &[(&[u8], u8, &str, &str)] = &[
+    (
+        b"",
+        0,
+        "settled 64p 6400b\narrived 64p 6400b\ngiven up 0\n",
+        "",
+    ),
     (
         b"tc qdisc del dev eth0 root",
         1,
         "line 1: refused 12 NoQdisc\nsettled 64p 6400b\narrived 64p 6400b\ngiven up 0\n",
+        "qtree: lines that were not done: 1; --explain says why\n",
     ),
 ];
 
 #[test]
 fn statuses_of_drives(rt: HostRuntime) -> Result<(), Fail> {
     let line = "qtree drive --senders 4 --count 16 --len 100 --ring 16";
-    for (input, status, report) in DRIVES {
-        assert_answers(&rt, line, input, *status, report, "")?;
+    for (input, status, report, told) in DRIVES {
+        assert_answers(&rt, line, input, *status, report, told)?;
     }
     Ok(())
 }

@@ -37,7 +37,7 @@ line 14: fault 1 UnknownWord word 3
 
 const FAULTS_EXPLAINED: &str = "line 1: tc qdisc add dev eth0 root pfifo limt 5
                                          ^^^^
-  limt is no option of pfifo; it has: limit.
+  limt is no option of pfifo; did you mean limit?
 line 2: tc qdisc add dev eth0 root tbf rate 1mbit burst 10kb
                                                              ^
   a tbf needs limit or latency.
@@ -61,7 +61,7 @@ line 8: tc qdisc add root pfifo
   tc qdisc add needs dev.
 line 9: pol 3
         ^^^
-  pol begins no line; a line begins with at, pkt, frame, poll, reap, totals or tc.
+  pol begins no line; words are not shortened: write poll.
 line 10: poll 3 3
                 ^
   3 is one word too many: the line is whole before it.
@@ -76,14 +76,166 @@ line 13: tc filter add dev eth0 parent 1: pref 1 prio 2 flower classid 1:1
   prio stands beside pref, and a line has one of them.
 line 14: tc qdisc replace dev eth0 root pfifo
                   ^^^^^^^
-  tc has replace, qtree does not.
+  tc has replace, qtree does not: use change, or del and add.
 ";
 
 #[test]
 fn faults_are_explained(rt: HostRuntime) -> Result<(), Fail> {
     let line = "qtree play --explain";
     assert_answers(&rt, line, FAULTS, 1, FAULTS_REPORT, FAULTS_EXPLAINED)?;
-    assert_answers(&rt, "qtree play", FAULTS, 1, FAULTS_REPORT, "")?;
+    let told = "qtree: lines that were not done: 14; --explain says why\n";
+    assert_answers(&rt, "qtree play", FAULTS, 1, FAULTS_REPORT, told)?;
+    Ok(())
+}
+
+/// Lines with words of tc's, words that are shortened or mistyped, values with other units, and comments behind a command.
+const MEANT: &[u8] = b"tc qd add dev eth0 root pfifo
+tc qdisc add dev eth0 root pfifo lmiit 5
+tc class replace dev eth0 parent 1: classid 1:1 drr
+tc filter replace dev eth0 parent 1: prio 1 flower classid 1:1
+tc filter add dev eth0 parent 1: prio 1 handle 1 fw classid 1:1
+tc filter add dev eth0 parent 1: prio 1 handle 1 flower classid 1:1
+tc qdisc add dev eth0 root tbf rate 1mbi burst 10kb latency 5ms
+tc qdisc add dev eth0 root tbf rate 1mbit burst 10kib latency 5ms
+tc qdisc add dev eth0 root fq_codel target 5min
+tc qdisc add dev eth0 root fq_codel target 1000000001
+poll # three times
+pkt 100 # a packet
+tc -stats qdisc show
+polll
+";
+
+const MEANT_REPORT: &str = "line 1: fault 1 UnknownWord word 2
+line 2: fault 1 UnknownWord word 8
+line 3: fault 1 UnknownWord word 3
+line 4: fault 1 UnknownWord word 3
+line 5: fault 1 UnknownWord word 10
+line 6: fault 1 UnknownWord word 10
+line 7: fault 3 BadNumber word 9
+line 8: fault 3 BadNumber word 11
+line 9: fault 3 BadNumber word 9
+line 10: fault 4 OutOfRange word 9
+line 11: fault 3 BadNumber word 2
+line 12: fault 1 UnknownWord word 3
+line 13: fault 1 UnknownWord word 2
+line 14: fault 1 UnknownWord word 1
+";
+
+const MEANT_EXPLAINED: &str = "line 1: tc qd add dev eth0 root pfifo
+           ^^
+  qd is no object of tc; words are not shortened: write qdisc.
+line 2: tc qdisc add dev eth0 root pfifo lmiit 5
+                                         ^^^^^
+  lmiit is no option of pfifo; did you mean limit?
+line 3: tc class replace dev eth0 parent 1: classid 1:1 drr
+                 ^^^^^^^
+  tc has replace, qtree does not: use change, or del and add.
+line 4: tc filter replace dev eth0 parent 1: prio 1 flower classid 1:1
+                  ^^^^^^^
+  tc has replace, qtree does not: use del and add.
+line 5: tc filter add dev eth0 parent 1: prio 1 handle 1 fw classid 1:1
+                                                ^^^^^^
+  tc has the filter fw, qtree does not; the handle is one of its words. Use flower.
+line 6: tc filter add dev eth0 parent 1: prio 1 handle 1 flower classid 1:1
+                                                ^^^^^^
+  tc has handle, qtree does not.
+line 7: tc qdisc add dev eth0 root tbf rate 1mbi burst 10kb latency 5ms
+                                            ^^^^
+  1mbi is no value of rate, which takes a rate, as 10mbit or 1mbps; its units are bit, kbit, mbit, gbit and tbit of bits a second, bps, kbps, mbps, gbps and tbps of bytes a second, and without one it is bits a second.
+line 8: tc qdisc add dev eth0 root tbf rate 1mbit burst 10kib latency 5ms
+                                                        ^^^^^
+  10kib is no value of burst, which takes a size, as 1500 or 10kb; its units are b, k, kb, m, mb, g and gb of bytes, kbit, mbit and gbit of bits, and without one it is bytes.
+line 9: tc qdisc add dev eth0 root fq_codel target 5min
+                                                   ^^^^
+  5min is no value of target, which takes a time, as 5ms or 100us; its units are us, usec, usecs, ms, msec, msecs, s, sec and secs, and without one it is microseconds.
+line 10: tc qdisc add dev eth0 root fq_codel target 1000000001
+                                                    ^^^^^^^^^^
+  1000000001 is out of range: target takes 0 to 1000s; its units are us, usec, usecs, ms, msec, msecs, s, sec and secs, and without one it is microseconds.
+line 11: poll # three times
+              ^
+  a comment needs a line of its own, which begins with #.
+line 12: pkt 100 # a packet
+                 ^
+  a comment needs a line of its own, which begins with #.
+line 13: tc -stats qdisc show
+            ^^^^^^
+  tc has -stats, qtree does not: use -s.
+line 14: polll
+         ^^^^^
+  polll begins no line; did you mean poll?
+";
+
+#[test]
+fn what_was_meant_is_named(rt: HostRuntime) -> Result<(), Fail> {
+    let line = "qtree play --explain";
+    assert_answers(&rt, line, MEANT, 1, MEANT_REPORT, MEANT_EXPLAINED)?;
+    Ok(())
+}
+
+/// Lines that are done, and do what their writer may not want.
+const REMARKED: &[u8] =
+    b"tc qdisc add dev eth0 root handle 1: tbf rate 1mbit burst 1000 latency 50ms
+tc qdisc change handle 1: dev eth1 tbf rate 1mbit buffer 1513 latency 50ms
+tc qdisc change handle 1: dev eth0 tbf rate 1mbit burst 1514 latency 50ms
+tc qdisc add dev eth1 root pfifo
+";
+
+const REMARKED_REPORT: &str = "line 4: refused 11 Exists
+";
+
+const REMARKED_EXPLAINED: &str =
+    "line 1: tc qdisc add dev eth0 root handle 1: tbf rate 1mbit burst 1000 latency 50ms
+                                                                  ^^^^
+  the burst is below the mtu of 1514 bytes: each packet longer than the burst is lost. Give a burst of the mtu or more.
+line 2: tc qdisc change handle 1: dev eth1 tbf rate 1mbit buffer 1513 latency 50ms
+                                                                 ^^^^
+  the burst is below the mtu of 1514 bytes: each packet longer than the burst is lost. Give a burst of the mtu or more.
+line 2: tc qdisc change handle 1: dev eth1 tbf rate 1mbit buffer 1513 latency 50ms
+                                      ^^^^
+  a line before this one has another name. A script has one device, and each line is for it, whatever name it has.
+line 4: tc qdisc add dev eth1 root pfifo
+                              ^^^^
+  a qdisc was added there before. Change it by tc qdisc change, or remove it by tc qdisc del first.
+";
+
+#[test]
+fn lines_that_were_done_are_remarked_upon(rt: HostRuntime) -> Result<(), Fail> {
+    let line = "qtree play --explain";
+    assert_answers(&rt, line, REMARKED, 1, REMARKED_REPORT, REMARKED_EXPLAINED)?;
+    let told = "qtree: lines that were not done: 1; --explain says why\n";
+    assert_answers(&rt, "qtree play", REMARKED, 1, REMARKED_REPORT, told)?;
+    let small = b"tc qdisc add dev eth0 root tbf rate 1mbit burst 99 latency 50ms";
+    let told = "line 1: tc qdisc add dev eth0 root tbf rate 1mbit burst 99 latency 50ms
+                                                        ^^
+  the burst is below the mtu of 100 bytes: each packet longer than the burst is lost. Give a burst of the mtu or more.
+";
+    assert_answers(&rt, "qtree play --explain --mtu 100", small, 0, "", told)?;
+    assert_answers(&rt, "qtree play --mtu 100", small, 0, "", "")?;
+    assert_answers(&rt, "qtree play --explain --mtu 99", small, 0, "", "")?;
+    Ok(())
+}
+
+#[test]
+fn lines_of_a_drive_are_explained(rt: HostRuntime) -> Result<(), Fail> {
+    let line = "qtree drive --senders 1 --count 0 --len 1 --ring 1";
+    let explained = "qtree drive --senders 1 --count 0 --len 1 --ring 1 --explain";
+    let script = b"tc qdisc add dev eth0 root pfifo\npoll\ntc qdisc add dev eth0 root pfifo\n";
+    let report = "line 2: fault 1 UnknownWord word 1
+line 3: refused 11 Exists
+settled 0p 0b
+arrived 0p 0b
+given up 0
+";
+    let told = "qtree: lines that were not done: 2; --explain says why\n";
+    assert_answers(&rt, line, script, 1, report, told)?;
+    let told = "line 2: poll
+        ^^^^
+  poll sets up no device; qtree drive reads lines of tc, blank ones and comments alone.
+line 3: tc qdisc add dev eth0 root pfifo
+                              ^^^^
+  a qdisc was added there before. Change it by tc qdisc change, or remove it by tc qdisc del first.
+";
+    assert_answers(&rt, explained, script, 1, report, told)?;
     Ok(())
 }
 
@@ -163,9 +315,7 @@ fn long_lines_are_cut(rt: HostRuntime) -> Result<(), Fail> {
     for _ in 0..109 {
         told.push(' ')?;
     }
-    told.push_str(
-        "^^^\n  pol begins no line; a line begins with at, pkt, frame, poll, reap, totals or tc.\n",
-    )?;
+    told.push_str("^^^\n  pol begins no line; words are not shortened: write poll.\n")?;
     let report = "line 1: fault 1 UnknownWord word 1\n";
     assert_answers(&rt, "qtree play --explain", &script, 1, report, &told)?;
     Ok(())

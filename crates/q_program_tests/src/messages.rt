@@ -89,15 +89,61 @@ fn script_of_a_file(rt: HostRuntime) -> Result<(), Fail> {
     Ok(())
 }
 
+#[test]
+fn script_of_standard_input_by_its_sign(rt: HostRuntime) -> Result<(), Fail> {
+    for line in [
+        "qtree play -",
+        "qtree play --mtu 1514 -",
+        "qtree play - --mtu 1514",
+    ] {
+        assert_answers(&rt, line, TWO_OF_THREE, 0, TWO_OF_THREE_REPORT, "")?;
+    }
+    Ok(())
+}
+
+/// A disk that has no room left.
+#[derive(Drop)]
+struct Full;
+
+impl Write for Full {
+    fn write(&mut self, _buf: &[u8]) -> IoResult<usize> {
+        Err(Error::from_raw_os_error(28))
+    }
+
+    fn flush(&mut self) -> IoResult<()> {
+        Err(Error::from_raw_os_error(28))
+    }
+}
+
+#[test]
+fn full_disk(rt: HostRuntime) -> Result<(), Fail> {
+    let alloc = rt.alloc();
+    let (mut reader, mut full, mut errors) = (TWO_OF_THREE, Full, Vec::new(alloc));
+    let answered = status_of(
+        &rt,
+        alloc,
+        "qtree play",
+        &mut reader,
+        &mut full,
+        &mut errors,
+    )?;
+    assert_eq!(rt; answered, 2);
+    assert_eq!(rt;
+        errors.as_slice(),
+        "qtree: the report cannot be written: No space left on device\n".as_bytes()
+    );
+    Ok(())
+}
+
 /// Command lines, each with what is told of the file that it names.
 const TOLD_OF_FILES: &[(&str, &str)] = &[
     (
         "qtree play no/such.qtree",
-        "qtree: no/such.qtree: the script cannot be read: entity not found\n",
+        "qtree: no/such.qtree: the script cannot be read: No such file or directory\n",
     ),
     (
         "qtree play /",
-        "qtree: /: the script cannot be read: is a directory\n",
+        "qtree: /: the script cannot be read: Is a directory\n",
     ),
 ];
 

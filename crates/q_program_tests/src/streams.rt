@@ -248,7 +248,7 @@ fn writers_that_are_full(rt: HostRuntime) -> Result<(), Fail> {
 
 /// Whether a writer that is full fails, and what is told then.
 const TOLD_OF_WRITERS: &[(bool, &str)] = &[
-    (true, "qtree: the report cannot be written: broken pipe\n"),
+    (true, "qtree: the report cannot be written: Broken pipe\n"),
     (false, "qtree: the report cannot be written: write zero\n"),
 ];
 

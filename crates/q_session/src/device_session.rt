@@ -11,11 +11,11 @@ ghost use Rattle.q_session.specs.Session.{opened, seen, IsShort};
 ghost use Rattle.q_show.specs.Writes.{MayWrite, WriteFailed};
 ghost use Rattle.q_show.specs.Written.{AppendsFront, IsBuffered};
 
-use crate::line_error::LineError;
+use crate::line_note::LineNote;
 use crate::notes::Notes;
 use crate::showing::put_show;
 use crate::text::{put_device, put_fault, put_lost, put_poll, put_refusal};
-use q_device::{Command, Device, Refusal, Settings};
+use q_device::{Command, Device, Kind, Refusal, Settings};
 use q_line::{Arrival, Line, Show, read_line};
 use q_packet::{FlowHash, Head, Moment, OneAtATime, Packet};
 use q_script::{Output, RunSettings, Session};
@@ -29,6 +29,8 @@ use std::marker::Model;
 #[derive(Drop)]
 pub struct DeviceSession {
     device: Device,
+    /// The most bytes of a packet.
+    mtu: u16,
     /// The moment of the lines that follow.
     moment: Moment,
     /// How many packets were numbered.
@@ -37,8 +39,8 @@ pub struct DeviceSession {
     refused: bool,
     /// What the hash of a packet's key begins with, where its line gives none.
     seed: u32,
-    /// The lines that were not done, where they are noted.
-    notes: Option<Notes>,
+    /// What is noted of the lines.
+    notes: Notes,
 }
 
 impl Model for DeviceSession {
@@ -71,35 +73,39 @@ impl DeviceSession {
         };
         Ok(DeviceSession {
             device: Device::open(alloc, device)?,
+            mtu: settings.mtu(),
             moment: Moment::zero(),
             packets: 0,
             refused: false,
             seed: settings.seed(),
-            notes: None,
+            notes: Notes::counting(alloc),
         })
     }
 
-    /// Notes each line from now on that is not done, which [`DeviceSession::take_notes`] gives. The session stays as it is.
-    pub fn note_errors(&mut self, alloc: Global)
+    /// Takes what was noted of the lines, and begins these notes. The session stays as it is.
+    pub fn exchange_notes(&mut self, notes: &mut Notes)
         ensures { self.new ≡ self.old }
     {
-        self.notes = Some(Notes::new(alloc));
+        std::mem::swap(&mut self.notes, notes);
     }
 
-    /// Takes the lines that were noted, and notes no more; `None` where none were to be noted. The session stays as it is.
-    pub fn take_notes(&mut self) -> Option<Notes>
+    /// Notes a line that was not done.
+    fn note(&mut self, number: u64, line: &[u8], note: LineNote)
         ensures { self.new ≡ self.old }
     {
-        self.notes.take()
+        self.notes.add_not_done(number, line, note);
     }
 
-    /// Notes a line that was not done, where such lines are noted.
-    fn note(&mut self, number: u64, line: &[u8], error: LineError)
+    /// Looks at a line that was done, and gives a tbf this burst if it gives any, for what its writer may not want: a burst below the
+    /// mtu, and a second name of the device.
+    fn look_at(&mut self, number: u64, line: &[u8], burst: Option<u32>)
         ensures { self.new ≡ self.old }
     {
-        if let Some(notes) = &mut self.notes {
-            notes.add(number, line, error);
+        let mtu = self.mtu;
+        if burst.is_some_and(|burst| burst < u32::from(mtu)) {
+            self.notes.add(number, line, LineNote::SmallBurst { mtu });
         }
+        self.notes.look_at_device(number, line);
     }
 
     /// The device, when its script has ended.
@@ -176,14 +182,18 @@ impl DeviceSession {
         Ok(())
     }
 
-    /// A command, which the device does or refuses.
-    pub fn command(&mut self, number: u64, command: Command, output: &mut Output)
+    /// The command of a line, which the device does or refuses.
+    pub fn command(&mut self, number: u64, line: &[u8], command: Command, output: &mut Output)
         requires { HasRoom output.old most_step }
         ensures { (starved : Bool)
             × (self.new ≡ (seen self.old (commanded totals starved number command self.old.state)).session)
             × (output.new ≡ output.old ++ (commanded totals starved number command self.old.state).text) }
     {
-        let _ = self.run_command(number, command, output);
+        let burst = burst_of(&command);
+        match self.run_command(number, command, output) {
+            Some(refusal) => self.note(number, line, LineNote::Refusal(refusal)),
+            None => self.look_at(number, line, burst),
+        }
     }
 
     /// The same; the refusal is answered.
@@ -245,13 +255,14 @@ impl DeviceSession {
     }
 
     /// A line with a fault.
-    pub fn fault(&mut self, number: u64, fault: LineFault, output: &mut Output)
+    pub fn fault(&mut self, number: u64, line: &[u8], fault: LineFault, output: &mut Output)
         requires { HasRoom output.old most_step }
         ensures after { self.new ≡ record self.old { state = record self.old.state { refused = true } } }
         ensures text { output.new ≡ output.old ++ fault_line number fault }
     {
         self.refused = true;
         put_fault(output, number, fault);
+        self.note(number, line, LineNote::Fault(fault));
     }
 
     /// A line that writes one line at most. Its refusal is answered.
@@ -273,6 +284,25 @@ impl DeviceSession {
             Line::Blank | Line::Show(_) | Line::Poll(_) | Line::Reap => {}
         }
         None
+    }
+}
+
+/// The burst that a line gives a tbf, in bytes.
+fn burst_in(line: &Line) -> Option<u32> {
+    match line {
+        Line::Tc(command) => burst_of(command),
+        _ => None,
+    }
+}
+
+/// The burst that a command gives a tbf, in bytes.
+fn burst_of(command: &Command) -> Option<u32> {
+    match command {
+        Command::QdiscAdd { kind, .. } | Command::QdiscChange { kind, .. } => match kind {
+            Kind::Tbf { burst, .. } => Some(burst.bytes()),
+            _ => None,
+        },
+        _ => None,
     }
 }
 
@@ -312,15 +342,16 @@ impl Session for DeviceSession {
             Ok(Line::Show(show)) => self.show(show, output, target),
             Ok(read) => {
                 output.make_room(target)?;
-                if let Some(refusal) = self.answer(number, read, output) {
-                    self.note(number, line, LineError::Refusal(refusal));
+                let burst = burst_in(&read);
+                match self.answer(number, read, output) {
+                    Some(refusal) => self.note(number, line, LineNote::Refusal(refusal)),
+                    None => self.look_at(number, line, burst),
                 }
                 Ok(())
             }
             Err(fault) => {
                 output.make_room(target)?;
-                self.fault(number, fault, output);
-                self.note(number, line, LineError::Fault(fault));
+                self.fault(number, line, fault, output);
                 Ok(())
             }
         }

@@ -9,7 +9,7 @@
 //!   nothing else, and an outcome means that none did.
 //! - [`DeviceSession`] is the [`Session`](q_script::Session) of `q_script` that runs each line over a `Device` of `q_device`:
 //!   arrivals, polls, commands, show texts, losses and counters, as the report of `q_script_semantics` says.
-//!   Where it is told to, it keeps [`Notes`] of the lines that were not done, each with its [`LineError`]; [`run_session`] runs a
+//!   It keeps [`Notes`] of the lines that were not done or may not be wanted so, each with its [`LineNote`]; [`run_session`] runs a
 //!   script in a session that the caller opened, as [`run_between`] does in one of its own.
 //! - [`show_qdiscs`], [`show_classes`] and [`show_filters`] write what tc's show lines print of a `Tree` of `q_tree`, and
 //!   [`ShowFault`] is why they did not. [`put_show`] puts such a text into an `Output` of `q_script`, and
@@ -20,7 +20,7 @@
 #![tactic(auto)]
 
 mod device_session;
-mod line_error;
+mod line_note;
 mod listed;
 mod noted_line;
 mod notes;
@@ -31,7 +31,7 @@ mod showing;
 mod text;
 
 pub use device_session::DeviceSession;
-pub use line_error::LineError;
+pub use line_note::LineNote;
 pub use noted_line::NotedLine;
 pub use notes::Notes;
 pub use running::{run, run_between, run_session};

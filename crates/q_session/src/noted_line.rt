@@ -1,12 +1,12 @@
-use crate::line_error::LineError;
+use crate::line_note::LineNote;
 
-/// A line that was not done.
+/// A line that was not done, or of which something else is noted.
 #[derive(Debug, Drop)]
 pub struct NotedLine {
     /// Its number, counted from 1.
     pub number: u64,
     /// Its bytes, without its newline.
     pub text: Vec<u8>,
-    /// Why it was not done.
-    pub error: LineError,
+    /// What is noted of it.
+    pub note: LineNote,
 }

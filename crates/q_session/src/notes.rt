@@ -1,23 +1,45 @@
-use crate::line_error::LineError;
+use crate::line_note::LineNote;
 use crate::noted_line::NotedLine;
+use q_words::{cut_word, skip_blanks};
 use std::alloc::{AllocError, Global};
 
-/// The lines of a script that were not done, in their order. No contract sees them: they are for people.
+/// What is noted of the lines of a script, in their order: how many were not done, and, where lines are kept, each of these and each
+/// that does what its writer may not want. No contract sees them: they are for people.
 #[derive(Drop)]
 pub struct Notes {
     alloc: Global,
+    /// Whether lines are kept.
+    keeps: bool,
     lines: Vec<NotedLine>,
     missed: u64,
+    not_done: u64,
+    /// The name of the device in the first line that was looked at and has one.
+    device: Vec<u8>,
 }
 
 impl Notes {
-    /// No lines.
-    pub fn new(alloc: Global) -> Notes {
+    /// Notes that count the lines that were not done, and keep none.
+    pub fn counting(alloc: Global) -> Notes {
         Notes {
             alloc,
+            keeps: false,
             lines: Vec::new(alloc),
             missed: 0,
+            not_done: 0,
+            device: Vec::new(alloc),
         }
+    }
+
+    /// Notes that keep lines too.
+    pub fn keeping(alloc: Global) -> Notes {
+        let mut notes = Notes::counting(alloc);
+        notes.keeps = true;
+        notes
+    }
+
+    /// Whether lines are kept.
+    pub fn keeps(&self) -> bool {
+        self.keeps
     }
 
     /// The lines that were kept.
@@ -30,21 +52,68 @@ impl Notes {
         self.missed
     }
 
-    /// Keeps a line, where there is memory.
-    pub fn add(&mut self, number: u64, line: &[u8], error: LineError) {
-        if self.keep(number, line, error).is_err() {
+    /// How many lines were not done.
+    pub fn not_done(&self) -> u64 {
+        self.not_done
+    }
+
+    /// Counts a line that was not done, and keeps it where lines are kept.
+    pub fn add_not_done(&mut self, number: u64, line: &[u8], note: LineNote) {
+        self.not_done = self.not_done.saturating_add(1);
+        self.add(number, line, note);
+    }
+
+    /// Keeps a line, where lines are kept and there is memory.
+    pub fn add(&mut self, number: u64, line: &[u8], note: LineNote) {
+        if self.keeps && self.keep(number, line, note).is_err() {
             self.missed = self.missed.saturating_add(1);
         }
     }
 
+    /// Looks at the name of the device in a line that was done, where lines are kept, and keeps a line that has another one than the
+    /// first.
+    pub fn look_at_device(&mut self, number: u64, line: &[u8]) {
+        if !self.keeps {
+            return;
+        }
+        let Some(name) = named_device(line) else {
+            return;
+        };
+        if self.device.as_slice() == name {
+            return;
+        }
+        if self.device.is_empty() {
+            if self.device.extend_from_slice(name).is_err() {
+                self.missed = self.missed.saturating_add(1);
+            }
+            return;
+        }
+        self.add(number, line, LineNote::OtherDevice);
+    }
+
     /// Keeps a line.
-    fn keep(&mut self, number: u64, line: &[u8], error: LineError) -> Result<(), AllocError> {
+    fn keep(&mut self, number: u64, line: &[u8], note: LineNote) -> Result<(), AllocError> {
         let text = Vec::from_slice(self.alloc, line)?;
-        self.lines.push(NotedLine {
-            number,
-            text,
-            error,
-        })?;
+        self.lines.push(NotedLine { number, text, note })?;
         Ok(())
     }
+}
+
+/// The name of the device in a line without a fault: the word behind the first `dev`, which is no value of a word before it.
+fn named_device(line: &[u8]) -> Option<&[u8]> {
+    let mut rest = line;
+    let mut is_named = false;
+    for _ in 0..line.len() {
+        let filled = skip_blanks(rest);
+        if filled.is_empty() {
+            return None;
+        }
+        let (word, behind) = cut_word(filled);
+        if is_named {
+            return Some(word);
+        }
+        is_named = word == "dev".as_bytes();
+        rest = behind;
+    }
+    None
 }

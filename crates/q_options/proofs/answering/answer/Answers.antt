@@ -26,4 +26,4 @@ returns-in-Play-clause-answer g c =
 pub returns-clause-answer : goal.returns-clause-answer
 returns-clause-answer g c =
     let asked = subst (λ words. IsAsked (map string_bytes words) c.in-Ok-options.options) c.deref.ensures.value c.in-Ok-options.ensures.asked in
-    inr (inr (c.in-Drive.settings, rw (c.in-Ok.is) (subst (λ options. IsAsked (map string_bytes c.in-Ok.words.items) options) c.in-Drive.is asked), c.drive.ensures.driven))
+    inr (inr (c.in-Drive.options, rw (c.in-Ok.is) (subst (λ options. IsAsked (map string_bytes c.in-Ok.words.items) options) c.in-Drive.is asked), c.drive_of.ensures.driven))

@@ -14,26 +14,33 @@ until_idle x = with_rule x (flag_rule (codes "until-idle"))
 abbrev shown : App → App
 shown x = with_rule x (flag_rule (codes "show"))
 
-abbrev all : App → App
-all x = spec.with_device (shown (until_idle (spec.with_load x)))
+abbrev explained : App → App
+explained x = with_rule x (flag_rule (codes "explain"))
 
-whole : (first load idle show device : Result Command AllocError) → Makes spec.with_load first load → Makes until_idle load idle → Makes shown idle show → Makes spec.with_device show device → Makes all first device
-whole first load idle show device l i s d =
-    then (λ x. shown (until_idle (spec.with_load x))) spec.with_device first show device
-    (then (λ x. until_idle (spec.with_load x)) shown first idle show (then spec.with_load until_idle first load idle l i) s) d
+abbrev all : App → App
+all x = explained (spec.with_device (shown (until_idle (spec.with_load x))))
+
+whole : (first load idle show device explain : Result Command AllocError) → Makes spec.with_load first load → Makes until_idle load idle → Makes shown idle show → Makes spec.with_device show device
+    → Makes explained device explain → Makes all first explain
+whole first load idle show device explain l i s d e =
+    then (λ x. spec.with_device (shown (until_idle (spec.with_load x)))) explained first device explain
+    (then (λ x. shown (until_idle (spec.with_load x))) spec.with_device first show device
+    (then (λ x. until_idle (spec.with_load x)) shown first idle show (then spec.with_load until_idle first load idle l i) s) d) e
 
 pub returns-clause-app : goal.returns-clause-app
 returns-clause-app c =
     let command : app_of c.after_help-drive.result ≡ new_app (codes "drive") = search rules in
     let idle = arg_makes c.flag.result (flag_rule (codes "until-idle")) c.with_load-drive.result c.with-drive.result c.flag.ensures.rule c.flag.ensures.local c.with-drive.ensures in
     let show = arg_makes c.flag-2.result (flag_rule (codes "show")) c.with-drive.result c.with-drive-2.result c.flag-2.ensures.rule c.flag-2.ensures.local c.with-drive-2.ensures in
-    made_app all c.after_help-drive.result (new_app (codes "drive")) c.with_device.result command
-    (whole (Ok c.after_help-drive.result) c.with_load-drive.result c.with-drive.result c.with-drive-2.result c.with_device.result c.with_load-drive.ensures idle show c.with_device.ensures)
+    let explain = arg_makes c.explain_flag.result (flag_rule (codes "explain")) c.with_device-drive.result c.with.result c.explain_flag.ensures.rule c.explain_flag.ensures.local c.with.ensures in
+    made_app all c.after_help-drive.result (new_app (codes "drive")) c.with.result command
+    (whole (Ok c.after_help-drive.result) c.with_load-drive.result c.with-drive.result c.with-drive-2.result c.with_device-drive.result c.with.result c.with_load-drive.ensures idle show c.with_device-drive.ensures explain)
 
 pub returns-clause-local : goal.returns-clause-local
 returns-clause-local c =
     let command : (fields_of c.after_help-drive.result).has_globals ≡ false = search rules in
     let idle = arg_makes c.flag.result (flag_rule (codes "until-idle")) c.with_load-drive.result c.with-drive.result c.flag.ensures.rule c.flag.ensures.local c.with-drive.ensures in
     let show = arg_makes c.flag-2.result (flag_rule (codes "show")) c.with-drive.result c.with-drive-2.result c.flag-2.ensures.rule c.flag-2.ensures.local c.with-drive-2.ensures in
-    made_local all c.after_help-drive.result c.with_device.result command
-    (whole (Ok c.after_help-drive.result) c.with_load-drive.result c.with-drive.result c.with-drive-2.result c.with_device.result c.with_load-drive.ensures idle show c.with_device.ensures)
+    let explain = arg_makes c.explain_flag.result (flag_rule (codes "explain")) c.with_device-drive.result c.with.result c.explain_flag.ensures.rule c.explain_flag.ensures.local c.with.ensures in
+    made_local all c.after_help-drive.result c.with.result command
+    (whole (Ok c.after_help-drive.result) c.with_load-drive.result c.with-drive.result c.with-drive-2.result c.with_device-drive.result c.with.result c.with_load-drive.ensures idle show c.with_device-drive.ensures explain)

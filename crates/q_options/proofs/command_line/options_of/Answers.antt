@@ -20,14 +20,14 @@ returns-in-None-clause-refused c = λ none.
     let bad = c.in_ok-options.ensures.refused (subst IsNone (sym c.in-None.is) refl) in
     play_refused (subcommand_rows_of c.args.matches.now) (rows_of found) is (subst HasBadOption (texts_are found) bad)
 
-pub returns-in-Some-drive_settings_of-clause-asked : goal.returns-in-Some-drive_settings_of-clause-asked
-returns-in-Some-drive_settings_of-clause-asked c =
+pub returns-in-Some-drive_options_of-clause-asked : goal.returns-in-Some-drive_options_of-clause-asked
+returns-in-Some-drive_options_of-clause-asked c =
     let found = found_of c.in-Some-subcommand_matches.drive.now in
     let is = command_found _ (codes "drive") (rows_of found) (c.in-Some-subcommand_matches.ensures.found.0 refl) c.in-Some-subcommand_matches.ensures.rows in
-    (rows_of found, is, subst (λ texts. HasDriveOptionsOf texts c.in-Some-drive_settings_of.settings) (texts_are found) c.in-Some-drive_settings_of.ensures.given)
+    (rows_of found, is, subst (λ texts. HasDriveOptionsOf texts c.in-Some-drive_options_of.options) (texts_are found) c.in-Some-drive_options_of.ensures.given)
 
-pub returns-in-None-drive_settings_of-clause-refused : goal.returns-in-None-drive_settings_of-clause-refused
-returns-in-None-drive_settings_of-clause-refused c = λ none.
+pub returns-in-None-drive_options_of-clause-refused : goal.returns-in-None-drive_options_of-clause-refused
+returns-in-None-drive_options_of-clause-refused c = λ none.
     let found = found_of c.in-Some-subcommand_matches.drive.now in
     let is = command_found _ (codes "drive") (rows_of found) (c.in-Some-subcommand_matches.ensures.found.0 refl) c.in-Some-subcommand_matches.ensures.rows in
-    drive_refused (subcommand_rows_of c.args.matches.now) (rows_of found) is (subst HasBadDriveOption (texts_are found) (c.in-None-drive_settings_of.ensures.refused refl))
+    drive_refused (subcommand_rows_of c.args.matches.now) (rows_of found) is (subst HasBadDriveOption (texts_are found) (c.in-None-drive_options_of.ensures.refused refl))

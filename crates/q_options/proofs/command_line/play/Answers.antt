@@ -20,7 +20,7 @@ whole first device explain file d e f = then (λ x. explained (spec.with_device 
 pub returns-clause-app : goal.returns-clause-app
 returns-clause-app c =
     let command : app_of c.after_help-play.result ≡ new_app (codes "play") = search rules in
-    let explain = arg_makes c.flag.result (flag_rule (codes "explain")) c.with_device-play.result c.with-play.result c.flag.ensures.rule c.flag.ensures.local c.with-play.ensures in
+    let explain = arg_makes c.explain_flag.result (flag_rule (codes "explain")) c.with_device-play.result c.with-play.result c.explain_flag.ensures.rule c.explain_flag.ensures.local c.with-play.ensures in
     let file = arg_makes c.file.result file_rule c.with-play.result c.with.result c.file.ensures.rule c.file.ensures.local c.with.ensures in
     made_app (λ x. of_file (explained (spec.with_device x))) c.after_help-play.result (new_app (codes "play")) c.with.result command
     (whole (Ok c.after_help-play.result) c.with_device-play.result c.with-play.result c.with.result c.with_device-play.ensures explain file)
@@ -28,7 +28,7 @@ returns-clause-app c =
 pub returns-clause-local : goal.returns-clause-local
 returns-clause-local c =
     let command : (fields_of c.after_help-play.result).has_globals ≡ false = search rules in
-    let explain = arg_makes c.flag.result (flag_rule (codes "explain")) c.with_device-play.result c.with-play.result c.flag.ensures.rule c.flag.ensures.local c.with-play.ensures in
+    let explain = arg_makes c.explain_flag.result (flag_rule (codes "explain")) c.with_device-play.result c.with-play.result c.explain_flag.ensures.rule c.explain_flag.ensures.local c.with-play.ensures in
     let file = arg_makes c.file.result file_rule c.with-play.result c.with.result c.file.ensures.rule c.file.ensures.local c.with.ensures in
     made_local (λ x. of_file (explained (spec.with_device x))) c.after_help-play.result c.with.result command
     (whole (Ok c.after_help-play.result) c.with_device-play.result c.with-play.result c.with.result c.with_device-play.ensures explain file)

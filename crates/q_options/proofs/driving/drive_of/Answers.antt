@@ -1,0 +1,6 @@
+use Rattle.q_options.proofs.Explained.{told_lines}
+use Rattle.q_options.proofs.driving.drive_of.Goals as goal
+
+pub returns-clause-driven : goal.returns-clause-driven
+returns-clause-driven g c =
+    told_lines c.args.explains c.drive_noting-status.ensures.driven c.drive_noting-status.ensures.silent c.tell_lines.ensures.fault c.tell_lines.ensures.clean c.tell_lines.ensures.counted
