@@ -7,5 +7,6 @@ pub mod Holding
 pub mod Lines
 pub mod Readiness
 pub mod Sample
+pub mod Scripts
 pub mod Showing
 pub mod Structs

@@ -15,12 +15,12 @@ use crate::c_row::CRow;
 use crate::c_settings::CSettings;
 
 /// The version of these functions: the major number in the high 16 bits, the minor one in the low 16.
-pub const VERSION: u32 = 0x0001_0001;
+pub const VERSION: u32 = 0x0001_0002;
 
 /// The version.
 #[unsafe(no_mangle)]
 pub extern "C" fn qtree_version() -> u32
-    ensures { result ≡ 0x10001 }
+    ensures { result ≡ 0x10002 }
 {
     VERSION
 }

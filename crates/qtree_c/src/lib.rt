@@ -29,6 +29,7 @@ mod polls;
 mod readiness;
 mod recorder;
 mod rings;
+mod scripts;
 mod sending;
 mod showing;
 mod steps;
