@@ -238,6 +238,26 @@ static void mark(uint8_t *bytes, size_t count, const qtree_packet *one) {
     }
 }
 
+/* A text is written whole or not at all, and nothing beside it. */
+static void is_lent(qtree_code code, const uint8_t *text, size_t size, size_t room, size_t needed) {
+    CHECK(code == QTREE_DONE || code == QTREE_ROOM || code == QTREE_NOTHING || code == QTREE_IS_CLOSED || code == QTREE_MEMORY);
+    CHECK(code == QTREE_DONE ? needed <= room : code == QTREE_ROOM ? needed > room : needed == 0);
+    for (size_t i = code == QTREE_DONE ? needed : 0; i < size; i++) {
+        CHECK(text[i] == GUARD);
+    }
+}
+
+/* The lines of recorded events, and their script. */
+static void read_recorder(qtree_device *device, struct input *input) {
+    uint8_t text[3000];
+    size_t room = (size_t)take(input, 2) % sizeof text, needed = 7;
+    memset(text, GUARD, sizeof text);
+    is_lent(qtree_recorded_script(device, text, room, &needed), text, sizeof text, room, needed);
+    memset(text, GUARD, sizeof text);
+    needed = 7;
+    is_lent(qtree_recorded_line(device, (size_t)take(input, 1) % 32, text, room, &needed), text, sizeof text, room, needed);
+}
+
 static void look(qtree_device *device, struct input *input) {
     qtree_row row;
     qtree_event event;
@@ -249,6 +269,7 @@ static void look(qtree_device *device, struct input *input) {
     CHECK(code == QTREE_DONE ? recorded <= events : code == QTREE_IS_CLOSED && events == 0 && recorded == 0);
     code = qtree_recorded(device, (size_t)take(input, 1), &event);
     CHECK(code == QTREE_DONE ? event.kind <= QTREE_COMMANDED : code == QTREE_NOTHING || code == QTREE_IS_CLOSED);
+    read_recorder(device, input);
     qtree_packet one = packet(input);
     uint8_t bytes[80] = { 0 };
     size_t count = (size_t)take(input, 1) % sizeof bytes;

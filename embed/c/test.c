@@ -310,8 +310,43 @@ static void bursts(void) {
     qtree_close(&device);
 }
 
+static size_t same(const uint8_t *text, size_t len, const char *wanted) {
+    return len == strlen(wanted) && memcmp(text, wanted, len) == 0;
+}
+
+/* What a recorder of three has of five events, as lines and as a script. */
+static void recorders(void) {
+    static const char script[] = "tc qdisc add dev eth0 root handle 1: tbf rate 8000000bit burst 2000b latency 12.345us\n"
+                                 "at 7\npkt 1500 hash 9 prio 3 ip_proto 11 src_ip 10.0.0.1 dst_ip 10.0.0.2 src_port 4096 dst_port 53 ecn 2\n"
+                                 "poll 1\n";
+    qtree_device device = QTREE_CLOSED;
+    qtree_packet packet = { .len = 1500, .hash = 9, .prio = 3, .proto = 17, .family = 4, .ecn = 2, .port = 8, .number = 9, .buf = 77 };
+    packet.src_low = 0x0a000001;
+    packet.dst_low = 0x0a000002;
+    packet.sport = 4096;
+    packet.dport = 53;
+    uint8_t text[400] = { 9 };
+    size_t needed = 7;
+    CHECK(qtree_recorded_script(&device, text, sizeof text, &needed) == QTREE_IS_CLOSED && needed == 0 && text[0] == 9);
+    CHECK(qtree_recorded_line(&device, 0, text, sizeof text, &needed) == QTREE_IS_CLOSED && needed == 0);
+    CHECK(qtree_open(&device, &(qtree_settings){ 1000, 3, 1514 }) == QTREE_DONE && (needed = 7));
+    CHECK(qtree_recorded_script(&device, NULL, 0, &needed) == QTREE_DONE && needed == 0 && (needed = 7));
+    CHECK(qtree_recorded_line(&device, 0, text, sizeof text, &needed) == QTREE_NOTHING && needed == 0 && text[0] == 9);
+    CHECK(tc(&device, "tc qdisc add dev a root handle 1: tbf rate 8mbit burst 2000 latency 12.345us") == QTREE_DONE);
+    CHECK(tc(&device, "tc qdisc add dev a root handle 1: drr") == QTREE_REFUSED_EXISTS);
+    CHECK(qtree_arrive(&device, &packet, 7) == QTREE_DONE && qtree_poll(&device, 7, &packet) == QTREE_DONE);
+    CHECK(qtree_poll(&device, 8, &packet) == QTREE_IDLE && qtree_arrive(&device, &packet, 9) == QTREE_DONE);
+    CHECK(qtree_recorded_line(&device, 0, text, 10, &needed) == QTREE_ROOM && needed == strcspn(script, "\n") && text[0] == 9);
+    CHECK(qtree_recorded_line(&device, 2, text, sizeof text, &needed) == QTREE_DONE && same(text, needed, "poll 1"));
+    CHECK(qtree_recorded_line(&device, 3, text, sizeof text, &needed) == QTREE_NOTHING && needed == 0);
+    CHECK(qtree_recorded_script(&device, text, strlen(script) - 1, &needed) == QTREE_ROOM && needed == strlen(script));
+    CHECK(qtree_recorded_script(&device, text, strlen(script), &needed) == QTREE_DONE && same(text, needed, script));
+    qtree_close(&device);
+}
+
 int main(void) {
     layout();
+    recorders();
     bursts();
     sizes();
     marks();

@@ -318,6 +318,18 @@ typedef struct qtree_event {
 } qtree_event;
 qtree_code qtree_recorded(qtree_device *device, size_t index, qtree_event *event);
 
+/* The line of a script that the index-th recorded event is, as "poll 1", of which needed is the length in bytes; no newline and no
+ * zero byte ends it, and it has 1024 bytes at most. That of a command is a line of tc, for a device named eth0. Of a packet it lacks
+ * port, number and buf, and the addresses of one that is not IP. Nothing is written where room is less than needed (QTREE_ROOM).
+ * QTREE_DONE, QTREE_NOTHING, QTREE_ROOM, QTREE_IS_CLOSED. */
+qtree_code qtree_recorded_line(qtree_device *device, size_t index, uint8_t *text, size_t room, size_t *needed);
+
+/* The script of all recorded events: these lines in order, and lines that set the moment, each with a newline behind it. `qtree play`
+ * with the device's mtu and txqueuelen does with it what the device did. Its packets are numbered from 1 in the order of their arrivals, with port
+ * 0 and their number as buf. It takes memory for the text, which grows by doubling, and gives it back.
+ * QTREE_DONE, QTREE_ROOM, QTREE_IS_CLOSED, QTREE_MEMORY. */
+qtree_code qtree_recorded_script(qtree_device *device, uint8_t *text, size_t room, size_t *needed);
+
 /* For a test that this header and the library agree: the bytes of each struct, and structs whose fields are 1, 2, 3 .. in the
  * order of their declarations, those of a struct in a struct too. */
 typedef struct qtree_layout {

@@ -7,6 +7,7 @@ pub mod Holding
 pub mod Lines
 pub mod Readiness
 pub mod Sample
+pub mod Scripts
 pub mod Sent
 pub mod Showing
 pub mod Structs

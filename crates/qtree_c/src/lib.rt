@@ -33,6 +33,7 @@ mod polls;
 mod readiness;
 mod recorder;
 mod rings;
+mod scripts;
 mod sending;
 mod sends;
 mod showing;

@@ -81,7 +81,7 @@ fn shown(alloc: Global, tree: &Tree, what: u32) -> Result<Vec<u8>, AllocError>
 }
 
 /// Writes bytes into the first of the places.
-fn copy(bytes: &[u8], places: &mut [u8])
+pub fn copy(bytes: &[u8], places: &mut [u8])
     requires { length bytes.now ≤ length places.old }
     ensures { places.new ≡ bytes.now ++ drop (length bytes.now) places.old }
 {

@@ -1,5 +1,6 @@
 use crate::cause::Cause;
 use crate::error::Error;
+use crate::event::{Event, EventKind};
 use crate::fate::Fate;
 use crate::fault::Fault;
 use crate::loss::Loss;
@@ -242,9 +243,66 @@ impl Device {
     ///
     /// `Memory`.
     pub fn show(&mut self, show: Show) -> Result<String, Error> {
+        self.text(|device, text| device.show(show as u32, text))
+    }
+
+    /// How many arrivals, polls and accepted commands there were, and how many of them, the first ones, the recorder has.
+    pub fn events(&mut self) -> (u64, usize) {
+        self.0.events()
+    }
+
+    /// The recorded event of this index, from 0; `None` behind the last.
+    ///
+    /// # Errors
+    ///
+    /// None but those of the line of a command, which a device always has.
+    pub fn recorded(&mut self, index: usize) -> Result<Option<Event>, Error> {
+        let (code, event) = self.0.recorded(index);
+        if code != sys::QTREE_DONE {
+            return Ok(None);
+        }
+        let kind = match event.kind {
+            sys::QTREE_ARRIVED => EventKind::Arrived(Packet(event.packet)),
+            sys::QTREE_POLLED => EventKind::Polled,
+            _ => EventKind::Commanded(self.text(|device, text| device.recorded_line(index, text))?),
+        };
+        Ok(Some(Event {
+            moment: event.moment,
+            kind,
+        }))
+    }
+
+    /// The script that plays all recorded events again: `qtree play` with the device's mtu and txqueuelen does with it what the device
+    /// did. A script does not say a packet's port, number and buf, nor the addresses of one that is not IP: packets are numbered from 1 in the
+    /// order of their arrivals.
+    ///
+    /// ```
+    /// # use qtree::{Device, Error, Packet, Settings};
+    /// let mut device = Device::open(Settings { recorder: 100, ..Settings::default() })?;
+    /// device.command("tc qdisc add dev wan root handle 1: pfifo limit 100", 0)?;
+    /// device.poll(5)?;
+    /// assert_eq!(
+    ///     device.recorded_script()?,
+    ///     "tc qdisc add dev eth0 root handle 1: pfifo limit 100\nat 5\npoll 1\n"
+    /// );
+    /// # Ok::<(), Error>(())
+    /// ```
+    ///
+    /// # Errors
+    ///
+    /// `Memory`.
+    pub fn recorded_script(&mut self) -> Result<String, Error> {
+        self.text(|device, text| device.recorded_script(text))
+    }
+
+    /// A text, of which a call answers the length and writes it where there is room.
+    fn text(
+        &mut self,
+        mut call: impl FnMut(&mut RawDevice, &mut [u8]) -> (u32, usize),
+    ) -> Result<String, Error> {
         let mut text = vec![0; 1024];
         loop {
-            let (code, needed) = self.0.show(show as u32, &mut text);
+            let (code, needed) = call(&mut self.0, &mut text);
             match code {
                 sys::QTREE_DONE => {
                     text.truncate(needed);

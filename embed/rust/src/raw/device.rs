@@ -138,6 +138,36 @@ impl RawDevice {
         };
         (code, needed)
     }
+
+    pub(crate) fn events(&mut self) -> (u64, usize) {
+        let (mut events, mut recorded) = (0, 0);
+        // SAFETY: the device is open, and the numbers are other places.
+        unsafe { sys::qtree_events(&mut self.0, &mut events, &mut recorded) };
+        (events, recorded)
+    }
+
+    pub(crate) fn recorded(&mut self, index: usize) -> (u32, sys::Event) {
+        let mut event = sys::Event::default();
+        // SAFETY: the device is open, and `event` is another place.
+        let code = unsafe { sys::qtree_recorded(&mut self.0, index, &mut event) };
+        (code, event)
+    }
+
+    /// Also the length of the line, which is written where there is room for it.
+    pub(crate) fn recorded_line(&mut self, index: usize, text: &mut [u8]) -> (u32, usize) {
+        let (at, room, mut needed) = (text.as_mut_ptr(), text.len(), 0);
+        // SAFETY: the device is open; pointer and length are those of `text`.
+        let code = unsafe { sys::qtree_recorded_line(&mut self.0, index, at, room, &mut needed) };
+        (code, needed)
+    }
+
+    /// Also the length of the script, which is written where there is room for it.
+    pub(crate) fn recorded_script(&mut self, text: &mut [u8]) -> (u32, usize) {
+        let (at, room, mut needed) = (text.as_mut_ptr(), text.len(), 0);
+        // SAFETY: the device is open; pointer and length are those of `text`.
+        let code = unsafe { sys::qtree_recorded_script(&mut self.0, at, room, &mut needed) };
+        (code, needed)
+    }
 }
 
 impl Drop for RawDevice {

@@ -13,6 +13,8 @@ pub const QTREE_FAULTY: u32 = 40;
 pub const QTREE_NO_COMMAND: u32 = 41;
 pub const QTREE_OUT_OF_RANGE: u32 = 42;
 pub const QTREE_ROOM: u32 = 43;
+pub const QTREE_ARRIVED: u32 = 0;
+pub const QTREE_POLLED: u32 = 1;
 pub const QTREE_IS_CLOSED: u32 = 50;
 pub const QTREE_IS_OPEN: u32 = 51;
 pub const QTREE_MEMORY: u32 = 90;
@@ -249,6 +251,19 @@ unsafe extern "C" {
     ) -> u32;
     pub fn qtree_events(device: *mut Device, events: *mut u64, recorded: *mut usize) -> u32;
     pub fn qtree_recorded(device: *mut Device, index: usize, event: *mut Event) -> u32;
+    pub fn qtree_recorded_line(
+        device: *mut Device,
+        index: usize,
+        text: *mut u8,
+        room: usize,
+        needed: *mut usize,
+    ) -> u32;
+    pub fn qtree_recorded_script(
+        device: *mut Device,
+        text: *mut u8,
+        room: usize,
+        needed: *mut usize,
+    ) -> u32;
     pub fn qtree_layout_of(layout: *mut Layout);
     pub fn qtree_sample(settings: *mut Settings, loss: *mut Loss, row: *mut Row, event: *mut Event);
     pub fn qtree_sample_fault(fault: *mut Fault);

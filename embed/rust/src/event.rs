@@ -1,0 +1,22 @@
+use crate::packet::Packet;
+use alloc::string::String;
+
+/// What a device recorded of an event.
+#[derive(Clone, Debug, PartialEq, Eq)]
+pub struct Event {
+    /// The moment at which it counted.
+    pub moment: u64,
+    /// What it was.
+    pub kind: EventKind,
+}
+
+/// What an event was.
+#[derive(Clone, Debug, PartialEq, Eq)]
+pub enum EventKind {
+    /// A packet arrived.
+    Arrived(Packet),
+    /// The device was polled.
+    Polled,
+    /// A command changed the tree: its line of tc, for a device named eth0.
+    Commanded(String),
+}

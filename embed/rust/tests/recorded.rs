@@ -1,0 +1,171 @@
+//! What a device recorded, and its script, by which another one does the same.
+use qtree::{Device, Error, Event, EventKind, Packet, Polled, Settings, Show};
+use std::fmt::Write;
+use std::net::IpAddr;
+
+const RECORDING: Settings = Settings {
+    recorder: 100_000,
+    ..DEFAULTS
+};
+
+const DEFAULTS: Settings = Settings {
+    txqueuelen: 1000,
+    recorder: 0,
+    mtu: 1514,
+};
+
+/// Numbers that look random.
+struct Numbers(u32);
+
+impl Numbers {
+    fn below(&mut self, most: u32) -> u32 {
+        self.0 = self.0.wrapping_mul(1_664_525).wrapping_add(1_013_904_223);
+        ((u64::from(self.0) * u64::from(most)) >> 32) as u32
+    }
+}
+
+/// What a poll gave, as `qtree play` writes it. The number of a packet is that of its arrival.
+fn told(polled: Polled) -> String {
+    match polled {
+        Polled::Packet(packet) => {
+            let mark = if packet.ecn() == 3 { " ce" } else { "" };
+            format!("sent {} {}{mark}", packet.number(), packet.len())
+        }
+        Polled::Idle => "idle".to_owned(),
+        Polled::Later => "later".to_owned(),
+    }
+}
+
+/// A session of a program: what each poll gave.
+fn session(device: &mut Device, numbers: &mut Numbers) -> Result<Vec<String>, Error> {
+    let mut answers = Vec::new();
+    let (mut now, mut arrived) = (0, 0);
+    device.command(
+        "tc qdisc add dev wan root handle 1: tbf rate 8mbit burst 3000 latency 50ms",
+        0,
+    )?;
+    device.command(
+        "tc qdisc add dev wan parent 1:1 handle 10: fq_codel limit 20 target 500us interval 2ms",
+        0,
+    )?;
+    for _ in 0..500 {
+        match numbers.below(6) {
+            0 => now += u64::from(numbers.below(4_000_000)),
+            1 | 2 => {
+                arrived += 1;
+                let packet = Packet::builder(1 + numbers.below(1600) as u16)
+                    .number(0, arrived)
+                    .hash(numbers.below(5))
+                    .prio(numbers.below(16) as u8)
+                    .ecn(numbers.below(4) as u8)
+                    .proto(17)
+                    .addresses(
+                        [10, 0, 0, 1].into(),
+                        [192, 0, 2, numbers.below(256) as u8].into(),
+                    )
+                    .ports(numbers.below(65536) as u16, 53)
+                    .build();
+                device.arrive(&packet, now)?;
+            }
+            _ => answers.push(told(device.poll(now)?)),
+        }
+    }
+    device.command(
+        "tc qdisc change dev wan handle 10: fq_codel limit 7 noecn drop_batch 3",
+        now,
+    )?;
+    answers.push(told(device.poll(now)?));
+    Ok(answers)
+}
+
+/// Plays a script of the lines that a recorder writes: what each poll gave.
+fn play(device: &mut Device, script: &str) -> Result<Vec<String>, Error> {
+    let mut answers = Vec::new();
+    let (mut now, mut arrived) = (0, 0);
+    for line in script.lines() {
+        let words: Vec<&str> = line.split(' ').collect();
+        match words[0] {
+            "at" => now = words[1].parse().expect("a moment"),
+            "tc" => device.command(line, now)?,
+            "poll" => answers.push(told(device.poll(now)?)),
+            _ => {
+                arrived += 1;
+                device.arrive(&packet(&words, arrived), now)?;
+            }
+        }
+    }
+    Ok(answers)
+}
+
+/// The packet of a `pkt` line.
+fn packet(words: &[&str], number: u64) -> Packet {
+    let of = |name: &str| {
+        let at = words.iter().position(|it| *it == name).expect(name);
+        words[at + 1]
+    };
+    let number_of = |name: &str| of(name).parse::<u32>().expect(name);
+    let address_of = |name: &str| of(name).parse::<IpAddr>().expect(name);
+    Packet::builder(number_of("pkt") as u16)
+        .number(0, number)
+        .hash(number_of("hash"))
+        .prio(number_of("prio") as u8)
+        .ecn(number_of("ecn") as u8)
+        .proto(u8::from_str_radix(of("ip_proto"), 16).expect("a protocol"))
+        .addresses(address_of("src_ip"), address_of("dst_ip"))
+        .ports(number_of("src_port") as u16, number_of("dst_port") as u16)
+        .build()
+}
+
+#[test]
+fn a_session_is_played_again() -> Result<(), Error> {
+    for seed in 0..20 {
+        let mut device = Device::open(RECORDING)?;
+        let answers = session(&mut device, &mut Numbers(seed))?;
+        let script = device.recorded_script()?;
+        let mut again = Device::open(RECORDING)?;
+        assert_eq!(play(&mut again, &script)?, answers, "{seed}");
+        assert_eq!(again.show(Show::Counters)?, device.show(Show::Counters)?);
+        assert_eq!(again.recorded_script()?, script);
+    }
+    Ok(())
+}
+
+#[test]
+fn each_event_has_its_whole_content() -> Result<(), Error> {
+    let mut device = Device::open(RECORDING)?;
+    let sent = Packet::builder(1500).number(2, 3).buf(7).hash(9).build();
+    device.command("tc qdisc add dev wan root handle a: bfifo limit 9kb", 4)?;
+    device.arrive(&sent, 5)?;
+    device.poll(2)?;
+    let mut lines = String::new();
+    let (events, recorded) = device.events();
+    assert_eq!((events, recorded), (3, 3));
+    for index in 0..recorded {
+        let Some(Event { moment, kind }) = device.recorded(index)? else {
+            panic!("there is no event {index}");
+        };
+        match kind {
+            EventKind::Arrived(packet) => {
+                assert_eq!(packet, sent);
+                writeln!(lines, "{moment} arrived").expect("memory");
+            }
+            EventKind::Polled => writeln!(lines, "{moment} polled").expect("memory"),
+            EventKind::Commanded(line) => writeln!(lines, "{moment} {line}").expect("memory"),
+        }
+    }
+    assert_eq!(
+        lines,
+        "4 tc qdisc add dev eth0 root handle a: bfifo limit 9216b\n5 arrived\n5 polled\n"
+    );
+    assert_eq!(device.recorded(recorded)?, None);
+    Ok(())
+}
+
+#[test]
+fn without_a_recorder_the_script_is_empty() -> Result<(), Error> {
+    let mut device = Device::open(DEFAULTS)?;
+    device.poll(3)?;
+    assert_eq!(device.events(), (1, 0));
+    assert_eq!(device.recorded_script()?, "");
+    Ok(())
+}
