@@ -18,10 +18,10 @@
  *     compiler refuses others here; that an x86-64 processor is older, it cannot see.
  *
  * No function waits, prints, aborts or calls back. An offer, a poll and a reap take no memory, and neither do those that read
- * or mark heads, or read counters, shares and moments.
+ * or mark headers, or read counters, shares and times.
  *
- * A moment is nanoseconds since some moment of the program's choice, QTREE_MOMENT_MAX at most. One before an earlier one counts
- * as that.
+ * A time is nanoseconds since a time of the program's choice, QTREE_MOMENT_MAX at most. A time before an earlier one counts as the
+ * earlier one.
  */
 #ifndef QTREE_H
 #define QTREE_H
@@ -61,7 +61,7 @@ enum {
     QTREE_LOST_CODEL = 4,
     QTREE_LOST_FAT_FLOW = 5,
     QTREE_LOST_PURGED = 6,
-    /* Why a command is refused (Linux says EEXIST, ENOENT and the like); want of memory is QTREE_MEMORY. */
+    /* Why a command is refused (Linux says EEXIST, ENOENT and the like); an allocation failure is QTREE_MEMORY. */
     QTREE_REFUSED_NO_PARENT = 10,
     QTREE_REFUSED_EXISTS = 11,
     QTREE_REFUSED_NO_QDISC = 12,
@@ -81,7 +81,7 @@ enum {
     QTREE_NOTHING = 32,
     /* The ring of a port has no room for a packet more. */
     QTREE_FULL = 33,
-    /* The line is faulty, which a qtree_fault tells; it is a line of the language, and changes no tree. */
+    /* The line has a fault, and a qtree_fault says which; it is a line of the language, and changes no tree. */
     QTREE_FAULTY = 40,
     QTREE_NO_COMMAND = 41,
     /* An argument is out of its range; the memory that the program lends is too small. */
@@ -90,7 +90,7 @@ enum {
     /* A device, a port or an outlet is closed; it is open already. */
     QTREE_IS_CLOSED = 50,
     QTREE_IS_OPEN = 51,
-    /* Memory is refused. */
+    /* An allocation failed. */
     QTREE_MEMORY = 90
 };
 
@@ -187,7 +187,7 @@ void qtree_close(qtree_device *device);
  * QTREE_DONE, QTREE_REFUSED_.., QTREE_FAULTY, QTREE_NO_COMMAND, QTREE_OUT_OF_RANGE, QTREE_IS_CLOSED, QTREE_MEMORY. */
 qtree_code qtree_command(qtree_device *device, const uint8_t *line, size_t line_len, uint64_t now, qtree_fault *fault);
 
-/* Fills in family, proto, addresses, ports, prio and ecn from the first bytes of a packet that begins with its IP head, and
+/* Fills in family, proto, addresses, ports, prio and ecn from the first bytes of a packet that begins with its IP header, and
  * hash, which has this seed. number, port, buf and len stay. */
 void qtree_read_head(const uint8_t *bytes, size_t count, uint32_t seed, qtree_packet *packet);
 
@@ -196,33 +196,33 @@ void qtree_read_head(const uint8_t *bytes, size_t count, uint32_t seed, qtree_pa
 void qtree_read_fields(const uint8_t *bytes, size_t count, qtree_packet *packet);
 void qtree_read_fields_hashed(const uint8_t *bytes, size_t count, uint32_t hash, qtree_packet *packet);
 
-/* The byte at which the IP head of an Ethernet frame begins, from the first bytes of the frame: 14, or 18 or 22 behind one or two VLAN
- * tags (IEEE 802.1Q, 802.1ad). 0 where the frame has another type, as ARP, or more tags, or ends before its type does. Whether a whole
- * head follows, reading it from there on says. */
+/* The byte at which the IP header of an Ethernet frame begins, from the first bytes of the frame: 14, or 18 or 22 behind one or two
+ * VLAN tags (IEEE 802.1Q, 802.1ad). 0 where the frame has another type, as ARP, or more tags, or ends before its type does. Whether a
+ * whole header follows, reading it from there on says. */
 size_t qtree_ip_at(const uint8_t *bytes, size_t count);
 
 /* Fills in hash, with this seed, from family, proto, addresses and ports. QTREE_DONE, QTREE_OUT_OF_RANGE. */
 qtree_code qtree_hash(uint32_t seed, qtree_packet *packet);
 
-/* Writes Congestion Experienced (RFC 3168) into a packet that begins with its IP head, and renews the checksum of IPv4; whether the
- * packet is marked now. It is where qtree_read_head reads an ecn that is not 0 of these bytes; else no byte is written. A program does
- * so with each packet that is given with the ecn 3: else its sender never learns of the congestion. */
+/* Writes Congestion Experienced (RFC 3168) into a packet that begins with its IP header, and renews the checksum of IPv4. Returns
+ * whether the packet is marked now: it is where qtree_read_head reads an ecn that is not 0 of these bytes; else no byte is written.
+ * A program does so with each packet that is given with the ecn 3: else its sender never learns of the congestion. */
 bool qtree_mark_head(uint8_t *bytes, size_t count);
 
 /* A packet arrives: QTREE_DONE where it is queued, else the cause for which it is lost, by which it is also to be reaped.
  * QTREE_DONE, QTREE_LOST_.., QTREE_OUT_OF_RANGE, QTREE_IS_CLOSED, QTREE_MEMORY. */
 qtree_code qtree_arrive(qtree_device *device, const qtree_packet *packet, uint64_t now);
 
-/* A packet arrives of len bytes, of which these are the first, count of them, from its IP head on: as by qtree_arrive of what
+/* A packet arrives of len bytes, of which these are the first, count of them, from its IP header on: as by qtree_arrive of what
  * qtree_read_fields_hashed fills in, with this buf, and the number and the port 0. hash may be 0 where no fq_codel stands in the tree;
- * the second one hashes the flow with a seed, as qtree_read_head does. QTREE_OUT_OF_RANGE is for a len of 0 and for the moment.
+ * the second one hashes the flow with a seed, as qtree_read_head does. QTREE_OUT_OF_RANGE is for a len of 0 and for the time.
  * QTREE_DONE, QTREE_LOST_.., QTREE_OUT_OF_RANGE, QTREE_IS_CLOSED, QTREE_MEMORY. */
 qtree_code qtree_arrive_frame(qtree_device *device, const uint8_t *bytes, size_t count, uint16_t len, uint32_t buf, uint32_t hash,
                               uint64_t now);
 qtree_code qtree_arrive_frame_seeded(qtree_device *device, const uint8_t *bytes, size_t count, uint16_t len, uint32_t buf,
                                      uint32_t seed, uint64_t now);
 
-/* Packets arrive in order, to the first that is out of range or for which memory is refused, which the answer tells. done is
+/* Packets arrive in order, to the first that is out of range or for which an allocation fails, as the answer says. done is
  * how many arrived, and codes[i] what the ith of them was answered: codes_len is count at least, else QTREE_ROOM.
  * QTREE_DONE, QTREE_OUT_OF_RANGE, QTREE_ROOM, QTREE_IS_CLOSED, QTREE_MEMORY. */
 qtree_code qtree_arrive_many(qtree_device *device, const qtree_packet *packets, size_t count, uint8_t *codes,
@@ -232,7 +232,7 @@ qtree_code qtree_arrive_many(qtree_device *device, const qtree_packet *packets, 
  * QTREE_DONE, QTREE_IDLE, QTREE_LATER, QTREE_OUT_OF_RANGE, QTREE_IS_CLOSED. */
 qtree_code qtree_poll(qtree_device *device, uint64_t now, qtree_packet *packet);
 
-/* Polls until there are room packets, or to the first poll that gives none, which the answer tells. count is how many there are.
+/* Polls until there are room packets, or to the first poll that gives none, as the answer says. count is how many there are.
  * QTREE_DONE, QTREE_IDLE, QTREE_LATER, QTREE_OUT_OF_RANGE, QTREE_IS_CLOSED. */
 qtree_code qtree_poll_many(qtree_device *device, uint64_t now, qtree_packet *packets, size_t room, size_t *count);
 
@@ -248,9 +248,9 @@ typedef struct qtree_sent {
 qtree_code qtree_poll_buf(qtree_device *device, uint64_t now, qtree_sent *sent);
 qtree_code qtree_poll_bufs(qtree_device *device, uint64_t now, qtree_sent *sent, size_t room, size_t *count);
 
-/* The moment before which no poll gives a packet, as long as none arrives and no command comes: a program sleeps till then. It is
- * no earlier than the latest moment that counted. A poll at that moment may still answer QTREE_LATER: what an fq_codel gives, or which
- * class of a drr, is not known before it is asked. The moment that follows is then a later one. QTREE_NOTHING where none ever will:
+/* The time before which no poll gives a packet, as long as none arrives and no command comes: a program sleeps till then. It is
+ * no earlier than the latest time that counted. A poll at that time may still answer QTREE_LATER: what an fq_codel gives, or which
+ * class of a drr, is not known before it is asked. The time that follows is then a later one. QTREE_NOTHING where no poll ever will:
  * nothing is queued, or no token bucket will ever hold enough.
  * QTREE_DONE, QTREE_NOTHING, QTREE_IS_CLOSED. */
 qtree_code qtree_ready_at(qtree_device *device, uint64_t *moment);
@@ -289,7 +289,7 @@ qtree_code qtree_ring_open(qtree_port *port, qtree_outlet *outlet, uint32_t inde
 qtree_code qtree_offer(qtree_port *port, const qtree_packet *packet);
 
 /* Packets of the ring arrive at the device in order, and each leaves the ring when it has: as many as wait, but at most so many.
- * taken is how many did. Where memory is refused (QTREE_MEMORY) those have arrived, and the next one stays in the ring. A packet
+ * taken is how many did. Where an allocation fails (QTREE_MEMORY) those have arrived, and the next one stays in the ring. A packet
  * that the device loses on arrival counts too, and is to be reaped.
  * QTREE_DONE, QTREE_OUT_OF_RANGE, QTREE_IS_CLOSED, QTREE_MEMORY. */
 qtree_code qtree_take_in(qtree_device *device, qtree_outlet *outlet, uint64_t now, size_t most, size_t *taken);
@@ -308,7 +308,7 @@ void qtree_outlet_close(qtree_outlet *outlet);
  * QTREE_DONE, QTREE_IS_CLOSED. */
 qtree_code qtree_events(qtree_device *device, uint64_t *events, size_t *recorded);
 
-/* The index-th recorded event, counted from 0, with the moment at which it counted; packet is that of an arrival, else all 0.
+/* The index-th recorded event, counted from 0, with the time at which it counted; packet is that of an arrival, else all 0.
  * QTREE_DONE, QTREE_NOTHING, QTREE_IS_CLOSED. */
 enum { QTREE_ARRIVED = 0, QTREE_POLLED = 1, QTREE_COMMANDED = 2 };
 typedef struct qtree_event {
@@ -324,9 +324,9 @@ qtree_code qtree_recorded(qtree_device *device, size_t index, qtree_event *event
  * QTREE_DONE, QTREE_NOTHING, QTREE_ROOM, QTREE_IS_CLOSED. */
 qtree_code qtree_recorded_line(qtree_device *device, size_t index, uint8_t *text, size_t room, size_t *needed);
 
-/* The script of all recorded events: these lines in order, and lines that set the moment, each with a newline behind it. `qtree play`
- * with the device's mtu and txqueuelen does with it what the device did. Its packets are numbered from 1 in the order of their arrivals, with port
- * 0 and their number as buf. It takes memory for the text, which grows by doubling, and gives it back.
+/* The script of all recorded events: these lines in order, and lines that set the time, each with a newline behind it. `qtree play`
+ * with the device's mtu and txqueuelen does with it what the device did. Its packets are numbered from 1 in the order of their
+ * arrivals, with port 0 and their number as buf. It takes memory for the text, which grows by doubling, and gives it back.
  * QTREE_DONE, QTREE_ROOM, QTREE_IS_CLOSED, QTREE_MEMORY. */
 qtree_code qtree_recorded_script(qtree_device *device, uint8_t *text, size_t room, size_t *needed);
 

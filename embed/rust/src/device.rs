@@ -52,7 +52,7 @@ impl Device {
     ///
     /// # Errors
     ///
-    /// `Refused`, `Faulty`, `NoCommand`, `OutOfRange` (the moment), `Memory`.
+    /// `Refused`, `Faulty`, `NoCommand`, `OutOfRange` (the time), `Memory`.
     pub fn command(&mut self, line: &str, now: u64) -> Result<(), Error> {
         let (code, fault) = self.0.command(line.as_bytes(), now);
         match code {
@@ -69,12 +69,12 @@ impl Device {
     ///
     /// # Errors
     ///
-    /// `OutOfRange` for a length of 0, a priority above 15, an ECN codepoint above 3 or the moment; `Memory`.
+    /// `OutOfRange` for a length of 0, a priority above 15, an ECN codepoint above 3 or the time; `Memory`.
     pub fn arrive(&mut self, packet: &Packet, now: u64) -> Result<Fate, Error> {
         fate(self.0.arrive(&packet.0, now))
     }
 
-    /// A packet of this length arrives, whose first bytes, from its IP head on, say the rest, as
+    /// A packet of this length arrives, whose first bytes, from its IP header on, say the rest, as
     /// [`Packet::read_hashed`] reads them.
     ///
     /// ```
@@ -88,7 +88,7 @@ impl Device {
     ///
     /// # Errors
     ///
-    /// `OutOfRange` for a length of 0 or the moment; `Memory`.
+    /// `OutOfRange` for a length of 0 or the time; `Memory`.
     pub fn arrive_frame(
         &mut self,
         bytes: &[u8],
@@ -104,7 +104,7 @@ impl Device {
     ///
     /// # Errors
     ///
-    /// `OutOfRange` for a length of 0 or the moment; `Memory`.
+    /// `OutOfRange` for a length of 0 or the time; `Memory`.
     pub fn arrive_frame_seeded(
         &mut self,
         bytes: &[u8],
@@ -120,7 +120,7 @@ impl Device {
     ///
     /// # Errors
     ///
-    /// `OutOfRange` (the moment).
+    /// `OutOfRange` (the time).
     pub fn poll(&mut self, now: u64) -> Result<Polled, Error> {
         match self.0.poll(now) {
             (sys::QTREE_DONE, packet) => Ok(Polled::Packet(Packet(packet))),
@@ -143,7 +143,7 @@ impl Device {
     ///
     /// # Errors
     ///
-    /// `OutOfRange` (the moment).
+    /// `OutOfRange` (the time).
     pub fn poll_buf(&mut self, now: u64) -> Result<Polled<Sent>, Error> {
         match self.0.poll_buf(now) {
             (sys::QTREE_DONE, sent) => Ok(Polled::Packet(Sent(sent))),
@@ -169,7 +169,7 @@ impl Device {
     ///
     /// # Errors
     ///
-    /// `OutOfRange` (the moment).
+    /// `OutOfRange` (the time).
     pub fn poll_bufs(&mut self, now: u64, sent: &mut [Sent]) -> Result<usize, Error> {
         match self.0.poll_bufs(now, sent) {
             (sys::QTREE_DONE | sys::QTREE_IDLE | sys::QTREE_LATER, count) => Ok(count),
@@ -190,10 +190,10 @@ impl Device {
         }
     }
 
-    /// The moment before which no poll gives a packet, as long as none arrives and no command comes; `None` where none ever will.
+    /// The time before which no poll gives a packet, as long as none arrives and no command comes; `None` where no poll ever will.
     ///
-    /// A poll at that moment may still answer [`Polled::Later`]: what an fq_codel gives, or which class of a drr, is not known before it is
-    /// asked. The moment that follows is then a later one.
+    /// A poll at that time may still answer [`Polled::Later`]: what an fq_codel gives, or which class of a drr, is not known before it is
+    /// asked. The time that follows is then a later one.
     pub fn ready_at(&mut self) -> Option<u64> {
         let (code, moment) = self.0.ready_at();
         (code == sys::QTREE_DONE).then_some(moment)

@@ -84,12 +84,12 @@ impl Drain {
     }
 
     /// A turn: up to `most` packets leave the rings and arrive, one from each ring in turn, going on after the one that was taken from
-    /// last; then come up to `most` polls, to the first that gives no packet, whose packets are appended to `sent`. It takes no memory
+    /// last; then come up to `most` polls, to the first that gives no packet. Their packets are appended to `sent`. It takes no memory
     /// where `sent` has room for `most` packets more, but for what arrivals need. What it counted is published for gauges.
     ///
     /// # Errors
     ///
-    /// `OutOfRange` (the moment); `Memory`, where `sent` gets no room. Nothing has changed then.
+    /// `OutOfRange` (the time); `Memory`, where `sent` gets no room. Nothing has changed then.
     pub fn turn(&mut self, now: u64, most: usize, sent: &mut Vec<Packet>) -> Result<Turn, Error> {
         sent.try_reserve(most).map_err(|_| Error::Memory)?;
         let (taken, memory) = self.collect(now, most)?;
@@ -113,8 +113,8 @@ impl Drain {
     ///
     /// # Errors
     ///
-    /// `OpenPorts`, `OutOfRange` (the moment). `Memory`, where an arrival is refused it: what was taken in stays so, and the rest can
-    /// be settled again.
+    /// `OpenPorts`, `OutOfRange` (the time). `Memory`, where the allocation of an arrival fails: what was taken in stays so, and the
+    /// rest can be settled again.
     pub fn settle(&mut self, now: u64) -> Result<Settled, Error> {
         let mut settled = Settled {
             placed: Count::default(),
@@ -144,7 +144,7 @@ impl Drain {
         self.outlets.get_mut(index).map(Outlet::taken)
     }
 
-    /// Its device, for commands, counters, shows, losses, and the moment of the next turn. What it counts is published by the next turn.
+    /// Its device, for commands, counters, shows, losses, and the time of the next turn. What it counts is published by the next turn.
     pub fn device_mut(&mut self) -> &mut Device {
         &mut self.device
     }
@@ -154,7 +154,7 @@ impl Drain {
         Gauge::new(self.board.clone())
     }
 
-    /// Takes in up to `most` packets, one from each ring in turn; also whether memory was refused, which ended it.
+    /// Takes in up to `most` packets, one from each ring in turn; also whether an allocation failure ended it.
     fn collect(&mut self, now: u64, most: usize) -> Result<(usize, bool), Error> {
         let (mut at, mut taken, mut empty) = (self.next, 0, 0);
         while taken < most && empty < self.outlets.len() {

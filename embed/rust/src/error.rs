@@ -7,9 +7,9 @@ use core::fmt;
 #[derive(Clone, Copy, Debug, PartialEq, Eq)]
 #[non_exhaustive]
 pub enum Error {
-    /// Memory is refused.
+    /// An allocation failed.
     Memory,
-    /// A setting, a field of the packet or the moment is out of its range.
+    /// A setting, a field of the packet or the time is out of its range.
     OutOfRange,
     /// The command is refused.
     Refused(Refusal),
@@ -27,7 +27,7 @@ pub enum Error {
 }
 
 impl Error {
-    /// That of a code which tells of no success.
+    /// That of a code that says that a call did not succeed.
     pub(crate) fn of(code: u32) -> Error {
         match code {
             sys::QTREE_MEMORY => Error::Memory,

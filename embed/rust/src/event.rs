@@ -4,7 +4,7 @@ use alloc::string::String;
 /// What a device recorded of an event.
 #[derive(Clone, Debug, PartialEq, Eq)]
 pub struct Event {
-    /// The moment at which it counted.
+    /// The time at which it counted.
     pub moment: u64,
     /// What it was.
     pub kind: EventKind,

@@ -2,7 +2,7 @@
 //! Rattle.
 //!
 //! A [`Device`] is a tree of queueing disciplines, which lines of tc set up. Packets are descriptors; their bytes stay with the
-//! program, which finds them again by [`Packet::buf`]. Moments are nanoseconds since one of the program's choice.
+//! program, which finds them again by [`Packet::buf`]. Times are nanoseconds since a time of the program's choice.
 //!
 //! ```
 //! use qtree::{Device, Fate, Packet, Polled, Settings};
@@ -84,7 +84,7 @@ pub use settled::Settled;
 pub use show::Show;
 pub use turn::Turn;
 
-/// The latest moment that a call takes: 2^62 nanoseconds.
+/// The latest time that a call takes: 2^62 nanoseconds.
 pub const MOMENT_MAX: u64 = 1 << 62;
 
 /// The version of the library that is linked: its major and its minor number.

@@ -14,7 +14,7 @@ impl Packet {
         PacketBuilder::new(len)
     }
 
-    /// A packet of this length, whose first bytes, from its IP head on, say the rest. The seed is that of its hash.
+    /// A packet of this length, whose first bytes, from its IP header on, say the rest. The seed is that of its hash.
     ///
     /// ```
     /// let udp = [0x45, 0, 0, 28, 0, 0, 0, 0, 64, 17, 0, 0, 10, 0, 0, 1, 10, 0, 0, 2, 0x10, 0, 0x13, 0x89, 0, 8, 0, 0];

@@ -1,7 +1,7 @@
 use crate::count::Count;
 use core::sync::atomic::{AtomicBool, AtomicU64, Ordering};
 
-/// What the two ends of a ring tell each other once they are closed.
+/// What each end of a ring lets the other know once it is closed.
 #[derive(Debug, Default)]
 pub(crate) struct RingState {
     port_closed: AtomicBool,
