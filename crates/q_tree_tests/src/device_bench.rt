@@ -124,8 +124,8 @@ impl Call {
     }
 }
 
-// Whether a poll was given the packet of this number; 0 where the device is idle.
-fn gives(reply: Reply, number: u64) -> bool {
+/// Whether a poll was given the packet of this number; 0 where the device is idle.
+pub fn gives(reply: Reply, number: u64) -> bool {
     let Reply::Polled(polled) = reply else {
         return false;
     };

@@ -1,7 +1,7 @@
 //! More packets and events than 16 bits count: neither a queue, nor the list of losses, nor a play ends at 65,536.
-use crate::device_bench::{Ask, add_event, arrival_at, command_at, poll_at, replies, room};
+use crate::device_bench::{Ask, add_event, arrival_at, command_at, gives, poll_at, replies, room};
 use crate::lines::{New, Spot};
-use q_device::{Event, Fate, Polled, Reply, Settings};
+use q_device::{Event, Fate, Reply, Settings};
 use q_packet::Cause;
 use std::alloc::Global;
 use std::test::Fail;
@@ -26,15 +26,18 @@ fn events(alloc: Global) -> Result<Vec<Event>, Fail> {
     Ok(events)
 }
 
-// What the event of this place has to answer: the command first, then the arrivals, then the polls.
+// Whether the event of this place is answered as it has to be: the command first, then the arrivals, then the polls.
 fn is_answered(place: u64, reply: Reply) -> bool {
-    match reply {
-        Reply::Done(done) => place == 0 && done.is_ok(),
-        Reply::Fate(Fate::Kept) => 1 <= place && place <= QUEUED,
-        Reply::Fate(fate) => place == QUEUED + 1 && fate == Fate::Lost(Cause::OverLimit),
-        Reply::Polled(Polled::Packet(packet)) => packet.number.saturating_add(QUEUED + 2) == place,
-        Reply::Polled(_) => false,
+    if place == 0 {
+        return reply == Reply::Done(Ok(()));
     }
+    if place <= QUEUED {
+        return reply == Reply::Fate(Fate::Kept);
+    }
+    if place == QUEUED + 1 {
+        return reply == Reply::Fate(Fate::Lost(Cause::OverLimit));
+    }
+    gives(reply, place.saturating_sub(QUEUED + 2))
 }
 
 #[test]
