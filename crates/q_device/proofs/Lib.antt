@@ -6,7 +6,6 @@ pub mod DeviceLaws
 pub mod EventLemmas
 pub mod FlowService
 pub mod FlowStretches
-pub mod FlowsShow
 pub mod KeptLemmas
 pub mod LawfulLemmas
 pub mod LeastShare

@@ -33,7 +33,7 @@ use Rattle.q_invariants.proofs.SecondPrio.{ready}
 use Rattle.q_tree.specs.ReadyAt.{no_packet, with_bands, paid, of_fifo, of_flows, of_class, outlook}
 use Rattle.q_tree.proofs.Foreseeing.{Covers}
 use Rattle.q_tree.proofs.ForeseenAsks.{prio-shown, met-shown}
-use Rattle.q_device.proofs.FlowsShow.{none-left}
+use Rattle.q_fqcodel.proofs.FlowsShow.{none-left}
 use Rattle.q_device.proofs.Moved.{Moves, none-moves, hand-moves, IsMoved, AreMoved, bands-move, shaped-hidden, shaped-waits}
 use Rattle.q_device.proofs.Renewed.{Outlook}
 use Rattle.q_device.proofs.RenewedAsks.{asked-outlook}

@@ -34,7 +34,7 @@ use Rattle.q_invariants.proofs.Weights.{weigh-count}
 use Rattle.q_tree.proofs.FlowCounts.{count-sum, packets-all}
 use Rattle.q_tree.proofs.ForeseenAsks.{first_of, or_else, prio-shown, met-shown}
 use Rattle.q_device.specs.Work.{is_tbf}
-use Rattle.q_device.proofs.FlowsShow.{none-left}
+use Rattle.q_fqcodel.proofs.FlowsShow.{none-left}
 
 -- a node that shows nothing only where nothing is queued
 abbrev pub Rests : Asked → Type 0

@@ -3,6 +3,7 @@ pub mod ClearedLemmas
 pub mod CountLemmas
 pub mod FatLemmas
 pub mod FlowLemmas
+pub mod FlowsShow
 pub mod GivenLemmas
 pub mod InLemmas
 pub mod KeptLemmas

@@ -47,10 +47,6 @@ module _ {M : Type 0} where
       below None rec = refl
       below (Some c) rec = rec c
 
-  -- the node that has the shape which stands there
-  pub node_of_shape : (path : List ℕ) (root : Node M) (sh : Shape) (old : Node M) → node_at path (shape root) ≡ Some sh → node_at path root ≡ Some old → sh ≡ shape old
-  node_of_shape path root sh old e f = same_Some sh (shape old) (sym e ∙ node_at-shape path root ∙ ap (option_map shape) f)
-
 -- ---- an edit that suits
 
 -- what was beneath the children of a node that are not among these

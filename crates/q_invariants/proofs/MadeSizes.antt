@@ -156,20 +156,6 @@ alone n e = (
   count-node n ∙ ap (λ (cs : List Shape). suc (sum (counts cs))) e,
 )
 
--- a pfifo, a bfifo and an fq_codel have none
-pub classless-alone : (mtu now : ℕ) (path : List ℕ) (root n : Shape) → IsLawfulRoot mtu now root
-    → node_at path root ≡ Some n → is_classless n.own.discipline ≡ true → children n ≡ []
-classless-alone mtu now path root n lawful at classless =
-    nil_from_length (children n) (omega (arith, length-below n, by n.own.discipline (node-lawful mtu now path root n lawful at).0.discipline classless))
-  where
-    by : (d : Discipline) → IsLawfulDiscipline mtu now (each beneath_own n.below) d → is_classless d ≡ true
-        → length (each beneath_own n.below) ≡ 0
-    by (Fifo limit queue) h e = ap length h.none
-    by (FqCodel s) h e = ap length h.none
-    by (Prio priomap) h e = absurd (false≢true e)
-    by (Tbf b limit) h e = absurd (false≢true e)
-    by (Drr s) h e = absurd (false≢true e)
-
 -- ---- the plan of a new qdisc
 
 module _ (root : Shape) (levels : depth root ≤ most_levels) (few : count_nodes root ≤ most_nodes) (d : Device) (now : ℕ) where

@@ -40,10 +40,6 @@ pub sum-risen : (f : Note → ℕ) → LooksPast f → (notes : List Note) → A
 sum-risen f past [] h = refl
 sum-risen f past (n ∷ notes) h = omega (arith, sum_by-cons f n notes, past n h.0, sum-risen f past notes h.1)
 
--- what is noted is added
-pub sum-noted : (f : Note → ℕ) (m notes : List Note) → sum_by f (noted history m notes) ≡ sum_by f m + sum_by f notes
-sum-noted f m notes = ap (sum_by f) (noted-history m notes) ∙ sum_by-append f m notes
-
 -- a count that finds 0 at every loss and every mark
 past : (f : Note → ℕ) → ((p : Descriptor) (cause : Cause) → f (Lost p cause) ≡ 0) → ((p : Descriptor) → f (Marked p) ≡ 0) → LooksPast f
 past f lost marked (Lost p cause) h = lost p cause

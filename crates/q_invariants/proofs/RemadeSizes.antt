@@ -152,14 +152,6 @@ module _ (own : Own) (old : Shape) where
       let is = count-children (all_kept old ++ New (implicit_pfifo d) ∷ []) (children old ++ leaf) (added-are d) in
       omega (arith, is, counts-append (children old) leaf, leaves-count d 1, count-node old)
 
-  -- a class less
-  pub removed-count : (i : ℕ) (c : Shape) → slice_get (children old) i ≡ Some c
-      → count_nodes (with_children (remove (all_kept old) i)) + count_nodes c ≡ count_nodes old
-  removed-count i c e =
-      let cs : List Shape = children old in
-      let is = count-children (remove (all_kept old) i) (remove cs i) (kids_removed nothing cs (length cs) i refl (slice_get_within cs i c e)) in
-      omega (arith, is, remove-counts cs i c e, count-node old)
-
   pub removed-sizes : (i : ℕ) → IsNoLarger old (with_children (remove (all_kept old) i))
   removed-sizes i =
       let cs : List Shape = children old in

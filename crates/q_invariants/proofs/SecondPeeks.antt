@@ -91,12 +91,6 @@ pub record IsRepeated (now : ℕ) (s after : Shape) : Type 0 where
 repeated : (now : ℕ) (s after : Shape) → IsSecond (ask now s) (ask now after) → IsRepeated now s after
 repeated now s after h = record { shown = h.shown; rises = h.rises; peeked = h.peeked ∙ before-root now after }
 
--- of the shape that asking left
-pub second-ask : (mtu now : ℕ) → 1 ≤ mtu → now ≤ 2 ^ 62 → (s : Shape) → IsLawfulRoot mtu now s
-    → IsRepeated now s (shape (ask now s).peeked)
-second-ask mtu now least low s h =
-    repeated now s (shape (ask now s).peeked) (subst (IsSecond (ask now s)) (sym (asked-shape now (ask now s).peeked)) (ask-stable mtu now least low s h).second)
-
 -- nothing noted, nothing changed
 booked-quiet : {M : Type 0} (t : Tally M) (x : Forest M)
     → each_booked t x (each_memory (λ u. []) (each_memory {N = Unit {0}} (λ m. tt) x)) ≡ x
@@ -169,12 +163,3 @@ lawful-shape t clock now s h later =
 module _ (clock now : ℕ) (s : TreeState (List Note)) (h : IsKeptTree clock s) (later : clock ≤ now) (low : now ≤ 2 ^ 62) where
   pub kept-shape : IsLawfulRoot s.device.mtu now (shape s.root)
   kept-shape = lawful-with_memory s.device.mtu now (λ m. tt) s.root (root-later clock now later s.device.mtu s.root h.lawful)
-
-  pub kept-second_peek : peek_packet history now (peek_packet history now s) ≡ peek_packet history now s
-  kept-second_peek = second-peek history now s h.least_mtu low kept-shape
-
-  pub kept-given_again : given now (peek_packet history now s) ≡ given now s
-  kept-given_again = given-again history now s h.least_mtu low kept-shape
-
-  pub kept-noted_again : noted_by_take now (peek_packet history now s) ≡ []
-  kept-noted_again = noted-again history now s h.least_mtu low kept-shape

@@ -30,16 +30,6 @@ pub record Gives (a : Asked) : Type 0 where
   pub peeked : bytes_sent a.peeked.memory ≡ 0
   pub taken : bytes_sent a.taken.memory ≡ length_held a.shown
 
-shown-gives : (below : List Asked) (s : Showing) → AreRisen s.notes → Gives (showing below s)
-shown-gives below s rises =
-    let none = sum-risen sent_by past-sent s.notes rises in
-    let given = given-bytes s.packet in
-    record {
-      before = refl;
-      peeked = none;
-      taken = omega (arith, none, given.0, sum_by-append sent_by s.notes (map Sent (option_to_list s.packet)));
-    }
-
 dequeued-gives : (own : Own) (below : List Asked) (d : Dequeue) → AreRisen d.rises → bytes_sent d.mine ≡ 0 → Gives (dequeued own below d)
 dequeued-gives own below d rises mine =
     let none = sum-risen sent_by past-sent d.rises rises in

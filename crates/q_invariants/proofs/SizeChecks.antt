@@ -139,16 +139,6 @@ module _ (root : Shape) (levels : depth root ≤ most_levels) where
         numbered (λ n. with_children own n below) path old there (rebanded d old path bands priomap) nodes (bands-depth own old d bands some)
         (omega (arith, bands-count own old d bands))
 
-    pub checked-fewer_bands : (d : Device) (path : List ℕ) (old : Shape) (bands : ℕ) (priomap : List ℕ)
-        → node_at path root ≡ Some old → 1 ≤ length (children old)
-        → bands ≤ length (children old)
-        → checked root (rebanded d old path bands priomap) ≡ Ok (rebanded d old path bands priomap)
-    checked-fewer_bands d path old bands priomap there some fewer =
-        let own : Own = record old.own { discipline = Prio priomap } in
-        let below : List Child = front_and_new (min (length (children old)) bands) (bands - length (children old)) (implicit_pfifo d) in
-        never (λ n. with_children own n below) path old there (rebanded d old path bands priomap) few (bands-depth own old d bands some)
-        (omega (arith, bands-count own old d bands))
-
     -- a drr with a class more: its leaf stands two levels below the way to the drr
     pub checked-with_class : (d : Device) (path : List ℕ) (old : Shape) (s : Schedule) → node_at path root ≡ Some old
         → checked root (with_class d path old s) ≡ done_unless (sizes (length path + 2) (suc (count_nodes root))) (with_class d path old s)

@@ -114,8 +114,3 @@ module _ {M : Type 0} (t : Tally M) (now : ℕ) (s : TreeState M) (least : 1 ≤
           ∙ works-joined t s a.rises (Sent p ∷ []) (a.rises ++ Sent p ∷ []) a.peeked b.taken a.taken refl (told t now s least low lawful).2
           (ask-so s.device.mtu now least low (shape s.root) lawful p e)
           ∙ sym (shows a s (Some p) e)
-
--- of a tree of histories that is kept
-pub kept-take_after_peek : (clock now : ℕ) (s : TreeState (List Note)) → IsKeptTree clock s → clock ≤ now → now ≤ 2 ^ 62
-    → take_packet history now (peek_packet history now s) ≡ take_packet history now s
-kept-take_after_peek clock now s h later low = take-after_peek history now s h.least_mtu low (kept-shape clock now s h later low)

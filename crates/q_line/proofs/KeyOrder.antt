@@ -107,11 +107,6 @@ abbrev judged : (f : KeyName) → HeadDraft → KeyDraft → Result (Val f) Wron
 judged f h d (Ok v) = if agrees f v h d then Ok (over (says f v) d) else Err wrong.OutOfRange
 judged f h d (Err e) = Err e
 
-plainly : {A : Type 0} (f : KeyName) (h : HeadDraft) (d : KeyDraft) (r : Result A Wrong) (g : A → KeyDraft) (j : A → Result KeyDraft Wrong) → ((a : A) → Ok (g a) ≡ j a)
-    → value r g ≡ (elim r as (λ _. Result KeyDraft Wrong) [ Ok a ↦ j a | Err e ↦ Err e ])
-plainly f h d (Ok a) g j same = same a
-plainly f h d (Err e) g j same = refl
-
 by_agreement : (b : Bool) (p : Prefix) (g : Prefix → KeyDraft) → value (if b then Ok p else Err wrong.OutOfRange) g ≡ (if b then Ok (g p) else Err wrong.OutOfRange)
 by_agreement true p g = refl
 by_agreement false p g = refl

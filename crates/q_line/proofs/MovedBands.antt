@@ -39,10 +39,6 @@ next_of v h k o b = if length b.numbers == 16 then Positions.options v h k (with
 abbrev pub stepped : QdiscVerb → HeadDraft → KindName → OptionDraft → Bands → List ℕ → Result Position Wrong
 stepped v h k o b w = if is_numeral 10 w then Ok (next_of v h k o (more b (band_number w))) else Err wrong.BadNumber
 
-fits_numbers : (v : QdiscVerb) (h : HeadDraft) (k : KindName) (o : OptionDraft) (i : ℕ) (w : List ℕ)
-    → fits i (Positions.priomap v h k o) w ≡ stepped v h k o (unwrap_or o.priomap (record { from = i; numbers = [] })) w
-fits_numbers v h k o i w = refl
-
 not_some : {A : Type 0} (a : Option A) → is_some a ≡ false → a ≡ None
 not_some None h = refl
 not_some (Some a) h = absurd (let k : true ≡ false = h in cc)

@@ -46,9 +46,6 @@ chain_says p q line ws vs a b = record {
   read = λ i. let one = a.leads i vs in one.1 ∙ b.read one.0;
 }
 
-pub ends_here : (p : Position) (line : Line) → ((i : ℕ) → ended p i ≡ Ok line) → Says p line []
-ends_here p line h = record { good = refl; read = h }
-
 pub ended_says : (p q : Position) (line : Line) (ws : List (List ℕ)) → Path p q ws → ((i : ℕ) → ended q i ≡ Ok line) → Says p line ws
 ended_says p q line ws a h = record {
   good = a.good;

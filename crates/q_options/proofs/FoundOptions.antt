@@ -83,10 +83,6 @@ pub words_refused : (words : List Text) (e : Error) → HasKind (fault_of progra
 words_refused words e (inl memory) = search (memory, inl)
 words_refused words e (inr among) = search (among, inl, inr)
 
--- a fault of the options that it let pass
-pub options_refused : (words : List Text) (kind : ErrorKind) → IsUnreadable (subcommand_of program words) → IsRefused words kind
-options_refused words kind unread = search (unread, inl, inr)
-
 -- an error that is passed on as it is
 pub passed_on : {T : Type 0} (r : Result T Error) (e : Error) (P : Error → Type 0) → IsErrAnd r (λ f. f ≡ e) → P e → IfErr r P
 passed_on (Ok t) e P h p = tt

@@ -25,12 +25,6 @@ module _ (k : ℕ) (c : Command) (s : SessionState Counts) where
   abbrev answer : Result Edit Refusal
   answer = plan s.device.tree.device at c (shape s.device.tree.root)
 
-  pub done-effect : reply.Done (Ok tt) ≡ (step totals s.device (event.Command c s.moment)).reply → commanded totals false k c s ≡ silent (after (step totals s.device (event.Command c s.moment)) s)
-  done-effect told = by answer told where
-    by : (p : Result Edit Refusal) → reply.Done (Ok tt) ≡ (answered totals p at s.device).reply → planned totals false k p s ≡ silent (after (answered totals p at s.device) s)
-    by (Ok edit) e = refl
-    by (Err refusal) e = absurd (subst IsDone e tt)
-
   pub refused-effect : (memory : Type 0) (refusal : Refusal) → IsRefusal memory (step totals s.device (event.Command c s.moment)).reply refusal
       → (starved : Bool) × (commanded totals starved k c s ≡ refusing (refused_line k refusal) s)
   refused-effect memory refusal told = by answer told where

@@ -1,12 +1,12 @@
 //! The text of a filter.
 ghost use Rattle.std.specs.Prelude.{◌≡◌, ◌+◌, ◌≤◌, ◌%◌, ◌++◌, codes, length, decimal};
-ghost use Rattle.q_show.specs.Lengths.{GrowsBy, HasRoom, most_decimal, most_filter, most_hex, most_into, most_ip_proto, most_ipv4, most_ipv6, most_keys, most_matches, most_name, most_port, most_prefix, most_protocol};
-ghost use Rattle.q_show.specs.ShowText.{address_text, filter_line, given, hex, into_text, keys_text, matches_text, prefix_text, protocol_text};
-ghost use Rattle.q_model.specs.declared.ip_version.IpVersion.TheVariants.{V4, V6};
+ghost use Rattle.q_show.specs.Lengths.{GrowsBy, HasRoom, most_decimal, most_filter, most_into, most_ip_proto, most_keys, most_matches, most_name, most_port, most_prefix, most_protocol};
+ghost use Rattle.q_show.specs.ShowText.{filter_line, given, hex, into_text, keys_text, matches_text, prefix_text, protocol_text};
 
+use crate::address::put_address;
 use crate::class::put_class_id;
 use crate::text::Text;
-use q_model::{ClassId, FilterKeys, FilterView, IpPrefix, IpVersion, Protocol};
+use q_model::{ClassId, FilterKeys, FilterView, IpPrefix, Protocol};
 
 /// A filter on its line.
 pub fn put_filter(text: &mut Text, filter: &FilterView)
@@ -107,67 +107,8 @@ fn put_prefix(text: &mut Text, name: &[u8], prefix: Option<IpPrefix>)
 {
     if let Some(prefix) = prefix {
         text.put_name(name);
-        match prefix.version {
-            IpVersion::V4 => put_ipv4(text, prefix.address),
-            IpVersion::V6 => put_ipv6(text, prefix.address),
-        }
+        put_address(text, prefix.version, prefix.address);
         text.put(b"/");
         text.put_number(u64::from(prefix.len));
     }
-}
-
-/// Four numbers joined by points.
-fn put_ipv4(text: &mut Text, address: u128)
-    requires { HasRoom text.old most_ipv4 }
-    ensures text { text.new ≡ text.old ++ address_text V4 address }
-    ensures short { GrowsBy text.old text.new most_ipv4 }
-{
-    put_octet(text, address >> 24);
-    text.put(b".");
-    put_octet(text, address >> 16);
-    text.put(b".");
-    put_octet(text, address >> 8);
-    text.put(b".");
-    put_octet(text, address);
-}
-
-/// The last eight bits of a number, in decimal.
-fn put_octet(text: &mut Text, bits: u128)
-    requires { HasRoom text.old most_decimal }
-    ensures text { text.new ≡ text.old ++ decimal (bits % 256) }
-    ensures short { GrowsBy text.old text.new most_decimal }
-{
-    text.put_number((bits % 256) as u64);
-}
-
-/// Eight groups joined by colons.
-fn put_ipv6(text: &mut Text, address: u128)
-    requires { HasRoom text.old most_ipv6 }
-    ensures text { text.new ≡ text.old ++ address_text V6 address }
-    ensures short { GrowsBy text.old text.new most_ipv6 }
-{
-    put_group(text, address >> 112);
-    text.put(b":");
-    put_group(text, address >> 96);
-    text.put(b":");
-    put_group(text, address >> 80);
-    text.put(b":");
-    put_group(text, address >> 64);
-    text.put(b":");
-    put_group(text, address >> 48);
-    text.put(b":");
-    put_group(text, address >> 32);
-    text.put(b":");
-    put_group(text, address >> 16);
-    text.put(b":");
-    put_group(text, address);
-}
-
-/// The last sixteen bits of a number, in hexadecimal.
-fn put_group(text: &mut Text, bits: u128)
-    requires { HasRoom text.old most_hex }
-    ensures text { text.new ≡ text.old ++ hex (bits % 65536) }
-    ensures short { GrowsBy text.old text.new most_hex }
-{
-    text.put_hexadecimal((bits % 65536) as u16);
 }

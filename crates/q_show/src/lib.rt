@@ -10,6 +10,7 @@
 //!   at the writer's failure with a front of them written.
 #![tactic(auto)]
 
+mod address;
 mod class;
 mod filter;
 mod hexadecimal;
@@ -20,6 +21,7 @@ mod text;
 mod write_fault;
 mod writes;
 
+pub use address::put_address;
 pub use hexadecimal::Hexadecimal;
 pub use showing::{class_text, counters_text, filter_text, qdisc_text};
 pub use target::Target;

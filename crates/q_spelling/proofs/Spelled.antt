@@ -4,7 +4,8 @@ use Rattle.std.specs.Prelude.{codes, decimal, map}
 use Rattle.std.specs.List.{flat_map, join_with_byte}
 use Rattle.std.proofs.lemmas.List.{append-nil}
 use Rattle.std.proofs.lemmas.Grind.{flat_map-append}
-use Rattle.q_model.specs.declared.ip_version.IpVersion.TheVariants.{V6}
+use Rattle.q_model.specs.declared.ip_version.IpVersion.{IpVersion}
+use Rattle.q_model.specs.declared.ip_version.IpVersion.TheVariants.{V4, V6}
 use Rattle.q_line.specs.Spelling.{address_word, hex}
 use Rattle.q_show.specs.ShowText.{address_text}
 use Rattle.q_spelling.specs.Words.{spaced}
@@ -45,9 +46,13 @@ joined_is : (x : List ℕ) (xs : List (List ℕ)) → join_with_byte 58 (x ∷ x
 joined_is x [] = sym (append-nil x)
 joined_is x (y ∷ xs) = ap (λ l. x ++ (58 ∷ l)) (joined_is y xs)
 
-pub ipv6 : (a : ℕ) → address_text V6 a ≡ address_word V6 a
+ipv6 : (a : ℕ) → address_text V6 a ≡ address_word V6 a
 ipv6 a =
     let first = hex (a / 2 ^ 112 % 65536) in
     let others =
     hex (a / 2 ^ 96 % 65536) ∷ hex (a / 2 ^ 80 % 65536) ∷ hex (a / 2 ^ 64 % 65536) ∷ hex (a / 2 ^ 48 % 65536) ∷ hex (a / 2 ^ 32 % 65536) ∷ hex (a / 2 ^ 16 % 65536) ∷ hex (a % 65536) ∷ [] in
     left_is first others ∙ sym (joined_is first others)
+
+pub address_spelled : (v : IpVersion) (a : ℕ) → address_text v a ≡ address_word v a
+address_spelled V4 a = refl
+address_spelled V6 a = ipv6 a

@@ -1,6 +1,6 @@
 -- The most bytes of a line, and of each of its parts: the sum of the most that stands in it.
 use Rattle.std.specs.Prelude.{ℕ, ◌+◌, ◌*◌}
-use Rattle.q_show.specs.Lengths.{most_decimal, most_hex, most_named}
+use Rattle.q_show.specs.Lengths.{most_decimal, most_hex, most_ipv4, most_named}
 
 -- a name, a number and the longest unit, `bit`
 abbrev pub most_option : ℕ
@@ -19,7 +19,7 @@ most_handle = most_named + most_hex + 1
 
 -- four numbers and three points; eight groups and seven colons are shorter
 abbrev pub most_address : ℕ
-most_address = 4 * most_decimal + 3
+most_address = most_ipv4
 
 abbrev pub most_address_option : ℕ
 most_address_option = most_named + most_address

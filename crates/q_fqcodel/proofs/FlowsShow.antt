@@ -73,12 +73,12 @@ settled-within zero s h lawful positive = absurd (omega arith)
 settled-within (suc k) s h lawful positive =
     at-front s s.new_flows s.old_flows refl refl lawful positive (λ t on lawful' positive'. settled-within k t (omega (arith, h, on.fewer)) lawful' positive')
 
-settled-selected : (s : FqState) → IsLawful s → 1 ≤ s.settings.quantum → IsSettled (selected s)
+pub settled-selected : (s : FqState) → IsLawful s → 1 ≤ s.settings.quantum → IsSettled (selected s)
 settled-selected s lawful positive = settled-within (suc (turns s)) s (omega arith) lawful positive
 
 -- ---- a flow with packets sends one
 
-abbrev given : Option Taken → Option Descriptor
+abbrev pub given : Option Taken → Option Descriptor
 given o = option_map (λ (t : Taken). t.packet) o
 
 taken-some : (c : CodelState) (now : ℕ) (queue : List Stamped) → given (taken c now queue) ≡ None → queue ≡ []
@@ -96,7 +96,7 @@ queue-at flows n f e =
     get_or_from_slice_get (queues flows) n f.queue [] (slice_get-map (λ (g : Flow). g.queue) flows n ∙ ap (option_map (λ (g : Flow). g.queue)) e)
 
 -- where nothing is sent, no flow is in front
-sends-none : (now : ℕ) (x : FqState) → IsLawful x → IsSettled x → given (sent_from now x) ≡ None
+pub sends-none : (now : ℕ) (x : FqState) → IsLawful x → IsSettled x → given (sent_from now x) ≡ None
     → (x.new_flows ≡ []) × (x.old_flows ≡ [])
 unfolding sent_from packet_sent
 sends-none now x lawful settled e = front-none x (by (front x) refl settled.busy)
