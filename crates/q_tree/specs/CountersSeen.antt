@@ -1,6 +1,6 @@
--- What a contract sees of the counters of a node: its row, in which is queued what arrived and was neither sent nor lost.
+-- What a contract sees of the counters of a node: its row, as it is stored.
 -- The counters are those of `tc -s qdisc show` (tc(8)).
-use Rattle.std.specs.Prelude.{ℕ, ◌≤◌, ◌<◌, ◌^◌, ◌+◌, ◌-◌}
+use Rattle.std.specs.Prelude.{◌≡◌, ◌<◌, ◌^◌, ◌+◌}
 use Rattle.q_model.specs.declared.row.Row.{Row}
 use Rattle.q_model.specs.Tally.{no_totals}
 use Rattle.q_tree.specs.declared.counters.Counters.TheInside.{Inside}
@@ -11,17 +11,14 @@ counters_seen c = record {
   sent = record { packets = c.sent_packets; bytes = c.sent_bytes };
   refused = record { packets = c.refused_packets; bytes = c.refused_bytes };
   dropped = record { packets = c.dropped_packets; bytes = c.dropped_bytes };
-  queued = record {
-    packets = c.arrived_packets - c.sent_packets - c.refused_packets - c.dropped_packets;
-    bytes = c.arrived_bytes - c.sent_bytes - c.refused_bytes - c.dropped_bytes;
-  };
+  queued = record { packets = c.queued_packets; bytes = c.queued_bytes };
   marked = record { packets = c.marked_packets; bytes = c.marked_bytes };
 }
 
--- no more was sent and lost than arrived
+-- what arrived was sent, was refused, was dropped, or is queued
 pub record AddsUp (c : Inside) : Type 0 where
-  pub packets : c.sent_packets + c.refused_packets + c.dropped_packets ≤ c.arrived_packets
-  pub bytes : c.sent_bytes + c.refused_bytes + c.dropped_bytes ≤ c.arrived_bytes
+  pub packets : c.arrived_packets ≡ c.sent_packets + c.refused_packets + c.dropped_packets + c.queued_packets
+  pub bytes : c.arrived_bytes ≡ c.sent_bytes + c.refused_bytes + c.dropped_bytes + c.queued_bytes
 
 -- nothing was counted yet
 abbrev pub no_row : Row

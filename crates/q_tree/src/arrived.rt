@@ -108,6 +108,8 @@ pub(crate) fn book_arrival(
     if arrived.is_kept() {
         row.arrived_packets += 1;
         row.arrived_bytes += u64::from(packet.len);
+        row.queued_packets += 1;
+        row.queued_bytes += u64::from(packet.len);
         return;
     }
     book_outcome(row, packet, outcome);

@@ -43,6 +43,10 @@ pub(crate) fn book_arrival(row: &mut Counters, packet: &Packet, outcome: &Outcom
     row.refused_bytes += outcome.refused.bytes;
     row.dropped_packets += outcome.dropped.packets;
     row.dropped_bytes += outcome.dropped.bytes;
+    row.queued_packets = row.queued_packets + 1
+        - (outcome.refused.packets + outcome.dropped.packets);
+    row.queued_bytes = row.queued_bytes + u64::from(packet.len)
+        - (outcome.refused.bytes + outcome.dropped.bytes);
 }
 
 /// Books a packet that was queued and is given to the node above.
@@ -54,6 +58,8 @@ pub(crate) fn book_sent(row: &mut Counters, packet: &Packet)
 {
     row.sent_packets += 1;
     row.sent_bytes += u64::from(packet.len);
+    row.queued_packets -= 1;
+    row.queued_bytes -= u64::from(packet.len);
 }
 
 /// Books what asking the node came to: what CoDel dropped was queued.
@@ -85,6 +91,8 @@ fn book_toll(row: &mut Counters, toll: &Toll)
 {
     row.dropped_packets += toll.dropped.packets;
     row.dropped_bytes += toll.dropped.bytes;
+    row.queued_packets -= toll.dropped.packets;
+    row.queued_bytes -= toll.dropped.bytes;
     row.marked_packets += toll.marked.packets;
     row.marked_bytes += toll.marked.bytes;
 }
@@ -97,6 +105,8 @@ pub(crate) fn book_dropped(row: &mut Counters, lost: Totals)
 {
     row.dropped_packets += lost.packets;
     row.dropped_bytes += lost.bytes;
+    row.queued_packets -= lost.packets;
+    row.queued_bytes -= lost.bytes;
 }
 
 /// Packets and bytes of both together.

@@ -4,9 +4,11 @@ ghost use Rattle.q_tree.specs.CountersSeen.{HasArrivals, no_row};
 use q_model::{Row, Totals};
 use std::marker::Model;
 
-/// What a node counted. What is queued follows from it, and is not kept: an arrival writes two numbers, and so does a packet that
-/// is sent. Those of packets stand apart from those of bytes: of two side by side a compiler makes one wide number, and adds
-/// to that in more steps.
+/// What a node counted, and what is queued there and beneath: each arrival, send and loss writes both. What arrived was sent, was
+/// refused, was dropped or is queued, which the type keeps.
+///
+/// Those of packets stand apart from those of bytes, and what is queued apart from what arrived and was sent: of two numbers side by
+/// side a compiler makes one wide number, and adds to that in more steps.
 ///
 /// A contract sees the row of the node.
 #[derive(Drop)]
@@ -15,11 +17,13 @@ pub(crate) struct Counters {
     pub(crate) sent_packets: u64,
     pub(crate) refused_packets: u64,
     pub(crate) dropped_packets: u64,
+    pub(crate) queued_packets: u64,
     pub(crate) marked_packets: u64,
     pub(crate) arrived_bytes: u64,
     pub(crate) sent_bytes: u64,
     pub(crate) refused_bytes: u64,
     pub(crate) dropped_bytes: u64,
+    pub(crate) queued_bytes: u64,
     pub(crate) marked_bytes: u64,
 }
 
@@ -45,11 +49,13 @@ impl Counters {
             sent_packets: 0,
             refused_packets: 0,
             dropped_packets: 0,
+            queued_packets: 0,
             marked_packets: 0,
             arrived_bytes: 0,
             sent_bytes: 0,
             refused_bytes: 0,
             dropped_bytes: 0,
+            queued_bytes: 0,
             marked_bytes: 0,
         }
     }
@@ -71,11 +77,8 @@ impl Counters {
         ensures { result ≡ self.now.queued }
     {
         Totals {
-            packets: self.arrived_packets
-                - self.sent_packets
-                - self.refused_packets
-                - self.dropped_packets,
-            bytes: self.arrived_bytes - self.sent_bytes - self.refused_bytes - self.dropped_bytes,
+            packets: self.queued_packets,
+            bytes: self.queued_bytes,
         }
     }
 
