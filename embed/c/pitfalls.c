@@ -1,4 +1,4 @@
-/* What docs/EMBEDDING.md says that programs run into, each tried once. */
+/* Tries once each pitfall that docs/EMBEDDING.md names. */
 #include "check.h"
 #include "qtree.h"
 
