@@ -267,6 +267,6 @@ int main(void) {
     qtree_port_close(&port);
     qtree_outlet_close(&outlet);
     qtree_close(&device);
-    printf("refused: %lu allocations refused, each answered, and then made\n", refusals);
+    printf("refused: %lu allocations failed, each with QTREE_MEMORY, and the calls then succeeded\n", refusals);
     return 0;
 }
