@@ -23,7 +23,7 @@ struct Kind {
     write: fn(&mut Script) -> io::Result<()>,
 }
 
-/// Each script sets a tree up, and then packets arrive, polls are made, and some lines name a new moment.
+/// Each script sets a tree up, and then packets arrive, polls are made, and some lines name a new time.
 const SCRIPTS: [Kind; 3] = [
     Kind {
         name: "pfifo",
@@ -82,7 +82,7 @@ impl Script {
         writeln!(self.output, "{line}")
     }
 
-    /// Of 20 lines one names a new moment, up to so many nanoseconds later, ten are packets, and nine are polls.
+    /// Of 20 lines one names a new time, up to so many nanoseconds later, ten are packets, and nine are polls.
     fn rest(&mut self, later: u64, mut packet: impl FnMut(&mut Xorshift) -> String) -> io::Result<()> {
         let mut random = Xorshift::new();
         let mut moment = 0;
@@ -198,7 +198,7 @@ fn run(program: &OsStr, word: &str, script: &Path) -> io::Result<Run> {
     if waited < 0 || status != 0 {
         return Err(io::Error::other("a player failed"));
     }
-    // Behind two times of two longs each stands `ru_maxrss`, in kilobytes.
+    // After two times of two longs each comes `ru_maxrss`, in kilobytes.
     let memory = usage[4] as u64 * 1024;
     Ok(Run { seconds, memory })
 }
