@@ -1,7 +1,7 @@
 //! The lines of the whole script language, as definitions and their reader.
 //!
 //! - `specs/Grammar.antt` says of every line's bytes which [`Line`] they are, or which `LineFault` of `q_words` is the leftmost;
-//!   its tables of words stand in `specs/Positions.antt`, what the words have said so far in `specs/Drafts.antt`, and the words
+//!   its tables of words are in `specs/Positions.antt`, what the words have said so far in `specs/Drafts.antt`, and the words
 //!   and values in `q_words`.
 //! - [`read_line`] reads a line as the grammar says, and allocates nothing. It has one reader for the head of each object and
 //!   one for each kind. A [`Command`] and its settings are those of `q_model`.

@@ -1,11 +1,11 @@
 //! Runs a script over a whole device: from its bytes to the bytes of its report.
 //!
 //! - [`run`] reads a script from any reader and writes its report to any writer. Its contract is the theorem of the program:
-//!   what was written is `report settings script starved` of `specs/Reported.antt`, for some list of lines at which memory was
-//!   refused, and nothing else; the outcome is `Refused` if and only if some line was faulty or turned down; and each
+//!   what was written is `report settings script starved` of `specs/Reported.antt`, for some list of lines at which an
+//!   allocation failed, and nothing else; the outcome is `Refused` if and only if some line was faulty or refused; and each
 //!   `RunFault` says what was written.
-//! - [`run_between`] does the same from a `Source` of `q_script` to a `Target` of `q_show`, which keep what their reads and
-//!   writes came to. Its contract says when each fault comes: `Read` and `Write` tell of every read and write that failed and of
+//! - [`run_between`] does the same from a `Source` of `q_script` to a `Target` of `q_show`, which keep how their reads and
+//!   writes ended. Its contract says when each fault comes: `Read` and `Write` report every read and write that failed and
 //!   nothing else, and an outcome means that none did.
 //! - [`DeviceSession`] is the [`Session`](q_script::Session) of `q_script` that runs each line over a `Device` of `q_device`:
 //!   arrivals, polls, commands, show texts, losses and counters, as the report of `q_script_semantics` says.

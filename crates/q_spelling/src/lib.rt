@@ -1,7 +1,7 @@
 //! Lines as they are written: one text for each command, packet and poll, and the script that plays events again.
 //!
 //! - [`command_text`] is the line of tc that a command is, and [`arrival_text`] the `pkt` line of a packet; [`event_text`] is the line
-//!   of an event. Each takes no memory.
+//!   of an event. None of them allocates.
 //! - [`script_of`] is the script of events, as a device recorded them: `qtree play` does with it what the device did.
 //! - [`laws`] says that such a line is read as what was written.
 //!
