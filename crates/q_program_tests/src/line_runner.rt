@@ -13,7 +13,7 @@ pub struct LineRunner {
 }
 
 impl LineRunner {
-    /// A device with the default settings that records so many events, at the second try if an allocation fails.
+    /// A device with the default settings that records so many events, at the second try where memory is refused.
     pub fn new(alloc: Global, recorded: u32) -> Result<LineRunner, Fail> {
         let settings = Settings::new(1514, 1000, recorded).ok_or("settings")?;
         let device = match Device::open(alloc, settings) {

@@ -17,7 +17,7 @@ pub struct Seen {
 }
 
 impl Seen {
-    /// What is seen of a device, at the second look if an allocation fails.
+    /// What is seen of a device, at the second look where memory is refused.
     pub fn of(alloc: Global, device: &Device) -> Result<Seen, Fail> {
         match look(alloc, device) {
             Some(seen) => Ok(seen),

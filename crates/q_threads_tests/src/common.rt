@@ -15,7 +15,7 @@ use std::sync::ledger::{Blank, Ledger};
 use std::sync::{Mutex, Wait};
 use std::thread::Threads;
 
-/// A device with the default settings at which nothing has arrived, which records so many events. `None` if an allocation fails.
+/// A device with the default settings at which nothing has arrived, which records so many events. `None` where memory is refused.
 pub fn device(alloc: Global, recorded: u32) -> Option<Device>
     ensures { IfSome result (λ d. d.device.tree.top.arrived ≡ no_totals) }
 {
@@ -29,7 +29,7 @@ pub fn limited(alloc: Global, limit: u32, recorded: u32) -> Option<Device>
     Device::open(alloc, Settings::new(1514, limit, recorded)?).ok()
 }
 
-/// The device of [`device`], at the second try if an allocation fails.
+/// The device of [`device`], at the second try where memory is refused.
 pub fn retried(alloc: Global, recorded: u32) -> Option<Device>
     ensures { IfSome result (λ d. d.device.tree.top.arrived ≡ no_totals) }
 {

@@ -1,4 +1,4 @@
-//! Calls that are refused for a failed allocation, and called again.
+//! Calls that are refused memory, and called again.
 //!
 //! `rt try --test --fail-alloc N` refuses the Nth allocation of the tests. These pass for every N: what was refused succeeds
 //! at the second call, and nothing is lost.

@@ -373,7 +373,7 @@ pub fn called(alloc: Global, calls: &[Call]) -> Result<(), Fail> {
     called_small(alloc, 100, calls)
 }
 
-/// Room for so many items. If an allocation fails it is asked for again.
+/// Room for so many items. Where memory is refused it is asked for again.
 pub fn room<E>(alloc: Global, count: usize) -> Result<Vec<E>, Fail> {
     match Vec::with_capacity(alloc, count) {
         Ok(items) => Ok(items),
@@ -425,7 +425,7 @@ fn replies_once(
     play(alloc, settings, events)
 }
 
-/// What a play of these events answers. If an allocation fails they are played again.
+/// What a play of these events answers. Where memory is refused they are played again.
 pub fn replies(alloc: Global, settings: Settings, events: &[Event]) -> Result<Vec<Reply>, Fail> {
     match replies_once(alloc, settings, events) {
         Ok(replies) => Ok(replies),
