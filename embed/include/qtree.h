@@ -263,7 +263,7 @@ qtree_code qtree_reap(qtree_device *device, qtree_loss *loss);
  * QTREE_DONE, QTREE_NOTHING, QTREE_IS_CLOSED. */
 qtree_code qtree_reap_many(qtree_device *device, qtree_loss *losses, size_t room, size_t *count);
 
-/* What was counted at a node: the device itself, its root, or the one in the class major:minor, 1 to 0xfffe and 1 to 0xffff.
+/* What was counted at a node: the device itself, its root, or what stands in the class major:minor, 1 to 0xfffe and 1 to 0xffff.
  * major and minor are read for a class alone.
  * QTREE_DONE, QTREE_NOTHING, QTREE_OUT_OF_RANGE, QTREE_IS_CLOSED. */
 enum { QTREE_TOP = 0, QTREE_ROOT = 1, QTREE_CLASS = 2 };

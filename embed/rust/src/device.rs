@@ -214,8 +214,8 @@ impl Device {
 
     /// The time before which no poll gives a packet, as long as none arrives and no command comes; `None` if no poll ever will.
     ///
-    /// A poll at that time may still return [`Polled::Later`]: which packet an fq_codel gives, or which class a drr serves, is not known
-    /// before it is asked. The next call then returns a later time.
+    /// A poll at that time may still answer [`Polled::Later`]: what an fq_codel gives, or which class of a drr, is not known before it is
+    /// asked. The time that follows is then a later one.
     pub fn ready_at(&mut self) -> Option<u64> {
         let (code, moment) = self.0.ready_at();
         (code == sys::QTREE_DONE).then_some(moment)
@@ -245,13 +245,13 @@ impl Device {
         }
     }
 
-    /// The counters of a place; `None` if no node is there.
+    /// What was counted in a place; `None` where nothing stands there.
     pub fn stats(&mut self, place: Place) -> Option<Row> {
         let (code, row) = self.0.stats(place.to_c());
         (code == sys::QTREE_DONE).then(|| Row::of(row))
     }
 
-    /// The text that a show line of tc prints.
+    /// What tc shows of it.
     ///
     /// ```
     /// # use qtree::{Device, Error, Settings, Show};
@@ -277,7 +277,7 @@ impl Device {
     ///
     /// # Errors
     ///
-    /// Only those of reading a command's line; a recorded command always has one.
+    /// None but those of the line of a command, which a device always has.
     pub fn recorded(&mut self, index: usize) -> Result<Option<Event>, Error> {
         let (code, event) = self.0.recorded(index);
         if code != sys::QTREE_DONE {
@@ -317,7 +317,7 @@ impl Device {
         self.text(|device, text| device.recorded_script(text))
     }
 
-    /// The text of a call that returns its length, and writes it if there is room.
+    /// A text, of which a call answers the length and writes it where there is room.
     fn text(
         &mut self,
         mut call: impl FnMut(&mut RawDevice, &mut [u8]) -> (u32, usize),
