@@ -7,7 +7,7 @@
 #include <stdlib.h>
 #include <string.h>
 
-/* A text that the device shows, ended by a zero byte; NULL if an allocation failed. */
+/* A text that the device shows, ended by a zero byte; NULL where memory is refused. */
 static char *shown(qtree_device *device, uint32_t what) {
     size_t needed;
     if (qtree_show(device, what, NULL, 0, &needed) == QTREE_MEMORY) {

@@ -1,4 +1,4 @@
-/* The contents of a device, as numbers: its qdiscs with their counters, and the classes of its drrs. */
+/* What stands in a device, as numbers: its qdiscs with their counters, and the classes of its drrs. */
 #ifndef TREE_H
 #define TREE_H
 
@@ -8,9 +8,9 @@ enum { KIND_SIZE = 16 };
 
 struct qdisc {
     char kind[KIND_SIZE];
-    uint16_t handle; /* its major; 0 for an implicit leaf */
+    uint16_t handle; /* its major; 0 for one that nobody added */
     bool is_root;
-    uint16_t parent_major, parent_minor; /* the class in which it is, unless it is the root */
+    uint16_t parent_major, parent_minor; /* the class in which it stands, unless it is the root */
     qtree_row row;
 };
 

@@ -138,7 +138,7 @@ impl Drain {
         Ok(settled)
     }
 
-    /// What was taken in so far from the port with this index; `None` if there is no such port.
+    /// What was taken in of the port with this index so far; `None` where there is no such port.
     pub fn share(&mut self, port: u32) -> Option<Count> {
         let index = usize::try_from(port).ok()?;
         self.outlets.get_mut(index).map(Outlet::taken)
