@@ -4,8 +4,14 @@
 //!   missing; [`explain_refusal`] the same of a command that was refused, with what to do; [`explain_remark`] the same of a line that
 //!   was done and of which there is a [`Remark`].
 //!
+//! ```
+//! if let Err(fault) = read_line(line) {
+//!     let text = explain_fault(alloc, number, line, fault)?;     // three lines
+//! }
+//! ```
+//!
 //! The words that may be at a place are in the tables of `tables`, after the grammar of `q_line`. A text has no
-//! contract: it is for people, and tests alone look at it. No control character of a script is written raw.
+//! contract: it is for people, and only tests check it. No control character of a script is written raw.
 #![tactic(auto)]
 
 mod cut;

@@ -9,6 +9,14 @@
 //!   that it is read as itself, and where the fault of any other lies. By `proofs/PacketRanges.antt`
 //!   each packet that is read has a length of 1 to 65535 and a priority of at most 15.
 //!
+//! ```
+//! match read_line(b"tc qdisc add dev eth0 root handle 1: drr") {
+//!     Ok(Line::Tc(command)) => device.command(command, now)?,
+//!     Ok(_) => {}                              // a packet, a poll, a show line, a comment ..
+//!     Err(fault) => report(fault.number(), fault.word()),    // 1 to 6, and the word, counted from 1
+//! }
+//! ```
+//!
 //! `q_script_semantics` computes worked scripts from these definitions, from their bytes to their reports.
 #![tactic(auto)]
 

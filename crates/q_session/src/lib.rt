@@ -15,6 +15,14 @@
 //!   [`ShowFault`] is why they did not. [`put_show`] puts such a text into an `Output` of `q_script`, and
 //!   [`put_device`] the line on a device's counters.
 //!
+//! ```
+//! // What `qtree play` does without options.
+//! match run(alloc, &mut reader, &mut writer, RunSettings::defaults()) {
+//!     Ok(outcome) => outcome.status(),         // 0, or 1 if a line had a fault or was refused
+//!     Err(fault) => fail(fault.number()),      // nothing was written, or a beginning of the report
+//! }
+//! ```
+//!
 //! `specs/Session.antt` says what a line does to a session, by `q_script_semantics`'s definitions with totals; `proofs/Reported.antt` that
 //! the report over totals is the one over whole histories.
 #![tactic(auto)]

@@ -6,6 +6,13 @@
 //! - [`write_whole`] writes bytes to any writer, and [`Target`] does so time after time to one writer, keeping what the
 //!   writes came to: none is made after one that failed. [`Hexadecimal`] is a number's digits. `q_script` writes its reports by
 //!   them.
+//!
+//! ```
+//! // Each qdisc with its counters, as `tc -s qdisc show` prints it.
+//! let text = qdisc_text(&node, true);
+//! write_whole(&mut writer, text.as_bytes())?;
+//! ```
+//!
 //! - `specs/ShowText.antt` has the texts, and `specs/Writes.antt` what writes come to. A write appends exactly its bytes, or stops
 //!   at the writer's failure with a front of them written.
 #![tactic(auto)]

@@ -5,6 +5,11 @@
 //! - [`script_of`] is the script of events, as a device recorded them: `qtree play` does with it what the device did.
 //! - [`laws`] says that such a line is read as what was written.
 //!
+//! ```
+//! // The script of what a device recorded, which `qtree play` reads.
+//! let script = script_of(alloc, device.recorded())?;
+//! ```
+//!
 //! `specs/Events.antt` says which line an event is; the words of each line are those of `q_line`'s `specs/Spelling.antt`.
 #![tactic(auto)]
 
