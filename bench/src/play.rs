@@ -31,7 +31,7 @@ const SCRIPTS: [Kind; 3] = [
         write: into_pfifo,
     },
     Kind {
-        name: "fq_codel beneath a tbf",
+        name: "fq_codel below a tbf",
         lines: 1_000_000,
         write: into_fq_codel,
     },
@@ -85,12 +85,12 @@ impl Script {
     /// Of 20 lines one names a new time, up to so many nanoseconds later, ten are packets, and nine are polls.
     fn rest(&mut self, later: u64, mut packet: impl FnMut(&mut Xorshift) -> String) -> io::Result<()> {
         let mut random = Xorshift::new();
-        let mut moment = 0;
+        let mut time = 0;
         while self.left > 0 {
             match random.below(20) {
                 0 => {
-                    moment += random.below(later);
-                    self.line(&format!("at {moment}"))?;
+                    time += random.below(later);
+                    self.line(&format!("at {time}"))?;
                 }
                 1..=10 => {
                     let packet = packet(&mut random);
