@@ -1,4 +1,4 @@
-//! New settings for a qdisc or a class that stands.
+//! New settings for a qdisc or a class that is there.
 
 use super::find::Way;
 use super::plain::device::Device;

@@ -115,7 +115,7 @@ impl Device {
         Ok(())
     }
 
-    /// The explicit qdisc that stands in the place and has the handle, of those that are given.
+    /// The explicit qdisc that is in the place and has the handle, if these are given.
     fn named(&self, place: Option<Place>, handle: Option<u16>) -> Result<Way, Refusal> {
         let by_handle = handle.map(|handle| self.way_to(handle).ok_or(Refusal::NoQdisc));
         let by_handle = by_handle.transpose()?;

@@ -67,10 +67,10 @@ impl Player<'_> {
             Ok(Line::Blank) => {}
             Ok(Line::At(ns)) => {
                 if ns < self.at {
-                    self.tally.reached.note("moment before the one before");
+                    self.tally.reached.note("time before the one before");
                 }
                 if ns == 1 << 62 {
-                    self.tally.reached.note("moment 2^62");
+                    self.tally.reached.note("time 2^62");
                 }
                 self.at = ns;
             }
@@ -129,7 +129,7 @@ impl Player<'_> {
             ecn: head.ecn,
         };
         let put = self.device.arrive(&packet, self.at);
-        assert!(!matches!(put, Put::NoMemory), "memory is refused");
+        assert!(!matches!(put, Put::NoMemory), "an allocation failed");
     }
 
     fn poll(&mut self) -> io::Result<()> {

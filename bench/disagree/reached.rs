@@ -48,8 +48,8 @@ const UNITS: &[(&str, &[&str], &[&str])] = &[
 
 /// What is seen beside commands and words.
 const OTHERS: &[&str] = &[
-    "moment before the one before",
-    "moment 2^62",
+    "time before the one before",
+    "time 2^62",
     "head of family 0",
     "head of family 4",
     "head of family 6",

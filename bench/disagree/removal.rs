@@ -95,7 +95,7 @@ impl FqCodel {
 }
 
 impl Active {
-    /// Takes a class out that is asleep; those behind it move up.
+    /// Removes an inactive class; those after it move up.
     pub fn remove(&mut self, gone: usize) {
         let mut order = Vec::new();
         let mut class = usize::from(self.front);

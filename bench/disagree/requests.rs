@@ -51,7 +51,7 @@ impl Session {
         of_kind[self.random.index(of_kind.len())]
     }
 
-    /// A class, mostly one that stands.
+    /// A class, mostly one that is there.
     fn class(&mut self) -> (u64, u64) {
         let classes: Vec<(u64, u64)> = self
             .guesses
@@ -187,7 +187,7 @@ impl Session {
         format!("tc qdisc {verb}{head}{kind}")
     }
 
-    /// A qdisc goes with all beneath it.
+    /// A qdisc is removed with all below it.
     fn forget(&mut self, handle: u64) {
         self.guesses.retain(|guess| guess.handle != handle);
         let beneath = |guess: &Guess| guess.place.is_some_and(|(major, _)| major == handle);

@@ -1,14 +1,14 @@
-//! Scripts from nothing: commands, packets, polls and moments of one device, with a guess at what stands there.
+//! Scripts made from nothing: commands, packets, polls and times of one device, with a guess at which qdiscs it has.
 
 use super::random::Random;
 use super::requests::mixed;
 use super::values;
 
-/// A qdisc that likely stands.
+/// A qdisc that is probably there.
 pub struct Guess {
     pub handle: u64,
     pub kind: &'static str,
-    /// The class that it stands in, none at the root.
+    /// The class that it is in, none at the root.
     pub place: Option<(u64, u64)>,
     pub classes: Vec<u64>,
 }
@@ -18,7 +18,7 @@ pub struct Session {
     pub guesses: Vec<Guess>,
     mtu: u64,
     now: u64,
-    /// About how many nanoseconds pass between two moments.
+    /// About how many nanoseconds pass between two `at` lines.
     pace: u64,
     /// Of 100 lines, how many are commands.
     commands: u64,
@@ -52,7 +52,7 @@ impl Session {
         }
     }
 
-    /// Polls at moments apart.
+    /// Polls at several times.
     fn wait(&mut self, count: u64) -> Vec<String> {
         (0..count).flat_map(|_| [self.moment(), "poll".into()]).collect()
     }

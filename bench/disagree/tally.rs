@@ -48,7 +48,7 @@ impl fmt::Display for Tally {
         writeln!(f, "{} scripts with {} lines", self.scripts, self.lines)?;
         writeln!(f, "{} commands done", self.commands)?;
         writeln!(f, "{} packets, {} polls, {} sent", self.packets, self.polls, self.sent)?;
-        write!(f, "losses told:")?;
+        write!(f, "losses reported:")?;
         for cause in CAUSES {
             write!(f, " {} {}", cause_name(cause), self.losses[cause as usize])?;
         }

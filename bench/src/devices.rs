@@ -1,5 +1,5 @@
 //! The rows over a device: an arrival and a poll of packets that were made before, for trees of every kind.
-//! `crates/q_bench/src/trees.rt` has each tree as commands, and plain Rust reads the lines of tc that stand here.
+//! `crates/q_bench/src/trees.rt` has each tree as commands, and plain Rust reads the lines of tc in this file.
 
 use crate::inputs::{self, FIRST_PORT, Lines, PACKETS};
 use crate::kernel;
@@ -28,8 +28,8 @@ pub struct Tree {
     pub drop_batch: u32,
     /// The packets that wait before the work begins, and then at each arrival.
     pub queued: u32,
-    /// Whether plain Rust keeps the winners of an fq_codel near its limit alone: it does less then than a device of Rattle, whose
-    /// fat flow stands at the top after each put and take.
+    /// Whether plain Rust keeps the tournament tree of an fq_codel only near its limit: it then does less than a device of Rattle, whose
+    /// tree has the fat flow at its top after each put and take.
     pub lazy: bool,
 }
 

@@ -72,12 +72,12 @@ pub fn hashes(count: usize) -> Vec<u32> {
     (0..count).map(|_| (random.next() >> 20) as u32).collect()
 }
 
-/// Moments 10 us apart, in nanoseconds.
+/// Times 10 us apart, in nanoseconds.
 pub fn even_moments(count: usize) -> Vec<u64> {
     (1..=count as u64).map(|step| step * 10_000).collect()
 }
 
-/// The moments at which a standing queue loses exactly one packet each, once CoDel has begun to drop.
+/// The times at which a queue that never empties loses exactly one packet each, once CoDel has begun to drop.
 pub fn drop_moments(count: usize, interval: u64) -> Vec<u64> {
     let mut now = 10_000_000;
     let mut moments = vec![now];
@@ -176,7 +176,7 @@ pub fn plan(flows: u32, ecn: bool) -> Plan {
     }
 }
 
-/// The nanoseconds from poll to poll at which one flow that stands loses exactly one packet each, once CoDel has begun to drop.
+/// The nanoseconds from poll to poll at which one flow that never empties loses exactly one packet each, once CoDel has begun to drop.
 pub fn drop_waits(count: usize, interval: u64) -> Vec<u32> {
     let moments = drop_moments(count, interval);
     let first = moments[0] as u32;

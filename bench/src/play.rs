@@ -23,7 +23,7 @@ struct Kind {
     write: fn(&mut Script) -> io::Result<()>,
 }
 
-/// Each script sets a tree up, and then packets arrive, polls are made, and some lines name a new moment.
+/// Each script sets a tree up, and then packets arrive, polls are made, and some lines name a new time.
 const SCRIPTS: [Kind; 3] = [
     Kind {
         name: "pfifo",
@@ -31,7 +31,7 @@ const SCRIPTS: [Kind; 3] = [
         write: into_pfifo,
     },
     Kind {
-        name: "fq_codel beneath a tbf",
+        name: "fq_codel below a tbf",
         lines: 1_000_000,
         write: into_fq_codel,
     },
@@ -82,15 +82,15 @@ impl Script {
         writeln!(self.output, "{line}")
     }
 
-    /// Of 20 lines one names a new moment, up to so many nanoseconds later, ten are packets, and nine are polls.
+    /// Of 20 lines one names a new time, up to so many nanoseconds later, ten are packets, and nine are polls.
     fn rest(&mut self, later: u64, mut packet: impl FnMut(&mut Xorshift) -> String) -> io::Result<()> {
         let mut random = Xorshift::new();
-        let mut moment = 0;
+        let mut time = 0;
         while self.left > 0 {
             match random.below(20) {
                 0 => {
-                    moment += random.below(later);
-                    self.line(&format!("at {moment}"))?;
+                    time += random.below(later);
+                    self.line(&format!("at {time}"))?;
                 }
                 1..=10 => {
                     let packet = packet(&mut random);
@@ -198,7 +198,7 @@ fn run(program: &OsStr, word: &str, script: &Path) -> io::Result<Run> {
     if waited < 0 || status != 0 {
         return Err(io::Error::other("a player failed"));
     }
-    // Behind two times of two longs each stands `ru_maxrss`, in kilobytes.
+    // After two times of two longs each comes `ru_maxrss`, in kilobytes.
     let memory = usage[4] as u64 * 1024;
     Ok(Run { seconds, memory })
 }

@@ -34,12 +34,12 @@ pub struct Times {
     pub rattle: Figure,
     pub plain: Figure,
     pub kernel: Option<Figure>,
-    /// Of the times of Rattle and of another side in one round, by which a slower stretch of the machine cancels out.
+    /// Of the times of Rattle and of another side in one round, by which slower intervals of the machine cancel out.
     pub to_plain: Figure,
     pub to_kernel: Option<Figure>,
 }
 
-/// Times all sides of a row in turns. Where the environment names another program of this kind, whose code stands 16 bytes further,
+/// Times all sides of a row in turns. Where the environment names another program of this kind, whose code is 16 bytes further,
 /// each side's times are those of the program in which it was faster: where its jumps fall is the linker's luck.
 pub fn times(row: &Row, rounds: usize) -> Result<Times, String> {
     let mut sides = measured(row, rounds)?;

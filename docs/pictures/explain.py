@@ -50,7 +50,7 @@ class Drawing:
         self.path(colour, [ends[0], (to_x, to_y), ends[1]])
 
     def span(self, x, to_x, y, words, colour):
-        """A distance between two moments, with its name above."""
+        """A distance between two times, with its name above."""
         self.arrow(x + 1, y, to_x - 1, y, colour)
         self.arrow(to_x - 1, y, x + 1, y, colour)
         self.text((x + to_x) / 2, y - 5, words, "small", "middle", colour)

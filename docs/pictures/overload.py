@@ -14,7 +14,7 @@ RATES = (145, 5)
 
 
 def events():
-    """Each moment with its lines; at one moment packets come before the poll."""
+    """Each time with its lines; at the same time packets come before the poll."""
     for flow, rate in enumerate(RATES):
         for number in range(SECONDS * rate):
             yield (2 * number + 1) * SECOND // (2 * rate), 0, f"pkt {LENGTH} hash {flow}"
@@ -25,10 +25,10 @@ def events():
 def main():
     print("tc qdisc add dev wan root handle 1: fq_codel noecn")
     at = 0
-    for moment, _, lines in sorted(events()):
-        if moment != at:
-            print(f"at {moment}")
-            at = moment
+    for time, _, lines in sorted(events()):
+        if time != at:
+            print(f"at {time}")
+            at = time
         print(lines)
     print("totals")
 

@@ -5,7 +5,7 @@ import math
 import re
 
 ON_ARRIVAL = ("TooLong", "NoClass", "OverLimit")
-TOLD = r"(sent|lost) (\d+) (\d+)(?: ce| (TooLong|NoClass|OverLimit|CoDel|FatFlow|Purged))?"
+REPORTED = r"(sent|lost) (\d+) (\d+)(?: ce| (TooLong|NoClass|OverLimit|CoDel|FatFlow|Purged))?"
 PROTOCOLS = {"icmp": 1, "tcp": 6, "udp": 17, "icmpv6": 58, "sctp": 132}
 PRIOMAP = (1, 2, 2, 2, 1, 2, 0, 0, 1, 1, 1, 1, 1, 1, 1, 1)
 HEADS = {
@@ -25,7 +25,7 @@ NO_KEY = Key(0, 0, 0, 0, 0, 0)
 
 
 class Packet:
-    """A packet of the script, and what became of it: the moments at which it was sent or lost, if it was."""
+    """A packet of the script, and what became of it: the times at which it was sent or lost, if it was."""
 
     def __init__(self, length, key, hash_, prio, is_ce):
         self.length, self.key, self.hash, self.prio, self.is_ce = length, key, hash_, prio, is_ce
@@ -213,7 +213,7 @@ class Replay:
 
     def __init__(self, script, report):
         self.packets, self.tree = [], Tree()
-        self.first, self.moment, self.clock, self.line, self.changes = None, 0, 0, 0, 0
+        self.first, self.time, self.clock, self.line, self.changes = None, 0, 0, 0, 0
         self.flows = collections.defaultdict(list)
         self.report = collections.deque(report.split("\n"))
         if self.report[-1] == "":
@@ -230,7 +230,7 @@ class Replay:
         self.date_losses()
 
     def event(self):
-        self.clock = max(self.clock, self.moment)
+        self.clock = max(self.clock, self.time)
         if self.first is None:
             self.first = self.clock
 
@@ -249,13 +249,13 @@ class Replay:
         elif said:
             pass
         elif words[0] == "at":
-            self.moment = int(words[1])
+            self.time = int(words[1])
         elif words[0] == "poll":
             for _ in range(int(words[1]) if words[1:] else 1):
                 self.event()
                 self.poll()
         elif words[0] == "reap":
-            while self.report and self.report[0].startswith("lost ") and self.told("lost", True):
+            while self.report and self.report[0].startswith("lost ") and self.packet_line("lost", True):
                 pass
         elif words[0] == "totals":
             if not self.report or not self.report.popleft().startswith("device arrived "):
@@ -280,11 +280,11 @@ class Replay:
         if self.report[0] in ("idle", "later"):
             self.report.popleft()
         else:
-            self.told("sent", False)
+            self.packet_line("sent", False)
 
-    def told(self, word, may_wait):
-        """Takes a line of the report that tells of a packet; whether it did, where the line may be of a later reap."""
-        found = re.fullmatch(TOLD, self.report[0])
+    def packet_line(self, word, may_wait):
+        """Takes the next line of the report, which names a packet. Returns False if the line belongs to a later reap."""
+        found = re.fullmatch(REPORTED, self.report[0])
         if not found or found[1] != word or (found[4] is None) == (word == "lost"):
             raise Unfit(f"the report does not fit line {self.line} of the script: {self.report[0][:60]}")
         number, length = int(found[2]), int(found[3])
@@ -293,7 +293,7 @@ class Replay:
         packet = self.packets[number - 1] if 0 < number <= len(self.packets) else None
         if packet is None or packet.arrived is None or packet.length != length or packet.gone is not None:
             why = "that never came or is gone" if packet is None or packet.length == length else "of another length"
-            raise Unfit(f"the report tells at line {self.line} of the script of a packet {why}: {self.report[0][:60]}")
+            raise Unfit(f"the report names at line {self.line} of the script a packet {why}: {self.report[0][:60]}")
         if word == "sent":
             packet.sent, packet.is_marked = self.clock, self.report[0].endswith(" ce") and not packet.is_ce
         else:

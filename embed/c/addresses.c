@@ -65,7 +65,7 @@ static int groups(struct word word, uint16_t *found) {
     return count;
 }
 
-/* RFC 4291, section 2.2: two colons stand for one group of zeros or more. */
+/* RFC 4291, section 2.2: two colons mean one or more groups of zeros. */
 static uint32_t ipv6(struct word word, struct address *address) {
     size_t gap = 0;
     while (gap + 1 < word.len && memcmp(word.at + gap, "::", 2) != 0) {

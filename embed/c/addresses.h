@@ -6,7 +6,7 @@
 
 struct address {
     uint64_t high;
-    uint64_t low; /* an address of IPv4 stands in the low 32 bits */
+    uint64_t low; /* an address of IPv4 is in the low 32 bits */
     uint8_t family; /* 0 where there is none, 4 or 6 */
 };
 

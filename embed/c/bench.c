@@ -1,9 +1,9 @@
 /* What a packet costs from C, by an arrival and a poll: one at a time, 32 in a crossing, and 32 at a time through a ring.
  *
- *     bench [PACKETS [ROUNDS]]     so many packets for each row, 2,000,000 where no number stands there, in 5 rounds
+ *     bench [PACKETS [ROUNDS]]     so many packets for each row, by default 2,000,000, in 5 rounds
  *
- * A packet that arrives from its bytes goes one at a time too, by qtree_arrive_frame and qtree_poll_buf, with the hash of the packet. Two
- * rows behind are of reading a head with a hash and without.
+ * Packets also arrive by their first bytes, one at a time, by qtree_arrive_frame and qtree_poll_buf, with the hash of the packet. The last
+ * two rows are for reading a header with a hash and without.
  *
  * Packets are made before, 8192 of them in turn, and some are queued first. Trees, packets and times are those of the rows of the same
  * names that bench/run measures from Rattle. A row is the least of the rounds, in nanoseconds a packet. */
@@ -37,7 +37,7 @@ static const struct row rows[] = {
 /* The packets, with their indexes as buf. */
 static qtree_packet made[MADE];
 
-/* The heads of UDP from which the same flows are read, with the priority 0. */
+/* Headers of UDP packets of the same flows, with the priority 0. */
 static uint8_t heads[MADE][HEAD];
 
 static double seconds(void) {
@@ -170,7 +170,7 @@ static double least(double (*play)(const struct row *, qtree_device *, uint32_t)
     return best * 1e9;
 }
 
-/* Reads heads, with a hash or without, in the least of the rounds. */
+/* The time to read a header, with a hash or without: the least of the rounds. */
 static double read_heads(bool is_hashed, uint32_t packets, uint32_t rounds) {
     double best = 1e9;
     for (uint32_t round = 0; round < rounds; round++) {

@@ -3,7 +3,7 @@
  *     corpus FILE..
  *
  * A case begins with a line `case NAME`; `options ..` and `status N` may follow. `< TEXT` is a line of the script, `> TEXT` one of
- * the report, and a last line without a newline stands behind `<|`. */
+ * the report, and `<|` begins a last line without a newline. */
 #include "session.h"
 
 #include <stdlib.h>

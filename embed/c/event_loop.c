@@ -1,5 +1,5 @@
-/* A device that sleeps until a packet may go or a sender has brought one, and senders that sleep while their ring is full, as
- * docs/EMBEDDING.md shows them. */
+/* A thread with a device, which sleeps until a packet may go or a sender has brought one, and senders that sleep while their ring is full.
+ * docs/EMBEDDING.md shows parts of this program. */
 #define _GNU_SOURCE
 #include "check.h"
 #include "qtree.h"
@@ -20,18 +20,18 @@ struct bell {
     atomic_bool is_listened_to;
 };
 
-/* A thread says that it is about to sleep. Then it looks once more for what it waits for: that is what came before, and who brings
- * something later will ring. Both sides exchange the flag, so that one of them always sees what the other did. */
+/* A thread calls this before it sleeps, and then checks once more for packets: it finds those that were brought before this call, and
+ * for later ones the bell rings. Both sides exchange the flag atomically, so that at least one of them sees what the other did. */
 static void bell_listen(struct bell *bell) { atomic_exchange(&bell->is_listened_to, true); }
 
-/* After something was brought. This is no call of the system unless the other thread sleeps. */
+/* A thread calls this after it brought packets. It makes a system call only if the other thread sleeps, or is about to. */
 static void bell_ring(struct bell *bell) {
     if (atomic_exchange(&bell->is_listened_to, false)) {
         eventfd_write(bell->fd, 1);
     }
 }
 
-/* After sleeping. One that rings just now wakes the thread once more, for nothing. */
+/* A thread calls this once it has slept. If the bell rings just now, the thread wakes once more and finds nothing to do. */
 static void bell_hush(struct bell *bell) {
     eventfd_t count;
     atomic_exchange(&bell->is_listened_to, false);
@@ -55,7 +55,7 @@ static uint64_t clock_ns(clockid_t clock) {
     return (uint64_t)now.tv_sec * 1000000000 + (uint64_t)now.tv_nsec;
 }
 
-/* Waits for room where the ring is full. */
+/* Offers a packet, and waits for room while the ring is full. */
 static void bring(struct sender *sender, const qtree_packet *packet) {
     struct pollfd room = { .fd = sender->room.fd, .events = POLLIN };
     while (qtree_offer(&sender->port, packet) == QTREE_FULL) {
@@ -83,7 +83,7 @@ static void *send_all(void *its) {
     return NULL;
 }
 
-/* Takes in, polls and reaps; whether there was something to do. A ring is empty where qtree_take_in takes nothing of it. */
+/* Takes packets in, polls and reaps, and returns whether there was something to do. If qtree_take_in takes nothing, the ring was empty. */
 static bool turn(qtree_device *device) {
     uint64_t now = clock_ns(CLOCK_MONOTONIC);
     bool is_busy = false;
@@ -106,15 +106,15 @@ static bool turn(qtree_device *device) {
     return is_busy;
 }
 
-/* Sleeps until a sender rings or a moment comes; for 0, which disarms the timer, until a sender rings. */
-static void sleep_until(int timer, uint64_t moment) {
-    struct itimerspec at = { .it_value = { (time_t)(moment / 1000000000), (long)(moment % 1000000000) } };
+/* Sleeps until a sender rings or until `due`, in nanoseconds; a time of 0 disarms the timer, and only a sender ends the sleep. */
+static void sleep_until(int timer, uint64_t due) {
+    struct itimerspec at = { .it_value = { (time_t)(due / 1000000000), (long)(due % 1000000000) } };
     timerfd_settime(timer, TFD_TIMER_ABSTIME, &at, NULL);
     struct pollfd either[] = { { arrivals.fd, POLLIN, 0 }, { timer, POLLIN, 0 } };
     poll(either, 2, -1);
 }
 
-/* Until all senders have ended and nothing is left. How often it slept. */
+/* Takes turns until all senders have ended and nothing is left. Returns how often it slept. */
 static uint64_t drain(qtree_device *device, int timer) {
     for (uint64_t sleeps = 0;;) {
         do {
@@ -123,12 +123,12 @@ static uint64_t drain(qtree_device *device, int timer) {
             }
             bell_listen(&arrivals);
         } while (turn(device));
-        uint64_t moment;
-        bool is_due = qtree_ready_at(device, &moment) == QTREE_DONE;
+        uint64_t due;
+        bool is_due = qtree_ready_at(device, &due) == QTREE_DONE;
         if (is_due || atomic_load(&open_senders) > 0) {
-            sleep_until(timer, is_due ? moment : 0);
+            sleep_until(timer, is_due ? due : 0);
             sleeps++;
-        } else if (!turn(device)) { /* nothing that a sender brought just before it ended */
+        } else if (!turn(device)) { /* a sender may have brought a packet just before it ended */
             return sleeps;
         }
     }

@@ -1,5 +1,5 @@
-/* Calls every function of the header with what libFuzzer gives it, on two devices and two rings, and stops where an answer is none
- * that the header names, memory beside what was lent is written, or the counters do not add up.
+/* Calls every function of the header with libFuzzer's input, on two devices and two rings. It stops if a function returns a number that
+ * the header does not name for it, writes memory that it was not given, or if the counters do not add up.
  *
  *     make fuzz                 100,000 calls or more
  *     make fuzz RUNS=1000000    10,000,000 calls or more */
@@ -10,7 +10,7 @@
 
 enum { PLACES = 8, GUARD = 0x5a, MOST_CALLS = 64 };
 
-/* What is left of the input. Behind its end stand zeros. */
+/* What is left of the input. After its end zeros are read. */
 struct input {
     const uint8_t *at;
     size_t left;
@@ -34,8 +34,8 @@ static uint64_t take(struct input *input, size_t bytes) {
 static qtree_port ports[2];
 static qtree_outlet outlets[2];
 
-/* A moment, mostly a small one. */
-static uint64_t moment(struct input *input) {
+/* A time, mostly a small one. */
+static uint64_t a_time(struct input *input) {
     switch (take(input, 1) % 8) {
     case 0: return take(input, 8);
     case 1: return QTREE_MOMENT_MAX + take(input, 1) - 1;
@@ -61,7 +61,7 @@ static qtree_packet packet(struct input *input) {
     return made;
 }
 
-/* What stands behind the last field is no part of a packet. */
+/* The padding after the last field is no part of a packet. */
 static bool same_packet(const qtree_packet *a, const qtree_packet *b) { return memcmp(a, b, offsetof(qtree_packet, ecn) + 1) == 0; }
 
 static size_t known_line(struct input *input, char *line, size_t room) {
@@ -103,7 +103,7 @@ static void command(qtree_device *device, struct input *input) {
         }
     }
     qtree_fault fault = { 7, 7 };
-    qtree_code code = qtree_command(device, (const uint8_t *)line, len, moment(input), &fault);
+    qtree_code code = qtree_command(device, (const uint8_t *)line, len, a_time(input), &fault);
     CHECK(code == QTREE_DONE || (code >= QTREE_REFUSED_NO_PARENT && code <= QTREE_REFUSED_NO_FILTER) || code == QTREE_FAULTY ||
           code == QTREE_NO_COMMAND || code == QTREE_OUT_OF_RANGE || code == QTREE_IS_CLOSED || code == QTREE_MEMORY);
     CHECK(code == QTREE_FAULTY ? fault.number >= 1 && fault.number <= 6 && fault.word >= 1 : fault.number == 7 && fault.word == 7);
@@ -132,7 +132,7 @@ static void arrive_frame(qtree_device *device, struct input *input) {
         bytes[i] = (uint8_t)take(input, 1);
     }
     uint16_t len = (uint16_t)take(input, 2);
-    uint64_t at = moment(input);
+    uint64_t at = a_time(input);
     qtree_code code = take(input, 1) % 2 == 0 ? qtree_arrive_frame(device, bytes, count, len, 7, (uint32_t)take(input, 4), at)
                                                : qtree_arrive_frame_seeded(device, bytes, count, len, 7, (uint32_t)take(input, 4), at);
     CHECK(code <= QTREE_LOST_OVER_LIMIT || code == QTREE_OUT_OF_RANGE || code == QTREE_IS_CLOSED || code == QTREE_MEMORY);
@@ -147,7 +147,7 @@ static void arrive_many(qtree_device *device, struct input *input) {
         packets[i] = packet(input);
     }
     memset(codes, GUARD, sizeof codes);
-    qtree_code code = qtree_arrive_many(device, packets, count, codes, room, &done, moment(input));
+    qtree_code code = qtree_arrive_many(device, packets, count, codes, room, &done, a_time(input));
     CHECK(code == QTREE_DONE || code == QTREE_OUT_OF_RANGE || code == QTREE_ROOM || code == QTREE_IS_CLOSED || code == QTREE_MEMORY);
     CHECK(done <= count && (code != QTREE_DONE || done == count) && (code != QTREE_ROOM || room < count));
     for (size_t i = 0; i < sizeof codes; i++) {
@@ -159,7 +159,7 @@ static void poll_many(qtree_device *device, struct input *input) {
     qtree_packet packets[PLACES + 1];
     size_t room = (size_t)take(input, 1) % (PLACES + 1), count = 99;
     memset(packets, GUARD, sizeof packets);
-    qtree_code code = qtree_poll_many(device, moment(input), packets, room, &count);
+    qtree_code code = qtree_poll_many(device, a_time(input), packets, room, &count);
     CHECK(code == QTREE_DONE || code == QTREE_IDLE || code == QTREE_LATER || code == QTREE_OUT_OF_RANGE || code == QTREE_IS_CLOSED);
     CHECK(count <= room && (code != QTREE_DONE || count == room));
     for (size_t i = count * sizeof packets[0]; i < sizeof packets; i++) {
@@ -171,14 +171,14 @@ static void poll_bufs(qtree_device *device, struct input *input) {
     qtree_sent sent[PLACES + 1];
     size_t room = (size_t)take(input, 1) % (PLACES + 1), count = 99;
     memset(sent, GUARD, sizeof sent);
-    qtree_code code = qtree_poll_bufs(device, moment(input), sent, room, &count);
+    qtree_code code = qtree_poll_bufs(device, a_time(input), sent, room, &count);
     CHECK(code == QTREE_DONE || code == QTREE_IDLE || code == QTREE_LATER || code == QTREE_OUT_OF_RANGE || code == QTREE_IS_CLOSED);
     CHECK(count <= room && (code != QTREE_DONE || count == room));
     for (size_t i = count * sizeof sent[0]; i < sizeof sent; i++) {
         CHECK(((uint8_t *)sent)[i] == GUARD);
     }
     qtree_sent one = { .len = 0 };
-    code = qtree_poll_buf(device, moment(input), &one);
+    code = qtree_poll_buf(device, a_time(input), &one);
     CHECK(code == QTREE_DONE || code == QTREE_IDLE || code == QTREE_LATER || code == QTREE_OUT_OF_RANGE || code == QTREE_IS_CLOSED);
     CHECK((code == QTREE_DONE) == (one.len > 0) && one.ecn <= 3);
 }
@@ -197,16 +197,16 @@ static void reap(qtree_device *device, struct input *input) {
     CHECK(code == QTREE_DONE || code == QTREE_NOTHING || code == QTREE_IS_CLOSED);
 }
 
-/* One packet arrives, the next moment is told, and one packet is polled for. */
+/* One packet arrives, the device is asked for the time of the next one, and one packet is polled for. */
 static void single(qtree_device *device, struct input *input) {
     qtree_packet one = packet(input);
     uint64_t at = 7;
-    qtree_code code = qtree_arrive(device, &one, moment(input));
+    qtree_code code = qtree_arrive(device, &one, a_time(input));
     CHECK(code <= QTREE_LOST_OVER_LIMIT || code == QTREE_OUT_OF_RANGE || code == QTREE_IS_CLOSED || code == QTREE_MEMORY);
     code = qtree_ready_at(device, &at);
     CHECK(code == QTREE_DONE || code == QTREE_NOTHING || code == QTREE_IS_CLOSED);
     CHECK(code == QTREE_DONE ? at <= QTREE_MOMENT_MAX : at == 7);
-    code = qtree_poll(device, moment(input), &one);
+    code = qtree_poll(device, a_time(input), &one);
     CHECK(code == QTREE_DONE || code == QTREE_IDLE || code == QTREE_LATER || code == QTREE_OUT_OF_RANGE || code == QTREE_IS_CLOSED);
 }
 
@@ -223,7 +223,7 @@ static void open_or_close(qtree_device *device, struct input *input) {
     }
 }
 
-/* What is read of a head that was marked is as before but for the codepoint, and few bytes are written. */
+/* After a mark the same fields are read from the header as before, but for the codepoint, and few bytes have changed. */
 static void mark(uint8_t *bytes, size_t count, const qtree_packet *one) {
     uint8_t before[80];
     qtree_packet marked = *one;
@@ -333,7 +333,7 @@ static void take_in(qtree_device *device, struct input *input) {
     size_t most = (size_t)take(input, 1) % PLACES, taken = 99;
     qtree_totals(device, &before);
     qtree_outlet_share(outlet, &had);
-    qtree_code code = qtree_take_in(device, outlet, moment(input), most, &taken);
+    qtree_code code = qtree_take_in(device, outlet, a_time(input), most, &taken);
     CHECK(code == QTREE_DONE || code == QTREE_OUT_OF_RANGE || code == QTREE_IS_CLOSED || code == QTREE_MEMORY);
     CHECK(taken <= most && (code == QTREE_DONE || code == QTREE_MEMORY || taken == 0));
     qtree_totals(device, &after);

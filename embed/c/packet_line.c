@@ -7,7 +7,7 @@ enum field { HASH, PRIO, IP_PROTO, SRC_IP, DST_IP, SRC_PORT, DST_PORT, ECN, FIEL
 static const char *const names[FIELDS] = { "hash", "prio", "ip_proto", "src_ip", "dst_ip", "src_port", "dst_port", "ecn" };
 static const uint64_t most[FIELDS] = { UINT32_MAX, 15, 0, 0, 0, UINT16_MAX, UINT16_MAX, 3 };
 
-/* What a line has given so far: the numbers, and the addresses, which are of one version. */
+/* What was read of a line so far: the numbers, and the addresses, which are of one version. */
 struct draft {
     bool is_given[FIELDS];
     uint64_t number[FIELDS];

@@ -1,4 +1,4 @@
-/* What docs/EMBEDDING.md says that programs run into, each tried once. */
+/* Tries once each pitfall that docs/EMBEDDING.md names. */
 #include "check.h"
 #include "qtree.h"
 
@@ -58,6 +58,36 @@ static void losses(void) {
     qtree_close(&device);
 }
 
+/* Closing a device hands nothing back. Before that each packet comes back by a loss, once the root is deleted, or by a poll of the pfifo
+ * that a device without commands has. */
+static void before_closing(void) {
+    static const char removal[] = "tc qdisc del dev a root";
+    for (int has_root = 0; has_root < 2; has_root++) {
+        qtree_device device = QTREE_CLOSED;
+        qtree_packet packet = { .len = 1000 };
+        qtree_loss loss;
+        qtree_fault fault;
+        int back = 0;
+        CHECK(qtree_open(&device, &(qtree_settings){ .txqueuelen = MANY, .mtu = 1514 }) == QTREE_DONE);
+        if (has_root == 1) {
+            static const char line[] = "tc qdisc add dev a root handle 1: tbf rate 8mbit burst 2000 limit 1mb";
+            CHECK(qtree_command(&device, (const uint8_t *)line, strlen(line), 0, &fault) == QTREE_DONE);
+        }
+        for (int count = 0; count < MANY; count++) {
+            CHECK(qtree_arrive(&device, &packet, 0) == QTREE_DONE);
+        }
+        const qtree_code deleted = qtree_command(&device, (const uint8_t *)removal, strlen(removal), 0, &fault);
+        CHECK(deleted == (has_root == 1 ? QTREE_DONE : QTREE_REFUSED_NO_QDISC));
+        for (; qtree_poll(&device, 0, &packet) == QTREE_DONE; back++) {
+        }
+        CHECK(back == (has_root == 1 ? 0 : MANY) && qtree_poll(&device, 0, &packet) == QTREE_IDLE);
+        for (; qtree_reap(&device, &loss) == QTREE_DONE; back++) {
+        }
+        CHECK(back == MANY);
+        qtree_close(&device);
+    }
+}
+
 /* The later fragments of a datagram have no ports, and so another hash than the first. */
 static void fragments(void) {
     uint8_t head[28] = { 0x45, 0, 5, 220, 0, 9, 0x20, 0, 64, 17, 0, 0, 10, 0, 0, 1, 10, 0, 0, 2, 0x10, 0, 0x13, 0x89 };
@@ -92,6 +122,7 @@ static void shared_link(void) {
 int main(void) {
     pointers();
     losses();
+    before_closing();
     fragments();
     shared_link();
     puts("pitfalls: each is as the page says");

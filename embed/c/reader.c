@@ -6,7 +6,7 @@ static bool is_blank(uint8_t byte) { return byte == ' ' || byte == '\t' || byte 
 
 struct reader reader_of(const uint8_t *line, size_t len) { return (struct reader){ line, len, 0, { 0, 0 } }; }
 
-/* How many bytes the character takes that stands first, by RFC 3629; 0 where none does. */
+/* How many bytes the first character takes, by RFC 3629; 0 if the first bytes are no character. */
 static size_t character(const uint8_t *at, size_t left) {
     if (at[0] < 0x80) {
         return 1;

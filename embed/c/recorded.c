@@ -1,4 +1,4 @@
-/* Records sessions of a program, and writes each as a script with what the program was answered: `qtree play` has to write the same.
+/* Records sessions of a program, and writes each as a script, with the results that the program got: `qtree play` has to write the same.
  *
  *     recorded FOLDER    writes FOLDER/recorded-N.qtree and FOLDER/recorded-N.out, and plays each script over this library */
 #include "check.h"
@@ -56,7 +56,7 @@ static void step(struct session *session, struct text *report) {
     if (kind == 0) {
         tc_line(&line);
     } else if (kind < 3) {
-        text_format(&line, "at %llu", (unsigned long long)session->moment + below(4000000));
+        text_format(&line, "at %llu", (unsigned long long)session->now + below(4000000));
     } else if (kind < 9) {
         pkt_line(&line);
     } else {
@@ -78,7 +78,7 @@ static void end(struct session *session, struct text *report) {
     }
 }
 
-/* The script of all that a device recorded, and that of its events one by one, which is the same but for the moments. */
+/* The script of all that a device recorded, and that of its events one by one, which is the same but for the lines that set the time. */
 static void script_of(qtree_device *device, struct text *script) {
     size_t needed = 0, again = 0, recorded = 0;
     uint64_t events = 0;
@@ -87,14 +87,14 @@ static void script_of(qtree_device *device, struct text *script) {
     uint8_t *at = text_room(script, needed);
     CHECK(at != NULL && qtree_recorded_script(device, at, needed, &again) == QTREE_DONE && again == needed);
     script->len += needed;
-    uint64_t moment = 0;
+    uint64_t now = 0;
     for (size_t i = 0, place = 0; i < recorded; i++) {
         uint8_t line[1024];
         qtree_event event;
         CHECK(qtree_recorded(device, i, &event) == QTREE_DONE && qtree_recorded_line(device, i, line, sizeof line, &again) == QTREE_DONE);
-        if (event.moment != moment) {
+        if (event.moment != now) {
             place += (size_t)snprintf(NULL, 0, "at %llu\n", (unsigned long long)event.moment);
-            moment = event.moment;
+            now = event.moment;
         }
         CHECK(place + again < needed && memcmp(at + place, line, again) == 0 && at[place + again] == '\n');
         place += again + 1;

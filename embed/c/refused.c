@@ -1,5 +1,5 @@
-/* Refuses one allocation after another of a session of commands, arrivals, rings and shows. Each refusal is answered by
- * QTREE_MEMORY, leaves every counter and every shown text as it was, and the same call then succeeds.
+/* Lets one allocation after another fail in a session of commands, arrivals, rings and shows. For each failure the call returns
+ * QTREE_MEMORY and leaves every counter and every shown text as it was, and the same call then succeeds.
  *
  * The linker sends the library's allocations here (--wrap), and none of this program's. */
 #include "check.h"
@@ -82,7 +82,7 @@ static bool is_same(void) {
     return memcmp(&before, &after, sizeof before) == 0;
 }
 
-/* Makes a call with its first allocation refused, then with its second, and so on, until none is: what is answered then. */
+/* Makes a call while its first allocation fails, then its second, and so on, until none fails, and returns the result of the last call. */
 static qtree_code insist(qtree_code (*call)(const void *), const void *given) {
     for (long grants = 0;; grants++) {
         look(&before);
@@ -134,7 +134,7 @@ static qtree_code shows(const void *given) {
     return code;
 }
 
-/* One of UDP, TCP or another, which the filters tell apart. */
+/* A packet of UDP, TCP or another protocol, for which there are different filters. */
 static qtree_packet packet(uint32_t number) {
     static const uint8_t protocols[] = { 17, 6, 1 };
     return (qtree_packet){
@@ -167,7 +167,7 @@ static void play_lines(void) {
     }
 }
 
-/* Packets arrive by calls and through the ring, each with every allocation refused once. */
+/* Packets arrive by calls and through the ring; of each, every allocation fails once. */
 static void play_packets(void) {
     const uint8_t udp[24] = { 0x45, 0, 0, 24, 0, 0, 0, 0, 64, 17, 0, 0, 10, 0, 0, 1, 10, 0, 0, 2, 0, 1, 0, 2 };
     for (uint32_t i = 0; i < FRAMES; i++) {
@@ -193,8 +193,8 @@ static void play_packets(void) {
     CHECK(after.device.arrived.packets == PACKETS + FRAMES + PLACES);
 }
 
-/* Takes whole rings in while the first or second allocation of a call is refused: what had arrived by then has left the ring, and
- * the next call takes in all else. */
+/* Takes whole rings in while the first or second allocation of a call fails: the packets that had arrived by then have left the ring,
+ * and the next call takes in the others. */
 static void play_whole_rings(void) {
     for (long round = 0; round < 60; round++) {
         qtree_packet given = packet(2);
@@ -214,7 +214,7 @@ static void play_whole_rings(void) {
     }
 }
 
-/* A poll, a reap and what reads need no memory. */
+/* A poll, a reap and the calls that only read allocate nothing. */
 static void play_without_memory(void) {
     qtree_packet given;
     qtree_loss loss;
@@ -267,6 +267,6 @@ int main(void) {
     qtree_port_close(&port);
     qtree_outlet_close(&outlet);
     qtree_close(&device);
-    printf("refused: %lu allocations refused, each answered, and then made\n", refusals);
+    printf("refused: %lu allocations failed, each with QTREE_MEMORY, and the calls then succeeded\n", refusals);
     return 0;
 }

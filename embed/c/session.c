@@ -22,7 +22,7 @@ static void arrive(struct session *session, uint64_t number, qtree_packet *packe
     session->packets++;
     packet->number = session->packets;
     packet->buf = session->packets;
-    qtree_code code = qtree_arrive(&session->device, packet, session->moment);
+    qtree_code code = qtree_arrive(&session->device, packet, session->now);
     if (code > QTREE_LOST_PURGED) {
         tell_refusal(session, number, code, report);
     }
@@ -30,7 +30,7 @@ static void arrive(struct session *session, uint64_t number, qtree_packet *packe
 
 static void poll_once(struct session *session, struct text *report) {
     qtree_packet packet;
-    switch (qtree_poll(&session->device, session->moment, &packet)) {
+    switch (qtree_poll(&session->device, session->now, &packet)) {
     case QTREE_DONE:
         text_format(report, "sent %" PRIu64 " %u%s\n", packet.number, packet.len, packet.ecn == 3 ? " ce" : "");
         break;
@@ -89,7 +89,7 @@ static void show(struct session *session, const uint8_t *line, size_t len, struc
 
 static void tc_line(struct session *session, uint64_t number, const uint8_t *line, size_t len, struct text *report) {
     qtree_fault fault;
-    qtree_code code = qtree_command(&session->device, line, len, session->moment, &fault);
+    qtree_code code = qtree_command(&session->device, line, len, session->now, &fault);
     if (code == QTREE_FAULTY) {
         tell_fault(session, number, fault, report);
     } else if (code == QTREE_NO_COMMAND) {
@@ -105,13 +105,13 @@ static bool read_polls(struct reader *reader, uint64_t *polls) {
     return next_word(reader, &word) && (word.len == 0 || (read_number(reader, word, 1, 100000, polls) && line_ends(reader)));
 }
 
-static bool read_moment(struct reader *reader, uint64_t *moment) {
+static bool read_time(struct reader *reader, uint64_t *time) {
     struct word word;
     uint64_t found;
     if (!needed_word(reader, &word) || !read_number(reader, word, 0, QTREE_MOMENT_MAX, &found) || !line_ends(reader)) {
         return false;
     }
-    *moment = found;
+    *time = found;
     return true;
 }
 
@@ -133,7 +133,7 @@ static bool play_words(struct session *session, uint64_t number, struct reader *
             poll_once(session, report);
         }
     } else if (word_is(first, "at")) {
-        return read_moment(reader, &session->moment);
+        return read_time(reader, &session->now);
     } else if (word_is(first, "reap") || word_is(first, "totals")) {
         if (!line_ends(reader)) {
             return false;

@@ -7,7 +7,7 @@
 
 struct session {
     qtree_device device;
-    uint64_t moment; /* of the lines that follow */
+    uint64_t now; /* the time of the lines that follow */
     uint32_t packets;
     uint32_t seed;
     bool is_refused; /* a line was faulty or refused */
@@ -21,9 +21,9 @@ struct play_options {
 
 /* Takes an option of the command line, as "--mtu" and "100"; false where there is none such. */
 bool take_option(struct play_options *options, const char *name, const char *value);
-/* Opens the device of a session; false where memory is refused. */
+/* Opens the device of a session; false if an allocation fails. */
 bool session_open(struct session *session, const struct play_options *options);
-/* Plays a line without its end, the one of this number from 1, and adds what it answers to the report. */
+/* Plays a line without its newline; lines are numbered from 1. Appends what the line writes to the report. */
 void session_line(struct session *session, uint64_t number, const uint8_t *line, size_t len, struct text *report);
 void session_close(struct session *session);
 /* The report of a script, and the status of the program: 0, 1 where a line was faulty or refused, 2 where nothing was played. */

@@ -1,4 +1,4 @@
-/* What each function answers, once on its way and once off it, and that the structs of the header are those of the library. */
+/* Checks what each function returns, once for good arguments and once for bad ones, and that header and library have the same structs. */
 #include "check.h"
 #include "qtree.h"
 
@@ -22,7 +22,7 @@ static void layout(void) {
     qtree_sample(&settings, &loss, &row, &event);
     CHECK(settings.txqueuelen == 1 && settings.recorder == 2 && settings.mtu == 3);
     const qtree_packet packet = { 1, 2, 3, 4, 5, 6, 7, 8, 9, 10, 11, 12, 13, 14, 15 };
-    const size_t filled = offsetof(qtree_packet, ecn) + 1; /* no compiler fills what stands behind the last field */
+    const size_t filled = offsetof(qtree_packet, ecn) + 1; /* compilers leave the padding after the last field as it is */
     CHECK(memcmp(&loss.packet, &packet, filled) == 0 && loss.cause == 16);
     CHECK(memcmp(&event.packet, &packet, filled) == 0 && event.moment == 16 && event.kind == 17);
     const qtree_row counts = { { 1, 2 }, { 3, 4 }, { 5, 6 }, { 7, 8 }, { 9, 10 }, { 11, 12 } };
@@ -140,7 +140,7 @@ static void packets(qtree_device *device) {
     CHECK(qtree_stats(device, QTREE_CLASS, 1, 2, &row) == QTREE_NOTHING && qtree_stats(device, 3, 0, 0, &row) == QTREE_OUT_OF_RANGE);
 }
 
-/* The one's complement sum of the words of a head (RFC 1071), which is 0xffff where its checksum is right. */
+/* The one's complement sum of the words of a header (RFC 1071), which is 0xffff if its checksum is right. */
 static uint32_t words_sum(const uint8_t *head, size_t count) {
     uint32_t sum = 0;
     for (size_t i = 0; i + 1 < count; i += 2) {
@@ -150,7 +150,7 @@ static uint32_t words_sum(const uint8_t *head, size_t count) {
     return (sum & 0xffff) + (sum >> 16);
 }
 
-/* 100,000 random heads: a mark changes the codepoint alone, and a right checksum stays right. */
+/* 100,000 random headers: a mark changes the codepoint alone, and a right checksum stays right. */
 static void marks(void) {
     uint64_t random = 1;
     size_t marked = 0;
@@ -184,7 +184,7 @@ static void marks(void) {
     CHECK(marked > 70000 && marked < 80000);
 }
 
-/* The IP head of a frame: behind no tag, one or two; and no head. */
+/* The IP header of a frame, behind no tag, one or two, and of frames without one. */
 static void frames(void) {
     uint8_t frame[64] = { 0 };
     CHECK(qtree_ip_at(NULL, 0) == 0 && qtree_ip_at(frame, sizeof frame) == 0);
@@ -257,7 +257,7 @@ static void rings(void) {
     qtree_close(&device);
 }
 
-/* What is told of packets that go is as by the other polls, and a poll that gives none writes nothing. */
+/* The fields of a sent packet are the same by all kinds of polls, and a poll that gives no packet writes nothing. */
 static void brief_polls(qtree_device *device, qtree_port *port, qtree_outlet *outlet) {
     qtree_sent one = { .buf = 9 }, all[4] = { { .buf = 9 }, { .buf = 9 }, { .buf = 9 }, { .buf = 9 } };
     size_t count = 7;

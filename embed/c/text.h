@@ -11,15 +11,15 @@ struct text {
     uint8_t *bytes;
     size_t len;
     size_t room;
-    bool is_short; /* memory was refused, and some of the text is not there */
+    bool is_short; /* an allocation failed, and a part of the text is missing */
 };
 #define NO_TEXT { NULL, 0, 0, false }
 
-/* Room for so many bytes more, behind those that stand there; NULL where memory is refused. */
+/* Makes room for so many bytes more at the end, and returns where they begin; NULL if an allocation fails. */
 uint8_t *text_room(struct text *text, size_t more);
 void text_bytes(struct text *text, const void *bytes, size_t len);
 void text_format(struct text *text, const char *format, ...) __attribute__((format(printf, 2, 3)));
-/* All of a file; false where it cannot be read or memory is refused. */
+/* Reads a whole file; false if it cannot be read or an allocation fails. */
 bool text_read(struct text *text, FILE *file);
 void text_free(struct text *text);
 

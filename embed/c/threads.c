@@ -1,6 +1,6 @@
-/* Senders on threads of their own bring packets through rings to one device, and every count has to add up.
+/* Senders on threads of their own pass packets through rings to one device, and every count has to add up.
  *
- *     threads [SENDERS [PACKETS]]     64 senders with 1,000,000 packets each where no numbers stand there
+ *     threads [SENDERS [PACKETS]]     by default 64 senders with 1,000,000 packets each
  *
  * The main thread takes in, polls and reaps under a lock, while another thread reads the device's counters under it. This is done
  * for a tree of one pfifo, which keeps the packets of each sender in order, and for one that shares among two classes. */
@@ -129,7 +129,7 @@ static void start(uint32_t packets) {
     }
 }
 
-/* Serves the rings until all packets are taken in, and answers the moment of the last turn. */
+/* Serves the rings until all packets are taken in, and returns the time of the last turn. */
 static uint64_t serve_all(uint64_t packets) {
     uint64_t now = 0;
     for (uint64_t taken = 0; taken < packets; now++) {

@@ -1,10 +1,10 @@
-/* Plays the lines of a script without polls, and polls whenever a packet may go: what a link does that sends as soon as it can.
+/* Plays the lines of a script that has no polls, and polls whenever a packet may go, as a link does that transmits as soon as it can.
  *
  *     until_idle [--rate BITS] [--mtu N] [--txqueuelen N] [--seed N] SCRIPT REPORT < LINES
  *
- * BITS a second is the rate of the link, on which a packet is followed by the next one once it has gone; without, a packet takes no
- * time on it. SCRIPT gets the lines with the polls and reaps between them, REPORT what `qtree play` writes of that. Where an arrival
- * and a poll come at one moment, the poll is first. After the last line it goes on until nothing more goes. */
+ * BITS a second is the rate of the link: while a packet is on the link, no other is sent. Without --rate a packet takes no time on it.
+ * SCRIPT gets the lines with polls and reaps between them, and REPORT what `qtree play` writes for that script. If an arrival and a poll
+ * come at the same time, the poll is first. After the last line it goes on until no more packets go. */
 #include "session.h"
 
 #include <inttypes.h>
@@ -17,7 +17,7 @@ struct link {
     struct text report;
     uint64_t number;  /* of the last line of the script */
     uint64_t rate;    /* in bits a second, or 0 */
-    uint64_t free_at; /* the moment from which the link can take a packet */
+    uint64_t free_at; /* the time from which the link can take a packet */
 };
 
 static void play(struct link *link, const char *line, size_t len) {
@@ -27,14 +27,14 @@ static void play(struct link *link, const char *line, size_t len) {
     session_line(&link->session, link->number, (const uint8_t *)line, len, &link->report);
 }
 
-static void play_at(struct link *link, uint64_t moment) {
+static void play_at(struct link *link, uint64_t now) {
     char line[32];
-    if (moment != link->session.moment) {
-        play(link, line, (size_t)snprintf(line, sizeof line, "at %" PRIu64, moment));
+    if (now != link->session.now) {
+        play(link, line, (size_t)snprintf(line, sizeof line, "at %" PRIu64, now));
     }
 }
 
-/* Has the losses that are there, if there are some. */
+/* Plays a reap, if there are losses. */
 static void reap(struct link *link) {
     size_t script = link->script.len, report = link->report.len;
     play(link, "reap", 4);
@@ -44,27 +44,27 @@ static void reap(struct link *link) {
     }
 }
 
-/* The link is taken for as long as the packet of the report's last line needs, if that tells of one. */
+/* If the report's last line says that a packet was sent, the link is busy for as long as that packet takes. */
 static void take_link(struct link *link, size_t before) {
     char line[64] = "";
     unsigned long long number, len;
     size_t size = link->report.len - before < sizeof line ? link->report.len - before : sizeof line - 1;
     memcpy(line, link->report.bytes + before, size);
     if (link->rate > 0 && sscanf(line, "sent %llu %llu", &number, &len) == 2) {
-        link->free_at = link->session.moment + (len * 8 * 1000000000 + link->rate - 1) / link->rate;
+        link->free_at = link->session.now + (len * 8 * 1000000000 + link->rate - 1) / link->rate;
     }
 }
 
-/* Polls as often as a packet may go until a moment. */
+/* Polls at each time at which a packet may go, up to an end. */
 static void poll_until(struct link *link, uint64_t end) {
     uint64_t ready;
     while (!link->report.is_short && qtree_ready_at(&link->session.device, &ready) == QTREE_DONE) {
-        uint64_t moment = ready > link->free_at ? ready : link->free_at;
-        moment = moment > link->session.moment ? moment : link->session.moment;
-        if (moment > end) {
+        uint64_t due = ready > link->free_at ? ready : link->free_at;
+        due = due > link->session.now ? due : link->session.now;
+        if (due > end) {
             return;
         }
-        play_at(link, moment);
+        play_at(link, due);
         size_t before = link->report.len;
         play(link, "poll", 4);
         take_link(link, before);
@@ -78,9 +78,9 @@ static void play_lines(struct link *link, const char *line, size_t left) {
         size_t len = (size_t)(end - line);
         left -= len + 1;
         if (strncmp(line, "at ", 3) == 0) {
-            uint64_t moment = strtoull(line + 3, NULL, 10);
-            poll_until(link, moment);
-            play_at(link, moment);
+            uint64_t now = strtoull(line + 3, NULL, 10);
+            poll_until(link, now);
+            play_at(link, now);
         } else {
             play(link, line, len);
             reap(link);

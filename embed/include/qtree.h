@@ -1,7 +1,7 @@
 /* qtree: a packet scheduler with the behaviour of Linux's tc, proved in Rattle (crates/qtree_c).
  *
- * A device stands in a qtree_device, which the program places where it likes and begins with QTREE_CLOSED (all bytes 0).
- * What each function does to it, and what it answers, is proved for every call that keeps to these rules, which no proof sees:
+ * A qtree_device holds a device. The program places it where it likes and begins it with QTREE_CLOSED (all bytes 0).
+ * What each function does to it, and what it returns, is proved for every call that keeps to these rules, which no proof sees:
  *
  *   - Every pointer is aligned, not null, and leads to memory of the program that no other pointer of the same call overlaps.
  *     Where a length is 0 its pointer may be null. A bool is false or true.
@@ -17,7 +17,7 @@
  *   - The processor is x86-64-v2 or later (SSE4.2 and POPCNT), and the system Linux, whichever its C library (glibc, musl). The
  *     compiler refuses others here; that an x86-64 processor is older, it cannot see.
  *
- * No function waits, prints, aborts or calls back. An offer, a poll and a reap take no memory, and neither do those that read
+ * No function waits, prints, aborts or calls back. An offer, a poll and a reap allocate nothing, and neither do those that read
  * or mark headers, or read counters, shares and times.
  *
  * A time is nanoseconds since a time of the program's choice, QTREE_MOMENT_MAX at most. A time before an earlier one counts as the
@@ -47,7 +47,7 @@ uint32_t qtree_version(void);
 
 #define QTREE_MOMENT_MAX (UINT64_C(1) << 62)
 
-/* What a function answers. QTREE_DONE and the causes of a loss: it did what it was called for. QTREE_IDLE, QTREE_LATER and
+/* What a function returns. QTREE_DONE and the causes of a loss: it did what it was called for. QTREE_IDLE, QTREE_LATER and
  * QTREE_NOTHING: it did, and has nothing to hand out. Otherwise nothing has changed, and nothing is written but a count of 0; a
  * function that does its work packet by packet says how far it came.
  * Causes have the numbers that qtree's reports write. */
@@ -77,7 +77,7 @@ enum {
     /* A poll gives no packet: none is queued; or some are, and their time has not come. */
     QTREE_IDLE = 30,
     QTREE_LATER = 31,
-    /* No loss waits, no node stands there, there is no such event, or no poll will ever give a packet. */
+    /* No loss waits, there is no such node, there is no such event, or no poll will ever give a packet. */
     QTREE_NOTHING = 32,
     /* The ring of a port has no room for a packet more. */
     QTREE_FULL = 33,
@@ -104,7 +104,7 @@ typedef struct qtree_device {
 #define QTREE_CLOSED { 0, 0 }
 #endif
 
-/* The two ends of a ring, by which a sender on a thread of its own brings packets to a device without a lock. Both begin with
+/* The two ends of a ring, by which a sender on a thread of its own passes packets to a device without a lock. Both begin with
  * QTREE_CLOSED. The sender's end, and the device's: */
 typedef struct qtree_port {
     void *at;
@@ -123,7 +123,7 @@ typedef struct qtree_settings {
 
 /* A packet's descriptor; its bytes stay with the program. What a packet lacks is 0. */
 typedef struct qtree_packet {
-    uint64_t src_high; /* addresses; one of IPv4 stands in the low 32 bits, and no other bit is set */
+    uint64_t src_high; /* addresses; one of IPv4 is in the low 32 bits, and no other bit is set */
     uint64_t src_low;
     uint64_t dst_high;
     uint64_t dst_low;
@@ -137,7 +137,7 @@ typedef struct qtree_packet {
     uint8_t proto;
     uint8_t family; /* 0 (not IP), 4 or 6 */
     uint8_t prio;   /* 0 to 15, as skb->priority */
-    uint8_t ecn;    /* 0 to 3, the ECN codepoint; 3 in a packet that is given: qtree_mark_head writes it into its bytes */
+    uint8_t ecn;    /* 0 to 3, the ECN codepoint; 3 in a packet that a poll returns: qtree_mark_head writes it into its bytes */
 } qtree_packet;
 
 typedef struct qtree_loss {
@@ -178,7 +178,7 @@ enum {
  * QTREE_DONE, QTREE_OUT_OF_RANGE, QTREE_IS_OPEN, QTREE_MEMORY. */
 qtree_code qtree_open(qtree_device *device, const qtree_settings *settings);
 
-/* Closes the device and frees its memory. What is queued is forgotten, and no loss. Nothing happens to a closed one. */
+/* Closes the device and frees its memory. What is queued is discarded, and is no loss. Nothing happens to a closed one. */
 void qtree_close(qtree_device *device);
 
 /* Does what one line of tc asks for, as "tc qdisc add dev eth0 root handle 1: drr", of so many bytes without the newline. What it
@@ -192,7 +192,7 @@ qtree_code qtree_command(qtree_device *device, const uint8_t *line, size_t line_
 void qtree_read_head(const uint8_t *bytes, size_t count, uint32_t seed, qtree_packet *packet);
 
 /* The same, without hashing, which is most of that time: hash is 0, or one that the program has, as that of a network card. Where no
- * fq_codel stands in the tree nothing reads a hash. An fq_codel puts what has the same hash into one flow. */
+ * fq_codel is in the tree nothing reads a hash. An fq_codel puts packets with the same hash into one flow. */
 void qtree_read_fields(const uint8_t *bytes, size_t count, qtree_packet *packet);
 void qtree_read_fields_hashed(const uint8_t *bytes, size_t count, uint32_t hash, qtree_packet *packet);
 
@@ -204,9 +204,9 @@ size_t qtree_ip_at(const uint8_t *bytes, size_t count);
 /* Fills in hash, with this seed, from family, proto, addresses and ports. QTREE_DONE, QTREE_OUT_OF_RANGE. */
 qtree_code qtree_hash(uint32_t seed, qtree_packet *packet);
 
-/* Writes Congestion Experienced (RFC 3168) into a packet that begins with its IP header, and renews the checksum of IPv4. Returns
+/* Writes Congestion Experienced (RFC 3168) into a packet that begins with its IP header, and updates the checksum of IPv4. Returns
  * whether the packet is marked now: it is where qtree_read_head reads an ecn that is not 0 of these bytes; else no byte is written.
- * A program does so with each packet that is given with the ecn 3: else its sender never learns of the congestion. */
+ * A program does so with each packet that a poll returns with the ecn 3: else its sender never learns of the congestion. */
 bool qtree_mark_head(uint8_t *bytes, size_t count);
 
 /* A packet arrives: QTREE_DONE where it is queued, else the cause for which it is lost, by which it is also to be reaped.
@@ -214,7 +214,7 @@ bool qtree_mark_head(uint8_t *bytes, size_t count);
 qtree_code qtree_arrive(qtree_device *device, const qtree_packet *packet, uint64_t now);
 
 /* A packet arrives of len bytes, of which these are the first, count of them, from its IP header on: as by qtree_arrive of what
- * qtree_read_fields_hashed fills in, with this buf, and the number and the port 0. hash may be 0 where no fq_codel stands in the tree;
+ * qtree_read_fields_hashed fills in, with this buf, and the number and the port 0. hash may be 0 where no fq_codel is in the tree;
  * the second one hashes the flow with a seed, as qtree_read_head does. QTREE_OUT_OF_RANGE is for a len of 0 and for the time.
  * QTREE_DONE, QTREE_LOST_.., QTREE_OUT_OF_RANGE, QTREE_IS_CLOSED, QTREE_MEMORY. */
 qtree_code qtree_arrive_frame(qtree_device *device, const uint8_t *bytes, size_t count, uint16_t len, uint32_t buf, uint32_t hash,
@@ -222,8 +222,8 @@ qtree_code qtree_arrive_frame(qtree_device *device, const uint8_t *bytes, size_t
 qtree_code qtree_arrive_frame_seeded(qtree_device *device, const uint8_t *bytes, size_t count, uint16_t len, uint32_t buf,
                                      uint32_t seed, uint64_t now);
 
-/* Packets arrive in order, to the first that is out of range or for which an allocation fails, as the answer says. done is
- * how many arrived, and codes[i] what the ith of them was answered: codes_len is count at least, else QTREE_ROOM.
+/* Packets arrive in order, up to the first that is out of range or for which an allocation fails, as the result says. done is
+ * how many arrived, and codes[i] the result for the ith of them: codes_len is count at least, else QTREE_ROOM.
  * QTREE_DONE, QTREE_OUT_OF_RANGE, QTREE_ROOM, QTREE_IS_CLOSED, QTREE_MEMORY. */
 qtree_code qtree_arrive_many(qtree_device *device, const qtree_packet *packets, size_t count, uint8_t *codes,
                              size_t codes_len, size_t *done, uint64_t now);
@@ -232,12 +232,12 @@ qtree_code qtree_arrive_many(qtree_device *device, const qtree_packet *packets, 
  * QTREE_DONE, QTREE_IDLE, QTREE_LATER, QTREE_OUT_OF_RANGE, QTREE_IS_CLOSED. */
 qtree_code qtree_poll(qtree_device *device, uint64_t now, qtree_packet *packet);
 
-/* Polls until there are room packets, or to the first poll that gives none, as the answer says. count is how many there are.
+/* Polls until there are room packets, or up to the first poll that gives none, as the result says. count is how many there are.
  * QTREE_DONE, QTREE_IDLE, QTREE_LATER, QTREE_OUT_OF_RANGE, QTREE_IS_CLOSED. */
 qtree_code qtree_poll_many(qtree_device *device, uint64_t now, qtree_packet *packets, size_t room, size_t *count);
 
-/* The same two, with the same answers, of which a program that only sends on gets no more than it needs. number and port are the
- * program's own, or those of the ring by which the packet came. */
+/* The same two, with the same results, for a program that only transmits: they return just the fields that it needs for this. number
+ * and port are the program's own, or those of the ring by which the packet came. */
 typedef struct qtree_sent {
     uint64_t number;
     uint32_t port;
@@ -248,18 +248,18 @@ typedef struct qtree_sent {
 qtree_code qtree_poll_buf(qtree_device *device, uint64_t now, qtree_sent *sent);
 qtree_code qtree_poll_bufs(qtree_device *device, uint64_t now, qtree_sent *sent, size_t room, size_t *count);
 
-/* The time before which no poll gives a packet, as long as none arrives and no command comes: a program sleeps till then. It is
- * no earlier than the latest time that counted. A poll at that time may still answer QTREE_LATER: what an fq_codel gives, or which
- * class of a drr, is not known before it is asked. The time that follows is then a later one. QTREE_NOTHING where no poll ever will:
+/* The time before which no poll gives a packet, as long as none arrives and no command comes: a program sleeps until then. It is
+ * no earlier than the latest time that counted. A poll at that time may still answer QTREE_LATER: which packet an fq_codel
+ * gives, or which class a drr serves, is not known before it is asked. The next qtree_ready_at then gives a later time. QTREE_NOTHING where no poll ever will:
  * nothing is queued, or no token bucket will ever hold enough.
  * QTREE_DONE, QTREE_NOTHING, QTREE_IS_CLOSED. */
 qtree_code qtree_ready_at(qtree_device *device, uint64_t *moment);
 
-/* Hands out the oldest loss that was not handed out yet. A program that needs no losses reaps too: those that wait keep memory.
+/* Returns the oldest loss that was not returned yet. A program that needs no losses reaps too: those that wait keep memory.
  * QTREE_DONE, QTREE_NOTHING, QTREE_IS_CLOSED. */
 qtree_code qtree_reap(qtree_device *device, qtree_loss *loss);
 
-/* Hands out losses until there are room of them, or none waits any more (QTREE_NOTHING). count is how many there are.
+/* Returns losses until there are room of them, or none waits any more (QTREE_NOTHING). count is how many there are.
  * QTREE_DONE, QTREE_NOTHING, QTREE_IS_CLOSED. */
 qtree_code qtree_reap_many(qtree_device *device, qtree_loss *losses, size_t room, size_t *count);
 
@@ -283,7 +283,7 @@ qtree_code qtree_show(qtree_device *device, uint32_t what, uint8_t *text, size_t
 qtree_code qtree_ring_open(qtree_port *port, qtree_outlet *outlet, uint32_t index, size_t places);
 
 /* Places a packet in the ring, with the port's index as its port and the number of packets placed, this one too, as its number;
- * *packet itself stays. It takes no lock and no memory, and waits for nobody. QTREE_FULL where no place is free: places become free
+ * *packet itself stays. It takes no lock, allocates nothing and waits for no thread. QTREE_FULL where no place is free: places become free
  * as packets are taken in.
  * QTREE_DONE, QTREE_FULL, QTREE_OUT_OF_RANGE, QTREE_IS_CLOSED. */
 qtree_code qtree_offer(qtree_port *port, const qtree_packet *packet);
@@ -299,7 +299,7 @@ qtree_code qtree_port_share(qtree_port *port, qtree_count *share);
 qtree_code qtree_outlet_share(qtree_outlet *outlet, qtree_count *share);
 
 /* Closes one end, either first; nothing happens to a closed one. Behind a closed port what was placed is still taken in. What is in
- * the ring of a closed outlet is forgotten, and no loss; its port's offers go on until the ring is full. The ring's memory is freed
+ * the ring of a closed outlet is discarded, and is no loss; its port's offers go on until the ring is full. The ring's memory is freed
  * with its second end. */
 void qtree_port_close(qtree_port *port);
 void qtree_outlet_close(qtree_outlet *outlet);
@@ -326,7 +326,7 @@ qtree_code qtree_recorded_line(qtree_device *device, size_t index, uint8_t *text
 
 /* The script of all recorded events: these lines in order, and lines that set the time, each with a newline behind it. `qtree play`
  * with the device's mtu and txqueuelen does with it what the device did. Its packets are numbered from 1 in the order of their
- * arrivals, with port 0 and their number as buf. It takes memory for the text, which grows by doubling, and gives it back.
+ * arrivals, with port 0 and their number as buf. It allocates room for the text, which grows by doubling, and frees it.
  * QTREE_DONE, QTREE_ROOM, QTREE_IS_CLOSED, QTREE_MEMORY. */
 qtree_code qtree_recorded_script(qtree_device *device, uint8_t *text, size_t room, size_t *needed);
 

@@ -3,8 +3,8 @@
 
     examples/capture/make_capture.py FILE [--form pcap|pcapng] [--link ethernet|vlan|raw|cooked|cooked2] [--snap N]
 
-Two downloads, one of which takes marks, four web sites that send in bursts, two calls, name lookups and a game over IPv6. The frames are
-cut to their first 58 bytes, or those of --snap. The same words write the same bytes."""
+Two downloads, one of which supports ECN, four web sites that send in bursts, two calls, name lookups and a game over IPv6. The frames are
+cut to their first 58 bytes, or those of --snap. The same options give the same bytes."""
 import argparse
 import random
 import struct
@@ -15,10 +15,10 @@ LINKS = {"ethernet": 1, "vlan": 1, "raw": 101, "cooked": 113, "cooked2": 276}
 
 def ipv4(source, protocol, payload, tos=0):
     to = bytes((192, 0, 2, 7))
-    head = struct.pack(">BBHHHBBH4s4s", 0x45, tos, 20 + len(payload), 0, 0x4000, 60, protocol, 0, bytes(source), to)
-    total = sum(struct.unpack(">10H", head))
+    header = struct.pack(">BBHHHBBH4s4s", 0x45, tos, 20 + len(payload), 0, 0x4000, 60, protocol, 0, bytes(source), to)
+    total = sum(struct.unpack(">10H", header))
     total = (total & 0xFFFF) + (total >> 16)
-    return head[:10] + struct.pack(">H", ~(total + (total >> 16)) & 0xFFFF) + head[12:] + payload
+    return header[:10] + struct.pack(">H", ~(total + (total >> 16)) & 0xFFFF) + header[12:] + payload
 
 
 def ipv6(payload):
@@ -35,7 +35,7 @@ def udp(sport, dport, size):
 
 
 def bursts(rng, begin, mean, sizes):
-    """The moments of packets, in seconds: bursts of so many, as fast as a gigabit brings them, with pauses of this mean between."""
+    """The times of packets, in seconds: bursts of so many at a gigabit per second, with pauses of this mean between them."""
     at = begin
     while at < SECONDS:
         for place in range(rng.randint(*sizes)):
@@ -44,7 +44,7 @@ def bursts(rng, begin, mean, sizes):
 
 
 def packets():
-    """The moment in microseconds and the IP packet of each, in order."""
+    """The time in microseconds and the IP packet of each, in order."""
     rng, found = random.Random(7), []
     for at, sport, tos, mean in ((0.0, 443, 0, 0.025), (0.6, 8443, 2, 0.026)):
         source = (198, 51, 100, 1 + (tos > 0))
@@ -57,7 +57,7 @@ def packets():
         found += [(0.01 * call + 0.02 * it, ipv4(source, 17, udp(16384, 16384 + call, 160), 0xB8)) for it in range(SECONDS * 50)]
     found += [(it, ipv4((198, 51, 100, 53), 17, udp(53, 53535, 90))) for it in bursts(rng, 0.3, 0.25, (1, 1))]
     found += [(0.1 + 0.05 * it, ipv6(udp(6000, 6001, 500))) for it in range((SECONDS - 1) * 20)]
-    # What lies within the last microsecond of a burst stands in the order in which it was made.
+    # Packets of the same microsecond stay in the order in which they were made.
     return sorted(((int(at * 1e6), packet) for at, packet in found), key=lambda it: it[0])
 
 
@@ -84,13 +84,13 @@ def capture(form, link, snap):
     else:
         yield block(0x0A0D0D0A, struct.pack("<IHHq", 0x1A2B3C4D, 1, 0, -1))
         yield block(1, struct.pack("<HHIHHB3xHH", LINKS[link], 0, snap, 9, 1, 9, 0, 0))
-    for moment, packet in packets():
+    for when, packet in packets():
         frame = framed(packet, link)
         kept = frame[:snap]
         if form == "pcap":
-            yield struct.pack("<IIII", START + moment // 10**6, moment % 10**6, len(kept), len(frame)) + kept
+            yield struct.pack("<IIII", START + when // 10**6, when % 10**6, len(kept), len(frame)) + kept
         else:
-            at = START * 10**9 + moment * 1000
+            at = START * 10**9 + when * 1000
             yield block(6, struct.pack("<IIIII", 0, at >> 32, at & 0xFFFFFFFF, len(kept), len(frame)) + kept)
 
 

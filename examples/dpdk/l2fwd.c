@@ -1,4 +1,4 @@
-/* Frames of port 0 go through a device of qtree and out by port 1; or frames that it makes go through several schedulers in turns.
+/* Sends frames of port 0 through a device of qtree and out by port 1; or sends frames that it makes through several schedulers in turns.
  *
  *     l2fwd EAL.. -- FILE [COUNT [MADE]]     until COUNT frames came and none waits, or a signal; MADE are sent to port 0 before
  *     l2fwd EAL.. -- --bench ROUNDS FILE..   cycles a packet of a ring, of rte_sched and of devices, of which a file sets up each */
@@ -88,7 +88,7 @@ static struct scheduler rte_scheduler(uint32_t pipes) {
     return (struct scheduler){ name, wanted(code == 0 ? opened : NULL, name), pipes, 0, 0, rte_classify, rte_enqueue, rte_dequeue };
 }
 
-/* The IP head behind an Ethernet head without tags, and the bytes of it that are there: 0 where it is another. */
+/* The IP header after an Ethernet header without tags, and how many bytes from there on are in the mbuf: 0 if the frame is not IP. */
 static uint8_t *ip_head(const struct rte_mbuf *mbuf, size_t *count) {
     struct rte_ether_hdr *head = rte_pktmbuf_mtod(mbuf, struct rte_ether_hdr *);
     bool is_ip = head->ether_type == RTE_BE16(RTE_ETHER_TYPE_IPV4) || head->ether_type == RTE_BE16(RTE_ETHER_TYPE_IPV6);
@@ -125,7 +125,7 @@ static void qtree_enqueue(struct scheduler *it, struct rte_mbuf **mbufs, unsigne
         packets[i] = *(const qtree_packet *)rte_mbuf_to_priv(mbufs[i]);
     }
     qtree_arrive_many(it->state, packets, count, codes, BURST, &done, now);
-    it->lost += count - done; /* for want of memory */
+    it->lost += count - done; /* their allocations failed */
     rte_pktmbuf_free_bulk(mbufs + done, count - (unsigned)done);
     qtree_free_losses(it);
 }
@@ -262,7 +262,7 @@ static double turn(struct scheduler *it, bool is_classified, bool is_polled, uns
     return (double)(rte_rdtsc() - begun) / (double)given;
 }
 
-/* The least cycles of the rounds, with the reading of heads and without, over frames that wait; then all are taken out again. */
+/* The least cycles of the rounds, with the reading of headers and without, while frames wait; then all are dequeued again. */
 static void bench(struct scheduler *it, unsigned rounds) {
     double least[2] = { 1e9, 1e9 };
     struct rte_mbuf *mbufs[BURST];

@@ -3,7 +3,7 @@
 
 #include <inttypes.h>
 
-/* The counts of a row, by where they stand in it. */
+/* The counts of a row, by their position in it. */
 static const struct {
     const char *name, *help;
     size_t at;

@@ -6,7 +6,7 @@
 
 #include <stdio.h>
 
-/* What the program reaped, by cause: the device tells causes with its losses alone. */
+/* The losses that the program reaped, by cause: only the losses themselves have their causes, and no counter of the device does. */
 struct losses {
     qtree_count by_cause[QTREE_LOST_PURGED + 1];
 };

@@ -1,4 +1,4 @@
-/* A device beneath a netif of lwIP: the frames of two bulk flows wait in it until it is their turn, and go out by a TAP device.
+/* A device below a netif of lwIP: the frames of two bulk flows wait in it until it is their turn, and go out by a TAP device.
  *
  *     lwip_tap TAP SECONDS <FILE      plays the lines of tc of a file, sends to port 5001 of 10.78.0.1, and accounts for every frame */
 #include "qtree.h"
@@ -48,7 +48,7 @@ static bool transmit(const struct pbuf *frame) {
     return write(tap, bytes, len) == frame->tot_len;
 }
 
-/* Sends what may go, reaps, and sets the timer to the moment of the next packet; 0, which disarms it, where none waits. */
+/* Sends the packets that may go, reaps, and sets the timer to the time of the next one; to 0, which disarms it, if none waits. */
 static void drain(void) {
     qtree_packet packet;
     while (qtree_poll(&device, now_ns(), &packet) == QTREE_DONE) {
@@ -180,7 +180,7 @@ int main(int argc, char **argv) {
         sys_thread_new("bulk", bulk, NULL, 0, 0);
     }
     sleep((unsigned)strtoul(argv[2], NULL, 10));
-    LOCK_TCPIP_CORE(); /* the stack stands still until the program ends */
+    LOCK_TCPIP_CORE(); /* the stack does nothing more until the program ends */
     bool is_right = totals();
     fflush(stdout);
     _exit(is_right ? 0 : 1);

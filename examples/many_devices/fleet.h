@@ -1,4 +1,4 @@
-/* Several workers whose devices have the same tree, and a device without traffic, by which it is known before what they would answer. */
+/* Several workers whose devices have the same tree, and a device without traffic, on which each line is tried first. */
 #ifndef FLEET_H
 #define FLEET_H
 
@@ -22,8 +22,8 @@ void fleet_stop(struct fleet *fleet);
 
 void fleet_close(struct fleet *fleet);
 
-/* Plays a line on all devices or on none, and answers as qtree_command does. Whether a line is done depends on the tree alone, and so
- * the trial's answer is that of all, but for memory: a device that is refused it is asked again until it has it. */
+/* Plays a line on all devices or on none, and returns what qtree_command does. Whether a line is done depends on the tree alone, so the
+ * result of the trial is that of all devices, but for failed allocations: after one the device is asked again until it succeeds. */
 qtree_code fleet_command(struct fleet *fleet, const char *line, qtree_fault *fault);
 
 /* The sum of what all devices counted at a place, each of them between two bursts of its own. Answers as qtree_stats does. */

@@ -1,7 +1,8 @@
-/* By which one thread has another do something with its device: a question waits until the other one comes by, between two bursts.
+/* A mailbox by which one thread asks another to do something with its device. A question waits until that thread checks for it, between
+ * two bursts.
  *
- * The one that has the device reads a flag and goes on; it takes a lock for a question alone. A spin lock around each burst would be
- * free so short that the asker, which sleeps and wakes, gets it late or never. */
+ * The thread that has the device reads a flag and goes on; it takes a lock only for a question. A spin lock around each burst would be
+ * free for so short a time that the thread that asks, which sleeps and wakes, would get it late or never. */
 #ifndef MAILBOX_H
 #define MAILBOX_H
 
@@ -10,7 +11,7 @@
 #include <pthread.h>
 #include <stdatomic.h>
 
-/* What two threads write stands this many bytes apart: two lines of a cache, since processors fetch them in pairs. */
+/* Data that two threads write are this many bytes apart: two cache lines, since processors fetch them in pairs. */
 #define APART 128
 
 /* What is done with the device, on the thread that has it. */
@@ -27,7 +28,7 @@ struct mailbox {
 void mailbox_open(struct mailbox *mailbox);
 void mailbox_close(struct mailbox *mailbox);
 
-/* Waits until the question is answered. One thread at a time asks, and the other one comes by until then. */
+/* Asks a question and waits for the answer. One thread at a time asks, while the other one still checks for questions. */
 void mailbox_ask(struct mailbox *mailbox, question_fn *question, void *about);
 
 /* Answers the question that waits. */

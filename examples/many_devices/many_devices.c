@@ -1,6 +1,6 @@
 /* Devices on threads of their own, which one thread sets up and reads.
  *
- *     many_devices [DEVICES] <FILE      plays the lines of a file, each on all devices (4 where no number stands there) or on none
+ *     many_devices [DEVICES] <FILE      plays the lines of a file, each on all devices (by default 4) or on none
  *     many_devices --bench [SECONDS]    processor time a packet at one device and at four, in turns
  *
  * Beside lines of tc a file has `sum`, `sum root` and `sum MAJOR:MINOR`, which print what all devices counted at a place, and
@@ -103,11 +103,11 @@ static bool print_totals(const struct total *total) {
            total->row.refused.packets + total->row.dropped.packets == lost;
 }
 
-/* Opens and starts so many; false, having told why, where it cannot. */
+/* Opens and starts so many; if it cannot, it prints why and returns false. */
 static bool open_running(struct fleet *fleet, size_t count) {
     qtree_code code = fleet_open(fleet, count);
     if (code != QTREE_DONE) {
-        fprintf(stderr, "many_devices: %zu devices cannot be opened: %s\n", count, code == QTREE_MEMORY ? "memory is refused" : "1 to 64 can");
+        fprintf(stderr, "many_devices: %zu devices cannot be opened: %s\n", count, code == QTREE_MEMORY ? "an allocation failed" : "1 to 64 can");
         return false;
     }
     if (!fleet_start(fleet)) {

@@ -28,7 +28,7 @@ void worker_close(struct worker *worker) {
     mailbox_close(&worker->mailbox);
 }
 
-/* As many packets as there are buffers, up to a burst. A program reads frames here, and their heads by qtree_read_head. */
+/* As many packets as there are buffers, up to a burst. A program reads frames here, and their headers by qtree_read_head. */
 static size_t make(struct worker *worker, qtree_packet *packets) {
     size_t count = 0;
     while (count < BURST && worker->free_count > 0) {
@@ -42,7 +42,7 @@ static size_t make(struct worker *worker, qtree_packet *packets) {
     return count;
 }
 
-/* Those that have not arrived, for want of memory, keep no buffer; those that are lost are reaped. */
+/* The buffers of packets that did not arrive, since an allocation failed, are free again; those that are lost are reaped. */
 static void arrive(struct worker *worker, const qtree_packet *packets, size_t count, uint64_t now) {
     uint8_t codes[BURST];
     size_t done = 0;
@@ -76,7 +76,7 @@ static void reap(struct worker *worker) {
     } while (count == BURST);
 }
 
-/* Bursts, and a look into the mailbox after each, until it is to stop. */
+/* Sends bursts, and checks the mailbox after each, until it is to stop. */
 static void *run(void *its) {
     struct worker *worker = its;
     uint64_t begun = clock_ns(CLOCK_THREAD_CPUTIME_ID);

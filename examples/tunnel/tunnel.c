@@ -105,7 +105,7 @@ static bool way_read(struct way *way) {
     return true;
 }
 
-/* Writes the frames whose turn it is, and brings next down to the moment of the one after; false where the device is gone. */
+/* Writes the frames that may go, and lowers next to the time of the one after them; false if the TUN device is gone. */
 static bool way_write(struct way *way, uint64_t *next) {
     qtree_packet packet;
     while (qtree_poll(&way->device, now_ns(), &packet) == QTREE_DONE) {
@@ -122,9 +122,9 @@ static bool way_write(struct way *way, uint64_t *next) {
         }
     }
     take_losses(way);
-    uint64_t moment;
-    if (qtree_ready_at(&way->device, &moment) == QTREE_DONE && moment < *next) {
-        *next = moment;
+    uint64_t due;
+    if (qtree_ready_at(&way->device, &due) == QTREE_DONE && due < *next) {
+        *next = due;
     }
     return true;
 }
@@ -155,7 +155,7 @@ static bool way_totals(struct way *way) {
            row.sent.packets == way->written + way->unwritten && row.queued.packets + way->free_count == BUFFERS;
 }
 
-/* Plays a line in both directions; false, having told why, where it is faulty or refused. */
+/* Plays a line in both directions; if it is faulty or refused, prints why and returns false. */
 static bool play_line(struct tunnel *tunnel, const char *line, size_t number) {
     for (int i = 0; i < 2; i++) {
         qtree_fault fault;
@@ -173,7 +173,7 @@ static bool play_line(struct tunnel *tunnel, const char *line, size_t number) {
     return true;
 }
 
-/* Plays each line of the file that is not as it was played before; false where one cannot be. */
+/* Plays each line of the file that is new or has changed; false if one of them cannot be played. */
 static bool play_file(struct tunnel *tunnel) {
     FILE *file = fopen(tunnel->file, "r");
     if (file == NULL) {
@@ -274,7 +274,7 @@ int main(int argc, char **argv) {
     tunnel.file = argv[3];
     bool is_right = false;
     if (!way_open(&tunnel.ways[0], argv[1], argv[2]) || !way_open(&tunnel.ways[1], argv[2], argv[1])) {
-        fprintf(stderr, "tunnel: memory is refused\n");
+        fprintf(stderr, "tunnel: an allocation failed\n");
     } else if (play_file(&tunnel) && open_all(&tunnel)) {
         is_right = run(&tunnel);
         is_right = way_totals(&tunnel.ways[0]) && is_right;

@@ -12,7 +12,7 @@ enum Event {
     Poll(u64),
 }
 
-/// What a poll is answered; a packet stands in the place that was given.
+/// What a poll returns; a packet is written to the place that the caller lends.
 pub enum Polled {
     Packet,
     Idle,
@@ -30,7 +30,7 @@ pub struct Device {
     /// The first events, so many at most.
     recorded: Vec<Event>,
     recorder: usize,
-    /// Whether an fq_codel that is added keeps its winners near the limit alone.
+    /// Whether an fq_codel that is added keeps its tournament tree only near the limit.
     pub lazy: bool,
 }
 

@@ -1,4 +1,4 @@
-//! FQ-CoDel (RFC 8290) with CoDel (RFC 8289, section 5) that decides on the head where that stands.
+//! FQ-CoDel (RFC 8290) with CoDel (RFC 8289, section 5) that decides on the first packet without moving it.
 
 use super::flow::{Ends, Flow, Listed};
 use super::slab::Slab;
@@ -10,7 +10,7 @@ use crate::plain::packet::{Cause, Packet, Put};
 use crate::plain::place::{at, at_mut};
 use crate::plain::toll::Toll;
 
-/// Keeps its winners `ALWAYS`, at each put and take, or only near the limit.
+/// Keeps its tournament tree `ALWAYS`, at each put and take, or only near the limit.
 pub struct FqCodel<const ALWAYS: bool> {
     settings: Settings,
     /// In place of a division, where the number of flows is a power of two.

@@ -22,7 +22,7 @@ pub struct Node {
     pub held: Packet,
 }
 
-/// Its kind stands in a byte of its own, which is read at once.
+/// Its kind is in a byte of its own, which is read at once.
 #[repr(u8)]
 pub enum Discipline {
     Fifo(Fifo),
@@ -44,7 +44,7 @@ pub enum Discipline {
         classes: Vec<Node>,
     },
     FqCodel(Box<FqCodel<true>>),
-    /// The same with winners near the limit alone.
+    /// The same with a tournament tree only near the limit.
     Lazy(Box<FqCodel<false>>),
 }
 

@@ -127,7 +127,7 @@ fn offers_and_turns(places: usize, stretches: usize) -> Option<[f64; 3]> {
     Some([offers as f64 / packets, turns as f64 / packets, idle])
 }
 
-/// The calls that those turns make on a device, of packets that stand in a list.
+/// The calls that those turns make on a device, of packets in a list.
 fn calls_of_turns(places: usize, stretches: usize) -> Option<f64> {
     let (mut device, packets) = (Device::new(1514, 1_000_000, 0), vec![packet(); places]);
     let mut out = Packet::NONE;

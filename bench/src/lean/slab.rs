@@ -19,7 +19,7 @@ impl Slab {
         }
     }
 
-    /// Makes sure of a vacant place; `None` where memory is refused.
+    /// Makes sure of a vacant place; `None` if an allocation fails.
     #[inline(always)]
     pub fn reserve(&mut self) -> Option<()> {
         if self.vacant == NONE { self.grow() } else { Some(()) }

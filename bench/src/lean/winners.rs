@@ -1,4 +1,4 @@
-//! A tree of winners by ranks, with the fat flow at its top. It is kept at all times, or only while it may be asked: from the first
+//! A tournament tree by ranks, with the fat flow at its top. It is kept at all times, or only while it may be asked: from the first
 //! put over the limit until half of that is queued.
 
 use crate::plain::place::{at, at_mut};

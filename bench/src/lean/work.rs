@@ -54,7 +54,7 @@ struct Ready {
     sum: u64,
 }
 
-/// With `lazy`, each fq_codel keeps its winners near the limit alone.
+/// With `lazy`, each fq_codel keeps its tournament tree only near the limit.
 #[inline(never)]
 pub fn pairs(lines: &Lines, plan: &Plan, queued: u32, lazy: bool, step: u32, passes: u32) -> u64 {
     pass_pairs(lines, plan, queued, lazy, step, passes).unwrap_or(0)

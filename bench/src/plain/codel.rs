@@ -1,4 +1,4 @@
-//! CoDel as RFC 8289, section 5, gives it. It decides on the head where that stands.
+//! CoDel as RFC 8289, section 5, gives it. It decides on the first packet without moving it.
 
 use super::gap::gap;
 use super::head::Ecn;
@@ -69,7 +69,7 @@ impl Codel {
         queue.take_into(out)
     }
 
-    /// Whether the queue has stood for an interval.
+    /// Whether the queue has been above target for an interval.
     #[inline(always)]
     fn is_late(&self, stands: bool, now: u64) -> bool {
         stands && self.above > 0 && self.above <= now

@@ -12,7 +12,7 @@ pub enum Event {
     Poll(u64),
 }
 
-/// What a poll is answered; a packet stands in the place that was given.
+/// What a poll returns; a packet is written to the place that the caller lends.
 pub enum Polled {
     Packet,
     Idle,

@@ -98,7 +98,7 @@ impl Fifo {
         }
     }
 
-    /// A ring of twice as many places, from its first; `None` where memory is refused.
+    /// A ring of twice as many places, from its first; `None` if an allocation fails.
     #[cold]
     #[inline(never)]
     fn grow(&mut self) -> Option<()> {

@@ -1,4 +1,4 @@
-//! FQ-CoDel with the packets of all flows in one slab, the lists of flows linked through the flows, and a tree of winners.
+//! FQ-CoDel with the packets of all flows in one slab, the lists of flows linked through the flows, and a tournament tree.
 
 use super::codel::{Codel, Law};
 use super::packet::{Cause, Packet, Put};

@@ -198,7 +198,7 @@ fn read_limit(words: &mut Words, read: impl Fn(&Words, &str) -> Read<u32>) -> Re
     Ok(limit)
 }
 
-/// The numbers of a priomap that stand in the line, and the word of the first.
+/// The numbers of a priomap in the line, and the word of the first.
 #[derive(Default)]
 struct Priomap {
     first: usize,
@@ -206,7 +206,7 @@ struct Priomap {
     count: usize,
 }
 
-/// A number that is not below the bands is a fault only once the line is read, as the bands may stand behind it.
+/// A number that is not below the bands is a fault only once the line is read, as the bands may come after it.
 fn read_prio(words: &mut Words) -> Read<Kind> {
     let (mut bands, mut map) = (None, None);
     let mut is_ended = false;

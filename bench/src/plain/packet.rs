@@ -15,7 +15,7 @@ pub struct Packet {
 }
 
 impl Packet {
-    /// What stands in a place that was never used.
+    /// What is in a place that was never used.
     pub const NONE: Packet = Packet {
         key: FlowKey::NONE,
         number: 0,
@@ -28,7 +28,7 @@ impl Packet {
     };
 }
 
-/// A packet where it is queued, with the moment at which it was put there.
+/// A queued packet, with the time at which it was enqueued.
 #[repr(C)]
 #[derive(Clone, Copy)]
 pub struct Stamped {

@@ -16,7 +16,7 @@ pub enum Listed {
     Stale,
 }
 
-/// The packets of one flow; beside them stands what links the flow to others, so that a flow has 64 bytes.
+/// The packets of one flow, beside the links of the flow to others, so that a flow has 64 bytes.
 #[derive(Clone, Copy)]
 pub struct List {
     pub bytes: u64,
@@ -56,7 +56,7 @@ impl Pool {
         }
     }
 
-    /// Makes sure of a vacant place; `None` where memory is refused.
+    /// Makes sure of a vacant place; `None` if an allocation fails.
     #[inline(always)]
     pub fn reserve(&mut self) -> Option<()> {
         if self.vacant == NONE { self.grow() } else { Some(()) }

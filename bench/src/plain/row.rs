@@ -21,7 +21,7 @@ impl Totals {
     }
 }
 
-/// Packets and bytes stand apart, since neighbours that are written as one number and read as two hold the processor up.
+/// Packets and bytes are kept apart, since neighbours that are written as one number and read as two hold the processor up.
 /// What is queued follows from the rest, so that an arrival writes `arrived` alone and a poll `sent` alone.
 #[derive(Clone, Copy, Default)]
 pub struct Row {

@@ -76,7 +76,7 @@ impl Toll {
         self.sums = before.unwrap_or_default();
     }
 
-    /// Makes room for the loss of this many packets; `None` where memory is refused.
+    /// Makes room for the loss of this many packets; `None` if an allocation fails.
     #[inline(always)]
     pub fn reserve(&mut self, packets: usize) -> Option<()> {
         if self.lost.capacity() - self.lost.len() >= packets {

@@ -1,6 +1,6 @@
 use super::place::{at, at_mut};
 
-/// A tree of winners by ranks, the flows behind the inner nodes: the fat flow stands at its top.
+/// A tournament tree by ranks, the flows behind the inner nodes: the fat flow is at its top.
 pub struct Winners {
     ranks: Vec<u64>,
 }

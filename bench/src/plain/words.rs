@@ -1,4 +1,4 @@
-//! The words of a line, from left to right, and the values that they stand for.
+//! The words of a line, from left to right, and their values.
 
 use super::line::{ClassId, Fault, Prefix};
 use std::net::{IpAddr, Ipv4Addr};
@@ -13,7 +13,7 @@ enum Bad {
 
 pub struct Words<'a> {
     rest: &'a str,
-    /// Whether a word stands behind the rest that is not UTF-8.
+    /// Whether a word after the rest is not UTF-8.
     is_cut: bool,
     pub taken: usize,
 }
@@ -35,7 +35,7 @@ impl<'a> Words<'a> {
         }
     }
 
-    /// The words before the one in which this byte stands. A comment has none, as it may hold any bytes.
+    /// The words before the one that has this byte. A comment has none, as it may hold any bytes.
     #[cold]
     #[inline(never)]
     fn cut(line: &'a [u8], bad: usize) -> Words<'a> {
@@ -264,7 +264,7 @@ impl<'a> Words<'a> {
     }
 }
 
-/// What stands before this byte and behind it.
+/// What is before this byte and after it.
 fn parts(word: &str, at: u8) -> Option<(&str, &str)> {
     let place = word.bytes().position(|byte| byte == at)?;
     Some((&word[..place], &word[place + 1..]))

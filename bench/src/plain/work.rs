@@ -10,7 +10,7 @@ use super::head::{Ecn, FlowKey, Head, one_at_a_time, read_head as read};
 use super::packet::{Packet, Put};
 use super::toll::Toll;
 
-/// The latest moment, in nanoseconds.
+/// The latest time, in nanoseconds.
 const LATEST: u64 = 1 << 62;
 
 const MTU: u16 = 1514;
@@ -161,7 +161,7 @@ fn take_at(queue: &mut Fifo, toll: &mut Toll, queued: u32, lens: &[u16], moments
     Some(with(sum, codel.count.into()))
 }
 
-/// Puts so many packets at moment 0, round and round.
+/// Puts so many packets at time 0, round and round.
 fn fill(queue: &mut Fifo, queued: u32, made: &[Packet], toll: &mut Toll) -> Option<()> {
     for (_, packet) in (0..queued).zip(made.iter().cycle()) {
         put(queue, packet, 0, toll)?;
@@ -169,7 +169,7 @@ fn fill(queue: &mut Fifo, queued: u32, made: &[Packet], toll: &mut Toll) -> Opti
     Some(())
 }
 
-/// `None` where memory is refused or the limit is reached.
+/// `None` if an allocation fails or the limit is reached.
 #[inline(always)]
 fn put(queue: &mut Fifo, packet: &Packet, now: u64, toll: &mut Toll) -> Option<()> {
     match queue.put(packet, now, toll) {

@@ -43,7 +43,7 @@ fn pass_through(queue: &mut Fifo, made: &[Packet], passes: u32) -> Option<u64> {
     Some(sum)
 }
 
-/// Takes from a fifo of `queued` packets by CoDel, at each of `moments`, and puts a packet there for each that left, of
+/// Takes from a fifo of `queued` packets by CoDel, at each time of `moments`, and puts a packet there for each that left, of
 /// these lengths round and round.
 #[unsafe(no_mangle)]
 pub extern "C" fn q_bench_codel(alloc: Global, queued: u32, lens: &[u16], moments: &[u64]) -> u64 {
@@ -103,7 +103,7 @@ fn put_for_losses(
     Some(sum)
 }
 
-/// Puts so many packets at moment 0, round and round: a function of its own, which leaves its registers to what is measured.
+/// Puts so many packets at time 0, round and round: a function of its own, which leaves its registers to what is measured.
 #[inline(never)]
 fn fill(queue: &mut Fifo, queued: u32, made: &[Packet]) -> Option<()> {
     let mut next = 0;
@@ -130,7 +130,7 @@ fn summary(packet: &Packet) -> u64 {
     number ^ place ^ queue ^ checksum::low(key.src)
 }
 
-/// Puts a packet at the end; `None` where memory is refused or the limit is reached.
+/// Puts a packet at the end; `None` if an allocation fails or the limit is reached.
 #[inline(always)]
 fn put(queue: &mut Fifo, packet: &Packet, now: Moment) -> Option<()> {
     if queue.reserve().is_err() {

@@ -20,7 +20,7 @@ const MAJOR_BEFORE: u16 = 0x10;
 /// The classes of a drr, by their minor numbers.
 const CLASSES: [u16; 8] = [1, 2, 3, 4, 5, 6, 7, 8];
 
-/// The prios of the deep tree that have another beneath them, by their major numbers.
+/// The prios of the deep tree that have another below them, by their major numbers.
 const INNER: [u16; 6] = [1, 2, 3, 4, 5, 6];
 
 /// The disciplines of a tree that is timed.

@@ -10,14 +10,14 @@ const UNITS_IN_BYTE: u64 = 8_000_000_000;
 
 /// A token bucket: it fills at a rate up to a burst, and a packet goes where the bucket holds its length.
 ///
-/// Rates are 1 to 10^12 bits a second and bursts 1 to 2^32 - 1 bytes. The moments that a bucket is given never fall: each is
+/// Rates are 1 to 10^12 bits a second and bursts 1 to 2^32 - 1 bytes. The times that its caller passes never fall: each is
 /// at or after the last true spend, the last change and the making of the bucket, which is the `last` of its contracts.
 #[derive(Debug, Drop)]
 pub struct Bucket {
     rate: u64,
     last: Moment,
-    /// What the rate will have brought from moment 0 on when the bucket is full again, in units. With the level in this form a spend
-    /// keeps one sum, and takes one product by a moment.
+    /// What the rate will have brought from time 0 on when the bucket is full again, in units. With the level in this form a spend
+    /// keeps one sum, and takes one product by a time.
     full_at: u128,
     /// The level of a full bucket, in units. It is kept, since a product would hold up the next spend.
     capacity: u128,
@@ -111,9 +111,16 @@ impl Bucket {
         true
     }
 
-    /// The least moment, from `last` on, at which a packet of `len` bytes may go.
+    /// The earliest time, from `last` on, at which a packet of `len` bytes may go.
     ///
-    /// `None` where there is no such moment: the packet is longer than the burst, or its moment would be past the latest one.
+    /// `None` if there is no such time: the packet is longer than the burst, or the time would be past the latest one.
+    ///
+    /// ```
+    /// // 8 Mbit/s are a byte a microsecond: after 1500 of 2000 bytes, the next 1500 lack 1000, and so a millisecond.
+    /// let mut bucket = Bucket::new(8_000_000, 2000, Moment::zero());
+    /// bucket.spend(Moment::zero(), 1500);
+    /// let then = bucket.ready_at(1500);    // at 1,000,000 ns
+    /// ```
     pub fn ready_at(&self, len: u16) -> Option<Moment>
         ensures from { IfSome result (λ at. self.now.last ≤ at) }
         ensures ready { IfSome result (λ at. allows self.now at len ≡ true) }
@@ -186,7 +193,7 @@ fn capacity_of(burst: u32) -> u128
     u128::from(burst) * u128::from(UNITS_IN_BYTE)
 }
 
-/// What a rate brings from moment 0 on.
+/// What a rate brings from time 0 on.
 fn brought_at(rate: u64, now: Moment) -> u128
     ensures { result ≡ rate * now }
 {

@@ -2,8 +2,8 @@
 //! of `specs/Level.antt`, which the contracts of [`Bucket`](crate::Bucket) cite too.
 ghost use Rattle.q_bucket.specs.Laws.{StretchIsBounded, NeverOverBurst, LevelRises, FullStaysFull, FullAgain, NothingIsLost};
 
-/// Over every list of spends, of any lengths and at moments that do not fall: the bytes that go in a stretch of time, its ends
-/// included, are at most the burst and what the rate brings in that stretch, in the exact units.
+/// Over every list of spends, of any lengths and at times that do not fall: the bytes that go in an interval, its ends
+/// included, are at most the burst and what the rate brings in that interval, in the exact units.
 pub fn stretch_is_bounded()
     ensures { StretchIsBounded }
 {}
@@ -28,7 +28,7 @@ pub fn full_again()
     ensures { FullAgain }
 {}
 
-/// A bucket that is brought up to a moment on the way has the same level later as one that is not: nothing is lost to rounding.
+/// A bucket whose level is updated at some time in between has the same level later as one that is not: nothing is lost to rounding.
 pub fn nothing_is_lost()
     ensures { NothingIsLost }
 {}

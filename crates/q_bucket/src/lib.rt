@@ -3,7 +3,7 @@
 //! - [`Bucket::new`] makes a full bucket, of a rate in bits a second and a burst in bytes.
 //! - [`Bucket::spend`] lets a packet go and takes its length, or changes nothing. [`Bucket::level_at`] is the level that it
 //!   reads.
-//! - [`Bucket::ready_at`] is the least moment at which a packet may go, if there is one.
+//! - [`Bucket::ready_at`] is the earliest time at which a packet may go, if there is one.
 //! - [`Bucket::change`] gives the bucket another rate and burst. [`Bucket::rate`] and [`Bucket::burst`] read them.
 //!
 //! ```
@@ -15,13 +15,13 @@
 //! ```
 //!
 //! A contract sees a bucket as the record `TokenBucket` of `specs/Level.antt`: its rate, its burst, and the level that it had
-//! at the moment of the last true spend, of the last change or of its making, whichever came last. That file says what the
-//! level is at a later moment, which lengths it allows, and what a spend and a change leave; the contracts of `level_at`,
+//! at the time of the last true spend, of the last change or of its making, whichever came last. That file says what the
+//! level is at a later time, which lengths it allows, and what a spend and a change leave; the contracts of `level_at`,
 //! `spend`, `ready_at` and `change` are these definitions. Levels are whole numbers of units of 1/(8*10^9) byte, so that one
 //! bit a second brings one unit in each nanosecond, and nothing is ever rounded.
 //!
-//! [`laws`] says of the same definitions what holds over every list of spends: in any stretch of time no more bytes go than
-//! the burst and what the rate brings in that stretch. No call takes memory.
+//! [`laws`] says of the same definitions what holds over every list of spends: in any interval no more bytes go than
+//! the burst and what the rate brings in that interval. No call allocates.
 #![tactic(auto)]
 
 mod bucket;

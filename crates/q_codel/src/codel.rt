@@ -35,7 +35,7 @@ impl Codel {
     /// The state of a queue that has not sent yet.
     ///
     /// `target` and `interval` are in nanoseconds: `target` is at most 10^12 (1000 s), `interval` 1000 (1 us) to 10^12.
-    /// `mtu` is in bytes: no packet is dropped or marked where this many bytes or fewer stand behind it. With `ecn` a
+    /// `mtu` is in bytes: no packet is dropped or marked with this many bytes or fewer behind it. With `ecn` a
     /// packet whose transport takes part in ECN is marked where it would be dropped.
     pub fn new(target: u64, interval: u64, mtu: u16, ecn: bool) -> Codel
         requires target { target ≤ 10 ^ 12 }
@@ -76,7 +76,7 @@ impl Codel {
         self.state.rest();
     }
 
-    /// The moment of the next drop or mark while dropping, in nanoseconds; else that of the last time.
+    /// The time of the next drop or mark while dropping, in nanoseconds; else the one of the last run of dropping.
     pub fn drop_next(&self) -> u64
         ensures { result ≡ self.now.drop_next }
     {
@@ -98,8 +98,8 @@ impl Codel {
         self.state.is_dropping()
     }
 
-    /// Takes the next packet to send, at the moment `now`, and tells `sink` of those that are dropped before it, with the
-    /// cause `CoDel`. The answer is `None` exactly where the queue is empty. It takes no memory.
+    /// Takes the next packet to send, at the time `now`, and hands those that are dropped before it to `sink`, with the
+    /// cause `CoDel`. Returns `None` exactly if the queue is empty. It allocates nothing.
     ///
     /// `sink` needs room for as many packets as the queue holds. [`ControlState::take_into`] says what late packets and marks do.
     pub fn take<Q: Queue, S: Sink>(

@@ -4,7 +4,7 @@ ghost use Rattle.q_codel.specs.Gap.{gap_of, IsGap};
 /// The time from one drop to the next at this count, in nanoseconds: `interval` over the square root of `count`, rounded
 /// down (RFC 8289, section 5.6; section 3.3 says why it is the root).
 ///
-/// It is exact: the greatest `d` with `d * d * count <= interval * interval`. `interval` is in nanoseconds, at most
+/// For 100 ms it is 100,000,000 ns at a count of 1, and 70,710,678 at 2. It is exact: the greatest `d` with `d * d * count <= interval * interval`. `interval` is in nanoseconds, at most
 /// 10^12 (1000 s), and `count` at least 1.
 pub fn gap(interval: u64, count: u32) -> u64
     requires counted { 1 ≤ count }

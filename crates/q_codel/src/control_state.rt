@@ -84,7 +84,7 @@ impl ControlState {
         self.dropping = false;
     }
 
-    /// The moment of the next drop or mark while dropping, in nanoseconds; else that of the last time.
+    /// The time of the next drop or mark while dropping, in nanoseconds; else the one of the last run of dropping.
     pub fn drop_next(&self) -> u64
         ensures { result ≡ self.now.drop_next }
     {
@@ -106,9 +106,9 @@ impl ControlState {
         self.dropping
     }
 
-    /// Takes the next packet to send into `out`, at the moment `now`, and tells `sink` of those that are dropped before it, with
-    /// the cause `CoDel`. The answer is whether the packet was marked; `None` exactly where the queue is empty, and `out` stays
-    /// then. The packet is copied once, and no memory is taken.
+    /// Takes the next packet to send into `out`, at the time `now`, and hands those that are dropped before it to `sink`, with
+    /// the cause `CoDel`. Returns whether the packet was marked; `None` exactly if the queue is empty, and `out` stays
+    /// then. The packet is copied once, and nothing is allocated.
     ///
     /// `sink` needs room for as many packets as the queue holds. A packet that is stamped later than `now` counts as one
     /// that came just now. A mark sets the packet's codepoint to `Ce` and does to the state what a drop does (RFC 8289,
@@ -147,7 +147,7 @@ impl ControlState {
     }
 
     /// Does what [`ControlState::take_into`] does, where [`ControlState::passed`] found the head late, which is not judged again:
-    /// `front` is what is looked at of it. The answer is whether the packet was marked.
+    /// `front` is what CoDel reads of it. Returns whether the packet was marked.
     pub fn take_late_into<Q: Queue, S: Sink>(
         &mut self,
         parameters: &Parameters,
@@ -177,10 +177,10 @@ impl ControlState {
         marked
     }
 
-    /// What is kept once the head goes as it stands (RFC 8289, section 5.6); `None` where it is late, and
-    /// [`ControlState::take_late_into`] is to drop or mark.
+    /// The state once the head is sent as it is (RFC 8289, section 5.6); `None` if the head is late, so that
+    /// [`ControlState::take_late_into`] has to drop or mark it.
     ///
-    /// `front` is what is looked at of the head, and `behind` the bytes of all packets behind it.
+    /// `front` is what CoDel reads of the head, and `behind` the bytes of all packets behind it.
     pub fn passed(
         &self,
         parameters: &Parameters,
@@ -202,7 +202,7 @@ impl ControlState {
         Some(after)
     }
 
-    /// Becomes what [`ControlState::passed`] answered: a head that goes as it stands changes neither the counts nor the moment of the
+    /// Becomes what [`ControlState::passed`] returned: a head that is sent as it is changes neither the counts nor the time of the
     /// next drop, so that they are not written.
     #[inline(always)]
     pub fn pass(&mut self, after: ControlState)

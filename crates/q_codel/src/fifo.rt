@@ -17,7 +17,7 @@ use std::marker::Model;
 /// A first-in first-out queue of stamped packets, limited in packets or in bytes (tc-pfifo(8), tc-bfifo(8)).
 ///
 /// A contract sees it as the record `FifoState`: its packets, front first, its limit, and how many packets it has places
-/// for. Memory is taken by [`Fifo::reserve`] alone; every other call takes none, and `put`, `take` and `head` are O(1).
+/// for. Only [`Fifo::reserve`] allocates, and `put`, `take` and `head` are O(1).
 #[derive(Drop)]
 pub struct Fifo {
     packets: Ring,
@@ -42,7 +42,7 @@ impl Model for Fifo {
 impl Fifo {
     ghost use Rattle.q_codel.specs.FifoState.{takes};
 
-    /// An empty queue with this limit. It takes no memory yet.
+    /// An empty queue with this limit. It allocates nothing yet.
     pub fn new(alloc: Global, limit: Limit) -> Fifo
         ensures empty { result.packets ≡ [] }
         ensures limit { result.limit ≡ limit }
@@ -57,7 +57,7 @@ impl Fifo {
 
     /// Makes a place for one more packet, if there is none yet.
     ///
-    /// It fails only where there was none, and memory for it was refused or 2^47 packets are held. The packets stay.
+    /// It fails only if there was none, and its allocation failed or 2^47 packets are held. The packets stay.
     pub fn reserve(&mut self) -> Result<(), AllocError>
         ensures same { self.new ≡ record self.old { places = self.new.places } }
         ensures room { count self.old.packets < self.old.places → self.new ≡ self.old }
@@ -103,7 +103,7 @@ impl Fifo {
         self.put_from(&stamped.packet, stamped.at);
     }
 
-    /// Appends a packet from where it stands, queued at the moment `now`. There must be a place for it, and the limit must
+    /// Appends a packet that is read in the caller's memory, queued at the time `now`. There must be a place for it, and the limit must
     /// allow it. The packet is copied once.
     pub fn put_from(&mut self, packet: &Packet, now: Moment)
         requires fits { IsTrue (takes self.old.limit self.old.packets packet.now.len) }
@@ -132,7 +132,7 @@ impl Fifo {
         Some(self.packets.pop())
     }
 
-    /// What CoDel looks at of the packet in front; `None` where the queue is empty. No packet is copied.
+    /// What CoDel reads of the packet in front; `None` where the queue is empty. No packet is copied.
     pub fn front(&self) -> Option<Front>
         ensures { result ≡ option_map front_of (slice_get self.now.packets 0) }
     {
@@ -145,7 +145,7 @@ impl Fifo {
         })
     }
 
-    /// Takes the packet in front into `out`, and answers its length in bytes; 0 where the queue is empty, and `out` stays
+    /// Takes the packet in front into `out`, and returns its length in bytes; 0 if the queue is empty, and `out` stays
     /// then. The packet is copied once. Its place stays reserved.
     pub fn take_into(&mut self, out: &mut Packet) -> u16
         ensures len { result ≡ option_map_or (λ (s : Stamped). s.packet.len) (slice_get self.old.packets 0) 0 }

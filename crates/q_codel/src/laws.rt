@@ -1,9 +1,9 @@
 //! Laws of the definition that [`Codel::take`](crate::Codel::take) equals, in the words of RFC 8289.
 //!
-//! Each function does nothing. Its contract is a law, stated in `specs/Laws.antt`, for every state, moment and queue.
+//! Each function does nothing. Its contract is a law, stated in `specs/Laws.antt`, for every state, time and queue.
 ghost use Rattle.q_codel.specs.Laws.{BelowTarget, OneMtu, LastPacketStays, MarksInPlaceOfDrops, OnlyLateHeads, AtTheirMoments, EmptyQueueRests, QueueIsDivided, OneDropBegins, DueHeadsGo, OneMtuLeft, CountIsResumed, StatesStayInRange};
 
-/// A queue whose sojourn is below the target loses and marks nothing, and its time above the target begins anew.
+/// A queue whose sojourn time is below the target loses and marks nothing, and its time above the target begins anew.
 pub fn below_target()
     ensures { BelowTarget }
 {}
@@ -28,7 +28,7 @@ pub fn only_late_heads()
     ensures { OnlyLateHeads }
 {}
 
-/// While dropping, each head is dropped or marked only where its moment of the control law has come.
+/// While dropping, each head is dropped or marked only if its time by the control law has come.
 pub fn at_their_moments()
     ensures { AtTheirMoments }
 {}
@@ -48,7 +48,7 @@ pub fn one_drop_begins()
     ensures { OneDropBegins }
 {}
 
-/// A head that is late, that cannot be marked, and whose moment has come is dropped.
+/// A head that is late, that cannot be marked, and whose time has come is dropped.
 pub fn due_heads_go()
     ensures { DueHeadsGo }
 {}
@@ -63,7 +63,7 @@ pub fn count_is_resumed()
     ensures { CountIsResumed }
 {}
 
-/// A take leaves the settings, and a state in its ranges, for moments up to 2^62 ns.
+/// A take leaves the settings, and a state in its ranges, for times up to 2^62 ns.
 pub fn states_stay_in_range()
     ensures { StatesStayInRange }
 {}

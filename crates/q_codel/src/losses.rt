@@ -9,8 +9,8 @@ use std::marker::Model;
 
 /// A sink that keeps what was lost, oldest first, until it is reaped.
 ///
-/// A contract sees it as the record `LossList`: the losses that wait, and how many there are places for. Memory is taken by
-/// [`Losses::reserve`] alone.
+/// A contract sees it as the record `LossList`: the losses that wait, and how many there are places for. Only
+/// [`Losses::reserve`] allocates.
 #[derive(Drop)]
 pub struct Losses {
     waiting: VecDeque<Loss>,
@@ -26,7 +26,7 @@ impl Model for Losses {
 }
 
 impl Losses {
-    /// No losses, and no places for any: it takes no memory yet.
+    /// No losses, and no places for any: it allocates nothing yet.
     pub fn new(alloc: Global) -> Losses
         ensures { result.waiting ≡ [] }
     {
@@ -35,7 +35,7 @@ impl Losses {
         }
     }
 
-    /// Makes places for `more` losses beside those that wait. It fails only where there were fewer and memory was refused.
+    /// Makes places for `more` losses beside those that wait. It fails only if there were fewer and an allocation failed.
     pub fn reserve(&mut self, more: usize) -> Result<(), AllocError>
         ensures same { self.new ≡ record self.old { places = self.new.places } }
         ensures grows { self.old.places ≤ self.new.places }

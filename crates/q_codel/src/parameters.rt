@@ -33,7 +33,7 @@ impl Parameters {
 
     /// These settings; `None` where `target` is above 10^12, or `interval` is not 1000 to 10^12.
     ///
-    /// `mtu` is in bytes: no packet is dropped or marked where this many bytes or fewer stand behind it. With `ecn` a packet
+    /// `mtu` is in bytes: no packet is dropped or marked with this many bytes or fewer behind it. With `ecn` a packet
     /// whose transport takes part in ECN is marked where it would be dropped.
     pub fn new(target: u64, interval: u64, mtu: u16, ecn: bool) -> Option<Parameters>
         ensures in_range { IsSome result ↔ ((target ≤ 10 ^ 12) × (1000 ≤ interval) × (interval ≤ 10 ^ 12)) }

@@ -25,7 +25,7 @@ pub trait Queue {
         ensures rest { packets self.new ≡ drop 1 (packets self.old) }
         ensures kept { keeps self.old self.new };
 
-    /// What CoDel looks at of the packet in front; `None` where the queue is empty. No packet is copied.
+    /// What CoDel reads of the packet in front; `None` where the queue is empty. No packet is copied.
     fn front(&self) -> Option<Front>
         ensures { result ≡ option_map front_of (slice_get (packets self.now) 0) }
     {

@@ -13,8 +13,8 @@ const FIRST_PLACES: usize = 4;
 
 /// Packets in the order in which they came, in a ring of cells whose number is a power of two.
 ///
-/// Packets are numbered as they come, by counters that go round at 2^64, and the low bits of a packet's number tell its cell.
-/// So a step is one addition; and once the cells are doubled by a copy of them all, each packet stands where its number says.
+/// Packets are numbered as they come, by counters that go round at 2^64, and the low bits of a packet's number are the index of its cell.
+/// So a step is one addition; and once the cells are doubled by a copy of them all, each packet is in the cell of its number.
 #[derive(Drop)]
 pub(crate) struct Ring {
     cells: Vec<Stamped>,
@@ -38,7 +38,7 @@ impl Model for Ring {
 }
 
 impl Ring {
-    /// No packets, and no places for any: it takes no memory yet.
+    /// No packets, and no places for any: it allocates nothing yet.
     pub(crate) fn new(alloc: Global) -> Ring
         ensures { result ≡ record { packets = []; places = 0 } }
     {
@@ -66,7 +66,7 @@ impl Ring {
         self.cells.len()
     }
 
-    /// Doubles the places; from none to four. It fails where memory for them is refused, or there are 2^47 of them.
+    /// Doubles the places; from none to four. It fails if their allocation fails, or there are 2^47 of them.
     pub(crate) fn grow(&mut self) -> Result<(), AllocError>
         ensures packets { self.new.packets ≡ self.old.packets }
         ensures grown { OnOk result (self.old.places < self.new.places) }
@@ -102,7 +102,7 @@ impl Ring {
         self.next = self.next.wrapping_add(1);
     }
 
-    /// The packet in front, where it stands; `None` where there is none.
+    /// A reference to the packet in front; `None` if there is none.
     #[inline(always)]
     pub(crate) fn front(&self) -> Option<&Stamped>
         ensures { MatchOption result (self.now.packets ≡ []) (λ front. slice_get self.now.packets 0 ≡ Some front.now) }

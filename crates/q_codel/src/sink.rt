@@ -5,7 +5,7 @@ use q_packet::{Cause, Packet};
 
 /// Where lost packets go, in the order in which they are lost.
 ///
-/// `losses` is what it has been told so far and `room` how many more it can be told of. `keeps` says what a call leaves
+/// `losses` is what it has taken so far and `room` how many more it can take. `keeps` says what a call leaves
 /// alone, as in [`Queue`](crate::Queue).
 pub trait Sink {
     ghost losses: { Self → List Loss };

@@ -1,7 +1,7 @@
 //! Plays scripts whose reports are known, and compares reports and statuses to the byte.
 //!
 //! The arguments name files of scripts, which lie in `data/`: `corpus.txt` has scripts that reach the corners of the
-//! language, `definitions.txt` those that tell a changed definition where no other script does, and `examples.txt` the worked
+//! language, `definitions.txt` those that notice a changed definition where no other script does, and `examples.txt` the worked
 //! scripts of `examples/`. [`case::cases`] reads such a file, and [`play::play`] plays a script by `q_session`. The crate's
 //! file `stdout` names the scripts that are right, and counts them: all of them. A script whose report or status is another
 //! one has a line `WRONG` and makes the status 1.

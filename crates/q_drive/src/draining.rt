@@ -19,7 +19,7 @@ pub fn drain_if(until_idle: bool, device: &mut Device) -> Option<Drained>
     }
 }
 
-/// Polls a device at each moment from which it is ready, until nothing is queued, or what is queued never goes by waiting alone.
+/// Polls a device at each time from which it is ready, until nothing is queued, or until waiting alone would never let a packet go.
 pub fn drain_until_idle(device: &mut Device) -> Drained
     ensures drained { IsDrained device.old device.new result }
     ensures arrived { device.new.device.tree.top.arrived ≡ device.old.device.tree.top.arrived }
@@ -39,7 +39,7 @@ pub fn drain_until_idle(device: &mut Device) -> Drained
     }
 }
 
-/// Polls a device at the moment from which it is ready. The poll gives a packet, or the device is ready later than that.
+/// Polls a device at the time from which it is ready. The poll gives a packet, or the device is ready later than that.
 fn poll_when_ready(device: &mut Device, at: Moment)
     requires { ready device.old.device ≡ Some at }
     ensures polled { device.new ≡ polled at device.old }

@@ -1,6 +1,6 @@
 use q_ports::Gate;
 
-/// A gate that holds nobody up.
+/// A gate at which no sender waits.
 pub struct FreeGate;
 
 impl Gate for FreeGate {

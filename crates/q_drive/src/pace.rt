@@ -2,7 +2,7 @@ ghost use Rattle.std.specs.Prelude.{◌≡◌, ◌^◌};
 
 use q_packet::Moment;
 
-/// How a drive goes on: when its first turn comes, how many nanoseconds lie between two turns, and how often a packet is offered.
+/// How a drive goes on: when its first turn comes, how many nanoseconds are between two turns, and how often a packet is offered.
 #[derive(Clone, Copy)]
 pub struct Pace {
     pub start: Moment,

@@ -116,7 +116,7 @@ fn drive_and_write<H: Threads + Wait + Sync, W: Write>(
     write_end(&driven, settings.show(), outcome, output, target)
 }
 
-/// Writes what the senders came to behind a report with this outcome, and answers the outcome of the whole.
+/// Writes the totals of the senders after a report with this outcome, and returns the outcome of the whole.
 fn write_end<W: Write>(
     driven: &Option<Driven>,
     show: bool,

@@ -11,8 +11,8 @@ use std::marker::Model;
 /// The classes of a deficit round robin (M. Shreedhar and G. Varghese, "Efficient Fair Queuing Using Deficit
 /// Round-Robin", 1995; tc-drr(8)), and the list of those that are active.
 ///
-/// A class is named by a number of 16 bits, and stands at a place, its number in order of adding from 0. What is kept of
-/// a class takes as much memory whatever its name is.
+/// A class is named by a number of 16 bits, and has a place, its number in order of adding from 0. A class takes as much
+/// memory whatever its name is.
 ///
 /// A contract sees the record `Schedule`: the classes with their quanta in order of adding and, for those active, their
 /// place, deficit and grants.
@@ -84,11 +84,11 @@ impl Active {
         self.table.name_at(place)
     }
 
-    /// Adds a class, asleep. `quantum` is the bytes of one grant, at least 1.
+    /// Adds a class, which is inactive. `quantum` is the bytes of one grant, at least 1.
     ///
     /// # Errors
     ///
-    /// `AllocError` where memory has run out; nothing has changed then.
+    /// `AllocError` if an allocation fails; nothing has changed then.
     pub fn add(&mut self, class: u16, quantum: u32) -> Result<(), AllocError>
         requires fresh { has_class class self.old.classes ≡ false }
         requires positive { 1 ≤ quantum }
@@ -107,7 +107,7 @@ impl Active {
         Ok(())
     }
 
-    /// Takes a class away, out of the active list too. It takes time in proportion to the number of classes.
+    /// Removes a class, from the active list too. It takes time in proportion to the number of classes.
     pub fn remove(&mut self, class: u16)
         requires { IsTrue (has_class class self.old.classes) }
         ensures { self.new ≡ removed class self.old }
@@ -120,7 +120,7 @@ impl Active {
         self.table.remove(place);
     }
 
-    /// Puts a class at the end of the active list, with a deficit of one quantum. One that is active stays as it is.
+    /// Makes a class active: it goes to the end of the active list, with a deficit of one quantum. One that is active stays as it is.
     pub fn wake(&mut self, class: u16)
         requires { IsTrue (has_class class self.old.classes) }
         ensures { self.new ≡ woken class self.old }
@@ -149,7 +149,7 @@ impl Active {
         self.ring.push(place);
     }
 
-    /// Takes a class out of the active list. One that is asleep stays so.
+    /// Makes a class inactive: it leaves the active list. One that is inactive stays so.
     pub fn sleep(&mut self, class: u16)
         requires { IsTrue (has_class class self.old.classes) }
         ensures { self.new ≡ asleep class self.old }
@@ -268,7 +268,7 @@ impl Active {
         self.ring.contains(self.table.find(class))
     }
 
-    /// The bytes that a class may send before its next grant; 0 where it is asleep.
+    /// The bytes that a class may send before its next grant; 0 if it is inactive.
     pub fn deficit(&self, class: u16) -> u64
         requires { IsTrue (has_class class self.now.classes) }
         ensures value { result ≡ deficit_of class self.now.active }
@@ -282,7 +282,7 @@ impl Active {
         }
     }
 
-    /// The bytes granted to a class since it woke, without the quantum that waking gave; 0 where it is asleep. It stays
+    /// The bytes granted to a class since it became active, without the quantum with which it began; 0 if it is inactive. It stays
     /// at 2^64 - 1 once it is there.
     pub fn granted(&self, class: u16) -> u64
         requires { IsTrue (has_class class self.now.classes) }

@@ -5,6 +5,6 @@ pub(crate) struct ClassState {
     pub(crate) quantum: u32,
     /// Bytes that it may send before its next grant.
     pub(crate) deficit: u64,
-    /// Bytes granted since it woke.
+    /// Bytes granted since it became active.
     pub(crate) granted: u64,
 }

@@ -7,13 +7,13 @@ ghost use Rattle.q_drr.specs.Turns.{TakesAreTurns, LeastNeedIsMet, ChosenIsMet, 
 pub use crate::met::Met;
 pub use crate::take::take_by_turns;
 
-/// Over any stretch of turns each class that is active sends, in bytes, its grants times its quantum and the deficit that
+/// Over any interval of turns each class that is active sends, in bytes, its grants times its quantum and the deficit that
 /// it had at first, less the deficit that it has at last.
 pub fn each_sends_its_share()
     ensures { EachSendsItsShare }
 {}
 
-/// Over any stretch of turns the bytes granted to a class that is active grow by its quantum with each of its grants, and
+/// Over any interval of turns the bytes granted to a class that is active grow by its quantum with each of its grants, and
 /// the count of turns by one with each turn, of whichever class. Both stay at 2^64 - 1 once they are there: below that,
 /// `granted` is the bytes granted since the class became active, and `turns` the number of turns.
 pub fn grants_are_counted()
@@ -21,26 +21,26 @@ pub fn grants_are_counted()
     ensures turns { TurnsAreCounted }
 {}
 
-/// Over any stretch of turns the grants of two active classes differ by one at most: a class that stood before the other
+/// Over any interval of turns the grants of two active classes differ by one at most: a class that was before the other
 /// and ends behind it has one more, and classes that have kept their order have equally many.
 pub fn grants_are_even()
     ensures { GrantsAreEven }
 {}
 
-/// Over any stretch of turns the bytes that two active classes send are to each other as their quanta: they differ, each
+/// Over any interval of turns the bytes that two active classes send are to each other as their quanta: they differ, each
 /// times the other's quantum, by less than three products of the quanta and a longest packet times their sum.
 pub fn shares_are_fair()
     ensures { SharesAreFair }
 {}
 
 /// A whole take is a list of turns, each for the head that the class in front shows. They grant to each class that
-/// stands before the one that is met once more than to it and to those behind it, and only the class that is met sends.
+/// is before the one that is met once more than to it and to those behind it, and only the class that is met sends.
 /// So what holds of turns holds of takes.
 pub fn takes_are_turns()
     ensures { TakesAreTurns }
 {}
 
-/// The class that a take meets needs no more grants than any other, and fewer than each that stands before it.
+/// The class that a take meets needs no more grants than any other, and fewer than each that is before it.
 pub fn least_need_is_met()
     ensures least { LeastNeedIsMet }
     ensures met { ChosenIsMet }

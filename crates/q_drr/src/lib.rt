@@ -1,18 +1,18 @@
-//! The active list of deficit round robin: which class has its turn, and what each may send. Lengths and class names only;
+//! The active list of deficit round robin: which class has its turn, and what each may send. It has lengths and class names only;
 //! packets and queues are the caller's.
 //!
 //! - [`Active`] has the classes with their quanta. [`Active::add`] and [`Active::remove`] change them,
-//!   [`Active::set_quantum`] changes a quantum; [`Active::quantum`] shows it. [`Active::has`] tells whether a class is
+//!   [`Active::set_quantum`] changes a quantum; [`Active::quantum`] shows it. [`Active::has`] says whether a class is
 //!   there, [`Active::place_of`] at which place in order of adding, and [`Active::count`] how many there are.
-//! - [`Active::wake`] puts a class at the end of the active list, [`Active::sleep`] takes it out, [`Active::is_active`]
-//!   tells. [`Active::front`] is the class whose turn it is. [`Active::wake_at`], [`Active::sleep_at`] and
+//! - [`Active::wake`] makes a class active, at the end of the list, and [`Active::sleep`] makes it inactive. [`Active::is_active`]
+//!   says which it is. [`Active::front`] is the class whose turn it is. [`Active::wake_at`], [`Active::sleep_at`] and
 //!   [`Active::front_place`] do the same by a class's place.
 //! - [`Active::turn`] is one turn of that class: a [`Turn`], `Send` or `Granted`. [`Active::deficit`],
 //!   [`Active::granted`] and [`Active::turns`] show what came of it.
 //! - [`laws`] states what holds over every list of turns, of every take, and after every change.
 //!
 //! ```
-//! // The caller sends from the class in front until its turn is over; a class whose queue is empty goes to sleep.
+//! // The caller sends from the class in front until its turn is over; a class whose queue is empty becomes inactive.
 //! while let Some(class) = active.front() {
 //!     match active.turn(head_len_of(class)) {
 //!         Turn::Send => send_one_of(class),
@@ -37,10 +37,10 @@
 //! which class a take meets, and [`laws::grants_come_where_short`] that no class is granted whose deficit covers its head
 //! (`specs/Turns.antt`). [`laws::changes_stay_lawful`] says of each change that it keeps `IsLawful` (`specs/Changes.antt`).
 //!
-//! Only [`Active::add`] takes memory, as much for a class of a large name as for one of a small. But for it and
+//! Only [`Active::add`] allocates, as much for a class with a large number as for one with a small one. But for it and
 //! [`Active::remove`] each call takes the same few steps however many classes there are: a map in order of adding has what
 //! is kept of a class at its place, and links lead from the place of each active class to its neighbours. A name is hashed
-//! only where a call is given one: a turn, and what is done by place, hash nothing.
+//! only by a call that has a name as its argument: a turn, and the calls by place, hash nothing.
 #![tactic(auto)]
 
 mod active;

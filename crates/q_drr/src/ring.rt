@@ -138,14 +138,14 @@ impl Ring {
     }
 }
 
-/// The place where one stands once a gap is closed.
+/// The number of a place once a gap below it is closed.
 fn move_down(place: u16, gap: u16) -> u16
     ensures { result ≡ moved_down gap place }
 {
     if gap < place { place - 1 } else { place }
 }
 
-/// Lets each link lead to where its neighbours stand once a gap is closed.
+/// Lets each link lead to its neighbours' new numbers once a gap is closed.
 fn move_links_down(links: &mut [Link], gap: u16)
     ensures { HaveMovedDown gap links.old links.new }
 {
@@ -182,7 +182,7 @@ fn append(links: &mut [Link], first: u16, place: u16)
     mark(links, place, true);
 }
 
-/// Takes a place out, and answers the one after it.
+/// Takes a place out, and returns the one after it.
 fn detach(links: &mut [Link], place: u16) -> u16
     requires inside { place < length links.old }
     requires next { next_of links.old place < length links.old }

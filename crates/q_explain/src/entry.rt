@@ -1,7 +1,7 @@
 use crate::place::Place;
 use crate::value::Value;
 
-/// A word that stands at a place, the values behind it, and the place of the word behind them.
+/// A word that may be at a place, the values behind it, and the place of the word behind them.
 #[derive(Clone, Copy)]
 pub struct Entry(pub &'static str, pub &'static [Value], pub Place);
 

@@ -11,12 +11,12 @@ use q_words::LineFault;
 use std::alloc::{AllocError, Global};
 
 /// The line of this number, which has no newline and `read_line` reads with this fault; a mark under the word that has it; and
-/// a sentence that says what may stand there or what is missing. Each ends with a newline. Of a longer line 200 bytes are
+/// a sentence that says what may be there or what is missing. Each ends with a newline. Of a longer line 200 bytes are
 /// shown, and what is no text is written as `\xNN`.
 ///
 /// # Errors
 ///
-/// `AllocError` where memory for the text is refused.
+/// `AllocError` if the allocation for the text fails.
 pub fn explain_fault(
     alloc: Global,
     number: u64,
@@ -41,12 +41,12 @@ pub fn explain_fault(
     Ok(text)
 }
 
-/// The same of a line without a fault whose command was refused, or whose packet for want of memory: a mark under the word that
-/// the refusal is of, what it means and what to do.
+/// The same for a line without a fault whose command was refused, or for whose packet an allocation failed: a mark under the word to
+/// which the refusal belongs, what it means and what to do.
 ///
 /// # Errors
 ///
-/// `AllocError` where memory for the text is refused.
+/// `AllocError` if the allocation for the text fails.
 pub fn explain_refusal(
     alloc: Global,
     number: u64,
@@ -68,7 +68,7 @@ pub fn explain_refusal(
 ///
 /// # Errors
 ///
-/// `AllocError` where memory for the text is refused.
+/// `AllocError` if the allocation for the text fails.
 pub fn explain_remark(
     alloc: Global,
     number: u64,

@@ -11,7 +11,7 @@ use crate::words::Words;
 use q_words::LineFault;
 use std::alloc::AllocError;
 
-/// Adds the sentence on a fault, at a word with this spot, behind which stands the rest of the line.
+/// Adds the sentence on a fault, at a word with this spot; then comes the rest of the line.
 pub fn push_fault(
     text: &mut String,
     fault: LineFault,
@@ -100,7 +100,7 @@ fn beside(spot: &Spot, word: &[u8]) -> Option<&'static str> {
     None
 }
 
-/// Of a word that does not stand there.
+/// The sentence on a word that may not be there.
 fn push_unknown(
     text: &mut String,
     spot: &Spot,
@@ -164,7 +164,7 @@ fn push_no_word(text: &mut String, place: Place, word: &[u8]) -> Result<(), Allo
     push_all_words(text, place)
 }
 
-/// Adds the words that stand at a place.
+/// Adds the words that may be at a place.
 fn push_all_words(text: &mut String, place: Place) -> Result<(), AllocError> {
     if place == Place::First {
         text.push_str("a line begins with ")?;
@@ -177,7 +177,7 @@ fn push_all_words(text: &mut String, place: Place) -> Result<(), AllocError> {
     text.push_str(".")
 }
 
-/// Whether the word stands in the head, which has ended.
+/// Whether the word belongs to the head, which has ended.
 fn is_of_head(spot: &Spot, word: &[u8]) -> bool {
     match find(spot.head, word) {
         Some(entry) => entry.next() == spot.head && spot.place != spot.head,

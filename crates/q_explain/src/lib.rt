@@ -1,11 +1,17 @@
 //! Why a line of a script was not done, or what it does that its writer may not want, in words for its writer.
 //!
-//! - [`explain_fault`] is the line, a mark under the word that has the fault, and a sentence that says what stands there or what is
+//! - [`explain_fault`] is the line, a mark under the word that has the fault, and a sentence that says what may be there or what is
 //!   missing; [`explain_refusal`] the same of a command that was refused, with what to do; [`explain_remark`] the same of a line that
 //!   was done and of which there is a [`Remark`].
 //!
-//! The words that stand at a place are the tables of `tables`, after the grammar of `q_line`. A text has no
-//! contract: it is for people, and tests alone look at it. No control character of a script is written raw.
+//! ```
+//! if let Err(fault) = read_line(line) {
+//!     let text = explain_fault(alloc, number, line, fault)?;     // three lines
+//! }
+//! ```
+//!
+//! The words that may be at a place are in the tables of `tables`, after the grammar of `q_line`. A text has no
+//! contract: it is for people, and only tests check it. No control character of a script is written raw.
 #![tactic(auto)]
 
 mod cut;

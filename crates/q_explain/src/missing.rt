@@ -63,7 +63,7 @@ fn push_kind(text: &mut String, head: Place) -> Result<(), AllocError> {
     })
 }
 
-/// Adds the sentence on the word that has to stand at a place.
+/// Adds the sentence on the word that has to be at a place.
 fn push_next(text: &mut String, place: Place) -> Result<(), AllocError> {
     if place == Place::Prio {
         return text.push_str("two bands need a priomap of 16 bands.");
@@ -74,7 +74,7 @@ fn push_next(text: &mut String, place: Place) -> Result<(), AllocError> {
     text.push_str(".")
 }
 
-/// Adds the words that stand at a place, with `or` before the last.
+/// Adds the words that may be at a place, with `or` before the last.
 pub fn push_entries(text: &mut String, place: Place) -> Result<(), AllocError> {
     let mut left = entries(place).len();
     for entry in entries(place) {
@@ -96,7 +96,7 @@ fn push_joined(text: &mut String, names: &[&str]) -> Result<(), AllocError> {
     Ok(())
 }
 
-/// Adds what stands behind a name, where so many follow.
+/// Adds what comes after a name, if so many follow.
 fn push_joint(text: &mut String, left: usize) -> Result<(), AllocError> {
     match left {
         0 => Ok(()),

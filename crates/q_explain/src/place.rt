@@ -1,4 +1,4 @@
-/// Where a word stands in a line.
+/// The place of a word in a line.
 #[derive(Clone, Copy, PartialEq, Eq)]
 pub enum Place {
     /// First.
@@ -51,7 +51,7 @@ pub enum Place {
     Packet,
     /// Behind `poll`.
     Poll,
-    /// Where no word may stand.
+    /// The place after which no word may come.
     End,
 }
 
@@ -79,7 +79,7 @@ impl Place {
         }
     }
 
-    /// What has the words that stand there.
+    /// The table of the words that may be there.
     pub fn name(self) -> &'static str {
         match self {
             Place::Qdisc => "tc qdisc",

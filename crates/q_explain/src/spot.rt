@@ -8,7 +8,7 @@ use std::alloc::{AllocError, Global};
 /// What the words of a line left of one say of it. They have no fault.
 #[derive(Drop)]
 pub struct Spot {
-    /// Where the word stands, if it is no value.
+    /// The place of the word, if it is no value.
     pub place: Place,
     /// The head of a tc line that was there, or [`Place::First`].
     pub head: Place,

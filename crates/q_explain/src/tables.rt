@@ -1,4 +1,4 @@
-//! The words that stand at each place, with their values.
+//! The words that may be at each place, with their values.
 use crate::entry::Entry;
 use crate::place::Place;
 use crate::value::Value;
@@ -249,10 +249,10 @@ const PACKET: &[Entry] = &[
     Entry("ecn", &[Value::Number("0 to 3")], Place::Packet),
 ];
 
-/// How many polls a line may ask for, which stands behind `poll` without a word of its own.
+/// How many polls a line may ask for: the number comes after `poll`, without a word of its own.
 pub const POLLS: Value = Value::Number("1 to 100000");
 
-/// The words that stand at a place.
+/// The words that may be at a place.
 pub fn entries(place: Place) -> &'static [Entry] {
     match place {
         Place::First => FIRST,

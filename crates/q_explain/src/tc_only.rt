@@ -17,7 +17,7 @@ pub fn instead(place: Place, word: &[u8]) -> &'static str {
     }
 }
 
-/// The kind of filter that has a `handle` of its own, where that stands in the head of a line on filters: the first of its kinds in
+/// The kind of filter that has a `handle` of its own, if that is in the head of a line on filters: the first of its kinds in
 /// the rest of the line.
 pub fn filter_of_handle(place: Place, word: &[u8], rest: Words<'_>) -> Option<&'static str> {
     let of_filter = matches!(place, Place::FilterAdd | Place::FilterDel);

@@ -36,7 +36,7 @@ impl Value {
         }
     }
 
-    /// The units that may stand behind its digits, in words; `None` where it has none.
+    /// The units that may follow its digits, in words; `None` where it has none.
     pub fn units(self) -> Option<&'static str> {
         match self {
             Value::Size(_) => Some(

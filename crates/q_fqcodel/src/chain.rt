@@ -8,7 +8,7 @@ use crate::flow_list::FlowList;
 use crate::nodes::Nodes;
 use q_packet::{Moment, Packet};
 
-/// Appends a packet, queued at the moment `now`, to the list of its flow, however many flows there are.
+/// Appends a packet, queued at the time `now`, to the list of its flow, however many flows there are.
 #[inline(always)]
 pub(crate) fn append(nodes: &mut Nodes, list: FlowList, packet: &Packet, now: Moment) -> FlowList
     requires room { nodes.old.count < nodes.old.slab.capacity }
@@ -44,7 +44,7 @@ pub(crate) fn append(nodes: &mut Nodes, list: FlowList, packet: &Packet, now: Mo
     }
 }
 
-/// Takes the first packet out of the list of a flow, and gives it to nobody.
+/// Takes the first packet out of the list of a flow, without returning it.
 #[inline(always)]
 pub(crate) fn drop_head(nodes: &mut Nodes, list: FlowList) -> FlowList
     requires some { 0 < list.count }

@@ -51,7 +51,7 @@ impl Model for Flows {
 }
 
 impl Flows {
-    /// Empty flows, as many as the settings tell and with CoDel as they tell.
+    /// Empty flows, as many as the settings say, and with their settings of CoDel.
     pub(crate) fn new(alloc: Global, settings: Settings) -> Result<Flows, AllocError>
         ensures flows { IfOk result (λ f. f.flows ≡ replicate settings.flows (first_flow settings)) }
         ensures places { IfOk result (λ f. f.places ≡ 0) }
@@ -407,7 +407,7 @@ impl Flows {
         self.states[flow as usize] = ControlState::new();
     }
 
-    /// Loses every packet, flow by flow. The flows are then as at first, with CoDel as these settings tell.
+    /// Loses every packet, flow by flow. The flows are then as at first, with the settings of CoDel from these settings.
     pub(crate) fn purge<S: Sink>(&mut self, settings: Settings, sink: &mut S)
         requires { packets_of self.old.flows ≤ S.room sink.old }
         ensures flows { self.new.flows ≡ replicate (length self.old.flows) (first_flow settings) }

@@ -21,7 +21,7 @@ use std::marker::Model;
 /// FQ-CoDel (RFC 8290): flows that share a link by quanta, each managed by CoDel.
 ///
 /// A contract sees it as the record `FqView`: its state (`FqState`: the settings, the flows by index, and the lists of new
-/// and old flows), and how many packets it has places for. Memory for packets is taken by [`FqCodel::reserve`] alone.
+/// and old flows), and how many packets it has places for. Only [`FqCodel::reserve`] allocates memory for packets.
 #[derive(Drop)]
 pub struct FqCodel {
     settings: Settings,
@@ -60,8 +60,8 @@ impl FqCodel {
     ghost use Rattle.q_fqcodel.specs.Lawful.{IsLawful};
     ghost use Rattle.q_fqcodel.specs.Turns.{GoesOn, IsSettled};
 
-    /// Takes the next packet to send at the moment `now`, and tells `sink` of those that CoDel drops before it. The answer is
-    /// `None` exactly where no flow has a packet. It takes no memory.
+    /// Takes the next packet to send at the time `now`, and hands those that CoDel drops before it to `sink`. Returns
+    /// `None` exactly if no flow has a packet. It allocates nothing.
     ///
     /// `sink` needs room for as many packets as all flows hold.
     pub fn take<S: Sink>(&mut self, now: Moment, sink: &mut S) -> Option<Taken>
@@ -88,7 +88,7 @@ impl FqCodel {
     }
 
     /// Does what [`FqCodel::take`] does, and writes the packet into `out`, so that it is copied once; `out` stays where no flow
-    /// has a packet. The answer tells its length, and whether CoDel marked it or dropped packets before it.
+    /// has a packet. The result has its length, and whether CoDel marked it or dropped packets before it.
     #[inline(always)]
     pub fn take_into<S: Sink>(&mut self, now: Moment, out: &mut Packet, sink: &mut S) -> Sent
         requires { packets_of self.old.state.flows ≤ S.room sink.old }
@@ -107,10 +107,10 @@ impl FqCodel {
         self.send_front_into(first, now, out, sink)
     }
 
-    /// Puts a packet at the end of its flow, at the moment `now`: the flow with the index `hash mod flows`.
+    /// Puts a packet at the end of its flow, at the time `now`: the flow with the index `hash mod flows`.
     ///
     /// Where the flows then hold more than `limit` packets, the fat flow loses `drop_batch` packets from its front, but no
-    /// more than it has, and one packet fewer than there are; `sink` is told of them. The answer says whether the packet
+    /// more than it has, and one packet fewer than there are; they are handed to `sink`. The result says whether the packet
     /// that was put is itself among them. It takes no memory: [`FqCodel::reserve`] makes the place.
     pub fn put<S: Sink>(&mut self, packet: Packet, now: Moment, sink: &mut S) -> bool
         requires place { packets_of self.old.state.flows < self.old.places }
@@ -125,7 +125,7 @@ impl FqCodel {
         self.put_from(&packet, now, sink)
     }
 
-    /// Does what [`FqCodel::put`] does, with a packet that is read where it stands.
+    /// Does what [`FqCodel::put`] does, with a packet that is read in the caller's memory.
     #[inline(always)]
     pub fn put_from<S: Sink>(&mut self, packet: &Packet, now: Moment, sink: &mut S) -> bool
         requires place { packets_of self.old.state.flows < self.old.places }
@@ -140,7 +140,7 @@ impl FqCodel {
         self.put_counted(packet, now, sink).itself
     }
 
-    /// Does what [`FqCodel::put_from`] does, and tells how much the fat flow lost, so that no caller counts before and after.
+    /// Does what [`FqCodel::put_from`] does, and returns how much the fat flow lost, so that no caller counts before and after.
     #[inline(always)]
     pub fn put_counted<S: Sink>(&mut self, packet: &Packet, now: Moment, sink: &mut S) -> Dropped
         requires place { packets_of self.old.state.flows < self.old.places }
@@ -188,7 +188,7 @@ impl FqCodel {
         self.flows.count() < settings.limit as u64
     }
 
-    /// Makes a place for one packet more; where there is one, nothing changes.
+    /// Makes a place for one packet more; if there is one, nothing changes.
     pub fn reserve(&mut self) -> Result<(), AllocError>
         ensures had_room { packets_of self.old.state.flows < self.old.places → self.new ≡ self.old }
         ensures ok { OnOk result (packets_of self.new.state.flows < self.new.places) }
@@ -200,7 +200,7 @@ impl FqCodel {
         self.flows.reserve()
     }
 
-    /// An fq_codel with these settings and without packets. It takes all memory but the places for packets, of which it has none.
+    /// An fq_codel with these settings and without packets. It allocates all memory but the places for packets, of which it has none.
     pub fn new(alloc: Global, settings: Settings) -> Result<FqCodel, AllocError>
         ensures state { IfOk result (λ q. q.state ≡ first_state settings) }
         ensures places { IfOk result (λ q. q.places ≡ 0) }
@@ -214,7 +214,7 @@ impl FqCodel {
         })
     }
 
-    /// Changes the settings, all but the number of flows and the mtu. It loses nothing; credits and what CoDel knows stay.
+    /// Changes the settings, all but the number of flows and the mtu. It loses nothing; credits and CoDel's states stay.
     pub fn change(&mut self, settings: Settings)
         requires flows { settings.flows ≡ self.old.state.settings.flows }
         requires mtu { settings.mtu ≡ self.old.state.settings.mtu }

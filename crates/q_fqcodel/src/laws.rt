@@ -1,6 +1,6 @@
 //! Laws of the definitions that the calls of [`FqCodel`](crate::FqCodel) equal.
 //!
-//! Each function does nothing. Its contract is a law, stated in `specs/Laws.antt`, `specs/NewFlow.antt` and `specs/Order.antt`, for every state, packet and moment.
+//! Each function does nothing. Its contract is a law, stated in `specs/Laws.antt`, `specs/NewFlow.antt` and `specs/Order.antt`, for every state, packet and time.
 ghost use Rattle.q_fqcodel.specs.Laws.{PutKeepsAll, TakeKeepsAll, GivesTheHead, PutLeavesOne, CreditsByQuanta, GrantsAreSome, QuantaByPlace, LostByPlace, LostIsLast, SelectionKeepsPackets, PutKeepsLawful, TakeKeepsLawful, ChangeKeepsLawful, FirstIsLawful};
 ghost use Rattle.q_fqcodel.specs.NewFlow.{BecomesNew, NewBeforeOld};
 ghost use Rattle.q_fqcodel.specs.Order.{QuantaAreEven};
@@ -15,7 +15,7 @@ pub fn take_keeps_all()
     ensures { TakeKeepsAll }
 {}
 
-/// What a take gives is the packet that was sent, with its codepoint changed where it was marked.
+/// What a take returns is the packet that was sent, with its codepoint changed where it was marked.
 pub fn gives_the_head()
     ensures { GivesTheHead }
 {}
@@ -47,14 +47,14 @@ pub fn grants_are_some()
     ensures { GrantsAreSome }
 {}
 
-/// As the old list turns, a flow with packets that stands in front of the chosen one is given one quantum more than the chosen
+/// As the old list turns, a flow with packets that is in front of the chosen one gets one quantum more than the chosen
 /// one, and a flow behind it as many.
 pub fn quanta_by_place()
     ensures { QuantaByPlace }
 {}
 
-/// Two flows with packets are given equally many quanta where the selection leaves them in the order that they had; else the
-/// one that stood first is given one more.
+/// Two flows with packets get equally many quanta if the selection leaves them in the order that they had; else the
+/// one that was first gets one more.
 pub fn quanta_are_even()
     ensures { QuantaAreEven }
 {}

@@ -1,14 +1,14 @@
 //! FQ-CoDel: flows that share a link by quanta, each managed by CoDel (RFC 8290, tc-fq_codel(8)).
 //!
 //! - [`Settings`] are the settings, each within its range: `Settings::new(..) -> Option<Settings>`, `Settings::defaults(mtu)`.
-//! - [`FqCodel::new`] takes all memory of flows and lists, [`FqCodel::reserve`] a place for one packet. No other call takes
-//!   memory.
+//! - [`FqCodel::new`] allocates all memory of flows and lists, [`FqCodel::reserve`] a place for one packet. No other call
+//!   allocates.
 //! - [`FqCodel::put`] puts a packet into its flow, `hash mod flows`. Past the limit the flow with the most bytes loses a batch
-//!   from its front; the answer says whether the packet that was put is itself lost.
+//!   from its front; the result says whether the packet that was put is itself lost.
 //! - [`FqCodel::take`] gives the next packet to send, with CoDel's drops and marks.
-//! - [`FqCodel::put_from`] and [`FqCodel::take_into`] do the same with a packet that stays, or is wanted, where the caller has
-//!   it, so that it is copied once. [`Sent`] says what a take did, and [`FqCodel::fits`] beforehand that a put loses nothing.
-//! - [`FqCodel::put_counted`] tells how many packets and bytes a put dropped, as [`Dropped`].
+//! - [`FqCodel::put_from`] and [`FqCodel::take_into`] do the same with a packet that is read or written in the caller's
+//!   memory, so that it is copied once. [`Sent`] says what a take did, and [`FqCodel::fits`] beforehand that a put loses nothing.
+//! - [`FqCodel::put_counted`] returns how many packets and bytes a put dropped, as [`Dropped`].
 //! - [`FqCodel::change`] replaces the settings, [`FqCodel::purge`] loses every packet, [`FqCodel::queued`] counts.
 //!
 //! ```
@@ -27,15 +27,15 @@
 //! definition goes round by round, as the code does. Each call's losses reach the lent sink in order, with their cause.
 //! `specs/Lawful.antt` has what every value of the type keeps.
 //!
-//! The packets of each flow are linked through one slab, and both lists through the flows' own links; a tree of winners has
+//! The packets of each flow are linked through one slab, and both lists through the flows' own links; a tournament tree has
 //! the fat flow at its root. A packet that leaves is not cleared: its node stays in the slab, linked to others that are spare,
 //! and the next packet takes the first of these. So a put takes a few steps, and one for each level of the tree at most, twice where it drops. A
-//! take does so too, after a few steps for each listed flow that it passes over, for want of credits or of packets. A change
+//! take does so too, after a few steps for each listed flow that it passes over, as it has no credits or no packets. A change
 //! of the settings touches no flow. A flow takes 96 bytes at most, and a packet 112.
 //!
 //! [`laws`] states what follows from these definitions: nothing is made or lost, a put leaves a packet, each call keeps the
 //! state lawful, a flow that has just become new sends before any flow of the old list, and a flow's credits grow by the quanta
-//! that it is given (`specs/QuantaGiven.antt`).
+//! that are added to them (`specs/QuantaGiven.antt`).
 #![tactic(auto)]
 
 mod active_lists;

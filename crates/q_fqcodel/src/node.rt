@@ -5,7 +5,7 @@ ghost use Rattle.q_fqcodel.specs.Chain.{stamped_of};
 use q_codel::Front;
 use q_packet::{Moment, Packet, Stamped};
 
-/// A queued packet with the moment at which it was queued, and the key of the packet behind it in its flow.
+/// A queued packet with the time at which it was queued, and the key of the packet behind it in its flow.
 ///
 /// It has the fields of a `Stamped` and not one whole, whose end would be padding.
 #[derive(Clone, Copy, Debug)]
@@ -30,7 +30,7 @@ impl Node {
         }
     }
 
-    /// What CoDel looks at of the packet.
+    /// What CoDel reads of the packet.
     pub(crate) fn front(&self) -> Front
         ensures { result ≡ front_of (stamped_of self.now) }
     {

@@ -13,7 +13,7 @@ use std::marker::Model;
 /// The nodes of a slab, some with a packet and some spare. A node whose packet leaves stays in the slab, linked to the spare
 /// ones, and the next packet takes it: so a packet is copied into its node alone, and nothing is cleared where it leaves.
 ///
-/// A contract sees what stands at each key by `used`: a node with a packet, or nothing.
+/// A contract sees what is at each key by `used`: a node with a packet, or nothing.
 #[derive(Drop)]
 pub(crate) struct Nodes {
     slab: Slab<Node>,
@@ -89,7 +89,7 @@ impl Nodes {
         self.slab[key].next = next;
     }
 
-    /// Copies a packet into a node that has none, and answers its key.
+    /// Copies a packet into a node that has none, and returns its key.
     #[inline(always)]
     pub(crate) fn claim(&mut self, packet: &Packet, now: Moment) -> usize
         requires { self.old.count < self.old.slab.capacity }

@@ -1,4 +1,4 @@
-/// In which list a flow stands (RFC 8290, section 4.2): in at most one.
+/// In which list a flow is (RFC 8290, section 4.2): in at most one.
 #[derive(Clone, Copy, PartialEq, Eq, Debug)]
 pub(crate) enum Place {
     /// In none.

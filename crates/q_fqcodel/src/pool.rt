@@ -74,7 +74,7 @@ impl Pool {
         self.nodes.count() as u64
     }
 
-    /// Appends a packet, queued at the moment `now`, to a flow, and answers the flow's bytes.
+    /// Appends a packet, queued at the time `now`, to a flow, and returns the flow's bytes.
     #[inline(always)]
     pub(crate) fn push(&mut self, packet: &Packet, now: Moment, flow: u32) -> u64
         requires in_range { flow < length self.old.queues }
@@ -140,7 +140,7 @@ impl Pool {
         Some(front)
     }
 
-    /// Takes the packet in front of a flow, which has one, and gives it to nobody.
+    /// Takes the packet in front of a flow, which has one, without returning it.
     #[inline(always)]
     fn discard(&mut self, flow: u32)
         requires { 0 < count (get_or self.old.queues flow []) }

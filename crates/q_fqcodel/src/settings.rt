@@ -24,7 +24,7 @@ pub struct Settings {
     pub ecn: bool,
     /// Packets that the fat flow loses at once where the limit is passed, 1 to 65536.
     pub drop_batch: u32,
-    /// The mtu in bytes, at least 1: CoDel drops nothing where no more than this many bytes stand behind the head.
+    /// The mtu in bytes, at least 1: CoDel drops nothing if no more than this many bytes are behind the first packet.
     pub mtu: u16,
 }
 

@@ -8,7 +8,7 @@ use std::marker::Model;
 // What stands before the root: more than any flow's rank.
 const ABOVE: u64 = u64::MAX;
 
-/// A tree of winners over the flows, whose root is the flow with the most bytes, of equals the first.
+/// A tournament tree over the flows, whose root is the flow with the most bytes, of several the one with the lowest index.
 ///
 /// A contract sees it as the list of the flows' bytes.
 #[derive(Drop)]
@@ -47,7 +47,7 @@ impl Winners {
         })
     }
 
-    /// The flow with the most bytes, of equals the first, if this flow had so many bytes: as many as it has, or more.
+    /// The flow with the most bytes, of several the one with the lowest index, if this flow had so many bytes: as many as it has, or more.
     pub(crate) fn top_with(&self, flow: u32, bytes: u64) -> u32
         requires in_range { flow < length self.now }
         requires more { bytes_at self.now flow ≤ bytes }
@@ -59,7 +59,7 @@ impl Winners {
         flow_of(rank_of(flow, bytes).max(top))
     }
 
-    /// Notes how many bytes a flow has now, where its bytes went this way.
+    /// Notes how many bytes a flow has now, and whether they became more or fewer.
     #[inline(always)]
     pub(crate) fn renew(&mut self, flow: u32, bytes: u64, course: Course)
         requires in_range { flow < length self.old }

@@ -1,6 +1,6 @@
 use q_packet::{Ecn, FlowKey};
 
-/// A packet that arrives at the device, as a `pkt` line says it. The widest fields stand first, since fields are laid out in this
+/// A packet that arrives at the device, as a `pkt` line says it. The widest fields come first, since fields are laid out in this
 /// order.
 #[derive(Clone, Copy, PartialEq, Eq, Debug)]
 pub struct Arrival {

@@ -15,7 +15,7 @@ use q_words::{LineFault, Wrong, class, handle, name, number, protocol};
 pub struct HeadDraft {
     /// Whether `dev NAME` is there. The name is compared with nothing, since a script has one device.
     pub named: bool,
-    /// Where a qdisc stands.
+    /// The place of a qdisc.
     pub place: Option<Place>,
     /// The handle of a qdisc.
     pub handle: Option<Handle>,

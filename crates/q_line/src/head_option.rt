@@ -2,7 +2,7 @@
 #[derive(Clone, Copy)]
 pub enum HeadOption {
     Dev,
-    /// The class below which a qdisc stands.
+    /// The class that a qdisc is in.
     InClass,
     Handle,
     /// The qdisc of a class or a filter.

@@ -3,7 +3,7 @@
 ghost use Rattle.q_line.specs.Laws.{FaultsAreLeftmost, SpellingsAreRead};
 ghost use Rattle.q_line.specs.OtherSpellings.{FieldsChangePlaces, KeysChangePlaces, NamesAreFree, OptionsChangePlaces, OptionsStandOnce};
 
-/// A fault is at the leftmost word that does not fit, and is the same whatever stands behind that word. Where every word
+/// A fault is at the leftmost word that does not fit, and is the same whatever comes after that word. Where every word
 /// fits, a number of the line's priomap that names no band is the fault; else the fault is a word that is missing at the end.
 pub fn faults_are_leftmost()
     ensures { FaultsAreLeftmost }
@@ -15,7 +15,7 @@ pub fn spellings_are_read()
     ensures { SpellingsAreRead }
 {}
 
-/// Two options of a qdisc may change places, wherever they stand among the others, and so may as many as there are: the line
+/// Two options of a qdisc may change places, wherever they are among the others, and so may as many as there are: the line
 /// says the same. An option is its name with its value, a flag alone, or `priomap` with its 16 numbers.
 pub fn options_change_places()
     ensures { OptionsChangePlaces }
@@ -39,7 +39,7 @@ pub fn names_are_free()
 {}
 
 /// An option that was given is a fault at its second name, be that the first one or another of its names (`noecn` behind `ecn`,
-/// `latency` behind `limit`, `maxburst` behind `burst`), whatever stands between them and behind.
+/// `latency` behind `limit`, `maxburst` behind `burst`), whatever is between them and after them.
 pub fn options_stand_once()
     ensures { OptionsStandOnce }
 {}

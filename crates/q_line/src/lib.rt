@@ -1,13 +1,21 @@
 //! The lines of the whole script language, as definitions and their reader.
 //!
 //! - `specs/Grammar.antt` says of every line's bytes which [`Line`] they are, or which `LineFault` of `q_words` is the leftmost;
-//!   its tables of words stand in `specs/Positions.antt`, what the words have said so far in `specs/Drafts.antt`, and the words
+//!   its tables of words are in `specs/Positions.antt`, what the words have said so far in `specs/Drafts.antt`, and the words
 //!   and values in `q_words`.
 //! - [`read_line`] reads a line as the grammar says, and allocates nothing. It has one reader for the head of each object and
 //!   one for each kind. A [`Command`] and its settings are those of `q_model`.
 //! - `specs/Ranges.antt` says what a line may say, and `specs/Spelling.antt` has one way to write each such line; [`laws`] says
 //!   that it is read as itself, and where the fault of any other lies. By `proofs/PacketRanges.antt`
 //!   each packet that is read has a length of 1 to 65535 and a priority of at most 15.
+//!
+//! ```
+//! match read_line(b"tc qdisc add dev eth0 root handle 1: drr") {
+//!     Ok(Line::Tc(command)) => device.command(command, now)?,
+//!     Ok(_) => {}                              // a packet, a poll, a show line, a comment ..
+//!     Err(fault) => report(fault.number(), fault.word()),    // 1 to 6, and the word, counted from 1
+//! }
+//! ```
 //!
 //! `q_script_semantics` computes worked scripts from these definitions, from their bytes to their reports.
 #![tactic(auto)]

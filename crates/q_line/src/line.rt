@@ -12,7 +12,7 @@ pub enum Line {
     Tc(Command),
     /// A `tc` line that asks for a show text.
     Show(Show),
-    /// `at N`: the moment of the lines that follow.
+    /// `at N`: the time of the lines that follow.
     At(Moment),
     /// `pkt`: a packet arrives, of which the line gives the fields.
     Pkt(Arrival),

@@ -106,7 +106,7 @@ fn mapped_option(
     }
 }
 
-/// A number of a priomap; 16 stands for all that are greater.
+/// A number of a priomap; 16 means any greater one.
 fn band(word: &[u8]) -> Result<u8, Wrong>
     ensures { result ≡ band_of word.now }
 {

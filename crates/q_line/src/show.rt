@@ -5,6 +5,6 @@ use crate::object::Object;
 pub struct Show {
     /// What is shown.
     pub object: Object,
-    /// Whether `-s` stands there: each qdisc is then followed by its counters. Classes and filters have none.
+    /// Whether the line has `-s`: each qdisc is then followed by its counters. Classes and filters have none.
     pub counters: bool,
 }

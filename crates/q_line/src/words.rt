@@ -15,7 +15,7 @@ use std::str::from_utf8;
 #[derive(Drop)]
 pub struct Words<'a> {
     rest: &'a [u8],
-    /// The same as text, where the whole line is UTF-8: no word of it has to be looked at for that again.
+    /// The same as text, if the whole line is UTF-8: no word of it has to be checked for that again.
     text: Option<&'a str>,
     taken: usize,
     ghost in_range: { taken + length rest.now < 2 ^ 63 },

@@ -28,7 +28,7 @@ pub enum Command {
         handle: Option<Handle>,
         kind: Kind,
     },
-    /// `tc qdisc del`: removes a qdisc with all that is beneath it.
+    /// `tc qdisc del`: removes a qdisc with all that is below it.
     QdiscDel {
         place: Option<Place>,
         handle: Option<Handle>,
@@ -45,7 +45,7 @@ pub enum Command {
         class: ClassId,
         quantum: Option<Quantum>,
     },
-    /// `tc class del`: removes a class of a drr with all that is beneath it.
+    /// `tc class del`: removes a class of a drr with all that is below it.
     ClassDel {
         parent: Option<Handle>,
         class: ClassId,

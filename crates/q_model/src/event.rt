@@ -4,7 +4,7 @@ use crate::command::Command;
 use crate::ranges::packet_ranges;
 use q_packet::{Moment, Packet};
 
-/// What is done to a device, and when. A moment before the latest one that the device has seen counts as that one.
+/// What is done to a device, and when. A time before the latest one that the device has seen counts as that one.
 #[derive(Clone, Copy, PartialEq, Eq, Debug)]
 pub enum Event {
     /// A packet arrives.

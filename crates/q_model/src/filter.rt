@@ -5,7 +5,7 @@ use crate::filter_prio::FilterPrio;
 use crate::minor::Minor;
 use crate::protocol::Protocol;
 
-/// A filter of a node: which packets it takes, and into which class of that node. The widest field stands first, since
+/// A filter of a node: which packets it takes, and into which class of that node. The widest field comes first, since
 /// fields are laid out in this order.
 #[derive(Clone, Copy, PartialEq, Eq, Debug)]
 pub struct Filter {

@@ -5,7 +5,7 @@ ghost use Rattle.q_model.specs.Options.{IsPrefix};
 use crate::ip_prefix::IpPrefix;
 use crate::ranges::{byte_ranges, port_ranges, prefix_ranges};
 
-/// The keys of a flower filter (tc-flower(8)). A packet has to agree with each that is given. The widest stand first, since
+/// The keys of a flower filter (tc-flower(8)). A packet has to agree with each key that is set. The widest come first, since
 /// fields are laid out in this order.
 #[derive(Clone, Copy, PartialEq, Eq, Debug)]
 pub struct FilterKeys {

@@ -6,9 +6,9 @@ use std::marker::Model;
 
 /// Addresses that begin alike (tc-flower(8), `src_ip PREFIX`). A contract sees it as the record `Prefix` of its fields.
 ///
-/// The widest fields stand first, since fields are laid out in this order.
+/// The widest fields come first, since fields are laid out in this order.
 ///
-/// An IPv4 address stands in the low 32 bits of `address`: code that would leave a bit above them there, or a length past
+/// An IPv4 address is in the low 32 bits of `address`: code that would leave a bit above them there, or a length past
 /// the end of an address, is refused. Bits past the length are kept for show, and not compared.
 #[derive(Clone, Copy, PartialEq, Eq, Debug)]
 pub struct IpPrefix {

@@ -9,21 +9,21 @@
 //! - [`Row`] is what a node counted: six [`Totals`] of packets and bytes.
 //! - [`NodeView`], [`ClassView`] and [`FilterView`] are what `show` prints of a node, a class and a filter.
 //! - [`Settings`] are a device's mtu, queue length and recorder. An [`Event`] is an arrival, a poll or a command, with its
-//!   moment. A [`Reply`] is what it is answered: a [`Fate`], a [`Polled`], or whether the command was done, else the
+//!   time. A [`Reply`] is its result: a [`Fate`], a [`Polled`], or whether the command was done, else the
 //!   [`Refusal`].
 //!
 //! All of these are `Copy` and hold no text.
 //!
-//! The definitions stand in `specs/`. Of the tree: `Node` says what a tree is, `Route` where an arriving packet goes, `Put`
+//! The definitions are in `specs/`. Of the tree: `Node` says what a tree is, `Route` where an arriving packet goes, `Put`
 //! what it does there, `Ask` how a qdisc is peeked and taken from; `QdiscCommands`, `ClassCommands` and `FilterCommands` say
 //! what each command changes and when it is refused, `Edit` what that does to the tree, `Views` what show prints of it,
 //! `Lawful` what every tree is to keep. Of the device: `Step` says what an event makes of it, and `Replay` what a list of
 //! them does. A rule never looks at what a node remembers (`Tally`): it works on the bare tree and says what each node has to
-//! note. So it is all one whether a tree keeps totals or whole histories (`proofs/ShrinkSteps.antt`, and the laws of
+//! note. So the rules are the same whether a tree keeps totals or whole histories (`proofs/ShrinkSteps.antt`, and the laws of
 //! `q_device`).
 //!
 //! This crate has no tests: `q_tests` has them, and `q_worked_examples` computes the definitions on worked scripts. The code of the tree
-//! stands in `q_tree`, that of the device in `q_device`.
+//! is in `q_tree`, that of the device in `q_device`.
 #![tactic(auto)]
 
 mod burst;

@@ -2,7 +2,7 @@ ghost use Rattle.q_model.specs.Ranges.{IsPlace};
 
 use crate::class_id::ClassId;
 
-/// Where in the tree a node stands.
+/// A place in the tree, which has one node.
 #[derive(Clone, Copy, PartialEq, Eq, Debug)]
 pub enum Place {
     /// The device itself, above the root. No qdisc is put there or removed from there.

@@ -23,7 +23,7 @@ pub enum Refusal {
     Busy,
     /// The qdisc is of another kind, or has other flows, or its classes come with it.
     CannotChange,
-    /// A qdisc would stand at a depth above 8.
+    /// A qdisc would be at a depth above 8.
     TooDeep,
     /// There would be more than 256 qdiscs, or filters of one qdisc.
     TooMany,

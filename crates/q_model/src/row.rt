@@ -9,12 +9,12 @@ pub struct Row {
     pub arrived: Totals,
     /// Packets that it gave to the node above, or that the device sent.
     pub sent: Totals,
-    /// Packets lost on arrival, at the node or beneath it.
+    /// Packets lost on arrival, at the node or below it.
     pub refused: Totals,
-    /// Packets lost later, at the node or beneath it.
+    /// Packets lost later, at the node or below it.
     pub dropped: Totals,
-    /// Packets that wait at the node or beneath it.
+    /// Packets that wait at the node or below it.
     pub queued: Totals,
-    /// Packets marked in place of a drop, at the node or beneath it (RFC 3168).
+    /// Packets marked in place of a drop, at the node or below it (RFC 3168).
     pub marked: Totals,
 }

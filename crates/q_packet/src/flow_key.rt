@@ -3,9 +3,9 @@ ghost use Rattle.std.specs.Prelude.{◌≡◌, ◌↔◌, IsTrue, IfSome, IsSome
 use byteorder::{BigEndian, ByteOrder};
 use std::marker::Model;
 
-/// What tells one flow from another: addresses, ports and protocol. A contract sees it as the record `Key` of its fields.
+/// What distinguishes flows: addresses, ports and protocol. A contract sees it as the record `Key` of its fields.
 ///
-/// `family` is 0 (not IP), 4 or 6. An IPv4 address stands in the low 32 bits of `src` and `dst`, and no other bit of them is
+/// `family` is 0 (not IP), 4 or 6. An IPv4 address is in the low 32 bits of `src` and `dst`, and no other bit of them is
 /// set (RFC 791, section 3.1). What a packet lacks is 0.
 #[derive(Clone, Copy, PartialEq, Eq, Debug)]
 pub struct FlowKey {

@@ -1,8 +1,8 @@
 //! Packet descriptors: what the scheduler knows of a packet, and when.
 //!
 //! - [`Moment`] is a time in whole nanoseconds, 0 to 2^62.
-//! - [`Packet`] is a `Copy` descriptor; payload bytes never enter. [`Stamped`] is a packet with the moment of its arrival.
-//! - [`FlowKey`] is what tells flows apart, with its 38 bytes for a hash. [`Ecn`] is the packet's ECN codepoint.
+//! - [`Packet`] is a `Copy` descriptor; payload bytes never enter. [`Stamped`] is a packet with the time of its arrival.
+//! - [`FlowKey`] is what distinguishes flows, with its 38 bytes for a hash. [`Ecn`] is the packet's ECN codepoint.
 //! - [`Cause`] says why a packet was lost.
 //! - [`read_head`] reads a packet's key, priority and ECN codepoint from its first bytes, as a [`Head`], and [`mark_head`]
 //!   writes Congestion Experienced into them. [`ip_at`] finds them in an Ethernet frame.

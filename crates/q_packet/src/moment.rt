@@ -2,9 +2,9 @@ ghost use Rattle.std.specs.Prelude.{◌≡◌, ◌≤◌, ◌^◌, ◌↔◌, �
 
 use std::marker::Model;
 
-/// A moment: whole nanoseconds since the device was opened, 0 to 2^62.
+/// A time: whole nanoseconds since a time of the caller's choice, 0 to 2^62.
 ///
-/// A contract sees a moment as that number.
+/// A contract sees a time as that number.
 #[derive(Clone, Copy, PartialEq, Eq, PartialOrd, Ord, Debug)]
 pub struct Moment {
     nanoseconds: u64,
@@ -21,17 +21,17 @@ impl Model for Moment {
 }
 
 impl Moment {
-    /// The latest moment, in nanoseconds.
+    /// The latest time, in nanoseconds.
     pub const MAX: u64 = 4611686018427387904;
 
-    /// The moment at which the device was opened: 0 nanoseconds.
+    /// The earliest time, 0 nanoseconds, at which a device's clock begins.
     pub const fn zero() -> Moment
         ensures { result ≡ 0 }
     {
         Moment { nanoseconds: 0 }
     }
 
-    /// The moment at `ns` nanoseconds; `None` past [`Moment::MAX`].
+    /// The time of `ns` nanoseconds; `None` past [`Moment::MAX`].
     pub fn new(ns: u64) -> Option<Moment>
         ensures in_range { IsSome result ↔ (ns ≤ 2 ^ 62) }
         ensures value { IfSome result (λ m. m ≡ ns) }
@@ -43,7 +43,7 @@ impl Moment {
         }
     }
 
-    /// This moment in nanoseconds.
+    /// This time in nanoseconds.
     pub fn ns(self) -> u64
         ensures value { result ≡ self }
         ensures in_range { result ≤ 2 ^ 62 }

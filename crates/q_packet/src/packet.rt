@@ -6,13 +6,13 @@ use std::marker::Model;
 
 /// A packet's descriptor. The payload stays with the caller, who finds it again by `buf`.
 ///
-/// The widest fields stand first, since fields are laid out in this order.
+/// The widest fields come first, since fields are laid out in this order.
 ///
 /// A contract sees it as the record `Descriptor` of its fields. `len` is 1 to 65535 and `prio` 0 to 15: code that would
 /// leave another number there is refused.
 #[derive(Clone, Copy, PartialEq, Eq, Debug)]
 pub struct Packet {
-    /// What tells its flow from others.
+    /// Addresses, ports and protocol, which distinguish its flow from others.
     pub key: FlowKey,
     /// The packet's number among those of its port, from 1.
     pub number: u64,

@@ -1,7 +1,7 @@
 use crate::moment::Moment;
 use crate::packet::Packet;
 
-/// A packet with the moment at which it was queued.
+/// A packet with the time at which it was queued.
 #[derive(Clone, Copy, PartialEq, Eq, Debug)]
 pub struct Stamped {
     pub packet: Packet,

@@ -2,15 +2,15 @@
 //!
 //! - [`run`] reads a script from any reader, cuts it into lines, lets a [`Session`] run each of them in turn and writes
 //!   what they report to any writer. Its contract says what was written, for every script and every session: the report
-//!   `run_of` of `specs/Step.antt`, for some list of lines at which memory was refused, and nothing else; that the outcome is
+//!   `run_of` of `specs/Step.antt`, for some list of lines at which an allocation failed, and nothing else; that the outcome is
 //!   `Refused` if and only if the session is refused at the end; and what each `RunFault` leaves.
 //! - [`Session`] is what runs a line. It says by its `effect` what a line writes and what it leaves, and writes through an
 //!   [`Output`], which buffers the report's text.
 //! - [`run_between`] does the same from a [`Source`] to a `Target` of `q_show`, which are a reader and a writer that keep
-//!   what their reads and writes came to. Its contract says when each fault comes: how many reads are made, that `Read` and
-//!   `Write` tell of every read and write that failed and of nothing else, and that an outcome means that none did. A source
+//!   how their reads and writes ended. Its contract says when each fault comes: how many reads are made, that `Read` and
+//!   `Write` report every read and write that failed and nothing else, and that an outcome means that none did. A source
 //!   is not read, nor a target written, after one that failed.
-//! - [`RunSettings`] are the options of a run, [`Outcome`] and [`RunFault`] what it answers. A fault of a read or a write has
+//! - [`RunSettings`] are the options of a run, [`Outcome`] and [`RunFault`] what it returns. A fault of a read or a write has
 //!   the kind of its error.
 //!
 //! `specs/Script.antt` cuts a script into lines and says how a report speaks of one, `specs/Step.antt` has what the lines

@@ -17,7 +17,7 @@ pub enum RunFault {
     /// too often. A front of the report may be written.
     #[error("the report cannot be written: {0}")]
     Write(ErrorKind),
-    /// There was no memory to start with. Nothing was written.
+    /// An allocation at the start failed. Nothing was written.
     #[error("memory is refused")]
     Memory,
 }

@@ -53,7 +53,7 @@ fn run_lines<W: Write, S: Session>(
 /// - `Read`: the last read failed, or all of the 16,777,218 reads were made, some of which were interrupted.
 /// - `Write`: the last write failed or took no byte, or it was interrupted once more than a text's writes may be.
 ///
-/// No read or write fails but it is told by this answer, with its kind.
+/// Every read or write that fails is reported by this result, with the kind of its error.
 pub fn run_between<R: Read, W: Write, S: Session>(
     alloc: Global,
     source: &mut Source<'_, R>,

@@ -18,7 +18,7 @@ const CHUNK: usize = 65536;
 /// Reads a script whole.
 ///
 /// `TooLong` where it has more than [`MAX_LENGTH`] bytes, `Read` where a read fails or more than 16,777,218 are needed, and
-/// `Memory` where memory is refused. An interrupted read is made again.
+/// `Memory` if an allocation fails. An interrupted read is made again.
 pub fn read_script<R: Read>(
     alloc: Global,
     source: &mut Source<'_, R>,

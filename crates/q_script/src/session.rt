@@ -8,7 +8,7 @@ use std::io::Write;
 
 /// What runs the lines of a script, one after another.
 ///
-/// `effect` says what a line writes and what it leaves, by whether memory is refused at it, its number, its bytes and the
+/// `effect` says what a line writes and what it leaves, by whether an allocation fails at it, its number, its bytes and the
 /// session before it; `packets` how many packets were numbered, and `refused` whether a line had a fault or was refused.
 pub trait Session {
     ghost effect: { Bool → ℕ → List ℕ → Self → Effect Self };

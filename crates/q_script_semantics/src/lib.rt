@@ -6,7 +6,7 @@
 //!   show prints is read back as the command that makes it (`specs/ReadBack.antt`).
 //!
 //! No function writes a report here: `run` of `q_session` does, and its contract is stated over this one. Worked scripts with their
-//! computed reports stand in `q_worked_examples`.
+//! computed reports are in `q_worked_examples`.
 #![tactic(auto)]
 
 pub mod laws;

@@ -31,7 +31,7 @@ pub struct DeviceSession {
     device: Device,
     /// The most bytes of a packet.
     mtu: u16,
-    /// The moment of the lines that follow.
+    /// The time of the lines that follow.
     moment: Moment,
     /// How many packets were numbered.
     packets: u32,
@@ -115,7 +115,7 @@ impl DeviceSession {
         self.device
     }
 
-    /// A packet arrives. It takes its number also where there is no memory for it, which is answered.
+    /// A packet arrives. It takes its number also if its allocation fails, which is returned.
     fn arrive(&mut self, number: u64, arrival: Arrival, output: &mut Output) -> Option<Refusal>
         requires few { self.old.state.packets + 1 < 2 ^ 32 }
         requires room { HasRoom output.old most_step }

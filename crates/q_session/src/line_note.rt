@@ -6,7 +6,7 @@ use q_words::LineFault;
 pub enum LineNote {
     /// It was not done, since it cannot be read.
     Fault(LineFault),
-    /// It was not done: its command was refused, or its packet for want of memory.
+    /// It was not done: its command was refused, or the allocation for its packet failed.
     Refusal(Refusal),
     /// It was done, and gives a tbf a burst of fewer bytes than the device's mtu, which is this.
     SmallBurst { mtu: u16 },

@@ -13,7 +13,7 @@ pub struct Notes {
     lines: Vec<NotedLine>,
     missed: u64,
     not_done: u64,
-    /// The name of the device in the first line that was looked at and has one.
+    /// The name of the device in the first line that was read and has one.
     device: Vec<u8>,
 }
 

@@ -8,7 +8,7 @@ pub enum ShowFault {
     /// the text, and not all of it.
     #[error("the text cannot be written: {0}")]
     Write(ErrorKind),
-    /// There was no memory for the text. Nothing was written.
+    /// The allocation for the text failed. Nothing was written.
     #[error("memory is refused")]
     Memory,
 }

@@ -1,11 +1,18 @@
 //! What `tc qdisc show`, `tc class show` and `tc filter show` print of one node, class or filter, and whole writes to any writer.
 //!
 //! - [`qdisc_text`] is a node with its settings, and its counters where they are asked for, [`class_text`] a class and
-//!   [`filter_text`] a filter; [`counters_text`] is what a node has counted. Each takes a view of `q_model`, and answers a
+//!   [`filter_text`] a filter; [`counters_text`] is what a node has counted. Each takes a view of `q_model`, and returns a
 //!   [`Text`], which allocates nothing.
 //! - [`write_whole`] writes bytes to any writer, and [`Target`] does so time after time to one writer, keeping what the
 //!   writes came to: none is made after one that failed. [`Hexadecimal`] is a number's digits. `q_script` writes its reports by
 //!   them.
+//!
+//! ```
+//! // Each qdisc with its counters, as `tc -s qdisc show` prints it.
+//! let text = qdisc_text(&node, true);
+//! write_whole(&mut writer, text.as_bytes())?;
+//! ```
+//!
 //! - `specs/ShowText.antt` has the texts, and `specs/Writes.antt` what writes come to. A write appends exactly its bytes, or stops
 //!   at the writer's failure with a front of them written.
 #![tactic(auto)]

@@ -96,7 +96,7 @@ fn put_handle(text: &mut Text, handle: Option<Handle>)
     }
 }
 
-/// Where a node stands.
+/// The place of a node.
 fn put_place(text: &mut Text, place: Place)
     requires { HasRoom text.old most_place }
     ensures text { text.new ≡ text.old ++ place_text place }

@@ -78,7 +78,7 @@ pub fn command_text(command: &Command) -> Text
     text
 }
 
-/// Where a qdisc stands, its handle, and its kind where that is given.
+/// The place of a qdisc, its handle, and its kind if there is one.
 fn put_qdisc(text: &mut Text, place: Option<Place>, handle: Option<Handle>, kind: Option<Kind>)
     requires { HasRoom text.old most_qdisc }
     ensures text { text.new ≡ text.old ++ spaced (some_place_words place ++ (given (codes "handle") handle_word handle ++ option_map_or kind_words kind [])) }
@@ -91,7 +91,7 @@ fn put_qdisc(text: &mut Text, place: Option<Place>, handle: Option<Handle>, kind
     }
 }
 
-/// Where a qdisc stands.
+/// The place of a qdisc.
 fn put_place(text: &mut Text, place: Option<Place>)
     requires { HasRoom text.old most_place }
     ensures text { text.new ≡ text.old ++ spaced (some_place_words place) }

@@ -56,7 +56,7 @@ fn poll_text() -> Text
     text
 }
 
-/// The line that sets the moment.
+/// The line that sets the time.
 fn moment_line(moment: Moment) -> Text
     ensures { result ≡ line_text (line.At moment) }
 {
@@ -75,12 +75,12 @@ fn moment_of(event: &Event) -> Moment
     }
 }
 
-/// The script that plays events again: a line for each, and lines that set the moment. `qtree play` with the device's mtu and
+/// The script that plays events again: a line for each, and lines that set the time. `qtree play` with the device's mtu and
 /// txqueuelen does what the device did. Its memory is that of the text, which grows by doubling.
 ///
 /// # Errors
 ///
-/// `AllocError` where memory is refused.
+/// `AllocError` if an allocation fails.
 pub fn script_of(alloc: Global, events: &[Event]) -> Result<Vec<u8>, AllocError>
     ensures { IfOk result (λ text. text.items ≡ script_text events.now) }
 {
@@ -95,7 +95,7 @@ pub fn script_of(alloc: Global, events: &[Event]) -> Result<Vec<u8>, AllocError>
     Ok(text)
 }
 
-/// Adds the line that sets the moment, where it is another one than before.
+/// Adds the line that sets the time, if it is not the time of the line before.
 fn push_moment(text: &mut Vec<u8>, before: Moment, now: Moment) -> Result<(), AllocError>
     ensures { OnOk result (text.new.items ≡ text.old.items ++ moment_text before now) }
 {

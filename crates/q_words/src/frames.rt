@@ -9,7 +9,7 @@ use crate::values::digits_value;
 use crate::wrong::Wrong;
 use q_packet::{Head, read_head};
 
-/// The most bytes that a head is read from: an IPv4 header has at most 60, and behind it stand the ports.
+/// The most bytes from which a header is read: an IPv4 header has at most 60, and the ports come after it.
 const HEAD_BYTES: usize = 64;
 
 /// HEX: the first bytes of a packet, in two hexadecimal digits each, one byte or more; gives the head that they begin with.

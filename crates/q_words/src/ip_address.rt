@@ -3,7 +3,7 @@ use std::marker::Model;
 
 /// An address of IP. A contract sees it as the record `Address` of its fields.
 ///
-/// One of version 4 stands in the low 32 bits: code that would leave a bit above them there is refused.
+/// One of version 4 is in the low 32 bits: code that would leave a bit above them there is refused.
 #[derive(Clone, Copy, PartialEq, Eq, Debug)]
 pub struct IpAddress {
     pub version: IpVersion,

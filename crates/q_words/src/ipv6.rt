@@ -12,7 +12,7 @@ use q_model::IpVersion;
 /// The groups of an address.
 const GROUPS: usize = 8;
 
-/// Groups that stand one behind the other, and the number that they write.
+/// Groups in a row, and the number that they write.
 #[derive(Clone, Copy)]
 struct Groups {
     count: usize,
@@ -34,7 +34,7 @@ pub fn ipv6(word: &[u8]) -> Result<IpAddress, Wrong>
     joined(high, low, gap)
 }
 
-/// What stands before the first two colons and behind them, and whether they are there; without them the word and nothing.
+/// What is before the first two colons and after them, and whether they are there; without them the word and nothing.
 fn halves(word: &[u8]) -> (&[u8], &[u8], bool)
     ensures left { result.0.now ≡ take (gap_at word.now) word.now }
     ensures right { result.1.now ≡ drop (suc (suc (gap_at word.now))) word.now }
@@ -67,7 +67,7 @@ fn joined(high: Groups, low: Groups, gap: bool) -> Result<IpAddress, Wrong>
     })
 }
 
-/// The place of the first two colons that stand together.
+/// The position of the first two colons in a row.
 fn first_gap(word: &[u8]) -> Option<usize>
     ensures there { IfSome result (λ at. at + 2 ≤ length word.now) }
     ensures value { result ≡ (if nat_lt (gap_at word.now) (length word.now) then Some (gap_at word.now) else None) }

@@ -5,6 +5,12 @@
 //! - [`Wrong`] says what is wrong with a word by itself, [`LineFault`] the same of a line, with the index of the word; its
 //!   text is `fault 3 BadNumber word 9` and the like.
 //!
+//! ```
+//! let rate = read_rate(b"1.5mbps");            // Ok(12_000_000), in bits a second
+//! let class = class(b"1:1f");                  // the class of major 1 and minor 31
+//! let wrong = number(b"1k", 0, 1000);          // Err(Wrong::BadNumber): a number has no suffix
+//! ```
+//!
 //! Each reader takes the bytes of one word and gives exactly what its definition in `specs/` says: `Words` has how a line is
 //! cut, `Values` numbers, handles and names, `Units` numbers with a unit, `Addresses` the rest. None allocates.
 #![tactic(auto)]

@@ -11,7 +11,7 @@ use crate::values::numeral;
 use crate::wrong::Wrong;
 use q_model::{IpPrefix, IpVersion};
 
-/// ADDRESS or ADDRESS/LEN: an address, and how many of its bits are compared, all where no length stands there.
+/// ADDRESS or ADDRESS/LEN: an address, and how many of its bits are compared: without a length, all.
 ///
 /// A word of which one part has not its form is `BadNumber`, else one of which a part is out of its range `OutOfRange`.
 pub fn prefix(word: &[u8]) -> Result<IpPrefix, Wrong>

@@ -1,4 +1,4 @@
-//! How text is cut into words, each of which is text again: so it has to be looked at for that once.
+//! How text is cut into words, each of which is text again: so text is checked for UTF-8 once.
 
 ghost use Rattle.std.specs.Prelude.{◌≡◌, ◌<◌, ◌≤◌, true, false, ◌∷◌, length, slice_index};
 ghost use Rattle.std.specs.Str.{is_utf8};

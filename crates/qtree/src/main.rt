@@ -1,9 +1,9 @@
 //! The program `qtree`: `qtree play` reads a script, of a file or of standard input, and writes its report on standard output; `qtree
 //! drive` sets up a device by tc's lines on standard input, drives it from many threads, and writes what came of it.
 //!
-//! - [`q_options::answer`] does what a command line asks for, and answers the exit status.
-//!   What stands behind it is `run_between` of `q_session`, whose contract is the program's theorem: what was written is the
-//!   report of the whole model's replay, or a read or a write failed and that is told; and `run_drive_between` of `q_drive`.
+//! - [`q_options::answer`] does what a command line asks for, and returns the exit status.
+//!   It rests on `run_between` of `q_session`, whose contract is the program's theorem: what was written is the report of the
+//!   whole model's replay, or a read or a write failed, and the result says so; and on `run_drive_between` of `q_drive`.
 #![tactic(auto)]
 
 use q_options::{PromptedReader, Standard, answer};

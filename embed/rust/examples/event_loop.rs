@@ -1,11 +1,12 @@
-//! A drain that sleeps until a packet may go or a port has brought one, and senders that sleep while their ring is full.
+//! A drain that sleeps until a packet may go or a sender has brought one, and senders that sleep while their ring is full.
 use qtree::{Drain, OfferError, Packet, Port, Settings};
 use std::thread::{self, Thread};
 use std::time::{Duration, Instant};
 
 const BURSTS: usize = 25;
 
-/// An `unpark` before a `park` counts for it, so that none is missed; it is a call of the system only while the other thread sleeps.
+/// If `unpark` is called before `park`, that `park` returns at once, so that no packet is missed. It makes a system call only while the other
+/// thread sleeps.
 fn bring(mut port: Port, drain: &Thread) {
     for _ in 0..BURSTS {
         for buf in 0..20 {
@@ -36,10 +37,10 @@ fn main() -> Result<(), qtree::Error> {
     let now = || u64::try_from(begun.elapsed().as_nanos()).unwrap_or(u64::MAX);
     let (mut given, mut sent) = (Vec::new(), 0);
     loop {
-        let is_last = drain.open_ports() == 0; // asked first: what a closed port brought is in its ring
+        let is_last = drain.open_ports() == 0; // checked first: the packets of a port that has closed are in its ring
         let turn = drain.turn(now(), 64, &mut given)?;
-        sent += given.drain(..).count(); // a program transmits each packet's buf
-        let lost = drain.device_mut().losses().count(); // and frees those of the losses
+        sent += given.drain(..).count(); // a program transmits the packet of each buf
+        let lost = drain.device_mut().losses().count(); // and frees the buffers of the losses
         if turn.taken > 0 {
             senders.iter().for_each(|it| it.thread().unpark());
         }
@@ -47,9 +48,7 @@ fn main() -> Result<(), qtree::Error> {
             continue;
         }
         match drain.device_mut().ready_at() {
-            Some(moment) => {
-                thread::park_timeout(Duration::from_nanos(moment.saturating_sub(now())))
-            }
+            Some(due) => thread::park_timeout(Duration::from_nanos(due.saturating_sub(now()))),
             None if is_last => break,
             None => thread::park(),
         }

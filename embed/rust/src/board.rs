@@ -3,8 +3,8 @@ use crate::row::Row;
 use core::hint;
 use core::sync::atomic::{AtomicU64, Ordering, fence};
 
-/// The last row that a drain published, as its twelve numbers, which no lock guards: who reads meanwhile reads again. The version is
-/// odd while the numbers change.
+/// The last row that a drain published, as its twelve numbers. No lock guards them: a reader whose read overlaps a change reads again. The
+/// version is odd while the numbers change.
 #[derive(Debug, Default)]
 pub(crate) struct Board {
     version: AtomicU64,
@@ -12,11 +12,11 @@ pub(crate) struct Board {
 }
 
 impl Board {
-    /// Publishes a row. There is one publisher, and it waits for nobody.
+    /// Publishes a row. There is one publisher, and it waits for no thread.
     pub(crate) fn publish(&self, row: &Row) {
         let version = self.version.load(Ordering::Relaxed);
         self.version.store(version + 1, Ordering::Relaxed);
-        // Whoever reads one of the new numbers sees an odd version, or a later one.
+        // A reader that sees one of the new numbers also sees an odd version, or a later one.
         fence(Ordering::Release);
         for (place, number) in self.numbers.iter().zip(numbers_of(row)) {
             place.store(number, Ordering::Relaxed);

@@ -2,7 +2,7 @@ use crate::packet::Packet;
 use crate::raw::{hash, sys};
 use core::net::IpAddr;
 
-/// Builds a [`Packet`] field by field. What is not given is 0.
+/// Builds a [`Packet`] field by field. A field that is not set is 0.
 ///
 /// ```
 /// let packet = qtree::Packet::builder(1500)
@@ -85,7 +85,7 @@ impl PacketBuilder {
         self
     }
 
-    /// The seed of its hash, where no hash is given.
+    /// The seed from which its hash is computed, if no hash is set.
     pub fn seed(mut self, seed: u32) -> Self {
         self.seed = seed;
         self
@@ -97,7 +97,7 @@ impl PacketBuilder {
         self
     }
 
-    /// The packet, with the hash of its addresses, ports and protocol where none was given.
+    /// The packet. If no hash was set, it is computed from addresses, ports and protocol.
     pub fn build(mut self) -> Packet {
         match self.hash {
             Some(hash) => self.packet.hash = hash,

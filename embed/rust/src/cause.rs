@@ -12,7 +12,7 @@ pub enum Cause {
     OverLimit = 3,
     /// CoDel dropped it (RFC 8289).
     CoDel = 4,
-    /// It was dropped from the fattest flow of an fq_codel (RFC 8290).
+    /// It was dropped from the fat flow of an fq_codel, that with the most bytes (RFC 8290).
     FatFlow = 5,
     /// A command removed its queue.
     Purged = 6,

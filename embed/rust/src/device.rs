@@ -17,7 +17,7 @@ use alloc::string::String;
 use alloc::vec;
 use alloc::vec::Vec;
 
-/// A device. Each call has it alone. It may go to another thread, and is used by one at a time.
+/// A device: a tree of qdiscs with a clock, counters and a list of losses. It may move to another thread, and one thread at a time uses it.
 ///
 /// ```compile_fail
 /// fn shared<T: Sync>(_: T) {}
@@ -37,7 +37,7 @@ impl Device {
         Ok(Device(opened))
     }
 
-    /// Does what one line of tc asks for. What it removes is lost, and waits among the losses.
+    /// Plays one line of tc. The packets of what it removes are lost, and wait among the losses.
     ///
     /// ```
     /// # use qtree::{Device, Error, Fault, Refusal, Settings};
@@ -67,6 +67,16 @@ impl Device {
 
     /// A packet arrives, and is queued or lost.
     ///
+    /// ```
+    /// # use qtree::{Cause, Device, Error, Fate, Packet, Settings};
+    /// let mut device = Device::open(Settings::default())?;
+    /// device.command("tc qdisc add dev wan root handle 1: pfifo limit 1", 0)?;
+    /// let packet = Packet::builder(1000).buf(7).build();
+    /// assert_eq!(device.arrive(&packet, 0)?, Fate::Kept);
+    /// assert_eq!(device.arrive(&packet, 0)?, Fate::Lost(Cause::OverLimit));
+    /// # Ok::<(), Error>(())
+    /// ```
+    ///
     /// # Errors
     ///
     /// `OutOfRange` for a length of 0, a priority above 15, an ECN codepoint above 3 or the time; `Memory`.
@@ -74,8 +84,8 @@ impl Device {
         fate(self.0.arrive(&packet.0, now))
     }
 
-    /// A packet of this length arrives, whose first bytes, from its IP header on, say the rest, as
-    /// [`Packet::read_hashed`] reads them.
+    /// A packet of this length arrives. Its other fields are read from its first bytes, which begin with its IP header, as
+    /// [`Packet::read_hashed`] does.
     ///
     /// ```
     /// # use qtree::{Device, Error, Fate, Polled, Settings};
@@ -116,7 +126,19 @@ impl Device {
         fate(self.0.arrive_frame_seeded(bytes, len, buf, seed, now))
     }
 
-    /// Takes the packet whose turn it is. It takes no memory.
+    /// Takes the packet whose turn it is. It allocates nothing.
+    ///
+    /// ```
+    /// # use qtree::{Device, Error, Packet, Polled, Settings};
+    /// let mut device = Device::open(Settings::default())?;
+    /// device.command("tc qdisc add dev wan root handle 1: tbf rate 8mbit burst 1000 latency 50ms", 0)?;
+    /// device.arrive(&Packet::builder(1000).buf(1).build(), 0)?;
+    /// device.arrive(&Packet::builder(1000).buf(2).build(), 0)?;
+    /// assert!(matches!(device.poll(0)?, Polled::Packet(packet) if packet.buf() == 1));
+    /// assert!(matches!(device.poll(0)?, Polled::Later)); // 1000 bytes at 8 Mbit/s take a millisecond
+    /// assert_eq!(device.ready_at(), Some(1_000_000));
+    /// # Ok::<(), Error>(())
+    /// ```
     ///
     /// # Errors
     ///
@@ -130,7 +152,7 @@ impl Device {
         }
     }
 
-    /// Takes the packet whose turn it is, as [`poll`](Device::poll) does, and hands out what it takes to send it on.
+    /// Takes the packet whose turn it is, as [`poll`](Device::poll) does, and returns only the fields that a program needs to transmit it.
     ///
     /// ```
     /// # use qtree::{Device, Error, Packet, Polled, Settings};
@@ -153,7 +175,7 @@ impl Device {
         }
     }
 
-    /// Polls until `sent` is full, or to the first poll that gives none; how many packets there are.
+    /// Polls until `sent` is full, or up to the first poll that gives none. Returns how many packets there are.
     ///
     /// ```
     /// # use qtree::{Device, Error, Packet, Sent, Settings};
@@ -177,7 +199,7 @@ impl Device {
         }
     }
 
-    /// Polls up to `most` times, and appends what that gives to `sent`, which has room for so many; how many there are.
+    /// Polls up to `most` times, and appends the packets to `sent`, which has room for so many. Returns how many there are.
     pub(crate) fn poll_many(
         &mut self,
         now: u64,
@@ -190,7 +212,7 @@ impl Device {
         }
     }
 
-    /// The time before which no poll gives a packet, as long as none arrives and no command comes; `None` where no poll ever will.
+    /// The time before which no poll gives a packet, as long as none arrives and no command comes; `None` if no poll ever will.
     ///
     /// A poll at that time may still answer [`Polled::Later`]: what an fq_codel gives, or which class of a drr, is not known before it is
     /// asked. The time that follows is then a later one.
@@ -199,7 +221,7 @@ impl Device {
         (code == sys::QTREE_DONE).then_some(moment)
     }
 
-    /// The losses that were not handed out yet, oldest first. Those that wait keep memory: a program that needs none reaps too.
+    /// The losses that were not returned yet, oldest first. Those that wait keep memory: a program that needs no losses reads them too.
     ///
     /// ```
     /// # use qtree::{Cause, Device, Error, Fate, Packet, Settings};
@@ -251,7 +273,7 @@ impl Device {
         self.0.events()
     }
 
-    /// The recorded event of this index, from 0; `None` behind the last.
+    /// The recorded event of this index, from 0; `None` after the last.
     ///
     /// # Errors
     ///
@@ -272,7 +294,7 @@ impl Device {
         }))
     }
 
-    /// The script that plays all recorded events again: `qtree play` with the device's mtu and txqueuelen does with it what the device
+    /// The script that plays all recorded events again: with the device's mtu and txqueuelen, `qtree play` does what the device
     /// did. A script does not say a packet's port, number and buf, nor the addresses of one that is not IP: packets are numbered from 1 in the
     /// order of their arrivals.
     ///

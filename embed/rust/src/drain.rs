@@ -17,9 +17,9 @@ use alloc::vec::Vec;
 
 /// A device with the rings of many senders. Each sender has a [`Port`]; the drain takes in what they placed, and polls.
 ///
-/// It may go to another thread. Ports, drain and gauges are dropped in any order: once the drain is gone, what is left in the rings is
-/// forgotten, and offers are answered `Closed`. No call waits: between turns a program sleeps until [`Device::ready_at`], or until a
-/// sender wakes it by a way of the program's own, as `std::thread::Thread::unpark`.
+/// It may move to another thread. Ports, drain and gauges are dropped in any order: once the drain is dropped, what is left in the rings is
+/// discarded, and offers return `Closed`. No call waits: between turns a program sleeps until [`Device::ready_at`], or until a sender wakes
+/// it, as by `std::thread::Thread::unpark`.
 ///
 /// ```
 /// use qtree::{Drain, Packet, Settings};
@@ -84,12 +84,12 @@ impl Drain {
     }
 
     /// A turn: up to `most` packets leave the rings and arrive, one from each ring in turn, going on after the one that was taken from
-    /// last; then come up to `most` polls, to the first that gives no packet. Their packets are appended to `sent`. It takes no memory
-    /// where `sent` has room for `most` packets more, but for what arrivals need. What it counted is published for gauges.
+    /// last; then come up to `most` polls, up to the first that gives no packet. Their packets are appended to `sent`. If `sent` has room
+    /// for `most` packets more, only arrivals allocate. The counters are then published for gauges.
     ///
     /// # Errors
     ///
-    /// `OutOfRange` (the time); `Memory`, where `sent` gets no room. Nothing has changed then.
+    /// `OutOfRange` (the time); `Memory`, if the room for `sent` cannot be allocated. Nothing has changed then.
     pub fn turn(&mut self, now: u64, most: usize, sent: &mut Vec<Packet>) -> Result<Turn, Error> {
         sent.try_reserve(most).map_err(|_| Error::Memory)?;
         let (taken, memory) = self.collect(now, most)?;
@@ -109,12 +109,12 @@ impl Drain {
     }
 
     /// Takes in all that is left in the rings, once every port is closed, and compares what was placed with what was taken in. The
-    /// packets are queued or lost as ever: where that may be more than the tree holds, turns come first, until one takes nothing.
+    /// packets are queued or lost as in a turn: if the tree may not have room for all of them, take turns first, until one takes nothing.
     ///
     /// # Errors
     ///
-    /// `OpenPorts`, `OutOfRange` (the time). `Memory`, where the allocation of an arrival fails: what was taken in stays so, and the
-    /// rest can be settled again.
+    /// `OpenPorts`, `OutOfRange` (the time). `Memory`, if the allocation of an arrival fails: what was taken in has arrived, and the
+    /// rest can be settled by another call.
     pub fn settle(&mut self, now: u64) -> Result<Settled, Error> {
         let mut settled = Settled {
             placed: Count::default(),
@@ -144,7 +144,7 @@ impl Drain {
         self.outlets.get_mut(index).map(Outlet::taken)
     }
 
-    /// Its device, for commands, counters, shows, losses, and the time of the next turn. What it counts is published by the next turn.
+    /// Its device, for commands, counters, shows, losses, and the time of the next turn. The next turn publishes its counters.
     pub fn device_mut(&mut self) -> &mut Device {
         &mut self.device
     }
@@ -154,7 +154,7 @@ impl Drain {
         Gauge::new(self.board.clone())
     }
 
-    /// Takes in up to `most` packets, one from each ring in turn; also whether an allocation failure ended it.
+    /// Takes in up to `most` packets, one from each ring in turn. Returns how many, and whether an allocation failure ended it.
     fn collect(&mut self, now: u64, most: usize) -> Result<(usize, bool), Error> {
         let (mut at, mut taken, mut empty) = (self.next, 0, 0);
         while taken < most && empty < self.outlets.len() {

@@ -3,7 +3,7 @@ use crate::raw::sys;
 use crate::refusal::Refusal;
 use core::fmt;
 
-/// Why a call did not do what it was called for. Nothing has changed then, but where the call says so.
+/// Why a call failed. Nothing has changed then, unless the call's page says so.
 #[derive(Clone, Copy, Debug, PartialEq, Eq)]
 #[non_exhaustive]
 pub enum Error {
@@ -13,14 +13,14 @@ pub enum Error {
     OutOfRange,
     /// The command is refused.
     Refused(Refusal),
-    /// The line is none of the language.
+    /// The line cannot be read.
     Faulty {
         /// What is wrong.
         fault: Fault,
         /// The index of the word, counted from 1.
         word: usize,
     },
-    /// The line changes no tree: it is empty, asks for a show text or brings a packet.
+    /// The line is no command: it is empty, asks for a show text, or is a script's line for a packet, a poll or a time.
     NoCommand,
     /// A port of the drain is not closed yet.
     OpenPorts,
@@ -40,7 +40,7 @@ impl Error {
 impl fmt::Display for Error {
     fn fmt(&self, f: &mut fmt::Formatter<'_>) -> fmt::Result {
         match self {
-            Error::Memory => f.write_str("memory is refused"),
+            Error::Memory => f.write_str("an allocation failed"),
             Error::OutOfRange => f.write_str("an argument is out of its range"),
             Error::Refused(refusal) => write!(f, "the command is refused: {refusal}"),
             Error::Faulty { fault, word } => {

@@ -1,6 +1,6 @@
 use crate::cause::Cause;
 
-/// What becomes of a packet that arrives.
+/// What happened to a packet that arrived.
 #[derive(Clone, Copy, Debug, PartialEq, Eq)]
 pub enum Fate {
     /// It is queued.

@@ -4,15 +4,15 @@ use core::fmt;
 #[derive(Clone, Copy, Debug, PartialEq, Eq)]
 #[non_exhaustive]
 pub enum Fault {
-    /// It fits nowhere in such a line, or not here.
+    /// It has no meaning in this place of the line.
     UnknownWord = 1,
-    /// The line needs one more.
+    /// The line ends before a word that it needs.
     Missing = 2,
     /// It is not of the form of a number, a handle or the like.
     BadNumber = 3,
     /// It is outside its range.
     OutOfRange = 4,
-    /// The option was given before.
+    /// The word or option was named before.
     Twice = 5,
     /// It is not UTF-8.
     BadUtf8 = 6,

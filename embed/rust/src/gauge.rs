@@ -25,8 +25,8 @@ impl Gauge {
         Gauge { board }
     }
 
-    /// The row of the device as it was behind the last turn: what arrived was sent, refused or dropped, or is queued. But for what is
-    /// queued, no count is below one that was read before. The drain does not wait for it, and it reads again where a turn ends meanwhile.
+    /// The row of the device as it was after the last turn: what arrived was sent, refused or dropped, or is queued. No count but that of
+    /// the queued packets is below one that was read before. The drain does not wait for this call, which reads again if a turn ends meanwhile.
     pub fn read(&self) -> Row {
         self.board.read()
     }

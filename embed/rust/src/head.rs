@@ -1,9 +1,9 @@
 use crate::raw;
 
-/// Writes Congestion Experienced (RFC 3168) into a packet that begins with its IP header, and renews the checksum of IPv4. Returns
+/// Writes Congestion Experienced (RFC 3168) into a packet that begins with its IP header, and updates the checksum of IPv4. Returns
 /// whether the packet is marked now.
 ///
-/// It is where [`Packet::read`](crate::Packet::read) reads an ECN codepoint that is not 0; else no byte is written. A program does so with
+/// It is if [`Packet::read`](crate::Packet::read) reads an ECN codepoint that is not 0; else no byte is written. A program calls this for
 /// each packet that a poll gives with the codepoint 3: else its sender never learns of the congestion.
 ///
 /// ```
@@ -16,7 +16,7 @@ pub fn mark_head(packet: &mut [u8]) -> bool {
 }
 
 /// The byte at which the IP header of an Ethernet frame begins: 14, or 18 or 22 behind one or two VLAN tags (IEEE 802.1Q, 802.1ad).
-/// `None` where the frame has another type, as ARP, or more tags, or ends before its type does.
+/// `None` if the frame has another type, as ARP, or more tags, or ends before its type does.
 ///
 /// ```
 /// let mut frame = [0; 60];

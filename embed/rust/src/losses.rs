@@ -1,7 +1,7 @@
 use crate::device::Device;
 use crate::loss::Loss;
 
-/// The losses of a device that were not handed out yet, oldest first. One that the iterator gives is handed out.
+/// The losses of a device that were not returned yet, oldest first. The device forgets each one that the iterator returns.
 #[derive(Debug)]
 pub struct Losses<'a> {
     pub(crate) device: &'a mut Device,

@@ -8,7 +8,7 @@ pub enum OfferError {
     Full,
     /// The packet has a length of 0, a priority above 15 or an ECN codepoint above 3.
     OutOfRange,
-    /// The drain is gone, and nobody will take the packet in.
+    /// The drain was dropped, and the packet would never be taken in.
     Closed,
 }
 

@@ -16,7 +16,7 @@ impl Outlet {
         Outlet { raw, ring }
     }
 
-    /// The oldest packet of the ring arrives, if one waits; also how many did.
+    /// The oldest packet of the ring arrives, if one waits. Returns how many did, 0 or 1.
     pub(crate) fn take_in(&mut self, device: &mut Device, now: u64) -> (u32, usize) {
         self.raw.take_in(&mut device.0, now, 1)
     }

@@ -9,12 +9,12 @@ use core::net::{IpAddr, Ipv4Addr, Ipv6Addr};
 pub struct Packet(pub(crate) sys::Packet);
 
 impl Packet {
-    /// A packet of this length in bytes, whose other fields are given by name. One of length 0 is refused on arrival.
+    /// Begins a packet of this length in bytes; methods set its other fields by name. An arrival of a packet with length 0 is an error.
     pub fn builder(len: u16) -> PacketBuilder {
         PacketBuilder::new(len)
     }
 
-    /// A packet of this length, whose first bytes, from its IP header on, say the rest. The seed is that of its hash.
+    /// A packet of this length. Its other fields are read from its first bytes, which begin with its IP header. The seed is that of its hash.
     ///
     /// ```
     /// let udp = [0x45, 0, 0, 28, 0, 0, 0, 0, 64, 17, 0, 0, 10, 0, 0, 1, 10, 0, 0, 2, 0x10, 0, 0x13, 0x89, 0, 8, 0, 0];
@@ -33,7 +33,7 @@ impl Packet {
     }
 
     /// A packet that is read in the same way, with a hash that the program has, as that of a network card: hashing takes most of the time
-    /// of [`Packet::read`]. Where no fq_codel stands in the tree, nothing reads a hash, and 0 serves.
+    /// of [`Packet::read`]. If no fq_codel is in the tree, nothing reads a hash, and it may be 0.
     ///
     /// ```
     /// let udp = [0x45, 0, 0, 28, 0, 0, 0, 0, 64, 17, 0, 0, 10, 0, 0, 1, 10, 0, 0, 2, 0x10, 0, 0x13, 0x89, 0, 8, 0, 0];
@@ -55,7 +55,7 @@ impl Packet {
         self.0.buf
     }
 
-    /// The index of the sender's port that placed it, where one did.
+    /// The index of the sender's port that placed it, if it came by a ring.
     pub fn port(&self) -> u32 {
         self.0.port
     }
@@ -86,12 +86,12 @@ impl Packet {
         (self.0.sport, self.0.dport)
     }
 
-    /// The address of its source, where it is one of IP.
+    /// The address of its source; `None` if the packet is not IP.
     pub fn src(&self) -> Option<IpAddr> {
         address(self.0.family, self.0.src_high, self.0.src_low)
     }
 
-    /// The address of its destination, where it is one of IP.
+    /// The address of its destination; `None` if the packet is not IP.
     pub fn dst(&self) -> Option<IpAddr> {
         address(self.0.family, self.0.dst_high, self.0.dst_low)
     }

@@ -1,11 +1,11 @@
-/// Where packets are counted.
+/// A place in which packets are counted.
 #[derive(Clone, Copy, Debug, PartialEq, Eq)]
 pub enum Place {
     /// The device itself.
     Top,
     /// Its root.
     Root,
-    /// What stands in the class `major:minor`, from 1:1 to fffe:ffff.
+    /// The qdisc in the class `major:minor`, from 1:1 to fffe:ffff.
     Class(u16, u16),
 }
 

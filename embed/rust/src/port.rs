@@ -5,8 +5,8 @@ use crate::raw::{RawPort, sys};
 use crate::ring_state::RingState;
 use alloc::sync::Arc;
 
-/// A sender's end of a ring, by which it brings packets to a [`Drain`](crate::Drain). It may go to a thread of its own, and meets
-/// neither another sender nor a lock there. Dropping it closes it; what it placed is taken in all the same.
+/// A sender's end of a ring, by which it passes packets to a [`Drain`](crate::Drain). It may move to a thread of its own, which waits
+/// neither for another sender nor for a lock. Dropping it closes it; what it placed is still taken in.
 ///
 /// ```
 /// use qtree::{Drain, OfferError, Packet, Settings};
@@ -47,8 +47,8 @@ impl Port {
         self.index
     }
 
-    /// Places a copy of the packet in the ring, with the port's index and the number of packets placed, counted from 1. It takes no
-    /// memory and waits for nobody.
+    /// Places a copy of the packet in the ring, with the port's index and the number of packets placed, counted from 1. It allocates
+    /// nothing and waits for no thread.
     ///
     /// # Errors
     ///

@@ -18,9 +18,9 @@ pub enum Refusal {
     NoClass = 15,
     /// A filter names the class.
     Busy = 16,
-    /// The qdisc is of another kind, or this of it does not change.
+    /// The qdisc is of another kind, or this setting of it cannot be changed.
     CannotChange = 17,
-    /// A qdisc would stand deeper than 8.
+    /// A qdisc would be deeper than 8.
     TooDeep = 18,
     /// There would be more than 256 qdiscs, or filters of one qdisc.
     TooMany = 19,

@@ -15,7 +15,7 @@ impl RingState {
     pub(crate) fn close_port(&self, placed: Count) {
         self.packets.store(placed.packets, Ordering::Relaxed);
         self.bytes.store(placed.bytes, Ordering::Relaxed);
-        // Whoever sees it closed sees the share, and every packet in the ring.
+        // A thread that sees it closed also sees the share, and every packet in the ring.
         self.port_closed.store(true, Ordering::Release);
     }
 
@@ -31,7 +31,7 @@ impl RingState {
         self.outlet_closed.store(true, Ordering::Relaxed);
     }
 
-    /// Whether nobody will take in what is offered.
+    /// Whether the drain was dropped, so that no offer will be taken in.
     pub(crate) fn is_outlet_closed(&self) -> bool {
         self.outlet_closed.load(Ordering::Relaxed)
     }

@@ -1,7 +1,7 @@
 use crate::raw::sys;
 use core::fmt;
 
-/// What a program needs of a packet to send it on.
+/// The fields of a packet that a program needs in order to transmit it.
 #[derive(Clone, Copy, Default)]
 #[repr(transparent)]
 pub struct Sent(pub(crate) sys::Sent);
@@ -23,7 +23,7 @@ impl Sent {
         self.0.ecn
     }
 
-    /// The index of the sender's port that placed it, where one did.
+    /// The index of the sender's port that placed it, if it came by a ring.
     pub fn port(&self) -> u32 {
         self.0.port
     }

@@ -12,7 +12,7 @@ pub struct Settings {
 }
 
 impl Default for Settings {
-    /// As Linux has an Ethernet device, with no recorder.
+    /// The mtu with the header of an Ethernet frame, 1514, the txqueuelen of Linux, 1000, and no recorder.
     fn default() -> Settings {
         Settings {
             mtu: 1514,

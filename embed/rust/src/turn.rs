@@ -5,6 +5,6 @@ pub struct Turn {
     pub taken: usize,
     /// How many packets the polls gave.
     pub sent: usize,
-    /// Whether an arrival was refused memory, which ended the taking in. That packet is still in its ring.
+    /// Whether the allocation of an arrival failed, which ended the taking in. That packet is still in its ring.
     pub memory: bool,
 }

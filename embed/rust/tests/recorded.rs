@@ -25,7 +25,7 @@ impl Numbers {
 }
 
 /// What a poll gave, as `qtree play` writes it. The number of a packet is that of its arrival.
-fn told(polled: Polled) -> String {
+fn answer_of(polled: Polled) -> String {
     match polled {
         Polled::Packet(packet) => {
             let mark = if packet.ecn() == 3 { " ce" } else { "" };
@@ -67,14 +67,14 @@ fn session(device: &mut Device, numbers: &mut Numbers) -> Result<Vec<String>, Er
                     .build();
                 device.arrive(&packet, now)?;
             }
-            _ => answers.push(told(device.poll(now)?)),
+            _ => answers.push(answer_of(device.poll(now)?)),
         }
     }
     device.command(
         "tc qdisc change dev wan handle 10: fq_codel limit 7 noecn drop_batch 3",
         now,
     )?;
-    answers.push(told(device.poll(now)?));
+    answers.push(answer_of(device.poll(now)?));
     Ok(answers)
 }
 
@@ -85,9 +85,9 @@ fn play(device: &mut Device, script: &str) -> Result<Vec<String>, Error> {
     for line in script.lines() {
         let words: Vec<&str> = line.split(' ').collect();
         match words[0] {
-            "at" => now = words[1].parse().expect("a moment"),
+            "at" => now = words[1].parse().expect("a time"),
             "tc" => device.command(line, now)?,
-            "poll" => answers.push(told(device.poll(now)?)),
+            "poll" => answers.push(answer_of(device.poll(now)?)),
             _ => {
                 arrived += 1;
                 device.arrive(&packet(&words, arrived), now)?;

@@ -1,4 +1,4 @@
-//! Which types may go to another thread, and which may be shared: told at compile time.
+//! Which types may go to another thread, and which may be shared: checked at compile time.
 use qtree::{Device, Drain, Gauge, Port};
 
 const fn may_go<T: Send>() {}
