@@ -77,7 +77,7 @@ enum {
     /* A poll gives no packet: none is queued; or some are, and their time has not come. */
     QTREE_IDLE = 30,
     QTREE_LATER = 31,
-    /* No loss waits, there is no such node, there is no such event, or no poll will ever give a packet. */
+    /* No loss waits, no node stands there, there is no such event, or no poll will ever give a packet. */
     QTREE_NOTHING = 32,
     /* The ring of a port has no room for a packet more. */
     QTREE_FULL = 33,

@@ -1,7 +1,7 @@
 use crate::drained::Drained;
 use q_device::{Device, Totals};
 
-/// What the senders came to: the settled share, how many packets of the loads no try placed, what was drained where that was asked
+/// The result of the senders: the settled share, how many packets of the loads no try placed, what was drained if that was asked
 /// for, and the device.
 #[derive(Drop)]
 pub struct Driven {

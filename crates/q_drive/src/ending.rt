@@ -20,8 +20,8 @@ use q_session::{put_device, put_show};
 use q_show::{Target, WriteFault};
 use std::io::Write;
 
-/// Writes what the senders came to, and the device's counters and the qdiscs where they are to be shown; or that memory was
-/// refused to them.
+/// Writes the totals of the senders, and the device's counters and the qdiscs if they are to be shown; or that an allocation
+/// failed for them.
 pub fn write_ending<W: Write>(
     driven: &Option<Driven>,
     show: bool,

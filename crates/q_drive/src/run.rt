@@ -22,8 +22,8 @@ use std::io::{ErrorKind, Read, Write};
 use std::sync::Wait;
 use std::thread::Threads;
 
-/// Drives a device as [`run_drive`] does, from a source of which no read was made to a target on which no write was made. What
-/// their reads and writes came to says which answer this is, as at `run_between` of `q_script`.
+/// Drives a device as [`run_drive`] does, from a source that was not read yet to a target that was not written yet. How their
+/// reads and writes ended decides the result, as for `run_between` of `q_script`.
 pub fn run_drive_between<H: Threads + Wait + Sync, R: Read, W: Write>(
     rt: &H,
     alloc: Global,
@@ -52,7 +52,7 @@ pub fn run_drive_between<H: Threads + Wait + Sync, R: Read, W: Write>(
     run_drive_noting(rt, alloc, source, target, settings, &mut notes)
 }
 
-/// The same. Notes that are handed over are those of its lines afterwards, where it answers an outcome.
+/// The same. If it returns an outcome, the notes that were handed over are then those of its lines.
 pub fn run_drive_noting<H: Threads + Wait + Sync, R: Read, W: Write>(
     rt: &H,
     alloc: Global,
@@ -143,12 +143,12 @@ fn write_end<W: Write>(
 }
 
 /// Reads a script of at most 16,777,216 bytes, whose tc lines set up a device; then lets the senders run, each on a thread of its
-/// own; and writes the report of the script, and what the senders came to. It waits for the threads. No line is run before
+/// own; and writes the report of the script, and the totals of the senders. It waits for the threads. No line is run before
 /// the whole script was read.
 ///
 /// After `Read`, `TooLong` and `Memory` nothing was written, and after `Write` (any error of a write, or one that takes no byte)
-/// a front of a report, and not all of it. [`run_drive_between`] says when each of them comes. Memory that is refused to the
-/// senders is a line of the report.
+/// a front of a report, and not all of it. [`run_drive_between`] says when each of them comes. An allocation that fails for
+/// the senders is a line of the report.
 pub fn run_drive<H: Threads + Wait + Sync, R: Read, W: Write>(
     rt: &H,
     alloc: Global,

@@ -8,7 +8,7 @@ use crate::turn::Turn;
 /// Gives turns until a class sends its head, or a class is in front that shows nothing: what a drr does at one take.
 /// `heads` has what each class shows, by its name.
 ///
-/// The answer is `None` where no class is active. The contract says at once which class is met and what each is granted.
+/// Returns `None` if no class is active. The contract says directly which class is met and what each is granted.
 pub fn take_by_turns(active: &mut Active, heads: &[Option<u16>]) -> Option<Met>
     requires named { All (λ e. e.class < length heads.now) active.old.active }
     requires in_range { All (λ head. IfSome head (λ len. len ≤ active.old.max_len)) heads.now }

@@ -5,7 +5,7 @@ use std::str::from_utf8;
 /// The most bytes of a word that a sentence repeats.
 const LONGEST: usize = 40;
 
-/// Adds bytes of a script, and answers how many columns they take.
+/// Adds bytes of a script, and returns how many columns they take.
 pub fn push_shown(text: &mut String, bytes: &[u8]) -> Result<usize, AllocError> {
     let mut columns = 0usize;
     match from_utf8(bytes) {
@@ -32,7 +32,7 @@ pub fn push_word(text: &mut String, word: &[u8]) -> Result<(), AllocError> {
     Ok(())
 }
 
-/// Adds a character, and answers how many columns it takes.
+/// Adds a character, and returns how many columns it takes.
 fn push_char(text: &mut String, c: char) -> Result<usize, AllocError> {
     if c == ' ' || c.is_ascii_graphic() || (!c.is_ascii() && c.is_alphanumeric()) {
         text.push(c)?;

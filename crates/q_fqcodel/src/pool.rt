@@ -169,7 +169,7 @@ impl Pool {
         self.bytes -= out.len as u64;
     }
 
-    /// Loses the packet in front of the flow `from`, and appends another to a flow. The answer is the bytes of that flow.
+    /// Loses the packet in front of the flow `from`, and appends another to a flow. Returns the bytes of that flow.
     #[inline(always)]
     pub(crate) fn replace<S: Sink>(
         &mut self,

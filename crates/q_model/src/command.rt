@@ -33,7 +33,7 @@ pub enum Command {
         place: Option<Place>,
         handle: Option<Handle>,
     },
-    /// `tc class add`: a new class of a drr; its quantum is the mtu where none is given.
+    /// `tc class add`: a new class of a drr; its quantum is the mtu if none is named.
     ClassAdd {
         parent: Handle,
         class: ClassId,

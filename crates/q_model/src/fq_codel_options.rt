@@ -63,7 +63,7 @@ impl Model for FqCodelOptions {
 }
 
 impl FqCodelOptions {
-    /// The options with these fields; `None` where one that is given is out of its range.
+    /// The options with these fields; `None` if one that is set is out of its range.
     pub fn new(
         limit: Option<u32>,
         flows: Option<u32>,

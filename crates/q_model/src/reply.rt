@@ -2,7 +2,7 @@ use crate::fate::Fate;
 use crate::polled::Polled;
 use crate::refusal::Refusal;
 
-/// What an event is answered.
+/// The result of an event.
 #[derive(Clone, Copy, PartialEq, Eq, Debug)]
 pub enum Reply {
     /// To an arrival.

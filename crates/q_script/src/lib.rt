@@ -13,9 +13,9 @@
 //! - [`RunSettings`] are the options of a run, [`Outcome`] and [`RunFault`] what it returns. A fault of a read or a write has
 //!   the kind of its error.
 //!
-//! `specs/Script.antt` cuts a script into lines and says how a report speaks of one, `specs/Step.antt` has what the lines
-//! come to together, `specs/Reads.antt` what reads come to, `specs/Lengths.antt` the room in the output and
-//! `specs/Settings.antt` the settings.
+//! `specs/Script.antt` cuts a script into lines and says how a report speaks of one, `specs/Step.antt` has the report of all
+//! lines together, `specs/Reads.antt` how reads end, `specs/Lengths.antt` the room in the output and `specs/Settings.antt`
+//! the settings.
 //! The crate knows nothing of devices and of what a line may say: a session brings both.
 #![tactic(auto)]
 

@@ -1,6 +1,6 @@
 use std::io::ErrorKind;
 
-/// What the reads of a [`Source`](crate::Source) came to.
+/// How the reads of a [`Source`](crate::Source) ended.
 #[derive(Clone, Copy, PartialEq, Eq, Debug)]
 pub struct Reads {
     /// How many reads were made, interrupted ones counted.

@@ -47,7 +47,7 @@ impl RunSettings {
         }
     }
 
-    /// What `qtree play` runs with where no option is given.
+    /// The settings of `qtree play` without options.
     pub fn defaults() -> RunSettings
         ensures { result ≡ default_settings }
     {

@@ -6,7 +6,7 @@ ghost use Rattle.q_script.specs.Reads.{MayRead, no_reads, after_bytes, after_end
 use crate::reads::Reads;
 use std::io::{ErrorKind, Read};
 
-/// A reader of which no read is made after one that failed or brought no byte. It keeps what its reads came to.
+/// A reader of which no read is made after one that failed or brought no byte. It keeps how its reads ended.
 #[derive(Drop)]
 pub struct Source<'a, R> {
     reader: &'a mut R,

@@ -196,7 +196,7 @@ impl DeviceSession {
         }
     }
 
-    /// The same; the refusal is answered.
+    /// The same; the refusal is returned.
     fn run_command(&mut self, number: u64, command: Command, output: &mut Output) -> Option<Refusal>
         requires { HasRoom output.old most_step }
         ensures { (starved : Bool)
@@ -265,7 +265,7 @@ impl DeviceSession {
         self.note(number, line, LineNote::Fault(fault));
     }
 
-    /// A line that writes one line at most. Its refusal is answered.
+    /// A line that writes one line at most. Its refusal is returned.
     fn answer(&mut self, number: u64, line: Line, output: &mut Output) -> Option<Refusal>
         requires few { self.old.state.packets + 1 < 2 ^ 32 }
         requires room { HasRoom output.old most_step }

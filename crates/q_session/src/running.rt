@@ -12,10 +12,10 @@ use q_show::Target;
 use std::alloc::Global;
 use std::io::{ErrorKind, Read, Write};
 
-/// Runs a script as [`run`] does, from a source of which no read was made to a target on which no write was made. What their
-/// reads and writes came to says which answer this is:
+/// Runs a script as [`run`] does, from a source that was not read yet to a target that was not written yet. How their reads and
+/// writes ended decides the result:
 ///
-/// - An outcome: the reads came to the end, and no read or write failed.
+/// - An outcome: the reads reached the end, and no read or write failed.
 /// - `Read`: the last read failed, or all of the 16,777,218 reads were made, some of which were interrupted.
 /// - `Write`: the last write failed or took no byte, or it was interrupted once more than a text's writes may be.
 ///

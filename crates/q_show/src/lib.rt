@@ -3,8 +3,8 @@
 //! - [`qdisc_text`] is a node with its settings, and its counters where they are asked for, [`class_text`] a class and
 //!   [`filter_text`] a filter; [`counters_text`] is what a node has counted. Each takes a view of `q_model`, and returns a
 //!   [`Text`], which allocates nothing.
-//! - [`write_whole`] writes bytes to any writer, and [`Target`] does so time after time to one writer, keeping what the
-//!   writes came to: none is made after one that failed. [`Hexadecimal`] is a number's digits. `q_script` writes its reports by
+//! - [`write_whole`] writes bytes to any writer, and [`Target`] does so time after time to one writer, and keeps how the
+//!   writes ended: none is made after one that failed. [`Hexadecimal`] is a number's digits. `q_script` writes its reports by
 //!   them.
 //!
 //! ```
@@ -13,7 +13,7 @@
 //! write_whole(&mut writer, text.as_bytes())?;
 //! ```
 //!
-//! - `specs/ShowText.antt` has the texts, and `specs/Writes.antt` what writes come to. A write appends exactly its bytes, or stops
+//! - `specs/ShowText.antt` has the texts, and `specs/Writes.antt` how writes end. A write appends exactly its bytes, or stops
 //!   at the writer's failure with a front of them written.
 #![tactic(auto)]
 

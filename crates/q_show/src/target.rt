@@ -11,7 +11,7 @@ use std::io::{ErrorKind, Write};
 /// How many writes of one text may be interrupted.
 const MAX_INTERRUPTS: u32 = 16_777_216;
 
-/// A writer on which no write is made after one that failed. It keeps what its writes came to.
+/// A writer on which no write is made after one that failed. It keeps how its writes ended.
 #[derive(Drop)]
 pub struct Target<'a, W> {
     writer: &'a mut W,

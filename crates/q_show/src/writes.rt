@@ -1,6 +1,6 @@
 use std::io::ErrorKind;
 
-/// What the writes of a [`Target`](crate::Target) came to.
+/// How the writes of a [`Target`](crate::Target) ended.
 #[derive(Clone, Copy, PartialEq, Eq, Debug)]
 pub struct Writes {
     /// How many bytes of the latest text were taken.

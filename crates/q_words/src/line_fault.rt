@@ -15,7 +15,7 @@ pub enum LineFault {
     BadNumber(usize),
     /// A number, handle or name outside its range.
     OutOfRange(usize),
-    /// The option is given a second time.
+    /// The word or option is in the line a second time.
     Twice(usize),
     /// The word is not UTF-8.
     BadUtf8(usize),
