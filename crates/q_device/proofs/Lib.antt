@@ -15,6 +15,14 @@ pub mod Moved
 pub mod MovedAsks
 pub mod MovedTrees
 pub mod NewFlowService
+mod OrderAsks
+mod OrderFlows
+mod OrderParts
+mod OrderPuts
+mod OrderRows
+mod OrderSteps
+mod OrderWays
+mod PartLemmas
 mod PassedStretches
 pub mod PlayLemmas
 mod RateStretches

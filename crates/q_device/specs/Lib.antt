@@ -6,6 +6,7 @@ pub mod Giving
 pub mod InTime
 pub mod Keeping
 pub mod Laws
+pub mod Order
 pub mod Rate
 pub mod Replayed
 pub mod Service

@@ -2,6 +2,7 @@
 ghost use Rattle.q_device.specs.DeviceLaws.{ArrivesByArrivals, CountersNeverFall, EveryCounterIsCompared, HasItsMemory, IsLawfulDevice, IsReplayed, IsReplayOfRecorded, TellsItsLosses};
 ghost use Rattle.q_device.specs.InTime.{ClassesShareInTime, SharesMultiply};
 ghost use Rattle.q_device.specs.Laws.{ReplayGoesOn, ShrinkCommutes, ReplayShrinks, EveryReplayIsSound, TotalsAreLawful, EveryReplayTellsAll};
+ghost use Rattle.q_device.specs.Order.{FlowsKeepOrder};
 ghost use Rattle.q_device.specs.Rate.{RateIsDelivered, RateIsSpent};
 ghost use Rattle.q_device.specs.Service.{ClassAgainstAny, ClassesGetTheirParts, FlowAgainstAny, NoFlowStarves, NewFlowFirst};
 ghost use Rattle.q_device.specs.Sharing.{ClassesSendTheirShares, DeficitsAreBounded, GrantsComeWhereShort, ClassesWakeWithAQuantum, ClassesShareByQuanta, BucketsAreBounded, FlowsGiveTheirShares, FlowsBeginNew, FlowsAreGrantedEvenly};
@@ -201,6 +202,19 @@ pub fn work_is_conserved(settings: Settings)
 /// lets the bands behind it send meanwhile.
 pub fn bands_are_strict(settings: Settings)
     ensures { BandsAreStrict settings }
+{
+    settings.ranges();
+}
+
+/// No flow is reordered. Of packets with equal flow key, hash and priority, those that polls give over an interval are a part of those
+/// that arrive in it, in the order in which they arrived, but for the ECN codepoint of a mark. No such packet is queued at the start of the
+/// interval, at any node, and no command is accepted in it; a refused command changes nothing.
+///
+/// For all settings and every list of events whose fields are in their ranges, whatever the qdiscs and the other packets are. Those of the
+/// flow that are not given were refused, dropped, or wait. A filter, a class or a qdisc that a command puts in may send later packets
+/// of a flow another way, which can be shorter.
+pub fn flows_keep_order(settings: Settings)
+    ensures { FlowsKeepOrder settings }
 {
     settings.ranges();
 }
