@@ -1,4 +1,5 @@
 pub mod Adding
+pub mod BatchLemmas
 pub mod Boards
 pub mod CollectLemmas
 pub mod DriveLemmas

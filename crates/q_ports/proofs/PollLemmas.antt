@@ -1,5 +1,7 @@
 -- Polls, one by one.
-use Rattle.std.proofs.Common.{◌≡◌, ℕ, suc, [], ◌∷◌, sym, ap, ◌∙◌, Option, Some, None}
+use Rattle.std.proofs.Common.{◌≡◌, ℕ, suc, List, [], ◌∷◌, ◌++◌, length, set, take, sym, ap, ◌∙◌, Option, Some, None}
+use Rattle.std.proofs.Math.Seq.{set-append_seam}
+use Rattle.std.proofs.lemmas.List.{take-set, take_at}
 use Rattle.q_packet.specs.Descriptor.{Descriptor}
 use Rattle.q_model.specs.declared.event.Event.TheVariants.{Poll}
 use Rattle.q_device.specs.DeviceSeen.{DeviceSeen, Memory, polled_memory}
@@ -28,3 +30,11 @@ given-none n now d none = ap (λ (o : Option Descriptor). and_then o (given_by n
 
 pub polled-none : (n now : ℕ) (d : DeviceSeen) → given_at now d ≡ None → polled (suc n) now d ≡ after_poll now d
 polled-none n now d none = ap (λ (o : Option Descriptor). or_last o (after_poll now d) (polled n now (after_poll now d))) none
+
+-- a packet is written where another was appended for it
+pub written-there : (given : List Descriptor) (s p : Descriptor) (n : ℕ) → length given ≡ n → set (given ++ s ∷ []) n p ≡ given ++ p ∷ []
+written-there given s p n many = ap (λ (k : ℕ). set (given ++ s ∷ []) k p) (sym many) ∙ set-append_seam given s [] p
+
+-- the same, cut off again
+pub cut-off : (given : List Descriptor) (s p : Descriptor) (n : ℕ) → length given ≡ n → take n (set (given ++ s ∷ []) n p) ≡ given
+cut-off given s p n many = take-set (given ++ s ∷ []) n p ∙ take_at given (s ∷ []) n many

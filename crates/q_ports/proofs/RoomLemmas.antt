@@ -1,5 +1,5 @@
 -- Places that stay.
-use Rattle.std.proofs.Common.{◌≡◌, ◌∙◌, refl, arith}
+use Rattle.std.proofs.Common.{◌∙◌, refl, arith}
 use Rattle.q_device.specs.DeviceSeen.{DeviceSeen}
 use Rattle.q_ports.specs.Room.{KeepsPlaces}
 

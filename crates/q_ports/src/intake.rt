@@ -97,6 +97,7 @@ impl<P: Ledger, B: Ledger> Intake<P, B> {
     }
 
     // Takes a packet from a ring, if one waits there, and answers whether it did.
+    #[inline(always)]
     fn take_at(
         &mut self,
         at: usize,
@@ -124,6 +125,7 @@ impl<P: Ledger, B: Ledger> Intake<P, B> {
     }
 
     // Takes a packet from the first of some rings in which one waits, and answers which ring that was.
+    #[inline(always)]
     fn take_within(
         &mut self,
         from: usize,

@@ -1,9 +1,9 @@
 //! Many sender threads, one thread that drains, and readers of the counters around one [`Device`](q_device::Device).
 //!
 //! Each sender has a [`Port`], the producer's end of a ring of packets. [`Port::offer`] waits for nobody: it places the packet, or
-//! returns it where the ring is full. One thread has the [`Drain`]. Each [`Drain::turn`] takes the lock of the device once: packets
-//! leave the rings and arrive at the device, and then it is polled. A [`Gauge`] reads the device's counters as they were after
-//! some turn, and takes no lock.
+//! returns it where the ring is full; [`Port::offer_many`] places as many packets of a slice as fit. One thread has the [`Drain`]. Each
+//! [`Drain::turn`] takes the lock of the device once: packets leave the rings and arrive at the device, and then it is polled. A [`Gauge`]
+//! reads the device's counters as they were after some turn, and takes no lock.
 //!
 //! ```
 //! // On a sender's thread: a packet that finds the ring full comes back.
@@ -26,6 +26,7 @@
 //! [`Drain::settle`] the device's count of arrivals is the sum of what the ports placed ([`laws::settled`]).
 #![tactic(auto)]
 
+mod batch;
 mod board;
 mod board_view;
 mod board_writer;

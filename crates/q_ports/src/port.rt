@@ -1,14 +1,21 @@
-ghost use Rattle.std.specs.Prelude.{◌≡◌, ◌<◌, ◌≤◌, ◌+◌, ◌^◌, ◌++◌, ◌⊎◌, [], length, OnOk, OnErr, IfErr, IfSome, IfNone};
+ghost use Rattle.std.specs.Prelude.{◌≡◌, ◌<◌, ◌≤◌, ◌+◌, ◌^◌, ◌++◌, ◌⊎◌, [], true, false, get_or, length, take, OnOk, OnErr, IfErr, IfSome, IfNone};
+ghost use Rattle.std.specs.List.{fold};
+ghost use Rattle.q_packet.specs.Descriptor.{Descriptor};
 ghost use Rattle.q_model.specs.Beneath.{totals_in};
 ghost use Rattle.q_model.specs.Tally.{with_packet};
+ghost use Rattle.q_ports.specs.Offered.{MayBeFull};
 ghost use Rattle.q_ports.specs.Placed.{bytes_in, placed_by, placing, port_seen, ring_at, ring_length, ring_of, ring_of_port, HasRing};
 ghost use Rattle.rtrb.specs.Ring.{known_items, producer_capacity, received, sent, ConsumerLooked};
 
+use crate::batch::{free_places, with_packet, write_batch};
 use crate::countable::{PacketConsumer, PacketProducer};
 use crate::full::Full;
 use q_device::Totals as Share;
-use q_packet::Packet;
+use q_packet::{Packet, SOME_PACKET};
 use std::marker::Model;
+
+/// How many packets are placed by one store.
+const BATCH: usize = 16;
 
 /// A sender's end of its ring. It may move to a thread of its own.
 ///
@@ -19,6 +26,8 @@ pub struct Port {
     ring: PacketProducer,
     /// What it placed.
     share: Share,
+    /// Where the packets of a batch are written as they are to be placed. What stands there before does not matter.
+    batch: [Packet; BATCH],
 }
 
 impl Model for Port {
@@ -48,6 +57,7 @@ impl Port {
                 packets: 0,
                 bytes: 0,
             },
+            batch: [SOME_PACKET; BATCH],
         }
     }
 
@@ -58,24 +68,81 @@ impl Port {
     ///
     /// `Full` with the packet as it was given where the ring is full, or where the bytes placed would pass 2^64 - 1. Nothing has
     /// changed then. A ring in which fewer packets were placed in all than it has places is not full.
+    #[inline(always)]
     pub fn offer(&mut self, packet: Packet) -> Result<(), Full>
         ensures ok { OnOk result (self.new ≡ placing self.old packet) }
         ensures full { IfErr result (λ full. (full.0 ≡ packet) × (self.new ≡ self.old)) }
         ensures only { OnErr result ((ring_length self.old.ring ≤ length self.old.placed) ⊎ (2 ^ 64 ≤ bytes_in self.old.placed + packet.len)) }
     {
-        let Some(share) = with_packet(&self.share, &packet) else {
-            return Err(Full(packet));
+        if self.place(&packet) {
+            Ok(())
+        } else {
+            Err(Full(packet))
+        }
+    }
+
+    /// Places as many of the packets as fit the ring, from the first on and in order, each as by [`Port::offer`], and answers how
+    /// many. The receiver sees up to 16 of them at once, so that many packets cost less than as many offers. It waits for nobody and
+    /// takes no memory.
+    ///
+    /// It places fewer than all only where the next packet finds the ring full, or where the bytes placed would pass 2^64 - 1 by it.
+    pub fn offer_many(&mut self, packets: &[Packet]) -> usize
+        ensures few { result ≤ length packets.now }
+        ensures placed { self.new ≡ fold placing self.old (take result packets.now) }
+        ensures full { result < length packets.now → (d : Descriptor) → MayBeFull self.new (get_or packets.now result d) }
+    {
+        let mut placed = 0;
+        while placed < packets.len() {
+            let wanted = BATCH.min(packets.len() - placed);
+            let count = self.place_batch(&packets[placed..placed + wanted]);
+            placed += count;
+            if count < wanted {
+                return placed;
+            }
+        }
+        placed
+    }
+
+    // Places as many of the packets of a batch as fit the ring.
+    fn place_batch(&mut self, packets: &[Packet]) -> usize
+        requires { length packets.now ≤ 16 }
+        ensures few { result ≤ length packets.now }
+        ensures placed { self.new ≡ fold placing self.old (take result packets.now) }
+        ensures full { result < length packets.now → (d : Descriptor) → MayBeFull self.new (get_or packets.now result d) }
+    {
+        let room = free_places(&mut self.ring, packets.len());
+        let (count, share) = write_batch(
+            &mut self.batch[..room],
+            &packets[..room],
+            self.index,
+            self.share,
+        );
+        // There is room for them.
+        let _pushed = self.ring.push_entire_slice(&self.batch[..count]);
+        self.share = share;
+        count
+    }
+
+    // Places a packet that stays where it is, and answers whether there was room for it.
+    #[inline(always)]
+    fn place(&mut self, packet: &Packet) -> bool
+        ensures placed { result ≡ true → self.new ≡ placing self.old packet.now }
+        ensures same { result ≡ false → self.new ≡ self.old }
+        ensures full { result ≡ false → MayBeFull self.old packet.now }
+    {
+        let Some(share) = with_packet(&self.share, packet) else {
+            return false;
         };
-        let placed = Packet {
+        if self.ring.is_full() {
+            return false;
+        }
+        self.ring.push_reserved(Packet {
             port: self.index,
             number: share.packets,
-            ..packet
-        };
-        if self.ring.push(placed).is_err() {
-            return Err(Full(packet));
-        }
+            ..*packet
+        });
         self.share = share;
-        Ok(())
+        true
     }
 
     /// Its index among the drain's ports, from 0.
@@ -101,16 +168,4 @@ impl Port {
     {
         self.share
     }
-}
-
-// What was placed, with a packet more; `None` where a count would overflow.
-fn with_packet(share: &Share, packet: &Packet) -> Option<Share>
-    ensures some { IfSome result (λ s. s ≡ with_packet share.now packet.now) }
-    ensures countable { IfSome result (λ s. (share.now.packets + 1 < 2 ^ 64) × (share.now.bytes + packet.now.len < 2 ^ 64)) }
-    ensures none { IfNone result ((2 ^ 64 ≤ share.now.packets + 1) ⊎ (2 ^ 64 ≤ share.now.bytes + packet.now.len)) }
-{
-    Some(Share {
-        packets: share.packets.checked_add(1)?,
-        bytes: share.bytes.checked_add(u64::from(packet.len))?,
-    })
 }

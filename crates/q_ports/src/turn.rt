@@ -83,11 +83,15 @@ fn poll_all<P: Ledger, B: Ledger>(
     ensures few { length sent.new.items ≤ most }
     ensures polled { booked.new ≡ polled most now booked.old }
 {
-    let mut packet = SOME_PACKET;
-    for _poll in 0..most {
-        match booked.poll_into(now, &mut packet) {
-            Given::Packet => sent.push_reserved(packet),
-            Given::Idle | Given::Later => return,
+    for poll in 0..most {
+        // The poll writes the packet where it is to stand.
+        sent.push_reserved(SOME_PACKET);
+        match booked.poll_into(now, &mut sent[poll]) {
+            Given::Packet => {}
+            Given::Idle | Given::Later => {
+                sent.truncate(poll);
+                return;
+            }
         }
     }
 }

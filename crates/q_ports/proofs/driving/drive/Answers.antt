@@ -1,7 +1,6 @@
 use Rattle.std.proofs.Common.{◌∙◌, List, map, sym, ap, subst}
 use Rattle.q_ports.specs.Driven.{packets_of, AreBack}
 use Rattle.q_ports.specs.Placed.{PortSeen, ring_of_port}
-use Rattle.q_ports.specs.Rings.{ring_id}
 use Rattle.q_ports.proofs.DriveTurnLemmas.{no-turns-at-all, shows-turns}
 use Rattle.q_ports.proofs.DriveLemmas.{back-again, none-sent, sent-back}
 use Rattle.q_ports.proofs.driving.drive.Goals as goal

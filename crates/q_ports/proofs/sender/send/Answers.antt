@@ -1,4 +1,4 @@
-use Rattle.std.proofs.Common.{◌∙◌, List, true, refl, subst, arith}
+use Rattle.std.proofs.Common.{◌∙◌, List, true, subst, arith}
 use Rattle.std.proofs.lemmas.List.{take_all}
 use Rattle.q_packet.specs.Descriptor.{Descriptor}
 use Rattle.q_ports.specs.Offered.{Offered}

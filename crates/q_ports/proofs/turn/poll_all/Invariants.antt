@@ -5,8 +5,8 @@ use Rattle.q_ports.proofs.turn.poll_all.Given as goal
 
 abbrev pub invariant-loop-poll : goal.invariant-loop-poll
 invariant-loop-poll g l = record {
-  sent : l.sent.items ++ given_by (l.most - l._poll) l.now l.booked ≡ given_by l.most l.now l.initial.booked;
-  polled : polled (l.most - l._poll) l.now l.booked ≡ polled l.most l.now l.initial.booked;
-  count : vec_len l.sent ≡ l._poll;
+  sent : l.sent.items ++ given_by (l.most - l.poll) l.now l.booked ≡ given_by l.most l.now l.initial.booked;
+  polled : polled (l.most - l.poll) l.now l.booked ≡ polled l.most l.now l.initial.booked;
+  count : vec_len l.sent ≡ l.poll;
   room : vec_capacity l.sent ≡ vec_capacity l.initial.sent;
 }

@@ -1,0 +1,69 @@
+//! Packets as a port places them: counted, numbered, and as many as fit its ring.
+ghost use Rattle.std.specs.Prelude.{◌≡◌, ◌<◌, ◌≤◌, ◌+◌, ◌^◌, ◌++◌, ◌⊎◌, length, take, get_or, IfSome, IfNone};
+ghost use Rattle.std.specs.List.{fold};
+ghost use Rattle.q_packet.specs.Descriptor.{Descriptor};
+ghost use Rattle.q_model.specs.Tally.{with_packet};
+ghost use Rattle.q_ports.specs.Placed.{bytes_in, placing, port_seen, PortSeen};
+ghost use Rattle.rtrb.specs.Ring.{known_free, ProducerLooked};
+
+use crate::countable::PacketProducer;
+use q_device::Totals as Share;
+use q_packet::Packet;
+
+/// What was placed, with a packet more; `None` where a count would overflow.
+pub(crate) fn with_packet(share: &Share, packet: &Packet) -> Option<Share>
+    ensures some { IfSome result (λ s. s ≡ with_packet share.now packet.now) }
+    ensures countable { IfSome result (λ s. (share.now.packets + 1 < 2 ^ 64) × (share.now.bytes + packet.now.len < 2 ^ 64)) }
+    ensures none { IfNone result ((2 ^ 64 ≤ share.now.packets + 1) ⊎ (2 ^ 64 ≤ share.now.bytes + packet.now.len)) }
+{
+    Some(Share {
+        packets: share.packets.checked_add(1)?,
+        bytes: share.bytes.checked_add(u64::from(packet.len))?,
+    })
+}
+
+/// How many places of the ring are known to be free, up to so many. Where too few are, it looks again.
+pub(crate) fn free_places(ring: &mut PacketProducer, most: usize) -> usize
+    ensures looked { ProducerLooked ring.old ring.new }
+    ensures few { result ≤ most }
+    ensures free { result ≤ known_free ring.new }
+    ensures all { result < most → result ≡ known_free ring.new }
+{
+    if ring.cached_slots() < most {
+        most.min(ring.slots())
+    } else {
+        most
+    }
+}
+
+/// Writes packets as the port with this index places them behind those of the share, up to the first with which a count would overflow.
+/// Answers how many, and the share with them.
+pub(crate) fn write_batch(
+    batch: &mut [Packet],
+    packets: &[Packet],
+    index: u32,
+    share: Share,
+) -> (usize, Share)
+    requires room { length packets.now ≤ length batch.old }
+    ensures length { length batch.new ≡ length batch.old }
+    ensures few { result.0 ≤ length packets.now }
+    ensures written { (v : PortSeen) → v.index ≡ index → length v.placed ≡ share.packets → fold placing v (take result.0 packets.now) ≡ port_seen v.index v.ring (v.placed ++ take result.0 batch.new) }
+    ensures packets { result.1.packets ≡ share.packets + result.0 }
+    ensures bytes { result.1.bytes ≡ share.bytes + bytes_in (take result.0 batch.new) }
+    ensures full { result.0 < length packets.now → (d : Descriptor) → (2 ^ 64 ≤ result.1.packets + 1) ⊎ (2 ^ 64 ≤ result.1.bytes + (get_or packets.now result.0 d).len) }
+{
+    let mut share = share;
+    for at in 0..packets.len() {
+        let packet = &packets[at];
+        let Some(more) = with_packet(&share, packet) else {
+            return (at, share);
+        };
+        share = more;
+        batch[at] = Packet {
+            port: index,
+            number: share.packets,
+            ..*packet
+        };
+    }
+    (packets.len(), share)
+}
