@@ -12,8 +12,8 @@ use std::test::Fail;
 pub fn command(chance: &mut Chance) -> Result<Command, Fail> {
     match chance.below(16) {
         0 | 1 | 2 | 3 => qdisc_add(chance),
-        4 | 5 => qdisc_change(chance),
-        6 => qdisc_del(chance),
+        4 => qdisc_change(chance),
+        5 | 6 => qdisc_del(chance),
         7 | 8 | 9 => class_add(chance),
         10 => class_change(chance),
         11 => class_del(chance),
@@ -54,9 +54,9 @@ fn qdisc_del(chance: &mut Chance) -> Result<Command, Fail> {
 }
 
 fn named(chance: &mut Chance) -> Result<(Option<Place>, Option<Handle>), Fail> {
-    match chance.below(3) {
+    match chance.below(4) {
         0 => Ok((Some(place(chance)?), None)),
-        1 => Ok((None, Some(handle(chance)?))),
+        1 | 2 => Ok((None, Some(handle(chance)?))),
         _ => Ok((Some(place(chance)?), Some(handle(chance)?))),
     }
 }
@@ -102,14 +102,14 @@ fn some_parent(chance: &mut Chance, class: ClassId) -> Result<Option<Handle>, Fa
     Ok(Some(parent(chance, class)?))
 }
 
-// 1 to 6, or any.
+// 1 to 4, or any.
 fn handle(chance: &mut Chance) -> Result<Handle, Fail> {
-    let most = if chance.hits(16) { 65_534 } else { 6 };
+    let most = if chance.hits(16) { 65_534 } else { 4 };
     Ok(Handle::new(chance.short(most).saturating_add(1)).ok_or("a handle")?)
 }
 
 fn some_handle(chance: &mut Chance) -> Result<Option<Handle>, Fail> {
-    if chance.hits(4) {
+    if chance.hits(16) {
         return Ok(None);
     }
     Ok(Some(handle(chance)?))
@@ -122,9 +122,9 @@ fn class(chance: &mut Chance) -> Result<ClassId, Fail> {
     })
 }
 
-// 1 to 4, or any.
+// 1 to 3, or any.
 fn minor(chance: &mut Chance) -> Result<Minor, Fail> {
-    let most = if chance.hits(16) { 65_535 } else { 4 };
+    let most = if chance.hits(16) { 65_535 } else { 3 };
     Ok(Minor::new(chance.short(most).saturating_add(1)).ok_or("a minor")?)
 }
 
@@ -134,7 +134,7 @@ fn filter_prio(chance: &mut Chance) -> Result<FilterPrio, Fail> {
 }
 
 fn place(chance: &mut Chance) -> Result<Place, Fail> {
-    if chance.hits(3) {
+    if chance.hits(4) {
         return Ok(Place::Root);
     }
     Ok(Place::Class(class(chance)?))
@@ -153,8 +153,8 @@ fn kind(chance: &mut Chance) -> Result<Kind, Fail> {
             limit: chance.some_word(1 << 32),
         }),
         2 | 3 => prio(chance),
-        4 | 5 | 6 => tbf(chance),
-        7 | 8 => Ok(Kind::Drr),
+        4 | 5 => tbf(chance),
+        6 | 7 | 8 => Ok(Kind::Drr),
         _ => fq_codel(chance),
     }
 }

