@@ -24,12 +24,12 @@ use Rattle.q_invariants.proofs.Kept.{IsLawfulRoot}
 use Rattle.q_invariants.proofs.Members.{All-at}
 use Rattle.q_invariants.proofs.Quiet.{child-lawful}
 use Rattle.q_tree.specs.Ahead.{ways}
-use Rattle.q_tree.specs.Arrivals.{CanCount, CanPut, HasPlace, HasPlaceIn, IsLostOf, with_arrival}
+use Rattle.q_tree.specs.Arrivals.{CanPut, HasPlace, HasPlaceIn, IsLostOf, with_arrival}
 use Rattle.q_tree.specs.ArriveSteps.{CanCome, CanComeIn, HasCome, HasComeIn, HasPlaceOn, IsPlaced, IsPlacedIn, IsPutOn, rises_along, way_in}
 use Rattle.q_tree.specs.AskSteps.{IsToldOf, own_of, packets_within}
 use Rattle.q_tree.specs.Kept.{Kept}
 use Rattle.q_tree.specs.PutSteps.{IsPutInto, packets_beneath}
-use Rattle.q_tree.specs.Seen.{seen, discipline_seen, children_seen, places_seen, IsKept, IsCountedWithin}
+use Rattle.q_tree.specs.Seen.{seen, discipline_seen, children_seen, IsKept, IsCountedWithin}
 use Rattle.q_tree.specs.declared.node.Discipline.{Discipline}
 use Rattle.q_tree.specs.declared.node.Node.TheInside.{Inside}
 use Rattle.q_tree.specs.declared.outcome.Outcome.{Outcome}
@@ -71,7 +71,7 @@ module _ (now : ℕ) (p : Descriptor) (a : Inside) (n : Node Kept) (k : IsKept a
             };
       }
 
-  module _ (filters : List Filter) (same : filters ≡ a.filters.items) where
+  module _ (filters : List Filter) (same : filters ≡ a.filters) where
     pub way-is : way_in p filters a.discipline ≡ route p n
     way-is =
         way-filters p (seen a).own filters (ways p (children_seen a.discipline)) (discipline_seen a.discipline) same

@@ -4,7 +4,7 @@ use Rattle.std.specs.Prelude.{Bool, true, false, IfOk, IfSome, OnErr, OnOk, ifâ—
 use Rattle.std.specs.Option.{option_map_or}
 use Rattle.std.proofs.lemmas.Bool.{ltb-false, ltb-true}
 use Rattle.std.proofs.lemmas.List.{append-nil, length-map, set-set}
-use Rattle.std.proofs.lemmas.Option.{same_Some, slice_get-map, slice_get_read}
+use Rattle.std.proofs.lemmas.Option.{slice_get-map, slice_get_read}
 use Rattle.std.specs.declared.alloc.AllocError.{AllocError}
 use Rattle.q_packet.specs.Cause.{is_refusal}
 use Rattle.q_packet.specs.Descriptor.{Descriptor}
@@ -20,7 +20,6 @@ use Rattle.q_codel.specs.FifoState.{FifoState, takes}
 use Rattle.q_codel.specs.declared.loss.Loss.{Loss}
 use Rattle.q_fqcodel.specs.FqState.{FqState, packets_of}
 use Rattle.q_model.specs.declared.filter.Filter.{Filter}
-use Rattle.q_model.specs.declared.row.Row.{Row}
 use Rattle.q_model.specs.Beneath as beneath
 use Rattle.q_model.specs.Beneath.{is_empty, totals_in}
 use Rattle.q_model.specs.Filters.{named_class}
@@ -29,18 +28,16 @@ use Rattle.q_model.specs.Node as spec
 use Rattle.q_model.specs.Node.{Own, Node, Shape, shape, side_by_side}
 use Rattle.q_model.specs.Put.{put_along}
 use Rattle.q_model.specs.Route.{Route, route, way, ends, refused, through, class_at}
-use Rattle.q_model.specs.Step.{losses_in}
 use Rattle.q_model.specs.Tally.{Note, Lost, Counts, counted, no_counts, no_totals, with_packet}
 use Rattle.q_model.specs.Work.{settled_in}
 use Rattle.q_model.proofs.ShrinkLemmas.{each-each_memory, shape-with_memory}
-use Rattle.q_invariants.proofs.Forests.{nodes-side, each-side}
 use Rattle.q_tree.specs.Ahead.{ways}
-use Rattle.q_tree.specs.Arrivals.{CanPut, HasPlace, HasPlaceIn, IsOutcome}
+use Rattle.q_tree.specs.Arrivals.{HasPlace, HasPlaceIn}
 use Rattle.q_tree.specs.ArriveSteps.{HasCome, HasComeIn, HasPlaceOn, IsPlaced, IsPlacedIn, IsPutOn, rises_along, way_in}
 use Rattle.q_tree.specs.AskSteps.{IsToldOf, own_of}
-use Rattle.q_tree.specs.Kept.{Kept, kept}
+use Rattle.q_tree.specs.Kept.{Kept}
 use Rattle.q_tree.specs.Places.{unplaced, places_under}
-use Rattle.q_tree.specs.PutSteps.{IsQueued, IsPutInto, rises_here, loss_here}
+use Rattle.q_tree.specs.PutSteps.{IsQueued, rises_here}
 use Rattle.q_tree.specs.Seen.{discipline_seen, children_seen, places_seen}
 use Rattle.q_tree.specs.declared.node.Discipline.{Discipline}
 use Rattle.q_tree.specs.declared.node.Discipline.TheVariants as code

@@ -95,18 +95,18 @@ pub ask-holding : (now : ℕ) (a : Inside) (p : Descriptor) → a.held ≡ Some 
 ask-holding now a p e = ask-is now a ∙ ap (λ (o : Option Descriptor). option_map_or (holding (seen a).own (answers now (children_seen a.discipline))) o (ask_discipline now (seen a).own (answers now (children_seen a.discipline)) (discipline_seen a.discipline))) e
 
 -- one that holds none
-pub ask-none : (now : ℕ) (a : Inside) → a.held ≡ None → ask now (shape (seen a)) ≡ answer_of now a.handle a.filters.items a.discipline
-ask-none now a e = ask-is now a ∙ ap (λ (o : Option Descriptor). ask_own now (record { handle = a.handle; discipline = discipline_seen a.discipline; held = o; filters = a.filters.items }) (answers now (children_seen a.discipline))) e
+pub ask-none : (now : ℕ) (a : Inside) → a.held ≡ None → ask now (shape (seen a)) ≡ answer_of now a.handle a.filters a.discipline
+ask-none now a e = ask-is now a ∙ ap (λ (o : Option Descriptor). ask_own now (record { handle = a.handle; discipline = discipline_seen a.discipline; held = o; filters = a.filters }) (answers now (children_seen a.discipline))) e
 
-pub peeked-is : (now : ℕ) (a : Inside) (d : Discipline) (r : Row) (s : Shown) (held : Option Descriptor) → a.held ≡ None → IsAskedIn (answer_of now a.handle a.filters.items a.discipline) a.discipline d s
-    → IsQuiet (answer_of now a.handle a.filters.items a.discipline).rises → r ≡ with_shown s a.row → held ≡ held_in (discipline_seen d) s.packet
+pub peeked-is : (now : ℕ) (a : Inside) (d : Discipline) (r : Row) (s : Shown) (held : Option Descriptor) → a.held ≡ None → IsAskedIn (answer_of now a.handle a.filters a.discipline) a.discipline d s
+    → IsQuiet (answer_of now a.handle a.filters a.discipline).rises → r ≡ with_shown s a.row → held ≡ held_in (discipline_seen d) s.packet
     → seen (record a { held = held; row = r; discipline = d }) ≡ booked kept (seen a) (ask now (shape (seen a))).peeked
 peeked-is now a d r s held none q quiet row holds =
-    let x : Asked = answer_of now a.handle a.filters.items a.discipline in
-    let form = peeked-own now a.handle a.filters.items (answers now (children_seen a.discipline)) (discipline_seen a.discipline) in
+    let x : Asked = answer_of now a.handle a.filters a.discipline in
+    let form = peeked-own now a.handle a.filters (answers now (children_seen a.discipline)) (discipline_seen a.discipline) in
     let same_held : held ≡ held_in x.peeked.own.discipline x.shown = holds ∙ ap (λ o. held_in (discipline_seen d) o) q.children.shown.packet ∙ ap (λ k. held_in k x.shown) q.discipline in
     let counts : counts_in_row r ≡ noted totals (counts_in_row a.row) (x.rises ++ form.mine) = ap counts_in_row row ∙ counted-shown x.rises form.mine s a.row quiet form.silent q.children.shown.dropped q.children.shown.marked in
     let memory : record { counts = counts_in_row r; places = places_seen d } ≡ noted kept (seen a).memory x.peeked.memory =
     (λ i. record { counts = counts i; places = q.places i }) ∙ sym (noted-kept (seen a).memory (x.rises ++ form.mine)) ∙ ap (noted kept (seen a).memory) (sym form.noted) in
-    let own : record { handle = a.handle; discipline = discipline_seen d; held = held; filters = a.filters.items } ≡ x.peeked.own = (λ i. record { handle = a.handle; discipline = q.discipline i; held = same_held i; filters = a.filters.items }) ∙ sym form.own in
+    let own : record { handle = a.handle; discipline = discipline_seen d; held = held; filters = a.filters } ≡ x.peeked.own = (λ i. record { handle = a.handle; discipline = q.discipline i; held = same_held i; filters = a.filters }) ∙ sym form.own in
     (λ i. record { own = own i; memory = memory i; below = q.children.nodes i }) ∙ ap (λ (y : Asked). booked kept (seen a) y.peeked) (sym (ask-none now a none))

@@ -42,8 +42,8 @@ pub prio-shown : (a : Inside) (n : Node Kept) (ns : List (Node Kept)) (priomap :
 prio-shown a n ns priomap view none is kids =
     ap (λ xs. first_shown (map pop xs)) kids
     ∙ sym (ap first_shown (each-side pop_own (children_seen a.discipline)))
-    ∙ sym (ap (λ (o : Option Descriptor). (pop_own (record { handle = a.handle; discipline = spec.Prio priomap; held = o; filters = a.filters.items }) (each pop_own (side_by_side (children_seen a.discipline)))).shown) none)
-    ∙ sym (ap (λ d. (pop_own (record { handle = a.handle; discipline = d; held = a.held; filters = a.filters.items }) (each pop_own (side_by_side (children_seen a.discipline)))).shown) is)
+    ∙ sym (ap (λ (o : Option Descriptor). (pop_own (record { handle = a.handle; discipline = spec.Prio priomap; held = o; filters = a.filters }) (each pop_own (side_by_side (children_seen a.discipline)))).shown) none)
+    ∙ sym (ap (λ d. (pop_own (record { handle = a.handle; discipline = d; held = a.held; filters = a.filters }) (each pop_own (side_by_side (children_seen a.discipline)))).shown) is)
     ∙ ap (λ (m : Node Kept). (pop m).shown) view
 
 pub none-held : (o : Option Descriptor) → false ≡ is_some o → o ≡ None

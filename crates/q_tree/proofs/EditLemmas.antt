@@ -281,7 +281,7 @@ module _ (r : shapes.DisciplineChange) (e : Edit) (is : e ≡ DisciplineChange r
   module _ (d : Discipline) (after : IsReshaped r a.discipline d) (row : Row) (booked : row ≡ with_dropped (totals_in goes) a.row) where
     is-reshaped : seen (record a { row = row; discipline = d }) ≡ reshaped r (seen a)
     is-reshaped = λ j. record {
-      own = record { handle = a.handle; discipline = (after.discipline ∙ ap (discipline_after r (discipline_seen a.discipline)) (sym kids)) j; held = a.held; filters = a.filters.items };
+      own = record { handle = a.handle; discipline = (after.discipline ∙ ap (discipline_after r (discipline_seen a.discipline)) (sym kids)) j; held = a.held; filters = a.filters };
       memory = memory j;
       below = ap side_by_side (after.children ∙ ap (children_after r (discipline_seen a.discipline)) (sym kids)) j;
     }
@@ -348,7 +348,7 @@ module _ (e : Edit) (a : Inside) (n : Node Kept) (view : seen a ≡ n) (k : IsKe
 
       is-above : seen (record a { row = r; discipline = d }) ≡ above kept (notes_of e path on.child) i (edited_by e path on.child) (seen a)
       is-above = λ j. record {
-        own = record { handle = a.handle; discipline = edited.discipline j; held = a.held; filters = a.filters.items };
+        own = record { handle = a.handle; discipline = edited.discipline j; held = a.held; filters = a.filters };
         memory = memory j;
         below = (ap side_by_side (edited.children ∙ ap (λ ns. set ns i (edited_by e path on.child)) (sym (nodes-side (children_seen a.discipline))))) j;
       }

@@ -1,17 +1,15 @@
 -- The children of a node and the places of its classes, as they are read.
-use Rattle.std.proofs.Common.{◌≡◌, ℕ, ◌+◌, ◌<◌, ◌≤◌, ◌∙◌, List, [], ◌∷◌, ◌++◌, map, drop, take, length, refl, sym, ap, Option, Some, None, option_map, arith}
-use Rattle.std.specs.Prelude.{if◌then◌else◌, nat_le, ◌&&◌, ◌-◌, Bool, true, false, ◌==◌, cond, is_some, slice_index_or, unwrap_or}
-use Rattle.std.specs.List.{enumerate_from, find, flat_map}
-use Rattle.std.specs.Option.{option_eq, option_or}
-use Rattle.std.proofs.lemmas.Bool.{eq-eqb, false≢true, ne_eqb, le-leb, lt-leb}
-use Rattle.std.proofs.lemmas.List.{drop_more, drop_all, length-append}
-use Rattle.std.proofs.lemmas.List.Folds.{find-append}
+use Rattle.std.proofs.Common.{◌≡◌, ℕ, ◌<◌, ◌≤◌, ◌∙◌, List, [], ◌∷◌, ◌++◌, take, length, refl, sym, ap, Option, Some, None, arith}
+use Rattle.std.specs.Prelude.{if◌then◌else◌, nat_le, ◌&&◌, ◌-◌, false, ◌==◌}
+use Rattle.std.specs.Option.{option_eq}
+use Rattle.std.proofs.lemmas.Bool.{eq-eqb, false≢true, le-leb, lt-leb}
+use Rattle.std.proofs.lemmas.List.{length-append}
 use Rattle.q_drr.specs.Schedule.{Schedule}
-use Rattle.q_model.specs.Find.{Address, addresses, addresses_own, from_parent, path_of, class_in, class_place}
+use Rattle.q_model.specs.Find.{class_in, class_place}
 use Rattle.q_model.specs.Node as spec
 use Rattle.q_model.specs.Node.{Node, children, each}
 use Rattle.q_model.specs.Route.{class_at}
-use Rattle.q_invariants.proofs.Forests.{each-nodes, nodes-side}
+use Rattle.q_invariants.proofs.Forests.{nodes-side}
 use Rattle.q_tree.specs.Kept.{Kept}
 use Rattle.q_tree.specs.Seen.{seen, children_seen}
 use Rattle.q_tree.specs.declared.node.Discipline.TheVariants.{Prio, Drr}

@@ -1,15 +1,15 @@
 -- What is known of a node before it is asked, against what it shows when it is: a packet at hand, a tbf, a prio and a drr.
-use Rattle.std.proofs.Common.{◌≡◌, ℕ, ◌+◌, ◌-◌, ◌*◌, ◌<◌, ◌≤◌, ◌^◌, ◌∙◌, refl, sym, ap, subst, arith, inl, inr, List, [], ◌∷◌, Option, Some, None}
-use Rattle.std.specs.Prelude.{Bool, true, false, max, min, nat_lt, nat_le, if◌then◌else◌, option_map, option_and_then}
+use Rattle.std.proofs.Common.{◌≡◌, ℕ, ◌+◌, ◌-◌, ◌*◌, ◌<◌, ◌≤◌, ◌^◌, ◌∙◌, refl, sym, ap, subst, arith, inl, inr, Option, Some, None}
+use Rattle.std.specs.Prelude.{true, false, max, nat_lt, nat_le, if◌then◌else◌}
 use Rattle.std.specs.Int.{div_ceil}
 use Rattle.std.specs.Option.{option_map_or}
 use Rattle.std.proofs.Math.Nat.{mul-add, mul-le-mul_left, mul_comm}
 use Rattle.std.proofs.lemmas.Grind.{div_ceil_times}
-use Rattle.std.proofs.lemmas.Bool.{cases_Bool, cases_lt, cond-true, cond-false, leb-true, le-leb, lt-leb, lt-ltb, ltb-true, ltb-false, le-ltb, false≢true}
+use Rattle.std.proofs.lemmas.Bool.{cases_Bool, cases_lt, cond-true, cond-false, leb-true, le-leb, lt-ltb, ltb-true, ltb-false, le-ltb, false≢true}
 use Rattle.std.proofs.lemmas.Option.{none-some}
 use Rattle.q_packet.specs.Descriptor.{Descriptor}
-use Rattle.q_bucket.specs.Level.{TokenBucket, IsInRange, units_in_byte, capacity, level_at, allows}
-use Rattle.q_tree.specs.ReadyAt.{later, is_before, sooner, no_packet, at_hand, at_best, covers_at, moment_at, shaped_after, shaped_known, shaped, with_band, if_paid, paid}
+use Rattle.q_bucket.specs.Level.{TokenBucket, IsInRange, units_in_byte, level_at, allows}
+use Rattle.q_tree.specs.ReadyAt.{later, is_before, no_packet, at_hand, at_best, covers_at, moment_at, shaped_after, shaped_known, shaped}
 use Rattle.q_tree.specs.declared.ready_at.Outlook.{Outlook}
 
 -- what a packet that is shown at a moment says of what was known

@@ -1,37 +1,35 @@
 -- What is known of a node before it is asked, against what it shows when it is: a prio, a drr, an fq_codel, and a whole tree.
-use Rattle.std.proofs.Common.{◌≡◌, ℕ, zero, suc, ◌+◌, ◌<◌, ◌≤◌, ◌^◌, ◌∙◌, ◌⊎◌, refl, sym, ap, ap₂, subst, arith, inl, inr, List, [], ◌∷◌, ◌++◌, map, length, Option, Some, None, option_map, option_and_then, option_to_list}
+use Rattle.std.proofs.Common.{◌≡◌, ℕ, zero, suc, ◌+◌, ◌<◌, ◌≤◌, ◌^◌, ◌∙◌, ◌⊎◌, refl, sym, ap, subst, arith, inl, inr, List, [], ◌∷◌, ◌++◌, Option, Some, None, option_map, option_and_then, option_to_list}
 use Rattle.std.specs.Prelude.{Bool, true, false, not, cond, min, nat_lt, nat_le, ◌==◌, if◌then◌else◌, is_some, slice_get}
 use Rattle.std.specs.Option.{option_map_or}
-use Rattle.std.proofs.lemmas.Bool.{cases_Bool, cases_lt, cond-true, cond-false, leb-true, ltb-true, ltb-false, lt-ltb, leb-false, false≢true, eqb-true, ne_eqb}
+use Rattle.std.proofs.lemmas.Bool.{cases_Bool, cond-true, cond-false, leb-true, ltb-true, ltb-false, lt-ltb, eqb-true}
 use Rattle.std.proofs.lemmas.Option.{none-some}
 use Rattle.std.proofs.lemmas.List.{nil_from_length}
 use Rattle.q_packet.specs.Descriptor.{Descriptor}
 use Rattle.q_packet.specs.declared.stamped.Stamped.{Stamped}
-use Rattle.q_codel.specs.declared.taken.Taken.{Taken}
-use Rattle.q_codel.specs.declared.limit.Limit.{Limit}
-use Rattle.q_bucket.specs.Level.{TokenBucket, IsInRange, allows}
-use Rattle.q_drr.specs.Schedule.{Class, Entry, Schedule, IsLawful, quantum_of}
-use Rattle.q_drr.specs.Take.{need, prepared, met_in}
+use Rattle.q_bucket.specs.Level.{TokenBucket, allows}
+use Rattle.q_drr.specs.Schedule.{Entry, Schedule, IsLawful}
+use Rattle.q_drr.specs.Take.{met_in}
 use Rattle.q_drr.specs.declared.met.Met.{Met}
 use Rattle.q_drr.proofs.TakeLemmas.{Front, prepared_ready, prepared_empty, need_at}
 use Rattle.q_fqcodel.specs.FqState as fq
 use Rattle.q_fqcodel.specs.FqState.{FqState}
 use Rattle.q_model.specs.declared.filter.Filter.{Filter}
-use Rattle.q_model.specs.Ask.{Asked, befores, class_answer, length_of, head_of, Service, service_of, place_met, gives_nothing, class_gives, class_serves, ask_prio, ask_drr, ask_child, ask_tbf, spends, waits, ask_fq_codel, ask_own, ask}
+use Rattle.q_model.specs.Ask.{Asked, class_answer, length_of, head_of, Service, service_of, place_met, gives_nothing, class_gives, class_serves, ask_prio, ask_drr, ask_tbf, spends, waits, ask_own, ask}
 use Rattle.q_model.specs.Beneath.{beneath, beneath_own, packets_of}
 use Rattle.q_model.specs.Lawful.{IsLawfulOwn}
-use Rattle.q_model.specs.Node.{Discipline, Fifo, Prio, Tbf, Drr, FqCodel, Own, Forest, none, more, Node, Shape, each, each_memory, shape}
+use Rattle.q_model.specs.Node.{Discipline, Fifo, Prio, Tbf, Drr, FqCodel, Own, Forest, none, more, Node, Shape, each, shape}
 use Rattle.q_model.specs.Route.{class_at}
 use Rattle.q_model.proofs.ShrinkLemmas.{each-each_memory}
-use Rattle.q_invariants.proofs.Answer.{IsAnswer, one, beneath-worked}
+use Rattle.q_invariants.proofs.Answer.{one}
 use Rattle.q_invariants.proofs.Asks.{ask-answers, before-root}
 use Rattle.q_invariants.proofs.Forests.{lawful-with_memory}
 use Rattle.q_invariants.proofs.Kept.{AllLawful, IsLawfulRoot}
 use Rattle.q_invariants.proofs.Weights.{weigh, weigh-cons, weigh-nil}
-use Rattle.q_tree.specs.ReadyAt.{is_before, sooner, no_packet, at_hand, at_best, shaped, joined, with_next, after_first, with_band, with_bands, if_paid, paid, of_fifo, of_flows, of_class, outlook_in, outlook_own, outlook}
+use Rattle.q_tree.specs.ReadyAt.{is_before, sooner, no_packet, at_best, shaped, joined, with_next, after_first, with_band, with_bands, if_paid, paid, of_fifo, of_flows, of_class, outlook_own, outlook}
 use Rattle.q_tree.specs.declared.ready_at.Outlook.{Outlook}
 use Rattle.q_tree.proofs.FlowCounts.{count-sum, packets-all}
-use Rattle.q_tree.proofs.Foreseeing.{Comes, Shows, Foresees, no_packet-foreseen, hand-foreseen, best-foreseen, through, shaped-foreseen}
+use Rattle.q_tree.proofs.Foreseeing.{Comes, Foresees, no_packet-foreseen, hand-foreseen, best-foreseen, through, shaped-foreseen}
 
 -- ---- a prio
 

@@ -1,7 +1,7 @@
 -- An index of handles that is made of a tree address by address, and what is found in it.
 use Rattle.std.proofs.Common.{◌≡◌, ℕ, zero, suc, ◌+◌, ◌-◌, ◌<◌, ◌≤◌, ◌∙◌, List, [], ◌∷◌, ◌++◌, drop, length, map, refl, sym, ap, ap₂, subst, append_assoc, append-nil, eqb, Option, Some, None, option_map, inl, inr, arith}
 use Rattle.std.specs.Prelude.{Bool, true, false, not, nat_eq, ◌==◌, ◌||◌, cond, is_some, if◌then◌else◌, slice_index_or}
-use Rattle.std.specs.List.{enumerate_from, find, flat_map, fold, list_any, sum}
+use Rattle.std.specs.List.{enumerate_from, find, flat_map, fold, sum}
 use Rattle.std.specs.Option.{option_eq}
 use Rattle.std.specs.Map.{lookup}
 use Rattle.std.proofs.lemmas.Bool.{cases_Bool, eq-eqb, eqb-true, false≢true, ne_eqb, or_parts}
@@ -13,8 +13,8 @@ use Rattle.q_packet.specs.Least.{least}
 use Rattle.q_drr.proofs.DifferLemmas.{Differ, differ-from_pairs}
 use Rattle.q_drr.proofs.KeyLemmas.{has}
 use Rattle.q_drr.proofs.NameLemmas.{eqb_swap}
-use Rattle.q_model.specs.Find.{Address, addresses, addresses_own, count_nodes, free_handle, from_parent, path_of}
-use Rattle.q_model.specs.Node.{Forest, none, more, Node, children, each, from_below}
+use Rattle.q_model.specs.Find.{Address, addresses, addresses_own, count_nodes, from_parent}
+use Rattle.q_model.specs.Node.{Forest, none, more, Node, children, each}
 use Rattle.q_invariants.proofs.EditHandles.{AreApart}
 use Rattle.q_invariants.proofs.Forests.{each-nodes}
 use Rattle.q_tree.specs.Index.{added, address_of, addresses_beneath, free_among, has_among, listed, own_address, path_among, under}

@@ -7,6 +7,7 @@ pub mod AskRows
 pub mod Asking
 pub mod AtHandLemmas
 pub mod BandsLemmas
+pub mod ChainsLemmas
 pub mod ChangeLemmas
 pub mod ClassAdding
 pub mod ClassLemmas
@@ -15,6 +16,7 @@ pub mod ClassPlans
 pub mod CountedLosses
 pub mod CountingLemmas
 pub mod EditLemmas
+pub mod FilterIndexValues
 pub mod FindLemmas
 pub mod FlowCounts
 pub mod GivenInto
@@ -24,6 +26,7 @@ pub mod Forms
 pub mod GraftLemmas
 pub mod HereLemmas
 pub mod IndexLemmas
+pub mod IndexOfFilterLemmas
 pub mod MakingLemmas
 pub mod MatchingLemmas
 pub mod OtherSubtrees
@@ -44,6 +47,7 @@ pub mod SendBands
 pub mod SendForms
 pub mod SendLemmas
 pub mod ServeLemmas
+pub mod ShapeLemmas
 pub mod ShowLemmas
 pub mod StatsLemmas
 pub mod TakeCounts

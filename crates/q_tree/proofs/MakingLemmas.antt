@@ -78,7 +78,7 @@ empty-own d now kind.Drr = refl
 empty-own d now (kind.FqCodel options) = refl
 
 module _ (d : Device) (now : ℕ) (handle : Option ℕ) (k : Kind) (a : Inside) (is : IsNewDiscipline a.discipline (made d now None k))
-    (handle_is : a.handle ≡ handle) (held : a.held ≡ None) (filters : a.filters.items ≡ []) (row : a.row ≡ no_row) where
+    (handle_is : a.handle ≡ handle) (held : a.held ≡ None) (filters : a.filters ≡ []) (row : a.row ≡ no_row) where
   own-is : (seen a).own ≡ (made d now handle k).own
   own-is =
       (λ i. record { handle = handle_is i; discipline = is.discipline i; held = held i; filters = filters i })

@@ -1,6 +1,6 @@
 -- What is known of a node's packets, as the code finds it: by the kind of the node, band by band, and at the front of a drr.
-use Rattle.std.proofs.Common.{◌≡◌, ℕ, ◌+◌, ◌<◌, ◌≤◌, ◌∙◌, refl, sym, ap, ap₂, subst, arith, List, [], ◌∷◌, map, drop, length, Option, Some, None, option_map, option_and_then, eq-eqb}
-use Rattle.std.specs.Prelude.{Bool, true, slice_get, slice_index_or, IsTrue, All}
+use Rattle.std.proofs.Common.{◌≡◌, ℕ, ◌+◌, ◌<◌, ◌≤◌, ◌∙◌, refl, sym, ap, ap₂, subst, List, ◌∷◌, map, drop, length, Option, Some, None, option_map, option_and_then, eq-eqb}
+use Rattle.std.specs.Prelude.{true, slice_get, slice_index_or, All}
 use Rattle.std.specs.Option.{option_map_or}
 use Rattle.std.proofs.lemmas.List.{drop_more, drop_all}
 use Rattle.std.proofs.lemmas.List.Elements.{All-head}

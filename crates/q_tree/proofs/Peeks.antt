@@ -206,10 +206,10 @@ module _ (now : ℕ) (a : Inside) (n : Node Kept) (k : IsKept a) (view : seen a 
   enough room h = omega (arith, h, within-packets, ap (λ (m : Node Kept). length (beneath m)) view)
 
   module _ (none : a.held ≡ None) where
-    pub told-here : (l l2 : List Loss) (r r2 : ℕ) → IsToldOf (answer_of now a.handle a.filters.items a.discipline).rises l l2 r r2 → IsToldOf (ask now (shape n)).rises l l2 r r2
+    pub told-here : (l l2 : List Loss) (r r2 : ℕ) → IsToldOf (answer_of now a.handle a.filters a.discipline).rises l l2 r r2 → IsToldOf (ask now (shape n)).rises l l2 r r2
     told-here l l2 r r2 h = subst (λ (m : Node Kept). IsToldOf (ask now (shape m)).rises l l2 r r2) view (subst (λ (x : Asked). IsToldOf x.rises l l2 r r2) (sym (ask-none now a none)) h)
 
-    module _ (d : Discipline) (s : Shown) (q : IsAskedIn (answer_of now a.handle a.filters.items a.discipline) a.discipline d s) where
+    module _ (d : Discipline) (s : Shown) (q : IsAskedIn (answer_of now a.handle a.filters a.discipline) a.discipline d s) where
       shown-inside : IsShown (ask now (shape (seen a))) s
       shown-inside = subst (λ (x : Asked). IsShown x s) (sym (ask-none now a none)) q.children.shown
 

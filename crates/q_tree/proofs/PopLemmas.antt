@@ -139,7 +139,7 @@ popped a k p e held d r row value within =
 -- a node that held its packet
 module _ (a : Inside) (p : Descriptor) (e : a.held ≡ Some p) where
   abbrev own_with : Option Descriptor → Own
-  own_with o = record { handle = a.handle; discipline = discipline_seen a.discipline; held = o; filters = a.filters.items }
+  own_with o = record { handle = a.handle; discipline = discipline_seen a.discipline; held = o; filters = a.filters }
 
   pub held-shown : (pop (seen a)).shown ≡ Some p
   held-shown = ap (λ (b : Popping). b.shown) (pop-is a) ∙ ap (λ (o : Option Descriptor). (pop_own (own_with o) (bands_of a)).shown) e
@@ -171,21 +171,21 @@ after-is handle filters (spec.FqCodel s) bs = refl
 
 module _ (a : Inside) (none : a.held ≡ None) (d : Discipline) (packet : Option Descriptor) (shown : packet ≡ (popping_of a.discipline).shown) (q : IsPoppedIn a.discipline d) where
   abbrev here : Option Descriptor → Own
-  here o = record { handle = a.handle; discipline = discipline_seen a.discipline; held = o; filters = a.filters.items }
+  here o = record { handle = a.handle; discipline = discipline_seen a.discipline; held = o; filters = a.filters }
 
   pub own-shown : (pop (seen a)).shown ≡ packet
-  own-shown = ap (λ (b : Popping). b.shown) (pop-is a) ∙ ap (λ (o : Option Descriptor). (pop_own (here o) (bands_of a)).shown) none ∙ shown-is a.handle a.filters.items (discipline_seen a.discipline) (bands_of a) ∙ sym shown
+  own-shown = ap (λ (b : Popping). b.shown) (pop-is a) ∙ ap (λ (o : Option Descriptor). (pop_own (here o) (bands_of a)).shown) none ∙ shown-is a.handle a.filters (discipline_seen a.discipline) (bands_of a) ∙ sym shown
 
   pub own-after : (r : Row) → counts_in_row r ≡ noted totals (counts_in_row a.row) (map Sent (option_to_list packet)) → seen (record a { row = r; discipline = d }) ≡ booked kept (seen a) (pop (seen a)).after
   own-after r row =
       let notes : List Note = map Sent (option_to_list packet) in
       let b : Popping = popping_of a.discipline in
-      let left : Own = own_of a.handle a.filters.items b.after.own.discipline in
+      let left : Own = own_of a.handle a.filters b.after.own.discipline in
       let after : (pop (seen a)).after ≡ record { own = left; memory = notes; below = b.after.below } =
-      ap (λ (b : Popping). b.after) (pop-is a) ∙ ap (λ (o : Option Descriptor). (pop_own (here o) (bands_of a)).after) none ∙ after-is a.handle a.filters.items (discipline_seen a.discipline) (bands_of a)
+      ap (λ (b : Popping). b.after) (pop-is a) ∙ ap (λ (o : Option Descriptor). (pop_own (here o) (bands_of a)).after) none ∙ after-is a.handle a.filters (discipline_seen a.discipline) (bands_of a)
       ∙ ap (λ (o : Option Descriptor). record { own = left; memory = map Sent (option_to_list o); below = b.after.below }) (sym shown) in
       let memory : record { counts = counts_in_row r; places = places_seen d } ≡ noted kept (seen a).memory notes = (λ i. record { counts = row i; places = q.places i }) ∙ sym (noted-kept (seen a).memory notes) in
-      (λ i. record { own = record { handle = a.handle; discipline = q.discipline i; held = none i; filters = a.filters.items }; memory = memory i; below = q.children i })
+      (λ i. record { own = record { handle = a.handle; discipline = q.discipline i; held = none i; filters = a.filters }; memory = memory i; below = q.children i })
       ∙ ap (λ (w : Worked). booked kept (seen a) w) (sym after)
 
   -- where there is none, all stays

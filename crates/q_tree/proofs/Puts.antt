@@ -148,8 +148,8 @@ module _ (now : ℕ) (p : Descriptor) (a : Inside) (k : IsKept a) where
   -- the queue at the end takes the packet
   pub can-flow : (mtu : ℕ) (s : FqState) → discipline_seen a.discipline ≡ spec.FqCodel s → IsLawfulOwn mtu now (seen a).own (each beneath_own (seen a).below) → CanCount a.row.arrived p → CanFlow p s
   can-flow mtu s e h counts =
-      let lawful : IsLawfulOwn mtu now (record { handle = a.handle; discipline = spec.FqCodel s; held = a.held; filters = a.filters.items }) (each beneath_own (seen a).below) =
-      subst (λ (d : spec.Discipline). IsLawfulOwn mtu now (record { handle = a.handle; discipline = d; held = a.held; filters = a.filters.items }) (each beneath_own (seen a).below)) e h in
+      let lawful : IsLawfulOwn mtu now (record { handle = a.handle; discipline = spec.FqCodel s; held = a.held; filters = a.filters }) (each beneath_own (seen a).below) =
+      subst (λ (d : spec.Discipline). IsLawfulOwn mtu now (record { handle = a.handle; discipline = d; held = a.held; filters = a.filters }) (each beneath_own (seen a).below)) e h in
       let law = lawful.discipline in
       let balanced = k.balanced in
       record {
@@ -186,7 +186,7 @@ module _ (now : ℕ) (p : Descriptor) (a : Inside) (k : IsKept a) where
       by : (long : Bool) → (if long then refused TooLong else through (each (λ own below. way p own below own.discipline) (seen a).below) 0) ≡ refused cause → is_refusal cause ≡ true
       by true w = ap is_refusal (sym (same_Some TooLong cause (ap (λ (r : Route). r.refusal) w)))
       by false w = through-refused (each (λ own below. way p own below own.discipline) (seen a).below) 0 cause w
-  refusing (spec.Drr s) cause w = by (named_class a.filters.items p) w
+  refusing (spec.Drr s) cause w = by (named_class a.filters p) w
     where
       found : (o : Option ℕ) → option_map_or (through (each (λ own below. way p own below own.discipline) (seen a).below)) o (refused NoClass) ≡ refused cause → is_refusal cause ≡ true
       found None w = ap is_refusal (sym (same_Some NoClass cause (ap (λ (r : Route). r.refusal) w)))
@@ -222,7 +222,7 @@ module _ (a : Inside) (r : Row) (d : Discipline) (own2 : spec.Discipline) (notes
   seen-after discipline places counts below =
       let memory : (seen (record a { row = r; discipline = d })).memory ≡ noted kept (seen a).memory notes =
       (λ j. record { counts = counts j; places = places j }) ∙ sym (noted-kept (seen a).memory notes) in
-      λ j. record { own = record { handle = a.handle; discipline = discipline j; held = a.held; filters = a.filters.items }; memory = memory j; below = below j }
+      λ j. record { own = record { handle = a.handle; discipline = discipline j; held = a.held; filters = a.filters }; memory = memory j; below = below j }
 
 -- what a put leaves of a node
 pub record IsDone (now : ℕ) (p : Descriptor) (path : List ℕ) (refusal : Option Cause) (n : Node Kept) (inside : Inside) (o : Outcome) : Type 0 where

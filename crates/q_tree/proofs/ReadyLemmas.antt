@@ -1,7 +1,6 @@
 -- The moment from which a tree may give its next packet, against what a take gives at each moment.
 use Rattle.std.proofs.Common.{◌≡◌, ℕ, ◌<◌, ◌≤◌, ◌^◌, ◌∙◌, refl, sym, ap, subst, arith, Option, Some, None}
 use Rattle.std.specs.Prelude.{true, IsSome}
-use Rattle.std.proofs.lemmas.Option.{none-some}
 use Rattle.q_packet.specs.Descriptor.{Descriptor}
 use Rattle.q_model.specs.Ask.{ask}
 use Rattle.q_model.specs.Node.{Node, shape}

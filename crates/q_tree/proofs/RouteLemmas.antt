@@ -46,13 +46,13 @@ pub depth-is : (a : Inside) → depth (seen a) ≡ suc (greatest (depths (childr
 depth-is a = ap (λ ds. suc (greatest ds)) (each-side (λ own below. suc (greatest below)) (children_seen a.discipline))
 
 -- the route of a prio goes through the band, and that of a drr through the class, if there is one
-pub prio-route : (p : Descriptor) (a : Inside) (n : Node Kept) (priomap : List ℕ) (bands : _) (fs : List Filter) (ns : List (Node Kept)) (k : ℕ) → seen a ≡ n → a.discipline ≡ Prio priomap bands → fs ≡ a.filters.items
+pub prio-route : (p : Descriptor) (a : Inside) (n : Node Kept) (priomap : List ℕ) (bands : _) (fs : List Filter) (ns : List (Node Kept)) (k : ℕ) → seen a ≡ n → a.discipline ≡ Prio priomap bands → fs ≡ a.filters
     → ns ≡ bands.items → k ≡ option_map_or (λ minor. minor - 1) (named_class fs p) (slice_index priomap p.prio) → through (ways p ns) k ≡ route p n
 prio-route p a n priomap bands fs ns k v e f same at =
     ap (λ xs. through (ways p xs) k) same
     ∙ ap (through (ways p bands.items)) (at ∙ ap (λ xs. option_map_or (λ minor. minor - 1) (named_class xs p) (slice_index priomap p.prio)) f)
     ∙ sym (ap (route p) (sym v) ∙ ap (λ d. route p (seen (record a { discipline = d }))) e
-    ∙ ap (λ rs. through rs (option_map_or (λ minor. minor - 1) (named_class a.filters.items p) (slice_index priomap p.prio))) (each-side (λ own below. way p own below own.discipline) bands.items))
+    ∙ ap (λ rs. through rs (option_map_or (λ minor. minor - 1) (named_class a.filters p) (slice_index priomap p.prio))) (each-side (λ own below. way p own below own.discipline) bands.items))
 
 -- the way by a class that is named, or by none
 
@@ -61,14 +61,14 @@ by-class : (s : Schedule) (below : List Route) (o : Option ℕ) → elim o [ Non
 by-class s below None = refl
 by-class s below (Some minor) = refl
 
-pub drr-route : (p : Descriptor) (a : Inside) (n : Node Kept) (s : Schedule) (classes : _) (fs : List Filter) (ns : List (Node Kept)) (o : Option ℕ) → seen a ≡ n → a.discipline ≡ Drr s classes → fs ≡ a.filters.items
+pub drr-route : (p : Descriptor) (a : Inside) (n : Node Kept) (s : Schedule) (classes : _) (fs : List Filter) (ns : List (Node Kept)) (o : Option ℕ) → seen a ≡ n → a.discipline ≡ Drr s classes → fs ≡ a.filters
     → ns ≡ classes.items → o ≡ option_and_then (λ minor. drr.place_of minor s.classes) (named_class fs p) → option_map_or (through (ways p ns)) o (refused NoClass) ≡ route p n
 drr-route p a n s classes fs ns o v e f same at =
     ap (λ xs. option_map_or (through (ways p xs)) o (refused NoClass)) same
     ∙ ap (λ x. option_map_or (through (ways p classes.items)) x (refused NoClass)) (at ∙ ap (λ xs. option_and_then (λ minor. drr.place_of minor s.classes) (named_class xs p)) f)
     ∙ sym (ap (route p) (sym v) ∙ ap (λ d. route p (seen (record a { discipline = d }))) e
-    ∙ by-class s (each (λ own below. way p own below own.discipline) (side_by_side classes.items)) (named_class a.filters.items p)
-    ∙ ap (λ rs. option_map_or (through rs) (option_and_then (λ minor. drr.place_of minor s.classes) (named_class a.filters.items p)) (refused NoClass)) (each-side (λ own below. way p own below own.discipline) classes.items))
+    ∙ by-class s (each (λ own below. way p own below own.discipline) (side_by_side classes.items)) (named_class a.filters p)
+    ∙ ap (λ rs. option_map_or (through rs) (option_and_then (λ minor. drr.place_of minor s.classes) (named_class a.filters p)) (refused NoClass)) (each-side (λ own below. way p own below own.discipline) classes.items))
 
 -- the children of a node, as they are read
 pub children-size : (a : Inside) (n : Node Kept) (ns : List (Node Kept)) → seen a ≡ n → ns ≡ children_seen a.discipline → forest_size (side_by_side ns) < node_size n

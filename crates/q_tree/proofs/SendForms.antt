@@ -207,7 +207,7 @@ pub record IsSentAs (now : ℕ) (n : Node Kept) (inside : Inside) : Type 0 where
   pub stays : IsKept inside
   pub after : seen inside ≡ booked kept n (take_from now (shape n)).node
 
-module _ (now : ℕ) (a : Inside) (n : Node Kept) (k : IsKept a) (view : seen a ≡ n) (can : CanAsk now n) (none : a.held ≡ None) (d : Discipline) (s : Shown) (q : IsSentIn (answer_of now a.handle a.filters.items a.discipline) a.discipline d s) where
+module _ (now : ℕ) (a : Inside) (n : Node Kept) (k : IsKept a) (view : seen a ≡ n) (can : CanAsk now n) (none : a.held ≡ None) (d : Discipline) (s : Shown) (q : IsSentIn (answer_of now a.handle a.filters a.discipline) a.discipline d s) where
   here : CanAsk now (seen a)
   here = subst (CanAsk now) (sym view) can
 
@@ -226,7 +226,7 @@ module _ (now : ℕ) (a : Inside) (n : Node Kept) (k : IsKept a) (view : seen a 
     -- where it shows nothing
     pub none-sent : s.packet ≡ None → IsSentAs now n (record a { row = r; discipline = d })
     none-sent empty =
-        let x : Asked = answer_of now a.handle a.filters.items a.discipline in
+        let x : Asked = answer_of now a.handle a.filters a.discipline in
         let silent : x.shown ≡ None = sym q.children.shown.packet ∙ empty in
         let left : left_of x ≡ x.peeked = ap (λ (o : Option Descriptor). if is_some o then x.taken else x.peeked) silent in
         let asked : IsAskedIn x a.discipline d s = record {
@@ -263,9 +263,9 @@ module _ (now : ℕ) (a : Inside) (n : Node Kept) (k : IsKept a) (view : seen a 
 
       pub one-sent : (r2 : Row) → r2 ≡ with_sent p r → IsSentAs now n (record a { row = r2; discipline = d })
       one-sent r2 row2 =
-          let x : Asked = answer_of now a.handle a.filters.items a.discipline in
+          let x : Asked = answer_of now a.handle a.filters a.discipline in
           let is : ask now (shape (seen a)) ≡ x = ask-none now a none in
-          let form = taken-own now a.handle a.filters.items (answers now (children_seen a.discipline)) (discipline_seen a.discipline) in
+          let form = taken-own now a.handle a.filters (answers now (children_seen a.discipline)) (discipline_seen a.discipline) in
           let shows : x.shown ≡ Some p = sym q.children.shown.packet ∙ some in
           let left : left_of x ≡ x.taken = ap (λ (o : Option Descriptor). if is_some o then x.taken else x.peeked) shows in
           let quiet = subst (λ (y : Asked). IsQuiet y.rises) is (asked-weighs now (seen a) here).quiet in
@@ -278,8 +278,8 @@ module _ (now : ℕ) (a : Inside) (n : Node Kept) (k : IsKept a) (view : seen a 
           let memory : record { counts = counts_in_row r2; places = places_seen d } ≡ noted kept (seen a).memory x.taken.memory =
           (λ i. record { counts = counts i; places = q.places i }) ∙ sym (noted-kept (seen a).memory x.taken.memory) in
           let discipline : discipline_seen d ≡ x.taken.own.discipline = q.discipline ∙ ap (λ (w : Worked). w.own.discipline) left in
-          let own : record { handle = a.handle; discipline = discipline_seen d; held = a.held; filters = a.filters.items } ≡ x.taken.own =
-          (λ i. record { handle = a.handle; discipline = discipline i; held = none i; filters = a.filters.items }) ∙ sym form.own in
+          let own : record { handle = a.handle; discipline = discipline_seen d; held = a.held; filters = a.filters } ≡ x.taken.own =
+          (λ i. record { handle = a.handle; discipline = discipline i; held = none i; filters = a.filters }) ∙ sym form.own in
           let below : side_by_side (children_seen d) ≡ each_booked kept (side_by_side (children_seen a.discipline)) x.taken.below =
           q.children.nodes ∙ ap (λ (w : Worked). each_booked kept (side_by_side (children_seen a.discipline)) w.below) left in
           let value : seen (record a { row = r2; discipline = d }) ≡ booked kept (seen a) (ask now (shape (seen a))).taken =

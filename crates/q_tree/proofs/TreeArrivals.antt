@@ -1,5 +1,5 @@
 -- A packet that arrives at a tree of the code in one walk: the tree is then what the rules make of it, but for places.
-use Rattle.std.proofs.Common.{◌≡◌, ℕ, ◌<◌, ◌≤◌, ◌^◌, ◌+◌, ◌∙◌, Result, Ok, Err, List, [], ◌∷◌, ◌++◌, length, refl, sym, ap, subst, Option, Some, None, inl, inr, arith}
+use Rattle.std.proofs.Common.{◌≡◌, ℕ, ◌<◌, ◌≤◌, ◌^◌, ◌+◌, ◌∙◌, Result, Ok, Err, List, [], ◌∷◌, ◌++◌, refl, sym, ap, subst, Option, Some, None, inl, inr, arith}
 use Rattle.std.specs.declared.alloc.AllocError.{AllocError}
 use Rattle.std.specs.Prelude.{Bool, true, false, nat_lt, IfOk, IfSome, OnOk, if◌then◌else◌}
 use Rattle.std.proofs.lemmas.Bool.{ltb-true}
@@ -7,12 +7,11 @@ use Rattle.q_packet.specs.Descriptor.{Descriptor}
 use Rattle.q_packet.specs.declared.cause.Cause.TheVariants.{TooLong}
 use Rattle.q_codel.specs.declared.loss.Loss.{Loss}
 use Rattle.q_model.specs.declared.row.Row.{Row}
-use Rattle.q_model.specs.Node.{Node, Shape, shape}
+use Rattle.q_model.specs.Node.{Node, shape}
 use Rattle.q_model.specs.Route.{Route, route, device_route}
-use Rattle.q_model.specs.Step.{DeviceState, losses_in}
-use Rattle.q_model.specs.Tally.{Counts, Note, no_totals, totals, with_packet}
-use Rattle.q_model.specs.TreeState.{TreeState, loss_on, noted_by_put, own_loss, put, put_on}
-use Rattle.q_model.specs.Work.{Work}
+use Rattle.q_model.specs.Step.{DeviceState}
+use Rattle.q_model.specs.Tally.{Counts, no_totals, totals, with_packet}
+use Rattle.q_model.specs.TreeState.{TreeState, noted_by_put, own_loss, put, put_on}
 use Rattle.q_model.proofs.ShrinkSteps.{put-stands}
 use Rattle.q_tree.specs.Arrivals.{CanCount, HasPlace, IsLostOf, with_arrival}
 use Rattle.q_tree.specs.ArriveSteps.{CanCome, HasCome, HasComeBelow, IsPlaced, rises_along}

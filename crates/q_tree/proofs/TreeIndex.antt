@@ -1,15 +1,14 @@
 -- A tree of the code keeps the index of its handles: what packets do leaves the handles where they are, and an edit renews it.
 use Rattle.std.proofs.Common.{◌≡◌, ℕ, zero, suc, ◌+◌, ◌<◌, ◌≤◌, ◌∙◌, List, [], ◌∷◌, take, map, length, refl, sym, ap, subst, Option, Some, None, option_and_then, option_map, inl, inr, arith}
-use Rattle.std.specs.Prelude.{Bool, true, false, nat_lt, is_some, IfSome, IsSome, slice_get, if◌then◌else◌}
+use Rattle.std.specs.Prelude.{Bool, true, false, nat_lt, is_some, IfSome, IsSome, slice_get}
 use Rattle.std.specs.List.{AllPairs, remove, sum}
 use Rattle.std.specs.Option.{option_map_or}
 use Rattle.std.proofs.lemmas.Bool.{cases_lt, lt-ltb, false≢true}
 use Rattle.std.proofs.lemmas.List.Sums.{sum_by-cons}
-use Rattle.std.proofs.lemmas.Option.{none-some}
 use Rattle.q_packet.specs.Descriptor.{Descriptor}
 use Rattle.q_model.specs.Ask.{ask}
 use Rattle.q_model.specs.Find.{Address, addresses, addresses_own, count_nodes, node_at}
-use Rattle.q_model.specs.Node.{Discipline, Fifo, Prio, Tbf, Drr, FqCodel, Own, Node, children, each, nodes_in, shape, side_by_side}
+use Rattle.q_model.specs.Node.{Discipline, Fifo, Prio, Tbf, Drr, FqCodel, Node, children, shape}
 use Rattle.q_model.specs.Pop.{pop}
 use Rattle.q_model.specs.Refusals.{most_nodes}
 use Rattle.q_model.specs.Route.{Route}

@@ -10,7 +10,7 @@ use Rattle.q_model.specs.Node as spec
 use Rattle.q_model.specs.Node.{shape}
 use Rattle.q_model.specs.Numbers.{IsWithin}
 use Rattle.q_model.specs.Put.{put_along}
-use Rattle.q_model.specs.Route.{Route, route, way, device_route}
+use Rattle.q_model.specs.Route.{Route, route, way}
 use Rattle.q_model.specs.Tally.{Note, with_packet, no_totals}
 use Rattle.q_model.specs.TreeState.{loss_at_end, loss_on, put_on}
 use Rattle.q_model.specs.Work.{booked}

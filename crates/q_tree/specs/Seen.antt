@@ -33,7 +33,7 @@ children_seen (FqCodel q) = []
 
 abbrev pub seen : Inside → spec.Node Kept
 seen a = record {
-  own = record { handle = a.handle; discipline = discipline_seen a.discipline; held = a.held; filters = a.filters.items };
+  own = record { handle = a.handle; discipline = discipline_seen a.discipline; held = a.held; filters = a.filters };
   memory = record {
     counts = record { arrived = a.row.arrived; sent = a.row.sent; refused = a.row.refused; dropped = a.row.dropped; marked = a.row.marked };
     places = places_seen a.discipline;

@@ -19,7 +19,7 @@ use crate::disciplines::drr::{class_place, settle};
 use crate::disciplines::fifo::arrive_in_fifo;
 use crate::disciplines::fq_codel::arrive_in_flows;
 use crate::disciplines::prio::band;
-use crate::masked_filter::MaskedFilter;
+use crate::filters::Filters;
 use crate::node::{Discipline, Node};
 use crate::outcome::Outcome;
 use crate::tree::{Tree, fate_of};
@@ -145,7 +145,7 @@ impl Discipline {
     #[inline(always)]
     fn arrive<S: Sink>(
         &mut self,
-        filters: &[MaskedFilter],
+        filters: &Filters,
         packet: &Packet,
         now: Moment,
         lost: &mut Outcome,

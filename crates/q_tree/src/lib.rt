@@ -13,11 +13,15 @@
 
 mod arrived;
 mod booking;
+mod chains;
 mod commands;
 mod counters;
 mod dequeue;
 mod disciplines;
 mod enqueue;
+mod filter_index;
+mod filter_shape;
+mod filters;
 mod find;
 pub mod laws;
 mod masked_filter;

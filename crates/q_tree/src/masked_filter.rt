@@ -45,6 +45,22 @@ impl MaskedFilter {
         }
     }
 
+    /// The bits of a key's numbers that it compares.
+    #[inline(always)]
+    pub(crate) fn mask(&self) -> u64
+        ensures { result ≡ mask_of self.now }
+    {
+        self.mask
+    }
+
+    /// What these bits have to be.
+    #[inline(always)]
+    pub(crate) fn wanted(&self) -> u64
+        ensures { result ≡ wanted_of self.now }
+    {
+        self.wanted
+    }
+
     /// The filter itself.
     #[inline(always)]
     pub(crate) fn filter(&self) -> &Filter

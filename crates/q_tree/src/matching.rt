@@ -1,5 +1,6 @@
 ghost use Rattle.std.specs.Prelude.{◌≡◌};
 ghost use Rattle.q_model.specs.Filters.{has_prefix, named_class};
+ghost use Rattle.q_packet.specs.Key.{IsKey};
 ghost use Rattle.q_tree.specs.Matching.{before_taker, packed, takes_addresses, word_of};
 
 use crate::masked_filter::MaskedFilter;
@@ -23,7 +24,8 @@ fn has_prefix(prefix: &IpPrefix, key: &FlowKey, address: u128) -> bool
 /// The numbers of a key that a filter compares at once, as one word: ports, protocol and family.
 #[inline(always)]
 pub(crate) fn word_of(key: &FlowKey) -> u64
-    ensures { result ≡ word_of key.now }
+    ensures word { result ≡ word_of key.now }
+    ensures ranged { IsKey key.now }
 {
     packed(key.sport, key.dport, key.proto, key.family)
 }

@@ -7,7 +7,7 @@ ghost use Rattle.q_tree.specs.Ahead.{ahead, depths, ways};
 use crate::counters::Counters;
 use crate::disciplines::drr::class_place;
 use crate::disciplines::prio::band;
-use crate::masked_filter::MaskedFilter;
+use crate::filters::Filters;
 use crate::node_route::NodeRoute;
 use q_bucket::Bucket;
 use q_codel::Fifo;
@@ -27,13 +27,13 @@ use std::marker::Model;
 pub(crate) struct Node {
     pub(crate) held: Option<Packet>,
     pub(crate) row: Counters,
-    pub(crate) filters: Vec<MaskedFilter>,
+    pub(crate) filters: Filters,
     pub(crate) handle: Option<Handle>,
     pub(crate) discipline: Discipline,
 }
 
-// What a packet reads at each node of its way: a path of four nodes is 26 lines of a cache at most.
-const _: () = prove!(size_of::<Node>() <= 416);
+// What a packet reads at each node of its way: a path of four nodes is 27 lines of a cache at most.
+const _: () = prove!(size_of::<Node>() <= 432);
 
 /// What a qdisc does, with its own queue and its children in class order.
 #[cycle(node)]

@@ -117,7 +117,7 @@ impl Node {
         ensures { result ≡ slice_get (filter_views self.now) j }
     {
         let parent = self.handle?;
-        let filter = filter_at(&self.filters, j)?;
+        let filter = filter_at(self.filters.all(), j)?;
         Some(FilterView { parent, filter })
     }
 

@@ -204,7 +204,8 @@ impl Bench {
         self.tree.filter_add(parent, major, filter).err()
     }
 
-    fn del_filters(&mut self, parent: Handle, prio: FilterPrio) -> Option<Refusal> {
+    /// What is answered where those of a priority are removed.
+    pub fn del_filters(&mut self, parent: Handle, prio: FilterPrio) -> Option<Refusal> {
         self.tree.filter_del(parent, prio).err()
     }
 

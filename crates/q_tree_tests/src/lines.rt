@@ -118,7 +118,8 @@ fn class(major: u16, number: u16) -> Result<ClassId, Fail> {
     })
 }
 
-fn filter_prio(number: u16) -> Result<FilterPrio, Fail> {
+/// A priority of filters.
+pub fn filter_prio(number: u16) -> Result<FilterPrio, Fail> {
     Ok(FilterPrio::new(number).ok_or("prio")?)
 }
 

@@ -1,6 +1,6 @@
 //! Filters: each key that they compare, and prefixes of every kind of length.
 use crate::bench::{Bench, Call};
-use crate::lines::{New, Spot, every_packet};
+use crate::lines::{New, Spot, every_packet, filter_prio};
 use q_model::{Filter, Handle, IpPrefix, IpVersion, Protocol};
 use q_packet::{Ecn, FlowKey, Packet};
 use std::alloc::Global;
@@ -202,4 +202,66 @@ fn a_prefix_of_version_6_compares_so_many_bits(rt: HostRuntime) -> Result<(), Fa
             (Key::Target6(8, 128), (6, 6, 8, 0, 0, 0), 1),
         ],
     )
+}
+
+// A prio of two bands with 60 filters, which are found by a hash: 40 ports and 20 addresses, those of odd numbers into the second
+// band, and behind them a filter into the second for each port and address.
+fn many(alloc: Global) -> Result<Bench, Fail> {
+    let mut bench = Bench::new(alloc, 100);
+    bench.play(alloc, &[Call::Graft(Spot::Root, 1, New::Prio(2), None)])?;
+    for number in 0..60u16 {
+        let first = Some(1 + number % 2);
+        for (prio, band) in [(1u16, first), (2, Some(2))] {
+            let mut filter = every_packet(band.ok_or("band")?)?;
+            filter.prio = filter_prio(prio)?;
+            if number < 40 {
+                filter.keys.dst_port = Some(1000 + number);
+            } else {
+                filter.keys.dst_ip = prefix(IpVersion::V4, u128::from(number), 32);
+            }
+            add_filter(&mut bench, filter)?;
+        }
+    }
+    Ok(bench)
+}
+
+fn band_among_many(alloc: Global, flow: Flow) -> Result<u16, Fail> {
+    let mut bench = many(alloc)?;
+    bench.put(packet(flow)?)?;
+    band_with_packet(&bench)
+}
+
+#[test]
+fn the_first_of_many_filters_decides(rt: HostRuntime) -> Result<(), Fail> {
+    let rows: [(Flow, u16); 7] = [
+        ((4, 17, 1, 2, 5, 1000), 1),
+        ((4, 17, 1, 2, 5, 1001), 2),
+        ((4, 17, 1, 2, 5, 1038), 1),
+        ((4, 17, 1, 41, 5, 6), 2),
+        ((4, 17, 1, 58, 5, 6), 1),
+        // The filter of the port stands before that of the address.
+        ((4, 17, 1, 41, 5, 1000), 1),
+        ((6, 17, 1, 41, 5, 6), 1),
+    ];
+    for (flow, band) in rows {
+        let answer = band_among_many(rt.alloc(), flow)?;
+        if answer != band {
+            return Err(Fail::new(format_args!("{flow:?}: {answer}")));
+        }
+    }
+    Ok(())
+}
+
+#[test]
+fn filters_that_are_removed_decide_no_more(rt: HostRuntime) -> Result<(), Fail> {
+    let mut bench = many(rt.alloc())?;
+    let one = Handle::new(1).ok_or("handle")?;
+    if bench.del_filters(one, filter_prio(1)?).is_some() {
+        return Err(Fail::from("filter_del"));
+    }
+    bench.put(packet((4, 17, 1, 2, 5, 1000))?)?;
+    if band_with_packet(&bench)? != 2 {
+        return Err(Fail::from("band"));
+    }
+    Ok(())
 }

@@ -1,4 +1,4 @@
-use Rattle.std.proofs.Common.{◌≡◌, ◌+◌, ◌*◌, None}
+use Rattle.std.proofs.Common.{◌≡◌, ◌+◌, ◌*◌}
 use Rattle.std.specs.List.{sum_by}
 use Rattle.q_drr.specs.Schedule.{quantum_of}
 use Rattle.q_drr.specs.Take.{need}

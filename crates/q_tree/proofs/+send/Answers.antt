@@ -284,52 +284,52 @@ node::Node::send-send-shown-requires g t c κs within = (
 
 pub node::Node::send-book_shown-requires-clause-room : goal.node::Node::send-book_shown-requires-clause-room
 node::Node::send-book_shown-requires-clause-room g t c =
-    (sent-fits c.args.now c.self.inside c.args.self.now c.self.invariant c.self.view_is c.requires.ready c.in_default.is c.send-shown.new.self c.send-shown.result (c.send-shown.ensures.after c.self.inside.handle c.self.inside.filters.items) (omega (arith, c.self.ranges, c.fit.ensures.packets, c.fit.ensures.bytes)) (omega (arith, c.self.ranges, c.fit.ensures.packets, c.fit.ensures.bytes)))
+    (sent-fits c.args.now c.self.inside c.args.self.now c.self.invariant c.self.view_is c.requires.ready c.in_default.is c.send-shown.new.self c.send-shown.result (c.send-shown.ensures.after c.self.inside.handle c.self.inside.filters) (omega (arith, c.self.ranges, c.fit.ensures.packets, c.fit.ensures.bytes)) (omega (arith, c.self.ranges, c.fit.ensures.packets, c.fit.ensures.bytes)))
 
 pub node::Node::send-invariant_of-self-then-not-has_packet : goal.node::Node::send-invariant_of-self-then-not-has_packet
 node::Node::send-invariant_of-self-then-not-has_packet g t c =
-    (none-sent c.args.now c.self.inside c.args.self.now c.self.invariant c.self.view_is c.requires.ready c.in_default.is c.send-shown.new.self c.send-shown.result (c.send-shown.ensures.after c.self.inside.handle c.self.inside.filters.items) c.book_shown.new.row (sent-fits c.args.now c.self.inside c.args.self.now c.self.invariant c.self.view_is c.requires.ready c.in_default.is c.send-shown.new.self c.send-shown.result (c.send-shown.ensures.after c.self.inside.handle c.self.inside.filters.items) (omega (arith, c.self.ranges, c.fit.ensures.packets, c.fit.ensures.bytes)) (omega (arith, c.self.ranges, c.fit.ensures.packets, c.fit.ensures.bytes))) c.book_shown.ensures (none-held c.send-shown.result.packet (sym c.if-not-has_packet.true ∙ c.has_packet.ensures))).stays
+    (none-sent c.args.now c.self.inside c.args.self.now c.self.invariant c.self.view_is c.requires.ready c.in_default.is c.send-shown.new.self c.send-shown.result (c.send-shown.ensures.after c.self.inside.handle c.self.inside.filters) c.book_shown.new.row (sent-fits c.args.now c.self.inside c.args.self.now c.self.invariant c.self.view_is c.requires.ready c.in_default.is c.send-shown.new.self c.send-shown.result (c.send-shown.ensures.after c.self.inside.handle c.self.inside.filters) (omega (arith, c.self.ranges, c.fit.ensures.packets, c.fit.ensures.bytes)) (omega (arith, c.self.ranges, c.fit.ensures.packets, c.fit.ensures.bytes))) c.book_shown.ensures (none-held c.send-shown.result.packet (sym c.if-not-has_packet.true ∙ c.has_packet.ensures))).stays
 
 pub node::Node::send-returns-then-not-has_packet-clause-after : goal.node::Node::send-returns-then-not-has_packet-clause-after
 node::Node::send-returns-then-not-has_packet-clause-after g t c =
-    (none-sent c.args.now c.self.inside c.args.self.now c.self.invariant c.self.view_is c.requires.ready c.in_default.is c.send-shown.new.self c.send-shown.result (c.send-shown.ensures.after c.self.inside.handle c.self.inside.filters.items) c.book_shown.new.row (sent-fits c.args.now c.self.inside c.args.self.now c.self.invariant c.self.view_is c.requires.ready c.in_default.is c.send-shown.new.self c.send-shown.result (c.send-shown.ensures.after c.self.inside.handle c.self.inside.filters.items) (omega (arith, c.self.ranges, c.fit.ensures.packets, c.fit.ensures.bytes)) (omega (arith, c.self.ranges, c.fit.ensures.packets, c.fit.ensures.bytes))) c.book_shown.ensures (none-held c.send-shown.result.packet (sym c.if-not-has_packet.true ∙ c.has_packet.ensures))).after
+    (none-sent c.args.now c.self.inside c.args.self.now c.self.invariant c.self.view_is c.requires.ready c.in_default.is c.send-shown.new.self c.send-shown.result (c.send-shown.ensures.after c.self.inside.handle c.self.inside.filters) c.book_shown.new.row (sent-fits c.args.now c.self.inside c.args.self.now c.self.invariant c.self.view_is c.requires.ready c.in_default.is c.send-shown.new.self c.send-shown.result (c.send-shown.ensures.after c.self.inside.handle c.self.inside.filters) (omega (arith, c.self.ranges, c.fit.ensures.packets, c.fit.ensures.bytes)) (omega (arith, c.self.ranges, c.fit.ensures.packets, c.fit.ensures.bytes))) c.book_shown.ensures (none-held c.send-shown.result.packet (sym c.if-not-has_packet.true ∙ c.has_packet.ensures))).after
 
 pub node::Node::send-returns-then-not-has_packet-clause-shown : goal.node::Node::send-returns-then-not-has_packet-clause-shown
 node::Node::send-returns-then-not-has_packet-clause-shown g t c =
-    sent-shown c.args.now c.self.inside c.args.self.now c.self.invariant c.self.view_is c.requires.ready c.in_default.is c.send-shown.new.self c.send-shown.result (c.send-shown.ensures.after c.self.inside.handle c.self.inside.filters.items)
+    sent-shown c.args.now c.self.inside c.args.self.now c.self.invariant c.self.view_is c.requires.ready c.in_default.is c.send-shown.new.self c.send-shown.result (c.send-shown.ensures.after c.self.inside.handle c.self.inside.filters)
 
 pub node::Node::send-returns-clause-shown : goal.node::Node::send-returns-clause-shown
 node::Node::send-returns-clause-shown g t c =
-    sent-shown c.args.now c.self.inside c.args.self.now c.self.invariant c.self.view_is c.requires.ready c.in_default.is c.send-shown.new.self c.send-shown.result (c.send-shown.ensures.after c.self.inside.handle c.self.inside.filters.items)
+    sent-shown c.args.now c.self.inside c.args.self.now c.self.invariant c.self.view_is c.requires.ready c.in_default.is c.send-shown.new.self c.send-shown.result (c.send-shown.ensures.after c.self.inside.handle c.self.inside.filters)
 
 pub node::Node::send-returns-then-not-has_packet-clause-lost : goal.node::Node::send-returns-then-not-has_packet-clause-lost
 node::Node::send-returns-then-not-has_packet-clause-lost g t c =
-    (told-here c.args.now c.self.inside c.args.self.now c.self.invariant c.self.view_is c.requires.ready c.in_default.is (g.S.Sink.losses c.args.sink.now) (g.S.Sink.losses c.send-shown.new.sink) (g.S.Sink.room c.args.sink.now) (g.S.Sink.room c.send-shown.new.sink) (c.send-shown.ensures.told c.self.inside.handle c.self.inside.filters.items)).lost
+    (told-here c.args.now c.self.inside c.args.self.now c.self.invariant c.self.view_is c.requires.ready c.in_default.is (g.S.Sink.losses c.args.sink.now) (g.S.Sink.losses c.send-shown.new.sink) (g.S.Sink.room c.args.sink.now) (g.S.Sink.room c.send-shown.new.sink) (c.send-shown.ensures.told c.self.inside.handle c.self.inside.filters)).lost
 
 pub node::Node::send-returns-then-not-has_packet-clause-room : goal.node::Node::send-returns-then-not-has_packet-clause-room
 node::Node::send-returns-then-not-has_packet-clause-room g t c =
-    (told-here c.args.now c.self.inside c.args.self.now c.self.invariant c.self.view_is c.requires.ready c.in_default.is (g.S.Sink.losses c.args.sink.now) (g.S.Sink.losses c.send-shown.new.sink) (g.S.Sink.room c.args.sink.now) (g.S.Sink.room c.send-shown.new.sink) (c.send-shown.ensures.told c.self.inside.handle c.self.inside.filters.items)).room_taken
+    (told-here c.args.now c.self.inside c.args.self.now c.self.invariant c.self.view_is c.requires.ready c.in_default.is (g.S.Sink.losses c.args.sink.now) (g.S.Sink.losses c.send-shown.new.sink) (g.S.Sink.room c.args.sink.now) (g.S.Sink.room c.send-shown.new.sink) (c.send-shown.ensures.told c.self.inside.handle c.self.inside.filters)).room_taken
 
 pub node::Node::send-returns-clause-lost : goal.node::Node::send-returns-clause-lost
 node::Node::send-returns-clause-lost g t c =
-    (told-here c.args.now c.self.inside c.args.self.now c.self.invariant c.self.view_is c.requires.ready c.in_default.is (g.S.Sink.losses c.args.sink.now) (g.S.Sink.losses c.send-shown.new.sink) (g.S.Sink.room c.args.sink.now) (g.S.Sink.room c.send-shown.new.sink) (c.send-shown.ensures.told c.self.inside.handle c.self.inside.filters.items)).lost
+    (told-here c.args.now c.self.inside c.args.self.now c.self.invariant c.self.view_is c.requires.ready c.in_default.is (g.S.Sink.losses c.args.sink.now) (g.S.Sink.losses c.send-shown.new.sink) (g.S.Sink.room c.args.sink.now) (g.S.Sink.room c.send-shown.new.sink) (c.send-shown.ensures.told c.self.inside.handle c.self.inside.filters)).lost
 
 pub node::Node::send-returns-clause-room : goal.node::Node::send-returns-clause-room
 node::Node::send-returns-clause-room g t c =
-    (told-here c.args.now c.self.inside c.args.self.now c.self.invariant c.self.view_is c.requires.ready c.in_default.is (g.S.Sink.losses c.args.sink.now) (g.S.Sink.losses c.send-shown.new.sink) (g.S.Sink.room c.args.sink.now) (g.S.Sink.room c.send-shown.new.sink) (c.send-shown.ensures.told c.self.inside.handle c.self.inside.filters.items)).room_taken
+    (told-here c.args.now c.self.inside c.args.self.now c.self.invariant c.self.view_is c.requires.ready c.in_default.is (g.S.Sink.losses c.args.sink.now) (g.S.Sink.losses c.send-shown.new.sink) (g.S.Sink.room c.args.sink.now) (g.S.Sink.room c.send-shown.new.sink) (c.send-shown.ensures.told c.self.inside.handle c.self.inside.filters)).room_taken
 
 pub node::Node::send-book_sent-requires-2-clause-balanced : goal.node::Node::send-book_sent-requires-2-clause-balanced
 node::Node::send-book_sent-requires-2-clause-balanced g t c =
-    (sent-row c.args.now c.self.inside c.args.self.now c.self.invariant c.self.view_is c.requires.ready c.in_default.is c.send-shown.new.self c.send-shown.result (c.send-shown.ensures.after c.self.inside.handle c.self.inside.filters.items) c.book_shown.new.row (sent-fits c.args.now c.self.inside c.args.self.now c.self.invariant c.self.view_is c.requires.ready c.in_default.is c.send-shown.new.self c.send-shown.result (c.send-shown.ensures.after c.self.inside.handle c.self.inside.filters.items) (omega (arith, c.self.ranges, c.fit.ensures.packets, c.fit.ensures.bytes)) (omega (arith, c.self.ranges, c.fit.ensures.packets, c.fit.ensures.bytes))) c.book_shown.ensures c.send-shown.new.out (given-some c.send-shown.result.packet c.args.out.now c.send-shown.new.out (sym c.has_packet.ensures ∙ c.if-not-has_packet.false) c.send-shown.ensures.packet)).balanced
+    (sent-row c.args.now c.self.inside c.args.self.now c.self.invariant c.self.view_is c.requires.ready c.in_default.is c.send-shown.new.self c.send-shown.result (c.send-shown.ensures.after c.self.inside.handle c.self.inside.filters) c.book_shown.new.row (sent-fits c.args.now c.self.inside c.args.self.now c.self.invariant c.self.view_is c.requires.ready c.in_default.is c.send-shown.new.self c.send-shown.result (c.send-shown.ensures.after c.self.inside.handle c.self.inside.filters) (omega (arith, c.self.ranges, c.fit.ensures.packets, c.fit.ensures.bytes)) (omega (arith, c.self.ranges, c.fit.ensures.packets, c.fit.ensures.bytes))) c.book_shown.ensures c.send-shown.new.out (given-some c.send-shown.result.packet c.args.out.now c.send-shown.new.out (sym c.has_packet.ensures ∙ c.if-not-has_packet.false) c.send-shown.ensures.packet)).balanced
 
 pub node::Node::send-book_sent-requires-2-clause-among : goal.node::Node::send-book_sent-requires-2-clause-among
 node::Node::send-book_sent-requires-2-clause-among g t c =
-    sent-queued c.args.now c.self.inside c.args.self.now c.self.invariant c.self.view_is c.requires.ready c.in_default.is c.send-shown.new.self c.send-shown.result (c.send-shown.ensures.after c.self.inside.handle c.self.inside.filters.items) c.book_shown.new.row (sent-fits c.args.now c.self.inside c.args.self.now c.self.invariant c.self.view_is c.requires.ready c.in_default.is c.send-shown.new.self c.send-shown.result (c.send-shown.ensures.after c.self.inside.handle c.self.inside.filters.items) (omega (arith, c.self.ranges, c.fit.ensures.packets, c.fit.ensures.bytes)) (omega (arith, c.self.ranges, c.fit.ensures.packets, c.fit.ensures.bytes))) c.book_shown.ensures c.send-shown.new.out (given-some c.send-shown.result.packet c.args.out.now c.send-shown.new.out (sym c.has_packet.ensures ∙ c.if-not-has_packet.false) c.send-shown.ensures.packet)
+    sent-queued c.args.now c.self.inside c.args.self.now c.self.invariant c.self.view_is c.requires.ready c.in_default.is c.send-shown.new.self c.send-shown.result (c.send-shown.ensures.after c.self.inside.handle c.self.inside.filters) c.book_shown.new.row (sent-fits c.args.now c.self.inside c.args.self.now c.self.invariant c.self.view_is c.requires.ready c.in_default.is c.send-shown.new.self c.send-shown.result (c.send-shown.ensures.after c.self.inside.handle c.self.inside.filters) (omega (arith, c.self.ranges, c.fit.ensures.packets, c.fit.ensures.bytes)) (omega (arith, c.self.ranges, c.fit.ensures.packets, c.fit.ensures.bytes))) c.book_shown.ensures c.send-shown.new.out (given-some c.send-shown.result.packet c.args.out.now c.send-shown.new.out (sym c.has_packet.ensures ∙ c.if-not-has_packet.false) c.send-shown.ensures.packet)
 
 pub node::Node::send-book_sent-requires-2-clause-room : goal.node::Node::send-book_sent-requires-2-clause-room
 node::Node::send-book_sent-requires-2-clause-room g t c =
-    let row = sent-row c.args.now c.self.inside c.args.self.now c.self.invariant c.self.view_is c.requires.ready c.in_default.is c.send-shown.new.self c.send-shown.result (c.send-shown.ensures.after c.self.inside.handle c.self.inside.filters.items) c.book_shown.new.row (sent-fits c.args.now c.self.inside c.args.self.now c.self.invariant c.self.view_is c.requires.ready c.in_default.is c.send-shown.new.self c.send-shown.result (c.send-shown.ensures.after c.self.inside.handle c.self.inside.filters.items) (omega (arith, c.self.ranges, c.fit.ensures.packets, c.fit.ensures.bytes)) (omega (arith, c.self.ranges, c.fit.ensures.packets, c.fit.ensures.bytes))) c.book_shown.ensures c.send-shown.new.out (given-some c.send-shown.result.packet c.args.out.now c.send-shown.new.out (sym c.has_packet.ensures ∙ c.if-not-has_packet.false) c.send-shown.ensures.packet) in
-    let had = sent-queued c.args.now c.self.inside c.args.self.now c.self.invariant c.self.view_is c.requires.ready c.in_default.is c.send-shown.new.self c.send-shown.result (c.send-shown.ensures.after c.self.inside.handle c.self.inside.filters.items) c.book_shown.new.row (sent-fits c.args.now c.self.inside c.args.self.now c.self.invariant c.self.view_is c.requires.ready c.in_default.is c.send-shown.new.self c.send-shown.result (c.send-shown.ensures.after c.self.inside.handle c.self.inside.filters.items) (omega (arith, c.self.ranges, c.fit.ensures.packets, c.fit.ensures.bytes)) (omega (arith, c.self.ranges, c.fit.ensures.packets, c.fit.ensures.bytes))) c.book_shown.ensures c.send-shown.new.out (given-some c.send-shown.result.packet c.args.out.now c.send-shown.new.out (sym c.has_packet.ensures ∙ c.if-not-has_packet.false) c.send-shown.ensures.packet) in
+    let row = sent-row c.args.now c.self.inside c.args.self.now c.self.invariant c.self.view_is c.requires.ready c.in_default.is c.send-shown.new.self c.send-shown.result (c.send-shown.ensures.after c.self.inside.handle c.self.inside.filters) c.book_shown.new.row (sent-fits c.args.now c.self.inside c.args.self.now c.self.invariant c.self.view_is c.requires.ready c.in_default.is c.send-shown.new.self c.send-shown.result (c.send-shown.ensures.after c.self.inside.handle c.self.inside.filters) (omega (arith, c.self.ranges, c.fit.ensures.packets, c.fit.ensures.bytes)) (omega (arith, c.self.ranges, c.fit.ensures.packets, c.fit.ensures.bytes))) c.book_shown.ensures c.send-shown.new.out (given-some c.send-shown.result.packet c.args.out.now c.send-shown.new.out (sym c.has_packet.ensures ∙ c.if-not-has_packet.false) c.send-shown.ensures.packet) in
+    let had = sent-queued c.args.now c.self.inside c.args.self.now c.self.invariant c.self.view_is c.requires.ready c.in_default.is c.send-shown.new.self c.send-shown.result (c.send-shown.ensures.after c.self.inside.handle c.self.inside.filters) c.book_shown.new.row (sent-fits c.args.now c.self.inside c.args.self.now c.self.invariant c.self.view_is c.requires.ready c.in_default.is c.send-shown.new.self c.send-shown.result (c.send-shown.ensures.after c.self.inside.handle c.self.inside.filters) (omega (arith, c.self.ranges, c.fit.ensures.packets, c.fit.ensures.bytes)) (omega (arith, c.self.ranges, c.fit.ensures.packets, c.fit.ensures.bytes))) c.book_shown.ensures c.send-shown.new.out (given-some c.send-shown.result.packet c.args.out.now c.send-shown.new.out (sym c.has_packet.ensures ∙ c.if-not-has_packet.false) c.send-shown.ensures.packet) in
     let same = ap (λ (r : Row). r.arrived) c.book_shown.ensures in
     record {
       packets = omega (arith, row.balanced.packets, had.packets, ap (λ (t : Totals). t.packets) same, c.self.ranges, c.fit.ensures.packets, c.fit.ensures.bytes);
@@ -338,8 +338,8 @@ node::Node::send-book_sent-requires-2-clause-room g t c =
 
 pub node::Node::send-invariant_of-self-2 : goal.node::Node::send-invariant_of-self-2
 node::Node::send-invariant_of-self-2 g t c =
-    (one-sent c.args.now c.self.inside c.args.self.now c.self.invariant c.self.view_is c.requires.ready c.in_default.is c.send-shown.new.self c.send-shown.result (c.send-shown.ensures.after c.self.inside.handle c.self.inside.filters.items) c.book_shown.new.row (sent-fits c.args.now c.self.inside c.args.self.now c.self.invariant c.self.view_is c.requires.ready c.in_default.is c.send-shown.new.self c.send-shown.result (c.send-shown.ensures.after c.self.inside.handle c.self.inside.filters.items) (omega (arith, c.self.ranges, c.fit.ensures.packets, c.fit.ensures.bytes)) (omega (arith, c.self.ranges, c.fit.ensures.packets, c.fit.ensures.bytes))) c.book_shown.ensures c.send-shown.new.out (given-some c.send-shown.result.packet c.args.out.now c.send-shown.new.out (sym c.has_packet.ensures ∙ c.if-not-has_packet.false) c.send-shown.ensures.packet) c.book_sent-2.new.row c.book_sent-2.ensures).stays
+    (one-sent c.args.now c.self.inside c.args.self.now c.self.invariant c.self.view_is c.requires.ready c.in_default.is c.send-shown.new.self c.send-shown.result (c.send-shown.ensures.after c.self.inside.handle c.self.inside.filters) c.book_shown.new.row (sent-fits c.args.now c.self.inside c.args.self.now c.self.invariant c.self.view_is c.requires.ready c.in_default.is c.send-shown.new.self c.send-shown.result (c.send-shown.ensures.after c.self.inside.handle c.self.inside.filters) (omega (arith, c.self.ranges, c.fit.ensures.packets, c.fit.ensures.bytes)) (omega (arith, c.self.ranges, c.fit.ensures.packets, c.fit.ensures.bytes))) c.book_shown.ensures c.send-shown.new.out (given-some c.send-shown.result.packet c.args.out.now c.send-shown.new.out (sym c.has_packet.ensures ∙ c.if-not-has_packet.false) c.send-shown.ensures.packet) c.book_sent-2.new.row c.book_sent-2.ensures).stays
 
 pub node::Node::send-returns-clause-after : goal.node::Node::send-returns-clause-after
 node::Node::send-returns-clause-after g t c =
-    (one-sent c.args.now c.self.inside c.args.self.now c.self.invariant c.self.view_is c.requires.ready c.in_default.is c.send-shown.new.self c.send-shown.result (c.send-shown.ensures.after c.self.inside.handle c.self.inside.filters.items) c.book_shown.new.row (sent-fits c.args.now c.self.inside c.args.self.now c.self.invariant c.self.view_is c.requires.ready c.in_default.is c.send-shown.new.self c.send-shown.result (c.send-shown.ensures.after c.self.inside.handle c.self.inside.filters.items) (omega (arith, c.self.ranges, c.fit.ensures.packets, c.fit.ensures.bytes)) (omega (arith, c.self.ranges, c.fit.ensures.packets, c.fit.ensures.bytes))) c.book_shown.ensures c.send-shown.new.out (given-some c.send-shown.result.packet c.args.out.now c.send-shown.new.out (sym c.has_packet.ensures ∙ c.if-not-has_packet.false) c.send-shown.ensures.packet) c.book_sent-2.new.row c.book_sent-2.ensures).after
+    (one-sent c.args.now c.self.inside c.args.self.now c.self.invariant c.self.view_is c.requires.ready c.in_default.is c.send-shown.new.self c.send-shown.result (c.send-shown.ensures.after c.self.inside.handle c.self.inside.filters) c.book_shown.new.row (sent-fits c.args.now c.self.inside c.args.self.now c.self.invariant c.self.view_is c.requires.ready c.in_default.is c.send-shown.new.self c.send-shown.result (c.send-shown.ensures.after c.self.inside.handle c.self.inside.filters) (omega (arith, c.self.ranges, c.fit.ensures.packets, c.fit.ensures.bytes)) (omega (arith, c.self.ranges, c.fit.ensures.packets, c.fit.ensures.bytes))) c.book_shown.ensures c.send-shown.new.out (given-some c.send-shown.result.packet c.args.out.now c.send-shown.new.out (sym c.has_packet.ensures ∙ c.if-not-has_packet.false) c.send-shown.ensures.packet) c.book_sent-2.new.row c.book_sent-2.ensures).after

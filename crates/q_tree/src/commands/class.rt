@@ -234,7 +234,7 @@ impl Node {
         if self.class_place(class.minor).is_none() {
             return Err(Refusal::NoClass);
         }
-        if is_named(&self.filters, class.minor) {
+        if is_named(self.filters.all(), class.minor) {
             return Err(Refusal::Busy);
         }
         Ok(())

@@ -15,7 +15,6 @@ ghost use Rattle.q_tree.specs.Seen.{children_seen};
 use crate::booking::{NOTHING, book_dropped};
 use crate::commands::discipline_change::DisciplineChange;
 use crate::disciplines::drr::settle;
-use crate::masked_filter::MaskedFilter;
 use crate::node::{Discipline, Node};
 use q_codel::Sink;
 use q_model::{Filter, FilterPrio, Totals};
@@ -102,11 +101,11 @@ impl Node {
                 return Ok(lost);
             }
             Edit::AddFilter(filter) => {
-                add_filter(&mut self.filters, filter)?;
+                self.filters.add(filter)?;
                 return Ok(NOTHING);
             }
             Edit::RemoveFilters(prio) => {
-                remove_filters(&mut self.filters, prio);
+                self.filters.remove(prio);
                 return Ok(NOTHING);
             }
             Edit::DisciplineChange(reshape) => {
@@ -152,32 +151,4 @@ impl Discipline {
             Discipline::Fifo(_) | Discipline::FqCodel(_) => unreachable!(),
         }
     }
-}
-
-// Adds a filter behind those of its priority, before those of a higher one (tc(8)).
-fn add_filter(filters: &mut Vec<MaskedFilter>, filter: Filter) -> Result<(), AllocError>
-    ensures ok { OnOk result (filters.new.items ≡ with_filter filter filters.old.items) }
-    ensures err { OnErr result (filters.new.items ≡ filters.old.items) }
-{
-    let place = place_behind(filters, filter.prio.number());
-    filters.insert(place, MaskedFilter::new(filter))?;
-    Ok(())
-}
-
-// The place behind the filters of this priority and of lower ones, up to the first of a higher one.
-fn place_behind(filters: &[MaskedFilter], prio: u16) -> usize
-    ensures { result ≡ length (take_while (λ (f : Filter). nat_le f.prio prio) filters.now) }
-{
-    filters
-        .iter()
-        .take_while(|filter| filter.filter().prio.number() <= prio)
-        .count()
-}
-
-// Removes the filters of this priority.
-fn remove_filters(filters: &mut Vec<MaskedFilter>, prio: FilterPrio)
-    ensures { filters.new.items ≡ filter (λ (f : Filter). not (f.prio == prio)) filters.old.items }
-{
-    let prio = prio.number();
-    filters.retain(|filter| filter.filter().prio.number() != prio);
 }

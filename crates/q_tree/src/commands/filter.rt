@@ -121,7 +121,7 @@ impl Node {
         if self.class_place(filter.minor).is_none() {
             return Err(Refusal::NoClass);
         }
-        if self.filters.len() >= MOST_FILTERS {
+        if self.filters.all().len() >= MOST_FILTERS {
             return Err(Refusal::TooMany);
         }
         Ok(())
@@ -134,7 +134,7 @@ impl Node {
         if !self.has_filters() {
             return Err(Refusal::NotClassful);
         }
-        if !has_prio(&self.filters, prio) {
+        if !has_prio(self.filters.all(), prio) {
             return Err(Refusal::NoFilter);
         }
         Ok(())

@@ -8,6 +8,7 @@ use crate::disciplines::fifo::bfifo_bytes;
 use crate::disciplines::fq_codel::{new_queue, with_options};
 use crate::disciplines::prio::leaves;
 use crate::disciplines::tbf::{limit_bytes, new_tbf};
+use crate::filters::Filters;
 use crate::node::{Discipline, Node};
 use q_bucket::Bucket;
 use q_codel::{Fifo, Limit};
@@ -40,7 +41,7 @@ impl Node {
         Ok(Node {
             handle: Some(handle),
             held: None,
-            filters: Vec::new(alloc),
+            filters: Filters::none(alloc),
             row: Counters::none(),
             discipline,
         })

@@ -20,8 +20,7 @@ ghost use Rattle.q_tree.specs.declared.commands.discipline_change.DisciplineChan
 
 use crate::booking::NOTHING;
 use crate::commands::discipline_change::DisciplineChange;
-use crate::masked_filter::MaskedFilter;
-use crate::matching::named_class;
+use crate::filters::Filters;
 use crate::node::{Discipline, Node};
 use crate::ready_at::Outlook;
 use crate::shown::Shown;
@@ -33,14 +32,10 @@ use q_packet::{Moment, Packet, SOME_PACKET};
 use std::alloc::AllocError;
 
 /// The place of the class that a filter names, if there is one (tc-drr(8)).
-pub(crate) fn class_place(
-    active: &Active,
-    filters: &[MaskedFilter],
-    packet: &Packet,
-) -> Option<usize>
+pub(crate) fn class_place(active: &Active, filters: &Filters, packet: &Packet) -> Option<usize>
     ensures { result ≡ option_and_then (λ minor. place_of minor active.now.classes) (named_class filters.now packet.now) }
 {
-    let minor = named_class(filters, packet)?;
+    let minor = filters.named_class(packet)?;
     place_of(active, minor.number())
 }
 

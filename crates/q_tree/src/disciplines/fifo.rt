@@ -18,6 +18,7 @@ use crate::arrived::{Arrived, refuse};
 use crate::commands::discipline_change::DisciplineChange;
 use crate::commands::link_settings::LinkSettings;
 use crate::counters::Counters;
+use crate::filters::Filters;
 use crate::node::{Discipline, Node};
 use crate::outcome::Outcome;
 use crate::ready_at::Outlook;
@@ -43,7 +44,7 @@ impl Node {
         Node {
             handle,
             held: None,
-            filters: Vec::new(alloc),
+            filters: Filters::none(alloc),
             row: Counters::none(),
             discipline: Discipline::Fifo(Fifo::new(alloc, limit)),
         }

@@ -31,8 +31,8 @@ use crate::commands::counting::MOST_NODES;
 use crate::commands::discipline_change::DisciplineChange;
 use crate::commands::link_settings::LinkSettings;
 use crate::disciplines::fifo::implicit_pfifo;
+use crate::filters::Filters;
 use crate::masked_filter::MaskedFilter;
-use crate::matching::named_class;
 use crate::node::{Discipline, Node};
 use crate::ready_at::{Outlook, sooner};
 use crate::shown::Shown;
@@ -59,10 +59,10 @@ pub(crate) fn leaves(
 }
 
 /// The band of a packet: the class that a filter names, else that of its priority (tc-prio(8)).
-pub(crate) fn band(filters: &[MaskedFilter], priomap: &[u8; 16], packet: &Packet) -> usize
+pub(crate) fn band(filters: &Filters, priomap: &[u8; 16], packet: &Packet) -> usize
     ensures { result ≡ option_map_or (λ minor. minor - 1) (named_class filters.now packet.now) (slice_index priomap.now packet.now.prio) }
 {
-    match named_class(filters, packet) {
+    match filters.named_class(packet) {
         Some(minor) => usize::from(minor.number()) - 1,
         None => usize::from(priomap[usize::from(packet.prio)]),
     }
@@ -227,7 +227,7 @@ impl Node {
             return Err(Refusal::CannotChange);
         };
         let bands = usize::from(bands);
-        if names_beyond(&self.filters, bands) {
+        if names_beyond(self.filters.all(), bands) {
             return Err(Refusal::Busy);
         }
         let more = bands.saturating_sub(self.children().len());

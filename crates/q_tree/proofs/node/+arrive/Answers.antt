@@ -198,34 +198,34 @@ pub Node::arrive_further-returns-in_err-outcome-clause-same : goal.Node::arrive_
 Node::arrive_further-returns-in_err-outcome-clause-same g t c = on-err c.from_residual.result (placed-after c.self.inside c.args.self.now c.self.invariant c.self.view_is c.arrive.new.self c.in_err-outcome.ensures.same)
 
 pub Node::arrive_further-returns-in_err-outcome-clause-succeeds : goal.Node::arrive_further-returns-in_err-outcome-clause-succeeds
-Node::arrive_further-returns-in_err-outcome-clause-succeeds g t c = λ h. absurd (false≢true (c.in_err-outcome.ensures.succeeds (place-within c.args.now c.args.packet.now c.self.inside c.args.self.now c.self.invariant c.self.view_is c.requires.ready c.deref.result.now c.deref.ensures.value h)))
+Node::arrive_further-returns-in_err-outcome-clause-succeeds g t c = λ h. absurd (false≢true (c.in_err-outcome.ensures.succeeds (place-within c.args.now c.args.packet.now c.self.inside c.args.self.now c.self.invariant c.self.view_is c.requires.ready c.self.inside.filters refl h)))
 
 pub Node::arrive_further-book_arrival-requires-clause-room : goal.Node::arrive_further-book_arrival-requires-clause-room
 Node::arrive_further-book_arrival-requires-clause-room g t c = subst (λ (m : Node Kept). CanCount m.memory.counts.arrived c.args.packet.now) (sym c.self.view_is) c.requires.ready.counts
 
 pub Node::arrive_further-book_arrival-requires-clause-lost : goal.Node::arrive_further-book_arrival-requires-clause-lost
-Node::arrive_further-book_arrival-requires-clause-lost g t c = come-lost c.args.now c.args.packet.now c.self.inside c.args.self.now c.self.invariant c.self.view_is c.requires.ready c.deref.result.now c.deref.ensures.value c.arrive.new.self c.in_ok-outcome.outcome (g.S.Sink.losses c.args.sink.now) (g.S.Sink.losses c.arrive.new.sink) (g.S.Sink.room c.args.sink.now) (g.S.Sink.room c.arrive.new.sink) c.in_ok-outcome.ensures.after
+Node::arrive_further-book_arrival-requires-clause-lost g t c = come-lost c.args.now c.args.packet.now c.self.inside c.args.self.now c.self.invariant c.self.view_is c.requires.ready c.self.inside.filters refl c.arrive.new.self c.in_ok-outcome.outcome (g.S.Sink.losses c.args.sink.now) (g.S.Sink.losses c.arrive.new.sink) (g.S.Sink.room c.args.sink.now) (g.S.Sink.room c.arrive.new.sink) c.in_ok-outcome.ensures.after
 
 pub Node::arrive_further-invariant_of-self-2 : goal.Node::arrive_further-invariant_of-self-2
-Node::arrive_further-invariant_of-self-2 g t c = come-kept c.args.now c.args.packet.now c.self.inside c.args.self.now c.self.invariant c.self.view_is c.requires.ready c.deref.result.now c.deref.ensures.value c.arrive.new.self c.in_ok-outcome.outcome (g.S.Sink.losses c.args.sink.now) (g.S.Sink.losses c.arrive.new.sink) (g.S.Sink.room c.args.sink.now) (g.S.Sink.room c.arrive.new.sink) c.in_ok-outcome.ensures.after c.book_arrival.new.row c.book_arrival.ensures
+Node::arrive_further-invariant_of-self-2 g t c = come-kept c.args.now c.args.packet.now c.self.inside c.args.self.now c.self.invariant c.self.view_is c.requires.ready c.self.inside.filters refl c.arrive.new.self c.in_ok-outcome.outcome (g.S.Sink.losses c.args.sink.now) (g.S.Sink.losses c.arrive.new.sink) (g.S.Sink.room c.args.sink.now) (g.S.Sink.room c.arrive.new.sink) c.in_ok-outcome.ensures.after c.book_arrival.new.row c.book_arrival.ensures
 
 pub Node::arrive_further-returns-clause-after : goal.Node::arrive_further-returns-clause-after
-Node::arrive_further-returns-clause-after g t c = come-after c.args.now c.args.packet.now c.self.inside c.args.self.now c.self.invariant c.self.view_is c.requires.ready c.deref.result.now c.deref.ensures.value c.arrive.new.self c.in_ok-outcome.outcome (g.S.Sink.losses c.args.sink.now) (g.S.Sink.losses c.arrive.new.sink) (g.S.Sink.room c.args.sink.now) (g.S.Sink.room c.arrive.new.sink) c.in_ok-outcome.ensures.after c.book_arrival.new.row c.book_arrival.ensures
+Node::arrive_further-returns-clause-after g t c = come-after c.args.now c.args.packet.now c.self.inside c.args.self.now c.self.invariant c.self.view_is c.requires.ready c.self.inside.filters refl c.arrive.new.self c.in_ok-outcome.outcome (g.S.Sink.losses c.args.sink.now) (g.S.Sink.losses c.arrive.new.sink) (g.S.Sink.room c.args.sink.now) (g.S.Sink.room c.arrive.new.sink) c.in_ok-outcome.ensures.after c.book_arrival.new.row c.book_arrival.ensures
 
 pub Node::arrive_further-returns-clause-told : goal.Node::arrive_further-returns-clause-told
-Node::arrive_further-returns-clause-told g t c = come-told c.args.now c.args.packet.now c.self.inside c.args.self.now c.self.invariant c.self.view_is c.requires.ready c.deref.result.now c.deref.ensures.value c.arrive.new.self c.in_ok-outcome.outcome (g.S.Sink.losses c.args.sink.now) (g.S.Sink.losses c.arrive.new.sink) (g.S.Sink.room c.args.sink.now) (g.S.Sink.room c.arrive.new.sink) c.in_ok-outcome.ensures.after
+Node::arrive_further-returns-clause-told g t c = come-told c.args.now c.args.packet.now c.self.inside c.args.self.now c.self.invariant c.self.view_is c.requires.ready c.self.inside.filters refl c.arrive.new.self c.in_ok-outcome.outcome (g.S.Sink.losses c.args.sink.now) (g.S.Sink.losses c.arrive.new.sink) (g.S.Sink.room c.args.sink.now) (g.S.Sink.room c.arrive.new.sink) c.in_ok-outcome.ensures.after
 
 pub Node::arrive-returns-in_err-arrived-in-Fifo-clause-same : goal.Node::arrive-returns-in_err-arrived-in-Fifo-clause-same
 Node::arrive-returns-in_err-arrived-in-Fifo-clause-same g t c = on-err c.from_residual.result (placed-after c.self.inside c.args.self.now c.self.invariant c.self.view_is (code.Fifo c.arrive_in_fifo.new.fifo) (subst (λ (d : Discipline). IsPlacedIn d (code.Fifo c.arrive_in_fifo.new.fifo)) (sym c.in-Fifo.is) c.in_err-arrived-in-Fifo.ensures.same))
 
 pub Node::arrive-book_arrival-requires-clause-lost : goal.Node::arrive-book_arrival-requires-clause-lost
-Node::arrive-book_arrival-requires-clause-lost g t c = come-lost c.args.now c.args.packet.now c.self.inside c.args.self.now c.self.invariant c.self.view_is c.requires.ready c.self.inside.filters.items refl (code.Fifo c.arrive_in_fifo.new.fifo) c.in_ok-arrived-in-Fifo.arrived (g.S.Sink.losses c.args.sink.now) (g.S.Sink.losses c.arrive_in_fifo.new.sink) (g.S.Sink.room c.args.sink.now) (g.S.Sink.room c.arrive_in_fifo.new.sink) (subst (λ (d : Discipline). HasComeIn c.args.now c.args.packet.now c.self.inside.filters.items d (code.Fifo c.arrive_in_fifo.new.fifo) c.in_ok-arrived-in-Fifo.arrived (g.S.Sink.losses c.args.sink.now) (g.S.Sink.losses c.arrive_in_fifo.new.sink) (g.S.Sink.room c.args.sink.now) (g.S.Sink.room c.arrive_in_fifo.new.sink)) (sym c.in-Fifo.is) (c.in_ok-arrived-in-Fifo.ensures.after c.self.inside.filters.items))
+Node::arrive-book_arrival-requires-clause-lost g t c = come-lost c.args.now c.args.packet.now c.self.inside c.args.self.now c.self.invariant c.self.view_is c.requires.ready c.self.inside.filters refl (code.Fifo c.arrive_in_fifo.new.fifo) c.in_ok-arrived-in-Fifo.arrived (g.S.Sink.losses c.args.sink.now) (g.S.Sink.losses c.arrive_in_fifo.new.sink) (g.S.Sink.room c.args.sink.now) (g.S.Sink.room c.arrive_in_fifo.new.sink) (subst (λ (d : Discipline). HasComeIn c.args.now c.args.packet.now c.self.inside.filters d (code.Fifo c.arrive_in_fifo.new.fifo) c.in_ok-arrived-in-Fifo.arrived (g.S.Sink.losses c.args.sink.now) (g.S.Sink.losses c.arrive_in_fifo.new.sink) (g.S.Sink.room c.args.sink.now) (g.S.Sink.room c.arrive_in_fifo.new.sink)) (sym c.in-Fifo.is) (c.in_ok-arrived-in-Fifo.ensures.after c.self.inside.filters))
 
 pub Node::arrive-invariant_of-self-in-Fifo : goal.Node::arrive-invariant_of-self-in-Fifo
-Node::arrive-invariant_of-self-in-Fifo g t c = come-kept c.args.now c.args.packet.now c.self.inside c.args.self.now c.self.invariant c.self.view_is c.requires.ready c.self.inside.filters.items refl (code.Fifo c.arrive_in_fifo.new.fifo) c.in_ok-arrived-in-Fifo.arrived (g.S.Sink.losses c.args.sink.now) (g.S.Sink.losses c.arrive_in_fifo.new.sink) (g.S.Sink.room c.args.sink.now) (g.S.Sink.room c.arrive_in_fifo.new.sink) (subst (λ (d : Discipline). HasComeIn c.args.now c.args.packet.now c.self.inside.filters.items d (code.Fifo c.arrive_in_fifo.new.fifo) c.in_ok-arrived-in-Fifo.arrived (g.S.Sink.losses c.args.sink.now) (g.S.Sink.losses c.arrive_in_fifo.new.sink) (g.S.Sink.room c.args.sink.now) (g.S.Sink.room c.arrive_in_fifo.new.sink)) (sym c.in-Fifo.is) (c.in_ok-arrived-in-Fifo.ensures.after c.self.inside.filters.items)) c.book_arrival.new.row c.book_arrival.ensures
+Node::arrive-invariant_of-self-in-Fifo g t c = come-kept c.args.now c.args.packet.now c.self.inside c.args.self.now c.self.invariant c.self.view_is c.requires.ready c.self.inside.filters refl (code.Fifo c.arrive_in_fifo.new.fifo) c.in_ok-arrived-in-Fifo.arrived (g.S.Sink.losses c.args.sink.now) (g.S.Sink.losses c.arrive_in_fifo.new.sink) (g.S.Sink.room c.args.sink.now) (g.S.Sink.room c.arrive_in_fifo.new.sink) (subst (λ (d : Discipline). HasComeIn c.args.now c.args.packet.now c.self.inside.filters d (code.Fifo c.arrive_in_fifo.new.fifo) c.in_ok-arrived-in-Fifo.arrived (g.S.Sink.losses c.args.sink.now) (g.S.Sink.losses c.arrive_in_fifo.new.sink) (g.S.Sink.room c.args.sink.now) (g.S.Sink.room c.arrive_in_fifo.new.sink)) (sym c.in-Fifo.is) (c.in_ok-arrived-in-Fifo.ensures.after c.self.inside.filters)) c.book_arrival.new.row c.book_arrival.ensures
 
 pub Node::arrive-returns-in-Fifo-clause-after : goal.Node::arrive-returns-in-Fifo-clause-after
-Node::arrive-returns-in-Fifo-clause-after g t c = come-after c.args.now c.args.packet.now c.self.inside c.args.self.now c.self.invariant c.self.view_is c.requires.ready c.self.inside.filters.items refl (code.Fifo c.arrive_in_fifo.new.fifo) c.in_ok-arrived-in-Fifo.arrived (g.S.Sink.losses c.args.sink.now) (g.S.Sink.losses c.arrive_in_fifo.new.sink) (g.S.Sink.room c.args.sink.now) (g.S.Sink.room c.arrive_in_fifo.new.sink) (subst (λ (d : Discipline). HasComeIn c.args.now c.args.packet.now c.self.inside.filters.items d (code.Fifo c.arrive_in_fifo.new.fifo) c.in_ok-arrived-in-Fifo.arrived (g.S.Sink.losses c.args.sink.now) (g.S.Sink.losses c.arrive_in_fifo.new.sink) (g.S.Sink.room c.args.sink.now) (g.S.Sink.room c.arrive_in_fifo.new.sink)) (sym c.in-Fifo.is) (c.in_ok-arrived-in-Fifo.ensures.after c.self.inside.filters.items)) c.book_arrival.new.row c.book_arrival.ensures
+Node::arrive-returns-in-Fifo-clause-after g t c = come-after c.args.now c.args.packet.now c.self.inside c.args.self.now c.self.invariant c.self.view_is c.requires.ready c.self.inside.filters refl (code.Fifo c.arrive_in_fifo.new.fifo) c.in_ok-arrived-in-Fifo.arrived (g.S.Sink.losses c.args.sink.now) (g.S.Sink.losses c.arrive_in_fifo.new.sink) (g.S.Sink.room c.args.sink.now) (g.S.Sink.room c.arrive_in_fifo.new.sink) (subst (λ (d : Discipline). HasComeIn c.args.now c.args.packet.now c.self.inside.filters d (code.Fifo c.arrive_in_fifo.new.fifo) c.in_ok-arrived-in-Fifo.arrived (g.S.Sink.losses c.args.sink.now) (g.S.Sink.losses c.arrive_in_fifo.new.sink) (g.S.Sink.room c.args.sink.now) (g.S.Sink.room c.arrive_in_fifo.new.sink)) (sym c.in-Fifo.is) (c.in_ok-arrived-in-Fifo.ensures.after c.self.inside.filters)) c.book_arrival.new.row c.book_arrival.ensures
 
 pub Node::arrive-returns-in-Fifo-clause-told : goal.Node::arrive-returns-in-Fifo-clause-told
-Node::arrive-returns-in-Fifo-clause-told g t c = come-told c.args.now c.args.packet.now c.self.inside c.args.self.now c.self.invariant c.self.view_is c.requires.ready c.self.inside.filters.items refl (code.Fifo c.arrive_in_fifo.new.fifo) c.in_ok-arrived-in-Fifo.arrived (g.S.Sink.losses c.args.sink.now) (g.S.Sink.losses c.arrive_in_fifo.new.sink) (g.S.Sink.room c.args.sink.now) (g.S.Sink.room c.arrive_in_fifo.new.sink) (subst (λ (d : Discipline). HasComeIn c.args.now c.args.packet.now c.self.inside.filters.items d (code.Fifo c.arrive_in_fifo.new.fifo) c.in_ok-arrived-in-Fifo.arrived (g.S.Sink.losses c.args.sink.now) (g.S.Sink.losses c.arrive_in_fifo.new.sink) (g.S.Sink.room c.args.sink.now) (g.S.Sink.room c.arrive_in_fifo.new.sink)) (sym c.in-Fifo.is) (c.in_ok-arrived-in-Fifo.ensures.after c.self.inside.filters.items))
+Node::arrive-returns-in-Fifo-clause-told g t c = come-told c.args.now c.args.packet.now c.self.inside c.args.self.now c.self.invariant c.self.view_is c.requires.ready c.self.inside.filters refl (code.Fifo c.arrive_in_fifo.new.fifo) c.in_ok-arrived-in-Fifo.arrived (g.S.Sink.losses c.args.sink.now) (g.S.Sink.losses c.arrive_in_fifo.new.sink) (g.S.Sink.room c.args.sink.now) (g.S.Sink.room c.arrive_in_fifo.new.sink) (subst (λ (d : Discipline). HasComeIn c.args.now c.args.packet.now c.self.inside.filters d (code.Fifo c.arrive_in_fifo.new.fifo) c.in_ok-arrived-in-Fifo.arrived (g.S.Sink.losses c.args.sink.now) (g.S.Sink.losses c.arrive_in_fifo.new.sink) (g.S.Sink.room c.args.sink.now) (g.S.Sink.room c.arrive_in_fifo.new.sink)) (sym c.in-Fifo.is) (c.in_ok-arrived-in-Fifo.ensures.after c.self.inside.filters))

@@ -22,7 +22,7 @@ returns-in_err-filter c =
     ∙ sym (by-handle with_parent c.args.self.now.own.handle c.args.self.now.own.filters c.args.j
     ∙ ap (option_and_then (λ h. option_map (λ f. with_parent f h) (slice_get c.args.self.now.own.filters c.args.j))) (ap (λ (n : Node Kept). n.own.handle) (sym c.self.view_is) ∙ c.in_ok-parent.was)
     ∙ ap (λ (n : Node Kept). option_map (λ f. with_parent f c.in_ok-parent.parent) (slice_get n.own.filters c.args.j)) (sym c.self.view_is)
-    ∙ ap (λ fs. option_map (λ f. with_parent f c.in_ok-parent.parent) (slice_get fs c.args.j)) (sym c.deref.ensures.value)
+    ∙ ap (λ fs. option_map (λ f. with_parent f c.in_ok-parent.parent) (slice_get fs c.args.j)) (sym c.all.ensures)
     ∙ ap (option_map (λ f. with_parent f c.in_ok-parent.parent)) (sym c.filter_at.ensures ∙ c.in_err-filter.was))
 
 pub returns : goal.returns
@@ -30,5 +30,5 @@ returns c =
     sym (by-handle with_parent c.args.self.now.own.handle c.args.self.now.own.filters c.args.j
     ∙ ap (option_and_then (λ h. option_map (λ f. with_parent f h) (slice_get c.args.self.now.own.filters c.args.j))) (ap (λ (n : Node Kept). n.own.handle) (sym c.self.view_is) ∙ c.in_ok-parent.was)
     ∙ ap (λ (n : Node Kept). option_map (λ f. with_parent f c.in_ok-parent.parent) (slice_get n.own.filters c.args.j)) (sym c.self.view_is)
-    ∙ ap (λ fs. option_map (λ f. with_parent f c.in_ok-parent.parent) (slice_get fs c.args.j)) (sym c.deref.ensures.value)
+    ∙ ap (λ fs. option_map (λ f. with_parent f c.in_ok-parent.parent) (slice_get fs c.args.j)) (sym c.all.ensures)
     ∙ ap (option_map (λ f. with_parent f c.in_ok-parent.parent)) (sym c.filter_at.ensures ∙ c.in_ok-filter.was))

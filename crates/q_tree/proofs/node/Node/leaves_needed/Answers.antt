@@ -15,8 +15,8 @@ pub returns-then-names_beyond : goal.returns-then-names_beyond
 returns-then-names_beyond c =
     let n = c.args.self.now in
     leaves-by n c.args.bands c.args.nodes c.in-Prio.priomap (sym (ap (λ (m : Node Kept). m.own.discipline) c.self.view_is) ∙ ap discipline_seen c.in-Prio.is)
-    c.deref.result.now (sym (c.deref.ensures.value ∙ ap (λ (m : Node Kept). m.own.filters) c.self.view_is)) true (nat_lt most_nodes (c.args.nodes + (c.args.bands - length (children n)) - nodes_from c.args.bands n))
-    (ap (λ k. list_any (λ (f : Filter). nat_lt k f.minor) c.deref.result.now) (sym c.from-bands.ensures) ∙ sym c.names_beyond.ensures ∙ c.if-names_beyond.true) (λ i. nat_lt most_nodes (c.args.nodes + (c.args.bands - length (children n)) - nodes_from c.args.bands n))
+    c.all.result.now (sym (c.all.ensures ∙ ap (λ (m : Node Kept). m.own.filters) c.self.view_is)) true (nat_lt most_nodes (c.args.nodes + (c.args.bands - length (children n)) - nodes_from c.args.bands n))
+    (ap (λ k. list_any (λ (f : Filter). nat_lt k f.minor) c.all.result.now) (sym c.from-bands.ensures) ∙ sym c.names_beyond.ensures ∙ c.if-names_beyond.true) (λ i. nat_lt most_nodes (c.args.nodes + (c.args.bands - length (children n)) - nodes_from c.args.bands n))
 
 pub returns-then-nodes-more : goal.returns-then-nodes-more
 returns-then-nodes-more c =
@@ -24,8 +24,8 @@ returns-then-nodes-more c =
     let more = c.args.bands - length (children n) in
     let same : c.nodes_from.result ≡ nodes_from c.args.bands n = c.nodes_from.ensures.value ∙ ap (λ k. nodes_from k n) c.from-bands.ensures in
     leaves-by n c.args.bands c.args.nodes c.in-Prio.priomap (sym (ap (λ (m : Node Kept). m.own.discipline) c.self.view_is) ∙ ap discipline_seen c.in-Prio.is)
-    c.deref.result.now (sym (c.deref.ensures.value ∙ ap (λ (m : Node Kept). m.own.filters) c.self.view_is)) false true
-    (ap (λ k. list_any (λ (f : Filter). nat_lt k f.minor) c.deref.result.now) (sym c.from-bands.ensures) ∙ sym c.names_beyond.ensures ∙ c.if-names_beyond.false)
+    c.all.result.now (sym (c.all.ensures ∙ ap (λ (m : Node Kept). m.own.filters) c.self.view_is)) false true
+    (ap (λ k. list_any (λ (f : Filter). nat_lt k f.minor) c.all.result.now) (sym c.from-bands.ensures) ∙ sym c.names_beyond.ensures ∙ c.if-names_beyond.false)
     (lt-ltb most_nodes (c.args.nodes + more - nodes_from c.args.bands n)
     (omega (arith, c.if-nodes-more.true, c.saturating_sub-more.ensures, c.from-bands.ensures, same, ap (λ (xs : List (Node Kept)). length xs) c.children.ensures)))
 
@@ -37,6 +37,6 @@ returns c =
     let more_is : c.saturating_sub-more.result ≡ more = omega (arith, c.saturating_sub-more.ensures, c.from-bands.ensures, ap (λ (xs : List (Node Kept)). length xs) c.children.ensures) in
     ap (λ k. Ok k) more_is
     ∙ leaves-by n c.args.bands c.args.nodes c.in-Prio.priomap (sym (ap (λ (m : Node Kept). m.own.discipline) c.self.view_is) ∙ ap discipline_seen c.in-Prio.is)
-    c.deref.result.now (sym (c.deref.ensures.value ∙ ap (λ (m : Node Kept). m.own.filters) c.self.view_is)) false false
-    (ap (λ k. list_any (λ (f : Filter). nat_lt k f.minor) c.deref.result.now) (sym c.from-bands.ensures) ∙ sym c.names_beyond.ensures ∙ c.if-names_beyond.false)
+    c.all.result.now (sym (c.all.ensures ∙ ap (λ (m : Node Kept). m.own.filters) c.self.view_is)) false false
+    (ap (λ k. list_any (λ (f : Filter). nat_lt k f.minor) c.all.result.now) (sym c.from-bands.ensures) ∙ sym c.names_beyond.ensures ∙ c.if-names_beyond.false)
     (le-ltb most_nodes (c.args.nodes + more - nodes_from c.args.bands n) (omega (arith, c.if-nodes-more.false, more_is, same)))

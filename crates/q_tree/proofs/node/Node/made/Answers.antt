@@ -6,9 +6,9 @@ use Rattle.q_tree.proofs.node.Node.made.Goals as goal
 pub invariant_of-result : goal.invariant_of-result
 invariant_of-result c =
     let d : Device = record { mtu = c.args.link.mtu; txqueuelen = c.args.link.txqueuelen } in
-    made-kept d c.args.now (Some c.args.handle) c.args.kind.now (record { handle = Some c.args.handle; held = None; filters = c.new.result; row = c.none.result; discipline = c.in_ok-discipline.discipline }) c.in_ok-discipline.ensures.new refl refl c.new.ensures.items c.none.ensures c.requires (omega (arith, c.well_formed)) c.ranges-2.ensures
+    made-kept d c.args.now (Some c.args.handle) c.args.kind.now (record { handle = Some c.args.handle; held = None; filters = c.none.result; row = c.none-2.result; discipline = c.in_ok-discipline.discipline }) c.in_ok-discipline.ensures.new refl refl c.none.ensures c.none-2.ensures c.requires (omega (arith, c.well_formed)) c.ranges-2.ensures
 
 pub returns-clause-new : goal.returns-clause-new
 returns-clause-new c =
     let d : Device = record { mtu = c.args.link.mtu; txqueuelen = c.args.link.txqueuelen } in
-    made-is d c.args.now (Some c.args.handle) c.args.kind.now (record { handle = Some c.args.handle; held = None; filters = c.new.result; row = c.none.result; discipline = c.in_ok-discipline.discipline }) c.in_ok-discipline.ensures.new refl refl c.new.ensures.items c.none.ensures
+    made-is d c.args.now (Some c.args.handle) c.args.kind.now (record { handle = Some c.args.handle; held = None; filters = c.none.result; row = c.none-2.result; discipline = c.in_ok-discipline.discipline }) c.in_ok-discipline.ensures.new refl refl c.none.ensures c.none-2.ensures
