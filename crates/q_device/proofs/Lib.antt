@@ -18,6 +18,10 @@ pub mod MovedTrees
 pub mod NewFlowService
 mod PassedStretches
 pub mod PlayLemmas
+mod PromiseKept
+mod PromiseNumbers
+mod PromiseStands
+mod PromiseWays
 mod RateStretches
 pub mod ReadyNumbers
 pub mod RecorderLemmas

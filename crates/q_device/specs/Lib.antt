@@ -6,6 +6,7 @@ pub mod Giving
 pub mod InTime
 pub mod Keeping
 pub mod Laws
+pub mod Promise
 pub mod Rate
 pub mod Replayed
 pub mod Service
