@@ -25,6 +25,10 @@ mod OrderWays
 mod PartLemmas
 mod PassedStretches
 pub mod PlayLemmas
+mod PromiseKept
+mod PromiseNumbers
+mod PromiseStands
+mod PromiseWays
 mod RateStretches
 pub mod ReadyNumbers
 pub mod RecorderLemmas

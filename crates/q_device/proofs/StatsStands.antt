@@ -35,7 +35,7 @@ module _ {M N : Type 0} (t : Tally M) (u : Tally N) (f : M → N) (same : (m : M
   place-stands : (minor : ℕ) (n : Node M) → class_place minor (with_memory f n) ≡ class_place minor n
   place-stands minor n = ap (λ bands. class_in bands minor n.own.discipline) (ap length (nodes_in-each_memory f n.below) ∙ length-map (children n) (with_memory f))
 
-  class-stands : (class : ClassId) (n : Node M) → class_path class (with_memory f n) ≡ class_path class n
+  pub class-stands : (class : ClassId) (n : Node M) → class_path class (with_memory f n) ≡ class_path class n
   class-stands class n =
       ap (λ o. option_and_then (λ path. option_and_then (λ parent. option_map (λ i. path ++ i ∷ []) (class_place class.minor parent)) (node_at path (with_memory f n))) o) (path-stands class.major n)
       ∙ by (path_of class.major n)

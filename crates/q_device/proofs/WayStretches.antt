@@ -92,7 +92,7 @@ module _ (settings : DeviceSettings) (range : IsInRange settings) (before during
       → all_sent l.major l.classes start during * l.quantum ≤ sent_at l start during * quanta_of l.classes + lacks_of_bytes (length l.classes) l.quantum (quanta_of l.classes) settings.mtu
   part-of l has stays = let part = classes-get-their-parts settings range before during l.major l.minor l.quantum l.classes all_before all_during has stays in omega (arith, part)
 
-  way-shares : (l : Level) (levels : List Level) → Throughout (IsWay l levels) settings before during
+  pub way-shares : (l : Level) (levels : List Level) → Throughout (IsWay l levels) settings before during
       → all_sent l.major l.classes start during * quanta_on l levels ≤ sent_at (last_level l levels) start during * sums_on l levels + lacks_on settings.mtu l levels
   way-shares l [] way = part-of l (λ seen later e. (way seen later e).0) (λ seen later e. (way seen later e).1)
   way-shares l (k ∷ levels) way =

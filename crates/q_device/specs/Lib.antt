@@ -7,6 +7,7 @@ pub mod InTime
 pub mod Keeping
 pub mod Laws
 pub mod Order
+pub mod Promise
 pub mod Rate
 pub mod Replayed
 pub mod Service

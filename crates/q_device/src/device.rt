@@ -1,4 +1,4 @@
-ghost use Rattle.std.specs.Prelude.{ℕ, ◌≡◌, ◌<◌, ◌≤◌, ◌+◌, ◌^◌, true, None, IsSome, IfSome, IfNone, Ok, IsOk, IfOk, OnOk, OnErr, IfErr, max, min, if◌then◌else◌, length, slice_get, unwrap_or};
+ghost use Rattle.std.specs.Prelude.{All, ℕ, ◌≡◌, ◌<◌, ◌≤◌, ◌+◌, ◌^◌, true, None, IsSome, IfSome, IfNone, Ok, IsOk, IfOk, OnOk, OnErr, IfErr, max, min, if◌then◌else◌, length, option_map, slice_get, unwrap_or};
 ghost use Rattle.q_model.specs.Beneath.{beneath, is_empty, row_of};
 ghost use Rattle.q_model.specs.Node.{shape};
 ghost use Rattle.q_model.specs.Settings.{IsInRange};
@@ -11,13 +11,16 @@ ghost use Rattle.q_packet.specs.Descriptor.{Descriptor};
 ghost use Rattle.q_tree.specs.Commanding.{MayTakeMemory};
 ghost use Rattle.q_tree.specs.ReadyAt.{is_sure, ready_at};
 ghost use Rattle.q_tree.specs.TreeSeen.{tree_numbers};
+ghost use Rattle.q_tree.specs.Ways.{IsShare};
 ghost use Rattle.q_device.specs.Counters.{HasNotFallen};
 ghost use Rattle.q_device.specs.DeviceLaws.{HasItsMemory, IsReplayed};
 ghost use Rattle.q_device.specs.DeviceSeen.{IsRefusal, as_counted, most_events, opened, polled_memory, reaped, with_event, HasNoFewerPlaces, HasRoomFor, IsCommanded, IsRefusedAt};
 ghost use Rattle.q_device.specs.Giving.{given_of, polled_in};
+ghost use Rattle.q_device.specs.Promise.{promise_of, promise_seen};
 
 use crate::given::Given;
 use crate::recording::{record_arrival, record_command, record_poll};
+use crate::service::{Service, promised};
 use q_codel::{Loss as Lost, Losses};
 use q_model::{Command, Event, Fate, Place, Polled, Refusal, Row, Settings, packet_ranges};
 use q_packet::{Moment, Packet, SOME_PACKET};
@@ -209,6 +212,19 @@ impl Device {
         ensures never { IfNone result ((t : ℕ) → self.now.device.clock ≤ t → t ≤ 2 ^ 62 → given t self.now.device.tree ≡ None) }
     {
         self.tree.ready_at(self.clock)
+    }
+
+    /// What the class in this place is promised; `None` where it is no class of a drr, where something other than a drr stands on the way
+    /// from the root, a tbf at the root apart, or where that tbf has no room in its burst for a longest packet and for what its rate
+    /// brings in a nanosecond, or another tbf stands beneath it. It takes no memory.
+    pub fn service(&self, place: Place) -> Option<Service>
+        ensures value { option_map promise_seen result ≡ promise_of place self.now.settings.mtu self.now.device.tree.root }
+        ensures ranges { IfSome result (λ s. All IsShare s.shares.items) }
+    {
+        let Place::Class(class) = place else {
+            return None;
+        };
+        promised(self.tree.way_to(class)?, self.settings)
     }
 
     /// Does what a line of tc asks for, or refuses it. What is removed is lost, and waits for [`Device::reap`].

@@ -3,6 +3,7 @@ ghost use Rattle.q_device.specs.DeviceLaws.{ArrivesByArrivals, CountersNeverFall
 ghost use Rattle.q_device.specs.InTime.{ClassesShareInTime, SharesMultiply};
 ghost use Rattle.q_device.specs.Laws.{ReplayGoesOn, ShrinkCommutes, ReplayShrinks, EveryReplayIsSound, TotalsAreLawful, EveryReplayTellsAll};
 ghost use Rattle.q_device.specs.Order.{FlowsKeepOrder};
+ghost use Rattle.q_device.specs.Promise.{ServiceIsDelivered, ShareIsDelivered, SlackIsTheLaws};
 ghost use Rattle.q_device.specs.Rate.{RateIsDelivered, RateIsSpent};
 ghost use Rattle.q_device.specs.Service.{ClassAgainstAny, ClassesGetTheirParts, FlowAgainstAny, NoFlowStarves, NewFlowFirst};
 ghost use Rattle.q_device.specs.Sharing.{ClassesSendTheirShares, DeficitsAreBounded, GrantsComeWhereShort, ClassesWakeWithAQuantum, ClassesShareByQuanta, BucketsAreBounded, FlowsGiveTheirShares, FlowsBeginNew, FlowsAreGrantedEvenly};
@@ -181,6 +182,26 @@ pub fn rate_is_delivered(settings: Settings)
 pub fn share_in_time(settings: Settings)
     ensures below { ClassesShareInTime settings }
     ensures nested { SharesMultiply settings }
+{
+    settings.ranges();
+}
+
+/// What [`Device::service`] answers is what the class gets. As long as the way to it stays as it is, which is the qdiscs on it with the
+/// classes and quanta of its drrs, and something is queued in the class, it sends its part of what the rate brings, less the slack
+/// (`delivered`): exactly, and of the rate in whole bits a second that [`crate::Service::rate`] gives. The device is polled as
+/// [`rate_is_delivered`] says. The slack is that of [`share_in_time`], rounded up by less than a byte for each drr on the way (`slack`).
+///
+/// For all settings and every list of events whose fields are in their ranges, whatever comes to other classes.
+pub fn service_is_delivered(settings: Settings)
+    ensures delivered { ServiceIsDelivered settings }
+    ensures slack { SlackIsTheLaws settings }
+{
+    settings.ranges();
+}
+
+/// The same where a drr is at the root, of all bytes that the children of its classes give, at whatever times the device is polled.
+pub fn share_is_delivered(settings: Settings)
+    ensures { ShareIsDelivered settings }
 {
     settings.ranges();
 }

@@ -4,6 +4,7 @@
 //! - [`Device`] takes packets in, is polled for them, and does commands on its tree or refuses them. [`Device::arrive_at`] and
 //!   [`Device::poll_into`] take and give a packet where it stands; a [`Given`] is what such a poll answers.
 //! - [`play`] gives the [`Replies`] to a list of events, by a device of its own.
+//! - A [`Service`] is what a class of a drr is promised, which [`Device::service`] answers.
 //! - [`Settings`] are a device's mtu, queue length and recorder.
 //! - An [`Event`] is an arrival, a poll or a command, with its moment. A [`Reply`] is what it is answered: a [`Fate`], a
 //!   [`Polled`], or whether the command was done, else the [`Refusal`]. They are those of `q_model`.
@@ -37,9 +38,11 @@ mod given;
 pub mod laws;
 mod playing;
 mod recording;
+mod service;
 
 pub use crate::device::Device;
 pub use crate::given::Given;
+pub use crate::service::Service;
 pub use playing::{Replies, play};
 pub use q_codel::Loss as Lost;
 pub use q_model::{Event, Fate, Polled, Reply, Settings};
@@ -50,5 +53,6 @@ pub use q_packet::{
 pub use q_tree::{
     Burst, ClassId, ClassKind, ClassView, Command, Filter, FilterKeys, FilterPrio, FilterView,
     FqCodelOptions, Handle, IpPrefix, IpVersion, Kind, Latency, Minor, NodeView, Place,
-    PrioOptions, Protocol, QdiscView, Quantum, Rate, Refusal, Route, Row, TbfLimit, Totals, Tree,
+    PrioOptions, Protocol, QdiscView, Quantum, Rate, Refusal, Route, Row, Share, TbfLimit, Totals,
+    Tree,
 };

@@ -58,3 +58,4 @@ pub mod TreeEdits
 pub mod TreeIndex
 pub mod TreeLemmas
 pub mod TreePuts
+pub mod WayLemmas

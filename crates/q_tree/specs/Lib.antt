@@ -34,3 +34,4 @@ pub mod SendSteps
 pub mod Showing
 pub mod Shown
 pub mod TreeSeen
+pub mod Ways

@@ -38,9 +38,11 @@ mod shown;
 mod toll;
 mod tree;
 mod views;
+mod ways;
 
 pub use crate::route::Route;
 pub use crate::tree::Tree;
+pub use crate::ways::{Link, Share, Way};
 pub use q_model::{
     Burst, ClassId, ClassKind, ClassView, Command, Filter, FilterKeys, FilterPrio, FilterView,
     FqCodelOptions, Handle, IpPrefix, IpVersion, Kind, Latency, Minor, NodeView, Place,

@@ -21,6 +21,8 @@ mod device_ready;
 #[cfg(test)]
 mod device_scripts;
 #[cfg(test)]
+mod device_service;
+#[cfg(test)]
 mod lines;
 #[cfg(test)]
 mod many_packets;

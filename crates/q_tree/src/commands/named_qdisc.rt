@@ -90,8 +90,8 @@ impl Node {
         }
     }
 
-    // The way to a class: that to its qdisc, and the child there.
-    fn class_path(&self, handles: &Handles, class: ClassId) -> Option<Path>
+    /// The way to a class: that to its qdisc, and the child there.
+    pub(crate) fn class_path(&self, handles: &Handles, class: ClassId) -> Option<Path>
         requires levels { depth self.now ≤ 8 }
         requires index { handles.now.addresses ≡ addresses self.now }
         ensures { option_map (λ p. p.items) result ≡ class_path class self.now }
