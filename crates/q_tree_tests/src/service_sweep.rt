@@ -4,12 +4,11 @@
 use crate::chance::Chance;
 use crate::device_bench::Ask;
 use crate::lines::{New, Spot};
-use crate::played::Played;
+use crate::played::{Answer, Played};
 use crate::rounds::{List, MOST, Rounds};
 use crate::service_laws::{
     Span, class_against_any, flow_against_any, least_share, new_flow_first, no_flow_starves,
 };
-use q_device::Polled;
 use std::alloc::Global;
 use std::test::Fail;
 
@@ -150,12 +149,11 @@ impl Play {
     // The packet that is given is that of the class or flow whose turn it is.
     fn poll(&mut self) -> Result<(), Fail> {
         let given = match self.played.poll(0)? {
-            Polled::Packet(packet) => Some((
-                usize::from(packet.prio).saturating_sub(1),
-                i64::from(packet.len),
-            )),
-            Polled::Idle => None,
-            Polled::Later => return Err(Fail::from("later")),
+            Answer::Gives(prio, len) => {
+                Some((usize::from(prio).saturating_sub(1), i64::from(len)))
+            }
+            Answer::Idle => None,
+            Answer::Later => return Err(Fail::from("later")),
         };
         if self.rounds.polled(given) {
             Ok(())
@@ -263,7 +261,7 @@ impl Play {
                 return Err(Fail::new(format_args!("{j} against {}", watch.backlogged)));
             }
         }
-        let classes = self.count as i64;
+        let classes = i64::try_from(self.count).unwrap_or(0);
         let (first, mtu) = (&watch.first, i64::from(self.mtu));
         if self.has_flows || least_share(first, &self.rounds, watch.backlogged, classes, mtu) {
             Ok(())

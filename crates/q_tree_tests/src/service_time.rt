@@ -3,11 +3,9 @@
 use crate::chance::Chance;
 use crate::device_bench::{Ask, add, room};
 use crate::lines::{New, Spot};
-use crate::played::Played;
+use crate::played::{Answer, Played};
 use crate::rounds::MOST;
 use crate::service_laws::lacks_of_bytes;
-use q_device::Polled;
-use q_packet::Packet;
 use std::alloc::Global;
 use std::test::Fail;
 
@@ -65,7 +63,8 @@ impl Link {
     fn lacks(&self) -> u128 {
         let (quantum, mtu) = (i64::from(self.quantum()), i64::from(self.mtu));
         let quanta = i64::try_from(self.quanta()).unwrap_or(0);
-        let bytes = lacks_of_bytes(self.classes as i64, quantum, quanta, mtu);
+        let classes = i64::try_from(self.classes).unwrap_or(0);
+        let bytes = lacks_of_bytes(classes, quantum, quanta, mtu);
         let packets = mtu.saturating_mul(quantum).saturating_mul(2);
         u128::try_from(packets.saturating_add(bytes)).unwrap_or(0)
     }
@@ -165,12 +164,10 @@ impl Drained {
     }
 
     // A packet is given. It was held by the drr when the last poll gave none.
-    fn give(&mut self, packet: &Packet) -> Result<(), Fail> {
-        let i = usize::from(packet.prio).saturating_sub(1);
+    fn give(&mut self, i: usize, len: u64) -> Result<(), Fail> {
         if let Some(queued) = self.queued.get_mut(i) {
             *queued = queued.saturating_sub(1);
         }
-        let len = u64::from(packet.len);
         let before = self.last;
         self.last.all = before.all.saturating_add(len);
         if i == 0 {
@@ -191,16 +188,16 @@ impl Drained {
     // Polls once; whether a packet came.
     fn poll(&mut self) -> Result<bool, Fail> {
         match self.played.poll(self.ns)? {
-            Polled::Packet(packet) => {
-                self.give(&packet)?;
+            Answer::Gives(prio, len) => {
+                self.give(usize::from(prio).saturating_sub(1), u64::from(len))?;
                 Ok(true)
             }
-            Polled::Later => {
+            Answer::Later => {
                 self.last.ns = self.ns;
                 self.is_waiting = true;
                 Ok(false)
             }
-            Polled::Idle => Err(Fail::from("idle")),
+            Answer::Idle => Err(Fail::from("idle")),
         }
     }
 

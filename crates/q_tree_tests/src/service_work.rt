@@ -3,9 +3,7 @@
 use crate::chance::Chance;
 use crate::device_bench::Ask;
 use crate::lines::{New, Spot};
-use crate::played::Played;
-use q_device::Polled;
-use q_packet::Packet;
+use crate::played::{Answer, Played};
 use std::alloc::Global;
 use std::test::Fail;
 
@@ -33,8 +31,8 @@ impl Queued {
     }
 
     // Whether no band before that of a packet has one.
-    fn is_first(&self, packet: &Packet) -> bool {
-        for queued in self.bands.iter().take(usize::from(packet.prio)) {
+    fn is_first(&self, prio: u8) -> bool {
+        for queued in self.bands.iter().take(usize::from(prio)) {
             if *queued > 0 {
                 return false;
             }
@@ -48,24 +46,24 @@ impl Queued {
         }
     }
 
-    fn remove(&mut self, packet: &Packet) {
-        if let Some(queued) = self.bands.get_mut(usize::from(packet.prio)) {
+    fn remove(&mut self, prio: u8) {
+        if let Some(queued) = self.bands.get_mut(usize::from(prio)) {
             *queued = queued.saturating_sub(1);
         }
     }
 
     // Whether a poll may be answered so: never later, idle where nothing is queued, and else a packet of the first band that has one.
-    fn allows(&mut self, polled: Polled) -> bool {
-        match polled {
-            Polled::Packet(packet) => {
+    fn allows(&mut self, answer: Answer) -> bool {
+        match answer {
+            Answer::Gives(prio, _) => {
                 self.gave = self.gave.saturating_add(1);
-                self.is_first(&packet)
+                self.is_first(prio)
             }
-            Polled::Idle => {
+            Answer::Idle => {
                 self.idle = self.idle.saturating_add(1);
                 self.all() == 0
             }
-            Polled::Later => false,
+            Answer::Later => false,
         }
     }
 }
@@ -95,16 +93,16 @@ fn arrive(
 
 // What is lost is lost beside the packet that is given.
 fn poll(played: &mut Played, queued: &mut Queued, ns: u64) -> Result<(), Fail> {
-    let polled = played.poll(ns)?;
-    if !queued.allows(polled) {
-        return Err(Fail::new(format_args!("{polled:?} at {ns}")));
+    let answer = played.poll(ns)?;
+    if !queued.allows(answer) {
+        return Err(Fail::new(format_args!("{answer:?} at {ns}")));
     }
-    if let Polled::Packet(packet) = &polled {
-        queued.remove(packet);
+    if let Answer::Gives(prio, _) = answer {
+        queued.remove(prio);
     }
     for _loss in 0..STEPS {
         match played.reap() {
-            Some(lost) => queued.remove(&lost),
+            Some(prio) => queued.remove(prio),
             None => break,
         }
     }
