@@ -258,6 +258,14 @@ static void read_recorder(qtree_device *device, struct input *input) {
     is_lent(qtree_recorded_line(device, (size_t)take(input, 1) % 32, text, room, &needed), text, sizeof text, room, needed);
 }
 
+/* What a class is promised is a part of the link; nothing is written where it is promised nothing. */
+static void promised(qtree_device *device, struct input *input) {
+    qtree_promise promise = { 7, 7, 7, 7 };
+    qtree_code code = qtree_service(device, (uint32_t)take(input, 1) % 4, (uint16_t)take(input, 1), (uint16_t)take(input, 1), &promise);
+    CHECK(code == QTREE_DONE || code == QTREE_NOTHING || code == QTREE_OUT_OF_RANGE || code == QTREE_IS_CLOSED);
+    CHECK(code == QTREE_DONE ? promise.rate <= promise.link && promise.part <= 1000000000 : promise.link == 7 && promise.slack == 7);
+}
+
 static void look(qtree_device *device, struct input *input) {
     qtree_row row;
     qtree_event event;
@@ -265,6 +273,7 @@ static void look(qtree_device *device, struct input *input) {
     size_t recorded = 7;
     qtree_code code = qtree_stats(device, (uint32_t)take(input, 1) % 4, (uint16_t)take(input, 1), (uint16_t)take(input, 1), &row);
     CHECK(code == QTREE_DONE || code == QTREE_NOTHING || code == QTREE_OUT_OF_RANGE || code == QTREE_IS_CLOSED);
+    promised(device, input);
     code = qtree_events(device, &events, &recorded);
     CHECK(code == QTREE_DONE ? recorded <= events : code == QTREE_IS_CLOSED && events == 0 && recorded == 0);
     code = qtree_recorded(device, (size_t)take(input, 1), &event);

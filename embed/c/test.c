@@ -34,12 +34,12 @@ static void sizes(void) {
     static const size_t bytes[] = {
         sizeof(qtree_device), sizeof(qtree_settings), sizeof(qtree_packet), sizeof(qtree_loss),   sizeof(qtree_row),    sizeof(qtree_event),
         sizeof(qtree_fault),  sizeof(qtree_count),    sizeof(qtree_port),   sizeof(qtree_outlet), sizeof(qtree_layout),
-        sizeof(qtree_sent),
+        sizeof(qtree_sent),   sizeof(qtree_promise),
     };
-    for (uint32_t what = QTREE_TYPE_DEVICE; what <= QTREE_TYPE_SENT; what++) {
+    for (uint32_t what = QTREE_TYPE_DEVICE; what <= QTREE_TYPE_PROMISE; what++) {
         CHECK(qtree_size_of(what) == bytes[what]);
     }
-    CHECK(qtree_size_of(QTREE_TYPE_SENT + 1) == 0 && qtree_size_of(UINT32_MAX) == 0);
+    CHECK(qtree_size_of(QTREE_TYPE_PROMISE + 1) == 0 && qtree_size_of(UINT32_MAX) == 0);
     qtree_fault fault;
     qtree_sample_fault(&fault);
     CHECK(fault.word == 1 && fault.number == 2);
@@ -344,6 +344,29 @@ static void recorders(void) {
     qtree_close(&device);
 }
 
+/* Two customers on a link, and a drr at the root. */
+static void services(void) {
+    qtree_device device = QTREE_CLOSED;
+    qtree_promise promise = { 7, 7, 7, 7 };
+    CHECK(qtree_service(&device, QTREE_CLASS, 2, 1, &promise) == QTREE_IS_CLOSED && promise.link == 7);
+    CHECK(qtree_open(&device, &(qtree_settings){ 1000, 0, 1514 }) == QTREE_DONE);
+    CHECK(tc(&device, "tc qdisc add dev a root handle 1: tbf rate 20mbit burst 1515 latency 50ms") == QTREE_DONE);
+    CHECK(tc(&device, "tc qdisc add dev a parent 1:1 handle 2: drr") == QTREE_DONE);
+    CHECK(tc(&device, "tc class add dev a parent 2: classid 2:1 drr quantum 3000") == QTREE_DONE);
+    CHECK(tc(&device, "tc class add dev a parent 2: classid 2:2 drr quantum 1500") == QTREE_DONE);
+    CHECK(qtree_service(&device, QTREE_CLASS, 2, 3, &promise) == QTREE_NOTHING && promise.link == 7 && promise.slack == 7);
+    CHECK(qtree_service(&device, QTREE_CLASS, 1, 1, &promise) == QTREE_NOTHING && qtree_service(&device, QTREE_ROOT, 0, 0, &promise) == QTREE_NOTHING);
+    CHECK(qtree_service(&device, QTREE_CLASS, 2, 0, &promise) == QTREE_OUT_OF_RANGE && qtree_service(&device, 3, 0, 0, &promise) == QTREE_OUT_OF_RANGE);
+    CHECK(qtree_service(&device, QTREE_CLASS, 2, 1, &promise) == QTREE_DONE && promise.link == 20000000 && promise.rate == 13333333);
+    CHECK(promise.part == 666666666 && promise.slack == 5532);
+    CHECK(tc(&device, "tc qdisc del dev a root") == QTREE_DONE && tc(&device, "tc qdisc add dev a root handle 2: drr") == QTREE_DONE);
+    CHECK(tc(&device, "tc class add dev a parent 2: classid 2:1 drr quantum 3000") == QTREE_DONE);
+    CHECK(tc(&device, "tc class add dev a parent 2: classid 2:2 drr quantum 1500") == QTREE_DONE);
+    CHECK(qtree_service(&device, QTREE_CLASS, 2, 2, &promise) == QTREE_DONE && promise.link == 0 && promise.rate == 0);
+    CHECK(promise.part == 333333333 && promise.slack == 3513);
+    qtree_close(&device);
+}
+
 int main(void) {
     layout();
     recorders();
@@ -354,6 +377,7 @@ int main(void) {
     opening();
     ring_opening();
     rings();
+    services();
     qtree_device device = QTREE_CLOSED;
     CHECK(qtree_open(&device, &(qtree_settings){ 1000, 0, 1514 }) == QTREE_DONE);
     commands(&device);

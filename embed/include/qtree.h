@@ -77,7 +77,7 @@ enum {
     /* A poll gives no packet: none is queued; or some are, and their time has not come. */
     QTREE_IDLE = 30,
     QTREE_LATER = 31,
-    /* No loss waits, no node stands there, there is no such event, or no poll will ever give a packet. */
+    /* No loss waits, no node stands there, there is no such event, no poll will ever give a packet, or a class is promised nothing. */
     QTREE_NOTHING = 32,
     /* The ring of a port has no room for a packet more. */
     QTREE_FULL = 33,
@@ -272,6 +272,24 @@ qtree_code qtree_stats(qtree_device *device, uint32_t place, uint16_t major, uin
 /* What the device itself counted. QTREE_DONE, QTREE_IS_CLOSED. */
 qtree_code qtree_totals(qtree_device *device, qtree_row *row);
 
+/* What a class of a drr is promised while something is queued in it, whatever comes to other classes. In any t nanoseconds between two
+ * times at which a poll gives nothing it sends more than rate * t / (8 * 10^9) - slack bytes, if the program polls until no packet
+ * comes, and then at the time of qtree_ready_at at the latest, and the qdiscs, classes and quanta on the way to it stay as they are. With a
+ * drr at the root, link and rate are 0, and it sends at least part / 10^9 of what the root's classes send, less slack. All is rounded
+ * against the class. */
+typedef struct qtree_promise {
+    uint64_t link;  /* the rate of the tbf at the root, bits a second */
+    uint64_t rate;  /* the class's part of it, bits a second */
+    uint64_t part;  /* of a billion bytes */
+    uint64_t slack; /* bytes */
+} qtree_promise;
+
+/* What is promised to the class in a place, as qtree_stats has places. QTREE_NOTHING where it is no class of a drr, or where something
+ * other than drrs stands between it and the root, a tbf at the root apart; or where that tbf has another beneath it, or a burst
+ * without room for a packet of the mtu and what its rate brings in a nanosecond.
+ * QTREE_DONE, QTREE_NOTHING, QTREE_OUT_OF_RANGE, QTREE_IS_CLOSED. */
+qtree_code qtree_service(qtree_device *device, uint32_t place, uint16_t major, uint16_t minor, qtree_promise *promise);
+
 /* What `tc qdisc show`, `tc -s qdisc show`, `tc class show` and `tc filter show` print, of which needed is the length in bytes; no
  * zero byte ends it. Nothing is written where room is less than that (QTREE_ROOM); so a call with room 0 asks for the length.
  * QTREE_DONE, QTREE_ROOM, QTREE_OUT_OF_RANGE, QTREE_IS_CLOSED, QTREE_MEMORY. */
@@ -357,7 +375,8 @@ enum {
     QTREE_TYPE_PORT = 8,
     QTREE_TYPE_OUTLET = 9,
     QTREE_TYPE_LAYOUT = 10,
-    QTREE_TYPE_SENT = 11
+    QTREE_TYPE_SENT = 11,
+    QTREE_TYPE_PROMISE = 12
 };
 size_t qtree_size_of(uint32_t what);
 

@@ -5,6 +5,7 @@ pub mod Events
 pub mod Folds
 pub mod Holding
 pub mod Lines
+pub mod Promised
 pub mod Readiness
 pub mod Sample
 pub mod Scripts

@@ -9,7 +9,7 @@ pub const IDLE: u32 = 30;
 /// No packet is given, though one is queued.
 pub const LATER: u32 = 31;
 
-/// No loss waits, no node stands there, or there is no such event.
+/// No loss waits, no node stands there, there is no such event, or a class is promised nothing.
 pub const NOTHING: u32 = 32;
 
 /// The ring of a port has no room.

@@ -64,7 +64,7 @@ fn stats_at(alloc: Global, device: &mut CDevice, place: Place, row: &mut CRow) -
 }
 
 /// The place that these numbers name, where they name one.
-fn place_at(place: u32, major: u16, minor: u16) -> Option<Place>
+pub(crate) fn place_at(place: u32, major: u16, minor: u16) -> Option<Place>
     ensures in_range { IsSome result ↔ IsPlaceOf place major minor }
     ensures value { IfSome result (λ p. p ≡ place_of place major minor) }
 {

@@ -11,6 +11,7 @@ use crate::c_loss::CLoss;
 use crate::c_outlet::COutlet;
 use crate::c_packet::CPacket;
 use crate::c_port::CPort;
+use crate::c_promise::CPromise;
 use crate::c_row::CRow;
 use crate::c_sent::CSent;
 use crate::c_settings::CSettings;
@@ -41,7 +42,7 @@ pub extern "C" fn qtree_layout_of(layout: &mut CLayout)
     };
 }
 
-/// The bytes of the struct with this number, 0 to 11; 0 for any other.
+/// The bytes of the struct with this number, 0 to 12; 0 for any other.
 #[unsafe(no_mangle)]
 pub extern "C" fn qtree_size_of(what: u32) -> usize
     ensures { result ≡ size_of_struct what }
@@ -59,6 +60,7 @@ pub extern "C" fn qtree_size_of(what: u32) -> usize
         9 => size_of::<COutlet>(),
         10 => size_of::<CLayout>(),
         11 => size_of::<CSent>(),
+        12 => size_of::<CPromise>(),
         _ => 0,
     }
 }

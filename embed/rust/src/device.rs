@@ -11,6 +11,7 @@ use crate::polled::Polled;
 use crate::raw::{RawDevice, sys};
 use crate::row::Row;
 use crate::sent::Sent;
+use crate::service::Service;
 use crate::settings::Settings;
 use crate::show::Show;
 use alloc::string::String;
@@ -249,6 +250,30 @@ impl Device {
     pub fn stats(&mut self, place: Place) -> Option<Row> {
         let (code, row) = self.0.stats(place.to_c());
         (code == sys::QTREE_DONE).then(|| Row::of(row))
+    }
+
+    /// What the class in a place is promised; `None` where it is no class of a drr, or where something other than drrs stands between it
+    /// and the root, a tbf at the root apart; or where that tbf has another beneath it, or a burst without room for a packet of the
+    /// mtu and what its rate brings in a nanosecond.
+    ///
+    /// ```
+    /// # use qtree::{Device, Error, Place, Settings};
+    /// let mut device = Device::open(Settings::default())?;
+    /// for line in [
+    ///     "tc qdisc add dev wan root handle 1: tbf rate 20mbit burst 1515 latency 50ms",
+    ///     "tc qdisc add dev wan parent 1:1 handle 2: drr",
+    ///     "tc class add dev wan parent 2: classid 2:1 drr quantum 3000",
+    ///     "tc class add dev wan parent 2: classid 2:2 drr quantum 1500",
+    /// ] {
+    ///     device.command(line, 0)?;
+    /// }
+    /// let service = device.service(Place::Class(2, 1)).expect("a class of a drr");
+    /// assert_eq!((service.rate, service.slack), (Some(13_333_333), 5532));
+    /// # Ok::<(), Error>(())
+    /// ```
+    pub fn service(&mut self, place: Place) -> Option<Service> {
+        let (code, promise) = self.0.service(place.to_c());
+        (code == sys::QTREE_DONE).then(|| Service::of(promise))
     }
 
     /// What tc shows of it.

@@ -75,3 +75,25 @@ fn what_is_refused_changes_nothing() -> Result<(), Error> {
     assert_eq!(qtree::version().0, 1);
     Ok(())
 }
+
+#[test]
+fn a_class_is_promised_its_part() -> Result<(), Error> {
+    let mut device = Device::open(Settings::default())?;
+    for line in [
+        "tc qdisc add dev wan root handle 2: drr",
+        "tc class add dev wan parent 2: classid 2:1 drr quantum 3000",
+        "tc class add dev wan parent 2: classid 2:2 drr quantum 1500",
+        "tc qdisc add dev wan parent 2:2 handle 3: prio",
+    ] {
+        device.command(line, 0)?;
+    }
+    let service = device
+        .service(Place::Class(2, 2))
+        .expect("a class of a drr");
+    assert_eq!((service.link, service.rate), (None, None));
+    assert_eq!((service.part, service.slack), (333_333_333, 3513));
+    assert_eq!(device.service(Place::Class(3, 1)), None);
+    assert_eq!(device.service(Place::Class(2, 3)), None);
+    assert_eq!(device.service(Place::Root), None);
+    Ok(())
+}

@@ -123,6 +123,16 @@ impl RawDevice {
         (code, row)
     }
 
+    pub(crate) fn service(
+        &mut self,
+        (place, major, minor): (u32, u16, u16),
+    ) -> (u32, sys::Promise) {
+        let mut promise = sys::Promise::default();
+        // SAFETY: the device is open, and `promise` is another place.
+        let code = unsafe { sys::qtree_service(&mut self.0, place, major, minor, &mut promise) };
+        (code, promise)
+    }
+
     /// Also the length of the text, which is written where there is room for it.
     pub(crate) fn show(&mut self, what: u32, text: &mut [u8]) -> (u32, usize) {
         let mut needed = 0;

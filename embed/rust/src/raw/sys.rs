@@ -105,6 +105,15 @@ pub struct Row {
 
 #[repr(C)]
 #[derive(Clone, Copy, Default)]
+pub struct Promise {
+    pub link: u64,
+    pub rate: u64,
+    pub part: u64,
+    pub slack: u64,
+}
+
+#[repr(C)]
+#[derive(Clone, Copy, Default)]
 pub struct Fault {
     pub word: usize,
     pub number: u32,
@@ -148,6 +157,7 @@ layout!(Sent, 24: number 0, port 8, buf 12, len 16, ecn 18);
 layout!(Loss, 72: packet 0, cause 64);
 layout!(Count, 16: packets 0, bytes 8);
 layout!(Row, 96: arrived 0, sent 16, refused 32, dropped 48, queued 64, marked 80);
+layout!(Promise, 32: link 0, rate 8, part 16, slack 24);
 layout!(Fault, 16: word 0, number 8);
 layout!(Event, 80: packet 0, moment 64, kind 72);
 layout!(Layout, 48: device 0, settings 8, packet 16, loss 24, row 32, event 40);
@@ -242,6 +252,13 @@ unsafe extern "C" {
         row: *mut Row,
     ) -> u32;
     pub fn qtree_totals(device: *mut Device, row: *mut Row) -> u32;
+    pub fn qtree_service(
+        device: *mut Device,
+        place: u32,
+        major: u16,
+        minor: u16,
+        promise: *mut Promise,
+    ) -> u32;
     pub fn qtree_show(
         device: *mut Device,
         what: u32,

@@ -1,0 +1,53 @@
+//! What a class is promised.
+ghost use Rattle.std.specs.Prelude.{◌≡◌, ◌≢◌, ◌≤◌};
+ghost use Rattle.qtree_c.specs.Calls.{Calls};
+ghost use Rattle.qtree_c.specs.Promised.{IsPromised};
+ghost use Rattle.qtree_c.specs.Structs.{place_of, IsPlaceOf};
+
+use crate::c_device::CDevice;
+use crate::c_promise::CPromise;
+use crate::codes::{DONE, IS_CLOSED, NOTHING, OUT_OF_RANGE};
+use crate::counters::place_at;
+use q_device::{Device, Place};
+use std::alloc::Global;
+
+/// What the class in a place is promised.
+#[unsafe(no_mangle)]
+pub extern "C" fn qtree_service(
+    alloc: Global,
+    device: &mut CDevice,
+    place: u32,
+    major: u16,
+    minor: u16,
+    promise: &mut CPromise,
+) -> u32
+    ensures promise { IsPlaceOf place major minor → Calls (IsPromised (place_of place major minor) result promise.old promise.new) result device.old.held.device device.new.held.device }
+    ensures out_of_range { result ≢ 42 → IsPlaceOf place major minor }
+    ensures same { device.new.held.device ≡ device.old.held.device }
+    ensures kept { result ≢ 0 → promise.new ≡ promise.old }
+{
+    let Some(place) = place_at(place, major, minor) else {
+        return OUT_OF_RANGE;
+    };
+    let Some(opened) = device.take(alloc) else {
+        return IS_CLOSED;
+    };
+    let code = service_at(&opened, place, promise);
+    device.put(opened);
+    code
+}
+
+/// What the class in this place of an open device is promised.
+fn service_at(device: &Device, place: Place, promise: &mut CPromise) -> u32
+    ensures promise { IsPromised place result promise.old promise.new device.now device.now }
+    ensures kept { result ≢ 0 → promise.new ≡ promise.old }
+    ensures codes { result ≢ 42 }
+{
+    match device.service(place) {
+        Some(service) => {
+            *promise = CPromise::of(&service);
+            DONE
+        }
+        None => NOTHING,
+    }
+}
