@@ -10,6 +10,7 @@ use std::process::Command;
 /// The rows, in the order in which both sides give them.
 const ROWS: [&str; ports::ROWS] = [
     "ports: an offer",
+    "ports: offer_many of 64, for each",
     "ports: a turn of 64, for each",
     "ports: its calls on a device alone",
     "ports: a turn that finds nothing",

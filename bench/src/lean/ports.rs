@@ -83,25 +83,27 @@ impl Intake {
 }
 
 /// How many figures there are.
-pub const ROWS: usize = 10;
+pub const ROWS: usize = 11;
 
-/// The nanoseconds of an offer, of a packet in a turn of 64 and of the same calls on a device alone, of a turn that finds nothing, of an
+/// The nanoseconds of an offer, of a packet of 64 that are offered at once, of a packet in a turn of 64 and of the same calls on a device alone, of a turn that finds nothing, of an
 /// offer into a long ring by one sender and where four offer at once, and of a packet with 1, 4, 16 and 64 senders.
 pub fn timed() -> Option<[f64; ROWS]> {
-    let [offer, turn, idle] = offers_and_turns(4096, 64)?;
+    let [offer, many, turn, idle] = offers_and_turns(4096, 64)?;
     let [alone, at_once] = offers_at_once(65_536, 4)?;
-    Some([offer, turn, calls_of_turns(4096, 64)?, idle, alone, at_once, drive(1)?, drive(4)?, drive(16)?, drive(64)?])
+    Some([offer, many, turn, calls_of_turns(4096, 64)?, idle, alone, at_once, drive(1)?, drive(4)?, drive(16)?, drive(64)?])
 }
 
-/// Fills a ring and takes its packets by turns, so many times over, and then takes as many turns that find nothing as fit the ring.
-fn offers_and_turns(places: usize, stretches: usize) -> Option<[f64; 3]> {
+/// Fills a ring by offers of one and takes its packets by turns, and the same by offers of 64, so many times over; then takes as many
+/// turns that find nothing as fit the ring.
+fn offers_and_turns(places: usize, stretches: usize) -> Option<[f64; 4]> {
     let (device, given) = (device(), packet());
     let (mut sender, receiver) = ring(places);
     let mut intake = Intake {
         rings: vec![receiver],
         next: 0,
     };
-    let (mut offers, mut turns) = (0, 0);
+    let packets = [given; MOST];
+    let (mut offers, mut many, mut turns) = (0, 0, 0);
     for _ in 0..stretches {
         let start = Instant::now();
         if !(0..places).all(|_| sender.offer(&given, 0)) {
@@ -114,7 +116,15 @@ fn offers_and_turns(places: usize, stretches: usize) -> Option<[f64; 3]> {
             sent += intake.turn(&device, 0)?.1.len();
         }
         turns += start.elapsed().as_nanos();
-        if sent != places {
+        let start = Instant::now();
+        if !(0..places / MOST).all(|_| sender.offer_many(&packets, 0) == MOST) {
+            return None;
+        }
+        many += start.elapsed().as_nanos();
+        for _ in 0..places / MOST {
+            sent += intake.turn(&device, 0)?.1.len();
+        }
+        if sent != 2 * places {
             return None;
         }
     }
@@ -124,7 +134,7 @@ fn offers_and_turns(places: usize, stretches: usize) -> Option<[f64; 3]> {
     }
     let idle = start.elapsed().as_nanos() as f64 / places as f64;
     let packets = (places * stretches) as f64;
-    Some([offers as f64 / packets, turns as f64 / packets, idle])
+    Some([offers as f64 / packets, many as f64 / packets, turns as f64 / packets, idle])
 }
 
 /// The calls that those turns make on a device, of packets in a list.

@@ -81,6 +81,33 @@ impl Sender {
         shared.placed.0.store(self.placed, Ordering::Release);
         true
     }
+
+    /// How many of the packets were placed, from the first on, as by [`Sender::offer`]: all show at once.
+    #[inline(always)]
+    pub fn offer_many(&mut self, packets: &[Packet], port: u32) -> usize {
+        let shared = &*self.shared;
+        let places = shared.slots.len();
+        if places - (self.placed - self.received) < packets.len() {
+            self.received = shared.received.0.load(Ordering::Acquire);
+        }
+        let room = places - (self.placed - self.received);
+        let count = room.min(packets.len());
+        for packet in &packets[..count] {
+            let slot = shared.slots[self.placed % places].get();
+            self.placed += 1;
+            let number = self.placed as u64;
+            // SAFETY: the receiver has received what was in the slot.
+            unsafe {
+                (*slot).write(Packet {
+                    port,
+                    number,
+                    ..*packet
+                })
+            };
+        }
+        shared.placed.0.store(self.placed, Ordering::Release);
+        count
+    }
 }
 
 impl Receiver {

@@ -1,10 +1,10 @@
-//! Times the ports for the benchmark in `bench/`: given the word `times`, it prints ten lines, each with a number of nanoseconds,
+//! Times the ports for the benchmark in `bench/`: given the word `times`, it prints eleven lines, each with a number of nanoseconds,
 //! and of packets or turns; else it does nothing.
 //!
-//! They are those of an offer, of a turn of 64, of the same calls on a device alone, of a turn that finds nothing, of one sender that
-//! fills a long ring and of four at once, and of `drive` with 1, 4, 16 and 64 senders, all into a root pfifo. A static library may not wait, so that these are timed here, and not
-//! beside the other workloads (`q_bench`). The time is 0 where memory or a thread was refused, a packet did not arrive, or the
-//! clock could not be read.
+//! They are those of an offer, of a packet of 64 that are offered at once, of a turn of 64, of the same calls on a device alone, of a
+//! turn that finds nothing, of one sender that fills a long ring and of four at once, and of `drive` with 1, 4, 16 and 64 senders, all
+//! into a root pfifo. A static library may not wait, so that these are timed here, and not beside the other workloads (`q_bench`). The
+//! time is 0 where memory or a thread was refused, a packet did not arrive, or the clock could not be read.
 //!
 //! - [`one_port`]: offers and turns on one thread.
 //! - [`device_alone`]: the calls of those turns.
@@ -46,6 +46,7 @@ fn main(rt: HostRuntime) -> io::Result<()> {
     };
     let spans = offers_and_turns(&rt, alloc, given);
     println!(rt; "{} {}", spans.offers, one_port::PACKETS)?;
+    println!(rt; "{} {}", spans.offers_of_many, one_port::PACKETS)?;
     println!(rt; "{} {}", spans.turns, one_port::PACKETS)?;
     let calls = calls_of_turns(&rt, alloc, given).unwrap_or(0);
     println!(rt; "{calls} {}", one_port::PACKETS)?;

@@ -31,6 +31,8 @@ pub const IDLE_TURNS: usize = 4096;
 pub struct Spans {
     /// Of all offers.
     pub offers: u64,
+    /// Of as many packets that are offered [`MOST`] at once.
+    pub offers_of_many: u64,
     /// Of all turns that take those packets.
     pub turns: u64,
     /// Of the turns that find nothing, each of which publishes to a gauge as every turn does.
@@ -40,11 +42,12 @@ pub struct Spans {
 /// What nothing was timed of.
 pub const NO_SPANS: Spans = Spans {
     offers: 0,
+    offers_of_many: 0,
     turns: 0,
     idle_turns: 0,
 };
 
-/// Times offers into one ring and turns that take them, in stretches, and then turns that find nothing.
+/// Times offers into one ring, of a packet and of many, and turns that take them, in stretches, and then turns that find nothing.
 pub fn offers_and_turns<R: Wait + Clock>(rt: &R, alloc: Global, given: Packet) -> Spans {
     let Some(device) = device(alloc) else {
         return NO_SPANS;
@@ -96,7 +99,14 @@ fn stretches<P: Ledger, B: Ledger, R: Wait + Clock>(
         let Some(turns) = timed_turns(rt, alloc, lock, drain, RING, RING) else {
             return NO_SPANS;
         };
+        let Some(offers_of_many) = timed_offers_of_many(rt, &mut port, given, RING) else {
+            return NO_SPANS;
+        };
+        if take_all(rt, alloc, lock, drain, RING) != RING {
+            return NO_SPANS;
+        }
         spans.offers = spans.offers.saturating_add(offers);
+        spans.offers_of_many = spans.offers_of_many.saturating_add(offers_of_many);
         spans.turns = spans.turns.saturating_add(turns);
     }
     match timed_turns(rt, alloc, lock, drain, IDLE_TURNS * MOST, 0) {
@@ -118,6 +128,23 @@ pub fn timed_offers<C: Clock>(
     let start = Instant::now(clock).ok()?;
     if !offer_all(port, given, count) {
         return None;
+    }
+    span_since(clock, &start)
+}
+
+/// The same of as many packets that are offered [`MOST`] at once.
+fn timed_offers_of_many<C: Clock>(
+    clock: &C,
+    port: &mut Port,
+    given: Packet,
+    count: usize,
+) -> Option<u64> {
+    let packets = [given; MOST];
+    let start = Instant::now(clock).ok()?;
+    for _ in 0..count / MOST {
+        if port.offer_many(&packets) < MOST {
+            return None;
+        }
     }
     span_since(clock, &start)
 }
