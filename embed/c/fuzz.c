@@ -266,6 +266,50 @@ static void promised(qtree_device *device, struct input *input) {
     CHECK(code == QTREE_DONE ? promise.rate <= promise.link && promise.part <= 1000000000 : promise.link == 7 && promise.slack == 7);
 }
 
+/* Qdiscs and classes by their indexes: there are as many as can be asked for in a row, and each is one that the header describes. */
+static void read_nodes(const qtree_device *device, struct input *input) {
+    qtree_node_view node, beside;
+    qtree_class_view class;
+    memset(&node, GUARD, sizeof node);
+    memset(&beside, GUARD, sizeof beside);
+    size_t index = (size_t)take(input, 1) % 16, which = (size_t)take(input, 1) % 8;
+    qtree_code code = qtree_node(device, take(input, 1) % 16 == 0 ? SIZE_MAX : index, &node);
+    CHECK(code == QTREE_DONE || code == QTREE_NOTHING || code == QTREE_IS_CLOSED);
+    if (code == QTREE_DONE) {
+        CHECK(node.kind >= QTREE_PFIFO && node.kind <= QTREE_FQ_CODEL && node.place == (index == 0 ? QTREE_ROOT : QTREE_CLASS));
+        CHECK(node.ecn <= 1 && node.bands <= 16 && (node.handle == 0 || node.handle <= 0xfffe));
+        CHECK(index == 0 || qtree_node(device, index - 1, &beside) == QTREE_DONE);
+    } else {
+        CHECK(memcmp(&node, &beside, sizeof node) == 0);
+    }
+    memset(&class, GUARD, sizeof class);
+    code = qtree_class(device, index, which, &class);
+    CHECK(code == QTREE_DONE || code == QTREE_NOTHING || code == QTREE_IS_CLOSED);
+    if (code == QTREE_DONE) {
+        CHECK(qtree_node(device, index, &node) == QTREE_DONE && class.kind == node.kind && class.major == node.handle);
+        CHECK(class.active <= 1 && (class.active == 1 || class.deficit == 0) && (class.kind == QTREE_DRR) == (class.quantum > 0));
+    }
+}
+
+/* Names, and the sentence of any answer on a line, are written whole or not at all. */
+static void read_words(const uint8_t *line, size_t len, struct input *input) {
+    uint8_t text[600];
+    uint32_t what = (uint32_t)take(input, 1) % 4, number = (uint32_t)take(input, take(input, 1) % 8 == 0 ? 4 : 1) % 96;
+    size_t room = (size_t)take(input, 2) % sizeof text, needed = 7;
+    memset(text, GUARD, sizeof text);
+    qtree_code code = qtree_name_of(what, number, text, room, &needed);
+    CHECK((code == QTREE_OUT_OF_RANGE) == (what > QTREE_NAME_KIND));
+    is_lent(code == QTREE_OUT_OF_RANGE ? QTREE_NOTHING : code, text, sizeof text, room, needed);
+    qtree_fault fault = { (size_t)take(input, 1), (uint32_t)take(input, 1) % 9 };
+    memset(text, GUARD, sizeof text);
+    needed = 7;
+    code = qtree_explain(line, len, take(input, 1), number, &fault, text, room, &needed);
+    is_lent(code == QTREE_OUT_OF_RANGE ? QTREE_NOTHING : code, text, sizeof text, room, needed);
+    bool is_fault = number == QTREE_FAULTY && fault.number >= 1 && fault.number <= 6;
+    bool is_refusal = (number >= QTREE_REFUSED_NO_PARENT && number <= QTREE_REFUSED_NO_FILTER) || number == QTREE_MEMORY;
+    CHECK((code == QTREE_OUT_OF_RANGE) == !(is_fault || is_refusal));
+}
+
 static void look(qtree_device *device, struct input *input) {
     qtree_row row;
     qtree_event event;
@@ -285,6 +329,8 @@ static void look(qtree_device *device, struct input *input) {
     for (size_t i = 0; i < count; i++) {
         bytes[i] = (uint8_t)take(input, 1);
     }
+    read_nodes(device, input);
+    read_words(bytes, count, input);
     size_t at = qtree_ip_at(bytes, count);
     CHECK((at == 0 || at == 14 || at == 18 || at == 22) && at <= count);
     code = qtree_hash((uint32_t)take(input, 1), &one);

@@ -7,7 +7,7 @@
 
 #include <string.h>
 
-enum { TEXT = 4000, PLACES = 8, PACKETS = 40, FRAMES = 2 };
+enum { TEXT = 4000, PLACES = 8, PACKETS = 40, FRAMES = 2, NODES = 12 };
 
 /* The allocations that are still granted; none is counted below 0. */
 static long granted = -1;
@@ -52,6 +52,7 @@ struct view {
     qtree_row device, root, classes[3];
     uint8_t text[4][TEXT];
     size_t needed[4];
+    qtree_node_view nodes[NODES];
     uint64_t events, ready;
     size_t recorded;
     qtree_count placed, taken;
@@ -68,6 +69,9 @@ static void look(struct view *view) {
     for (uint32_t what = 0; what < 4; what++) {
         qtree_code shown = qtree_show(&device, what, view->text[what], TEXT, &view->needed[what]);
         CHECK(shown == QTREE_DONE || shown == QTREE_IS_CLOSED);
+    }
+    for (size_t i = 0; i < NODES; i++) {
+        qtree_node(&device, i, &view->nodes[i]);
     }
     *code++ = qtree_events(&device, &view->events, &view->recorded);
     *code++ = qtree_ready_at(&device, &view->ready);
@@ -120,6 +124,15 @@ static qtree_code takes_in_one(const void *given) {
     size_t taken = 7;
     qtree_code code = qtree_take_in(&device, &outlet, 1000, *(const size_t *)given, &taken);
     CHECK(taken == (code == QTREE_DONE ? 1 : 0));
+    return code;
+}
+
+static qtree_code explains(const void *given) {
+    uint8_t text[TEXT];
+    size_t needed = 7;
+    const qtree_fault fault = { 3, QTREE_FAULT_UNKNOWN_WORD };
+    qtree_code code = qtree_explain(given, strlen(given), 1, QTREE_FAULTY, &fault, text, sizeof text, &needed);
+    CHECK(code == QTREE_DONE || needed == 0);
     return code;
 }
 
@@ -261,6 +274,7 @@ int main(void) {
     for (uint32_t what = QTREE_SHOW_QDISCS; what <= QTREE_SHOW_FILTERS; what++) {
         CHECK(insist(shows, &what) == QTREE_DONE);
     }
+    CHECK(insist(explains, "tc qdisc ad dev a root") == QTREE_DONE);
     play_without_memory();
     play_in_room();
     CHECK(insist(commands, "tc qdisc del dev a root") == QTREE_DONE);

@@ -1,6 +1,5 @@
 #include "session.h"
 
-#include "names.h"
 #include "packet_line.h"
 
 #include <inttypes.h>
@@ -9,13 +8,13 @@
 
 static void tell_fault(struct session *session, uint64_t number, qtree_fault fault, struct text *report) {
     session->is_refused = true;
-    text_format(report, "line %" PRIu64 ": fault %" PRIu32 " %s word %zu\n", number, fault.number, fault_name(fault.number),
+    text_format(report, "line %" PRIu64 ": fault %" PRIu32 " %s word %zu\n", number, fault.number, qtree_fault_name(fault.number),
                 fault.word);
 }
 
 static void tell_refusal(struct session *session, uint64_t number, qtree_code code, struct text *report) {
     session->is_refused = true;
-    text_format(report, "line %" PRIu64 ": refused %" PRIu32 " %s\n", number, code, code_name(code));
+    text_format(report, "line %" PRIu64 ": refused %" PRIu32 " %s\n", number, code, qtree_code_name(code));
 }
 
 static void arrive(struct session *session, uint64_t number, qtree_packet *packet, struct text *report) {
@@ -48,7 +47,7 @@ static void reap(struct session *session, struct text *report) {
     do {
         qtree_reap_many(&session->device, losses, sizeof losses / sizeof losses[0], &count);
         for (size_t i = 0; i < count; i++) {
-            text_format(report, "lost %" PRIu64 " %u %s\n", losses[i].packet.number, losses[i].packet.len, code_name(losses[i].cause));
+            text_format(report, "lost %" PRIu64 " %u %s\n", losses[i].packet.number, losses[i].packet.len, qtree_code_name(losses[i].cause));
         }
     } while (count > 0);
 }

@@ -34,12 +34,12 @@ static void sizes(void) {
     static const size_t bytes[] = {
         sizeof(qtree_device), sizeof(qtree_settings), sizeof(qtree_packet), sizeof(qtree_loss),   sizeof(qtree_row),    sizeof(qtree_event),
         sizeof(qtree_fault),  sizeof(qtree_count),    sizeof(qtree_port),   sizeof(qtree_outlet), sizeof(qtree_layout),
-        sizeof(qtree_sent),   sizeof(qtree_promise),
+        sizeof(qtree_sent),   sizeof(qtree_promise), sizeof(qtree_node_view), sizeof(qtree_class_view),
     };
-    for (uint32_t what = QTREE_TYPE_DEVICE; what <= QTREE_TYPE_PROMISE; what++) {
+    for (uint32_t what = QTREE_TYPE_DEVICE; what <= QTREE_TYPE_CLASS_VIEW; what++) {
         CHECK(qtree_size_of(what) == bytes[what]);
     }
-    CHECK(qtree_size_of(QTREE_TYPE_PROMISE + 1) == 0 && qtree_size_of(UINT32_MAX) == 0);
+    CHECK(qtree_size_of(QTREE_TYPE_CLASS_VIEW + 1) == 0 && qtree_size_of(UINT32_MAX) == 0);
     qtree_fault fault;
     qtree_sample_fault(&fault);
     CHECK(fault.word == 1 && fault.number == 2);
@@ -367,8 +367,105 @@ static void services(void) {
     qtree_close(&device);
 }
 
+/* A tree with each kind of qdisc, as numbers. */
+static void nodes(void) {
+    qtree_device device = QTREE_CLOSED;
+    qtree_node_view node = { .limit = 7 };
+    qtree_class_view class = { .quantum = 7 };
+    qtree_packet packet = { .len = 600 };
+    CHECK(qtree_node(&device, 0, &node) == QTREE_IS_CLOSED && qtree_class(&device, 0, 0, &class) == QTREE_IS_CLOSED);
+    CHECK(node.limit == 7 && class.quantum == 7);
+    CHECK(qtree_open(&device, &(qtree_settings){ 30, 0, 1514 }) == QTREE_DONE);
+    CHECK(qtree_node(&device, 0, &node) == QTREE_DONE && node.kind == QTREE_PFIFO && node.limit == 30 && node.handle == 0);
+    CHECK(node.place == QTREE_ROOT && node.parent_major == 0 && node.parent_minor == 0 && node.row.arrived.packets == 0);
+    CHECK(qtree_class(&device, 0, 0, &class) == QTREE_NOTHING && class.quantum == 7);
+    CHECK(tc(&device, "tc qdisc add dev a root handle 1: prio bands 3 priomap 1 2 2 2 1 2 0 0 1 1 1 1 1 1 1 2\n") == QTREE_DONE);
+    CHECK(tc(&device, "tc qdisc add dev a parent 1:1 handle 2: tbf rate 8mbit burst 2000 latency 50ms") == QTREE_DONE);
+    CHECK(tc(&device, "tc qdisc add dev a parent 1:2 handle ff: drr") == QTREE_DONE);
+    CHECK(tc(&device, "tc class add dev a parent ff: classid ff:10 drr quantum 1500") == QTREE_DONE);
+    CHECK(tc(&device, "tc class add dev a parent ff: classid ff:2 drr quantum 700") == QTREE_DONE);
+    CHECK(tc(&device, "tc filter add dev a parent ff: prio 1 flower ip_proto udp classid ff:10") == QTREE_DONE);
+    CHECK(tc(&device, "tc qdisc add dev a parent ff:10 handle 5: fq_codel limit 90 flows 8 quantum 300 target 2ms interval 40ms noecn "
+                      "drop_batch 3") == QTREE_DONE);
+    CHECK(tc(&device, "tc qdisc add dev a parent 1:3 handle 4: bfifo limit 5000") == QTREE_DONE);
+    packet.family = 4;
+    packet.proto = 17;
+    CHECK(qtree_arrive(&device, &packet, 0) == QTREE_DONE);
+    static const struct {
+        uint32_t kind;
+        uint16_t handle, major, minor;
+        uint64_t packets;
+    } wanted[] = { { QTREE_PRIO, 1, 0, 0, 1 },     { QTREE_TBF, 2, 1, 1, 0 },        { QTREE_BFIFO, 0, 2, 1, 0 },
+                   { QTREE_DRR, 0xff, 1, 2, 1 },   { QTREE_FQ_CODEL, 5, 0xff, 0x10, 1 }, { QTREE_PFIFO, 0, 0xff, 2, 0 },
+                   { QTREE_BFIFO, 4, 1, 3, 0 } };
+    qtree_node_view all[7];
+    for (size_t i = 0; i < 7; i++) {
+        CHECK(qtree_node(&device, i, &all[i]) == QTREE_DONE && all[i].kind == wanted[i].kind && all[i].handle == wanted[i].handle);
+        CHECK(all[i].place == (i == 0 ? QTREE_ROOT : QTREE_CLASS) && all[i].row.queued.packets == wanted[i].packets);
+        CHECK(all[i].parent_major == wanted[i].major && all[i].parent_minor == wanted[i].minor);
+    }
+    CHECK(qtree_node(&device, 7, &node) == QTREE_NOTHING && qtree_node(&device, SIZE_MAX, &node) == QTREE_NOTHING && node.limit == 30);
+    CHECK(all[0].bands == 3 && all[0].priomap[0] == 1 && all[0].priomap[6] == 0 && all[0].priomap[15] == 2 && all[1].priomap[0] == 0);
+    CHECK(all[1].rate == 8000000 && all[1].burst == 2000 && all[1].limit == 52000 && all[0].rate == 0);
+    CHECK(all[4].limit == 90 && all[4].flows == 8 && all[4].quantum == 300 && all[4].target == 2000000 && all[4].interval == 40000000);
+    CHECK(all[4].ecn == 0 && all[4].drop_batch == 3 && all[4].mtu == 1514 && all[3].mtu == 0 && all[6].limit == 5000);
+    CHECK(qtree_class(&device, 0, 2, &class) == QTREE_DONE && class.kind == QTREE_PRIO && class.major == 1 && class.minor == 3);
+    CHECK(class.quantum == 0 && class.active == 0 && qtree_class(&device, 0, 3, &class) == QTREE_NOTHING);
+    CHECK(qtree_class(&device, 1, 0, &class) == QTREE_DONE && class.kind == QTREE_TBF && class.major == 2 && class.minor == 1);
+    CHECK(qtree_class(&device, 3, 0, &class) == QTREE_DONE && class.kind == QTREE_DRR && class.major == 0xff && class.minor == 0x10);
+    CHECK(class.quantum == 1500 && class.active == 1 && class.deficit == 1500);
+    CHECK(qtree_class(&device, 3, 1, &class) == QTREE_DONE && class.quantum == 700 && class.active == 0 && class.deficit == 0);
+    CHECK(qtree_class(&device, 3, 2, &class) == QTREE_NOTHING && qtree_class(&device, 7, 0, &class) == QTREE_NOTHING);
+    qtree_close(&device);
+}
+
+/* The names of the header are those of the library. */
+static void names(void) {
+    static const char *(*const forms[])(uint32_t) = { qtree_code_name, qtree_fault_name, qtree_kind_name };
+    uint8_t text[20];
+    size_t needed = 7;
+    for (uint32_t what = QTREE_NAME_CODE; what <= QTREE_NAME_KIND; what++) {
+        for (uint32_t number = 0; number < 300; number++) {
+            uint32_t asked = number < 299 ? number : UINT32_MAX;
+            CHECK(qtree_name_of(what, asked, text, sizeof text, &needed) == QTREE_DONE && same(text, needed, forms[what](asked)));
+        }
+    }
+    CHECK(strcmp(qtree_code_name(QTREE_LOST_CODEL), "CoDel") == 0 && strcmp(qtree_code_name(QTREE_REFUSED_BUSY), "Busy") == 0);
+    CHECK(strcmp(qtree_fault_name(0), "Unknown") == 0 && strcmp(qtree_code_name(7), "Unknown") == 0);
+    CHECK(qtree_name_of(QTREE_NAME_CODE, 0, NULL, 0, &needed) == QTREE_ROOM && needed == 4);
+    CHECK(qtree_name_of(3, 0, text, sizeof text, &needed) == QTREE_OUT_OF_RANGE && needed == 0);
+}
+
+/* Why a line was not done, in words. */
+static void explained(void) {
+    static const char line[] = "tc qdisc add dev a root handle 1: pfifo limt 9\n";
+    static const char wanted[] = "line 5: tc qdisc add dev a root handle 1: pfifo limt 9\n"
+                                 "                                                ^^^^\n";
+    qtree_device device = QTREE_CLOSED;
+    qtree_fault fault = { 9, 9 };
+    uint8_t text[600] = { 9 };
+    size_t needed = 7;
+    CHECK(qtree_open(&device, &(qtree_settings){ 30, 0, 1514 }) == QTREE_DONE);
+    CHECK(qtree_command(&device, (const uint8_t *)line, strlen(line), 0, &fault) == QTREE_FAULTY);
+    CHECK(fault.number == QTREE_FAULT_UNKNOWN_WORD && fault.word == 10);
+    const uint8_t *bytes = (const uint8_t *)line;
+    CHECK(qtree_explain(bytes, strlen(line), 5, QTREE_FAULTY, &fault, text, 9, &needed) == QTREE_ROOM && needed > 100 && text[0] == 9);
+    CHECK(qtree_explain(bytes, strlen(line), 5, QTREE_FAULTY, &fault, text, sizeof text, &needed) == QTREE_DONE);
+    CHECK(needed > strlen(wanted) && memcmp(text, wanted, strlen(wanted)) == 0 && text[needed - 1] == '\n');
+    CHECK(qtree_explain(bytes, strlen(line), 5, QTREE_REFUSED_EXISTS, &fault, text, sizeof text, &needed) == QTREE_DONE && needed > 100);
+    fault.number = 7;
+    CHECK(qtree_explain(bytes, strlen(line), 5, QTREE_FAULTY, &fault, text, sizeof text, &needed) == QTREE_OUT_OF_RANGE && needed == 0);
+    CHECK(qtree_explain(bytes, strlen(line), 5, QTREE_DONE, &fault, text, sizeof text, &needed) == QTREE_OUT_OF_RANGE && needed == 0);
+    CHECK(tc(&device, "\n") == QTREE_NO_COMMAND && tc(&device, "tc qdisc add dev a root handle 1: drr\n") == QTREE_DONE);
+    CHECK(tc(&device, "tc qdisc del dev a root\n\n") == QTREE_FAULTY && tc(&device, "tc qdisc del dev a root\n") == QTREE_DONE);
+    qtree_close(&device);
+}
+
 int main(void) {
     layout();
+    nodes();
+    names();
+    explained();
     recorders();
     bursts();
     sizes();

@@ -7,7 +7,7 @@
  *     Where a length is 0 its pointer may be null. A bool is false or true.
  *   - A qtree_device, a qtree_port and a qtree_outlet are read and written by these functions alone. Each may be moved (copied, the
  *     old one never used again), but of two copies of an open one only one may be used. It is closed before its memory is let go.
- *   - One call at a time uses a qtree_device, a qtree_port or a qtree_outlet, calls that only read too. Each may go from one thread
+ *   - One call at a time uses a qtree_device, a qtree_port or a qtree_outlet, one that takes a const one too. Each may go from one thread
  *     to another, where a lock, a thread's start or join, or a sequentially consistent atomic orders the calls. Devices are
  *     independent of each other. So are the two ends of a ring: one thread may use the port while another uses the outlet. A port
  *     belongs to one sender, and needs no lock; an outlet is used where its device is, under the lock that guards the device.
@@ -181,8 +181,8 @@ qtree_code qtree_open(qtree_device *device, const qtree_settings *settings);
 /* Closes the device and frees its memory. What is queued is discarded, and is no loss. Nothing happens to a closed one. */
 void qtree_close(qtree_device *device);
 
-/* Does what one line of tc asks for, as "tc qdisc add dev eth0 root handle 1: drr", of so many bytes without the newline. What it
- * removes is lost, and waits to be reaped. The name of the device in the line means nothing. docs/LANGUAGE.md has the lines. fault
+/* Does what one line of tc asks for, as "tc qdisc add dev eth0 root handle 1: drr", of so many bytes, with a newline at its end or
+ * none. What it removes is lost, and waits to be reaped. The name of the device in the line means nothing. docs/LANGUAGE.md has the lines. fault
  * is written for QTREE_FAULTY alone. A line of another kind, a show line too, changes nothing (QTREE_NO_COMMAND).
  * QTREE_DONE, QTREE_REFUSED_.., QTREE_FAULTY, QTREE_NO_COMMAND, QTREE_OUT_OF_RANGE, QTREE_IS_CLOSED, QTREE_MEMORY. */
 qtree_code qtree_command(qtree_device *device, const uint8_t *line, size_t line_len, uint64_t now, qtree_fault *fault);
@@ -253,7 +253,7 @@ qtree_code qtree_poll_bufs(qtree_device *device, uint64_t now, qtree_sent *sent,
  * gives, or which class a drr serves, is not known before it is asked. The next qtree_ready_at then gives a later time. QTREE_NOTHING where no poll ever will:
  * nothing is queued, or no token bucket will ever hold enough.
  * QTREE_DONE, QTREE_NOTHING, QTREE_IS_CLOSED. */
-qtree_code qtree_ready_at(qtree_device *device, uint64_t *moment);
+qtree_code qtree_ready_at(const qtree_device *device, uint64_t *moment);
 
 /* Returns the oldest loss that was not returned yet. A program that needs no losses reaps too: those that wait keep memory.
  * QTREE_DONE, QTREE_NOTHING, QTREE_IS_CLOSED. */
@@ -264,13 +264,13 @@ qtree_code qtree_reap(qtree_device *device, qtree_loss *loss);
 qtree_code qtree_reap_many(qtree_device *device, qtree_loss *losses, size_t room, size_t *count);
 
 /* What was counted at a node: the device itself, its root, or what stands in the class major:minor, 1 to 0xfffe and 1 to 0xffff.
- * major and minor are read for a class alone.
+ * major and minor are read for a class alone. In lines of tc they are hexadecimal: class 1:10 is 1 and 0x10.
  * QTREE_DONE, QTREE_NOTHING, QTREE_OUT_OF_RANGE, QTREE_IS_CLOSED. */
 enum { QTREE_TOP = 0, QTREE_ROOT = 1, QTREE_CLASS = 2 };
-qtree_code qtree_stats(qtree_device *device, uint32_t place, uint16_t major, uint16_t minor, qtree_row *row);
+qtree_code qtree_stats(const qtree_device *device, uint32_t place, uint16_t major, uint16_t minor, qtree_row *row);
 
 /* What the device itself counted. QTREE_DONE, QTREE_IS_CLOSED. */
-qtree_code qtree_totals(qtree_device *device, qtree_row *row);
+qtree_code qtree_totals(const qtree_device *device, qtree_row *row);
 
 /* What a class of a drr is promised while something is queued in it, whatever comes to other classes. In any t nanoseconds between two
  * times at which a poll gives nothing it sends more than rate * t / (8 * 10^9) - slack bytes, if the program polls until no packet
@@ -288,13 +288,57 @@ typedef struct qtree_promise {
  * other than drrs stands between it and the root, a tbf at the root apart; or where that tbf has another beneath it, or a burst
  * without room for a packet of the mtu and what its rate brings in a nanosecond.
  * QTREE_DONE, QTREE_NOTHING, QTREE_OUT_OF_RANGE, QTREE_IS_CLOSED. */
-qtree_code qtree_service(qtree_device *device, uint32_t place, uint16_t major, uint16_t minor, qtree_promise *promise);
+qtree_code qtree_service(const qtree_device *device, uint32_t place, uint16_t major, uint16_t minor, qtree_promise *promise);
 
 /* What `tc qdisc show`, `tc -s qdisc show`, `tc class show` and `tc filter show` print, of which needed is the length in bytes; no
  * zero byte ends it. Nothing is written where room is less than that (QTREE_ROOM); so a call with room 0 asks for the length.
  * QTREE_DONE, QTREE_ROOM, QTREE_OUT_OF_RANGE, QTREE_IS_CLOSED, QTREE_MEMORY. */
 enum { QTREE_SHOW_QDISCS = 0, QTREE_SHOW_COUNTERS = 1, QTREE_SHOW_CLASSES = 2, QTREE_SHOW_FILTERS = 3 };
-qtree_code qtree_show(qtree_device *device, uint32_t what, uint8_t *text, size_t room, size_t *needed);
+qtree_code qtree_show(const qtree_device *device, uint32_t what, uint8_t *text, size_t room, size_t *needed);
+
+/* A qdisc: its kind, where it stands, what it counted and how it is set. What its kind lacks is 0. */
+enum { QTREE_PFIFO = 1, QTREE_BFIFO = 2, QTREE_PRIO = 3, QTREE_TBF = 4, QTREE_DRR = 5, QTREE_FQ_CODEL = 6 };
+typedef struct qtree_node_view {
+    qtree_row row;
+    uint64_t limit;        /* of a pfifo or an fq_codel in packets, of a bfifo or a tbf in bytes */
+    uint64_t rate;         /* a tbf's, in bits a second */
+    uint64_t target;       /* an fq_codel's, in nanoseconds */
+    uint64_t interval;     /* an fq_codel's, in nanoseconds */
+    uint32_t burst;        /* a tbf's, in bytes */
+    uint32_t flows;        /* an fq_codel's */
+    uint32_t quantum;      /* an fq_codel's, in bytes */
+    uint32_t drop_batch;   /* an fq_codel's, in packets */
+    uint32_t kind;         /* QTREE_PFIFO to QTREE_FQ_CODEL */
+    uint32_t place;        /* QTREE_ROOT or QTREE_CLASS */
+    uint16_t handle;       /* its major number; 0 of a leaf that no line added */
+    uint16_t parent_major; /* the class in which it stands; 0 at the root */
+    uint16_t parent_minor;
+    uint16_t mtu;          /* an fq_codel's: with so many bytes or fewer queued, CoDel drops nothing */
+    uint8_t ecn;           /* an fq_codel's: 1 where CoDel marks, else 0 */
+    uint8_t bands;         /* a prio's */
+    uint8_t priomap[16];   /* a prio's: the band of each priority, from 0 */
+} qtree_node_view;
+
+/* The index-th qdisc, counted from 0, in the order of `tc qdisc show`: each stands before those beneath it. QTREE_NOTHING past the
+ * last. Indexes change with commands alone.
+ * QTREE_DONE, QTREE_NOTHING, QTREE_IS_CLOSED. */
+qtree_code qtree_node(const qtree_device *device, size_t index, qtree_node_view *view);
+
+/* A class major:minor of a prio, a tbf or a drr, which is its kind. One of a drr has a quantum, and where it is active, so that
+ * packets wait there, a deficit: what it may send before the next quantum. Both are in bytes. */
+typedef struct qtree_class_view {
+    uint64_t deficit;
+    uint32_t quantum;
+    uint32_t kind;
+    uint16_t major;
+    uint16_t minor;
+    uint8_t active; /* 1 or 0 */
+} qtree_class_view;
+
+/* The which-th class, counted from 0, of the index-th qdisc, in the order of `tc class show`. QTREE_NOTHING past the last class or
+ * qdisc. Only a qdisc with a handle has classes. What stands in a class, qtree_stats reads, and qtree_node tells by its parent.
+ * QTREE_DONE, QTREE_NOTHING, QTREE_IS_CLOSED. */
+qtree_code qtree_class(const qtree_device *device, size_t index, size_t which, qtree_class_view *view);
 
 /* Opens both ends of a ring of so many places, 1 to 65536, in closed ones. index is written into packets as their port.
  * QTREE_DONE, QTREE_OUT_OF_RANGE, QTREE_IS_OPEN, QTREE_MEMORY. */
@@ -313,8 +357,8 @@ qtree_code qtree_offer(qtree_port *port, const qtree_packet *packet);
 qtree_code qtree_take_in(qtree_device *device, qtree_outlet *outlet, uint64_t now, size_t most, size_t *taken);
 
 /* The packets and bytes that were placed by a port so far; those that were taken in of an outlet. QTREE_DONE, QTREE_IS_CLOSED. */
-qtree_code qtree_port_share(qtree_port *port, qtree_count *share);
-qtree_code qtree_outlet_share(qtree_outlet *outlet, qtree_count *share);
+qtree_code qtree_port_share(const qtree_port *port, qtree_count *share);
+qtree_code qtree_outlet_share(const qtree_outlet *outlet, qtree_count *share);
 
 /* Closes one end, either first; nothing happens to a closed one. Behind a closed port what was placed is still taken in. What is in
  * the ring of a closed outlet is discarded, and is no loss; its port's offers go on until the ring is full. The ring's memory is freed
@@ -324,7 +368,7 @@ void qtree_outlet_close(qtree_outlet *outlet);
 
 /* The number of arrivals, polls and commands that happened, and of those that the recorder has, which are the first of them.
  * QTREE_DONE, QTREE_IS_CLOSED. */
-qtree_code qtree_events(qtree_device *device, uint64_t *events, size_t *recorded);
+qtree_code qtree_events(const qtree_device *device, uint64_t *events, size_t *recorded);
 
 /* The index-th recorded event, counted from 0, with the time at which it counted; packet is that of an arrival, else all 0.
  * QTREE_DONE, QTREE_NOTHING, QTREE_IS_CLOSED. */
@@ -334,19 +378,68 @@ typedef struct qtree_event {
     uint64_t moment;
     uint32_t kind;
 } qtree_event;
-qtree_code qtree_recorded(qtree_device *device, size_t index, qtree_event *event);
+qtree_code qtree_recorded(const qtree_device *device, size_t index, qtree_event *event);
 
 /* The line of a script that the index-th recorded event is, as "poll 1", of which needed is the length in bytes; no newline and no
  * zero byte ends it, and it has 1024 bytes at most. That of a command is a line of tc, for a device named eth0. Of a packet it lacks
  * port, number and buf, and the addresses of one that is not IP. Nothing is written where room is less than needed (QTREE_ROOM).
  * QTREE_DONE, QTREE_NOTHING, QTREE_ROOM, QTREE_IS_CLOSED. */
-qtree_code qtree_recorded_line(qtree_device *device, size_t index, uint8_t *text, size_t room, size_t *needed);
+qtree_code qtree_recorded_line(const qtree_device *device, size_t index, uint8_t *text, size_t room, size_t *needed);
 
 /* The script of all recorded events: these lines in order, and lines that set the time, each with a newline behind it. `qtree play`
  * with the device's mtu and txqueuelen does with it what the device did. Its packets are numbered from 1 in the order of their
  * arrivals, with port 0 and their number as buf. It allocates room for the text, which grows by doubling, and frees it.
  * QTREE_DONE, QTREE_ROOM, QTREE_IS_CLOSED, QTREE_MEMORY. */
-qtree_code qtree_recorded_script(qtree_device *device, uint8_t *text, size_t room, size_t *needed);
+qtree_code qtree_recorded_script(const qtree_device *device, uint8_t *text, size_t room, size_t *needed);
+
+/* The names of answers (causes and refusals as reports write them), of faults of lines, and of kinds of qdiscs. They are static, and
+ * those of unknown numbers are "Unknown" and "unknown". */
+static inline const char *qtree_code_name(qtree_code code) {
+    switch (code) {
+    case QTREE_DONE: return "Done"; case QTREE_LOST_TOO_LONG: return "TooLong"; case QTREE_LOST_NO_CLASS: return "NoClass";
+    case QTREE_LOST_OVER_LIMIT: return "OverLimit"; case QTREE_LOST_CODEL: return "CoDel"; case QTREE_LOST_FAT_FLOW: return "FatFlow";
+    case QTREE_LOST_PURGED: return "Purged"; case QTREE_REFUSED_NO_PARENT: return "NoParent";
+    case QTREE_REFUSED_EXISTS: return "Exists"; case QTREE_REFUSED_NO_QDISC: return "NoQdisc";
+    case QTREE_REFUSED_HANDLE_TAKEN: return "HandleTaken"; case QTREE_REFUSED_NOT_CLASSFUL: return "NotClassful";
+    case QTREE_REFUSED_NO_CLASS: return "NoClass"; case QTREE_REFUSED_BUSY: return "Busy";
+    case QTREE_REFUSED_CANNOT_CHANGE: return "CannotChange"; case QTREE_REFUSED_TOO_DEEP: return "TooDeep";
+    case QTREE_REFUSED_TOO_MANY: return "TooMany"; case QTREE_REFUSED_SMALL_BURST: return "SmallBurst";
+    case QTREE_REFUSED_NO_FILTER: return "NoFilter"; case QTREE_IDLE: return "Idle"; case QTREE_LATER: return "Later";
+    case QTREE_NOTHING: return "Nothing"; case QTREE_FULL: return "Full"; case QTREE_FAULTY: return "Faulty";
+    case QTREE_NO_COMMAND: return "NoCommand"; case QTREE_OUT_OF_RANGE: return "OutOfRange"; case QTREE_ROOM: return "Room";
+    case QTREE_IS_CLOSED: return "IsClosed"; case QTREE_IS_OPEN: return "IsOpen"; case QTREE_MEMORY: return "Memory";
+    default: return "Unknown";
+    }
+}
+
+static inline const char *qtree_fault_name(uint32_t number) {
+    switch (number) {
+    case QTREE_FAULT_UNKNOWN_WORD: return "UnknownWord"; case QTREE_FAULT_MISSING: return "Missing";
+    case QTREE_FAULT_BAD_NUMBER: return "BadNumber"; case QTREE_FAULT_OUT_OF_RANGE: return "OutOfRange";
+    case QTREE_FAULT_TWICE: return "Twice"; case QTREE_FAULT_BAD_UTF8: return "BadUtf8";
+    default: return "Unknown";
+    }
+}
+
+static inline const char *qtree_kind_name(uint32_t kind) {
+    switch (kind) {
+    case QTREE_PFIFO: return "pfifo"; case QTREE_BFIFO: return "bfifo"; case QTREE_PRIO: return "prio"; case QTREE_TBF: return "tbf";
+    case QTREE_DRR: return "drr"; case QTREE_FQ_CODEL: return "fq_codel";
+    default: return "unknown";
+    }
+}
+
+/* The same names for a program in another language, as texts of the library: needed is the length in bytes, and no zero byte ends it.
+ * QTREE_DONE, QTREE_ROOM, QTREE_OUT_OF_RANGE (what). */
+enum { QTREE_NAME_CODE = 0, QTREE_NAME_FAULT = 1, QTREE_NAME_KIND = 2 };
+qtree_code qtree_name_of(uint32_t what, uint32_t number, uint8_t *text, size_t room, size_t *needed);
+
+/* What `qtree play --explain` writes of a line that qtree_command answered by QTREE_REFUSED_.., QTREE_MEMORY or QTREE_FAULTY with this
+ * fault: the line with its number, a mark under the word at which it failed, and a sentence on what to do. Each ends with a newline. The
+ * fault is read for QTREE_FAULTY alone. needed is the length in bytes, and no zero byte ends the text.
+ * QTREE_DONE, QTREE_ROOM, QTREE_OUT_OF_RANGE (another code, or no such fault), QTREE_MEMORY. */
+qtree_code qtree_explain(const uint8_t *line, size_t line_len, uint64_t number, qtree_code code, const qtree_fault *fault, uint8_t *text,
+                         size_t room, size_t *needed);
 
 /* For a test that this header and the library agree: the bytes of each struct, and structs whose fields are 1, 2, 3 .. in the
  * order of their declarations, those of a struct in a struct too. */
@@ -376,7 +469,9 @@ enum {
     QTREE_TYPE_OUTLET = 9,
     QTREE_TYPE_LAYOUT = 10,
     QTREE_TYPE_SENT = 11,
-    QTREE_TYPE_PROMISE = 12
+    QTREE_TYPE_PROMISE = 12,
+    QTREE_TYPE_NODE_VIEW = 13,
+    QTREE_TYPE_CLASS_VIEW = 14
 };
 size_t qtree_size_of(uint32_t what);
 

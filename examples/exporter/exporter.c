@@ -3,7 +3,6 @@
  *     exporter DEVICE <FILE                plays the lines of a file, goes on for ten seconds of its own clock, and writes the text
  *     exporter DEVICE --listen PORT <FILE  goes on with the time of the system, and answers GET /metrics on 127.0.0.1 */
 #include "metrics.h"
-#include "names.h"
 
 #include <arpa/inet.h>
 #include <pthread.h>
@@ -44,7 +43,7 @@ static bool set_up(struct exporter *exporter, FILE *file) {
         }
         qtree_code code = qtree_command(&exporter->device, (const uint8_t *)line, strlen(line), 0, &fault);
         if (code != QTREE_DONE) {
-            fprintf(stderr, "exporter: %s: %s\n", code == QTREE_FAULTY ? fault_name(fault.number) : code_name(code), line);
+            fprintf(stderr, "exporter: %s: %s\n", code == QTREE_FAULTY ? qtree_fault_name(fault.number) : qtree_code_name(code), line);
             return false;
         }
     }

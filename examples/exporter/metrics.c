@@ -1,5 +1,4 @@
 #include "metrics.h"
-#include "names.h"
 
 #include <inttypes.h>
 
@@ -44,9 +43,9 @@ static uint64_t count_of(const qtree_row *row, size_t at, bool in_bytes) {
     return in_bytes ? count->bytes : count->packets;
 }
 
-static void write_qdisc(FILE *file, const struct qdisc *qdisc) {
-    fprintf(file, ",kind=\"%s\",handle=\"%" PRIx16 ":\",parent=\"", qdisc->kind, qdisc->handle);
-    if (qdisc->is_root) {
+static void write_qdisc(FILE *file, const qtree_node_view *qdisc) {
+    fprintf(file, ",kind=\"%s\",handle=\"%" PRIx16 ":\",parent=\"", qtree_kind_name(qdisc->kind), qdisc->handle);
+    if (qdisc->place == QTREE_ROOT) {
         fputs("root\"}", file);
     } else {
         fprintf(file, "%" PRIx16 ":%" PRIx16 "\"}", qdisc->parent_major, qdisc->parent_minor);
@@ -72,12 +71,12 @@ static void write_losses(FILE *file, const char *device, const struct losses *lo
     write_head(file, "qtree_lost_packets_total", "counter", "Packets that were reaped, by cause", "");
     for (uint32_t cause = QTREE_LOST_TOO_LONG; cause <= QTREE_LOST_PURGED; cause++) {
         write_begin(file, "qtree_lost_packets_total", device);
-        fprintf(file, ",cause=\"%s\"} %" PRIu64 "\n", code_name(cause), losses->by_cause[cause].packets);
+        fprintf(file, ",cause=\"%s\"} %" PRIu64 "\n", qtree_code_name(cause), losses->by_cause[cause].packets);
     }
     write_head(file, "qtree_lost_bytes_total", "counter", "Bytes of packets that were reaped, by cause", "");
     for (uint32_t cause = QTREE_LOST_TOO_LONG; cause <= QTREE_LOST_PURGED; cause++) {
         write_begin(file, "qtree_lost_bytes_total", device);
-        fprintf(file, ",cause=\"%s\"} %" PRIu64 "\n", code_name(cause), losses->by_cause[cause].bytes);
+        fprintf(file, ",cause=\"%s\"} %" PRIu64 "\n", qtree_code_name(cause), losses->by_cause[cause].bytes);
     }
 }
 
@@ -88,8 +87,8 @@ static void write_classes(FILE *file, const char *device, const struct tree *tre
                                          "Whether a class of a drr has packets" };
     write_head(file, names[which], "gauge", helps[which], "");
     for (size_t i = 0; i < tree->class_count; i++) {
-        const struct drr_class *class = &tree->classes[i];
-        const uint64_t numbers[] = { class->quantum, class->deficit, class->is_active };
+        const qtree_class_view *class = &tree->classes[i];
+        const uint64_t numbers[] = { class->quantum, class->deficit, class->active };
         write_begin(file, names[which], device);
         fprintf(file, ",class=\"%" PRIx16 ":%" PRIx16 "\"} %" PRIu64 "\n", class->major, class->minor, numbers[which]);
     }

@@ -6,7 +6,6 @@
  * Beside lines of tc a file has `sum`, `sum root` and `sum MAJOR:MINOR`, which print what all devices counted at a place, and
  * `wait MILLISECONDS`. The status is 0 where every packet is accounted for. */
 #include "fleet.h"
-#include "names.h"
 
 #include <inttypes.h>
 #include <stdio.h>
@@ -49,9 +48,9 @@ static void play_line(struct fleet *fleet, const char *line) {
     qtree_fault fault;
     qtree_code code = fleet_command(fleet, line, &fault);
     if (code == QTREE_FAULTY) {
-        printf("no device: word %zu, %s: %s\n", fault.word, fault_name(fault.number), line);
+        printf("no device: word %zu, %s: %s\n", fault.word, qtree_fault_name(fault.number), line);
     } else if (code != QTREE_DONE) {
-        printf("no device: %s: %s\n", code == QTREE_NO_COMMAND ? "it changes no tree" : code_name(code), line);
+        printf("no device: %s: %s\n", code == QTREE_NO_COMMAND ? "it changes no tree" : qtree_code_name(code), line);
     } else {
         printf("all %zu devices: %s\n", fleet->count, line);
     }
@@ -94,7 +93,7 @@ static bool print_totals(const struct total *total) {
     printf("made %" PRIu64 " sent %" PRIu64, total->account.made, total->account.sent);
     for (uint32_t cause = QTREE_LOST_TOO_LONG; cause <= QTREE_LOST_PURGED; cause++) {
         lost += total->account.lost[cause];
-        printf(" %s %" PRIu64, code_name(cause), total->account.lost[cause]);
+        printf(" %s %" PRIu64, qtree_code_name(cause), total->account.lost[cause]);
     }
     unaccounted -= lost;
     printf(" queued %" PRIu64 " unaccounted %" PRIu64 "\n", total->row.queued.packets, unaccounted);

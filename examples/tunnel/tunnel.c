@@ -6,7 +6,6 @@
  * device. SIGUSR1 prints what `tc -s qdisc show` does, SIGHUP plays the lines of the file that are new or changed, and SIGTERM and
  * SIGINT stop, with a count of what became of every frame. The status is 0 where each is accounted for. */
 
-#include "names.h"
 #include "qtree.h"
 
 #include <errno.h>
@@ -147,7 +146,7 @@ static bool way_totals(struct way *way) {
     printf("%s to %s: arrived %" PRIu64 " sent %" PRIu64, way->from_name, way->to_name, way->arrived, way->written);
     for (uint32_t cause = QTREE_LOST_TOO_LONG; cause <= QTREE_LOST_PURGED; cause++) {
         unaccounted -= way->lost[cause];
-        printf(" %s %" PRIu64, code_name(cause), way->lost[cause]);
+        printf(" %s %" PRIu64, qtree_code_name(cause), way->lost[cause]);
     }
     printf(" refused %" PRIu64 " unwritten %" PRIu64 " queued %" PRIu64 " marked %" PRIu64 " unaccounted %" PRIu64 "\n",
            way->refused, way->unwritten, row.queued.packets, row.marked.packets, unaccounted);
@@ -161,9 +160,9 @@ static bool play_line(struct tunnel *tunnel, const char *line, size_t number) {
         qtree_fault fault;
         qtree_code code = qtree_command(&tunnel->ways[i].device, (const uint8_t *)line, strlen(line), now_ns(), &fault);
         if (code == QTREE_FAULTY) {
-            fprintf(stderr, "tunnel: %s:%zu: word %zu, %s: %s\n", tunnel->file, number, fault.word, fault_name(fault.number), line);
+            fprintf(stderr, "tunnel: %s:%zu: word %zu, %s: %s\n", tunnel->file, number, fault.word, qtree_fault_name(fault.number), line);
         } else if (code != QTREE_DONE) {
-            const char *why = code == QTREE_NO_COMMAND ? "it changes no tree" : code_name(code);
+            const char *why = code == QTREE_NO_COMMAND ? "it changes no tree" : qtree_code_name(code);
             fprintf(stderr, "tunnel: %s:%zu: refused, %s: %s\n", tunnel->file, number, why, line);
         }
         if (code != QTREE_DONE) {

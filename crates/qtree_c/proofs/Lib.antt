@@ -2,9 +2,11 @@ pub mod Arriving
 pub mod Commanding
 pub mod EventLemmas
 pub mod HeldSteps
+pub mod Naming
 pub mod PlaceLemmas
 pub mod PollLemmas
 pub mod Polling
 pub mod Readying
 pub mod Reaping
 pub mod SentPolling
+pub mod Telling

@@ -2,10 +2,14 @@ pub mod Calls
 pub mod Codes
 pub mod Ends
 pub mod Events
+pub mod Explaining
 pub mod Folds
 pub mod Holding
+pub mod Lending
 pub mod Lines
 pub mod Promised
+pub mod Names
+pub mod Nodes
 pub mod Readiness
 pub mod Sample
 pub mod Scripts

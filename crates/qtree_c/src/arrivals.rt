@@ -14,34 +14,25 @@ use crate::codes::{DONE, IS_CLOSED, MEMORY, OUT_OF_RANGE, ROOM};
 use crate::steps;
 use q_device::{Device, Fate};
 use q_packet::Moment;
-use std::alloc::Global;
 
 /// A packet arrives.
 #[unsafe(no_mangle)]
-pub extern "C" fn qtree_arrive(
-    alloc: Global,
-    device: &mut CDevice,
-    packet: &CPacket,
-    now: u64,
-) -> u32
+pub extern "C" fn qtree_arrive(device: &mut CDevice, packet: &CPacket, now: u64) -> u32
     ensures arrival { now ≤ 2 ^ 62 → Calls (IsArrival packet.now now result) result device.old.held.device device.new.held.device }
     ensures moment { 2 ^ 62 < now → (result ≡ 42) × (device.new.held.device ≡ device.old.held.device) }
 {
     let Some(now) = Moment::new(now) else {
         return OUT_OF_RANGE;
     };
-    let Some(mut opened) = device.take(alloc) else {
+    if !device.is_open() {
         return IS_CLOSED;
-    };
-    let code = arrive(&mut opened, packet, now);
-    device.put(opened);
-    code
+    }
+    arrive(device.held.lend(), packet, now)
 }
 
 /// Packets arrive in order at one moment, to the first that is out of its range or for which memory is refused.
 #[unsafe(no_mangle)]
 pub extern "C" fn qtree_arrive_many(
-    alloc: Global,
     device: &mut CDevice,
     packets: &[CPacket],
     codes: &mut [u8],
@@ -63,12 +54,11 @@ pub extern "C" fn qtree_arrive_many(
     if codes.len() < packets.len() {
         return ROOM;
     }
-    let Some(mut opened) = device.take(alloc) else {
+    if !device.is_open() {
         return IS_CLOSED;
-    };
-    let (arrived, code) = arrive_many(&mut opened, packets, codes, now);
+    }
+    let (arrived, code) = arrive_many(device.held.lend(), packets, codes, now);
     *done = arrived;
-    device.put(opened);
     code
 }
 

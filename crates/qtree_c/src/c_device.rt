@@ -13,7 +13,7 @@ use std::mem;
 #[repr(C)]
 #[derive(Drop)]
 pub struct CDevice {
-    held: HeldDevice,
+    pub held: HeldDevice,
     /// 0 where it is closed, else 1.
     state: u64,
     ghost closed: { IsClosed state held.device } by { IsClosed-prop device_row _ _ },

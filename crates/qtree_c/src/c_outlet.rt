@@ -13,7 +13,7 @@ use std::mem;
 #[repr(C)]
 #[derive(Drop)]
 pub struct COutlet {
-    held: HeldOutlet,
+    pub held: HeldOutlet,
     /// 0 where it is closed, else 1.
     state: u64,
     ghost closed: { IsClosed state held.outlet } by { IsClosed-prop outlet_row _ _ },

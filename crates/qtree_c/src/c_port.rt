@@ -13,7 +13,7 @@ use std::mem;
 #[repr(C)]
 #[derive(Drop)]
 pub struct CPort {
-    held: HeldPort,
+    pub held: HeldPort,
     /// 0 where it is closed, else 1.
     state: u64,
     ghost closed: { IsClosed state held.port } by { IsClosed-prop port_row _ _ },

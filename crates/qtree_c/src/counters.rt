@@ -9,12 +9,10 @@ use crate::c_row::CRow;
 use crate::codes::{DONE, IS_CLOSED, NOTHING, OUT_OF_RANGE};
 use q_device::{Device, Place};
 use q_model::{ClassId, Handle, Minor};
-use std::alloc::Global;
 
 /// What the node in a place counted.
 #[unsafe(no_mangle)]
 pub extern "C" fn qtree_stats(
-    alloc: Global,
     device: &mut CDevice,
     place: u32,
     major: u16,
@@ -29,31 +27,30 @@ pub extern "C" fn qtree_stats(
     let Some(place) = place_at(place, major, minor) else {
         return OUT_OF_RANGE;
     };
-    stats_at(alloc, device, place, row)
+    stats_at(device, place, row)
 }
 
 /// What the device itself counted.
 #[unsafe(no_mangle)]
-pub extern "C" fn qtree_totals(alloc: Global, device: &mut CDevice, row: &mut CRow) -> u32
+pub extern "C" fn qtree_totals(device: &mut CDevice, row: &mut CRow) -> u32
     ensures row { Calls (IsRow place.Top result row.old row.new) result device.old.held.device device.new.held.device }
     ensures same { device.new.held.device ≡ device.old.held.device }
     ensures kept { 42 ≤ result → row.new ≡ row.old }
 {
-    stats_at(alloc, device, Place::Top, row)
+    stats_at(device, Place::Top, row)
 }
 
 /// What a node of the device in this place counted.
-fn stats_at(alloc: Global, device: &mut CDevice, place: Place, row: &mut CRow) -> u32
+fn stats_at(device: &mut CDevice, place: Place, row: &mut CRow) -> u32
     ensures row { Calls (IsRow place result row.old row.new) result device.old.held.device device.new.held.device }
     ensures same { device.new.held.device ≡ device.old.held.device }
     ensures kept { 42 ≤ result → row.new ≡ row.old }
     ensures codes { result ≢ 42 }
 {
-    let Some(opened) = device.take(alloc) else {
+    if !device.is_open() {
         return IS_CLOSED;
-    };
-    let counted = opened.stats(place);
-    device.put(opened);
+    }
+    let counted = device.held.lend().stats(place);
     match counted {
         Some(counted) => {
             *row = CRow::of(&counted);

@@ -12,12 +12,10 @@ use crate::codes::{IS_CLOSED, MEMORY, OUT_OF_RANGE};
 use crate::steps;
 use q_device::Device;
 use q_packet::{FlowHash, Head, Moment, OneAtATime, Packet, read_head};
-use std::alloc::Global;
 
 /// A packet arrives that has these first bytes, and this hash of its flow.
 #[unsafe(no_mangle)]
 pub extern "C" fn qtree_arrive_frame(
-    alloc: Global,
     device: &mut CDevice,
     bytes: &[u8],
     len: u16,
@@ -32,18 +30,15 @@ pub extern "C" fn qtree_arrive_frame(
     let Some(now) = Moment::new(now) else {
         return OUT_OF_RANGE;
     };
-    let Some(mut opened) = device.take(alloc) else {
+    if !device.is_open() {
         return IS_CLOSED;
-    };
-    let code = arrive(&mut opened, &read_head(bytes), len, buf, hash, now);
-    device.put(opened);
-    code
+    }
+    arrive(device.held.lend(), &read_head(bytes), len, buf, hash, now)
 }
 
 /// A packet arrives that has these first bytes, whose flow is hashed with this seed.
 #[unsafe(no_mangle)]
 pub extern "C" fn qtree_arrive_frame_seeded(
-    alloc: Global,
     device: &mut CDevice,
     bytes: &[u8],
     len: u16,
@@ -58,14 +53,12 @@ pub extern "C" fn qtree_arrive_frame_seeded(
     let Some(now) = Moment::new(now) else {
         return OUT_OF_RANGE;
     };
-    let Some(mut opened) = device.take(alloc) else {
+    if !device.is_open() {
         return IS_CLOSED;
-    };
+    }
     let head = read_head(bytes);
     let hash = OneAtATime { seed }.hash(&head.key);
-    let code = arrive(&mut opened, &head, len, buf, hash, now);
-    device.put(opened);
-    code
+    arrive(device.held.lend(), &head, len, buf, hash, now)
 }
 
 /// A packet with this head arrives at an open device.

@@ -22,6 +22,9 @@ impl Model for HeldDevice {
 }
 
 impl HeldDevice {
+    ghost use Rattle.std.specs.Borrow.{sem};
+    ghost use Rattle.qtree_c.specs.Lending.{LendsDevice};
+
     /// Nothing.
     pub fn empty() -> HeldDevice
         ensures { result.device ≡ None }
@@ -37,6 +40,17 @@ impl HeldDevice {
     {
         let RawBox { at, alloc: _ } = device;
         HeldDevice { at: at as *mut u8 }
+    }
+
+    /// The device where it stands: the address itself is only read.
+    #[inline(always)]
+    pub fn lend(&mut self) -> &mut Device
+        requires { IsSome self.old.device }
+        ensures* follows { sem 𝓛 (LendsDevice self.entry result) }
+        ensures value { self.old.device ≡ Some result.now }
+    {
+        let at = self.at as *mut Device;
+        unsafe { &mut *at }
     }
 
     /// The box again.

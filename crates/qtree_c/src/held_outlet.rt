@@ -22,6 +22,9 @@ impl Model for HeldOutlet {
 }
 
 impl HeldOutlet {
+    ghost use Rattle.std.specs.Borrow.{sem};
+    ghost use Rattle.qtree_c.specs.Lending.{LendsOutlet};
+
     /// Nothing.
     pub fn empty() -> HeldOutlet
         ensures { result.outlet ≡ None }
@@ -37,6 +40,17 @@ impl HeldOutlet {
     {
         let RawBox { at, alloc: _ } = outlet;
         HeldOutlet { at: at as *mut u8 }
+    }
+
+    /// The outlet where it stands: the address itself is only read.
+    #[inline(always)]
+    pub fn lend(&mut self) -> &mut Outlet
+        requires { IsSome self.old.outlet }
+        ensures* follows { sem 𝓛 (LendsOutlet self.entry result) }
+        ensures value { self.old.outlet ≡ Some result.now }
+    {
+        let at = self.at as *mut Outlet;
+        unsafe { &mut *at }
     }
 
     /// The box again.

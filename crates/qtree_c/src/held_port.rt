@@ -22,6 +22,9 @@ impl Model for HeldPort {
 }
 
 impl HeldPort {
+    ghost use Rattle.std.specs.Borrow.{sem};
+    ghost use Rattle.qtree_c.specs.Lending.{LendsPort};
+
     /// Nothing.
     pub fn empty() -> HeldPort
         ensures { result.port ≡ None }
@@ -37,6 +40,17 @@ impl HeldPort {
     {
         let RawBox { at, alloc: _ } = port;
         HeldPort { at: at as *mut u8 }
+    }
+
+    /// The port where it stands: the address itself is only read.
+    #[inline(always)]
+    pub fn lend(&mut self) -> &mut Port
+        requires { IsSome self.old.port }
+        ensures* follows { sem 𝓛 (LendsPort self.entry result) }
+        ensures value { self.old.port ≡ Some result.now }
+    {
+        let at = self.at as *mut Port;
+        unsafe { &mut *at }
     }
 
     /// The box again.

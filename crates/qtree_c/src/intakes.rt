@@ -9,12 +9,10 @@ use crate::codes::{DONE, IS_CLOSED, MEMORY, OUT_OF_RANGE};
 use q_device::Device;
 use q_packet::Moment;
 use q_ports::Outlet;
-use std::alloc::Global;
 
 /// The first packets of a ring arrive at the device and leave the ring, as many as wait, but at most so many.
 #[unsafe(no_mangle)]
 pub extern "C" fn qtree_take_in(
-    alloc: Global,
     device: &mut CDevice,
     outlet: &mut COutlet,
     now: u64,
@@ -29,32 +27,25 @@ pub extern "C" fn qtree_take_in(
     let Some(now) = Moment::new(now) else {
         return OUT_OF_RANGE;
     };
-    let Some(mut opened) = device.take(alloc) else {
+    if !device.is_open() || !outlet.is_open() {
         return IS_CLOSED;
-    };
-    let Some(mut end) = outlet.take(alloc) else {
-        device.put(opened);
-        return IS_CLOSED;
-    };
-    let (arrived, code) = take_in(&mut opened, &mut end, now, most);
+    }
+    let (arrived, code) = take_in(device.held.lend(), outlet.held.lend(), now, most);
     *taken = arrived;
-    outlet.put(end);
-    device.put(opened);
     code
 }
 
 /// The packets and bytes that were taken in of an outlet.
 #[unsafe(no_mangle)]
-pub extern "C" fn qtree_outlet_share(alloc: Global, outlet: &mut COutlet, share: &mut CCount) -> u32
+pub extern "C" fn qtree_outlet_share(outlet: &mut COutlet, share: &mut CCount) -> u32
     ensures share { CallsEnd (IsTakenIn result share.new) result outlet.old.held.outlet outlet.new.held.outlet }
     ensures same { outlet.new.held.outlet ≡ outlet.old.held.outlet }
     ensures kept { result ≢ 0 → share.new ≡ share.old }
 {
-    let Some(opened) = outlet.take(alloc) else {
+    if !outlet.is_open() {
         return IS_CLOSED;
-    };
-    *share = CCount::of(opened.share());
-    outlet.put(opened);
+    }
+    *share = CCount::of(outlet.held.lend().share());
     DONE
 }
 

@@ -2,12 +2,14 @@
 ghost use Rattle.std.specs.Prelude.{◌≡◌, ◌≤◌, ◌+◌};
 ghost use Rattle.qtree_c.specs.Sample.{sample_packet, sample_row, size_of_struct};
 
+use crate::c_class_view::CClassView;
 use crate::c_count::CCount;
 use crate::c_device::CDevice;
 use crate::c_event::CEvent;
 use crate::c_fault::CFault;
 use crate::c_layout::CLayout;
 use crate::c_loss::CLoss;
+use crate::c_node_view::CNodeView;
 use crate::c_outlet::COutlet;
 use crate::c_packet::CPacket;
 use crate::c_port::CPort;
@@ -42,7 +44,7 @@ pub extern "C" fn qtree_layout_of(layout: &mut CLayout)
     };
 }
 
-/// The bytes of the struct with this number, 0 to 12; 0 for any other.
+/// The bytes of the struct with this number, 0 to 14; 0 for any other.
 #[unsafe(no_mangle)]
 pub extern "C" fn qtree_size_of(what: u32) -> usize
     ensures { result ≡ size_of_struct what }
@@ -61,6 +63,8 @@ pub extern "C" fn qtree_size_of(what: u32) -> usize
         10 => size_of::<CLayout>(),
         11 => size_of::<CSent>(),
         12 => size_of::<CPromise>(),
+        13 => size_of::<CNodeView>(),
+        14 => size_of::<CClassView>(),
         _ => 0,
     }
 }

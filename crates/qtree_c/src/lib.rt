@@ -2,12 +2,14 @@
 #![tactic(auto)]
 
 mod arrivals;
+mod c_class_view;
 mod c_count;
 mod c_device;
 mod c_event;
 mod c_fault;
 mod c_layout;
 mod c_loss;
+mod c_node_view;
 mod c_outlet;
 mod c_packet;
 mod c_port;
@@ -19,6 +21,7 @@ mod codes;
 mod commands;
 mod counters;
 mod ethernet;
+mod explaining;
 mod frames;
 mod heads;
 mod held_device;
@@ -26,8 +29,11 @@ mod held_outlet;
 mod held_port;
 mod intakes;
 mod layout;
+mod lines;
 mod losses;
 mod marks;
+mod names;
+mod nodes;
 mod offers;
 mod opening;
 mod polls;

@@ -7,26 +7,22 @@ use crate::c_device::CDevice;
 use crate::c_loss::CLoss;
 use crate::codes::{DONE, IS_CLOSED, NOTHING};
 use q_device::Device;
-use std::alloc::Global;
 
 /// Hands out the oldest loss.
 #[unsafe(no_mangle)]
-pub extern "C" fn qtree_reap(alloc: Global, device: &mut CDevice, loss: &mut CLoss) -> u32
+pub extern "C" fn qtree_reap(device: &mut CDevice, loss: &mut CLoss) -> u32
     ensures reap { Calls (IsReap result loss.old loss.new) result device.old.held.device device.new.held.device }
     ensures kept { result ≡ 50 → loss.new ≡ loss.old }
 {
-    let Some(mut opened) = device.take(alloc) else {
+    if !device.is_open() {
         return IS_CLOSED;
-    };
-    let code = reap(&mut opened, loss);
-    device.put(opened);
-    code
+    }
+    reap(device.held.lend(), loss)
 }
 
 /// Hands out losses until there are as many as places, or none waits any more.
 #[unsafe(no_mangle)]
 pub extern "C" fn qtree_reap_many(
-    alloc: Global,
     device: &mut CDevice,
     losses: &mut [CLoss],
     count: &mut usize,
@@ -35,12 +31,11 @@ pub extern "C" fn qtree_reap_many(
     ensures kept { result ≡ 50 → (losses.new ≡ losses.old) × (count.new ≡ 0) }
 {
     *count = 0;
-    let Some(mut opened) = device.take(alloc) else {
+    if !device.is_open() {
         return IS_CLOSED;
-    };
-    let (handed_out, code) = reap_many(&mut opened, losses);
+    }
+    let (handed_out, code) = reap_many(device.held.lend(), losses);
     *count = handed_out;
-    device.put(opened);
     code
 }
 

@@ -7,33 +7,29 @@ use crate::c_packet::CPacket;
 use crate::c_port::CPort;
 use crate::codes::{DONE, FULL, IS_CLOSED, OUT_OF_RANGE};
 use q_ports::Port;
-use std::alloc::Global;
 
 /// Places a packet in the ring of a port.
 #[unsafe(no_mangle)]
-pub extern "C" fn qtree_offer(alloc: Global, port: &mut CPort, packet: &CPacket) -> u32
+pub extern "C" fn qtree_offer(port: &mut CPort, packet: &CPacket) -> u32
     ensures offer { CallsEnd (IsOffer packet.now result) result port.old.held.port port.new.held.port }
 {
-    let Some(mut opened) = port.take(alloc) else {
+    if !port.is_open() {
         return IS_CLOSED;
-    };
-    let code = offer(&mut opened, packet);
-    port.put(opened);
-    code
+    }
+    offer(port.held.lend(), packet)
 }
 
 /// The packets and bytes that a port placed.
 #[unsafe(no_mangle)]
-pub extern "C" fn qtree_port_share(alloc: Global, port: &mut CPort, share: &mut CCount) -> u32
+pub extern "C" fn qtree_port_share(port: &mut CPort, share: &mut CCount) -> u32
     ensures share { CallsEnd (IsPlaced result share.new) result port.old.held.port port.new.held.port }
     ensures same { port.new.held.port ≡ port.old.held.port }
     ensures kept { result ≢ 0 → share.new ≡ share.old }
 {
-    let Some(opened) = port.take(alloc) else {
+    if !port.is_open() {
         return IS_CLOSED;
-    };
-    *share = CCount::of(opened.share());
-    port.put(opened);
+    }
+    *share = CCount::of(port.held.lend().share());
     DONE
 }
 

@@ -12,16 +12,10 @@ use crate::codes::{DONE, IDLE, IS_CLOSED, LATER, OUT_OF_RANGE};
 use crate::steps;
 use q_device::{Device, Given, SOME_PACKET};
 use q_packet::{Moment, Packet};
-use std::alloc::Global;
 
 /// Takes the packet whose turn it is.
 #[unsafe(no_mangle)]
-pub extern "C" fn qtree_poll(
-    alloc: Global,
-    device: &mut CDevice,
-    now: u64,
-    packet: &mut CPacket,
-) -> u32
+pub extern "C" fn qtree_poll(device: &mut CDevice, now: u64, packet: &mut CPacket) -> u32
     ensures poll { now ≤ 2 ^ 62 → Calls (IsPoll now result packet.old packet.new) result device.old.held.device device.new.held.device }
     ensures moment { 2 ^ 62 < now → (result ≡ 42) × (device.new.held.device ≡ device.old.held.device) }
     ensures kept { 42 ≤ result → packet.new ≡ packet.old }
@@ -29,18 +23,15 @@ pub extern "C" fn qtree_poll(
     let Some(now) = Moment::new(now) else {
         return OUT_OF_RANGE;
     };
-    let Some(mut opened) = device.take(alloc) else {
+    if !device.is_open() {
         return IS_CLOSED;
-    };
-    let code = poll(&mut opened, now, packet);
-    device.put(opened);
-    code
+    }
+    poll(device.held.lend(), now, packet)
 }
 
 /// Polls until there are as many packets as places, or to the first poll that gives none.
 #[unsafe(no_mangle)]
 pub extern "C" fn qtree_poll_many(
-    alloc: Global,
     device: &mut CDevice,
     now: u64,
     packets: &mut [CPacket],
@@ -54,12 +45,11 @@ pub extern "C" fn qtree_poll_many(
     let Some(now) = Moment::new(now) else {
         return OUT_OF_RANGE;
     };
-    let Some(mut opened) = device.take(alloc) else {
+    if !device.is_open() {
         return IS_CLOSED;
-    };
-    let (given, code) = poll_many(&mut opened, packets, now);
+    }
+    let (given, code) = poll_many(device.held.lend(), packets, now);
     *count = given;
-    device.put(opened);
     code
 }
 

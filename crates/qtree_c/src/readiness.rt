@@ -6,21 +6,18 @@ ghost use Rattle.qtree_c.specs.Readiness.{IsReady};
 use crate::c_device::CDevice;
 use crate::codes::{DONE, IS_CLOSED, NOTHING};
 use q_device::Device;
-use std::alloc::Global;
 
 /// The moment before which no poll gives a packet, as things stand. A poll at that moment need not give one.
 #[unsafe(no_mangle)]
-pub extern "C" fn qtree_ready_at(alloc: Global, device: &mut CDevice, moment: &mut u64) -> u32
+pub extern "C" fn qtree_ready_at(device: &mut CDevice, moment: &mut u64) -> u32
     ensures ready { Calls (IsReady result moment.old moment.new) result device.old.held.device device.new.held.device }
     ensures same { device.new.held.device ≡ device.old.held.device }
     ensures kept { result ≢ 0 → moment.new ≡ moment.old }
 {
-    let Some(opened) = device.take(alloc) else {
+    if !device.is_open() {
         return IS_CLOSED;
-    };
-    let code = ready_at(&opened, moment);
-    device.put(opened);
-    code
+    }
+    ready_at(device.held.lend(), moment)
 }
 
 /// The moment before which no poll of an open device gives a packet.

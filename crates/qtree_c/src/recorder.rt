@@ -6,49 +6,36 @@ use crate::c_device::CDevice;
 use crate::c_event::CEvent;
 use crate::codes::{DONE, IS_CLOSED, NOTHING};
 use q_device::Device;
-use std::alloc::Global;
 
 /// How many events there were, and how many of them are recorded.
 #[unsafe(no_mangle)]
-pub extern "C" fn qtree_events(
-    alloc: Global,
-    device: &mut CDevice,
-    events: &mut u64,
-    recorded: &mut usize,
-) -> u32
+pub extern "C" fn qtree_events(device: &mut CDevice, events: &mut u64, recorded: &mut usize) -> u32
     ensures events { Calls (IsCountOfEvents result events.new recorded.new) result device.old.held.device device.new.held.device }
     ensures same { device.new.held.device ≡ device.old.held.device }
     ensures closed { result ≡ 50 → (events.new ≡ 0) × (recorded.new ≡ 0) }
 {
     *events = 0;
     *recorded = 0;
-    let Some(opened) = device.take(alloc) else {
+    if !device.is_open() {
         return IS_CLOSED;
-    };
+    }
+    let opened = device.held.lend();
     *events = opened.events();
     *recorded = opened.recorded().len();
-    device.put(opened);
     DONE
 }
 
 /// A recorded event, by its index from 0.
 #[unsafe(no_mangle)]
-pub extern "C" fn qtree_recorded(
-    alloc: Global,
-    device: &mut CDevice,
-    index: usize,
-    event: &mut CEvent,
-) -> u32
+pub extern "C" fn qtree_recorded(device: &mut CDevice, index: usize, event: &mut CEvent) -> u32
     ensures event { Calls (IsRecorded index result event.old event.new) result device.old.held.device device.new.held.device }
     ensures same { device.new.held.device ≡ device.old.held.device }
     ensures kept { result ≢ 0 → event.new ≡ event.old }
 {
-    let Some(opened) = device.take(alloc) else {
+    if !device.is_open() {
         return IS_CLOSED;
-    };
-    let code = recorded(&opened, index, event);
-    device.put(opened);
-    code
+    }
+    recorded(device.held.lend(), index, event)
 }
 
 /// A recorded event of an open device.

@@ -13,7 +13,6 @@ use std::alloc::Global;
 /// The line that a recorded event is, by its index from 0.
 #[unsafe(no_mangle)]
 pub extern "C" fn qtree_recorded_line(
-    alloc: Global,
     device: &mut CDevice,
     index: usize,
     text: &mut [u8],
@@ -25,12 +24,10 @@ pub extern "C" fn qtree_recorded_line(
     ensures closed { result ≡ 50 → needed.new ≡ 0 }
 {
     *needed = 0;
-    let Some(opened) = device.take(alloc) else {
+    if !device.is_open() {
         return IS_CLOSED;
-    };
-    let code = recorded_line(&opened, index, text, needed);
-    device.put(opened);
-    code
+    }
+    recorded_line(device.held.lend(), index, text, needed)
 }
 
 /// The line of a recorded event of an open device.
@@ -60,12 +57,10 @@ pub extern "C" fn qtree_recorded_script(
     ensures closed { result ≡ 50 → needed.new ≡ 0 }
 {
     *needed = 0;
-    let Some(opened) = device.take(alloc) else {
+    if !device.is_open() {
         return IS_CLOSED;
-    };
-    let code = recorded_script(alloc, &opened, text, needed);
-    device.put(opened);
-    code
+    }
+    recorded_script(alloc, device.held.lend(), text, needed)
 }
 
 /// The script of an open device.
@@ -82,7 +77,7 @@ fn recorded_script(alloc: Global, device: &Device, text: &mut [u8], needed: &mut
 }
 
 /// Writes a text into the first of the lent places, if they are enough, and tells how many it needs.
-fn lend(text: &[u8], places: &mut [u8], needed: &mut usize) -> u32
+pub fn lend(text: &[u8], places: &mut [u8], needed: &mut usize) -> u32
     ensures written { IsWritten text.now result needed.new places.old places.new }
     ensures codes { result ≢ 0 → result ≡ 43 }
 {

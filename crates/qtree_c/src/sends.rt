@@ -14,16 +14,10 @@ use crate::codes::{DONE, IDLE, IS_CLOSED, LATER, OUT_OF_RANGE};
 use crate::steps;
 use q_device::{Device, Given, SOME_PACKET};
 use q_packet::{Moment, Packet};
-use std::alloc::Global;
 
 /// Takes the packet whose turn it is, as `qtree_poll` does, and tells what it takes to send it on.
 #[unsafe(no_mangle)]
-pub extern "C" fn qtree_poll_buf(
-    alloc: Global,
-    device: &mut CDevice,
-    now: u64,
-    sent: &mut CSent,
-) -> u32
+pub extern "C" fn qtree_poll_buf(device: &mut CDevice, now: u64, sent: &mut CSent) -> u32
     ensures poll { now ≤ 2 ^ 62 → Calls (IsSentPoll now result sent.old sent.new) result device.old.held.device device.new.held.device }
     ensures moment { 2 ^ 62 < now → (result ≡ 42) × (device.new.held.device ≡ device.old.held.device) }
     ensures kept { 30 ≤ result → sent.new ≡ sent.old }
@@ -31,18 +25,15 @@ pub extern "C" fn qtree_poll_buf(
     let Some(now) = Moment::new(now) else {
         return OUT_OF_RANGE;
     };
-    let Some(mut opened) = device.take(alloc) else {
+    if !device.is_open() {
         return IS_CLOSED;
-    };
-    let code = poll(&mut opened, now, sent);
-    device.put(opened);
-    code
+    }
+    poll(device.held.lend(), now, sent)
 }
 
 /// Polls until there are as many packets as places, or to the first poll that gives none, as `qtree_poll_many` does.
 #[unsafe(no_mangle)]
 pub extern "C" fn qtree_poll_bufs(
-    alloc: Global,
     device: &mut CDevice,
     now: u64,
     sent: &mut [CSent],
@@ -56,12 +47,11 @@ pub extern "C" fn qtree_poll_bufs(
     let Some(now) = Moment::new(now) else {
         return OUT_OF_RANGE;
     };
-    let Some(mut opened) = device.take(alloc) else {
+    if !device.is_open() {
         return IS_CLOSED;
-    };
-    let (given, code) = poll_many(&mut opened, sent, now);
+    }
+    let (given, code) = poll_many(device.held.lend(), sent, now);
     *count = given;
-    device.put(opened);
     code
 }
 

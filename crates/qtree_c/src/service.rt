@@ -8,13 +8,11 @@ use crate::c_device::CDevice;
 use crate::c_promise::CPromise;
 use crate::codes::{DONE, IS_CLOSED, NOTHING, OUT_OF_RANGE};
 use crate::counters::place_at;
-use q_device::{Device, Place};
-use std::alloc::Global;
+use q_device::Place;
 
 /// What the class in a place is promised.
 #[unsafe(no_mangle)]
 pub extern "C" fn qtree_service(
-    alloc: Global,
     device: &mut CDevice,
     place: u32,
     major: u16,
@@ -29,21 +27,21 @@ pub extern "C" fn qtree_service(
     let Some(place) = place_at(place, major, minor) else {
         return OUT_OF_RANGE;
     };
-    let Some(opened) = device.take(alloc) else {
-        return IS_CLOSED;
-    };
-    let code = service_at(&opened, place, promise);
-    device.put(opened);
-    code
+    service_at(device, place, promise)
 }
 
-/// What the class in this place of an open device is promised.
-fn service_at(device: &Device, place: Place, promise: &mut CPromise) -> u32
-    ensures promise { IsPromised place result promise.old promise.new device.now device.now }
+/// What the class of the device in this place is promised.
+fn service_at(device: &mut CDevice, place: Place, promise: &mut CPromise) -> u32
+    ensures promise { Calls (IsPromised place result promise.old promise.new) result device.old.held.device device.new.held.device }
+    ensures same { device.new.held.device ≡ device.old.held.device }
     ensures kept { result ≢ 0 → promise.new ≡ promise.old }
     ensures codes { result ≢ 42 }
 {
-    match device.service(place) {
+    if !device.is_open() {
+        return IS_CLOSED;
+    }
+    let service = device.held.lend().service(place);
+    match service {
         Some(service) => {
             *promise = CPromise::of(&service);
             DONE

@@ -30,12 +30,10 @@ pub extern "C" fn qtree_show(
     if what > 3 {
         return OUT_OF_RANGE;
     }
-    let Some(opened) = device.take(alloc) else {
+    if !device.is_open() {
         return IS_CLOSED;
-    };
-    let code = show(alloc, &opened, what, text, needed);
-    device.put(opened);
-    code
+    }
+    show(alloc, device.held.lend(), what, text, needed)
 }
 
 /// What tc shows of an open device.

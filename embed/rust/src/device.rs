@@ -1,10 +1,12 @@
 use crate::cause::Cause;
+use crate::class::Class;
 use crate::error::Error;
 use crate::event::{Event, EventKind};
 use crate::fate::Fate;
 use crate::fault::Fault;
 use crate::loss::Loss;
 use crate::losses::Losses;
+use crate::node::Node;
 use crate::packet::Packet;
 use crate::place::Place;
 use crate::polled::Polled;
@@ -14,8 +16,8 @@ use crate::sent::Sent;
 use crate::service::Service;
 use crate::settings::Settings;
 use crate::show::Show;
+use crate::text::text_of;
 use alloc::string::String;
-use alloc::vec;
 use alloc::vec::Vec;
 
 /// A device: a tree of qdiscs with a clock, counters and a list of losses. It may move to another thread, and one thread at a time uses it.
@@ -217,7 +219,7 @@ impl Device {
     ///
     /// A poll at that time may still answer [`Polled::Later`]: what an fq_codel gives, or which class of a drr, is not known before it is
     /// asked. The time that follows is then a later one.
-    pub fn ready_at(&mut self) -> Option<u64> {
+    pub fn ready_at(&self) -> Option<u64> {
         let (code, moment) = self.0.ready_at();
         (code == sys::QTREE_DONE).then_some(moment)
     }
@@ -247,7 +249,7 @@ impl Device {
     }
 
     /// What was counted in a place; `None` where nothing stands there.
-    pub fn stats(&mut self, place: Place) -> Option<Row> {
+    pub fn stats(&self, place: Place) -> Option<Row> {
         let (code, row) = self.0.stats(place.to_c());
         (code == sys::QTREE_DONE).then(|| Row::of(row))
     }
@@ -271,9 +273,44 @@ impl Device {
     /// assert_eq!((service.rate, service.slack), (Some(13_333_333), 5532));
     /// # Ok::<(), Error>(())
     /// ```
-    pub fn service(&mut self, place: Place) -> Option<Service> {
+    pub fn service(&self, place: Place) -> Option<Service> {
         let (code, promise) = self.0.service(place.to_c());
         (code == sys::QTREE_DONE).then(|| Service::of(promise))
+    }
+
+    /// What was counted by the device itself.
+    pub fn totals(&self) -> Row {
+        Row::of(self.0.stats(Place::Top.to_c()).1)
+    }
+
+    /// All qdiscs, each before those beneath it, in the order of `tc qdisc show`.
+    ///
+    /// ```
+    /// # use qtree::{Device, Error, Place, Qdisc, Settings};
+    /// let mut device = Device::open(Settings::default())?;
+    /// device.command("tc qdisc add dev wan root handle 1: drr", 0)?;
+    /// device.command("tc class add dev wan parent 1: classid 1:10 drr quantum 3000", 0)?;
+    /// device.command("tc qdisc add dev wan parent 1:10 handle 2: pfifo limit 50", 0)?;
+    /// let nodes = device.nodes();
+    /// assert_eq!((nodes[0].handle, nodes[0].qdisc), (Some(1), Qdisc::Drr));
+    /// assert_eq!(nodes[0].classes[0].turn.map(|it| (it.quantum, it.deficit)), Some((3000, None)));
+    /// assert_eq!((nodes[1].place, nodes[1].qdisc), (Place::Class(1, 0x10), Qdisc::Pfifo { limit: 50 }));
+    /// # Ok::<(), Error>(())
+    /// ```
+    pub fn nodes(&self) -> Vec<Node> {
+        let mut nodes = Vec::new();
+        while let (sys::QTREE_DONE, view) = self.0.node(nodes.len()) {
+            nodes.push(Node::of(view, self.classes(nodes.len())));
+        }
+        nodes
+    }
+
+    fn classes(&self, node: usize) -> Vec<Class> {
+        let mut classes = Vec::new();
+        while let (sys::QTREE_DONE, view) = self.0.class(node, classes.len()) {
+            classes.push(Class::of(view));
+        }
+        classes
     }
 
     /// What tc shows of it.
@@ -289,12 +326,12 @@ impl Device {
     /// # Errors
     ///
     /// `Memory`.
-    pub fn show(&mut self, show: Show) -> Result<String, Error> {
-        self.text(|device, text| device.show(show as u32, text))
+    pub fn show(&self, show: Show) -> Result<String, Error> {
+        text_of(|text| self.0.show(show as u32, text))
     }
 
     /// How many arrivals, polls and accepted commands there were, and how many of them, the first ones, the recorder has.
-    pub fn events(&mut self) -> (u64, usize) {
+    pub fn events(&self) -> (u64, usize) {
         self.0.events()
     }
 
@@ -303,7 +340,7 @@ impl Device {
     /// # Errors
     ///
     /// None but those of the line of a command, which a device always has.
-    pub fn recorded(&mut self, index: usize) -> Result<Option<Event>, Error> {
+    pub fn recorded(&self, index: usize) -> Result<Option<Event>, Error> {
         let (code, event) = self.0.recorded(index);
         if code != sys::QTREE_DONE {
             return Ok(None);
@@ -311,7 +348,7 @@ impl Device {
         let kind = match event.kind {
             sys::QTREE_ARRIVED => EventKind::Arrived(Packet(event.packet)),
             sys::QTREE_POLLED => EventKind::Polled,
-            _ => EventKind::Commanded(self.text(|device, text| device.recorded_line(index, text))?),
+            _ => EventKind::Commanded(text_of(|text| self.0.recorded_line(index, text))?),
         };
         Ok(Some(Event {
             moment: event.moment,
@@ -338,27 +375,8 @@ impl Device {
     /// # Errors
     ///
     /// `Memory`.
-    pub fn recorded_script(&mut self) -> Result<String, Error> {
-        self.text(|device, text| device.recorded_script(text))
-    }
-
-    /// A text, of which a call answers the length and writes it where there is room.
-    fn text(
-        &mut self,
-        mut call: impl FnMut(&mut RawDevice, &mut [u8]) -> (u32, usize),
-    ) -> Result<String, Error> {
-        let mut text = vec![0; 1024];
-        loop {
-            let (code, needed) = call(&mut self.0, &mut text);
-            match code {
-                sys::QTREE_DONE => {
-                    text.truncate(needed);
-                    return Ok(String::from_utf8_lossy(&text).into_owned());
-                }
-                sys::QTREE_ROOM => text.resize(needed, 0),
-                code => return Err(Error::of(code)),
-            }
-        }
+    pub fn recorded_script(&self) -> Result<String, Error> {
+        text_of(|text| self.0.recorded_script(text))
     }
 }
 

@@ -139,9 +139,14 @@ impl Drain {
     }
 
     /// What was taken in of the port with this index so far; `None` where there is no such port.
-    pub fn share(&mut self, port: u32) -> Option<Count> {
+    pub fn share(&self, port: u32) -> Option<Count> {
         let index = usize::try_from(port).ok()?;
-        self.outlets.get_mut(index).map(Outlet::taken)
+        self.outlets.get(index).map(Outlet::taken)
+    }
+
+    /// Its device, to read of it: counters, qdiscs, shows, the recorder, and the time of the next turn.
+    pub fn device(&self) -> &Device {
+        &self.device
     }
 
     /// Its device, for commands, counters, shows, losses, and the time of the next turn. The next turn publishes its counters.

@@ -1,6 +1,8 @@
 use crate::fault::Fault;
-use crate::raw::sys;
+use crate::raw::{explain, sys};
 use crate::refusal::Refusal;
+use crate::text::text_of;
+use alloc::string::String;
 use core::fmt;
 
 /// Why a call failed. Nothing has changed then, unless the call's page says so.
@@ -34,6 +36,37 @@ impl Error {
             sys::QTREE_NO_COMMAND => Error::NoCommand,
             _ => Refusal::of(code).map_or(Error::OutOfRange, Error::Refused),
         }
+    }
+}
+
+impl Error {
+    /// What `qtree play --explain` writes of the line that [`Device::command`](crate::Device::command) answered by this: the line with
+    /// its number, a mark under the word at which it failed, and a sentence on what to do. `None` where the line is neither refused nor
+    /// faulty.
+    ///
+    /// ```
+    /// # use qtree::{Device, Error, Settings};
+    /// let mut device = Device::open(Settings::default())?;
+    /// let line = "tc qdisc add dev wan root handle 1: pfifo limt 100";
+    /// let why = device.command(line, 0).unwrap_err();
+    /// assert!(why.explain(line, 7).is_some_and(|text| text.starts_with("line 7: tc qdisc add")));
+    /// # Ok::<(), Error>(())
+    /// ```
+    pub fn explain(&self, line: &str, number: u64) -> Option<String> {
+        let mut found = sys::Fault::default();
+        let code = match *self {
+            Error::Refused(refusal) => refusal as u32,
+            Error::Faulty { fault, word } => {
+                found = sys::Fault {
+                    word,
+                    number: fault as u32,
+                };
+                sys::QTREE_FAULTY
+            }
+            Error::Memory => sys::QTREE_MEMORY,
+            Error::OutOfRange | Error::NoCommand | Error::OpenPorts => return None,
+        };
+        text_of(|text| explain(line.as_bytes(), number, code, &found, text)).ok()
     }
 }
 

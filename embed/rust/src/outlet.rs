@@ -22,7 +22,7 @@ impl Outlet {
     }
 
     /// What was taken in so far.
-    pub(crate) fn taken(&mut self) -> Count {
+    pub(crate) fn taken(&self) -> Count {
         Count::of(self.raw.share())
     }
 

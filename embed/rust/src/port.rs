@@ -65,7 +65,7 @@ impl Port {
     }
 
     /// What it placed so far.
-    pub fn share(&mut self) -> Count {
+    pub fn share(&self) -> Count {
         Count::of(self.raw.share())
     }
 }

@@ -8,8 +8,10 @@ mod head;
 mod outlet;
 mod port;
 pub(crate) mod sys;
+mod text;
 
 pub(crate) use device::RawDevice;
 pub(crate) use head::{hash, ip_at, mark_head, read_hashed, read_head};
 pub(crate) use outlet::RawOutlet;
 pub(crate) use port::{RawPort, open_ring};
+pub(crate) use text::explain;

@@ -34,7 +34,7 @@ fn a_bucket_is_waited_for() -> Result<(), Error> {
 fn it_goes_to_another_thread() -> Result<(), Error> {
     let mut device = Device::open(Settings::default())?;
     device.arrive(&udp(100, 1), 0)?;
-    let mut device = std::thread::spawn(move || {
+    let device = std::thread::spawn(move || {
         device.arrive(&udp(200, 2), 1).expect("memory");
         device
     })

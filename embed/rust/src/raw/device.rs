@@ -102,10 +102,10 @@ impl RawDevice {
         (code, count)
     }
 
-    pub(crate) fn ready_at(&mut self) -> (u32, u64) {
+    pub(crate) fn ready_at(&self) -> (u32, u64) {
         let mut moment = 0;
         // SAFETY: the device is open, and `moment` is another place.
-        let code = unsafe { sys::qtree_ready_at(&mut self.0, &mut moment) };
+        let code = unsafe { sys::qtree_ready_at(&self.0, &mut moment) };
         (code, moment)
     }
 
@@ -116,66 +116,73 @@ impl RawDevice {
         (code, loss)
     }
 
-    pub(crate) fn stats(&mut self, (place, major, minor): (u32, u16, u16)) -> (u32, sys::Row) {
+    pub(crate) fn stats(&self, (place, major, minor): (u32, u16, u16)) -> (u32, sys::Row) {
         let mut row = sys::Row::default();
         // SAFETY: the device is open, and `row` is another place.
-        let code = unsafe { sys::qtree_stats(&mut self.0, place, major, minor, &mut row) };
+        let code = unsafe { sys::qtree_stats(&self.0, place, major, minor, &mut row) };
         (code, row)
     }
 
     pub(crate) fn service(
-        &mut self,
+        &self,
         (place, major, minor): (u32, u16, u16),
     ) -> (u32, sys::Promise) {
         let mut promise = sys::Promise::default();
         // SAFETY: the device is open, and `promise` is another place.
-        let code = unsafe { sys::qtree_service(&mut self.0, place, major, minor, &mut promise) };
+        let code = unsafe { sys::qtree_service(&self.0, place, major, minor, &mut promise) };
         (code, promise)
     }
 
     /// Also the length of the text, which is written where there is room for it.
-    pub(crate) fn show(&mut self, what: u32, text: &mut [u8]) -> (u32, usize) {
+    pub(crate) fn show(&self, what: u32, text: &mut [u8]) -> (u32, usize) {
         let mut needed = 0;
         // SAFETY: the device is open; pointer and length are those of `text`.
-        let code = unsafe {
-            sys::qtree_show(
-                &mut self.0,
-                what,
-                text.as_mut_ptr(),
-                text.len(),
-                &mut needed,
-            )
-        };
+        let code =
+            unsafe { sys::qtree_show(&self.0, what, text.as_mut_ptr(), text.len(), &mut needed) };
         (code, needed)
     }
 
-    pub(crate) fn events(&mut self) -> (u64, usize) {
+    pub(crate) fn node(&self, index: usize) -> (u32, sys::NodeView) {
+        let mut view = sys::NodeView::default();
+        // SAFETY: the device is open, and `view` is another place.
+        let code = unsafe { sys::qtree_node(&self.0, index, &mut view) };
+        (code, view)
+    }
+
+    pub(crate) fn class(&self, index: usize, which: usize) -> (u32, sys::ClassView) {
+        let mut view = sys::ClassView::default();
+        // SAFETY: the device is open, and `view` is another place.
+        let code = unsafe { sys::qtree_class(&self.0, index, which, &mut view) };
+        (code, view)
+    }
+
+    pub(crate) fn events(&self) -> (u64, usize) {
         let (mut events, mut recorded) = (0, 0);
         // SAFETY: the device is open, and the numbers are other places.
-        unsafe { sys::qtree_events(&mut self.0, &mut events, &mut recorded) };
+        unsafe { sys::qtree_events(&self.0, &mut events, &mut recorded) };
         (events, recorded)
     }
 
-    pub(crate) fn recorded(&mut self, index: usize) -> (u32, sys::Event) {
+    pub(crate) fn recorded(&self, index: usize) -> (u32, sys::Event) {
         let mut event = sys::Event::default();
         // SAFETY: the device is open, and `event` is another place.
-        let code = unsafe { sys::qtree_recorded(&mut self.0, index, &mut event) };
+        let code = unsafe { sys::qtree_recorded(&self.0, index, &mut event) };
         (code, event)
     }
 
     /// Also the length of the line, which is written where there is room for it.
-    pub(crate) fn recorded_line(&mut self, index: usize, text: &mut [u8]) -> (u32, usize) {
+    pub(crate) fn recorded_line(&self, index: usize, text: &mut [u8]) -> (u32, usize) {
         let (at, room, mut needed) = (text.as_mut_ptr(), text.len(), 0);
         // SAFETY: the device is open; pointer and length are those of `text`.
-        let code = unsafe { sys::qtree_recorded_line(&mut self.0, index, at, room, &mut needed) };
+        let code = unsafe { sys::qtree_recorded_line(&self.0, index, at, room, &mut needed) };
         (code, needed)
     }
 
     /// Also the length of the script, which is written where there is room for it.
-    pub(crate) fn recorded_script(&mut self, text: &mut [u8]) -> (u32, usize) {
+    pub(crate) fn recorded_script(&self, text: &mut [u8]) -> (u32, usize) {
         let (at, room, mut needed) = (text.as_mut_ptr(), text.len(), 0);
         // SAFETY: the device is open; pointer and length are those of `text`.
-        let code = unsafe { sys::qtree_recorded_script(&mut self.0, at, room, &mut needed) };
+        let code = unsafe { sys::qtree_recorded_script(&self.0, at, room, &mut needed) };
         (code, needed)
     }
 }

@@ -22,10 +22,10 @@ impl RawOutlet {
         (code, taken)
     }
 
-    pub(crate) fn share(&mut self) -> sys::Count {
+    pub(crate) fn share(&self) -> sys::Count {
         let mut share = sys::Count::default();
         // SAFETY: the outlet is open, and `share` is another place.
-        unsafe { sys::qtree_outlet_share(&mut self.0, &mut share) };
+        unsafe { sys::qtree_outlet_share(&self.0, &mut share) };
         share
     }
 }

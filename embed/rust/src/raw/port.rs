@@ -32,10 +32,10 @@ impl RawPort {
         unsafe { sys::qtree_offer(&mut self.0, packet) }
     }
 
-    pub(crate) fn share(&mut self) -> sys::Count {
+    pub(crate) fn share(&self) -> sys::Count {
         let mut share = sys::Count::default();
         // SAFETY: the port is open, and `share` is another place.
-        unsafe { sys::qtree_port_share(&mut self.0, &mut share) };
+        unsafe { sys::qtree_port_share(&self.0, &mut share) };
         share
     }
 }

@@ -15,6 +15,12 @@ pub const QTREE_OUT_OF_RANGE: u32 = 42;
 pub const QTREE_ROOM: u32 = 43;
 pub const QTREE_ARRIVED: u32 = 0;
 pub const QTREE_POLLED: u32 = 1;
+pub const QTREE_ROOT: u32 = 1;
+pub const QTREE_PFIFO: u32 = 1;
+pub const QTREE_BFIFO: u32 = 2;
+pub const QTREE_PRIO: u32 = 3;
+pub const QTREE_TBF: u32 = 4;
+pub const QTREE_DRR: u32 = 5;
 pub const QTREE_IS_CLOSED: u32 = 50;
 pub const QTREE_IS_OPEN: u32 = 51;
 pub const QTREE_MEMORY: u32 = 90;
@@ -114,6 +120,40 @@ pub struct Promise {
 
 #[repr(C)]
 #[derive(Clone, Copy, Default)]
+pub struct NodeView {
+    pub row: Row,
+    pub limit: u64,
+    pub rate: u64,
+    pub target: u64,
+    pub interval: u64,
+    pub burst: u32,
+    pub flows: u32,
+    pub quantum: u32,
+    pub drop_batch: u32,
+    pub kind: u32,
+    pub place: u32,
+    pub handle: u16,
+    pub parent_major: u16,
+    pub parent_minor: u16,
+    pub mtu: u16,
+    pub ecn: u8,
+    pub bands: u8,
+    pub priomap: [u8; 16],
+}
+
+#[repr(C)]
+#[derive(Clone, Copy, Default)]
+pub struct ClassView {
+    pub deficit: u64,
+    pub quantum: u32,
+    pub kind: u32,
+    pub major: u16,
+    pub minor: u16,
+    pub active: u8,
+}
+
+#[repr(C)]
+#[derive(Clone, Copy, Default)]
 pub struct Fault {
     pub word: usize,
     pub number: u32,
@@ -158,6 +198,10 @@ layout!(Loss, 72: packet 0, cause 64);
 layout!(Count, 16: packets 0, bytes 8);
 layout!(Row, 96: arrived 0, sent 16, refused 32, dropped 48, queued 64, marked 80);
 layout!(Promise, 32: link 0, rate 8, part 16, slack 24);
+layout!(NodeView, 184: row 0, limit 96, rate 104, target 112, interval 120, burst 128, flows 132, quantum 136,
+    drop_batch 140, kind 144, place 148, handle 152, parent_major 154, parent_minor 156, mtu 158, ecn 160, bands 161,
+    priomap 162);
+layout!(ClassView, 24: deficit 0, quantum 8, kind 12, major 16, minor 18, active 20);
 layout!(Fault, 16: word 0, number 8);
 layout!(Event, 80: packet 0, moment 64, kind 72);
 layout!(Layout, 48: device 0, settings 8, packet 16, loss 24, row 32, event 40);
@@ -223,7 +267,7 @@ unsafe extern "C" {
         room: usize,
         count: *mut usize,
     ) -> u32;
-    pub fn qtree_ready_at(device: *mut Device, moment: *mut u64) -> u32;
+    pub fn qtree_ready_at(device: *const Device, moment: *mut u64) -> u32;
     pub fn qtree_reap(device: *mut Device, loss: *mut Loss) -> u32;
     pub fn qtree_reap_many(
         device: *mut Device,
@@ -240,43 +284,67 @@ unsafe extern "C" {
         most: usize,
         taken: *mut usize,
     ) -> u32;
-    pub fn qtree_port_share(port: *mut Port, share: *mut Count) -> u32;
-    pub fn qtree_outlet_share(outlet: *mut Outlet, share: *mut Count) -> u32;
+    pub fn qtree_port_share(port: *const Port, share: *mut Count) -> u32;
+    pub fn qtree_outlet_share(outlet: *const Outlet, share: *mut Count) -> u32;
     pub fn qtree_port_close(port: *mut Port);
     pub fn qtree_outlet_close(outlet: *mut Outlet);
     pub fn qtree_stats(
-        device: *mut Device,
+        device: *const Device,
         place: u32,
         major: u16,
         minor: u16,
         row: *mut Row,
     ) -> u32;
-    pub fn qtree_totals(device: *mut Device, row: *mut Row) -> u32;
+    pub fn qtree_totals(device: *const Device, row: *mut Row) -> u32;
     pub fn qtree_service(
-        device: *mut Device,
+        device: *const Device,
         place: u32,
         major: u16,
         minor: u16,
         promise: *mut Promise,
     ) -> u32;
     pub fn qtree_show(
-        device: *mut Device,
+        device: *const Device,
         what: u32,
         text: *mut u8,
         room: usize,
         needed: *mut usize,
     ) -> u32;
-    pub fn qtree_events(device: *mut Device, events: *mut u64, recorded: *mut usize) -> u32;
-    pub fn qtree_recorded(device: *mut Device, index: usize, event: *mut Event) -> u32;
+    pub fn qtree_events(device: *const Device, events: *mut u64, recorded: *mut usize) -> u32;
+    pub fn qtree_recorded(device: *const Device, index: usize, event: *mut Event) -> u32;
     pub fn qtree_recorded_line(
-        device: *mut Device,
+        device: *const Device,
         index: usize,
         text: *mut u8,
         room: usize,
         needed: *mut usize,
     ) -> u32;
     pub fn qtree_recorded_script(
-        device: *mut Device,
+        device: *const Device,
+        text: *mut u8,
+        room: usize,
+        needed: *mut usize,
+    ) -> u32;
+    pub fn qtree_node(device: *const Device, index: usize, view: *mut NodeView) -> u32;
+    pub fn qtree_class(
+        device: *const Device,
+        index: usize,
+        which: usize,
+        view: *mut ClassView,
+    ) -> u32;
+    pub fn qtree_name_of(
+        what: u32,
+        number: u32,
+        text: *mut u8,
+        room: usize,
+        needed: *mut usize,
+    ) -> u32;
+    pub fn qtree_explain(
+        line: *const u8,
+        line_len: usize,
+        number: u64,
+        code: u32,
+        fault: *const Fault,
         text: *mut u8,
         room: usize,
         needed: *mut usize,

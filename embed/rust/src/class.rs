@@ -1,0 +1,34 @@
+use crate::raw::sys;
+
+/// A class of a prio, a tbf or a drr.
+#[derive(Clone, Copy, Debug, PartialEq, Eq)]
+pub struct Class {
+    /// The handle of its qdisc.
+    pub major: u16,
+    /// Its number among that qdisc's classes.
+    pub minor: u16,
+    /// What a drr keeps of it; `None` where its qdisc is no drr.
+    pub turn: Option<DrrTurn>,
+}
+
+/// What a drr keeps of a class. All is in bytes.
+#[derive(Clone, Copy, Debug, PartialEq, Eq)]
+pub struct DrrTurn {
+    /// What each of its turns grants.
+    pub quantum: u32,
+    /// What it may send before the next quantum; `None` where it is not active, so that no packet waits there.
+    pub deficit: Option<u64>,
+}
+
+impl Class {
+    pub(crate) fn of(view: sys::ClassView) -> Class {
+        Class {
+            major: view.major,
+            minor: view.minor,
+            turn: (view.kind == sys::QTREE_DRR).then_some(DrrTurn {
+                quantum: view.quantum,
+                deficit: (view.active != 0).then_some(view.deficit),
+            }),
+        }
+    }
+}
