@@ -35,6 +35,9 @@ pub mod RenewedBands
 pub mod RenewedTrees
 pub mod ReplayLemmas
 pub mod ReplayedLemmas
+mod RestLemmas
+mod RestMoves
+mod RestSteps
 pub mod ServiceStretches
 mod ShareInTime
 pub mod ShrinkLemmas

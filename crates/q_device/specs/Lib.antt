@@ -9,6 +9,7 @@ pub mod Laws
 pub mod Order
 pub mod Rate
 pub mod Replayed
+pub mod Rest
 pub mod Service
 pub mod Sharing
 pub mod Waiting
