@@ -38,6 +38,9 @@ pub mod RenewedBands
 pub mod RenewedTrees
 pub mod ReplayLemmas
 pub mod ReplayedLemmas
+mod RestLemmas
+mod RestMoves
+mod RestSteps
 pub mod ServiceStretches
 mod ShareInTime
 pub mod ShrinkLemmas

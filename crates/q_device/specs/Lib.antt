@@ -10,6 +10,7 @@ pub mod Order
 pub mod Promise
 pub mod Rate
 pub mod Replayed
+pub mod Rest
 pub mod Service
 pub mod Sharing
 pub mod Waiting

@@ -5,6 +5,7 @@ ghost use Rattle.q_device.specs.Laws.{ReplayGoesOn, ShrinkCommutes, ReplayShrink
 ghost use Rattle.q_device.specs.Order.{FlowsKeepOrder};
 ghost use Rattle.q_device.specs.Promise.{ServiceIsDelivered, ShareIsDelivered, SlackIsTheLaws};
 ghost use Rattle.q_device.specs.Rate.{RateIsDelivered, RateIsSpent};
+ghost use Rattle.q_device.specs.Rest.{JoiningFlowsAreSpared};
 ghost use Rattle.q_device.specs.Service.{ClassAgainstAny, ClassesGetTheirParts, FlowAgainstAny, NoFlowStarves, NewFlowFirst};
 ghost use Rattle.q_device.specs.Sharing.{ClassesSendTheirShares, DeficitsAreBounded, GrantsComeWhereShort, ClassesWakeWithAQuantum, ClassesShareByQuanta, BucketsAreBounded, FlowsGiveTheirShares, FlowsBeginNew, FlowsAreGrantedEvenly};
 ghost use Rattle.q_device.specs.Waiting.{EarlyPollsGiveNothing, ReadyPassesEmptyPolls};
@@ -148,6 +149,19 @@ pub fn no_flow_starves(settings: Settings)
 /// So a sparse flow, as a name lookup, passes the flows of a download (RFC 8290, section 4.2).
 pub fn new_flow_first(settings: Settings)
     ensures { NewFlowFirst settings }
+{
+    settings.ranges();
+}
+
+/// CoDel drops nothing of a flow that joins an fq_codel from neither list until it has given a packet, and does not mark that one: so the
+/// packet that joined is given, unless it is lost to the fat flow's batch. It is said of what CoDel remembers of the flow, for whatever
+/// queues there and whenever its turn comes.
+///
+/// The fq_codel is there over an interval, at whose end the packet joins. At its start the flow stood in one of the lists, and left them since,
+/// as one does that is emptied and visited with credits (RFC 8290, section 4.2); or it was at rest, as all flows of a new fq_codel are.
+/// For all settings and every list of events whose fields are in their ranges: polls, arrivals and commands anywhere in the tree.
+pub fn joining_flow_is_spared(settings: Settings)
+    ensures { JoiningFlowsAreSpared settings }
 {
     settings.ranges();
 }
