@@ -1,5 +1,5 @@
 -- Lent places that are filled from the first on.
-use Rattle.std.proofs.Common.{◌≡◌, ℕ, zero, suc, ◌<◌, ◌≤◌, List, [], ◌∷◌, ◌++◌, refl, sym, ap, subst, arith, true≢false, Bool, true, false, Option, Some, None}
+use Rattle.std.proofs.Common.{◌≡◌, ℕ, zero, suc, ◌<◌, ◌≤◌, List, [], ◌∷◌, ◌++◌, refl, sym, ap, arith, true≢false, Bool, true, false, Option, Some, None}
 use Rattle.std.specs.Prelude.{drop, length, map, set, slice_get, take}
 
 abbrev is_there : {A : Type 0} → Option A → Bool

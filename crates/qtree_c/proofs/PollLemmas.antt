@@ -1,5 +1,5 @@
 -- Polls, one by one.
-use Rattle.std.proofs.Common.{◌≡◌, ℕ, suc, List, [], ◌∷◌, sym, ap, ◌∙◌, Option, Some, None}
+use Rattle.std.proofs.Common.{◌≡◌, ℕ, suc, [], ◌∷◌, sym, ap, ◌∙◌, Option, Some, None}
 use Rattle.q_model.specs.declared.event.Event.TheVariants.{Poll}
 use Rattle.q_device.specs.DeviceSeen.{DeviceSeen}
 use Rattle.qtree_c.specs.Codes.{reply_number}

@@ -1,5 +1,5 @@
 -- Polls into lent places, after so many of them.
-use Rattle.std.proofs.Common.{◌≡◌, ℕ, suc, ◌+◌, ◌-◌, ◌<◌, List, [], ◌∷◌, ◌++◌, refl, sym, ap, subst, ◌∙◌, append_assoc, arith, Option, Some, None}
+use Rattle.std.proofs.Common.{◌≡◌, ℕ, suc, ◌+◌, ◌-◌, ◌<◌, List, [], ◌∷◌, ◌++◌, refl, sym, ap, subst, ◌∙◌, append_assoc, arith, Some, None}
 use Rattle.std.specs.Prelude.{drop, length, set}
 use Rattle.std.proofs.lemmas.List.{append-nil}
 use Rattle.q_model.specs.declared.event.Event.TheVariants.{Poll}

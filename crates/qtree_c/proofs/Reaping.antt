@@ -1,5 +1,5 @@
 -- Losses that are handed out into lent places, after so many of them.
-use Rattle.std.proofs.Common.{◌≡◌, ◌≢◌, ℕ, suc, ◌+◌, ◌<◌, ◌≤◌, List, [], ◌∷◌, ◌++◌, refl, sym, ap, ap₂, subst, ◌∙◌, arith, Option, Some, None}
+use Rattle.std.proofs.Common.{◌≡◌, ℕ, suc, ◌+◌, ◌<◌, ◌≤◌, List, [], ◌∷◌, ◌++◌, refl, sym, ap, ap₂, subst, ◌∙◌, arith, Some, None}
 use Rattle.std.specs.Prelude.{drop, length, map, set, slice_get, take}
 use Rattle.q_codel.specs.declared.loss.Loss.{Loss}
 use Rattle.q_device.specs.DeviceSeen.{DeviceSeen, reaped}
