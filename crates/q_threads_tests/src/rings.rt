@@ -92,6 +92,29 @@ fn assert_keeps<R: Abort>(
     assert!(rt; !second.memory);
 }
 
+// Many packets that are offered at once are placed as far as there is room, also where the ring begins again.
+#[test]
+fn many_are_offered_at_once(rt: HostRuntime) -> Result<(), Fail> {
+    let alloc = rt.alloc();
+    let given = packet(5).expect(&rt, "a packet");
+    let (mut port, mut outlet) = open_ring(alloc, 3, 40).expect(&rt, "memory");
+    let mut fed = device(alloc, 0).expect(&rt, "memory");
+    let packets = [given; 50];
+    assert_count(&rt, port.offer_many(&packets) as u64, 40);
+    take_30(&rt, &mut outlet, &mut fed);
+    assert_count(&rt, port.offer_many(&packets[..20]) as u64, 20);
+    take_30(&rt, &mut outlet, &mut fed);
+    end(&rt, port, outlet, fed, 60);
+    Ok(())
+}
+
+// Takes in 30 packets that wait.
+fn take_30<R: Abort>(rt: &R, outlet: &mut Outlet, fed: &mut Device) {
+    let turn = outlet.take_in(fed, Moment::zero(), 30);
+    assert!(rt; !turn.memory);
+    assert_count(rt, turn.taken as u64, 30);
+}
+
 // Offers a packet again and again, until so many were placed.
 fn offer_all(port: Port, given: Packet) -> Port {
     let mut port = port;
