@@ -28,31 +28,31 @@ pub numbers : (ns : List ℕ) → flat_map (λ n. codes " " ++ decimal n) ns ≡
 numbers [] = refl
 numbers (n ∷ ns) = ap (λ l. (codes " " ++ decimal n) ++ l) (numbers ns)
 
--- an address as show prints it, and as a line has it: numbers with a colon between each two, put together from either end
-abbrev after_colons : List (List ℕ) → List ℕ
-after_colons [] = []
-after_colons (x ∷ xs) = 58 ∷ (x ++ after_colons xs)
+-- an address as show prints it, and as a line has it: numbers with a byte between each two, put together from either end
+abbrev after_each : ℕ → List (List ℕ) → List ℕ
+after_each byte [] = []
+after_each byte (x ∷ xs) = byte ∷ (x ++ after_each byte xs)
 
-abbrev from_left : List ℕ → List (List ℕ) → List ℕ
-from_left begun [] = begun
-from_left begun (x ∷ xs) = from_left (begun ++ codes ":" ++ x) xs
+abbrev from_left : ℕ → List ℕ → List (List ℕ) → List ℕ
+from_left byte begun [] = begun
+from_left byte begun (x ∷ xs) = from_left byte (begun ++ (byte ∷ []) ++ x) xs
 
-left_is : (begun : List ℕ) (xs : List (List ℕ)) → from_left begun xs ≡ begun ++ after_colons xs
-left_is begun [] = sym (append-nil begun)
-left_is begun (x ∷ xs) =
-    left_is (begun ++ codes ":" ++ x) xs ∙ append_assoc (begun ++ codes ":") x (after_colons xs) ∙ append_assoc begun (codes ":") (x ++ after_colons xs)
+left_is : (byte : ℕ) (begun : List ℕ) (xs : List (List ℕ)) → from_left byte begun xs ≡ begun ++ after_each byte xs
+left_is byte begun [] = sym (append-nil begun)
+left_is byte begun (x ∷ xs) =
+    left_is byte (begun ++ (byte ∷ []) ++ x) xs ∙ append_assoc (begun ++ (byte ∷ [])) x (after_each byte xs) ∙ append_assoc begun (byte ∷ []) (x ++ after_each byte xs)
 
-joined_is : (x : List ℕ) (xs : List (List ℕ)) → join_with_byte 58 (x ∷ xs) ≡ x ++ after_colons xs
-joined_is x [] = sym (append-nil x)
-joined_is x (y ∷ xs) = ap (λ l. x ++ (58 ∷ l)) (joined_is y xs)
+joined_is : (byte : ℕ) (x : List ℕ) (xs : List (List ℕ)) → join_with_byte byte (x ∷ xs) ≡ x ++ after_each byte xs
+joined_is byte x [] = sym (append-nil x)
+joined_is byte x (y ∷ xs) = ap (λ l. x ++ (byte ∷ l)) (joined_is byte y xs)
 
-ipv6 : (a : ℕ) → address_text V6 a ≡ address_word V6 a
-ipv6 a =
-    let first = hex (a / 2 ^ 112 % 65536) in
-    let others =
-    hex (a / 2 ^ 96 % 65536) ∷ hex (a / 2 ^ 80 % 65536) ∷ hex (a / 2 ^ 64 % 65536) ∷ hex (a / 2 ^ 48 % 65536) ∷ hex (a / 2 ^ 32 % 65536) ∷ hex (a / 2 ^ 16 % 65536) ∷ hex (a % 65536) ∷ [] in
-    left_is first others ∙ sym (joined_is first others)
+put_together : (byte : ℕ) (x : List ℕ) (xs : List (List ℕ)) → from_left byte x xs ≡ join_with_byte byte (x ∷ xs)
+put_together byte x xs = left_is byte x xs ∙ sym (joined_is byte x xs)
 
 pub address_spelled : (v : IpVersion) (a : ℕ) → address_text v a ≡ address_word v a
-address_spelled V4 a = refl
-address_spelled V6 a = ipv6 a
+address_spelled V4 a = put_together 46 (decimal (a / 2 ^ 24 % 256)) (decimal (a / 2 ^ 16 % 256) ∷ decimal (a / 2 ^ 8 % 256) ∷ decimal (a % 256) ∷ [])
+address_spelled V6 a =
+    put_together 58 (hex (a / 2 ^ 112 % 65536)) (
+    hex (a / 2 ^ 96 % 65536) ∷ hex (a / 2 ^ 80 % 65536) ∷ hex (a / 2 ^ 64 % 65536) ∷ hex (a / 2 ^ 48 % 65536)
+    ∷ hex (a / 2 ^ 32 % 65536) ∷ hex (a / 2 ^ 16 % 65536) ∷ hex (a % 65536) ∷ []
+    )
