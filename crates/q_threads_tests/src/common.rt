@@ -176,7 +176,7 @@ pub fn assert_settles_at<P: Ledger, B: Ledger, R: Wait + Abort>(
     }
 }
 
-/// This moment, which is in range.
+/// The moment of this nanosecond, or of 0 where there is none so late.
 pub fn moment(now: u64) -> Moment {
     match Moment::new(now) {
         Some(moment) => moment,

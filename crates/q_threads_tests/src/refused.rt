@@ -1,8 +1,8 @@
 //! Calls that are refused memory, and called again.
 //!
-//! `rt try --test --fail-alloc N` refuses the Nth allocation of the tests. These pass for every N: what was refused succeeds
-//! at the second call, and nothing is lost.
-ghost use Rattle.std.specs.Prelude.{◌≡◌, length, map};
+//! `rt try --test --fail-alloc N` refuses the Nth allocation of the tests, and `tools/refuse-memory` each thread too. These pass for every
+//! N: what was refused succeeds at the second call, and nothing is lost.
+ghost use Rattle.std.specs.Prelude.{◌≡◌, ◌≤◌, length, map};
 ghost use Rattle.q_model.specs.Tally.{no_totals};
 ghost use Rattle.q_ports.specs.Held.{held};
 ghost use Rattle.q_ports.specs.Placed.{ring_of_port};
@@ -24,8 +24,31 @@ use std::thread::Threads;
 /// How many packets wait in the ring.
 const PACKETS: u64 = 100;
 
-/// How often a packet is offered.
-const TRIES: u64 = 1_000_000_000;
+/// How often a packet is offered: for some seconds.
+const TRIES: u64 = 1_000_000;
+
+/// How many ports are driven, how many places their rings have, and how many packets each load.
+#[derive(Clone, Copy)]
+struct Sizes {
+    ports: usize,
+    ring: usize,
+    each: u64,
+}
+
+/// One port, whose load fits into its ring.
+const ONE: Sizes = Sizes {
+    ports: 1,
+    ring: 128,
+    each: PACKETS,
+};
+
+/// Three ports, each with a packet more than its ring has places: a sender places the last one only while the drain takes turns, so
+/// never on the drain's own thread.
+const THREE: Sizes = Sizes {
+    ports: 3,
+    ring: 4,
+    each: 5,
+};
 
 #[test]
 fn what_was_refused_succeeds_later(rt: HostRuntime) -> Result<(), Fail> {
@@ -38,79 +61,131 @@ fn what_was_refused_succeeds_later(rt: HostRuntime) -> Result<(), Fail> {
 
 #[test]
 fn a_refused_drive_settles_later(rt: HostRuntime) -> Result<(), Fail> {
-    let alloc = rt.alloc();
-    let given = packet(5).expect(&rt, "a packet");
-    let loads = match load(alloc, given) {
+    drive_all(&rt, rt.alloc(), ONE)
+}
+
+// Where a sender got no thread, the drive is not settled, and that sender has placed nothing.
+#[test]
+fn a_sender_without_a_thread_offers_nothing(rt: HostRuntime) -> Result<(), Fail> {
+    drive_all(&rt, rt.alloc(), THREE)
+}
+
+// Drives ports of these sizes.
+fn drive_all<R: Threads + Wait + Sync + Abort>(
+    rt: &R,
+    alloc: Global,
+    sizes: Sizes,
+) -> Result<(), Fail> {
+    assert!(rt; 1 <= sizes.ports && sizes.ports <= 64);
+    assert!(rt; 1 <= sizes.ring && sizes.ring <= 65_536);
+    let given = packet(5).expect(rt, "a packet");
+    let loads = match loads(alloc, sizes, given) {
         Ok(loads) => loads,
-        Err(_) => load(alloc, given)?,
+        Err(_) => loads(alloc, sizes, given)?,
     };
-    let device = retried(alloc, 4).expect(&rt, "memory");
-    driven::<Brand, Brand, _>(&rt, alloc, device, loads, Blank::new(65), Blank::new(65));
+    assert!(rt; loads.len() == sizes.ports);
+    let device = retried(alloc, 4).expect(rt, "memory");
+    driven::<Brand, Brand, _>(
+        rt,
+        alloc,
+        device,
+        sizes,
+        loads,
+        Blank::new(65),
+        Blank::new(65),
+    );
     Ok(())
 }
 
-// One load.
-fn load(alloc: Global, given: Packet) -> Result<Vec<Vec<Packet>>, AllocError> {
-    let mut loads = Vec::with_capacity(alloc, 1)?;
-    loads.push(vec![in alloc; given; PACKETS as usize]?)?;
+// A load for each port.
+fn loads(alloc: Global, sizes: Sizes, given: Packet) -> Result<Vec<Vec<Packet>>, AllocError> {
+    let mut loads = Vec::with_capacity(alloc, sizes.ports)?;
+    for _port in 0..sizes.ports {
+        loads.push(vec![in alloc; given; sizes.each as usize]?)?;
+    }
     Ok(loads)
 }
 
-// Drives one port. Where that is refused, all of the load is placed or, as the sender got no thread, nothing; what was placed is
+// Drives ports. Where that is refused, each port has placed all of its load or, as its sender got no thread, nothing; what was placed is
 // settled.
 fn driven<P: Ledger + Send + Sync, B: Ledger + Send + Sync, R: Threads + Wait + Sync + Abort>(
     rt: &R,
     alloc: Global,
     device: Device,
+    sizes: Sizes,
     loads: Vec<Vec<Packet>>,
     packets: Blank,
     bytes: Blank,
 )
     requires nothing { device.device.tree.top.arrived ≡ no_totals }
+    requires sizes { (1 ≤ sizes.ports) × (sizes.ports ≤ 64) × (1 ≤ sizes.ring) × (sizes.ring ≤ 65_536) }
+    requires loads { length loads.items ≡ sizes.ports }
     requires packets { (packets.name ≡ P.name) × (packets.parts ≡ P.parts) × (P.parts ≡ 65) }
     requires bytes { (bytes.name ≡ B.name) × (bytes.parts ≡ B.parts) × (B.parts ≡ 65) }
 {
-    assert!(rt; loads.len() == 1);
     let (booked, seat) = locked::<P, B>(device, packets, bytes);
-    let (drain, ports, _gauges) = open_one(rt, alloc, seat);
+    let (drain, ports, _gauges) = open_all(rt, alloc, seat, sizes.ports, sizes.ring);
     let start = Moment::zero();
     let share = match drive(
         rt, alloc, &booked, drain, ports, loads, &OpenGate, start, 1, TRIES,
     ) {
-        Ok(driven) => share_of(rt, driven),
-        Err(Unsettled { drain, ports }) => settle_placed(rt, &booked, drain, ports),
+        Ok(driven) => share_of(rt, sizes, driven),
+        Err(Unsettled { drain, ports }) => settle_placed(rt, &booked, sizes, drain, ports),
     };
     assert_totals(rt, row(rt, &booked).arrived, share);
 }
 
-// What a drive has settled, which is all of its load.
-fn share_of<P: Ledger, B: Ledger, R: Abort>(rt: &R, driven: Driven<P, B>) -> Share {
+// What a drive has settled, which is all of its loads.
+fn share_of<P: Ledger, B: Ledger, R: Abort>(rt: &R, sizes: Sizes, driven: Driven<P, B>) -> Share {
     let share = driven.settled.share();
-    assert_totals(rt, share, hundreds(PACKETS));
+    assert_totals(rt, share, all_of(sizes));
     assert_count(rt, driven.given_up, 0);
     share
+}
+
+// All that the loads have.
+fn all_of(sizes: Sizes) -> Share {
+    hundreds(sizes.each.saturating_mul(sizes.ports as u64))
 }
 
 // Settles what a refused drive placed, and answers how much that is.
 fn settle_placed<P: Ledger, B: Ledger, R: Wait + Abort>(
     rt: &R,
     booked: &Mutex<Booked<P, B>>,
+    sizes: Sizes,
     drain: Drain<P, B>,
     ports: Vec<Port>,
 ) -> Share
     requires parts { (P.parts ≡ 65) × (B.parts ≡ 65) }
     requires ports { map ring_of_port ports.items ≡ map ring_id drain.rings }
 {
-    let placed = placed(rt, &ports);
+    let placed = placed(rt, sizes, &ports);
     assert_totals(rt, settle(rt, booked, drain, ports), placed);
     placed
 }
 
-// What the port has placed, which is all or nothing.
-fn placed<R: Abort>(rt: &R, ports: &Vec<Port>) -> Share {
-    let placed = ports.first().expect(rt, "a port").share();
-    assert!(rt; placed == hundreds(0) || placed == hundreds(PACKETS));
-    placed
+// What the ports have placed, each all or nothing: nothing at one where its thread could not be started, and at each where no room for
+// senders could be had.
+fn placed<R: Abort>(rt: &R, sizes: Sizes, ports: &Vec<Port>) -> Share {
+    let mut full = 0u64;
+    for port in ports {
+        if is_full(rt, sizes, port) {
+            full = full.saturating_add(1);
+        }
+    }
+    let count = sizes.ports as u64;
+    assert!(rt; full == 0 || full >= count.saturating_sub(1));
+    hundreds(sizes.each.saturating_mul(full))
+}
+
+// Whether a port has placed all of its load, and not nothing.
+fn is_full<R: Abort>(rt: &R, sizes: Sizes, port: &Port) -> bool {
+    let share = port.share();
+    if share == hundreds(0) {
+        return false;
+    }
+    assert_totals(rt, share, hundreds(sizes.each));
+    true
 }
 
 // Opens a port, fills its ring, takes a turn and settles.
@@ -127,7 +202,7 @@ fn refused<P: Ledger, B: Ledger, R: Wait + Abort>(
     requires bytes { (bytes.name ≡ B.name) × (bytes.parts ≡ B.parts) × (B.parts ≡ 65) }
 {
     let (booked, seat) = locked::<P, B>(device, packets, bytes);
-    let (mut drain, mut ports, mut gauges) = open_one(rt, alloc, seat);
+    let (mut drain, mut ports, mut gauges) = open_all(rt, alloc, seat, 1, 128);
     fill(rt, &mut ports, PACKETS, given);
     turn(rt, alloc, &booked, &mut drain, &mut gauges);
     let share = settle(rt, &booked, drain, ports);
@@ -135,21 +210,25 @@ fn refused<P: Ledger, B: Ledger, R: Wait + Abort>(
     assert_totals(rt, row(rt, &booked).arrived, hundreds(PACKETS));
 }
 
-// A drain with a port and a gauge, at the second call where memory was refused.
-fn open_one<P: Ledger, B: Ledger, R: Wait + Abort>(
+// A drain with ports and a gauge, at the second call where memory was refused.
+fn open_all<P: Ledger, B: Ledger, R: Wait + Abort>(
     rt: &R,
     alloc: Global,
     seat: Seat<P, B>,
+    ports: usize,
+    ring: usize,
 ) -> (Drain<P, B>, Vec<Port>, Vec<Gauge>)
-    requires { seat ≡ held 65 0 0 }
-    ensures ports { map ring_of_port result.1.items ≡ map ring_id result.0.rings }
-    ensures one { length result.1.items ≡ 1 }
+    requires seat { seat ≡ held 65 0 0 }
+    requires ports { (1 ≤ ports) × (ports ≤ 64) }
+    requires ring { (1 ≤ ring) × (ring ≤ 65_536) }
+    ensures rings { map ring_of_port result.1.items ≡ map ring_id result.0.rings }
+    ensures ports { length result.1.items ≡ ports }
 {
-    let seat = match open_ports(rt, alloc, seat, 1, 128, 1) {
+    let seat = match open_ports(rt, alloc, seat, ports, ring, 1) {
         Ok(opened) => return opened,
         Err((seat, _)) => seat,
     };
-    match open_ports(rt, alloc, seat, 1, 128, 1) {
+    match open_ports(rt, alloc, seat, ports, ring, 1) {
         Ok(opened) => opened,
         Err(_) => panic!(rt; "refused twice"),
     }
