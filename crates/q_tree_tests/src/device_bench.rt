@@ -200,8 +200,8 @@ impl Seen {
     }
 }
 
-// What an event is answered; `None` where memory was refused.
-fn reply(device: &mut Device, event: Event) -> Option<Reply> {
+/// What an event is answered; `None` where memory was refused.
+pub fn reply(device: &mut Device, event: Event) -> Option<Reply> {
     match event {
         Event::Arrive(packet, now) => match device.arrive(packet, now) {
             Ok(fate) => Some(Reply::Fate(fate)),

@@ -7,6 +7,8 @@
 #[cfg(test)]
 mod bench;
 #[cfg(test)]
+mod chance;
+#[cfg(test)]
 mod device;
 #[cfg(test)]
 mod device_bench;
@@ -22,6 +24,22 @@ mod device_scripts;
 mod lines;
 #[cfg(test)]
 mod many_packets;
+#[cfg(test)]
+mod played;
+#[cfg(test)]
+mod rounds;
+#[cfg(test)]
+mod script;
+#[cfg(test)]
+mod service;
+#[cfg(test)]
+mod service_laws;
+#[cfg(test)]
+mod service_sweep;
+#[cfg(test)]
+mod service_time;
+#[cfg(test)]
+mod service_work;
 #[cfg(test)]
 mod sharing;
 #[cfg(test)]

@@ -40,6 +40,8 @@ pub enum New {
     FqCodel(u32),
     // So many flows.
     Flows(u32),
+    // A thousand flows with this quantum.
+    Fair(u32),
     // The burst; the rate is 1 mbit a second, and the limit 10,000 bytes.
     Tbf(u32),
     // The rate in bits a second and the burst; the limit is 1,000,000 bytes.
@@ -56,6 +58,7 @@ impl New {
             New::Bfifo(bytes) => Ok(Kind::Bfifo { limit: Some(bytes) }),
             New::FqCodel(limit) => fq_codel(Some(limit), 1),
             New::Flows(count) => fq_codel(None, count),
+            New::Fair(quantum) => fair(quantum),
             New::Prio(bands) => prio(bands),
             New::Drr => Ok(Kind::Drr),
             New::Tbf(burst) => tbf(1_000_000, burst, 10_000),
@@ -81,6 +84,11 @@ fn prio(bands: u8) -> Result<Kind, Fail> {
 
 fn fq_codel(limit: Option<u32>, flows: u32) -> Result<Kind, Fail> {
     let options = FqCodelOptions::new(limit, Some(flows), None, None, None, None, None);
+    Ok(Kind::FqCodel(options.ok_or("fq_codel")?))
+}
+
+fn fair(quantum: u32) -> Result<Kind, Fail> {
+    let options = FqCodelOptions::new(None, Some(1000), Some(quantum), None, None, None, None);
     Ok(Kind::FqCodel(options.ok_or("fq_codel")?))
 }
 

@@ -1,85 +1,11 @@
 //! What a play sends of each class of a drr, and of each flow of an fq_codel, while they stay backlogged: sums of lengths, and
 //! what quanta, deficits and credits make of them. A priority is a class or a flow. And what a tbf sends over each stretch of a play.
-use crate::device_bench::{Ask, add, add_event, arrival_at, command_at, poll_at, replies, room};
+use crate::device_bench::{Ask, add, add_event, poll_at, room};
 use crate::lines::{New, Spot};
-use q_device::{Event, Polled, Reply, Settings};
+use crate::script::{MOST, Script, given};
+use q_device::Reply;
 use std::alloc::Global;
 use std::test::Fail;
-
-// Most events of a script.
-const MOST: usize = 128;
-
-// What happens at moment 0.
-#[derive(Drop)]
-struct Script {
-    events: Vec<Event>,
-}
-
-impl Script {
-    fn new(alloc: Global) -> Result<Script, Fail> {
-        Ok(Script {
-            events: room(alloc, MOST)?,
-        })
-    }
-
-    fn tc(&mut self, lines: &[Ask]) -> Result<(), Fail> {
-        for line in lines {
-            add_event(&mut self.events, command_at(*line, 0))?;
-        }
-        Ok(())
-    }
-
-    // So many packets of a length.
-    fn packets(&mut self, count: u64, len: u16, prio: u8) -> Result<(), Fail> {
-        for number in 0..count {
-            add_event(&mut self.events, arrival_at(number, len, prio, 0))?;
-        }
-        Ok(())
-    }
-
-    // What a play of all this answers.
-    fn replies(&self, alloc: Global) -> Result<Vec<Reply>, Fail> {
-        let settings = Settings::new(1514, 100, 0).ok_or("settings")?;
-        replies(alloc, settings, self.events.as_slice())
-    }
-
-    fn add_polls(&mut self, count: usize) -> Result<(), Fail> {
-        for _ in 0..count {
-            add_event(&mut self.events, poll_at(0))?;
-        }
-        Ok(())
-    }
-
-    // The bytes of priority 1 and of priority 2 that so many further polls give.
-    fn polls(&mut self, alloc: Global, count: usize) -> Result<[u64; 2], Fail> {
-        let before = self.events.len();
-        self.add_polls(count)?;
-        let replies = self.replies(alloc)?;
-        let given = replies.get(before..).ok_or("replies")?;
-        Ok([bytes(given, 1), bytes(given, 2)])
-    }
-}
-
-// The bytes of the packet that a poll gave; 0 where it gave none.
-fn given(reply: &Reply) -> u64 {
-    match reply {
-        Reply::Polled(Polled::Packet(packet)) => u64::from(packet.len),
-        _ => 0,
-    }
-}
-
-// The bytes of the packets of a priority that polls gave.
-fn bytes(replies: &[Reply], prio: u8) -> u64 {
-    let mut sum = 0u64;
-    for reply in replies {
-        if let Reply::Polled(Polled::Packet(packet)) = reply {
-            if packet.prio == prio {
-                sum = sum.saturating_add(u64::from(packet.len));
-            }
-        }
-    }
-    sum
-}
 
 // A drr with classes of quanta 1000 and 500, and ten packets of 500 bytes for each.
 fn two_classes(alloc: Global) -> Result<Script, Fail> {
