@@ -85,8 +85,15 @@ fn drive_all<R: Threads + Wait + Sync + Abort>(
     };
     assert!(rt; loads.len() == sizes.ports);
     let device = retried(alloc, 4).expect(rt, "memory");
-    let (packets, bytes) = (Blank::new(65), Blank::new(65));
-    driven::<Brand, Brand, _>(rt, alloc, device, sizes, loads, packets, bytes);
+    driven::<Brand, Brand, _>(
+        rt,
+        alloc,
+        device,
+        sizes,
+        loads,
+        Blank::new(65),
+        Blank::new(65),
+    );
     Ok(())
 }
 

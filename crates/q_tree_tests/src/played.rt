@@ -1,5 +1,5 @@
 //! A device to which events happen one after the other, each of which is to be done; and a play of all of them.
-use crate::device_bench::{Ask, add, arrival_at, command_at, poll_at, replies, reply, room};
+use crate::device_bench::{Ask, arrival_at, command_at, poll_at, replies, reply, room};
 use q_device::{Device, Event, Fate, Polled, Reply, Settings};
 use std::alloc::Global;
 use std::test::Fail;
@@ -15,30 +15,52 @@ pub struct Played {
     mtu: u16,
 }
 
-/// What a poll comes to.
-#[derive(Clone, Copy, Debug)]
+/// What an event comes to.
+#[derive(Clone, Copy, PartialEq, Eq, Debug)]
 pub enum Answer {
-    /// A packet of this priority and length.
+    /// A poll gives a packet of this priority and length.
     Gives(u8, u16),
-    /// Nothing is queued.
+    /// A poll finds nothing queued.
     Idle,
-    /// Nothing may go yet.
+    /// A poll finds nothing that may go yet.
     Later,
+    /// A line was done, or a packet is queued.
+    Done,
+    /// It was refused.
+    Refused,
 }
 
-fn expect(holds: bool, what: &'static str) -> Result<(), Fail> {
-    if holds { Ok(()) } else { Err(Fail::from(what)) }
+fn answer_of(reply: &Reply) -> Answer {
+    match reply {
+        Reply::Polled(polled) => answer_to(polled),
+        Reply::Fate(Fate::Kept) | Reply::Done(Ok(())) => Answer::Done,
+        _ => Answer::Refused,
+    }
 }
 
-fn answer_of(reply: Reply) -> Answer {
-    let Reply::Polled(polled) = reply else {
-        return Answer::Later;
-    };
+fn answer_to(polled: &Polled) -> Answer {
     match polled {
         Polled::Packet(packet) => Answer::Gives(packet.prio, packet.len),
         Polled::Idle => Answer::Idle,
         Polled::Later => Answer::Later,
     }
+}
+
+fn expect(answer: Answer, what: &'static str) -> Result<(), Fail> {
+    if answer == Answer::Done {
+        Ok(())
+    } else {
+        Err(Fail::from(what))
+    }
+}
+
+// One item more, of which it reads nothing; whether there was room.
+fn keep<E: Copy>(items: &mut Vec<E>, item: E) -> bool {
+    if items.len() >= items.capacity() {
+        return false;
+    }
+    items.push_reserved(item);
+    true
 }
 
 fn settings(mtu: u16) -> Result<Settings, Fail> {
@@ -55,51 +77,45 @@ impl Played {
         })
     }
 
-    // What an event is answered. The functions of this file hand values on by `match`, since rattle refuses some of these with `?`.
-    fn happens(&mut self, event: Result<Event, Fail>) -> Result<Reply, Fail> {
+    // What an event comes to. Replies are noted and read in functions of their own, since rattle refuses to prove some that do both.
+    fn happens(&mut self, event: Result<Event, Fail>) -> Result<Answer, Fail> {
         match event {
             Ok(event) => self.done(event),
             Err(failed) => Err(failed),
         }
     }
 
-    fn done(&mut self, event: Event) -> Result<Reply, Fail> {
+    fn done(&mut self, event: Event) -> Result<Answer, Fail> {
         match reply(&mut self.device, event) {
             Some(reply) => self.note(reply),
             None => Err(Fail::from("memory")),
         }
     }
 
-    fn note(&mut self, reply: Reply) -> Result<Reply, Fail> {
-        match add(&mut self.replies, reply) {
-            Ok(()) => Ok(reply),
-            Err(failed) => Err(failed),
+    fn note(&mut self, reply: Reply) -> Result<Answer, Fail> {
+        let answer = answer_of(&reply);
+        if keep(&mut self.replies, reply) {
+            Ok(answer)
+        } else {
+            Err(Fail::from("no room for a reply"))
         }
     }
 
     /// A line is done.
     pub fn tc(&mut self, ask: Ask) -> Result<(), Fail> {
-        match self.happens(command_at(ask, 0)) {
-            Ok(reply) => expect(reply == Reply::Done(Ok(())), "a line was refused"),
-            Err(failed) => Err(failed),
-        }
+        expect(self.happens(command_at(ask, 0))?, "a line was refused")
     }
 
     /// A packet of this length and priority is queued.
     pub fn arrive(&mut self, len: u16, prio: u8, ns: u64) -> Result<(), Fail> {
         let number = self.replies.len() as u64;
-        match self.happens(arrival_at(number, len, prio, ns)) {
-            Ok(reply) => expect(reply == Reply::Fate(Fate::Kept), "a packet was lost"),
-            Err(failed) => Err(failed),
-        }
+        let answer = self.happens(arrival_at(number, len, prio, ns))?;
+        expect(answer, "a packet was lost")
     }
 
-    /// What a poll is answered.
+    /// What a poll comes to.
     pub fn poll(&mut self, ns: u64) -> Result<Answer, Fail> {
-        match self.happens(poll_at(ns)) {
-            Ok(reply) => Ok(answer_of(reply)),
-            Err(failed) => Err(failed),
-        }
+        self.happens(poll_at(ns))
     }
 
     /// From which nanosecond on a poll may give a packet.

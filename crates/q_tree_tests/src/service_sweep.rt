@@ -153,7 +153,7 @@ impl Play {
                 Some((usize::from(prio).saturating_sub(1), i64::from(len)))
             }
             Answer::Idle => None,
-            Answer::Later => return Err(Fail::from("later")),
+            _ => return Err(Fail::from("later")),
         };
         if self.rounds.polled(given) {
             Ok(())
@@ -326,14 +326,18 @@ impl Watch {
     }
 }
 
-fn sweep(alloc: Global, seed: u64, has_flows: bool) -> Result<u64, Fail> {
-    let mut play = opened(alloc, seed, has_flows)?;
+fn run_all(play: &mut Play, alloc: Global) -> Result<u64, Fail> {
     let intervals = play.run()?;
     if play.played.is_played(alloc)? {
         Ok(intervals)
     } else {
         Err(Fail::from("another reply"))
     }
+}
+
+fn sweep(alloc: Global, seed: u64, has_flows: bool) -> Result<u64, Fail> {
+    let mut play = opened(alloc, seed, has_flows)?;
+    run_all(&mut play, alloc)
 }
 
 fn sweep_all(alloc: Global, has_flows: bool) -> Result<u64, Fail> {

@@ -112,13 +112,14 @@ fn prio(i: usize) -> u8 {
     u8::try_from(i).unwrap_or(0).saturating_add(1)
 }
 
-fn opened(alloc: Global, link: Link, burst: u32) -> Result<Drained, Fail> {
+// A device on which nothing was done.
+fn opened(alloc: Global, link: Link) -> Result<Drained, Fail> {
     let none = Wait {
         ns: 0,
         all: 0,
         class: 0,
     };
-    let mut drained = Drained {
+    Ok(Drained {
         waits: room(alloc, WAITS)?,
         played: Played::new(alloc, link.mtu)?,
         link,
@@ -126,9 +127,7 @@ fn opened(alloc: Global, link: Link, burst: u32) -> Result<Drained, Fail> {
         ns: 0,
         last: none,
         is_waiting: false,
-    };
-    drained.set_up(burst)?;
-    Ok(drained)
+    })
 }
 
 impl Drained {
@@ -197,7 +196,7 @@ impl Drained {
                 self.is_waiting = true;
                 Ok(false)
             }
-            Answer::Idle => Err(Fail::from("idle")),
+            _ => Err(Fail::from("idle")),
         }
     }
 
@@ -269,20 +268,25 @@ fn random_link(chance: &mut Chance) -> (Link, u32) {
     (link, burst)
 }
 
-fn sweep(alloc: Global, seed: u64) -> Result<u64, Fail> {
-    let mut chance = Chance::new(seed);
-    let (link, burst) = random_link(&mut chance);
-    let mut drained = opened(alloc, link, burst)?;
+fn run(drained: &mut Drained, alloc: Global, burst: u32, chance: &mut Chance) -> Result<u64, Fail> {
+    drained.set_up(burst)?;
     for _wait in 0..40 {
-        drained.drain(&mut chance)?;
-        drained.disturb(&mut chance)?;
+        drained.drain(chance)?;
+        drained.disturb(chance)?;
         drained.wait()?;
     }
     if drained.played.is_played(alloc)? {
-        link.holds(drained.waits.as_slice())
+        drained.link.holds(drained.waits.as_slice())
     } else {
         Err(Fail::from("another reply"))
     }
+}
+
+fn sweep(alloc: Global, seed: u64) -> Result<u64, Fail> {
+    let mut chance = Chance::new(seed);
+    let (link, burst) = random_link(&mut chance);
+    let mut drained = opened(alloc, link)?;
+    run(&mut drained, alloc, burst, &mut chance)
 }
 
 #[test]
@@ -305,6 +309,7 @@ const CUSTOMERS: Link = Link {
 
 // Both customers always have packets of 1500 bytes.
 fn serve(customers: &mut Drained) -> Result<(), Fail> {
+    customers.set_up(1515)?;
     for _wait in 0..1_668 {
         customers.keep(0, 1500)?;
         customers.keep(1, 1500)?;
@@ -317,19 +322,31 @@ fn serve(customers: &mut Drained) -> Result<(), Fail> {
     Ok(())
 }
 
+// The first time at which no packet came, and the one after 1666 packets more.
+fn served(customers: &mut Drained, alloc: Global) -> Result<[Wait; 2], Fail> {
+    serve(customers)?;
+    if !customers.played.is_played(alloc)? {
+        return Err(Fail::from("another reply"));
+    }
+    let first = *customers.waits.get(0).ok_or("a wait")?;
+    let last = *customers.waits.get(1666).ok_or("a wait")?;
+    Ok([first, last])
+}
+
+fn second(alloc: Global) -> Result<[Wait; 2], Fail> {
+    let mut customers = opened(alloc, CUSTOMERS)?;
+    served(&mut customers, alloc)
+}
+
 // A packet takes 600 us, and the second one comes 594 us after the first, as the burst has 15 bytes more than that has. So 1666 packets
 // follow the first one within a second. Of each three that the drr takes two are the first customer's, and it takes the third and the
 // 1668th, which are the other's, in that time: 1110 packets are the first's, where `share_in_time` promises 1,661,136 bytes.
 #[test]
 fn two_customers_share_20_mbit_for_a_second(rt: HostRuntime) -> Result<(), Fail> {
-    let mut customers = opened(rt.alloc(), CUSTOMERS, 1515)?;
-    serve(&mut customers)?;
-    let first = *customers.waits.get(0).ok_or("a wait")?;
-    let last = *customers.waits.get(1666).ok_or("a wait")?;
+    let [first, last] = second(rt.alloc())?;
     assert_eq!(rt; (first.ns, last.ns), (0, 999_594_000));
     assert_eq!(rt; last.all.saturating_sub(first.all), 1666 * 1500);
     assert_eq!(rt; last.class.saturating_sub(first.class), 1110 * 1500);
     assert!(rt; CUSTOMERS.delivers(&first, &last) && CUSTOMERS.shares(&first, &last));
-    assert!(rt; customers.played.is_played(rt.alloc())?);
     Ok(())
 }

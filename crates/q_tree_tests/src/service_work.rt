@@ -63,7 +63,7 @@ impl Queued {
                 self.idle = self.idle.saturating_add(1);
                 self.all() == 0
             }
-            Answer::Later => false,
+            _ => false,
         }
     }
 }
@@ -129,15 +129,19 @@ fn run(played: &mut Played, chance: &mut Chance) -> Result<Queued, Fail> {
     Ok(queued)
 }
 
-fn sweep(alloc: Global, seed: u64) -> Result<Queued, Fail> {
-    let mut played = Played::new(alloc, 1514)?;
-    set_up(&mut played)?;
-    let queued = run(&mut played, &mut Chance::new(seed))?;
+fn run_all(played: &mut Played, alloc: Global, seed: u64) -> Result<Queued, Fail> {
+    set_up(played)?;
+    let queued = run(played, &mut Chance::new(seed))?;
     if played.is_played(alloc)? {
         Ok(queued)
     } else {
         Err(Fail::from("another reply"))
     }
+}
+
+fn sweep(alloc: Global, seed: u64) -> Result<Queued, Fail> {
+    let mut played = Played::new(alloc, 1514)?;
+    run_all(&mut played, alloc, seed)
 }
 
 #[test]

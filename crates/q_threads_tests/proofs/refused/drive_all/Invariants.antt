@@ -1,4 +1,4 @@
-use Rattle.q_threads_tests.proofs.refused.a_refused_drive_settles_later.Given as goal
+use Rattle.q_threads_tests.proofs.refused.drive_all.Given as goal
 
 -- the two ledgers of each book that is made there
 abbrev pub ghosts-driven-P-Ledger : goal.ghosts-driven-P-Ledger
