@@ -8,6 +8,8 @@
 #[cfg(test)]
 mod answers;
 #[cfg(test)]
+mod chance;
+#[cfg(test)]
 mod command_lines;
 #[cfg(test)]
 mod drained;
@@ -24,6 +26,10 @@ mod lines;
 #[cfg(test)]
 mod messages;
 #[cfg(test)]
+mod random_commands;
+#[cfg(test)]
+mod random_events;
+#[cfg(test)]
 mod runs;
 #[cfg(test)]
 mod scripts_on_a_device;
@@ -31,5 +37,7 @@ mod scripts_on_a_device;
 mod seen;
 #[cfg(test)]
 mod shows;
+#[cfg(test)]
+mod spelled;
 #[cfg(test)]
 mod streams;
