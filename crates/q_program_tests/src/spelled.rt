@@ -40,15 +40,11 @@ fn a_line_says_its_event(rt: HostRuntime) -> Result<(), Fail> {
 }
 
 fn is_read_back(event: &Event) -> bool {
-    match line_read(event) {
-        Some(line) => says(&line, event),
-        None => false,
-    }
-}
-
-// What the line of an event is read as; it promises nothing.
-fn line_read(event: &Event) -> Option<Line> {
-    read_line(event_text(event).as_bytes()).ok()
+    let text = event_text(event);
+    let Ok(line) = read_line(text.as_bytes()) else {
+        return false;
+    };
+    says(&line, event)
 }
 
 // Whether a line says this event.
