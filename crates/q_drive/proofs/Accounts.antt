@@ -2,17 +2,18 @@
 use Rattle.std.proofs.Common.{◌≡◌, ◌∙◌, ℕ, zero, suc, ◌+◌, ◌*◌, ◌<◌, ◌≤◌, Bool, true, false, List, [], ◌∷◌, length, get_or, map, replicate, refl, sym, ap, ap₂, subst, arith, add-mul, suc-mul, mul-le-mul, zero-mul}
 use Rattle.std.proofs.lemmas.List.{get_or-map, get_or-replicate, length_push}
 use Rattle.std.proofs.lemmas.List.Sums.{sum_by-cons, sum_by_push}
-use Rattle.std.specs.Prelude.{sum_by}
+use Rattle.std.specs.Prelude.{◌^◌, sum_by, All}
 use Rattle.std.specs.List.{fold}
 use Rattle.q_packet.specs.Descriptor.{Descriptor}
 use Rattle.q_model.specs.declared.totals.Totals.{Totals}
 use Rattle.q_ports.specs.declared.sender.Sent.{Sent}
 use Rattle.q_ports.specs.Driven.{HasDriven, port_in, rest_of}
 use Rattle.q_ports.specs.Offered.{Offer, Offered, given_up_in, offering, packet_in}
-use Rattle.q_ports.specs.Placed.{PortSeen, bytes_in, placed_by, port_seen, share_of, written}
+use Rattle.q_ports.specs.Placed.{PortSeen, bytes_in, placed_by, port_seen, share_of, written, HasRing}
 use Rattle.q_ports.specs.Turned.{DrainSeen}
 use Rattle.q_ports.proofs.RingLemmas.{no_ring}
 use Rattle.q_drive.specs.Drive.{Drive, IsInRange}
+use Rattle.q_drive.specs.Driven.{IsPaced}
 use Rattle.q_drive.specs.Loads.{AreLoads, packet_of}
 
 -- so many packets were placed or given up, and those that were placed have this length
@@ -116,3 +117,21 @@ accounted {start} {step} {tries} {drain} s ports loads share given_up range long
     let all : (share_of (lists d.after)).packets + sum_by rest_of d.after ≡ s.senders * s.count = sent.all ∙ ap (λ n. n * s.count) count in
     let rest : given_up ≡ sum_by rest_of d.after = omega (arith, d.rest, all, few) in
     subst (λ (t : Totals). IsAccounted s t given_up) (sym d.settled) (record { all = omega (arith, all, rest); bytes = sent.bytes })
+
+-- ---- the pace
+
+pub at_pace : (s : Drive) (start step tries : ℕ) (drain : DrainSeen) (ports : List PortSeen) (loads : List (List Descriptor)) (share : Totals) (given_up : ℕ)
+    → start ≡ 0 → step ≡ 1000 → tries ≡ 10 ^ 9 → map placed_by ports ≡ replicate s.senders [] → All (HasRing s.ring) ports → AreLoads s s.senders loads
+    → HasDriven start step tries drain ports loads share given_up → IsPaced s share given_up
+at_pace s start step tries drain ports loads share given_up is_start is_step is_tries nothing lengths are_loads driven =
+    let started = subst (λ (n : ℕ). HasDriven n step tries drain ports loads share given_up) is_start driven in
+    let stepped = subst (λ (n : ℕ). HasDriven 0 n tries drain ports loads share given_up) is_step started in
+    record {
+      drain = drain;
+      ports = ports;
+      loads = loads;
+      nothing = nothing;
+      lengths = lengths;
+      are_loads = are_loads;
+      driven = subst (λ (n : ℕ). HasDriven 0 1000 n drain ports loads share given_up) is_tries stepped;
+    }

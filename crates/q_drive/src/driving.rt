@@ -1,7 +1,7 @@
 ghost use Rattle.std.specs.Prelude.{◌≡◌, ◌+◌, ◌*◌, [], length, map, replicate, All, IfSome};
 ghost use Rattle.q_device.specs.DeviceLaws.{IsLawfulDevice, IsReplayed, IsReplayOfRecorded};
 ghost use Rattle.q_drive.specs.Drained.{IsDrainedIf};
-ghost use Rattle.q_drive.specs.Driven.{HasDriven};
+ghost use Rattle.q_drive.specs.Driven.{HasDriven, IsPaced};
 ghost use Rattle.q_drive.specs.Loads.{AreLoads};
 ghost use Rattle.q_model.specs.Tally.{no_totals};
 ghost use Rattle.q_ports.specs.Driven.{packets_of};
@@ -82,6 +82,7 @@ fn drive_seat<P: Ledger + Send + Sync, B: Ledger + Send + Sync, R: Threads + Wai
     requires seat { seat ≡ held 65 0 0 }
     ensures all { IfSome result (λ d. d.settled.packets + d.given_up ≡ settings.now.senders * settings.now.count) }
     ensures bytes { IfSome result (λ d. d.settled.bytes ≡ d.settled.packets * settings.now.len) }
+    ensures paced { IfSome result (λ d. IsPaced settings.now d.settled d.given_up) }
 {
     match loads(alloc, settings) {
         Ok(loads) => drive_loads(rt, alloc, lock, seat, loads, settings),
@@ -103,6 +104,7 @@ fn drive_loads<P: Ledger + Send + Sync, B: Ledger + Send + Sync, R: Threads + Wa
     requires loads { AreLoads settings.now settings.now.senders (map packets_of loads.items) }
     ensures all { IfSome result (λ d. d.settled.packets + d.given_up ≡ settings.now.senders * settings.now.count) }
     ensures bytes { IfSome result (λ d. d.settled.bytes ≡ d.settled.packets * settings.now.len) }
+    ensures paced { IfSome result (λ d. IsPaced settings.now d.settled d.given_up) }
 {
     settings.ranges();
     let Some((drain, ports)) = open_drain(rt, alloc, seat, settings) else {

@@ -123,10 +123,7 @@ impl RawDevice {
         (code, row)
     }
 
-    pub(crate) fn service(
-        &self,
-        (place, major, minor): (u32, u16, u16),
-    ) -> (u32, sys::Promise) {
+    pub(crate) fn service(&self, (place, major, minor): (u32, u16, u16)) -> (u32, sys::Promise) {
         let mut promise = sys::Promise::default();
         // SAFETY: the device is open, and `promise` is another place.
         let code = unsafe { sys::qtree_service(&self.0, place, major, minor, &mut promise) };

@@ -8,6 +8,7 @@ returns g c =
     record {
       all = rw (ended.settled, ended.given_up) c.in_ok-driven.ensures.all;
       bytes = rw (ended.settled) c.in_ok-driven.ensures.bytes;
+      paced = rw (ended.settled, ended.given_up) c.in_ok-driven.ensures.paced;
       arrived = ended.arrived ∙ sym ended.settled;
       left = c.into_inner-booked.result;
       left_arrived = ended.left ∙ sym ended.settled;
