@@ -2,8 +2,10 @@
  *
  *     bench [PACKETS [ROUNDS]]     so many packets for each row, by default 2,000,000, in 5 rounds
  *
- * Packets also arrive by their first bytes, one at a time, by qtree_arrive_frame and qtree_poll_buf, with the hash of the packet. The last
- * two rows are for reading a header with a hash and without.
+ * Packets also arrive by their first bytes, one at a time, by qtree_arrive_frame and qtree_poll_buf, with the hash of the packet; 32 at a
+ * time also leave by qtree_poll_bufs, and are placed in the ring by qtree_offer_many. Two rows are for reading a header with a hash and
+ * without. The last is for two threads at once, each with a device of its own, whose structs stand side by side or far apart: the
+ * processor time of the slower thread for a packet, which is the same as long as no call writes to a struct.
  *
  * Packets are made before, 8192 of them in turn, and some are queued first. Trees, packets and times are those of the rows of the same
  * names that bench/run measures from Rattle. A row is the least of the rounds, in nanoseconds a packet. */
@@ -11,10 +13,12 @@
 #include "check.h"
 #include "qtree.h"
 
+#include <pthread.h>
+#include <stdalign.h>
 #include <string.h>
 #include <time.h>
 
-enum { BATCH = 32, MADE = 8192, CLASSES = 8, FIRST_PORT = 5000, HEAD = 28, MTU = 1514 };
+enum { BATCH = 32, MADE = 8192, CLASSES = 8, FIRST_PORT = 5000, HEAD = 28, MTU = 1514, PAGE = 4096 };
 
 /* What a row sets up: the root's kind, the leaf in each class of a drr if there is one, and the packets. */
 struct row {
@@ -40,11 +44,13 @@ static qtree_packet made[MADE];
 /* Headers of UDP packets of the same flows, with the priority 0. */
 static uint8_t heads[MADE][HEAD];
 
-static double seconds(void) {
+static double seconds_of(clockid_t clock) {
     struct timespec now;
-    clock_gettime(CLOCK_MONOTONIC, &now);
+    clock_gettime(clock, &now);
     return (double)now.tv_sec + (double)now.tv_nsec * 1e-9;
 }
+
+static double seconds(void) { return seconds_of(CLOCK_MONOTONIC); }
 
 /* Marsaglia's xorshift: a number below this one, the same in every run. */
 static uint32_t below(uint64_t *state, uint32_t end) {
@@ -132,7 +138,34 @@ static double in_batches(const struct row *row, qtree_device *device, uint32_t p
     return (seconds() - begun) / (packets / BATCH * BATCH);
 }
 
-static double by_ring(const struct row *row, qtree_device *device, uint32_t packets) {
+static double by_bufs(const struct row *row, qtree_device *device, uint32_t packets) {
+    qtree_sent given[BATCH];
+    uint8_t codes[BATCH];
+    size_t count;
+    double begun = seconds();
+    for (uint32_t at = 0; at + BATCH <= packets; at += BATCH) {
+        uint64_t now = (uint64_t)at * row->step;
+        const qtree_packet *sent = &made[at % MADE];
+        CHECK(qtree_arrive_many(device, sent, BATCH, codes, BATCH, &count, now) == QTREE_DONE && count == BATCH);
+        CHECK(qtree_poll_bufs(device, now, given, BATCH, &count) == QTREE_DONE && count == BATCH);
+        CHECK(given[0].len == 1000);
+    }
+    return (seconds() - begun) / (packets / BATCH * BATCH);
+}
+
+/* Places the packets from this one on in the ring, in one call or in as many. */
+static void place(qtree_port *port, uint32_t at, bool is_many) {
+    size_t placed;
+    if (is_many) {
+        CHECK(qtree_offer_many(port, &made[at % MADE], BATCH, &placed) == QTREE_DONE && placed == BATCH);
+        return;
+    }
+    for (uint32_t i = 0; i < BATCH; i++) {
+        CHECK(qtree_offer(port, &made[(at + i) % MADE]) == QTREE_DONE);
+    }
+}
+
+static double by_a_ring(const struct row *row, qtree_device *device, uint32_t packets, bool is_many) {
     qtree_port port = QTREE_CLOSED;
     qtree_outlet outlet = QTREE_CLOSED;
     qtree_packet given[BATCH];
@@ -141,9 +174,7 @@ static double by_ring(const struct row *row, qtree_device *device, uint32_t pack
     double begun = seconds();
     for (uint32_t at = 0; at + BATCH <= packets; at += BATCH) {
         uint64_t now = (uint64_t)at * row->step;
-        for (uint32_t i = 0; i < BATCH; i++) {
-            CHECK(qtree_offer(&port, &made[(at + i) % MADE]) == QTREE_DONE);
-        }
+        place(&port, at, is_many);
         CHECK(qtree_take_in(device, &outlet, now, BATCH, &count) == QTREE_DONE && count == BATCH);
         CHECK(qtree_poll_many(device, now, given, BATCH, &count) == QTREE_DONE && count == BATCH);
         CHECK(given[0].len == 1000);
@@ -153,6 +184,10 @@ static double by_ring(const struct row *row, qtree_device *device, uint32_t pack
     qtree_outlet_close(&outlet);
     return taken / (packets / BATCH * BATCH);
 }
+
+static double by_ring(const struct row *row, qtree_device *device, uint32_t packets) { return by_a_ring(row, device, packets, false); }
+
+static double by_ring_many(const struct row *row, qtree_device *device, uint32_t packets) { return by_a_ring(row, device, packets, true); }
 
 /* Every packet that arrived was sent or is queued, and in an fq_codel none was dropped. */
 static double least(double (*play)(const struct row *, qtree_device *, uint32_t), const struct row *row, uint32_t packets, uint32_t rounds) {
@@ -190,6 +225,53 @@ static double read_heads(bool is_hashed, uint32_t packets, uint32_t rounds) {
     return best * 1e9;
 }
 
+/* What one of two threads has: the place of its device, and what it measures there. */
+struct side {
+    qtree_device *device;
+    pthread_barrier_t *start;
+    uint32_t packets;
+    double cost;
+};
+
+static void *play_side(void *of) {
+    struct side *side = of;
+    open_with(side->device, &rows[0]);
+    pthread_barrier_wait(side->start);
+    double begun = seconds_of(CLOCK_THREAD_CPUTIME_ID);
+    one_at_a_time(&rows[0], side->device, side->packets);
+    side->cost = (seconds_of(CLOCK_THREAD_CPUTIME_ID) - begun) / side->packets;
+    qtree_close(side->device);
+    return NULL;
+}
+
+/* The processor time of a packet of the slower of two threads, whose devices' structs are so many bytes apart. */
+static double two_devices(size_t apart, uint32_t packets) {
+    alignas(PAGE) static uint8_t memory[2 * PAGE];
+    pthread_barrier_t start;
+    pthread_t thread;
+    memset(memory, 0, sizeof memory);
+    CHECK(pthread_barrier_init(&start, NULL, 2) == 0);
+    struct side here = { (qtree_device *)(void *)memory, &start, packets, 0 };
+    struct side there = { (qtree_device *)(void *)(memory + apart), &start, packets, 0 };
+    CHECK(pthread_create(&thread, NULL, play_side, &there) == 0);
+    play_side(&here);
+    CHECK(pthread_join(thread, NULL) == 0 && pthread_barrier_destroy(&start) == 0);
+    return (here.cost > there.cost ? here.cost : there.cost) * 1e9;
+}
+
+/* Both in turn, the least of the rounds of each. */
+static void print_two_devices(uint32_t packets, uint32_t rounds) {
+    double beside = 1e9, apart = 1e9;
+    make_packets(&rows[0]);
+    for (uint32_t round = 0; round < rounds; round++) {
+        double near = two_devices(sizeof(qtree_device), packets), far = two_devices(PAGE, packets);
+        beside = near < beside ? near : beside;
+        apart = far < apart ? far : apart;
+    }
+    printf("%-36s %7.1f ns %zu bytes apart %7.1f ns %d bytes apart %6.2f times\n", "two threads, their devices", beside, sizeof(qtree_device),
+           apart, PAGE, beside / apart);
+}
+
 int main(int argc, char **argv) {
     uint32_t packets = argc > 1 ? (uint32_t)strtoul(argv[1], NULL, 10) : 2000000;
     uint32_t rounds = argc > 2 ? (uint32_t)strtoul(argv[2], NULL, 10) : 5;
@@ -198,10 +280,13 @@ int main(int argc, char **argv) {
         make_packets(&rows[i]);
         printf("%-36s %7.1f ns one at a time %7.1f ns by %d", rows[i].name, least(one_at_a_time, &rows[i], packets, rounds),
                least(in_batches, &rows[i], packets, rounds), BATCH);
-        printf(" %7.1f ns by a ring %7.1f ns from its bytes\n", least(by_ring, &rows[i], packets, rounds),
+        printf(" %7.1f ns by poll_bufs %7.1f ns from its bytes", least(by_bufs, &rows[i], packets, rounds),
                least(from_bytes, &rows[i], packets, rounds));
+        printf(" %7.1f ns by a ring %7.1f ns by offer_many\n", least(by_ring, &rows[i], packets, rounds),
+               least(by_ring_many, &rows[i], packets, rounds));
     }
     printf("%-36s %7.1f ns\n", "qtree_read_head", read_heads(true, packets, rounds));
     printf("%-36s %7.1f ns\n", "qtree_read_fields", read_heads(false, packets, rounds));
+    print_two_devices(packets, rounds);
     return 0;
 }

@@ -380,6 +380,30 @@ static void offer(qtree_device *device, struct input *input) {
     }
 }
 
+/* Packets are placed up to the first that is out of range or finds no place, and those that are placed are in the share. */
+static void offer_many(qtree_device *device, struct input *input) {
+    (void)device;
+    qtree_port *port = &ports[take(input, 1) % 2];
+    qtree_packet packets[3 * PLACES];
+    size_t count = (size_t)take(input, 1) % (3 * PLACES + 1), placed = 99;
+    uint64_t bytes = 0;
+    for (size_t i = 0; i < count; i++) {
+        packets[i] = packet(input);
+    }
+    qtree_count before = { 0, 0 }, after = { 0, 0 };
+    qtree_code shared = qtree_port_share(port, &before), code = qtree_offer_many(port, packets, count, &placed);
+    CHECK(code == QTREE_DONE || code == QTREE_FULL || code == QTREE_OUT_OF_RANGE || code == QTREE_IS_CLOSED);
+    CHECK((code == QTREE_IS_CLOSED) == (shared == QTREE_IS_CLOSED) && (code != QTREE_IS_CLOSED || placed == 0));
+    CHECK(code == QTREE_DONE ? placed == count : code == QTREE_IS_CLOSED || placed < count);
+    for (size_t i = 0; i < placed; i++) {
+        bytes += packets[i].len;
+    }
+    CHECK(qtree_port_share(port, &after) == shared && after.packets == before.packets + placed && after.bytes == before.bytes + bytes);
+    if (code == QTREE_FULL || code == QTREE_OUT_OF_RANGE) {
+        CHECK(qtree_offer(port, &packets[placed]) == code);
+    }
+}
+
 /* What is taken in is what the device counts as arrived. */
 static void take_in(qtree_device *device, struct input *input) {
     qtree_outlet *outlet = &outlets[take(input, 1) % 2];
@@ -409,7 +433,7 @@ static void adds_up(qtree_device *device) {
 int LLVMFuzzerTestOneInput(const uint8_t *data, size_t size);
 int LLVMFuzzerTestOneInput(const uint8_t *data, size_t size) {
     static void (*const each[])(qtree_device *, struct input *) = {
-        single, command, arrive_frame, arrive_many, poll_many, poll_bufs, reap, show, look, open_or_close, open_or_close_ring, offer, take_in,
+        single, command, arrive_frame, arrive_many, poll_many, poll_bufs, reap, show, look, open_or_close, open_or_close_ring, offer, offer_many, take_in,
     };
     static bool is_begun;
     if (!is_begun) {

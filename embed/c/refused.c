@@ -195,7 +195,8 @@ static void play_packets(void) {
     for (uint32_t i = 0; i < PLACES; i++) {
         qtree_packet given = packet(PACKETS + i);
         granted = 0;
-        CHECK(qtree_offer(&port, &given) == QTREE_DONE);
+        size_t placed;
+        CHECK(i % 2 == 0 ? qtree_offer(&port, &given) == QTREE_DONE : qtree_offer_many(&port, &given, 1, &placed) == QTREE_DONE);
         granted = -1;
     }
     for (uint32_t i = 0; i < PLACES; i++) {

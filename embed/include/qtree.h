@@ -350,6 +350,12 @@ qtree_code qtree_ring_open(qtree_port *port, qtree_outlet *outlet, uint32_t inde
  * QTREE_DONE, QTREE_FULL, QTREE_OUT_OF_RANGE, QTREE_IS_CLOSED. */
 qtree_code qtree_offer(qtree_port *port, const qtree_packet *packet);
 
+/* Places packets in the ring in order, each as qtree_offer does, up to the first that is not placed, for the reason that the result
+ * says. placed is how many are, and the packets from there on are as if they had not been offered. The thread that has the outlet
+ * sees up to 16 of them at once, so that a packet costs less than an offer of its own.
+ * QTREE_DONE, QTREE_FULL, QTREE_OUT_OF_RANGE, QTREE_IS_CLOSED. */
+qtree_code qtree_offer_many(qtree_port *port, const qtree_packet *packets, size_t count, size_t *placed);
+
 /* Packets of the ring arrive at the device in order, and each leaves the ring when it has: as many as wait, but at most so many.
  * taken is how many did. Where an allocation fails (QTREE_MEMORY) those have arrived, and the next one stays in the ring. A packet
  * that the device loses on arrival counts too, and is to be reaped.

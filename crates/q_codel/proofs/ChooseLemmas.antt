@@ -6,7 +6,7 @@ use Rattle.std.proofs.lemmas.Bool.{cases_Bool, cond-false, and_parts, ltb-true}
 use Rattle.q_packet.specs.Totals.{size}
 use Rattle.q_packet.specs.declared.stamped.Stamped.{Stamped}
 use Rattle.q_codel.specs.Codel.{CodelState, CodelParams, CodelVars, joined, is_standing, is_late, is_capable, is_markable, moment, begun, above_after, count_after, Chooses}
-use Rattle.q_codel.proofs.Law.{drops-is, stops-early, marks_at, Chooses-of, Chooses-at, above-late}
+use Rattle.q_codel.proofs.Law.{drops_is, stops_early, marks_at, Chooses_of, Chooses_at, above_late}
 
 -- a late head has a packet behind it
 pub late_has_two : (s : CodelState) (now : ℕ) (head : Stamped) (rest : List Stamped) → is_late s now (head ∷ rest) ≡ true → 0 < length rest
@@ -21,7 +21,7 @@ late_has_two s now head (x ∷ rest) late = omega arith
 -- a look at a late head leaves the state as it is
 pub unmoved : (p : CodelParams) (u v : CodelVars) (now : ℕ) (head : Stamped) (rest : List Stamped) → is_late (joined p u) now (head ∷ rest) ≡ true
     → v ≡ record u { first_above_time = above_after (joined p u) now (head ∷ rest) } → v ≡ u
-unmoved p u v now head rest late noted = noted ∙ ap (λ (a : ℕ). record u { first_above_time = a }) (above-late (joined p u) now head rest late)
+unmoved p u v now head rest late noted = noted ∙ ap (λ (a : ℕ). record u { first_above_time = a }) (above_late (joined p u) now head rest late)
 
 -- a head that is not late goes, and dropping ends
 module _ (p : CodelParams) (u v : CodelVars) (now : ℕ) (head : Stamped) (rest : List Stamped) (counted : u.count < 2 ^ 32) (early : is_late (joined p u) now (head ∷ rest) ≡ false) (noted : v ≡ record u { first_above_time = above_after (joined p u) now (head ∷ rest) }) where
@@ -43,15 +43,15 @@ module _ (p : CodelParams) (u v : CodelVars) (now : ℕ) (head : Stamped) (rest 
   while_dropping dropping =
       let same : count_after s 0 ≡ u.count = omega arith in
       subst (λ (n : ℕ). Chooses s now all head false rest (record s { count = n; dropping = false; first_above_time = above_after s now all })) same
-      (Chooses-at s now all 0 head rest false false dropping
-      (drops-is s now all 0 dropping (omega arith) (λ i below. absurd (omega arith)) (stops-early s now all 0 early))
+      (Chooses_at s now all 0 head rest false false dropping
+      (drops_is s now all 0 dropping (omega arith) (λ i below. absurd (omega arith)) (stops_early s now all 0 early))
       refl unmarked early)
 
   at_rest : u.dropping ≡ false → Chooses s now all head false rest ended
   unfolding s all ended
   at_rest resting =
       subst (λ (d : Bool). Chooses s now all head false rest (record s { first_above_time = above_after s now all; dropping = d })) resting
-      (Chooses-of s now all 0 head rest false s
+      (Chooses_of s now all 0 head rest false s
       (cond-false s.dropping _ _ resting ∙ ap (λ (b : Bool). if b && not (is_markable s all) then 1 else 0) early)
       refl
       (cond-false s.dropping _ _ resting ∙ ap (λ (b : Bool). b && is_markable s all) early)
@@ -70,7 +70,7 @@ pub chosen_behind : (p : CodelParams) (u v w x : CodelVars) (now : ℕ) (head : 
     → Chooses (joined p u) now (head ∷ rest) next false behind (joined p x)
 chosen_behind p u v w x now head rest next behind resting late same plain begins rest_is noted =
     subst (λ (t : CodelState). Chooses (joined p u) now (head ∷ rest) next false behind t) (sym last)
-    (Chooses-of (joined p u) now (head ∷ rest) 1 next behind false (begun (joined p u) now)
+    (Chooses_of (joined p u) now (head ∷ rest) 1 next behind false (begun (joined p u) now)
     (cond-false u.dropping _ _ resting
     ∙ ap (λ (b : Bool). if b && not (p.ecn && is_capable head.packet.ecn) then 1 else 0) late
     ∙ ap (λ (b : Bool). if not b then 1 else 0) plain)

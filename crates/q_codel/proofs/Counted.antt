@@ -17,16 +17,16 @@ pub one_more : (bytes : ℕ) (queue : List Stamped) (len : ℕ) → IsCounted by
 one_more bytes queue len h short = let bound = size_bound queue h.short in let sum = h.summed in let few = h.few in omega arith
 
 -- the front leaves with its bytes
-pub IsCounted-front : (bytes : ℕ) (front : Stamped) (queue : List Stamped) → IsCounted bytes (front ∷ queue) → IsCounted (bytes - front.packet.len) queue
-IsCounted-front bytes front queue h = record {
+pub IsCounted_front : (bytes : ℕ) (front : Stamped) (queue : List Stamped) → IsCounted bytes (front ∷ queue) → IsCounted (bytes - front.packet.len) queue
+IsCounted_front bytes front queue h = record {
   summed = let sum = h.summed in omega (arith, size-cons front queue);
   short = All-drop (λ s. s.packet.len < 2 ^ 16) 1 (front ∷ queue) h.short;
   few = let few = h.few in omega arith;
 }
 
 -- and so does what is read in front, before it is taken
-pub IsCounted-dropped : (bytes : ℕ) (queue : List Stamped) (front : Stamped) (rest : List Stamped) (len : ℕ)
+pub IsCounted_dropped : (bytes : ℕ) (queue : List Stamped) (front : Stamped) (rest : List Stamped) (len : ℕ)
     → IsCounted bytes queue → slice_get queue 0 ≡ Some front → rest ≡ drop 1 queue → len ≡ front.packet.len → IsCounted (bytes - len) rest
-IsCounted-dropped bytes [] front rest len h at rest_is same = absurd (none-some front at)
-IsCounted-dropped bytes (s ∷ queue) front rest len h at rest_is same =
-    rw rest_is (rw (same ∙ sym (ap (λ (s : Stamped). s.packet.len) (same_Some s front at))) (IsCounted-front bytes s queue h))
+IsCounted_dropped bytes [] front rest len h at rest_is same = absurd (none-some front at)
+IsCounted_dropped bytes (s ∷ queue) front rest len h at rest_is same =
+    rw rest_is (rw (same ∙ sym (ap (λ (s : Stamped). s.packet.len) (same_Some s front at))) (IsCounted_front bytes s queue h))

@@ -10,7 +10,7 @@ use Rattle.q_codel.specs.declared.loss.Loss.{Loss}
 use Rattle.q_codel.specs.declared.front.Front.{Front}
 use Rattle.q_codel.specs.Codel.{CodelState, is_late, Chooses}
 use Rattle.q_codel.specs.Losses.{losses_of}
-use Rattle.q_codel.proofs.Law.{OnTheWay, OnTheWay-start}
+use Rattle.q_codel.proofs.Law.{OnTheWay, OnTheWay_start}
 use Rattle.q_codel.specs.Front.{front_of, IsFront}
 
 -- a queue, split at its head
@@ -64,4 +64,4 @@ chosen_at s now all head marked rest t queue chosen is h r e =
 -- dropping goes on from the head of a queue that is late
 pub way_from : (s : CodelState) (now : ℕ) (queue : List Stamped) (head : Stamped) (rest : List Stamped) → queue ≡ head ∷ rest → s.count < 2 ^ 32 → is_late s now queue ≡ true → OnTheWay s now queue 0 s head rest
 way_from s now queue head rest is counted late =
-    subst (λ (q : List Stamped). OnTheWay s now q 0 s head rest) (sym is) (OnTheWay-start s now head rest counted (sym (ap (is_late s now) is) ∙ late))
+    subst (λ (q : List Stamped). OnTheWay s now q 0 s head rest) (sym is) (OnTheWay_start s now head rest counted (sym (ap (is_late s now) is) ∙ late))

@@ -12,15 +12,15 @@ use Rattle.q_codel.specs.Codel.{CodelState, CodelParams, CodelVars, joined, coun
 use Rattle.q_packet.proofs.LeastLemmas.{least_is}
 
 -- where a place is, what stands at it, and what behind it
-pub drop-within : (queue : List Stamped) (j : ℕ) (head : Stamped) (rest : List Stamped) → drop j queue ≡ head ∷ rest → j < length queue
-drop-within queue j head rest e = omega (arith, length-drop j queue, ap length e)
+pub drop_within : (queue : List Stamped) (j : ℕ) (head : Stamped) (rest : List Stamped) → drop j queue ≡ head ∷ rest → j < length queue
+drop_within queue j head rest e = omega (arith, length-drop j queue, ap length e)
 
-pub drop-behind : (queue : List Stamped) (j : ℕ) (head : Stamped) (rest : List Stamped) → drop j queue ≡ head ∷ rest → rest ≡ drop (suc j) queue
-drop-behind queue j head rest e = let parts = drop-cons queue j head (drop-within queue j head rest e) in cc
+pub drop_behind : (queue : List Stamped) (j : ℕ) (head : Stamped) (rest : List Stamped) → drop j queue ≡ head ∷ rest → rest ≡ drop (suc j) queue
+drop_behind queue j head rest e = let parts = drop-cons queue j head (drop_within queue j head rest e) in cc
 
 pub slice_get-drop : (queue : List Stamped) (j : ℕ) (head : Stamped) (rest : List Stamped) → drop j queue ≡ head ∷ rest → Some head ≡ slice_get queue j
 slice_get-drop queue j head rest e =
-    let within = drop-within queue j head rest e in
+    let within = drop_within queue j head rest e in
     let parts = drop-cons queue j head within in
     let there = slice_get-get_or queue j head within in
     cc
@@ -35,8 +35,8 @@ pub record OnTheWay (s : CodelState) (now : ℕ) (all : List Stamped) (j : ℕ) 
   pub state : t ≡ record s { count = count_after s j; drop_next = moment s j }
   pub passed : (i : ℕ) → i < j → stops s now all i ≡ false
 
-pub OnTheWay-start : (s : CodelState) (now : ℕ) (first : Stamped) (rest : List Stamped) → s.count < 2 ^ 32 → is_late s now (first ∷ rest) ≡ true → OnTheWay s now (first ∷ rest) 0 s first rest
-OnTheWay-start s now first rest range late = record {
+pub OnTheWay_start : (s : CodelState) (now : ℕ) (first : Stamped) (rest : List Stamped) → s.count < 2 ^ 32 → is_late s now (first ∷ rest) ≡ true → OnTheWay s now (first ∷ rest) 0 s first rest
+OnTheWay_start s now first rest range late = record {
   place = refl;
   late = late;
   state = let e : s.count ≡ count_after s 0 = omega arith in ap (λ (n : ℕ). record s { count = n }) e;
@@ -44,71 +44,71 @@ OnTheWay-start s now first rest range late = record {
 }
 
 -- where a head is late, due and not markable, it goes
-pub stops-not : (s : CodelState) (now : ℕ) (all : List Stamped) (j : ℕ) (head : Stamped) (rest : List Stamped) → drop j all ≡ head ∷ rest → is_late s now (head ∷ rest) ≡ true → moment s j ≤ now → (s.ecn && is_capable head.packet.ecn) ≡ false → stops s now all j ≡ false
-stops-not s now all j head rest place late due plain =
+pub stops_not : (s : CodelState) (now : ℕ) (all : List Stamped) (j : ℕ) (head : Stamped) (rest : List Stamped) → drop j all ≡ head ∷ rest → is_late s now (head ∷ rest) ≡ true → moment s j ≤ now → (s.ecn && is_capable head.packet.ecn) ≡ false → stops s now all j ≡ false
+stops_not s now all j head rest place late due plain =
     ap (λ (q : List Stamped). not (is_late s now q) || nat_lt now (moment s j) || is_markable s q) place
     ∙ or_from (not (is_late s now (head ∷ rest)) || nat_lt now (moment s j)) (is_markable s (head ∷ rest))
     (or_from (not (is_late s now (head ∷ rest))) (nat_lt now (moment s j)) (not_from_true (is_late s now (head ∷ rest)) late) (le-ltb now (moment s j) due))
     plain
 
 -- where a head is sent for whatever reason, it stops there
-pub drops-is : (s : CodelState) (now : ℕ) (all : List Stamped) (j : ℕ) → s.dropping ≡ true → j < length all → ((i : ℕ) → i < j → stops s now all i ≡ false) → stops s now all j ≡ true → drops s now all ≡ j
-drops-is s now all j dropping within passed stop =
+pub drops_is : (s : CodelState) (now : ℕ) (all : List Stamped) (j : ℕ) → s.dropping ≡ true → j < length all → ((i : ℕ) → i < j → stops s now all i ≡ false) → stops s now all j ≡ true → drops s now all ≡ j
+drops_is s now all j dropping within passed stop =
     cond-true s.dropping _ _ dropping ∙ least_is (stops s now all) (length all) j (omega arith) (λ _. stop) passed
 
 -- whether head j is marked, where it is the one that is sent
 abbrev pub marks_at : CodelState → ℕ → List Stamped → ℕ → Bool
 marks_at s now queue j = is_late s now queue && nat_le (moment s j) now && is_markable s queue
 
-pub marks-is : (s : CodelState) (now : ℕ) (all : List Stamped) (j : ℕ) (head : Stamped) (rest : List Stamped) → s.dropping ≡ true → drops s now all ≡ j → drop j all ≡ head ∷ rest → marks s now all ≡ marks_at s now (head ∷ rest) j
-marks-is s now all j head rest dropping count place =
+pub marks_is : (s : CodelState) (now : ℕ) (all : List Stamped) (j : ℕ) (head : Stamped) (rest : List Stamped) → s.dropping ≡ true → drops s now all ≡ j → drop j all ≡ head ∷ rest → marks s now all ≡ marks_at s now (head ∷ rest) j
+marks_is s now all j head rest dropping count place =
     cond-true s.dropping _ _ dropping
     ∙ ap (λ (k : ℕ). marks_at s now (drop k all) k) count
     ∙ ap (λ (q : List Stamped). marks_at s now q j) place
 
 -- where k heads go, the next one is sent, and the control law leaves t: what is chosen
-pub Chooses-of : (s : CodelState) (now : ℕ) (all : List Stamped) (k : ℕ) (head : Stamped) (rest : List Stamped) (marked : Bool) (t : CodelState) → drops s now all ≡ k → drop k all ≡ head ∷ rest → marks s now all ≡ marked → control_after s now all ≡ t → Chooses s now all head marked rest (record t { first_above_time = above_after s now (head ∷ rest) })
-Chooses-of s now all k head rest marked t count place mark control = record {
+pub Chooses_of : (s : CodelState) (now : ℕ) (all : List Stamped) (k : ℕ) (head : Stamped) (rest : List Stamped) (marked : Bool) (t : CodelState) → drops s now all ≡ k → drop k all ≡ head ∷ rest → marks s now all ≡ marked → control_after s now all ≡ t → Chooses s now all head marked rest (record t { first_above_time = above_after s now (head ∷ rest) })
+Chooses_of s now all k head rest marked t count place mark control = record {
   head_is = slice_get-drop all k head rest place ∙ ap (λ (i : ℕ). slice_get all i) (sym count);
   marked_is = sym mark;
-  rest_is = drop-behind all k head rest place ∙ ap (λ (i : ℕ). drop (suc i) all) (sym count);
+  rest_is = drop_behind all k head rest place ∙ ap (λ (i : ℕ). drop (suc i) all) (sym count);
   state_is = sym (ap (λ (u : CodelState). record u { first_above_time = above_after s now (drop (drops s now all) all) }) control
       ∙ ap (λ (q : List Stamped). record t { first_above_time = above_after s now q }) (ap (λ (i : ℕ). drop i all) count ∙ place));
 }
 
 -- while dropping, head j is sent, marked or not, late or not
-pub Chooses-at : (s : CodelState) (now : ℕ) (all : List Stamped) (j : ℕ) (head : Stamped) (rest : List Stamped) (marked late : Bool) → s.dropping ≡ true → drops s now all ≡ j → drop j all ≡ head ∷ rest → marks_at s now (head ∷ rest) j ≡ marked → is_late s now (head ∷ rest) ≡ late → Chooses s now all head marked rest (record (gone_on s j marked late) { first_above_time = above_after s now (head ∷ rest) })
-Chooses-at s now all j head rest marked late dropping count place mark is_so =
-    Chooses-of s now all j head rest marked (gone_on s j marked late) count place same_mark
+pub Chooses_at : (s : CodelState) (now : ℕ) (all : List Stamped) (j : ℕ) (head : Stamped) (rest : List Stamped) (marked late : Bool) → s.dropping ≡ true → drops s now all ≡ j → drop j all ≡ head ∷ rest → marks_at s now (head ∷ rest) j ≡ marked → is_late s now (head ∷ rest) ≡ late → Chooses s now all head marked rest (record (gone_on s j marked late) { first_above_time = above_after s now (head ∷ rest) })
+Chooses_at s now all j head rest marked late dropping count place mark is_so =
+    Chooses_of s now all j head rest marked (gone_on s j marked late) count place same_mark
     (cond-true s.dropping _ _ dropping
     ∙ ap (λ (k : ℕ). gone_on s k (marks s now all) (is_late s now (drop k all))) count
     ∙ ap (λ (m : Bool). gone_on s j m (is_late s now (drop j all))) same_mark
     ∙ ap (λ (q : List Stamped). gone_on s j marked (is_late s now q)) place
     ∙ ap (λ (l : Bool). gone_on s j marked l) is_so) where
       same_mark : marks s now all ≡ marked
-      same_mark = marks-is s now all j head rest dropping count place ∙ mark
+      same_mark = marks_is s now all j head rest dropping count place ∙ mark
 
 -- a late head leaves the time above the target as it is
-pub above-late : (s : CodelState) (now : ℕ) (head : Stamped) (rest : List Stamped) → is_late s now (head ∷ rest) ≡ true → above_after s now (head ∷ rest) ≡ s.first_above_time
-above-late s now head rest late =
+pub above_late : (s : CodelState) (now : ℕ) (head : Stamped) (rest : List Stamped) → is_late s now (head ∷ rest) ≡ true → above_after s now (head ∷ rest) ≡ s.first_above_time
+above_late s now head rest late =
     let standing : (is_standing s now (head ∷ rest) && nat_lt 0 s.first_above_time) ≡ true = (and_parts (is_standing s now (head ∷ rest) && nat_lt 0 s.first_above_time) (nat_le s.first_above_time now) late).0 in
     let parts = and_parts (is_standing s now (head ∷ rest)) (nat_lt 0 s.first_above_time) standing in
     let since : 0 < s.first_above_time = ltb-true 0 s.first_above_time parts.1 in
     cond-true (is_standing s now (head ∷ rest)) _ 0 parts.0 ∙ cond-false (s.first_above_time == 0) (now + s.interval) s.first_above_time (ne_eqb s.first_above_time 0 (λ none. absurd (omega arith)))
 
 -- stops, by its reasons
-pub stops-waiting : (s : CodelState) (now : ℕ) (all : List Stamped) (j : ℕ) → now < moment s j → stops s now all j ≡ true
-stops-waiting s now all j waits =
+pub stops_waiting : (s : CodelState) (now : ℕ) (all : List Stamped) (j : ℕ) → now < moment s j → stops s now all j ≡ true
+stops_waiting s now all j waits =
     or_left (not (is_late s now (drop j all)) || nat_lt now (moment s j)) (is_markable s (drop j all))
     (or_right (not (is_late s now (drop j all))) (nat_lt now (moment s j)) (lt-ltb now (moment s j) waits))
 
-pub stops-early : (s : CodelState) (now : ℕ) (all : List Stamped) (j : ℕ) → is_late s now (drop j all) ≡ false → stops s now all j ≡ true
-stops-early s now all j early =
+pub stops_early : (s : CodelState) (now : ℕ) (all : List Stamped) (j : ℕ) → is_late s now (drop j all) ≡ false → stops s now all j ≡ true
+stops_early s now all j early =
     or_left (not (is_late s now (drop j all)) || nat_lt now (moment s j)) (is_markable s (drop j all))
     (or_left (not (is_late s now (drop j all))) (nat_lt now (moment s j)) (not_from_false (is_late s now (drop j all)) early))
 
-pub stops-markable : (s : CodelState) (now : ℕ) (all : List Stamped) (j : ℕ) → is_markable s (drop j all) ≡ true → stops s now all j ≡ true
-stops-markable s now all j markable =
+pub stops_markable : (s : CodelState) (now : ℕ) (all : List Stamped) (j : ℕ) → is_markable s (drop j all) ≡ true → stops s now all j ≡ true
+stops_markable s now all j markable =
     or_right (not (is_late s now (drop j all)) || nat_lt now (moment s j)) (is_markable s (drop j all)) markable
 
 -- what is known where the heads have ceased to go
@@ -117,18 +117,18 @@ pub record Ends (s : CodelState) (now : ℕ) (all : List Stamped) (j : ℕ) (hea
   pub count : drops s now all ≡ j
 
 -- the moment of head j is yet to come
-pub OnTheWay-waits : (s : CodelState) (now : ℕ) (all : List Stamped) (j : ℕ) (t : CodelState) (head : Stamped) (rest : List Stamped) → s.dropping ≡ true → OnTheWay s now all j t head rest → now < t.drop_next → Ends s now all j head false rest t
-OnTheWay-waits s now all j t head rest dropping way waits = record {
+pub OnTheWay_waits : (s : CodelState) (now : ℕ) (all : List Stamped) (j : ℕ) (t : CodelState) (head : Stamped) (rest : List Stamped) → s.dropping ≡ true → OnTheWay s now all j t head rest → now < t.drop_next → Ends s now all j head false rest t
+OnTheWay_waits s now all j t head rest dropping way waits = record {
   chosen = subst (λ (u : CodelState). Chooses s now all head false rest u) (sym way.state)
-      (subst (λ (a : ℕ). Chooses s now all head false rest (record s { count = count_after s j; drop_next = moment s j; first_above_time = a })) (above-late s now head rest way.late)
-      (Chooses-at s now all j head rest false true dropping count way.place not_due way.late));
+      (subst (λ (a : ℕ). Chooses s now all head false rest (record s { count = count_after s j; drop_next = moment s j; first_above_time = a })) (above_late s now head rest way.late)
+      (Chooses_at s now all j head rest false true dropping count way.place not_due way.late));
   count = count;
 } where
   not_yet : now < moment s j
   not_yet = let e : t.drop_next ≡ moment s j = ap (λ (u : CodelState). u.drop_next) way.state in omega arith
 
   count : drops s now all ≡ j
-  count = drops-is s now all j dropping (drop-within all j head rest way.place) way.passed (stops-waiting s now all j not_yet)
+  count = drops_is s now all j dropping (drop_within all j head rest way.place) way.passed (stops_waiting s now all j not_yet)
 
   not_due : marks_at s now (head ∷ rest) j ≡ false
   not_due =
@@ -136,10 +136,10 @@ OnTheWay-waits s now all j t head rest dropping way waits = record {
       ∙ ap (λ (b : Bool). b && is_markable s (head ∷ rest)) (lt-leb (moment s j) now not_yet)
 
 -- head j is due and markable
-pub OnTheWay-marks : (s : CodelState) (now : ℕ) (all : List Stamped) (j : ℕ) (t : CodelState) (head : Stamped) (rest : List Stamped) → s.dropping ≡ true → OnTheWay s now all j t head rest → t.drop_next ≤ now → (s.ecn && is_capable head.packet.ecn) ≡ true → Ends s now all j head true rest (record s { count = count_after s (suc j); drop_next = moment s (suc j) })
-OnTheWay-marks s now all j t head rest dropping way is_due markable = record {
-  chosen = subst (λ (a : ℕ). Chooses s now all head true rest (record s { count = count_after s (suc j); drop_next = moment s (suc j); first_above_time = a })) (above-late s now head rest way.late)
-      (Chooses-at s now all j head rest true true dropping count way.place mark way.late);
+pub OnTheWay_marks : (s : CodelState) (now : ℕ) (all : List Stamped) (j : ℕ) (t : CodelState) (head : Stamped) (rest : List Stamped) → s.dropping ≡ true → OnTheWay s now all j t head rest → t.drop_next ≤ now → (s.ecn && is_capable head.packet.ecn) ≡ true → Ends s now all j head true rest (record s { count = count_after s (suc j); drop_next = moment s (suc j) })
+OnTheWay_marks s now all j t head rest dropping way is_due markable = record {
+  chosen = subst (λ (a : ℕ). Chooses s now all head true rest (record s { count = count_after s (suc j); drop_next = moment s (suc j); first_above_time = a })) (above_late s now head rest way.late)
+      (Chooses_at s now all j head rest true true dropping count way.place mark way.late);
   count = count;
 } where
   due : moment s j ≤ now
@@ -149,7 +149,7 @@ OnTheWay-marks s now all j t head rest dropping way is_due markable = record {
   markable_there = ap (is_markable s) way.place ∙ markable
 
   count : drops s now all ≡ j
-  count = drops-is s now all j dropping (drop-within all j head rest way.place) way.passed (stops-markable s now all j markable_there)
+  count = drops_is s now all j dropping (drop_within all j head rest way.place) way.passed (stops_markable s now all j markable_there)
 
   mark : marks_at s now (head ∷ rest) j ≡ true
   mark =
@@ -158,21 +158,21 @@ OnTheWay-marks s now all j t head rest dropping way is_due markable = record {
       ∙ markable
 
 -- head j goes, and the next one is late too
-pub OnTheWay-more : (s : CodelState) (now : ℕ) (all : List Stamped) (j : ℕ) (t : CodelState) (head next : Stamped) (rest behind : List Stamped) → OnTheWay s now all j t head rest → t.drop_next ≤ now → (s.ecn && is_capable head.packet.ecn) ≡ false → rest ≡ next ∷ behind → is_late s now (next ∷ behind) ≡ true → OnTheWay s now all (suc j) (record s { count = count_after s (suc j); drop_next = moment s (suc j) }) next behind
-OnTheWay-more s now all j t head next rest behind way is_due plain behind_is late = record {
-  place = sym (drop-behind all j head rest way.place) ∙ behind_is;
+pub OnTheWay_more : (s : CodelState) (now : ℕ) (all : List Stamped) (j : ℕ) (t : CodelState) (head next : Stamped) (rest behind : List Stamped) → OnTheWay s now all j t head rest → t.drop_next ≤ now → (s.ecn && is_capable head.packet.ecn) ≡ false → rest ≡ next ∷ behind → is_late s now (next ∷ behind) ≡ true → OnTheWay s now all (suc j) (record s { count = count_after s (suc j); drop_next = moment s (suc j) }) next behind
+OnTheWay_more s now all j t head next rest behind way is_due plain behind_is late = record {
+  place = sym (drop_behind all j head rest way.place) ∙ behind_is;
   late = late;
   state = refl;
-  passed = below_suc (λ i. stops s now all i ≡ false) j way.passed (stops-not s now all j head rest way.place way.late due plain);
+  passed = below_suc (λ i. stops s now all i ≡ false) j way.passed (stops_not s now all j head rest way.place way.late due plain);
 } where
   due : moment s j ≤ now
   due = let e : t.drop_next ≡ moment s j = ap (λ (u : CodelState). u.drop_next) way.state in omega arith
 
 -- head j goes, and the next one is not late
-pub OnTheWay-ends : (s : CodelState) (now : ℕ) (all : List Stamped) (j : ℕ) (t : CodelState) (head next : Stamped) (rest behind : List Stamped) → s.dropping ≡ true → OnTheWay s now all j t head rest → t.drop_next ≤ now → (s.ecn && is_capable head.packet.ecn) ≡ false → rest ≡ next ∷ behind → is_late s now (next ∷ behind) ≡ false → Ends s now all (suc j) next false behind (record s { count = count_after s (suc j); drop_next = moment s j; dropping = false; first_above_time = above_after s now (next ∷ behind) })
-OnTheWay-ends s now all j t head next rest behind dropping way is_due plain behind_is early = record {
+pub OnTheWay_ends : (s : CodelState) (now : ℕ) (all : List Stamped) (j : ℕ) (t : CodelState) (head next : Stamped) (rest behind : List Stamped) → s.dropping ≡ true → OnTheWay s now all j t head rest → t.drop_next ≤ now → (s.ecn && is_capable head.packet.ecn) ≡ false → rest ≡ next ∷ behind → is_late s now (next ∷ behind) ≡ false → Ends s now all (suc j) next false behind (record s { count = count_after s (suc j); drop_next = moment s j; dropping = false; first_above_time = above_after s now (next ∷ behind) })
+OnTheWay_ends s now all j t head next rest behind dropping way is_due plain behind_is early = record {
   chosen = subst (λ (n : ℕ). Chooses s now all next false behind (record s { count = count_after s (suc j); drop_next = moment s n; dropping = false; first_above_time = above_after s now (next ∷ behind) })) before
-      (Chooses-at s now all (suc j) next behind false false dropping count place unmarked early);
+      (Chooses_at s now all (suc j) next behind false false dropping count place unmarked early);
   count = count;
 } where
   due : moment s j ≤ now
@@ -182,22 +182,22 @@ OnTheWay-ends s now all j t head next rest behind dropping way is_due plain behi
   before = omega arith
 
   place : drop (suc j) all ≡ next ∷ behind
-  place = sym (drop-behind all j head rest way.place) ∙ behind_is
+  place = sym (drop_behind all j head rest way.place) ∙ behind_is
 
   passed : (i : ℕ) → i < suc j → stops s now all i ≡ false
-  passed = below_suc (λ i. stops s now all i ≡ false) j way.passed (stops-not s now all j head rest way.place way.late due plain)
+  passed = below_suc (λ i. stops s now all i ≡ false) j way.passed (stops_not s now all j head rest way.place way.late due plain)
 
   count : drops s now all ≡ suc j
-  count = drops-is s now all (suc j) dropping (drop-within all (suc j) next behind place) passed (stops-early s now all (suc j) (ap (is_late s now) place ∙ early))
+  count = drops_is s now all (suc j) dropping (drop_within all (suc j) next behind place) passed (stops_early s now all (suc j) (ap (is_late s now) place ∙ early))
 
   unmarked : marks_at s now (next ∷ behind) (suc j) ≡ false
   unmarked = ap (λ (b : Bool). b && nat_le (moment s (suc j)) now && is_markable s (next ∷ behind)) early
 
 -- The ways on from a late head, in what the code holds: the settings p and the state u, the next count m, the next gap g,
 -- and, where one more head was looked at, the state x after that.
-pub turn-waits : (s : CodelState) (now : ℕ) (all : List Stamped) (j : ℕ) (t : CodelState) (head : Stamped) (rest : List Stamped) (p : CodelParams) (u : CodelVars) → s.dropping ≡ true → OnTheWay s now all j t head rest → joined p u ≡ t → now < u.drop_next → Ends s now all j head false rest t
-turn-waits s now all j t head rest p u dropping way same waits =
-    OnTheWay-waits s now all j t head rest dropping way (subst (λ (x : CodelState). now < x.drop_next) same waits)
+pub turn_waits : (s : CodelState) (now : ℕ) (all : List Stamped) (j : ℕ) (t : CodelState) (head : Stamped) (rest : List Stamped) (p : CodelParams) (u : CodelVars) → s.dropping ≡ true → OnTheWay s now all j t head rest → joined p u ≡ t → now < u.drop_next → Ends s now all j head false rest t
+turn_waits s now all j t head rest p u dropping way same waits =
+    OnTheWay_waits s now all j t head rest dropping way (subst (λ (x : CodelState). now < x.drop_next) same waits)
 
 module _ (s : CodelState) (now : ℕ) (all : List Stamped) (j : ℕ) (t : CodelState) (head : Stamped) (rest : List Stamped) (p : CodelParams) (u : CodelVars) (m : ℕ) (way : OnTheWay s now all j t head rest) (same : joined p u ≡ t) (due : u.drop_next ≤ now) (counted : m ≡ min (u.count + 1) (2 ^ 32 - 1)) where
   held : joined p u ≡ record s { count = count_after s j; drop_next = moment s j }
@@ -222,28 +222,28 @@ module _ (s : CodelState) (now : ℕ) (all : List Stamped) (j : ℕ) (t : CodelS
       ∙ ap (λ (x : CodelState). record x { drop_next = x.drop_next + gap_of x.interval m; count = m }) held
       ∙ ap (λ (c : ℕ). record s { drop_next = moment s j + gap_of s.interval c; count = c }) next_count
 
-  pub turn-marks : (g : ℕ) → s.dropping ≡ true → (p.ecn && is_capable head.packet.ecn) ≡ true → g ≡ gap_of p.interval m → Ends s now all j head true rest (joined p (record u { drop_next = u.drop_next + g; count = m }))
-  turn-marks g dropping markable length =
+  pub turn_marks : (g : ℕ) → s.dropping ≡ true → (p.ecn && is_capable head.packet.ecn) ≡ true → g ≡ gap_of p.interval m → Ends s now all j head true rest (joined p (record u { drop_next = u.drop_next + g; count = m }))
+  turn_marks g dropping markable length =
       subst (λ (x : CodelState). Ends s now all j head true rest x) (sym (next_state g length))
-      (OnTheWay-marks s now all j t head rest dropping way is_due (same_ecn true markable))
+      (OnTheWay_marks s now all j t head rest dropping way is_due (same_ecn true markable))
 
   module _ (x : CodelVars) (next : Stamped) (behind : List Stamped) (plain : (p.ecn && is_capable head.packet.ecn) ≡ false) (behind_is : rest ≡ next ∷ behind) (noted : x ≡ record u { count = m; first_above_time = above_after (joined p u) now (next ∷ behind) }) where
-    pub turn-ends : s.dropping ≡ true → is_late (joined p u) now (next ∷ behind) ≡ false → Ends s now all (suc j) next false behind (joined p (record x { dropping = false }))
-    turn-ends dropping early =
+    pub turn_ends : s.dropping ≡ true → is_late (joined p u) now (next ∷ behind) ≡ false → Ends s now all (suc j) next false behind (joined p (record x { dropping = false }))
+    turn_ends dropping early =
         subst (λ (y : CodelState). Ends s now all (suc j) next false behind y) (sym last_state)
-        (OnTheWay-ends s now all j t head next rest behind dropping way is_due (same_ecn false plain) behind_is (same_late next behind ∙ early)) where
+        (OnTheWay_ends s now all j t head next rest behind dropping way is_due (same_ecn false plain) behind_is (same_late next behind ∙ early)) where
           last_state : joined p (record x { dropping = false }) ≡ record s { count = count_after s (suc j); drop_next = moment s j; dropping = false; first_above_time = above_after s now (next ∷ behind) }
           last_state =
               ap (λ (y : CodelVars). joined p (record y { dropping = false })) noted
               ∙ ap (λ (y : CodelState). record y { count = m; dropping = false; first_above_time = above_after y now (next ∷ behind) }) held
               ∙ ap (λ (c : ℕ). record s { count = c; drop_next = moment s j; dropping = false; first_above_time = above_after s now (next ∷ behind) }) next_count
 
-    pub turn-goes_on : (g : ℕ) → g ≡ gap_of p.interval x.count → is_late (joined p u) now (next ∷ behind) ≡ true → OnTheWay s now all (suc j) (joined p (record x { drop_next = x.drop_next + g })) next behind
-    turn-goes_on g length late =
+    pub turn_goes_on : (g : ℕ) → g ≡ gap_of p.interval x.count → is_late (joined p u) now (next ∷ behind) ≡ true → OnTheWay s now all (suc j) (joined p (record x { drop_next = x.drop_next + g })) next behind
+    turn_goes_on g length late =
         subst (λ (y : CodelState). OnTheWay s now all (suc j) y next behind) (sym more_state)
-        (OnTheWay-more s now all j t head next rest behind way is_due (same_ecn false plain) behind_is (same_late next behind ∙ late)) where
+        (OnTheWay_more s now all j t head next rest behind way is_due (same_ecn false plain) behind_is (same_late next behind ∙ late)) where
           unmoved : x ≡ record u { count = m }
-          unmoved = noted ∙ ap (λ (a : ℕ). record u { count = m; first_above_time = a }) (above-late (joined p u) now next behind late)
+          unmoved = noted ∙ ap (λ (a : ℕ). record u { count = m; first_above_time = a }) (above_late (joined p u) now next behind late)
 
           more_state : joined p (record x { drop_next = x.drop_next + g }) ≡ record s { count = count_after s (suc j); drop_next = moment s (suc j) }
           more_state =

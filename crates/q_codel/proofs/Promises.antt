@@ -5,7 +5,7 @@ use Rattle.std.proofs.lemmas.Bool.{cases_Bool, cases_lt, ltb-false, leb-true, le
 use Rattle.q_packet.specs.declared.stamped.Stamped.{Stamped}
 use Rattle.q_codel.specs.Codel.{CodelState, is_late, is_capable, is_markable, moment, stops, drops, marks}
 use Rattle.q_codel.specs.Laws.{LastPacketStays, MarksInPlaceOfDrops, OnlyLateHeads, AtTheirMoments}
-use Rattle.q_codel.proofs.Law.{stops-markable}
+use Rattle.q_codel.proofs.Law.{stops_markable}
 use Rattle.q_packet.proofs.LeastLemmas.{least_here, least_gt}
 
 -- a head goes by the three reasons to stop, and a head is marked by the three tests of a mark
@@ -51,11 +51,11 @@ marked_late s now queue marked = elim (cases_Bool s.dropping) [
       subst (λ (n : ℕ). is_late s now (drop n queue) ≡ true) (sym stays) is.0
 ]
 
-pub only_late_heads-holds : OnlyLateHeads
-only_late_heads-holds s now queue = record { dropped = dropped_late s now queue; marked = marked_late s now queue }
+pub only_late_heads_holds : OnlyLateHeads
+only_late_heads_holds s now queue = record { dropped = dropped_late s now queue; marked = marked_late s now queue }
 
-pub at_their_moments-holds : AtTheirMoments
-at_their_moments-holds s now queue dropping = record {
+pub at_their_moments_holds : AtTheirMoments
+at_their_moments_holds s now queue dropping = record {
   dropped = λ i below. ltb-false now (moment s i) (none_of (not (is_late s now (drop i queue))) (nat_lt now (moment s i)) (is_markable s (drop i queue)) (goes s now queue i dropping below)).1;
   marked = λ marked.
       let j = drops s now queue in
@@ -75,8 +75,8 @@ last_is_not_late s now (packet ∷ []) zero e = alone s now packet
 last_is_not_late s now (packet ∷ next ∷ queue) zero e = absurd (omega arith)
 last_is_not_late s now (packet ∷ queue) (suc i) e = last_is_not_late s now queue i (omega arith)
 
-pub last_packet_stays-holds : LastPacketStays
-last_packet_stays-holds s now queue some = elim (cases_lt (drops s now queue) (length queue)) [
+pub last_packet_stays_holds : LastPacketStays
+last_packet_stays_holds s now queue some = elim (cases_lt (drops s now queue) (length queue)) [
   | inl below ↦ below
   | inr above ↦
       let last : length queue ≡ suc (length queue - 1) = omega arith in
@@ -88,14 +88,14 @@ last_packet_stays-holds s now queue some = elim (cases_lt (drops s now queue) (l
 -- where the head is markable nothing is dropped
 stays : (s : CodelState) (now : ℕ) (queue : List Stamped) → is_markable s queue ≡ true → drops s now queue ≡ 0
 stays s now queue markable = elim (cases_Bool s.dropping) [
-  | inl dropping ↦ cond-true s.dropping _ _ dropping ∙ least_here (stops s now queue) (length queue) (stops-markable s now queue 0 markable)
+  | inl dropping ↦ cond-true s.dropping _ _ dropping ∙ least_here (stops s now queue) (length queue) (stops_markable s now queue 0 markable)
   | inr resting ↦ cond-false s.dropping _ _ resting ∙ cond-false _ _ _ (and_right (is_late s now queue) (not (is_markable s queue)) (not_from_true (is_markable s queue) markable))
 ]
 
-pub marks_in_place_of_drops-holds : MarksInPlaceOfDrops
-marks_in_place_of_drops-holds s now [] ecn capable = none s.dropping where
+pub marks_in_place_of_drops_holds : MarksInPlaceOfDrops
+marks_in_place_of_drops_holds s now [] ecn capable = none s.dropping where
   none : (b : Bool) → ◌≡◌ {A = ℕ} (if b then 0 else (if false then 1 else 0)) 0
   none true = refl
   none false = refl
-marks_in_place_of_drops-holds s now (head ∷ rest) ecn capable =
+marks_in_place_of_drops_holds s now (head ∷ rest) ecn capable =
     stays s now (head ∷ rest) (ap (λ (b : Bool). b && is_capable head.packet.ecn) ecn ∙ capable 0 head (omega arith))

@@ -10,8 +10,8 @@ pub square_above : (interval count : ℕ) → 1 ≤ count → interval * interva
 square_above interval count counted =
     let more = mul-le-mul_left ((interval + 1) * (interval + 1)) counted in omega arith
 
-pub IsGap-at_end : (interval count d : ℕ) → 1 ≤ count → d ≤ interval → nat_lt (interval * interval) (d * d * count) ≡ false → (d < interval → nat_lt (interval * interval) ((d + 1) * (d + 1) * count) ≡ true) → IsGap interval count d
-IsGap-at_end interval count d counted within fits next = record {
+pub IsGap_at_end : (interval count d : ℕ) → 1 ≤ count → d ≤ interval → nat_lt (interval * interval) (d * d * count) ≡ false → (d < interval → nat_lt (interval * interval) ((d + 1) * (d + 1) * count) ≡ true) → IsGap interval count d
+IsGap_at_end interval count d counted within fits next = record {
   holds = ltb-false (interval * interval) (d * d * count) fits;
   next_fails = elim (cases_lt d interval) [
     | inl below ↦ ltb-true (interval * interval) ((d + 1) * (d + 1) * count) (next below)
@@ -19,9 +19,9 @@ IsGap-at_end interval count d counted within fits next = record {
   ];
 }
 
-pub gap_of-is : (interval count d : ℕ) → IsGap interval count d → d ≤ interval → d ≡ gap_of interval count
+pub gap_of_is : (interval count d : ℕ) → IsGap interval count d → d ≤ interval → d ≡ gap_of interval count
 unfolding gap_of
-gap_of-is interval count d h within =
+gap_of_is interval count d h within =
     sym (least_is (λ n. nat_lt (interval * interval) ((n + 1) * (n + 1) * count)) interval d within
     (λ below. lt-ltb (interval * interval) ((d + 1) * (d + 1) * count) h.next_fails)
     (λ i below. le-ltb (interval * interval) ((i + 1) * (i + 1) * count) (shorter i below))) where

@@ -10,8 +10,8 @@ use Rattle.q_codel.specs.Gap.{gap_of}
 use Rattle.q_codel.specs.Codel.{CodelState, rested, count_after, is_standing, is_late, is_markable, moment, stops, drops, marks, gone_on, begun, control_after, after}
 use Rattle.q_codel.specs.Laws.{EmptyQueueRests, QueueIsDivided, OneDropBegins, DueHeadsGo, OneMtuLeft, CountIsResumed}
 
-pub empty_queue_rests-holds : EmptyQueueRests
-empty_queue_rests-holds s now range = by_dropping s.dropping where
+pub empty_queue_rests_holds : EmptyQueueRests
+empty_queue_rests_holds s now range = by_dropping s.dropping where
   same : count_after s 0 ≡ s.count
   same = omega arith
 
@@ -26,22 +26,22 @@ cut (suc n) [] = refl
 cut zero (x ∷ queue) = refl
 cut (suc n) (x ∷ queue) = ap (λ (l : List Stamped). x ∷ l) (cut n queue)
 
-pub queue_is_divided-holds : QueueIsDivided
-queue_is_divided-holds s now queue = cut (drops s now queue) queue
+pub queue_is_divided_holds : QueueIsDivided
+queue_is_divided_holds s now queue = cut (drops s now queue) queue
 
-pub one_drop_begins-holds : OneDropBegins
-one_drop_begins-holds s now queue resting =
+pub one_drop_begins_holds : OneDropBegins
+one_drop_begins_holds s now queue resting =
     subst (λ (n : ℕ). n ≤ 1) (sym (cond-false s.dropping _ _ resting)) (one_or_none (is_late s now queue && not (is_markable s queue))) where
       one_or_none : (b : Bool) → (if b then 1 else 0) ≤ 1
       one_or_none true = omega arith
       one_or_none false = omega arith
 
 -- behind the last packet nothing is late
-late-within : (s : CodelState) (now : ℕ) (queue : List Stamped) (i : ℕ) → is_late s now (drop i queue) ≡ true → i < length queue
-late-within s now [] zero late = cc
-late-within s now [] (suc i) late = cc
-late-within s now (x ∷ queue) zero late = omega arith
-late-within s now (x ∷ queue) (suc i) late = let h = late-within s now queue i late in omega arith
+late_within : (s : CodelState) (now : ℕ) (queue : List Stamped) (i : ℕ) → is_late s now (drop i queue) ≡ true → i < length queue
+late_within s now [] zero late = cc
+late_within s now [] (suc i) late = cc
+late_within s now (x ∷ queue) zero late = omega arith
+late_within s now (x ∷ queue) (suc i) late = let h = late_within s now queue i late in omega arith
 
 -- while dropping, a take does not cease at a head that is due
 goes_past : (s : CodelState) (now : ℕ) (queue : List Stamped) (i : ℕ) → s.dropping ≡ true → i ≤ drops s now queue → is_late s now (drop i queue) ≡ true → moment s i ≤ now → is_markable s (drop i queue) ≡ false → i < drops s now queue
@@ -50,7 +50,7 @@ goes_past s now queue i dropping reached late due plain = elim (cases_lt i (drop
   | inr above ↦
       let count : drops s now queue ≡ least_stop = cond-true s.dropping _ _ dropping in
       let here : least_stop ≡ i = omega arith in
-      let within : least_stop < length queue = let w = late-within s now queue i late in omega arith in
+      let within : least_stop < length queue = let w = late_within s now queue i late in omega arith in
       let stops_there : stops s now queue i ≡ true = subst (λ (k : ℕ). stops s now queue k ≡ true) here (least_holds (stops s now queue) (length queue) within) in
       absurd (true≢false (sym stops_there ∙ goes))
 ] where
@@ -62,8 +62,8 @@ goes_past s now queue i dropping reached late due plain = elim (cases_lt i (drop
       (or_from (not (is_late s now (drop i queue))) (nat_lt now (moment s i)) (not_from_true (is_late s now (drop i queue)) late) (le-ltb now (moment s i) due))
       plain
 
-pub due_heads_go-holds : DueHeadsGo
-due_heads_go-holds s now queue = record {
+pub due_heads_go_holds : DueHeadsGo
+due_heads_go_holds s now queue = record {
   begins = λ resting late plain.
       cond-false s.dropping _ _ resting
       ∙ cond-true (is_late s now queue && not (is_markable s queue)) 1 0 (and_from (is_late s now queue) (not (is_markable s queue)) late (not_from_false (is_markable s queue) plain));
@@ -81,8 +81,8 @@ not_standing s now (head ∷ rest) (suc j) small = not_standing s now rest j sma
 not_late : (s : CodelState) (now : ℕ) (queue : List Stamped) → is_standing s now queue ≡ false → is_late s now queue ≡ false
 not_late s now queue e = and_left _ (nat_le s.first_above_time now) (and_left (is_standing s now queue) (nat_lt 0 s.first_above_time) e)
 
-pub one_mtu_left-holds : OneMtuLeft
-one_mtu_left-holds s now queue small = record {
+pub one_mtu_left_holds : OneMtuLeft
+one_mtu_left_holds s now queue small = record {
   begins_anew = cond-false (is_standing s now behind) _ 0 standing;
   ends = λ dropping.
       let marked : marks s now queue ≡ false = cond-true s.dropping _ _ dropping ∙ and_left _ (is_markable s behind) (and_left (is_late s now behind) (nat_le (moment s (drops s now queue)) now) early) in
@@ -103,8 +103,8 @@ one_mtu_left-holds s now queue small = record {
   early : is_late s now behind ≡ false
   early = not_late s now behind standing
 
-pub count_is_resumed-holds : CountIsResumed
-count_is_resumed-holds s now queue resting late = record {
+pub count_is_resumed_holds : CountIsResumed
+count_is_resumed_holds s now queue resting late = record {
   begins = ap (λ (t : CodelState). t.dropping) control;
   resumed = λ recent grown.
       ap (λ (t : CodelState). t.count) control

@@ -26,7 +26,7 @@ use Rattle.q_tree.proofs.TreeLemmas.{stands}
 use Rattle.q_device.specs.declared.device.Device.TheInside.{Inside}
 use Rattle.q_device.specs.Counters.{HasNotFallen}
 use Rattle.q_device.specs.DeviceSeen.{DeviceSeen, IsRefusal, as_counted, most_events, with_event, with_recorded}
-use Rattle.q_device.specs.Keeping.{device_seen, events_of, numbers_at, others_after}
+use Rattle.q_device.specs.Keeping.{device_seen, events_of, others_after}
 use Rattle.q_device.proofs.CountLemmas.{step-rises}
 use Rattle.q_device.proofs.ReadyNumbers.{given-numbers}
 use Rattle.q_device.proofs.StepStands.{Stands, step-stands}
@@ -37,9 +37,6 @@ waits-numbers x = ap (beneath_own x.tree.root.own) (each-each_memory beneath_own
 
 pub waits-same : (x y : DeviceState Kept) → numbers x ≡ numbers y → length (beneath x.tree.root) ≡ length (beneath y.tree.root)
 waits-same x y same = ap (λ (ps : List Descriptor). length ps) (sym (waits-numbers x) ∙ ap (λ (d : DeviceState Counts). beneath d.tree.root) same ∙ waits-numbers y)
-
-pub same-at : (clock : ℕ) (x y : DeviceState Kept) → numbers x ≡ numbers y → numbers_at clock x ≡ numbers_at clock y
-same-at clock x y same = ap (λ (d : DeviceState Counts). record d { clock = clock }) same
 
 -- The step of a tree of the code is that of its numbers, also where places were made in it before.
 module _ (d : DeviceState Counts) (x : DeviceState Kept) (same : numbers x ≡ d) (e : Event) where
@@ -58,10 +55,10 @@ module _ (d : DeviceState Counts) (x : DeviceState Kept) (same : numbers x ≡ d
 -- An event changed the fields of a device so.
 pub record Happened (a : Inside) (e : Event) (b : Inside) : Type 0 where
   pub settings : b.settings ≡ a.settings
-  pub device : numbers_at b.clock b.tree ≡ (step totals (numbers_at a.clock a.tree) e).device
-  pub waiting : b.losses.waiting ≡ a.losses.waiting ++ (step totals (numbers_at a.clock a.tree) e).losses
+  pub device : numbers b.tree ≡ (step totals (numbers a.tree) e).device
+  pub waiting : b.losses.waiting ≡ a.losses.waiting ++ (step totals (numbers a.tree) e).losses
   pub handed_out : b.handed_out ≡ a.handed_out
-  pub recorded : b.recorded.items ≡ with_recorded a.settings.recorder (as_counted (numbers_at a.clock a.tree) e) a.recorded.items
+  pub recorded : b.recorded.items ≡ with_recorded a.settings.recorder (as_counted (numbers a.tree) e) a.recorded.items
   pub capacity : vec_capacity b.recorded ≡ vec_capacity a.recorded
   pub events : events_of b ≡ min (events_of a + 1) most_events
 
@@ -70,30 +67,29 @@ module _ (a : Inside) (e : Event) (b : Inside) (h : Happened a e b) where
   event-seen = λ i. record { settings = h.settings i; device = h.device i; waiting = h.waiting i; handed_out = h.handed_out i; recorded = h.recorded i; events = h.events i; memory = (device_seen b).memory }
 
   pub event-rises : HasNotFallen (device_seen a).device.tree.top (device_seen b).device.tree.top
-  event-rises = subst (λ (d : DeviceSeen). HasNotFallen (device_seen a).device.tree.top d.device.tree.top) (sym event-seen) (step-rises (numbers_at a.clock a.tree) e)
+  event-rises = subst (λ (d : DeviceSeen). HasNotFallen (device_seen a).device.tree.top d.device.tree.top) (sym event-seen) (step-rises (numbers a.tree) e)
 
 -- a poll, at the moment at which it counts
-pub polled-device : (a b : Inside) (now at : ℕ) → at ≡ max a.clock now → b.clock ≡ at → b.tree ≡ record { clock = at; tree = take_packet kept at a.tree.tree } → numbers_at b.clock b.tree ≡ (step totals (numbers_at a.clock a.tree) (event.Poll now)).device
-polled-device a b now at is clock tree =
-    ap₂ numbers_at clock tree ∙ ap (λ t. numbers (record { clock = t; tree = take_packet kept t a.tree.tree })) is ∙ numbers-step (numbers_at a.clock a.tree) (record a.tree { clock = a.clock }) refl (event.Poll now)
+pub polled-device : (a b : Inside) (now at : ℕ) → at ≡ max a.tree.clock now → b.tree ≡ record { clock = at; tree = take_packet kept at a.tree.tree } → numbers b.tree ≡ (step totals (numbers a.tree) (event.Poll now)).device
+polled-device a b now at is tree =
+    ap numbers tree ∙ ap (λ t. numbers (record { clock = t; tree = take_packet kept t a.tree.tree })) is ∙ numbers-step (numbers a.tree) a.tree refl (event.Poll now)
 
 -- it is counted by itself where it sends none
-pub polled-others : (a : Inside) (now at others : ℕ) (sent : Bool) → at ≡ max a.clock now → sent ≡ is_some (given at a.tree.tree) → others ≡ (if sent then a.others else min (a.others + 1) most_events) → others ≡ others_after (event.Poll now) (numbers_at a.clock a.tree) a.others
+pub polled-others : (a : Inside) (now at others : ℕ) (sent : Bool) → at ≡ max a.tree.clock now → sent ≡ is_some (given at a.tree.tree) → others ≡ (if sent then a.others else min (a.others + 1) most_events) → others ≡ others_after (event.Poll now) (numbers a.tree) a.others
 polled-others a now at others sent is sends counted =
     counted
-    ∙ ap (λ b. if b then a.others else min (a.others + 1) most_events) (sends ∙ ap (λ t. is_some (given t a.tree.tree)) is ∙ ap (λ (o : Option Descriptor). is_some o) (sym (given-numbers (max a.clock now) a.tree.tree)))
+    ∙ ap (λ b. if b then a.others else min (a.others + 1) most_events) (sends ∙ ap (λ t. is_some (given t a.tree.tree)) is ∙ ap (λ (o : Option Descriptor). is_some o) (sym (given-numbers (max a.tree.clock now) a.tree.tree)))
 
-pub polled : (a b : Inside) (now at : ℕ) → at ≡ max a.clock now → b.settings ≡ a.settings → b.clock ≡ at → b.tree ≡ record { clock = at; tree = take_packet kept at a.tree.tree }
+pub polled : (a b : Inside) (now at : ℕ) → at ≡ max a.tree.clock now → b.settings ≡ a.settings → b.tree ≡ record { clock = at; tree = take_packet kept at a.tree.tree }
     → b.losses.waiting ≡ a.losses.waiting ++ losses_in (noted_by_take at a.tree.tree) → b.handed_out ≡ a.handed_out → b.recorded.items ≡ with_recorded a.settings.recorder (event.Poll at) a.recorded.items
     → vec_capacity b.recorded ≡ vec_capacity a.recorded → events_of b ≡ min (events_of a + 1) most_events → Happened a (event.Poll now) b
-polled a b now at is settings clock tree waiting handed_out recorded capacity events =
-    let d = numbers_at a.clock a.tree in
-    let x : DeviceState Kept = record a.tree { clock = a.clock } in
+polled a b now at is settings tree waiting handed_out recorded capacity events =
+    let d = numbers a.tree in
     let e = event.Poll now in
     record {
       settings = settings;
-      device = polled-device a b now at is clock tree;
-      waiting = waiting ∙ ap (λ t. a.losses.waiting ++ losses_in (noted_by_take t a.tree.tree)) is ∙ ap (λ (ls : List Loss). a.losses.waiting ++ ls) (losses-step d x refl e);
+      device = polled-device a b now at is tree;
+      waiting = waiting ∙ ap (λ t. a.losses.waiting ++ losses_in (noted_by_take t a.tree.tree)) is ∙ ap (λ (ls : List Loss). a.losses.waiting ++ ls) (losses-step d a.tree refl e);
       handed_out = handed_out;
       recorded = recorded ∙ ap (λ t. with_recorded a.settings.recorder (event.Poll t) a.recorded.items) is;
       capacity = capacity;
@@ -104,19 +100,18 @@ abbrev at_clock : ℕ → TreeState Counts → DeviceState Counts
 at_clock clock tree = record { clock = clock; tree = tree }
 
 -- an arrival, by what it made of the numbers of the tree
-pub arrived-device : (a b : Inside) (p : Descriptor) (now at : ℕ) → at ≡ max a.clock now → b.clock ≡ at → numbers b.tree ≡ record { clock = at; tree = put totals at p (tree_numbers a.tree.tree) } → numbers_at b.clock b.tree ≡ (step totals (numbers_at a.clock a.tree) (event.Arrive p now)).device
-arrived-device a b p now at is clock tree = ap₂ at_clock clock (ap (λ (d : DeviceState Counts). d.tree) tree) ∙ ap (λ t. at_clock t (put totals t p (tree_numbers a.tree.tree))) is
+pub arrived-device : (a b : Inside) (p : Descriptor) (now at : ℕ) → at ≡ max a.tree.clock now → numbers b.tree ≡ record { clock = at; tree = put totals at p (tree_numbers a.tree.tree) } → numbers b.tree ≡ (step totals (numbers a.tree) (event.Arrive p now)).device
+arrived-device a b p now at is tree = tree ∙ ap (λ t. at_clock t (put totals t p (tree_numbers a.tree.tree))) is
 
-pub arrived : (a b : Inside) (p : Descriptor) (now at : ℕ) → at ≡ max a.clock now → b.settings ≡ a.settings → b.clock ≡ at → numbers b.tree ≡ record { clock = at; tree = put totals at p (tree_numbers a.tree.tree) }
+pub arrived : (a b : Inside) (p : Descriptor) (now at : ℕ) → at ≡ max a.tree.clock now → b.settings ≡ a.settings → numbers b.tree ≡ record { clock = at; tree = put totals at p (tree_numbers a.tree.tree) }
     → b.losses.waiting ≡ a.losses.waiting ++ losses_in (noted_by_put at p a.tree.tree) → b.handed_out ≡ a.handed_out → b.recorded.items ≡ with_recorded a.settings.recorder (event.Arrive p at) a.recorded.items
     → vec_capacity b.recorded ≡ vec_capacity a.recorded → events_of b ≡ min (events_of a + 1) most_events → Happened a (event.Arrive p now) b
-arrived a b p now at is settings clock tree waiting handed_out recorded capacity events =
-    let x : DeviceState Kept = record a.tree { clock = a.clock } in
+arrived a b p now at is settings tree waiting handed_out recorded capacity events =
     let e = event.Arrive p now in
     record {
       settings = settings;
-      device = arrived-device a b p now at is clock tree;
-      waiting = waiting ∙ ap (λ t. a.losses.waiting ++ losses_in (noted_by_put t p a.tree.tree)) is ∙ ap (λ (ls : List Loss). a.losses.waiting ++ ls) (losses-step (numbers_at a.clock a.tree) x refl e);
+      device = arrived-device a b p now at is tree;
+      waiting = waiting ∙ ap (λ t. a.losses.waiting ++ losses_in (noted_by_put t p a.tree.tree)) is ∙ ap (λ (ls : List Loss). a.losses.waiting ++ ls) (losses-step (numbers a.tree) a.tree refl e);
       handed_out = handed_out;
       recorded = recorded ∙ ap (λ t. with_recorded a.settings.recorder (event.Arrive p t) a.recorded.items) is;
       capacity = capacity;
@@ -125,9 +120,9 @@ arrived a b p now at is settings clock tree waiting handed_out recorded capacity
 
 -- ---- a command, at the moment at which it counts
 
-module _ (x : DeviceState Kept) (clock now at : ℕ) (is : at ≡ max clock now) (c : Command) where
+module _ (x : DeviceState Kept) (now at : ℕ) (is : at ≡ max x.clock now) (c : Command) where
   abbrev seen : DeviceState Counts
-  seen = numbers_at clock x
+  seen = numbers x
 
   same-shape : shape (tree_numbers x.tree).root ≡ shape x.tree.root
   same-shape = shape-with_memory (λ (k : Kept). k.counts) x.tree.root
@@ -138,10 +133,10 @@ module _ (x : DeviceState Kept) (clock now at : ℕ) (is : at ≡ max clock now)
       ∙ ap (λ (s : Shape). answered totals (plan x.tree.device at c s) at seen) same-shape
 
   module _ (y : DeviceState Kept) (done_is : IsDone at (plan_of c at x) x y) where
-    pub done-device : numbers_at at y ≡ (step totals seen (event.Command c now)).device
+    pub done-device : numbers y ≡ (step totals seen (event.Command c now)).device
     done-device = by (plan_of c at x) done_is ∙ sym (ap (λ (s : Step Counts). s.device) step-is) where
-      by : (p : Result Edit Refusal) → IsDone at p x y → numbers_at at y ≡ (answered totals p at seen).device
-      by (Ok edit) h = ap (λ (n : DeviceState Counts). record n { clock = at }) (done-numbers at edit x y h)
+      by : (p : Result Edit Refusal) → IsDone at p x y → numbers y ≡ (answered totals p at seen).device
+      by (Ok edit) h = done-numbers at edit x y h
       by (Err refusal) h = absurd h
 
     pub done-reply : reply.Done (Ok tt) ≡ (step totals seen (event.Command c now)).reply
@@ -154,12 +149,6 @@ module _ (x : DeviceState Kept) (clock now at : ℕ) (is : at ≡ max clock now)
     done-losses = by (plan_of c at x) done_is ∙ sym (ap (λ (s : Step Counts). s.losses) step-is) where
       by : (p : Result Edit Refusal) → IsDone at p x y → told p (shape x.tree.root) (Ok tt) ≡ (answered totals p at seen).losses
       by (Ok edit) h = ap (λ (s : Shape). losses_in (lost_by edit s)) (sym same-shape)
-      by (Err refusal) h = absurd h
-
-    pub done-clock : y.clock ≡ at
-    done-clock = by (plan_of c at x) done_is where
-      by : (p : Result Edit Refusal) → IsDone at p x y → y.clock ≡ at
-      by (Ok edit) h = ap (λ (n : DeviceState Kept). n.clock) h
       by (Err refusal) h = absurd h
 
   pub refused-reply : (memory : Type 0) (refusal : Refusal) → IsRefused memory (plan_of c at x) refusal → IsRefusal memory (step totals seen (event.Command c now)).reply refusal
@@ -193,16 +182,16 @@ pub told-nothing : (p : Result Edit Refusal) (root : Shape) (refusal : Refusal) 
 told-nothing (Ok edit) root refusal = refl
 told-nothing (Err first) root refusal = refl
 
-pub commanded-device : (a b : Inside) (c : Command) (now at : ℕ) → at ≡ max a.clock now → b.clock ≡ at → IsDone at (plan_of c at a.tree) a.tree b.tree → numbers_at b.clock b.tree ≡ (step totals (numbers_at a.clock a.tree) (event.Command c now)).device
-commanded-device a b c now at is clock done_is = ap (λ t. numbers_at t b.tree) clock ∙ done-device a.tree a.clock now at is c b.tree done_is
+pub commanded-device : (a b : Inside) (c : Command) (now at : ℕ) → at ≡ max a.tree.clock now → IsDone at (plan_of c at a.tree) a.tree b.tree → numbers b.tree ≡ (step totals (numbers a.tree) (event.Command c now)).device
+commanded-device a b c now at is done_is = done-device a.tree now at is c b.tree done_is
 
-pub commanded : (a b : Inside) (c : Command) (now at : ℕ) → at ≡ max a.clock now → b.settings ≡ a.settings → b.clock ≡ at → IsDone at (plan_of c at a.tree) a.tree b.tree
+pub commanded : (a b : Inside) (c : Command) (now at : ℕ) → at ≡ max a.tree.clock now → b.settings ≡ a.settings → IsDone at (plan_of c at a.tree) a.tree b.tree
     → b.losses.waiting ≡ a.losses.waiting ++ told (plan_of c at a.tree) (shape a.tree.tree.root) (Ok tt) → b.handed_out ≡ a.handed_out → b.recorded.items ≡ with_recorded a.settings.recorder (event.Command c at) a.recorded.items
     → vec_capacity b.recorded ≡ vec_capacity a.recorded → events_of b ≡ min (events_of a + 1) most_events → Happened a (event.Command c now) b
-commanded a b c now at is settings clock done_is waiting handed_out recorded capacity events = record {
+commanded a b c now at is settings done_is waiting handed_out recorded capacity events = record {
   settings = settings;
-  device = commanded-device a b c now at is clock done_is;
-  waiting = waiting ∙ ap (λ (ls : List Loss). a.losses.waiting ++ ls) (done-losses a.tree a.clock now at is c b.tree done_is);
+  device = commanded-device a b c now at is done_is;
+  waiting = waiting ∙ ap (λ (ls : List Loss). a.losses.waiting ++ ls) (done-losses a.tree now at is c b.tree done_is);
   handed_out = handed_out;
   recorded = recorded ∙ ap (λ t. with_recorded a.settings.recorder (event.Command c t) a.recorded.items) is;
   capacity = capacity;

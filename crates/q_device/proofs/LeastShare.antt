@@ -8,8 +8,8 @@ use Rattle.std.proofs.lemmas.List.Elements.{All-nil, All-cons, All-head, All-tai
 use Rattle.std.proofs.lemmas.List.Sums.{sum_by-cons}
 use Rattle.std.proofs.lemmas.Option.{none-some, same_Some, option_and_then_some}
 use Rattle.q_drr.specs.Schedule.{Class, Schedule, has_class, is_active, quantum_of}
-use Rattle.q_drr.proofs.DifferLemmas.{ClassesDiffer, differ-from_pairs}
-use Rattle.q_drr.proofs.LookupLemmas.{quantum-here, quantum-behind}
+use Rattle.q_drr.proofs.DifferLemmas.{ClassesDiffer, differ_from_pairs}
+use Rattle.q_drr.proofs.LookupLemmas.{quantum_here, quantum_behind}
 use Rattle.q_model.specs.declared.event.Event.{Event}
 use Rattle.q_model.specs.Events.{IsEvent}
 use Rattle.q_model.specs.Tally.{Note}
@@ -76,7 +76,7 @@ classes-differ : (major : ℕ) (classes : List Class) (d : DeviceState (List Not
 classes-differ major classes d kept e =
     let at = drr-node major classes d e in
     let law = drr-lawful major d at.node at.schedule kept at.there at.discipline in
-    subst ClassesDiffer at.same (differ-from_pairs (λ (c : Class). c.name) at.schedule.classes law.schedule.classes_differ)
+    subst ClassesDiffer at.same (differ_from_pairs (λ (c : Class). c.name) at.schedule.classes law.schedule.classes_differ)
 
 -- ---- each class has its own quantum
 
@@ -87,7 +87,7 @@ own-quanta : (classes : List Class) → ClassesDiffer classes → All (IsOwn cla
 own-quanta [] differ = All-nil (IsOwn [])
 own-quanta (k ∷ classes) differ =
     let here : eqb k.name k.name ≡ true = eq-eqb k.name k.name refl in
-    All-cons (IsOwn (k ∷ classes)) k classes (or_left (eqb k.name k.name) (has_class k.name classes) here, quantum-here k.name k classes here) (behind classes (own-quanta classes differ.1))
+    All-cons (IsOwn (k ∷ classes)) k classes (or_left (eqb k.name k.name) (has_class k.name classes) here, quantum_here k.name k classes here) (behind classes (own-quanta classes differ.1))
   where
     other : (c : Class) → has_class c.name classes ≡ true → eqb c.name k.name ≡ false
     other c has = ne_eqb c.name k.name (λ same. false≢true (sym differ.0 ∙ ap (λ m. has_class m classes) (sym same) ∙ has))
@@ -97,7 +97,7 @@ own-quanta (k ∷ classes) differ =
     behind (c ∷ cs) h =
         let first : IsOwn classes c = All-head (IsOwn classes) c cs h in
         let far : eqb c.name k.name ≡ false = other c first.0 in
-        All-cons (IsOwn (k ∷ classes)) c cs (or_right (eqb c.name k.name) (has_class c.name classes) first.0, quantum-behind c.name k classes far ∙ first.1) (behind cs (All-tail (IsOwn classes) c cs h))
+        All-cons (IsOwn (k ∷ classes)) c cs (or_right (eqb c.name k.name) (has_class c.name classes) first.0, quantum_behind c.name k classes far ∙ first.1) (behind cs (All-tail (IsOwn classes) c cs h))
 
 -- those in front
 all-front : {X : Type 0} (P : X → Type 0) (xs ys : List X) → All P (xs ++ ys) → All P xs

@@ -4,9 +4,11 @@ pub mod ClassStretches
 pub mod CountLemmas
 pub mod DeviceLaws
 pub mod EventLemmas
+pub mod EventMemory
 pub mod FlowService
 pub mod FlowStretches
 pub mod KeptLemmas
+mod LastLemmas
 pub mod LawfulLemmas
 pub mod LeastShare
 mod LinkAsks
@@ -25,6 +27,7 @@ mod OrderWays
 mod PartLemmas
 mod PassedStretches
 pub mod PlayLemmas
+pub mod PollLemmas
 mod PromiseKept
 mod PromiseNumbers
 mod PromiseStands
@@ -38,8 +41,11 @@ pub mod RenewedBands
 pub mod RenewedTrees
 pub mod ReplayLemmas
 pub mod ReplayedLemmas
+mod RestEdits
 mod RestLemmas
 mod RestMoves
+mod RestNodes
+mod RestReplays
 mod RestSteps
 pub mod ServiceStretches
 mod ShareInTime

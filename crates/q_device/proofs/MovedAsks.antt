@@ -33,7 +33,7 @@ use Rattle.q_invariants.proofs.SecondPrio.{ready}
 use Rattle.q_tree.specs.ReadyAt.{no_packet, with_bands, paid, of_fifo, of_flows, of_class, outlook}
 use Rattle.q_tree.proofs.Foreseeing.{Covers}
 use Rattle.q_tree.proofs.ForeseenAsks.{prio-shown, met-shown}
-use Rattle.q_fqcodel.proofs.FlowsShow.{none-left}
+use Rattle.q_fqcodel.proofs.FlowsShow.{take_leaves_none}
 use Rattle.q_device.proofs.Moved.{Moves, none-moves, hand-moves, IsMoved, AreMoved, bands-move, shaped-hidden, shaped-waits}
 use Rattle.q_device.proofs.Renewed.{Outlook}
 use Rattle.q_device.proofs.RenewedAsks.{asked-outlook}
@@ -210,5 +210,5 @@ module _ (t : ℕ) where
           after = after_sending t (selected s)
 
           by : (x : Option Descriptor) → option_map (λ (x : Taken). x.packet) (sent_from t (selected s)) ≡ x → Moves t x (outlook t (worked (node t handle filters (FqCodel after) x) notes (befores below)))
-          by None e = subst (λ n. Moves t None (of_flows t n)) (sym (none-left t s h.discipline.lists h.discipline.settings.quantum_low e)) (none-moves t)
+          by None e = subst (λ n. Moves t None (of_flows t n)) (sym (take_leaves_none t s h.discipline.lists h.discipline.settings.quantum_low e)) (none-moves t)
           by (Some p) e = hand-moves t p

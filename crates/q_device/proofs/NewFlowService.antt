@@ -7,7 +7,7 @@ use Rattle.std.proofs.lemmas.List.Elements.{All-push}
 use Rattle.std.proofs.lemmas.List.Sums.{sum_by-append}
 use Rattle.std.proofs.lemmas.Option.{same_Some}
 use Rattle.q_fqcodel.specs.FqState.{is_idle}
-use Rattle.q_fqcodel.proofs.PutLemmas.{listed-not}
+use Rattle.q_fqcodel.proofs.PutLemmas.{listed_not}
 use Rattle.q_model.specs.declared.event.Event.{Event}
 use Rattle.q_model.specs.Events.{IsEvent}
 use Rattle.q_model.specs.Tally.{Note, history}
@@ -71,5 +71,5 @@ new-flow-first settings range before e during major j k quantum first next last 
     let less = waits.less in
     record {
       in_new = λ c credits. omega (arith, less, gave_first k, gave_then k, joins.joins.in_new c credits);
-      others = λ gone. omega (arith, less, gave_first k, gave_then k, joins.joins.absent (listed-not k first.state.new_flows gone));
+      others = λ gone. omega (arith, less, gave_first k, gave_then k, joins.joins.absent (listed_not k first.state.new_flows gone));
     }

@@ -13,8 +13,8 @@ use Rattle.std.proofs.lemmas.Option.{none-some, same_Some}
 use Rattle.q_packet.specs.Descriptor.{Descriptor}
 use Rattle.q_bucket.specs.Level.{TokenBucket}
 use Rattle.q_drr.specs.Schedule.{Class, Schedule, has_class, quantum_of}
-use Rattle.q_drr.proofs.DifferLemmas.{ClassesDiffer, differ-from_pairs}
-use Rattle.q_drr.proofs.LookupLemmas.{quantum-here, quantum-behind}
+use Rattle.q_drr.proofs.DifferLemmas.{ClassesDiffer, differ_from_pairs}
+use Rattle.q_drr.proofs.LookupLemmas.{quantum_here, quantum_behind}
 use Rattle.q_model.specs.Beneath.{beneath_own, beneath, packets_in, is_empty}
 use Rattle.q_model.specs.Conserved.{nodes_of, every_node}
 use Rattle.q_model.specs.Node.{Discipline, Fifo, Prio, Tbf, Drr, FqCodel, Own, Forest, none, more, Node, nodes_in, children, each}
@@ -210,7 +210,7 @@ module _ (dev : DeviceState (List Note)) (kept : IsKept dev) where
       let t : Schedule = a.schedule in
       let q : qdisc d.major dev ≡ Some n = qdisc-of d.major dev n kept a.handle within in
       let law = drr-lawful d.major dev n t kept q a.discipline in
-      let found_at = is-at t.classes i d.class (differ-from_pairs (λ (c : Class). c.name) t.classes law.schedule.classes_differ) a.class in
+      let found_at = is-at t.classes i d.class (differ_from_pairs (λ (c : Class). c.name) t.classes law.schedule.classes_differ) a.class in
       record {
         is = q;
         has = ap (option_and_then (λ (m : Node (List Note)). classes_of m.own.discipline)) q ∙ ap classes_of a.discipline ∙ ap Some a.classes;

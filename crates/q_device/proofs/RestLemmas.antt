@@ -18,10 +18,9 @@ use Rattle.q_fqcodel.specs.Put.{flow_of, is_listed, appended, cut_back, after_pu
 use Rattle.q_fqcodel.specs.Quanta.{need, given, stay, leave}
 use Rattle.q_fqcodel.specs.Selection.{Lists, chosen, turned, first_ready, moved, with_rest, arranged}
 use Rattle.q_fqcodel.specs.Take.{selected, flow_after, front, paid, sent_from, after_sending}
-use Rattle.q_fqcodel.proofs.QuantaLemmas.{flow-given, stay-kept, stay-dropped, leave-kept, leave-dropped}
-use Rattle.q_fqcodel.proofs.SentLemmas.{flow-paid, front-is, front-none, after-none, after-written, lists-written}
-use Rattle.q_model.specs.Tally.{Note}
-use Rattle.q_invariants.proofs.FlowSteps.{lists_of, SameLists, same-whole, Changes}
+use Rattle.q_fqcodel.proofs.QuantaLemmas.{flow-given, stay_kept, stay_dropped, leave_kept, leave_dropped}
+use Rattle.q_fqcodel.proofs.SentLemmas.{flow-paid, front_is, front_none, after_none, after_sending-written, lists_written}
+use Rattle.q_invariants.proofs.FlowSteps.{lists_of}
 use Rattle.q_device.specs.Rest.{IsAtRest, FlowRests, IsSparing}
 
 -- ---- CoDel at rest
@@ -123,8 +122,8 @@ stay-or-leave n q k (e ∷ es) h = ⊎_elim (few (stay-or-leave n q k es)) (more
   where
     few : (In n es → Has n (stay q k es) (leave q k es)) → need q e < k → Has n (stay q k (e ∷ es)) (leave q k (e ∷ es))
     few behind less =
-        subst (λ (xs : List Entry). Has n xs (leave q k (e ∷ es))) (sym (stay-dropped q k e es less))
-        (subst (λ (ns : List ℕ). Has n (stay q k es) ns) (sym (leave-dropped q k e es less))
+        subst (λ (xs : List Entry). Has n xs (leave q k (e ∷ es))) (sym (stay_dropped q k e es less))
+        (subst (λ (ns : List ℕ). Has n (stay q k es) ns) (sym (leave_dropped q k e es less))
         (elim (or_cases (e.flow == n) (is_listed n es) h) [
           | inl here ↦ inr (or_left (e.flow == n) (list_any (λ (m : ℕ). m == n) (leave q k es)) here)
           | inr later ↦ elim (behind later) [
@@ -135,8 +134,8 @@ stay-or-leave n q k (e ∷ es) h = ⊎_elim (few (stay-or-leave n q k es)) (more
 
     more : (In n es → Has n (stay q k es) (leave q k es)) → k ≤ need q e → Has n (stay q k (e ∷ es)) (leave q k (e ∷ es))
     more behind least =
-        subst (λ (xs : List Entry). Has n xs (leave q k (e ∷ es))) (sym (stay-kept q k e es least))
-        (subst (λ (ns : List ℕ). Has n (given q k e ∷ stay q k es) ns) (sym (leave-kept q k e es least))
+        subst (λ (xs : List Entry). Has n xs (leave q k (e ∷ es))) (sym (stay_kept q k e es least))
+        (subst (λ (ns : List ℕ). Has n (given q k e ∷ stay q k es) ns) (sym (leave_kept q k e es least))
         (elim (or_cases (e.flow == n) (is_listed n es) h) [
           | inl here ↦ inl (in-cons n e (given q k e) (stay q k es) (flow-given q k e) here)
           | inr later ↦ elim (behind later) [
@@ -207,6 +206,10 @@ arranged-holds n q idle new old h = with-gone (rest-holds n q idle (drop p new) 
 
 -- ---- a take
 
+pub selected-keeps : (j : ℕ) (s : FqState) → FlowRests j s.flows → FlowRests j (selected s).flows
+unfolding selected
+selected-keeps j s h = rests-clear j (arranged s.settings.quantum (is_idle s.flows) s.new_flows s.old_flows).gone s.flows h
+
 selected-rests : (n : ℕ) (s : FqState) → In n (lists_of s) → is_listed n (lists_of (selected s)) ≡ false → FlowRests n (selected s).flows
 unfolding selected
 selected-rests n s h absent = elim (arranged-holds n s.settings.quantum (is_idle s.flows) s.new_flows s.old_flows h) [
@@ -219,18 +222,18 @@ sent-rests n now s absent h = by (front s) refl
   where
     by : (o : Option Entry) → front s ≡ o → FlowRests n (after_sending now s).flows
     by None e =
-        let none = front-none s e in
-        let same : after_sending now s ≡ s = after-none s now none.0 none.1 in
+        let none = front_none s e in
+        let same : after_sending now s ≡ s = after_none s now none.0 none.1 in
         subst (λ (t : FqState). FlowRests n t.flows) (sym same) (h (sym (ap (λ (t : FqState). is_listed n (lists_of t)) same) ∙ absent))
     by (Some e) at =
         let rest : List Entry = drop 1 (lists_of s) in
         let m : Entry = paid (sent_from now s) e in
-        let after : lists_of (after_sending now s) ≡ m ∷ rest = ap lists_of (after-written s e now at) ∙ lists-written s m e at in
-        let before : lists_of s ≡ e ∷ rest = front-is s e at in
+        let after : lists_of (after_sending now s) ≡ m ∷ rest = ap lists_of (after_sending-written s e now at) ∙ lists_written s m e at in
+        let before : lists_of s ≡ e ∷ rest = front_is s e at in
         let same : is_listed n (m ∷ rest) ≡ is_listed n (e ∷ rest) = ap (λ (k : ℕ). (k == n) || is_listed n rest) (flow-paid (sent_from now s) e) in
         let gone : is_listed n (e ∷ rest) ≡ false = sym same ∙ sym (ap (is_listed n) after) ∙ absent in
         let other : e.flow ≢ n = λ own. true≢false (sym (or_left (e.flow == n) (is_listed n rest) (eq-eqb e.flow n own)) ∙ gone) in
-        subst (λ (t : FqState). FlowRests n t.flows) (sym (after-written s e now at)) (rests-other (flow_after now) n e.flow s.flows other (h (ap (is_listed n) before ∙ gone)))
+        subst (λ (t : FqState). FlowRests n t.flows) (sym (after_sending-written s e now at)) (rests-other (flow_after now) n e.flow s.flows other (h (ap (is_listed n) before ∙ gone)))
 
 -- a selection that leaves the flow listed is not followed by one that does not
 pub take-rests : (n now : ℕ) (s : FqState) → In n (lists_of s) → is_listed n (lists_of (after_sending now (selected s))) ≡ false → FlowRests n (after_sending now (selected s)).flows
@@ -250,12 +253,3 @@ put-listed n s p now h = by (is_listed (flow_of s p) (lists_of s))
           | inl a ↦ inl (in-append n s.new_flows (new ∷ []) (inl a))
           | inr b ↦ inr b
         ])
-
-pub step-rests : (n now : ℕ) (s t : FqState) (notes : List Note) → Changes now s t notes → In n (lists_of s) → is_listed n (lists_of t) ≡ false → FlowRests n t.flows
-step-rests n now s t notes (inl quiet) h absent = by quiet.lists
-  where
-    by : SameLists s t ⊎ ((p : Descriptor) × (at : ℕ) × (t ≡ after_put s p at)) → FlowRests n t.flows
-    by (inl same) = absurd (true≢false (sym h ∙ sym (ap (is_listed n) (same-whole s t same)) ∙ absent))
-    by (inr put) = absurd (true≢false (sym (put-listed n s put.0 put.1 h) ∙ sym (ap (λ (x : FqState). is_listed n (lists_of x)) put.2) ∙ absent))
-step-rests n now s t notes (inr take) h absent =
-    subst (λ (x : FqState). FlowRests n x.flows) (sym take.is) (take-rests n now s h (sym (ap (λ (x : FqState). is_listed n (lists_of x)) take.is) ∙ absent))

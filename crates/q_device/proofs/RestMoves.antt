@@ -2,9 +2,9 @@
 use Rattle.std.proofs.Common.{◌≡◌, ◌≢◌, ℕ, zero, suc, ◌+◌, ◌≤◌, ◌⊎◌, inl, inr, ⊎_elim, Bool, true, false, List, [], ◌∷◌, ◌++◌, drop, Option, Some, None, option_map, option_and_then, option_to_list, refl, sym, ap, ap₂, subst, ◌∙◌, arith}
 use Rattle.std.specs.Prelude.{All, IfSome, slice_get, if◌then◌else◌}
 use Rattle.std.specs.List.{flat_map}
-use Rattle.std.proofs.lemmas.Bool.{cases_Bool, cases_eq, eq-eqb, true≢false}
+use Rattle.std.proofs.lemmas.Bool.{cases_eq, eq-eqb}
 use Rattle.std.proofs.lemmas.List.{append-nil, append_assoc}
-use Rattle.std.proofs.lemmas.List.Elements.{All-append, All-head, All-push}
+use Rattle.std.proofs.lemmas.List.Elements.{All-head, All-push}
 use Rattle.std.proofs.lemmas.List.Sums.{sum_by-cons, sum_by-append}
 use Rattle.std.proofs.lemmas.Option.{none-some, same_Some}
 use Rattle.q_packet.specs.Descriptor.{Descriptor}
@@ -13,14 +13,13 @@ use Rattle.q_codel.specs.Codel.{CodelState, is_late, drops, sent, marks, leaving
 use Rattle.q_codel.specs.declared.taken.Taken.{Taken}
 use Rattle.q_fqcodel.specs.Cleared.{adjust}
 use Rattle.q_fqcodel.specs.Entry.{Entry}
-use Rattle.q_fqcodel.specs.FqState.{Flow, FqState, is_idle, all_packets}
+use Rattle.q_fqcodel.specs.FqState.{Flow, FqState, all_packets}
 use Rattle.q_fqcodel.specs.Lawful.{times}
 use Rattle.q_fqcodel.specs.Put.{is_listed}
-use Rattle.q_fqcodel.specs.Selection.{arranged}
 use Rattle.q_fqcodel.specs.Take.{selected, packet_sent, flow_after, front, sent_from, after_sending}
-use Rattle.q_fqcodel.proofs.ListedLemmas.{times-selected, times-sent}
-use Rattle.q_fqcodel.proofs.PutLemmas.{listed-not, listed-yes}
-use Rattle.q_fqcodel.proofs.SentLemmas.{sender-is, front-is, front-none, after-none, after-written}
+use Rattle.q_fqcodel.proofs.ListedLemmas.{times-selected, times_sent}
+use Rattle.q_fqcodel.proofs.PutLemmas.{listed_not, listed_yes}
+use Rattle.q_fqcodel.proofs.SentLemmas.{sender_found, front_is, front_none, after_none, after_sending-written}
 use Rattle.q_model.specs.declared.event.Event.{Event}
 use Rattle.q_model.specs.Events.{IsEvent}
 use Rattle.q_model.specs.Tally.{Note, FlowGave, history}
@@ -32,24 +31,21 @@ use Rattle.q_model.specs.Settings.{DeviceSettings, IsInRange}
 use Rattle.q_model.specs.Step.{DeviceState, step}
 use Rattle.q_model.specs.Stretches.{given_by, bytes_given, FqAt, fq_in, IsBackloggedFlow}
 use Rattle.q_invariants.proofs.Along.{moves}
-use Rattle.q_invariants.proofs.FlowMoves.{FqNode, fq-node, fq-step}
+use Rattle.q_invariants.proofs.FlowMoves.{FqNode, fq-node}
 use Rattle.q_invariants.proofs.FlowNotes.{take-weighs}
 use Rattle.q_invariants.proofs.FlowSteps.{lists_of}
 use Rattle.q_invariants.proofs.Lengths.{HasLength, lengths-among}
 use Rattle.q_invariants.proofs.Replays.{IsKept, replay-kept}
 use Rattle.q_invariants.proofs.Weights.{weigh, weigh-append}
 use Rattle.q_invariants.proofs.Within.{found, lawful-of}
-use Rattle.q_device.specs.Rest.{IsAtRest, FlowRests, HasFq, JoiningFlowsAreSpared}
+use Rattle.q_device.specs.Rest.{IsAtRest, FlowRests, JoiningFlowsAreSpared}
 use Rattle.q_device.specs.Sharing.{device_after}
 use Rattle.q_device.proofs.ReplayLemmas.{replay_from-append}
-use Rattle.q_device.proofs.RestLemmas.{In, rests-clear, rests-other, sent-rests, step-rests, never-late, spares-drops, sparing}
+use Rattle.q_device.proofs.RestLemmas.{selected-keeps, rests-other, never-late, spares-drops, sparing}
+use Rattle.q_device.proofs.RestReplays.{unlisted-rests}
 use Rattle.q_device.proofs.RestSteps.{Outcome, RestStep, rest-step}
 
 -- ---- a take that gives nothing of the flow
-
-selected-keeps : (j : ℕ) (s : FqState) → FlowRests j s.flows → FlowRests j (selected s).flows
-unfolding selected
-selected-keeps j s h = rests-clear j (arranged s.settings.quantum (is_idle s.flows) s.new_flows s.old_flows).gone s.flows h
 
 no-head : (queue : List Stamped) → slice_get queue 0 ≡ None → queue ≡ []
 no-head [] e = refl
@@ -89,7 +85,7 @@ own-rests : (j now : ℕ) (s : FqState) (e : Entry) → e.flow ≡ j → front s
 unfolding sent_from
 own-rests j now s e own at none h f there =
     by (slice_get s.flows j) refl (sym (adjust-own (flow_after now) j s.flows) ∙ there)
-    (ap (option_and_then (packet_sent now)) (sym (sender-is s e (drop 1 (s.new_flows ++ s.old_flows)) (front-is s e at) ∙ ap (slice_get s.flows) own)) ∙ none)
+    (ap (option_and_then (packet_sent now)) (sym (sender_found s e (drop 1 (s.new_flows ++ s.old_flows)) (front_is s e at) ∙ ap (slice_get s.flows) own)) ∙ none)
   where
     by : (o : Option Flow) → slice_get s.flows j ≡ o → option_map (flow_after now) o ≡ Some f → option_and_then (packet_sent now) o ≡ None → IsAtRest f
     by None is after sends = absurd (none-some f after)
@@ -109,10 +105,10 @@ sent-keeps j now s nothing long h = by (front s) refl
 
     by : (o : Option Entry) → front s ≡ o → FlowRests j (after_sending now s).flows
     by None e =
-        let none = front-none s e in
-        subst (λ (t : FqState). FlowRests j t.flows) (sym (after-none s now none.0 none.1)) h
+        let none = front_none s e in
+        subst (λ (t : FqState). FlowRests j t.flows) (sym (after_none s now none.0 none.1)) h
     by (Some e) at =
-        subst (λ (t : FqState). FlowRests j t.flows) (sym (after-written s e now at))
+        subst (λ (t : FqState). FlowRests j t.flows) (sym (after_sending-written s e now at))
         (⊎_elim
         (λ (same : e.flow ≡ j). subst (λ (k : ℕ). FlowRests j (adjust (flow_after now) k s.flows)) (sym same) (own e at same (sent_from now s) refl long))
         (λ (other : e.flow ≢ j). rests-other (flow_after now) j e.flow s.flows other h)
@@ -185,19 +181,6 @@ module _ (major j : ℕ) where
             subst (λ (t : FqState). FlowRests j t.flows) (sym turns.0)
             (sent-keeps j (step history d e).device.clock (selected x.state) (sym turns.1 ∙ none) long (selected-keeps j x.state h))
 
-    -- in neither list afterwards
-    event-leaves : In j (lists_of x.state) ⊎ FlowRests j x.state.flows → is_listed j (lists_of y.state) ≡ false → FlowRests j y.state.flows
-    event-leaves (inl listed) absent =
-        let s = fq-step major d e x y kept range is at in
-        step-rests j (step history d e).device.clock x.state y.state s.notes s.by listed absent
-    event-leaves (inr h) absent = by stepped.by
-      where
-        by : Outcome j (step history d e).device.clock x.state y.state stepped.notes → FlowRests j y.state.flows
-        by (inl stays) = stays h
-        by (inr turns) =
-            subst (λ (t : FqState). FlowRests j t.flows) (sym turns.0)
-            (sent-rests j (step history d e).device.clock (selected x.state) (sym (ap (λ (t : FqState). is_listed j (lists_of t)) turns.0) ∙ absent) (λ none. selected-keeps j x.state h))
-
     -- one that a packet joins
     event-joins : is_listed j (lists_of x.state) ≡ false → is_listed j (lists_of y.state) ≡ true → FlowRests j x.state.flows → FlowRests j y.state.flows
     event-joins absent listed h = by stepped.by
@@ -207,10 +190,10 @@ module _ (major j : ℕ) where
         by (inr turns) =
             absurd (omega (
               arith,
-              listed-not j (lists_of x.state) absent,
-              listed-yes j (lists_of y.state) listed,
+              listed_not j (lists_of x.state) absent,
+              listed_yes j (lists_of y.state) listed,
               ap (λ (t : FqState). times j (lists_of t)) turns.0,
-              times-sent j (step history d e).device.clock (selected x.state),
+              times_sent j (step history d e).device.clock (selected x.state),
               times-selected j x.state,
             ))
 
@@ -230,40 +213,17 @@ module _ (major j quantum : ℕ) where
   more : (a b c : DeviceState (List Note)) → IsBackloggedFlow major j quantum a → IsBackloggedFlow major j quantum b → Moves a b → Moves b c → Moves a c
   more a b c h l f g x w e at = more-keeps major j x l.fq w (f x l.fq e l.there) (g l.fq w l.there at)
 
-  -- while the fq_codel is there
-  abbrev Leaves : DeviceState (List Note) → DeviceState (List Note) → Type 0
-  Leaves d later =
-      (x y : FqAt) → fq_in major d ≡ Some x → fq_in major later ≡ Some y → In j (lists_of x.state) ⊎ FlowRests j x.state.flows → is_listed j (lists_of y.state) ≡ false → FlowRests j y.state.flows
-
-  stay-left : (d : DeviceState (List Note)) → IsKept d → HasFq major d → Leaves d d
-  stay-left d kept h x y e f start absent = by (same_Some x y (sym e ∙ f)) start
-    where
-      by : x ≡ y → In j (lists_of x.state) ⊎ FlowRests j x.state.flows → FlowRests j y.state.flows
-      by same (inl listed) = absurd (true≢false (sym listed ∙ ap (λ (w : FqAt). is_listed j (lists_of w.state)) same ∙ absent))
-      by same (inr h) = subst (λ (w : FqAt). FlowRests j w.state.flows) same h
-
-  one-left : (d : DeviceState (List Note)) (e : Event) → IsKept d → IsEvent e → HasFq major d → HasFq major (step history d e).device → Leaves d (step history d e).device
-  one-left d e kept range h l x y is at start absent = event-leaves major j d e x y kept range is at start absent
-
-  more-left : (a b c : DeviceState (List Note)) → HasFq major a → HasFq major b → Leaves a b → Leaves b c → Leaves a c
-  more-left a b c h l f g x w e at start absent =
-      elim (cases_Bool (is_listed j (lists_of l.fq.state))) [
-        | inl listed ↦ g l.fq w l.there at (inl listed) absent
-        | inr gone ↦ g l.fq w l.there at (inr (f x l.fq e l.there start gone)) absent
-      ]
-
 pub joining-flows-are-spared : (settings : DeviceSettings) → IsInRange settings → JoiningFlowsAreSpared settings
-joining-flows-are-spared settings range before since e during major j quantum start first next last f all_before all_since event all_during begins from there is later at absent listed stays silent found_it =
-    let all_first : All IsEvent (before ++ since) = All-append IsEvent before since all_before all_since in
-    let all_next : All IsEvent ((before ++ since) ++ e ∷ []) = All-push IsEvent (before ++ since) e all_first event in
-    let d : DeviceState (List Note) = device_after settings (before ++ since) in
-    let kept : IsKept d = replay-kept settings (before ++ since) range all_first in
-    let stepped : device_after settings ((before ++ since) ++ e ∷ []) ≡ (step history d e).device = ap (λ (r : Replay (List Note)). r.device) (replay_from-append history (nothing_yet history settings) (before ++ since) e) in
+joining-flows-are-spared settings range before e during major j quantum first next last f all_before event all_during is later at absent listed stays silent found_it =
+    let all_next : All IsEvent (before ++ e ∷ []) = All-push IsEvent before e all_before event in
+    let d : DeviceState (List Note) = device_after settings before in
+    let kept : IsKept d = replay-kept settings before range all_before in
+    let stepped : device_after settings (before ++ e ∷ []) ≡ (step history d e).device = ap (λ (r : Replay (List Note)). r.device) (replay_from-append history (nothing_yet history settings) before e) in
     let after : fq_in major (step history d e).device ≡ Some next = ap (fq_in major) (sym stepped) ∙ later in
-    let left : FlowRests j first.state.flows = moves (HasFq major) (Leaves major j quantum) (stay-left major j quantum) (one-left major j quantum) (more-left major j quantum) settings before since range all_before all_since there start first begins is from absent in
+    let left : FlowRests j first.state.flows = unlisted-rests settings before major j first range all_before is absent in
     let joined : FlowRests j next.state.flows = event-joins major j d e first next kept event is after absent listed left in
     let joins : Keeps major j first next = event-keeps major j d e first next kept event is after in
-    let m : Keeps major j next last = moves (IsBackloggedFlow major j quantum) (Moves major j quantum) (still major j quantum) (one major j quantum) (more major j quantum) settings ((before ++ since) ++ e ∷ []) during range all_next all_during stays next last later at in
+    let m : Keeps major j next last = moves (IsBackloggedFlow major j quantum) (Moves major j quantum) (still major j quantum) (one major j quantum) (more major j quantum) settings (before ++ e ∷ []) during range all_next all_during stays next last later at in
     let none : bytes_given j m.notes ≡ 0 =
     omega (
       arith,

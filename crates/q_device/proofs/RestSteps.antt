@@ -7,7 +7,7 @@ use Rattle.std.proofs.lemmas.Option.{same_Some}
 use Rattle.q_packet.specs.Descriptor.{Descriptor}
 use Rattle.q_packet.specs.declared.cause.Cause.TheVariants.{Purged}
 use Rattle.q_codel.specs.declared.taken.Taken.{Taken}
-use Rattle.q_fqcodel.specs.FqState.{FqSettings, Flow, FqState, all_packets, retuned}
+use Rattle.q_fqcodel.specs.FqState.{FqSettings, Flow, FqState, retuned}
 use Rattle.q_fqcodel.specs.FqState as flows
 use Rattle.q_fqcodel.specs.Put.{flow_of, joined, shortened, appended, overflow, fattest, cut_back, after_put}
 use Rattle.q_fqcodel.specs.QuantaGiven.{Grant, grants}
@@ -41,14 +41,14 @@ use Rattle.q_device.proofs.RestLemmas.{rests-adjust}
 
 -- ---- an arrival, and other settings
 
-put-rests : (n : ℕ) (s : FqState) (p : Descriptor) (now : ℕ) → FlowRests n s.flows → FlowRests n (after_put s p now).flows
+pub put-rests : (n : ℕ) (s : FqState) (p : Descriptor) (now : ℕ) → FlowRests n s.flows → FlowRests n (after_put s p now).flows
 unfolding appended cut_back
 put-rests n s p now h =
     let a : FqState = appended s p now in
     rests-adjust (shortened (overflow a)) (λ f at. record { not_above = at.not_above; not_dropping = at.not_dropping }) n (fattest a.flows) a.flows
     (rests-adjust (joined (record { packet = p; at = now })) (λ f at. record { not_above = at.not_above; not_dropping = at.not_dropping }) n (flow_of s p) s.flows h)
 
-retuned-rests : (target interval : ℕ) (ecn : Bool) (n : ℕ) (flows : List Flow) → FlowRests n flows → FlowRests n (map (retuned target interval ecn) flows)
+pub retuned-rests : (target interval : ℕ) (ecn : Bool) (n : ℕ) (flows : List Flow) → FlowRests n flows → FlowRests n (map (retuned target interval ecn) flows)
 unfolding retuned
 retuned-rests target interval ecn n [] h f e = h f e
 retuned-rests target interval ecn zero (x ∷ flows) h f e =

@@ -9,7 +9,7 @@ use Rattle.std.proofs.lemmas.List.Elements.{All-head, All-tail}
 use Rattle.q_packet.specs.Descriptor.{Descriptor}
 use Rattle.q_bucket.specs.Level.{units_in_byte}
 use Rattle.q_drr.specs.Schedule.{Class, has_class, quantum_of}
-use Rattle.q_drr.proofs.LookupLemmas.{quantum-here, quantum-behind}
+use Rattle.q_drr.proofs.LookupLemmas.{quantum_here, quantum_behind}
 use Rattle.q_model.specs.declared.event.Event.{Event}
 use Rattle.q_model.specs.Events.{IsEvent}
 use Rattle.q_model.specs.Beneath.{beneath_own, packets_in}
@@ -52,10 +52,10 @@ held-short mtu clock own below h = by own.held (λ p e. (All-head (λ (q : Descr
 has-quantum : (classes : List Class) (c : ℕ) → All (λ (k : Class). 1 ≤ k.quantum) classes → has_class c classes ≡ true → 1 ≤ quantum_of c classes
 has-quantum [] c all has = absurd (false≢true has)
 has-quantum (k ∷ classes) c all has = elim (cases_Bool (c == k.name)) [
-  | inl here ↦ let one = All-head (λ (x : Class). 1 ≤ x.quantum) k classes all in omega (arith, one, quantum-here c k classes here)
+  | inl here ↦ let one = All-head (λ (x : Class). 1 ≤ x.quantum) k classes all in omega (arith, one, quantum_here c k classes here)
   | inr there ↦
       let rest = has-quantum classes c (All-tail (λ (x : Class). 1 ≤ x.quantum) k classes all) (sym (ap (λ t. t || has_class c classes) there) ∙ has) in
-      omega (arith, rest, quantum-behind c k classes there)
+      omega (arith, rest, quantum_behind c k classes there)
 ]
 
 -- The link pays s while the classes send t, of which the class sends c. A is what the class may lack of its part of those, in

@@ -34,7 +34,7 @@ use Rattle.q_invariants.proofs.Weights.{weigh-count}
 use Rattle.q_tree.proofs.FlowCounts.{count-sum, packets-all}
 use Rattle.q_tree.proofs.ForeseenAsks.{first_of, or_else, prio-shown, met-shown}
 use Rattle.q_device.specs.Work.{is_tbf}
-use Rattle.q_fqcodel.proofs.FlowsShow.{none-left}
+use Rattle.q_fqcodel.proofs.FlowsShow.{take_leaves_none}
 
 -- a node that shows nothing only where nothing is queued
 abbrev pub Rests : Asked → Type 0
@@ -207,7 +207,7 @@ module _ (mtu now : ℕ) (low : now ≤ 2 ^ 62) (handle : Option ℕ) (filters :
       let after : FqState = after_sending now (selected s) in
       let left : Own = node (FqCodel after) (option_map (λ (t : Taken). t.packet) (sent_from now (selected s))) in
       let answer : IsAnswer mtu now a = fq_codel-answers mtu now low handle filters s below h all in
-      let gone = none-left now s h.discipline.lists h.discipline.settings.quantum_low silent in
+      let gone = take_leaves_none now s h.discipline.lists h.discipline.settings.quantum_low silent in
       let counted : length (packets_of (all_packets after.flows)) ≡ 0 =
       omega (arith, gone, length-map (all_packets after.flows) (λ (x : Stamped). x.packet), packets-all after.flows, count-sum (all_packets after.flows)) in
       let peeked : length (beneath a.peeked) ≡ 0 =

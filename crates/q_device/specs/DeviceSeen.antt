@@ -58,6 +58,10 @@ with_recorded most e events = if nat_lt (length events) most then events ++ e �
 abbrev pub most_events : ℕ
 most_events = 2 ^ 64 - 1
 
+-- the most bytes that a packet has
+abbrev pub longest : ℕ
+longest = 65535
+
 -- An event is a step, whose losses wait behind the others. It is counted, and recorded as it counted.
 abbrev pub with_event : Event → DeviceSeen → DeviceSeen
 with_event e d =

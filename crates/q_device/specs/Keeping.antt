@@ -1,6 +1,6 @@
 -- What a device of the code keeps, whatever happens to it.
 -- Nothing here is of a standard.
-use Rattle.std.specs.Prelude.{ℕ, ◌+◌, ◌<◌, ◌≤◌, ◌^◌, min, if◌then◌else◌, is_some, List, All, length, vec_capacity}
+use Rattle.std.specs.Prelude.{ℕ, ◌+◌, ◌*◌, ◌<◌, ◌≤◌, ◌^◌, min, if◌then◌else◌, is_some, List, All, length, vec_capacity}
 use Rattle.q_model.specs.declared.event.Event.{Event}
 use Rattle.q_model.specs.declared.event.Event.TheVariants as event
 use Rattle.q_model.specs.Beneath.{beneath}
@@ -9,15 +9,10 @@ use Rattle.q_model.specs.Settings.{IsInRange}
 use Rattle.q_model.specs.Step.{DeviceState, counts_at}
 use Rattle.q_model.specs.Tally.{Counts}
 use Rattle.q_model.specs.TreeState.{given}
-use Rattle.q_tree.specs.Kept.{Kept}
-use Rattle.q_tree.specs.TreeSeen.{tree_numbers}
+use Rattle.q_tree.specs.TreeSeen.{numbers}
 use Rattle.q_device.specs.declared.device.Device.TheInside.{Inside}
-use Rattle.q_device.specs.DeviceSeen.{DeviceSeen, most_events}
+use Rattle.q_device.specs.DeviceSeen.{DeviceSeen, longest, most_events}
 use Rattle.q_device.specs.Replayed.{IsReplayOf}
-
--- the model's device: this clock, and the tree without its places, which mean nothing to the rules
-abbrev pub numbers_at : ℕ → DeviceState Kept → DeviceState Counts
-numbers_at clock d = record { clock = clock; tree = tree_numbers d.tree }
 
 -- Each event brought a packet, sent one, or is counted by itself; the number stays at the greatest that is counted.
 abbrev pub events_of : Inside → ℕ
@@ -29,10 +24,11 @@ others_after (event.Arrive p moment) d others = others
 others_after (event.Poll moment) d others = if is_some (given (counts_at moment d) d.tree) then others else min (others + 1) most_events
 others_after (event.Command c moment) d others = min (others + 1) most_events
 
+-- what a contract sees: of the tree the model's device is without its places, which mean nothing to the rules
 abbrev pub device_seen : Inside → DeviceSeen
 device_seen a = record {
   settings = a.settings;
-  device = numbers_at a.clock a.tree;
+  device = numbers a.tree;
   waiting = a.losses.waiting;
   handed_out = a.handed_out;
   recorded = a.recorded.items;
@@ -40,15 +36,17 @@ device_seen a = record {
   memory = record { tree = a.tree; losses = a.losses.places; events = vec_capacity a.recorded };
 }
 
--- It is the replay of all that happened to it. Its tree was given no moment after the device's clock, and an event that gives it
--- none moves the clock alone. The lost list has a place for each packet that is queued beside the losses that
--- wait, and `spare` more, so that a poll needs no memory, and the recorder has its places. The device's arrivals fit their counter.
+-- It is the replay of all that happened to it. It has one clock, that of its tree, since every event gives the tree the moment at which
+-- it counts: the replay has this clock too. The lost list has a place for each packet that is queued beside the losses that wait, so that
+-- a poll needs no memory, and the recorder has its places. So many packets as `spare` says may arrive besides, of any lengths: the lost
+-- list has places for them too, what the device counts of arrivals stays below 2^64, and the recorder is full.
 pub record IsKeptDevice (a : Inside) : Type 0 where
   pub happened : List Event
   pub events : All IsEvent happened
   pub settings : IsInRange a.settings
   pub replayed : IsReplayOf happened (device_seen a)
-  pub clock : a.tree.clock ≤ a.clock
   pub room : length (beneath a.tree.tree.root) + length a.losses.waiting + a.spare ≤ a.losses.places
   pub recorder : a.settings.recorder ≤ vec_capacity a.recorded
-  pub arrivals : a.tree.tree.top.counts.arrived.packets < 2 ^ 64
+  pub full : 1 ≤ a.spare → a.settings.recorder ≤ length a.recorded.items
+  pub packets : a.tree.tree.top.counts.arrived.packets + a.spare < 2 ^ 64
+  pub bytes : a.tree.tree.top.counts.arrived.bytes + a.spare * longest < 2 ^ 64

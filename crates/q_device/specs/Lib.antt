@@ -2,11 +2,15 @@ pub mod Counters
 pub mod DeviceCode
 pub mod DeviceLaws
 pub mod DeviceSeen
+pub mod Events
 pub mod Giving
 pub mod InTime
 pub mod Keeping
+pub mod LastKept
+pub mod LastNoted
 pub mod Laws
 pub mod Order
+pub mod Polls
 pub mod Promise
 pub mod Rate
 pub mod Replayed

@@ -1,6 +1,6 @@
 -- What CoDel remembers of a flow of an fq_codel that joins, after it left the lists, as it does where it is visited empty and has credits
 -- (RFC 8290, section 4.2): nothing by which it would drop or mark (RFC 8289, section 5).
-use Rattle.std.specs.Prelude.{◌≡◌, ◌⊎◌, ℕ, true, false, List, [], ◌∷◌, ◌++◌, All, Some, slice_get}
+use Rattle.std.specs.Prelude.{◌≡◌, ℕ, true, false, List, [], ◌∷◌, ◌++◌, All, Some, slice_get}
 use Rattle.q_packet.specs.declared.stamped.Stamped.{Stamped}
 use Rattle.q_codel.specs.Codel.{CodelState, drops, marks}
 use Rattle.q_fqcodel.specs.FqState.{Flow}
@@ -8,9 +8,7 @@ use Rattle.q_fqcodel.specs.Put.{is_listed}
 use Rattle.q_model.specs.declared.event.Event.{Event}
 use Rattle.q_model.specs.Events.{IsEvent}
 use Rattle.q_model.specs.Settings.{DeviceSettings}
-use Rattle.q_model.specs.Step.{DeviceState}
 use Rattle.q_model.specs.Stretches.{bytes_given, FqAt, fq_in, IsBackloggedFlow, Throughout}
-use Rattle.q_model.specs.Tally.{Note}
 use Rattle.q_device.specs.Sharing.{device_after}
 
 -- it drops nothing now and has not seen the queue stand, as in a new fq_codel
@@ -26,20 +24,14 @@ pub record IsSparing (c : CodelState) : Type 0 where
   pub drops_none : (now : ℕ) (queue : List Stamped) → drops c now queue ≡ 0
   pub marks_none : (now : ℕ) (queue : List Stamped) → marks c now queue ≡ false
 
-pub record HasFq (major : ℕ) (d : DeviceState (List Note)) : Type 0 where
-  pub fq : FqAt
-  pub there : fq_in major d ≡ Some fq
-
--- An fq_codel is there over an interval, at whose start the flow is listed, or at rest as all flows of a new fq_codel are. The flow is in
--- neither list at its end, and a packet joins it then. From then on, as long as it stays backlogged and has given nothing, CoDel spares it.
+-- A packet joins a flow that is in neither list of an fq_codel, at any time of any device. From then on, as long as the flow stays
+-- backlogged and has given nothing, CoDel spares it.
 abbrev pub JoiningFlowsAreSpared : DeviceSettings → Type 0
 JoiningFlowsAreSpared settings =
-    (before since : List Event) (e : Event) (during : List Event) (major j quantum : ℕ) (start first next last : FqAt) (f : Flow)
-    → All IsEvent before → All IsEvent since → IsEvent e → All IsEvent during
-    → fq_in major (device_after settings before) ≡ Some start → (is_listed j (start.state.new_flows ++ start.state.old_flows) ≡ true) ⊎ FlowRests j start.state.flows
-    → Throughout (HasFq major) settings before since
-    → fq_in major (device_after settings (before ++ since)) ≡ Some first → fq_in major (device_after settings ((before ++ since) ++ e ∷ [])) ≡ Some next
-    → fq_in major (device_after settings (((before ++ since) ++ e ∷ []) ++ during)) ≡ Some last
+    (before : List Event) (e : Event) (during : List Event) (major j quantum : ℕ) (first next last : FqAt) (f : Flow)
+    → All IsEvent before → IsEvent e → All IsEvent during
+    → fq_in major (device_after settings before) ≡ Some first → fq_in major (device_after settings (before ++ e ∷ [])) ≡ Some next
+    → fq_in major (device_after settings ((before ++ e ∷ []) ++ during)) ≡ Some last
     → is_listed j (first.state.new_flows ++ first.state.old_flows) ≡ false → is_listed j (next.state.new_flows ++ next.state.old_flows) ≡ true
-    → Throughout (IsBackloggedFlow major j quantum) settings ((before ++ since) ++ e ∷ []) during → bytes_given j last.noted ≡ bytes_given j first.noted
+    → Throughout (IsBackloggedFlow major j quantum) settings (before ++ e ∷ []) during → bytes_given j last.noted ≡ bytes_given j first.noted
     → slice_get last.state.flows j ≡ Some f → IsSparing f.codel

@@ -1,4 +1,4 @@
-ghost use Rattle.std.specs.Prelude.{All, ℕ, ◌≡◌, ◌<◌, ◌≤◌, ◌+◌, ◌^◌, true, None, IsSome, IfSome, IfNone, Ok, IsOk, IfOk, OnOk, OnErr, IfErr, max, min, if◌then◌else◌, length, option_map, slice_get, unwrap_or};
+ghost use Rattle.std.specs.Prelude.{All, ℕ, ◌≡◌, ◌<◌, ◌≤◌, ◌+◌, ◌*◌, ◌^◌, true, None, IsSome, IfSome, IfNone, Ok, IsOk, IfOk, OnOk, OnErr, IfErr, max, min, if◌then◌else◌, length, option_map, slice_get, unwrap_or};
 ghost use Rattle.q_model.specs.Beneath.{beneath, is_empty, row_of};
 ghost use Rattle.q_model.specs.Node.{shape};
 ghost use Rattle.q_model.specs.Settings.{IsInRange};
@@ -14,12 +14,12 @@ ghost use Rattle.q_tree.specs.TreeSeen.{tree_numbers};
 ghost use Rattle.q_tree.specs.Ways.{IsShare};
 ghost use Rattle.q_device.specs.Counters.{HasNotFallen};
 ghost use Rattle.q_device.specs.DeviceLaws.{HasItsMemory, IsReplayed};
-ghost use Rattle.q_device.specs.DeviceSeen.{IsRefusal, as_counted, most_events, opened, polled_memory, reaped, with_event, HasNoFewerPlaces, HasRoomFor, IsCommanded, IsRefusedAt};
+ghost use Rattle.q_device.specs.DeviceSeen.{IsRefusal, as_counted, longest, most_events, opened, polled_memory, reaped, with_event, HasNoFewerPlaces, HasRoomFor, IsCommanded, IsRefusedAt};
 ghost use Rattle.q_device.specs.Giving.{given_of, polled_in};
 ghost use Rattle.q_device.specs.Promise.{promise_of, promise_seen};
 
 use crate::given::Given;
-use crate::recording::{record_arrival, record_command, record_poll};
+use crate::recording::{has_room, record_arrival, record_command, record_poll};
 use crate::service::{Service, promised};
 use q_codel::{Loss as Lost, Losses};
 use q_model::{Command, Event, Fate, Place, Polled, Refusal, Row, Settings, packet_ranges};
@@ -37,15 +37,15 @@ use std::marker::Model;
 #[derive(Drop)]
 pub struct Device {
     settings: Settings,
-    /// The latest moment that counted. The tree was given none after it.
-    clock: Moment,
+    /// Its clock is the device's: every event gives it the moment at which it counts.
     tree: Tree,
     losses: Losses,
     /// How many losses were handed out.
     handed_out: u64,
     /// The first events, with the moments as they counted.
     recorded: Vec<Event>,
-    /// So many packets more may arrive before room for their losses is looked for.
+    /// So many packets more may arrive with nothing else asked: there is room for their losses, the device can count them, and no
+    /// event is recorded any more.
     spare: u64,
     /// The events that neither brought a packet nor sent one, which the counters do not tell.
     others: u64,
@@ -79,7 +79,6 @@ impl Device {
         ensures succeeds { settings.recorder ≡ 0 → IsOk result }
     {
         Ok(Device {
-            clock: Moment::zero(),
             tree: Tree::new(alloc, settings.mtu, settings.txqueuelen),
             losses: Losses::new(alloc),
             handed_out: 0,
@@ -142,15 +141,45 @@ impl Device {
     {
         packet_ranges(*packet);
         moment_range(now);
-        let at = later(self.clock, now);
-        let Ok(()) = make_room(&self.tree, &mut self.losses, &mut self.spare) else {
+        if self.spare == 0 {
+            return self.arrive_with_care(packet, now);
+        }
+        self.spare -= 1;
+        let at = later(&self.tree, now);
+        let Ok(fate) = self.tree.arrive_counted(packet, at, &mut self.losses) else {
+            return Err(AllocError);
+        };
+        Ok(fate)
+    }
+
+    // The same, and asks before it for a place for the loss and whether the device can count the packet, and after it for room in
+    // the recorder and for how many packets none of this has to be asked again.
+    #[cold]
+    #[inline(never)]
+    fn arrive_with_care(&mut self, packet: &Packet, now: Moment) -> Result<Fate, AllocError>
+        ensures event { OnOk result (self.new ≡ record (with_event (event.Arrive packet.now now) self.old) { memory = self.new.memory }) }
+        ensures moment { OnOk result (as_counted self.old.device (event.Arrive packet.now now) ≡ event.Arrive packet.now self.new.device.clock) }
+        ensures fate { IfOk result (λ fate. reply.Fate fate ≡ (step totals self.old.device (event.Arrive packet.now now)).reply) }
+        ensures arrived { OnOk result (self.new.device.tree.top.arrived ≡ with_packet self.old.device.tree.top.arrived packet.now) }
+        ensures same { OnErr result (self.new ≡ record self.old { memory = self.new.memory }) }
+        ensures succeeds { HasRoomFor packet.now self.old → IsOk result }
+        ensures places { self.old.memory.losses ≤ self.new.memory.losses }
+        ensures queues { HasNoFewerPlaces self.old.memory self.new.memory }
+        ensures keeps { OnErr result ((other : Descriptor) → HasRoomFor other self.old → HasRoomFor other self.new) }
+        ensures recorder { self.new.memory.events ≡ self.old.memory.events }
+        ensures counters { HasNotFallen self.old.device.tree.top self.new.device.tree.top }
+    {
+        packet_ranges(*packet);
+        moment_range(now);
+        let at = later(&self.tree, now);
+        let Ok(()) = make_room(&self.tree, &mut self.losses) else {
             return Err(AllocError);
         };
         let Ok(fate) = self.tree.arrive(packet, at, &mut self.losses) else {
             return Err(AllocError);
         };
-        self.clock = at;
         record_arrival(&mut self.recorded, &self.settings, packet, at);
+        self.spare = budget(&self.tree, &self.losses, &self.recorded, &self.settings);
         Ok(fate)
     }
 
@@ -188,10 +217,9 @@ impl Device {
         ensures counters { HasNotFallen self.old.device.tree.top self.new.device.tree.top }
     {
         moment_range(now);
-        let at = later(self.clock, now);
+        let at = later(&self.tree, now);
         let sent = self.tree.send(at, out, &mut self.losses);
-        self.clock = at;
-        record_poll(&mut self.recorded, &self.settings, at);
+        record_poll(&mut self.recorded, &self.settings, self.spare, at);
         count_poll(sent, &mut self.others);
         given_of(sent, &self.tree)
     }
@@ -211,7 +239,7 @@ impl Device {
         ensures some { is_sure self.now.device.clock self.now.device.tree.root ≡ true → IfSome result (λ at. IsSome (given at self.now.device.tree)) }
         ensures never { IfNone result ((t : ℕ) → self.now.device.clock ≤ t → t ≤ 2 ^ 62 → given t self.now.device.tree ≡ None) }
     {
-        self.tree.ready_at(self.clock)
+        self.tree.ready_at(self.tree.clock())
     }
 
     /// What the class in this place is promised; `None` where it is no class of a drr, where something other than a drr stands on the way
@@ -252,10 +280,9 @@ impl Device {
     {
         command.ranges();
         moment_range(now);
-        let at = later(self.clock, now);
+        let at = later(&self.tree, now);
         let alloc = *self.recorded.allocator();
         self.tree.command(alloc, command, at, &mut self.losses)?;
-        self.clock = at;
         record_command(&mut self.recorded, &self.settings, &command, at);
         count_other(&mut self.others);
         Ok(())
@@ -278,7 +305,7 @@ impl Device {
     pub fn clock(&self) -> Moment
         ensures { result ≡ self.now.device.clock }
     {
-        self.clock
+        self.tree.clock()
     }
 
     /// What the device counted, and what is queued at it.
@@ -295,11 +322,12 @@ impl Device {
         self.tree.stats(place)
     }
 
-    /// The tree. Its own clock is at or before the device's, which events that give the tree no moment move alone.
+    /// The tree. Its clock is the device's, since every event gives the tree the moment at which it counts.
     pub fn tree(&self) -> &Tree
         ensures memory { result.now ≡ self.now.memory.tree }
         ensures numbers { tree_numbers result.now.tree ≡ self.now.device.tree }
         ensures clock { result.now.clock ≤ self.now.device.clock }
+        ensures same_clock { result.now.clock ≡ self.now.device.clock }
     {
         &self.tree
     }
@@ -339,44 +367,45 @@ fn moment_range(now: Moment)
     let _ = now.ns();
 }
 
-// The later of two moments: the clock never goes back.
-fn later(clock: Moment, now: Moment) -> Moment
-    ensures { result ≡ max clock now }
+// The moment at which an event counts: the clock never goes back.
+#[inline(always)]
+fn later(tree: &Tree, now: Moment) -> Moment
+    ensures { result ≡ max tree.now.clock now }
 {
-    clock.max(now)
+    tree.clock().max(now)
 }
 
 // Makes a place for a loss more than there are packets queued. It succeeds where there is one, and takes no place away.
-#[inline(always)]
-fn make_room(tree: &Tree, losses: &mut Losses, spare: &mut u64) -> Result<(), AllocError>
-    requires room { length (beneath tree.now.tree.root) + length losses.old.waiting + spare.old ≤ losses.old.places }
+fn make_room(tree: &Tree, losses: &mut Losses) -> Result<(), AllocError>
     ensures same { losses.new ≡ record losses.old { places = losses.new.places } }
     ensures grows { losses.old.places ≤ losses.new.places }
-    ensures room { OnOk result (length losses.old.waiting + length (beneath tree.now.tree.root) + 1 + spare.new ≤ losses.new.places) }
-    ensures less { OnErr result (spare.new ≡ spare.old) }
-    ensures succeeds { length losses.old.waiting + length (beneath tree.now.tree.root) + 1 ≤ losses.old.places → IsOk result }
-{
-    if *spare == 0 {
-        return find_room(tree, losses, spare);
-    }
-    *spare -= 1;
-    Ok(())
-}
-
-// The same where no packet may arrive before room is looked for.
-#[cold]
-#[inline(never)]
-fn find_room(tree: &Tree, losses: &mut Losses, spare: &mut u64) -> Result<(), AllocError>
-    ensures same { losses.new ≡ record losses.old { places = losses.new.places } }
-    ensures grows { losses.old.places ≤ losses.new.places }
-    ensures room { OnOk result (length losses.old.waiting + length (beneath tree.now.tree.root) + 1 + spare.new ≤ losses.new.places) }
-    ensures less { OnErr result (spare.new ≡ spare.old) }
+    ensures room { OnOk result (length losses.old.waiting + length (beneath tree.now.tree.root) + 1 ≤ losses.new.places) }
     ensures succeeds { length losses.old.waiting + length (beneath tree.now.tree.root) + 1 ≤ losses.old.places → IsOk result }
 {
     let queued = tree.totals().queued.packets;
     make_places(losses, queued)?;
-    *spare = losses.room() - queued - 1;
     Ok(())
+}
+
+// How many packets may arrive with nothing else asked: as many as there are places for their losses and as the device can count,
+// in packets and in bytes, whatever their lengths; none while the recorder has room.
+fn budget(tree: &Tree, losses: &Losses, recorded: &Vec<Event>, settings: &Settings) -> u64
+    requires room_fit { length (beneath tree.now.tree.root) + length losses.now.waiting ≤ losses.now.places }
+    requires packets_fit { tree.now.tree.top.counts.arrived.packets < 2 ^ 64 }
+    requires bytes_fit { tree.now.tree.top.counts.arrived.bytes < 2 ^ 64 }
+    ensures room { length (beneath tree.now.tree.root) + length losses.now.waiting + result ≤ losses.now.places }
+    ensures packets { tree.now.tree.top.counts.arrived.packets + result < 2 ^ 64 }
+    ensures bytes { tree.now.tree.top.counts.arrived.bytes + result * longest < 2 ^ 64 }
+    ensures full { 1 ≤ result → settings.now.recorder ≤ length recorded.now.items }
+{
+    if has_room(recorded, settings) {
+        return 0;
+    }
+    let row = tree.totals();
+    let room = losses.room() - row.queued.packets;
+    let packets = u64::MAX - row.arrived.packets;
+    let bytes = (u64::MAX - row.arrived.bytes) / u64::from(u16::MAX);
+    room.min(packets).min(bytes)
 }
 
 // Makes places for so many losses and one more beside those that wait, where there are fewer.

@@ -155,10 +155,9 @@ pub fn new_flow_first(settings: Settings)
 
 /// CoDel drops nothing of a flow that joins an fq_codel from neither list until it has given a packet, and does not mark that one: so the
 /// packet that joined is given, unless it is lost to the fat flow's batch. It is said of what CoDel remembers of the flow, for whatever
-/// queues there and whenever its turn comes.
+/// queues there and whenever its turn comes, at any time of any device: a flow that leaves the lists is forgotten by CoDel, as is one of
+/// a new fq_codel.
 ///
-/// The fq_codel is there over an interval, at whose end the packet joins. At its start the flow stood in one of the lists, and left them since,
-/// as one does that is emptied and visited with credits (RFC 8290, section 4.2); or it was at rest, as all flows of a new fq_codel are.
 /// For all settings and every list of events whose fields are in their ranges: polls, arrivals and commands anywhere in the tree.
 pub fn joining_flow_is_spared(settings: Settings)
     ensures { JoiningFlowsAreSpared settings }

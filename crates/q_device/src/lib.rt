@@ -4,6 +4,7 @@
 //! - [`Device`] takes packets in, is polled for them, and does commands on its tree or refuses them. [`Device::arrive_at`] and
 //!   [`Device::poll_into`] take and give a packet where it stands; a [`Given`] is what such a poll answers.
 //! - [`play`] gives the [`Replies`] to a list of events, by a device of its own.
+//! - [`LastEvents`] is a ring in which a program notes what happened last, while a device records what happened first.
 //! - A [`Service`] is what a class of a drr is promised, which [`Device::service`] answers.
 //! - [`Settings`] are a device's mtu, queue length and recorder.
 //! - An [`Event`] is an arrival, a poll or a command, with its moment. A [`Reply`] is what it is answered: a [`Fate`], a
@@ -35,6 +36,7 @@
 
 mod device;
 mod given;
+pub mod last_events;
 pub mod laws;
 mod playing;
 mod recording;
@@ -42,6 +44,7 @@ mod service;
 
 pub use crate::device::Device;
 pub use crate::given::Given;
+pub use crate::last_events::LastEvents;
 pub use crate::service::Service;
 pub use playing::{Replies, play};
 pub use q_codel::Loss as Lost;

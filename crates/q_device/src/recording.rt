@@ -25,15 +25,16 @@ pub(crate) fn record_arrival(
     }
 }
 
-/// Keeps a poll where there is room.
+/// Keeps a poll where there is room. There is none where packets may still arrive with nothing asked.
 #[inline(always)]
-pub(crate) fn record_poll(recorded: &mut Vec<Event>, settings: &Settings, at: Moment)
-    requires { settings.now.recorder ≤ vec_capacity recorded.old }
+pub(crate) fn record_poll(recorded: &mut Vec<Event>, settings: &Settings, spare: u64, at: Moment)
+    requires capacity { settings.now.recorder ≤ vec_capacity recorded.old }
+    requires full { 1 ≤ spare → settings.now.recorder ≤ length recorded.old.items }
     ensures items { recorded.new.items ≡ with_recorded settings.now.recorder (event.Poll at) recorded.old.items }
     ensures capacity { vec_capacity recorded.new ≡ vec_capacity recorded.old }
 {
-    if has_room(recorded, settings) {
-        keep_poll(recorded, at);
+    if spare == 0 {
+        keep_poll(recorded, settings, at);
     }
 }
 
@@ -53,9 +54,9 @@ pub(crate) fn record_command(
     }
 }
 
-// Whether there is room to keep an event.
+/// Whether there is room to keep an event.
 #[inline(always)]
-fn has_room(recorded: &Vec<Event>, settings: &Settings) -> bool
+pub(crate) fn has_room(recorded: &Vec<Event>, settings: &Settings) -> bool
     ensures { result ≡ nat_lt (length recorded.now.items) settings.now.recorder }
 {
     recorded.len() < settings.recorder as usize
@@ -71,14 +72,17 @@ fn keep_arrival(recorded: &mut Vec<Event>, packet: &Packet, at: Moment)
     keep(recorded, Event::Arrive(*packet, at));
 }
 
+// Where there is room.
 #[cold]
 #[inline(never)]
-fn keep_poll(recorded: &mut Vec<Event>, at: Moment)
-    requires { length recorded.old.items < vec_capacity recorded.old }
-    ensures items { recorded.new.items ≡ recorded.old.items ++ event.Poll at ∷ [] }
+fn keep_poll(recorded: &mut Vec<Event>, settings: &Settings, at: Moment)
+    requires { settings.now.recorder ≤ vec_capacity recorded.old }
+    ensures items { recorded.new.items ≡ with_recorded settings.now.recorder (event.Poll at) recorded.old.items }
     ensures capacity { vec_capacity recorded.new ≡ vec_capacity recorded.old }
 {
-    keep(recorded, Event::Poll(at));
+    if has_room(recorded, settings) {
+        keep(recorded, Event::Poll(at));
+    }
 }
 
 #[cold]

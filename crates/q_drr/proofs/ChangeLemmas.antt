@@ -8,13 +8,13 @@ use Rattle.std.proofs.lemmas.List.Elements.{All-nil, All-push, All-filter, All-h
 use Rattle.std.proofs.lemmas.List.Kept.{AllPairs-filter}
 use Rattle.q_drr.specs.Schedule.{Class, Entry, Schedule, has_class, is_active, quantum_of, cut, active_after, after_grants, IsEntry, IsLawful}
 use Rattle.q_drr.specs.Changes.{EmptyIsLawful, AddedIsLawful, RemovedIsLawful, WokenIsLawful, AsleepIsLawful, WithQuantumIsLawful, TurnedIsLawful}
-use Rattle.q_drr.proofs.DifferLemmas.{ClassesDiffer, differ-from_pairs, pairs-from_differ, entries_apart}
+use Rattle.q_drr.proofs.DifferLemmas.{ClassesDiffer, differ_from_pairs, pairs_from_differ, entries_apart}
 use Rattle.q_drr.proofs.KeyLemmas.{has_push, find_push, differ_push, has_others, find_others, has_map, differ_map}
-use Rattle.q_drr.proofs.LookupLemmas.{quantum-here, quantum-behind}
+use Rattle.q_drr.proofs.LookupLemmas.{quantum_here, quantum_behind}
 use Rattle.q_drr.proofs.StretchLemmas.{list_differ}
 
 classes_apart : (classes : List Class) → AllPairs (λ (a b : Class). a.name ≢ b.name) classes → ClassesDiffer classes
-classes_apart classes h = differ-from_pairs (λ (c : Class). c.name) classes h
+classes_apart classes h = differ_from_pairs (λ (c : Class). c.name) classes h
 
 or_known : (x y : Bool) → x ≡ true → (x || y) ≡ true
 or_known true y e = refl
@@ -45,7 +45,7 @@ added_lawful s n quantum h absent positive =
     (has_push (λ (c : Class). c.name) e.class c s.classes ∙ or_known (has_class e.class s.classes) (eqb e.class n) i.there ∙ sym i.there)
     (ap (λ (o : Option Class). option_map_or (λ (c : Class). c.quantum) o 0) (find_push (λ (c : Class). c.name) e.class c s.classes i.there)) i in
     record {
-      classes_differ = pairs-from_differ (λ (c : Class). c.name) new (differ_push (λ (c : Class). c.name) c s.classes (classes_apart s.classes h.classes_differ) absent);
+      classes_differ = pairs_from_differ (λ (c : Class). c.name) new (differ_push (λ (c : Class). c.name) c s.classes (classes_apart s.classes h.classes_differ) absent);
       quanta = All-push (λ (c : Class). 1 ≤ c.quantum) s.classes c h.quanta positive;
       entries_differ = h.entries_differ;
       entries = All-weaker (IsEntry s.max_len s.classes) (IsEntry s.max_len new) kept s.active h.entries;
@@ -96,7 +96,7 @@ woken_if false s n e h positive there =
     record {
       classes_differ = h.classes_differ;
       quanta = h.quanta;
-      entries_differ = pairs-from_differ (λ (e : Entry). e.class) (s.active ++ x ∷ []) (differ_push (λ (e : Entry). e.class) x s.active (entries_apart s.active h.entries_differ) e);
+      entries_differ = pairs_from_differ (λ (e : Entry). e.class) (s.active ++ x ∷ []) (differ_push (λ (e : Entry). e.class) x s.active (entries_apart s.active h.entries_differ) e);
       entries = All-push (IsEntry s.max_len s.classes) s.active x h.entries (record { there = there; bounded = omega (arith, positive); in_range = omega arith });
       counted_turns = h.counted_turns;
     }
@@ -116,20 +116,20 @@ module _ (n q : ℕ) where
   new_quantum : (classes : List Class) → has_class n classes ≡ true → quantum_of n (map quantum_set classes) ≡ q
   new_quantum [] there = absurd (false≢true there)
   new_quantum (c ∷ classes) there = elim (cases_Bool (eqb n c.name)) [
-    | inl e ↦ quantum-here n (quantum_set c) (map quantum_set classes) (ap (eqb n) (same_name c) ∙ e)
+    | inl e ↦ quantum_here n (quantum_set c) (map quantum_set classes) (ap (eqb n) (same_name c) ∙ e)
         ∙ ap (λ (t : Bool). (if t then record c { quantum = q } else c).quantum) e
-    | inr e ↦ quantum-behind n (quantum_set c) (map quantum_set classes) (ap (eqb n) (same_name c) ∙ e)
+    | inr e ↦ quantum_behind n (quantum_set c) (map quantum_set classes) (ap (eqb n) (same_name c) ∙ e)
         ∙ new_quantum classes (sym (ap (λ t. t || has_class n classes) e) ∙ there)
   ]
 
   old_quantum : (m : ℕ) (classes : List Class) → eqb n m ≡ false → quantum_of m (map quantum_set classes) ≡ quantum_of m classes
   old_quantum m [] apart = refl
   old_quantum m (c ∷ classes) apart = elim (cases_Bool (eqb m c.name)) [
-    | inl e ↦ quantum-here m (quantum_set c) (map quantum_set classes) (ap (eqb m) (same_name c) ∙ e)
+    | inl e ↦ quantum_here m (quantum_set c) (map quantum_set classes) (ap (eqb m) (same_name c) ∙ e)
         ∙ ap (λ (t : Bool). (if t then record c { quantum = q } else c).quantum) (ap (eqb n) (sym (eqb-true m c.name e)) ∙ apart)
-        ∙ sym (quantum-here m c classes e)
-    | inr e ↦ quantum-behind m (quantum_set c) (map quantum_set classes) (ap (eqb m) (same_name c) ∙ e)
-        ∙ old_quantum m classes apart ∙ sym (quantum-behind m c classes e)
+        ∙ sym (quantum_here m c classes e)
+    | inr e ↦ quantum_behind m (quantum_set c) (map quantum_set classes) (ap (eqb m) (same_name c) ∙ e)
+        ∙ old_quantum m classes apart ∙ sym (quantum_behind m c classes e)
   ]
 
   at_least_one : (c : Class) → 1 ≤ q → 1 ≤ c.quantum → 1 ≤ (quantum_set c).quantum
@@ -158,11 +158,11 @@ cut_class n q max_len e = elim (n == e.class) as (λ (t : Bool). (if t then reco
 
 pub with_quantum_lawful : WithQuantumIsLawful
 with_quantum_lawful s n q h positive = record {
-  classes_differ = pairs-from_differ (λ (c : Class). c.name) (map (quantum_set n q) s.classes)
+  classes_differ = pairs_from_differ (λ (c : Class). c.name) (map (quantum_set n q) s.classes)
       (differ_map (λ (c : Class). c.name) (quantum_set n q) (same_name n q) s.classes (classes_apart s.classes h.classes_differ));
   quanta = All-map (λ (c : Class). 1 ≤ c.quantum) (quantum_set n q) s.classes
       (All-weaker (λ (c : Class). 1 ≤ c.quantum) (λ (c : Class). 1 ≤ (quantum_set n q c).quantum) (λ c. at_least_one n q c positive) s.classes h.quanta);
-  entries_differ = pairs-from_differ (λ (e : Entry). e.class) (map (cut n q s.max_len) s.active)
+  entries_differ = pairs_from_differ (λ (e : Entry). e.class) (map (cut n q s.max_len) s.active)
       (differ_map (λ (e : Entry). e.class) (cut n q s.max_len) (cut_class n q s.max_len) s.active (entries_apart s.active h.entries_differ));
   entries = All-map (IsEntry s.max_len (map (quantum_set n q) s.classes)) (cut n q s.max_len) s.active
       (All-weaker (IsEntry s.max_len s.classes) (λ e. IsEntry s.max_len (map (quantum_set n q) s.classes) (cut n q s.max_len e)) (λ e. cut_kept n q s.max_len s.classes e positive) s.active h.entries);
@@ -192,7 +192,7 @@ pub turned_lawful : TurnedIsLawful
 turned_lawful s len h fits = record {
   classes_differ = h.classes_differ;
   quanta = h.quanta;
-  entries_differ = pairs-from_differ (λ (e : Entry). e.class) (active_after len s.classes s.active) (list_differ len s.classes s.active (entries_apart s.active h.entries_differ));
+  entries_differ = pairs_from_differ (λ (e : Entry). e.class) (active_after len s.classes s.active) (list_differ len s.classes s.active (entries_apart s.active h.entries_differ));
   entries = turn_entries s.max_len len s.classes s.active fits h.entries;
   counted_turns = omega arith;
 }

@@ -7,7 +7,7 @@ use Rattle.std.proofs.lemmas.List.Elements.{All-head, All-tail}
 use Rattle.q_drr.specs.Schedule.{Class, Entry, Schedule, has_class, quantum_of, deficit_of, is_active, turned, IsEntry, IsLawful}
 use Rattle.q_drr.specs.Stretch.{after_turns, grants, sent, SharesAreFair}
 use Rattle.q_drr.proofs.ChangeLemmas.{turned_lawful}
-use Rattle.q_drr.proofs.LookupLemmas.{deficit-here, deficit-behind}
+use Rattle.q_drr.proofs.LookupLemmas.{deficit_here, deficit_behind}
 use Rattle.q_drr.proofs.StretchLemmas.{each_sends_its_share, grants_are_even, list_active}
 use Rattle.q_drr.proofs.TakeLemmas.{has_quantum}
 
@@ -34,8 +34,8 @@ deficit_bounded max_len classes n [] h there = absurd (false≢true there)
 deficit_bounded max_len classes n (e ∷ es) h there = elim (cases_Bool (eqb n e.class)) [
   | inl same ↦
       let i : IsEntry max_len classes e = All-head (IsEntry max_len classes) e es h in
-      omega (arith, i.bounded, deficit-here n e es same, ap (λ m. quantum_of m classes) (eqb-true n e.class same))
-  | inr other ↦ subst (λ d. d < quantum_of n classes + max_len) (sym (deficit-behind n e es other))
+      omega (arith, i.bounded, deficit_here n e es same, ap (λ m. quantum_of m classes) (eqb-true n e.class same))
+  | inr other ↦ subst (λ d. d < quantum_of n classes + max_len) (sym (deficit_behind n e es other))
       (deficit_bounded max_len classes n es (All-tail (IsEntry max_len classes) e es h) (sym (ap (λ t. t || is_active n es) other) ∙ there))
 ]
 

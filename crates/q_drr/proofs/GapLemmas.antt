@@ -7,7 +7,7 @@ use Rattle.std.proofs.lemmas.List.{length-map}
 use Rattle.std.proofs.lemmas.List.Edits.{get_or-remove_below, get_or-remove_above, length-remove}
 use Rattle.q_drr.specs.declared.ring.Link.{Link}
 use Rattle.q_drr.specs.Links.{no_link, is_among, moved_down, walk, IsPath, IsClosed, IsCircle, HaveMovedDown, next_of, before_of, here_of}
-use Rattle.q_drr.proofs.DifferLemmas.{AllDiffer, numbers_apart, numbers_differ-from}
+use Rattle.q_drr.proofs.DifferLemmas.{AllDiffer, numbers_apart, numbers_differ_from}
 use Rattle.q_drr.proofs.NameLemmas.{among_itself, each_at}
 use Rattle.q_drr.proofs.PlaceLemmas.{down_above, down_below, other_place, all_down, among_down}
 use Rattle.q_drr.proofs.RingLemmas.{circle_walks, length-walk}
@@ -96,7 +96,7 @@ module _ (gap : ℕ) where
         let low : (m : ℕ) → is_among m ns ≡ true → m < length old = λ m there. each_at (λ k. k < length old) m ns h.inside there in
         record {
           room = omega (arith, h.room, moved.len, shorter);
-          differ = numbers_differ-from (map (moved_down gap) ns) (differ_down ns absent (numbers_apart ns h.differ));
+          differ = numbers_differ_from (map (moved_down gap) ns) (differ_down ns absent (numbers_apart ns h.differ));
           inside = subst (λ len. All (λ p. p < len) (map (moved_down gap) ns)) (sym (moved.len ∙ shorter)) (all_down gap (length old) ns inside absent h.inside);
           closed = closed_down (next_of old) (before_of old) (next_of new) (before_of new) ns
               (λ m there. next_down m (low m there) (apart m there)) (λ m there. before_down m (low m there) (apart m there)) h.closed;

@@ -31,12 +31,12 @@ or_comm true false = refl
 or_comm false true = refl
 or_comm false false = refl
 
-pub among-append : (n : ℕ) (ns ms : List ℕ) → is_among n (ns ++ ms) ≡ (is_among n ns || is_among n ms)
-among-append n [] ms = refl
-among-append n (m ∷ ns) ms = ap (λ t. eqb n m || t) (among-append n ns ms) ∙ sym (or_assoc (eqb n m) (is_among n ns) (is_among n ms))
+pub is_among-append : (n : ℕ) (ns ms : List ℕ) → is_among n (ns ++ ms) ≡ (is_among n ns || is_among n ms)
+is_among-append n [] ms = refl
+is_among-append n (m ∷ ns) ms = ap (λ t. eqb n m || t) (is_among-append n ns ms) ∙ sym (or_assoc (eqb n m) (is_among n ns) (is_among n ms))
 
 pub among_push : (n m : ℕ) (ns : List ℕ) → is_among n (ns ++ m ∷ []) ≡ (is_among n ns || eqb n m)
-among_push n m ns = among-append n ns (m ∷ []) ∙ ap (λ t. is_among n ns || t) (or_false (eqb n m))
+among_push n m ns = is_among-append n ns (m ∷ []) ∙ ap (λ t. is_among n ns || t) (or_false (eqb n m))
 
 pub among_rotated : (n m : ℕ) (ns : List ℕ) → is_among n (ns ++ m ∷ []) ≡ is_among n (m ∷ ns)
 among_rotated n m ns = among_push n m ns ∙ or_comm (is_among n ns) (eqb n m)
@@ -68,8 +68,8 @@ unfolding IsDistinct
 distinct [] d = tt
 distinct (n ∷ ns) d = (apart n ns d.0, distinct ns d.1)
 
-pub length-le_from_differ : (ns : List ℕ) (bound : ℕ) → AllDiffer ns → All (λ n. n < bound) ns → length ns ≤ bound
-length-le_from_differ ns bound d below =
+pub length_le_from_differ : (ns : List ℕ) (bound : ℕ) → AllDiffer ns → All (λ n. n < bound) ns → length ns ≤ bound
+length_le_from_differ ns bound d below =
     length-le_from_distinct_below ns bound (distinct ns d) (λ q there. each_at (λ n. n < bound) q ns below there)
 
 pub without_absent : (n : ℕ) (ns : List ℕ) → is_among n ns ≡ false → without n ns ≡ ns

@@ -8,8 +8,8 @@ use Rattle.std.specs.List.{All}
 use Rattle.std.proofs.lemmas.List.Elements.{All-head, All-tail, All-push, All-weaker, All-replicate}
 use Rattle.q_drr.specs.declared.ring.Link.{Link}
 use Rattle.q_drr.specs.Links.{Circle, no_link, without, is_among, walk, IsPath, IsClosed, IsCircle, IsJoined, IsMarked, next_of, before_of}
-use Rattle.q_drr.proofs.DifferLemmas.{AllDiffer, numbers_apart, numbers_differ-from}
-use Rattle.q_drr.proofs.NameLemmas.{differ_by_member, eqb_swap, among_itself, among_rotated, differ_push, differ_rotated, each_at, place_of, among-append}
+use Rattle.q_drr.proofs.DifferLemmas.{AllDiffer, numbers_apart, numbers_differ_from}
+use Rattle.q_drr.proofs.NameLemmas.{differ_by_member, eqb_swap, among_itself, among_rotated, differ_push, differ_rotated, each_at, place_of, is_among-append}
 
 if_true : (t : Bool) (x y z : ℕ) → z ≡ (if t then x else y) → t ≡ true → z ≡ x
 if_true true x y z e p = e
@@ -42,9 +42,9 @@ walk_path nx bf a [] b p = refl
 walk_path nx bf a (n ∷ ns) b p =
     ap (λ m. m ∷ walk nx (length ns) (nx m)) p.0 ∙ ap (λ ms. n ∷ ms) (walk_path nx bf n ns b p.2)
 
-path-append : (nx bf : ℕ → ℕ) (a : ℕ) (ns : List ℕ) (c : ℕ) (ms : List ℕ) (b : ℕ) → IsPath nx bf a ns c → IsPath nx bf c ms b → IsPath nx bf a (ns ++ c ∷ ms) b
-path-append nx bf a [] c ms b p q = (p.0, p.1, q)
-path-append nx bf a (n ∷ ns) c ms b p q = (p.0, p.1, path-append nx bf n ns c ms b p.2 q)
+IsPath-append : (nx bf : ℕ → ℕ) (a : ℕ) (ns : List ℕ) (c : ℕ) (ms : List ℕ) (b : ℕ) → IsPath nx bf a ns c → IsPath nx bf c ms b → IsPath nx bf a (ns ++ c ∷ ms) b
+IsPath-append nx bf a [] c ms b p q = (p.0, p.1, q)
+IsPath-append nx bf a (n ∷ ns) c ms b p q = (p.0, p.1, IsPath-append nx bf n ns c ms b p.2 q)
 
 widen : (x y z : Bool) → (x || z) ≡ true → (x || (y || z)) ≡ true
 widen true y z h = refl
@@ -96,12 +96,12 @@ circle_walks links (n ∷ ns) count front h len head =
 
 closed_rotated : (nx bf : ℕ → ℕ) (n : ℕ) (ns : List ℕ) → IsClosed nx bf (n ∷ ns) → IsClosed nx bf (ns ++ n ∷ [])
 closed_rotated nx bf n [] h = h
-closed_rotated nx bf n (m ∷ ms) h = path-append nx bf m ms n [] m h.2 (h.0, h.1)
+closed_rotated nx bf n (m ∷ ms) h = IsPath-append nx bf m ms n [] m h.2 (h.0, h.1)
 
 circle_rotated : (links : List Link) (n : ℕ) (ns : List ℕ) → IsCircle links (n ∷ ns) → IsCircle links (ns ++ n ∷ [])
 circle_rotated links n ns h = record {
   room = h.room;
-  differ = numbers_differ-from (ns ++ n ∷ []) (differ_rotated n ns (numbers_apart (n ∷ ns) h.differ));
+  differ = numbers_differ_from (ns ++ n ∷ []) (differ_rotated n ns (numbers_apart (n ∷ ns) h.differ));
   inside = All-push (λ m. m < length links) ns n (All-tail (λ m. m < length links) n ns h.inside) (All-head (λ m. m < length links) n ns h.inside);
   closed = closed_rotated (next_of links) (before_of links) n ns h.closed;
   members = λ m below. h.members m below ∙ sym (among_rotated m n ns);
@@ -160,9 +160,9 @@ circle_grown links joined closed marked first ns n h j i k below absent =
     (λ m q. k.before m ∙ if_false _ _ _ _ (i.before m) (eqb_swap first m (differ_by_member first m (n ∷ ns) q (or_from (eqb first n) (is_among first ns) (eqb_swap n first parts.0) differ.0)))) there in
     record {
       room = omega (arith, h.room, j.len, i.len, k.len);
-      differ = numbers_differ-from ((first ∷ ns) ++ n ∷ []) (differ_push n (first ∷ ns) differ absent);
+      differ = numbers_differ_from ((first ∷ ns) ++ n ∷ []) (differ_push n (first ∷ ns) differ absent);
       inside = All-push (λ m. m < length marked) (first ∷ ns) n (below_same links marked (first ∷ ns) (k.len ∙ i.len ∙ j.len) h.inside) (omega (arith, j.len, i.len, k.len));
-      closed = path-append (next_of marked) (before_of marked) first ns n [] first whole (
+      closed = IsPath-append (next_of marked) (before_of marked) first ns n [] first whole (
         k.next n ∙ if_true _ _ _ _ (i.next n) (eq-eqb n n refl),
         k.before first ∙ if_true _ _ _ _ (i.before first) (eq-eqb first first refl),
       );
@@ -196,7 +196,7 @@ pub circle_without : (links joined marked : List Link) (n : ℕ) (ns : List ℕ)
     → IsJoined links joined (before_of links n) (next_of links n) → IsMarked joined marked n false → IsCircle marked ns
 circle_without links joined marked n ns h j k = record {
   room = omega (arith, h.room, j.len, k.len);
-  differ = numbers_differ-from ns (numbers_apart (n ∷ ns) h.differ).1;
+  differ = numbers_differ_from ns (numbers_apart (n ∷ ns) h.differ).1;
   inside = below_same links marked ns (k.len ∙ j.len) (All-tail (λ m. m < length links) n ns h.inside);
   closed = closed_without links joined marked n ns h j k;
   members = λ m q. members_less m n ns _ _ (numbers_apart (n ∷ ns) h.differ).0 (k.changed m) (j.here m ∙ h.members m (omega (arith, j.len, k.len)));
@@ -273,7 +273,7 @@ removed_front links n first moved [] (r ∷ rs) (suc k) old h w same other m ms 
 removed_front links n first moved (x ∷ xs) rest (suc k) old h w same other m ms e =
     let front_is : old ≡ x = cc in
     let head : x ≡ m = cc in
-    let apart : eqb x n ≡ false = differ_by_member x n (xs ++ n ∷ rest) (among-append n xs (n ∷ rest) ∙ or_right (is_among n xs) _ (among_itself n rest)) (numbers_apart (x ∷ xs ++ n ∷ rest) h.differ).0 in
+    let apart : eqb x n ≡ false = differ_by_member x n (xs ++ n ∷ rest) (is_among-append n xs (n ∷ rest) ∙ or_right (is_among n xs) _ (among_itself n rest)) (numbers_apart (x ∷ xs ++ n ∷ rest) h.differ).0 in
     other (λ q. false≢true (sym apart ∙ eq-eqb x n (sym front_is ∙ q))) ∙ front_is ∙ head
 
 pub circle_removed : (links new : List Link) (count front moved n : ℕ) → IsCircle links (walk (next_of links) count front)

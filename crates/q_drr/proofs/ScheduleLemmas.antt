@@ -9,10 +9,10 @@ use Rattle.q_drr.specs.Links.{is_among, without}
 use Rattle.q_drr.specs.States.{NamedState, no_state, has_state, place_of_state, state_of, with_state, without_state, class_in, entry_in}
 use Rattle.q_drr.specs.Schedule.{Class, Entry, Schedule, woken, asleep, removed, added, with_quantum, has_class, place_of, quantum_of, is_active, deficit_of, granted_of, cut, IsEntry, IsLawful}
 use Rattle.q_drr.specs.Kept.{shown, IsState, IsKept}
-use Rattle.q_drr.proofs.DifferLemmas.{AllDiffer, StatesDiffer, ClassesDiffer, EntriesDiffer, pairs-from_differ, numbers_apart, states_apart, numbers_differ-from, states_differ-from}
+use Rattle.q_drr.proofs.DifferLemmas.{AllDiffer, StatesDiffer, ClassesDiffer, EntriesDiffer, pairs_from_differ, numbers_apart, states_apart, numbers_differ_from, states_differ_from}
 use Rattle.q_drr.proofs.KeyLemmas.{has_push, find_push, has_others, find_others}
 use Rattle.q_drr.proofs.KeyLemmas as keys
-use Rattle.q_drr.proofs.LookupLemmas.{state-here, state-behind, quantum-here, quantum-behind, deficit-here, deficit-behind, granted-here, granted-behind}
+use Rattle.q_drr.proofs.LookupLemmas.{state_here, state_behind, quantum_here, quantum_behind, deficit_here, deficit_behind, granted_here, granted_behind}
 use Rattle.q_drr.proofs.NameLemmas.{each_at, differ_by_member, differ_push, differ_rotated, without_absent}
 use Rattle.q_drr.proofs.StateLemmas.{with_absent}
 
@@ -37,8 +37,8 @@ has_class_in n (c ∷ states) = ap (λ t. eqb n c.name || t) (has_class_in n sta
 pub quantum_in : (n : ℕ) (states : List NamedState) → quantum_of n (map class_in states) ≡ (state_of n states).quantum
 quantum_in n [] = refl
 quantum_in n (c ∷ states) = elim (cases_Bool (eqb n c.name)) [
-  | inl e ↦ quantum-here n (class_in c) (map class_in states) e ∙ ap (λ x. x.quantum) (sym (state-here n c states e))
-  | inr e ↦ quantum-behind n (class_in c) (map class_in states) e ∙ quantum_in n states ∙ ap (λ x. x.quantum) (sym (state-behind n c states e))
+  | inl e ↦ quantum_here n (class_in c) (map class_in states) e ∙ ap (λ x. x.quantum) (sym (state_here n c states e))
+  | inr e ↦ quantum_behind n (class_in c) (map class_in states) e ∙ quantum_in n states ∙ ap (λ x. x.quantum) (sym (state_behind n c states e))
 ]
 
 pub active_in : (n : ℕ) (states : List NamedState) (order : List ℕ) → is_active n (map (entry_in states) order) ≡ is_among n order
@@ -48,50 +48,50 @@ active_in n states (m ∷ order) = ap (λ t. eqb n m || t) (active_in n states o
 pub deficit_in : (n : ℕ) (states : List NamedState) (order : List ℕ) → is_among n order ≡ true → deficit_of n (map (entry_in states) order) ≡ (state_of n states).deficit
 deficit_in n states [] there = absurd (false≢true there)
 deficit_in n states (m ∷ order) there = elim (cases_Bool (eqb n m)) [
-  | inl e ↦ deficit-here n (entry_in states m) (map (entry_in states) order) e ∙ ap (λ k. (state_of k states).deficit) (sym (eqb-true n m e))
-  | inr e ↦ deficit-behind n (entry_in states m) (map (entry_in states) order) e ∙ deficit_in n states order (sym (ap (λ t. t || is_among n order) e) ∙ there)
+  | inl e ↦ deficit_here n (entry_in states m) (map (entry_in states) order) e ∙ ap (λ k. (state_of k states).deficit) (sym (eqb-true n m e))
+  | inr e ↦ deficit_behind n (entry_in states m) (map (entry_in states) order) e ∙ deficit_in n states order (sym (ap (λ t. t || is_among n order) e) ∙ there)
 ]
 
 pub granted_in : (n : ℕ) (states : List NamedState) (order : List ℕ) → is_among n order ≡ true → granted_of n (map (entry_in states) order) ≡ (state_of n states).granted
 granted_in n states [] there = absurd (false≢true there)
 granted_in n states (m ∷ order) there = elim (cases_Bool (eqb n m)) [
-  | inl e ↦ granted-here n (entry_in states m) (map (entry_in states) order) e ∙ ap (λ k. (state_of k states).granted) (sym (eqb-true n m e))
-  | inr e ↦ granted-behind n (entry_in states m) (map (entry_in states) order) e ∙ granted_in n states order (sym (ap (λ t. t || is_among n order) e) ∙ there)
+  | inl e ↦ granted_here n (entry_in states m) (map (entry_in states) order) e ∙ ap (λ k. (state_of k states).granted) (sym (eqb-true n m e))
+  | inr e ↦ granted_behind n (entry_in states m) (map (entry_in states) order) e ∙ granted_in n states order (sym (ap (λ t. t || is_among n order) e) ∙ there)
 ]
 
 pub deficit_asleep : (n : ℕ) (states : List NamedState) (order : List ℕ) → is_among n order ≡ false → deficit_of n (map (entry_in states) order) ≡ 0
 deficit_asleep n states [] absent = refl
 deficit_asleep n states (m ∷ order) absent =
     let parts = or_parts (eqb n m) (is_among n order) absent in
-    deficit-behind n (entry_in states m) (map (entry_in states) order) parts.0 ∙ deficit_asleep n states order parts.1
+    deficit_behind n (entry_in states m) (map (entry_in states) order) parts.0 ∙ deficit_asleep n states order parts.1
 
 pub granted_asleep : (n : ℕ) (states : List NamedState) (order : List ℕ) → is_among n order ≡ false → granted_of n (map (entry_in states) order) ≡ 0
 granted_asleep n states [] absent = refl
 granted_asleep n states (m ∷ order) absent =
     let parts = or_parts (eqb n m) (is_among n order) absent in
-    granted-behind n (entry_in states m) (map (entry_in states) order) parts.0 ∙ granted_asleep n states order parts.1
+    granted_behind n (entry_in states m) (map (entry_in states) order) parts.0 ∙ granted_asleep n states order parts.1
 
 -- the state found for a class that is there
 pub name_of_state : (n : ℕ) (states : List NamedState) → has_state n states ≡ true → (state_of n states).name ≡ n
 name_of_state n [] there = absurd (false≢true there)
 name_of_state n (c ∷ states) there = elim (cases_Bool (eqb n c.name)) [
-  | inl e ↦ ap (λ x. x.name) (state-here n c states e) ∙ sym (eqb-true n c.name e)
-  | inr e ↦ ap (λ x. x.name) (state-behind n c states e) ∙ name_of_state n states (sym (ap (λ t. t || has_state n states) e) ∙ there)
+  | inl e ↦ ap (λ x. x.name) (state_here n c states e) ∙ sym (eqb-true n c.name e)
+  | inr e ↦ ap (λ x. x.name) (state_behind n c states e) ∙ name_of_state n states (sym (ap (λ t. t || has_state n states) e) ∙ there)
 ]
 
 pub state_meets : (P : NamedState → Type 0) (n : ℕ) (states : List NamedState) → All P states → has_state n states ≡ true → P (state_of n states)
 state_meets P n [] each there = absurd (false≢true there)
 state_meets P n (c ∷ states) each there = elim (cases_Bool (eqb n c.name)) [
-  | inl e ↦ subst P (sym (state-here n c states e)) (All-head P c states each)
-  | inr e ↦ subst P (sym (state-behind n c states e)) (state_meets P n states (All-tail P c states each) (sym (ap (λ t. t || has_state n states) e) ∙ there))
+  | inl e ↦ subst P (sym (state_here n c states e)) (All-head P c states each)
+  | inr e ↦ subst P (sym (state_behind n c states e)) (state_meets P n states (All-tail P c states each) (sym (ap (λ t. t || has_state n states) e) ∙ there))
 ]
 
 -- one state written
 pub state_of_same : (new : NamedState) (states : List NamedState) → has_state new.name states ≡ true → state_of new.name (with_state new states) ≡ new
 state_of_same new [] there = absurd (false≢true there)
 state_of_same new (c ∷ states) there = elim (cases_Bool (eqb new.name c.name)) [
-  | inl e ↦ ap (λ (t : Bool). state_of new.name ((if t then new else c) ∷ with_state new states)) e ∙ state-here new.name new (with_state new states) (eq-eqb new.name new.name refl)
-  | inr e ↦ ap (λ (t : Bool). state_of new.name ((if t then new else c) ∷ with_state new states)) e ∙ state-behind new.name c (with_state new states) e
+  | inl e ↦ ap (λ (t : Bool). state_of new.name ((if t then new else c) ∷ with_state new states)) e ∙ state_here new.name new (with_state new states) (eq-eqb new.name new.name refl)
+  | inr e ↦ ap (λ (t : Bool). state_of new.name ((if t then new else c) ∷ with_state new states)) e ∙ state_behind new.name c (with_state new states) e
       ∙ state_of_same new states (sym (ap (λ t. t || has_state new.name states) e) ∙ there)
 ]
 
@@ -110,11 +110,11 @@ state_of_other n new [] apart = refl
 state_of_other n new (c ∷ states) apart =
     let first : NamedState = if eqb new.name c.name then new else c in
     elim (cases_Bool (eqb n c.name)) [
-      | inl e ↦ state-here n first (with_state new states) (head_name n new c ∙ e)
+      | inl e ↦ state_here n first (with_state new states) (head_name n new c ∙ e)
           ∙ ap (λ (t : Bool). if t then new else c) (ap (eqb new.name) (sym (eqb-true n c.name e)) ∙ apart)
-          ∙ sym (state-here n c states e)
-      | inr e ↦ state-behind n first (with_state new states) (head_name n new c ∙ e)
-          ∙ state_of_other n new states apart ∙ sym (state-behind n c states e)
+          ∙ sym (state_here n c states e)
+      | inr e ↦ state_behind n first (with_state new states) (head_name n new c ∙ e)
+          ∙ state_of_other n new states apart ∙ sym (state_behind n c states e)
     ]
 
 pub each_with : (P : NamedState → Type 0) (new : NamedState) (states : List NamedState) → P new → All P states → All P (with_state new states)
@@ -144,12 +144,12 @@ classes_with new [] d same = refl
 classes_with new (c ∷ states) d same = elim (cases_Bool (eqb new.name c.name)) [
   | inl e ↦
       let name : new.name ≡ c.name = eqb-true new.name c.name e in
-      let quantum : new.quantum ≡ c.quantum = same ∙ ap (λ x. x.quantum) (state-here new.name c states e) in
+      let quantum : new.quantum ≡ c.quantum = same ∙ ap (λ x. x.quantum) (state_here new.name c states e) in
       ap (λ (t : Bool). class_in (if t then new else c) ∷ map class_in (with_state new states)) e
       ∙ ap (λ rest. class_in new ∷ map class_in rest) (with_absent new states (ap (λ m. has_state m states) name ∙ d.0))
       ∙ ap (λ k. k ∷ map class_in states) (same_class new c name quantum)
   | inr e ↦ ap (λ (t : Bool). class_in (if t then new else c) ∷ map class_in (with_state new states)) e
-      ∙ ap (λ rest. class_in c ∷ rest) (classes_with new states d.1 (same ∙ ap (λ x. x.quantum) (state-behind new.name c states e)))
+      ∙ ap (λ rest. class_in c ∷ rest) (classes_with new states d.1 (same ∙ ap (λ x. x.quantum) (state_behind new.name c states e)))
 ]
 
 entries_by : (old new : List NamedState) (order : List ℕ) → ((n : ℕ) → is_among n order ≡ true → state_of n new ≡ state_of n old) → map (entry_in new) order ≡ map (entry_in old) order
@@ -177,7 +177,7 @@ pub kept_put : (max_len : ℕ) (states : List NamedState) (order : List ℕ) (ne
 kept_put max_len states order new p h = record {
   positive = h.positive;
   each = each_with (IsState max_len) new states p h.each;
-  states_differ = states_differ-from (with_state new states) (differ_with new states (states_apart states h.states_differ));
+  states_differ = states_differ_from (with_state new states) (differ_with new states (states_apart states h.states_differ));
   known = known_with new states order h.known;
   order_differs = h.order_differs;
 }
@@ -189,7 +189,7 @@ kept_order max_len states old order known differ h = record {
   each = h.each;
   states_differ = h.states_differ;
   known = known;
-  order_differs = numbers_differ-from order differ;
+  order_differs = numbers_differ_from order differ;
 }
 
 -- the entry of the class written
@@ -327,11 +327,11 @@ pub kept_removed : (max_len : ℕ) (states : List NamedState) (order : List ℕ)
 kept_removed max_len states order n h = record {
   positive = h.positive;
   each = All-filter (λ (c : NamedState). not (n == c.name)) (IsState max_len) states h.each;
-  states_differ = states_differ-from (without_state n states) (differ_filtered n states (states_apart states h.states_differ));
+  states_differ = states_differ_from (without_state n states) (differ_filtered n states (states_apart states h.states_differ));
   known = known_by states (without_state n states) (without n order)
       (λ m there. has_without m n states (differ_by_member n m (without n order) there (not_among_without n order)))
       (All-filter (λ m. not (n == m)) (λ m. has_state m states ≡ true) order h.known);
-  order_differs = numbers_differ-from (without n order) (differ_without n order (numbers_apart order h.order_differs));
+  order_differs = numbers_differ_from (without n order) (differ_without n order (numbers_apart order h.order_differs));
 }
 
 one_class : (new c : NamedState) (q : ℕ) → new.name ≡ c.name → new.quantum ≡ q → class_in new ≡ record (class_in c) { quantum = q }
@@ -358,7 +358,7 @@ pub kept_added : (max_len : ℕ) (states : List NamedState) (order : List ℕ) (
 kept_added max_len states order new absent p h = record {
   positive = h.positive;
   each = All-push (IsState max_len) states new h.each p;
-  states_differ = states_differ-from (states ++ new ∷ []) (keys.differ_push (λ (c : NamedState). c.name) new states (states_apart states h.states_differ) absent);
+  states_differ = states_differ_from (states ++ new ∷ []) (keys.differ_push (λ (c : NamedState). c.name) new states (states_apart states h.states_differ) absent);
   known = known_by states (states ++ new ∷ []) order (λ n there. has_added n new states ∙ or_known (has_state n states) (eqb n new.name) (each_at (λ m. has_state m states ≡ true) n order h.known there)
       ∙ sym (each_at (λ m. has_state m states ≡ true) n order h.known there)) h.known;
   order_differs = h.order_differs;
@@ -428,9 +428,9 @@ each_entry_lawful max_len states order each known =
 
 shown_lawful : (max_len turns : ℕ) (states : List NamedState) (order : List ℕ) → turns < 2 ^ 64 → IsKept max_len states order → IsLawful (shown max_len turns states order)
 shown_lawful max_len turns states order range h = record {
-  classes_differ = pairs-from_differ (λ (c : Class). c.name) (map class_in states) (classes_lawful states (states_apart states h.states_differ));
+  classes_differ = pairs_from_differ (λ (c : Class). c.name) (map class_in states) (classes_lawful states (states_apart states h.states_differ));
   quanta = quanta_lawful max_len states h.each;
-  entries_differ = pairs-from_differ (λ (e : Entry). e.class) (map (entry_in states) order) (entries_lawful states order (numbers_apart order h.order_differs));
+  entries_differ = pairs_from_differ (λ (e : Entry). e.class) (map (entry_in states) order) (entries_lawful states order (numbers_apart order h.order_differs));
   entries = each_entry_lawful max_len states order h.each h.known;
   counted_turns = range;
 }

@@ -25,8 +25,8 @@ pub record IsServing (heads : ℕ → Option ℕ) (first s : Schedule) (turns : 
   pub until : turns_until (choice_of heads first) (length first.active) ≡ turns + turns_until (choice_of heads s) (length s.active)
   pub order : turns ≤ length first.active → names s ≡ drop turns (names first) ++ take turns (names first)
 
-pub serving-start : (heads : ℕ → Option ℕ) (s : Schedule) → IsServing heads s s 0
-serving-start heads s = record {
+pub serving_start : (heads : ℕ → Option ℕ) (s : Schedule) → IsServing heads s s 0
+serving_start heads s = record {
   classes = refl;
   longest = refl;
   long = refl;
@@ -63,9 +63,9 @@ by_name n None h = cc
 by_name n (Some e) h = (e, refl, same_Some e.class n h)
 
 -- while not every class was in front yet, the one in front is the next of the list as it began
-pub serving-front : (heads : ℕ → Option ℕ) (first s : Schedule) (turns n : ℕ) → IsServing heads first s turns → turns < length first.active → Front n s
+pub serving_front : (heads : ℕ → Option ℕ) (first s : Schedule) (turns n : ℕ) → IsServing heads first s turns → turns < length first.active → Front n s
     → (e : Entry) × (slice_get first.active turns ≡ Some e) × (e.class ≡ n)
-serving-front heads first s turns n h early f =
+serving_front heads first s turns n h early f =
     let all : length (names first) ≡ length first.active = length-map first.active (λ (e : Entry). e.class) in
     let stood : slice_get (names first) turns ≡ Some f.first.class =
     front_turned turns f.first.class (names first) (map (λ (e : Entry). e.class) f.rest) (take turns (names first)) (omega (arith, all))
@@ -74,9 +74,9 @@ serving-front heads first s turns n h early f =
 
 -- ---- one grant more
 
-pub serving-granted : (heads : ℕ → Option ℕ) (first s : Schedule) (turns n len : ℕ) → IsServing heads first s turns → IsLawful s → (f : Front n s) → heads n ≡ Some len → f.first.deficit < len
+pub serving_granted : (heads : ℕ → Option ℕ) (first s : Schedule) (turns n len : ℕ) → IsServing heads first s turns → IsLawful s → (f : Front n s) → heads n ≡ Some len → f.first.deficit < len
     → IsServing heads first (turned len s) (suc turns)
-serving-granted heads first s turns n len h law f head short =
+serving_granted heads first s turns n len h law f head short =
     let quantum : ℕ → ℕ = λ m. quantum_of m s.classes in
     let one : 1 ≤ quantum n = front_quantum s n f law in
     let last : Entry = once quantum f.first in
@@ -125,9 +125,9 @@ some_choice quantum heads [] some = absurd (omega arith)
 some_choice quantum heads (e ∷ es) some = (sooner (need quantum heads e) (choose (needs quantum heads es)), refl)
 
 -- where the class in front shows nothing, or a head that its deficit covers
-pub serving-ends : (heads : ℕ → Option ℕ) (first s : Schedule) (turns n : ℕ) → IsServing heads first s turns → (f : Front n s) → (h : Option ℕ) → heads n ≡ h → ((len : ℕ) → h ≡ Some len → len ≤ f.first.deficit)
+pub serving_ends : (heads : ℕ → Option ℕ) (first s : Schedule) (turns n : ℕ) → IsServing heads first s turns → (f : Front n s) → (h : Option ℕ) → heads n ≡ h → ((len : ℕ) → h ≡ Some len → len ≤ f.first.deficit)
     → IsCome heads first turns
-serving-ends heads first s turns n v f h e covered =
+serving_ends heads first s turns n v f h e covered =
     let quantum : ℕ → ℕ = λ m. quantum_of m first.classes in
     let here : choice_of heads s ≡ Some (record { rounds = 0; place = 0 }) = choice_ready heads s n f (need_at heads s n f h e covered) in
     let found = some_choice quantum heads first.active (omega (arith, v.long, ap length f.is)) in
@@ -146,8 +146,8 @@ serving-ends heads first s turns n v f h e covered =
     }
 
 -- where no class is active there was none to begin with, and no turn was given
-pub serving-nobody : (heads : ℕ → Option ℕ) (first s : Schedule) (turns : ℕ) → IsServing heads first s turns → s.active ≡ [] → (first.active ≡ []) × (choice_of heads first ≡ None) × (turns ≡ 0)
-serving-nobody heads first s turns v empty =
+pub serving_nobody : (heads : ℕ → Option ℕ) (first s : Schedule) (turns : ℕ) → IsServing heads first s turns → s.active ≡ [] → (first.active ≡ []) × (choice_of heads first ≡ None) × (turns ≡ 0)
+serving_nobody heads first s turns v empty =
     let none : first.active ≡ [] = nil_from_length first.active (sym v.long ∙ ap length empty) in
     let choice : choice_of heads first ≡ None = ap (λ es. choose (needs (λ m. quantum_of m first.classes) heads es)) none in
     let nothing : turns_until (choice_of heads first) (length first.active) ≡ 0 = ap (λ o. turns_until o (length first.active)) choice in

@@ -8,8 +8,8 @@ use Rattle.std.proofs.lemmas.Bool.{eqb-true, ne_eqb, false≢true, or_parts, cas
 use Rattle.q_drr.specs.Links.{is_among}
 use Rattle.q_drr.specs.States.{NamedState, no_state, name_in, has_state, place_of_state, state_of, with_state, without_state}
 use Rattle.q_drr.proofs.DifferLemmas.{AllDiffer, StatesDiffer}
-use Rattle.q_drr.proofs.LookupLemmas.{state-here, state-behind}
-use Rattle.q_drr.proofs.NameLemmas.{length-le_from_differ}
+use Rattle.q_drr.proofs.LookupLemmas.{state_here, state_behind}
+use Rattle.q_drr.proofs.NameLemmas.{length_le_from_differ}
 
 pub names : List NamedState → List ℕ
 names states = map (λ c. c.name) states
@@ -28,9 +28,9 @@ pub record Found (n : ℕ) (states : List NamedState) : Type 0 where
 pub found_of : (n : ℕ) (states : List NamedState) → has_state n states ≡ true → Found n states
 found_of n [] there = absurd (false≢true there)
 found_of n (c ∷ states) there = elim (cases_Bool (eqb n c.name)) [
-  | inl e ↦ record { place = 0; within = omega arith; name = sym (eqb-true n c.name e); is = state-here n c states e }
+  | inl e ↦ record { place = 0; within = omega arith; name = sym (eqb-true n c.name e); is = state_here n c states e }
   | inr e ↦ let f = found_of n states (sym (ap (λ t. t || has_state n states) e) ∙ there) in
-      record { place = suc f.place; within = omega (arith, f.within); name = f.name; is = state-behind n c states e ∙ f.is }
+      record { place = suc f.place; within = omega (arith, f.within); name = f.name; is = state_behind n c states e ∙ f.is }
 ]
 
 -- a class that is not there stands at no place
@@ -57,7 +57,7 @@ stands_in (c ∷ states) zero d lt = record {
   within = lt;
   name = refl;
   there = ap (λ t. t || has_state c.name states) (eq-eqb c.name c.name refl);
-  is = state-here c.name c states (eq-eqb c.name c.name refl);
+  is = state_here c.name c states (eq-eqb c.name c.name refl);
   only = first c states d.0;
 }
   where
@@ -72,7 +72,7 @@ stands_in (c ∷ states) (suc place) d lt =
       within = lt;
       name = refl;
       there = or_true (eqb n c.name) (has_state n states) s.there;
-      is = state-behind n c states apart ∙ s.is;
+      is = state_behind n c states apart ∙ s.is;
       only = behind c states place d.0 s.within s.only;
     }
   where
@@ -140,11 +140,11 @@ pub place_to_spare : (states : List NamedState) (n bound : ℕ) → StatesDiffer
 place_to_spare states n bound d below absent small =
     let differ : AllDiffer (n ∷ names states) = (at_names n states ∙ absent, names_differ states d) in
     let all : All (λ m. m < bound) (n ∷ names states) = All-cons (λ m. m < bound) n (names states) small (names_below bound states below) in
-    omega (arith, length-le_from_differ (n ∷ names states) bound differ all, length-names states)
+    omega (arith, length_le_from_differ (n ∷ names states) bound differ all, length-names states)
 
 pub few_states : (states : List NamedState) (bound : ℕ) → StatesDiffer states → All (λ c. c.name < bound) states → length states ≤ bound
 few_states states bound d below =
-    omega (arith, length-le_from_differ (names states) bound (names_differ states d) (names_below bound states below), length-names states)
+    omega (arith, length_le_from_differ (names states) bound (names_differ states d) (names_below bound states below), length-names states)
 
 -- the place of a class by its name
 pub place_found : (states : List NamedState) (n place : ℕ) → Stands place n states → place_of_state n states ≡ Some place

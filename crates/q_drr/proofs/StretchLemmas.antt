@@ -9,7 +9,7 @@ use Rattle.q_drr.specs.Schedule.{Class, Entry, Schedule, quantum_of, after_grant
 use Rattle.q_drr.specs.Stretch.{after_turns, grant_in, bytes_in, grants, sent, stands_first, EachSendsItsShare, GrantsAreCounted, TurnsAreCounted, AreEven, GrantsAreEven}
 use Rattle.q_drr.proofs.DifferLemmas.{EntriesDiffer, entries_apart}
 use Rattle.q_drr.proofs.KeyLemmas.{differ_push}
-use Rattle.q_drr.proofs.LookupLemmas.{deficit-here, deficit-behind, granted-here, granted-behind}
+use Rattle.q_drr.proofs.LookupLemmas.{deficit_here, deficit_behind, granted_here, granted_behind}
 
 or_exchange : (a b c : Bool) → (a || (b || c)) ≡ (b || (a || c))
 or_exchange true true c = refl
@@ -25,37 +25,37 @@ active_push n x (e ∷ es) = ap (λ t. eqb n e.class || t) (active_push n x es) 
 deficit_kept : (n : ℕ) (x : Entry) (es : List Entry) → is_active n es ≡ true → deficit_of n (es ++ x ∷ []) ≡ deficit_of n es
 deficit_kept n x [] there = absurd (false≢true there)
 deficit_kept n x (e ∷ es) there = elim (cases_Bool (eqb n e.class)) [
-  | inl q ↦ deficit-here n e (es ++ x ∷ []) q ∙ sym (deficit-here n e es q)
-  | inr q ↦ deficit-behind n e (es ++ x ∷ []) q ∙ deficit_kept n x es (sym (ap (λ t. t || is_active n es) q) ∙ there) ∙ sym (deficit-behind n e es q)
+  | inl q ↦ deficit_here n e (es ++ x ∷ []) q ∙ sym (deficit_here n e es q)
+  | inr q ↦ deficit_behind n e (es ++ x ∷ []) q ∙ deficit_kept n x es (sym (ap (λ t. t || is_active n es) q) ∙ there) ∙ sym (deficit_behind n e es q)
 ]
 
 deficit_last : (n : ℕ) (x : Entry) (es : List Entry) → is_active n es ≡ false → eqb n x.class ≡ true → deficit_of n (es ++ x ∷ []) ≡ x.deficit
-deficit_last n x [] absent same = deficit-here n x [] same
+deficit_last n x [] absent same = deficit_here n x [] same
 deficit_last n x (e ∷ es) absent same =
     let parts = or_parts (eqb n e.class) (is_active n es) absent in
-    deficit-behind n e (es ++ x ∷ []) parts.0 ∙ deficit_last n x es parts.1 same
+    deficit_behind n e (es ++ x ∷ []) parts.0 ∙ deficit_last n x es parts.1 same
 
 -- the same of the bytes granted
 granted_kept : (n : ℕ) (x : Entry) (es : List Entry) → is_active n es ≡ true → granted_of n (es ++ x ∷ []) ≡ granted_of n es
 granted_kept n x [] there = absurd (false≢true there)
 granted_kept n x (e ∷ es) there = elim (cases_Bool (eqb n e.class)) [
-  | inl q ↦ granted-here n e (es ++ x ∷ []) q ∙ sym (granted-here n e es q)
-  | inr q ↦ granted-behind n e (es ++ x ∷ []) q ∙ granted_kept n x es (sym (ap (λ t. t || is_active n es) q) ∙ there) ∙ sym (granted-behind n e es q)
+  | inl q ↦ granted_here n e (es ++ x ∷ []) q ∙ sym (granted_here n e es q)
+  | inr q ↦ granted_behind n e (es ++ x ∷ []) q ∙ granted_kept n x es (sym (ap (λ t. t || is_active n es) q) ∙ there) ∙ sym (granted_behind n e es q)
 ]
 
 granted_last : (n : ℕ) (x : Entry) (es : List Entry) → is_active n es ≡ false → eqb n x.class ≡ true → granted_of n (es ++ x ∷ []) ≡ x.granted
-granted_last n x [] absent same = granted-here n x [] same
+granted_last n x [] absent same = granted_here n x [] same
 granted_last n x (e ∷ es) absent same =
     let parts = or_parts (eqb n e.class) (is_active n es) absent in
-    granted-behind n e (es ++ x ∷ []) parts.0 ∙ granted_last n x es parts.1 same
+    granted_behind n e (es ++ x ∷ []) parts.0 ∙ granted_last n x es parts.1 same
 
 granted_in_range : (max_len : ℕ) (classes : List Class) (n : ℕ) (es : List Entry) → All (IsEntry max_len classes) es → granted_of n es < 2 ^ 64
 granted_in_range max_len classes n [] h = omega arith
 granted_in_range max_len classes n (e ∷ es) h = elim (cases_Bool (eqb n e.class)) [
   | inl q ↦
       let i : IsEntry max_len classes e = All-head (IsEntry max_len classes) e es h in
-      omega (arith, i.in_range, granted-here n e es q)
-  | inr q ↦ omega (arith, granted_in_range max_len classes n es (All-tail (IsEntry max_len classes) e es h), granted-behind n e es q)
+      omega (arith, i.in_range, granted_here n e es q)
+  | inr q ↦ omega (arith, granted_in_range max_len classes n es (All-tail (IsEntry max_len classes) e es h), granted_behind n e es q)
 ]
 
 -- a count to which no grant is added, and one to which grants are added twice
@@ -115,14 +115,14 @@ module _ (len : ℕ) (classes : List Class) (e : Entry) (es : List Entry) where
               let b : bytes_in n len (e ∷ es) ≡ 0 = bytes ∙ ap (λ (t : Bool). if t then 0 else 0) q in
               let g : grant_in n len (e ∷ es) ≡ 1 = grant ∙ ap (λ (t : Bool). if t then 1 else 0) q in
               let after : deficit_of n (active_after len classes (e ∷ es)) ≡ e.deficit + 1 * quantum_of e.class classes = list ∙ deficit_last n last es (ap (λ m. is_active m es) same ∙ d.0) q in
-              let before : deficit_of n (e ∷ es) ≡ e.deficit = deficit-here n e es q in
+              let before : deficit_of n (e ∷ es) ≡ e.deficit = deficit_here n e es q in
               let quantum : quantum_of n classes ≡ quantum_of e.class classes = ap (λ m. quantum_of m classes) same in
               ap (λ k. k + deficit_of n (active_after len classes (e ∷ es))) b ∙ omega (arith, after, before, quantum) ∙ ap (λ k. k * quantum_of n classes + deficit_of n (e ∷ es)) (sym g)
           | inr q ↦
               let b : bytes_in n len (e ∷ es) ≡ 0 = bytes ∙ ap (λ (t : Bool). if t then 0 else 0) q in
               let g : grant_in n len (e ∷ es) ≡ 0 = grant ∙ ap (λ (t : Bool). if t then 1 else 0) q in
               let after : deficit_of n (active_after len classes (e ∷ es)) ≡ deficit_of n es = list ∙ deficit_kept n last es (sym (ap (λ t. t || is_active n es) q) ∙ there) in
-              let before : deficit_of n (e ∷ es) ≡ deficit_of n es = deficit-behind n e es q in
+              let before : deficit_of n (e ∷ es) ≡ deficit_of n es = deficit_behind n e es q in
               ap (λ k. k + deficit_of n (active_after len classes (e ∷ es))) b ∙ omega (arith, after, before) ∙ ap (λ k. k * quantum_of n classes + deficit_of n (e ∷ es)) (sym g)
         ]
     | inr covers ↦
@@ -133,14 +133,14 @@ module _ (len : ℕ) (classes : List Class) (e : Entry) (es : List Entry) where
           | inl q ↦
               let b : bytes_in n len (e ∷ es) ≡ len = bytes ∙ ap (λ (t : Bool). if t then len else 0) q in
               let g : grant_in n len (e ∷ es) ≡ 0 = grant ∙ ap (λ (t : Bool). if t then 0 else 0) q in
-              let after : deficit_of n (active_after len classes (e ∷ es)) ≡ e.deficit - len = list ∙ deficit-here n less es q in
-              let before : deficit_of n (e ∷ es) ≡ e.deficit = deficit-here n e es q in
+              let after : deficit_of n (active_after len classes (e ∷ es)) ≡ e.deficit - len = list ∙ deficit_here n less es q in
+              let before : deficit_of n (e ∷ es) ≡ e.deficit = deficit_here n e es q in
               ap (λ k. k + deficit_of n (active_after len classes (e ∷ es))) b ∙ omega (arith, after, before, covers) ∙ ap (λ k. k * quantum_of n classes + deficit_of n (e ∷ es)) (sym g)
           | inr q ↦
               let b : bytes_in n len (e ∷ es) ≡ 0 = bytes ∙ ap (λ (t : Bool). if t then len else 0) q in
               let g : grant_in n len (e ∷ es) ≡ 0 = grant ∙ ap (λ (t : Bool). if t then 0 else 0) q in
-              let after : deficit_of n (active_after len classes (e ∷ es)) ≡ deficit_of n es = list ∙ deficit-behind n less es q in
-              let before : deficit_of n (e ∷ es) ≡ deficit_of n es = deficit-behind n e es q in
+              let after : deficit_of n (active_after len classes (e ∷ es)) ≡ deficit_of n es = list ∙ deficit_behind n less es q in
+              let before : deficit_of n (e ∷ es) ≡ deficit_of n es = deficit_behind n e es q in
               ap (λ k. k + deficit_of n (active_after len classes (e ∷ es))) b ∙ omega (arith, after, before) ∙ ap (λ k. k * quantum_of n classes + deficit_of n (e ∷ es)) (sym g)
         ]
   ]
@@ -159,16 +159,16 @@ module _ (len : ℕ) (classes : List Class) (e : Entry) (es : List Entry) where
                   let after : granted_of n (active_after len classes (e ∷ es)) ≡ counted (e.granted + 1 * quantum_of e.class classes) =
                   list ∙ granted_last n last es (ap (λ m. is_active m es) same ∙ d.0) q in
                   after ∙ ap (λ m. counted (e.granted + 1 * quantum_of m classes)) (sym same)
-                  ∙ ap (λ g. counted (g + 1 * quantum_of n classes)) (sym (granted-here n e es q))
+                  ∙ ap (λ g. counted (g + 1 * quantum_of n classes)) (sym (granted_here n e es q))
                   ∙ ap (λ k. counted (granted_of n (e ∷ es) + k * quantum_of n classes)) (sym (grant ∙ ap (λ (t : Bool). if t then 1 else 0) q))
               | inr q ↦
-                  list ∙ granted_kept n last es (sym (ap (λ t. t || is_active n es) q) ∙ there) ∙ sym (granted-behind n e es q)
+                  list ∙ granted_kept n last es (sym (ap (λ t. t || is_active n es) q) ∙ there) ∙ sym (granted_behind n e es q)
                   ∙ counted_none before (grant_in n len (e ∷ es)) (quantum_of n classes) (grant ∙ ap (λ (t : Bool). if t then 1 else 0) q) range
             ]
         | inr covers ↦
             let kept : granted_of n (less ∷ es) ≡ granted_of n (e ∷ es) = elim (cases_Bool (eqb n e.class)) [
-              | inl q ↦ granted-here n less es q ∙ sym (granted-here n e es q)
-              | inr q ↦ granted-behind n less es q ∙ sym (granted-behind n e es q)
+              | inl q ↦ granted_here n less es q ∙ sym (granted_here n e es q)
+              | inr q ↦ granted_behind n less es q ∙ sym (granted_behind n e es q)
             ] in
             ap (granted_of n) (sends covers) ∙ kept
             ∙ counted_none before (grant_in n len (e ∷ es)) (quantum_of n classes) (grant_covered len n e es covers) range

@@ -8,14 +8,14 @@ use Rattle.std.proofs.lemmas.List.{append-nil, map-append, take_at, drop_at, dro
 use Rattle.std.proofs.lemmas.List.Sums.{sum_by_push, sum_by-cons}
 use Rattle.q_packet.specs.Choice.{Choice, sooner, choose}
 use Rattle.q_packet.specs.Least.{least}
-use Rattle.q_packet.proofs.ChoiceLemmas.{sooner-le, sooner-gt, sooner-first, last_one, last-le, last-gt, choose-end, choose-within}
+use Rattle.q_packet.proofs.ChoiceLemmas.{sooner-le, sooner-gt, sooner_first, last_one, last_one-le, last_one-gt, choose_end, choose_within}
 use Rattle.q_packet.proofs.LeastLemmas.{least_here, least_later, least_is, least_le, least_holds, least_gt}
 use Rattle.q_drr.specs.Schedule.{Class, Entry, Schedule, has_class, quantum_of, after_grants, turn_answer, active_after, turned, counted, front_of, IsEntry, IsLawful}
 use Rattle.q_drr.specs.Take.{grants_for, need, needs, choice_of, granted, brought_up, turns_until, prepared, sent_by, sent_in, served, met_in, met}
 use Rattle.q_drr.specs.declared.met.Met.{Met}
 use Rattle.q_drr.specs.declared.turn.Turn.TheVariants.{Send, Granted}
 use Rattle.std.proofs.lemmas.List.Elements.{All-push, All-head, All-tail, All-weaker}
-use Rattle.q_drr.proofs.LookupLemmas.{quantum-here, quantum-behind}
+use Rattle.q_drr.proofs.LookupLemmas.{quantum_here, quantum_behind}
 
 -- how many grants a class needs
 pub need_none : (q d len : ℕ) → len ≤ d → grants_for q d (Some len) ≡ 0
@@ -86,10 +86,10 @@ module _ (quantum : ℕ → ℕ) (e : Entry) (es : List Entry) where
   list_goes_on k (Some c) within = elim (cases_lt k c.rounds) [
     | inl less ↦ ap (λ (d : Choice). brought_up quantum (Some d) (e ∷ es)) (sooner-le (suc k) c (omega arith))
         ∙ turned_first k
-        ∙ sym (ap (λ (d : Choice). brought_up quantum (Some d) (es ++ once quantum e ∷ [])) (last-gt k (length es) c less))
+        ∙ sym (ap (λ (d : Choice). brought_up quantum (Some d) (es ++ once quantum e ∷ [])) (last_one-gt k (length es) c less))
     | inr more ↦ ap (λ (d : Choice). brought_up quantum (Some d) (e ∷ es)) (sooner-gt (suc k) c (omega arith))
         ∙ turned_other c within
-        ∙ sym (ap (λ (d : Choice). brought_up quantum (Some d) (es ++ once quantum e ∷ [])) (last-le k (length es) c more))
+        ∙ sym (ap (λ (d : Choice). brought_up quantum (Some d) (es ++ once quantum e ∷ [])) (last_one-le k (length es) c more))
   ]
 
   pub turns_go_on : (k : ℕ) (o : Option Choice)
@@ -98,10 +98,10 @@ module _ (quantum : ℕ → ℕ) (e : Entry) (es : List Entry) where
   turns_go_on k (Some c) = elim (cases_lt k c.rounds) [
     | inl less ↦ ap (λ (d : Choice). turns_until (Some d) (suc (length es))) (sooner-le (suc k) c (omega arith))
         ∙ omega arith
-        ∙ sym (ap (λ (d : Choice). suc (turns_until (Some d) (suc (length es)))) (last-gt k (length es) c less))
+        ∙ sym (ap (λ (d : Choice). suc (turns_until (Some d) (suc (length es)))) (last_one-gt k (length es) c less))
     | inr more ↦ ap (λ (d : Choice). turns_until (Some d) (suc (length es))) (sooner-gt (suc k) c (omega arith))
         ∙ omega arith
-        ∙ sym (ap (λ (d : Choice). suc (turns_until (Some d) (suc (length es)))) (last-le k (length es) c more))
+        ∙ sym (ap (λ (d : Choice). suc (turns_until (Some d) (suc (length es)))) (last_one-le k (length es) c more))
   ]
 
 -- the class in front and the others
@@ -127,7 +127,7 @@ pub choice_ready : (heads : ℕ → Option ℕ) (s : Schedule) (n : ℕ) (f : Fr
 choice_ready heads s n f ready =
     let quantum : ℕ → ℕ = λ m. quantum_of m s.classes in
     let others = choose (needs quantum heads f.rest) in
-    ap (λ es. choose (needs quantum heads es)) f.is ∙ ap (λ k. Some (sooner k others)) ready ∙ ap Some (sooner-first others)
+    ap (λ es. choose (needs quantum heads es)) f.is ∙ ap (λ k. Some (sooner k others)) ready ∙ ap Some (sooner_first others)
 
 pub prepared_ready : (heads : ℕ → Option ℕ) (s : Schedule) (n : ℕ) (f : Front n s) → IsLawful s → need (λ m. quantum_of m s.classes) heads f.first ≡ 0 → prepared heads s ≡ s
 prepared_ready heads s n f law ready =
@@ -167,13 +167,13 @@ choice_end : (quantum : ℕ → ℕ) (heads : ℕ → Option ℕ) (es : List Ent
     → choose (needs quantum heads (es ++ x ∷ [])) ≡ Some (last_one (need quantum heads x) (length es) (choose (needs quantum heads es)))
 choice_end quantum heads es x =
     let asked : Entry → Option ℕ = λ e. Some (need quantum heads e) in
-    ap choose (map-append asked es (x ∷ [])) ∙ choose-end (needs quantum heads es) (need quantum heads x)
+    ap choose (map-append asked es (x ∷ [])) ∙ choose_end (needs quantum heads es) (need quantum heads x)
     ∙ ap (λ n. Some (last_one (need quantum heads x) n (choose (needs quantum heads es)))) (length-map es asked)
 
 pub choice_within : (quantum : ℕ → ℕ) (heads : ℕ → Option ℕ) (es : List Entry) → IfSome (choose (needs quantum heads es)) (λ c. c.place < length es)
 choice_within quantum heads es =
     let asked : Entry → Option ℕ = λ e. Some (need quantum heads e) in
-    subst (λ n. IfSome (choose (needs quantum heads es)) (λ c. c.place < n)) (length-map es asked) (choose-within (needs quantum heads es))
+    subst (λ n. IfSome (choose (needs quantum heads es)) (λ c. c.place < n)) (length-map es asked) (choose_within (needs quantum heads es))
 
 -- the choice where the front is granted, and that among the same classes once it was
 pub choice_before : (heads : ℕ → Option ℕ) (s : Schedule) (n len : ℕ) (f : Front n s) → heads n ≡ Some len → 1 ≤ quantum_of n s.classes → f.first.deficit < len
@@ -226,8 +226,8 @@ measure_falls heads s n len f head one short =
 pub has_quantum : (n : ℕ) (classes : List Class) → All (λ (c : Class). 1 ≤ c.quantum) classes → has_class n classes ≡ true → 1 ≤ quantum_of n classes
 has_quantum n [] h there = absurd (false≢true there)
 has_quantum n (c ∷ classes) h there = elim (cases_Bool (eqb n c.name)) [
-  | inl e ↦ subst (λ k. 1 ≤ k) (sym (quantum-here n c classes e)) (All-head (λ (c : Class). 1 ≤ c.quantum) c classes h)
-  | inr e ↦ subst (λ k. 1 ≤ k) (sym (quantum-behind n c classes e))
+  | inl e ↦ subst (λ k. 1 ≤ k) (sym (quantum_here n c classes e)) (All-head (λ (c : Class). 1 ≤ c.quantum) c classes h)
+  | inr e ↦ subst (λ k. 1 ≤ k) (sym (quantum_behind n c classes e))
       (has_quantum n classes (All-tail (λ (c : Class). 1 ≤ c.quantum) c classes h) (sym (ap (λ t. t || has_class n classes) e) ∙ there))
 ]
 

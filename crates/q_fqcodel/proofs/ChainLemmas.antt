@@ -8,7 +8,7 @@ use Rattle.q_fqcodel.specs.Chain.{stamped_of, packets, led_to, queue_in, IsNode,
 use Rattle.q_fqcodel.specs.Linked.{chain, IsChain, IsAppended}
 use Rattle.q_fqcodel.specs.declared.node.Node.{Node}
 use Rattle.q_fqcodel.specs.declared.flow_list.FlowList.{FlowList}
-use Rattle.q_fqcodel.proofs.LinkedLemmas.{chain-none, chain-more, kept, kept_items, tail_of, Leads, taken_key, alone, alone_items, longer, longer_items, first_own, shorter, shorter_items}
+use Rattle.q_fqcodel.proofs.LinkedLemmas.{chain_none, chain_more, kept, kept_items, tail_of, Leads, taken_key, alone, alone_items, longer, longer_items, first_own, shorter, shorter_items}
 
 -- so many packets of a flow
 abbrev Linked : (ℕ → Option Node) → ℕ → ℕ → ℕ → ℕ → ℕ → Type 0
@@ -40,22 +40,22 @@ others_kept w f at at2 same =
 -- how many packets, and at most and at least how many bytes
 pub counted : (at : ℕ → Option Node) (w f t n k : ℕ) → Linked at w f t n k → count (chain packets at n k) ≡ n
 unfolding IsChain
-counted at w f t zero k a = ap count (chain-none packets at k)
-counted at w f t (suc n) k a = ap count (chain-more packets at n k a.0 a.1) ∙ ap suc (counted at w f t n a.0.next a.4)
+counted at w f t zero k a = ap count (chain_none packets at k)
+counted at w f t (suc n) k a = ap count (chain_more packets at n k a.0 a.1) ∙ ap suc (counted at w f t n a.0.next a.4)
 
 pub few_bytes : (at : ℕ → Option Node) (w f t n k : ℕ) → Linked at w f t n k → size (chain packets at n k) ≤ 65535 * n
 unfolding IsChain
-few_bytes at w f t zero k a = omega (arith, ap size (chain-none packets at k))
+few_bytes at w f t zero k a = omega (arith, ap size (chain_none packets at k))
 few_bytes at w f t (suc n) k a =
     let x : Node = a.0 in
-    omega (arith, ap size (chain-more packets at n k x a.1), size-cons (stamped_of x) (chain packets at n x.next), few_bytes at w f t n x.next a.4, a.2.high)
+    omega (arith, ap size (chain_more packets at n k x a.1), size-cons (stamped_of x) (chain packets at n x.next), few_bytes at w f t n x.next a.4, a.2.high)
 
 pub enough_bytes : (at : ℕ → Option Node) (w f t n k : ℕ) → Linked at w f t n k → n ≤ size (chain packets at n k)
 unfolding IsChain
 enough_bytes at w f t zero k a = omega arith
 enough_bytes at w f t (suc n) k a =
     let x : Node = a.0 in
-    omega (arith, ap size (chain-more packets at n k x a.1), size-cons (stamped_of x) (chain packets at n x.next), enough_bytes at w f t n x.next a.4, a.2.low)
+    omega (arith, ap size (chain_more packets at n k x a.1), size-cons (stamped_of x) (chain packets at n x.next), enough_bytes at w f t n x.next a.4, a.2.low)
 
 -- ---- the list of a flow
 
@@ -76,10 +76,10 @@ module _ (at at2 : ℕ → Option Node) (w f : ℕ) (l : FlowList) (key : ℕ) (
   pub first_queue : l.count ≡ 0 → IsAppended led_to at at2 key key new → chain packets at2 1 key ≡ queue_in at l ++ stamped_of new ∷ []
   first_queue none h =
       alone_items packets (IsNode w f) led_to (leading w f) at at2 key key new own h
-      ∙ ap (λ (q : List Stamped). q ++ stamped_of new ∷ []) (sym (ap (λ (n : ℕ). chain packets at n l.head) none ∙ chain-none packets at l.head))
+      ∙ ap (λ (q : List Stamped). q ++ stamped_of new ∷ []) (sym (ap (λ (n : ℕ). chain packets at n l.head) none ∙ chain_none packets at l.head))
 
   pub first_bytes : l.count ≡ 0 → l.bytes ≡ 0
-  first_bytes none = linked.bytes ∙ ap size (ap (λ (n : ℕ). chain packets at n l.head) none ∙ chain-none packets at l.head)
+  first_bytes none = linked.bytes ∙ ap size (ap (λ (n : ℕ). chain packets at n l.head) none ∙ chain_none packets at l.head)
 
   pub first_list : (bytes : ℕ) → bytes ≡ new.packet.len → IsAppended led_to at at2 key key new → IsList at2 w f (record { head = key; tail = key; count = 1; bytes = bytes })
   first_list bytes e h = record {
@@ -189,4 +189,4 @@ module _ (at at2 : ℕ → Option Node) (w f : ℕ) (l : FlowList) (x : Node) (l
 pub first_packet : (at : ℕ → Option Node) (l : FlowList) (x : Node) → 0 < l.count → at l.head ≡ Some x → queue_in at l ≡ stamped_of x ∷ chain packets at (l.count - 1) x.next
 first_packet at l x some read =
     let e : l.count ≡ suc (l.count - 1) = omega (arith, some) in
-    ap (λ (n : ℕ). chain packets at n l.head) e ∙ chain-more packets at (l.count - 1) l.head x read
+    ap (λ (n : ℕ). chain packets at n l.head) e ∙ chain_more packets at (l.count - 1) l.head x read

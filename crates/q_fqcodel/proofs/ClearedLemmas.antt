@@ -29,8 +29,8 @@ unfolding clear
 clear-cons r n ns xs = refl
 
 -- one of them may as well be changed first
-pub clear-middle : {F : Type 0} (r : F → F) (ms : List ℕ) (n : ℕ) (ns : List ℕ) (xs : List F) → clear r (ms ++ n ∷ ns) xs ≡ clear r (ms ++ ns) (adjust r n xs)
-clear-middle r ms n ns xs =
+pub clear_middle : {F : Type 0} (r : F → F) (ms : List ℕ) (n : ℕ) (ns : List ℕ) (xs : List F) → clear r (ms ++ n ∷ ns) xs ≡ clear r (ms ++ ns) (adjust r n xs)
+clear_middle r ms n ns xs =
     clear-append r ms (n ∷ ns) xs
     ∙ clear-cons r n ns (clear r ms xs)
     ∙ ap (clear r ns) (sym (clear-adjust r ms n xs))

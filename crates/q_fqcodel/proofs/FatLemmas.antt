@@ -8,7 +8,7 @@ use Rattle.q_packet.proofs.LeastLemmas.{least_is, least_holds, least_lt}
 use Rattle.q_packet.specs.declared.stamped.Stamped.{Stamped}
 use Rattle.q_fqcodel.specs.FqState.{Flow, queue_of, packets_of}
 use Rattle.q_fqcodel.specs.Put.{fattest}
-use Rattle.q_fqcodel.proofs.FlowLemmas.{packets-cons, packets-nil}
+use Rattle.q_fqcodel.proofs.FlowLemmas.{packets_of-cons, packets_of-nil}
 
 none_above : (m : ℕ) (fs : List Flow) → ((k : ℕ) → k < length fs → size (queue_of fs k) ≤ m) → list_all (λ (f : Flow). nat_le (size f.queue) m) fs ≡ true
 none_above m [] h = refl
@@ -33,11 +33,11 @@ bytes_some (x ∷ xs) h = omega arith
 
 -- some flow has a packet
 busy_flow : (flows : List Flow) → 0 < packets_of flows → (k : ℕ) × (k < length flows) × (0 < count (queue_of flows k))
-busy_flow [] h = absurd (omega (arith, packets-nil))
+busy_flow [] h = absurd (omega (arith, packets_of-nil))
 busy_flow (f ∷ fs) h =
     ⊎_elim
     (λ (here : 0 < count f.queue). (0, omega arith, here))
-    (λ (none : count f.queue ≤ 0). let w = busy_flow fs (omega (arith, h, none, packets-cons f fs)) in (suc w.0, omega (arith, w.1), w.2))
+    (λ (none : count f.queue ≤ 0). let w = busy_flow fs (omega (arith, h, none, packets_of-cons f fs)) in (suc w.0, omega (arith, w.1), w.2))
     (cases_lt 0 (count f.queue))
 
 -- where there is a packet at all, and each has a byte at least, the fat flow has one

@@ -21,15 +21,15 @@ queues-adjust g same zero (f ∷ fs) = ap (λ (q : List Stamped). q ∷ queues f
 queues-adjust g same (suc n) (f ∷ fs) = ap (λ (l : List (List Stamped)). f.queue ∷ l) (queues-adjust g same n fs)
 
 -- a flow that rests keeps its packets
-pub queues-rested : (n : ℕ) (flows : List Flow) → queues (adjust rested_flow n flows) ≡ queues flows
+pub queues-rested_flow : (n : ℕ) (flows : List Flow) → queues (adjust rested_flow n flows) ≡ queues flows
 unfolding rested_flow
-queues-rested n flows = queues-adjust rested_flow (λ f. refl) n flows
+queues-rested_flow n flows = queues-adjust rested_flow (λ f. refl) n flows
 
 abbrev pub idle_in : List (List Stamped) → ℕ → Bool
 idle_in qs n = nat_eq (count (get_or qs n [])) 0
 
-pub idle-rested : (n : ℕ) (flows : List Flow) → is_idle (adjust rested_flow n flows) ≡ is_idle flows
-idle-rested n flows = ap idle_in (queues-rested n flows)
+pub is_idle-rested_flow : (n : ℕ) (flows : List Flow) → is_idle (adjust rested_flow n flows) ≡ is_idle flows
+is_idle-rested_flow n flows = ap idle_in (queues-rested_flow n flows)
 
 pub packets_by_queues : (flows : List Flow) → packets_of flows ≡ sum_by (λ (q : List Stamped). count q) (queues flows)
 unfolding packets_of
@@ -39,50 +39,50 @@ packets_by_queues (f ∷ fs) =
     ∙ ap (λ (n : ℕ). count f.queue + n) (packets_by_queues fs)
     ∙ sym (sum_by-cons (λ (q : List Stamped). count q) f.queue (queues fs))
 
-pub packets-rested : (n : ℕ) (flows : List Flow) → packets_of (adjust rested_flow n flows) ≡ packets_of flows
-packets-rested n flows =
+pub packets_of-rested_flow : (n : ℕ) (flows : List Flow) → packets_of (adjust rested_flow n flows) ≡ packets_of flows
+packets_of-rested_flow n flows =
     packets_by_queues (adjust rested_flow n flows)
-    ∙ ap (sum_by (λ (q : List Stamped). count q)) (queues-rested n flows)
+    ∙ ap (sum_by (λ (q : List Stamped). count q)) (queues-rested_flow n flows)
     ∙ sym (packets_by_queues flows)
 
-pub packets-cons : (f : Flow) (fs : List Flow) → packets_of (f ∷ fs) ≡ count f.queue + packets_of fs
+pub packets_of-cons : (f : Flow) (fs : List Flow) → packets_of (f ∷ fs) ≡ count f.queue + packets_of fs
 unfolding packets_of
-packets-cons f fs = sum_by-cons (λ (f : Flow). count f.queue) f fs
+packets_of-cons f fs = sum_by-cons (λ (f : Flow). count f.queue) f fs
 
-pub packets-nil : packets_of [] ≡ 0
+pub packets_of-nil : packets_of [] ≡ 0
 unfolding packets_of
-packets-nil = refl
+packets_of-nil = refl
 
 -- a flow has no more packets than all have
-pub packets-at : (n : ℕ) (flows : List Flow) → count (queue_of flows n) ≤ packets_of flows
-packets-at n [] = omega arith
-packets-at zero (f ∷ fs) = omega (arith, packets-cons f fs)
-packets-at (suc n) (f ∷ fs) = omega (arith, packets-cons f fs, packets-at n fs)
+pub packets_at : (n : ℕ) (flows : List Flow) → count (queue_of flows n) ≤ packets_of flows
+packets_at n [] = omega arith
+packets_at zero (f ∷ fs) = omega (arith, packets_of-cons f fs)
+packets_at (suc n) (f ∷ fs) = omega (arith, packets_of-cons f fs, packets_at n fs)
 
 -- a change that takes packets away
-pub packets-shrunk : (g : Flow → Flow) → ((f : Flow) → count (g f).queue ≤ count f.queue) → (n : ℕ) (flows : List Flow) → packets_of (adjust g n flows) ≤ packets_of flows
+pub packets_shrunk : (g : Flow → Flow) → ((f : Flow) → count (g f).queue ≤ count f.queue) → (n : ℕ) (flows : List Flow) → packets_of (adjust g n flows) ≤ packets_of flows
 unfolding adjust
-packets-shrunk g fewer n [] = omega arith
-packets-shrunk g fewer zero (f ∷ fs) = omega (arith, packets-cons f fs, packets-cons (g f) fs, fewer f)
-packets-shrunk g fewer (suc n) (f ∷ fs) = omega (arith, packets-cons f fs, packets-cons f (adjust g n fs), packets-shrunk g fewer n fs)
+packets_shrunk g fewer n [] = omega arith
+packets_shrunk g fewer zero (f ∷ fs) = omega (arith, packets_of-cons f fs, packets_of-cons (g f) fs, fewer f)
+packets_shrunk g fewer (suc n) (f ∷ fs) = omega (arith, packets_of-cons f fs, packets_of-cons f (adjust g n fs), packets_shrunk g fewer n fs)
 
-pub count-shrunk : (g : Flow → Flow) → ((f : Flow) → count (g f).queue ≤ count f.queue) → (n m : ℕ) (flows : List Flow) → count (queue_of (adjust g n flows) m) ≤ count (queue_of flows m)
+pub count_shrunk : (g : Flow → Flow) → ((f : Flow) → count (g f).queue ≤ count f.queue) → (n m : ℕ) (flows : List Flow) → count (queue_of (adjust g n flows) m) ≤ count (queue_of flows m)
 unfolding adjust
-count-shrunk g fewer n m [] = omega arith
-count-shrunk g fewer zero zero (f ∷ fs) = fewer f
-count-shrunk g fewer zero (suc m) (f ∷ fs) = omega arith
-count-shrunk g fewer (suc n) zero (f ∷ fs) = omega arith
-count-shrunk g fewer (suc n) (suc m) (f ∷ fs) = count-shrunk g fewer n m fs
+count_shrunk g fewer n m [] = omega arith
+count_shrunk g fewer zero zero (f ∷ fs) = fewer f
+count_shrunk g fewer zero (suc m) (f ∷ fs) = omega arith
+count_shrunk g fewer (suc n) zero (f ∷ fs) = omega arith
+count_shrunk g fewer (suc n) (suc m) (f ∷ fs) = count_shrunk g fewer n m fs
 
 -- who has packets after such a change had some before
-pub busy-shrunk : (g : Flow → Flow) → ((f : Flow) → count (g f).queue ≤ count f.queue) → (n m : ℕ) (flows : List Flow) → is_idle (adjust g n flows) m ≡ false → is_idle flows m ≡ false
-busy-shrunk g fewer n m flows busy =
+pub busy_shrunk : (g : Flow → Flow) → ((f : Flow) → count (g f).queue ≤ count f.queue) → (n m : ℕ) (flows : List Flow) → is_idle (adjust g n flows) m ≡ false → is_idle flows m ≡ false
+busy_shrunk g fewer n m flows busy =
     ne_eqb (count (queue_of flows m)) 0
-    (λ none. eqb-false (count (queue_of (adjust g n flows) m)) 0 busy (omega (arith, count-shrunk g fewer n m flows)))
+    (λ none. eqb-false (count (queue_of (adjust g n flows) m)) 0 busy (omega (arith, count_shrunk g fewer n m flows)))
 
 -- where no flow has a packet there is none
-pub packets-none : (flows : List Flow) → ((n : ℕ) → is_idle flows n ≡ true) → packets_of flows ≡ 0
-packets-none [] idle = packets-nil
-packets-none (f ∷ fs) idle =
+pub packets_none : (flows : List Flow) → ((n : ℕ) → is_idle flows n ≡ true) → packets_of flows ≡ 0
+packets_none [] idle = packets_of-nil
+packets_none (f ∷ fs) idle =
     let here : count f.queue ≡ 0 = eqb-true (count f.queue) 0 (idle 0) in
-    omega (arith, packets-cons f fs, packets-none fs (λ n. idle (suc n)), here)
+    omega (arith, packets_of-cons f fs, packets_none fs (λ n. idle (suc n)), here)

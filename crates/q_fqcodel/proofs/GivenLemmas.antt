@@ -15,22 +15,22 @@ use Rattle.q_fqcodel.specs.Lawful.{times}
 use Rattle.q_fqcodel.specs.QuantaGiven.{Grant, grants, quanta_in, visits, quanta_turned, passed_over, old_list, quanta_old, quanta_given}
 use Rattle.q_fqcodel.specs.Take.{selected}
 use Rattle.q_fqcodel.specs.Laws.{CreditsByQuanta, GrantsAreSome, QuantaByPlace}
-use Rattle.q_fqcodel.proofs.LawfulLemmas.{times-cons, times-append, one-same}
+use Rattle.q_fqcodel.proofs.LawfulLemmas.{times-cons, times-append, one_same}
 use Rattle.q_fqcodel.proofs.QuantaLemmas.{flow-given}
-use Rattle.q_fqcodel.proofs.InLemmas.{In, in-append, in-left, in-right, in-take, in-drop, in-map, in-stay, in-before, in-behind, in-found, in-times, same-entry, sum-none, sum-once}
+use Rattle.q_fqcodel.proofs.InLemmas.{In, In-append, In_left, In_right, In-take, In-drop, In-map, In-stay, In_before, In_behind, In_found, In-times, same_entry, sum_none, sum_once}
 
-pub times-split : (n k : ℕ) (es : List Entry) → times n es ≡ times n (take k es) + times n (drop k es)
-times-split n k es = ap (times n) (sym (take-append-drop k es)) ∙ times-append n (take k es) (drop k es)
+pub times_split : (n k : ℕ) (es : List Entry) → times n es ≡ times n (take k es) + times n (drop k es)
+times_split n k es = ap (times n) (sym (take-append-drop k es)) ∙ times-append n (take k es) (drop k es)
 
 -- ---- one flow, visited so often
 
-in-once : (q n visits : ℕ) (e : Entry) (es : List Entry) → In e es → e.flow ≡ n → times n es ≤ 1 → quanta_in q n visits es ≡ min visits (need q e)
+quanta_in_once : (q n visits : ℕ) (e : Entry) (es : List Entry) → In e es → e.flow ≡ n → times n es ≤ 1 → quanta_in q n visits es ≡ min visits (need q e)
 unfolding quanta_in
-in-once q n visits e es h own once = sum-once n (λ (e : Entry). min visits (need q e)) e es h own once
+quanta_in_once q n visits e es h own once = sum_once n (λ (e : Entry). min visits (need q e)) e es h own once
 
-in-none : (q n visits : ℕ) (es : List Entry) → times n es ≡ 0 → quanta_in q n visits es ≡ 0
+quanta_in_none : (q n visits : ℕ) (es : List Entry) → times n es ≡ 0 → quanta_in q n visits es ≡ 0
 unfolding quanta_in
-in-none q n visits es none = sum-none n (λ (e : Entry). min visits (need q e)) es none
+quanta_in_none q n visits es none = sum_none n (λ (e : Entry). min visits (need q e)) es none
 
 credits-given : (q k : ℕ) (e : Entry) → (given q k e).credits ≡ e.credits +ℤ pos (k * q)
 unfolding given
@@ -60,52 +60,52 @@ credits-moved q e =
 
 pub times-moved : (q n : ℕ) (es : List Entry) → times n (map (moved q) es) ≡ times n es
 times-moved q n [] = refl
-times-moved q n (x ∷ xs) = omega (arith, times-cons n (moved q x) (map (moved q) xs), times-cons n x xs, one-same n x (moved q x) (flow-moved q x), times-moved q n xs)
+times-moved q n (x ∷ xs) = omega (arith, times-cons n (moved q x) (map (moved q) xs), times-cons n x xs, one_same n x (moved q x) (flow-moved q x), times-moved q n xs)
 
 -- what a flow of the old list is given in the turn
-pub turned-some : (q n : ℕ) (es : List Entry) (c : Choice) → quanta_turned q n es (Some c) ≡ quanta_in q n c.rounds (drop c.place es) + quanta_in q n (suc c.rounds) (take c.place es)
+pub turned_some : (q n : ℕ) (es : List Entry) (c : Choice) → quanta_turned q n es (Some c) ≡ quanta_in q n c.rounds (drop c.place es) + quanta_in q n (suc c.rounds) (take c.place es)
 unfolding quanta_turned
-turned-some q n es c = refl
+turned_some q n es c = refl
 
-behind-chosen : (q n : ℕ) (es : List Entry) (c : Choice) (e : Entry) → times n es ≤ 1 → e.flow ≡ n → In e (drop c.place es) → quanta_turned q n es (Some c) ≡ min c.rounds (need q e)
-behind-chosen q n es c e once own h =
-    let split = times-split n c.place es in
-    let some = in-times n e (drop c.place es) h own in
-    let here = in-once q n c.rounds e (drop c.place es) h own (omega (arith, split, once)) in
-    let none = in-none q n (suc c.rounds) (take c.place es) (omega (arith, split, once, some)) in
-    omega (arith, turned-some q n es c, here, none)
+behind_chosen : (q n : ℕ) (es : List Entry) (c : Choice) (e : Entry) → times n es ≤ 1 → e.flow ≡ n → In e (drop c.place es) → quanta_turned q n es (Some c) ≡ min c.rounds (need q e)
+behind_chosen q n es c e once own h =
+    let split = times_split n c.place es in
+    let some = In-times n e (drop c.place es) h own in
+    let here = quanta_in_once q n c.rounds e (drop c.place es) h own (omega (arith, split, once)) in
+    let none = quanta_in_none q n (suc c.rounds) (take c.place es) (omega (arith, split, once, some)) in
+    omega (arith, turned_some q n es c, here, none)
 
-before-chosen : (q n : ℕ) (es : List Entry) (c : Choice) (e : Entry) → times n es ≤ 1 → e.flow ≡ n → In e (take c.place es) → quanta_turned q n es (Some c) ≡ min (suc c.rounds) (need q e)
-before-chosen q n es c e once own h =
-    let split = times-split n c.place es in
-    let some = in-times n e (take c.place es) h own in
-    let here = in-once q n (suc c.rounds) e (take c.place es) h own (omega (arith, split, once)) in
-    let none = in-none q n c.rounds (drop c.place es) (omega (arith, split, once, some)) in
-    omega (arith, turned-some q n es c, here, none)
+before_chosen : (q n : ℕ) (es : List Entry) (c : Choice) (e : Entry) → times n es ≤ 1 → e.flow ≡ n → In e (take c.place es) → quanta_turned q n es (Some c) ≡ min (suc c.rounds) (need q e)
+before_chosen q n es c e once own h =
+    let split = times_split n c.place es in
+    let some = In-times n e (take c.place es) h own in
+    let here = quanta_in_once q n (suc c.rounds) e (take c.place es) h own (omega (arith, split, once)) in
+    let none = quanta_in_none q n c.rounds (drop c.place es) (omega (arith, split, once, some)) in
+    omega (arith, turned_some q n es c, here, none)
 
 -- one that has stayed in the turn
-turned-credits : (q n : ℕ) (es : List Entry) (c : Choice) (a : Entry) → times n es ≤ 1 → a.flow ≡ n
+turned_credits : (q n : ℕ) (es : List Entry) (c : Choice) (a : Entry) → times n es ≤ 1 → a.flow ≡ n
     → In a (stay q c.rounds (drop c.place es) ++ stay q (suc c.rounds) (take c.place es))
     → (x : Entry) × In x es × (x.flow ≡ n) × (a.credits ≡ x.credits +ℤ pos (quanta_turned q n es (Some c) * q))
-turned-credits q n es c a once own h =
+turned_credits q n es c a once own h =
     ⊎_elim
     (λ (behind : In a (stay q c.rounds (drop c.place es))).
-    let r = in-stay q c.rounds a (drop c.place es) behind in
+    let r = In-stay q c.rounds a (drop c.place es) behind in
     let x : Entry = r.0 in
     let own' : x.flow ≡ n = sym (flow-given q c.rounds x) ∙ ap (λ (y : Entry). y.flow) r.3 ∙ own in
-    let k : quanta_turned q n es (Some c) ≡ c.rounds = omega (arith, behind-chosen q n es c x once own' r.1, r.2) in
-    (x, in-drop x c.place es r.1, own', ap (λ (y : Entry). y.credits) (sym r.3) ∙ credits-given q c.rounds x ∙ ap (λ (k : ℕ). x.credits +ℤ pos (k * q)) (sym k)))
+    let k : quanta_turned q n es (Some c) ≡ c.rounds = omega (arith, behind_chosen q n es c x once own' r.1, r.2) in
+    (x, In-drop x c.place es r.1, own', ap (λ (y : Entry). y.credits) (sym r.3) ∙ credits-given q c.rounds x ∙ ap (λ (k : ℕ). x.credits +ℤ pos (k * q)) (sym k)))
     (λ (before : In a (stay q (suc c.rounds) (take c.place es))).
-    let r = in-stay q (suc c.rounds) a (take c.place es) before in
+    let r = In-stay q (suc c.rounds) a (take c.place es) before in
     let x : Entry = r.0 in
     let own' : x.flow ≡ n = sym (flow-given q (suc c.rounds) x) ∙ ap (λ (y : Entry). y.flow) r.3 ∙ own in
-    let k : quanta_turned q n es (Some c) ≡ suc c.rounds = omega (arith, before-chosen q n es c x once own' r.1, r.2) in
-    (x, in-take x c.place es r.1, own', ap (λ (y : Entry). y.credits) (sym r.3) ∙ credits-given q (suc c.rounds) x ∙ ap (λ (k : ℕ). x.credits +ℤ pos (k * q)) (sym k)))
-    (in-append a (stay q c.rounds (drop c.place es)) (stay q (suc c.rounds) (take c.place es)) h)
+    let k : quanta_turned q n es (Some c) ≡ suc c.rounds = omega (arith, before_chosen q n es c x once own' r.1, r.2) in
+    (x, In-take x c.place es r.1, own', ap (λ (y : Entry). y.credits) (sym r.3) ∙ credits-given q (suc c.rounds) x ∙ ap (λ (k : ℕ). x.credits +ℤ pos (k * q)) (sym k)))
+    (In-append a (stay q c.rounds (drop c.place es)) (stay q (suc c.rounds) (take c.place es)) h)
 
 -- so many quanta, and then so many
-quanta-more : (z : ℤ) (j k q : ℕ) → (z +ℤ pos (j * q)) +ℤ pos (k * q) ≡ z +ℤ pos ((j + k) * q)
-quanta-more z j k q = let m : (j + k) * q ≡ j * q + k * q = add-mul j k q in omega (arith, ints, m)
+quanta_more : (z : ℤ) (j k q : ℕ) → (z +ℤ pos (j * q)) +ℤ pos (k * q) ≡ z +ℤ pos ((j + k) * q)
+quanta_more z j k q = let m : (j + k) * q ≡ j * q + k * q = add-mul j k q in omega (arith, ints, m)
 
 -- ---- a whole selection, of lists that hold flow n at most once
 
@@ -117,7 +117,7 @@ module _ (q n : ℕ) (idle : ℕ → Bool) (new_flows old_flows : List Entry) (p
   old = old_flows ++ map (moved q) over
 
   at_most : times n (take p new_flows) + times n (drop p new_flows) + times n old_flows ≤ 1
-  at_most = omega (arith, once, times-append n new_flows old_flows, times-split n p new_flows)
+  at_most = omega (arith, once, times-append n new_flows old_flows, times_split n p new_flows)
 
   old_once : times n old ≤ 1
   unfolding old over
@@ -127,8 +127,8 @@ module _ (q n : ℕ) (idle : ℕ → Bool) (new_flows old_flows : List Entry) (p
   untouched : (x : Entry) → In x (new_flows ++ old_flows) → x.flow ≡ n → times n (take p new_flows) ≡ 0 → x.credits ≡ e.credits +ℤ pos (quanta_in q n 1 over * q)
   unfolding over
   untouched x h own' none =
-      let same : x ≡ e = same-entry n x e (new_flows ++ old_flows) h listed own' own once in
-      let k : quanta_in q n 1 (take p new_flows) ≡ 0 = in-none q n 1 (take p new_flows) none in
+      let same : x ≡ e = same_entry n x e (new_flows ++ old_flows) h listed own' own once in
+      let k : quanta_in q n 1 (take p new_flows) ≡ 0 = quanta_in_none q n 1 (take p new_flows) none in
       let z : e.credits ≡ e.credits +ℤ pos (0 * q) = omega (arith, ints) in
       ap (λ (y : Entry). y.credits) same ∙ z ∙ ap (λ (k : ℕ). e.credits +ℤ pos (k * q)) (sym k)
 
@@ -137,27 +137,27 @@ module _ (q n : ℕ) (idle : ℕ → Bool) (new_flows old_flows : List Entry) (p
   unfolding old over
   old_credits x h own' =
       ⊎_elim
-      (λ (stayed : In x old_flows). untouched x (in-right x new_flows old_flows stayed) own' (omega (arith, at_most, in-times n x old_flows stayed own')))
+      (λ (stayed : In x old_flows). untouched x (In_right x new_flows old_flows stayed) own' (omega (arith, at_most, In-times n x old_flows stayed own')))
       (λ (came : In x (map (moved q) (take p new_flows))).
-      let r = in-map (moved q) x (take p new_flows) came in
+      let r = In-map (moved q) x (take p new_flows) came in
       let y : Entry = r.0 in
       let own'' : y.flow ≡ n = sym (flow-moved q y) ∙ ap (λ (z : Entry). z.flow) r.2 ∙ own' in
-      let same : y ≡ e = same-entry n y e (new_flows ++ old_flows) (in-left y new_flows old_flows (in-take y p new_flows r.1)) listed own'' own once in
-      let k : quanta_in q n 1 (take p new_flows) ≡ min 1 (need q y) = in-once q n 1 y (take p new_flows) r.1 own'' (omega (arith, at_most)) in
+      let same : y ≡ e = same_entry n y e (new_flows ++ old_flows) (In_left y new_flows old_flows (In-take y p new_flows r.1)) listed own'' own once in
+      let k : quanta_in q n 1 (take p new_flows) ≡ min 1 (need q y) = quanta_in_once q n 1 y (take p new_flows) r.1 own'' (omega (arith, at_most)) in
       ap (λ (z : Entry). z.credits) (sym r.2)
       ∙ credits-moved q y
       ∙ ap (λ (k : ℕ). y.credits +ℤ pos (k * q)) (sym k)
       ∙ ap (λ (z : Entry). z.credits +ℤ pos (quanta_in q n 1 (take p new_flows) * q)) same)
-      (in-append x old_flows (map (moved q) (take p new_flows)) h)
+      (In-append x old_flows (map (moved q) (take p new_flows)) h)
 
   after_turn : (a : Entry) (o : Option Choice) → In a (turned q old o).old_flows → a.flow ≡ n → a.credits ≡ e.credits +ℤ pos ((quanta_in q n 1 over + quanta_turned q n old o) * q)
   unfolding turned
   after_turn a None h own' = absurd h
   after_turn a (Some c) h own' =
-      let r = turned-credits q n old c a old_once own' h in
+      let r = turned_credits q n old c a old_once own' h in
       r.3
       ∙ ap (λ (z : ℤ). z +ℤ pos (quanta_turned q n old (Some c) * q)) (old_credits r.0 r.1 r.2)
-      ∙ quanta-more e.credits (quanta_in q n 1 over) (quanta_turned q n old (Some c)) q
+      ∙ quanta_more e.credits (quanta_in q n 1 over) (quanta_turned q n old (Some c)) q
 
   no_new : (a : Entry) (o : Option Choice) → In a ((turned q old o).new_flows ++ (turned q old o).old_flows) → In a (turned q old o).old_flows
   unfolding turned
@@ -174,17 +174,17 @@ module _ (q n : ℕ) (idle : ℕ → Bool) (new_flows old_flows : List Entry) (p
       ⊎_elim
       (λ (new : In a (r ∷ rs)).
       let there : In a (drop p new_flows) = subst (In a) (sym left) new in
-      untouched a (in-left a new_flows old_flows (in-drop a p new_flows there)) own' (omega (arith, at_most, in-times n a (drop p new_flows) there own')) ∙ same)
+      untouched a (In_left a new_flows old_flows (In-drop a p new_flows there)) own' (omega (arith, at_most, In-times n a (drop p new_flows) there own')) ∙ same)
       (λ (before : In a old). old_credits a before own' ∙ same)
-      (in-append a (r ∷ rs) old h)
+      (In-append a (r ∷ rs) old h)
 
 pub credits_by_quanta : CreditsByQuanta
 unfolding selected arranged quanta_given passed_over old_list over old
 credits_by_quanta s n before after lawful was is =
     let q : ℕ = s.settings.quantum in
     let p : ℕ = first_ready q (is_idle s.flows) s.new_flows in
-    let b = in-found n (s.new_flows ++ s.old_flows) before was in
-    let a = in-found n ((selected s).new_flows ++ (selected s).old_flows) after is in
+    let b = In_found n (s.new_flows ++ s.old_flows) before was in
+    let a = In_found n ((selected s).new_flows ++ (selected s).old_flows) after is in
     sym a.3
     ∙ after_all q n (is_idle s.flows) s.new_flows s.old_flows p (lawful.once n) b.0 b.1 b.2 a.0 (drop p s.new_flows) refl a.1 a.2
     ∙ ap (λ (z : ℤ). z +ℤ pos (quanta_given s n * q)) b.3
@@ -204,32 +204,32 @@ grants_are_some s =
 -- ---- by the place in the old list
 
 -- what the flow at a place needs, as the choice has it
-pub need-at : (q : ℕ) (idle : ℕ → Bool) (es : List Entry) (i : ℕ) (e : Entry) → slice_get es i ≡ Some e → idle e.flow ≡ false → slice_index_or (map (λ (e : Entry). cond (idle e.flow) None (Some (need q e))) es) i None ≡ Some (need q e)
-need-at q idle [] i e h busy = absurd cc
-need-at q idle (x ∷ xs) zero e h busy =
+pub need_at : (q : ℕ) (idle : ℕ → Bool) (es : List Entry) (i : ℕ) (e : Entry) → slice_get es i ≡ Some e → idle e.flow ≡ false → slice_index_or (map (λ (e : Entry). cond (idle e.flow) None (Some (need q e))) es) i None ≡ Some (need q e)
+need_at q idle [] i e h busy = absurd cc
+need_at q idle (x ∷ xs) zero e h busy =
     let same : x ≡ e = cc in
     ap (λ (y : Entry). cond (idle y.flow) None (Some (need q y))) same ∙ cond-false (idle e.flow) None (Some (need q e)) busy
-need-at q idle (x ∷ xs) (suc i) e h busy = need-at q idle xs i e h busy
+need_at q idle (x ∷ xs) (suc i) e h busy = need_at q idle xs i e h busy
 
-pub chosen-least : (q : ℕ) (idle : ℕ → Bool) (es : List Entry) (c : Choice) → chosen q idle es ≡ Some c → IsChosen (map (λ (e : Entry). cond (idle e.flow) None (Some (need q e))) es) c
+pub chosen_least : (q : ℕ) (idle : ℕ → Bool) (es : List Entry) (c : Choice) → chosen q idle es ≡ Some c → IsChosen (map (λ (e : Entry). cond (idle e.flow) None (Some (need q e))) es) c
 unfolding chosen
-chosen-least q idle es c h = chosen_is (map (λ (e : Entry). cond (idle e.flow) None (Some (need q e))) es) c h
+chosen_least q idle es c h = chosen_is (map (λ (e : Entry). cond (idle e.flow) None (Some (need q e))) es) c h
 
-visits-before : (c : Choice) (i : ℕ) → i < c.place → visits c i ≡ suc c.rounds
+visits_before : (c : Choice) (i : ℕ) → i < c.place → visits c i ≡ suc c.rounds
 unfolding visits
-visits-before c i h = cond-true (nat_lt i c.place) (suc c.rounds) c.rounds (lt-ltb i c.place h)
+visits_before c i h = cond-true (nat_lt i c.place) (suc c.rounds) c.rounds (lt-ltb i c.place h)
 
-visits-behind : (c : Choice) (i : ℕ) → c.place ≤ i → visits c i ≡ c.rounds
+visits_behind : (c : Choice) (i : ℕ) → c.place ≤ i → visits c i ≡ c.rounds
 unfolding visits
-visits-behind c i h = cond-false (nat_lt i c.place) (suc c.rounds) c.rounds (le-ltb i c.place h)
+visits_behind c i h = cond-false (nat_lt i c.place) (suc c.rounds) c.rounds (le-ltb i c.place h)
 
 pub quanta_by_place : QuantaByPlace
 quanta_by_place q idle es c place e once is there busy =
-    let least = chosen-least q idle es c is in
-    let needs = need-at q idle es place e there busy in
+    let least = chosen_least q idle es c is in
+    let needs = need_at q idle es place e there busy in
     ⊎_elim
     (λ (before : place < c.place).
-    omega (arith, visits-before c place before, least.first place (need q e) before needs, before-chosen q e.flow es c e once refl (in-before e place c.place es there before)))
+    omega (arith, visits_before c place before, least.first place (need q e) before needs, before_chosen q e.flow es c e once refl (In_before e place c.place es there before)))
     (λ (behind : c.place ≤ place).
-    omega (arith, visits-behind c place behind, least.least place (need q e) needs, behind-chosen q e.flow es c e once refl (in-behind e place c.place es there behind)))
+    omega (arith, visits_behind c place behind, least.least place (need q e) needs, behind_chosen q e.flow es c e once refl (In_behind e place c.place es there behind)))
     (cases_lt place c.place)

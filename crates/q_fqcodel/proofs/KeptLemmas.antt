@@ -20,10 +20,10 @@ use Rattle.q_fqcodel.specs.Turns.{GoesOn, turns}
 use Rattle.q_fqcodel.specs.Laws.{SelectionKeepsPackets, HasBytes, PutKeepsLawful, TakeKeepsLawful}
 use Rattle.q_fqcodel.proofs.FatLemmas.{fat_some, fattest_most}
 use Rattle.q_fqcodel.proofs.FlowLemmas.{length-adjust}
-use Rattle.q_fqcodel.proofs.LawLemmas.{queues-clear, appended-packets}
+use Rattle.q_fqcodel.proofs.LawLemmas.{queues-clear, packets_of-appended}
 use Rattle.q_fqcodel.proofs.LawfulLemmas.{lawful_shrunk, lawful_written}
-use Rattle.q_fqcodel.proofs.PutLemmas.{own_queue, other_queue, busy_put, busy_shed, cut-none, cut-some, lawful_put, packets-shortened, shed-within, shed-positive}
-use Rattle.q_fqcodel.proofs.SentLemmas.{front-is, front-none, after-none, after-written, lists-written, written, count-after, flow-paid}
+use Rattle.q_fqcodel.proofs.PutLemmas.{own_queue, other_queue, busy_put, busy_shed, cut_none, cut_some, lawful_put, packets_of-shortened, shed_within, shed_positive}
+use Rattle.q_fqcodel.proofs.SentLemmas.{front_is, front_none, after_none, after_sending-written, lists_written, written, count_after, flow-paid}
 use Rattle.q_fqcodel.proofs.TurnLemmas.{LeadsOn, new_granted, new_moves, new_ready, old_granted, old_leaves, old_ready, none_left}
 
 -- ---- the selection keeps the packets
@@ -122,14 +122,14 @@ lawful_selected s lawful positive = selected_within (suc (turns s)) s (omega ari
 
 sent_with : (s : FqState) (now : ℕ) (o : Option Entry) → front s ≡ o → IsLawful s → IsLawful (after_sending now s)
 sent_with s now None h lawful =
-    let none = front-none s h in
-    subst (λ (x : FqState). IsLawful x) (sym (after-none s now none.0 none.1)) lawful
+    let none = front_none s h in
+    subst (λ (x : FqState). IsLawful x) (sym (after_none s now none.0 none.1)) lawful
 sent_with s now (Some e) h lawful =
     let m : Entry = paid (sent_from now s) e in
     let t : FqState = record s { flows = adjust (flow_after now) e.flow s.flows } in
-    subst (λ (x : FqState). IsLawful x) (sym (after-written s e now h))
+    subst (λ (x : FqState). IsLawful x) (sym (after_sending-written s e now h))
     (lawful_written t e m (drop 1 (s.new_flows ++ s.old_flows)) (set s.new_flows 0 m) (written m s.new_flows s.old_flows)
-    (lawful_shrunk s (flow_after now) (count-after now) e.flow lawful) (front-is s e h) (flow-paid (sent_from now s) e) (lists-written s m e h))
+    (lawful_shrunk s (flow_after now) (count_after now) e.flow lawful) (front_is s e h) (flow-paid (sent_from now s) e) (lists_written s m e h))
 
 pub lawful_after_sending : (s : FqState) (now : ℕ) → IsLawful s → IsLawful (after_sending now s)
 lawful_after_sending s now lawful = sent_with s now (front s) refl lawful
@@ -170,25 +170,25 @@ lawful_after_put s packet now lawful range fat =
     let a : FqState = appended s packet now in
     let low : n < s.settings.flows = omega (arith, range.flows_low) in
     let within : n < length s.flows = omega (arith, low, lawful.each_flow) in
-    let more : packets_of a.flows ≡ packets_of s.flows + 1 = appended-packets s packet now within in
+    let more : packets_of a.flows ≡ packets_of s.flows + 1 = packets_of-appended s packet now within in
     ⊎_elim
     (λ (over : s.settings.limit < packets_of a.flows).
     let k : ℕ = fattest a.flows in
     let lost : ℕ = shed_count a.flows a.settings.drop_batch in
     let t : FqState = record a { flows = adjust (shortened lost) k a.flows } in
-    subst (λ (x : FqState). IsLawful x) (sym (cut-some a k lost over refl refl))
+    subst (λ (x : FqState). IsLawful x) (sym (cut_some a k lost over refl refl))
     (lawful_put s t n lawful refl
     (length-adjust (shortened lost) k a.flows ∙ length-adjust (joined p) n s.flows) low
     (λ m h. busy_shed p n m lost k s.flows h)
     (omega (
       arith,
-      packets-shortened lost k a.flows (shed-within a.flows a.settings.drop_batch),
-      shed-positive a.flows a.settings.drop_batch range.batch_low (omega (arith, over, range.limit_low)) (fat over),
+      packets_of-shortened lost k a.flows (shed_within a.flows a.settings.drop_batch),
+      shed_positive a.flows a.settings.drop_batch range.batch_low (omega (arith, over, range.limit_low)) (fat over),
       more,
       lawful.few,
     )) s.settings.quantum refl refl))
     (λ (in_limit : packets_of a.flows ≤ s.settings.limit).
-    subst (λ (x : FqState). IsLawful x) (sym (cut-none a in_limit))
+    subst (λ (x : FqState). IsLawful x) (sym (cut_none a in_limit))
     (lawful_put s a n lawful refl (length-adjust (joined p) n s.flows) low (λ m h. busy_put p n m s.flows h) (omega (arith, in_limit, range.limit_high)) s.settings.quantum refl refl))
     (cases_lt s.settings.limit (packets_of a.flows))
 

@@ -14,17 +14,17 @@ use Rattle.q_fqcodel.specs.Put.{flow_of, joined, appended, shortened, fattest, s
 use Rattle.q_fqcodel.specs.Take.{selected, packet_sent, packets_dropped, flow_after, sender, sent_from, dropped_from, with_sent, after_sending}
 use Rattle.q_fqcodel.specs.Laws.{head_sent, PutKeepsAll, TakeKeepsAll, GivesTheHead, PutLeavesOne}
 use Rattle.q_fqcodel.specs.Entry.{Entry}
-use Rattle.q_fqcodel.proofs.FlowLemmas.{queues-rested}
-use Rattle.q_fqcodel.proofs.PutLemmas.{packets-joined, packets-shortened, cut-none, cut-some, shed-within}
-use Rattle.q_fqcodel.proofs.SentLemmas.{sender-is, sender-none, dropped-none}
+use Rattle.q_fqcodel.proofs.FlowLemmas.{queues-rested_flow}
+use Rattle.q_fqcodel.proofs.PutLemmas.{packets_of-joined, packets_of-shortened, cut_none, cut_some, shed_within}
+use Rattle.q_fqcodel.proofs.SentLemmas.{sender_found, sender_none, dropped_none}
 
 pub all_packets-cons : (f : Flow) (fs : List Flow) → all_packets (f ∷ fs) ≡ f.queue ++ all_packets fs
 unfolding all_packets
 all_packets-cons f fs = refl
 
-all_packets-none : all_packets [] ≡ []
+all_packets_none : all_packets [] ≡ []
 unfolding all_packets
-all_packets-none = refl
+all_packets_none = refl
 
 module _ (w : Stamped → ℕ) where
   total : List Flow → ℕ
@@ -35,12 +35,12 @@ module _ (w : Stamped → ℕ) where
   total-cons f fs = ap (sum_by w) (all_packets-cons f fs) ∙ sum_by-append w f.queue (all_packets fs)
 
   -- one flow loses some of its packets
-  total-lost : (g : Flow → Flow) (lost : Flow → List Stamped) → ((f : Flow) → sum_by w (g f).queue + sum_by w (lost f) ≡ sum_by w f.queue)
+  total_lost : (g : Flow → Flow) (lost : Flow → List Stamped) → ((f : Flow) → sum_by w (g f).queue + sum_by w (lost f) ≡ sum_by w f.queue)
       → (n : ℕ) (fs : List Flow) → total (adjust g n fs) + sum_by w (unwrap_or (option_map lost (slice_get fs n)) []) ≡ total fs
   unfolding adjust
-  total-lost g lost split n [] = omega arith
-  total-lost g lost split zero (f ∷ fs) = omega (arith, total-cons f fs, total-cons (g f) fs, split f)
-  total-lost g lost split (suc n) (f ∷ fs) = omega (arith, total-cons f fs, total-cons f (adjust g n fs), total-lost g lost split n fs)
+  total_lost g lost split n [] = omega arith
+  total_lost g lost split zero (f ∷ fs) = omega (arith, total-cons f fs, total-cons (g f) fs, split f)
+  total_lost g lost split (suc n) (f ∷ fs) = omega (arith, total-cons f fs, total-cons f (adjust g n fs), total_lost g lost split n fs)
 
   -- one flow gets a packet more
   total-joined : (p : Stamped) (n : ℕ) (fs : List Flow) → n < length fs → total (adjust (joined p) n fs) ≡ total fs + w p
@@ -55,13 +55,13 @@ module _ (w : Stamped → ℕ) where
   front_part k zero (f ∷ fs) = refl
   front_part k (suc n) (f ∷ fs) = front_part k n fs
 
-  total-cut : (a : FqState) → total (cut_back a).flows + sum_by w (shed a) ≡ total a.flows
+  total-cut_back : (a : FqState) → total (cut_back a).flows + sum_by w (shed a) ≡ total a.flows
   unfolding cut_back shed
-  total-cut a =
+  total-cut_back a =
       let k : ℕ = overflow a in
       let n : ℕ = fattest a.flows in
       ap (λ (l : List Stamped). total (adjust (shortened k) n a.flows) + sum_by w l) (sym (front_part k n a.flows))
-      ∙ total-lost (shortened k) (λ (f : Flow). take k f.queue) (λ f. omega (arith, sum_by-take-drop w f.queue k)) n a.flows
+      ∙ total_lost (shortened k) (λ (f : Flow). take k f.queue) (λ f. omega (arith, sum_by-take-drop w f.queue k)) n a.flows
 
   total-appended : (s : FqState) (packet : Descriptor) (now : ℕ) → flow_of s packet < length s.flows → total (appended s packet now).flows ≡ total s.flows + w (record { packet = packet; at = now })
   unfolding appended
@@ -70,7 +70,7 @@ module _ (w : Stamped → ℕ) where
   put_keeps : (s : FqState) (packet : Descriptor) (now : ℕ) → flow_of s packet < length s.flows
       → sum_by w (all_packets (after_put s packet now).flows) + sum_by w (lost_by_put s packet now) ≡ sum_by w (all_packets s.flows) + w (record { packet = packet; at = now })
   unfolding total
-  put_keeps s packet now within = total-cut (appended s packet now) ∙ total-appended s packet now within
+  put_keeps s packet now within = total-cut_back (appended s packet now) ∙ total-appended s packet now within
 
   -- a queue is what stands before a packet, the packet, and what stands behind it
   split_at : (q : List Stamped) (j : ℕ) → sum_by w (drop (suc j) q) + sum_by w (take j q ++ option_to_list (slice_get q j)) ≡ sum_by w q
@@ -94,34 +94,34 @@ module _ (w : Stamped → ℕ) where
   gone_parts now (Some f) = sum_by-append w (packets_dropped now f) (option_to_list (sent f.codel now f.queue))
 
   -- the flow in front sends
-  total-sent : (s : FqState) (e : Entry) (rest : List Entry) (now : ℕ) → s.new_flows ++ s.old_flows ≡ e ∷ rest
+  total_sent : (s : FqState) (e : Entry) (rest : List Entry) (now : ℕ) → s.new_flows ++ s.old_flows ≡ e ∷ rest
       → total (adjust (flow_after now) e.flow s.flows) + sum_by w (dropped_from now s) + sum_by w (option_to_list (head_sent now s)) ≡ total s.flows
   unfolding dropped_from
-  total-sent s e rest now at_front =
+  total_sent s e rest now at_front =
       let o : Option Flow = slice_get s.flows e.flow in
-      let d = ap (λ (x : Option Flow). sum_by w (unwrap_or (option_map (packets_dropped now) x) [])) (sender-is s e rest at_front) in
-      let h = ap (λ (x : Option Flow). sum_by w (option_to_list (option_and_then (λ (f : Flow). sent f.codel now f.queue) x))) (sender-is s e rest at_front) in
-      omega (arith, d, h, gone_parts now o, total-lost (flow_after now) (gone_from now) (gone_split now) e.flow s.flows)
+      let d = ap (λ (x : Option Flow). sum_by w (unwrap_or (option_map (packets_dropped now) x) [])) (sender_found s e rest at_front) in
+      let h = ap (λ (x : Option Flow). sum_by w (option_to_list (option_and_then (λ (f : Flow). sent f.codel now f.queue) x))) (sender_found s e rest at_front) in
+      omega (arith, d, h, gone_parts now o, total_lost (flow_after now) (gone_from now) (gone_split now) e.flow s.flows)
 
   sends_keep : (s : FqState) (new_flows old_flows : List Entry) (now : ℕ) → s.new_flows ≡ new_flows → s.old_flows ≡ old_flows
       → total (with_sent now s new_flows old_flows).flows + sum_by w (dropped_from now s) + sum_by w (option_to_list (head_sent now s)) ≡ total s.flows
   unfolding with_sent
-  sends_keep s (e ∷ es) old_flows now f l = total-sent s e (es ++ old_flows) now (ap₂ (λ (a b : List Entry). a ++ b) f l)
-  sends_keep s [] (e ∷ es) now f l = total-sent s e es now (ap₂ (λ (a b : List Entry). a ++ b) f l)
+  sends_keep s (e ∷ es) old_flows now f l = total_sent s e (es ++ old_flows) now (ap₂ (λ (a b : List Entry). a ++ b) f l)
+  sends_keep s [] (e ∷ es) now f l = total_sent s e es now (ap₂ (λ (a b : List Entry). a ++ b) f l)
   sends_keep s [] [] now f l =
       omega (
         arith,
-        ap (sum_by w) (dropped-none s now f l),
-        ap (λ (o : Option Flow). sum_by w (option_to_list (option_and_then (λ (f : Flow). sent f.codel now f.queue) o))) (sender-none s f l),
+        ap (sum_by w) (dropped_none s now f l),
+        ap (λ (o : Option Flow). sum_by w (option_to_list (option_and_then (λ (f : Flow). sent f.codel now f.queue) o))) (sender_none s f l),
       )
 
   pub queues-clear : (ns : List ℕ) (fs : List Flow) → queues (clear rested_flow ns fs) ≡ queues fs
   unfolding clear
   queues-clear [] fs = refl
-  queues-clear (n ∷ ns) fs = queues-clear ns (adjust rested_flow n fs) ∙ queues-rested n fs
+  queues-clear (n ∷ ns) fs = queues-clear ns (adjust rested_flow n fs) ∙ queues-rested_flow n fs
 
   all_packets-queues : (fs : List Flow) → all_packets fs ≡ flat_map (λ (q : List Stamped). q) (queues fs)
-  all_packets-queues [] = all_packets-none
+  all_packets-queues [] = all_packets_none
   all_packets-queues (f ∷ fs) = all_packets-cons f fs ∙ ap (λ (l : List Stamped). f.queue ++ l) (all_packets-queues fs)
 
   total-selected : (s : FqState) → total (selected s).flows ≡ total s.flows
@@ -160,26 +160,26 @@ pub gives_the_head : GivesTheHead
 unfolding sent_from
 gives_the_head s now given head g h = given_from (sender s) now given head g h
 
-shed-leaves : (flows : List Flow) (batch : ℕ) → 0 < packets_of flows → shed_count flows batch < packets_of flows
+shed_leaves : (flows : List Flow) (batch : ℕ) → 0 < packets_of flows → shed_count flows batch < packets_of flows
 unfolding shed_count
-shed-leaves flows batch some = omega arith
+shed_leaves flows batch some = omega arith
 
-pub appended-packets : (s : FqState) (packet : Descriptor) (now : ℕ) → flow_of s packet < length s.flows → packets_of (appended s packet now).flows ≡ packets_of s.flows + 1
+pub packets_of-appended : (s : FqState) (packet : Descriptor) (now : ℕ) → flow_of s packet < length s.flows → packets_of (appended s packet now).flows ≡ packets_of s.flows + 1
 unfolding appended
-appended-packets s packet now within = packets-joined (record { packet = packet; at = now }) (flow_of s packet) s.flows within
+packets_of-appended s packet now within = packets_of-joined (record { packet = packet; at = now }) (flow_of s packet) s.flows within
 
 pub put_leaves_one : PutLeavesOne
 put_leaves_one s packet now within =
     let a : FqState = appended s packet now in
-    let more = appended-packets s packet now within in
+    let more = packets_of-appended s packet now within in
     ⊎_elim
     (λ (over : a.settings.limit < packets_of a.flows).
     let n : ℕ = shed_count a.flows a.settings.drop_batch in
     omega (
       arith,
-      ap (λ (x : FqState). packets_of x.flows) (cut-some a (fattest a.flows) n over refl refl),
-      packets-shortened n (fattest a.flows) a.flows (shed-within a.flows a.settings.drop_batch),
-      shed-leaves a.flows a.settings.drop_batch (omega (arith, more)),
+      ap (λ (x : FqState). packets_of x.flows) (cut_some a (fattest a.flows) n over refl refl),
+      packets_of-shortened n (fattest a.flows) a.flows (shed_within a.flows a.settings.drop_batch),
+      shed_leaves a.flows a.settings.drop_batch (omega (arith, more)),
     ))
-    (λ (in_limit : packets_of a.flows ≤ a.settings.limit). omega (arith, ap (λ (x : FqState). packets_of x.flows) (cut-none a in_limit), more))
+    (λ (in_limit : packets_of a.flows ≤ a.settings.limit). omega (arith, ap (λ (x : FqState). packets_of x.flows) (cut_none a in_limit), more))
     (cases_lt a.settings.limit (packets_of a.flows))

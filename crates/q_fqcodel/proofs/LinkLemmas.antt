@@ -11,7 +11,7 @@ use Rattle.q_fqcodel.specs.declared.ends.Ends.{Ends}
 use Rattle.q_fqcodel.specs.declared.link.Link.{Link}
 use Rattle.q_fqcodel.specs.declared.place.Place.{Place}
 use Rattle.q_fqcodel.specs.declared.place.Place.TheVariants.{Unlisted, New, Old}
-use Rattle.q_fqcodel.proofs.LinkedLemmas.{chain-none, chain-more, kept, kept_items, there, tail_of, Leads, alone, alone_items, longer, longer_items, shorter, shorter_items, rewritten, rewritten_items}
+use Rattle.q_fqcodel.proofs.LinkedLemmas.{chain_none, chain_more, kept, kept_items, there, tail_of, Leads, alone, alone_items, longer, longer_items, shorter, shorter_items, rewritten, rewritten_items}
 
 -- ---- one link
 
@@ -80,10 +80,10 @@ listed_last n (x ∷ es) e own = or_yes (x.flow == n) (is_listed n (es ++ e ∷ 
 -- a flow of a chain is there, at the chain's place
 pub listed_there : (at : ℕ → Option Link) (place : Place) (t n k m : ℕ) → IsChain listing (IsAt place) at t n k → is_listed m (chain listing at n k) ≡ true → (x : Link) × (at m ≡ Some x) × (x.place ≡ place)
 unfolding IsChain
-listed_there at place t zero k m a h = absurd (false≢true (ap (is_listed m) (sym (chain-none listing at k)) ∙ h))
+listed_there at place t zero k m a h = absurd (false≢true (ap (is_listed m) (sym (chain_none listing at k)) ∙ h))
 listed_there at place t (suc n) k m a h =
     let x : Link = a.0 in
-    let h2 : ((k == m) || is_listed m (chain listing at n x.next)) ≡ true = ap (is_listed m) (sym (chain-more listing at n k x a.1)) ∙ h in
+    let h2 : ((k == m) || is_listed m (chain listing at n x.next)) ≡ true = ap (is_listed m) (sym (chain_more listing at n k x a.1)) ∙ h in
     by (k == m) refl h2 (listed_there at place t n x.next m a.4)
   where
     by : (b : Bool) → (k == m) ≡ b → ((k == m) || is_listed m (chain listing at n a.0.next)) ≡ true
@@ -92,7 +92,7 @@ listed_there at place t (suc n) k m a h =
     by false same h2 on = on (or_rest (k == m) _ same h2)
 
 pub no_entries : (links : List Link) (ends : Ends) → ends.count ≡ 0 → entries_in links ends ≡ []
-no_entries links ends e = ap (λ (n : ℕ). chain listing (link_at links) n ends.head) e ∙ chain-none listing (link_at links) ends.head
+no_entries links ends e = ap (λ (n : ℕ). chain listing (link_at links) n ends.head) e ∙ chain_none listing (link_at links) ends.head
 
 -- ---- what leaves the other lists alone
 
@@ -284,7 +284,7 @@ module _ (links : List Link) (place : Place) (ends : Ends) (some : 0 < ends.coun
   named e = let p : None ≡ Some at_head.0 = sym (free_at links ends.head (head_place ∙ e)) ∙ at_head.1 in absurd cc
 
   pub front_entry : entries_in links ends ≡ record { flow = ends.head; credits = head.credits } ∷ chain listing (link_at links) (ends.count - 1) head.next
-  front_entry = ap (λ (n : ℕ). chain listing (link_at links) n ends.head) cut_is ∙ chain-more listing (link_at links) (ends.count - 1) ends.head head head_read
+  front_entry = ap (λ (n : ℕ). chain listing (link_at links) n ends.head) cut_is ∙ chain_more listing (link_at links) (ends.count - 1) ends.head head head_read
 
   -- the lists where only this link is written
   module _ (y : Link) where

@@ -3,13 +3,13 @@ use Rattle.std.proofs.Common.{◌≡◌, ◌≢◌, ℕ, zero, suc, ◌<◌, Lis
 use Rattle.q_fqcodel.specs.Linked.{Form, onwards, chain, IsChain, IsAppended}
 
 module _ {X A : Type 0} (form : Form X A) where
-  pub chain-none : (at : ℕ → Option X) (k : ℕ) → chain form at 0 k ≡ []
+  pub chain_none : (at : ℕ → Option X) (k : ℕ) → chain form at 0 k ≡ []
   unfolding chain
-  chain-none at k = refl
+  chain_none at k = refl
 
-  pub chain-more : (at : ℕ → Option X) (n k : ℕ) (x : X) → at k ≡ Some x → chain form at (suc n) k ≡ form.item k x ∷ chain form at n (form.next x)
+  pub chain_more : (at : ℕ → Option X) (n k : ℕ) (x : X) → at k ≡ Some x → chain form at (suc n) k ≡ form.item k x ∷ chain form at n (form.next x)
   unfolding chain
-  chain-more at n k x e = ap (onwards form k (chain form at n)) e
+  chain_more at n k x e = ap (onwards form k (chain form at n)) e
 
 module _ {X A : Type 0} (form : Form X A) (own : X → Type 0) where
   -- from one key to one tail there are as many values, whichever way they are counted
@@ -35,17 +35,17 @@ module _ {X A : Type 0} (form : Form X A) (own : X → Type 0) where
 
   pub kept_items : (at at2 : ℕ → Option X) (t n k : ℕ) → IsChain form own at t n k → ((m j : ℕ) → m < n → IsChain form own at t (suc m) j → at2 j ≡ at j) → chain form at2 n k ≡ chain form at n k
   unfolding IsChain
-  kept_items at at2 t zero k a same = chain-none form at2 k ∙ sym (chain-none form at k)
+  kept_items at at2 t zero k a same = chain_none form at2 k ∙ sym (chain_none form at k)
   kept_items at at2 t (suc n) k a same =
       let x : X = a.0 in
-      chain-more form at2 n k x (same n k (omega arith) a ∙ a.1)
+      chain_more form at2 n k x (same n k (omega arith) a ∙ a.1)
       ∙ ap (λ (l : List A). form.item k x ∷ l) (kept_items at at2 t n (form.next x) a.4 (λ m j less. same m j (omega (arith, less))))
-      ∙ sym (chain-more form at n k x a.1)
+      ∙ sym (chain_more form at n k x a.1)
 
   pub length-chain : (at : ℕ → Option X) (t n k : ℕ) → IsChain form own at t n k → length (chain form at n k) ≡ n
   unfolding IsChain
-  length-chain at t zero k a = ap length (chain-none form at k)
-  length-chain at t (suc n) k a = ap length (chain-more form at n k a.0 a.1) ∙ ap suc (length-chain at t n (form.next a.0) a.4)
+  length-chain at t zero k a = ap length (chain_none form at k)
+  length-chain at t (suc n) k a = ap length (chain_more form at n k a.0 a.1) ∙ ap suc (length-chain at t n (form.next a.0) a.4)
 
   -- what stands at a key of the list
   pub there : (at : ℕ → Option X) (t n k : ℕ) → IsChain form own at t (suc n) k → (x : X) × (at k ≡ Some x) × own x
@@ -76,7 +76,7 @@ module _ {X A : Type 0} (form : Form X A) (own : X → Type 0) (to : ℕ → X �
   alone = (new, h.stored, mine, (λ _. refl, λ _. refl), tt)
 
   pub alone_items : chain form at2 1 key ≡ form.item key new ∷ []
-  alone_items = chain-more form at2 0 key new h.stored ∙ ap (λ (l : List A). form.item key new ∷ l) (chain-none form at2 (form.next new))
+  alone_items = chain_more form at2 0 key new h.stored ∙ ap (λ (l : List A). form.item key new ∷ l) (chain_none form at2 (form.next new))
 
   pub longer : (n k : ℕ) → IsChain form own at tail (suc n) k → IsChain form own at2 key (suc (suc n)) k
   unfolding IsChain
@@ -101,15 +101,15 @@ module _ {X A : Type 0} (form : Form X A) (own : X → Type 0) (to : ℕ → X �
   longer_items zero k a =
       let x : X = a.0 in
       let here : k ≡ tail = a.3.1 refl in
-      chain-more form at2 1 k (to key x) (ap at2 here ∙ h.led x (ap at (sym here) ∙ a.1))
+      chain_more form at2 1 k (to key x) (ap at2 here ∙ h.led x (ap at (sym here) ∙ a.1))
       ∙ ap₂ (λ (i : A) (l : List A). i ∷ l) (leads.item k key x) (ap (chain form at2 1) (leads.next key x) ∙ alone_items)
-      ∙ ap (λ (l : List A). form.item k x ∷ l ++ form.item key new ∷ []) (sym (chain-none form at (form.next x)))
-      ∙ ap (λ (l : List A). l ++ form.item key new ∷ []) (sym (chain-more form at 0 k x a.1))
+      ∙ ap (λ (l : List A). form.item k x ∷ l ++ form.item key new ∷ []) (sym (chain_none form at (form.next x)))
+      ∙ ap (λ (l : List A). l ++ form.item key new ∷ []) (sym (chain_more form at 0 k x a.1))
   longer_items (suc n) k a =
       let x : X = a.0 in
-      chain-more form at2 (suc (suc n)) k x (h.same k (λ e. absurd (omega (arith, a.3.0 e))) (taken_key k x a.1) ∙ a.1)
+      chain_more form at2 (suc (suc n)) k x (h.same k (λ e. absurd (omega (arith, a.3.0 e))) (taken_key k x a.1) ∙ a.1)
       ∙ ap (λ (l : List A). form.item k x ∷ l) (longer_items n (form.next x) a.4)
-      ∙ ap (λ (l : List A). l ++ form.item key new ∷ []) (sym (chain-more form at (suc n) k x a.1))
+      ∙ ap (λ (l : List A). l ++ form.item key new ∷ []) (sym (chain_more form at (suc n) k x a.1))
 
 -- ---- the first taken out, or written anew
 
@@ -139,11 +139,11 @@ module _ {X A : Type 0} (form : Form X A) (own : X → Type 0) (at at2 : ℕ →
   shorter = kept form own at at2 tail n (form.next x) rest_linked behind
 
   pub shorter_items : chain form at (suc n) k ≡ form.item k x ∷ chain form at2 n (form.next x)
-  shorter_items = chain-more form at n k x read ∙ ap (λ (l : List A). form.item k x ∷ l) (sym (kept_items form own at at2 tail n (form.next x) rest_linked behind))
+  shorter_items = chain_more form at n k x read ∙ ap (λ (l : List A). form.item k x ∷ l) (sym (kept_items form own at at2 tail n (form.next x) rest_linked behind))
 
   pub rewritten : (y : X) → at2 k ≡ Some y → own y → form.next y ≡ form.next x → IsChain form own at2 tail (suc n) k
   unfolding IsChain
   rewritten y stored mine next = (y, stored, mine, a.3, subst (IsChain form own at2 tail n) (sym next) shorter)
 
   pub rewritten_items : (y : X) → at2 k ≡ Some y → form.next y ≡ form.next x → chain form at2 (suc n) k ≡ form.item k y ∷ chain form at2 n (form.next x)
-  rewritten_items y stored next = chain-more form at2 n k y stored ∙ ap (λ (j : ℕ). form.item k y ∷ chain form at2 n j) next
+  rewritten_items y stored next = chain_more form at2 n k y stored ∙ ap (λ (j : ℕ). form.item k y ∷ chain form at2 n j) next

@@ -25,13 +25,13 @@ contains_front x k queue before h =
     subst (λ (l : List Stamped). Contains l x) (take-append-drop k queue)
     (Contains-append_left (take k queue) (drop k queue) x (subst (λ (l : List Stamped). Contains l x) (sym h) (Contains-push before x)))
 
-lost-is : (s : FqState) (packet : Descriptor) (now : ℕ) → (let a = appended s packet now in lost_by_put s packet now ≡ take (overflow a) (queue_of a.flows (fattest a.flows)))
+lost_is : (s : FqState) (packet : Descriptor) (now : ℕ) → (let a = appended s packet now in lost_by_put s packet now ≡ take (overflow a) (queue_of a.flows (fattest a.flows)))
 unfolding shed
-lost-is s packet now = refl
+lost_is s packet now = refl
 
-itself-is : (s : FqState) (packet : Descriptor) (now : ℕ) → (let a = appended s packet now in is_lost_itself s packet now ≡ ((fattest a.flows == flow_of s packet) && nat_le (count (queue_of a.flows (flow_of s packet))) (overflow a)))
+itself_is : (s : FqState) (packet : Descriptor) (now : ℕ) → (let a = appended s packet now in is_lost_itself s packet now ≡ ((fattest a.flows == flow_of s packet) && nat_le (count (queue_of a.flows (flow_of s packet))) (overflow a)))
 unfolding is_lost_itself
-itself-is s packet now = refl
+itself_is s packet now = refl
 
 flows-appended : (s : FqState) (packet : Descriptor) (now : ℕ) → (appended s packet now).flows ≡ adjust (joined (record { packet = packet; at = now })) (flow_of s packet) s.flows
 unfolding appended
@@ -59,17 +59,17 @@ module _ (s : FqState) (packet : Descriptor) (now : ℕ) (within : flow_of s pac
   lost_parts : is_lost_itself s packet now ≡ true → (fattest a.flows ≡ n) × (count (queue_of a.flows n) ≤ overflow a)
   unfolding n a
   lost_parts h =
-      let parts = and_parts (fattest a.flows == n) (nat_le (count (queue_of a.flows n)) (overflow a)) (sym (itself-is s packet now) ∙ h) in
+      let parts = and_parts (fattest a.flows == n) (nat_le (count (queue_of a.flows n)) (overflow a)) (sym (itself_is s packet now) ∙ h) in
       (eqb-true (fattest a.flows) n parts.0, leb-true (count (queue_of a.flows n)) (overflow a) parts.1)
 
   lost_from : fattest a.flows ≡ n → count (queue_of a.flows n) ≤ overflow a → is_lost_itself s packet now ≡ true
   unfolding n a
   lost_from same all =
-      itself-is s packet now ∙ and_from (fattest a.flows == n) (nat_le (count (queue_of a.flows n)) (overflow a)) (eq-eqb (fattest a.flows) n same) (le-leb _ _ all)
+      itself_is s packet now ∙ and_from (fattest a.flows == n) (nat_le (count (queue_of a.flows n)) (overflow a)) (eq-eqb (fattest a.flows) n same) (le-leb _ _ all)
 
   lost_all : fattest a.flows ≡ n → lost_by_put s packet now ≡ take (overflow a) (queue_of s.flows n ++ newcomer ∷ [])
   unfolding a
-  lost_all same = lost-is s packet now ∙ ap (λ (q : List Stamped). take (overflow a) q) (ap (queue_of a.flows) same ∙ own)
+  lost_all same = lost_is s packet now ∙ ap (λ (q : List Stamped). take (overflow a) q) (ap (queue_of a.flows) same ∙ own)
 
   count_own : count (queue_of a.flows n) ≡ count (queue_of s.flows n) + 1
   count_own = omega (arith, ap count own, length-append (queue_of s.flows n) (newcomer ∷ []))
@@ -103,7 +103,7 @@ module _ (s : FqState) (packet : Descriptor) (now : ℕ) (within : flow_of s pac
       (λ (other : fattest a.flows ≢ n).
       absurd (new (contains_all newcomer (fattest a.flows) s.flows
       (contains_front newcomer (overflow a) (queue_of s.flows (fattest a.flows)) before
-      (ap (take (overflow a)) (sym (others (fattest a.flows) other)) ∙ sym (lost-is s packet now) ∙ last)))))
+      (ap (take (overflow a)) (sym (others (fattest a.flows) other)) ∙ sym (lost_is s packet now) ∙ last)))))
       (cases_eq (fattest a.flows) n)
 
 pub lost_by_place : LostByPlace

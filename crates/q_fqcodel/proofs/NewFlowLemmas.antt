@@ -16,13 +16,13 @@ use Rattle.q_fqcodel.specs.Put.{flow_of, is_listed, joined, appended}
 use Rattle.q_fqcodel.specs.Take.{selected, flow_after, front, sent_from, paid, after_sending}
 use Rattle.q_fqcodel.specs.NewFlow.{HasCredits, IsNew, served, served_before, BecomesNew, NewBeforeOld}
 use Rattle.q_fqcodel.specs.Entry.{Entry}
-use Rattle.q_fqcodel.proofs.QuantaLemmas.{need-none}
+use Rattle.q_fqcodel.proofs.QuantaLemmas.{need_none}
 use Rattle.q_fqcodel.proofs.SelectionLemmas.{first_passes}
-use Rattle.q_fqcodel.proofs.LawfulLemmas.{times-cons, times-append, one-own}
-use Rattle.q_fqcodel.proofs.LawLemmas.{queues-clear, appended-packets}
+use Rattle.q_fqcodel.proofs.LawfulLemmas.{times-cons, times-append, one_own}
+use Rattle.q_fqcodel.proofs.LawLemmas.{queues-clear, packets_of-appended}
 use Rattle.q_fqcodel.proofs.FlowLemmas.{idle_in}
-use Rattle.q_fqcodel.proofs.PutLemmas.{other_queue, own_some, listed-yes, cut-none}
-use Rattle.q_fqcodel.proofs.SentLemmas.{after-new_flows, flow-paid}
+use Rattle.q_fqcodel.proofs.PutLemmas.{other_queue, own_some, listed_yes, cut_none}
+use Rattle.q_fqcodel.proofs.SentLemmas.{after_new_flows, flow-paid}
 
 -- of each entry
 abbrev Each : (ℕ → Type 0) → List Entry → Type 0
@@ -48,7 +48,7 @@ ready_of P q n idle busy (e ∷ es) each has =
     (λ (w : (first_ready q idle (e ∷ es) ≡ suc (first_ready q idle es)) × ((idle e.flow ≡ false → need q e ≡ 0 → ⊥))).
     subst (λ (p : ℕ). Ready P n (drop p (e ∷ es))) (sym w.0)
     (ready_of P q n idle busy es each.1
-    (⊎_elim (λ (h : (e.flow ≡ n) × (pos 0 <ℤ e.credits)). absurd (w.1 (ap idle h.0 ∙ busy) (need-none q e h.1))) (λ (h : HasCredits n es). h) has)))
+    (⊎_elim (λ (h : (e.flow ≡ n) × (pos 0 <ℤ e.credits)). absurd (w.1 (ap idle h.0 ∙ busy) (need_none q e h.1))) (λ (h : HasCredits n es). h) has)))
     (first_passes q idle e es)
 
 -- the new list once the flow that sends is in front
@@ -61,12 +61,12 @@ selected-queues : (s : FqState) → queues (selected s).flows ≡ queues s.flows
 unfolding selected
 selected-queues s = queues-clear (λ (_ : Stamped). 0) (arranged s.settings.quantum (is_idle s.flows) s.new_flows s.old_flows).gone s.flows
 
-front-is : (s : FqState) (e : Entry) (es : List Entry) → s.new_flows ≡ e ∷ es → front s ≡ Some e
+front_is : (s : FqState) (e : Entry) (es : List Entry) → s.new_flows ≡ e ∷ es → front s ≡ Some e
 unfolding front
-front-is s e es h = ap (λ (l : List Entry). slice_get (l ++ s.old_flows) 0) h
+front_is s e es h = ap (λ (l : List Entry). slice_get (l ++ s.old_flows) 0) h
 
-served-step : (n m : ℕ) (P : ℕ → Type 0) (rest : List ℕ) → P m → (m ≢ n → All P (served_before n rest)) → All P (served_before n (m ∷ rest))
-served-step n m P rest good more =
+served_step : (n m : ℕ) (P : ℕ → Type 0) (rest : List ℕ) → P m → (m ≢ n → All P (served_before n rest)) → All P (served_before n (m ∷ rest))
+served_step n m P rest good more =
     ⊎_elim
     (λ (own : m ≡ n). subst (All P) (sym (cond-true (m == n) [] (m ∷ served_before n rest) (eq-eqb m n own))) (All-nil P))
     (λ (other : m ≢ n). subst (All P) (sym (cond-false (m == n) [] (m ∷ served_before n rest) (ne_eqb m n other))) (All-cons P m (served_before n rest) good (more other)))
@@ -75,7 +75,7 @@ served-step n m P rest good more =
 -- as long as n has not sent, it stays new
 stays_new : (n now : ℕ) (s : FqState) (e : Entry) (es : List Entry) → (selected s).new_flows ≡ e ∷ es → is_idle s.flows n ≡ false → n ≢ e.flow → is_idle (after_sending now (selected s)).flows n ≡ false
 stays_new n now s e es at busy other =
-    ap (λ (x : FqState). is_idle x.flows n) (after-new_flows (selected s) e es now at)
+    ap (λ (x : FqState). is_idle x.flows n) (after_new_flows (selected s) e es now at)
     ∙ ap (λ (l : List Stamped). nat_eq (count l) 0) (other_queue (flow_after now) e.flow n (selected s).flows other)
     ∙ ap (λ (l : List (List Stamped)). idle_in l n) (selected-queues s)
     ∙ busy
@@ -89,10 +89,10 @@ goes_on P n (now ∷ nows) s each has busy =
     let at : (selected s).new_flows ≡ e ∷ es = selected-new_flows s e es r.is in
     let t : FqState = after_sending now (selected s) in
     let m : Entry = paid (sent_from now (selected s)) e in
-    let new_flows : t.new_flows ≡ m ∷ es = ap (λ (x : FqState). x.new_flows) (after-new_flows (selected s) e es now at) in
-    let first : served (now ∷ nows) s ≡ e.flow ∷ served nows t = ap (λ (o : Option Entry). map (λ (e : Entry). e.flow) (option_to_list o) ++ served nows t) (front-is (selected s) e es at) in
+    let new_flows : t.new_flows ≡ m ∷ es = ap (λ (x : FqState). x.new_flows) (after_new_flows (selected s) e es now at) in
+    let first : served (now ∷ nows) s ≡ e.flow ∷ served nows t = ap (λ (o : Option Entry). map (λ (e : Entry). e.flow) (option_to_list o) ++ served nows t) (front_is (selected s) e es at) in
     subst (λ (l : List ℕ). All P (served_before n l)) (sym first)
-    (served-step n e.flow P (served nows t) r.good
+    (served_step n e.flow P (served nows t) r.good
     (λ other.
     goes_on P n nows t
     (subst (Each P) (sym new_flows) (subst P (sym (flow-paid (sent_from now (selected s)) e)) r.good, r.others))
@@ -103,7 +103,7 @@ goes_on P n (now ∷ nows) s each has busy =
 each_new : (old_flows new_flows : List Entry) → ((n : ℕ) → times n new_flows + times n old_flows ≤ 1) → Each (λ m. is_listed m old_flows ≡ false) new_flows
 each_new old_flows [] once = tt
 each_new old_flows (e ∷ es) once = (
-  false_from_ne_true (is_listed e.flow old_flows) (λ listed. absurd (omega (arith, once e.flow, times-cons e.flow e es, one-own e, listed-yes e.flow old_flows listed))),
+  false_from_ne_true (is_listed e.flow old_flows) (λ listed. absurd (omega (arith, once e.flow, times-cons e.flow e es, one_own e, listed_yes e.flow old_flows listed))),
   each_new old_flows es (λ n. omega (arith, once n, times-cons n e es)),
 )
 
@@ -135,5 +135,5 @@ pub becomes_new : BecomesNew
 becomes_new s packet now lawful positive within absent under =
     let n : ℕ = flow_of s packet in
     let there : n < length s.flows = omega (arith, within, lawful.each_flow) in
-    subst (IsNew n) (sym (cut-none (appended s packet now) (omega (arith, under, appended-packets s packet now there, ap (λ (x : FqSettings). x.limit) (appended-settings s packet now)))))
+    subst (IsNew n) (sym (cut_none (appended s packet now) (omega (arith, under, packets_of-appended s packet now there, ap (λ (x : FqSettings). x.limit) (appended-settings s packet now)))))
     (becomes_new' s packet now positive there absent)

@@ -8,28 +8,28 @@ use Rattle.slab.proofs.SlabLemmas.{ContainsKey-within, Updates-with_value}
 use Rattle.q_fqcodel.specs.Linked.{chain}
 use Rattle.q_fqcodel.specs.Nodes.{NodesState, spares, beside, IsSpare, used, IsNodes}
 use Rattle.q_fqcodel.specs.declared.node.Node.{Node}
-use Rattle.q_fqcodel.proofs.LinkedLemmas.{chain-none, chain-more}
+use Rattle.q_fqcodel.proofs.LinkedLemmas.{chain_none, chain_more}
 
 -- ---- the nodes but for some
 
-beside-own : (k : ℕ) (ks : List ℕ) (at : ℕ → Option Node) → beside (k ∷ ks) at k ≡ None
+beside_own : (k : ℕ) (ks : List ℕ) (at : ℕ → Option Node) → beside (k ∷ ks) at k ≡ None
 unfolding beside
-beside-own k ks at = cond-true (k == k) None (beside ks at k) (eq-eqb k k refl)
+beside_own k ks at = cond-true (k == k) None (beside ks at k) (eq-eqb k k refl)
 
-beside-other : (k : ℕ) (ks : List ℕ) (at : ℕ → Option Node) (j : ℕ) → j ≢ k → beside (k ∷ ks) at j ≡ beside ks at j
+beside_other : (k : ℕ) (ks : List ℕ) (at : ℕ → Option Node) (j : ℕ) → j ≢ k → beside (k ∷ ks) at j ≡ beside ks at j
 unfolding beside
-beside-other k ks at j ne = cond-false (j == k) None (beside ks at j) (ne_eqb j k ne)
+beside_other k ks at j ne = cond-false (j == k) None (beside ks at j) (ne_eqb j k ne)
 
-beside-none : (at : ℕ → Option Node) (j : ℕ) → beside [] at j ≡ at j
+beside_none : (at : ℕ → Option Node) (j : ℕ) → beside [] at j ≡ at j
 unfolding beside
-beside-none at j = refl
+beside_none at j = refl
 
 beside_apart : (k : ℕ) (ks : List ℕ) (at : ℕ → Option Node) (j : ℕ) (x : Node) → beside (k ∷ ks) at j ≡ Some x → j ≢ k
-beside_apart k ks at j x there e = let p : Some x ≡ None = sym there ∙ ap (beside (k ∷ ks) at) e ∙ beside-own k ks at in absurd cc
+beside_apart k ks at j x there e = let p : Some x ≡ None = sym there ∙ ap (beside (k ∷ ks) at) e ∙ beside_own k ks at in absurd cc
 
 beside_there : (ks : List ℕ) (at : ℕ → Option Node) (j : ℕ) (x : Node) → beside ks at j ≡ Some x → at j ≡ Some x
-beside_there [] at j x there = sym (beside-none at j) ∙ there
-beside_there (k ∷ ks) at j x there = beside_there ks at j x (sym (beside-other k ks at j (beside_apart k ks at j x there)) ∙ there)
+beside_there [] at j x there = sym (beside_none at j) ∙ there
+beside_there (k ∷ ks) at j x there = beside_there ks at j x (sym (beside_other k ks at j (beside_apart k ks at j x there)) ∙ there)
 
 beside_same : (ks : List ℕ) (at at2 : ℕ → Option Node) (j : ℕ) → at2 j ≡ at j → beside ks at2 j ≡ beside ks at j
 unfolding beside
@@ -37,27 +37,27 @@ beside_same [] at at2 j same = same
 beside_same (k ∷ ks) at at2 j same = ap (λ (o : Option Node). if j == k then None else o) (beside_same ks at at2 j same)
 
 beside_written : (ks : List ℕ) (at at2 : ℕ → Option Node) (j : ℕ) (x y : Node) → beside ks at j ≡ Some x → at2 j ≡ Some y → beside ks at2 j ≡ Some y
-beside_written [] at at2 j x y there now = beside-none at2 j ∙ now
+beside_written [] at at2 j x y there now = beside_none at2 j ∙ now
 beside_written (k ∷ ks) at at2 j x y there now =
     let apart : j ≢ k = beside_apart k ks at j x there in
-    beside-other k ks at2 j apart ∙ beside_written ks at at2 j x y (sym (beside-other k ks at j apart) ∙ there) now
+    beside_other k ks at2 j apart ∙ beside_written ks at at2 j x y (sym (beside_other k ks at j apart) ∙ there) now
 
 -- ---- a used node is written
 
 spares_kept : (at at2 : ℕ → Option Node) (t : ℕ) (y : Node) → ((j : ℕ) → j ≢ t → at2 j ≡ at j) → (n key : ℕ) → IsSpare at n key → beside (chain spares at n key) at t ≡ Some y
     → (chain spares at2 n key ≡ chain spares at n key) × IsSpare at2 n key
 unfolding IsSpare
-spares_kept at at2 t y same zero key a seen = (chain-none spares at2 key ∙ sym (chain-none spares at key), tt)
+spares_kept at at2 t y same zero key a seen = (chain_none spares at2 key ∙ sym (chain_none spares at key), tt)
 spares_kept at at2 t y same (suc n) key a seen =
     let x : Node = a.0 in
     let ks : List ℕ = chain spares at n x.next in
     let there : at key ≡ Some x = beside_there ks at key x a.1 in
-    let more : chain spares at (suc n) key ≡ key ∷ ks = chain-more spares at n key x there in
+    let more : chain spares at (suc n) key ≡ key ∷ ks = chain_more spares at n key x there in
     let shown : beside (key ∷ ks) at t ≡ Some y = subst (λ (l : List ℕ). beside l at t ≡ Some y) more seen in
     let apart : t ≢ key = beside_apart key ks at t y shown in
-    let rest = spares_kept at at2 t y same n x.next a.2 (sym (beside-other key ks at t apart) ∙ shown) in
+    let rest = spares_kept at at2 t y same n x.next a.2 (sym (beside_other key ks at t apart) ∙ shown) in
     let stays : at2 key ≡ at key = same key (λ e. apart (sym e)) in (
-      chain-more spares at2 n key x (stays ∙ there) ∙ ap (λ (l : List ℕ). key ∷ l) rest.0 ∙ sym more,
+      chain_more spares at2 n key x (stays ∙ there) ∙ ap (λ (l : List ℕ). key ∷ l) rest.0 ∙ sym more,
       (x, ap (λ (l : List ℕ). beside l at2 key) rest.0 ∙ beside_same ks at at2 key stays ∙ a.1, rest.1),
     )
 
@@ -79,7 +79,7 @@ module _ (at at2 : ℕ → Option Node) (n key : ℕ) (x : Node) (there : at key
   claimed_spare = kept.1
 
   claimed_vacant : beside (chain spares at (suc n) key) at key ≡ None
-  claimed_vacant = ap (λ (l : List ℕ). beside l at key) (chain-more spares at n key x there) ∙ beside-own key behind at
+  claimed_vacant = ap (λ (l : List ℕ). beside l at key) (chain_more spares at n key x there) ∙ beside_own key behind at
 
   claimed_stored : (y : Node) → at2 key ≡ Some y → beside (chain spares at2 n x.next) at2 key ≡ Some y
   claimed_stored y now = ap (λ (l : List ℕ). beside l at2 key) kept.0 ∙ beside_written behind at at2 key x y seen now
@@ -88,8 +88,8 @@ module _ (at at2 : ℕ → Option Node) (n key : ℕ) (x : Node) (there : at key
   claimed_same j ne =
       ap (λ (l : List ℕ). beside l at2 j) kept.0
       ∙ beside_same behind at at2 j (same j ne)
-      ∙ sym (beside-other key behind at j ne)
-      ∙ sym (ap (λ (l : List ℕ). beside l at j) (chain-more spares at n key x there))
+      ∙ sym (beside_other key behind at j ne)
+      ∙ sym (ap (λ (l : List ℕ). beside l at j) (chain_more spares at n key x there))
 
 module _ (at at2 : ℕ → Option Node) (n head key : ℕ) (x y : Node) (rest : IsSpare at n head) (seen : beside (chain spares at n head) at key ≡ Some x) (now : at2 key ≡ Some y) (same : (j : ℕ) → j ≢ key → at2 j ≡ at j) where
   before : (chain spares at2 n head ≡ chain spares at n head) × IsSpare at2 n head
@@ -116,8 +116,8 @@ module _ (at at2 : ℕ → Option Node) (n head key : ℕ) (x y : Node) (rest : 
 
     vacated_same : (j : ℕ) → j ≢ key → beside (chain spares at2 (suc n) key) at2 j ≡ beside (chain spares at n head) at j
     vacated_same j ne =
-        ap (λ (l : List ℕ). beside l at2 j) (chain-more spares at2 n key y now)
-        ∙ beside-other key (chain spares at2 n y.next) at2 j ne
+        ap (λ (l : List ℕ). beside l at2 j) (chain_more spares at2 n key y now)
+        ∙ beside_other key (chain spares at2 n y.next) at2 j ne
         ∙ ap (λ (l : List ℕ). beside l at2 j) led_back
         ∙ beside_same (chain spares at n head) at at2 j (same j ne)
 
@@ -145,8 +145,8 @@ pub used_all : (s : NodesState) → slab_len s.slab ≤ s.count → (j : ℕ) �
 used_all s all j =
     let none : slab_len s.slab - s.count ≡ 0 = omega (arith, all) in
     ap (λ (m : ℕ). beside (chain spares (get s.slab) m s.spare) (get s.slab) j) none
-    ∙ ap (λ (l : List ℕ). beside l (get s.slab) j) (chain-none spares (get s.slab) s.spare)
-    ∙ beside-none (get s.slab) j
+    ∙ ap (λ (l : List ℕ). beside l (get s.slab) j) (chain_none spares (get s.slab) s.spare)
+    ∙ beside_none (get s.slab) j
 
 no_spare : (at : ℕ → Option Node) (key : ℕ) → IsSpare at 0 key
 unfolding IsSpare

@@ -11,18 +11,18 @@ use Rattle.q_fqcodel.specs.Pool.{no_list, queues_in, packets_in, bytes_in, IsPoo
 use Rattle.q_fqcodel.specs.declared.node.Node.{Node}
 use Rattle.q_fqcodel.specs.declared.flow_list.FlowList.{FlowList}
 use Rattle.q_fqcodel.proofs.ChainLemmas.{counted, few_bytes, enough_bytes}
-use Rattle.q_fqcodel.proofs.LinkedLemmas.{chain-none, kept_items}
+use Rattle.q_fqcodel.proofs.LinkedLemmas.{chain_none, kept_items}
 
-pub length-queues : (at : ℕ → Option Node) (lists : List FlowList) → length (queues_in at lists) ≡ length lists
+pub length-queues_in : (at : ℕ → Option Node) (lists : List FlowList) → length (queues_in at lists) ≡ length lists
 unfolding queues_in
-length-queues at [] = refl
-length-queues at (l ∷ ls) = ap suc (length-queues at ls)
+length-queues_in at [] = refl
+length-queues_in at (l ∷ ls) = ap suc (length-queues_in at ls)
 
 -- the queue of one flow
 pub queue_at : (at : ℕ → Option Node) (lists : List FlowList) (n : ℕ) → get_or (queues_in at lists) n [] ≡ queue_in at (get_or lists n no_list)
 unfolding queues_in
-queue_at at [] zero = sym (chain-none packets at 0)
-queue_at at [] (suc n) = sym (chain-none packets at 0)
+queue_at at [] zero = sym (chain_none packets at 0)
+queue_at at [] (suc n) = sym (chain_none packets at 0)
 queue_at at (l ∷ ls) zero = refl
 queue_at at (l ∷ ls) (suc n) = queue_at at ls n
 
@@ -145,7 +145,7 @@ module _ (at : ℕ → Option Node) (nodes : ℕ) (lists : List FlowList) (bytes
     bytes_read = list_read.bytes ∙ ap size queue_read
 
     pub none_read : l.count ≡ 0 → get_or qs n [] ≡ []
-    none_read none = sym queue_read ∙ ap (λ (m : ℕ). chain packets at m l.head) none ∙ chain-none packets at l.head
+    none_read none = sym queue_read ∙ ap (λ (m : ℕ). chain packets at m l.head) none ∙ chain_none packets at l.head
 
     pub some_read : l.count ≢ 0 → n < length lists
     some_read some =
@@ -157,7 +157,7 @@ module _ (at : ℕ → Option Node) (nodes : ℕ) (lists : List FlowList) (bytes
     packets_read = ap packets_in (sym same) ∙ packets_pooled
 
     pub within_read : n < length qs → n < length lists
-    within_read h = omega (arith, h, ap length same, length-queues at lists)
+    within_read h = omega (arith, h, ap length same, length-queues_in at lists)
 
     pub few_read : l.count ≤ nodes
     few_read = omega (arith, count_le at nodes lists bytes pool n, ap (λ (m : FlowList). m.count) read)
@@ -167,11 +167,11 @@ module _ (at : ℕ → Option Node) (nodes : ℕ) (lists : List FlowList) (bytes
 pub queues_first : (at : ℕ → Option Node) (n : ℕ) → queues_in at (replicate n no_list) ≡ replicate n []
 unfolding queues_in
 queues_first at zero = refl
-queues_first at (suc n) = ap₂ (λ (q : List Stamped) (qs : List (List Stamped)). q ∷ qs) (chain-none packets at 0) (queues_first at n)
+queues_first at (suc n) = ap₂ (λ (q : List Stamped) (qs : List (List Stamped)). q ∷ qs) (chain_none packets at 0) (queues_first at n)
 
 no_list_at : (at : ℕ → Option Node) (w n : ℕ) → IsList at w n no_list
 unfolding IsChain
-no_list_at at w n = record { linked = tt; bytes = sym (ap size (chain-none packets at 0)) }
+no_list_at at w n = record { linked = tt; bytes = sym (ap size (chain_none packets at 0)) }
 
 nothing_at : (m n : ℕ) → get_or (replicate n no_list) m no_list ≡ no_list
 nothing_at zero zero = refl

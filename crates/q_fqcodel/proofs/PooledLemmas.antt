@@ -11,11 +11,11 @@ use Rattle.q_fqcodel.specs.Cleared.{adjust}
 use Rattle.q_fqcodel.specs.FqState.{Flow, queue_of, packets_of, bytes_of}
 use Rattle.q_fqcodel.specs.Pool.{packets_in, bytes_in, sizes, flows_from, codels_in, cleared}
 
-pub length-flows : (qs : List (List Stamped)) (cs : List CodelState) → length qs ≡ length cs → length (flows_from qs cs) ≡ length cs
+pub length-flows_from : (qs : List (List Stamped)) (cs : List CodelState) → length qs ≡ length cs → length (flows_from qs cs) ≡ length cs
 unfolding flows_from
-length-flows [] cs e = e
-length-flows (q ∷ qs) [] e = refl
-length-flows (q ∷ qs) (c ∷ cs) e = ap suc (length-flows qs cs (omega (arith, e)))
+length-flows_from [] cs e = e
+length-flows_from (q ∷ qs) [] e = refl
+length-flows_from (q ∷ qs) (c ∷ cs) e = ap suc (length-flows_from qs cs (omega (arith, e)))
 
 -- the flow with this index
 pub flow_there : (n : ℕ) (qs : List (List Stamped)) (cs : List CodelState) (d : CodelState) → length qs ≡ length cs → n < length cs → slice_get (flows_from qs cs) n ≡ Some (record { queue = get_or qs n []; codel = get_or cs n d })
@@ -81,13 +81,13 @@ total_is total (q ∷ qs) (c ∷ cs) e =
       total_is total qs cs (omega (arith, e)),
     )
 
-pub packets-pooled : (qs : List (List Stamped)) (cs : List CodelState) → length qs ≡ length cs → packets_of (flows_from qs cs) ≡ packets_in qs
+pub packets_pooled : (qs : List (List Stamped)) (cs : List CodelState) → length qs ≡ length cs → packets_of (flows_from qs cs) ≡ packets_in qs
 unfolding packets_of packets_in
-packets-pooled qs cs e = total_is (λ (q : List Stamped). count q) qs cs e
+packets_pooled qs cs e = total_is (λ (q : List Stamped). count q) qs cs e
 
-pub bytes-pooled : (qs : List (List Stamped)) (cs : List CodelState) → length qs ≡ length cs → bytes_of (flows_from qs cs) ≡ bytes_in qs
+pub bytes_pooled : (qs : List (List Stamped)) (cs : List CodelState) → length qs ≡ length cs → bytes_of (flows_from qs cs) ≡ bytes_in qs
 unfolding bytes_of bytes_in
-bytes-pooled qs cs e = total_is (λ (q : List Stamped). size q) qs cs e
+bytes_pooled qs cs e = total_is (λ (q : List Stamped). size q) qs cs e
 
 -- the flow that a read of its CoDel state finds
 pub flow_read : (n : ℕ) (qs : List (List Stamped)) (cs : List CodelState) (codel : CodelState) (fs : List Flow) → length qs ≡ length cs → n < length cs → codel ≡ get_or cs n codel → flows_from qs cs ≡ fs
@@ -116,10 +116,10 @@ sizes-set [] n q = refl
 sizes-set (x ∷ xs) zero q = refl
 sizes-set (x ∷ xs) (suc n) q = ap (λ (l : List ℕ). size x ∷ l) (sizes-set xs n q)
 
-pub sizes-first : (n : ℕ) → sizes (replicate n []) ≡ replicate n 0
+pub sizes_first : (n : ℕ) → sizes (replicate n []) ≡ replicate n 0
 unfolding sizes
-sizes-first zero = refl
-sizes-first (suc n) = ap (λ (l : List ℕ). 0 ∷ l) (sizes-first n)
+sizes_first zero = refl
+sizes_first (suc n) = ap (λ (l : List ℕ). 0 ∷ l) (sizes_first n)
 
 -- one queue was written, and its flow's bytes were told
 pub sizes_renewed : (qs new : List (List Stamped)) (n : ℕ) (q : List Stamped) (ws : List ℕ) (bytes : ℕ) → new ≡ set qs n q → n < length qs → ws ≡ set (sizes qs) n bytes → bytes ≡ size (get_or new n []) → ws ≡ sizes new
@@ -138,10 +138,10 @@ flow_with (q ∷ qs) (suc n) h = omega (arith, flow_with qs n h)
 
 -- ---- CoDel's settings apart from each flow's state
 
-pub length-codels : (p : CodelParams) (vs : List CodelVars) → length (codels_in p vs) ≡ length vs
+pub length-codels_in : (p : CodelParams) (vs : List CodelVars) → length (codels_in p vs) ≡ length vs
 unfolding codels_in
-length-codels p [] = refl
-length-codels p (v ∷ vs) = ap suc (length-codels p vs)
+length-codels_in p [] = refl
+length-codels_in p (v ∷ vs) = ap suc (length-codels_in p vs)
 
 pub codel_at : (p : CodelParams) (vs : List CodelVars) (n : ℕ) (d : CodelVars) → get_or (codels_in p vs) n (joined p d) ≡ joined p (get_or vs n d)
 unfolding codels_in
@@ -150,11 +150,11 @@ codel_at p [] (suc n) d = refl
 codel_at p (v ∷ vs) zero d = refl
 codel_at p (v ∷ vs) (suc n) d = codel_at p vs n d
 
-pub codels-set : (p : CodelParams) (vs : List CodelVars) (n : ℕ) (v : CodelVars) → codels_in p (set vs n v) ≡ set (codels_in p vs) n (joined p v)
+pub codels_in-set : (p : CodelParams) (vs : List CodelVars) (n : ℕ) (v : CodelVars) → codels_in p (set vs n v) ≡ set (codels_in p vs) n (joined p v)
 unfolding codels_in
-codels-set p [] n v = refl
-codels-set p (x ∷ xs) zero v = refl
-codels-set p (x ∷ xs) (suc n) v = ap (λ (l : List CodelState). joined p x ∷ l) (codels-set p xs n v)
+codels_in-set p [] n v = refl
+codels_in-set p (x ∷ xs) zero v = refl
+codels_in-set p (x ∷ xs) (suc n) v = ap (λ (l : List CodelState). joined p x ∷ l) (codels_in-set p xs n v)
 
 pub codels_first : (p : CodelParams) (n : ℕ) → codels_in p (replicate n vars_at_first) ≡ replicate n (joined p vars_at_first)
 unfolding codels_in

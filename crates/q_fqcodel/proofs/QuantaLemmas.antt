@@ -43,9 +43,9 @@ pub quantum_more : (z : ℤ) (q k : ℕ) → (z +ℤ pos (1 * q)) +ℤ pos (k * 
 quantum_more z q k = let m : suc k * q ≡ k * q + q = suc-mul k q in omega (arith, ints, m)
 
 -- A flow with credits needs no quantum.
-pub need-none : (q : ℕ) (e : Entry) → pos 0 <ℤ e.credits → need q e ≡ 0
+pub need_none : (q : ℕ) (e : Entry) → pos 0 <ℤ e.credits → need q e ≡ 0
 unfolding need
-need-none q e h = cond-true (pays e.credits q 0) _ _ (pays_from e.credits q 0 (omega (arith, ints, h)))
+need_none q e h = cond-true (pays e.credits q 0) _ _ (pays_from e.credits q 0 (omega (arith, ints, h)))
 
 -- how far a flow with -(n + 1) credits is from 0 after one quantum
 abs_more : (n q : ℕ) → q ≤ suc n → unsigned_abs (negsuc n +ℤ pos (1 * q)) + q ≡ suc n
@@ -66,9 +66,9 @@ enough q (negsuc n) h low =
     (cases_lt q (suc (suc n)))
 
 -- A flow without credits needs one quantum more than it does with one.
-pub need-more : (q : ℕ) (e : Entry) → 1 ≤ q → e.credits ≤ℤ pos 0 → need q e ≡ suc (need q (given q 1 e))
+pub need_more : (q : ℕ) (e : Entry) → 1 ≤ q → e.credits ≤ℤ pos 0 → need q e ≡ suc (need q (given q 1 e))
 unfolding need given
-need-more q e h low =
+need_more q e h low =
     let z : ℤ = e.credits in
     let w = enough q z h low in
     cond-false (pays z q 0) _ _ (pays_not z q 0 (omega (arith, ints)))
@@ -76,24 +76,20 @@ need-more q e h low =
     ∙ least_same (λ i. pays z q (suc i)) (pays (z +ℤ pos (1 * q)) q) (suc (unsigned_abs (z +ℤ pos (1 * q))))
     (λ i _. ap (int_lt (pos 0)) (sym (quantum_more z q i))))
 
-pub given-more : (q n : ℕ) (e : Entry) → given q n (given q 1 e) ≡ given q (suc n) e
+pub given_more : (q n : ℕ) (e : Entry) → given q n (given q 1 e) ≡ given q (suc n) e
 unfolding given
-given-more q n e = ap (λ z. record e { credits = z }) (quantum_more e.credits q n)
+given_more q n e = ap (λ z. record e { credits = z }) (quantum_more e.credits q n)
 
-pub given-flow : (q n : ℕ) (e : Entry) → (given q n e).flow ≡ e.flow
+pub given_none : (q : ℕ) (e : Entry) → given q 0 e ≡ e
 unfolding given
-given-flow q n e = refl
-
-pub given-none : (q : ℕ) (e : Entry) → given q 0 e ≡ e
-unfolding given
-given-none q e =
+given_none q e =
     let z : e.credits +ℤ pos (0 * q) ≡ e.credits = omega (arith, ints) in
     ap (λ z. record e { credits = z }) z
 
 -- an entry with one quantum more
-pub given-is : (q : ℕ) (e : Entry) (z : ℤ) → z ≡ e.credits +ℤ pos q → record { flow = e.flow; credits = z } ≡ given q 1 e
+pub given_is : (q : ℕ) (e : Entry) (z : ℤ) → z ≡ e.credits +ℤ pos q → record { flow = e.flow; credits = z } ≡ given q 1 e
 unfolding given
-given-is q e z h = let w : z ≡ e.credits +ℤ pos (1 * q) = omega (arith, ints, h) in ap (λ (z : ℤ). record e { credits = z }) w
+given_is q e z h = let w : z ≡ e.credits +ℤ pos (1 * q) = omega (arith, ints, h) in ap (λ (z : ℤ). record e { credits = z }) w
 
 pub flow-given : (q n : ℕ) (e : Entry) → (given q n e).flow ≡ e.flow
 unfolding given
@@ -112,21 +108,21 @@ leave-append q n xs ys =
     ap (map (λ (e : Entry). e.flow)) (filter-append (λ e. nat_lt (need q e) n) xs ys) ∙ map-append (λ (e : Entry). e.flow) _ _
 
 -- one entry
-pub stay-kept : (q n : ℕ) (e : Entry) (es : List Entry) → n ≤ need q e → stay q n (e ∷ es) ≡ given q n e ∷ stay q n es
+pub stay_kept : (q n : ℕ) (e : Entry) (es : List Entry) → n ≤ need q e → stay q n (e ∷ es) ≡ given q n e ∷ stay q n es
 unfolding stay
-stay-kept q n e es h = ap (map (given q n)) (cond-true (nat_le n (need q e)) _ _ (le-leb _ _ h))
+stay_kept q n e es h = ap (map (given q n)) (cond-true (nat_le n (need q e)) _ _ (le-leb _ _ h))
 
-pub stay-dropped : (q n : ℕ) (e : Entry) (es : List Entry) → need q e < n → stay q n (e ∷ es) ≡ stay q n es
+pub stay_dropped : (q n : ℕ) (e : Entry) (es : List Entry) → need q e < n → stay q n (e ∷ es) ≡ stay q n es
 unfolding stay
-stay-dropped q n e es h = ap (map (given q n)) (cond-false (nat_le n (need q e)) _ _ (lt-leb _ _ h))
+stay_dropped q n e es h = ap (map (given q n)) (cond-false (nat_le n (need q e)) _ _ (lt-leb _ _ h))
 
-pub leave-kept : (q n : ℕ) (e : Entry) (es : List Entry) → n ≤ need q e → leave q n (e ∷ es) ≡ leave q n es
+pub leave_kept : (q n : ℕ) (e : Entry) (es : List Entry) → n ≤ need q e → leave q n (e ∷ es) ≡ leave q n es
 unfolding leave
-leave-kept q n e es h = ap (map (λ (e : Entry). e.flow)) (cond-false (nat_lt (need q e) n) _ _ (le-ltb _ _ h))
+leave_kept q n e es h = ap (map (λ (e : Entry). e.flow)) (cond-false (nat_lt (need q e) n) _ _ (le-ltb _ _ h))
 
-pub leave-dropped : (q n : ℕ) (e : Entry) (es : List Entry) → need q e < n → leave q n (e ∷ es) ≡ e.flow ∷ leave q n es
+pub leave_dropped : (q n : ℕ) (e : Entry) (es : List Entry) → need q e < n → leave q n (e ∷ es) ≡ e.flow ∷ leave q n es
 unfolding leave
-leave-dropped q n e es h = ap (map (λ (e : Entry). e.flow)) (cond-true (nat_lt (need q e) n) _ _ (lt-ltb _ _ h))
+leave_dropped q n e es h = ap (map (λ (e : Entry). e.flow)) (cond-true (nat_lt (need q e) n) _ _ (lt-ltb _ _ h))
 
 pub stay-nil : (q n : ℕ) → stay q n [] ≡ []
 unfolding stay
@@ -137,36 +133,36 @@ unfolding leave
 leave-nil q n = refl
 
 -- n + 1 visits of a flow are n of the flow with one quantum, where it needs one
-pub stay-shift : (q n : ℕ) (e : Entry) → 1 ≤ q → e.credits ≤ℤ pos 0 → stay q (suc n) (e ∷ []) ≡ stay q n (given q 1 e ∷ [])
-stay-shift q n e h low =
-    let k : need q e ≡ suc (need q (given q 1 e)) = need-more q e h low in
+pub stay_shift : (q n : ℕ) (e : Entry) → 1 ≤ q → e.credits ≤ℤ pos 0 → stay q (suc n) (e ∷ []) ≡ stay q n (given q 1 e ∷ [])
+stay_shift q n e h low =
+    let k : need q e ≡ suc (need q (given q 1 e)) = need_more q e h low in
     ⊎_elim
     (λ (few : need q (given q 1 e) < n).
-    stay-dropped q (suc n) e [] (omega arith) ∙ stay-nil q (suc n) ∙ sym (stay-nil q n) ∙ sym (stay-dropped q n (given q 1 e) [] few))
+    stay_dropped q (suc n) e [] (omega arith) ∙ stay-nil q (suc n) ∙ sym (stay-nil q n) ∙ sym (stay_dropped q n (given q 1 e) [] few))
     (λ (more : n ≤ need q (given q 1 e)).
-    stay-kept q (suc n) e [] (omega arith)
-    ∙ ap₂ (λ (a : Entry) (l : List Entry). a ∷ l) (sym (given-more q n e)) (stay-nil q (suc n) ∙ sym (stay-nil q n))
-    ∙ sym (stay-kept q n (given q 1 e) [] more))
+    stay_kept q (suc n) e [] (omega arith)
+    ∙ ap₂ (λ (a : Entry) (l : List Entry). a ∷ l) (sym (given_more q n e)) (stay-nil q (suc n) ∙ sym (stay-nil q n))
+    ∙ sym (stay_kept q n (given q 1 e) [] more))
     (cases_lt (need q (given q 1 e)) n)
 
-pub leave-shift : (q n : ℕ) (e : Entry) → 1 ≤ q → e.credits ≤ℤ pos 0 → leave q (suc n) (e ∷ []) ≡ leave q n (given q 1 e ∷ [])
-leave-shift q n e h low =
-    let k : need q e ≡ suc (need q (given q 1 e)) = need-more q e h low in
+pub leave_shift : (q n : ℕ) (e : Entry) → 1 ≤ q → e.credits ≤ℤ pos 0 → leave q (suc n) (e ∷ []) ≡ leave q n (given q 1 e ∷ [])
+leave_shift q n e h low =
+    let k : need q e ≡ suc (need q (given q 1 e)) = need_more q e h low in
     ⊎_elim
     (λ (few : need q (given q 1 e) < n).
-    leave-dropped q (suc n) e [] (omega arith)
+    leave_dropped q (suc n) e [] (omega arith)
     ∙ ap₂ (λ (a : ℕ) (l : List ℕ). a ∷ l) (sym (flow-given q 1 e)) (leave-nil q (suc n) ∙ sym (leave-nil q n))
-    ∙ sym (leave-dropped q n (given q 1 e) [] few))
+    ∙ sym (leave_dropped q n (given q 1 e) [] few))
     (λ (more : n ≤ need q (given q 1 e)).
-    leave-kept q (suc n) e [] (omega arith) ∙ leave-nil q (suc n) ∙ sym (leave-nil q n) ∙ sym (leave-kept q n (given q 1 e) [] more))
+    leave_kept q (suc n) e [] (omega arith) ∙ leave-nil q (suc n) ∙ sym (leave-nil q n) ∙ sym (leave_kept q n (given q 1 e) [] more))
     (cases_lt (need q (given q 1 e)) n)
 
 -- no visit changes nothing
-pub stay-none : (q : ℕ) (es : List Entry) → stay q 0 es ≡ es
-stay-none q [] = stay-nil q 0
-stay-none q (e ∷ es) =
-    stay-kept q 0 e es (omega arith) ∙ ap₂ (λ (a : Entry) (l : List Entry). a ∷ l) (given-none q e) (stay-none q es)
+pub stay_none : (q : ℕ) (es : List Entry) → stay q 0 es ≡ es
+stay_none q [] = stay-nil q 0
+stay_none q (e ∷ es) =
+    stay_kept q 0 e es (omega arith) ∙ ap₂ (λ (a : Entry) (l : List Entry). a ∷ l) (given_none q e) (stay_none q es)
 
-pub leave-none : (q : ℕ) (es : List Entry) → leave q 0 es ≡ []
-leave-none q [] = leave-nil q 0
-leave-none q (e ∷ es) = leave-kept q 0 e es (omega arith) ∙ leave-none q es
+pub leave_none : (q : ℕ) (es : List Entry) → leave q 0 es ≡ []
+leave_none q [] = leave-nil q 0
+leave_none q (e ∷ es) = leave_kept q 0 e es (omega arith) ∙ leave_none q es

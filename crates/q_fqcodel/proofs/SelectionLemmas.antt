@@ -6,11 +6,11 @@ use Rattle.std.proofs.lemmas.List.{length-map, map-append, drop-append-le, take-
 use Rattle.q_fqcodel.specs.Cleared.{adjust, clear}
 use Rattle.q_fqcodel.specs.Quanta.{need, given, stay, leave}
 use Rattle.q_packet.specs.Choice.{Choice, later, sooner, choose}
-use Rattle.q_packet.proofs.ChoiceLemmas.{sooner-none, sooner-le, sooner-gt, sooner-first, last_one, last-le, last-gt, choose-if, choose-end_if, choose-within}
+use Rattle.q_packet.proofs.ChoiceLemmas.{sooner_none, sooner-le, sooner-gt, sooner_first, last_one, last_one-le, last_one-gt, choose_if, choose_end_if, choose_within}
 use Rattle.q_fqcodel.specs.Selection.{Lists, chosen, turned, first_ready, moved, with_rest, arranged}
 use Rattle.q_fqcodel.specs.Entry.{Entry}
-use Rattle.q_fqcodel.proofs.ClearedLemmas.{clear-middle, clear-cons}
-use Rattle.q_fqcodel.proofs.QuantaLemmas.{need-more, flow-given, stay-append, leave-append, stay-dropped, leave-kept, leave-dropped, stay-nil, leave-nil, stay-shift, leave-shift, stay-none, leave-none}
+use Rattle.q_fqcodel.proofs.ClearedLemmas.{clear_middle, clear-cons}
+use Rattle.q_fqcodel.proofs.QuantaLemmas.{need_more, flow-given, stay-append, leave-append, stay_dropped, leave_kept, leave_dropped, stay-nil, leave-nil, stay_shift, leave_shift, stay_none, leave_none}
 
 -- ---- the choice
 
@@ -20,23 +20,23 @@ needs q idle es = map (λ (e : Entry). cond (idle e.flow) None (Some (need q e))
 -- one flow more in front
 pub chosen-cons : (q : ℕ) (idle : ℕ → Bool) (e : Entry) (es : List Entry) → chosen q idle (e ∷ es) ≡ cond (idle e.flow) (later (chosen q idle es)) (Some (sooner (need q e) (chosen q idle es)))
 unfolding chosen needs
-chosen-cons q idle e es = choose-if (idle e.flow) (need q e) (needs q idle es)
+chosen-cons q idle e es = choose_if (idle e.flow) (need q e) (needs q idle es)
 
 -- one flow more at the end
-chosen-end : (q : ℕ) (idle : ℕ → Bool) (es : List Entry) (x : Entry) → chosen q idle (es ++ x ∷ []) ≡ cond (idle x.flow) (chosen q idle es) (Some (last_one (need q x) (length es) (chosen q idle es)))
+chosen_end : (q : ℕ) (idle : ℕ → Bool) (es : List Entry) (x : Entry) → chosen q idle (es ++ x ∷ []) ≡ cond (idle x.flow) (chosen q idle es) (Some (last_one (need q x) (length es) (chosen q idle es)))
 unfolding chosen needs
-chosen-end q idle es x =
+chosen_end q idle es x =
     ap choose (map-append (λ (e : Entry). cond (idle e.flow) None (Some (need q e))) es (x ∷ []))
-    ∙ choose-end_if (idle x.flow) (need q x) (needs q idle es)
+    ∙ choose_end_if (idle x.flow) (need q x) (needs q idle es)
     ∙ ap (λ (n : ℕ). cond (idle x.flow) (choose (needs q idle es)) (Some (last_one (need q x) n (choose (needs q idle es)))))
     (length-map es (λ (e : Entry). cond (idle e.flow) None (Some (need q e))))
 
 -- a choice stands within its list
-pub chosen-within : (q : ℕ) (idle : ℕ → Bool) (es : List Entry) → IfSome (chosen q idle es) (λ c. c.place < length es)
+pub chosen_within : (q : ℕ) (idle : ℕ → Bool) (es : List Entry) → IfSome (chosen q idle es) (λ c. c.place < length es)
 unfolding chosen needs
-chosen-within q idle es =
+chosen_within q idle es =
     subst (λ (n : ℕ). IfSome (choose (needs q idle es)) (λ (c : Choice). c.place < n))
-    (length-map es (λ (e : Entry). cond (idle e.flow) None (Some (need q e)))) (choose-within (needs q idle es))
+    (length-map es (λ (e : Entry). cond (idle e.flow) None (Some (need q e)))) (choose_within (needs q idle es))
 
 -- ---- one turn of the old list
 
@@ -46,13 +46,13 @@ pub record Agree {F : Type 0} (r : F → F) (fs gs : List F) (a b : Lists) : Typ
   pub old_flows : a.old_flows ≡ b.old_flows
   pub flows : clear r a.gone fs ≡ clear r b.gone gs
 
-turned-some : (q : ℕ) (es : List Entry) (c : Choice) → turned q es (Some c) ≡ record {
+turned_some : (q : ℕ) (es : List Entry) (c : Choice) → turned q es (Some c) ≡ record {
   new_flows = [];
   old_flows = stay q c.rounds (drop c.place es) ++ stay q (suc c.rounds) (take c.place es);
   gone = leave q c.rounds (drop c.place es) ++ leave q (suc c.rounds) (take c.place es);
 }
 unfolding turned
-turned-some q es c = refl
+turned_some q es c = refl
 
 -- lists that are equal as records
 pub same_lists : {F : Type 0} (r : F → F) (flows : List F) (a b : Lists) → a ≡ b → Agree r flows flows a b
@@ -89,116 +89,116 @@ module _ {X : Type 0} (f : ℕ → List Entry → List X) (e m : Entry) (es : Li
 
 module _ {F : Type 0} (r : F → F) (q : ℕ) (positive : 1 ≤ q) (e : Entry) (low : e.credits ≤ℤ pos 0) (es : List Entry) where
   -- one of those behind is chosen
-  granted-behind : (c : Choice) → c.place < length es → (flows : List F)
+  granted_behind : (c : Choice) → c.place < length es → (flows : List F)
       → turned q (e ∷ es) (Some (record { rounds = c.rounds; place = suc c.place })) ≡ turned q (es ++ given q 1 e ∷ []) (Some c)
   unfolding last
-  granted-behind c within flows =
-      turned-some q (e ∷ es) (record { rounds = c.rounds; place = suc c.place })
+  granted_behind c within flows =
+      turned_some q (e ∷ es) (record { rounds = c.rounds; place = suc c.place })
       ∙ ap₂ (λ (s : List Entry) (g : List ℕ). record { new_flows = []; old_flows = s; gone = g })
-      (one_behind (stay q) e (given q 1 e) es (stay-nil q) (stay-append q) (λ n. stay-shift q n e positive low) c.rounds c.place within)
-      (one_behind (leave q) e (given q 1 e) es (leave-nil q) (leave-append q) (λ n. leave-shift q n e positive low) c.rounds c.place within)
-      ∙ sym (turned-some q (es ++ given q 1 e ∷ []) c)
+      (one_behind (stay q) e (given q 1 e) es (stay-nil q) (stay-append q) (λ n. stay_shift q n e positive low) c.rounds c.place within)
+      (one_behind (leave q) e (given q 1 e) es (leave-nil q) (leave-append q) (λ n. leave_shift q n e positive low) c.rounds c.place within)
+      ∙ sym (turned_some q (es ++ given q 1 e ∷ []) c)
 
   -- the one that got the quantum is chosen, now from the end
-  granted-front : (k : ℕ)
+  granted_front : (k : ℕ)
       → turned q (e ∷ es) (Some (record { rounds = suc k; place = 0 })) ≡ turned q (es ++ given q 1 e ∷ []) (Some (record { rounds = k; place = length es }))
   unfolding last
-  granted-front k =
-      turned-some q (e ∷ es) (record { rounds = suc k; place = 0 })
+  granted_front k =
+      turned_some q (e ∷ es) (record { rounds = suc k; place = 0 })
       ∙ ap₂ (λ (s : List Entry) (g : List ℕ). record { new_flows = []; old_flows = s; gone = g })
-      (the_front (stay q) e (given q 1 e) es (stay-nil q) (stay-append q) (λ n. stay-shift q n e positive low) k)
-      (the_front (leave q) e (given q 1 e) es (leave-nil q) (leave-append q) (λ n. leave-shift q n e positive low) k)
-      ∙ sym (turned-some q (es ++ given q 1 e ∷ []) (record { rounds = k; place = length es }))
+      (the_front (stay q) e (given q 1 e) es (stay-nil q) (stay-append q) (λ n. stay_shift q n e positive low) k)
+      (the_front (leave q) e (given q 1 e) es (leave-nil q) (leave-append q) (λ n. leave_shift q n e positive low) k)
+      ∙ sym (turned_some q (es ++ given q 1 e ∷ []) (record { rounds = k; place = length es }))
 
   -- nobody is chosen
-  granted-none : (flows : List F) → Agree r flows flows (turned q (e ∷ es) None) (turned q (es ++ given q 1 e ∷ []) None)
+  granted_none : (flows : List F) → Agree r flows flows (turned q (e ∷ es) None) (turned q (es ++ given q 1 e ∷ []) None)
   unfolding turned
-  granted-none flows = record {
+  granted_none flows = record {
     new_flows = refl;
     old_flows = refl;
     flows =
         clear-cons r e.flow (map (λ (e : Entry). e.flow) es) flows
         ∙ ap (λ (l : List ℕ). clear r l (adjust r e.flow flows)) (sym (append-nil (map (λ (e : Entry). e.flow) es)))
-        ∙ sym (clear-middle r (map (λ (e : Entry). e.flow) es) e.flow [] flows)
+        ∙ sym (clear_middle r (map (λ (e : Entry). e.flow) es) e.flow [] flows)
         ∙ ap (λ (n : ℕ). clear r (map (λ (e : Entry). e.flow) es ++ n ∷ []) flows) (sym (flow-given q 1 e))
         ∙ ap (λ (l : List ℕ). clear r l flows) (sym (map-append (λ (e : Entry). e.flow) es (given q 1 e ∷ [])));
   }
 
   -- with a choice o from those behind, and the one in front empty or not
-  granted-idle : (o : Option Choice) → IfSome o (λ c. c.place < length es) → (flows : List F)
+  granted_idle : (o : Option Choice) → IfSome o (λ c. c.place < length es) → (flows : List F)
       → Agree r flows flows (turned q (e ∷ es) (later o)) (turned q (es ++ given q 1 e ∷ []) o)
-  granted-idle None within flows = granted-none flows
-  granted-idle (Some c) within flows = same_lists r flows _ _ (granted-behind c within flows)
+  granted_idle None within flows = granted_none flows
+  granted_idle (Some c) within flows = same_lists r flows _ _ (granted_behind c within flows)
 
-  granted-busy : (k : ℕ) (o : Option Choice) → IfSome o (λ c. c.place < length es) → (flows : List F)
+  granted_busy : (k : ℕ) (o : Option Choice) → IfSome o (λ c. c.place < length es) → (flows : List F)
       → turned q (e ∷ es) (Some (sooner (suc k) o)) ≡ turned q (es ++ given q 1 e ∷ []) (Some (last_one k (length es) o))
-  granted-busy k None within flows =
-      ap (λ (c : Choice). turned q (e ∷ es) (Some c)) (sooner-none (suc k)) ∙ granted-front k
-  granted-busy k (Some c) within flows =
+  granted_busy k None within flows =
+      ap (λ (c : Choice). turned q (e ∷ es) (Some c)) (sooner_none (suc k)) ∙ granted_front k
+  granted_busy k (Some c) within flows =
       ⊎_elim
       (λ (behind : c.rounds < suc k).
       ap (λ (c : Choice). turned q (e ∷ es) (Some c)) (sooner-gt (suc k) c behind)
-      ∙ granted-behind c within flows
-      ∙ ap (λ (c : Choice). turned q (es ++ given q 1 e ∷ []) (Some c)) (sym (last-le k (length es) c (omega arith))))
+      ∙ granted_behind c within flows
+      ∙ ap (λ (c : Choice). turned q (es ++ given q 1 e ∷ []) (Some c)) (sym (last_one-le k (length es) c (omega arith))))
       (λ (front : suc k ≤ c.rounds).
       ap (λ (c : Choice). turned q (e ∷ es) (Some c)) (sooner-le (suc k) c front)
-      ∙ granted-front k
-      ∙ ap (λ (c : Choice). turned q (es ++ given q 1 e ∷ []) (Some c)) (sym (last-gt k (length es) c (omega arith))))
+      ∙ granted_front k
+      ∙ ap (λ (c : Choice). turned q (es ++ given q 1 e ∷ []) (Some c)) (sym (last_one-gt k (length es) c (omega arith))))
       (cases_lt c.rounds (suc k))
 
   granted_if : (b : Bool) (o : Option Choice) → IfSome o (λ c. c.place < length es) → (flows : List F)
       → Agree r flows flows (turned q (e ∷ es) (cond b (later o) (Some (sooner (need q e) o))))
       (turned q (es ++ given q 1 e ∷ []) (cond b o (Some (last_one (need q (given q 1 e)) (length es) o))))
-  granted_if true o within flows = granted-idle o within flows
+  granted_if true o within flows = granted_idle o within flows
   granted_if false o within flows =
       same_lists r flows _ _
-      (ap (λ (n : ℕ). turned q (e ∷ es) (Some (sooner n o))) (need-more q e positive low)
-      ∙ granted-busy (need q (given q 1 e)) o within flows)
+      (ap (λ (n : ℕ). turned q (e ∷ es) (Some (sooner n o))) (need_more q e positive low)
+      ∙ granted_busy (need q (given q 1 e)) o within flows)
 
   -- A flow in front without credits gets a quantum and goes to the end.
-  pub turned-granted : (idle : ℕ → Bool) (flows : List F)
+  pub turned_granted : (idle : ℕ → Bool) (flows : List F)
       → Agree r flows flows (turned q (e ∷ es) (chosen q idle (e ∷ es))) (turned q (es ++ given q 1 e ∷ []) (chosen q idle (es ++ given q 1 e ∷ [])))
-  turned-granted idle flows =
+  turned_granted idle flows =
       let last : Entry = given q 1 e in
       let o : Option Choice = chosen q idle es in
       let at_end : chosen q idle (es ++ last ∷ []) ≡ cond (idle e.flow) o (Some (last_one (need q last) (length es) o)) =
-      chosen-end q idle es last ∙ ap (λ (n : ℕ). cond (idle n) o (Some (last_one (need q last) (length es) o))) (flow-given q 1 e) in
+      chosen_end q idle es last ∙ ap (λ (n : ℕ). cond (idle n) o (Some (last_one (need q last) (length es) o))) (flow-given q 1 e) in
       subst₂ (λ (a b : Option Choice). Agree r flows flows (turned q (e ∷ es) a) (turned q (es ++ last ∷ []) b))
-      (sym (chosen-cons q idle e es)) (sym at_end) (granted_if (idle e.flow) o (chosen-within q idle es) flows)
+      (sym (chosen-cons q idle e es)) (sym at_end) (granted_if (idle e.flow) o (chosen_within q idle es) flows)
 
 -- An empty flow in front with credits leaves.
-leaves-some : {F : Type 0} (r : F → F) (q : ℕ) (e : Entry) (es : List Entry) → need q e ≡ 0 → (o : Option Choice) → (flows : List F)
+leaves_some : {F : Type 0} (r : F → F) (q : ℕ) (e : Entry) (es : List Entry) → need q e ≡ 0 → (o : Option Choice) → (flows : List F)
     → Agree r flows (adjust r e.flow flows) (turned q (e ∷ es) (later o)) (turned q es o)
 unfolding turned
-leaves-some r q e es ready None flows = record { new_flows = refl; old_flows = refl; flows = clear-cons r e.flow (map (λ (e : Entry). e.flow) es) flows }
-leaves-some r q e es ready (Some c) flows = record {
+leaves_some r q e es ready None flows = record { new_flows = refl; old_flows = refl; flows = clear-cons r e.flow (map (λ (e : Entry). e.flow) es) flows }
+leaves_some r q e es ready (Some c) flows = record {
   new_flows = refl;
-  old_flows = ap (λ (l : List Entry). stay q c.rounds (drop c.place es) ++ l) (stay-dropped q (suc c.rounds) e (take c.place es) (omega arith));
+  old_flows = ap (λ (l : List Entry). stay q c.rounds (drop c.place es) ++ l) (stay_dropped q (suc c.rounds) e (take c.place es) (omega arith));
   flows =
-      ap (λ (l : List ℕ). clear r (leave q c.rounds (drop c.place es) ++ l) flows) (leave-dropped q (suc c.rounds) e (take c.place es) (omega arith))
-      ∙ clear-middle r (leave q c.rounds (drop c.place es)) e.flow (leave q (suc c.rounds) (take c.place es)) flows;
+      ap (λ (l : List ℕ). clear r (leave q c.rounds (drop c.place es) ++ l) flows) (leave_dropped q (suc c.rounds) e (take c.place es) (omega arith))
+      ∙ clear_middle r (leave q c.rounds (drop c.place es)) e.flow (leave q (suc c.rounds) (take c.place es)) flows;
 }
 
-pub turned-leaves : {F : Type 0} (r : F → F) (q : ℕ) (e : Entry) (es : List Entry) → need q e ≡ 0 → (idle : ℕ → Bool) → idle e.flow ≡ true → (flows : List F)
+pub turned_leaves : {F : Type 0} (r : F → F) (q : ℕ) (e : Entry) (es : List Entry) → need q e ≡ 0 → (idle : ℕ → Bool) → idle e.flow ≡ true → (flows : List F)
     → Agree r flows (adjust r e.flow flows) (turned q (e ∷ es) (chosen q idle (e ∷ es))) (turned q es (chosen q idle es))
-turned-leaves r q e es ready idle empty flows =
+turned_leaves r q e es ready idle empty flows =
     subst (λ (o : Option Choice). Agree r flows (adjust r e.flow flows) (turned q (e ∷ es) o) (turned q es (chosen q idle es)))
     (sym (chosen-cons q idle e es ∙ cond-true (idle e.flow) (later (chosen q idle es)) (Some (sooner (need q e) (chosen q idle es))) empty))
-    (leaves-some r q e es ready (chosen q idle es) flows)
+    (leaves_some r q e es ready (chosen q idle es) flows)
 
 -- A flow in front with credits and a packet is the one.
-pub turned-ready : (q : ℕ) (e : Entry) (es : List Entry) → need q e ≡ 0 → (idle : ℕ → Bool) → idle e.flow ≡ false
+pub turned_ready : (q : ℕ) (e : Entry) (es : List Entry) → need q e ≡ 0 → (idle : ℕ → Bool) → idle e.flow ≡ false
     → turned q (e ∷ es) (chosen q idle (e ∷ es)) ≡ record { new_flows = []; old_flows = e ∷ es; gone = [] }
-turned-ready q e es ready idle busy =
+turned_ready q e es ready idle busy =
     ap (turned q (e ∷ es))
     (chosen-cons q idle e es
     ∙ cond-false (idle e.flow) (later (chosen q idle es)) (Some (sooner (need q e) (chosen q idle es))) busy
     ∙ ap (λ (n : ℕ). Some (sooner n (chosen q idle es))) ready
-    ∙ ap (λ (c : Choice). Some c) (sooner-first (chosen q idle es)))
-    ∙ turned-some q (e ∷ es) (record { rounds = 0; place = 0 })
+    ∙ ap (λ (c : Choice). Some c) (sooner_first (chosen q idle es)))
+    ∙ turned_some q (e ∷ es) (record { rounds = 0; place = 0 })
     ∙ ap₂ (λ (s : List Entry) (g : List ℕ). record { new_flows = []; old_flows = s; gone = g })
-    (ap₂ (λ (a b : List Entry). a ++ b) (stay-none q (e ∷ es)) (stay-nil q 1) ∙ append-nil (e ∷ es))
-    (ap₂ (λ (a b : List ℕ). a ++ b) (leave-none q (e ∷ es)) (leave-nil q 1))
+    (ap₂ (λ (a b : List Entry). a ++ b) (stay_none q (e ∷ es)) (stay-nil q 1) ∙ append-nil (e ∷ es))
+    (ap₂ (λ (a b : List ℕ). a ++ b) (leave_none q (e ∷ es)) (leave-nil q 1))
 
 -- ---- one turn of the new list
 
@@ -217,44 +217,44 @@ skip_if : (i z : Bool) (n : ℕ) → z ≡ false → cond i (suc n) (cond z zero
 skip_if true z n h = refl
 skip_if false z n h = cond-false z zero (suc n) h
 
-first-short : (q : ℕ) (idle : ℕ → Bool) (e : Entry) (es : List Entry) (n : ℕ) → need q e ≡ suc n → first_ready q idle (e ∷ es) ≡ suc (first_ready q idle es)
+first_short : (q : ℕ) (idle : ℕ → Bool) (e : Entry) (es : List Entry) (n : ℕ) → need q e ≡ suc n → first_ready q idle (e ∷ es) ≡ suc (first_ready q idle es)
 unfolding first_ready
-first-short q idle e es n k = skip_if (idle e.flow) (need q e == 0) (first_ready q idle es) (ne_eqb (need q e) 0 (λ z. absurd (omega (arith, k, z))))
+first_short q idle e es n k = skip_if (idle e.flow) (need q e == 0) (first_ready q idle es) (ne_eqb (need q e) 0 (λ z. absurd (omega (arith, k, z))))
 
-first-idle : (q : ℕ) (idle : ℕ → Bool) (e : Entry) (es : List Entry) → idle e.flow ≡ true → first_ready q idle (e ∷ es) ≡ suc (first_ready q idle es)
+first_idle : (q : ℕ) (idle : ℕ → Bool) (e : Entry) (es : List Entry) → idle e.flow ≡ true → first_ready q idle (e ∷ es) ≡ suc (first_ready q idle es)
 unfolding first_ready
-first-idle q idle e es empty = cond-true (idle e.flow) _ _ empty
+first_idle q idle e es empty = cond-true (idle e.flow) _ _ empty
 
-pub first-ready : (q : ℕ) (idle : ℕ → Bool) (e : Entry) (es : List Entry) → need q e ≡ 0 → idle e.flow ≡ false → first_ready q idle (e ∷ es) ≡ 0
+pub first_ready_zero : (q : ℕ) (idle : ℕ → Bool) (e : Entry) (es : List Entry) → need q e ≡ 0 → idle e.flow ≡ false → first_ready q idle (e ∷ es) ≡ 0
 unfolding first_ready
-first-ready q idle e es ready busy = cond-false (idle e.flow) _ _ busy ∙ cond-true (need q e == 0) zero (suc (first_ready q idle es)) (eq-eqb _ _ ready)
+first_ready_zero q idle e es ready busy = cond-false (idle e.flow) _ _ busy ∙ cond-true (need q e == 0) zero (suc (first_ready q idle es)) (eq-eqb _ _ ready)
 
 pub first_passes : (q : ℕ) (idle : ℕ → Bool) (e : Entry) (es : List Entry)
     → (first_ready q idle (e ∷ es) ≡ 0) ⊎ ((first_ready q idle (e ∷ es) ≡ suc (first_ready q idle es)) × (idle e.flow ≡ false → need q e ≡ 0 → ⊥))
 first_passes q idle e es =
     ⊎_elim
-    (λ (empty : idle e.flow ≡ true). inr (first-idle q idle e es empty, λ busy ready. true≢false (sym empty ∙ busy)))
+    (λ (empty : idle e.flow ≡ true). inr (first_idle q idle e es empty, λ busy ready. true≢false (sym empty ∙ busy)))
     (λ (busy : idle e.flow ≡ false).
     ⊎_elim
-    (λ (ready : need q e ≡ 0). inl (first-ready q idle e es ready busy))
+    (λ (ready : need q e ≡ 0). inl (first_ready_zero q idle e es ready busy))
     (λ (short : need q e ≡ 0 → ⊥).
     let n : ℕ = need q e - 1 in
     let k : need q e ≡ suc n = omega (arith, short) in
-    inr (first-short q idle e es n k, λ _ ready. short ready))
+    inr (first_short q idle e es n k, λ _ ready. short ready))
     (cases_eq (need q e) 0))
     (cases_Bool (idle e.flow))
 
-moved-short : (q : ℕ) (e : Entry) (n : ℕ) → need q e ≡ suc n → moved q e ≡ given q 1 e
+moved_short : (q : ℕ) (e : Entry) (n : ℕ) → need q e ≡ suc n → moved q e ≡ given q 1 e
 unfolding moved
-moved-short q e n k = cond-false (need q e == 0) e (given q 1 e) (ne_eqb (need q e) 0 (λ z. absurd (omega (arith, k, z))))
+moved_short q e n k = cond-false (need q e == 0) e (given q 1 e) (ne_eqb (need q e) 0 (λ z. absurd (omega (arith, k, z))))
 
-moved-ready : (q : ℕ) (e : Entry) → need q e ≡ 0 → moved q e ≡ e
+moved_ready : (q : ℕ) (e : Entry) → need q e ≡ 0 → moved q e ≡ e
 unfolding moved
-moved-ready q e ready = cond-true (need q e == 0) e (given q 1 e) (eq-eqb _ _ ready)
+moved_ready q e ready = cond-true (need q e == 0) e (given q 1 e) (eq-eqb _ _ ready)
 
-arranged-at : (q : ℕ) (idle : ℕ → Bool) (new_flows old_flows : List Entry) (p : ℕ) → first_ready q idle new_flows ≡ p → arranged q idle new_flows old_flows ≡ arranged_at q idle new_flows old_flows p
+arranged_is : (q : ℕ) (idle : ℕ → Bool) (new_flows old_flows : List Entry) (p : ℕ) → first_ready q idle new_flows ≡ p → arranged q idle new_flows old_flows ≡ arranged_at q idle new_flows old_flows p
 unfolding arranged arranged_at
-arranged-at q idle new_flows old_flows p h = ap (arranged_at q idle new_flows old_flows) h
+arranged_is q idle new_flows old_flows p h = ap (arranged_at q idle new_flows old_flows) h
 
 -- the lists where the flow in front of the new one is passed over, and goes to the old one as m
 passed : (q : ℕ) (idle : ℕ → Bool) (e m : Entry) (es old_flows : List Entry) (p : ℕ) → moved q e ≡ m
@@ -268,35 +268,35 @@ passed q idle e m es old_flows p h =
     ap (λ (l : List Entry). let rest = with_rest q idle (drop p es) l in record rest { gone = leave q 1 ((e ∷ []) ++ take p es) ++ rest.gone }) l
 
 -- A new flow without credits gets a quantum and goes to the end of the old list.
-pub arranged-granted : (q : ℕ) (idle : ℕ → Bool) (e : Entry) (es old_flows : List Entry) → 1 ≤ q → e.credits ≤ℤ pos 0
+pub arranged_granted : (q : ℕ) (idle : ℕ → Bool) (e : Entry) (es old_flows : List Entry) → 1 ≤ q → e.credits ≤ℤ pos 0
     → arranged q idle (e ∷ es) old_flows ≡ arranged q idle es (old_flows ++ given q 1 e ∷ [])
 unfolding arranged_at
-arranged-granted q idle e es old_flows positive low =
+arranged_granted q idle e es old_flows positive low =
     let n : ℕ = need q (given q 1 e) in
-    let k : need q e ≡ suc n = need-more q e positive low in
+    let k : need q e ≡ suc n = need_more q e positive low in
     let p : ℕ = first_ready q idle es in
-    arranged-at q idle (e ∷ es) old_flows (suc p) (first-short q idle e es n k)
-    ∙ passed q idle e (given q 1 e) es old_flows p (moved-short q e n k)
+    arranged_is q idle (e ∷ es) old_flows (suc p) (first_short q idle e es n k)
+    ∙ passed q idle e (given q 1 e) es old_flows p (moved_short q e n k)
     ∙ ap (λ (g : List ℕ). let rest = with_rest q idle (drop p es) ((old_flows ++ given q 1 e ∷ []) ++ map (moved q) (take p es)) in record rest { gone = g ++ rest.gone })
-    (leave-kept q 1 e (take p es) (omega arith))
-    ∙ sym (arranged-at q idle es (old_flows ++ given q 1 e ∷ []) p refl)
+    (leave_kept q 1 e (take p es) (omega arith))
+    ∙ sym (arranged_is q idle es (old_flows ++ given q 1 e ∷ []) p refl)
 
 -- An empty new flow with credits goes to the end of the old list.
-pub arranged-moves : (q : ℕ) (idle : ℕ → Bool) (e : Entry) (es old_flows : List Entry) → need q e ≡ 0 → idle e.flow ≡ true
+pub arranged_moves : (q : ℕ) (idle : ℕ → Bool) (e : Entry) (es old_flows : List Entry) → need q e ≡ 0 → idle e.flow ≡ true
     → arranged q idle (e ∷ es) old_flows ≡ (let a = arranged q idle es (old_flows ++ e ∷ []) in record a { gone = e.flow ∷ a.gone })
 unfolding arranged_at
-arranged-moves q idle e es old_flows ready empty =
+arranged_moves q idle e es old_flows ready empty =
     let p : ℕ = first_ready q idle es in
-    arranged-at q idle (e ∷ es) old_flows (suc p) (first-idle q idle e es empty)
-    ∙ passed q idle e e es old_flows p (moved-ready q e ready)
+    arranged_is q idle (e ∷ es) old_flows (suc p) (first_idle q idle e es empty)
+    ∙ passed q idle e e es old_flows p (moved_ready q e ready)
     ∙ ap (λ (g : List ℕ). let rest = with_rest q idle (drop p es) ((old_flows ++ e ∷ []) ++ map (moved q) (take p es)) in record rest { gone = g ++ rest.gone })
-    (leave-dropped q 1 e (take p es) (omega arith))
-    ∙ ap (λ (a : Lists). record a { gone = e.flow ∷ a.gone }) (sym (arranged-at q idle es (old_flows ++ e ∷ []) p refl))
+    (leave_dropped q 1 e (take p es) (omega arith))
+    ∙ ap (λ (a : Lists). record a { gone = e.flow ∷ a.gone }) (sym (arranged_is q idle es (old_flows ++ e ∷ []) p refl))
 
 -- A new flow with credits and a packet is the one.
-pub arranged-ready : (q : ℕ) (idle : ℕ → Bool) (e : Entry) (es old_flows : List Entry) → need q e ≡ 0 → idle e.flow ≡ false
+pub arranged_ready : (q : ℕ) (idle : ℕ → Bool) (e : Entry) (es old_flows : List Entry) → need q e ≡ 0 → idle e.flow ≡ false
     → arranged q idle (e ∷ es) old_flows ≡ record { new_flows = e ∷ es; old_flows = old_flows; gone = [] }
 unfolding arranged_at with_rest
-arranged-ready q idle e es old_flows ready busy =
-    arranged-at q idle (e ∷ es) old_flows 0 (first-ready q idle e es ready busy)
+arranged_ready q idle e es old_flows ready busy =
+    arranged_is q idle (e ∷ es) old_flows 0 (first_ready_zero q idle e es ready busy)
     ∙ ap₂ (λ (l : List Entry) (g : List ℕ). record { new_flows = e ∷ es; old_flows = l; gone = g ++ [] }) (append-nil old_flows) (leave-nil q 1)

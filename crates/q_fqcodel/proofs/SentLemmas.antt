@@ -12,8 +12,8 @@ use Rattle.q_fqcodel.specs.FqState.{Flow, FqState}
 use Rattle.q_fqcodel.specs.Take.{packet_sent, packets_dropped, flow_after, front, sender, sent_from, dropped_from, paid, with_sent, after_sending}
 use Rattle.q_fqcodel.specs.Entry.{Entry}
 
-drops-empty : (s : CodelState) (now : ℕ) → drops s now [] ≡ 0
-drops-empty s now = empty_if s.dropping
+drops_empty : (s : CodelState) (now : ℕ) → drops s now [] ≡ 0
+drops_empty s now = empty_if s.dropping
   where
     empty_if : (b : Bool) → cond b zero zero ≡ zero
     empty_if true = refl
@@ -30,7 +30,7 @@ mapped_some f (Some x) h = h
 
 -- no more are dropped than the flow has
 pub drops_within : (s : CodelState) (now : ℕ) (q : List Stamped) → (0 < count q → IsSome (taken s now q)) → drops s now q ≤ count q
-drops_within s now [] some = omega (arith, drops-empty s now)
+drops_within s now [] some = omega (arith, drops_empty s now)
 drops_within s now (x ∷ xs) some =
     let within : drops s now (x ∷ xs) < length (x ∷ xs) = slice_within (x ∷ xs) (drops s now (x ∷ xs)) (mapped_some _ (slice_get (x ∷ xs) (drops s now (x ∷ xs))) (some (omega arith))) in
     omega (arith, within)
@@ -68,19 +68,19 @@ slice_there (x ∷ xs) zero h = refl
 slice_there (x ∷ xs) (suc n) h = slice_there xs n (omega arith)
 
 -- the sender is the flow of the entry in front
-pub sender-is : (s : FqState) (e : Entry) (rest : List Entry) → s.new_flows ++ s.old_flows ≡ e ∷ rest → sender s ≡ slice_get s.flows e.flow
+pub sender_found : (s : FqState) (e : Entry) (rest : List Entry) → s.new_flows ++ s.old_flows ≡ e ∷ rest → sender s ≡ slice_get s.flows e.flow
 unfolding sender front
-sender-is s e rest h = ap (λ (l : List Entry). option_and_then (λ (e : Entry). slice_get s.flows e.flow) (slice_get l 0)) h
+sender_found s e rest h = ap (λ (l : List Entry). option_and_then (λ (e : Entry). slice_get s.flows e.flow) (slice_get l 0)) h
 
 sent_of : (now : ℕ) (o : Option Flow) (r : Option Taken) → IsSome o → IfSome o (λ f. r ≡ packet_sent now f) → option_and_then (packet_sent now) o ≡ r
 sent_of now None r some h = absurd cc
 sent_of now (Some f) r some h = sym h
 
-pub sent-is : (s : FqState) (e : Entry) (rest : List Entry) (now : ℕ) (r : Option Taken) → s.new_flows ++ s.old_flows ≡ e ∷ rest → e.flow < length s.flows
+pub sent_is : (s : FqState) (e : Entry) (rest : List Entry) (now : ℕ) (r : Option Taken) → s.new_flows ++ s.old_flows ≡ e ∷ rest → e.flow < length s.flows
     → IfSome (slice_get s.flows e.flow) (λ f. r ≡ packet_sent now f) → sent_from now s ≡ r
 unfolding sent_from
-sent-is s e rest now r front within h =
-    ap (option_and_then (packet_sent now)) (sender-is s e rest front)
+sent_is s e rest now r front within h =
+    ap (option_and_then (packet_sent now)) (sender_found s e rest front)
     ∙ sent_of now (slice_get s.flows e.flow) r (slice_there s.flows e.flow within) h
 
 dropped_of : (now : ℕ) (o : Option Flow) (P : List Stamped → Type 0) → IsSome o → IfSome o (λ f. P (packets_dropped now f)) → P (unwrap_or (option_map (packets_dropped now) o) [])
@@ -88,51 +88,51 @@ dropped_of now None P some h = absurd cc
 dropped_of now (Some f) P some h = h
 
 -- what is known of the packets that CoDel drops
-pub dropped-is : (s : FqState) (e : Entry) (rest : List Entry) (now : ℕ) (P : List Stamped → Type 0) → s.new_flows ++ s.old_flows ≡ e ∷ rest → e.flow < length s.flows
+pub dropped_is : (s : FqState) (e : Entry) (rest : List Entry) (now : ℕ) (P : List Stamped → Type 0) → s.new_flows ++ s.old_flows ≡ e ∷ rest → e.flow < length s.flows
     → IfSome (slice_get s.flows e.flow) (λ f. P (packets_dropped now f)) → P (dropped_from now s)
 unfolding dropped_from
-dropped-is s e rest now P front within h =
-    subst (λ (o : Option Flow). P (unwrap_or (option_map (packets_dropped now) o) [])) (sym (sender-is s e rest front))
+dropped_is s e rest now P front within h =
+    subst (λ (o : Option Flow). P (unwrap_or (option_map (packets_dropped now) o) [])) (sym (sender_found s e rest front))
     (dropped_of now (slice_get s.flows e.flow) P (slice_there s.flows e.flow within) h)
 
-pub after-new_flows : (s : FqState) (e : Entry) (rest : List Entry) (now : ℕ) → s.new_flows ≡ e ∷ rest
+pub after_new_flows : (s : FqState) (e : Entry) (rest : List Entry) (now : ℕ) → s.new_flows ≡ e ∷ rest
     → after_sending now s ≡ record s { flows = adjust (flow_after now) e.flow s.flows; new_flows = paid (sent_from now s) e ∷ rest }
 unfolding after_sending with_sent
-after-new_flows s e rest now front = ap (λ (l : List Entry). with_sent now s l s.old_flows) front
+after_new_flows s e rest now front = ap (λ (l : List Entry). with_sent now s l s.old_flows) front
 
-pub after-none : (s : FqState) (now : ℕ) → s.new_flows ≡ [] → s.old_flows ≡ [] → after_sending now s ≡ s
+pub after_none : (s : FqState) (now : ℕ) → s.new_flows ≡ [] → s.old_flows ≡ [] → after_sending now s ≡ s
 unfolding after_sending with_sent
-after-none s now no_new no_old =
+after_none s now no_new no_old =
     ap₂ (λ (l m : List Entry). with_sent now s l m) no_new no_old
     ∙ ap₂ (λ (l m : List Entry). record s { new_flows = l; old_flows = m }) (sym no_new) (sym no_old)
 
-pub sent-none : (s : FqState) (now : ℕ) → s.new_flows ≡ [] → s.old_flows ≡ [] → sent_from now s ≡ None
+pub sent_none : (s : FqState) (now : ℕ) → s.new_flows ≡ [] → s.old_flows ≡ [] → sent_from now s ≡ None
 unfolding sent_from sender front
-sent-none s now no_new no_old =
+sent_none s now no_new no_old =
     ap₂ (λ (l m : List Entry). option_and_then (packet_sent now) (option_and_then (λ (e : Entry). slice_get s.flows e.flow) (slice_get (l ++ m) 0))) no_new no_old
 
-pub dropped-none : (s : FqState) (now : ℕ) → s.new_flows ≡ [] → s.old_flows ≡ [] → dropped_from now s ≡ []
+pub dropped_none : (s : FqState) (now : ℕ) → s.new_flows ≡ [] → s.old_flows ≡ [] → dropped_from now s ≡ []
 unfolding dropped_from sender front
-dropped-none s now no_new no_old =
+dropped_none s now no_new no_old =
     ap₂ (λ (l m : List Entry). unwrap_or (option_map (packets_dropped now) (option_and_then (λ (e : Entry). slice_get s.flows e.flow) (slice_get (l ++ m) 0))) []) no_new no_old
 
 -- a flow that has sent has no more packets than before
-pub count-after : (now : ℕ) (f : Flow) → count (flow_after now f).queue ≤ count f.queue
+pub count_after : (now : ℕ) (f : Flow) → count (flow_after now f).queue ≤ count f.queue
 unfolding flow_after
-count-after now f = omega (arith, length-drop (suc (drops f.codel now f.queue)) f.queue)
+count_after now f = omega (arith, length-drop (suc (drops f.codel now f.queue)) f.queue)
 
-pub paid-is : (o : Option Taken) (t : Taken) (e : Entry) → o ≡ Some t → paid o e ≡ record e { credits = e.credits -ℤ pos t.packet.len }
+pub paid_is : (o : Option Taken) (t : Taken) (e : Entry) → o ≡ Some t → paid o e ≡ record e { credits = e.credits -ℤ pos t.packet.len }
 unfolding paid
-paid-is o t e h = ap (λ (p : Option Taken). paid p e) h
+paid_is o t e h = ap (λ (p : Option Taken). paid p e) h
 
 pub flow-paid : (o : Option Taken) (e : Entry) → (paid o e).flow ≡ e.flow
 unfolding paid
 flow-paid None e = refl
 flow-paid (Some t) e = refl
 
-pub sender-none : (s : FqState) → s.new_flows ≡ [] → s.old_flows ≡ [] → sender s ≡ None
+pub sender_none : (s : FqState) → s.new_flows ≡ [] → s.old_flows ≡ [] → sender s ≡ None
 unfolding sender front
-sender-none s no_new no_old =
+sender_none s no_new no_old =
     ap₂ (λ (l m : List Entry). option_and_then (λ (e : Entry). slice_get s.flows e.flow) (slice_get (l ++ m) 0)) no_new no_old
 
 -- ---- for the code, which reads the front of both lists
@@ -141,18 +141,18 @@ list_front : (xs : List Entry) (e : Entry) → slice_get xs 0 ≡ Some e → xs 
 list_front [] e h = absurd cc
 list_front (x ∷ xs) e h = ap (λ (o : Option Entry). unwrap_or o x ∷ xs) h
 
-pub front-is : (s : FqState) (e : Entry) → front s ≡ Some e → s.new_flows ++ s.old_flows ≡ e ∷ drop 1 (s.new_flows ++ s.old_flows)
+pub front_is : (s : FqState) (e : Entry) → front s ≡ Some e → s.new_flows ++ s.old_flows ≡ e ∷ drop 1 (s.new_flows ++ s.old_flows)
 unfolding front
-front-is s e h = list_front (s.new_flows ++ s.old_flows) e h
+front_is s e h = list_front (s.new_flows ++ s.old_flows) e h
 
 none_in : (xs ys : List Entry) → slice_get (xs ++ ys) 0 ≡ None → (xs ≡ []) × (ys ≡ [])
 none_in [] [] h = (refl, refl)
 none_in [] (y ∷ ys) h = absurd cc
 none_in (x ∷ xs) ys h = absurd cc
 
-pub front-none : (s : FqState) → front s ≡ None → (s.new_flows ≡ []) × (s.old_flows ≡ [])
+pub front_none : (s : FqState) → front s ≡ None → (s.new_flows ≡ []) × (s.old_flows ≡ [])
 unfolding front
-front-none s h = none_in s.new_flows s.old_flows h
+front_none s h = none_in s.new_flows s.old_flows h
 
 pub empty_of : {X : Type 0} (xs : List X) → not (length xs == 0) ≡ false → xs ≡ []
 empty_of xs h = nil_from_length xs (eqb-true (length xs) 0 (not-false (length xs == 0) h))
@@ -172,16 +172,16 @@ with_sent-written now s e (x ∷ xs) old_flows h =
     ∙ ap (λ (l : List Entry). record s { flows = adjust (flow_after now) e.flow s.flows; new_flows = paid (sent_from now s) e ∷ xs; old_flows = l })
     (sym (cond-false (length (x ∷ xs) == 0) (set old_flows 0 (paid (sent_from now s) e)) old_flows (ne_eqb (length (x ∷ xs)) 0 (omega arith))))
 
-pub after-written : (s : FqState) (e : Entry) (now : ℕ) → front s ≡ Some e
+pub after_sending-written : (s : FqState) (e : Entry) (now : ℕ) → front s ≡ Some e
     → after_sending now s ≡ record s { flows = adjust (flow_after now) e.flow s.flows; new_flows = set s.new_flows 0 (paid (sent_from now s) e); old_flows = written (paid (sent_from now s) e) s.new_flows s.old_flows }
 unfolding after_sending front
-after-written s e now h = with_sent-written now s e s.new_flows s.old_flows h
+after_sending-written s e now h = with_sent-written now s e s.new_flows s.old_flows h
 
 written_lists : (m e : Entry) (new_flows old_flows : List Entry) → slice_get (new_flows ++ old_flows) 0 ≡ Some e → set new_flows 0 m ++ written m new_flows old_flows ≡ m ∷ drop 1 (new_flows ++ old_flows)
 written_lists m e [] [] h = absurd cc
 written_lists m e [] (x ∷ xs) h = refl
 written_lists m e (x ∷ xs) old_flows h = ap (λ (l : List Entry). m ∷ (xs ++ l)) (cond-false (length (x ∷ xs) == 0) (set old_flows 0 m) old_flows (ne_eqb (length (x ∷ xs)) 0 (omega arith)))
 
-pub lists-written : (s : FqState) (m e : Entry) → front s ≡ Some e → set s.new_flows 0 m ++ written m s.new_flows s.old_flows ≡ m ∷ drop 1 (s.new_flows ++ s.old_flows)
+pub lists_written : (s : FqState) (m e : Entry) → front s ≡ Some e → set s.new_flows 0 m ++ written m s.new_flows s.old_flows ≡ m ∷ drop 1 (s.new_flows ++ s.old_flows)
 unfolding front
-lists-written s m e h = written_lists m e s.new_flows s.old_flows h
+lists_written s m e h = written_lists m e s.new_flows s.old_flows h

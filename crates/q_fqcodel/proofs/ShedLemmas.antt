@@ -12,7 +12,7 @@ use Rattle.q_fqcodel.specs.Cleared.{adjust}
 use Rattle.q_fqcodel.specs.FqState.{Flow, queue_of, packets_of, all_packets, retuned}
 use Rattle.q_fqcodel.specs.Put.{shortened}
 use Rattle.q_fqcodel.specs.Pool.{flows_from, cleared}
-use Rattle.q_fqcodel.proofs.FlowLemmas.{packets-cons, packets-nil}
+use Rattle.q_fqcodel.proofs.FlowLemmas.{packets_of-cons, packets_of-nil}
 
 pub adjust-adjust : {F : Type 0} (g h : F → F) (n : ℕ) (xs : List F) → adjust h n (adjust g n xs) ≡ adjust (λ x. h (g x)) n xs
 unfolding adjust
@@ -20,15 +20,15 @@ adjust-adjust g h n [] = refl
 adjust-adjust g h zero (x ∷ xs) = refl
 adjust-adjust g h (suc n) (x ∷ xs) = ap (λ (l : List _). x ∷ l) (adjust-adjust g h n xs)
 
-pub adjust-id : {F : Type 0} (g : F → F) (n : ℕ) (xs : List F) → ((x : F) → g x ≡ x) → adjust g n xs ≡ xs
+pub adjust_id : {F : Type 0} (g : F → F) (n : ℕ) (xs : List F) → ((x : F) → g x ≡ x) → adjust g n xs ≡ xs
 unfolding adjust
-adjust-id g n [] e = refl
-adjust-id g zero (x ∷ xs) e = ap (λ (y : _). y ∷ xs) (e x)
-adjust-id g (suc n) (x ∷ xs) e = ap (λ (l : List _). x ∷ l) (adjust-id g n xs e)
+adjust_id g n [] e = refl
+adjust_id g zero (x ∷ xs) e = ap (λ (y : _). y ∷ xs) (e x)
+adjust_id g (suc n) (x ∷ xs) e = ap (λ (l : List _). x ∷ l) (adjust_id g n xs e)
 
 -- no packet less
-pub shortened-none : (n : ℕ) (flows : List Flow) → adjust (shortened 0) n flows ≡ flows
-shortened-none n flows = adjust-id (shortened 0) n flows (λ f. refl)
+pub shortened_none : (n : ℕ) (flows : List Flow) → adjust (shortened 0) n flows ≡ flows
+shortened_none n flows = adjust_id (shortened 0) n flows (λ f. refl)
 
 -- a queue read at its i-th packet
 pub taken_more : (q : List Stamped) (i : ℕ) (x : Stamped) → slice_get (drop i q) 0 ≡ Some x → take (suc i) q ≡ take i q ++ x ∷ []
@@ -64,48 +64,48 @@ emptied (suc m) n (f ∷ fs) e = ap (λ (l : List Flow). f ∷ l) (emptied m n f
 -- ---- a purge, flow by flow
 
 -- the first n flows are changed, the others as they were
-pub purged-next : (g : Flow → Flow) (n : ℕ) (flows : List Flow) → n < length flows → adjust g n (map g (take n flows) ++ drop n flows) ≡ map g (take (suc n) flows) ++ drop (suc n) flows
+pub purged_next : (g : Flow → Flow) (n : ℕ) (flows : List Flow) → n < length flows → adjust g n (map g (take n flows) ++ drop n flows) ≡ map g (take (suc n) flows) ++ drop (suc n) flows
 unfolding adjust
-purged-next g zero [] h = absurd (omega arith)
-purged-next g zero (f ∷ fs) h = refl
-purged-next g (suc n) [] h = absurd (omega arith)
-purged-next g (suc n) (f ∷ fs) h = ap (λ (l : List Flow). g f ∷ l) (purged-next g n fs (omega arith))
+purged_next g zero [] h = absurd (omega arith)
+purged_next g zero (f ∷ fs) h = refl
+purged_next g (suc n) [] h = absurd (omega arith)
+purged_next g (suc n) (f ∷ fs) h = ap (λ (l : List Flow). g f ∷ l) (purged_next g n fs (omega arith))
 
 -- the next one is as it was
-pub purged-at : (g : Flow → Flow) (n : ℕ) (flows : List Flow) → n < length flows → queue_of (map g (take n flows) ++ drop n flows) n ≡ queue_of flows n
-purged-at g zero flows h = refl
-purged-at g (suc n) [] h = absurd (omega arith)
-purged-at g (suc n) (f ∷ fs) h = purged-at g n fs (omega arith)
+pub purged_at : (g : Flow → Flow) (n : ℕ) (flows : List Flow) → n < length flows → queue_of (map g (take n flows) ++ drop n flows) n ≡ queue_of flows n
+purged_at g zero flows h = refl
+purged_at g (suc n) [] h = absurd (omega arith)
+purged_at g (suc n) (f ∷ fs) h = purged_at g n fs (omega arith)
 
-pub all_packets-more : (n : ℕ) (flows : List Flow) → n < length flows → all_packets (take n flows) ++ queue_of flows n ≡ all_packets (take (suc n) flows)
+pub all_packets_more : (n : ℕ) (flows : List Flow) → n < length flows → all_packets (take n flows) ++ queue_of flows n ≡ all_packets (take (suc n) flows)
 unfolding all_packets
-all_packets-more n [] h = absurd (omega arith)
-all_packets-more zero (f ∷ fs) h = sym (append-nil f.queue)
-all_packets-more (suc n) (f ∷ fs) h = append_assoc f.queue (all_packets (take n fs)) (queue_of fs n) ∙ ap (λ (l : List Stamped). f.queue ++ l) (all_packets-more n fs (omega arith))
+all_packets_more n [] h = absurd (omega arith)
+all_packets_more zero (f ∷ fs) h = sym (append-nil f.queue)
+all_packets_more (suc n) (f ∷ fs) h = append_assoc f.queue (all_packets (take n fs)) (queue_of fs n) ∙ ap (λ (l : List Stamped). f.queue ++ l) (all_packets_more n fs (omega arith))
 
-pub packets_of-more : (n : ℕ) (flows : List Flow) → n < length flows → packets_of (take n flows) + count (queue_of flows n) ≡ packets_of (take (suc n) flows)
-packets_of-more n [] h = absurd (omega arith)
-packets_of-more zero (f ∷ fs) h = omega (arith, packets-nil, packets-cons f [])
-packets_of-more (suc n) (f ∷ fs) h = omega (arith, packets-cons f (take n fs), packets-cons f (take (suc n) fs), packets_of-more n fs (omega arith))
+pub packets_of_more : (n : ℕ) (flows : List Flow) → n < length flows → packets_of (take n flows) + count (queue_of flows n) ≡ packets_of (take (suc n) flows)
+packets_of_more n [] h = absurd (omega arith)
+packets_of_more zero (f ∷ fs) h = omega (arith, packets_of-nil, packets_of-cons f [])
+packets_of_more (suc n) (f ∷ fs) h = omega (arith, packets_of-cons f (take n fs), packets_of-cons f (take (suc n) fs), packets_of_more n fs (omega arith))
 
-pub packets_of-part : (n : ℕ) (flows : List Flow) → packets_of (take n flows) ≤ packets_of flows
-packets_of-part zero flows = omega (arith, packets-nil)
-packets_of-part (suc n) [] = omega arith
-packets_of-part (suc n) (f ∷ fs) = omega (arith, packets-cons f (take n fs), packets-cons f fs, packets_of-part n fs)
+pub packets_of_part : (n : ℕ) (flows : List Flow) → packets_of (take n flows) ≤ packets_of flows
+packets_of_part zero flows = omega (arith, packets_of-nil)
+packets_of_part (suc n) [] = omega arith
+packets_of_part (suc n) (f ∷ fs) = omega (arith, packets_of-cons f (take n fs), packets_of-cons f fs, packets_of_part n fs)
 
 -- ---- every flow is changed alike
 
-pub flows-retuned : (target interval : ℕ) (ecn : Bool) (qs : List (List Stamped)) (cs : List CodelState)
+pub flows_from-retuned : (target interval : ℕ) (ecn : Bool) (qs : List (List Stamped)) (cs : List CodelState)
     → flows_from qs (map (λ (c : CodelState). record c { target = target; interval = interval; ecn = ecn }) cs) ≡ map (retuned target interval ecn) (flows_from qs cs)
 unfolding flows_from retuned
-flows-retuned target interval ecn [] cs = refl
-flows-retuned target interval ecn (q ∷ qs) [] = refl
-flows-retuned target interval ecn (q ∷ qs) (c ∷ cs) = ap (λ (l : List Flow). record { queue = q; codel = record c { target = target; interval = interval; ecn = ecn } } ∷ l) (flows-retuned target interval ecn qs cs)
+flows_from-retuned target interval ecn [] cs = refl
+flows_from-retuned target interval ecn (q ∷ qs) [] = refl
+flows_from-retuned target interval ecn (q ∷ qs) (c ∷ cs) = ap (λ (l : List Flow). record { queue = q; codel = record c { target = target; interval = interval; ecn = ecn } } ∷ l) (flows_from-retuned target interval ecn qs cs)
 
-pub flows-first : (codel : CodelState) (n : ℕ) → flows_from (replicate n []) (replicate n codel) ≡ replicate n (record { queue = []; codel = codel })
+pub flows_first : (codel : CodelState) (n : ℕ) → flows_from (replicate n []) (replicate n codel) ≡ replicate n (record { queue = []; codel = codel })
 unfolding flows_from
-flows-first codel zero = refl
-flows-first codel (suc n) = ap (λ (l : List Flow). record { queue = []; codel = codel } ∷ l) (flows-first codel n)
+flows_first codel zero = refl
+flows_first codel (suc n) = ap (λ (l : List Flow). record { queue = []; codel = codel } ∷ l) (flows_first codel n)
 
 pub all_packets-nil : all_packets [] ≡ []
 unfolding all_packets

@@ -11,10 +11,10 @@ use Rattle.q_fqcodel.specs.Take.{selected, front}
 use Rattle.q_fqcodel.specs.Turns.{GoesOn, IsSettled, turns}
 use Rattle.q_fqcodel.specs.Entry.{Entry}
 use Rattle.q_fqcodel.proofs.ClearedLemmas.{clear-nil, clear-cons}
-use Rattle.q_fqcodel.proofs.FlowLemmas.{idle-rested, packets-rested}
+use Rattle.q_fqcodel.proofs.FlowLemmas.{is_idle-rested_flow, packets_of-rested_flow}
 use Rattle.q_fqcodel.proofs.LawfulLemmas.{lawful_moved, lawful_turned, lawful_left, lawful_rested, front_within}
-use Rattle.q_fqcodel.proofs.QuantaLemmas.{need-none, need-more, flow-given}
-use Rattle.q_fqcodel.proofs.SelectionLemmas.{Agree, same_lists, turned-granted, turned-leaves, turned-ready, arranged-nil, arranged-granted, arranged-moves, arranged-ready}
+use Rattle.q_fqcodel.proofs.QuantaLemmas.{need_none, need_more, flow-given}
+use Rattle.q_fqcodel.proofs.SelectionLemmas.{Agree, same_lists, turned_granted, turned_leaves, turned_ready, arranged-nil, arranged_granted, arranged_moves, arranged_ready}
 
 with_lists : FqState → List Flow → List Entry → List Entry → FqState
 with_lists s flows new_flows old_flows = record s { flows = flows; new_flows = new_flows; old_flows = old_flows }
@@ -22,19 +22,19 @@ with_lists s flows new_flows old_flows = record s { flows = flows; new_flows = n
 arranged_in : FqState → Lists
 arranged_in s = arranged s.settings.quantum (is_idle s.flows) s.new_flows s.old_flows
 
-selected-is : (s : FqState) → selected s ≡ with_lists s (clear rested_flow (arranged_in s).gone s.flows) (arranged_in s).new_flows (arranged_in s).old_flows
+selected_is : (s : FqState) → selected s ≡ with_lists s (clear rested_flow (arranged_in s).gone s.flows) (arranged_in s).new_flows (arranged_in s).old_flows
 unfolding selected with_lists arranged_in
-selected-is s = refl
+selected_is s = refl
 
 -- two states that select the same
 same_selected : (s t : FqState) → s.settings ≡ t.settings → Agree rested_flow s.flows t.flows (arranged_in s) (arranged_in t) → selected s ≡ selected t
 unfolding with_lists
 same_selected s t settings agree =
-    selected-is s
+    selected_is s
     ∙ ap (λ (x : FqSettings). record s { settings = x; flows = clear rested_flow (arranged_in s).gone s.flows; new_flows = (arranged_in s).new_flows; old_flows = (arranged_in s).old_flows }) settings
     ∙ ap (λ (x : List Flow). record t { flows = x; new_flows = (arranged_in s).new_flows; old_flows = (arranged_in s).old_flows }) agree.flows
     ∙ ap₂ (λ (x y : List Entry). record t { flows = clear rested_flow (arranged_in t).gone t.flows; new_flows = x; old_flows = y }) agree.new_flows agree.old_flows
-    ∙ sym (selected-is t)
+    ∙ sym (selected_is t)
 
 new_turns : ℕ → Entry → ℕ
 new_turns q e = suc (suc (need q e))
@@ -42,17 +42,17 @@ new_turns q e = suc (suc (need q e))
 old_turns : ℕ → Entry → ℕ
 old_turns q e = suc (need q e)
 
-turns-is : (s : FqState) → turns s ≡ sum_by (new_turns s.settings.quantum) s.new_flows + sum_by (old_turns s.settings.quantum) s.old_flows
+turns_is : (s : FqState) → turns s ≡ sum_by (new_turns s.settings.quantum) s.new_flows + sum_by (old_turns s.settings.quantum) s.old_flows
 unfolding turns new_turns old_turns
-turns-is s = refl
+turns_is s = refl
 
-new_turns-is : (q : ℕ) (e : Entry) → new_turns q e ≡ suc (suc (need q e))
+new_turns_is : (q : ℕ) (e : Entry) → new_turns q e ≡ suc (suc (need q e))
 unfolding new_turns
-new_turns-is q e = refl
+new_turns_is q e = refl
 
-old_turns-is : (q : ℕ) (e : Entry) → old_turns q e ≡ suc (need q e)
+old_turns_is : (q : ℕ) (e : Entry) → old_turns q e ≡ suc (need q e)
 unfolding old_turns
-old_turns-is q e = refl
+old_turns_is q e = refl
 
 -- the entry in front, where there is one, and where no flow is listed
 pub first_in_front : (s : FqState) (e : Entry) (rest : List Entry) → s.new_flows ++ s.old_flows ≡ e ∷ rest → Some e ≡ front s
@@ -77,13 +77,13 @@ module _ (s : FqState) (lawful : IsLawful s) (e : Entry) (rest : List Entry) (fr
       let q : ℕ = s.settings.quantum in
       let t : FqState = record s { new_flows = rest; old_flows = s.old_flows ++ given q 1 e ∷ [] } in
       let lists : arranged_in s ≡ arranged_in t =
-      ap (λ (l : List Entry). arranged q (is_idle s.flows) l s.old_flows) front ∙ arranged-granted q (is_idle s.flows) e rest s.old_flows positive low in
+      ap (λ (l : List Entry). arranged q (is_idle s.flows) l s.old_flows) front ∙ arranged_granted q (is_idle s.flows) e rest s.old_flows positive low in
       record {
         same = sym (same_selected s t refl (same_lists rested_flow s.flows (arranged_in s) (arranged_in t) lists));
         fewer =
             let a : sum_by (new_turns q) s.new_flows ≡ new_turns q e + sum_by (new_turns q) rest = ap (sum_by (new_turns q)) front ∙ sum_by-cons (new_turns q) e rest in
             let b : sum_by (old_turns q) (s.old_flows ++ given q 1 e ∷ []) ≡ sum_by (old_turns q) s.old_flows + old_turns q (given q 1 e) = sum_by_push (old_turns q) s.old_flows (given q 1 e) in
-            omega (arith, a, b, turns-is s, turns-is t, new_turns-is q e, old_turns-is q (given q 1 e), need-more q e positive low);
+            omega (arith, a, b, turns_is s, turns_is t, new_turns_is q e, old_turns_is q (given q 1 e), need_more q e positive low);
         packets = refl;
       }
 
@@ -95,11 +95,11 @@ module _ (s : FqState) (lawful : IsLawful s) (e : Entry) (rest : List Entry) (fr
   new_moves_on high empty =
       let q : ℕ = s.settings.quantum in
       let t : FqState = record s { flows = adjust rested_flow e.flow s.flows; new_flows = rest; old_flows = s.old_flows ++ e ∷ [] } in
-      let ready : need q e ≡ 0 = need-none q e high in
+      let ready : need q e ≡ 0 = need_none q e high in
       let after : Lists = arranged q (is_idle s.flows) rest (s.old_flows ++ e ∷ []) in
       let lists : arranged_in s ≡ record after { gone = e.flow ∷ after.gone } =
-      ap (λ (l : List Entry). arranged q (is_idle s.flows) l s.old_flows) front ∙ arranged-moves q (is_idle s.flows) e rest s.old_flows ready empty in
-      let lists' : after ≡ arranged_in t = ap (λ (i : ℕ → Bool). arranged q i rest (s.old_flows ++ e ∷ [])) (sym (idle-rested e.flow s.flows)) in
+      ap (λ (l : List Entry). arranged q (is_idle s.flows) l s.old_flows) front ∙ arranged_moves q (is_idle s.flows) e rest s.old_flows ready empty in
+      let lists' : after ≡ arranged_in t = ap (λ (i : ℕ → Bool). arranged q i rest (s.old_flows ++ e ∷ [])) (sym (is_idle-rested_flow e.flow s.flows)) in
       record {
         same = sym (same_selected s t refl (record {
           new_flows = ap (λ (l : Lists). l.new_flows) lists ∙ ap (λ (l : Lists). l.new_flows) lists';
@@ -112,8 +112,8 @@ module _ (s : FqState) (lawful : IsLawful s) (e : Entry) (rest : List Entry) (fr
         fewer =
             let a : sum_by (new_turns q) s.new_flows ≡ new_turns q e + sum_by (new_turns q) rest = ap (sum_by (new_turns q)) front ∙ sum_by-cons (new_turns q) e rest in
             let b : sum_by (old_turns q) (s.old_flows ++ e ∷ []) ≡ sum_by (old_turns q) s.old_flows + old_turns q e = sum_by_push (old_turns q) s.old_flows e in
-            omega (arith, a, b, turns-is s, turns-is t, new_turns-is q e, old_turns-is q e);
-        packets = packets-rested e.flow s.flows;
+            omega (arith, a, b, turns_is s, turns_is t, new_turns_is q e, old_turns_is q e);
+        packets = packets_of-rested_flow e.flow s.flows;
       }
 
   pub new_moves : pos 0 <ℤ e.credits → is_idle s.flows e.flow ≡ true → LeadsOn s (record s { flows = adjust rested_flow e.flow s.flows; new_flows = rest; old_flows = s.old_flows ++ e ∷ [] })
@@ -125,9 +125,9 @@ module _ (s : FqState) (lawful : IsLawful s) (e : Entry) (rest : List Entry) (fr
       let q : ℕ = s.settings.quantum in
       let lists : arranged_in s ≡ record { new_flows = s.new_flows; old_flows = s.old_flows; gone = [] } =
       ap (λ (l : List Entry). arranged q (is_idle s.flows) l s.old_flows) front
-      ∙ arranged-ready q (is_idle s.flows) e rest s.old_flows (need-none q e high) busy
+      ∙ arranged_ready q (is_idle s.flows) e rest s.old_flows (need_none q e high) busy
       ∙ ap (λ (l : List Entry). record { new_flows = l; old_flows = s.old_flows; gone = [] }) (sym front) in
-      selected-is s
+      selected_is s
       ∙ ap (λ (l : Lists). with_lists s (clear rested_flow l.gone s.flows) l.new_flows l.old_flows) lists
       ∙ ap (λ (l : List Flow). with_lists s l s.new_flows s.old_flows) (clear-nil rested_flow s.flows)
 
@@ -148,7 +148,7 @@ module _ (s : FqState) (lawful : IsLawful s) (e : Entry) (rest : List Entry) (no
       let t : FqState = record s { old_flows = last } in
       let lists' : arranged_in t ≡ turned q last (chosen q (is_idle s.flows) last) =
       ap (λ (l : List Entry). arranged q (is_idle s.flows) l last) none ∙ arranged-nil q (is_idle s.flows) last in
-      let agree = turned-granted rested_flow q positive e low rest (is_idle s.flows) s.flows in
+      let agree = turned_granted rested_flow q positive e low rest (is_idle s.flows) s.flows in
       record {
         same = sym (same_selected s t refl
             (subst (λ (b : Lists). Agree rested_flow s.flows s.flows (arranged_in s) b) (sym lists')
@@ -156,7 +156,7 @@ module _ (s : FqState) (lawful : IsLawful s) (e : Entry) (rest : List Entry) (no
         fewer =
             let a : sum_by (old_turns q) s.old_flows ≡ old_turns q e + sum_by (old_turns q) rest = ap (sum_by (old_turns q)) front ∙ sum_by-cons (old_turns q) e rest in
             let b : sum_by (old_turns q) last ≡ sum_by (old_turns q) rest + old_turns q (given q 1 e) = sum_by_push (old_turns q) rest (given q 1 e) in
-            omega (arith, a, b, turns-is s, turns-is t, old_turns-is q e, old_turns-is q (given q 1 e), need-more q e positive low);
+            omega (arith, a, b, turns_is s, turns_is t, old_turns_is q e, old_turns_is q (given q 1 e), need_more q e positive low);
         packets = refl;
       }
 
@@ -170,16 +170,16 @@ module _ (s : FqState) (lawful : IsLawful s) (e : Entry) (rest : List Entry) (no
       let flows' : List Flow = adjust rested_flow e.flow s.flows in
       let t : FqState = record s { flows = flows'; old_flows = rest } in
       let lists' : arranged_in t ≡ turned q rest (chosen q (is_idle s.flows) rest) =
-      ap₂ (λ (i : ℕ → Bool) (l : List Entry). arranged q i l rest) (idle-rested e.flow s.flows) none ∙ arranged-nil q (is_idle s.flows) rest in
-      let agree = turned-leaves rested_flow q e rest (need-none q e high) (is_idle s.flows) empty s.flows in
+      ap₂ (λ (i : ℕ → Bool) (l : List Entry). arranged q i l rest) (is_idle-rested_flow e.flow s.flows) none ∙ arranged-nil q (is_idle s.flows) rest in
+      let agree = turned_leaves rested_flow q e rest (need_none q e high) (is_idle s.flows) empty s.flows in
       record {
         same = sym (same_selected s t refl
             (subst (λ (b : Lists). Agree rested_flow s.flows flows' (arranged_in s) b) (sym lists')
             (subst (λ (a : Lists). Agree rested_flow s.flows flows' a (turned q rest (chosen q (is_idle s.flows) rest))) (sym old_lists) agree)));
         fewer =
             let a : sum_by (old_turns q) s.old_flows ≡ old_turns q e + sum_by (old_turns q) rest = ap (sum_by (old_turns q)) front ∙ sum_by-cons (old_turns q) e rest in
-            omega (arith, a, turns-is s, turns-is t, old_turns-is q e);
-        packets = packets-rested e.flow s.flows;
+            omega (arith, a, turns_is s, turns_is t, old_turns_is q e);
+        packets = packets_of-rested_flow e.flow s.flows;
       }
 
   pub old_leaves : pos 0 <ℤ e.credits → is_idle s.flows e.flow ≡ true → LeadsOn s (record s { flows = adjust rested_flow e.flow s.flows; old_flows = rest })
@@ -191,9 +191,9 @@ module _ (s : FqState) (lawful : IsLawful s) (e : Entry) (rest : List Entry) (no
       let q : ℕ = s.settings.quantum in
       let lists : arranged_in s ≡ record { new_flows = s.new_flows; old_flows = s.old_flows; gone = [] } =
       old_lists
-      ∙ turned-ready q e rest (need-none q e high) (is_idle s.flows) busy
+      ∙ turned_ready q e rest (need_none q e high) (is_idle s.flows) busy
       ∙ ap₂ (λ (l m : List Entry). record { new_flows = l; old_flows = m; gone = [] }) (sym none) (sym front) in
-      selected-is s
+      selected_is s
       ∙ ap (λ (l : Lists). with_lists s (clear rested_flow l.gone s.flows) l.new_flows l.old_flows) lists
       ∙ ap (λ (l : List Flow). with_lists s l s.new_flows s.old_flows) (clear-nil rested_flow s.flows)
 
@@ -205,7 +205,7 @@ none_left s no_new no_old =
     ap₂ (λ (l m : List Entry). arranged q (is_idle s.flows) l m) no_new no_old
     ∙ arranged-nil q (is_idle s.flows) []
     ∙ ap₂ (λ (l m : List Entry). record { new_flows = l; old_flows = m; gone = [] }) (sym no_new) (sym no_old) in
-    selected-is s
+    selected_is s
     ∙ ap (λ (l : Lists). with_lists s (clear rested_flow l.gone s.flows) l.new_flows l.old_flows) lists
     ∙ ap (λ (l : List Flow). with_lists s l s.new_flows s.old_flows) (clear-nil rested_flow s.flows)
 

@@ -145,9 +145,9 @@ bytes_read ranks i =
     let n : ℕ = length ranks / 2 in
     get_or-map (λ (r : ℕ). r / 65536) (drop n ranks) i 0 ∙ ap (λ (r : ℕ). r / 65536) (get_or-drop n ranks i 0)
 
-pub length-bytes : (ranks : List ℕ) → length (bytes_in ranks) ≡ length ranks - length ranks / 2
+pub length-bytes_in : (ranks : List ℕ) → length (bytes_in ranks) ≡ length ranks - length ranks / 2
 unfolding bytes_in
-length-bytes ranks = length-map (drop (length ranks / 2) ranks) (λ (r : ℕ). r / 65536) ∙ length-drop (length ranks / 2) ranks
+length-bytes_in ranks = length-map (drop (length ranks / 2) ranks) (λ (r : ℕ). r / 65536) ∙ length-drop (length ranks / 2) ranks
 
 -- a leaf is read in the leaves alone
 pub leaf_kept : (ranks now : List ℕ) (i : ℕ) → drop (length ranks / 2) now ≡ drop (length ranks / 2) ranks → rank_at now (length ranks / 2 + i) ≡ rank_at ranks (length ranks / 2 + i)
@@ -158,7 +158,7 @@ leaf_kept ranks now i same =
 pub bytes_none : (ranks : List ℕ) (n : ℕ) → length ranks ≡ 2 * n → ((i : ℕ) → i < n → rank_at ranks (n + i) ≡ rank i 0) → bytes_in ranks ≡ replicate n 0
 bytes_none ranks n even leaves =
     let half : length ranks / 2 ≡ n = omega (arith, even) in
-    let long : length (bytes_in ranks) ≡ n = omega (arith, length-bytes ranks, even) in
+    let long : length (bytes_in ranks) ≡ n = omega (arith, length-bytes_in ranks, even) in
     ext_get_or 0 (bytes_in ranks) (replicate n 0) (long ∙ sym (length-replicate n 0))
     (λ i h.
     let there : rank_at ranks (length ranks / 2 + i) ≡ rank_at ranks (n + i) = ap (λ (m : ℕ). rank_at ranks (m + i)) half in
@@ -236,7 +236,7 @@ module _ (ranks : List ℕ) (tree : IsTournament ranks) (few : length ranks ≤ 
   top = max (rank flow bytes) (rank_at ranks 1)
 
   in_lot : flow < n
-  in_lot = omega (arith, within, length-bytes ranks, tree.even)
+  in_lot = omega (arith, within, length-bytes_in ranks, tree.even)
 
   -- the rank of a flow by its bytes
   rank_is : (i : ℕ) → i < n → rank_at ranks (n + i) ≡ rank i (bytes_at (bytes_in ranks) i)

@@ -1,6 +1,6 @@
 -- What a contract sees of an fq_codel: its settings, its flows by index, and the lists of new and of old flows.
 -- RFC 8290, section 4; tc-fq_codel(8) has the settings.
-use Rattle.std.specs.Prelude.{ℕ, Bool, List, [], map, get_or, replicate, sum_by, flat_map, nat_eq}
+use Rattle.std.specs.Prelude.{ℕ, Bool, true, List, [], map, get_or, replicate, sum_by, flat_map, nat_eq}
 use Rattle.q_packet.specs.Totals.{count, size}
 use Rattle.q_packet.specs.declared.stamped.Stamped.{Stamped}
 use Rattle.q_codel.specs.Codel.{CodelState, at_first, rested}
@@ -27,6 +27,20 @@ settings_of limit flows quantum target interval ecn drop_batch mtu = record {
   interval = interval;
   ecn = ecn;
   drop_batch = drop_batch;
+  mtu = mtu;
+}
+
+-- The settings where none are named, for a device with this mtu.
+-- tc-fq_codel(8) has them, but for `drop_batch`, which is 64 there: 1 is this project's choice.
+abbrev pub settings_by_default : ℕ → FqSettings
+settings_by_default mtu = record {
+  limit = 10240;
+  flows = 1024;
+  quantum = 1514;
+  target = 5000000;
+  interval = 100000000;
+  ecn = true;
+  drop_batch = 1;
   mtu = mtu;
 }
 

@@ -94,6 +94,14 @@ impl ActiveLists {
         self.old_flows.count != 0
     }
 
+    /// How many flows are in the new list, and how many in the old one.
+    pub(crate) fn lengths(&self) -> (usize, usize)
+        ensures new { result.0 ≡ length self.now.new_flows }
+        ensures old { result.1 ≡ length self.now.old_flows }
+    {
+        (self.new_flows.count as usize, self.old_flows.count as usize)
+    }
+
     /// The flow in front of the new list.
     pub(crate) fn first_new(&self) -> Option<Entry>
         ensures { result ≡ slice_get self.now.new_flows 0 }

@@ -154,10 +154,12 @@ impl FqCodel {
         ensures room { S.room sink.new + count (lost_by_put self.old.state packet.now now) ≡ S.room sink.old }
         ensures kept { S.keeps sink.old sink.new }
     {
+        // Before the lists are written, so that the compiler asks once where the caller has asked `fits`.
+        let fits = self.fits();
         let settings = self.settings;
         let flow = flow_by_hash(packet.hash, settings.flows);
         self.lists.enlist(flow, settings.quantum);
-        if self.flows.count() < settings.limit as u64 {
+        if fits {
             self.flows.push(flow, packet, now);
             return Dropped {
                 packets: 0,
@@ -248,6 +250,14 @@ impl FqCodel {
         ensures lawful { IsLawful self.now.state }
     {
         (self.flows.count(), self.flows.bytes())
+    }
+
+    /// How many flows are listed as new, and how many as old (RFC 8290, section 4.2). It walks no list.
+    pub fn listed(&self) -> (usize, usize)
+        ensures new { result.0 ≡ length self.now.state.new_flows }
+        ensures old { result.1 ≡ length self.now.state.old_flows }
+    {
+        self.lists.lengths()
     }
 
     /// The settings as they are now.
@@ -391,8 +401,11 @@ fn flow_by_hash(hash: u32, flows: u32) -> u32
     requires { 1 ≤ flows }
     ensures { result ≡ hash % flows }
 {
-    if flows.is_power_of_two() {
-        return hash & (flows - 1);
+    let mask = flows - 1;
+    // A power of two alone has no bit in common with the number before it.
+    let is_power = flows & mask == 0;
+    if is_power {
+        return hash & mask;
     }
     hash % flows
 }

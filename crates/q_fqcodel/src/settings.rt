@@ -1,5 +1,5 @@
-ghost use Rattle.std.specs.Prelude.{◌≡◌, ◌≤◌, ◌↔◌, ◌^◌, true, IfSome, IsSome};
-ghost use Rattle.q_fqcodel.specs.FqState.{settings_of};
+ghost use Rattle.std.specs.Prelude.{◌≡◌, ◌≤◌, ◌↔◌, IfSome, IsSome};
+ghost use Rattle.q_fqcodel.specs.FqState.{settings_by_default, settings_of};
 ghost use Rattle.q_fqcodel.specs.Ranges.{IsInRange};
 
 use std::marker::Model;
@@ -51,21 +51,24 @@ impl Model for Settings {
 }
 
 impl Settings {
+    /// The most flows.
+    pub const MOST_FLOWS: u32 = 65536;
+
+    /// The most packets that the fat flow may lose at once.
+    pub const MOST_DROP_BATCH: u32 = 65536;
+
+    /// The longest target and interval: 1000 s, in nanoseconds.
+    pub const LONGEST: u64 = 1_000_000_000_000;
+
+    /// The shortest interval: 1 us, in nanoseconds.
+    pub const SHORTEST_INTERVAL: u64 = 1000;
+
     /// The settings where none are named, for a device with this mtu. tc-fq_codel(8) has 1024 flows, a limit of 10240
     /// packets, a quantum of 1514 bytes, CoDel's target of 5 ms and its interval of 100 ms, and ECN. But drop_batch is 1, this
     /// project's choice, where tc-fq_codel(8) has 64.
     pub fn defaults(mtu: u16) -> Settings
         requires { 1 ≤ mtu }
-        ensures { result ≡ record {
-          limit = 10240;
-          flows = 1024;
-          quantum = 1514;
-          target = 5000000;
-          interval = 100000000;
-          ecn = true;
-          drop_batch = 1;
-          mtu = mtu;
-        } }
+        ensures { result ≡ settings_by_default mtu }
     {
         Settings {
             limit: 10240,
@@ -93,11 +96,11 @@ impl Settings {
         ensures in_range { IsSome result ↔ IsInRange (settings_of limit flows quantum target interval ecn drop_batch mtu) }
         ensures value { IfSome result (λ s. s ≡ settings_of limit flows quantum target interval ecn drop_batch mtu) }
     {
-        let counts_fit = limit >= 1 && flows >= 1 && flows <= 65536 && quantum >= 1;
+        let counts_fit = limit >= 1 && flows >= 1 && flows <= Settings::MOST_FLOWS && quantum >= 1;
         let times_fit = target <= Settings::LONGEST
-            && interval >= 1000
+            && interval >= Settings::SHORTEST_INTERVAL
             && interval <= Settings::LONGEST;
-        let batch_fits = drop_batch >= 1 && drop_batch <= 65536;
+        let batch_fits = drop_batch >= 1 && drop_batch <= Settings::MOST_DROP_BATCH;
         if !counts_fit || !times_fit || !batch_fits || mtu == 0 {
             return None;
         }
@@ -112,7 +115,4 @@ impl Settings {
             mtu,
         })
     }
-
-    // The longest target and interval: 1000 s, in nanoseconds.
-    const LONGEST: u64 = 1_000_000_000_000;
 }

@@ -11,7 +11,7 @@ use Rattle.q_drr.specs.Turns.{grants_at, bytes_at}
 use Rattle.q_drr.proofs.ServedLemmas.{takes_are_turns}
 use Rattle.q_drr.proofs.StretchLemmas.{list_differ, list_active}
 use Rattle.q_drr.proofs.DifferLemmas.{EntriesDiffer, entries_apart}
-use Rattle.q_drr.proofs.LookupLemmas.{deficit-here, deficit-behind}
+use Rattle.q_drr.proofs.LookupLemmas.{deficit_here, deficit_behind}
 use Rattle.q_invariants.proofs.SameTurns.{SameTurns, push-behind, deficit-last}
 use Rattle.q_invariants.proofs.TakeTurns.{Stands}
 
@@ -32,14 +32,14 @@ absent-deficit : (j : ℕ) (es : List Entry) → is_active j es ≡ false → de
 absent-deficit j [] absent = refl
 absent-deficit j (e ∷ es) absent =
     let parts = or_parts (eqb j e.class) (is_active j es) absent in
-    deficit-behind j e es parts.0 ∙ absent-deficit j es parts.1
+    deficit_behind j e es parts.0 ∙ absent-deficit j es parts.1
 
 -- another that goes to the end
 deficit-other : (j : ℕ) (x : Entry) (es : List Entry) → eqb j x.class ≡ false → deficit_of j (es ++ x ∷ []) ≡ deficit_of j es
-deficit-other j x [] other = deficit-behind j x [] other
+deficit-other j x [] other = deficit_behind j x [] other
 deficit-other j x (e ∷ es) other = elim (cases_Bool (eqb j e.class)) [
-  | inl here ↦ deficit-here j e (es ++ x ∷ []) here ∙ sym (deficit-here j e es here)
-  | inr there ↦ deficit-behind j e (es ++ x ∷ []) there ∙ deficit-other j x es other ∙ sym (deficit-behind j e es there)
+  | inl here ↦ deficit_here j e (es ++ x ∷ []) here ∙ sym (deficit_here j e es here)
+  | inr there ↦ deficit_behind j e (es ++ x ∷ []) there ∙ deficit-other j x es other ∙ sym (deficit_behind j e es there)
 ]
 
 order-other : (i j : ℕ) (x : Entry) (es : List Entry) → eqb i x.class ≡ false → eqb j x.class ≡ false → stands_first j i (es ++ x ∷ []) ≡ stands_first j i es
@@ -79,12 +79,12 @@ module _ (i j : ℕ) (apart : i ≢ j) where
         elim (cases_Bool (eqb j e.class)) [
           | inl here ↦
               let b : bytes_in j len (e ∷ es) ≡ len = bytes ∙ ap (λ (t : Bool). if t then len else 0) here in
-              let after : left_before i j quantum (active_after len classes (e ∷ es)) ≡ e.deficit - len = left ∙ ap (λ (t : Bool). left_of t (deficit_of j (less ∷ es)) quantum) (first-is here) ∙ deficit-here j less es here in
-              let before : left_before i j quantum (e ∷ es) ≡ e.deficit = ap (λ (t : Bool). left_of t (deficit_of j (e ∷ es)) quantum) (first-is here) ∙ deficit-here j e es here in
+              let after : left_before i j quantum (active_after len classes (e ∷ es)) ≡ e.deficit - len = left ∙ ap (λ (t : Bool). left_of t (deficit_of j (less ∷ es)) quantum) (first-is here) ∙ deficit_here j less es here in
+              let before : left_before i j quantum (e ∷ es) ≡ e.deficit = ap (λ (t : Bool). left_of t (deficit_of j (e ∷ es)) quantum) (first-is here) ∙ deficit_here j e es here in
               omega (arith, b, after, before, covers)
           | inr there ↦
               let b : bytes_in j len (e ∷ es) ≡ 0 = bytes ∙ ap (λ (t : Bool). if t then len else 0) there in
-              let same : deficit_of j (less ∷ es) ≡ deficit_of j (e ∷ es) = deficit-behind j less es there ∙ sym (deficit-behind j e es there) in
+              let same : deficit_of j (less ∷ es) ≡ deficit_of j (e ∷ es) = deficit_behind j less es there ∙ sym (deficit_behind j e es there) in
               let after : left_before i j quantum (active_after len classes (e ∷ es)) ≡ left_before i j quantum (e ∷ es) = left ∙ ap (λ d. left_of (stands_first j i (e ∷ es)) d quantum) same in
               omega (arith, b, after)
         ]
@@ -104,18 +104,18 @@ module _ (i j : ℕ) (apart : i ≢ j) where
               let there : is_active i es ≡ true = sym (ap (λ t. t || is_active i es) far) ∙ there_i in
               let after : left_before i j quantum (es ++ last ∷ []) ≡ deficit_of j (es ++ last ∷ []) - quantum = ap (λ (t : Bool). left_of t (deficit_of j (es ++ last ∷ [])) quantum) (push-behind i j last es there absent) in
               let more : deficit_of j (es ++ last ∷ []) ≡ e.deficit + 1 * quantum_of e.class classes = deficit-last j last es absent here in
-              let before : left_before i j quantum (e ∷ es) ≡ e.deficit = ap (λ (t : Bool). left_of t (deficit_of j (e ∷ es)) quantum) (first-is here) ∙ deficit-here j e es here in
+              let before : left_before i j quantum (e ∷ es) ≡ e.deficit = ap (λ (t : Bool). left_of t (deficit_of j (e ∷ es)) quantum) (first-is here) ∙ deficit_here j e es here in
               let own : quantum ≡ quantum_of e.class classes = ap (λ m. quantum_of m classes) same in
               omega (arith, none, left, after, more, before, own)
           | inr there ↦ elim (cases_Bool (eqb i e.class)) [
             | inl here ↦
                 let one : grant_in i len (e ∷ es) ≡ 1 = ap (λ (t : Bool). if eqb i e.class then (if t then 0 else 1) else 0) (lt-leb len e.deficit short) ∙ ap (λ (t : Bool). if t then 1 else 0) here in
                 let product : grant_in i len (e ∷ es) * quantum ≡ quantum = ap (λ g. g * quantum) one ∙ omega arith in
-                let same : deficit_of j (es ++ last ∷ []) ≡ deficit_of j (e ∷ es) = deficit-other j last es there ∙ sym (deficit-behind j e es there) in
+                let same : deficit_of j (es ++ last ∷ []) ≡ deficit_of j (e ∷ es) = deficit-other j last es there ∙ sym (deficit_behind j e es there) in
                 let before : left_before i j quantum (e ∷ es) ≡ deficit_of j (e ∷ es) - quantum = ap (λ (t : Bool). left_of t (deficit_of j (e ∷ es)) quantum) (second-is there here) in
                 omega (arith, none, left, product, same, before, left-most (stands_first j i (es ++ last ∷ [])) (deficit_of j (es ++ last ∷ [])) quantum)
             | inr far ↦
-                let same : deficit_of j (es ++ last ∷ []) ≡ deficit_of j (e ∷ es) = deficit-other j last es there ∙ sym (deficit-behind j e es there) in
+                let same : deficit_of j (es ++ last ∷ []) ≡ deficit_of j (e ∷ es) = deficit-other j last es there ∙ sym (deficit_behind j e es there) in
                 let order : stands_first j i (es ++ last ∷ []) ≡ stands_first j i (e ∷ es) = order-other i j last es far there ∙ sym (neither-is there far) in
                 let after : left_before i j quantum (es ++ last ∷ []) ≡ left_before i j quantum (e ∷ es) =
                 ap (λ (t : Bool). left_of t (deficit_of j (es ++ last ∷ [])) quantum) order ∙ ap (λ m. left_of (stands_first j i (e ∷ es)) m quantum) same in

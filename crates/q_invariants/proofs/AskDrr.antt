@@ -10,7 +10,7 @@ use Rattle.q_drr.specs.Changes.{HeadsFit}
 use Rattle.q_drr.specs.declared.met.Met.{Met}
 use Rattle.q_drr.specs.Take.{choice_of}
 use Rattle.q_drr.proofs.ServedLemmas.{served_lawful, chosen_is_met}
-use Rattle.q_drr.proofs.DifferLemmas.{ClassesDiffer, EntriesDiffer, entries_apart, differ-from_pairs}
+use Rattle.q_drr.proofs.DifferLemmas.{ClassesDiffer, EntriesDiffer, entries_apart, differ_from_pairs}
 use Rattle.q_model.specs.declared.filter.Filter.{Filter}
 use Rattle.q_model.specs.Node.{Drr, Own}
 use Rattle.q_model.specs.Beneath.{beneath, is_empty}
@@ -66,7 +66,7 @@ module _ (mtu now : ℕ) (least_mtu : 1 ≤ mtu) (handle : Option ℕ) (filters 
     same = omega (arith, exact-length (λ n. is_active n s.active) s.classes (map beneath (befores below)) h.discipline.exact, length-map (befores below) beneath, length-map below (λ (a : Asked). a.before))
 
     classes_apart : ClassesDiffer s.classes
-    classes_apart = differ-from_pairs (λ (c : Class). c.name) s.classes h.discipline.schedule.classes_differ
+    classes_apart = differ_from_pairs (λ (c : Class). c.name) s.classes h.discipline.schedule.classes_differ
 
     apart : EntriesDiffer entries
     apart = differ-asked (choice_of heads s) s.active (entries_apart s.active h.discipline.schedule.entries_differ)

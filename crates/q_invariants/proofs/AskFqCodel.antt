@@ -7,7 +7,7 @@ use Rattle.q_packet.specs.declared.cause.Cause.TheVariants.{CoDel}
 use Rattle.q_packet.specs.declared.stamped.Stamped.{Stamped}
 use Rattle.q_codel.specs.Codel.{CodelState, CodelParams, IsCodelParams, params_of, drops}
 use Rattle.q_codel.specs.declared.taken.Taken.{Taken}
-use Rattle.q_codel.proofs.RangeLaw.{states_stay_in_range-holds}
+use Rattle.q_codel.proofs.RangeLaw.{states_stay_in_range_holds}
 use Rattle.q_fqcodel.specs.Cleared.{adjust, clear}
 use Rattle.q_fqcodel.specs.Entry.{Entry}
 use Rattle.q_fqcodel.specs.FqState.{FqSettings, Flow, FqState, is_idle, all_packets, rested_flow}
@@ -61,7 +61,7 @@ rested-lawful clock s f h = record {
 after-lawful : (now : ℕ) (s : FqSettings) → now ≤ 2 ^ 62 → (f : Flow) → IsLawfulFlow now s f → IsLawfulFlow now s (flow_after now f)
 unfolding flow_after
 after-lawful now s low f h =
-    let kept = states_stay_in_range-holds f.codel now f.queue h.settings h.state low in
+    let kept = states_stay_in_range_holds f.codel now f.queue h.settings h.state low in
     record {
       settings = subst IsCodelParams (sym kept.settings) h.settings;
       state = kept.state;

@@ -10,8 +10,8 @@ use Rattle.std.proofs.lemmas.Option.{none-some, same_Some, option_and_then_some}
 use Rattle.q_packet.specs.Descriptor.{Descriptor}
 use Rattle.q_drr.specs.Schedule.{Class, Entry, Schedule, is_active, quantum_of, deficit_of, IsEntry}
 use Rattle.q_drr.specs.Stretch.{stands_first}
-use Rattle.q_drr.proofs.DifferLemmas.{differ-from_pairs}
-use Rattle.q_drr.proofs.LookupLemmas.{deficit-here, deficit-behind}
+use Rattle.q_drr.proofs.DifferLemmas.{differ_from_pairs}
+use Rattle.q_drr.proofs.LookupLemmas.{deficit_here, deficit_behind}
 use Rattle.q_model.specs.declared.event.Event.{Event}
 use Rattle.q_model.specs.declared.event.Event.TheVariants as event
 use Rattle.q_model.specs.Events.{IsEvent}
@@ -101,7 +101,7 @@ drr-step major d e n after s t kept range there later is now_is = by e kept_afte
         asked-step d.tree.device.mtu (step history d (event.Poll moment)).device.clock kept.least_mtu kept_then.moment n s is law.schedule law.longest (here (step history d (event.Poll moment)).device.clock rises) after t now_is h
     by (event.Command c moment) kept_then rises now_is (inl same) = same-step (step history d (event.Command c moment)).device.clock n s is after t now_is same
     by (event.Command c moment) kept_then rises now_is (inr edit) =
-        edited-step (step history d (event.Command c moment)).device.clock n s is law.schedule (differ-from_pairs (λ (c : Class). c.name) s.classes law.schedule.classes_differ) after t now_is edit
+        edited-step (step history d (event.Command c moment)).device.clock n s is law.schedule (differ_from_pairs (λ (c : Class). c.name) s.classes law.schedule.classes_differ) after t now_is edit
 
 -- ---- one class
 
@@ -236,8 +236,8 @@ deficit-below max_len classes c (e ∷ es) least h = elim (cases_Bool (eqb c e.c
   | inl here ↦
       let first : IsEntry max_len classes e = All-head (IsEntry max_len classes) e es h in
       let bounded = first.bounded in
-      omega (arith, bounded, deficit-here c e es here, ap (λ m. quantum_of m classes) (eqb-true c e.class here))
-  | inr there ↦ subst (λ k. k < quantum_of c classes + max_len) (sym (deficit-behind c e es there)) (deficit-below max_len classes c es least (All-tail (IsEntry max_len classes) e es h))
+      omega (arith, bounded, deficit_here c e es here, ap (λ m. quantum_of m classes) (eqb-true c e.class here))
+  | inr there ↦ subst (λ k. k < quantum_of c classes + max_len) (sym (deficit_behind c e es there)) (deficit-below max_len classes c es least (All-tail (IsEntry max_len classes) e es h))
 ]
 
 pub deficit-bounded : (major minor : ℕ) (d : DeviceState (List Note)) (x : ClassAt) → IsKept d → class_in major minor d ≡ Some x → deficit_of minor x.schedule.active < quantum_of minor x.schedule.classes + d.tree.device.mtu

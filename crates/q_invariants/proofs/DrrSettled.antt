@@ -7,7 +7,7 @@ use Rattle.q_drr.specs.Schedule.{Class, Schedule, has_class, is_active}
 use Rattle.q_drr.specs.Schedule as drr
 use Rattle.q_model.specs.Numbers.{IsMinor}
 use Rattle.q_drr.proofs.ChangeLemmas.{asleep_lawful, woken_lawful}
-use Rattle.q_drr.proofs.DifferLemmas.{differ-from_pairs}
+use Rattle.q_drr.proofs.DifferLemmas.{differ_from_pairs}
 use Rattle.q_model.specs.Node.{Discipline, Fifo, Prio, Tbf, Drr, FqCodel}
 use Rattle.q_model.specs.Beneath.{packets_in}
 use Rattle.q_model.specs.Lawful.{IsLawfulDrr}
@@ -53,7 +53,7 @@ drr-settled mtu s below i old packets h least e =
       longest = next.longest;
       minors = subst (All (λ (c : Class). IsMinor c.name)) (sym next.classes) h.minors;
       exact = subst (λ cs. AreExact (λ n. is_active n (settled_schedule emptied found.0 s).active) cs (set below i packets)) (sym next.classes)
-          (exact-settled s s.classes below i found.0 packets found.1 (differ-from_pairs (λ (c : Class). c.name) s.classes h.schedule.classes_differ) h.exact);
+          (exact-settled s s.classes below i found.0 packets found.1 (differ_from_pairs (λ (c : Class). c.name) s.classes h.schedule.classes_differ) h.exact);
     })
 
 pub settled-packets : (i : ℕ) (emptied : Bool) (d : Discipline) → packets_in (settled_in i emptied d) ≡ packets_in d

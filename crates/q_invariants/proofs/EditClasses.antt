@@ -9,7 +9,7 @@ use Rattle.std.proofs.lemmas.List.Elements.{All-append, All-drop, All-filter, Al
 use Rattle.std.proofs.lemmas.List.Quantifiers.{position-Some}
 use Rattle.q_packet.specs.Descriptor.{Descriptor}
 use Rattle.q_drr.specs.Schedule.{Class, Entry, Schedule, has_class, is_active, cut, added, removed, with_quantum, IsEntry}
-use Rattle.q_drr.proofs.DifferLemmas.{ClassesDiffer, differ-from_pairs}
+use Rattle.q_drr.proofs.DifferLemmas.{ClassesDiffer, differ_from_pairs}
 use Rattle.q_drr.proofs.NameLemmas.{eqb_swap}
 use Rattle.q_drr.proofs.KeyLemmas.{others, has_push, has_others, has_map}
 use Rattle.q_drr.proofs.ChangeLemmas.{quantum_set, added_lawful, removed_lawful, with_quantum_lawful}
@@ -211,7 +211,7 @@ removed_drr mtu s below n i c h e name = record {
   longest = h.longest;
   minors = All-filter (λ (c : Class). not (n == c.name)) (λ (c : Class). IsMinor c.name) s.classes h.minors;
   exact = exact_removed (λ m. is_active m s.active) (λ m. is_active m (removed n s).active) n (λ m apart. has_others (λ (e : Entry). e.class) m n s.active (eqb_swap m n apart))
-      s.classes below i c (differ-from_pairs (λ (c : Class). c.name) s.classes h.schedule.classes_differ) e name h.exact;
+      s.classes below i c (differ_from_pairs (λ (c : Class). c.name) s.classes h.schedule.classes_differ) e name h.exact;
 }
 
 -- nodes side by side without one

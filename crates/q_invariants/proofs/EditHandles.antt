@@ -7,7 +7,7 @@ use Rattle.std.proofs.lemmas.Bool.{false≢true, eqb-true, eq-eqb, ne_eqb, not-t
 use Rattle.std.proofs.lemmas.Option.{none-some, same_Some}
 use Rattle.q_packet.proofs.LeastLemmas.{least_le, least_holds, least_gt}
 use Rattle.q_packet.specs.Least.{least}
-use Rattle.q_drr.proofs.DifferLemmas.{Differ, differ-from_pairs, pairs-from_differ}
+use Rattle.q_drr.proofs.DifferLemmas.{Differ, differ_from_pairs, pairs_from_differ}
 use Rattle.q_drr.proofs.NameLemmas.{eqb_swap}
 use Rattle.q_drr.proofs.KeyLemmas.{has, others, has_others}
 use Rattle.q_model.specs.Node.{Forest, none, more, Node, nodes_in, side_by_side, each}
@@ -120,10 +120,10 @@ abbrev pub AreApart : {M : Type 0} → Node M → Type 0
 AreApart n = AllPairs (λ (a b : Address). (a.handle ≡ b.handle) → ⊥) (addresses n)
 
 pub once-apart : {M : Type 0} (n : Node M) (h : ℕ) → AreApart n → times h n ≤ 1
-once-apart n h apart = omega (arith, among-times h n, once_from_differ h (addresses n) (differ-from_pairs key (addresses n) apart))
+once-apart n h apart = omega (arith, among-times h n, once_from_differ h (addresses n) (differ_from_pairs key (addresses n) apart))
 
 pub apart-once : {M : Type 0} (n : Node M) → ((h : ℕ) → times h n ≤ 1) → AreApart n
-apart-once n once = pairs-from_differ key (addresses n) (differ_from_once (addresses n) (λ h. omega (arith, among-times h n, once h)))
+apart-once n once = pairs_from_differ key (addresses n) (differ_from_once (addresses n) (λ h. omega (arith, among-times h n, once h)))
 
 -- ---- a handle that no node has
 

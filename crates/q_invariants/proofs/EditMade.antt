@@ -17,7 +17,7 @@ use Rattle.q_drr.proofs.ChangeLemmas.{empty_lawful}
 use Rattle.q_model.specs.declared.filter.Filter.{Filter}
 use Rattle.q_model.specs.declared.kind.Kind.{Kind}
 use Rattle.q_model.specs.declared.kind.Kind.TheVariants as kind
-use Rattle.q_model.specs.Numbers.{IsWithin, IsMinor, most_u32}
+use Rattle.q_model.specs.Numbers.{IsWithin, IsMinor}
 use Rattle.q_model.specs.Options.{FqOptions, IsFqCodelOptions}
 use Rattle.q_model.specs.Ranges.{IsKind}
 use Rattle.q_model.specs.Node.{Discipline, Fifo, Prio, Tbf, Drr, FqCodel, Shape, each, side_by_side}
@@ -92,19 +92,19 @@ or_within least most (Some n) k h e = h
 
 pub options_in_range : (o : FqOptions) (s : FqSettings) → IsFqCodelOptions o → settings.IsInRange s → settings.IsInRange (with_options o s)
 options_in_range o s h r =
-    let limit = or_within 1 most_u32 o.limit s.limit h.limit (r.limit_low, omega (arith, r.limit_high)) in
-    let flows = or_within 1 65536 o.flows s.flows h.flows (r.flows_low, r.flows_high) in
-    let quantum = or_within 1 most_u32 o.quantum s.quantum h.quantum (r.quantum_low, omega (arith, r.quantum_high)) in
-    let target = or_within 0 (10 ^ 12) o.target s.target h.target (omega arith, r.target_high) in
-    let interval = or_within 1000 (10 ^ 12) o.interval s.interval h.interval (r.interval_low, r.interval_high) in
-    let batch = or_within 1 65536 o.drop_batch s.drop_batch h.drop_batch (r.batch_low, r.batch_high) in
+    let limit = or_within 1 settings.most o.limit s.limit h.limit (r.limit_low, r.limit_high) in
+    let flows = or_within 1 settings.most_flows o.flows s.flows h.flows (r.flows_low, r.flows_high) in
+    let quantum = or_within 1 settings.most o.quantum s.quantum h.quantum (r.quantum_low, r.quantum_high) in
+    let target = or_within 0 settings.longest o.target s.target h.target (omega arith, r.target_high) in
+    let interval = or_within settings.shortest_interval settings.longest o.interval s.interval h.interval (r.interval_low, r.interval_high) in
+    let batch = or_within 1 settings.most_batch o.drop_batch s.drop_batch h.drop_batch (r.batch_low, r.batch_high) in
     record {
       limit_low = limit.0;
-      limit_high = omega (arith, limit.1);
+      limit_high = limit.1;
       flows_low = flows.0;
       flows_high = flows.1;
       quantum_low = quantum.0;
-      quantum_high = omega (arith, quantum.1);
+      quantum_high = quantum.1;
       target_high = target.1;
       interval_low = interval.0;
       interval_high = interval.1;

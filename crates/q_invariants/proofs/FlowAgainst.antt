@@ -18,8 +18,8 @@ use Rattle.q_fqcodel.specs.QuantaGiven.{quanta_given}
 use Rattle.q_fqcodel.specs.Take.{selected, front, paid, sent_from, after_sending}
 use Rattle.q_fqcodel.proofs.GivenLemmas.{credits_by_quanta}
 use Rattle.q_fqcodel.proofs.LawfulLemmas.{times-append}
-use Rattle.q_fqcodel.proofs.PutLemmas.{listed-not}
-use Rattle.q_fqcodel.proofs.SentLemmas.{flow-paid, paid-is, after-none, after-new_flows, after-written, written}
+use Rattle.q_fqcodel.proofs.PutLemmas.{listed_not}
+use Rattle.q_fqcodel.proofs.SentLemmas.{flow-paid, paid_is, after_none, after_new_flows, after_sending-written, written}
 use Rattle.q_fqcodel.proofs.TurnLemmas.{first_in_front, none_in_front}
 use Rattle.q_model.specs.declared.event.Event.{Event}
 use Rattle.q_model.specs.Events.{IsEvent}
@@ -50,7 +50,7 @@ pub gave-own : (j mtu : ℕ) (e : Entry) (o : Option Taken) → e.flow ≡ j →
 gave-own j mtu e None own high short = omega (arith, ap (λ (x : Entry). reach mtu x.credits) (paid-none e))
 gave-own j mtu e (Some t) own high short =
     let gave : bytes_given j (flow_gave (Some e) (Some t)) ≡ t.packet.len = ap (λ (b : Bool). 0 + (if b then t.packet.len else 0)) (eq-eqb j e.flow (sym own)) ∙ omega arith in
-    omega (arith, gave, reach-paid mtu t.packet.len e.credits (paid (Some t) e).credits high short (ap (λ (x : Entry). x.credits) (paid-is (Some t) t e refl)))
+    omega (arith, gave, reach-paid mtu t.packet.len e.credits (paid (Some t) e).credits high short (ap (λ (x : Entry). x.credits) (paid_is (Some t) t e refl)))
 
 selected-quantum : (s : FqState) → (selected s).settings.quantum ≡ s.settings.quantum
 unfolding selected
@@ -78,7 +78,7 @@ module _ (i j mtu : ℕ) (apart : i ≢ j) where
         let m : Entry = paid (sent_from now s) e in
         let all : lists_of s ≡ e ∷ (rest ++ s.old_flows) = ap (λ (l : List Entry). l ++ s.old_flows) is in
         let before : may s ≡ in_lists i j s.settings.quantum mtu false (e ∷ rest) s.old_flows = ap (λ (l : List Entry). in_lists i j s.settings.quantum mtu false l s.old_flows) is in
-        let after : may (after_sending now s) ≡ in_lists i j s.settings.quantum mtu false (m ∷ rest) s.old_flows = ap may (after-new_flows s e rest now is) in
+        let after : may (after_sending now s) ≡ in_lists i j s.settings.quantum mtu false (m ∷ rest) s.old_flows = ap may (after_new_flows s e rest now is) in
         let bytes = gave-of now s (Some e) (first_in_front s e (rest ++ s.old_flows) all) in
         elim (cases_eq e.flow j) [
           | inl own ↦
@@ -100,7 +100,7 @@ module _ (i j mtu : ℕ) (apart : i ≢ j) where
         let all : lists_of s ≡ e ∷ rest = ap₂ (λ (l k : List Entry). l ++ k) none is in
         let before : may s ≡ in_lists i j s.settings.quantum mtu false [] (e ∷ rest) = ap₂ (λ (l k : List Entry). in_lists i j s.settings.quantum mtu false l k) none is in
         let after : may (after_sending now s) ≡ in_lists i j s.settings.quantum mtu false [] (m ∷ rest) =
-        ap may (after-written s e now (sym (first_in_front s e rest all)))
+        ap may (after_sending-written s e now (sym (first_in_front s e rest all)))
         ∙ ap₂ (λ (l k : List Entry). in_lists i j s.settings.quantum mtu false (set l 0 m) (written m l k)) none is in
         let bytes = gave-of now s (Some e) (first_in_front s e rest all) in
         elim (cases_eq e.flow j) [
@@ -120,7 +120,7 @@ module _ (i j mtu : ℕ) (apart : i ≢ j) where
     sends-any : (new old : List Entry) → s.new_flows ≡ new → s.old_flows ≡ old → gave now s + may (after_sending now s) ≤ may s
     sends-any [] [] new old =
         let none : 0 ≡ gave now s = gave-of now s None (none_in_front s new old) in
-        omega (arith, none, ap may (after-none s now new old))
+        omega (arith, none, ap may (after_none s now new old))
     sends-any [] (e ∷ rest) new old = sends-old e rest new old
     sends-any (e ∷ rest) old_flows new old = sends-new e rest new
 
@@ -191,7 +191,7 @@ module _ (i j mtu : ℕ) (apart : i ≢ j) where
 
         by : (t : Bool) → is_listed (flow_of s p) (lists_of s) ≡ t → in_lists i j s.settings.quantum mtu false (if t then s.new_flows else s.new_flows ++ x ∷ []) s.old_flows ≤ may s
         by true e = omega arith
-        by false e = joins (listed-not (flow_of s p) (lists_of s) e)
+        by false e = joins (listed_not (flow_of s p) (lists_of s) e)
 
     -- ---- any event
 

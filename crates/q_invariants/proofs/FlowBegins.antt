@@ -9,10 +9,10 @@ use Rattle.q_fqcodel.specs.Lawful.{times}
 use Rattle.q_fqcodel.specs.Laws.{credits_of}
 use Rattle.q_fqcodel.specs.Put.{flow_of, is_listed, appended, cut_back, after_put}
 use Rattle.q_fqcodel.specs.Take.{selected}
-use Rattle.q_fqcodel.proofs.LawfulLemmas.{times-cons, times-append, one-other}
-use Rattle.q_fqcodel.proofs.InLemmas.{one-at}
-use Rattle.q_fqcodel.proofs.ListedLemmas.{times-selected, times-sent}
-use Rattle.q_fqcodel.proofs.PutLemmas.{listed-not, listed-yes}
+use Rattle.q_fqcodel.proofs.LawfulLemmas.{times-cons, times-append, one_other}
+use Rattle.q_fqcodel.proofs.InLemmas.{one_at}
+use Rattle.q_fqcodel.proofs.ListedLemmas.{times-selected, times_sent}
+use Rattle.q_fqcodel.proofs.PutLemmas.{listed_not, listed_yes}
 use Rattle.q_model.specs.declared.event.Event.{Event}
 use Rattle.q_model.specs.Events.{IsEvent}
 use Rattle.q_model.specs.Tally.{Note, history}
@@ -27,7 +27,7 @@ use Rattle.q_invariants.proofs.FlowLists.{credits-here, credits-behind}
 pub credits-last : (n : ℕ) (x : Entry) (es : List Entry) → times n es ≡ 0 → (x.flow == n) ≡ true → credits_of n (es ++ x ∷ []) ≡ Some x.credits
 credits-last n x [] none own = credits-here n x [] own
 credits-last n x (e ∷ es) none own = elim (cases_Bool (e.flow == n)) [
-  | inl here ↦ absurd (omega (arith, none, times-cons n e es, one-at n e (eqb-true e.flow n here)))
+  | inl here ↦ absurd (omega (arith, none, times-cons n e es, one_at n e (eqb-true e.flow n here)))
   | inr other ↦ credits-behind n e (es ++ x ∷ []) other ∙ credits-last n x es (omega (arith, none, times-cons n e es)) own
 ]
 
@@ -56,7 +56,7 @@ put-begins n s p now none some = by (is_listed (flow_of s p) (lists_of s)) some
             times-append n (s.new_flows ++ new ∷ []) s.old_flows,
             times-append n s.new_flows (new ∷ []),
             times-cons n new [],
-            one-other n new (eqb-false new.flow n other),
+            one_other n new (eqb-false new.flow n other),
           ))
     ]
 
@@ -70,10 +70,10 @@ step-begins n now s t notes (inl quiet) none some = by quiet.lists
         ∙ put-begins n s put.0 put.1 none (omega (arith, some, ap (λ (x : FqState). times n (lists_of x)) put.2))
         ∙ sym (ap (λ (x : FqState). Some (pos x.settings.quantum)) put.2 ∙ ap (λ (settings : FqSettings). Some (pos settings.quantum)) (put-settings s put.0 put.1))
 step-begins n now s t notes (inr take) none some =
-    absurd (omega (arith, none, some, ap (λ (x : FqState). times n (lists_of x)) take.is, times-sent n now (selected s), times-selected n s))
+    absurd (omega (arith, none, some, ap (λ (x : FqState). times n (lists_of x)) take.is, times_sent n now (selected s), times-selected n s))
 
 pub flow-begins : (major n : ℕ) (d : DeviceState (List Note)) (e : Event) (x y : FqAt) → IsKept d → IsEvent e → fq_in major d ≡ Some x → fq_in major (step history d e).device ≡ Some y
     → is_listed n (lists_of x.state) ≡ false → is_listed n (lists_of y.state) ≡ true → credits_of n y.state.new_flows ≡ Some (pos y.state.settings.quantum)
 flow-begins major n d e x y kept range is at apart listed =
     let s = fq-step major d e x y kept range is at in
-    step-begins n (step history d e).device.clock x.state y.state s.notes s.by (listed-not n (lists_of x.state) apart) (listed-yes n (lists_of y.state) listed)
+    step-begins n (step history d e).device.clock x.state y.state s.notes s.by (listed_not n (lists_of x.state) apart) (listed_yes n (lists_of y.state) listed)

@@ -17,12 +17,12 @@ use Rattle.q_fqcodel.specs.Put.{flow_of, is_listed, appended, cut_back, after_pu
 use Rattle.q_fqcodel.specs.Quanta.{given}
 use Rattle.q_fqcodel.specs.Take.{selected, front, paid, sent_from}
 use Rattle.q_fqcodel.specs.Turns.{turns}
-use Rattle.q_fqcodel.proofs.FlowLemmas.{idle-rested}
-use Rattle.q_fqcodel.proofs.InLemmas.{one-at}
-use Rattle.q_fqcodel.proofs.LawfulLemmas.{times-cons, times-append, one-other}
-use Rattle.q_fqcodel.proofs.ListedLemmas.{times-selected, times-sent}
-use Rattle.q_fqcodel.proofs.PutLemmas.{listed-not, listed-yes}
-use Rattle.q_fqcodel.proofs.SentLemmas.{flow-paid, paid-is, after-new_flows}
+use Rattle.q_fqcodel.proofs.FlowLemmas.{is_idle-rested_flow}
+use Rattle.q_fqcodel.proofs.InLemmas.{one_at}
+use Rattle.q_fqcodel.proofs.LawfulLemmas.{times-cons, times-append, one_other}
+use Rattle.q_fqcodel.proofs.ListedLemmas.{times-selected, times_sent}
+use Rattle.q_fqcodel.proofs.PutLemmas.{listed_not, listed_yes}
+use Rattle.q_fqcodel.proofs.SentLemmas.{flow-paid, paid_is, after_new_flows}
 use Rattle.q_fqcodel.proofs.TurnLemmas.{LeadsOn, new_granted, new_moves, new_ready, first_in_front}
 use Rattle.q_model.specs.declared.event.Event.{Event}
 use Rattle.q_model.specs.Events.{IsEvent}
@@ -51,7 +51,7 @@ credits-front n (e ∷ xs) ys z is = elim (cases_Bool (e.flow == n)) [
 credits-times : (n : ℕ) (xs : List Entry) (z : ℤ) → credits_of n xs ≡ Some z → 1 ≤ times n xs
 credits-times n [] z is = absurd (none-some z is)
 credits-times n (e ∷ xs) z is = elim (cases_eq e.flow n) [
-  | inl own ↦ omega (arith, times-cons n e xs, one-at n e own)
+  | inl own ↦ omega (arith, times-cons n e xs, one_at n e own)
   | inr other ↦ omega (arith, times-cons n e xs, credits-times n xs z (sym (credits-behind n e xs (ne_eqb e.flow n other)) ∙ is))
 ]
 
@@ -78,13 +78,13 @@ module _ (j k mtu : ℕ) (apart : j ≢ k) where
   before-none [] none = refl
   before-none (e ∷ es) none = elim (cases_eq e.flow j) [
     | inl own ↦ before-own e es own
-    | inr far ↦ before-third e es far (λ same. absurd (omega (arith, none, times-cons k e es, one-at k e same))) ∙ before-none es (omega (arith, none, times-cons k e es))
+    | inr far ↦ before-third e es far (λ same. absurd (omega (arith, none, times-cons k e es, one_at k e same))) ∙ before-none es (omega (arith, none, times-cons k e es))
   ]
 
   -- the front goes from the list
   before-passed : (e : Entry) (es : List Entry) → times k (e ∷ es) ≤ 1 → e.flow ≢ j → before es ≤ before (e ∷ es)
   before-passed e es once far = elim (cases_eq e.flow k) [
-    | inl own ↦ omega (arith, before-none es (omega (arith, once, times-cons k e es, one-at k e own)))
+    | inl own ↦ omega (arith, before-none es (omega (arith, once, times-cons k e es, one_at k e own)))
     | inr other ↦ omega (arith, before-third e es far other)
   ]
 
@@ -96,7 +96,7 @@ module _ (j k mtu : ℕ) (apart : j ≢ k) where
     | inr far ↦ elim (cases_eq e.flow k) [
       | inl own ↦ before-other e (es ++ x ∷ []) own ∙ sym (before-other e es own)
       | inr other ↦
-          before-third e (es ++ x ∷ []) far other ∙ before-end x es (omega (arith, there, times-cons j e es, one-other j e far)) ∙ sym (before-third e es far other)
+          before-third e (es ++ x ∷ []) far other ∙ before-end x es (omega (arith, there, times-cons j e es, one_other j e far)) ∙ sym (before-third e es far other)
     ]
   ]
 
@@ -115,7 +115,7 @@ module _ (j k mtu : ℕ) (apart : j ≢ k) where
 
   before-absent : (x : Entry) (es : List Entry) → x.flow ≡ j → times k es ≡ 0 → before (es ++ x ∷ []) ≡ 0
   before-absent x es own none =
-      before-none (es ++ x ∷ []) (omega (arith, none, times-append k es (x ∷ []), times-cons k x [], one-other k x (λ same. apart (sym own ∙ same))))
+      before-none (es ++ x ∷ []) (omega (arith, none, times-append k es (x ∷ []), times-cons k x [], one_other k x (λ same. apart (sym own ∙ same))))
 
   -- ---- the visits of a take
 
@@ -157,7 +157,7 @@ module _ (j k mtu : ℕ) (apart : j ≢ k) where
               record {
                 led = new_moves s lawful e rest is some empty;
                 same_quantum = refl;
-                busy = ap (λ (f : ℕ → Bool). f j) (idle-rested e.flow s.flows) ∙ busy;
+                busy = ap (λ (f : ℕ → Bool). f j) (is_idle-rested_flow e.flow s.flows) ∙ busy;
                 credits = sym (ap (credits_of j) is ∙ credits-behind j e rest (ne_eqb e.flow j far));
                 less = passed far;
               },
@@ -231,7 +231,7 @@ module _ (j k mtu : ℕ) (apart : j ≢ k) where
     paid-nothing e None own none = ap (λ (x : Entry). x.credits) (paid-none e)
     paid-nothing e (Some t) own none =
         let gave : bytes_given j (flow_gave (Some e) (Some t)) ≡ t.packet.len = ap (λ (b : Bool). 0 + (if b then t.packet.len else 0)) (eq-eqb j e.flow (sym own)) ∙ omega arith in
-        let credits = ap (λ (x : Entry). x.credits) (paid-is (Some t) t e refl) in
+        let credits = ap (λ (x : Entry). x.credits) (paid_is (Some t) t e refl) in
         omega (arith, ints, gave, none, credits)
 
     take-waits : (t : FqState) (notes : List Note) → Takes now s t notes → IfSome (sent_from now (selected s)) (λ t. t.packet.len ≤ mtu) → bytes_given j notes ≡ 0 → Waits s t.new_flows notes z
@@ -240,7 +240,7 @@ module _ (j k mtu : ℕ) (apart : j ≢ k) where
         let e : Entry = c.first in
         let o : Option Taken = sent_from now (selected s) in
         let m : Entry = paid o e in
-        let new : t.new_flows ≡ m ∷ c.rest = ap (λ (x : FqState). x.new_flows) (take.is ∙ after-new_flows (selected s) e c.rest now c.is) in
+        let new : t.new_flows ≡ m ∷ c.rest = ap (λ (x : FqState). x.new_flows) (take.is ∙ after_new_flows (selected s) e c.rest now c.is) in
         let in_front : front (selected s) ≡ Some e = sym (first_in_front (selected s) e (c.rest ++ (selected s).old_flows) (ap (λ (l : List Entry). l ++ (selected s).old_flows) c.is)) in
         let gave : (n : ℕ) → bytes_given n notes ≡ bytes_given n (flow_gave (Some e) o) = λ n. take.bytes n ∙ ap (λ (f : Option Entry). bytes_given n (flow_gave f o)) in_front in
         let still : credits_of j (e ∷ c.rest) ≡ Some z = ap (credits_of j) (sym c.is) ∙ c.credits in
@@ -320,7 +320,7 @@ module _ (j k mtu : ℕ) (apart : j ≢ k) where
                     times-append j (s.new_flows ++ x ∷ []) s.old_flows,
                     times-append j s.new_flows (x ∷ []),
                     times-cons j x [],
-                    one-other j x other,
+                    one_other j x other,
                   ))
             ] in
             record {
@@ -330,7 +330,7 @@ module _ (j k mtu : ℕ) (apart : j ≢ k) where
             }
 
     pub step-joins : Changes now s t notes → Joins s t notes
-    step-joins (inr take) = absurd (omega (arith, none, some, ap (λ (x : FqState). times j (lists_of x)) take.is, times-sent j now (selected s), times-selected j s))
+    step-joins (inr take) = absurd (omega (arith, none, some, ap (λ (x : FqState). times j (lists_of x)) take.is, times_sent j now (selected s), times-selected j s))
     step-joins (inl quiet) = by quiet.lists
       where
         by : SameLists s t ⊎ ((p : Descriptor) × (at : ℕ) × (t ≡ after_put s p at)) → Joins s t notes
@@ -387,5 +387,5 @@ flow-joins major j k mtu apart d e x y kept range is at before after =
     record {
       notes = s.notes;
       is = s.is;
-      joins = step-joins j k mtu apart (step history d e).device.clock x.state y.state s.notes (listed-not j (lists_of x.state) before) (listed-yes j (lists_of y.state) after) s.by;
+      joins = step-joins j k mtu apart (step history d e).device.clock x.state y.state s.notes (listed_not j (lists_of x.state) before) (listed_yes j (lists_of y.state) after) s.by;
     }

@@ -15,8 +15,8 @@ use Rattle.q_fqcodel.specs.Laws.{credits_of}
 use Rattle.q_fqcodel.specs.Put.{flow_of, is_listed, appended, cut_back, after_put}
 use Rattle.q_fqcodel.specs.QuantaGiven.{Grant, quanta_given, grants}
 use Rattle.q_fqcodel.specs.Take.{front, paid, sent_from, after_sending}
-use Rattle.q_fqcodel.proofs.LawfulLemmas.{times-cons, one, one-other}
-use Rattle.q_fqcodel.proofs.SentLemmas.{flow-paid, paid-is, front-is, front-none, after-written, lists-written}
+use Rattle.q_fqcodel.proofs.LawfulLemmas.{times-cons, one, one_other}
+use Rattle.q_fqcodel.proofs.SentLemmas.{flow-paid, paid_is, front_is, front_none, after_sending-written, lists_written}
 use Rattle.q_model.specs.Tally.{FlowGranted}
 use Rattle.q_model.specs.Quanta.{flows_granted, flow_gave}
 use Rattle.q_model.specs.Stretches.{flow_granted_by, flow_grants_to, bytes_given}
@@ -38,7 +38,7 @@ module _ (n : ℕ) where
   listed-credits (e ∷ es) h = elim (cases_Bool (e.flow == n)) [
     | inl own ↦ (e.credits, credits-here e es own)
     | inr other ↦
-        let rest = listed-credits es (omega (arith, h, times-cons n e es, one-other n e (eqb-false e.flow n other))) in
+        let rest = listed-credits es (omega (arith, h, times-cons n e es, one_other n e (eqb-false e.flow n other))) in
         (rest.0, credits-behind e es other ∙ rest.1)
   ]
 
@@ -80,7 +80,7 @@ module _ (n : ℕ) where
     where
       lists : (m e : Entry) → front s ≡ Some e → m ≡ paid (sent_from now s) e → (after_sending now s).new_flows ++ (after_sending now s).old_flows ≡ m ∷ drop 1 (s.new_flows ++ s.old_flows)
       lists m e f is =
-          ap (λ (t : FqState). t.new_flows ++ t.old_flows) (after-written s e now f) ∙ lists-written s (paid (sent_from now s) e) e f ∙ ap (λ (x : Entry). x ∷ drop 1 (s.new_flows ++ s.old_flows)) (sym is)
+          ap (λ (t : FqState). t.new_flows ++ t.old_flows) (after_sending-written s e now f) ∙ lists_written s (paid (sent_from now s) e) e f ∙ ap (λ (x : Entry). x ∷ drop 1 (s.new_flows ++ s.old_flows)) (sym is)
 
       behind : (e : Entry) (o : Option Taken) → (e.flow == n) ≡ false → bytes_given n (flow_gave (Some e) o) ≡ 0
       behind e None other = refl
@@ -90,17 +90,17 @@ module _ (n : ℕ) where
       own-sent e None own = ap (λ (x : Entry). x.credits +ℤ pos 0) (paid-none e) ∙ omega (arith, ints)
       own-sent e (Some t) own =
           let gave : bytes_given n (flow_gave (Some e) (Some t)) ≡ t.packet.len = ap (λ (b : Bool). 0 + (if b then t.packet.len else 0)) (eq-eqb n e.flow (sym (eqb-true e.flow n own))) ∙ omega arith in
-          let credits = ap (λ (x : Entry). x.credits) (paid-is (Some t) t e refl) in
+          let credits = ap (λ (x : Entry). x.credits) (paid_is (Some t) t e refl) in
           ap (λ k. (paid (Some t) e).credits +ℤ pos k) gave ∙ omega (arith, ints, credits)
 
       by : (f : Option Entry) → front s ≡ f → (after : ℤ) × Sends now s o z after
       by None f =
-          let none = front-none s f in
+          let none = front_none s f in
           absurd (none-some z (sym (ap (λ es. credits_of n es) (ap₂ (λ (a b : List Entry). a ++ b) none.0 none.1)) ∙ h))
       by (Some e) f =
           let m : Entry = paid o e in
           let here : m ≡ paid (sent_from now s) e = ap (λ (r : Option Taken). paid r e) (sym sent) in
-          let whole : credits_of n (e ∷ drop 1 (s.new_flows ++ s.old_flows)) ≡ Some z = ap (credits_of n) (sym (front-is s e f)) ∙ h in
+          let whole : credits_of n (e ∷ drop 1 (s.new_flows ++ s.old_flows)) ≡ Some z = ap (credits_of n) (sym (front_is s e f)) ∙ h in
           let gave : bytes_given n (flow_gave (front s) o) ≡ bytes_given n (flow_gave (Some e) o) = ap (λ (x : Option Entry). bytes_given n (flow_gave x o)) f in
           elim (cases_Bool (e.flow == n)) [
             | inl own ↦ (

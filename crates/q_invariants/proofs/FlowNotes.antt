@@ -7,7 +7,7 @@ use Rattle.q_packet.specs.Descriptor.{Descriptor}
 use Rattle.q_packet.specs.declared.stamped.Stamped.{Stamped}
 use Rattle.q_codel.specs.Codel.{CodelState, drops, sent, leaving, marks}
 use Rattle.q_codel.specs.declared.taken.Taken.{Taken}
-use Rattle.q_codel.proofs.Promises.{last_packet_stays-holds}
+use Rattle.q_codel.proofs.Promises.{last_packet_stays_holds}
 use Rattle.q_fqcodel.specs.Entry.{Entry}
 use Rattle.q_fqcodel.specs.FqState.{Flow, FqState, all_packets}
 use Rattle.q_fqcodel.specs.Laws.{head_sent}
@@ -73,7 +73,7 @@ none-dropped c now [] e = by (drops c now [])
     by (suc n) = refl
 none-dropped c now (s ∷ queue) e =
     absurd (none-some (get_or (s ∷ queue) (drops c now (s ∷ queue)) s)
-    (sym e ∙ slice_get-get_or (s ∷ queue) (drops c now (s ∷ queue)) s (last_packet_stays-holds c now (s ∷ queue) (omega arith))))
+    (sym e ∙ slice_get-get_or (s ∷ queue) (drops c now (s ∷ queue)) s (last_packet_stays_holds c now (s ∷ queue) (omega arith))))
 
 pub nothing-dropped : (now : ℕ) (s : FqState) → given (sent_from now s) ≡ None → dropped_from now s ≡ []
 unfolding sent_from packet_sent dropped_from packets_dropped

@@ -10,9 +10,9 @@ use Rattle.q_fqcodel.specs.Lawful.{times, IsLawful}
 use Rattle.q_fqcodel.specs.Order.{stands_first}
 use Rattle.q_fqcodel.specs.Put.{flow_of, is_listed, appended, cut_back, after_put}
 use Rattle.q_fqcodel.specs.Take.{front, paid, sent_from, selected, after_sending}
-use Rattle.q_fqcodel.proofs.OrderLemmas.{one_if, order-other, order-same, order-front, quanta-even}
-use Rattle.q_fqcodel.proofs.PutLemmas.{listed-not}
-use Rattle.q_fqcodel.proofs.SentLemmas.{flow-paid, front-is, front-none, after-none, after-written, lists-written}
+use Rattle.q_fqcodel.proofs.OrderLemmas.{one_if, order_other, order_same, order_front, quanta_even}
+use Rattle.q_fqcodel.proofs.PutLemmas.{listed_not}
+use Rattle.q_fqcodel.proofs.SentLemmas.{flow-paid, front_is, front_none, after_none, after_sending-written, lists_written}
 use Rattle.q_model.specs.declared.event.Event.{Event}
 use Rattle.q_model.specs.Events.{IsEvent}
 use Rattle.q_model.specs.Tally.{Note, history}
@@ -35,24 +35,24 @@ module _ (i j : ℕ) (s : FqState) (law : IsLawful s) (busy_i : is_idle s.flows 
       new = record { flow = flow_of s p; credits = pos s.settings.quantum }
 
       other : (n : ℕ) → is_idle s.flows n ≡ false → is_listed (flow_of s p) (lists_of s) ≡ false → new.flow ≡ n → ⊥
-      other n busy e own = absurd (omega (arith, law.busy n busy, ap (λ k. times k (lists_of s)) (sym own), listed-not (flow_of s p) (lists_of s) e))
+      other n busy e own = absurd (omega (arith, law.busy n busy, ap (λ k. times k (lists_of s)) (sym own), listed_not (flow_of s p) (lists_of s) e))
 
       by : (t : Bool) → is_listed (flow_of s p) (lists_of s) ≡ t → stands_first i j ((if t then s.new_flows else s.new_flows ++ new ∷ []) ++ s.old_flows) ≡ stands_first i j (lists_of s)
       by true e = refl
       by false e =
           ap (stands_first i j) (append_assoc s.new_flows (new ∷ []) s.old_flows)
-          ∙ order-front i j s.new_flows (new ∷ s.old_flows) s.old_flows (order-other i j new s.old_flows (other i busy_i e) (other j busy_j e))
+          ∙ order_front i j s.new_flows (new ∷ s.old_flows) s.old_flows (order_other i j new s.old_flows (other i busy_i e) (other j busy_j e))
 
 order-sent : (i j now : ℕ) (s : FqState) → stands_first i j (lists_of (after_sending now s)) ≡ stands_first i j (lists_of s)
 order-sent i j now s = by (front s) refl
   where
     by : (o : Option Entry) → front s ≡ o → stands_first i j (lists_of (after_sending now s)) ≡ stands_first i j (lists_of s)
-    by None f = let none = front-none s f in ap (λ (t : FqState). stands_first i j (lists_of t)) (after-none s now none.0 none.1)
+    by None f = let none = front_none s f in ap (λ (t : FqState). stands_first i j (lists_of t)) (after_none s now none.0 none.1)
     by (Some e) f =
         let m : Entry = paid (sent_from now s) e in
         let rest : List Entry = drop 1 (lists_of s) in
-        let written : lists_of (after_sending now s) ≡ m ∷ rest = ap lists_of (after-written s e now f) ∙ lists-written s m e f in
-        ap (stands_first i j) written ∙ order-same i j m e rest rest (flow-paid (sent_from now s) e) refl ∙ ap (stands_first i j) (sym (front-is s e f))
+        let written : lists_of (after_sending now s) ≡ m ∷ rest = ap lists_of (after_sending-written s e now f) ∙ lists_written s m e f in
+        ap (stands_first i j) written ∙ order_same i j m e rest rest (flow-paid (sent_from now s) e) refl ∙ ap (stands_first i j) (sym (front_is s e f))
 
 step-even : (i j now : ℕ) (s t : FqState) (notes : List Note) → IsLawful s → is_idle s.flows i ≡ false → is_idle s.flows j ≡ false → Changes now s t notes
     → flow_grants_to i notes + one_if (stands_first i j (lists_of t)) ≡ flow_grants_to j notes + one_if (stands_first i j (lists_of s))
@@ -69,7 +69,7 @@ step-even i j now s t notes law busy_i busy_j (inr take) =
       take.granted j,
       quanta-noted i s law (law.busy i busy_i),
       quanta-noted j s law (law.busy j busy_j),
-      quanta-even s i j law busy_i busy_j,
+      quanta_even s i j law busy_i busy_j,
       ap one_if sent,
     )
 

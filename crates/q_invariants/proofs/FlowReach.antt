@@ -7,8 +7,8 @@ use Rattle.std.proofs.lemmas.Option.{none-some, same_Some}
 use Rattle.q_fqcodel.specs.Entry.{Entry}
 use Rattle.q_fqcodel.specs.Lawful.{times}
 use Rattle.q_fqcodel.specs.Laws.{credits_of}
-use Rattle.q_fqcodel.proofs.LawfulLemmas.{times-cons, one-other}
-use Rattle.q_fqcodel.proofs.InLemmas.{one-at}
+use Rattle.q_fqcodel.proofs.LawfulLemmas.{times-cons, one_other}
+use Rattle.q_fqcodel.proofs.InLemmas.{one_at}
 use Rattle.q_model.specs.Stretches.{reach}
 use Rattle.q_invariants.proofs.FlowLists.{credits-here, credits-behind}
 
@@ -88,7 +88,7 @@ module _ (i j q mtu : ℕ) where
   passes-on passed e es (inl was) = inl (ap (λ (t : Bool). t || (e.flow == i)) was)
   passes-on passed e es (inr comes) = elim (cases_eq e.flow i) [
     | inl own ↦ inl (at-first passed e own)
-    | inr other ↦ inr (omega (arith, comes, times-cons i e es, one-other i e other))
+    | inr other ↦ inr (omega (arith, comes, times-cons i e es, one_other i e other))
   ]
 
   passed-none : (passed : Bool) → Passes passed [] → passed ≡ true
@@ -114,13 +114,13 @@ module _ (i j q mtu : ℕ) where
   old-last : (passed : Bool) (x : Entry) (es : List Entry) → x.flow ≡ j → times j es ≡ 0 → Passes passed es → in_old passed (es ++ x ∷ []) ≡ reach mtu x.credits - q
   old-last passed x [] own none passes = old-own passed x [] own ∙ ap (λ (t : Bool). in_place t x.credits) (passed-none passed passes)
   old-last passed x (e ∷ es) own none passes =
-      let apart : e.flow ≢ j = λ same. absurd (omega (arith, none, times-cons j e es, one-at j e same)) in
+      let apart : e.flow ≢ j = λ same. absurd (omega (arith, none, times-cons j e es, one_at j e same)) in
       old-other passed e (es ++ x ∷ []) apart ∙ old-last (passed || (e.flow == i)) x es own (omega (arith, none, times-cons j e es)) (passes-on passed e es passes)
 
   pub lists-last : (passed : Bool) (x : Entry) (new old : List Entry) → x.flow ≡ j → times j (new ++ old) ≡ 0 → Passes passed (new ++ old) → in_lists passed new (old ++ x ∷ []) ≡ reach mtu x.credits - q
   lists-last passed x [] old own none passes = old-last passed x old own none passes
   lists-last passed x (e ∷ es) old own none passes =
-      let apart : e.flow ≢ j = λ same. absurd (omega (arith, none, times-cons j e (es ++ old), one-at j e same)) in
+      let apart : e.flow ≢ j = λ same. absurd (omega (arith, none, times-cons j e (es ++ old), one_at j e same)) in
       new-other passed e es (old ++ x ∷ []) apart ∙ lists-last (passed || (e.flow == i)) x es old own (omega (arith, none, times-cons j e (es ++ old))) (passes-on passed e (es ++ old) passes)
 
   -- a flow that joins
@@ -134,17 +134,17 @@ module _ (i j q mtu : ℕ) where
   pub lists-joined : (passed : Bool) (x : Entry) (new old : List Entry) → x.flow ≡ j → times j new ≡ 0 → in_lists passed (new ++ x ∷ []) old ≡ reach mtu x.credits
   lists-joined passed x [] old own none = new-own passed x [] old own
   lists-joined passed x (e ∷ es) old own none =
-      let apart : e.flow ≢ j = λ same. absurd (omega (arith, none, times-cons j e es, one-at j e same)) in
+      let apart : e.flow ≢ j = λ same. absurd (omega (arith, none, times-cons j e es, one_at j e same)) in
       new-other passed e (es ++ x ∷ []) old apart ∙ lists-joined (passed || (e.flow == i)) x es old own (omega (arith, none, times-cons j e es))
 
   -- a flow in neither list
   pub lists-none : (passed : Bool) (new old : List Entry) → times j (new ++ old) ≡ 0 → in_lists passed new old ≡ q + (mtu - 1)
   lists-none passed [] [] none = refl
   lists-none passed [] (e ∷ es) none =
-      let apart : e.flow ≢ j = λ same. absurd (omega (arith, none, times-cons j e es, one-at j e same)) in
+      let apart : e.flow ≢ j = λ same. absurd (omega (arith, none, times-cons j e es, one_at j e same)) in
       old-other passed e es apart ∙ lists-none (passed || (e.flow == i)) [] es (omega (arith, none, times-cons j e es))
   lists-none passed (e ∷ es) old none =
-      let apart : e.flow ≢ j = λ same. absurd (omega (arith, none, times-cons j e (es ++ old), one-at j e same)) in
+      let apart : e.flow ≢ j = λ same. absurd (omega (arith, none, times-cons j e (es ++ old), one_at j e same)) in
       new-other passed e es old apart ∙ lists-none (passed || (e.flow == i)) es old (omega (arith, none, times-cons j e (es ++ old)))
 
   -- flow i goes from before the others to the end of them
@@ -218,7 +218,7 @@ module _ (i j q mtu : ℕ) where
   pub reach-none : (es : List Entry) → times j es ≡ 0 → reach_in es ≡ q + (mtu - 1)
   reach-none [] none = refl
   reach-none (e ∷ es) none =
-      reach-other e es (λ same. absurd (omega (arith, none, times-cons j e es, one-at j e same))) ∙ reach-none es (omega (arith, none, times-cons j e es))
+      reach-other e es (λ same. absurd (omega (arith, none, times-cons j e es, one_at j e same))) ∙ reach-none es (omega (arith, none, times-cons j e es))
 
   reach-end : (x : Entry) (es : List Entry) → x.flow ≢ j → reach_in (es ++ x ∷ []) ≡ reach_in es
   reach-end x [] other = reach-other x [] other
@@ -230,20 +230,20 @@ module _ (i j q mtu : ℕ) where
   reach-last : (x : Entry) (es : List Entry) → x.flow ≡ j → times j es ≡ 0 → reach_in (es ++ x ∷ []) ≡ reach mtu x.credits
   reach-last x [] own none = reach-own x [] own
   reach-last x (e ∷ es) own none =
-      reach-other e (es ++ x ∷ []) (λ same. absurd (omega (arith, none, times-cons j e es, one-at j e same))) ∙ reach-last x es own (omega (arith, none, times-cons j e es))
+      reach-other e (es ++ x ∷ []) (λ same. absurd (omega (arith, none, times-cons j e es, one_at j e same))) ∙ reach-last x es own (omega (arith, none, times-cons j e es))
 
   -- a bound that holds of what joins holds after a visit: the front goes to the end as m, or leaves
   pub reach-turns : (most : ℕ) (e m : Entry) (es : List Entry) → m.flow ≡ e.flow → times j (e ∷ es) ≤ 1 → (reach mtu e.credits ≤ most → reach mtu m.credits ≤ most) → reach_in (e ∷ es) ≤ most → reach_in (es ++ m ∷ []) ≤ most
   reach-turns most e m es flow once keeps bound = elim (cases_eq e.flow j) [
     | inl own ↦
         let kept = keeps (omega (arith, bound, reach-own e es own)) in
-        omega (arith, kept, reach-last m es (flow ∙ own) (omega (arith, once, times-cons j e es, one-at j e own)))
+        omega (arith, kept, reach-last m es (flow ∙ own) (omega (arith, once, times-cons j e es, one_at j e own)))
     | inr other ↦ omega (arith, bound, reach-other e es other, reach-end m es (λ same. other (sym flow ∙ same)))
   ]
 
   pub reach-leaves : (most : ℕ) (e : Entry) (es : List Entry) → times j (e ∷ es) ≤ 1 → q + (mtu - 1) ≤ most → reach_in (e ∷ es) ≤ most → reach_in es ≤ most
   reach-leaves most e es once least bound = elim (cases_eq e.flow j) [
-    | inl own ↦ omega (arith, least, reach-none es (omega (arith, once, times-cons j e es, one-at j e own)))
+    | inl own ↦ omega (arith, least, reach-none es (omega (arith, once, times-cons j e es, one_at j e own)))
     | inr other ↦ omega (arith, bound, reach-other e es other)
   ]
 

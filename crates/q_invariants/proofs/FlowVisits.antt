@@ -14,9 +14,9 @@ use Rattle.q_fqcodel.specs.Laws.{credits_of}
 use Rattle.q_fqcodel.specs.Quanta.{given}
 use Rattle.q_fqcodel.specs.Take.{selected, front}
 use Rattle.q_fqcodel.specs.Turns.{turns}
-use Rattle.q_fqcodel.proofs.FlowLemmas.{idle-rested}
-use Rattle.q_fqcodel.proofs.InLemmas.{one-at}
-use Rattle.q_fqcodel.proofs.LawfulLemmas.{times-cons, one-other}
+use Rattle.q_fqcodel.proofs.FlowLemmas.{is_idle-rested_flow}
+use Rattle.q_fqcodel.proofs.InLemmas.{one_at}
+use Rattle.q_fqcodel.proofs.LawfulLemmas.{times-cons, one_other}
 use Rattle.q_fqcodel.proofs.QuantaLemmas.{flow-given}
 use Rattle.q_fqcodel.proofs.TurnLemmas.{LeadsOn, new_granted, new_moves, new_ready, old_granted, old_leaves, old_ready, none_left, first_in_front, none_in_front}
 use Rattle.q_model.specs.Stretches.{reach}
@@ -45,7 +45,7 @@ module _ (i j mtu : ℕ) (apart : i ≢ j) where
       → credits_of i (xs ++ m ∷ []) ≡ Some (z +ℤ pos (1 * quantum))
   turn-granted quantum e m xs z once own flow more is =
       let was : e.credits ≡ z = same_Some e.credits z (sym (credits-here i e xs (eq-eqb e.flow i own)) ∙ is) in
-      credits-last i m xs (omega (arith, once, times-cons i e xs, one-at i e own)) (eq-eqb m.flow i (flow ∙ own)) ∙ ap Some (omega (arith, ints, was, more))
+      credits-last i m xs (omega (arith, once, times-cons i e xs, one_at i e own)) (eq-eqb m.flow i (flow ∙ own)) ∙ ap Some (omega (arith, ints, was, more))
 
   turn-passed : (e m : Entry) (xs : List Entry) (z : ℤ) → e.flow ≢ i → m.flow ≡ e.flow → credits_of i (e ∷ xs) ≡ Some z → credits_of i (xs ++ m ∷ []) ≡ Some z
   turn-passed e m xs z far flow is =
@@ -75,10 +75,10 @@ module _ (i j mtu : ℕ) (apart : i ≢ j) where
     q = s.settings.quantum
 
     listed : (e : Entry) (xs : List Entry) → lists_of s ≡ e ∷ xs → e.flow ≢ i → 1 ≤ times i xs
-    listed e xs all other = omega (arith, lawful.busy i busy, ap (times i) all, times-cons i e xs, one-other i e other)
+    listed e xs all other = omega (arith, lawful.busy i busy, ap (times i) all, times-cons i e xs, one_other i e other)
 
     absent : (n : ℕ) (e : Entry) (xs : List Entry) → lists_of s ≡ e ∷ xs → e.flow ≡ n → times n xs ≡ 0
-    absent n e xs all own = (let most = lawful.once n in omega (arith, most, ap (times n) all, times-cons n e xs, one-at n e own))
+    absent n e xs all own = (let most = lawful.once n in omega (arith, most, ap (times n) all, times-cons n e xs, one_at n e own))
 
     at-most-once : (e : Entry) (xs : List Entry) → lists_of s ≡ e ∷ xs → times i (e ∷ xs) ≤ 1
     at-most-once e xs all = (let most = lawful.once i in omega (arith, most, ap (times i) all))
@@ -173,7 +173,7 @@ module _ (i j mtu : ℕ) (apart : i ≢ j) where
             record {
               led = new_moves s lawful e rest is high empty;
               same_quantum = refl;
-              busy = ap (λ (f : ℕ → Bool). f i) (idle-rested e.flow s.flows) ∙ busy;
+              busy = ap (λ (f : ℕ → Bool). f i) (is_idle-rested_flow e.flow s.flows) ∙ busy;
               credits = λ z c. ap (credits_of i) (new-turned e) ∙ turn-passed e e (rest ++ s.old_flows) z far refl (ap (credits_of i) (sym all-new) ∙ c) ∙ ap Some (once-none z q);
               less = omega (arith, new-passed e refl (omega arith) far);
               bounded = λ most least bound. omega (arith, ap (reach_in i j q mtu) (new-turned e), turn-bounded most e e (rest ++ s.old_flows) all-new refl (λ kept. kept) bound);
@@ -268,7 +268,7 @@ module _ (i j mtu : ℕ) (apart : i ≢ j) where
             record {
               led = old_leaves s lawful e rest none is high empty;
               same_quantum = refl;
-              busy = ap (λ (f : ℕ → Bool). f i) (idle-rested e.flow s.flows) ∙ busy;
+              busy = ap (λ (f : ℕ → Bool). f i) (is_idle-rested_flow e.flow s.flows) ∙ busy;
               credits = λ z c. ap (credits_of i) (lists-then rest ∙ refl) ∙ sym (credits-behind i e rest (ne_eqb e.flow i far)) ∙ ap (credits_of i) (sym all-old) ∙ c ∙ ap Some (once-none z q);
               less = elim (cases_eq e.flow j) [
                 | inl own ↦

@@ -7,7 +7,7 @@ use Rattle.std.proofs.lemmas.Bool.{cases_Bool, eqb-true, false≢true, or_from, 
 use Rattle.std.proofs.lemmas.List.Elements.{All-head, All-tail}
 use Rattle.q_drr.specs.Schedule.{Class, Entry, Schedule, has_class, is_active, quantum_of, deficit_of, asleep, woken, cut, with_quantum, IsEntry, IsLawful}
 use Rattle.q_drr.specs.Stretch.{stands_first}
-use Rattle.q_drr.proofs.LookupLemmas.{quantum-here, quantum-behind, deficit-here, deficit-behind}
+use Rattle.q_drr.proofs.LookupLemmas.{quantum_here, quantum_behind, deficit_here, deficit_behind}
 use Rattle.q_drr.proofs.NameLemmas.{eqb_swap}
 use Rattle.q_drr.proofs.KeyLemmas.{others, find_push, find_others, has_others}
 use Rattle.q_drr.proofs.ChangeLemmas.{quantum_set}
@@ -118,10 +118,10 @@ order-push i j x (e ∷ es) a b = elim (cases_Bool (eqb i e.class)) [
 ]
 
 pub deficit-last : (c : ℕ) (x : Entry) (es : List Entry) → is_active c es ≡ false → eqb c x.class ≡ true → deficit_of c (es ++ x ∷ []) ≡ x.deficit
-deficit-last c x [] absent same = deficit-here c x [] same
+deficit-last c x [] absent same = deficit_here c x [] same
 deficit-last c x (e ∷ es) absent same =
     let parts = or_parts (eqb c e.class) (is_active c es) absent in
-    deficit-behind c e (es ++ x ∷ []) parts.0 ∙ deficit-last c x es parts.1 same
+    deficit_behind c e (es ++ x ∷ []) parts.0 ∙ deficit-last c x es parts.1 same
 
 absent-push : (c : ℕ) (x : Entry) (es : List Entry) → is_active c es ≡ false → eqb c x.class ≡ false → is_active c (es ++ x ∷ []) ≡ false
 absent-push c x [] absent apart = or_from (eqb c x.class) false apart refl
@@ -191,10 +191,10 @@ module _ (n q max_len : ℕ) where
   set-here (c ∷ cs) there = elim (cases_Bool (eqb n c.name)) [
     | inl same ↦
         let is : quantum_set n q c ≡ record c { quantum = q } = cond-true (eqb n c.name) (record c { quantum = q }) c same in
-        quantum-here n (quantum_set n q c) (map (quantum_set n q) cs) (ap (λ (x : Class). eqb n x.name) is ∙ same) ∙ ap (λ (x : Class). x.quantum) is
+        quantum_here n (quantum_set n q c) (map (quantum_set n q) cs) (ap (λ (x : Class). eqb n x.name) is ∙ same) ∙ ap (λ (x : Class). x.quantum) is
     | inr apart ↦
         let is : quantum_set n q c ≡ c = cond-false (eqb n c.name) (record c { quantum = q }) c apart in
-        quantum-behind n (quantum_set n q c) (map (quantum_set n q) cs) (ap (λ (x : Class). eqb n x.name) is ∙ apart)
+        quantum_behind n (quantum_set n q c) (map (quantum_set n q) cs) (ap (λ (x : Class). eqb n x.name) is ∙ apart)
         ∙ set-here cs (sym (ap (λ t. t || has_class n cs) apart) ∙ there)
   ]
 
@@ -204,9 +204,9 @@ module _ (n q max_len : ℕ) where
   deficit-cut classes c (e ∷ es) h same = elim (cases_Bool (eqb c e.class)) [
     | inl here ↦
         let first : IsEntry max_len classes e = All-head (IsEntry max_len classes) e es h in
-        deficit-here c (cut n q max_len e) (map (cut n q max_len) es) (ap (eqb c) (cut-name e) ∙ here) ∙ left first here ∙ sym (deficit-here c e es here)
-    | inr there ↦ deficit-behind c (cut n q max_len e) (map (cut n q max_len) es) (ap (eqb c) (cut-name e) ∙ there)
-        ∙ deficit-cut classes c es (All-tail (IsEntry max_len classes) e es h) same ∙ sym (deficit-behind c e es there)
+        deficit_here c (cut n q max_len e) (map (cut n q max_len) es) (ap (eqb c) (cut-name e) ∙ here) ∙ left first here ∙ sym (deficit_here c e es here)
+    | inr there ↦ deficit_behind c (cut n q max_len e) (map (cut n q max_len) es) (ap (eqb c) (cut-name e) ∙ there)
+        ∙ deficit-cut classes c es (All-tail (IsEntry max_len classes) e es h) same ∙ sym (deficit_behind c e es there)
   ]
     where
       left : IsEntry max_len classes e → eqb c e.class ≡ true → (cut n q max_len e).deficit ≡ e.deficit

@@ -11,8 +11,8 @@ use Rattle.q_fqcodel.specs.Lawful.{IsLawful}
 use Rattle.q_fqcodel.specs.QuantaGiven.{Grant, quanta_given, grants}
 use Rattle.q_fqcodel.specs.Take.{selected, front, sent_from, dropped_from, after_sending}
 use Rattle.q_fqcodel.proofs.KeptLemmas.{take_keeps_lawful}
-use Rattle.q_fqcodel.proofs.FlowsShow.{given, sends-none, settled-selected}
-use Rattle.q_fqcodel.proofs.SentLemmas.{sent-none, dropped-none, after-none}
+use Rattle.q_fqcodel.proofs.FlowsShow.{given, sends_none, settled_selected}
+use Rattle.q_fqcodel.proofs.SentLemmas.{sent_none, dropped_none, after_none}
 use Rattle.q_fqcodel.proofs.TurnLemmas.{none_left}
 use Rattle.q_model.specs.declared.filter.Filter.{Filter}
 use Rattle.q_model.specs.Tally.{Note, FlowGranted}
@@ -52,9 +52,9 @@ module _ (z : FqState) (new : z.new_flows ≡ []) (old : z.old_flows ≡ []) whe
     idle-answer : ask_fq_codel now own below z ≡ ends z [] None []
     idle-answer =
         ap (λ (c : FqState). ends (after_sending now c) (dropped_from now c) (sent_from now c) (flow_notes z c (sent_from now c))) (none_left z new old)
-        ∙ ap (λ (t : FqState). ends t (dropped_from now z) (sent_from now z) (flow_notes z z (sent_from now z))) (after-none z now new old)
-        ∙ ap (λ (ps : List Stamped). ends z ps (sent_from now z) (flow_notes z z (sent_from now z))) (dropped-none z now new old)
-        ∙ ap (λ (o : Option Taken). ends z [] o (flow_notes z z o)) (sent-none z now new old)
+        ∙ ap (λ (t : FqState). ends t (dropped_from now z) (sent_from now z) (flow_notes z z (sent_from now z))) (after_none z now new old)
+        ∙ ap (λ (ps : List Stamped). ends z ps (sent_from now z) (flow_notes z z (sent_from now z))) (dropped_none z now new old)
+        ∙ ap (λ (o : Option Taken). ends z [] o (flow_notes z z o)) (sent_none z now new old)
         ∙ ap (ends z [] None) (ap₂ (λ (a b : List Note). a ++ b) none-granted (none-gave (front z)))
 
 -- ---- an fq_codel asked once more
@@ -83,8 +83,8 @@ module _ (now : ℕ) (handle : Option ℕ) (filters : List Filter) where
       by (Some p) e = second-dequeued now handle filters own below (FqCodel after) (befores below) rises (flow_notes s (selected s) sent) p
       by None e =
           let chosen : IsLawful (selected s) = (take_keeps_lawful s now lawful positive).0 in
-          let none = sends-none now (selected s) chosen (settled-selected s lawful positive) e in
-          let same : after ≡ selected s = after-none (selected s) now none.0 none.1 in
+          let none = sends_none now (selected s) chosen (settled_selected s lawful positive) e in
+          let same : after ≡ selected s = after_none (selected s) now none.0 none.1 in
           let new : after.new_flows ≡ [] = ap (λ (t : FqState). t.new_flows) same ∙ none.0 in
           let old : after.old_flows ≡ [] = ap (λ (t : FqState). t.old_flows) same ∙ none.1 in
           second-by now (answer None) (again now (answer None).peeked) (ends after new old now handle filters below after [] None [])

@@ -15,7 +15,7 @@ use Rattle.q_drr.specs.Turns.{grants_at, bytes_at}
 use Rattle.q_drr.proofs.ServedLemmas.{takes_are_turns}
 use Rattle.q_drr.proofs.StretchLemmas.{each_sends_its_share, grants_are_even}
 use Rattle.q_drr.proofs.DifferLemmas.{EntriesDiffer}
-use Rattle.q_drr.proofs.LookupLemmas.{deficit-here, deficit-behind}
+use Rattle.q_drr.proofs.LookupLemmas.{deficit_here, deficit_behind}
 use Rattle.q_model.specs.Tally.{Granted}
 use Rattle.q_model.specs.Grants.{grant_notes, granted_notes}
 use Rattle.q_model.specs.Stretches.{granted_by, grants_to}
@@ -232,7 +232,7 @@ pub deficit-at : (es : List Entry) (i : ℕ) (e : Entry) → EntriesDiffer es �
 deficit-at [] i e d at = absurd (none-some e at)
 deficit-at (x ∷ es) zero e d at =
     let same : x ≡ e = same_Some x e at in
-    deficit-here e.class x es (eq-eqb e.class x.class (sym (ap (λ (y : Entry). y.class) same))) ∙ ap (λ (y : Entry). y.deficit) same
+    deficit_here e.class x es (eq-eqb e.class x.class (sym (ap (λ (y : Entry). y.class) same))) ∙ ap (λ (y : Entry). y.deficit) same
 deficit-at (x ∷ es) (suc i) e d at =
     let far : eqb e.class x.class ≡ false = ne_eqb e.class x.class (λ same. false≢true (sym d.0 ∙ passes-at (λ (y : Entry). x.class == y.class) es i e at (eq-eqb x.class e.class (sym same)))) in
-    deficit-behind e.class x es far ∙ deficit-at es i e d.1 at
+    deficit_behind e.class x es far ∙ deficit-at es i e d.1 at

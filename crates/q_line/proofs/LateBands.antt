@@ -5,6 +5,7 @@ use Rattle.std.specs.Bool.{⊤}
 use Rattle.std.specs.List.{AllByRecursion, position, position_or_len}
 use Rattle.std.specs.Str.{bytes_eq, is_utf8}
 use Rattle.std.proofs.lemmas.Bool.{ltb-true}
+use Rattle.q_fqcodel.specs.Ranges as ranges
 use Rattle.q_words.specs.declared.wrong.Wrong.{Wrong}
 use Rattle.q_words.specs.declared.wrong.Wrong.TheVariants as wrong
 use Rattle.q_line.specs.Drafts.{Bands, OptionDraft, Verb, of_qdisc, of_class, of_filter, band_number, no_fields, bands_of, bad_band}
@@ -95,11 +96,11 @@ option_leads Positions.latency v h k o word index s = value_leads (time_in 0 lon
 option_leads Positions.bands v h k o word index s = value_leads (number_in 2 16 word) (λ n. Positions.options v h k (record o { bands = Some n })) index (λ n. s)
 option_leads Positions.rate v h k o word index s = value_leads (rate_in word) (λ n. Positions.options v h k (record o { rate = Some n })) index (λ n. s)
 option_leads Positions.burst v h k o word index s = value_leads (size_in 1 most word) (λ n. Positions.options v h k (record o { burst = Some n })) index (λ n. s)
-option_leads Positions.flows v h k o word index s = value_leads (number_in 1 65536 word) (λ n. Positions.options v h k (record o { fq_codel = record o.fq_codel { flows = Some n } })) index (λ n. s)
+option_leads Positions.flows v h k o word index s = value_leads (number_in 1 ranges.most_flows word) (λ n. Positions.options v h k (record o { fq_codel = record o.fq_codel { flows = Some n } })) index (λ n. s)
 option_leads Positions.quantum v h k o word index s = value_leads (size_in 1 most word) (λ n. Positions.options v h k (record o { fq_codel = record o.fq_codel { quantum = Some n } })) index (λ n. s)
-option_leads Positions.target v h k o word index s = value_leads (time_in 0 longest word) (λ n. Positions.options v h k (record o { fq_codel = record o.fq_codel { target = Some n } })) index (λ n. s)
-option_leads Positions.interval v h k o word index s = value_leads (time_in 1000 longest word) (λ n. Positions.options v h k (record o { fq_codel = record o.fq_codel { interval = Some n } })) index (λ n. s)
-option_leads Positions.drop_batch v h k o word index s = value_leads (number_in 1 65536 word) (λ n. Positions.options v h k (record o { fq_codel = record o.fq_codel { drop_batch = Some n } })) index (λ n. s)
+option_leads Positions.target v h k o word index s = value_leads (time_in 0 ranges.longest word) (λ n. Positions.options v h k (record o { fq_codel = record o.fq_codel { target = Some n } })) index (λ n. s)
+option_leads Positions.interval v h k o word index s = value_leads (time_in ranges.shortest_interval ranges.longest word) (λ n. Positions.options v h k (record o { fq_codel = record o.fq_codel { interval = Some n } })) index (λ n. s)
+option_leads Positions.drop_batch v h k o word index s = value_leads (number_in 1 ranges.most_batch word) (λ n. Positions.options v h k (record o { fq_codel = record o.fq_codel { drop_batch = Some n } })) index (λ n. s)
 
 -- one number more: it is the word that is read
 number_leads : (v : QdiscVerb) (h : HeadDraft) (k : KindName) (o : OptionDraft) (word : List ℕ) (i : ℕ) → 1 ≤ i → BandsStand o.priomap i → Leads (priomap_fits i v h k o word) (suc i)

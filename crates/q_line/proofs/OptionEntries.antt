@@ -3,6 +3,7 @@
 use Rattle.std.proofs.Common.{◌≡◌, ◌∙◌, ℕ, ◌||◌, Bool, true, false, not, List, [], ◌∷◌, map, Option, Some, None, is_some, Result, Ok, Err, refl, sym, ap, codes, if◌then◌else◌}
 use Rattle.std.specs.Option.{option_or}
 use Rattle.std.specs.Str.{bytes_eq}
+use Rattle.q_fqcodel.specs.Ranges as ranges
 use Rattle.q_model.specs.declared.tbf_limit.TbfLimit.TheVariants as tbf_limit
 use Rattle.q_words.specs.Units.{rate_in, size_in, time_in}
 use Rattle.q_words.specs.Values.{number_in}
@@ -152,11 +153,11 @@ reading Positions.latency k word = time_in 0 longest word
 reading Positions.bands k word = number_in 2 16 word
 reading Positions.rate k word = rate_in word
 reading Positions.burst k word = size_in 1 most word
-reading Positions.flows k word = number_in 1 65536 word
+reading Positions.flows k word = number_in 1 ranges.most_flows word
 reading Positions.quantum k word = size_in 1 most word
-reading Positions.target k word = time_in 0 longest word
-reading Positions.interval k word = time_in 1000 longest word
-reading Positions.drop_batch k word = number_in 1 65536 word
+reading Positions.target k word = time_in 0 ranges.longest word
+reading Positions.interval k word = time_in ranges.shortest_interval ranges.longest word
+reading Positions.drop_batch k word = number_in 1 ranges.most_batch word
 
 abbrev pub number : ℕ → Value
 number n = record { number = n; bands = record { from = 0; numbers = [] } }

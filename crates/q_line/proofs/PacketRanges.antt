@@ -9,6 +9,7 @@ use Rattle.std.proofs.lemmas.Bool.{leb-true}
 use Rattle.q_packet.specs.Ecn.{ecn_of}
 use Rattle.q_packet.specs.Head.{head, ipv4_head, ipv6_head, is_ipv4, is_ipv6, zero_head}
 use Rattle.q_packet.proofs.HeadLemmas.{prio_in_range}
+use Rattle.q_fqcodel.specs.Ranges as ranges
 use Rattle.q_model.specs.declared.command.Command.{Command}
 use Rattle.q_model.specs.declared.place.Place.TheVariants as place
 use Rattle.q_model.specs.declared.tbf_limit.TbfLimit.TheVariants as tbf_limit
@@ -148,11 +149,11 @@ option_leads Positions.latency v h k o word = any_leads (time_in 0 longest word)
 option_leads Positions.bands v h k o word = any_leads (number_in 2 16 word) (λ n. Positions.options v h k (record o { bands = Some n })) (λ a. tt)
 option_leads Positions.rate v h k o word = any_leads (rate_in word) (λ n. Positions.options v h k (record o { rate = Some n })) (λ a. tt)
 option_leads Positions.burst v h k o word = any_leads (size_in 1 most word) (λ n. Positions.options v h k (record o { burst = Some n })) (λ a. tt)
-option_leads Positions.flows v h k o word = any_leads (number_in 1 65536 word) (λ n. Positions.options v h k (record o { fq_codel = record o.fq_codel { flows = Some n } })) (λ a. tt)
+option_leads Positions.flows v h k o word = any_leads (number_in 1 ranges.most_flows word) (λ n. Positions.options v h k (record o { fq_codel = record o.fq_codel { flows = Some n } })) (λ a. tt)
 option_leads Positions.quantum v h k o word = any_leads (size_in 1 most word) (λ n. Positions.options v h k (record o { fq_codel = record o.fq_codel { quantum = Some n } })) (λ a. tt)
-option_leads Positions.target v h k o word = any_leads (time_in 0 longest word) (λ n. Positions.options v h k (record o { fq_codel = record o.fq_codel { target = Some n } })) (λ a. tt)
-option_leads Positions.interval v h k o word = any_leads (time_in 1000 longest word) (λ n. Positions.options v h k (record o { fq_codel = record o.fq_codel { interval = Some n } })) (λ a. tt)
-option_leads Positions.drop_batch v h k o word = any_leads (number_in 1 65536 word) (λ n. Positions.options v h k (record o { fq_codel = record o.fq_codel { drop_batch = Some n } })) (λ a. tt)
+option_leads Positions.target v h k o word = any_leads (time_in 0 ranges.longest word) (λ n. Positions.options v h k (record o { fq_codel = record o.fq_codel { target = Some n } })) (λ a. tt)
+option_leads Positions.interval v h k o word = any_leads (time_in ranges.shortest_interval ranges.longest word) (λ n. Positions.options v h k (record o { fq_codel = record o.fq_codel { interval = Some n } })) (λ a. tt)
+option_leads Positions.drop_batch v h k o word = any_leads (number_in 1 ranges.most_batch word) (λ n. Positions.options v h k (record o { fq_codel = record o.fq_codel { drop_batch = Some n } })) (λ a. tt)
 
 priomap_leads : (index : ℕ) (v : QdiscVerb) (h : HeadDraft) (k : KindName) (o : OptionDraft) (word : List ℕ) → Leads (priomap_fits index v h k o word)
 priomap_leads index v h k o word = by_form (is_numeral 10 word) _ _ _

@@ -7,6 +7,7 @@ use Rattle.q_packet.specs.Ecn.{ecn_of}
 use Rattle.q_packet.specs.Head.{head as head_in}
 use Rattle.q_packet.specs.Key.{Key}
 use Rattle.q_packet.specs.declared.ecn.Ecn.TheVariants.{NotEct}
+use Rattle.q_fqcodel.specs.Ranges as ranges
 use Rattle.q_model.specs.declared.ip_version.IpVersion.{IpVersion}
 use Rattle.q_model.specs.declared.ip_version.IpVersion.TheVariants.{V4, V6}
 use Rattle.q_model.specs.declared.place.Place.TheVariants as place
@@ -68,7 +69,7 @@ abbrev pub limit_fits : KindName → OptionDraft → List ℕ → Result OptionD
 limit_fits kind_name.Pfifo o word = elim (number_in 0 most word) [ Ok n ↦ Ok (record o { limit = Some n }) | Err e ↦ Err e ]
 limit_fits kind_name.Bfifo o word = elim (size_in 0 most word) [ Ok n ↦ Ok (record o { limit = Some n }) | Err e ↦ Err e ]
 limit_fits kind_name.Tbf o word = elim (size_in 0 most word) [ Ok n ↦ Ok (record o { tbf_limit = Some (tbf_limit.Bytes n) }) | Err e ↦ Err e ]
-limit_fits kind_name.FqCodel o word = elim (number_in 1 most word) [ Ok n ↦ Ok (record o { fq_codel = record o.fq_codel { limit = Some n } }) | Err e ↦ Err e ]
+limit_fits kind_name.FqCodel o word = elim (number_in 1 ranges.most word) [ Ok n ↦ Ok (record o { fq_codel = record o.fq_codel { limit = Some n } }) | Err e ↦ Err e ]
 limit_fits other o word = Err wrong.UnknownWord
 
 abbrev pub option_fits : OptionValue → QdiscVerb → HeadDraft → KindName → OptionDraft → List ℕ → Result Position Wrong
@@ -77,11 +78,11 @@ option_fits Positions.latency v h k o word = value (time_in 0 longest word) (λ 
 option_fits Positions.bands v h k o word = value (number_in 2 16 word) (λ n. Positions.options v h k (record o { bands = Some n }))
 option_fits Positions.rate v h k o word = value (rate_in word) (λ n. Positions.options v h k (record o { rate = Some n }))
 option_fits Positions.burst v h k o word = value (size_in 1 most word) (λ n. Positions.options v h k (record o { burst = Some n }))
-option_fits Positions.flows v h k o word = value (number_in 1 65536 word) (λ n. Positions.options v h k (record o { fq_codel = record o.fq_codel { flows = Some n } }))
-option_fits Positions.quantum v h k o word = value (size_in 1 most word) (λ n. Positions.options v h k (record o { fq_codel = record o.fq_codel { quantum = Some n } }))
-option_fits Positions.target v h k o word = value (time_in 0 longest word) (λ n. Positions.options v h k (record o { fq_codel = record o.fq_codel { target = Some n } }))
-option_fits Positions.interval v h k o word = value (time_in 1000 longest word) (λ n. Positions.options v h k (record o { fq_codel = record o.fq_codel { interval = Some n } }))
-option_fits Positions.drop_batch v h k o word = value (number_in 1 65536 word) (λ n. Positions.options v h k (record o { fq_codel = record o.fq_codel { drop_batch = Some n } }))
+option_fits Positions.flows v h k o word = value (number_in 1 ranges.most_flows word) (λ n. Positions.options v h k (record o { fq_codel = record o.fq_codel { flows = Some n } }))
+option_fits Positions.quantum v h k o word = value (size_in 1 ranges.most word) (λ n. Positions.options v h k (record o { fq_codel = record o.fq_codel { quantum = Some n } }))
+option_fits Positions.target v h k o word = value (time_in 0 ranges.longest word) (λ n. Positions.options v h k (record o { fq_codel = record o.fq_codel { target = Some n } }))
+option_fits Positions.interval v h k o word = value (time_in ranges.shortest_interval ranges.longest word) (λ n. Positions.options v h k (record o { fq_codel = record o.fq_codel { interval = Some n } }))
+option_fits Positions.drop_batch v h k o word = value (number_in 1 ranges.most_batch word) (λ n. Positions.options v h k (record o { fq_codel = record o.fq_codel { drop_batch = Some n } }))
 
 -- 16 numbers; whether each names a band is looked at when the line ends
 abbrev pub priomap_fits : ℕ → QdiscVerb → HeadDraft → KindName → OptionDraft → List ℕ → Result Position Wrong

@@ -6,14 +6,21 @@ ghost use Rattle.q_line.specs.declared.head_draft.HeadDraft.{HeadDraft};
 ghost use Rattle.q_line.specs.declared.kind_name.KindName.TheVariants.{FqCodel};
 ghost use Rattle.q_line.specs.declared.qdisc_verb.QdiscVerb.{QdiscVerb};
 
+use q_fqcodel::Settings;
 use q_model::FqCodelOptions;
 use q_words::{Wrong, number, size_within, time_within};
 
-/// The longest target and interval: 1000 s, in nanoseconds.
-const LONGEST: u64 = 1_000_000_000_000;
-
 /// The greatest limit and quantum.
 const MOST: u64 = 0xffff_ffff;
+
+const MOST_FLOWS: u64 = Settings::MOST_FLOWS as u64;
+
+const MOST_BATCH: u64 = Settings::MOST_DROP_BATCH as u64;
+
+/// The longest target and interval, in nanoseconds, and the shortest interval.
+const LONGEST: u64 = Settings::LONGEST;
+
+const SHORTEST: u64 = Settings::SHORTEST_INTERVAL;
 
 /// An option of an fq_codel that has a value (tc-fq_codel(8)).
 #[derive(Clone, Copy)]
@@ -50,11 +57,15 @@ impl FqCodelOption {
     {
         match self {
             FqCodelOption::Limit => options.limit = Some(number(word, 1, MOST)? as u32),
-            FqCodelOption::Flows => options.flows = Some(number(word, 1, 65_536)? as u32),
+            FqCodelOption::Flows => options.flows = Some(number(word, 1, MOST_FLOWS)? as u32),
             FqCodelOption::Quantum => options.quantum = Some(size_within(word, 1, MOST)? as u32),
             FqCodelOption::Target => options.target = Some(time_within(word, 0, LONGEST)?),
-            FqCodelOption::Interval => options.interval = Some(time_within(word, 1000, LONGEST)?),
-            FqCodelOption::DropBatch => options.drop_batch = Some(number(word, 1, 65_536)? as u32),
+            FqCodelOption::Interval => {
+                options.interval = Some(time_within(word, SHORTEST, LONGEST)?);
+            }
+            FqCodelOption::DropBatch => {
+                options.drop_batch = Some(number(word, 1, MOST_BATCH)? as u32);
+            }
         }
         Ok(())
     }

@@ -1,8 +1,8 @@
 -- What a new qdisc is, with its defaults and the implicit leaves that it brings.
 -- tc-pfifo(8), tc-prio(8), tc-tbf(8), tc-drr(8), tc-fq_codel(8); that each place has an implicit leaf is this project's choice.
-use Rattle.std.specs.Prelude.{ℕ, ◌+◌, ◌*◌, ◌/◌, true, List, [], ◌∷◌, Option, None, replicate, unwrap_or}
+use Rattle.std.specs.Prelude.{ℕ, ◌+◌, ◌*◌, ◌/◌, List, [], ◌∷◌, Option, None, replicate, unwrap_or}
 use Rattle.q_codel.specs.declared.limit.Limit.TheVariants.{Packets, Bytes}
-use Rattle.q_fqcodel.specs.FqState.{FqSettings, first_state}
+use Rattle.q_fqcodel.specs.FqState.{FqSettings, first_state, settings_by_default}
 use Rattle.q_bucket.specs.Level.{units_in_byte, full}
 use Rattle.q_drr.specs.Schedule.{no_classes}
 use Rattle.q_model.specs.declared.tbf_limit.TbfLimit.{TbfLimit}
@@ -44,18 +44,9 @@ abbrev pub limit_bytes : ℕ → ℕ → TbfLimit → ℕ
 limit_bytes rate burst (limit.Bytes n) = n
 limit_bytes rate burst (limit.Latency ns) = rate * ns / units_in_byte + burst
 
--- the settings of a new fq_codel: limit 10240, 1024 flows, quantum 1514, target 5 ms, interval 100 ms, ecn, drop_batch 1
+-- the settings of a new fq_codel where no option is given
 abbrev pub default_settings : Device → FqSettings
-default_settings d = record {
-  limit = 10240;
-  flows = 1024;
-  quantum = 1514;
-  target = 5000000;
-  interval = 100000000;
-  ecn = true;
-  drop_batch = 1;
-  mtu = d.mtu;
-}
+default_settings d = settings_by_default d.mtu
 
 -- the settings with those that are given in place of theirs
 abbrev pub with_options : FqOptions → FqSettings → FqSettings

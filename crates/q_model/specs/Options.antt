@@ -3,7 +3,8 @@
 use Rattle.std.specs.Prelude.{◌≡◌, ℕ, ◌<◌, ◌≤◌, ◌^◌, Bool, List, All, length, Option, IfSome}
 use Rattle.q_model.specs.declared.ip_version.IpVersion.{IpVersion}
 use Rattle.q_model.specs.declared.ip_version.IpVersion.TheVariants.{V4, V6}
-use Rattle.q_model.specs.Numbers.{IsWithin, most_u32}
+use Rattle.q_fqcodel.specs.Ranges as ranges
+use Rattle.q_model.specs.Numbers.{IsWithin}
 
 -- how many bands a prio has, and the band, from 0, of each priority
 pub record PrioSettings : Type 0 where
@@ -25,13 +26,26 @@ pub record FqOptions : Type 0 where
   pub ecn : Option Bool
   pub drop_batch : Option ℕ
 
+-- the options with these values, in the order of the fields
+abbrev pub options_of : Option ℕ → Option ℕ → Option ℕ → Option ℕ → Option ℕ → Option Bool → Option ℕ → FqOptions
+options_of limit flows quantum target interval ecn drop_batch = record {
+  limit = limit;
+  flows = flows;
+  quantum = quantum;
+  target = target;
+  interval = interval;
+  ecn = ecn;
+  drop_batch = drop_batch;
+}
+
+-- each option that is given is in the range of its setting
 pub record IsFqCodelOptions (o : FqOptions) : Type 0 where
-  pub limit : IfSome o.limit (IsWithin 1 most_u32)
-  pub flows : IfSome o.flows (IsWithin 1 65536)
-  pub quantum : IfSome o.quantum (IsWithin 1 most_u32)
-  pub target : IfSome o.target (IsWithin 0 (10 ^ 12))
-  pub interval : IfSome o.interval (IsWithin 1000 (10 ^ 12))
-  pub drop_batch : IfSome o.drop_batch (IsWithin 1 65536)
+  pub limit : IfSome o.limit (IsWithin 1 ranges.most)
+  pub flows : IfSome o.flows (IsWithin 1 ranges.most_flows)
+  pub quantum : IfSome o.quantum (IsWithin 1 ranges.most)
+  pub target : IfSome o.target (IsWithin 0 ranges.longest)
+  pub interval : IfSome o.interval (IsWithin ranges.shortest_interval ranges.longest)
+  pub drop_batch : IfSome o.drop_batch (IsWithin 1 ranges.most_batch)
 
 -- an address, and how many of its bits are compared
 pub record Prefix : Type 0 where

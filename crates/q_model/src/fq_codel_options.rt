@@ -1,7 +1,9 @@
-ghost use Rattle.std.specs.Prelude.{◌≡◌, ◌^◌, ◌↔◌, IfSome, IsSome, IsTrue};
+ghost use Rattle.std.specs.Prelude.{◌≡◌, ◌↔◌, IfSome, IsSome, IsTrue};
+ghost use Rattle.q_fqcodel.specs.Ranges.{longest};
 ghost use Rattle.q_model.specs.Numbers.{IsWithin};
-ghost use Rattle.q_model.specs.Options.{IsFqCodelOptions};
+ghost use Rattle.q_model.specs.Options.{IsFqCodelOptions, options_of};
 
+use q_fqcodel::Settings;
 use std::marker::Model;
 
 /// The options of an fq_codel that a line gives (tc-fq_codel(8)); what it does not give is `None`.
@@ -27,29 +29,13 @@ pub struct FqCodelOptions {
 }
 
 impl Model for FqCodelOptions {
-    ghost use Rattle.q_model.specs.Options.{FqOptions, IsFqCodelOptions};
+    ghost use Rattle.q_model.specs.Options.{FqOptions, IsFqCodelOptions, options_of};
 
     ghost Value = { FqOptions };
 
-    ghost view = { λ o. record {
-      limit = o.limit;
-      flows = o.flows;
-      quantum = o.quantum;
-      target = o.target;
-      interval = o.interval;
-      ecn = o.ecn;
-      drop_batch = o.drop_batch;
-    } };
+    ghost view = { λ o. options_of o.limit o.flows o.quantum o.target o.interval o.ecn o.drop_batch };
 
-    ghost invariant = { λ o. IsFqCodelOptions (record {
-      limit = o.limit;
-      flows = o.flows;
-      quantum = o.quantum;
-      target = o.target;
-      interval = o.interval;
-      ecn = o.ecn;
-      drop_batch = o.drop_batch;
-    }) };
+    ghost invariant = { λ o. IsFqCodelOptions (options_of o.limit o.flows o.quantum o.target o.interval o.ecn o.drop_batch) };
 
     ghost inverse = { λ s. record {
       limit = s.limit;
@@ -73,28 +59,13 @@ impl FqCodelOptions {
         ecn: Option<bool>,
         drop_batch: Option<u32>,
     ) -> Option<FqCodelOptions>
-        ensures in_range { IsSome result ↔ IsFqCodelOptions (record {
-          limit = limit;
-          flows = flows;
-          quantum = quantum;
-          target = target;
-          interval = interval;
-          ecn = ecn;
-          drop_batch = drop_batch;
-        }) }
-        ensures value { IfSome result (λ o. o ≡ record {
-          limit = limit;
-          flows = flows;
-          quantum = quantum;
-          target = target;
-          interval = interval;
-          ecn = ecn;
-          drop_batch = drop_batch;
-        }) }
+        ensures in_range { IsSome result ↔ IsFqCodelOptions (options_of limit flows quantum target interval ecn drop_batch) }
+        ensures value { IfSome result (λ o. o ≡ options_of limit flows quantum target interval ecn drop_batch) }
     {
-        let counts_fit = fits(limit, 1, u32::MAX) && fits(flows, 1, 65536);
-        let sizes_fit = fits(quantum, 1, u32::MAX) && fits(drop_batch, 1, 65536);
-        let times_fit = lasts(target, 0) && lasts(interval, 1000);
+        let counts_fit = fits(limit, 1, u32::MAX) && fits(flows, 1, Settings::MOST_FLOWS);
+        let sizes_fit = fits(quantum, 1, u32::MAX)
+            && fits(drop_batch, 1, Settings::MOST_DROP_BATCH);
+        let times_fit = lasts(target, 0) && lasts(interval, Settings::SHORTEST_INTERVAL);
         if counts_fit && sizes_fit && times_fit {
             Some(FqCodelOptions {
                 limit,
@@ -118,9 +89,6 @@ impl FqCodelOptions {
     }
 }
 
-/// The longest target and interval: 1000 s, in nanoseconds.
-const LONGEST: u64 = 1_000_000_000_000;
-
 /// Whether a number, where there is one, is within these bounds.
 fn fits(number: Option<u32>, least: u32, most: u32) -> bool
     ensures { IsTrue result ↔ IfSome number (IsWithin least most) }
@@ -131,12 +99,12 @@ fn fits(number: Option<u32>, least: u32, most: u32) -> bool
     }
 }
 
-/// Whether a time, where there is one, has at least so many nanoseconds and at most 1000 s.
+/// Whether a time, where there is one, has at least so many nanoseconds and is not too long for a target or an interval.
 fn lasts(time: Option<u64>, least: u64) -> bool
-    ensures { IsTrue result ↔ IfSome time (IsWithin least (10 ^ 12)) }
+    ensures { IsTrue result ↔ IfSome time (IsWithin least longest) }
 {
     match time {
         None => true,
-        Some(n) => least <= n && n <= LONGEST,
+        Some(n) => least <= n && n <= Settings::LONGEST,
     }
 }

@@ -6,8 +6,8 @@ use Rattle.q_packet.specs.Choice.{Choice, later, sooner, choose, IsChosen}
 
 -- ---- the one in front
 
-pub sooner-none : (k : ℕ) → sooner k None ≡ record { rounds = k; place = 0 }
-sooner-none k = refl
+pub sooner_none : (k : ℕ) → sooner k None ≡ record { rounds = k; place = 0 }
+sooner_none k = refl
 
 pub sooner-le : (k : ℕ) (c : Choice) → k ≤ c.rounds → sooner k (Some c) ≡ record { rounds = k; place = 0 }
 sooner-le k c h = cond-true (nat_le k c.rounds) _ _ (le-leb _ _ h)
@@ -16,14 +16,14 @@ pub sooner-gt : (k : ℕ) (c : Choice) → c.rounds < k → sooner k (Some c) �
 sooner-gt k c h = cond-false (nat_le k c.rounds) _ _ (lt-leb _ _ h)
 
 -- one that needs nothing is chosen before all that stand behind it
-pub sooner-first : (o : Option Choice) → sooner 0 o ≡ record { rounds = 0; place = 0 }
-sooner-first None = sooner-none 0
-sooner-first (Some c) = sooner-le 0 c (omega arith)
+pub sooner_first : (o : Option Choice) → sooner 0 o ≡ record { rounds = 0; place = 0 }
+sooner_first None = sooner_none 0
+sooner_first (Some c) = sooner-le 0 c (omega arith)
 
 -- one in front that may be chosen or not, as a test says
-pub choose-if : (b : Bool) (k : ℕ) (needs : List (Option ℕ)) → choose (cond b None (Some k) ∷ needs) ≡ cond b (later (choose needs)) (Some (sooner k (choose needs)))
-choose-if true k needs = refl
-choose-if false k needs = refl
+pub choose_if : (b : Bool) (k : ℕ) (needs : List (Option ℕ)) → choose (cond b None (Some k) ∷ needs) ≡ cond b (later (choose needs)) (Some (sooner k (choose needs)))
+choose_if true k needs = refl
+choose_if false k needs = refl
 
 -- ---- one more at the end
 
@@ -32,65 +32,65 @@ abbrev pub last_one : ℕ → ℕ → Option Choice → Choice
 last_one k len None = record { rounds = k; place = len }
 last_one k len (Some c) = cond (nat_le c.rounds k) c (record { rounds = k; place = len })
 
-pub last-le : (k len : ℕ) (c : Choice) → c.rounds ≤ k → last_one k len (Some c) ≡ c
-last-le k len c h = cond-true (nat_le c.rounds k) _ _ (le-leb _ _ h)
+pub last_one-le : (k len : ℕ) (c : Choice) → c.rounds ≤ k → last_one k len (Some c) ≡ c
+last_one-le k len c h = cond-true (nat_le c.rounds k) _ _ (le-leb _ _ h)
 
-pub last-gt : (k len : ℕ) (c : Choice) → k < c.rounds → last_one k len (Some c) ≡ record { rounds = k; place = len }
-last-gt k len c h = cond-false (nat_le c.rounds k) _ _ (lt-leb _ _ h)
+pub last_one-gt : (k len : ℕ) (c : Choice) → k < c.rounds → last_one k len (Some c) ≡ record { rounds = k; place = len }
+last_one-gt k len c h = cond-false (nat_le c.rounds k) _ _ (lt-leb _ _ h)
 
-pub later-if : (b : Bool) (c d : Choice) → later (Some (cond b c d)) ≡ Some (cond b (record { rounds = c.rounds; place = suc c.place }) (record { rounds = d.rounds; place = suc d.place }))
-later-if true c d = refl
-later-if false c d = refl
+pub later_if : (b : Bool) (c d : Choice) → later (Some (cond b c d)) ≡ Some (cond b (record { rounds = c.rounds; place = suc c.place }) (record { rounds = d.rounds; place = suc d.place }))
+later_if true c d = refl
+later_if false c d = refl
 
-pub later-end : (k len : ℕ) (o : Option Choice) → later (Some (last_one k len o)) ≡ Some (last_one k (suc len) (later o))
-later-end k len None = refl
-later-end k len (Some c) = later-if (nat_le c.rounds k) c (record { rounds = k; place = len })
+pub later_end : (k len : ℕ) (o : Option Choice) → later (Some (last_one k len o)) ≡ Some (last_one k (suc len) (later o))
+later_end k len None = refl
+later_end k len (Some c) = later_if (nat_le c.rounds k) c (record { rounds = k; place = len })
 
-pub sooner-end : (j k len : ℕ) (o : Option Choice) → sooner j (Some (last_one k len o)) ≡ last_one k (suc len) (Some (sooner j o))
-sooner-end j k len None = elim (cases_lt k j) [
-  | inl after ↦ sooner-gt j (record { rounds = k; place = len }) after ∙ sym (last-gt k (suc len) (record { rounds = j; place = 0 }) after)
-  | inr before ↦ sooner-le j (record { rounds = k; place = len }) before ∙ sym (last-le k (suc len) (record { rounds = j; place = 0 }) before)
+pub sooner_end : (j k len : ℕ) (o : Option Choice) → sooner j (Some (last_one k len o)) ≡ last_one k (suc len) (Some (sooner j o))
+sooner_end j k len None = elim (cases_lt k j) [
+  | inl after ↦ sooner-gt j (record { rounds = k; place = len }) after ∙ sym (last_one-gt k (suc len) (record { rounds = j; place = 0 }) after)
+  | inr before ↦ sooner-le j (record { rounds = k; place = len }) before ∙ sym (last_one-le k (suc len) (record { rounds = j; place = 0 }) before)
 ]
-sooner-end j k len (Some c) =
+sooner_end j k len (Some c) =
     let at_j : Choice = record { rounds = j; place = 0 } in
     let behind : Choice = record { rounds = c.rounds; place = suc c.place } in
     let at_k : Choice = record { rounds = k; place = len } in
     elim (cases_lt k c.rounds) [
       | inl far ↦
-          ap (λ (d : Choice). sooner j (Some d)) (last-gt k len c far)
+          ap (λ (d : Choice). sooner j (Some d)) (last_one-gt k len c far)
           ∙ elim (cases_lt k j) [
             | inl after ↦ sooner-gt j at_k after ∙ sym (elim (cases_lt c.rounds j) [
-              | inl second ↦ ap (λ (d : Choice). last_one k (suc len) (Some d)) (sooner-gt j c second) ∙ last-gt k (suc len) behind far
-              | inr first ↦ ap (λ (d : Choice). last_one k (suc len) (Some d)) (sooner-le j c first) ∙ last-gt k (suc len) at_j after
+              | inl second ↦ ap (λ (d : Choice). last_one k (suc len) (Some d)) (sooner-gt j c second) ∙ last_one-gt k (suc len) behind far
+              | inr first ↦ ap (λ (d : Choice). last_one k (suc len) (Some d)) (sooner-le j c first) ∙ last_one-gt k (suc len) at_j after
             ])
             | inr before ↦ sooner-le j at_k before
-                ∙ sym (ap (λ (d : Choice). last_one k (suc len) (Some d)) (sooner-le j c (omega arith)) ∙ last-le k (suc len) at_j before)
+                ∙ sym (ap (λ (d : Choice). last_one k (suc len) (Some d)) (sooner-le j c (omega arith)) ∙ last_one-le k (suc len) at_j before)
           ]
       | inr near ↦
-          ap (λ (d : Choice). sooner j (Some d)) (last-le k len c near)
+          ap (λ (d : Choice). sooner j (Some d)) (last_one-le k len c near)
           ∙ elim (cases_lt c.rounds j) [
             | inl second ↦ sooner-gt j c second
-                ∙ sym (ap (λ (d : Choice). last_one k (suc len) (Some d)) (sooner-gt j c second) ∙ last-le k (suc len) behind near)
+                ∙ sym (ap (λ (d : Choice). last_one k (suc len) (Some d)) (sooner-gt j c second) ∙ last_one-le k (suc len) behind near)
             | inr first ↦ sooner-le j c first
-                ∙ sym (ap (λ (d : Choice). last_one k (suc len) (Some d)) (sooner-le j c first) ∙ last-le k (suc len) at_j (omega arith))
+                ∙ sym (ap (λ (d : Choice). last_one k (suc len) (Some d)) (sooner-le j c first) ∙ last_one-le k (suc len) at_j (omega arith))
           ]
     ]
 
-pub choose-end : (needs : List (Option ℕ)) (k : ℕ) → choose (needs ++ Some k ∷ []) ≡ Some (last_one k (length needs) (choose needs))
-choose-end [] k = refl
-choose-end (None ∷ needs) k = ap later (choose-end needs k) ∙ later-end k (length needs) (choose needs)
-choose-end (Some j ∷ needs) k = ap (λ o. Some (sooner j o)) (choose-end needs k) ∙ ap Some (sooner-end j k (length needs) (choose needs))
+pub choose_end : (needs : List (Option ℕ)) (k : ℕ) → choose (needs ++ Some k ∷ []) ≡ Some (last_one k (length needs) (choose needs))
+choose_end [] k = refl
+choose_end (None ∷ needs) k = ap later (choose_end needs k) ∙ later_end k (length needs) (choose needs)
+choose_end (Some j ∷ needs) k = ap (λ o. Some (sooner j o)) (choose_end needs k) ∙ ap Some (sooner_end j k (length needs) (choose needs))
 
 -- one at the end that cannot be chosen
-pub choose-end_none : (needs : List (Option ℕ)) → choose (needs ++ None ∷ []) ≡ choose needs
-choose-end_none [] = refl
-choose-end_none (None ∷ needs) = ap later (choose-end_none needs)
-choose-end_none (Some j ∷ needs) = ap (λ o. Some (sooner j o)) (choose-end_none needs)
+pub choose_end_none : (needs : List (Option ℕ)) → choose (needs ++ None ∷ []) ≡ choose needs
+choose_end_none [] = refl
+choose_end_none (None ∷ needs) = ap later (choose_end_none needs)
+choose_end_none (Some j ∷ needs) = ap (λ o. Some (sooner j o)) (choose_end_none needs)
 
 -- one at the end that may be chosen or not, as a test says
-pub choose-end_if : (b : Bool) (k : ℕ) (needs : List (Option ℕ)) → choose (needs ++ cond b None (Some k) ∷ []) ≡ cond b (choose needs) (Some (last_one k (length needs) (choose needs)))
-choose-end_if true k needs = choose-end_none needs
-choose-end_if false k needs = choose-end needs k
+pub choose_end_if : (b : Bool) (k : ℕ) (needs : List (Option ℕ)) → choose (needs ++ cond b None (Some k) ∷ []) ≡ cond b (choose needs) (Some (last_one k (length needs) (choose needs)))
+choose_end_if true k needs = choose_end_none needs
+choose_end_if false k needs = choose_end needs k
 
 -- ---- the choice is the place that `IsChosen` says, and there is no other
 
@@ -151,8 +151,8 @@ pub chosen_is : (needs : List (Option ℕ)) (c : Choice) → choose needs ≡ So
 chosen_is needs c e = subst (IsChoiceOf needs) e (choice_is needs)
 
 -- the choice stands within its list
-pub choose-within : (needs : List (Option ℕ)) → IfSome (choose needs) (λ c. c.place < length needs)
-choose-within needs = within (choose needs) (choice_is needs) where
+pub choose_within : (needs : List (Option ℕ)) → IfSome (choose needs) (λ c. c.place < length needs)
+choose_within needs = within (choose needs) (choice_is needs) where
   within : (o : Option Choice) → IsChoiceOf needs o → IfSome o (λ c. c.place < length needs)
   within None h = tt
   within (Some c) h = h.inside

@@ -9,13 +9,13 @@ use Rattle.byteorder.specs.Numbers.{big_from-take}
 use Rattle.q_packet.specs.Head.{head, ipv4_head, ipv6_head, header_length, is_ipv4, is_ipv6, prio_of, prio_table, version}
 
 -- every entry of a table that passes is at most m, and what is past its end is 0
-entry-le : (m : ℕ) (table : List ℕ) (i : ℕ) → list_all (λ x. nat_le x m) table ≡ true → get_or table i 0 ≤ m
-entry-le m [] i low = omega arith
-entry-le m (x ∷ table) zero low = leb-true x m (and_parts (nat_le x m) (list_all (λ y. nat_le y m) table) low).0
-entry-le m (x ∷ table) (suc i) low = entry-le m table i (and_parts (nat_le x m) (list_all (λ y. nat_le y m) table) low).1
+entry_le : (m : ℕ) (table : List ℕ) (i : ℕ) → list_all (λ x. nat_le x m) table ≡ true → get_or table i 0 ≤ m
+entry_le m [] i low = omega arith
+entry_le m (x ∷ table) zero low = leb-true x m (and_parts (nat_le x m) (list_all (λ y. nat_le y m) table) low).0
+entry_le m (x ∷ table) (suc i) low = entry_le m table i (and_parts (nat_le x m) (list_all (λ y. nat_le y m) table) low).1
 
 pub prio_in_range : (traffic : ℕ) → prio_of traffic ≤ 15
-prio_in_range traffic = entry-le 15 prio_table _ refl
+prio_in_range traffic = entry_le 15 prio_table _ refl
 
 -- the number at place j behind the first i bytes stands at place i + j
 big_from-drop : (j i n : ℕ) (xs : List ℕ) → big_from j n (drop i xs) ≡ big_from (i + j) n xs

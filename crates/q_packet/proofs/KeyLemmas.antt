@@ -17,8 +17,8 @@ family_fits : (family : ℕ) → IsTrue (is_family family) → family < 2 ^ 8
 family_fits family known = grind (arith, common_steps)
 
 -- the numbers of every key fit their bytes
-pub FitsBytes-key : (k : Key) → IsKey k → FitsBytes k
-FitsBytes-key k h = record {
+pub FitsBytes_key : (k : Key) → IsKey k → FitsBytes k
+FitsBytes_key k h = record {
   family = family_fits k.family h.family;
   proto = h.proto;
   src = address_fits (k.family == 4) k.src h.src;

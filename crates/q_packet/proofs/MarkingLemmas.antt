@@ -46,11 +46,11 @@ prio_of-with_ce b =
 -- ---- bytes that stay
 
 -- two lists that agree on the n bytes from place i have the same number there
-pub big_from-same : (i n : ℕ) (xs ys : List ℕ) → ((j : ℕ) → i ≤ j → j < i + n → slice_index ys j ≡ slice_index xs j) → big_from i n ys ≡ big_from i n xs
-big_from-same i zero xs ys same = refl
-big_from-same i (suc n) xs ys same =
+pub big_from_same : (i n : ℕ) (xs ys : List ℕ) → ((j : ℕ) → i ≤ j → j < i + n → slice_index ys j ≡ slice_index xs j) → big_from i n ys ≡ big_from i n xs
+big_from_same i zero xs ys same = refl
+big_from_same i (suc n) xs ys same =
     let here : slice_index ys i ≡ slice_index xs i = same i (omega arith) (omega arith) in
-    let rest : big_from (suc i) n ys ≡ big_from (suc i) n xs = big_from-same (suc i) n xs ys (λ j low high. same j (omega arith) (omega arith)) in
+    let rest : big_from (suc i) n ys ≡ big_from (suc i) n xs = big_from_same (suc i) n xs ys (λ j low high. same j (omega arith) (omega arith)) in
     cc
 
 -- what is written of an IPv4 header: its traffic byte, and the checksum
@@ -94,7 +94,7 @@ marks4 packet there =
     let first : (i : ℕ) → i ≢ 10 → i ≢ 11 → slice_index (with_checksum checksum traffic) i ≡ slice_index traffic i =
     λ i not_10 not_11. get_or-set_other (set traffic 10 (checksum / 256)) 11 i (checksum % 256) 0 not_11 ∙ get_or-set_other traffic 10 i (checksum / 256) 0 not_10 in
     let same : big_from 0 2 (with_checksum checksum traffic) ≡ big_from 0 2 traffic =
-    big_from-same 0 2 traffic (with_checksum checksum traffic) (λ j low high. first j (omega arith) (omega arith)) in
+    big_from_same 0 2 traffic (with_checksum checksum traffic) (λ j low high. first j (omega arith) (omega arith)) in
     let renewed = written checksum traffic (omega (arith, length-set packet 1 (with_ce (slice_index packet 1)))) (complement_fits _) in
     record {
       len = simp length-set;
@@ -128,13 +128,13 @@ ipv6_parts packet is =
 
 -- numbers behind the checksum stay, and those before it but behind the traffic byte
 pub behind4 : (at n : ℕ) (old new : List ℕ) → Marks4 old new → 12 ≤ at → big_from at n new ≡ big_from at n old
-behind4 at n old new marks behind = big_from-same at n old new (λ j low high. marks.bytes j (omega arith) (omega arith) (omega arith))
+behind4 at n old new marks behind = big_from_same at n old new (λ j low high. marks.bytes j (omega arith) (omega arith) (omega arith))
 
 pub before4 : (at n : ℕ) (old new : List ℕ) → Marks4 old new → 2 ≤ at → at + n ≤ 10 → big_from at n new ≡ big_from at n old
-before4 at n old new marks behind before = big_from-same at n old new (λ j low high. marks.bytes j (omega arith) (omega arith) (omega arith))
+before4 at n old new marks behind before = big_from_same at n old new (λ j low high. marks.bytes j (omega arith) (omega arith) (omega arith))
 
 behind6 : (at n : ℕ) (old new : List ℕ) → Marks6 old new → 2 ≤ at → big_from at n new ≡ big_from at n old
-behind6 at n old new marks behind = big_from-same at n old new (λ j low high. marks.bytes j (omega arith))
+behind6 at n old new marks behind = big_from_same at n old new (λ j low high. marks.bytes j (omega arith))
 
 pub head_marked4 : (old new : List ℕ) → Marks4 old new → IsIpv4 old → head new ≡ record (head old) { ecn = Ce }
 unfolding ipv4_head

@@ -7,12 +7,12 @@ use Rattle.std.specs.List.{fold}
 use Rattle.q_packet.specs.Descriptor.{Descriptor}
 use Rattle.q_model.specs.declared.event.Event.TheVariants.{Arrive}
 use Rattle.q_device.specs.DeviceSeen.{DeviceSeen, Memory}
+use Rattle.q_device.specs.Events.{with_memory}
+use Rattle.q_device.proofs.EventMemory.{after-memory}
 use Rattle.q_ports.specs.Collected.{Received, received_one, arrived_one, Collects, HasReceived}
-use Rattle.q_ports.specs.Events.{with_memory}
 use Rattle.q_ports.specs.Rings.{RingSeen, received_from}
 use Rattle.q_ports.specs.Room.{KeepsPlaces, StaysButForPlaces}
 use Rattle.q_ports.specs.Stopped.{HasNoRoomForNext, Stops}
-use Rattle.q_ports.proofs.EventLemmas.{after-memory}
 use Rattle.q_ports.proofs.RoomLemmas.{keeps-same, keeps-then}
 
 pub length-received : (rs : List (List Descriptor)) (ts : List Received) → length (fold received_one rs ts) ≡ length rs

@@ -4,12 +4,11 @@ pub mod Boards
 pub mod CollectLemmas
 pub mod DriveLemmas
 pub mod DriveTurnLemmas
-pub mod EventLemmas
 pub mod OfferLemmas
-pub mod PollLemmas
 pub mod Prefixes
 pub mod RingLemmas
 pub mod Rising
 pub mod RoomLemmas
+pub mod SentPlaces
 pub mod SettleLemmas
 pub mod TakeInLemmas

@@ -7,11 +7,11 @@ use Rattle.q_packet.specs.Descriptor.{Descriptor}
 use Rattle.q_model.specs.declared.row.Row.{Row}
 use Rattle.q_model.specs.declared.totals.Totals.{Totals}
 use Rattle.q_device.specs.DeviceSeen.{DeviceSeen}
-use Rattle.q_ports.specs.Events.{device_row}
+use Rattle.q_device.specs.Events.{device_row}
+use Rattle.q_device.proofs.EventMemory.{row-arrived}
 use Rattle.q_ports.specs.Held.{Held, held, whole}
 use Rattle.q_ports.specs.Placed.{RingId, PortSeen, bytes_in, ring_of_port, share_of}
 use Rattle.q_ports.specs.Rings.{RingSeen, ring_id, received_from, all_of, seat_for, with_known, AreBeginnings, AreSeenEmpty, LooksBeside}
-use Rattle.q_ports.proofs.EventLemmas.{row-arrived}
 use Rattle.q_ports.proofs.RingLemmas.{no_ring, map-set-same}
 
 -- the port at a place is that of the ring at that place

@@ -1,12 +1,10 @@
 pub mod Collected
 pub mod Driven
 pub mod DriveTurns
-pub mod Events
 pub mod Held
 pub mod Offered
 pub mod Opened
 pub mod Placed
-pub mod Polls
 pub mod PortRanges
 pub mod Rings
 pub mod Room

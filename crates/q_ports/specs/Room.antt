@@ -3,7 +3,7 @@
 use Rattle.std.specs.Prelude.{◌≡◌, ◌≤◌}
 use Rattle.q_packet.specs.Descriptor.{Descriptor}
 use Rattle.q_device.specs.DeviceSeen.{DeviceSeen, HasNoFewerPlaces, HasRoomFor}
-use Rattle.q_ports.specs.Events.{with_memory}
+use Rattle.q_device.specs.Events.{with_memory}
 
 -- No queue and not the lost list has lost a place, and the recorder has those that it had.
 pub record KeepsPlaces (before after : DeviceSeen) : Type 0 where

@@ -3,8 +3,8 @@
 use Rattle.std.specs.Prelude.{◌≡◌, ℕ, List}
 use Rattle.q_packet.specs.Descriptor.{Descriptor}
 use Rattle.q_device.specs.DeviceSeen.{DeviceSeen}
+use Rattle.q_device.specs.Events.{with_memory}
 use Rattle.q_ports.specs.Collected.{arrived_one, received_one, take}
-use Rattle.q_ports.specs.Events.{with_memory}
 use Rattle.q_ports.specs.Rings.{Receives, RingSeen}
 use Rattle.q_ports.specs.Room.{KeepsPlaces}
 

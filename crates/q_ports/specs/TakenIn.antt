@@ -9,7 +9,7 @@ use Rattle.q_model.specs.declared.event.Event.TheVariants.{Arrive}
 use Rattle.q_model.specs.declared.totals.Totals.{Totals}
 use Rattle.q_device.specs.DeviceLaws.{HasItsMemory}
 use Rattle.q_device.specs.DeviceSeen.{DeviceSeen, HasRoomFor}
-use Rattle.q_ports.specs.Events.{after_event, with_memory}
+use Rattle.q_device.specs.Events.{after_event, with_memory}
 use Rattle.q_ports.specs.Placed.{bytes_in}
 use Rattle.q_ports.specs.Rings.{RingSeen, popped}
 use Rattle.q_ports.specs.Room.{KeepsPlaces, StaysButForPlaces}

@@ -5,9 +5,9 @@ use Rattle.q_packet.specs.Descriptor.{Descriptor}
 use Rattle.q_device.specs.DeviceSeen.{DeviceSeen}
 use Rattle.q_model.specs.Conserved.{IsBalanced}
 use Rattle.q_model.specs.declared.row.Row.{Row}
+use Rattle.q_device.specs.Events.{device_row}
+use Rattle.q_device.specs.Polls.{given_by, polled_by}
 use Rattle.q_ports.specs.Collected.{Collects}
-use Rattle.q_ports.specs.Events.{device_row}
-use Rattle.q_ports.specs.Polls.{given_by, polled}
 use Rattle.q_ports.specs.Rings.{received_from, AreSeenEmpty, RingSeen}
 use Rattle.q_ports.specs.Rows.{BoardSeen, RowHistorySeen, Publishes, Withholds}
 use Rattle.q_ports.specs.Stopped.{Stops}
@@ -23,7 +23,7 @@ pub record Turned (now most : ℕ) (before after : List RingSeen) (device device
   pub whole : refused ≡ false → taken < most → AreSeenEmpty after
   pub stopped : refused ≡ true → Stops now (map received_from before) after device between taken
   pub gives : sent ≡ given_by most now between
-  pub leaves : device' ≡ polled most now between
+  pub leaves : device' ≡ polled_by most now between
 
 -- what a contract sees of a drain: its rings, and its board
 pub record DrainSeen : Type 0 where

@@ -10,7 +10,7 @@ ghost use Rattle.q_device.specs.DeviceSeen.{polled_memory, reaped, HasNoFewerPla
 ghost use Rattle.q_device.specs.Giving.{polled_in};
 ghost use Rattle.q_tree.specs.Commanding.{MayTakeMemory};
 ghost use Rattle.q_tree.specs.ReadyAt.{is_sure, ready_at};
-ghost use Rattle.q_ports.specs.Events.{after_event, device_row, reply_to, with_memory};
+ghost use Rattle.q_device.specs.Events.{after_event, device_row, reply_to, with_memory};
 ghost use Rattle.q_ports.specs.Held.{booking, held};
 
 use crate::seat::Seat;

@@ -1,8 +1,8 @@
 //! A turn of the drain: packets arrive at the device, then it is polled, and its row is published.
 ghost use Rattle.std.specs.Prelude.{◌≡◌, ◌≤◌, [], length, map, vec_capacity, IfOk, IfSome, IfNone, OnOk, OnErr};
 ghost use Rattle.q_model.specs.Conserved.{IsBalanced};
-ghost use Rattle.q_ports.specs.Events.{device_row};
-ghost use Rattle.q_ports.specs.Polls.{given_by, polled};
+ghost use Rattle.q_device.specs.Events.{device_row};
+ghost use Rattle.q_device.specs.Polls.{given_by, polled_by};
 ghost use Rattle.q_ports.specs.Rings.{ring_id};
 ghost use Rattle.q_ports.specs.Rows.{shown_on, Publishes, Withholds};
 ghost use Rattle.q_ports.specs.Turned.{Turned};
@@ -81,7 +81,7 @@ fn poll_all<P: Ledger, B: Ledger>(
     requires { (sent.old.items ≡ []) × (most ≤ vec_capacity sent.old) }
     ensures sent { sent.new.items ≡ given_by most now booked.old }
     ensures few { length sent.new.items ≤ most }
-    ensures polled { booked.new ≡ polled most now booked.old }
+    ensures polled { booked.new ≡ polled_by most now booked.old }
 {
     for poll in 0..most {
         // The poll writes the packet where it is to stand.

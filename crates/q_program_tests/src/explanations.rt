@@ -1,5 +1,6 @@
 //! What `--explain` says of lines that were not done.
 use crate::answers::assert_answers;
+use std::alloc::Global;
 use std::test::Fail;
 
 /// A script of lines with faults.
@@ -204,14 +205,27 @@ fn lines_that_were_done_are_remarked_upon(rt: HostRuntime) -> Result<(), Fail> {
     assert_answers(&rt, line, REMARKED, 1, REMARKED_REPORT, REMARKED_EXPLAINED)?;
     let told = "qtree: lines that were not done: 1; --explain says why\n";
     assert_answers(&rt, "qtree play", REMARKED, 1, REMARKED_REPORT, told)?;
-    let small = b"tc qdisc add dev eth0 root tbf rate 1mbit burst 99 latency 50ms";
-    let told = "line 1: tc qdisc add dev eth0 root tbf rate 1mbit burst 99 latency 50ms
+    Ok(())
+}
+
+/// A line that is done, with a burst below an mtu of 100 bytes.
+const SMALL: &[u8] = b"tc qdisc add dev eth0 root tbf rate 1mbit burst 99 latency 50ms";
+
+const SMALL_EXPLAINED: &str =
+    "line 1: tc qdisc add dev eth0 root tbf rate 1mbit burst 99 latency 50ms
                                                         ^^
   the burst is below the mtu of 100 bytes: each packet longer than the burst is lost. Give a burst of the mtu or more.
 ";
-    assert_answers(&rt, "qtree play --explain --mtu 100", small, 0, "", told)?;
-    assert_answers(&rt, "qtree play --mtu 100", small, 0, "", "")?;
-    assert_answers(&rt, "qtree play --explain --mtu 99", small, 0, "", "")?;
+
+#[test]
+fn lines_of_a_clean_report_are_remarked_upon(rt: HostRuntime) -> Result<(), Fail> {
+    let line = "qtree play --explain --mtu 100";
+    assert_answers(&rt, line, SMALL, 0, "", SMALL_EXPLAINED)?;
+    assert_answers(&rt, "qtree play --mtu 100", SMALL, 0, "", "")?;
+    assert_answers(&rt, "qtree play --explain --mtu 99", SMALL, 0, "", "")?;
+    let line = "qtree drive --senders 1 --count 0 --len 1 --ring 1 --explain --mtu 100";
+    let report = "settled 0p 0b\narrived 0p 0b\ngiven up 0\n";
+    assert_answers(&rt, line, SMALL, 0, report, SMALL_EXPLAINED)?;
     Ok(())
 }
 
@@ -291,34 +305,49 @@ line 2: caf\u{e9}\\xe2\\x80\\xae x
     Ok(())
 }
 
-#[test]
-fn long_lines_are_cut(rt: HostRuntime) -> Result<(), Fail> {
-    let alloc = rt.alloc();
-    let mut script = Vec::new(alloc);
-    for _ in 0..300 {
-        script.push(b' ')?;
+// Adds a letter so many times.
+fn repeat(text: &mut String, letter: char, count: usize) -> Result<(), Fail> {
+    for _ in 0..count {
+        text.push(letter)?;
     }
-    script.extend_from_slice(b"pol 3")?;
-    for _ in 0..300 {
-        script.push(b'3')?;
-    }
+    Ok(())
+}
+
+/// A line of 605 bytes, of which the first 300 are blanks.
+fn long_line(alloc: Global) -> Result<String, Fail> {
+    let mut line = String::new(alloc);
+    repeat(&mut line, ' ', 300)?;
+    line.push_str("pol 3")?;
+    repeat(&mut line, '3', 300)?;
+    Ok(line)
+}
+
+/// What is told of it: its bytes around the word.
+fn long_line_explained(alloc: Global) -> Result<String, Fail> {
     let mut told = String::new(alloc);
     told.push_str("line 1: ...")?;
-    for _ in 0..98 {
-        told.push(' ')?;
-    }
+    repeat(&mut told, ' ', 98)?;
     told.push_str("pol 3")?;
-    for _ in 0..97 {
-        told.push('3')?;
-    }
+    repeat(&mut told, '3', 97)?;
     told.push_str("...\n")?;
-    for _ in 0..109 {
-        told.push(' ')?;
-    }
+    repeat(&mut told, ' ', 109)?;
     told.push_str("^^^\n  pol begins no line; words are not shortened: write poll.\n")?;
+    Ok(told)
+}
+
+#[test]
+fn long_lines_are_cut(rt: HostRuntime) -> Result<(), Fail> {
+    let script = long_line(rt.alloc())?;
+    let told = long_line_explained(rt.alloc())?;
     let report = "line 1: fault 1 UnknownWord word 1\n";
-    assert_answers(&rt, "qtree play --explain", &script, 1, report, &told)?;
-    Ok(())
+    assert_answers(
+        &rt,
+        "qtree play --explain",
+        script.as_bytes(),
+        1,
+        report,
+        &told,
+    )
 }
 
 #[test]

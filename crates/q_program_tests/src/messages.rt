@@ -2,9 +2,12 @@
 use crate::answers::{assert_answers, status_of};
 use crate::runs::{TWO_OF_THREE, TWO_OF_THREE_REPORT};
 use q_options::{PromptedReader, Standard};
-use std::fs;
+use std::fs::{self, Files};
 use std::io::{Error, Read, Result as IoResult, Write};
+use std::process::Abort;
+use std::sync::Wait;
 use std::test::Fail;
+use std::thread::Threads;
 
 /// A standard stream that is closed, as Linux answers for it.
 #[derive(Drop)]
@@ -32,21 +35,27 @@ const READING: &[&str] = &[
     "qtree drive --senders 1 --count 1 --len 1 --ring 1",
 ];
 
+/// A line over these streams comes to nothing, which is told.
+fn assert_fails<H: Abort + AllocGlobal + Files + Threads + Wait + Sync, R: Read, W: Write>(
+    rt: &H,
+    line: &str,
+    reader: &mut R,
+    writer: &mut W,
+    told: &str,
+) -> Result<(), Fail> {
+    let mut errors = Vec::new(rt.alloc());
+    let answered = status_of(rt, rt.alloc(), line, reader, writer, &mut errors)?;
+    assert_eq!(rt; answered, 2);
+    assert_eq!(rt; errors.as_slice(), told.as_bytes());
+    Ok(())
+}
+
 #[test]
 fn closed_input(rt: HostRuntime) -> Result<(), Fail> {
-    let alloc = rt.alloc();
     for line in READING {
-        let (mut reader, mut written, mut errors) = (
-            Standard::new(Closed),
-            Vec::new(alloc),
-            Vec::new(alloc),
-        );
-        let answered = status_of(&rt, alloc, line, &mut reader, &mut written, &mut errors)?;
-        assert_eq!(rt; answered, 2);
-        assert_eq!(rt;
-            errors.as_slice(),
-            "qtree: the script cannot be read: standard input is closed\n".as_bytes()
-        );
+        let (mut closed, mut written) = (Standard::new(Closed), Vec::new(rt.alloc()));
+        let told = "qtree: the script cannot be read: standard input is closed\n";
+        assert_fails(&rt, line, &mut closed, &mut written, told)?;
     }
     Ok(())
 }
@@ -65,16 +74,9 @@ const TOLD_OF_OUTPUT: &[(&str, &str)] = &[
 
 #[test]
 fn closed_output(rt: HostRuntime) -> Result<(), Fail> {
-    let alloc = rt.alloc();
     for (line, told) in TOLD_OF_OUTPUT {
-        let (mut reader, mut closed, mut errors) = (
-            TWO_OF_THREE,
-            Standard::new(Closed),
-            Vec::new(alloc),
-        );
-        let answered = status_of(&rt, alloc, line, &mut reader, &mut closed, &mut errors)?;
-        assert_eq!(rt; answered, 2);
-        assert_eq!(rt; errors.as_slice(), told.as_bytes());
+        let (mut reader, mut closed) = (TWO_OF_THREE, Standard::new(Closed));
+        assert_fails(&rt, line, &mut reader, &mut closed, told)?;
     }
     Ok(())
 }
@@ -117,22 +119,9 @@ impl Write for Full {
 
 #[test]
 fn full_disk(rt: HostRuntime) -> Result<(), Fail> {
-    let alloc = rt.alloc();
-    let (mut reader, mut full, mut errors) = (TWO_OF_THREE, Full, Vec::new(alloc));
-    let answered = status_of(
-        &rt,
-        alloc,
-        "qtree play",
-        &mut reader,
-        &mut full,
-        &mut errors,
-    )?;
-    assert_eq!(rt; answered, 2);
-    assert_eq!(rt;
-        errors.as_slice(),
-        "qtree: the report cannot be written: No space left on device\n".as_bytes()
-    );
-    Ok(())
+    let (mut reader, mut full) = (TWO_OF_THREE, Full);
+    let told = "qtree: the report cannot be written: No space left on device\n";
+    assert_fails(&rt, "qtree play", &mut reader, &mut full, told)
 }
 
 /// Command lines, each with what is told of the file that it names.

@@ -137,12 +137,29 @@ fn recorded(alloc: Global, events: &[u8], report: &mut Vec<u8>) -> Result<Vec<u8
 fn a_recorded_session_is_played_again(rt: HostRuntime) -> Result<(), Fail> {
     let alloc = rt.alloc();
     let events = events(alloc, SEED)?;
-    let (mut first, mut second) = (Vec::new(alloc), Vec::new(alloc));
-    let again = recorded(alloc, &script(alloc, &events)?, &mut first)?;
-    let same = recorded(alloc, &again, &mut second)?;
-    assert!(rt; again.as_slice() == same.as_slice());
-    assert!(rt; are_same_but_refusals(&first, &second));
-    assert_all_is_told(&rt, &first, lines_with(&again, b"tc "));
+    let script = script(alloc, &events)?;
+    assert_is_played_again(&rt, alloc, &script)
+}
+
+// Plays a script, and what was recorded of it.
+fn assert_is_played_again(rt: &impl Abort, alloc: Global, script: &[u8]) -> Result<(), Fail> {
+    let mut report = Vec::new(alloc);
+    let again = recorded(alloc, script, &mut report)?;
+    assert_plays_alike(rt, alloc, &again, &report)
+}
+
+// What was recorded is recorded again when it is played, and its report is the first one but for the refusals.
+fn assert_plays_alike(
+    rt: &impl Abort,
+    alloc: Global,
+    again: &[u8],
+    first: &[u8],
+) -> Result<(), Fail> {
+    let mut second = Vec::new(alloc);
+    let same = recorded(alloc, again, &mut second)?;
+    assert!(rt; again == same.as_slice());
+    assert!(rt; are_same_but_refusals(first, &second));
+    assert_all_is_told(rt, first, lines_with(again, b"tc "));
     Ok(())
 }
 

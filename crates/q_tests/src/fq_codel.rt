@@ -24,6 +24,8 @@ enum Call {
     Losses(u64),
     // The packets in all flows, and their bytes.
     Queued(u64, u64),
+    // The flows that are listed as new, and as old.
+    Listed(usize, usize),
     Purge,
     // The limit and the quantum from then on.
     Change(u32, u32),
@@ -137,6 +139,7 @@ impl Bench {
             Call::Lost(number, cause) => Ok(self.has_lost(number, cause)),
             Call::Losses(count) => Ok(self.losses.count() == count),
             Call::Queued(packets, bytes) => Ok(self.fq.queued() == (packets, bytes)),
+            Call::Listed(new, old) => Ok(self.fq.listed() == (new, old)),
             Call::Purge => {
                 self.purge()?;
                 Ok(true)
@@ -273,10 +276,13 @@ fn a_quantum_of_1000(rt: HostRuntime) -> Result<(), Fail> {
             Call::Put(1000, 0, false),
             Call::Put(1000, 0, false),
             Call::Put(100, 1, false),
+            Call::Listed(2, 0),
             Call::Take(1),
             Call::Take(3),
+            Call::Listed(1, 1),
             Call::Take(2),
             Call::Take(0),
+            Call::Listed(0, 0),
             Call::Take(0),
             Call::Losses(0),
         ],

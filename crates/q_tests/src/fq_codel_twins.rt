@@ -99,12 +99,13 @@ impl Twins {
         }
     }
 
-    // Both have as many packets and bytes, and have lost the same packets in the same order.
+    // Both have as many packets, bytes and listed flows, and have lost the same packets in the same order.
     fn compare(&mut self, rt: &impl Abort) {
         let (packets, bytes) = self.fast.queued();
         let (plain_packets, plain_bytes) = self.plain.queued();
         assert_eq!(rt; plain_packets, packets);
         assert_eq!(rt; plain_bytes, bytes);
+        assert!(rt; self.plain.listed() == self.fast.listed());
         assert_eq!(rt; self.plain_lost.count(), self.lost.count());
         for _ in 0..self.lost.count() {
             let loss = self.lost.reap();

@@ -133,6 +133,11 @@ impl PlainFqCodel {
         Ok(())
     }
 
+    /// How many flows are listed as new, and how many as old.
+    pub fn listed(&self) -> (usize, usize) {
+        (self.new_flows.len(), self.old_flows.len())
+    }
+
     /// The packets in all flows, and their bytes. Only listed flows have any.
     pub fn queued(&self) -> (u64, u64) {
         let (new, new_bytes) = self.queued_in(&self.new_flows);

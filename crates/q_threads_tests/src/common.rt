@@ -1,5 +1,5 @@
 //! What the tests share: a device, packets, and a drain over both.
-ghost use Rattle.std.specs.Prelude.{◌≡◌, ◌<◌, length, map, All, IfSome};
+ghost use Rattle.std.specs.Prelude.{◌≡◌, ◌<◌, ◌≤◌, length, map, All, IfSome};
 ghost use Rattle.q_model.specs.Tally.{no_totals};
 ghost use Rattle.q_ports.specs.Held.{held};
 ghost use Rattle.q_ports.specs.Placed.{ring_of_port};
@@ -8,8 +8,8 @@ ghost use Rattle.q_ports.specs.Rows.{new_gauge, shown_on, GaugeSeen};
 
 use q_device::{Device, Row, Settings, Totals};
 use q_packet::{Ecn, FlowKey, Moment, Packet};
-use q_ports::{Booked, Drain, Full, Gate, Gauge, Port, Seat, drive, open_ports};
-use std::alloc::Global;
+use q_ports::{Booked, Drain, Full, Gate, Gauge, Port, Seat, Turn, drive, open_ports};
+use std::alloc::{AllocError, Global};
 use std::process::Abort;
 use std::sync::ledger::{Blank, Ledger};
 use std::sync::{Mutex, Wait};
@@ -51,6 +51,20 @@ pub fn hundreds(packets: u64) -> Totals {
         packets,
         bytes: packets.saturating_mul(100),
     }
+}
+
+/// A load for each of so many ports: this packet so many times.
+pub fn loads(
+    alloc: Global,
+    ports: usize,
+    each: usize,
+    given: Packet,
+) -> Result<Vec<Vec<Packet>>, AllocError> {
+    let mut loads = Vec::with_capacity(alloc, ports)?;
+    for _port in 0..ports {
+        loads.push(vec![in alloc; given; each]?)?;
+    }
+    Ok(loads)
 }
 
 /// As many were counted as wanted. It is asked here, since an assert is dear to prove in a test that owns much.
@@ -133,6 +147,41 @@ pub fn assert_full<R: Abort>(rt: &R, ports: &mut Vec<Port>, packet: Packet)
     ensures count { length ports.new.items ≡ length ports.old.items }
 {
     assert_eq!(rt; offer_at(ports, 0, packet), Err(Full(packet)));
+}
+
+/// A turn at this moment, of so many packets at most.
+pub fn turn<P: Ledger, B: Ledger, R: Wait + Abort>(
+    rt: &R,
+    alloc: Global,
+    booked: &Mutex<Booked<P, B>>,
+    drain: &mut Drain<P, B>,
+    now: u64,
+    most: usize,
+) -> Turn
+    requires { (1 ≤ most) × (most ≤ 1024) }
+    ensures rings { map ring_id drain.new.rings ≡ map ring_id drain.old.rings }
+    ensures book { drain.new.board.book ≡ drain.old.board.book }
+    ensures told { IfSome result.told (λ f. f ≡ shown_on drain.new.board) }
+{
+    match drain.turn(rt, alloc, booked, moment(now), most) {
+        Ok(turn) => turn,
+        Err(_) => panic!(rt; "memory"),
+    }
+}
+
+/// Such a turn, of which nobody asks what it did.
+pub fn take_turn<P: Ledger, B: Ledger, R: Wait + Abort>(
+    rt: &R,
+    alloc: Global,
+    booked: &Mutex<Booked<P, B>>,
+    drain: &mut Drain<P, B>,
+    now: u64,
+    most: usize,
+)
+    requires { (1 ≤ most) × (most ≤ 1024) }
+    ensures { map ring_id drain.new.rings ≡ map ring_id drain.old.rings }
+{
+    let _turn = turn(rt, alloc, booked, drain, now, most);
 }
 
 /// The row of the device.

@@ -2,10 +2,10 @@
 ghost use Rattle.std.specs.Prelude.{◌≡◌, ◌≤◌, length};
 ghost use Rattle.q_model.specs.Tally.{no_totals};
 
-use crate::common::{assert_count, device, opened, packet, row};
+use crate::common::{assert_count, device, opened, packet, row, take_turn};
 use crate::traffic::Traffic;
 use q_device::Device;
-use q_packet::{Moment, Packet};
+use q_packet::Packet;
 use q_ports::{Booked, Drain, Gauge, Port};
 use std::alloc::Global;
 use std::marker::Brand;
@@ -82,8 +82,7 @@ fn take_turns<P: Ledger, B: Ledger, R: Wait + Abort>(
     traffic: &Traffic,
 ) {
     for _turn in 0..10_000_000u64 {
-        let turn = drain.turn(rt, alloc, booked, Moment::zero(), 8);
-        assert!(rt; turn.is_ok());
+        take_turn(rt, alloc, booked, drain, 0, 8);
         if row(rt, booked).arrived.packets >= ARRIVED && traffic.read() > 0 {
             return;
         }

@@ -7,7 +7,7 @@ ghost use Rattle.q_ports.specs.Rows.{new_gauge, shown_on, GaugeSeen};
 
 use crate::common::{
     assert_count, assert_full, assert_settles, assert_totals, device, fill, hundreds, limited,
-    offer_at, opened, packet, row,
+    offer_at, opened, packet, row, turn,
 };
 use crate::rows::NO_ROW;
 use q_device::{Device, Polled, Row};
@@ -67,25 +67,8 @@ fn long_turn<P: Ledger, B: Ledger, R: Wait + Abort>(
         bytes,
     );
     fill(rt, &mut ports, 1024, given);
-    assert_takes(rt, alloc, &booked, &mut drain, 1024);
+    assert_tells(rt, alloc, &booked, &mut drain, 1024, 1024);
     drain.end(rt);
-}
-
-// A turn of so many takes and sends as many.
-fn assert_takes<P: Ledger, B: Ledger, R: Wait + Abort>(
-    rt: &R,
-    alloc: Global,
-    booked: &Mutex<Booked<P, B>>,
-    drain: &mut Drain<P, B>,
-    most: usize,
-)
-    requires { (1 ≤ most) × (most ≤ 1024) }
-{
-    let Ok(turn) = drain.turn(rt, alloc, booked, Moment::zero(), most) else {
-        panic!(rt; "memory");
-    };
-    assert_count(rt, turn.taken as u64, most as u64);
-    assert_count(rt, turn.sent.len() as u64, most as u64);
 }
 
 // As many gauges as there may be, and none: each shows the turns before, learns of one more, and shows it.
@@ -283,9 +266,7 @@ fn turn_and_learn<P: Ledger, B: Ledger, R: Wait + Abort>(
     ensures rings { map ring_id drain.new.rings ≡ map ring_id drain.old.rings }
     ensures book { drain.new.board.book ≡ drain.old.board.book }
 {
-    let Ok(turn) = drain.turn(rt, alloc, booked, Moment::zero(), 1) else {
-        panic!(rt; "memory");
-    };
+    let turn = turn(rt, alloc, booked, drain, 0, 1);
     assert_sends(rt, &turn, &[(0, number)]);
     let Turn { told, .. } = turn;
     match told {
@@ -307,8 +288,7 @@ fn assert_sends<R: Abort>(rt: &R, turn: &Turn, wanted: &[(u32, u64)]) {
     }
 }
 
-// Ports 0 and 1 with two packets each: a turn of three takes one from each in turn, and the next turn the last. Then each of
-// 100 turns tells, and a gauge that learns nothing goes on all the same.
+// Turns go on round the ports. Then each of 100 turns tells, and a gauge that learns nothing goes on all the same.
 fn going_round<P: Ledger, B: Ledger, R: Wait + Abort>(
     rt: &R,
     alloc: Global,
@@ -334,22 +314,37 @@ fn going_round<P: Ledger, B: Ledger, R: Wait + Abort>(
     let Some(mut gauge) = gauges.pop() else {
         panic!(rt; "a gauge");
     };
-    offer_at_each(rt, &mut ports, 2, given);
-    offer_at_each(rt, &mut ports, 2, given);
-    assert_turn(rt, alloc, &booked, &mut drain, 3, &[(0, 1), (1, 1), (0, 2)]);
-    assert_turn(rt, alloc, &booked, &mut drain, 1, &[(1, 2)]);
-    let mut shown = 4u64;
+    assert_goes_on(rt, alloc, &booked, &mut drain, &mut ports, given);
+    let mut shown = 5u64;
     for _turn in 0..100 {
         offer_at_each(rt, &mut ports, count, given);
         shown = shown.saturating_add(count as u64);
-        assert_tells(rt, alloc, &booked, &mut drain, count);
+        assert_tells(rt, alloc, &booked, &mut drain, 64, count);
         assert_shows(rt, &mut gauge, shown);
     }
     // A turn that finds nothing tells of the same row once more.
-    assert_tells(rt, alloc, &booked, &mut drain, 0);
-    assert_tells(rt, alloc, &booked, &mut drain, 0);
+    assert_tells(rt, alloc, &booked, &mut drain, 64, 0);
+    assert_tells(rt, alloc, &booked, &mut drain, 64, 0);
     assert_shows(rt, &mut gauge, shown);
     drain.end(rt);
+}
+
+// Ports 0 and 1 with two packets each: a turn of three takes one from each in turn, the last one on the way round. So the next turn
+// begins at port 1, though a packet waits at port 0 again.
+fn assert_goes_on<P: Ledger, B: Ledger, R: Wait + Abort>(
+    rt: &R,
+    alloc: Global,
+    booked: &Mutex<Booked<P, B>>,
+    drain: &mut Drain<P, B>,
+    ports: &mut Vec<Port>,
+    given: Packet,
+) {
+    offer_at_each(rt, ports, 2, given);
+    offer_at_each(rt, ports, 2, given);
+    assert_turn(rt, alloc, booked, drain, 3, &[(0, 1), (1, 1), (0, 2)]);
+    offer_at_each(rt, ports, 1, given);
+    assert_turn(rt, alloc, booked, drain, 1, &[(1, 2)]);
+    assert_turn(rt, alloc, booked, drain, 1, &[(0, 3)]);
 }
 
 // Places a packet at each of the first ports.
@@ -359,17 +354,18 @@ fn offer_at_each<R: Abort>(rt: &R, ports: &mut Vec<Port>, count: usize, given: P
     }
 }
 
-// A turn takes so many packets, and tells.
+// A turn takes and sends so many packets, and tells.
 fn assert_tells<P: Ledger, B: Ledger, R: Wait + Abort>(
     rt: &R,
     alloc: Global,
     booked: &Mutex<Booked<P, B>>,
     drain: &mut Drain<P, B>,
+    most: usize,
     count: usize,
-) {
-    let Ok(turn) = drain.turn(rt, alloc, booked, Moment::zero(), 64) else {
-        panic!(rt; "memory");
-    };
+)
+    requires { (1 ≤ most) × (most ≤ 1024) }
+{
+    let turn = turn(rt, alloc, booked, drain, 0, most);
     assert_count(rt, turn.taken as u64, count as u64);
     assert_count(rt, turn.sent.len() as u64, count as u64);
     assert!(rt; turn.told.is_some());
@@ -386,8 +382,6 @@ fn assert_turn<P: Ledger, B: Ledger, R: Wait + Abort>(
 )
     requires { (1 ≤ most) × (most ≤ 1024) }
 {
-    let Ok(turn) = drain.turn(rt, alloc, booked, Moment::zero(), most) else {
-        panic!(rt; "memory");
-    };
+    let turn = turn(rt, alloc, booked, drain, 0, most);
     assert_sends(rt, &turn, wanted);
 }

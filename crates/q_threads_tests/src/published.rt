@@ -5,14 +5,15 @@ ghost use Rattle.q_ports.specs.Placed.{ring_of_port};
 ghost use Rattle.q_ports.specs.Rings.{ring_id};
 
 use crate::common::{
-    assert_count, assert_settles, assert_totals, device, driven_all, fill, hundreds, opened, packet,
+    assert_count, assert_settles, assert_totals, device, driven_all, fill, hundreds, loads, opened,
+    packet, take_turn,
 };
 use crate::traffic::Traffic;
 use crate::watch::Watch;
 use q_device::Device;
-use q_packet::{Moment, Packet};
+use q_packet::Packet;
 use q_ports::{Booked, Drain, Gauge, Port};
-use std::alloc::{AllocError, Global};
+use std::alloc::Global;
 use std::marker::Brand;
 use std::process::Abort;
 use std::sync::ledger::{Blank, Ledger};
@@ -31,18 +32,11 @@ const ROUNDS: u64 = 40;
 fn each_turn_of_a_drive_is_shown(rt: HostRuntime) -> Result<(), Fail> {
     let alloc = rt.alloc();
     let given = packet(5).expect(&rt, "a packet");
-    let loads = one_load(alloc, given)?;
+    let loads = loads(alloc, 1, PACKETS, given)?;
     let device = device(alloc, 0).expect(&rt, "memory");
     let (packets, bytes) = (Blank::new(65), Blank::new(65));
     watched::<Brand, Brand, _>(&rt, alloc, device, loads, packets, bytes);
     Ok(())
-}
-
-// The load of one port.
-fn one_load(alloc: Global, given: Packet) -> Result<Vec<Vec<Packet>>, AllocError> {
-    let mut loads = Vec::with_capacity(alloc, 1)?;
-    loads.push(vec![in alloc; given; PACKETS]?)?;
-    Ok(loads)
 }
 
 // Drives one port with a gauge at its gate.
@@ -132,8 +126,7 @@ fn settled<P: Ledger, B: Ledger, R: Threads + Wait + Abort>(
         bytes,
     );
     fill(rt, &mut ports, 3, given);
-    let turn = drain.turn(rt, alloc, &booked, Moment::zero(), 1);
-    assert!(rt; turn.is_ok());
+    take_turn(rt, alloc, &booked, &mut drain, 0, 1);
     let reading = read_beside(rt, traffic, &mut gauges);
     wait_for_reads(rt, traffic);
     assert_settles(rt, &booked, drain, ports, hundreds(3));

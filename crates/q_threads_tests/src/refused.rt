@@ -8,12 +8,14 @@ ghost use Rattle.q_ports.specs.Held.{held};
 ghost use Rattle.q_ports.specs.Placed.{ring_of_port};
 ghost use Rattle.q_ports.specs.Rings.{ring_id};
 
-use crate::common::{assert_count, assert_totals, fill, hundreds, locked, packet, retried, row};
+use crate::common::{
+    assert_count, assert_totals, fill, hundreds, loads, locked, packet, retried, row,
+};
 use crate::open_gate::OpenGate;
 use q_device::Device;
 use q_packet::{Moment, Packet};
 use q_ports::{Booked, Drain, Driven, Gauge, Port, Seat, Share, Unsettled, drive, open_ports};
-use std::alloc::{AllocError, Global};
+use std::alloc::Global;
 use std::marker::Brand;
 use std::process::Abort;
 use std::sync::ledger::{Blank, Ledger};
@@ -79,9 +81,10 @@ fn drive_all<R: Threads + Wait + Sync + Abort>(
     assert!(rt; 1 <= sizes.ports && sizes.ports <= 64);
     assert!(rt; 1 <= sizes.ring && sizes.ring <= 65_536);
     let given = packet(5).expect(rt, "a packet");
-    let loads = match loads(alloc, sizes, given) {
+    let each = sizes.each as usize;
+    let loads = match loads(alloc, sizes.ports, each, given) {
         Ok(loads) => loads,
-        Err(_) => loads(alloc, sizes, given)?,
+        Err(_) => loads(alloc, sizes.ports, each, given)?,
     };
     assert!(rt; loads.len() == sizes.ports);
     let device = retried(alloc, 4).expect(rt, "memory");
@@ -95,15 +98,6 @@ fn drive_all<R: Threads + Wait + Sync + Abort>(
         Blank::new(65),
     );
     Ok(())
-}
-
-// A load for each port.
-fn loads(alloc: Global, sizes: Sizes, given: Packet) -> Result<Vec<Vec<Packet>>, AllocError> {
-    let mut loads = Vec::with_capacity(alloc, sizes.ports)?;
-    for _port in 0..sizes.ports {
-        loads.push(vec![in alloc; given; sizes.each as usize]?)?;
-    }
-    Ok(loads)
 }
 
 // Drives ports. Where that is refused, each port has placed all of its load or, as its sender got no thread, nothing; what was placed is

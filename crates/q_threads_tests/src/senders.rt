@@ -3,7 +3,7 @@ ghost use Rattle.std.specs.Prelude.{◌≡◌, ◌≤◌, length};
 ghost use Rattle.q_model.specs.Tally.{no_totals};
 
 use crate::common::{
-    assert_count, assert_totals, device, driven_all, hundreds, opened, packet, row,
+    assert_count, assert_totals, device, driven_all, hundreds, loads, opened, packet, row,
 };
 use crate::meeting::{Meeting, READS};
 use crate::open_gate::OpenGate;
@@ -151,20 +151,6 @@ fn has_long_rings(counts: (usize, usize, usize)) -> bool {
 // How many packets all senders have.
 fn all_of(counts: (usize, usize, usize)) -> u64 {
     (counts.0 as u64).saturating_mul(counts.1 as u64)
-}
-
-// A load for each sender.
-fn loads(
-    alloc: Global,
-    senders: usize,
-    each: usize,
-    given: Packet,
-) -> Result<Vec<Vec<Packet>>, AllocError> {
-    let mut loads = Vec::new(alloc);
-    for _sender in 0..senders {
-        loads.push(vec![in alloc; given; each]?)?;
-    }
-    Ok(loads)
 }
 
 // A load for each sender, of these packets in turn.

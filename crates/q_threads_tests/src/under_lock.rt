@@ -7,7 +7,7 @@ ghost use Rattle.q_ports.specs.Rings.{ring_id};
 
 use crate::common::{
     assert_count, assert_settles_at, assert_totals, hundreds, limited, moment, offer_at, opened,
-    packet, row,
+    packet, row, take_turn,
 };
 use q_device::{Device, Event, Lost};
 use q_packet::{Cause, Packet};
@@ -80,10 +80,10 @@ fn turned_and_settled<P: Ledger, B: Ledger, R: Wait + Abort>(
         bytes,
     );
     offer(rt, &mut ports, (3, 2), given);
-    turn(rt, alloc, &booked, &mut drain, (5, 4));
+    take_turn(rt, alloc, &booked, &mut drain, 5, 4);
     assert_events(rt, &booked, 8, given);
     offer(rt, &mut ports, (3, 0), given);
-    turn(rt, alloc, &booked, &mut drain, (9, 2));
+    take_turn(rt, alloc, &booked, &mut drain, 9, 2);
     assert_events(rt, &booked, 12, given);
     offer(rt, &mut ports, (0, 2), given);
     assert_settles_at(rt, &booked, drain, ports, hundreds(10), 12);
@@ -110,22 +110,6 @@ fn place<R: Abort>(rt: &R, ports: &mut Vec<Port>, at: usize, count: u64, given: 
     for _offer in 0..count {
         assert!(rt; offer_at(ports, at, given).is_ok());
     }
-}
-
-// A turn at this moment, of so many packets.
-fn turn<P: Ledger, B: Ledger, R: Wait + Abort>(
-    rt: &R,
-    alloc: Global,
-    booked: &Mutex<Booked<P, B>>,
-    drain: &mut Drain<P, B>,
-    turn: (u64, usize),
-)
-    ensures { map ring_id drain.new.rings ≡ map ring_id drain.old.rings }
-{
-    let (now, most) = turn;
-    assert!(rt; 1 <= most && most <= 1024);
-    let turn = drain.turn(rt, alloc, booked, moment(now), most);
-    assert!(rt; turn.is_ok());
 }
 
 // So many events happened and no others, those of the list.

@@ -9,7 +9,7 @@ use Rattle.q_packet.specs.declared.stamped.Stamped.{Stamped}
 use Rattle.q_codel.specs.Losses as codel
 use Rattle.q_fqcodel.specs.FqState.{Flow, FqState, packets_of, bytes_of, all_packets}
 use Rattle.q_fqcodel.specs.Put.{after_put, lost_by_put, flow_of}
-use Rattle.q_fqcodel.proofs.FlowLemmas.{packets-cons, packets-nil}
+use Rattle.q_fqcodel.proofs.FlowLemmas.{packets_of-cons, packets_of-nil}
 use Rattle.q_fqcodel.proofs.LawLemmas.{all_packets-cons, put_keeps_all}
 use Rattle.q_model.specs.Beneath as beneath
 use Rattle.q_model.specs.Beneath.{totals_in}
@@ -39,8 +39,8 @@ unfolding bytes_of
 bytes-nil = refl
 
 pub packets-all : (flows : List Flow) → packets_of flows ≡ sum_by one (all_packets flows)
-packets-all [] = packets-nil ∙ sym (ap (sum_by one) none-left)
-packets-all (f ∷ fs) = omega (arith, packets-cons f fs, ap (sum_by one) (all_packets-cons f fs), sum_by-append one f.queue (all_packets fs), count-sum f.queue, packets-all fs)
+packets-all [] = packets_of-nil ∙ sym (ap (sum_by one) none-left)
+packets-all (f ∷ fs) = omega (arith, packets_of-cons f fs, ap (sum_by one) (all_packets-cons f fs), sum_by-append one f.queue (all_packets fs), count-sum f.queue, packets-all fs)
 
 pub bytes-all : (flows : List Flow) → bytes_of flows ≡ sum_by len (all_packets flows)
 bytes-all [] = bytes-nil ∙ sym (ap (sum_by len) none-left)

@@ -21,6 +21,11 @@ pub head-some : (xs : List Stamped) (old new : Descriptor) → 0 < length xs →
 head-some [] old new some is = absurd (omega (arith, some))
 head-some (s ∷ xs) old new some is = ap Some (sym is)
 
+-- its length is what the call answered
+pub head-len : (o : Option Stamped) (len : ℕ) (old new : Descriptor) → 0 < len → len ≡ option_map_or (λ (s : Stamped). s.packet.len) o 0 → new ≡ option_map_or (λ (s : Stamped). s.packet) o old → len ≡ new.len
+head-len None len old new some l is = absurd (omega (arith, some, l))
+head-len (Some s) len old new some l is = omega (arith, l, ap (λ (p : Descriptor). p.len) is)
+
 -- an fq_codel that gave a packet gave what it sends, marked or not
 pub sent-some : (sent : Option Taken) (len : ℕ) (marked : Bool) (old new : Descriptor) → 0 < len → len ≡ option_map_or (λ (t : Taken). t.packet.len) sent 0
     → marked ≡ option_map_or (λ (t : Taken). t.marked) sent false → new ≡ option_map_or (λ (t : Taken). t.packet) sent old

@@ -10,7 +10,7 @@ use Rattle.std.proofs.lemmas.List.Sums.{fold-append, sum_by-cons}
 use Rattle.arrayvec.specs.ArrayVec.{ArrayVec}
 use Rattle.indexmap.specs.IndexMap.{insert_entry}
 use Rattle.q_packet.specs.Least.{least}
-use Rattle.q_drr.proofs.DifferLemmas.{Differ, differ-from_pairs}
+use Rattle.q_drr.proofs.DifferLemmas.{Differ, differ_from_pairs}
 use Rattle.q_drr.proofs.KeyLemmas.{has}
 use Rattle.q_drr.proofs.NameLemmas.{eqb_swap}
 use Rattle.q_model.specs.Find.{Address, addresses, addresses_own, count_nodes, from_parent}
@@ -215,7 +215,7 @@ module _ (n : Node Kept) (xs : List Address) (apart : AreApart n) (is : xs ≡ f
   pub all-beneath : xs ≡ addresses_beneath n
   all-beneath =
       is ∙ ap (fold added []) (under-nothing (addresses_beneath n))
-      ∙ all-added [] (addresses_beneath n) (beneath n.own.handle (subst (Differ key) (addresses-all n) (differ-from_pairs key (addresses n) apart))) where
+      ∙ all-added [] (addresses_beneath n) (beneath n.own.handle (subst (Differ key) (addresses-all n) (differ_from_pairs key (addresses n) apart))) where
         beneath : (o : Option ℕ) → Differ key (own_address [] o ++ addresses_beneath n) → Differ key (addresses_beneath n)
         beneath None d = d
         beneath (Some h) d = d.1

@@ -8,7 +8,7 @@ use Rattle.std.specs.Option.{option_map_or}
 use Rattle.std.specs.Prelude.{Bool, true, false, ◌&&◌, ◌==◌, bit_and, if◌then◌else◌, IfSome, is_some, slice_get, unwrap_or}
 use Rattle.q_packet.specs.Descriptor.{Descriptor}
 use Rattle.q_packet.specs.Key.{FitsBytes, IsKey, Key}
-use Rattle.q_packet.proofs.KeyLemmas.{FitsBytes-key}
+use Rattle.q_packet.proofs.KeyLemmas.{FitsBytes_key}
 use Rattle.q_model.specs.Filters.{agrees, has_prefix, is_of, matches}
 use Rattle.q_model.specs.Ranges.{IsFilter}
 use Rattle.q_model.specs.declared.filter.Filter.{Filter}
@@ -86,7 +86,7 @@ proto-wanted (Some n) h = omega (arith, h.1)
 -- one comparison tells of all numbers
 pub one-comparison : (f : Filter) (k : Key) → IsFilter f → IsKey k → (bit_and (word_of k) (mask_of f) == wanted_of f) ≡ takes_numbers f k
 one-comparison f k range key =
-    let fits : FitsBytes k = FitsBytes-key k key in
+    let fits : FitsBytes k = FitsBytes_key k key in
     let sm = option_map_or (λ m. 65535) f.keys.src_port 0 in
     let dm = option_map_or (λ m. 65535) f.keys.dst_port 0 in
     let pm = option_map_or (λ m. 255) f.keys.ip_proto 0 in

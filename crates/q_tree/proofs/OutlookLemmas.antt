@@ -7,7 +7,7 @@ use Rattle.std.proofs.lemmas.List.Elements.{All-head}
 use Rattle.std.proofs.lemmas.Option.{slice_get-map}
 use Rattle.q_packet.specs.Descriptor.{Descriptor}
 use Rattle.q_drr.specs.Schedule.{Entry, Schedule, IsEntry, IsLawful, front_of, has_class, deficit_of}
-use Rattle.q_drr.proofs.LookupLemmas.{deficit-here}
+use Rattle.q_drr.proofs.LookupLemmas.{deficit_here}
 use Rattle.q_drr.proofs.TakeLemmas.{Front, front_is}
 use Rattle.q_model.specs.Node.{Discipline, Node, side_by_side, each}
 use Rattle.q_model.specs.Route.{class_at}
@@ -52,7 +52,7 @@ pub of-front : (s : Schedule) (n : ℕ) (os : List Outlook) → front_of s ≡ S
     → of_class s os (slice_get s.active 0) ≡ option_map_or (paid (deficit_of n s.active)) (option_and_then (slice_get os) (class_at n s)) no_packet
 of-front s n os e =
     let f : Front n s = front_is n s (sym e) in
-    let owed : deficit_of n s.active ≡ f.first.deficit = ap (deficit_of n) f.is ∙ deficit-here n f.first f.rest (eq-eqb n f.first.class (sym f.class)) in
+    let owed : deficit_of n s.active ≡ f.first.deficit = ap (deficit_of n) f.is ∙ deficit_here n f.first f.rest (eq-eqb n f.first.class (sym f.class)) in
     ap (λ (es : List Entry). of_class s os (slice_get es 0)) f.is
     ∙ ap₂ (λ d m. option_map_or (paid d) (option_and_then (slice_get os) (class_at m s)) no_packet) (sym owed) f.class
 

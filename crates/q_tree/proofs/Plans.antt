@@ -3,6 +3,7 @@ use Rattle.std.proofs.Common.{◌≡◌, ℕ, ◌≤◌, ◌+◌, ◌∙◌, Lis
 use Rattle.std.specs.Prelude.{IfErr, OnErr, OnOk, Bool, is_none, is_some, not, slice_get, true, false, ◌||◌}
 use Rattle.std.specs.List.{list_any}
 use Rattle.std.specs.Option.{option_map_or}
+use Rattle.std.specs.Result.{IsErrAnd}
 use Rattle.std.proofs.lemmas.Bool.{false≢true}
 use Rattle.std.proofs.lemmas.List.{length-map}
 use Rattle.std.proofs.lemmas.Option.{same_Some}
@@ -33,16 +34,19 @@ use Rattle.q_invariants.proofs.EditChildren.{gone_is, gone_none, kept_there, kid
 use Rattle.q_invariants.proofs.EditSuits.{done_is, length-shape, node_at-shape}
 use Rattle.q_invariants.proofs.Forests.{side-nodes}
 use Rattle.q_invariants.proofs.MadeSizes.{count-shape, depth-shape}
-use Rattle.q_tree.specs.Commands.{IsAnswered, IsBounded, IsDone, IsPlanned, IsPlannedFor, IsPlanOf, IsRefused, device_edited, told}
+use Rattle.q_tree.specs.Commanding.{WantsMemory}
+use Rattle.q_tree.specs.Commands.{IsAnswered, IsBounded, IsDone, IsPlanned, IsPlannedFor, IsPlanOf, IsRefused, device_edited, plan_of, told}
 use Rattle.q_tree.specs.Editing.{IsReady, LosesNothing, TakesMemory, edited_by, effect, removed, removed_at}
 use Rattle.q_tree.specs.Reshaping.{KeepsAll, children_after, discipline_after, lost_with}
 use Rattle.q_tree.specs.Kept.{Kept, kept}
+use Rattle.q_tree.specs.Planning.{IsLawful, IsPlanBy, device_of, planned_by, root_of}
 use Rattle.q_tree.specs.TreeSeen.{IsKeptDevice, numbers, tree_numbers}
 use Rattle.q_tree.specs.declared.commands.edit.Edit.{Edit}
 use Rattle.q_tree.specs.declared.commands.edit.Edit.TheVariants.{Graft, AddFilter, RemoveFilters, DisciplineChange}
 use Rattle.q_tree.specs.declared.commands.discipline_change.DisciplineChange as shapes
 use Rattle.q_tree.specs.declared.commands.discipline_change.DisciplineChange.TheVariants.{Nothing, SetLimit, SetBands, SetBucket, SetOptions, AddClass, SetQuantum, RemoveClass}
 use Rattle.q_tree.specs.declared.commands.planned.Planned.{Planned}
+use Rattle.q_tree.specs.declared.commands.planner.Planner.{Planner}
 use Rattle.q_tree.specs.declared.tree.Tree.TheInside.{Inside}
 use Rattle.q_tree.proofs.TreeLemmas.{lawful-root, same-shape, stands}
 use Rattle.q_tree.specs.Showing.{IsNumbered}
@@ -65,21 +69,29 @@ pub numbers-after : (e : Edit) (path : List ℕ) (now : ℕ) (d after : DeviceSt
     → numbers after ≡ record { clock = now; tree = with_edit totals p.edit (tree_numbers d.tree) }
 numbers-after e path now d after p is = done-numbers now p.edit d after (is ∙ edited-is e path now d p)
 
-module _ (memory : Type 0) (command : Command) (d : DeviceState Kept) (now : ℕ) (root : Node Kept) (root_is : root ≡ d.tree.root) (answer : Result Planned Refusal)
-    (plan_of : IsPlanOf memory command now d.tree.device root answer) where
+-- a refusal that `?` passes on
+pub err-passed : {T : Type 0} (r : Result T Refusal) (e : Refusal) (P : Result T Refusal → Type 0) → IsErrAnd r (λ q. q ≡ e) → P (Err e) → P r
+err-passed (Ok t) e P same p = absurd same
+err-passed (Err q) e P same p = subst (λ x. P (Err x)) (sym same) p
+
+-- what is planned over the tree of a device, as it stands now, is planned in it
+pub planned-in : (p : Planner) (command : Command) (now : ℕ) (d : DeviceState Kept) (answer : Result Planned Refusal) → device_of p ≡ d.tree.device → root_of p ≡ d.tree.root → p.moment ≡ now
+    → IsPlanBy p (WantsMemory command (planned_by p command)) command answer → IsPlanOf (WantsMemory command (plan_of command now d)) command now d.tree.device d.tree.root answer
+planned-in p command now d answer device_is root_is moment_is h =
+    subst (λ n. IsPlanOf (WantsMemory command (plan d.tree.device now command (shape n))) command now d.tree.device n answer) root_is
+    (subst (λ v. IsPlanOf (WantsMemory command (plan v now command (shape (root_of p)))) command now v (root_of p) answer) device_is
+    (subst (λ t. IsPlanOf (WantsMemory command (plan (device_of p) t command (shape (root_of p)))) command t (device_of p) (root_of p) answer) moment_is h))
+
+module _ (memory : Type 0) (command : Command) (d : DeviceState Kept) (now : ℕ) (answer : Result Planned Refusal) (is_plan : IsPlanOf memory command now d.tree.device d.tree.root answer) where
   abbrev planned : Result model.Edit Refusal
   planned = plan d.tree.device now command (shape d.tree.root)
 
   pub tree-refused : (refusal : Refusal) → answer ≡ Err refusal → IsAnswered memory now planned d d (Err refusal)
-  tree-refused refusal is = (
-    subst (λ (n : Node Kept). IsRefused memory (plan d.tree.device now command (shape n)) refusal) root_is
-        (subst (IsPlanOf memory command now d.tree.device root) is plan_of),
-    refl,
-  )
+  tree-refused refusal is = (subst (IsPlanOf memory command now d.tree.device d.tree.root) is is_plan, refl)
 
   module _ (p : Planned) (is : answer ≡ Ok p) where
     pub tree-planned : IsPlannedFor memory command p now d.tree.device d.tree.root
-    tree-planned = subst (IsPlannedFor memory command p now d.tree.device) root_is (subst (IsPlanOf memory command now d.tree.device root) is plan_of)
+    tree-planned = subst (IsPlanOf memory command now d.tree.device d.tree.root) is is_plan
 
     tree-plan : planned ≡ Ok tree-planned.planned.edit
     tree-plan = ap (λ c. plan d.tree.device now c (shape d.tree.root)) (sym tree-planned.asked) ∙ tree-planned.planned.planned
@@ -219,6 +231,13 @@ bounded a k = record {
 
 pub numbered : (a : Inside) (k : IsKeptDevice a) → IsNumbered a.root
 numbered a k = record { mtu = a.mtu; clock = a.clock; lawful = lawful-root a k a.clock (omega arith) k.keeps.moment }
+
+-- those of the tree over which a command is planned
+pub bounded-by : (p : Planner) → IsBounded (root_of p)
+bounded-by p = record { levels = p.qdiscs.levels; nodes = p.qdiscs.nodes }
+
+pub numbered-by : (p : Planner) → IsLawful p → IsNumbered (root_of p)
+numbered-by p lawful = record { mtu = p.mtu; clock = p.moment; lawful = lawful }
 
 module _ (root : Node Kept) (h : IsBounded root) where
   pub shallow : depth (shape root) ≤ most_levels

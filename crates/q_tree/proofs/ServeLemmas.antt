@@ -13,7 +13,7 @@ use Rattle.q_drr.specs.Schedule as drr
 use Rattle.q_drr.specs.Schedule.{Entry, Schedule, has_class, place_of, front_of, is_active, quantum_of, turned, turn_answer, IsEntry}
 use Rattle.q_drr.specs.Take.{choice_of, prepared}
 use Rattle.q_drr.specs.declared.met.Met.{Met}
-use Rattle.q_drr.proofs.ServingLemmas.{IsServing, IsCome, serving-start, serving-front, serving-granted, serving-ends, serving-nobody}
+use Rattle.q_drr.proofs.ServingLemmas.{IsServing, IsCome, serving_start, serving_front, serving_granted, serving_ends, serving_nobody}
 use Rattle.q_drr.proofs.TakeLemmas.{Front, come_to, met_at, met_nobody, served_nothing, served_head, served_nobody, prepared_empty}
 use Rattle.q_model.specs.declared.totals.Totals.{Totals}
 use Rattle.q_model.specs.Ask.{Asked, ask, ask_drr, head_of, peeked_classes, service_of, place_met, gives_nothing, class_gives, class_serves}
@@ -76,7 +76,7 @@ pub classes-start : (now : ℕ) (first : Schedule) (ns : List (Node Kept)) (unas
     → AreClassesAsked now first first ns ns unasked s (record { losses = losses; losses_now = losses; room = room; room_now = room })
 classes-start now first ns unasked s losses room can count counted = record {
   turns = 0;
-  serving = serving-start (heads_of now first ns) first;
+  serving = serving_start (heads_of now first ns) first;
   remaining = omega (arith, count);
   asking = subst (λ (ws : List Worked). IsAsking ns ns ws []) (sym (nobody-asked first (answers now ns) (answer-count now ns ∙ can.same))) (asking-starts now ns);
   counted = counted;
@@ -185,7 +185,7 @@ module _ (now : ℕ) (first s : Schedule) (ns ms : List (Node Kept)) (unasked : 
   -- one that was not in front yet
   module _ (early : h.turns < length first.active) where
     entry : (e : Entry) × (slice_get first.active h.turns ≡ Some e) × (e.class ≡ n)
-    entry = serving-front (heads_of now first ns) first s h.turns n h.serving early f
+    entry = serving_front (heads_of now first ns) first s h.turns n h.serving early f
 
     entry-place : class_at entry.0.class first ≡ Some place
     entry-place = ap (λ m. class_at m first) entry.2 ∙ p.at_place
@@ -294,7 +294,7 @@ module _ (now : ℕ) (first s : Schedule) (ns ms : List (Node Kept)) (unasked : 
   -- what is asked where the take ends here
   module _ (o : Option Descriptor) (e : (ask now (shape p.child)).shown ≡ o) (covered : (len : ℕ) → option_map (λ (x : Descriptor). x.len) o ≡ Some len → len ≤ f.first.deficit) where
     come : IsCome (heads_of now first ns) first h.turns
-    come = serving-ends (heads_of now first ns) first s h.turns n h.serving f (option_map (λ (x : Descriptor). x.len) o) (shown-head o e) covered
+    come = serving_ends (heads_of now first ns) first s h.turns n h.serving f (option_map (λ (x : Descriptor). x.len) o) (shown-head o e) covered
 
     pub asked-to : asked_entries (choice_of (heads_of now first ns) first) first.active ≡ take (suc h.turns) first.active
     asked-to = ap (λ x. asked_entries x first.active) come.is ∙ elim (cases_lt h.turns (length first.active)) [
@@ -422,7 +422,7 @@ module _ (now : ℕ) (first s : Schedule) (ns ms : List (Node Kept)) (unasked : 
       pub classes-go-on : f.first.deficit < x.len → (left : ℕ) → left ≡ unasked - 1 → AreClassesAsked now first (turned x.len s) ns (set ms place d) left result (record { losses = k.losses; losses_now = l2; room = k.room; room_now = r2 })
       classes-go-on short left count = record {
         turns = suc h.turns;
-        serving = serving-granted (heads_of now first ns) first s h.turns n x.len h.serving law f offered-head short;
+        serving = serving_granted (heads_of now first ns) first s h.turns n x.len h.serving law f offered-head short;
         remaining = omega (arith, count, h.remaining);
         asking = shows.asking;
         counted = shows.counted;
@@ -432,7 +432,7 @@ module _ (now : ℕ) (first s : Schedule) (ns ms : List (Node Kept)) (unasked : 
 -- where no class is active, nobody is asked
 module _ (now : ℕ) (first s : Schedule) (ns ms : List (Node Kept)) (unasked : ℕ) (so_far : Shown) (k : SinkTold) (can : CanServe now first ns) (h : AreClassesAsked now first s ns ms unasked so_far k) (law : drr.IsLawful s) (nobody : s.active ≡ []) where
   idle : (first.active ≡ []) × (choice_of (heads_of now first ns) first ≡ None) × (h.turns ≡ 0)
-  idle = serving-nobody (heads_of now first ns) first s h.turns h.serving nobody
+  idle = serving_nobody (heads_of now first ns) first s h.turns h.serving nobody
 
   no-turn : prepared (heads_of now first ns) first ≡ s
   no-turn = sym h.serving.ready ∙ prepared_empty (heads_of now first ns) s law nobody

@@ -6,7 +6,7 @@ use Rattle.std.proofs.lemmas.Bool.{and_parts, eqb-true}
 use Rattle.std.specs.Prelude.{true, bit_and}
 use Rattle.q_packet.specs.Descriptor.{Descriptor}
 use Rattle.q_packet.specs.Key.{FitsBytes, IsKey, Key}
-use Rattle.q_packet.proofs.KeyLemmas.{FitsBytes-key}
+use Rattle.q_packet.proofs.KeyLemmas.{FitsBytes_key}
 use Rattle.q_model.specs.Filters.{agrees, has_prefix, matches}
 use Rattle.q_model.specs.Options.{Prefix}
 use Rattle.q_model.specs.Ranges.{IsFilter}
@@ -32,7 +32,7 @@ address-wanted (Some p) k a small h = eqb-true _ _ (and_parts _ _ h).1
 -- what is compared of a key that a filter takes is what that wants
 pub parts-wanted : (p : Descriptor) (f : Filter) → IsFilter f → IsKey p.key → matches p f ≡ true → parts_of (shape_of f) p.key ≡ parts_wanted f
 parts-wanted p f range key takes =
-    let fits : FitsBytes p.key = FitsBytes-key p.key key in
+    let fits : FitsBytes p.key = FitsBytes_key p.key key in
     let both = and_parts (takes_numbers f p.key) (takes_addresses f.keys p.key) (sym (by-kind p f) ∙ takes) in
     let numbers : bit_and (word_of p.key) (mask_of f) ≡ wanted_of f = eqb-true _ _ (one-comparison f p.key range key ∙ both.0) in
     let addresses = and_parts (agrees f.keys.src_ip (λ q. has_prefix q p.key p.key.src)) (agrees f.keys.dst_ip (λ q. has_prefix q p.key p.key.dst)) both.1 in

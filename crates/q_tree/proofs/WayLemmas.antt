@@ -8,7 +8,7 @@ use Rattle.std.proofs.lemmas.List.Sums.{sum_by-cons, sum_by_more}
 use Rattle.std.proofs.lemmas.Option.{none-some, same_Some, get_or_from_slice_get, slice_get_within}
 use Rattle.q_drr.specs.Schedule.{Class, has_class, name_at, quantum_of}
 use Rattle.q_drr.proofs.DifferLemmas.{ClassesDiffer}
-use Rattle.q_drr.proofs.LookupLemmas.{quantum-here, quantum-behind}
+use Rattle.q_drr.proofs.LookupLemmas.{quantum_here, quantum_behind}
 use Rattle.q_model.specs.Node.{Own, Node, children, each}
 use Rattle.q_invariants.proofs.ClassSums.{position-here, position-there}
 use Rattle.q_invariants.proofs.Forests.{each-nodes}
@@ -31,7 +31,7 @@ is-at (k ∷ classes) zero c differ e =
     record {
       has = passes-at (λ (x : Class). c.name == x.name) (k ∷ classes) 0 k refl here;
       place = position-here (λ (x : Class). c.name == x.name) k classes here;
-      quantum = quantum-here c.name k classes here ∙ ap (λ (x : Class). x.quantum) same;
+      quantum = quantum_here c.name k classes here ∙ ap (λ (x : Class). x.quantum) same;
       part = omega (arith, sum_by-cons (λ (x : Class). x.quantum) k classes, ap (λ (x : Class). x.quantum) same);
     }
 is-at (k ∷ classes) (suc i) c differ e =
@@ -40,7 +40,7 @@ is-at (k ∷ classes) (suc i) c differ e =
     record {
       has = ap (λ t. t || has_class c.name classes) there ∙ rest.has;
       place = position-there (λ (x : Class). c.name == x.name) k classes there ∙ ap (option_map suc) rest.place;
-      quantum = quantum-behind c.name k classes there ∙ rest.quantum;
+      quantum = quantum_behind c.name k classes there ∙ rest.quantum;
       part = omega (arith, sum_by-cons (λ (x : Class). x.quantum) k classes, rest.part);
     }
 

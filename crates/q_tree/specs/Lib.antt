@@ -23,6 +23,7 @@ pub mod Matching
 pub mod NodeCode
 pub mod NodeFalls
 pub mod Places
+pub mod Planning
 pub mod PopSteps
 pub mod Purging
 pub mod PutSteps

@@ -1,5 +1,6 @@
 ghost use Rattle.std.specs.Prelude.{◌≡◌, ◌≤◌, ◌+◌, [], ◌∷◌, ◌++◌, Some, true};
 ghost use Rattle.q_model.specs.Conserved.{IsBalanced};
+ghost use Rattle.q_model.specs.Step.{fate_of};
 ghost use Rattle.q_model.specs.Tally.{no_totals, with_packet};
 ghost use Rattle.q_tree.specs.Arrivals.{CanCount, IsLostOf, with_arrival};
 ghost use Rattle.q_tree.specs.ArriveSteps.{nothing_lost};
@@ -7,7 +8,9 @@ ghost use Rattle.q_tree.specs.ArriveSteps.{nothing_lost};
 use crate::booking::{NOTHING, book_arrival as book_outcome};
 use crate::counters::Counters;
 use crate::outcome::{Outcome, refuse as refused};
+use crate::tree::fate_of;
 use q_codel::Sink;
+use q_model::Fate;
 use q_packet::{Cause, Packet};
 use std::marker::Model;
 use std::snapshot::Snapshot;
@@ -69,6 +72,18 @@ impl Arrived {
     {
         self.is_kept
     }
+
+    /// What became of the packet, whose outcome stands in this place.
+    #[inline(always)]
+    pub(crate) fn fate(&self, outcome: &Outcome) -> Fate
+        requires told { outcome.now ≡ self.now }
+        ensures { result ≡ fate_of self.now.loss }
+    {
+        if self.is_kept() {
+            return Fate::Kept;
+        }
+        fate_of(outcome.loss)
+    }
 }
 
 /// Refuses a packet for this cause.
@@ -106,10 +121,12 @@ pub(crate) fn book_arrival(
     ensures { row.new ≡ with_arrival packet.now arrived.now row.old }
 {
     if arrived.is_kept() {
+        // The length is read before the row is written, and once: a compiler does not know that they are apart.
+        let len = u64::from(packet.len);
         row.arrived_packets += 1;
-        row.arrived_bytes += u64::from(packet.len);
+        row.arrived_bytes += len;
         row.queued_packets += 1;
-        row.queued_bytes += u64::from(packet.len);
+        row.queued_bytes += len;
         return;
     }
     book_outcome(row, packet, outcome);

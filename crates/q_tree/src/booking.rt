@@ -56,10 +56,11 @@ pub(crate) fn book_sent(row: &mut Counters, packet: &Packet)
     requires room { CanCount row.old.sent packet.now }
     ensures { row.new ≡ with_sent packet.now row.old }
 {
+    let len = u64::from(packet.len);
     row.sent_packets += 1;
-    row.sent_bytes += u64::from(packet.len);
+    row.sent_bytes += len;
     row.queued_packets -= 1;
-    row.queued_bytes -= u64::from(packet.len);
+    row.queued_bytes -= len;
 }
 
 /// Books what asking the node came to: what CoDel dropped was queued.

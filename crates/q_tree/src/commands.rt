@@ -1,12 +1,11 @@
 //! What a line of tc does to a tree: a command is planned, and the edit that comes of it is made.
-ghost use Rattle.std.specs.Prelude.{◌≡◌, ◌≤◌, ◌+◌, ◌++◌, length};
-ghost use Rattle.q_invariants.proofs.Kept.{IsLawfulRoot};
+ghost use Rattle.std.specs.Prelude.{◌≡◌, ◌≤◌, ◌+◌, ◌++◌, IfOk, length};
 ghost use Rattle.q_model.specs.Beneath.{beneath};
-ghost use Rattle.q_model.specs.Find.{addresses};
 ghost use Rattle.q_model.specs.Node.{shape};
-ghost use Rattle.q_model.specs.TreeState.{plan};
 ghost use Rattle.q_tree.specs.Commanding.{WantsMemory};
-ghost use Rattle.q_tree.specs.Commands.{IsAnswered, IsBounded, IsPlanOf, plan_of, told};
+ghost use Rattle.q_tree.specs.Commands.{IsAnswered, plan_of, told};
+ghost use Rattle.q_tree.specs.Editing.{LosesNothing};
+ghost use Rattle.q_tree.specs.Planning.{IsLawful, IsLossless, IsPlanBy, planned_by};
 
 pub(crate) mod change;
 pub(crate) mod class;
@@ -15,18 +14,18 @@ pub(crate) mod discipline_change;
 pub(crate) mod edit;
 pub(crate) mod filter;
 pub(crate) mod handles;
-pub(crate) mod link_settings;
 pub(crate) mod named_qdisc;
 pub(crate) mod new_qdisc;
 pub(crate) mod one_loss_sink;
 pub(crate) mod planned;
+pub(crate) mod planner;
 pub(crate) mod purge;
 pub(crate) mod qdisc;
+pub(crate) mod qdiscs;
 
-use crate::commands::handles::Handles;
-use crate::commands::link_settings::LinkSettings;
+use crate::commands::one_loss_sink::OneLossSink;
 use crate::commands::planned::Planned;
-use crate::node::Node;
+use crate::commands::planner::Planner;
 use crate::tree::Tree;
 use q_codel::Sink;
 use q_model::{Command, Refusal};
@@ -56,69 +55,59 @@ impl Tree {
         ensures room { S.room sink.new + length (told (plan_of command now self.old) (shape self.old.tree.root) result) ≡ S.room sink.old }
         ensures kept { S.keeps sink.old sink.new }
     {
-        // A moment is at most 2^62 nanoseconds.
-        let _ = now.ns();
-        match self
-            .root
-            .planned(&self.handles, alloc, self.link(), &command, now)
-        {
-            Err(refusal) => return Err(refusal),
-            Ok(planned) => return self.edit(planned, now, sink),
-        }
+        let planned = self.plan(alloc, &command, now)?;
+        self.edit(planned, now, sink)
+    }
+
+    // Does a command that loses nothing, at the latest moment that the tree was given.
+    fn lossless(&mut self, alloc: Global, command: Command) -> Result<(), Refusal>
+        requires { IsLossless command }
+        ensures { IsAnswered (WantsMemory command (plan_of command self.old.clock self.old)) self.old.clock (plan_of command self.old.clock self.old) self.old self.new result }
+    {
+        let now = self.clock();
+        let planned = self.plan(alloc, &command, now)?;
+        self.edit(planned, now, &mut OneLossSink { told: None })
     }
 }
 
-impl Node {
+impl Planner<'_> {
     // The edit that a command asks for, or the first refusal that holds.
-    fn planned(
-        &self,
-        handles: &Handles,
-        alloc: Global,
-        link: LinkSettings,
-        command: &Command,
-        now: Moment,
-    ) -> Result<Planned, Refusal>
-        requires index { handles.now.addresses ≡ addresses self.now }
-        requires bounded { IsBounded self.now }
-        requires lawful { IsLawfulRoot link.mtu now self.now }
-        requires mtu { 1 ≤ link.mtu }
-        ensures plan { IsPlanOf (WantsMemory command.now (plan (record { mtu = link.mtu; txqueuelen = link.txqueuelen }) now command.now (shape self.now))) command.now now (record { mtu = link.mtu; txqueuelen = link.txqueuelen }) self.now result }
+    pub(crate) fn planned(&self, command: &Command) -> Result<Planned, Refusal>
+        requires lawful { IsLawful self.now }
+        ensures plan { IsPlanBy self.now (WantsMemory command.now (planned_by self.now command.now)) command.now result }
+        ensures lossless { IsLossless command.now → IfOk result (λ p. LosesNothing p.edit) }
     {
+        // The numbers are in their ranges, which their types keep.
+        command.ranges();
         match command {
             Command::QdiscAdd {
                 place,
                 handle,
                 kind,
-            } => return self.grafted(handles, alloc, link, *place, *handle, kind, now),
+            } => return self.grafted(*place, *handle, kind),
             Command::QdiscChange {
                 place,
                 handle,
                 kind,
-            } => return self.changed(handles, alloc, link, *place, *handle, kind, now),
-            Command::QdiscDel { place, handle } => return self.pruned(
-                handles, alloc, link, *place, *handle,
-            ),
+            } => return self.changed(*place, *handle, kind),
+            Command::QdiscDel { place, handle } => return self.pruned(*place, *handle),
             Command::ClassAdd {
                 parent,
                 class,
                 quantum,
-            } => return self.class_added(handles, alloc, link, *parent, *class, *quantum),
+            } => return self.class_added(*parent, *class, *quantum),
             Command::ClassChange {
                 parent,
                 class,
                 quantum,
-            } => return self.class_changed(handles, *parent, *class, *quantum),
-            Command::ClassDel { parent, class } => return self.class_removed(
-                handles, *parent, *class,
-            ),
+            } => return self.class_changed(*parent, *class, *quantum),
+            Command::ClassDel { parent, class } => return self.class_removed(*parent, *class),
             Command::FilterAdd {
                 parent,
                 major,
                 filter,
-            } => return self.filter_added(handles, *parent, *major, *filter),
-            Command::FilterDel { parent, prio } => return self.filters_removed(
-                handles, *parent, *prio,
-            ),
+            } => return self.filter_added(*parent, *major, *filter),
+            Command::FilterDel { parent, prio } => return self.filters_removed(*parent, *prio),
         }
     }
 }

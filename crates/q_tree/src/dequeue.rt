@@ -1,4 +1,4 @@
-ghost use Rattle.std.specs.Prelude.{◌≡◌, ◌≤◌, ◌+◌, ◌++◌, List, Option, is_some, length, unwrap_or, ℕ};
+ghost use Rattle.std.specs.Prelude.{◌≡◌, ◌≤◌, ◌+◌, ◌++◌, List, None, Option, is_some, length, unwrap_or, ℕ};
 ghost use Rattle.q_model.specs.Ask.{ask, take_from};
 ghost use Rattle.q_model.specs.Beneath.{beneath};
 ghost use Rattle.q_model.specs.Node.{shape};
@@ -90,6 +90,44 @@ impl Node {
             *out = packet;
             return Shown::sending(&packet, &NO_TOLL);
         }
+        // A fifo is met with no call, and nothing is dropped or marked there.
+        match &mut self.discipline {
+            Discipline::Fifo(fifo) => {
+                let shown = dequeue_head(fifo, out);
+                if !shown.has_packet() {
+                    return shown;
+                }
+                book_sent(&mut self.row, out);
+                return shown;
+            }
+            _ => return self.send_further(now, out, toll, sink),
+        }
+    }
+
+    // The same of a node that holds no packet, for each discipline.
+    #[cycle(send)]
+    #[inline(always)]
+    fn send_further<S: Sink>(
+        &mut self,
+        now: Moment,
+        out: &mut Packet,
+        toll: &mut Toll,
+        sink: &mut S,
+    ) -> Shown
+        requires none { self.old.own.held ≡ None }
+        requires ready { CanAsk now self.old }
+        requires sink { length (beneath self.old) ≤ S.room sink.old }
+        requires clean { toll.old ≡ no_toll }
+        ensures after { self.new ≡ booked kept self.old (take_from now (shape self.old)).node }
+        ensures arrived { self.new.memory.counts.arrived ≡ self.old.memory.counts.arrived }
+        ensures shown { IsShown (ask now (shape self.old)) result }
+        ensures packet { out.new ≡ unwrap_or result.packet out.old }
+        ensures lost { S.losses sink.new ≡ S.losses sink.old ++ losses_in (ask now (shape self.old)).rises }
+        ensures room { S.room sink.new + length (losses_in (ask now (shape self.old)).rises) ≡ S.room sink.old }
+        ensures toll { toll.new ≡ toll_of result }
+        ensures kept { S.keeps sink.old sink.new }
+    {
+        self.row.fit();
         let shown = self.discipline.send(now, out, toll, sink);
         book_shown(&mut self.row, &shown, toll);
         if !shown.has_packet() {

@@ -22,7 +22,7 @@ use crate::disciplines::prio::band;
 use crate::filters::Filters;
 use crate::node::{Discipline, Node};
 use crate::outcome::Outcome;
-use crate::tree::{Tree, fate_of};
+use crate::tree::Tree;
 use q_codel::Sink;
 use q_model::Fate;
 use q_packet::{Cause, Moment, Packet};
@@ -61,18 +61,50 @@ impl Tree {
         ensures succeeds { CanArrive (route_seen packet.now self.old.tree.device.mtu self.old.tree.root) self.old → IsOk result }
         ensures kept { S.keeps sink.old sink.new }
     {
-        // A moment is at most 2^62 nanoseconds, and a packet has a byte at least.
-        let _ = (now.ns(), packet.len);
         self.top.fit();
         let arrived = self.top.arrived();
         if arrived.packets == u64::MAX || arrived.bytes > u64::MAX - u64::from(packet.len) {
             return Err(AllocError);
         }
+        self.arrive_counted(packet, now, sink)
+    }
+
+    /// A packet arrives, as at [`Tree::arrive`], and its caller knows that what the device counts of arrivals has room for it.
+    ///
+    /// # Errors
+    ///
+    /// `AllocError` where memory is refused; never where [`Tree::prepare`] has made the place. The tree is as it was, but for
+    /// places, of which no queue has fewer, and nothing is lost.
+    // A device calls it at two places, and at one of them seldom: the other is to be without a call.
+    #[inline(always)]
+    pub fn arrive_counted<S: Sink>(
+        &mut self,
+        packet: &Packet,
+        now: Moment,
+        sink: &mut S,
+    ) -> Result<Fate, AllocError>
+        requires order { self.old.clock ≤ now }
+        requires counted { CanCount self.old.tree.top.counts.arrived packet.now }
+        requires sink { length (beneath self.old.tree.root) + 1 ≤ S.room sink.old }
+        ensures fate { IfOk result (λ fate. fate ≡ fate_of (own_loss now packet.now self.old.tree.device (shape self.old.tree.root))) }
+        ensures after { OnOk result (numbers self.new ≡ record { clock = now; tree = put totals now packet.now (tree_numbers self.old.tree) }) }
+        ensures lost { OnOk result (S.losses sink.new ≡ S.losses sink.old ++ losses_in (noted_by_put now packet.now self.old.tree)) }
+        ensures room { OnOk result (S.room sink.new + length (losses_in (noted_by_put now packet.now self.old.tree)) ≡ S.room sink.old) }
+        ensures same { OnErr result (numbers self.new ≡ numbers self.old) }
+        ensures not_lost { OnErr result ((S.losses sink.new ≡ S.losses sink.old) × (S.room sink.new ≡ S.room sink.old)) }
+        ensures routes { OnErr result ((p : Descriptor) → device_route p self.new.tree.device.mtu self.new.tree.root ≡ device_route p self.old.tree.device.mtu self.old.tree.root) }
+        ensures keeps { OnErr result ((other : RouteSeen) → CanArrive other self.old → CanArrive other self.new) }
+        ensures places { (path : List ℕ) → places_at path self.old.tree.root ≤ places_at path self.new.tree.root }
+        ensures succeeds { CanArrive (route_seen packet.now self.old.tree.device.mtu self.old.tree.root) self.old → IsOk result }
+        ensures kept { S.keeps sink.old sink.new }
+    {
+        // A moment is at most 2^62 nanoseconds, and a packet has a byte at least.
+        let _ = (now.ns(), packet.len);
         let mut lost = NOTHING_LOST;
         let outcome = arrive_below(&mut self.root, self.mtu, packet, now, &mut lost, sink)?;
         book_arrival(&mut self.top, packet, &outcome, &lost);
         self.clock = now;
-        Ok(fate_of(lost.loss))
+        Ok(outcome.fate(&lost))
     }
 }
 
@@ -196,6 +228,7 @@ impl Discipline {
 }
 
 // The packet arrives at the root, or is refused above it where it is longer than the mtu.
+#[inline(always)]
 fn arrive_below<S: Sink>(
     root: &mut Node,
     mtu: u16,

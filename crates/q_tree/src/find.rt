@@ -1,14 +1,13 @@
-ghost use Rattle.std.specs.Prelude.{◌≡◌, option_copied, option_map};
+ghost use Rattle.std.specs.Prelude.{◌≡◌, option_copied};
 ghost use Rattle.q_model.specs.Beneath.{row};
-ghost use Rattle.q_model.specs.Find.{addresses, class_place, node_at, path_of};
+ghost use Rattle.q_model.specs.Find.{class_place, node_at};
 ghost use Rattle.q_model.specs.Node.{children};
-ghost use Rattle.q_tree.specs.Finding.{class_with, qdisc_with};
+ghost use Rattle.q_tree.specs.Finding.{class_with};
 ghost use Rattle.q_tree.specs.Kept.{kept};
 
-use crate::commands::handles::Handles;
 use crate::node::{Discipline, Node, child_at};
 use arrayvec::ArrayVec;
-use q_model::{Handle, Minor, Row};
+use q_model::{Minor, Row};
 
 /// A way down from a node: the place of the child at each step. A tree has at most eight levels.
 pub(crate) type Path = ArrayVec<usize, 8>;
@@ -64,14 +63,6 @@ impl Node {
         self.children().get(self.class_place(minor)?)
     }
 
-    /// The way to the qdisc with this handle, at the node or beneath it, of whose handles this is the index.
-    pub(crate) fn path_to(&self, handles: &Handles, handle: Handle) -> Option<Path>
-        requires { handles.now.addresses ≡ addresses self.now }
-        ensures { option_map (λ p. p.items) result ≡ path_of handle self.now }
-    {
-        handles.path_to(handle)
-    }
-
     /// The node at the end of this way.
     pub(crate) fn at(&self, path: &[usize]) -> Option<&Node>
         ensures { option_copied result ≡ node_at path.now self.now }
@@ -80,14 +71,5 @@ impl Node {
             return Some(self);
         };
         child_at(self.children(), place)?.at(rest)
-    }
-
-    /// The qdisc with this handle, at the node or beneath it.
-    pub(crate) fn find(&self, handles: &Handles, handle: Handle) -> Option<&Node>
-        requires { handles.now.addresses ≡ addresses self.now }
-        ensures { option_copied result ≡ qdisc_with handle self.now }
-    {
-        let path = self.path_to(handles, handle)?;
-        self.at(&path)
     }
 }

@@ -45,6 +45,30 @@ impl Node {
         if self.held.is_some() {
             return Shown::at_hand(&self.held);
         }
+        // A fifo is met with no call, and nothing is dropped or marked there.
+        if let Discipline::Fifo(fifo) = &self.discipline {
+            return Shown::at_hand(&first_packet(fifo));
+        }
+        self.peek_further(now, toll, sink)
+    }
+
+    // The same of a node that holds no packet, for each discipline.
+    #[cycle(peek)]
+    #[inline(always)]
+    fn peek_further<S: Sink>(&mut self, now: Moment, toll: &mut Toll, sink: &mut S) -> Shown
+        requires none { self.old.own.held ≡ None }
+        requires ready { CanAsk now self.old }
+        requires sink { length (beneath self.old) ≤ S.room sink.old }
+        requires clean { toll.old ≡ no_toll }
+        ensures after { self.new ≡ booked kept self.old (ask now (shape self.old)).peeked }
+        ensures arrived { self.new.memory.counts.arrived ≡ self.old.memory.counts.arrived }
+        ensures shown { IsShown (ask now (shape self.old)) result }
+        ensures lost { S.losses sink.new ≡ S.losses sink.old ++ losses_in (ask now (shape self.old)).rises }
+        ensures room { S.room sink.new + length (losses_in (ask now (shape self.old)).rises) ≡ S.room sink.old }
+        ensures toll { toll.new ≡ toll_of result }
+        ensures kept { S.keeps sink.old sink.new }
+    {
+        self.row.fit();
         let shown = self.discipline.ask(&mut self.held, now, toll, sink);
         book_shown(&mut self.row, &shown, toll);
         shown

@@ -65,6 +65,21 @@ impl Shown {
         }
     }
 
+    /// A node sends this packet, of which the length is known, and nothing was dropped or marked for that.
+    #[inline(always)]
+    pub(crate) fn quiet(packet: &Packet, len: u16) -> Shown
+        requires len { len ≡ packet.now.len }
+        requires positive { 1 ≤ len }
+        ensures { result ≡ record { packet = Some packet.now; dropped = no_toll.dropped; marked = no_toll.marked } }
+    {
+        Shown {
+            len,
+            is_quiet: true,
+            packet: Snapshot::of(&Some(*packet)),
+            toll: Snapshot::of(&NO_TOLL),
+        }
+    }
+
     /// A packet that was at hand, or none: nobody was asked.
     #[inline(always)]
     pub(crate) fn at_hand(packet: &Option<Packet>) -> Shown

@@ -1,4 +1,4 @@
-ghost use Rattle.std.specs.Prelude.{◌≡◌, ◌≤◌, ◌+◌, ◌++◌, IfErr, IfSome, IsOk, List, OnErr, OnOk, length, option_map, slice_get, ℕ};
+ghost use Rattle.std.specs.Prelude.{◌≡◌, ◌≤◌, ◌+◌, ◌++◌, IfErr, IfOk, IfSome, IsOk, List, OnErr, OnOk, length, option_map, slice_get, ℕ};
 ghost use Rattle.q_model.specs.Beneath.{beneath, row_of};
 ghost use Rattle.q_model.specs.Node.{shape};
 ghost use Rattle.q_model.specs.Route.{device_route};
@@ -11,10 +11,12 @@ ghost use Rattle.q_model.specs.declared.place.Place.TheVariants as place;
 ghost use Rattle.q_model.specs.declared.refusal.Refusal.TheVariants as refusal;
 ghost use Rattle.q_packet.specs.Descriptor.{Descriptor};
 ghost use Rattle.q_tree.specs.Arrivals.{CanPut, IsOutcome};
-ghost use Rattle.q_tree.specs.Commands.{IsPlanned, device_edited};
-ghost use Rattle.q_tree.specs.Editing.{TakesMemory, removed_at};
+ghost use Rattle.q_tree.specs.Commanding.{WantsMemory};
+ghost use Rattle.q_tree.specs.Commands.{IsPlanOf, IsPlanned, device_edited, plan_of};
+ghost use Rattle.q_tree.specs.Editing.{LosesNothing, TakesMemory, removed_at};
 ghost use Rattle.q_tree.specs.Kept.{kept};
 ghost use Rattle.q_tree.specs.Places.{places_at};
+ghost use Rattle.q_tree.specs.Planning.{IsLossless};
 ghost use Rattle.q_tree.specs.Purging.{purged};
 ghost use Rattle.q_tree.specs.RouteSeen.{RouteSeen, route_seen};
 ghost use Rattle.q_tree.specs.Showing.{IsNumbered, standing};
@@ -22,8 +24,9 @@ ghost use Rattle.q_tree.specs.TreeSeen.{CanArrive, IsArrived, IsRouteIn, numbers
 
 use crate::booking::{book_arrival, book_dropped, book_shown};
 use crate::commands::handles::Handles;
-use crate::commands::link_settings::LinkSettings;
 use crate::commands::planned::Planned;
+use crate::commands::planner::Planner;
+use crate::commands::qdiscs::Qdiscs;
 use crate::counters::Counters;
 use crate::node::Node;
 use crate::node_route::NodeRoute;
@@ -31,7 +34,7 @@ use crate::outcome::{Outcome, refuse};
 use crate::route::Route;
 use crate::toll::NO_TOLL;
 use q_codel::{Limit, Sink};
-use q_model::{ClassView, Fate, FilterView, NodeView, Place, Refusal, Row};
+use q_model::{ClassView, Command, Fate, FilterView, NodeView, Place, Refusal, Row};
 use q_packet::{Cause, Moment, Packet, SOME_PACKET};
 use std::alloc::{AllocError, Global};
 use std::marker::Model;
@@ -106,12 +109,7 @@ impl Tree {
         match place {
             Place::Top => return Some(self.top.row()),
             Place::Root => return Some(self.root.row()),
-            Place::Class(id) => return Some(
-                self.root
-                    .find(&self.handles, id.major)?
-                    .class(id.minor)?
-                    .row(),
-            ),
+            Place::Class(id) => return Some(self.qdiscs().find(id.major)?.class(id.minor)?.row()),
         }
     }
 
@@ -148,16 +146,37 @@ impl Tree {
         node.filter_view(j)
     }
 
-    // What the device lends to a new qdisc.
-    pub(crate) fn link(&self) -> LinkSettings
-        ensures mtu { result.mtu ≡ self.now.tree.device.mtu }
-        ensures txqueuelen { result.txqueuelen ≡ self.now.tree.device.txqueuelen }
-        ensures positive { 1 ≤ result.mtu }
+    // Its qdiscs, by their handles and places.
+    pub(crate) fn qdiscs(&self) -> Qdiscs<'_>
+        ensures { result.root.now ≡ self.now.tree.root }
     {
-        LinkSettings {
+        Qdiscs {
+            root: &self.root,
+            handles: &self.handles,
+        }
+    }
+
+    // What a command comes to, planned over the tree as it stands.
+    pub(crate) fn plan(
+        &self,
+        alloc: Global,
+        command: &Command,
+        now: Moment,
+    ) -> Result<Planned, Refusal>
+        requires order { self.now.clock ≤ now }
+        ensures plan { IsPlanOf (WantsMemory command.now (plan_of command.now now self.now)) command.now now self.now.tree.device self.now.tree.root result }
+        ensures lossless { IsLossless command.now → IfOk result (λ p. LosesNothing p.edit) }
+    {
+        // A moment is at most 2^62 nanoseconds.
+        let _ = now.ns();
+        let planner = Planner {
+            qdiscs: self.qdiscs(),
             mtu: self.mtu,
             txqueuelen: self.txqueuelen,
-        }
+            alloc,
+            moment: now,
+        };
+        planner.planned(command)
     }
 
     // Edits a node as a command has planned it.

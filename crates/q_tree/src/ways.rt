@@ -44,7 +44,7 @@ impl Tree {
         ensures shares { option_map (λ w. w.shares.items) result ≡ option_map shares_of (way_to class self.now.tree.root) }
         ensures ranges { IfSome result (λ w. All IsShare w.shares.items) }
     {
-        let path = self.root.class_path(&self.handles, class)?;
+        let path = self.qdiscs().class_path(class)?;
         self.root.way_from(&path)
     }
 }

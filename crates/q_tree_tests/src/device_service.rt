@@ -1,6 +1,7 @@
 //! What a class is promised. The numbers are those of docs/SERVICE.md, for an mtu of 1514 and 20 Mbit/s.
-use crate::lines::{New, Spot, add_class, at, graft};
-use q_device::{Command, Device, Settings};
+use crate::device_bench::{Ask, set_up};
+use crate::lines::{New, Spot};
+use q_device::{Device, Settings};
 use std::alloc::Global;
 use std::test::Fail;
 
@@ -11,104 +12,146 @@ const LINK: New = New::Shaper(20_000_000, 1_515);
 
 const MBIT: Option<u64> = Some(20_000_000);
 
-// A device after these commands.
-fn device(alloc: Global, commands: &[Command]) -> Result<Device, Fail> {
+fn opened(alloc: Global) -> Result<Device, Fail> {
     let settings = Settings::new(1514, 1000, 0).ok_or("settings")?;
-    let mut device = Device::open(alloc, settings)?;
-    let now = at(0)?;
-    for command in commands {
-        device.command(*command, now).ok().ok_or("command")?;
-    }
-    Ok(device)
+    Ok(Device::open(alloc, settings)?)
 }
 
-// Checks what a device tells of the class in this place.
-fn tells(device: &Device, spot: Spot, told: Option<Told>) -> Result<(), Fail> {
-    let service = device.service(spot.place()?);
-    let answer = match &service {
-        None => None,
-        Some(service) => Some((service.link, service.rate(), service.slack)),
-    };
-    if answer == told {
+// What a device tells of the class in this place.
+fn told(device: &Device, spot: Spot) -> Result<Option<Told>, Fail> {
+    match &device.service(spot.place()?) {
+        None => Ok(None),
+        Some(service) => Ok(Some((service.link, service.rate(), service.slack))),
+    }
+}
+
+fn tells(device: &Device, spot: Spot, expected: Option<Told>) -> Result<(), Fail> {
+    if told(device, spot)? == expected {
         Ok(())
     } else {
         Err("another promise".into())
     }
 }
 
+fn tells_all(
+    device: &mut Device,
+    lines: &[Ask],
+    rows: &[(Spot, Option<Told>)],
+) -> Result<(), Fail> {
+    set_up(device, lines)?;
+    for (spot, expected) in rows {
+        tells(device, *spot, *expected)?;
+    }
+    Ok(())
+}
+
+// Checks what a device tells after these lines.
+fn promises(alloc: Global, lines: &[Ask], rows: &[(Spot, Option<Told>)]) -> Result<(), Fail> {
+    tells_all(&mut opened(alloc)?, lines, rows)
+}
+
 // Two customers, the first of whom shares its part among two of its own.
-fn customers(link: New) -> Result<[Command; 8], Fail> {
-    Ok([
-        graft(Spot::Root, 1, link)?,
-        graft(Spot::Class(1, 1), 2, New::Drr)?,
-        add_class(2, (2, 1), 3_000)?,
-        add_class(2, (2, 2), 1_500)?,
-        graft(Spot::Class(2, 1), 3, New::Drr)?,
-        add_class(3, (3, 1), 1_514)?,
-        add_class(3, (3, 2), 1_514)?,
-        graft(Spot::Class(2, 2), 4, New::Prio(2))?,
-    ])
+fn customers(link: New) -> [Ask; 8] {
+    [
+        Ask::Graft(Spot::Root, 1, link),
+        Ask::Graft(Spot::Class(1, 1), 2, New::Drr),
+        Ask::AddClass(2, 1, 3_000),
+        Ask::AddClass(2, 2, 1_500),
+        Ask::Graft(Spot::Class(2, 1), 3, New::Drr),
+        Ask::AddClass(3, 1, 1_514),
+        Ask::AddClass(3, 2, 1_514),
+        Ask::Graft(Spot::Class(2, 2), 4, New::Prio(2)),
+    ]
 }
 
 #[test]
 fn two_customers_are_promised_their_parts(rt: HostRuntime) -> Result<(), Fail> {
-    let device = device(rt.alloc(), &customers(LINK)?)?;
-    tells(
-        &device,
-        Spot::Class(2, 1),
-        Some((MBIT, Some(13_333_333), 5_532)),
-    )?;
-    tells(
-        &device,
-        Spot::Class(2, 2),
-        Some((MBIT, Some(6_666_666), 4_523)),
-    )?;
-    tells(
-        &device,
-        Spot::Class(3, 2),
-        Some((MBIT, Some(6_666_666), 6_550)),
+    promises(
+        rt.alloc(),
+        &customers(LINK),
+        &[
+            (Spot::Class(2, 1), Some((MBIT, Some(13_333_333), 5_532))),
+            (Spot::Class(2, 2), Some((MBIT, Some(6_666_666), 4_523))),
+            (Spot::Class(3, 2), Some((MBIT, Some(6_666_666), 6_550))),
+        ],
     )
 }
 
+// Two classes of a drr at the root, the second of which has a tbf.
+const SHARED: [Ask; 4] = [
+    Ask::Graft(Spot::Root, 2, New::Drr),
+    Ask::AddClass(2, 1, 3_000),
+    Ask::AddClass(2, 2, 1_500),
+    Ask::Graft(Spot::Class(2, 2), 3, LINK),
+];
+
 #[test]
 fn a_drr_at_the_root_promises_a_part_of_what_it_sends(rt: HostRuntime) -> Result<(), Fail> {
-    let device = device(
+    promises(
         rt.alloc(),
+        &SHARED,
         &[
-            graft(Spot::Root, 2, New::Drr)?,
-            add_class(2, (2, 1), 3_000)?,
-            add_class(2, (2, 2), 1_500)?,
-            graft(Spot::Class(2, 2), 3, LINK)?,
+            (Spot::Class(2, 1), Some((None, None, 3_513))),
+            (Spot::Class(3, 1), None),
         ],
-    )?;
-    tells(&device, Spot::Class(2, 1), Some((None, None, 3_513)))?;
-    let service = device.service(Spot::Class(2, 1).place()?).ok_or("none")?;
-    assert_eq!(rt; service.part_of(150_000_000), 100_000_000);
-    assert_eq!(rt; service.shares.len(), 1);
-    tells(&device, Spot::Class(3, 1), None)
+    )
+}
+
+// The part of so many bytes that the class in this place is promised, and of how many drrs that is a part.
+fn part(device: &Device, spot: Spot, bytes: u64) -> Result<(u64, usize), Fail> {
+    match &device.service(spot.place()?) {
+        None => Err("none".into()),
+        Some(service) => Ok((service.part_of(bytes), service.shares.len())),
+    }
+}
+
+fn shared_part(device: &mut Device) -> Result<(u64, usize), Fail> {
+    set_up(device, &SHARED)?;
+    part(device, Spot::Class(2, 1), 150_000_000)
+}
+
+#[test]
+fn a_class_of_a_drr_at_the_root_is_promised_its_part(rt: HostRuntime) -> Result<(), Fail> {
+    let part = shared_part(&mut opened(rt.alloc())?)?;
+    assert_eq!(rt; part, (100_000_000, 1));
+    Ok(())
 }
 
 #[test]
 fn only_classes_of_drrs_below_a_tbf_are_promised_something(rt: HostRuntime) -> Result<(), Fail> {
-    let device = device(rt.alloc(), &customers(LINK)?)?;
-    tells(&device, Spot::Top, None)?;
-    tells(&device, Spot::Root, None)?;
-    tells(&device, Spot::Class(1, 1), None)?;
-    tells(&device, Spot::Class(2, 3), None)?;
-    tells(&device, Spot::Class(4, 1), None)?;
-    tells(&device, Spot::Class(9, 1), None)
+    promises(
+        rt.alloc(),
+        &customers(LINK),
+        &[
+            (Spot::Top, None),
+            (Spot::Root, None),
+            (Spot::Class(1, 1), None),
+            (Spot::Class(2, 3), None),
+            (Spot::Class(4, 1), None),
+            (Spot::Class(9, 1), None),
+        ],
+    )
 }
 
 #[test]
 fn a_burst_without_room_for_a_longest_packet_promises_nothing(rt: HostRuntime) -> Result<(), Fail> {
-    let device = device(rt.alloc(), &customers(New::Shaper(20_000_000, 1_514))?)?;
-    tells(&device, Spot::Class(2, 1), None)
+    promises(
+        rt.alloc(),
+        &customers(New::Shaper(20_000_000, 1_514)),
+        &[(Spot::Class(2, 1), None)],
+    )
+}
+
+// The promise that the customers' device gives the first one, once a tbf stands in the class of the second.
+fn told_beside_a_tbf(device: &mut Device) -> Result<Option<Told>, Fail> {
+    set_up(device, &customers(LINK))?;
+    set_up(device, &[Ask::Graft(Spot::Class(4, 2), 5, LINK)])?;
+    told(device, Spot::Class(2, 1))
 }
 
 #[test]
 fn a_second_tbf_takes_the_promise_away(rt: HostRuntime) -> Result<(), Fail> {
-    let mut device = device(rt.alloc(), &customers(LINK)?)?;
-    let tbf = graft(Spot::Class(4, 2), 5, LINK)?;
-    device.command(tbf, at(0)?).ok().ok_or("command")?;
-    tells(&device, Spot::Class(2, 1), None)
+    let told = told_beside_a_tbf(&mut opened(rt.alloc())?)?;
+    assert_eq!(rt; told, None);
+    Ok(())
 }

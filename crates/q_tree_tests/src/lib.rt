@@ -37,6 +37,8 @@ mod service;
 #[cfg(test)]
 mod service_laws;
 #[cfg(test)]
+mod service_link;
+#[cfg(test)]
 mod service_sweep;
 #[cfg(test)]
 mod service_time;

@@ -1,5 +1,6 @@
 //! A device to which events happen one after the other, each of which is to be done; and a play of all of them.
 use crate::device_bench::{Ask, arrival_at, command_at, poll_at, replies, reply, room};
+use crate::lines::Spot;
 use q_device::{Device, Event, Fate, Polled, Reply, Settings};
 use std::alloc::Global;
 use std::test::Fail;
@@ -121,6 +122,12 @@ impl Played {
     /// From which nanosecond on a poll may give a packet.
     pub fn ready(&self) -> Option<u64> {
         Some(self.device.ready_at()?.ns())
+    }
+
+    /// The bytes that the node in this place has given to the one above.
+    pub fn sent(&self, spot: Spot) -> Result<u64, Fail> {
+        let row = self.device.stats(spot.place()?).ok_or("no such place")?;
+        Ok(row.sent.bytes)
     }
 
     /// The priority of the next packet that was lost.

@@ -1,111 +1,31 @@
 //! Random plays of a tbf over a drr that is polled until no packet comes, and then at the time at which it says to be ready: over every
-//! interval between two such times the tbf delivers its rate, and a class that is backlogged gets its part of it.
+//! interval between two such times the tbf delivers its rate, and a class that is backlogged gets its part of it; and where its child is
+//! a drr again, so does a class of that.
 use crate::chance::Chance;
 use crate::device_bench::{Ask, add, room};
 use crate::lines::{New, Spot};
 use crate::played::{Answer, Played};
 use crate::rounds::MOST;
-use crate::service_laws::lacks_of_bytes;
+use crate::service_link::{Classes, Link, NONE, Wait};
 use std::alloc::Global;
 use std::test::Fail;
-
-// The units of a level in a byte.
-const UNITS: u128 = 8_000_000_000;
 
 // The most times at which no packet came.
 const WAITS: usize = 2_000;
 
-// A time at which no packet came: how many bytes had been given, and how many the child of the backlogged class had given to the drr.
-#[derive(Clone, Copy)]
-struct Wait {
-    ns: u64,
-    all: u64,
-    class: u64,
-}
+// How many packets a backlogged class has before a poll, so that it does not empty where each of two drrs holds one.
+const DEEP: u64 = 4;
 
-// A link and who shares it. The first class is backlogged.
-#[derive(Clone, Copy)]
-struct Link {
-    rate: u64,
-    mtu: u16,
-    quanta: [u32; MOST],
-    classes: usize,
-}
-
-impl Link {
-    fn quanta(&self) -> u64 {
-        let mut sum = 0u64;
-        for quantum in &self.quanta {
-            sum = sum.saturating_add(u64::from(*quantum));
-        }
-        sum
-    }
-
-    fn quantum(&self) -> u32 {
-        let [first, ..] = self.quanta;
-        first
-    }
-
-    // What the rate brings from one time to another.
-    fn brings(&self, from: &Wait, to: &Wait) -> u128 {
-        u128::from(self.rate).saturating_mul(u128::from(to.ns.saturating_sub(from.ns)))
-    }
-
-    // Whether the tbf keeps within a longest packet of its rate.
-    fn delivers(&self, from: &Wait, to: &Wait) -> bool {
-        let brings = self.brings(from, to);
-        let mtu = u128::from(self.mtu).saturating_mul(UNITS);
-        let paid = u128::from(to.all.saturating_sub(from.all)).saturating_mul(UNITS);
-        brings < paid.saturating_add(mtu) && paid < brings.saturating_add(mtu)
-    }
-
-    // What the backlogged class may lack of its part of the rate, times the sum of the quanta.
-    fn lacks(&self) -> u128 {
-        let (quantum, mtu) = (i64::from(self.quantum()), i64::from(self.mtu));
-        let quanta = i64::try_from(self.quanta()).unwrap_or(0);
-        let classes = i64::try_from(self.classes).unwrap_or(0);
-        let bytes = lacks_of_bytes(classes, quantum, quanta, mtu);
-        let packets = mtu.saturating_mul(quantum).saturating_mul(2);
-        u128::try_from(packets.saturating_add(bytes)).unwrap_or(0)
-    }
-
-    // Whether the backlogged class gets its part of the rate.
-    fn shares(&self, from: &Wait, to: &Wait) -> bool {
-        let part = self
-            .brings(from, to)
-            .saturating_mul(u128::from(self.quantum()));
-        let sent = u128::from(to.class.saturating_sub(from.class));
-        let all = sent
-            .saturating_mul(u128::from(self.quanta()))
-            .saturating_add(self.lacks());
-        part < all.saturating_mul(UNITS)
-    }
-
-    // How many intervals there are between these times, over each of which both laws hold.
-    fn holds(&self, waits: &[Wait]) -> Result<u64, Fail> {
-        let mut intervals = 0u64;
-        for (nth, from) in waits.iter().enumerate() {
-            for to in waits.iter().skip(nth) {
-                if !self.delivers(from, to) || !self.shares(from, to) {
-                    return Err(Fail::new(format_args!("{} to {}", from.ns, to.ns)));
-                }
-                intervals = intervals.saturating_add(1);
-            }
-        }
-        Ok(intervals)
-    }
-}
-
-// A link that is drained. The last of its times is open until another packet is given, since the drr holds that one from then on.
+// A link that is drained. Of the times at which no packet came between two packets the last is kept.
 #[derive(Drop)]
 struct Drained {
     played: Played,
     link: Link,
     queued: [u64; MOST],
     ns: u64,
-    last: Wait,
+    all: u64,
+    last: Option<Wait>,
     waits: Vec<Wait>,
-    is_waiting: bool,
 }
 
 fn prio(i: usize) -> u8 {
@@ -114,19 +34,14 @@ fn prio(i: usize) -> u8 {
 
 // A device on which nothing was done.
 fn opened(alloc: Global, link: Link) -> Result<Drained, Fail> {
-    let none = Wait {
-        ns: 0,
-        all: 0,
-        class: 0,
-    };
     Ok(Drained {
         waits: room(alloc, WAITS)?,
         played: Played::new(alloc, link.mtu)?,
         link,
         queued: [0; MOST],
         ns: 0,
-        last: none,
-        is_waiting: false,
+        all: 0,
+        last: None,
     })
 }
 
@@ -136,12 +51,48 @@ impl Drained {
         self.played
             .tc(Ask::Graft(Spot::Root, 1, New::Shaper(link.rate, burst)))?;
         self.played.tc(Ask::Graft(Spot::Class(1, 1), 2, New::Drr))?;
-        for (i, quantum) in link.quanta.iter().take(link.classes).enumerate() {
-            let number = u16::from(prio(i));
-            self.played.tc(Ask::AddClass(2, number, *quantum))?;
-            self.played.tc(Ask::Match(2, number, prio(i)))?;
+        for i in 0..link.classes.count {
+            self.add_class(2, &link.classes, i)?;
+            self.played.tc(Ask::Match(2, u16::from(prio(i)), prio(i)))?;
+        }
+        if link.beneath.count == 0 {
+            return Ok(());
+        }
+        self.set_up_beneath(&link.beneath)
+    }
+
+    fn add_class(&mut self, major: u16, classes: &Classes, i: usize) -> Result<(), Fail> {
+        let quantum = classes.quanta.get(i).copied().unwrap_or(0);
+        let ask = Ask::AddClass(major, u16::from(prio(i)), quantum);
+        self.played.tc(ask)
+    }
+
+    // A drr in the first class. Its own first class gets the packets of that priority, and the others have the next ones.
+    fn set_up_beneath(&mut self, beneath: &Classes) -> Result<(), Fail> {
+        self.played.tc(Ask::Graft(Spot::Class(2, 1), 3, New::Drr))?;
+        self.add_class(3, beneath, 0)?;
+        self.played.tc(Ask::Match(3, 1, 1))?;
+        for i in 1..beneath.count {
+            let priority = prio(self.link.classes.count.saturating_add(i).saturating_sub(1));
+            self.add_class(3, beneath, i)?;
+            self.played.tc(Ask::Match(3, u16::from(prio(i)), priority))?;
+            self.played.tc(Ask::Match(2, 1, priority))?;
         }
         Ok(())
+    }
+
+    // How many classes may get packets: those of the drr, and all but the first of the one beneath, which have the priorities behind.
+    fn places(&self) -> usize {
+        let beneath = self.link.beneath.count.saturating_sub(1);
+        self.link.classes.count.saturating_add(beneath)
+    }
+
+    // What the child of a class has given so far.
+    fn sent(&self, major: u16, classes: &Classes) -> Result<u64, Fail> {
+        if classes.count == 0 {
+            return Ok(0);
+        }
+        self.played.sent(Spot::Class(major, 1))
     }
 
     fn arrive(&mut self, i: usize, len: u16) -> Result<(), Fail> {
@@ -152,36 +103,37 @@ impl Drained {
         Ok(())
     }
 
-    // Gives a class packets, so that it never empties, nor the drr while it holds one.
+    // Gives a class packets, so that it never empties.
     fn keep(&mut self, i: usize, len: u16) -> Result<(), Fail> {
-        for _packet in 0..3 {
-            if self.queued.get(i).copied().unwrap_or(3) < 3 {
+        for _packet in 0..DEEP {
+            if self.queued.get(i).copied().unwrap_or(DEEP) < DEEP {
                 self.arrive(i, len)?;
             }
         }
         Ok(())
     }
 
-    // A packet is given. It was held by the drr when the last poll gave none.
+    // A packet is given.
     fn give(&mut self, i: usize, len: u64) -> Result<(), Fail> {
         if let Some(queued) = self.queued.get_mut(i) {
             *queued = queued.saturating_sub(1);
         }
-        let before = self.last;
-        self.last.all = before.all.saturating_add(len);
-        if i == 0 {
-            self.last.class = before.class.saturating_add(len);
+        self.all = self.all.saturating_add(len);
+        match self.last.take() {
+            Some(wait) => add(&mut self.waits, wait),
+            None => Ok(()),
         }
-        if !self.is_waiting {
-            return Ok(());
-        }
-        self.is_waiting = false;
-        let wait = Wait {
-            ns: before.ns,
-            all: before.all,
-            class: self.last.class,
-        };
-        add(&mut self.waits, wait)
+    }
+
+    // No packet comes.
+    fn rest(&mut self) -> Result<(), Fail> {
+        self.last = Some(Wait {
+            ns: self.ns,
+            all: self.all,
+            class: self.sent(2, &self.link.classes)?,
+            beneath: self.sent(3, &self.link.beneath)?,
+        });
+        Ok(())
     }
 
     // Polls once; whether a packet came.
@@ -192,8 +144,7 @@ impl Drained {
                 Ok(true)
             }
             Answer::Later => {
-                self.last.ns = self.ns;
-                self.is_waiting = true;
+                self.rest()?;
                 Ok(false)
             }
             _ => Err(Fail::from("idle")),
@@ -216,8 +167,9 @@ impl Drained {
         let most = ready.saturating_sub(self.ns).clamp(1, 1 << 32);
         self.ns = self.ns.saturating_add(chance.below(most));
         for _packet in 0..chance.below(4) {
-            let i = chance.place(self.link.classes);
-            self.arrive(i, chance.len(self.link.mtu))?;
+            let i = chance.place(self.places());
+            let len = chance.len(self.link.mtu);
+            self.arrive(i, len)?;
         }
         match chance.below(4) {
             0 => self.poll_early(self.ns),
@@ -246,24 +198,35 @@ impl Drained {
     }
 }
 
+// Two classes or more of some quanta.
+fn random_classes(chance: &mut Chance, mtu: u16) -> Classes {
+    let count = chance.place(MOST - 1).saturating_add(2);
+    let mut quanta = [0; MOST];
+    for quantum in quanta.iter_mut().take(count) {
+        *quantum = u32::from(chance.len(mtu)).max(u32::from(mtu / 50));
+    }
+    Classes { quanta, count }
+}
+
 // A link of some rate, with a burst that has room for a longest packet and for what the rate brings in a nanosecond.
-fn random_link(chance: &mut Chance) -> (Link, u32) {
+fn random_link(chance: &mut Chance, has_drr_beneath: bool) -> (Link, u32) {
     let rates = [1_000u64, 1_000_000, 1_000_000_000, 100_000_000_000];
     let rate: u64 = rates.get(chance.place(4)).copied().unwrap_or(1_000);
     let mtu = if chance.hits(2) { 100 } else { 1514 };
-    let classes = chance.place(MOST - 1).saturating_add(2);
-    let mut quanta = [0; MOST];
-    for quantum in quanta.iter_mut().take(classes) {
-        *quantum = u32::from(chance.len(mtu)).max(u32::from(mtu / 50));
-    }
+    let classes = random_classes(chance, mtu);
     let tokens = u32::try_from(rate.div_ceil(8_000_000_000)).unwrap_or(0);
     let more = [0u32, 1, 1_000].get(chance.place(3)).copied().unwrap_or(0);
     let burst = u32::from(mtu).saturating_add(tokens).saturating_add(more);
+    let beneath = if has_drr_beneath {
+        random_classes(chance, mtu)
+    } else {
+        NONE
+    };
     let link = Link {
         rate,
         mtu,
-        quanta,
         classes,
+        beneath,
     };
     (link, burst)
 }
@@ -282,19 +245,31 @@ fn run(drained: &mut Drained, alloc: Global, burst: u32, chance: &mut Chance) ->
     }
 }
 
-fn sweep(alloc: Global, seed: u64) -> Result<u64, Fail> {
+fn sweep(alloc: Global, seed: u64, has_drr_beneath: bool) -> Result<u64, Fail> {
     let mut chance = Chance::new(seed);
-    let (link, burst) = random_link(&mut chance);
+    let (link, burst) = random_link(&mut chance, has_drr_beneath);
     let mut drained = opened(alloc, link)?;
     run(&mut drained, alloc, burst, &mut chance)
 }
 
-#[test]
-fn a_link_keeps_the_laws_of_service(rt: HostRuntime) -> Result<(), Fail> {
+fn sweep_all(alloc: Global, has_drr_beneath: bool) -> Result<u64, Fail> {
     let mut intervals = 0u64;
     for seed in 0..40 {
-        intervals = intervals.saturating_add(sweep(rt.alloc(), seed)?);
+        intervals = intervals.saturating_add(sweep(alloc, seed, has_drr_beneath)?);
     }
+    Ok(intervals)
+}
+
+#[test]
+fn a_link_keeps_the_laws_of_service(rt: HostRuntime) -> Result<(), Fail> {
+    let intervals = sweep_all(rt.alloc(), false)?;
+    assert!(rt; intervals >= 5_000, "{intervals}");
+    Ok(())
+}
+
+#[test]
+fn a_drr_beneath_a_drr_keeps_the_laws_of_service(rt: HostRuntime) -> Result<(), Fail> {
+    let intervals = sweep_all(rt.alloc(), true)?;
     assert!(rt; intervals >= 5_000, "{intervals}");
     Ok(())
 }
@@ -303,8 +278,11 @@ fn a_link_keeps_the_laws_of_service(rt: HostRuntime) -> Result<(), Fail> {
 const CUSTOMERS: Link = Link {
     rate: 20_000_000,
     mtu: 1514,
-    quanta: [3000, 1500, 0, 0, 0],
-    classes: 2,
+    classes: Classes {
+        quanta: [3000, 1500, 0, 0, 0],
+        count: 2,
+    },
+    beneath: NONE,
 };
 
 // Both customers always have packets of 1500 bytes.

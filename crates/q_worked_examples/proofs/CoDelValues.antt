@@ -8,22 +8,22 @@ use Rattle.q_packet.specs.declared.stamped.Stamped.{Stamped}
 use Rattle.q_codel.specs.declared.taken.Taken.{Taken}
 use Rattle.q_codel.specs.Gap.{gap_of}
 use Rattle.q_codel.specs.Codel.{CodelState, at_first, rested, is_capable, drops, marks, taken, left, after}
-use Rattle.q_codel.proofs.Root.{gap_of-is}
+use Rattle.q_codel.proofs.Root.{gap_of_is}
 
 gap-1 : gap_of 100000000 1 ≡ 100000000
-gap-1 = sym (gap_of-is 100000000 1 100000000 (record { holds = lit≤ tt; next_fails = lit< tt }) (lit≤ tt))
+gap-1 = sym (gap_of_is 100000000 1 100000000 (record { holds = lit≤ tt; next_fails = lit< tt }) (lit≤ tt))
 
 gap-2 : gap_of 100000000 2 ≡ 70710678
-gap-2 = sym (gap_of-is 100000000 2 70710678 (record { holds = lit≤ tt; next_fails = lit< tt }) (lit≤ tt))
+gap-2 = sym (gap_of_is 100000000 2 70710678 (record { holds = lit≤ tt; next_fails = lit< tt }) (lit≤ tt))
 
 gap-5 : gap_of 100000000 5 ≡ 44721359
-gap-5 = sym (gap_of-is 100000000 5 44721359 (record { holds = lit≤ tt; next_fails = lit< tt }) (lit≤ tt))
+gap-5 = sym (gap_of_is 100000000 5 44721359 (record { holds = lit≤ tt; next_fails = lit< tt }) (lit≤ tt))
 
 gap-most : gap_of 1000000000000 4294967295 ≡ 15258789
-gap-most = sym (gap_of-is 1000000000000 4294967295 15258789 (record { holds = lit≤ tt; next_fails = lit< tt }) (lit≤ tt))
+gap-most = sym (gap_of_is 1000000000000 4294967295 15258789 (record { holds = lit≤ tt; next_fails = lit< tt }) (lit≤ tt))
 
 gap-none : gap_of 1000 1000001 ≡ 0
-gap-none = sym (gap_of-is 1000 1000001 0 (record { holds = lit≤ tt; next_fails = lit< tt }) (lit≤ tt))
+gap-none = sym (gap_of_is 1000 1000001 0 (record { holds = lit≤ tt; next_fails = lit< tt }) (lit≤ tt))
 
 -- a packet of 1000 bytes, put at moment 0
 put : Ecn → ℕ → Stamped

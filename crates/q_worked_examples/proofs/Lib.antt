@@ -34,6 +34,7 @@ mod RuleReports
 pub mod Script
 mod ScriptValues
 pub mod SharedRules
+mod ServiceScripts
 mod SharingScripts
 mod ShowValues
 mod TbfPrioScripts

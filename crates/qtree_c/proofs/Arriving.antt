@@ -4,15 +4,15 @@ use Rattle.std.specs.Prelude.{All, drop, length, set, slice_index_or, take}
 use Rattle.std.proofs.lemmas.List.Elements.{All-append, All-cons, All-nil, All-same}
 use Rattle.q_device.specs.DeviceLaws.{HasItsMemory}
 use Rattle.q_device.specs.DeviceSeen.{DeviceSeen, HasRoomFor}
+use Rattle.q_device.specs.Events.{after_event, reply_to, with_memory}
+use Rattle.q_device.proofs.EventMemory.{after-memory, reply-memory}
 use Rattle.q_ports.specs.Room.{KeepsPlaces, StaysButForPlaces}
 use Rattle.q_ports.proofs.RoomLemmas.{keeps-same, keeps-then}
 use Rattle.qtree_c.specs.Calls.{IsArrival}
 use Rattle.qtree_c.specs.Codes.{reply_number}
-use Rattle.qtree_c.specs.Events.{after_event, reply_to, with_memory}
 use Rattle.qtree_c.specs.Folds.{arrival, arrived_by, fates_by, IsArrivals}
 use Rattle.qtree_c.specs.Structs.{IsPacket, descriptor, zero_packet}
 use Rattle.qtree_c.specs.declared.c_packet.CPacket.{CPacket}
-use Rattle.qtree_c.proofs.EventLemmas.{after-memory, reply-memory}
 use Rattle.qtree_c.proofs.PlaceLemmas.{filled-more, length-front}
 
 -- the first `i` packets arrived, and the numbers of their fates stand in the first places; no place of the device was lost

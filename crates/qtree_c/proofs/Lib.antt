@@ -1,8 +1,8 @@
 pub mod Arriving
 pub mod Commanding
-pub mod EventLemmas
 pub mod HeldSteps
 pub mod Naming
+pub mod Offering
 pub mod PlaceLemmas
 pub mod PollLemmas
 pub mod Polling

@@ -5,9 +5,10 @@ use Rattle.std.specs.Prelude.{drop, length, map, option_map, set}
 use Rattle.std.proofs.lemmas.List.{append-nil, length-map}
 use Rattle.q_model.specs.declared.event.Event.TheVariants.{Poll}
 use Rattle.q_device.specs.DeviceSeen.{DeviceSeen}
+use Rattle.q_device.specs.Events.{reply_to}
+use Rattle.q_device.specs.Polls.{after_poll, polled_by}
 use Rattle.qtree_c.specs.Codes.{reply_number}
-use Rattle.qtree_c.specs.Events.{after_poll, reply_to}
-use Rattle.qtree_c.specs.Folds.{IsPolls, answer_by, given_at, given_by, polled_by}
+use Rattle.qtree_c.specs.Folds.{IsPolls, answer_by, given_at, given_by}
 use Rattle.qtree_c.specs.Sent.{IsSentPolls}
 use Rattle.qtree_c.specs.Structs.{sent_of, zero_packet}
 use Rattle.qtree_c.specs.declared.c_packet.CPacket.{CPacket}

@@ -10,9 +10,10 @@ use Rattle.q_model.specs.declared.row.Row.{Row}
 use Rattle.q_model.specs.Tally.{totals}
 use Rattle.q_model.specs.TreeState.{stats}
 use Rattle.q_device.specs.DeviceSeen.{DeviceSeen, HasRoomFor, reaped}
+use Rattle.q_device.specs.Events.{after_event, reply_to, with_memory}
+use Rattle.q_device.specs.Polls.{after_poll}
 use Rattle.qtree_c.specs.Codes.{reply_number}
 use Rattle.q_ports.specs.Room.{KeepsPlaces}
-use Rattle.qtree_c.specs.Events.{after_event, after_poll, reply_to, with_memory}
 use Rattle.qtree_c.specs.Structs.{IsPacket, descriptor, event_of, given_or, loss_of, row_of}
 use Rattle.qtree_c.specs.declared.c_event.CEvent.{CEvent}
 use Rattle.qtree_c.specs.declared.c_loss.CLoss.{CLoss}

@@ -1,12 +1,14 @@
 -- What the calls on the two ends of a ring do, and what they answer.
 -- The rings are q_ports', and the numbers this project's own.
-use Rattle.std.specs.Prelude.{◌≡◌, ◌≢◌, ◌⊎◌, ℕ, ◌+◌, ◌≤◌, ◌<◌, ◌^◌, [], length, Option, Some, None}
+use Rattle.std.specs.Prelude.{◌≡◌, ◌≢◌, ◌⊎◌, ℕ, ◌+◌, ◌≤◌, ◌<◌, ◌^◌, List, [], All, length, map, slice_index_or, take, Option, Some, None}
+use Rattle.std.specs.List.{fold}
 use Rattle.q_device.specs.DeviceSeen.{DeviceSeen}
 use Rattle.q_model.specs.Beneath.{totals_in}
+use Rattle.q_ports.specs.Offered.{MayBeFull}
 use Rattle.q_ports.specs.Placed.{PortSeen, bytes_in, placing, port_seen, ring_length}
 use Rattle.q_ports.specs.Rings.{RingSeen}
 use Rattle.q_ports.specs.TakenIn.{StopsAtFirst, TakesIn}
-use Rattle.qtree_c.specs.Structs.{IsPacket, count_of, descriptor}
+use Rattle.qtree_c.specs.Structs.{IsPacket, count_of, descriptor, zero_packet}
 use Rattle.qtree_c.specs.declared.c_count.CCount.{CCount}
 use Rattle.qtree_c.specs.declared.c_packet.CPacket.{CPacket}
 
@@ -44,6 +46,19 @@ pub record IsOffer (c : CPacket) (code : ℕ) (p n : PortSeen) : Type 0 where
   pub in_range : code ≢ 42 → IsPacket c
   pub out_of_range : IsPacket c → code ≢ 42
   pub full : code ≢ 0 → code ≢ 42 → (code ≡ 33) × ((ring_length p.ring ≤ length p.placed) ⊎ (2 ^ 64 ≤ bytes_in p.placed + c.len))
+
+-- The first packets were placed in order, each as by one offer, to the end, or to one of which a field is out of its range (42), or which
+-- finds the ring full (33).
+pub record IsOffers (packets : List CPacket) (code count : ℕ) (p n : PortSeen) : Type 0 where
+  pub placed : n ≡ fold placing p (map descriptor (take count packets))
+  pub in_range : All IsPacket (take count packets)
+  pub most : count ≤ length packets
+  pub all : code ≡ 0 → count ≡ length packets
+  pub stopped : code ≢ 0 → count < length packets
+  pub answers : code ≢ 0 → code ≢ 42 → code ≡ 33
+  pub next : code ≡ 42 → IsPacket (slice_index_or packets count zero_packet) → ⊥
+  pub next_in_range : code ≡ 33 → IsPacket (slice_index_or packets count zero_packet)
+  pub full : code ≡ 33 → MayBeFull n (descriptor (slice_index_or packets count zero_packet))
 
 -- The first packets of the ring arrived at the device, and left the ring, as many as waited or as were asked for; or memory was
 -- refused (90) to the next, which stays the first of the ring.

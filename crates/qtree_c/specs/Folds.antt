@@ -4,11 +4,12 @@ use Rattle.std.specs.Prelude.{◌≡◌, ◌≢◌, ℕ, zero, suc, ◌+◌, ◌
 use Rattle.q_model.specs.declared.event.Event.{Event}
 use Rattle.q_model.specs.declared.event.Event.TheVariants.{Arrive, Poll}
 use Rattle.q_device.specs.DeviceSeen.{DeviceSeen, HasRoomFor}
-use Rattle.q_device.specs.Laws.{given_in}
-use Rattle.qtree_c.specs.Codes.{reply_number}
 use Rattle.q_device.specs.DeviceLaws.{HasItsMemory}
+use Rattle.q_device.specs.Events.{after_event, reply_to, with_memory}
+use Rattle.q_device.specs.Polls.{after_poll, or_last, polled_by}
+use Rattle.q_device.specs.Polls as polls
+use Rattle.qtree_c.specs.Codes.{reply_number}
 use Rattle.q_ports.specs.Room.{KeepsPlaces, StaysButForPlaces}
-use Rattle.qtree_c.specs.Events.{after_event, after_poll, reply_to, with_memory}
 use Rattle.qtree_c.specs.Structs.{IsPacket, descriptor, loss_of, packet_of, zero_packet}
 use Rattle.qtree_c.specs.declared.c_loss.CLoss.{CLoss}
 use Rattle.qtree_c.specs.declared.c_packet.CPacket.{CPacket}
@@ -17,30 +18,15 @@ use Rattle.qtree_c.specs.declared.c_packet.CPacket.{CPacket}
 
 -- the packet that a poll gives, if any
 abbrev pub given_at : ℕ → DeviceSeen → Option CPacket
-given_at now d = option_map packet_of (given_in (reply_to (Poll now) d))
+given_at now d = option_map packet_of (polls.given_at now d)
 
--- what follows a packet, and nothing where none was given
-abbrev pub and_then : Option CPacket → List CPacket → List CPacket
-and_then (Some p) rest = p ∷ rest
-and_then None rest = []
-
--- what comes of the polls that follow a packet; the last one's, where it gave none
-abbrev pub or_last : {A : Type 0} → Option CPacket → A → A → A
-or_last (Some p) last rest = rest
-or_last None last rest = last
-
--- the packets that so many polls at most give, the device after them, and the answer to the last
+-- the packets that so many polls at most give, and the answer to the last
 abbrev pub given_by : ℕ → ℕ → DeviceSeen → List CPacket
-given_by zero now d = []
-given_by (suc n) now d = and_then (given_at now d) (given_by n now (after_poll now d))
-
-abbrev pub polled_by : ℕ → ℕ → DeviceSeen → DeviceSeen
-polled_by zero now d = d
-polled_by (suc n) now d = or_last (given_at now d) (after_poll now d) (polled_by n now (after_poll now d))
+given_by n now d = map packet_of (polls.given_by n now d)
 
 abbrev pub answer_by : ℕ → ℕ → DeviceSeen → ℕ
 answer_by zero now d = 0
-answer_by (suc n) now d = or_last (given_at now d) (reply_number (reply_to (Poll now) d)) (answer_by n now (after_poll now d))
+answer_by (suc n) now d = or_last (polls.given_at now d) (reply_number (reply_to (Poll now) d)) (answer_by n now (after_poll now d))
 
 -- polls into lent places, of which those behind the last packet stay as they were; they take no memory
 pub record IsPolls (now code count : ℕ) (before after : List CPacket) (d n : DeviceSeen) : Type 0 where

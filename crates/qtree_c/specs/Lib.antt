@@ -1,7 +1,6 @@
 pub mod Calls
 pub mod Codes
 pub mod Ends
-pub mod Events
 pub mod Explaining
 pub mod Folds
 pub mod Holding

@@ -11,8 +11,8 @@ use Rattle.q_model.specs.declared.refusal.Refusal.{Refusal}
 use Rattle.q_tree.specs.Commanding.{MayTakeMemory}
 use Rattle.q_words.specs.FaultText.{fault_number, fault_word}
 use Rattle.q_words.specs.declared.line_fault.LineFault.{LineFault}
+use Rattle.q_device.specs.Events.{after_event, reply_to, with_memory}
 use Rattle.qtree_c.specs.Codes.{reply_number}
-use Rattle.qtree_c.specs.Events.{after_event, reply_to, with_memory}
 use Rattle.qtree_c.specs.declared.c_fault.CFault.{CFault}
 
 -- a fault as C has it

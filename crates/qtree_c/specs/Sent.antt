@@ -3,9 +3,10 @@
 use Rattle.std.specs.Prelude.{◌≡◌, ℕ, List, ◌++◌, map, drop, length, Option, Some, None}
 use Rattle.q_device.specs.DeviceSeen.{DeviceSeen}
 use Rattle.q_model.specs.declared.event.Event.TheVariants as event
+use Rattle.q_device.specs.Events.{reply_to}
+use Rattle.q_device.specs.Polls.{after_poll, polled_by}
 use Rattle.qtree_c.specs.Codes.{reply_number}
-use Rattle.qtree_c.specs.Events.{after_poll, reply_to}
-use Rattle.qtree_c.specs.Folds.{answer_by, given_at, given_by, polled_by}
+use Rattle.qtree_c.specs.Folds.{answer_by, given_at, given_by}
 use Rattle.qtree_c.specs.Structs.{sent_of}
 use Rattle.qtree_c.specs.declared.c_packet.CPacket.{CPacket}
 use Rattle.qtree_c.specs.declared.c_sent.CSent.{CSent}

@@ -1,12 +1,17 @@
 //! Senders offer packets to their rings.
-ghost use Rattle.std.specs.Prelude.{◌≡◌, ◌≢◌};
-ghost use Rattle.qtree_c.specs.Ends.{CallsEnd, IsOffer, IsPlaced};
+ghost use Rattle.std.specs.Prelude.{◌≡◌, ◌≢◌, ◌≤◌, ◌<◌, All, length, map, slice_index_or, take};
+ghost use Rattle.qtree_c.specs.Ends.{CallsEnd, IsOffer, IsOffers, IsPlaced};
+ghost use Rattle.qtree_c.specs.Structs.{IsPacket, descriptor, zero_packet};
 
 use crate::c_count::CCount;
 use crate::c_packet::CPacket;
 use crate::c_port::CPort;
 use crate::codes::{DONE, FULL, IS_CLOSED, OUT_OF_RANGE};
+use q_packet::{Packet, SOME_PACKET};
 use q_ports::Port;
+
+/// How many packets are read before they are placed: as many as a port places by one store.
+const BATCH: usize = 16;
 
 /// Places a packet in the ring of a port.
 #[unsafe(no_mangle)]
@@ -17,6 +22,21 @@ pub extern "C" fn qtree_offer(port: &mut CPort, packet: &CPacket) -> u32
         return IS_CLOSED;
     }
     offer(port.held.lend(), packet)
+}
+
+/// Places packets in the ring of a port, in order, to the first that is out of its range or for which no place is free.
+#[unsafe(no_mangle)]
+pub extern "C" fn qtree_offer_many(port: &mut CPort, packets: &[CPacket], placed: &mut usize) -> u32
+    ensures offers { CallsEnd (IsOffers packets.now result placed.new) result port.old.held.port port.new.held.port }
+    ensures closed { result ≡ 50 → placed.new ≡ 0 }
+{
+    *placed = 0;
+    if !port.is_open() {
+        return IS_CLOSED;
+    }
+    let (count, code) = offer_many(port.held.lend(), packets);
+    *placed = count;
+    code
 }
 
 /// The packets and bytes that a port placed.
@@ -45,4 +65,57 @@ fn offer(port: &mut Port, packet: &CPacket) -> u32
         Ok(()) => DONE,
         Err(_) => FULL,
     }
+}
+
+/// Places packets in the ring of an open port, a batch at a time.
+fn offer_many(port: &mut Port, packets: &[CPacket]) -> (usize, u32)
+    ensures offers { IsOffers packets.now result.1 result.0 port.old port.new }
+    ensures codes { result.1 ≢ 50 }
+{
+    let mut batch = [SOME_PACKET; BATCH];
+    let mut placed = 0;
+    while placed < packets.len() {
+        let wanted = BATCH.min(packets.len() - placed);
+        let (count, code) = offer_batch(port, &packets[placed..placed + wanted], &mut batch);
+        placed += count;
+        if code != DONE {
+            return (placed, code);
+        }
+    }
+    (placed, DONE)
+}
+
+/// Places packets in the ring of an open port, by way of places that the caller has.
+fn offer_batch(port: &mut Port, packets: &[CPacket], batch: &mut [Packet]) -> (usize, u32)
+    requires { length packets.now ≤ length batch.old }
+    ensures offers { IsOffers packets.now result.1 result.0 port.old port.new }
+    ensures codes { result.1 ≢ 50 }
+{
+    let read = read_packets(packets, batch);
+    let placed = port.offer_many(&batch[..read]);
+    if placed < read {
+        return (placed, FULL);
+    }
+    if read < packets.len() {
+        return (read, OUT_OF_RANGE);
+    }
+    (read, DONE)
+}
+
+/// Writes what the packets describe into the first places, to the first packet that is out of its range, and answers how many.
+fn read_packets(packets: &[CPacket], batch: &mut [Packet]) -> usize
+    requires { length packets.now ≤ length batch.old }
+    ensures most { result ≤ length packets.now }
+    ensures length { length batch.new ≡ length batch.old }
+    ensures read { take result batch.new ≡ map descriptor (take result packets.now) }
+    ensures in_range { All IsPacket (take result packets.now) }
+    ensures next { result < length packets.now → IsPacket (slice_index_or packets.now result zero_packet) → ⊥ }
+{
+    for at in 0..packets.len() {
+        let Some(packet) = packets[at].packet() else {
+            return at;
+        };
+        batch[at] = packet;
+    }
+    packets.len()
 }

@@ -1,9 +1,10 @@
 //! The device is polled.
 ghost use Rattle.std.specs.Prelude.{◌≡◌, ◌≤◌, ◌<◌, ◌^◌, Some, None, OnErr, IfOk, IfErr};
 ghost use Rattle.q_model.specs.declared.event.Event.TheVariants as event;
+ghost use Rattle.q_device.specs.Events.{reply_to};
+ghost use Rattle.q_device.specs.Polls.{after_poll};
 ghost use Rattle.qtree_c.specs.Calls.{Calls, IsPoll};
 ghost use Rattle.qtree_c.specs.Codes.{reply_number};
-ghost use Rattle.qtree_c.specs.Events.{after_poll, reply_to};
 ghost use Rattle.qtree_c.specs.Folds.{given_at, IsPolls};
 
 use crate::c_device::CDevice;

@@ -1,9 +1,10 @@
 //! The device is polled for what a program needs to send a packet on.
 ghost use Rattle.std.specs.Prelude.{◌≡◌, ◌≤◌, ◌<◌, ◌^◌, Some, None, OnErr, OnOk, IfOk, IfErr, option_map};
 ghost use Rattle.q_model.specs.declared.event.Event.TheVariants as event;
+ghost use Rattle.q_device.specs.Events.{reply_to};
+ghost use Rattle.q_device.specs.Polls.{after_poll};
 ghost use Rattle.qtree_c.specs.Calls.{Calls};
 ghost use Rattle.qtree_c.specs.Codes.{reply_number};
-ghost use Rattle.qtree_c.specs.Events.{after_poll, reply_to};
 ghost use Rattle.qtree_c.specs.Folds.{given_at};
 ghost use Rattle.qtree_c.specs.Sent.{IsSentPoll, IsSentPolls};
 ghost use Rattle.qtree_c.specs.Structs.{sent_of};

@@ -7,7 +7,8 @@ ghost use Rattle.q_model.specs.declared.event.Event.TheVariants as event;
 ghost use Rattle.q_model.specs.declared.reply.Reply.TheVariants as reply;
 ghost use Rattle.q_ports.specs.Room.{KeepsPlaces, StaysButForPlaces};
 ghost use Rattle.q_tree.specs.Commanding.{MayTakeMemory};
-ghost use Rattle.qtree_c.specs.Events.{after_event, after_poll, reply_to, with_memory};
+ghost use Rattle.q_device.specs.Events.{after_event, reply_to, with_memory};
+ghost use Rattle.q_device.specs.Polls.{after_poll};
 
 use q_device::laws::device_has_its_memory;
 use q_device::{Command, Device, Fate, Given, Refusal};

@@ -57,16 +57,44 @@ impl Port {
         if self.ring.is_outlet_closed() {
             return Err(OfferError::Closed);
         }
-        match self.raw.offer(&packet.0) {
-            sys::QTREE_DONE => Ok(()),
-            sys::QTREE_FULL => Err(OfferError::Full),
-            _ => Err(OfferError::OutOfRange),
+        offered(self.raw.offer(&packet.0))
+    }
+
+    /// Places copies of the packets in the ring in order, each as by [`Port::offer`], up to the first that is not placed. Returns how many are
+    /// placed, and why no more are. The drain sees up to 16 of them at once, so that a packet costs less than an offer of its own.
+    ///
+    /// ```
+    /// # use qtree::{Drain, OfferError, Packet, Settings};
+    /// let (mut drain, mut ports) = Drain::open(Settings::default(), 1, 2)?;
+    /// let burst: Vec<Packet> = (0..3).map(|buf| Packet::builder(100).buf(buf).build()).collect();
+    /// assert_eq!(ports[0].offer_many(&burst), (2, Err(OfferError::Full)));
+    /// drain.turn(0, 2, &mut Vec::new())?;
+    /// assert_eq!(ports[0].offer_many(&burst[2..]), (1, Ok(())));
+    /// # Ok::<(), qtree::Error>(())
+    /// ```
+    ///
+    /// # Errors
+    ///
+    /// As of [`Port::offer`], for the first packet that is not placed.
+    pub fn offer_many(&mut self, packets: &[Packet]) -> (usize, Result<(), OfferError>) {
+        if self.ring.is_outlet_closed() {
+            return (0, Err(OfferError::Closed));
         }
+        let (code, placed) = self.raw.offer_many(packets);
+        (placed, offered(code))
     }
 
     /// What it placed so far.
     pub fn share(&self) -> Count {
         Count::of(self.raw.share())
+    }
+}
+
+fn offered(code: u32) -> Result<(), OfferError> {
+    match code {
+        sys::QTREE_DONE => Ok(()),
+        sys::QTREE_FULL => Err(OfferError::Full),
+        _ => Err(OfferError::OutOfRange),
     }
 }
 

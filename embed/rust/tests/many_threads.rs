@@ -146,6 +146,26 @@ fn a_full_ring_leaves_the_packet_to_its_sender() -> Result<(), Error> {
 }
 
 #[test]
+fn a_burst_is_placed_up_to_the_first_packet_that_is_not() -> Result<(), Error> {
+    let (mut drain, mut ports) = Drain::open(Settings::default(), 1, 20)?;
+    let port = &mut ports[0];
+    let mut burst: Vec<_> = (0..30).map(|buf| packet(100, buf)).collect();
+    assert_eq!(port.offer_many(&[]), (0, Ok(())));
+    assert_eq!(port.offer_many(&burst), (20, Err(OfferError::Full)));
+    let mut sent = Vec::new();
+    drain.turn(0, 30, &mut sent)?;
+    burst[27] = packet(0, 27);
+    let ended = port.offer_many(&burst[20..]);
+    assert_eq!(ended, (7, Err(OfferError::OutOfRange)));
+    assert_eq!((port.share().packets, port.share().bytes), (27, 2700));
+    drain.turn(0, 30, &mut sent)?;
+    assert!(sent.iter().map(|it| it.buf()).eq(0..27));
+    drop(drain);
+    assert_eq!(port.offer_many(&burst), (0, Err(OfferError::Closed)));
+    Ok(())
+}
+
+#[test]
 fn rings_take_turns_where_the_last_turn_ended() -> Result<(), Error> {
     let (mut drain, mut ports) = Drain::open(Settings::default(), 3, 4)?;
     for port in &mut ports {

@@ -13,7 +13,8 @@ use Rattle.q_model.specs.Ask.{ask}
 use Rattle.q_model.specs.Node as spec
 use Rattle.q_model.specs.Node.{Node, shape, side_by_side}
 use Rattle.q_model.specs.Pop.{pop}
-use Rattle.q_tree.specs.AskSteps.{IsGivenBy, IsToldOf, answers, own_of, toll_of}
+use Rattle.q_tree.specs.AskSteps.{IsGivenBy, IsToldOf, answers, held_in, own_of, toll_of}
+use Rattle.q_tree.specs.Kept.{Kept}
 use Rattle.q_tree.specs.NodeCode.{forest_size}
 use Rattle.q_tree.specs.Seen.{children_seen, discipline_seen, places_seen}
 use Rattle.q_tree.specs.declared.node.Discipline.TheVariants as code
@@ -24,6 +25,7 @@ use Rattle.q_tree.proofs.AtHandLemmas.{none-held, some-held, shown-len}
 use Rattle.q_tree.proofs.HereLemmas.{flow-packets}
 use Rattle.q_tree.proofs.Peeks.{asked-in, told-in, each-of, room-of, own-room, items-are, serve-of, holding-after, can-in, enough, can-book, peeked-done, shown-here, told-here, tbf-gave, tbf-none, hand-asked}
 use Rattle.q_tree.proofs.ServeLemmas.{AreClassesAsked, SinkTold, heads_of, classes-start, front-at, nobody-at, class-in-front, place-within, class-size, class-once, class-shown, short-enough, nothing-schedule, nothing-asked, nothing-told, offered-head, given-packet, given-schedule, given-asked, given-told, classes-go-on, idle-schedule, idle-asked, idle-told}
+use Rattle.q_tree.proofs.Quiet.{shown-nothing}
 use Rattle.q_tree.proofs.RouteLemmas.{child-size, children-size}
 use Rattle.q_tree.proofs.TakeCounts.{flow-told}
 use Rattle.q_tree.proofs.+peek.Goals as goal
@@ -383,13 +385,41 @@ node::Node::peek-returns-then-is_some-clause-after g t c =
     let held = some-held c.self.inside.held (c.if-is_some.ensures) in
     holding-after c.args.now c.self.inside c.args.self.now held.0 c.self.view_is held.1
 
-pub node::Node::peek-ask-shown-requires : goal.node::Node::peek-ask-shown-requires
-node::Node::peek-ask-shown-requires g t c κs within = (
+pub node::Node::peek-returns-in-Fifo-clause-after : goal.node::Node::peek-returns-in-Fifo-clause-after
+node::Node::peek-returns-in-Fifo-clause-after g t c =
+    sym c.self.view_is ∙ (peeked-done c.args.now c.self.inside c.args.self.now c.self.invariant c.self.view_is c.requires.ready (none-held c.self.inside.held c.if-is_some.ensures) c.self.inside.discipline c.at_hand-in-Fifo.result (asked-in c.args.now c.self.inside.handle c.self.inside.filters c.self.inside.discipline c.self.inside.discipline (spec.Fifo c.in-Fifo.fifo.limit c.in-Fifo.fifo.packets) (spec.Fifo c.in-Fifo.fifo.limit c.in-Fifo.fifo.packets) [] [] c.at_hand-in-Fifo.result
+    (ap discipline_seen c.in-Fifo.is) (ap children_seen c.in-Fifo.is) (ap discipline_seen c.in-Fifo.is) (ap children_seen c.in-Fifo.is) refl refl
+    (record { long = refl; nodes = refl; within = λ t h. h; shown = record { packet = ap (λ (s : Shown). s.packet) c.at_hand-in-Fifo.ensures ∙ c.first_packet.ensures; dropped = ap (λ (s : Shown). s.dropped) c.at_hand-in-Fifo.ensures; marked = ap (λ (s : Shown). s.marked) c.at_hand-in-Fifo.ensures } })) c.self.inside.row c.self.inside.held (can-book c.args.now c.self.inside c.args.self.now c.self.invariant c.self.view_is c.requires.ready (none-held c.self.inside.held c.if-is_some.ensures) c.self.inside.discipline c.at_hand-in-Fifo.result (asked-in c.args.now c.self.inside.handle c.self.inside.filters c.self.inside.discipline c.self.inside.discipline (spec.Fifo c.in-Fifo.fifo.limit c.in-Fifo.fifo.packets) (spec.Fifo c.in-Fifo.fifo.limit c.in-Fifo.fifo.packets) [] [] c.at_hand-in-Fifo.result
+    (ap discipline_seen c.in-Fifo.is) (ap children_seen c.in-Fifo.is) (ap discipline_seen c.in-Fifo.is) (ap children_seen c.in-Fifo.is) refl refl
+    (record { long = refl; nodes = refl; within = λ t h. h; shown = record { packet = ap (λ (s : Shown). s.packet) c.at_hand-in-Fifo.ensures ∙ c.first_packet.ensures; dropped = ap (λ (s : Shown). s.dropped) c.at_hand-in-Fifo.ensures; marked = ap (λ (s : Shown). s.marked) c.at_hand-in-Fifo.ensures } })) (omega (arith, c.self.ranges, c.fit.ensures.packets, c.fit.ensures.bytes)) (omega (arith, c.self.ranges, c.fit.ensures.packets, c.fit.ensures.bytes))) (shown-nothing c.at_hand-in-Fifo.result c.self.inside.row (ap (λ (s : Shown). s.dropped) c.at_hand-in-Fifo.ensures) (ap (λ (s : Shown). s.marked) c.at_hand-in-Fifo.ensures)) (none-held c.self.inside.held c.if-is_some.ensures ∙ sym (ap (λ k. held_in k c.at_hand-in-Fifo.result.packet) (ap discipline_seen c.in-Fifo.is)))).after
+
+pub node::Node::peek-returns-in-Fifo-clause-shown : goal.node::Node::peek-returns-in-Fifo-clause-shown
+node::Node::peek-returns-in-Fifo-clause-shown g t c =
+    shown-here c.args.now c.self.inside c.args.self.now c.self.invariant c.self.view_is c.requires.ready (none-held c.self.inside.held c.if-is_some.ensures) c.self.inside.discipline c.at_hand-in-Fifo.result (asked-in c.args.now c.self.inside.handle c.self.inside.filters c.self.inside.discipline c.self.inside.discipline (spec.Fifo c.in-Fifo.fifo.limit c.in-Fifo.fifo.packets) (spec.Fifo c.in-Fifo.fifo.limit c.in-Fifo.fifo.packets) [] [] c.at_hand-in-Fifo.result
+    (ap discipline_seen c.in-Fifo.is) (ap children_seen c.in-Fifo.is) (ap discipline_seen c.in-Fifo.is) (ap children_seen c.in-Fifo.is) refl refl
+    (record { long = refl; nodes = refl; within = λ t h. h; shown = record { packet = ap (λ (s : Shown). s.packet) c.at_hand-in-Fifo.ensures ∙ c.first_packet.ensures; dropped = ap (λ (s : Shown). s.dropped) c.at_hand-in-Fifo.ensures; marked = ap (λ (s : Shown). s.marked) c.at_hand-in-Fifo.ensures } }))
+
+pub node::Node::peek-returns-in-Fifo-clause-lost : goal.node::Node::peek-returns-in-Fifo-clause-lost
+node::Node::peek-returns-in-Fifo-clause-lost g t c =
+    (told-here c.args.now c.self.inside c.args.self.now c.self.invariant c.self.view_is c.requires.ready (none-held c.self.inside.held c.if-is_some.ensures) (g.S.Sink.losses c.args.sink.now) (g.S.Sink.losses c.args.sink.now) (g.S.Sink.room c.args.sink.now) (g.S.Sink.room c.args.sink.now)
+    (told-in c.args.now c.self.inside.handle c.self.inside.filters c.self.inside.discipline (spec.Fifo c.in-Fifo.fifo.limit c.in-Fifo.fifo.packets) [] (g.S.Sink.losses c.args.sink.now) (g.S.Sink.losses c.args.sink.now) (g.S.Sink.room c.args.sink.now) (g.S.Sink.room c.args.sink.now) (ap discipline_seen c.in-Fifo.is) (ap children_seen c.in-Fifo.is) (told-nothing (g.S.Sink.losses c.args.sink.now) (g.S.Sink.room c.args.sink.now)))).lost
+
+pub node::Node::peek-returns-in-Fifo-clause-room : goal.node::Node::peek-returns-in-Fifo-clause-room
+node::Node::peek-returns-in-Fifo-clause-room g t c =
+    (told-here c.args.now c.self.inside c.args.self.now c.self.invariant c.self.view_is c.requires.ready (none-held c.self.inside.held c.if-is_some.ensures) (g.S.Sink.losses c.args.sink.now) (g.S.Sink.losses c.args.sink.now) (g.S.Sink.room c.args.sink.now) (g.S.Sink.room c.args.sink.now)
+    (told-in c.args.now c.self.inside.handle c.self.inside.filters c.self.inside.discipline (spec.Fifo c.in-Fifo.fifo.limit c.in-Fifo.fifo.packets) [] (g.S.Sink.losses c.args.sink.now) (g.S.Sink.losses c.args.sink.now) (g.S.Sink.room c.args.sink.now) (g.S.Sink.room c.args.sink.now) (ap discipline_seen c.in-Fifo.is) (ap children_seen c.in-Fifo.is) (told-nothing (g.S.Sink.losses c.args.sink.now) (g.S.Sink.room c.args.sink.now)))).room_taken
+
+pub node::Node::peek-returns-in-Fifo-clause-toll : goal.node::Node::peek-returns-in-Fifo-clause-toll
+node::Node::peek-returns-in-Fifo-clause-toll g t c =
+    c.requires.clean ∙ sym (ap toll_of c.at_hand-in-Fifo.ensures)
+
+pub node::Node::peek_further-ask-shown-requires : goal.node::Node::peek_further-ask-shown-requires
+node::Node::peek_further-ask-shown-requires g t c κs within = (
   omega (arith, children-size c.self.inside c.args.self.now (children_seen c.self.inside.discipline) c.self.view_is refl, c.decreases),
   (
     within,
     (
-      none-held c.self.inside.held c.if-is_some.ensures,
+      ap (λ (n : Node Kept). n.own.held) c.self.view_is ∙ c.requires.none,
       (
         can-in c.args.now c.self.inside c.args.self.now c.self.invariant c.self.view_is c.requires.ready (omega (arith, c.self.ranges, c.fit.ensures.packets, c.fit.ensures.bytes)) (omega (arith, c.self.ranges, c.fit.ensures.packets, c.fit.ensures.bytes)),
         (enough c.args.now c.self.inside c.args.self.now c.self.invariant c.self.view_is c.requires.ready (g.S.Sink.room c.args.sink.now) c.requires.sink, c.requires.clean),
@@ -398,39 +428,39 @@ node::Node::peek-ask-shown-requires g t c κs within = (
   ),
 )
 
-pub node::Node::peek-book_shown-requires-clause-room :
-    goal.node::Node::peek-book_shown-requires-clause-room
-node::Node::peek-book_shown-requires-clause-room g t c =
-    can-book c.args.now c.self.inside c.args.self.now c.self.invariant c.self.view_is c.requires.ready (none-held c.self.inside.held c.if-is_some.ensures) c.ask-shown.new.self c.ask-shown.result (c.ask-shown.ensures.after c.self.inside.handle c.self.inside.filters) (omega (arith, c.self.ranges, c.fit.ensures.packets, c.fit.ensures.bytes)) (omega (arith, c.self.ranges, c.fit.ensures.packets, c.fit.ensures.bytes))
+pub node::Node::peek_further-book_shown-requires-clause-room :
+    goal.node::Node::peek_further-book_shown-requires-clause-room
+node::Node::peek_further-book_shown-requires-clause-room g t c =
+    can-book c.args.now c.self.inside c.args.self.now c.self.invariant c.self.view_is c.requires.ready (ap (λ (n : Node Kept). n.own.held) c.self.view_is ∙ c.requires.none) c.ask-shown.new.self c.ask-shown.result (c.ask-shown.ensures.after c.self.inside.handle c.self.inside.filters) (omega (arith, c.self.ranges, c.fit.ensures.packets, c.fit.ensures.bytes)) (omega (arith, c.self.ranges, c.fit.ensures.packets, c.fit.ensures.bytes))
 
-pub node::Node::peek-invariant_of-self :
-    goal.node::Node::peek-invariant_of-self
-node::Node::peek-invariant_of-self g t c =
-    (peeked-done c.args.now c.self.inside c.args.self.now c.self.invariant c.self.view_is c.requires.ready (none-held c.self.inside.held c.if-is_some.ensures) c.ask-shown.new.self c.ask-shown.result (c.ask-shown.ensures.after c.self.inside.handle c.self.inside.filters) c.book_shown.new.row c.ask-shown.new.held
-    (can-book c.args.now c.self.inside c.args.self.now c.self.invariant c.self.view_is c.requires.ready (none-held c.self.inside.held c.if-is_some.ensures) c.ask-shown.new.self c.ask-shown.result (c.ask-shown.ensures.after c.self.inside.handle c.self.inside.filters) (omega (arith, c.self.ranges, c.fit.ensures.packets, c.fit.ensures.bytes)) (omega (arith, c.self.ranges, c.fit.ensures.packets, c.fit.ensures.bytes)))
+pub node::Node::peek_further-invariant_of-self :
+    goal.node::Node::peek_further-invariant_of-self
+node::Node::peek_further-invariant_of-self g t c =
+    (peeked-done c.args.now c.self.inside c.args.self.now c.self.invariant c.self.view_is c.requires.ready (ap (λ (n : Node Kept). n.own.held) c.self.view_is ∙ c.requires.none) c.ask-shown.new.self c.ask-shown.result (c.ask-shown.ensures.after c.self.inside.handle c.self.inside.filters) c.book_shown.new.row c.ask-shown.new.held
+    (can-book c.args.now c.self.inside c.args.self.now c.self.invariant c.self.view_is c.requires.ready (ap (λ (n : Node Kept). n.own.held) c.self.view_is ∙ c.requires.none) c.ask-shown.new.self c.ask-shown.result (c.ask-shown.ensures.after c.self.inside.handle c.self.inside.filters) (omega (arith, c.self.ranges, c.fit.ensures.packets, c.fit.ensures.bytes)) (omega (arith, c.self.ranges, c.fit.ensures.packets, c.fit.ensures.bytes)))
     c.book_shown.ensures c.ask-shown.ensures.held).stays
 
-pub node::Node::peek-returns-clause-after :
-    goal.node::Node::peek-returns-clause-after
-node::Node::peek-returns-clause-after g t c =
-    (peeked-done c.args.now c.self.inside c.args.self.now c.self.invariant c.self.view_is c.requires.ready (none-held c.self.inside.held c.if-is_some.ensures) c.ask-shown.new.self c.ask-shown.result (c.ask-shown.ensures.after c.self.inside.handle c.self.inside.filters) c.book_shown.new.row c.ask-shown.new.held
-    (can-book c.args.now c.self.inside c.args.self.now c.self.invariant c.self.view_is c.requires.ready (none-held c.self.inside.held c.if-is_some.ensures) c.ask-shown.new.self c.ask-shown.result (c.ask-shown.ensures.after c.self.inside.handle c.self.inside.filters) (omega (arith, c.self.ranges, c.fit.ensures.packets, c.fit.ensures.bytes)) (omega (arith, c.self.ranges, c.fit.ensures.packets, c.fit.ensures.bytes)))
+pub node::Node::peek_further-returns-clause-after :
+    goal.node::Node::peek_further-returns-clause-after
+node::Node::peek_further-returns-clause-after g t c =
+    (peeked-done c.args.now c.self.inside c.args.self.now c.self.invariant c.self.view_is c.requires.ready (ap (λ (n : Node Kept). n.own.held) c.self.view_is ∙ c.requires.none) c.ask-shown.new.self c.ask-shown.result (c.ask-shown.ensures.after c.self.inside.handle c.self.inside.filters) c.book_shown.new.row c.ask-shown.new.held
+    (can-book c.args.now c.self.inside c.args.self.now c.self.invariant c.self.view_is c.requires.ready (ap (λ (n : Node Kept). n.own.held) c.self.view_is ∙ c.requires.none) c.ask-shown.new.self c.ask-shown.result (c.ask-shown.ensures.after c.self.inside.handle c.self.inside.filters) (omega (arith, c.self.ranges, c.fit.ensures.packets, c.fit.ensures.bytes)) (omega (arith, c.self.ranges, c.fit.ensures.packets, c.fit.ensures.bytes)))
     c.book_shown.ensures c.ask-shown.ensures.held).after
 
-pub node::Node::peek-returns-clause-shown :
-    goal.node::Node::peek-returns-clause-shown
-node::Node::peek-returns-clause-shown g t c =
-    shown-here c.args.now c.self.inside c.args.self.now c.self.invariant c.self.view_is c.requires.ready (none-held c.self.inside.held c.if-is_some.ensures) c.ask-shown.new.self c.ask-shown.result (c.ask-shown.ensures.after c.self.inside.handle c.self.inside.filters)
+pub node::Node::peek_further-returns-clause-shown :
+    goal.node::Node::peek_further-returns-clause-shown
+node::Node::peek_further-returns-clause-shown g t c =
+    shown-here c.args.now c.self.inside c.args.self.now c.self.invariant c.self.view_is c.requires.ready (ap (λ (n : Node Kept). n.own.held) c.self.view_is ∙ c.requires.none) c.ask-shown.new.self c.ask-shown.result (c.ask-shown.ensures.after c.self.inside.handle c.self.inside.filters)
 
-pub node::Node::peek-returns-clause-lost :
-    goal.node::Node::peek-returns-clause-lost
-node::Node::peek-returns-clause-lost g t c =
-    (told-here c.args.now c.self.inside c.args.self.now c.self.invariant c.self.view_is c.requires.ready (none-held c.self.inside.held c.if-is_some.ensures) (g.S.Sink.losses c.args.sink.now) (g.S.Sink.losses c.ask-shown.new.sink) (g.S.Sink.room c.args.sink.now) (g.S.Sink.room c.ask-shown.new.sink) (c.ask-shown.ensures.told c.self.inside.handle c.self.inside.filters)).lost
+pub node::Node::peek_further-returns-clause-lost :
+    goal.node::Node::peek_further-returns-clause-lost
+node::Node::peek_further-returns-clause-lost g t c =
+    (told-here c.args.now c.self.inside c.args.self.now c.self.invariant c.self.view_is c.requires.ready (ap (λ (n : Node Kept). n.own.held) c.self.view_is ∙ c.requires.none) (g.S.Sink.losses c.args.sink.now) (g.S.Sink.losses c.ask-shown.new.sink) (g.S.Sink.room c.args.sink.now) (g.S.Sink.room c.ask-shown.new.sink) (c.ask-shown.ensures.told c.self.inside.handle c.self.inside.filters)).lost
 
-pub node::Node::peek-returns-clause-room :
-    goal.node::Node::peek-returns-clause-room
-node::Node::peek-returns-clause-room g t c =
-    (told-here c.args.now c.self.inside c.args.self.now c.self.invariant c.self.view_is c.requires.ready (none-held c.self.inside.held c.if-is_some.ensures) (g.S.Sink.losses c.args.sink.now) (g.S.Sink.losses c.ask-shown.new.sink) (g.S.Sink.room c.args.sink.now) (g.S.Sink.room c.ask-shown.new.sink) (c.ask-shown.ensures.told c.self.inside.handle c.self.inside.filters)).room_taken
+pub node::Node::peek_further-returns-clause-room :
+    goal.node::Node::peek_further-returns-clause-room
+node::Node::peek_further-returns-clause-room g t c =
+    (told-here c.args.now c.self.inside c.args.self.now c.self.invariant c.self.view_is c.requires.ready (ap (λ (n : Node Kept). n.own.held) c.self.view_is ∙ c.requires.none) (g.S.Sink.losses c.args.sink.now) (g.S.Sink.losses c.ask-shown.new.sink) (g.S.Sink.room c.args.sink.now) (g.S.Sink.room c.ask-shown.new.sink) (c.ask-shown.ensures.told c.self.inside.handle c.self.inside.filters)).room_taken
 
 pub disciplines::prio::ask_bands-loop-place-init : goal.disciplines::prio::ask_bands-loop-place-init
 disciplines::prio::ask_bands-loop-place-init g t c = (

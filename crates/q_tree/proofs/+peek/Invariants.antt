@@ -31,28 +31,31 @@ invariant-disciplines::prio::ask_bands-loop-place g l =
 
 -- each call goes further down the tree
 abbrev pub decreases-node::Node::peek : goal.decreases-node::Node::peek
-decreases-node::Node::peek g l = 3 * node_size l.self.now
+decreases-node::Node::peek g l = 4 * node_size l.self.now + 1
+
+abbrev pub decreases-node::Node::peek_further : goal.decreases-node::Node::peek_further
+decreases-node::Node::peek_further g l = 4 * node_size l.self.now
 
 abbrev pub decreases-node::Discipline::ask : goal.decreases-node::Discipline::ask
-decreases-node::Discipline::ask g l = 3 * forest_size (side_by_side (children_seen l.self.now)) + 2
+decreases-node::Discipline::ask g l = 4 * forest_size (side_by_side (children_seen l.self.now)) + 3
 
 abbrev pub decreases-disciplines::prio::ask_bands : goal.decreases-disciplines::prio::ask_bands
-decreases-disciplines::prio::ask_bands g l = 3 * forest_size (side_by_side l.bands.now) + 1
+decreases-disciplines::prio::ask_bands g l = 4 * forest_size (side_by_side l.bands.now) + 2
 
 abbrev pub decreases-disciplines::tbf::ask_child : goal.decreases-disciplines::tbf::ask_child
-decreases-disciplines::tbf::ask_child g l = 3 * node_size l.child.now + 2
+decreases-disciplines::tbf::ask_child g l = 4 * node_size l.child.now + 3
 
 abbrev pub decreases-disciplines::drr::serve : goal.decreases-disciplines::drr::serve
-decreases-disciplines::drr::serve g l = 3 * forest_size (side_by_side l.classes.now) + 1
+decreases-disciplines::drr::serve g l = 4 * forest_size (side_by_side l.classes.now) + 2
 
 abbrev pub decreases-disciplines::drr::ask_class : goal.decreases-disciplines::drr::ask_class
-decreases-disciplines::drr::ask_class g l = 3 * node_size l.class.now + 2
+decreases-disciplines::drr::ask_class g l = 4 * node_size l.class.now + 3
 
 abbrev pub decreases-disciplines::drr::ask_further : goal.decreases-disciplines::drr::ask_further
-decreases-disciplines::drr::ask_further g l = 3 * node_size l.class.now + 1
+decreases-disciplines::drr::ask_further g l = 4 * node_size l.class.now + 2
 
 abbrev pub decreases-disciplines::drr::dequeue_class : goal.decreases-disciplines::drr::dequeue_class
-decreases-disciplines::drr::dequeue_class g l = 3 * forest_size (side_by_side l.classes.now)
+decreases-disciplines::drr::dequeue_class g l = 4 * forest_size (side_by_side l.classes.now) + 1
 
 abbrev pub decreases-disciplines::tbf::dequeue_child : goal.decreases-disciplines::tbf::dequeue_child
-decreases-disciplines::tbf::dequeue_child g l = 3 * node_size l.child.now + 1
+decreases-disciplines::tbf::dequeue_child g l = 4 * node_size l.child.now + 2

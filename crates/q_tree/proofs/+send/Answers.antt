@@ -1,4 +1,4 @@
-use Rattle.std.proofs.Common.{◌∙◌, [], ◌∷◌, set, length, add-one, refl, sym, ap, subst, arith}
+use Rattle.std.proofs.Common.{ℕ, ◌∙◌, [], ◌∷◌, set, length, add-one, refl, sym, ap, subst, arith}
 use Rattle.std.specs.Prelude.{slice_index_or, unwrap_or}
 use Rattle.std.proofs.lemmas.Option.{slice_get-map}
 use Rattle.q_packet.specs.declared.stamped.Stamped.{Stamped}
@@ -13,9 +13,10 @@ use Rattle.q_model.specs.Lawful.{CanHold}
 use Rattle.q_model.specs.Node as spec
 use Rattle.q_model.specs.Node.{Node, shape, side_by_side}
 use Rattle.q_model.specs.Pop.{pop}
+use Rattle.q_model.specs.Tally.{counts_in}
 use Rattle.q_model.specs.Work.{Worked, booked}
 use Rattle.q_tree.specs.AskSteps.{IsToldOf, answers, own_of, toll_of}
-use Rattle.q_tree.specs.Kept.{kept}
+use Rattle.q_tree.specs.Kept.{Kept, kept}
 use Rattle.q_tree.specs.NodeCode.{forest_size}
 use Rattle.q_tree.specs.Seen.{children_seen, discipline_seen, places_seen}
 use Rattle.q_tree.specs.declared.node.Discipline.TheVariants as code
@@ -26,13 +27,29 @@ use Rattle.q_tree.proofs.AtHandLemmas.{none-held}
 use Rattle.q_tree.proofs.HereLemmas.{flow-packets}
 use Rattle.q_tree.proofs.Peeks.{asked-in, told-in, each-of, room-of, own-room, items-are, serve-of, holding-after, can-in, enough, told-here}
 use Rattle.q_tree.proofs.PopLemmas.{held-after}
-use Rattle.q_tree.proofs.Quiet.{toll-nothing}
+use Rattle.q_tree.proofs.Quiet.{shown-nothing, toll-nothing}
 use Rattle.q_tree.proofs.RouteLemmas.{child-size, children-size}
 use Rattle.q_tree.proofs.SendBands.{asked-sent, band-sent, sent-rises}
 use Rattle.q_tree.proofs.SendForms.{asked-sent-in, sent-in, prio-left, fifo-sent, held-answer, held-shows, sent-shown, sent-fits, none-sent, sent-row, sent-queued, one-sent}
 use Rattle.q_tree.proofs.SendLemmas.{given-some, given-none, left-some, left-none, gave-asked}
 use Rattle.q_tree.proofs.TakeCounts.{flow-told}
 use Rattle.q_tree.proofs.+send.Goals as goal
+
+-- what a band shows and counts
+abbrev next_of : ℕ → Node Kept → Shown
+next_of now band = let a = ask now (shape band) in record { packet = a.shown; dropped = (counts_in a.rises).dropped; marked = (counts_in a.rises).marked }
+
+pub disciplines::prio::send_band_further-then-requires-clause-dropped_packets : goal.disciplines::prio::send_band_further-then-requires-clause-dropped_packets
+disciplines::prio::send_band_further-then-requires-clause-dropped_packets g t c = (fits-beside c.args.now c.args.band.now c.args.so_far c.send-next.result (g.S.Sink.room c.args.sink.now) c.requires.ready c.send-next.ensures.shown).dropped_packets
+
+pub disciplines::prio::send_band_further-then-requires-clause-dropped_bytes : goal.disciplines::prio::send_band_further-then-requires-clause-dropped_bytes
+disciplines::prio::send_band_further-then-requires-clause-dropped_bytes g t c = (fits-beside c.args.now c.args.band.now c.args.so_far c.send-next.result (g.S.Sink.room c.args.sink.now) c.requires.ready c.send-next.ensures.shown).dropped_bytes
+
+pub disciplines::prio::send_band_further-then-requires-clause-marked_packets : goal.disciplines::prio::send_band_further-then-requires-clause-marked_packets
+disciplines::prio::send_band_further-then-requires-clause-marked_packets g t c = (fits-beside c.args.now c.args.band.now c.args.so_far c.send-next.result (g.S.Sink.room c.args.sink.now) c.requires.ready c.send-next.ensures.shown).marked_packets
+
+pub disciplines::prio::send_band_further-then-requires-clause-marked_bytes : goal.disciplines::prio::send_band_further-then-requires-clause-marked_bytes
+disciplines::prio::send_band_further-then-requires-clause-marked_bytes g t c = (fits-beside c.args.now c.args.band.now c.args.so_far c.send-next.result (g.S.Sink.room c.args.sink.now) c.requires.ready c.send-next.ensures.shown).marked_bytes
 
 pub disciplines::prio::send_first-loop-place-init : goal.disciplines::prio::send_first-loop-place-init
 disciplines::prio::send_first-loop-place-init g t c = (
@@ -43,97 +60,62 @@ disciplines::prio::send_first-loop-place-init g t c = (
   c.requires.clean ∙ sym (ap toll_of c.at_hand-shown.ensures),
 )
 
-pub disciplines::prio::send_first-send-next-requires : goal.disciplines::prio::send_first-send-next-requires
-disciplines::prio::send_first-send-next-requires g t c κs within =
+pub disciplines::prio::send_first-send_band-shown-requires : goal.disciplines::prio::send_first-send_band-shown-requires
+disciplines::prio::send_first-send_band-shown-requires g t c κs within =
     let band = slice_index_or c.loop-place.bands c.loop-place.place c.index-bands-place.result in
     let at = band-at c.args.now c.args.bands.now c.loop-place.bands c.loop-place.place c.loop-place.shown c.loop-place.invariant.0 c.index-bands-place.result c.loop-place-test.true in
     let once = band-once c.args.now c.args.bands.now c.loop-place.bands c.loop-place.place c.loop-place.shown c.requires.ready c.loop-place.invariant.0 band at (g.S.Sink.losses c.args.sink.now) (g.S.Sink.losses c.loop-place.sink) (g.S.Sink.room c.args.sink.now) (g.S.Sink.room c.loop-place.sink) c.loop-place.invariant.1 c.requires.sink in
-    (omega (arith, child-size c.args.bands.now c.loop-place.place band at, c.decreases), (within, (once.ready, (once.sink, refl))))
-
-pub disciplines::prio::send_first-then-shown-requires-clause-dropped_packets : goal.disciplines::prio::send_first-then-shown-requires-clause-dropped_packets
-disciplines::prio::send_first-then-shown-requires-clause-dropped_packets g t c =
-    let band = slice_index_or c.loop-place.bands c.loop-place.place c.index-bands-place.result in
-    let at = band-at c.args.now c.args.bands.now c.loop-place.bands c.loop-place.place c.loop-place.shown c.loop-place.invariant.0 c.index-bands-place.result c.loop-place-test.true in
-    let once = band-once c.args.now c.args.bands.now c.loop-place.bands c.loop-place.place c.loop-place.shown c.requires.ready c.loop-place.invariant.0 band at (g.S.Sink.losses c.args.sink.now) (g.S.Sink.losses c.loop-place.sink) (g.S.Sink.room c.args.sink.now) (g.S.Sink.room c.loop-place.sink) c.loop-place.invariant.1 c.requires.sink in
-    (fits-beside c.args.now band c.loop-place.shown c.send-next.result (g.S.Sink.room c.loop-place.sink) once c.send-next.ensures.shown).dropped_packets
-
-pub disciplines::prio::send_first-then-shown-requires-clause-dropped_bytes : goal.disciplines::prio::send_first-then-shown-requires-clause-dropped_bytes
-disciplines::prio::send_first-then-shown-requires-clause-dropped_bytes g t c =
-    let band = slice_index_or c.loop-place.bands c.loop-place.place c.index-bands-place.result in
-    let at = band-at c.args.now c.args.bands.now c.loop-place.bands c.loop-place.place c.loop-place.shown c.loop-place.invariant.0 c.index-bands-place.result c.loop-place-test.true in
-    let once = band-once c.args.now c.args.bands.now c.loop-place.bands c.loop-place.place c.loop-place.shown c.requires.ready c.loop-place.invariant.0 band at (g.S.Sink.losses c.args.sink.now) (g.S.Sink.losses c.loop-place.sink) (g.S.Sink.room c.args.sink.now) (g.S.Sink.room c.loop-place.sink) c.loop-place.invariant.1 c.requires.sink in
-    (fits-beside c.args.now band c.loop-place.shown c.send-next.result (g.S.Sink.room c.loop-place.sink) once c.send-next.ensures.shown).dropped_bytes
-
-pub disciplines::prio::send_first-then-shown-requires-clause-marked_packets : goal.disciplines::prio::send_first-then-shown-requires-clause-marked_packets
-disciplines::prio::send_first-then-shown-requires-clause-marked_packets g t c =
-    let band = slice_index_or c.loop-place.bands c.loop-place.place c.index-bands-place.result in
-    let at = band-at c.args.now c.args.bands.now c.loop-place.bands c.loop-place.place c.loop-place.shown c.loop-place.invariant.0 c.index-bands-place.result c.loop-place-test.true in
-    let once = band-once c.args.now c.args.bands.now c.loop-place.bands c.loop-place.place c.loop-place.shown c.requires.ready c.loop-place.invariant.0 band at (g.S.Sink.losses c.args.sink.now) (g.S.Sink.losses c.loop-place.sink) (g.S.Sink.room c.args.sink.now) (g.S.Sink.room c.loop-place.sink) c.loop-place.invariant.1 c.requires.sink in
-    (fits-beside c.args.now band c.loop-place.shown c.send-next.result (g.S.Sink.room c.loop-place.sink) once c.send-next.ensures.shown).marked_packets
-
-pub disciplines::prio::send_first-then-shown-requires-clause-marked_bytes : goal.disciplines::prio::send_first-then-shown-requires-clause-marked_bytes
-disciplines::prio::send_first-then-shown-requires-clause-marked_bytes g t c =
-    let band = slice_index_or c.loop-place.bands c.loop-place.place c.index-bands-place.result in
-    let at = band-at c.args.now c.args.bands.now c.loop-place.bands c.loop-place.place c.loop-place.shown c.loop-place.invariant.0 c.index-bands-place.result c.loop-place-test.true in
-    let once = band-once c.args.now c.args.bands.now c.loop-place.bands c.loop-place.place c.loop-place.shown c.requires.ready c.loop-place.invariant.0 band at (g.S.Sink.losses c.args.sink.now) (g.S.Sink.losses c.loop-place.sink) (g.S.Sink.room c.args.sink.now) (g.S.Sink.room c.loop-place.sink) c.loop-place.invariant.1 c.requires.sink in
-    (fits-beside c.args.now band c.loop-place.shown c.send-next.result (g.S.Sink.room c.loop-place.sink) once c.send-next.ensures.shown).marked_bytes
-
-pub disciplines::prio::send_first-then-shown-requires-clause-so_far : goal.disciplines::prio::send_first-then-shown-requires-clause-so_far
-disciplines::prio::send_first-then-shown-requires-clause-so_far g t c = c.loop-place.invariant.4
-
-pub disciplines::prio::send_first-then-shown-requires-clause-toll : goal.disciplines::prio::send_first-then-shown-requires-clause-toll
-disciplines::prio::send_first-then-shown-requires-clause-toll g t c = c.send-next.ensures.toll
+    (omega (arith, child-size c.args.bands.now c.loop-place.place band at, c.decreases), (within, (once, c.loop-place.invariant.4)))
 
 pub disciplines::prio::send_first-returns-then-has_packet-clause-after : goal.disciplines::prio::send_first-returns-then-has_packet-clause-after
 disciplines::prio::send_first-returns-then-has_packet-clause-after g t c =
     let band = slice_index_or c.loop-place.bands c.loop-place.place c.index-bands-place.result in
     let at = band-at c.args.now c.args.bands.now c.loop-place.bands c.loop-place.place c.loop-place.shown c.loop-place.invariant.0 c.index-bands-place.result c.loop-place-test.true in
-    let same = ap (λ (s : Shown). s.packet) c.then-shown.ensures.asked in
-    let some = given-some c.then-shown.result.packet c.loop-place.out c.send-next.new.out (sym c.if-has_packet.ensures) (c.send-next.ensures.packet ∙ ap (λ o. unwrap_or o c.loop-place.out) (sym same)) in
-    let gone = c.send-next.ensures.after ∙ ap (λ (w : Worked). booked kept band w) (left-some c.args.now band c.send-next.new.out (sym c.send-next.ensures.shown.packet ∙ sym same ∙ some)) in
-    band-sent c.args.now c.args.bands.now c.loop-place.bands c.loop-place.place c.loop-place.shown c.requires.ready c.loop-place.invariant.0 band at c.send-next.new.self c.send-next.result c.then-shown.result c.send-next.new.out gone c.send-next.ensures.arrived c.send-next.ensures.shown
-    (ap (λ (s : Shown). s.dropped) c.then-shown.ensures.asked) (ap (λ (s : Shown). s.marked) c.then-shown.ensures.asked) same some
+    let same = c.send_band-shown.ensures.shown in
+    let some = given-some c.send_band-shown.result.packet c.loop-place.out c.send_band-shown.new.out (sym c.if-has_packet.ensures) c.send_band-shown.ensures.packet in
+    let gone = c.send_band-shown.ensures.after ∙ ap (λ (w : Worked). booked kept band w) (left-some c.args.now band c.send_band-shown.new.out (sym same ∙ some)) in
+    band-sent c.args.now c.args.bands.now c.loop-place.bands c.loop-place.place c.loop-place.shown c.requires.ready c.loop-place.invariant.0 band at c.send_band-shown.new.band (next_of c.args.now band) c.send_band-shown.result c.send_band-shown.new.out gone c.send_band-shown.ensures.arrived (record { packet = refl; dropped = refl; marked = refl })
+    c.send_band-shown.ensures.dropped c.send_band-shown.ensures.marked same some
 
 pub disciplines::prio::send_first-returns-then-has_packet-clause-told : goal.disciplines::prio::send_first-returns-then-has_packet-clause-told
 disciplines::prio::send_first-returns-then-has_packet-clause-told g t c =
     let band = slice_index_or c.loop-place.bands c.loop-place.place c.index-bands-place.result in
     let at = band-at c.args.now c.args.bands.now c.loop-place.bands c.loop-place.place c.loop-place.shown c.loop-place.invariant.0 c.index-bands-place.result c.loop-place-test.true in
-    let same = ap (λ (s : Shown). s.packet) c.then-shown.ensures.asked in
-    let some = given-some c.then-shown.result.packet c.loop-place.out c.send-next.new.out (sym c.if-has_packet.ensures) (c.send-next.ensures.packet ∙ ap (λ o. unwrap_or o c.loop-place.out) (sym same)) in
-    let gone = c.send-next.ensures.after ∙ ap (λ (w : Worked). booked kept band w) (left-some c.args.now band c.send-next.new.out (sym c.send-next.ensures.shown.packet ∙ sym same ∙ some)) in
-    λ own. subst (λ notes. IsToldOf notes (g.S.Sink.losses c.args.sink.now) (g.S.Sink.losses c.send-next.new.sink) (g.S.Sink.room c.args.sink.now) (g.S.Sink.room c.send-next.new.sink))
-    (sent-rises c.args.now c.args.bands.now c.loop-place.bands c.loop-place.place c.loop-place.shown c.requires.ready c.loop-place.invariant.0 band at c.send-next.new.self c.send-next.result c.then-shown.result c.send-next.new.out gone c.send-next.ensures.arrived c.send-next.ensures.shown
-    (ap (λ (s : Shown). s.dropped) c.then-shown.ensures.asked) (ap (λ (s : Shown). s.marked) c.then-shown.ensures.asked) same some own)
-    (told-then (told_to c.loop-place.place (answers c.args.now c.args.bands.now)) (ask c.args.now (shape band)).rises (g.S.Sink.losses c.args.sink.now) (g.S.Sink.losses c.loop-place.sink) (g.S.Sink.losses c.send-next.new.sink)
-    (g.S.Sink.room c.args.sink.now) (g.S.Sink.room c.loop-place.sink) (g.S.Sink.room c.send-next.new.sink) c.loop-place.invariant.1 (record { lost = c.send-next.ensures.lost; room_taken = c.send-next.ensures.room }))
+    let same = c.send_band-shown.ensures.shown in
+    let some = given-some c.send_band-shown.result.packet c.loop-place.out c.send_band-shown.new.out (sym c.if-has_packet.ensures) c.send_band-shown.ensures.packet in
+    let gone = c.send_band-shown.ensures.after ∙ ap (λ (w : Worked). booked kept band w) (left-some c.args.now band c.send_band-shown.new.out (sym same ∙ some)) in
+    λ own. subst (λ notes. IsToldOf notes (g.S.Sink.losses c.args.sink.now) (g.S.Sink.losses c.send_band-shown.new.sink) (g.S.Sink.room c.args.sink.now) (g.S.Sink.room c.send_band-shown.new.sink))
+    (sent-rises c.args.now c.args.bands.now c.loop-place.bands c.loop-place.place c.loop-place.shown c.requires.ready c.loop-place.invariant.0 band at c.send_band-shown.new.band (next_of c.args.now band) c.send_band-shown.result c.send_band-shown.new.out gone c.send_band-shown.ensures.arrived (record { packet = refl; dropped = refl; marked = refl })
+    c.send_band-shown.ensures.dropped c.send_band-shown.ensures.marked same some own)
+    (told-then (told_to c.loop-place.place (answers c.args.now c.args.bands.now)) (ask c.args.now (shape band)).rises (g.S.Sink.losses c.args.sink.now) (g.S.Sink.losses c.loop-place.sink) (g.S.Sink.losses c.send_band-shown.new.sink)
+    (g.S.Sink.room c.args.sink.now) (g.S.Sink.room c.loop-place.sink) (g.S.Sink.room c.send_band-shown.new.sink) c.loop-place.invariant.1 c.send_band-shown.ensures.told)
 
 pub disciplines::prio::send_first-returns-then-has_packet-clause-kept : goal.disciplines::prio::send_first-returns-then-has_packet-clause-kept
 disciplines::prio::send_first-returns-then-has_packet-clause-kept g t c =
-    g.met.S.Sink.keeps_on c.args.sink.now c.loop-place.sink c.send-next.new.sink c.loop-place.invariant.2 c.send-next.ensures.kept
+    g.met.S.Sink.keeps_on c.args.sink.now c.loop-place.sink c.send_band-shown.new.sink c.loop-place.invariant.2 c.send_band-shown.ensures.kept
 
 pub disciplines::prio::send_first-returns-then-has_packet-clause-packet : goal.disciplines::prio::send_first-returns-then-has_packet-clause-packet
 disciplines::prio::send_first-returns-then-has_packet-clause-packet g t c =
-    let same = ap (λ (s : Shown). s.packet) c.then-shown.ensures.asked in
-    c.send-next.ensures.packet ∙ ap (λ o. unwrap_or o c.loop-place.out) (sym same) ∙ ap (unwrap_or c.then-shown.result.packet) c.loop-place.invariant.3
+    c.send_band-shown.ensures.packet ∙ ap (unwrap_or c.send_band-shown.result.packet) c.loop-place.invariant.3
 
 pub disciplines::prio::send_first-loop-place-preserved : goal.disciplines::prio::send_first-loop-place-preserved
 disciplines::prio::send_first-loop-place-preserved g t c =
     let band = slice_index_or c.loop-place.bands c.loop-place.place c.index-bands-place.result in
     let at = band-at c.args.now c.args.bands.now c.loop-place.bands c.loop-place.place c.loop-place.shown c.loop-place.invariant.0 c.index-bands-place.result c.loop-place-test.true in
-    let same = ap (λ (s : Shown). s.packet) c.then-shown.ensures.asked in
-    let none = given-none c.then-shown.result.packet c.loop-place.out c.send-next.new.out (sym c.if-has_packet.ensures) (c.send-next.ensures.packet ∙ ap (λ o. unwrap_or o c.loop-place.out) (sym same)) in
-    let stays = c.send-next.ensures.after ∙ ap (λ (w : Worked). booked kept band w) (left-none c.args.now band (sym c.send-next.ensures.shown.packet ∙ sym same ∙ none.0)) in (
-      subst (λ n. AreBandsAsked c.args.now c.args.bands.now (set c.loop-place.bands c.loop-place.place c.send-next.new.self) n c.then-shown.result) (sym (add-one c.loop-place.place))
-          (band-passed c.args.now c.args.bands.now c.loop-place.bands c.loop-place.place c.loop-place.shown c.requires.ready c.loop-place.invariant.0 band at c.send-next.new.self c.send-next.result c.then-shown.result stays c.send-next.ensures.arrived c.send-next.ensures.shown
-          (ap (λ (s : Shown). s.dropped) c.then-shown.ensures.asked) (ap (λ (s : Shown). s.marked) c.then-shown.ensures.asked) same (sym c.if-has_packet.ensures)),
-      subst (λ n. IsToldOf (told_to n (answers c.args.now c.args.bands.now)) (g.S.Sink.losses c.args.sink.now) (g.S.Sink.losses c.send-next.new.sink) (g.S.Sink.room c.args.sink.now) (g.S.Sink.room c.send-next.new.sink)) (sym (add-one c.loop-place.place))
-          (subst (λ notes. IsToldOf notes (g.S.Sink.losses c.args.sink.now) (g.S.Sink.losses c.send-next.new.sink) (g.S.Sink.room c.args.sink.now) (g.S.Sink.room c.send-next.new.sink))
+    let same = c.send_band-shown.ensures.shown in
+    let none = given-none c.send_band-shown.result.packet c.loop-place.out c.send_band-shown.new.out (sym c.if-has_packet.ensures) c.send_band-shown.ensures.packet in
+    let stays = c.send_band-shown.ensures.after ∙ ap (λ (w : Worked). booked kept band w) (left-none c.args.now band (sym same ∙ none.0)) in (
+      subst (λ n. AreBandsAsked c.args.now c.args.bands.now (set c.loop-place.bands c.loop-place.place c.send_band-shown.new.band) n c.send_band-shown.result) (sym (add-one c.loop-place.place))
+          (band-passed c.args.now c.args.bands.now c.loop-place.bands c.loop-place.place c.loop-place.shown c.requires.ready c.loop-place.invariant.0 band at c.send_band-shown.new.band (next_of c.args.now band) c.send_band-shown.result stays c.send_band-shown.ensures.arrived (record { packet = refl; dropped = refl; marked = refl })
+          c.send_band-shown.ensures.dropped c.send_band-shown.ensures.marked same (sym c.if-has_packet.ensures)),
+      subst (λ n. IsToldOf (told_to n (answers c.args.now c.args.bands.now)) (g.S.Sink.losses c.args.sink.now) (g.S.Sink.losses c.send_band-shown.new.sink) (g.S.Sink.room c.args.sink.now) (g.S.Sink.room c.send_band-shown.new.sink)) (sym (add-one c.loop-place.place))
+          (subst (λ notes. IsToldOf notes (g.S.Sink.losses c.args.sink.now) (g.S.Sink.losses c.send_band-shown.new.sink) (g.S.Sink.room c.args.sink.now) (g.S.Sink.room c.send_band-shown.new.sink))
           (band-told c.args.now c.args.bands.now c.loop-place.bands c.loop-place.place c.loop-place.shown c.requires.ready c.loop-place.invariant.0 band at)
-          (told-then (told_to c.loop-place.place (answers c.args.now c.args.bands.now)) (ask c.args.now (shape band)).rises (g.S.Sink.losses c.args.sink.now) (g.S.Sink.losses c.loop-place.sink) (g.S.Sink.losses c.send-next.new.sink)
-          (g.S.Sink.room c.args.sink.now) (g.S.Sink.room c.loop-place.sink) (g.S.Sink.room c.send-next.new.sink) c.loop-place.invariant.1 (record { lost = c.send-next.ensures.lost; room_taken = c.send-next.ensures.room }))),
-      g.met.S.Sink.keeps_on c.args.sink.now c.loop-place.sink c.send-next.new.sink c.loop-place.invariant.2 c.send-next.ensures.kept,
+          (told-then (told_to c.loop-place.place (answers c.args.now c.args.bands.now)) (ask c.args.now (shape band)).rises (g.S.Sink.losses c.args.sink.now) (g.S.Sink.losses c.loop-place.sink) (g.S.Sink.losses c.send_band-shown.new.sink)
+          (g.S.Sink.room c.args.sink.now) (g.S.Sink.room c.loop-place.sink) (g.S.Sink.room c.send_band-shown.new.sink) c.loop-place.invariant.1 c.send_band-shown.ensures.told)),
+      g.met.S.Sink.keeps_on c.args.sink.now c.loop-place.sink c.send_band-shown.new.sink c.loop-place.invariant.2 c.send_band-shown.ensures.kept,
       none.1 ∙ c.loop-place.invariant.3,
-      c.then-shown.ensures.toll,
+      c.send_band-shown.ensures.toll,
     )
 
 pub disciplines::prio::send_first-returns-clause-after : goal.disciplines::prio::send_first-returns-clause-after
@@ -270,8 +252,113 @@ pub node::Node::send-returns-in-Some-clause-packet : goal.node::Node::send-retur
 node::Node::send-returns-in-Some-clause-packet g t c =
     ap (λ (s : Shown). unwrap_or s.packet c.args.out.now) (sym c.sending.ensures)
 
-pub node::Node::send-send-shown-requires : goal.node::Node::send-send-shown-requires
-node::Node::send-send-shown-requires g t c κs within = (
+pub node::Node::send-invariant_of-self-then-not-has_packet : goal.node::Node::send-invariant_of-self-then-not-has_packet
+node::Node::send-invariant_of-self-then-not-has_packet g t c =
+    (none-sent c.args.now c.self.inside c.args.self.now c.self.invariant c.self.view_is c.requires.ready c.in_default.is (code.Fifo c.dequeue_head-shown.new.fifo) c.dequeue_head-shown.result (fifo-sent c.args.now c.self.inside.handle c.self.inside.filters c.self.inside.discipline (code.Fifo c.dequeue_head-shown.new.fifo) c.in-Fifo.fifo.limit c.in-Fifo.fifo.packets c.dequeue_head-shown.result (ap discipline_seen c.in-Fifo.is) (ap children_seen c.in-Fifo.is)
+    (ap (λ (f : FifoState). spec.Fifo f.limit f.packets) c.dequeue_head-shown.ensures.rest) refl (ap (λ (f : FifoState). f.places) c.dequeue_head-shown.ensures.rest ∙ sym (ap places_seen c.in-Fifo.is))
+    (c.dequeue_head-shown.ensures.shown ∙ sym (slice_get-map (λ (s : Stamped). s.packet) c.in-Fifo.fifo.packets 0)) c.dequeue_head-shown.ensures.dropped c.dequeue_head-shown.ensures.marked) c.self.inside.row (sent-fits c.args.now c.self.inside c.args.self.now c.self.invariant c.self.view_is c.requires.ready c.in_default.is (code.Fifo c.dequeue_head-shown.new.fifo) c.dequeue_head-shown.result (fifo-sent c.args.now c.self.inside.handle c.self.inside.filters c.self.inside.discipline (code.Fifo c.dequeue_head-shown.new.fifo) c.in-Fifo.fifo.limit c.in-Fifo.fifo.packets c.dequeue_head-shown.result (ap discipline_seen c.in-Fifo.is) (ap children_seen c.in-Fifo.is)
+    (ap (λ (f : FifoState). spec.Fifo f.limit f.packets) c.dequeue_head-shown.ensures.rest) refl (ap (λ (f : FifoState). f.places) c.dequeue_head-shown.ensures.rest ∙ sym (ap places_seen c.in-Fifo.is))
+    (c.dequeue_head-shown.ensures.shown ∙ sym (slice_get-map (λ (s : Stamped). s.packet) c.in-Fifo.fifo.packets 0)) c.dequeue_head-shown.ensures.dropped c.dequeue_head-shown.ensures.marked) (omega (arith, c.self.ranges, c.fit.ensures.packets, c.fit.ensures.bytes)) (omega (arith, c.self.ranges, c.fit.ensures.packets, c.fit.ensures.bytes))) (shown-nothing c.dequeue_head-shown.result c.self.inside.row c.dequeue_head-shown.ensures.dropped c.dequeue_head-shown.ensures.marked) (none-held c.dequeue_head-shown.result.packet (sym c.if-not-has_packet.true ∙ c.has_packet.ensures))).stays
+
+pub node::Node::send-returns-then-not-has_packet-clause-after : goal.node::Node::send-returns-then-not-has_packet-clause-after
+node::Node::send-returns-then-not-has_packet-clause-after g t c =
+    (none-sent c.args.now c.self.inside c.args.self.now c.self.invariant c.self.view_is c.requires.ready c.in_default.is (code.Fifo c.dequeue_head-shown.new.fifo) c.dequeue_head-shown.result (fifo-sent c.args.now c.self.inside.handle c.self.inside.filters c.self.inside.discipline (code.Fifo c.dequeue_head-shown.new.fifo) c.in-Fifo.fifo.limit c.in-Fifo.fifo.packets c.dequeue_head-shown.result (ap discipline_seen c.in-Fifo.is) (ap children_seen c.in-Fifo.is)
+    (ap (λ (f : FifoState). spec.Fifo f.limit f.packets) c.dequeue_head-shown.ensures.rest) refl (ap (λ (f : FifoState). f.places) c.dequeue_head-shown.ensures.rest ∙ sym (ap places_seen c.in-Fifo.is))
+    (c.dequeue_head-shown.ensures.shown ∙ sym (slice_get-map (λ (s : Stamped). s.packet) c.in-Fifo.fifo.packets 0)) c.dequeue_head-shown.ensures.dropped c.dequeue_head-shown.ensures.marked) c.self.inside.row (sent-fits c.args.now c.self.inside c.args.self.now c.self.invariant c.self.view_is c.requires.ready c.in_default.is (code.Fifo c.dequeue_head-shown.new.fifo) c.dequeue_head-shown.result (fifo-sent c.args.now c.self.inside.handle c.self.inside.filters c.self.inside.discipline (code.Fifo c.dequeue_head-shown.new.fifo) c.in-Fifo.fifo.limit c.in-Fifo.fifo.packets c.dequeue_head-shown.result (ap discipline_seen c.in-Fifo.is) (ap children_seen c.in-Fifo.is)
+    (ap (λ (f : FifoState). spec.Fifo f.limit f.packets) c.dequeue_head-shown.ensures.rest) refl (ap (λ (f : FifoState). f.places) c.dequeue_head-shown.ensures.rest ∙ sym (ap places_seen c.in-Fifo.is))
+    (c.dequeue_head-shown.ensures.shown ∙ sym (slice_get-map (λ (s : Stamped). s.packet) c.in-Fifo.fifo.packets 0)) c.dequeue_head-shown.ensures.dropped c.dequeue_head-shown.ensures.marked) (omega (arith, c.self.ranges, c.fit.ensures.packets, c.fit.ensures.bytes)) (omega (arith, c.self.ranges, c.fit.ensures.packets, c.fit.ensures.bytes))) (shown-nothing c.dequeue_head-shown.result c.self.inside.row c.dequeue_head-shown.ensures.dropped c.dequeue_head-shown.ensures.marked) (none-held c.dequeue_head-shown.result.packet (sym c.if-not-has_packet.true ∙ c.has_packet.ensures))).after
+
+pub node::Node::send-returns-then-not-has_packet-clause-shown : goal.node::Node::send-returns-then-not-has_packet-clause-shown
+node::Node::send-returns-then-not-has_packet-clause-shown g t c =
+    sent-shown c.args.now c.self.inside c.args.self.now c.self.invariant c.self.view_is c.requires.ready c.in_default.is (code.Fifo c.dequeue_head-shown.new.fifo) c.dequeue_head-shown.result (fifo-sent c.args.now c.self.inside.handle c.self.inside.filters c.self.inside.discipline (code.Fifo c.dequeue_head-shown.new.fifo) c.in-Fifo.fifo.limit c.in-Fifo.fifo.packets c.dequeue_head-shown.result (ap discipline_seen c.in-Fifo.is) (ap children_seen c.in-Fifo.is)
+    (ap (λ (f : FifoState). spec.Fifo f.limit f.packets) c.dequeue_head-shown.ensures.rest) refl (ap (λ (f : FifoState). f.places) c.dequeue_head-shown.ensures.rest ∙ sym (ap places_seen c.in-Fifo.is))
+    (c.dequeue_head-shown.ensures.shown ∙ sym (slice_get-map (λ (s : Stamped). s.packet) c.in-Fifo.fifo.packets 0)) c.dequeue_head-shown.ensures.dropped c.dequeue_head-shown.ensures.marked)
+
+pub node::Node::send-returns-then-not-has_packet-clause-lost : goal.node::Node::send-returns-then-not-has_packet-clause-lost
+node::Node::send-returns-then-not-has_packet-clause-lost g t c =
+    (told-here c.args.now c.self.inside c.args.self.now c.self.invariant c.self.view_is c.requires.ready c.in_default.is (g.S.Sink.losses c.args.sink.now) (g.S.Sink.losses c.args.sink.now) (g.S.Sink.room c.args.sink.now) (g.S.Sink.room c.args.sink.now)
+    (told-in c.args.now c.self.inside.handle c.self.inside.filters c.self.inside.discipline (spec.Fifo c.in-Fifo.fifo.limit c.in-Fifo.fifo.packets) [] (g.S.Sink.losses c.args.sink.now) (g.S.Sink.losses c.args.sink.now) (g.S.Sink.room c.args.sink.now) (g.S.Sink.room c.args.sink.now) (ap discipline_seen c.in-Fifo.is) (ap children_seen c.in-Fifo.is) (told-nothing (g.S.Sink.losses c.args.sink.now) (g.S.Sink.room c.args.sink.now)))).lost
+
+pub node::Node::send-returns-then-not-has_packet-clause-room : goal.node::Node::send-returns-then-not-has_packet-clause-room
+node::Node::send-returns-then-not-has_packet-clause-room g t c =
+    (told-here c.args.now c.self.inside c.args.self.now c.self.invariant c.self.view_is c.requires.ready c.in_default.is (g.S.Sink.losses c.args.sink.now) (g.S.Sink.losses c.args.sink.now) (g.S.Sink.room c.args.sink.now) (g.S.Sink.room c.args.sink.now)
+    (told-in c.args.now c.self.inside.handle c.self.inside.filters c.self.inside.discipline (spec.Fifo c.in-Fifo.fifo.limit c.in-Fifo.fifo.packets) [] (g.S.Sink.losses c.args.sink.now) (g.S.Sink.losses c.args.sink.now) (g.S.Sink.room c.args.sink.now) (g.S.Sink.room c.args.sink.now) (ap discipline_seen c.in-Fifo.is) (ap children_seen c.in-Fifo.is) (told-nothing (g.S.Sink.losses c.args.sink.now) (g.S.Sink.room c.args.sink.now)))).room_taken
+
+pub node::Node::send-returns-then-not-has_packet-clause-toll : goal.node::Node::send-returns-then-not-has_packet-clause-toll
+node::Node::send-returns-then-not-has_packet-clause-toll g t c =
+    c.requires.clean ∙ sym (toll-nothing c.dequeue_head-shown.result c.dequeue_head-shown.ensures.dropped c.dequeue_head-shown.ensures.marked)
+
+pub node::Node::send-returns-in-Fifo-clause-shown : goal.node::Node::send-returns-in-Fifo-clause-shown
+node::Node::send-returns-in-Fifo-clause-shown g t c =
+    sent-shown c.args.now c.self.inside c.args.self.now c.self.invariant c.self.view_is c.requires.ready c.in_default.is (code.Fifo c.dequeue_head-shown.new.fifo) c.dequeue_head-shown.result (fifo-sent c.args.now c.self.inside.handle c.self.inside.filters c.self.inside.discipline (code.Fifo c.dequeue_head-shown.new.fifo) c.in-Fifo.fifo.limit c.in-Fifo.fifo.packets c.dequeue_head-shown.result (ap discipline_seen c.in-Fifo.is) (ap children_seen c.in-Fifo.is)
+    (ap (λ (f : FifoState). spec.Fifo f.limit f.packets) c.dequeue_head-shown.ensures.rest) refl (ap (λ (f : FifoState). f.places) c.dequeue_head-shown.ensures.rest ∙ sym (ap places_seen c.in-Fifo.is))
+    (c.dequeue_head-shown.ensures.shown ∙ sym (slice_get-map (λ (s : Stamped). s.packet) c.in-Fifo.fifo.packets 0)) c.dequeue_head-shown.ensures.dropped c.dequeue_head-shown.ensures.marked)
+
+pub node::Node::send-returns-in-Fifo-clause-lost : goal.node::Node::send-returns-in-Fifo-clause-lost
+node::Node::send-returns-in-Fifo-clause-lost g t c =
+    (told-here c.args.now c.self.inside c.args.self.now c.self.invariant c.self.view_is c.requires.ready c.in_default.is (g.S.Sink.losses c.args.sink.now) (g.S.Sink.losses c.args.sink.now) (g.S.Sink.room c.args.sink.now) (g.S.Sink.room c.args.sink.now)
+    (told-in c.args.now c.self.inside.handle c.self.inside.filters c.self.inside.discipline (spec.Fifo c.in-Fifo.fifo.limit c.in-Fifo.fifo.packets) [] (g.S.Sink.losses c.args.sink.now) (g.S.Sink.losses c.args.sink.now) (g.S.Sink.room c.args.sink.now) (g.S.Sink.room c.args.sink.now) (ap discipline_seen c.in-Fifo.is) (ap children_seen c.in-Fifo.is) (told-nothing (g.S.Sink.losses c.args.sink.now) (g.S.Sink.room c.args.sink.now)))).lost
+
+pub node::Node::send-returns-in-Fifo-clause-room : goal.node::Node::send-returns-in-Fifo-clause-room
+node::Node::send-returns-in-Fifo-clause-room g t c =
+    (told-here c.args.now c.self.inside c.args.self.now c.self.invariant c.self.view_is c.requires.ready c.in_default.is (g.S.Sink.losses c.args.sink.now) (g.S.Sink.losses c.args.sink.now) (g.S.Sink.room c.args.sink.now) (g.S.Sink.room c.args.sink.now)
+    (told-in c.args.now c.self.inside.handle c.self.inside.filters c.self.inside.discipline (spec.Fifo c.in-Fifo.fifo.limit c.in-Fifo.fifo.packets) [] (g.S.Sink.losses c.args.sink.now) (g.S.Sink.losses c.args.sink.now) (g.S.Sink.room c.args.sink.now) (g.S.Sink.room c.args.sink.now) (ap discipline_seen c.in-Fifo.is) (ap children_seen c.in-Fifo.is) (told-nothing (g.S.Sink.losses c.args.sink.now) (g.S.Sink.room c.args.sink.now)))).room_taken
+
+pub node::Node::send-returns-in-Fifo-clause-toll : goal.node::Node::send-returns-in-Fifo-clause-toll
+node::Node::send-returns-in-Fifo-clause-toll g t c =
+    c.requires.clean ∙ sym (toll-nothing c.dequeue_head-shown.result c.dequeue_head-shown.ensures.dropped c.dequeue_head-shown.ensures.marked)
+
+pub node::Node::send-book_sent-requires-in-Fifo-clause-balanced : goal.node::Node::send-book_sent-requires-in-Fifo-clause-balanced
+node::Node::send-book_sent-requires-in-Fifo-clause-balanced g t c =
+    (sent-row c.args.now c.self.inside c.args.self.now c.self.invariant c.self.view_is c.requires.ready c.in_default.is (code.Fifo c.dequeue_head-shown.new.fifo) c.dequeue_head-shown.result (fifo-sent c.args.now c.self.inside.handle c.self.inside.filters c.self.inside.discipline (code.Fifo c.dequeue_head-shown.new.fifo) c.in-Fifo.fifo.limit c.in-Fifo.fifo.packets c.dequeue_head-shown.result (ap discipline_seen c.in-Fifo.is) (ap children_seen c.in-Fifo.is)
+    (ap (λ (f : FifoState). spec.Fifo f.limit f.packets) c.dequeue_head-shown.ensures.rest) refl (ap (λ (f : FifoState). f.places) c.dequeue_head-shown.ensures.rest ∙ sym (ap places_seen c.in-Fifo.is))
+    (c.dequeue_head-shown.ensures.shown ∙ sym (slice_get-map (λ (s : Stamped). s.packet) c.in-Fifo.fifo.packets 0)) c.dequeue_head-shown.ensures.dropped c.dequeue_head-shown.ensures.marked) c.self.inside.row (sent-fits c.args.now c.self.inside c.args.self.now c.self.invariant c.self.view_is c.requires.ready c.in_default.is (code.Fifo c.dequeue_head-shown.new.fifo) c.dequeue_head-shown.result (fifo-sent c.args.now c.self.inside.handle c.self.inside.filters c.self.inside.discipline (code.Fifo c.dequeue_head-shown.new.fifo) c.in-Fifo.fifo.limit c.in-Fifo.fifo.packets c.dequeue_head-shown.result (ap discipline_seen c.in-Fifo.is) (ap children_seen c.in-Fifo.is)
+    (ap (λ (f : FifoState). spec.Fifo f.limit f.packets) c.dequeue_head-shown.ensures.rest) refl (ap (λ (f : FifoState). f.places) c.dequeue_head-shown.ensures.rest ∙ sym (ap places_seen c.in-Fifo.is))
+    (c.dequeue_head-shown.ensures.shown ∙ sym (slice_get-map (λ (s : Stamped). s.packet) c.in-Fifo.fifo.packets 0)) c.dequeue_head-shown.ensures.dropped c.dequeue_head-shown.ensures.marked) (omega (arith, c.self.ranges, c.fit.ensures.packets, c.fit.ensures.bytes)) (omega (arith, c.self.ranges, c.fit.ensures.packets, c.fit.ensures.bytes))) (shown-nothing c.dequeue_head-shown.result c.self.inside.row c.dequeue_head-shown.ensures.dropped c.dequeue_head-shown.ensures.marked) c.dequeue_head-shown.new.out (given-some c.dequeue_head-shown.result.packet c.args.out.now c.dequeue_head-shown.new.out (sym c.has_packet.ensures ∙ c.if-not-has_packet.false) c.dequeue_head-shown.ensures.packet)).balanced
+
+pub node::Node::send-book_sent-requires-in-Fifo-clause-among : goal.node::Node::send-book_sent-requires-in-Fifo-clause-among
+node::Node::send-book_sent-requires-in-Fifo-clause-among g t c =
+    sent-queued c.args.now c.self.inside c.args.self.now c.self.invariant c.self.view_is c.requires.ready c.in_default.is (code.Fifo c.dequeue_head-shown.new.fifo) c.dequeue_head-shown.result (fifo-sent c.args.now c.self.inside.handle c.self.inside.filters c.self.inside.discipline (code.Fifo c.dequeue_head-shown.new.fifo) c.in-Fifo.fifo.limit c.in-Fifo.fifo.packets c.dequeue_head-shown.result (ap discipline_seen c.in-Fifo.is) (ap children_seen c.in-Fifo.is)
+    (ap (λ (f : FifoState). spec.Fifo f.limit f.packets) c.dequeue_head-shown.ensures.rest) refl (ap (λ (f : FifoState). f.places) c.dequeue_head-shown.ensures.rest ∙ sym (ap places_seen c.in-Fifo.is))
+    (c.dequeue_head-shown.ensures.shown ∙ sym (slice_get-map (λ (s : Stamped). s.packet) c.in-Fifo.fifo.packets 0)) c.dequeue_head-shown.ensures.dropped c.dequeue_head-shown.ensures.marked) c.self.inside.row (sent-fits c.args.now c.self.inside c.args.self.now c.self.invariant c.self.view_is c.requires.ready c.in_default.is (code.Fifo c.dequeue_head-shown.new.fifo) c.dequeue_head-shown.result (fifo-sent c.args.now c.self.inside.handle c.self.inside.filters c.self.inside.discipline (code.Fifo c.dequeue_head-shown.new.fifo) c.in-Fifo.fifo.limit c.in-Fifo.fifo.packets c.dequeue_head-shown.result (ap discipline_seen c.in-Fifo.is) (ap children_seen c.in-Fifo.is)
+    (ap (λ (f : FifoState). spec.Fifo f.limit f.packets) c.dequeue_head-shown.ensures.rest) refl (ap (λ (f : FifoState). f.places) c.dequeue_head-shown.ensures.rest ∙ sym (ap places_seen c.in-Fifo.is))
+    (c.dequeue_head-shown.ensures.shown ∙ sym (slice_get-map (λ (s : Stamped). s.packet) c.in-Fifo.fifo.packets 0)) c.dequeue_head-shown.ensures.dropped c.dequeue_head-shown.ensures.marked) (omega (arith, c.self.ranges, c.fit.ensures.packets, c.fit.ensures.bytes)) (omega (arith, c.self.ranges, c.fit.ensures.packets, c.fit.ensures.bytes))) (shown-nothing c.dequeue_head-shown.result c.self.inside.row c.dequeue_head-shown.ensures.dropped c.dequeue_head-shown.ensures.marked) c.dequeue_head-shown.new.out (given-some c.dequeue_head-shown.result.packet c.args.out.now c.dequeue_head-shown.new.out (sym c.has_packet.ensures ∙ c.if-not-has_packet.false) c.dequeue_head-shown.ensures.packet)
+
+pub node::Node::send-book_sent-requires-in-Fifo-clause-room : goal.node::Node::send-book_sent-requires-in-Fifo-clause-room
+node::Node::send-book_sent-requires-in-Fifo-clause-room g t c =
+    let row = sent-row c.args.now c.self.inside c.args.self.now c.self.invariant c.self.view_is c.requires.ready c.in_default.is (code.Fifo c.dequeue_head-shown.new.fifo) c.dequeue_head-shown.result (fifo-sent c.args.now c.self.inside.handle c.self.inside.filters c.self.inside.discipline (code.Fifo c.dequeue_head-shown.new.fifo) c.in-Fifo.fifo.limit c.in-Fifo.fifo.packets c.dequeue_head-shown.result (ap discipline_seen c.in-Fifo.is) (ap children_seen c.in-Fifo.is)
+    (ap (λ (f : FifoState). spec.Fifo f.limit f.packets) c.dequeue_head-shown.ensures.rest) refl (ap (λ (f : FifoState). f.places) c.dequeue_head-shown.ensures.rest ∙ sym (ap places_seen c.in-Fifo.is))
+    (c.dequeue_head-shown.ensures.shown ∙ sym (slice_get-map (λ (s : Stamped). s.packet) c.in-Fifo.fifo.packets 0)) c.dequeue_head-shown.ensures.dropped c.dequeue_head-shown.ensures.marked) c.self.inside.row (sent-fits c.args.now c.self.inside c.args.self.now c.self.invariant c.self.view_is c.requires.ready c.in_default.is (code.Fifo c.dequeue_head-shown.new.fifo) c.dequeue_head-shown.result (fifo-sent c.args.now c.self.inside.handle c.self.inside.filters c.self.inside.discipline (code.Fifo c.dequeue_head-shown.new.fifo) c.in-Fifo.fifo.limit c.in-Fifo.fifo.packets c.dequeue_head-shown.result (ap discipline_seen c.in-Fifo.is) (ap children_seen c.in-Fifo.is)
+    (ap (λ (f : FifoState). spec.Fifo f.limit f.packets) c.dequeue_head-shown.ensures.rest) refl (ap (λ (f : FifoState). f.places) c.dequeue_head-shown.ensures.rest ∙ sym (ap places_seen c.in-Fifo.is))
+    (c.dequeue_head-shown.ensures.shown ∙ sym (slice_get-map (λ (s : Stamped). s.packet) c.in-Fifo.fifo.packets 0)) c.dequeue_head-shown.ensures.dropped c.dequeue_head-shown.ensures.marked) (omega (arith, c.self.ranges, c.fit.ensures.packets, c.fit.ensures.bytes)) (omega (arith, c.self.ranges, c.fit.ensures.packets, c.fit.ensures.bytes))) (shown-nothing c.dequeue_head-shown.result c.self.inside.row c.dequeue_head-shown.ensures.dropped c.dequeue_head-shown.ensures.marked) c.dequeue_head-shown.new.out (given-some c.dequeue_head-shown.result.packet c.args.out.now c.dequeue_head-shown.new.out (sym c.has_packet.ensures ∙ c.if-not-has_packet.false) c.dequeue_head-shown.ensures.packet) in
+    let had = sent-queued c.args.now c.self.inside c.args.self.now c.self.invariant c.self.view_is c.requires.ready c.in_default.is (code.Fifo c.dequeue_head-shown.new.fifo) c.dequeue_head-shown.result (fifo-sent c.args.now c.self.inside.handle c.self.inside.filters c.self.inside.discipline (code.Fifo c.dequeue_head-shown.new.fifo) c.in-Fifo.fifo.limit c.in-Fifo.fifo.packets c.dequeue_head-shown.result (ap discipline_seen c.in-Fifo.is) (ap children_seen c.in-Fifo.is)
+    (ap (λ (f : FifoState). spec.Fifo f.limit f.packets) c.dequeue_head-shown.ensures.rest) refl (ap (λ (f : FifoState). f.places) c.dequeue_head-shown.ensures.rest ∙ sym (ap places_seen c.in-Fifo.is))
+    (c.dequeue_head-shown.ensures.shown ∙ sym (slice_get-map (λ (s : Stamped). s.packet) c.in-Fifo.fifo.packets 0)) c.dequeue_head-shown.ensures.dropped c.dequeue_head-shown.ensures.marked) c.self.inside.row (sent-fits c.args.now c.self.inside c.args.self.now c.self.invariant c.self.view_is c.requires.ready c.in_default.is (code.Fifo c.dequeue_head-shown.new.fifo) c.dequeue_head-shown.result (fifo-sent c.args.now c.self.inside.handle c.self.inside.filters c.self.inside.discipline (code.Fifo c.dequeue_head-shown.new.fifo) c.in-Fifo.fifo.limit c.in-Fifo.fifo.packets c.dequeue_head-shown.result (ap discipline_seen c.in-Fifo.is) (ap children_seen c.in-Fifo.is)
+    (ap (λ (f : FifoState). spec.Fifo f.limit f.packets) c.dequeue_head-shown.ensures.rest) refl (ap (λ (f : FifoState). f.places) c.dequeue_head-shown.ensures.rest ∙ sym (ap places_seen c.in-Fifo.is))
+    (c.dequeue_head-shown.ensures.shown ∙ sym (slice_get-map (λ (s : Stamped). s.packet) c.in-Fifo.fifo.packets 0)) c.dequeue_head-shown.ensures.dropped c.dequeue_head-shown.ensures.marked) (omega (arith, c.self.ranges, c.fit.ensures.packets, c.fit.ensures.bytes)) (omega (arith, c.self.ranges, c.fit.ensures.packets, c.fit.ensures.bytes))) (shown-nothing c.dequeue_head-shown.result c.self.inside.row c.dequeue_head-shown.ensures.dropped c.dequeue_head-shown.ensures.marked) c.dequeue_head-shown.new.out (given-some c.dequeue_head-shown.result.packet c.args.out.now c.dequeue_head-shown.new.out (sym c.has_packet.ensures ∙ c.if-not-has_packet.false) c.dequeue_head-shown.ensures.packet) in
+    record {
+      packets = omega (arith, row.balanced.packets, had.packets, c.self.ranges, c.fit.ensures.packets, c.fit.ensures.bytes);
+      bytes = omega (arith, row.balanced.bytes, had.bytes, c.self.ranges, c.fit.ensures.packets, c.fit.ensures.bytes);
+    }
+
+pub node::Node::send-invariant_of-self-in-Fifo : goal.node::Node::send-invariant_of-self-in-Fifo
+node::Node::send-invariant_of-self-in-Fifo g t c =
+    (one-sent c.args.now c.self.inside c.args.self.now c.self.invariant c.self.view_is c.requires.ready c.in_default.is (code.Fifo c.dequeue_head-shown.new.fifo) c.dequeue_head-shown.result (fifo-sent c.args.now c.self.inside.handle c.self.inside.filters c.self.inside.discipline (code.Fifo c.dequeue_head-shown.new.fifo) c.in-Fifo.fifo.limit c.in-Fifo.fifo.packets c.dequeue_head-shown.result (ap discipline_seen c.in-Fifo.is) (ap children_seen c.in-Fifo.is)
+    (ap (λ (f : FifoState). spec.Fifo f.limit f.packets) c.dequeue_head-shown.ensures.rest) refl (ap (λ (f : FifoState). f.places) c.dequeue_head-shown.ensures.rest ∙ sym (ap places_seen c.in-Fifo.is))
+    (c.dequeue_head-shown.ensures.shown ∙ sym (slice_get-map (λ (s : Stamped). s.packet) c.in-Fifo.fifo.packets 0)) c.dequeue_head-shown.ensures.dropped c.dequeue_head-shown.ensures.marked) c.self.inside.row (sent-fits c.args.now c.self.inside c.args.self.now c.self.invariant c.self.view_is c.requires.ready c.in_default.is (code.Fifo c.dequeue_head-shown.new.fifo) c.dequeue_head-shown.result (fifo-sent c.args.now c.self.inside.handle c.self.inside.filters c.self.inside.discipline (code.Fifo c.dequeue_head-shown.new.fifo) c.in-Fifo.fifo.limit c.in-Fifo.fifo.packets c.dequeue_head-shown.result (ap discipline_seen c.in-Fifo.is) (ap children_seen c.in-Fifo.is)
+    (ap (λ (f : FifoState). spec.Fifo f.limit f.packets) c.dequeue_head-shown.ensures.rest) refl (ap (λ (f : FifoState). f.places) c.dequeue_head-shown.ensures.rest ∙ sym (ap places_seen c.in-Fifo.is))
+    (c.dequeue_head-shown.ensures.shown ∙ sym (slice_get-map (λ (s : Stamped). s.packet) c.in-Fifo.fifo.packets 0)) c.dequeue_head-shown.ensures.dropped c.dequeue_head-shown.ensures.marked) (omega (arith, c.self.ranges, c.fit.ensures.packets, c.fit.ensures.bytes)) (omega (arith, c.self.ranges, c.fit.ensures.packets, c.fit.ensures.bytes))) (shown-nothing c.dequeue_head-shown.result c.self.inside.row c.dequeue_head-shown.ensures.dropped c.dequeue_head-shown.ensures.marked) c.dequeue_head-shown.new.out (given-some c.dequeue_head-shown.result.packet c.args.out.now c.dequeue_head-shown.new.out (sym c.has_packet.ensures ∙ c.if-not-has_packet.false) c.dequeue_head-shown.ensures.packet) c.book_sent-in-Fifo.new.row c.book_sent-in-Fifo.ensures).stays
+
+pub node::Node::send-returns-in-Fifo-clause-after : goal.node::Node::send-returns-in-Fifo-clause-after
+node::Node::send-returns-in-Fifo-clause-after g t c =
+    (one-sent c.args.now c.self.inside c.args.self.now c.self.invariant c.self.view_is c.requires.ready c.in_default.is (code.Fifo c.dequeue_head-shown.new.fifo) c.dequeue_head-shown.result (fifo-sent c.args.now c.self.inside.handle c.self.inside.filters c.self.inside.discipline (code.Fifo c.dequeue_head-shown.new.fifo) c.in-Fifo.fifo.limit c.in-Fifo.fifo.packets c.dequeue_head-shown.result (ap discipline_seen c.in-Fifo.is) (ap children_seen c.in-Fifo.is)
+    (ap (λ (f : FifoState). spec.Fifo f.limit f.packets) c.dequeue_head-shown.ensures.rest) refl (ap (λ (f : FifoState). f.places) c.dequeue_head-shown.ensures.rest ∙ sym (ap places_seen c.in-Fifo.is))
+    (c.dequeue_head-shown.ensures.shown ∙ sym (slice_get-map (λ (s : Stamped). s.packet) c.in-Fifo.fifo.packets 0)) c.dequeue_head-shown.ensures.dropped c.dequeue_head-shown.ensures.marked) c.self.inside.row (sent-fits c.args.now c.self.inside c.args.self.now c.self.invariant c.self.view_is c.requires.ready c.in_default.is (code.Fifo c.dequeue_head-shown.new.fifo) c.dequeue_head-shown.result (fifo-sent c.args.now c.self.inside.handle c.self.inside.filters c.self.inside.discipline (code.Fifo c.dequeue_head-shown.new.fifo) c.in-Fifo.fifo.limit c.in-Fifo.fifo.packets c.dequeue_head-shown.result (ap discipline_seen c.in-Fifo.is) (ap children_seen c.in-Fifo.is)
+    (ap (λ (f : FifoState). spec.Fifo f.limit f.packets) c.dequeue_head-shown.ensures.rest) refl (ap (λ (f : FifoState). f.places) c.dequeue_head-shown.ensures.rest ∙ sym (ap places_seen c.in-Fifo.is))
+    (c.dequeue_head-shown.ensures.shown ∙ sym (slice_get-map (λ (s : Stamped). s.packet) c.in-Fifo.fifo.packets 0)) c.dequeue_head-shown.ensures.dropped c.dequeue_head-shown.ensures.marked) (omega (arith, c.self.ranges, c.fit.ensures.packets, c.fit.ensures.bytes)) (omega (arith, c.self.ranges, c.fit.ensures.packets, c.fit.ensures.bytes))) (shown-nothing c.dequeue_head-shown.result c.self.inside.row c.dequeue_head-shown.ensures.dropped c.dequeue_head-shown.ensures.marked) c.dequeue_head-shown.new.out (given-some c.dequeue_head-shown.result.packet c.args.out.now c.dequeue_head-shown.new.out (sym c.has_packet.ensures ∙ c.if-not-has_packet.false) c.dequeue_head-shown.ensures.packet) c.book_sent-in-Fifo.new.row c.book_sent-in-Fifo.ensures).after
+
+pub node::Node::send_further-send-shown-requires : goal.node::Node::send_further-send-shown-requires
+node::Node::send_further-send-shown-requires g t c κs within = (
   omega (arith, children-size c.self.inside c.args.self.now (children_seen c.self.inside.discipline) c.self.view_is refl, c.decreases),
   (
     within,
@@ -282,64 +369,64 @@ node::Node::send-send-shown-requires g t c κs within = (
   ),
 )
 
-pub node::Node::send-book_shown-requires-clause-room : goal.node::Node::send-book_shown-requires-clause-room
-node::Node::send-book_shown-requires-clause-room g t c =
-    (sent-fits c.args.now c.self.inside c.args.self.now c.self.invariant c.self.view_is c.requires.ready c.in_default.is c.send-shown.new.self c.send-shown.result (c.send-shown.ensures.after c.self.inside.handle c.self.inside.filters) (omega (arith, c.self.ranges, c.fit.ensures.packets, c.fit.ensures.bytes)) (omega (arith, c.self.ranges, c.fit.ensures.packets, c.fit.ensures.bytes)))
+pub node::Node::send_further-book_shown-requires-clause-room : goal.node::Node::send_further-book_shown-requires-clause-room
+node::Node::send_further-book_shown-requires-clause-room g t c =
+    (sent-fits c.args.now c.self.inside c.args.self.now c.self.invariant c.self.view_is c.requires.ready (ap (λ (n : Node Kept). n.own.held) c.self.view_is ∙ c.requires.none) c.send-shown.new.self c.send-shown.result (c.send-shown.ensures.after c.self.inside.handle c.self.inside.filters) (omega (arith, c.self.ranges, c.fit.ensures.packets, c.fit.ensures.bytes)) (omega (arith, c.self.ranges, c.fit.ensures.packets, c.fit.ensures.bytes)))
 
-pub node::Node::send-invariant_of-self-then-not-has_packet : goal.node::Node::send-invariant_of-self-then-not-has_packet
-node::Node::send-invariant_of-self-then-not-has_packet g t c =
-    (none-sent c.args.now c.self.inside c.args.self.now c.self.invariant c.self.view_is c.requires.ready c.in_default.is c.send-shown.new.self c.send-shown.result (c.send-shown.ensures.after c.self.inside.handle c.self.inside.filters) c.book_shown.new.row (sent-fits c.args.now c.self.inside c.args.self.now c.self.invariant c.self.view_is c.requires.ready c.in_default.is c.send-shown.new.self c.send-shown.result (c.send-shown.ensures.after c.self.inside.handle c.self.inside.filters) (omega (arith, c.self.ranges, c.fit.ensures.packets, c.fit.ensures.bytes)) (omega (arith, c.self.ranges, c.fit.ensures.packets, c.fit.ensures.bytes))) c.book_shown.ensures (none-held c.send-shown.result.packet (sym c.if-not-has_packet.true ∙ c.has_packet.ensures))).stays
+pub node::Node::send_further-invariant_of-self : goal.node::Node::send_further-invariant_of-self
+node::Node::send_further-invariant_of-self g t c =
+    (none-sent c.args.now c.self.inside c.args.self.now c.self.invariant c.self.view_is c.requires.ready (ap (λ (n : Node Kept). n.own.held) c.self.view_is ∙ c.requires.none) c.send-shown.new.self c.send-shown.result (c.send-shown.ensures.after c.self.inside.handle c.self.inside.filters) c.book_shown.new.row (sent-fits c.args.now c.self.inside c.args.self.now c.self.invariant c.self.view_is c.requires.ready (ap (λ (n : Node Kept). n.own.held) c.self.view_is ∙ c.requires.none) c.send-shown.new.self c.send-shown.result (c.send-shown.ensures.after c.self.inside.handle c.self.inside.filters) (omega (arith, c.self.ranges, c.fit.ensures.packets, c.fit.ensures.bytes)) (omega (arith, c.self.ranges, c.fit.ensures.packets, c.fit.ensures.bytes))) c.book_shown.ensures (none-held c.send-shown.result.packet (sym c.if-not-has_packet.true ∙ c.has_packet.ensures))).stays
 
-pub node::Node::send-returns-then-not-has_packet-clause-after : goal.node::Node::send-returns-then-not-has_packet-clause-after
-node::Node::send-returns-then-not-has_packet-clause-after g t c =
-    (none-sent c.args.now c.self.inside c.args.self.now c.self.invariant c.self.view_is c.requires.ready c.in_default.is c.send-shown.new.self c.send-shown.result (c.send-shown.ensures.after c.self.inside.handle c.self.inside.filters) c.book_shown.new.row (sent-fits c.args.now c.self.inside c.args.self.now c.self.invariant c.self.view_is c.requires.ready c.in_default.is c.send-shown.new.self c.send-shown.result (c.send-shown.ensures.after c.self.inside.handle c.self.inside.filters) (omega (arith, c.self.ranges, c.fit.ensures.packets, c.fit.ensures.bytes)) (omega (arith, c.self.ranges, c.fit.ensures.packets, c.fit.ensures.bytes))) c.book_shown.ensures (none-held c.send-shown.result.packet (sym c.if-not-has_packet.true ∙ c.has_packet.ensures))).after
+pub node::Node::send_further-returns-then-not-has_packet-clause-after : goal.node::Node::send_further-returns-then-not-has_packet-clause-after
+node::Node::send_further-returns-then-not-has_packet-clause-after g t c =
+    (none-sent c.args.now c.self.inside c.args.self.now c.self.invariant c.self.view_is c.requires.ready (ap (λ (n : Node Kept). n.own.held) c.self.view_is ∙ c.requires.none) c.send-shown.new.self c.send-shown.result (c.send-shown.ensures.after c.self.inside.handle c.self.inside.filters) c.book_shown.new.row (sent-fits c.args.now c.self.inside c.args.self.now c.self.invariant c.self.view_is c.requires.ready (ap (λ (n : Node Kept). n.own.held) c.self.view_is ∙ c.requires.none) c.send-shown.new.self c.send-shown.result (c.send-shown.ensures.after c.self.inside.handle c.self.inside.filters) (omega (arith, c.self.ranges, c.fit.ensures.packets, c.fit.ensures.bytes)) (omega (arith, c.self.ranges, c.fit.ensures.packets, c.fit.ensures.bytes))) c.book_shown.ensures (none-held c.send-shown.result.packet (sym c.if-not-has_packet.true ∙ c.has_packet.ensures))).after
 
-pub node::Node::send-returns-then-not-has_packet-clause-shown : goal.node::Node::send-returns-then-not-has_packet-clause-shown
-node::Node::send-returns-then-not-has_packet-clause-shown g t c =
-    sent-shown c.args.now c.self.inside c.args.self.now c.self.invariant c.self.view_is c.requires.ready c.in_default.is c.send-shown.new.self c.send-shown.result (c.send-shown.ensures.after c.self.inside.handle c.self.inside.filters)
+pub node::Node::send_further-returns-then-not-has_packet-clause-shown : goal.node::Node::send_further-returns-then-not-has_packet-clause-shown
+node::Node::send_further-returns-then-not-has_packet-clause-shown g t c =
+    sent-shown c.args.now c.self.inside c.args.self.now c.self.invariant c.self.view_is c.requires.ready (ap (λ (n : Node Kept). n.own.held) c.self.view_is ∙ c.requires.none) c.send-shown.new.self c.send-shown.result (c.send-shown.ensures.after c.self.inside.handle c.self.inside.filters)
 
-pub node::Node::send-returns-clause-shown : goal.node::Node::send-returns-clause-shown
-node::Node::send-returns-clause-shown g t c =
-    sent-shown c.args.now c.self.inside c.args.self.now c.self.invariant c.self.view_is c.requires.ready c.in_default.is c.send-shown.new.self c.send-shown.result (c.send-shown.ensures.after c.self.inside.handle c.self.inside.filters)
+pub node::Node::send_further-returns-clause-shown : goal.node::Node::send_further-returns-clause-shown
+node::Node::send_further-returns-clause-shown g t c =
+    sent-shown c.args.now c.self.inside c.args.self.now c.self.invariant c.self.view_is c.requires.ready (ap (λ (n : Node Kept). n.own.held) c.self.view_is ∙ c.requires.none) c.send-shown.new.self c.send-shown.result (c.send-shown.ensures.after c.self.inside.handle c.self.inside.filters)
 
-pub node::Node::send-returns-then-not-has_packet-clause-lost : goal.node::Node::send-returns-then-not-has_packet-clause-lost
-node::Node::send-returns-then-not-has_packet-clause-lost g t c =
-    (told-here c.args.now c.self.inside c.args.self.now c.self.invariant c.self.view_is c.requires.ready c.in_default.is (g.S.Sink.losses c.args.sink.now) (g.S.Sink.losses c.send-shown.new.sink) (g.S.Sink.room c.args.sink.now) (g.S.Sink.room c.send-shown.new.sink) (c.send-shown.ensures.told c.self.inside.handle c.self.inside.filters)).lost
+pub node::Node::send_further-returns-then-not-has_packet-clause-lost : goal.node::Node::send_further-returns-then-not-has_packet-clause-lost
+node::Node::send_further-returns-then-not-has_packet-clause-lost g t c =
+    (told-here c.args.now c.self.inside c.args.self.now c.self.invariant c.self.view_is c.requires.ready (ap (λ (n : Node Kept). n.own.held) c.self.view_is ∙ c.requires.none) (g.S.Sink.losses c.args.sink.now) (g.S.Sink.losses c.send-shown.new.sink) (g.S.Sink.room c.args.sink.now) (g.S.Sink.room c.send-shown.new.sink) (c.send-shown.ensures.told c.self.inside.handle c.self.inside.filters)).lost
 
-pub node::Node::send-returns-then-not-has_packet-clause-room : goal.node::Node::send-returns-then-not-has_packet-clause-room
-node::Node::send-returns-then-not-has_packet-clause-room g t c =
-    (told-here c.args.now c.self.inside c.args.self.now c.self.invariant c.self.view_is c.requires.ready c.in_default.is (g.S.Sink.losses c.args.sink.now) (g.S.Sink.losses c.send-shown.new.sink) (g.S.Sink.room c.args.sink.now) (g.S.Sink.room c.send-shown.new.sink) (c.send-shown.ensures.told c.self.inside.handle c.self.inside.filters)).room_taken
+pub node::Node::send_further-returns-then-not-has_packet-clause-room : goal.node::Node::send_further-returns-then-not-has_packet-clause-room
+node::Node::send_further-returns-then-not-has_packet-clause-room g t c =
+    (told-here c.args.now c.self.inside c.args.self.now c.self.invariant c.self.view_is c.requires.ready (ap (λ (n : Node Kept). n.own.held) c.self.view_is ∙ c.requires.none) (g.S.Sink.losses c.args.sink.now) (g.S.Sink.losses c.send-shown.new.sink) (g.S.Sink.room c.args.sink.now) (g.S.Sink.room c.send-shown.new.sink) (c.send-shown.ensures.told c.self.inside.handle c.self.inside.filters)).room_taken
 
-pub node::Node::send-returns-clause-lost : goal.node::Node::send-returns-clause-lost
-node::Node::send-returns-clause-lost g t c =
-    (told-here c.args.now c.self.inside c.args.self.now c.self.invariant c.self.view_is c.requires.ready c.in_default.is (g.S.Sink.losses c.args.sink.now) (g.S.Sink.losses c.send-shown.new.sink) (g.S.Sink.room c.args.sink.now) (g.S.Sink.room c.send-shown.new.sink) (c.send-shown.ensures.told c.self.inside.handle c.self.inside.filters)).lost
+pub node::Node::send_further-returns-clause-lost : goal.node::Node::send_further-returns-clause-lost
+node::Node::send_further-returns-clause-lost g t c =
+    (told-here c.args.now c.self.inside c.args.self.now c.self.invariant c.self.view_is c.requires.ready (ap (λ (n : Node Kept). n.own.held) c.self.view_is ∙ c.requires.none) (g.S.Sink.losses c.args.sink.now) (g.S.Sink.losses c.send-shown.new.sink) (g.S.Sink.room c.args.sink.now) (g.S.Sink.room c.send-shown.new.sink) (c.send-shown.ensures.told c.self.inside.handle c.self.inside.filters)).lost
 
-pub node::Node::send-returns-clause-room : goal.node::Node::send-returns-clause-room
-node::Node::send-returns-clause-room g t c =
-    (told-here c.args.now c.self.inside c.args.self.now c.self.invariant c.self.view_is c.requires.ready c.in_default.is (g.S.Sink.losses c.args.sink.now) (g.S.Sink.losses c.send-shown.new.sink) (g.S.Sink.room c.args.sink.now) (g.S.Sink.room c.send-shown.new.sink) (c.send-shown.ensures.told c.self.inside.handle c.self.inside.filters)).room_taken
+pub node::Node::send_further-returns-clause-room : goal.node::Node::send_further-returns-clause-room
+node::Node::send_further-returns-clause-room g t c =
+    (told-here c.args.now c.self.inside c.args.self.now c.self.invariant c.self.view_is c.requires.ready (ap (λ (n : Node Kept). n.own.held) c.self.view_is ∙ c.requires.none) (g.S.Sink.losses c.args.sink.now) (g.S.Sink.losses c.send-shown.new.sink) (g.S.Sink.room c.args.sink.now) (g.S.Sink.room c.send-shown.new.sink) (c.send-shown.ensures.told c.self.inside.handle c.self.inside.filters)).room_taken
 
-pub node::Node::send-book_sent-requires-2-clause-balanced : goal.node::Node::send-book_sent-requires-2-clause-balanced
-node::Node::send-book_sent-requires-2-clause-balanced g t c =
-    (sent-row c.args.now c.self.inside c.args.self.now c.self.invariant c.self.view_is c.requires.ready c.in_default.is c.send-shown.new.self c.send-shown.result (c.send-shown.ensures.after c.self.inside.handle c.self.inside.filters) c.book_shown.new.row (sent-fits c.args.now c.self.inside c.args.self.now c.self.invariant c.self.view_is c.requires.ready c.in_default.is c.send-shown.new.self c.send-shown.result (c.send-shown.ensures.after c.self.inside.handle c.self.inside.filters) (omega (arith, c.self.ranges, c.fit.ensures.packets, c.fit.ensures.bytes)) (omega (arith, c.self.ranges, c.fit.ensures.packets, c.fit.ensures.bytes))) c.book_shown.ensures c.send-shown.new.out (given-some c.send-shown.result.packet c.args.out.now c.send-shown.new.out (sym c.has_packet.ensures ∙ c.if-not-has_packet.false) c.send-shown.ensures.packet)).balanced
+pub node::Node::send_further-book_sent-requires-clause-balanced : goal.node::Node::send_further-book_sent-requires-clause-balanced
+node::Node::send_further-book_sent-requires-clause-balanced g t c =
+    (sent-row c.args.now c.self.inside c.args.self.now c.self.invariant c.self.view_is c.requires.ready (ap (λ (n : Node Kept). n.own.held) c.self.view_is ∙ c.requires.none) c.send-shown.new.self c.send-shown.result (c.send-shown.ensures.after c.self.inside.handle c.self.inside.filters) c.book_shown.new.row (sent-fits c.args.now c.self.inside c.args.self.now c.self.invariant c.self.view_is c.requires.ready (ap (λ (n : Node Kept). n.own.held) c.self.view_is ∙ c.requires.none) c.send-shown.new.self c.send-shown.result (c.send-shown.ensures.after c.self.inside.handle c.self.inside.filters) (omega (arith, c.self.ranges, c.fit.ensures.packets, c.fit.ensures.bytes)) (omega (arith, c.self.ranges, c.fit.ensures.packets, c.fit.ensures.bytes))) c.book_shown.ensures c.send-shown.new.out (given-some c.send-shown.result.packet c.args.out.now c.send-shown.new.out (sym c.has_packet.ensures ∙ c.if-not-has_packet.false) c.send-shown.ensures.packet)).balanced
 
-pub node::Node::send-book_sent-requires-2-clause-among : goal.node::Node::send-book_sent-requires-2-clause-among
-node::Node::send-book_sent-requires-2-clause-among g t c =
-    sent-queued c.args.now c.self.inside c.args.self.now c.self.invariant c.self.view_is c.requires.ready c.in_default.is c.send-shown.new.self c.send-shown.result (c.send-shown.ensures.after c.self.inside.handle c.self.inside.filters) c.book_shown.new.row (sent-fits c.args.now c.self.inside c.args.self.now c.self.invariant c.self.view_is c.requires.ready c.in_default.is c.send-shown.new.self c.send-shown.result (c.send-shown.ensures.after c.self.inside.handle c.self.inside.filters) (omega (arith, c.self.ranges, c.fit.ensures.packets, c.fit.ensures.bytes)) (omega (arith, c.self.ranges, c.fit.ensures.packets, c.fit.ensures.bytes))) c.book_shown.ensures c.send-shown.new.out (given-some c.send-shown.result.packet c.args.out.now c.send-shown.new.out (sym c.has_packet.ensures ∙ c.if-not-has_packet.false) c.send-shown.ensures.packet)
+pub node::Node::send_further-book_sent-requires-clause-among : goal.node::Node::send_further-book_sent-requires-clause-among
+node::Node::send_further-book_sent-requires-clause-among g t c =
+    sent-queued c.args.now c.self.inside c.args.self.now c.self.invariant c.self.view_is c.requires.ready (ap (λ (n : Node Kept). n.own.held) c.self.view_is ∙ c.requires.none) c.send-shown.new.self c.send-shown.result (c.send-shown.ensures.after c.self.inside.handle c.self.inside.filters) c.book_shown.new.row (sent-fits c.args.now c.self.inside c.args.self.now c.self.invariant c.self.view_is c.requires.ready (ap (λ (n : Node Kept). n.own.held) c.self.view_is ∙ c.requires.none) c.send-shown.new.self c.send-shown.result (c.send-shown.ensures.after c.self.inside.handle c.self.inside.filters) (omega (arith, c.self.ranges, c.fit.ensures.packets, c.fit.ensures.bytes)) (omega (arith, c.self.ranges, c.fit.ensures.packets, c.fit.ensures.bytes))) c.book_shown.ensures c.send-shown.new.out (given-some c.send-shown.result.packet c.args.out.now c.send-shown.new.out (sym c.has_packet.ensures ∙ c.if-not-has_packet.false) c.send-shown.ensures.packet)
 
-pub node::Node::send-book_sent-requires-2-clause-room : goal.node::Node::send-book_sent-requires-2-clause-room
-node::Node::send-book_sent-requires-2-clause-room g t c =
-    let row = sent-row c.args.now c.self.inside c.args.self.now c.self.invariant c.self.view_is c.requires.ready c.in_default.is c.send-shown.new.self c.send-shown.result (c.send-shown.ensures.after c.self.inside.handle c.self.inside.filters) c.book_shown.new.row (sent-fits c.args.now c.self.inside c.args.self.now c.self.invariant c.self.view_is c.requires.ready c.in_default.is c.send-shown.new.self c.send-shown.result (c.send-shown.ensures.after c.self.inside.handle c.self.inside.filters) (omega (arith, c.self.ranges, c.fit.ensures.packets, c.fit.ensures.bytes)) (omega (arith, c.self.ranges, c.fit.ensures.packets, c.fit.ensures.bytes))) c.book_shown.ensures c.send-shown.new.out (given-some c.send-shown.result.packet c.args.out.now c.send-shown.new.out (sym c.has_packet.ensures ∙ c.if-not-has_packet.false) c.send-shown.ensures.packet) in
-    let had = sent-queued c.args.now c.self.inside c.args.self.now c.self.invariant c.self.view_is c.requires.ready c.in_default.is c.send-shown.new.self c.send-shown.result (c.send-shown.ensures.after c.self.inside.handle c.self.inside.filters) c.book_shown.new.row (sent-fits c.args.now c.self.inside c.args.self.now c.self.invariant c.self.view_is c.requires.ready c.in_default.is c.send-shown.new.self c.send-shown.result (c.send-shown.ensures.after c.self.inside.handle c.self.inside.filters) (omega (arith, c.self.ranges, c.fit.ensures.packets, c.fit.ensures.bytes)) (omega (arith, c.self.ranges, c.fit.ensures.packets, c.fit.ensures.bytes))) c.book_shown.ensures c.send-shown.new.out (given-some c.send-shown.result.packet c.args.out.now c.send-shown.new.out (sym c.has_packet.ensures ∙ c.if-not-has_packet.false) c.send-shown.ensures.packet) in
+pub node::Node::send_further-book_sent-requires-clause-room : goal.node::Node::send_further-book_sent-requires-clause-room
+node::Node::send_further-book_sent-requires-clause-room g t c =
+    let row = sent-row c.args.now c.self.inside c.args.self.now c.self.invariant c.self.view_is c.requires.ready (ap (λ (n : Node Kept). n.own.held) c.self.view_is ∙ c.requires.none) c.send-shown.new.self c.send-shown.result (c.send-shown.ensures.after c.self.inside.handle c.self.inside.filters) c.book_shown.new.row (sent-fits c.args.now c.self.inside c.args.self.now c.self.invariant c.self.view_is c.requires.ready (ap (λ (n : Node Kept). n.own.held) c.self.view_is ∙ c.requires.none) c.send-shown.new.self c.send-shown.result (c.send-shown.ensures.after c.self.inside.handle c.self.inside.filters) (omega (arith, c.self.ranges, c.fit.ensures.packets, c.fit.ensures.bytes)) (omega (arith, c.self.ranges, c.fit.ensures.packets, c.fit.ensures.bytes))) c.book_shown.ensures c.send-shown.new.out (given-some c.send-shown.result.packet c.args.out.now c.send-shown.new.out (sym c.has_packet.ensures ∙ c.if-not-has_packet.false) c.send-shown.ensures.packet) in
+    let had = sent-queued c.args.now c.self.inside c.args.self.now c.self.invariant c.self.view_is c.requires.ready (ap (λ (n : Node Kept). n.own.held) c.self.view_is ∙ c.requires.none) c.send-shown.new.self c.send-shown.result (c.send-shown.ensures.after c.self.inside.handle c.self.inside.filters) c.book_shown.new.row (sent-fits c.args.now c.self.inside c.args.self.now c.self.invariant c.self.view_is c.requires.ready (ap (λ (n : Node Kept). n.own.held) c.self.view_is ∙ c.requires.none) c.send-shown.new.self c.send-shown.result (c.send-shown.ensures.after c.self.inside.handle c.self.inside.filters) (omega (arith, c.self.ranges, c.fit.ensures.packets, c.fit.ensures.bytes)) (omega (arith, c.self.ranges, c.fit.ensures.packets, c.fit.ensures.bytes))) c.book_shown.ensures c.send-shown.new.out (given-some c.send-shown.result.packet c.args.out.now c.send-shown.new.out (sym c.has_packet.ensures ∙ c.if-not-has_packet.false) c.send-shown.ensures.packet) in
     let same = ap (λ (r : Row). r.arrived) c.book_shown.ensures in
     record {
       packets = omega (arith, row.balanced.packets, had.packets, ap (λ (t : Totals). t.packets) same, c.self.ranges, c.fit.ensures.packets, c.fit.ensures.bytes);
       bytes = omega (arith, row.balanced.bytes, had.bytes, ap (λ (t : Totals). t.bytes) same, c.self.ranges, c.fit.ensures.packets, c.fit.ensures.bytes);
     }
 
-pub node::Node::send-invariant_of-self-2 : goal.node::Node::send-invariant_of-self-2
-node::Node::send-invariant_of-self-2 g t c =
-    (one-sent c.args.now c.self.inside c.args.self.now c.self.invariant c.self.view_is c.requires.ready c.in_default.is c.send-shown.new.self c.send-shown.result (c.send-shown.ensures.after c.self.inside.handle c.self.inside.filters) c.book_shown.new.row (sent-fits c.args.now c.self.inside c.args.self.now c.self.invariant c.self.view_is c.requires.ready c.in_default.is c.send-shown.new.self c.send-shown.result (c.send-shown.ensures.after c.self.inside.handle c.self.inside.filters) (omega (arith, c.self.ranges, c.fit.ensures.packets, c.fit.ensures.bytes)) (omega (arith, c.self.ranges, c.fit.ensures.packets, c.fit.ensures.bytes))) c.book_shown.ensures c.send-shown.new.out (given-some c.send-shown.result.packet c.args.out.now c.send-shown.new.out (sym c.has_packet.ensures ∙ c.if-not-has_packet.false) c.send-shown.ensures.packet) c.book_sent-2.new.row c.book_sent-2.ensures).stays
+pub node::Node::send_further-invariant_of-self-2 : goal.node::Node::send_further-invariant_of-self-2
+node::Node::send_further-invariant_of-self-2 g t c =
+    (one-sent c.args.now c.self.inside c.args.self.now c.self.invariant c.self.view_is c.requires.ready (ap (λ (n : Node Kept). n.own.held) c.self.view_is ∙ c.requires.none) c.send-shown.new.self c.send-shown.result (c.send-shown.ensures.after c.self.inside.handle c.self.inside.filters) c.book_shown.new.row (sent-fits c.args.now c.self.inside c.args.self.now c.self.invariant c.self.view_is c.requires.ready (ap (λ (n : Node Kept). n.own.held) c.self.view_is ∙ c.requires.none) c.send-shown.new.self c.send-shown.result (c.send-shown.ensures.after c.self.inside.handle c.self.inside.filters) (omega (arith, c.self.ranges, c.fit.ensures.packets, c.fit.ensures.bytes)) (omega (arith, c.self.ranges, c.fit.ensures.packets, c.fit.ensures.bytes))) c.book_shown.ensures c.send-shown.new.out (given-some c.send-shown.result.packet c.args.out.now c.send-shown.new.out (sym c.has_packet.ensures ∙ c.if-not-has_packet.false) c.send-shown.ensures.packet) c.book_sent.new.row c.book_sent.ensures).stays
 
-pub node::Node::send-returns-clause-after : goal.node::Node::send-returns-clause-after
-node::Node::send-returns-clause-after g t c =
-    (one-sent c.args.now c.self.inside c.args.self.now c.self.invariant c.self.view_is c.requires.ready c.in_default.is c.send-shown.new.self c.send-shown.result (c.send-shown.ensures.after c.self.inside.handle c.self.inside.filters) c.book_shown.new.row (sent-fits c.args.now c.self.inside c.args.self.now c.self.invariant c.self.view_is c.requires.ready c.in_default.is c.send-shown.new.self c.send-shown.result (c.send-shown.ensures.after c.self.inside.handle c.self.inside.filters) (omega (arith, c.self.ranges, c.fit.ensures.packets, c.fit.ensures.bytes)) (omega (arith, c.self.ranges, c.fit.ensures.packets, c.fit.ensures.bytes))) c.book_shown.ensures c.send-shown.new.out (given-some c.send-shown.result.packet c.args.out.now c.send-shown.new.out (sym c.has_packet.ensures ∙ c.if-not-has_packet.false) c.send-shown.ensures.packet) c.book_sent-2.new.row c.book_sent-2.ensures).after
+pub node::Node::send_further-returns-clause-after : goal.node::Node::send_further-returns-clause-after
+node::Node::send_further-returns-clause-after g t c =
+    (one-sent c.args.now c.self.inside c.args.self.now c.self.invariant c.self.view_is c.requires.ready (ap (λ (n : Node Kept). n.own.held) c.self.view_is ∙ c.requires.none) c.send-shown.new.self c.send-shown.result (c.send-shown.ensures.after c.self.inside.handle c.self.inside.filters) c.book_shown.new.row (sent-fits c.args.now c.self.inside c.args.self.now c.self.invariant c.self.view_is c.requires.ready (ap (λ (n : Node Kept). n.own.held) c.self.view_is ∙ c.requires.none) c.send-shown.new.self c.send-shown.result (c.send-shown.ensures.after c.self.inside.handle c.self.inside.filters) (omega (arith, c.self.ranges, c.fit.ensures.packets, c.fit.ensures.bytes)) (omega (arith, c.self.ranges, c.fit.ensures.packets, c.fit.ensures.bytes))) c.book_shown.ensures c.send-shown.new.out (given-some c.send-shown.result.packet c.args.out.now c.send-shown.new.out (sym c.has_packet.ensures ∙ c.if-not-has_packet.false) c.send-shown.ensures.packet) c.book_sent.new.row c.book_sent.ensures).after

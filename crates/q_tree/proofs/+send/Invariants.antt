@@ -16,10 +16,19 @@ invariant-disciplines::prio::send_first-loop-place g l =
 
 -- each call goes further down the tree
 abbrev pub decreases-node::Node::send : goal.decreases-node::Node::send
-decreases-node::Node::send g l = 3 * node_size l.self.now
+decreases-node::Node::send g l = 3 * node_size l.self.now + 1
+
+abbrev pub decreases-node::Node::send_further : goal.decreases-node::Node::send_further
+decreases-node::Node::send_further g l = 3 * node_size l.self.now
 
 abbrev pub decreases-node::Discipline::send : goal.decreases-node::Discipline::send
 decreases-node::Discipline::send g l = 3 * forest_size (side_by_side (children_seen l.self.now)) + 2
 
 abbrev pub decreases-disciplines::prio::send_first : goal.decreases-disciplines::prio::send_first
 decreases-disciplines::prio::send_first g l = 3 * forest_size (side_by_side l.bands.now) + 1
+
+abbrev pub decreases-disciplines::prio::send_band : goal.decreases-disciplines::prio::send_band
+decreases-disciplines::prio::send_band g l = 3 * node_size l.band.now + 3
+
+abbrev pub decreases-disciplines::prio::send_band_further : goal.decreases-disciplines::prio::send_band_further
+decreases-disciplines::prio::send_band_further g l = 3 * node_size l.band.now + 2

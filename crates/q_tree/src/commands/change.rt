@@ -2,21 +2,19 @@ ghost use Rattle.std.specs.Prelude.{◌≡◌, ◌≤◌, ◌+◌, ◌++◌, len
 ghost use Rattle.q_invariants.proofs.Kept.{IsLawfulRoot};
 ghost use Rattle.q_invariants.proofs.SizedChanges.{change_sized};
 ghost use Rattle.q_model.specs.Beneath.{beneath};
-ghost use Rattle.q_model.specs.Find.{addresses, count_nodes};
-ghost use Rattle.q_model.specs.Node.{Shape, shape};
+ghost use Rattle.q_model.specs.Find.{count_nodes};
+ghost use Rattle.q_model.specs.Node.{shape};
 ghost use Rattle.q_model.specs.Ranges.{IsCommand};
-ghost use Rattle.q_model.specs.Refusals.{most_nodes};
-ghost use Rattle.q_model.specs.TreeState.{plan};
 ghost use Rattle.q_model.specs.declared.command.Command.TheVariants.{QdiscChange};
 ghost use Rattle.q_model.specs.declared.kind.Kind.TheVariants as kind;
 ghost use Rattle.q_tree.specs.Changing.{IsChange, NeedsMore};
-ghost use Rattle.q_tree.specs.Commands.{IsAnswered, IsBounded, IsPlanOf, plan_of, told};
+ghost use Rattle.q_tree.specs.Commands.{IsAnswered, plan_of, told};
+ghost use Rattle.q_tree.specs.Planning.{IsLawful, IsPlanBy, device_of, planned_by, root_of};
 
 use crate::commands::discipline_change::DisciplineChange;
 use crate::commands::edit::Edit;
-use crate::commands::handles::Handles;
-use crate::commands::link_settings::LinkSettings;
 use crate::commands::planned::Planned;
+use crate::commands::planner::Planner;
 use crate::node::Node;
 use crate::tree::Tree;
 use q_codel::Sink;
@@ -62,71 +60,39 @@ impl Tree {
     }
 }
 
-impl Node {
+impl Planner<'_> {
     // The edit that gives a qdisc other settings, or the first refusal that holds.
     pub(crate) fn changed(
         &self,
-        handles: &Handles,
-        alloc: Global,
-        link: LinkSettings,
         place: Option<Place>,
         handle: Option<Handle>,
         kind: &Kind,
-        now: Moment,
     ) -> Result<Planned, Refusal>
-        requires index { handles.now.addresses ≡ addresses self.now }
-        requires bounded { IsBounded self.now }
-        requires lawful { IsLawfulRoot link.mtu now self.now }
-        ensures plan { IsPlanOf (NeedsMore kind.now (plan (record { mtu = link.mtu; txqueuelen = link.txqueuelen }) now (QdiscChange place handle kind.now) (shape self.now))) (QdiscChange place handle kind.now) now (record { mtu = link.mtu; txqueuelen = link.txqueuelen }) self.now result }
+        requires ranges { IsCommand (QdiscChange place handle kind.now) }
+        requires lawful { IsLawful self.now }
+        ensures plan { IsPlanBy self.now (NeedsMore kind.now (planned_by self.now (QdiscChange place handle kind.now))) (QdiscChange place handle kind.now) result }
     {
-        change_ranges(&place, &handle, kind);
-        let Some((path, node)) = self.target(handles, place, handle) else {
+        let Some((path, node)) = self.qdiscs.target(place, handle) else {
             return Err(Refusal::NoQdisc);
         };
-        match node.reshape_to(alloc, link, self.count_nodes(), kind, now) {
-            Err(refusal) => return Err(refusal),
-            Ok(reshape) => {
-                let edit = Edit::DisciplineChange(reshape);
-                return Ok(Planned { path, edit });
-            }
-        }
+        let reshape = self.reshape_to(node, kind)?;
+        let edit = Edit::DisciplineChange(reshape);
+        Ok(Planned { path, edit })
     }
 
-    // What a change to these settings makes of the qdisc, in a tree of so many nodes, or the first refusal that holds.
-    fn reshape_to(
-        &self,
-        alloc: Global,
-        link: LinkSettings,
-        nodes: usize,
-        kind: &Kind,
-        now: Moment,
-    ) -> Result<DisciplineChange, Refusal>
-        requires within { count_nodes self.now ≤ nodes }
-        requires few { nodes ≤ most_nodes }
-        requires lawful { IsLawfulRoot link.mtu now (shape self.now) }
-        ensures { (root : Shape) → count_nodes root ≡ nodes → IsChange (NeedsMore kind.now) (λ path. change_sized (record { mtu = link.mtu; txqueuelen = link.txqueuelen }) now root (shape self.now) path self.now.own.discipline kind.now) self.now result }
+    // What a change to these settings makes of a qdisc, or the first refusal that holds.
+    fn reshape_to(&self, node: &Node, kind: &Kind) -> Result<DisciplineChange, Refusal>
+        requires within { count_nodes node.now ≤ count_nodes (root_of self.now) }
+        requires lawful { IsLawfulRoot self.now.mtu self.now.moment (shape node.now) }
+        ensures { IsChange (NeedsMore kind.now) (λ path. change_sized (device_of self.now) self.now.moment (shape (root_of self.now)) (shape node.now) path node.now.own.discipline kind.now) node.now result }
     {
         match kind {
-            Kind::Pfifo { limit } => return self.packet_limit(*limit),
-            Kind::Bfifo { limit } => return self.byte_limit(*limit),
-            Kind::Prio(options) => return self.bands(alloc, link, nodes, options),
-            Kind::Tbf { rate, burst, limit } => {
-                return self.bucket(link, *rate, *burst, *limit, now);
-            }
-            Kind::Drr => return self.same_drr(),
-            Kind::FqCodel(options) => return self.options(options),
+            Kind::Pfifo { limit } => return node.packet_limit(*limit),
+            Kind::Bfifo { limit } => return node.byte_limit(*limit),
+            Kind::Prio(options) => return self.bands(node, options),
+            Kind::Tbf { rate, burst, limit } => return self.bucket(node, *rate, *burst, *limit),
+            Kind::Drr => return node.same_drr(),
+            Kind::FqCodel(options) => return node.options(options),
         }
     }
-}
-
-// The numbers are in their ranges, which the types keep. It does nothing.
-fn change_ranges(place: &Option<Place>, handle: &Option<Handle>, kind: &Kind)
-    ensures { IsCommand (QdiscChange place.now handle.now kind.now) }
-{
-    let command = Command::QdiscChange {
-        place: *place,
-        handle: *handle,
-        kind: *kind,
-    };
-    command.ranges();
 }

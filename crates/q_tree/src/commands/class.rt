@@ -1,26 +1,21 @@
-ghost use Rattle.std.specs.Prelude.{◌≡◌, ◌<◌, ◌≤◌, ◌+◌, [], ◌++◌, ◌==◌, IfOk, length, not, unwrap_or, ℕ};
+ghost use Rattle.std.specs.Prelude.{◌≡◌, ◌<◌, ◌≤◌, ◌+◌, [], ◌++◌, ◌==◌, IfOk, length, not, unwrap_or};
 ghost use Rattle.std.specs.List.{list_any};
 ghost use Rattle.q_model.specs.Beneath.{beneath};
 ghost use Rattle.q_model.specs.ClassCommands.{class_change_checks, class_del_checks};
 ghost use Rattle.q_model.specs.Filters.{names_class};
-ghost use Rattle.q_model.specs.Find.{addresses};
-ghost use Rattle.q_model.specs.Make.{Device};
 ghost use Rattle.q_model.specs.Node.{shape};
 ghost use Rattle.q_model.specs.Ranges.{IsCommand};
 ghost use Rattle.q_model.specs.Refusals.{is_so};
 ghost use Rattle.q_model.specs.declared.command.Command.TheVariants.{ClassAdd, ClassChange, ClassDel};
-ghost use Rattle.q_tree.specs.Commands.{IsAnswered, IsBounded, IsPlanOf, class_add_sized, drr_answer, plan_of, takes_memory, takes_none, told};
+ghost use Rattle.q_tree.specs.Commands.{IsAnswered, class_add_sized, drr_answer, plan_of, takes_memory, takes_none, told};
 ghost use Rattle.q_tree.specs.Editing.{LosesNothing};
-ghost use Rattle.q_tree.specs.Showing.{IsNumbered};
+ghost use Rattle.q_tree.specs.Planning.{IsLawful, IsPlanBy, root_of};
 
 use crate::commands::counting::{MOST_LEVELS, MOST_NODES};
 use crate::commands::discipline_change::DisciplineChange;
 use crate::commands::edit::Edit;
-use crate::commands::handles::Handles;
-use crate::commands::link_settings::LinkSettings;
-use crate::commands::one_loss_sink::OneLossSink;
 use crate::commands::planned::Planned;
-use crate::disciplines::fifo::implicit_pfifo;
+use crate::commands::planner::Planner;
 use crate::masked_filter::MaskedFilter;
 use crate::node::{Discipline, Node};
 use crate::tree::Tree;
@@ -47,13 +42,12 @@ impl Tree {
     ) -> Result<(), Refusal>
         ensures { IsAnswered takes_memory self.old.clock (plan_of (ClassAdd parent class quantum) self.old.clock self.old) self.old self.new result }
     {
-        match self
-            .root
-            .class_added(&self.handles, alloc, self.link(), parent, class, quantum)
-        {
-            Err(refusal) => return Err(refusal),
-            Ok(planned) => return self.edit(planned, self.clock, &mut OneLossSink { told: None }),
-        }
+        let command = Command::ClassAdd {
+            parent,
+            class,
+            quantum,
+        };
+        self.lossless(alloc, command)
     }
 
     /// Removes a class of a drr, with all that is beneath it (`tc class del`, tc-drr(8)).
@@ -77,10 +71,9 @@ impl Tree {
         ensures room { S.room sink.new + length (told (plan_of (ClassDel parent class) self.old.clock self.old) (shape self.old.tree.root) result) ≡ S.room sink.old }
         ensures kept { S.keeps sink.old sink.new }
     {
-        match self.root.class_removed(&self.handles, parent, class) {
-            Err(refusal) => return Err(refusal),
-            Ok(planned) => return self.edit(planned, self.clock, sink),
-        }
+        let command = Command::ClassDel { parent, class };
+        let alloc = self.handles.allocator();
+        self.command(alloc, command, self.clock, sink)
     }
 
     /// Gives a class of a drr another quantum, where one is given (`tc class change`, tc-drr(8)). A deficit above what the new
@@ -99,46 +92,38 @@ impl Tree {
     ) -> Result<(), Refusal>
         ensures { IsAnswered takes_none self.old.clock (plan_of (ClassChange parent class quantum) self.old.clock self.old) self.old self.new result }
     {
-        match self
-            .root
-            .class_changed(&self.handles, parent, class, quantum)
-        {
-            Err(refusal) => return Err(refusal),
-            Ok(planned) => return self.edit(planned, self.clock, &mut OneLossSink { told: None }),
-        }
+        let command = Command::ClassChange {
+            parent,
+            class,
+            quantum,
+        };
+        let alloc = self.handles.allocator();
+        self.lossless(alloc, command)
     }
 }
 
-impl Node {
+impl Planner<'_> {
     // The edit that adds a class, or the first refusal that holds.
     pub(crate) fn class_added(
         &self,
-        handles: &Handles,
-        alloc: Global,
-        link: LinkSettings,
         parent: Handle,
         class: ClassId,
         quantum: Option<Quantum>,
     ) -> Result<Planned, Refusal>
-        requires index { handles.now.addresses ≡ addresses self.now }
-        requires bounded { IsBounded self.now }
-        requires mtu { 1 ≤ link.mtu }
-        ensures plan { (now : ℕ) → IsPlanOf takes_memory (ClassAdd parent class quantum) now (record { mtu = link.mtu; txqueuelen = link.txqueuelen }) self.now result }
+        requires ranges { IsCommand (ClassAdd parent class quantum) }
+        ensures plan { IsPlanBy self.now takes_memory (ClassAdd parent class quantum) result }
         ensures quiet { IfOk result (λ p. LosesNothing p.edit) }
     {
-        add_ranges(&parent, &class, &quantum);
         let parent = Some(parent);
         if names_another(&parent, &class) {
             return Err(Refusal::NoParent);
         }
-        let Some((path, node)) = self.qdisc(handles, class.major) else {
+        let Some((path, node)) = self.qdiscs.qdisc(class.major) else {
             return Err(Refusal::NoQdisc);
         };
-        if let Err(refusal) = self.can_add_class(path.len(), node, &class) {
-            return Err(refusal);
-        }
-        let quantum = quantum_or_mtu(&quantum, link);
-        let leaf = implicit_pfifo(alloc, link);
+        self.can_add_class(path.len(), node, &class)?;
+        let quantum = self.quantum_or_mtu(&quantum);
+        let leaf = self.implicit_pfifo();
         let edit = Edit::DisciplineChange(DisciplineChange::AddClass(class.minor, quantum, leaf));
         Ok(Planned { path, edit })
     }
@@ -146,25 +131,20 @@ impl Node {
     // The edit that removes a class, or the first refusal that holds.
     pub(crate) fn class_removed(
         &self,
-        handles: &Handles,
         parent: Option<Handle>,
         class: ClassId,
     ) -> Result<Planned, Refusal>
-        requires index { handles.now.addresses ≡ addresses self.now }
-        requires bounded { IsBounded self.now }
-        requires lawful { IsNumbered self.now }
-        ensures plan { (device : Device) (now : ℕ) → IsPlanOf takes_none (ClassDel parent class) now device self.now result }
+        requires ranges { IsCommand (ClassDel parent class) }
+        requires lawful { IsLawful self.now }
+        ensures plan { IsPlanBy self.now takes_none (ClassDel parent class) result }
     {
-        del_ranges(&parent, &class);
         if names_another(&parent, &class) {
             return Err(Refusal::NoParent);
         }
-        let Some((path, node)) = self.qdisc(handles, class.major) else {
+        let Some((path, node)) = self.qdiscs.qdisc(class.major) else {
             return Err(Refusal::NoQdisc);
         };
-        if let Err(refusal) = node.can_remove_class(&class) {
-            return Err(refusal);
-        }
+        node.can_remove_class(&class)?;
         let edit = Edit::DisciplineChange(DisciplineChange::RemoveClass(class.minor));
         Ok(Planned { path, edit })
     }
@@ -172,35 +152,29 @@ impl Node {
     // The edit that gives a class another quantum, or the first refusal that holds.
     pub(crate) fn class_changed(
         &self,
-        handles: &Handles,
         parent: Option<Handle>,
         class: ClassId,
         quantum: Option<Quantum>,
     ) -> Result<Planned, Refusal>
-        requires index { handles.now.addresses ≡ addresses self.now }
-        requires bounded { IsBounded self.now }
-        ensures plan { (device : Device) (now : ℕ) → IsPlanOf takes_none (ClassChange parent class quantum) now device self.now result }
+        requires ranges { IsCommand (ClassChange parent class quantum) }
+        ensures plan { IsPlanBy self.now takes_none (ClassChange parent class quantum) result }
         ensures quiet { IfOk result (λ p. LosesNothing p.edit) }
     {
-        change_ranges(&parent, &class, &quantum);
         if names_another(&parent, &class) {
             return Err(Refusal::NoParent);
         }
-        let Some((path, node)) = self.qdisc(handles, class.major) else {
+        let Some((path, node)) = self.qdiscs.qdisc(class.major) else {
             return Err(Refusal::NoQdisc);
         };
-        if let Err(refusal) = node.can_change_class(&class) {
-            return Err(refusal);
-        }
+        node.can_change_class(&class)?;
         let edit = Edit::DisciplineChange(DisciplineChange::SetQuantum(class.minor, quantum));
         Ok(Planned { path, edit })
     }
 
     // Whether a class can be added to this node, to which so many steps lead.
     fn can_add_class(&self, steps: usize, node: &Node, class: &ClassId) -> Result<(), Refusal>
-        requires bounded { IsBounded self.now }
         requires short { steps < MOST_LEVELS }
-        ensures { result ≡ drr_answer (class_add_sized class.now steps (shape node.now) self.now) node.now.own.discipline }
+        ensures { result ≡ drr_answer (class_add_sized class.now steps (shape node.now) (root_of self.now)) node.now.own.discipline }
     {
         node.has_own_classes()?;
         if node.class_place(class.minor).is_some() {
@@ -209,12 +183,27 @@ impl Node {
         if steps + 2 > MOST_LEVELS {
             return Err(Refusal::TooDeep);
         }
-        if self.count_nodes() + 1 > MOST_NODES {
+        if self.qdiscs.root.count_nodes() + 1 > MOST_NODES {
             return Err(Refusal::TooMany);
         }
         Ok(())
     }
 
+    // The quantum that is given, or one of the mtu.
+    fn quantum_or_mtu(&self, quantum: &Option<Quantum>) -> Quantum
+        ensures { result ≡ unwrap_or quantum.now self.now.mtu }
+    {
+        if let Some(quantum) = quantum {
+            return *quantum;
+        }
+        match Quantum::new(u32::from(self.mtu)) {
+            Some(quantum) => quantum,
+            None => unreachable!(),
+        }
+    }
+}
+
+impl Node {
     // Whether the qdisc has this class, and lets it be changed.
     fn can_change_class(&self, class: &ClassId) -> Result<(), Refusal>
         ensures { result ≡ drr_answer (class_change_checks class.now (shape self.now)) self.now.own.discipline }
@@ -260,53 +249,6 @@ fn is_named(filters: &[MaskedFilter], class: Minor) -> bool
     filters
         .iter()
         .any(|filter| filter.filter().minor.number() == class)
-}
-
-// The quantum that is given, or one of the mtu.
-fn quantum_or_mtu(quantum: &Option<Quantum>, link: LinkSettings) -> Quantum
-    requires { 1 ≤ link.mtu }
-    ensures { result ≡ unwrap_or quantum.now link.mtu }
-{
-    if let Some(quantum) = quantum {
-        return *quantum;
-    }
-    match Quantum::new(u32::from(link.mtu)) {
-        Some(quantum) => quantum,
-        None => unreachable!(),
-    }
-}
-
-// The numbers are in their ranges, which the types keep. It does nothing.
-fn change_ranges(parent: &Option<Handle>, class: &ClassId, quantum: &Option<Quantum>)
-    ensures { IsCommand (ClassChange parent.now class.now quantum.now) }
-{
-    let command = Command::ClassChange {
-        parent: *parent,
-        class: *class,
-        quantum: *quantum,
-    };
-    command.ranges();
-}
-
-fn add_ranges(parent: &Handle, class: &ClassId, quantum: &Option<Quantum>)
-    ensures { IsCommand (ClassAdd parent.now class.now quantum.now) }
-{
-    let command = Command::ClassAdd {
-        parent: *parent,
-        class: *class,
-        quantum: *quantum,
-    };
-    command.ranges();
-}
-
-fn del_ranges(parent: &Option<Handle>, class: &ClassId)
-    ensures { IsCommand (ClassDel parent.now class.now) }
-{
-    let command = Command::ClassDel {
-        parent: *parent,
-        class: *class,
-    };
-    command.ranges();
 }
 
 // Whether a parent is given that is not the qdisc of this class.

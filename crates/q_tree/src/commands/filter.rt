@@ -1,22 +1,21 @@
-ghost use Rattle.std.specs.Prelude.{◌≡◌, IfOk, ℕ};
+ghost use Rattle.std.specs.Prelude.{◌≡◌, IfOk};
 ghost use Rattle.std.specs.List.{list_any};
 ghost use Rattle.q_model.specs.FilterCommands.{filter_add_checks, filter_del_checks, has_prio};
-ghost use Rattle.q_model.specs.Find.{addresses};
-ghost use Rattle.q_model.specs.Make.{Device};
 ghost use Rattle.q_model.specs.Node.{shape};
+ghost use Rattle.q_model.specs.Ranges.{IsCommand};
 ghost use Rattle.q_model.specs.Refusals.{done_unless, has_filters};
 ghost use Rattle.q_model.specs.declared.command.Command.TheVariants.{FilterAdd, FilterDel};
-ghost use Rattle.q_tree.specs.Commands.{IsAnswered, IsBounded, IsPlanOf, plan_of, takes_memory, takes_none};
+ghost use Rattle.q_tree.specs.Commands.{IsAnswered, plan_of, takes_memory, takes_none};
 ghost use Rattle.q_tree.specs.Editing.{LosesNothing};
+ghost use Rattle.q_tree.specs.Planning.{IsPlanBy};
 
 use crate::commands::edit::Edit;
-use crate::commands::handles::Handles;
-use crate::commands::one_loss_sink::OneLossSink;
 use crate::commands::planned::Planned;
+use crate::commands::planner::Planner;
 use crate::masked_filter::MaskedFilter;
 use crate::node::{Discipline, Node};
 use crate::tree::Tree;
-use q_model::{Filter, FilterPrio, Handle, Refusal};
+use q_model::{Command, Filter, FilterPrio, Handle, Refusal};
 
 /// The most filters that a qdisc has.
 const MOST_FILTERS: usize = 256;
@@ -37,10 +36,13 @@ impl Tree {
     ) -> Result<(), Refusal>
         ensures { IsAnswered takes_memory self.old.clock (plan_of (FilterAdd parent major filter) self.old.clock self.old) self.old self.new result }
     {
-        match self.root.filter_added(&self.handles, parent, major, filter) {
-            Err(refusal) => return Err(refusal),
-            Ok(planned) => return self.edit(planned, self.clock, &mut OneLossSink { told: None }),
-        }
+        let command = Command::FilterAdd {
+            parent,
+            major,
+            filter,
+        };
+        let alloc = self.handles.allocator();
+        self.lossless(alloc, command)
     }
 
     /// Removes all filters of this priority from the qdisc with this handle (`tc filter del`, tc(8)).
@@ -52,35 +54,28 @@ impl Tree {
     pub fn filter_del(&mut self, parent: Handle, prio: FilterPrio) -> Result<(), Refusal>
         ensures { IsAnswered takes_none self.old.clock (plan_of (FilterDel parent prio) self.old.clock self.old) self.old self.new result }
     {
-        match self.root.filters_removed(&self.handles, parent, prio) {
-            Err(refusal) => return Err(refusal),
-            Ok(planned) => return self.edit(planned, self.clock, &mut OneLossSink { told: None }),
-        }
+        let command = Command::FilterDel { parent, prio };
+        let alloc = self.handles.allocator();
+        self.lossless(alloc, command)
     }
 }
 
-impl Node {
+impl Planner<'_> {
     // The edit that adds a filter, or the first refusal that holds.
     pub(crate) fn filter_added(
         &self,
-        handles: &Handles,
         parent: Handle,
         major: Handle,
         filter: Filter,
     ) -> Result<Planned, Refusal>
-        requires index { handles.now.addresses ≡ addresses self.now }
-        requires bounded { IsBounded self.now }
-        ensures plan { (device : Device) (now : ℕ) → IsPlanOf takes_memory (FilterAdd parent major filter) now device self.now result }
+        requires ranges { IsCommand (FilterAdd parent major filter) }
+        ensures plan { IsPlanBy self.now takes_memory (FilterAdd parent major filter) result }
         ensures quiet { IfOk result (λ p. LosesNothing p.edit) }
     {
-        filter.ranges();
-        let _ = (parent.major(), major.major());
-        let Some((path, node)) = self.qdisc(handles, parent) else {
+        let Some((path, node)) = self.qdiscs.qdisc(parent) else {
             return Err(Refusal::NoQdisc);
         };
-        if let Err(refusal) = node.can_add_filter(parent, major, &filter) {
-            return Err(refusal);
-        }
+        node.can_add_filter(parent, major, &filter)?;
         let edit = Edit::AddFilter(filter);
         Ok(Planned { path, edit })
     }
@@ -88,26 +83,23 @@ impl Node {
     // The edit that removes filters, or the first refusal that holds.
     pub(crate) fn filters_removed(
         &self,
-        handles: &Handles,
         parent: Handle,
         prio: FilterPrio,
     ) -> Result<Planned, Refusal>
-        requires index { handles.now.addresses ≡ addresses self.now }
-        requires bounded { IsBounded self.now }
-        ensures plan { (device : Device) (now : ℕ) → IsPlanOf takes_none (FilterDel parent prio) now device self.now result }
+        requires ranges { IsCommand (FilterDel parent prio) }
+        ensures plan { IsPlanBy self.now takes_none (FilterDel parent prio) result }
         ensures quiet { IfOk result (λ p. LosesNothing p.edit) }
     {
-        let _ = (parent.major(), prio.number());
-        let Some((path, node)) = self.qdisc(handles, parent) else {
+        let Some((path, node)) = self.qdiscs.qdisc(parent) else {
             return Err(Refusal::NoQdisc);
         };
-        if let Err(refusal) = node.can_remove_filters(prio) {
-            return Err(refusal);
-        }
+        node.can_remove_filters(prio)?;
         let edit = Edit::RemoveFilters(prio);
         Ok(Planned { path, edit })
     }
+}
 
+impl Node {
     // Whether the qdisc takes a filter into this class.
     fn can_add_filter(&self, parent: Handle, major: Handle, filter: &Filter) -> Result<(), Refusal>
         ensures { result ≡ done_unless (filter_add_checks parent major filter.now (shape self.now)) (record {}) }

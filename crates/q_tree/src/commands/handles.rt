@@ -60,6 +60,11 @@ impl Handles {
         }
     }
 
+    /// The memory of the index, which is that of the tree.
+    pub(crate) fn allocator(&self) -> Global {
+        *self.beneath.allocator()
+    }
+
     /// Makes room for the handles of every tree, where this edit brings nodes beneath another.
     ///
     /// # Errors

@@ -1,42 +1,46 @@
-ghost use Rattle.std.specs.Prelude.{◌≡◌, ◌≤◌, option_map};
-ghost use Rattle.q_model.specs.Find.{addresses, class_path, depth, is_explicit, path_of, place_path};
+ghost use Rattle.std.specs.Prelude.{◌≡◌, option_copied, option_map};
+ghost use Rattle.q_model.specs.Find.{class_path, is_explicit, path_of, place_path};
 ghost use Rattle.q_model.specs.Node.{shape};
 ghost use Rattle.q_model.specs.QdiscCommands.{explicit_at, target};
-ghost use Rattle.q_tree.specs.Finding.{reached};
+ghost use Rattle.q_tree.specs.Finding.{qdisc_with, reached};
 
-use crate::commands::handles::Handles;
+use crate::commands::qdiscs::Qdiscs;
 use crate::find::Path;
 use crate::node::Node;
 use q_model::{ClassId, Handle, Place};
 
-impl Node {
-    /// The qdisc with this handle, and the way to it (tc(8), "NAMING").
-    pub(crate) fn qdisc(&self, handles: &Handles, handle: Handle) -> Option<(Path, &Node)>
-        requires { handles.now.addresses ≡ addresses self.now }
-        ensures { option_map (λ x. (x.0.items, x.1.now)) result ≡ reached self.now (path_of handle (shape self.now)) }
+impl<'a> Qdiscs<'a> {
+    /// The qdisc with this handle.
+    pub(crate) fn find(&self, handle: Handle) -> Option<&'a Node>
+        ensures { option_copied result ≡ qdisc_with handle self.now.root.now }
     {
-        self.reached(self.path_to(handles, handle))
+        let path = self.path_to(handle)?;
+        self.root.at(&path)
+    }
+
+    /// The qdisc with this handle, and the way to it (tc(8), "NAMING").
+    pub(crate) fn qdisc(&self, handle: Handle) -> Option<(Path, &'a Node)>
+        ensures { option_map (λ x. (x.0.items, x.1.now)) result ≡ reached self.now.root.now (path_of handle (shape self.now.root.now)) }
+    {
+        self.reached(self.path_to(handle))
     }
 
     /// The qdisc that a line names by its place, its handle or both, which then name the same one, and the way to it. An implicit
     /// leaf is none.
     pub(crate) fn target(
         &self,
-        handles: &Handles,
         place: Option<Place>,
         handle: Option<Handle>,
-    ) -> Option<(Path, &Node)>
-        requires levels { depth self.now ≤ 8 }
-        requires index { handles.now.addresses ≡ addresses self.now }
-        ensures { option_map (λ x. (x.0.items, x.1.now)) result ≡ reached self.now (target place handle (shape self.now)) }
+    ) -> Option<(Path, &'a Node)>
+        ensures { option_map (λ x. (x.0.items, x.1.now)) result ≡ reached self.now.root.now (target place handle (shape self.now.root.now)) }
     {
         let Some(place) = place else {
-            return self.qdisc(handles, handle?);
+            return self.qdisc(handle?);
         };
         let Some(handle) = handle else {
-            return self.reached(self.explicit_at(handles, place));
+            return self.reached(self.explicit_at(place));
         };
-        let (path, node) = self.reached(self.explicit_at(handles, place))?;
+        let (path, node) = self.reached(self.explicit_at(place))?;
         if node.handle == Some(handle) {
             Some((path, node))
         } else {
@@ -45,21 +49,19 @@ impl Node {
     }
 
     // The node at the end of a way, with the way.
-    fn reached(&self, path: Option<Path>) -> Option<(Path, &Node)>
-        ensures { option_map (λ x. (x.0.items, x.1.now)) result ≡ reached self.now (option_map (λ p. p.items) path) }
+    fn reached(&self, path: Option<Path>) -> Option<(Path, &'a Node)>
+        ensures { option_map (λ x. (x.0.items, x.1.now)) result ≡ reached self.now.root.now (option_map (λ p. p.items) path) }
     {
         let path = path?;
-        let node = self.at(&path)?;
+        let node = self.root.at(&path)?;
         Some((path, node))
     }
 
     // The way to the qdisc in this place, where it is no implicit leaf: those have no handle.
-    fn explicit_at(&self, handles: &Handles, place: Place) -> Option<Path>
-        requires levels { depth self.now ≤ 8 }
-        requires index { handles.now.addresses ≡ addresses self.now }
-        ensures { option_map (λ p. p.items) result ≡ explicit_at (Some place) (shape self.now) }
+    fn explicit_at(&self, place: Place) -> Option<Path>
+        ensures { option_map (λ p. p.items) result ≡ explicit_at (Some place) (shape self.now.root.now) }
     {
-        let path = self.place_path(handles, place)?;
+        let path = self.place_path(place)?;
         if self.is_explicit(&path) {
             Some(path)
         } else {
@@ -69,36 +71,39 @@ impl Node {
 
     /// Whether a qdisc with a handle stands at the end of this way.
     pub(crate) fn is_explicit(&self, path: &[usize]) -> bool
-        ensures { result ≡ is_explicit path.now self.now }
+        ensures { result ≡ is_explicit path.now self.now.root.now }
     {
-        let Some(node) = self.at(path) else {
+        let Some(node) = self.root.at(path) else {
             return false;
         };
         node.handle.is_some()
     }
 
     // The way to a place beneath the device.
-    fn place_path(&self, handles: &Handles, place: Place) -> Option<Path>
-        requires levels { depth self.now ≤ 8 }
-        requires index { handles.now.addresses ≡ addresses self.now }
-        ensures { option_map (λ p. p.items) result ≡ place_path place self.now }
+    fn place_path(&self, place: Place) -> Option<Path>
+        ensures { option_map (λ p. p.items) result ≡ place_path place self.now.root.now }
     {
         match place {
             Place::Top => return None,
             Place::Root => return Some(Path::new()),
-            Place::Class(class) => return self.class_path(handles, class),
+            Place::Class(class) => return self.class_path(class),
         }
     }
 
     /// The way to a class: that to its qdisc, and the child there.
-    pub(crate) fn class_path(&self, handles: &Handles, class: ClassId) -> Option<Path>
-        requires levels { depth self.now ≤ 8 }
-        requires index { handles.now.addresses ≡ addresses self.now }
-        ensures { option_map (λ p. p.items) result ≡ class_path class self.now }
+    pub(crate) fn class_path(&self, class: ClassId) -> Option<Path>
+        ensures { option_map (λ p. p.items) result ≡ class_path class self.now.root.now }
     {
-        let mut path = self.path_to(handles, class.major)?;
-        let place = self.at(&path)?.class_place(class.minor)?;
+        let mut path = self.path_to(class.major)?;
+        let place = self.root.at(&path)?.class_place(class.minor)?;
         path.push(place);
         Some(path)
+    }
+
+    // The way to the qdisc with this handle.
+    fn path_to(&self, handle: Handle) -> Option<Path>
+        ensures { option_map (λ p. p.items) result ≡ path_of handle self.now.root.now }
+    {
+        self.handles.path_to(handle)
     }
 }

@@ -1,24 +1,22 @@
-ghost use Rattle.std.specs.Prelude.{◌≡◌, ◌≤◌, ◌+◌, [], ◌++◌, IsSome, length, unwrap_or, ℕ};
+ghost use Rattle.std.specs.Prelude.{◌≡◌, ◌≤◌, ◌+◌, [], ◌++◌, IsSome, length, unwrap_or};
 ghost use Rattle.std.specs.Result.{result_map_both};
 ghost use Rattle.q_model.specs.Beneath.{beneath};
-ghost use Rattle.q_model.specs.Find.{addresses, depth, free_handle, has_handle, node_at, place_path};
+ghost use Rattle.q_model.specs.Find.{free_handle, has_handle, node_at, place_path};
 ghost use Rattle.q_model.specs.Make.{implicit_beneath};
 ghost use Rattle.q_model.specs.Node.{shape};
 ghost use Rattle.q_model.specs.QdiscCommands.{leaf_at, place_checks};
 ghost use Rattle.q_model.specs.Ranges.{IsCommand};
 ghost use Rattle.q_model.specs.Refusals.{done_unless, is_classless, is_so, most_nodes};
 ghost use Rattle.q_model.specs.declared.command.Command.TheVariants.{QdiscAdd, QdiscDel};
-ghost use Rattle.q_tree.specs.Commands.{IsAnswered, IsBounded, IsPlanOf, plan_of, takes_none, told};
+ghost use Rattle.q_tree.specs.Commands.{IsAnswered, plan_of, takes_none, told};
 ghost use Rattle.q_tree.specs.Grafting.{graft_checks, nodes_at};
 ghost use Rattle.q_tree.specs.Making.{IsNewNode, NeedsMemory};
-ghost use Rattle.q_tree.specs.Showing.{IsNumbered};
+ghost use Rattle.q_tree.specs.Planning.{IsLawful, IsPlanBy, device_of, root_of};
 
 use crate::commands::counting::{MOST_LEVELS, MOST_NODES, levels_made, nodes_made};
 use crate::commands::edit::Edit;
-use crate::commands::handles::Handles;
-use crate::commands::link_settings::LinkSettings;
 use crate::commands::planned::Planned;
-use crate::disciplines::fifo::implicit_pfifo;
+use crate::commands::planner::Planner;
 use crate::find::Path;
 use crate::node::{Discipline, Node};
 use crate::tree::Tree;
@@ -88,34 +86,22 @@ impl Tree {
     }
 }
 
-impl Node {
+impl Planner<'_> {
     // The edit that puts a new qdisc into a place, or the first refusal that holds.
     pub(crate) fn grafted(
         &self,
-        handles: &Handles,
-        alloc: Global,
-        link: LinkSettings,
         place: Place,
         handle: Option<Handle>,
         kind: &Kind,
-        now: Moment,
     ) -> Result<Planned, Refusal>
-        requires index { handles.now.addresses ≡ addresses self.now }
-        requires bounded { IsBounded self.now }
-        requires lawful { IsNumbered self.now }
-        requires mtu { 1 ≤ link.mtu }
-        ensures plan { IsPlanOf (NeedsMemory kind.now) (QdiscAdd place handle kind.now) now (record { mtu = link.mtu; txqueuelen = link.txqueuelen }) self.now result }
+        requires ranges { IsCommand (QdiscAdd place handle kind.now) }
+        requires lawful { IsLawful self.now }
+        ensures plan { IsPlanBy self.now (NeedsMemory kind.now) (QdiscAdd place handle kind.now) result }
     {
-        add_ranges(&place, &handle, kind);
-        let path = match self.way_in(handles, place) {
-            Err(refusal) => return Err(refusal),
-            Ok(path) => path,
-        };
-        if let Err(refusal) = self.can_graft(handles, &path, &handle, kind) {
-            return Err(refusal);
-        }
-        let handle = self.handle_or_free(handles, &handle);
-        let Ok(node) = Node::made(alloc, link, now, handle, kind) else {
+        let path = self.way_in(place)?;
+        self.can_graft(&path, &handle, kind)?;
+        let handle = self.handle_or_free(&handle);
+        let Ok(node) = self.made(handle, kind) else {
             return Err(Refusal::Memory);
         };
         let edit = Edit::Graft(node);
@@ -125,37 +111,30 @@ impl Node {
     // The edit that removes a qdisc, or the refusal where there is none.
     pub(crate) fn pruned(
         &self,
-        handles: &Handles,
-        alloc: Global,
-        link: LinkSettings,
         place: Option<Place>,
         handle: Option<Handle>,
     ) -> Result<Planned, Refusal>
-        requires index { handles.now.addresses ≡ addresses self.now }
-        requires bounded { IsBounded self.now }
-        ensures plan { (now : ℕ) → IsPlanOf takes_none (QdiscDel place handle) now (record { mtu = link.mtu; txqueuelen = link.txqueuelen }) self.now result }
+        requires ranges { IsCommand (QdiscDel place handle) }
+        ensures plan { IsPlanBy self.now takes_none (QdiscDel place handle) result }
     {
-        del_ranges(&place, &handle);
-        let Some((path, _)) = self.target(handles, place, handle) else {
+        let Some((path, _)) = self.qdiscs.target(place, handle) else {
             return Err(Refusal::NoQdisc);
         };
-        let leaf = self.leaf_at(alloc, link, &path);
+        let leaf = self.leaf_at(&path);
         let edit = Edit::Graft(leaf);
         Ok(Planned { path, edit })
     }
 
     // The way to a place for a new qdisc, or why there is none.
-    fn way_in(&self, handles: &Handles, place: Place) -> Result<Path, Refusal>
-        requires levels { depth self.now ≤ 8 }
-        requires index { handles.now.addresses ≡ addresses self.now }
-        ensures { result_map_both (λ p. p.items) (λ e. e) result ≡ done_unless (place_checks place (shape self.now)) (unwrap_or (place_path place (shape self.now)) []) }
+    fn way_in(&self, place: Place) -> Result<Path, Refusal>
+        ensures { result_map_both (λ p. p.items) (λ e. e) result ≡ done_unless (place_checks place (shape (root_of self.now))) (unwrap_or (place_path place (shape (root_of self.now))) []) }
     {
         let class = match place {
             Place::Top => return Err(Refusal::Exists),
             Place::Root => return Ok(Path::new()),
             Place::Class(class) => class,
         };
-        let Some((path, parent)) = self.qdisc(handles, class.major) else {
+        let Some((path, parent)) = self.qdiscs.qdisc(class.major) else {
             return Err(Refusal::NoParent);
         };
         if parent.is_classless() {
@@ -170,28 +149,20 @@ impl Node {
     }
 
     // Whether a new qdisc may stand at the end of this way.
-    fn can_graft(
-        &self,
-        handles: &Handles,
-        path: &[usize],
-        handle: &Option<Handle>,
-        kind: &Kind,
-    ) -> Result<(), Refusal>
-        requires index { handles.now.addresses ≡ addresses self.now }
-        requires bounded { IsBounded self.now }
-        requires there { IsSome (node_at path.now self.now) }
-        ensures { result ≡ done_unless (graft_checks handle.now kind.now path.now self.now) (record {}) }
+    fn can_graft(&self, path: &[usize], handle: &Option<Handle>, kind: &Kind) -> Result<(), Refusal>
+        requires there { IsSome (node_at path.now (root_of self.now)) }
+        ensures { result ≡ done_unless (graft_checks handle.now kind.now path.now (root_of self.now)) (record {}) }
     {
-        if self.is_explicit(path) {
+        if self.qdiscs.is_explicit(path) {
             return Err(Refusal::Exists);
         }
-        if self.is_taken(handles, handle) {
+        if self.is_taken(handle) {
             return Err(Refusal::HandleTaken);
         }
         if path.len() + levels_made(kind) > MOST_LEVELS {
             return Err(Refusal::TooDeep);
         }
-        if self.count_nodes() + nodes_made(kind) > MOST_NODES + self.nodes_at(path) {
+        if self.qdiscs.root.count_nodes() + nodes_made(kind) > MOST_NODES + self.nodes_at(path) {
             return Err(Refusal::TooMany);
         }
         Ok(())
@@ -199,39 +170,63 @@ impl Node {
 
     // How many nodes stand at the end of this way and beneath.
     fn nodes_at(&self, path: &[usize]) -> usize
-        requires { IsBounded self.now }
-        ensures value { result ≡ nodes_at path.now self.now }
+        ensures value { result ≡ nodes_at path.now (root_of self.now) }
         ensures few { result ≤ most_nodes }
     {
-        let Some(node) = self.at(path) else {
+        let Some(node) = self.qdiscs.root.at(path) else {
             return 0;
         };
         node.count_nodes()
     }
 
     // Whether a handle is given that a qdisc has.
-    fn is_taken(&self, handles: &Handles, handle: &Option<Handle>) -> bool
-        requires { handles.now.addresses ≡ addresses self.now }
-        ensures { result ≡ is_so (λ h. has_handle h self.now) handle.now }
+    fn is_taken(&self, handle: &Option<Handle>) -> bool
+        ensures { result ≡ is_so (λ h. has_handle h (root_of self.now)) handle.now }
     {
         match handle {
             None => return false,
-            Some(handle) => return handles.has(*handle),
+            Some(handle) => return self.qdiscs.handles.has(*handle),
         }
     }
 
     // The handle that is given, or the least free one.
-    fn handle_or_free(&self, handles: &Handles, handle: &Option<Handle>) -> Handle
-        requires index { handles.now.addresses ≡ addresses self.now }
-        requires bounded { IsBounded self.now }
-        ensures { result ≡ unwrap_or handle.now (free_handle self.now) }
+    fn handle_or_free(&self, handle: &Option<Handle>) -> Handle
+        ensures { result ≡ unwrap_or handle.now (free_handle (root_of self.now)) }
     {
         match handle {
-            None => return handles.least_free(),
+            None => return self.qdiscs.handles.least_free(),
             Some(handle) => return *handle,
         }
     }
 
+    // The implicit leaf of the place where this way ends: beneath a tbf a bfifo of its limit.
+    fn leaf_at(&self, path: &[usize]) -> Node
+        ensures { IsNewNode result (leaf_at (device_of self.now) path.now (shape (root_of self.now))) }
+    {
+        let Some((_, way)) = path.split_last() else {
+            return self.implicit_pfifo();
+        };
+        let Some(parent) = self.qdiscs.root.at(way) else {
+            return self.implicit_pfifo();
+        };
+        self.implicit_beneath(parent)
+    }
+
+    // The leaf that stands in a class of this qdisc where nothing else does.
+    fn implicit_beneath(&self, parent: &Node) -> Node
+        ensures { IsNewNode result (implicit_beneath (device_of self.now) parent.now.own.discipline) }
+    {
+        match &parent.discipline {
+            Discipline::Tbf { limit, .. } => {
+                return Node::fifo(self.alloc, None, Limit::Bytes(*limit));
+            }
+            Discipline::Prio { .. } | Discipline::Drr { .. } => return self.implicit_pfifo(),
+            Discipline::Fifo(_) | Discipline::FqCodel(_) => return self.implicit_pfifo(),
+        }
+    }
+}
+
+impl Node {
     // pfifo, bfifo and fq_codel have no classes.
     fn is_classless(&self) -> bool
         ensures { result ≡ is_classless self.now.own.discipline }
@@ -242,50 +237,4 @@ impl Node {
                 return false,
         }
     }
-
-    // The implicit leaf of the place where this way ends: beneath a tbf a bfifo of its limit.
-    fn leaf_at(&self, alloc: Global, link: LinkSettings, path: &[usize]) -> Node
-        ensures { IsNewNode result (leaf_at (record { mtu = link.mtu; txqueuelen = link.txqueuelen }) path.now (shape self.now)) }
-    {
-        let Some((_, way)) = path.split_last() else {
-            return implicit_pfifo(alloc, link);
-        };
-        let Some(parent) = self.at(way) else {
-            return implicit_pfifo(alloc, link);
-        };
-        parent.implicit_beneath(alloc, link)
-    }
-
-    // The leaf that stands in a class of this qdisc where nothing else does.
-    fn implicit_beneath(&self, alloc: Global, link: LinkSettings) -> Node
-        ensures { IsNewNode result (implicit_beneath (record { mtu = link.mtu; txqueuelen = link.txqueuelen }) self.now.own.discipline) }
-    {
-        match &self.discipline {
-            Discipline::Tbf { limit, .. } => return Node::fifo(alloc, None, Limit::Bytes(*limit)),
-            Discipline::Prio { .. } | Discipline::Drr { .. } => return implicit_pfifo(alloc, link),
-            Discipline::Fifo(_) | Discipline::FqCodel(_) => return implicit_pfifo(alloc, link),
-        }
-    }
-}
-
-// The numbers are in their ranges, which the types keep. They do nothing.
-fn add_ranges(place: &Place, handle: &Option<Handle>, kind: &Kind)
-    ensures { IsCommand (QdiscAdd place.now handle.now kind.now) }
-{
-    let command = Command::QdiscAdd {
-        place: *place,
-        handle: *handle,
-        kind: *kind,
-    };
-    command.ranges();
-}
-
-fn del_ranges(place: &Option<Place>, handle: &Option<Handle>)
-    ensures { IsCommand (QdiscDel place.now handle.now) }
-{
-    let command = Command::QdiscDel {
-        place: *place,
-        handle: *handle,
-    };
-    command.ranges();
 }

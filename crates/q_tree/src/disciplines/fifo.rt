@@ -9,6 +9,7 @@ ghost use Rattle.q_packet.specs.declared.stamped.Stamped.{Stamped};
 ghost use Rattle.q_tree.specs.ArriveSteps.{HasComeIn, IsPlacedIn, nothing_lost};
 ghost use Rattle.q_tree.specs.Changing.{bfifo_answer, pfifo_answer};
 ghost use Rattle.q_tree.specs.Making.{IsNewNode};
+ghost use Rattle.q_tree.specs.Planning.{device_of};
 ghost use Rattle.q_tree.specs.ReadyAt.{of_fifo};
 ghost use Rattle.q_tree.specs.Reshaping.{IsReshaped};
 ghost use Rattle.q_tree.specs.declared.commands.discipline_change.DisciplineChange.TheVariants.{SetLimit};
@@ -16,14 +17,13 @@ ghost use Rattle.q_tree.specs.declared.node.Discipline.TheVariants as code;
 
 use crate::arrived::{Arrived, refuse};
 use crate::commands::discipline_change::DisciplineChange;
-use crate::commands::link_settings::LinkSettings;
+use crate::commands::planner::Planner;
 use crate::counters::Counters;
 use crate::filters::Filters;
 use crate::node::{Discipline, Node};
 use crate::outcome::Outcome;
 use crate::ready_at::Outlook;
 use crate::shown::Shown;
-use crate::toll::NO_TOLL;
 use q_codel::{Fifo, Limit, Sink};
 use q_model::{Handle, Refusal};
 use q_packet::{Cause, Moment, Packet};
@@ -51,21 +51,23 @@ impl Node {
     }
 }
 
-// The leaf that stands where nothing else does, but beneath a tbf.
-pub(crate) fn implicit_pfifo(alloc: Global, link: LinkSettings) -> Node
-    ensures { IsNewNode result (implicit_pfifo (record { mtu = link.mtu; txqueuelen = link.txqueuelen })) }
-{
-    let packets = u64::from(link.txqueuelen);
-    Node::fifo(alloc, None, Limit::Packets(packets))
-}
+impl Planner<'_> {
+    /// The leaf that stands where nothing else does, but beneath a tbf.
+    pub(crate) fn implicit_pfifo(&self) -> Node
+        ensures { IsNewNode result (implicit_pfifo (device_of self.now)) }
+    {
+        let packets = u64::from(self.txqueuelen);
+        Node::fifo(self.alloc, None, Limit::Packets(packets))
+    }
 
-/// The bytes that a bfifo takes: as many as are given, or those of the device's queue of packets as long as the mtu.
-pub(crate) fn bfifo_bytes(link: LinkSettings, limit: Option<u32>) -> u64
-    ensures { result ≡ unwrap_or limit (link.txqueuelen * link.mtu) }
-{
-    match limit {
-        None => u64::from(link.txqueuelen) * u64::from(link.mtu),
-        Some(bytes) => u64::from(bytes),
+    /// The bytes that a bfifo takes: as many as are given, or those of the device's queue of packets as long as the mtu.
+    pub(crate) fn bfifo_bytes(&self, limit: Option<u32>) -> u64
+        ensures { result ≡ unwrap_or limit (self.now.txqueuelen * self.now.mtu) }
+    {
+        match limit {
+            None => u64::from(self.txqueuelen) * u64::from(self.mtu),
+            Some(bytes) => u64::from(bytes),
+        }
     }
 }
 
@@ -104,10 +106,11 @@ pub(crate) fn dequeue_head(fifo: &mut Fifo, out: &mut Packet) -> Shown
     ensures packet { out.new ≡ unwrap_or result.packet out.old }
     ensures rest { fifo.new ≡ record fifo.old { packets = drop 1 fifo.old.packets } }
 {
-    if fifo.take_into(out) == 0 {
+    let len = fifo.take_into(out);
+    if len == 0 {
         return Shown::at_hand(&None);
     }
-    Shown::sending(out, &NO_TOLL)
+    Shown::quiet(out, len)
 }
 
 /// The packet at the head of a fifo.

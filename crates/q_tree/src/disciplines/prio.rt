@@ -3,20 +3,24 @@ ghost use Rattle.std.specs.Prelude.{◌≡◌, ◌<◌, ◌≤◌, ◌+◌, ◌-
 ghost use Rattle.std.specs.List.{list_any};
 ghost use Rattle.std.specs.Option.{option_map_or};
 ghost use Rattle.q_invariants.proofs.SizedChanges.{change_sized};
-ghost use Rattle.q_model.specs.Ask.{ask_prio};
+ghost use Rattle.q_model.specs.Ask.{ask, ask_prio, take_from};
 ghost use Rattle.q_model.specs.Beneath.{totals_in};
 ghost use Rattle.q_model.specs.Filters.{named_class};
 ghost use Rattle.q_model.specs.Find.{count_nodes};
 ghost use Rattle.q_model.specs.Make.{implicit_pfifo};
-ghost use Rattle.q_model.specs.Node.{Own, Shape, shape};
+ghost use Rattle.q_model.specs.Node.{Own, shape};
 ghost use Rattle.q_model.specs.Pop.{first_shown, pop};
 ghost use Rattle.q_model.specs.Refusals.{most_nodes};
+ghost use Rattle.q_model.specs.Tally.{counts_in};
+ghost use Rattle.q_model.specs.Work.{booked};
 ghost use Rattle.q_model.specs.declared.filter.Filter.{Filter};
 ghost use Rattle.q_model.specs.declared.kind.Kind.TheVariants as kind;
-ghost use Rattle.q_tree.specs.AskSteps.{AreAsked, CanAskEach, IsToldOf, answers, no_toll, toll_of};
+ghost use Rattle.q_tree.specs.Arrivals.{plus};
+ghost use Rattle.q_tree.specs.AskSteps.{AreAsked, CanAskEach, CanAskOnce, IsToldOf, answers, no_toll, toll_of};
 ghost use Rattle.q_tree.specs.Changing.{IsChange, MakesChildren, leaves_answer, nodes_from};
 ghost use Rattle.q_tree.specs.Kept.{kept};
 ghost use Rattle.q_tree.specs.Making.{AreNew};
+ghost use Rattle.q_tree.specs.Planning.{device_of, root_of};
 ghost use Rattle.q_tree.specs.PopSteps.{IsFirstReady};
 ghost use Rattle.q_tree.specs.Purging.{purged};
 ghost use Rattle.q_tree.specs.PutSteps.{packets_beneath};
@@ -29,8 +33,7 @@ ghost use Rattle.q_tree.specs.declared.commands.discipline_change.DisciplineChan
 use crate::booking::{NOTHING, sum};
 use crate::commands::counting::MOST_NODES;
 use crate::commands::discipline_change::DisciplineChange;
-use crate::commands::link_settings::LinkSettings;
-use crate::disciplines::fifo::implicit_pfifo;
+use crate::commands::planner::Planner;
 use crate::filters::Filters;
 use crate::masked_filter::MaskedFilter;
 use crate::node::{Discipline, Node};
@@ -40,22 +43,20 @@ use crate::toll::{NO_TOLL, Toll};
 use q_codel::Sink;
 use q_model::{PrioOptions, Refusal, Totals};
 use q_packet::{Moment, Packet};
-use std::alloc::{AllocError, Global};
+use std::alloc::AllocError;
 
-// So many implicit pfifos, each of the device's queue length.
-pub(crate) fn leaves(
-    alloc: Global,
-    link: LinkSettings,
-    count: usize,
-) -> Result<Vec<Node>, AllocError>
-    ensures new { IfOk result (λ v. AreNew v.items (replicate count (implicit_pfifo (record { mtu = link.mtu; txqueuelen = link.txqueuelen })))) }
-    ensures memory { OnErr result (0 < count) }
-{
-    let mut nodes = Vec::with_capacity(alloc, count)?;
-    for _ in 0..count {
-        nodes.push(implicit_pfifo(alloc, link))?;
+impl Planner<'_> {
+    /// So many implicit pfifos, each of the device's queue length.
+    pub(crate) fn leaves(&self, count: usize) -> Result<Vec<Node>, AllocError>
+        ensures new { IfOk result (λ v. AreNew v.items (replicate count (implicit_pfifo (device_of self.now)))) }
+        ensures memory { OnErr result (0 < count) }
+    {
+        let mut nodes = Vec::with_capacity(self.alloc, count)?;
+        for _ in 0..count {
+            nodes.push(self.implicit_pfifo())?;
+        }
+        Ok(nodes)
     }
-    Ok(nodes)
 }
 
 /// The band of a packet: the class that a filter names, else that of its priority (tc-prio(8)).
@@ -88,14 +89,71 @@ pub(crate) fn send_first<S: Sink>(
 {
     let mut shown = Shown::at_hand(&None);
     for place in 0..bands.len() {
-        let mut asked = NO_TOLL;
-        let next = bands[place].send(now, out, &mut asked, sink);
-        shown = shown.then(next, toll, &asked);
+        shown = send_band(&mut bands[place], shown, now, out, toll, sink);
         if shown.has_packet() {
             return shown;
         }
     }
     shown
+}
+
+// Sends the packet of one more band, if it shows one. What was counted so far is counted on.
+#[cycle(send)]
+#[inline(always)]
+fn send_band<S: Sink>(
+    band: &mut Node,
+    so_far: Shown,
+    now: Moment,
+    out: &mut Packet,
+    toll: &mut Toll,
+    sink: &mut S,
+) -> Shown
+    requires ready { CanAskOnce now band.old so_far (S.room sink.old) }
+    requires counted { toll.old ≡ toll_of so_far }
+    ensures after { band.new ≡ booked kept band.old (take_from now (shape band.old)).node }
+    ensures arrived { band.new.memory.counts.arrived ≡ band.old.memory.counts.arrived }
+    ensures shown { result.packet ≡ (ask now (shape band.old)).shown }
+    ensures dropped { result.dropped ≡ plus so_far.dropped (counts_in (ask now (shape band.old)).rises).dropped }
+    ensures marked { result.marked ≡ plus so_far.marked (counts_in (ask now (shape band.old)).rises).marked }
+    ensures packet { out.new ≡ unwrap_or result.packet out.old }
+    ensures told { IsToldOf (ask now (shape band.old)).rises (S.losses sink.old) (S.losses sink.new) (S.room sink.old) (S.room sink.new) }
+    ensures toll { toll.new ≡ toll_of result }
+    ensures kept { S.keeps sink.old sink.new }
+{
+    // Mostly nothing was dropped or marked so far, and the place is clean.
+    if so_far.is_quiet() {
+        return band.send(now, out, toll, sink);
+    }
+    send_band_further(band, so_far, now, out, toll, sink)
+}
+
+// The same where something was dropped or marked already, which is counted on.
+#[cycle(send)]
+#[cold]
+#[inline(never)]
+fn send_band_further<S: Sink>(
+    band: &mut Node,
+    so_far: Shown,
+    now: Moment,
+    out: &mut Packet,
+    toll: &mut Toll,
+    sink: &mut S,
+) -> Shown
+    requires ready { CanAskOnce now band.old so_far (S.room sink.old) }
+    requires counted { toll.old ≡ toll_of so_far }
+    ensures after { band.new ≡ booked kept band.old (take_from now (shape band.old)).node }
+    ensures arrived { band.new.memory.counts.arrived ≡ band.old.memory.counts.arrived }
+    ensures shown { result.packet ≡ (ask now (shape band.old)).shown }
+    ensures dropped { result.dropped ≡ plus so_far.dropped (counts_in (ask now (shape band.old)).rises).dropped }
+    ensures marked { result.marked ≡ plus so_far.marked (counts_in (ask now (shape band.old)).rises).marked }
+    ensures packet { out.new ≡ unwrap_or result.packet out.old }
+    ensures told { IsToldOf (ask now (shape band.old)).rises (S.losses sink.old) (S.losses sink.new) (S.room sink.old) (S.room sink.new) }
+    ensures toll { toll.new ≡ toll_of result }
+    ensures kept { S.keeps sink.old sink.new }
+{
+    let mut asked = NO_TOLL;
+    let next = band.send(now, out, &mut asked, sink);
+    so_far.then(next, toll, &asked)
 }
 
 /// The first band that has a packet at hand.
@@ -194,29 +252,26 @@ impl Outlook {
     }
 }
 
-impl Node {
+impl Planner<'_> {
     /// A prio gets the leaves that it needs for its bands.
     pub(crate) fn bands(
         &self,
-        alloc: Global,
-        link: LinkSettings,
-        nodes: usize,
+        node: &Node,
         options: &PrioOptions,
     ) -> Result<DisciplineChange, Refusal>
-        requires within { count_nodes self.now ≤ nodes }
-        requires few { nodes ≤ most_nodes }
-        ensures { (root : Shape) (now : ℕ) → count_nodes root ≡ nodes → IsChange MakesChildren (λ path. change_sized (record { mtu = link.mtu; txqueuelen = link.txqueuelen }) now root (shape self.now) path self.now.own.discipline (kind.Prio options.now)) self.now result }
+        requires within { count_nodes node.now ≤ count_nodes (root_of self.now) }
+        ensures { IsChange MakesChildren (λ path. change_sized (device_of self.now) self.now.moment (shape (root_of self.now)) (shape node.now) path node.now.own.discipline (kind.Prio options.now)) node.now result }
     {
-        let more = match self.leaves_needed(options.bands, nodes) {
-            Err(refusal) => return Err(refusal),
-            Ok(more) => more,
-        };
-        let Ok(leaves) = leaves(alloc, link, more) else {
+        let nodes = self.qdiscs.root.count_nodes();
+        let more = node.leaves_needed(options.bands, nodes)?;
+        let Ok(leaves) = self.leaves(more) else {
             return Err(Refusal::Memory);
         };
         Ok(DisciplineChange::SetBands(*options, leaves))
     }
+}
 
+impl Node {
     // How many leaves a prio needs for so many bands, in a tree of so many nodes.
     fn leaves_needed(&self, bands: u8, nodes: usize) -> Result<usize, Refusal>
         requires within { count_nodes self.now ≤ nodes }

@@ -13,7 +13,7 @@ ghost use Rattle.q_tree.specs.Reshaping.{IsReshaped, leaf_limited};
 ghost use Rattle.q_tree.specs.declared.commands.discipline_change.DisciplineChange.TheVariants.{SetBucket};
 
 use crate::commands::discipline_change::DisciplineChange;
-use crate::commands::link_settings::LinkSettings;
+use crate::commands::planner::Planner;
 use crate::node::{Discipline, Node};
 use crate::ready_at::{Outlook, is_before, later};
 use crate::shown::Shown;
@@ -159,30 +159,31 @@ fn covers_at(bucket: &Bucket, len: u16) -> Option<Moment>
     Some(at)
 }
 
-impl Node {
+impl Planner<'_> {
     /// A tbf's bucket fills up to now, before it is another.
     pub(crate) fn bucket(
         &self,
-        link: LinkSettings,
+        node: &Node,
         rate: Rate,
         burst: Burst,
         limit: TbfLimit,
-        now: Moment,
     ) -> Result<DisciplineChange, Refusal>
-        requires lawful { IsLawfulRoot link.mtu now (shape self.now) }
-        ensures { result ≡ tbf_answer link.mtu now rate burst limit self.now.own.discipline }
+        requires lawful { IsLawfulRoot self.now.mtu self.now.moment (shape node.now) }
+        ensures { result ≡ tbf_answer self.now.mtu self.now.moment rate burst limit node.now.own.discipline }
     {
-        let Discipline::Tbf { bucket, .. } = &self.discipline else {
+        let Discipline::Tbf { bucket, .. } = &node.discipline else {
             return Err(Refusal::CannotChange);
         };
-        if burst.bytes() < bucket.burst().min(u32::from(link.mtu)) {
+        if burst.bytes() < bucket.burst().min(u32::from(self.mtu)) {
             return Err(Refusal::SmallBurst);
         }
-        let bucket = bucket.changed(rate.bits(), burst.bytes(), now);
+        let bucket = bucket.changed(rate.bits(), burst.bytes(), self.moment);
         let bytes = limit_bytes(rate, burst, limit);
         Ok(DisciplineChange::SetBucket(bucket, bytes))
     }
+}
 
+impl Node {
     // Gives an implicit bfifo this limit in bytes. A qdisc with a handle has its own.
     fn limit_leaf(&mut self, bytes: u64)
         ensures { self.new ≡ leaf_limited bytes self.old }

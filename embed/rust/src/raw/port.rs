@@ -1,5 +1,6 @@
 use super::outlet::RawOutlet;
 use super::sys;
+use crate::packet::Packet;
 use core::ptr;
 
 /// A place with the sender's end of a ring.
@@ -30,6 +31,14 @@ impl RawPort {
     pub(crate) fn offer(&mut self, packet: &sys::Packet) -> u32 {
         // SAFETY: the port is open, and `packet` is another place.
         unsafe { sys::qtree_offer(&mut self.0, packet) }
+    }
+
+    /// Also how many packets were placed.
+    pub(crate) fn offer_many(&mut self, packets: &[Packet]) -> (u32, usize) {
+        let (at, mut placed) = (packets.as_ptr().cast(), 0);
+        // SAFETY: the port is open; pointer and length are those of `packets`, as `Packet` is laid out like one of C.
+        let code = unsafe { sys::qtree_offer_many(&mut self.0, at, packets.len(), &mut placed) };
+        (code, placed)
     }
 
     pub(crate) fn share(&self) -> sys::Count {

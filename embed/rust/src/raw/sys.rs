@@ -277,6 +277,12 @@ unsafe extern "C" {
     ) -> u32;
     pub fn qtree_ring_open(port: *mut Port, outlet: *mut Outlet, index: u32, places: usize) -> u32;
     pub fn qtree_offer(port: *mut Port, packet: *const Packet) -> u32;
+    pub fn qtree_offer_many(
+        port: *mut Port,
+        packets: *const Packet,
+        count: usize,
+        placed: *mut usize,
+    ) -> u32;
     pub fn qtree_take_in(
         device: *mut Device,
         outlet: *mut Outlet,

@@ -7,8 +7,9 @@ use Rattle.q_device.specs.declared.given.Given.{Given}
 use Rattle.q_device.specs.declared.given.Given.TheVariants as given
 use Rattle.q_device.specs.Giving.{polled_in}
 use Rattle.q_device.specs.Laws.{given_in}
-use Rattle.q_ports.specs.Polls.{given_at, given_by, polled}
-use Rattle.q_ports.proofs.PollLemmas.{cut-off, given-more, given-none, poll-is, polled-more, polled-none, written-there}
+use Rattle.q_device.specs.Polls.{given_at, given_by, polled_by}
+use Rattle.q_device.proofs.PollLemmas.{given-more, given-none, poll-is, polled-more, polled-none}
+use Rattle.q_ports.proofs.SentPlaces.{cut-off, written-there}
 use Rattle.q_ports.proofs.turn.poll_all.Goals as goal
 
 -- a poll that gave no packet
@@ -35,7 +36,7 @@ loop-poll-preserved g c =
     let more : given_by (c.args.most - c.loop-poll.poll) now d ≡ p ∷ given_by n now d' = ap (λ (k : ℕ). given_by k now d) left ∙ given-more n now d d' p gives is in
     record {
       sent = ap (λ (xs : List Descriptor). xs ++ given_by n now d') there ∙ (append_assoc old (p ∷ []) (given_by n now d') ∙ (ap (λ (xs : List Descriptor). old ++ xs) (sym more) ∙ inv.sent));
-      polled = sym (ap (λ (k : ℕ). polled k now d) left ∙ polled-more n now d d' p gives is) ∙ inv.polled;
+      polled = sym (ap (λ (k : ℕ). polled_by k now d) left ∙ polled-more n now d d' p gives is) ∙ inv.polled;
       count = omega (arith, push.len, inv.count);
       room = push.capacity ∙ inv.room;
     }
@@ -51,7 +52,7 @@ returns-in-Idle g c =
     let n = c.args.most - (c.loop-poll.poll + 1) in
     let left : c.args.most - c.loop-poll.poll ≡ suc n = omega (arith, c.loop-poll-test.true) in
     let none : given_at now d ≡ None = ap (λ (r : Reply). given_in r) (sym c.poll_into.ensures.reply) ∙ none-given c.poll_into.new.out c.poll_into.result c.in-Idle.is in
-    let last : polled (c.args.most - c.loop-poll.poll) now d ≡ _ = ap (λ (k : ℕ). polled k now d) left ∙ polled-none n now d none in
+    let last : polled_by (c.args.most - c.loop-poll.poll) now d ≡ _ = ap (λ (k : ℕ). polled_by k now d) left ∙ polled-none n now d none in
     record {
       sent = c.truncate.ensures.items ∙ ap (λ (xs : List Descriptor). take c.loop-poll.poll (set xs c.loop-poll.poll c.poll_into.new.out)) c.push_reserved.ensures.items ∙ cut-off items _ c.poll_into.new.out c.loop-poll.poll long ∙ sym (append-nil items) ∙ (ap (λ (xs : List Descriptor). items ++ xs) (sym (ap (λ (k : ℕ). given_by k now d) left ∙ given-none n now d none)) ∙ inv.sent);
       few = omega (arith, inv.count, c.loop-poll.sent.ok.0, c.loop-poll-test.true);

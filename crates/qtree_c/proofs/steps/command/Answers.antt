@@ -1,4 +1,4 @@
-use Rattle.qtree_c.specs.Events.{after_event, reply_to}
+use Rattle.q_device.specs.Events.{after_event, reply_to}
 use Rattle.qtree_c.proofs.steps.command.Goals as goal
 
 pub returns-in-Ok-clause-event : goal.returns-in-Ok-clause-event

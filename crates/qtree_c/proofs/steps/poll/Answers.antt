@@ -1,7 +1,8 @@
 use Rattle.std.proofs.Common.{◌∙◌, ap}
 use Rattle.q_device.specs.DeviceSeen.{DeviceSeen, Memory, polled_memory, with_event}
 use Rattle.q_model.specs.declared.event.Event.TheVariants.{Poll}
-use Rattle.qtree_c.specs.Events.{after_event, after_poll, reply_to, with_memory}
+use Rattle.q_device.specs.Events.{after_event, reply_to, with_memory}
+use Rattle.q_device.specs.Polls.{after_poll}
 use Rattle.qtree_c.proofs.steps.poll.Goals as goal
 
 pub returns-clause-polled : goal.returns-clause-polled

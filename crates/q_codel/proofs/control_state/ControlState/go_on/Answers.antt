@@ -5,7 +5,7 @@ use Rattle.q_codel.specs.Gap.{gap_of}
 use Rattle.q_codel.specs.Codel.{CodelParams, joined, is_capable}
 use Rattle.q_codel.specs.declared.front.Front.{Front}
 use Rattle.q_codel.proofs.FrontLemmas.{split, next, head_lost, chosen_at, behind_is, len_within, way_from}
-use Rattle.q_codel.proofs.Law.{turn-waits, turn-marks, turn-ends, turn-goes_on, losses_more, lost_at, room_at}
+use Rattle.q_codel.proofs.Law.{turn_waits, turn_marks, turn_ends, turn_goes_on, losses_more, lost_at, room_at}
 use Rattle.q_codel.proofs.control_state.ControlState.go_on.Goals as goal
 
 pub loop-self-init : goal.loop-self-init
@@ -31,7 +31,7 @@ pub returns : goal.returns
 returns g c =
     let i = c.loop-self.invariant in
     let waits : c.args.now < c.self.inside.drop_next = let t = c.loop-self-test.false in let n = c.ns.ensures.value in omega arith in
-    let ends = turn-waits _ _ _ i.0 _ _ _ _ _ c.requires.dropping i.3.way (ap (joined c.args.parameters.now) c.self.view_is) waits in
+    let ends = turn_waits _ _ _ i.0 _ _ _ _ _ c.requires.dropping i.3.way (ap (joined c.args.parameters.now) c.self.view_is) waits in
     record {
       chosen = chosen_at _ _ _ _ _ _ _ _ ends.chosen i.3.packets;
       some = let n = ap (λ (q : List Stamped). count q) i.3.packets in omega arith;
@@ -48,7 +48,7 @@ returns-then-marks g c =
     let due : c.self.inside.drop_next ≤ c.args.now = let t = c.loop-self-test.true in let n = c.ns.ensures.value in omega arith in
     let length : c.gap.result ≡ gap_of c.args.parameters.now.interval c.saturating_add-self-inside.result = c.gap.ensures.value ∙ ap (λ (p : CodelParams). gap_of p.interval c.saturating_add-self-inside.result) c.parameters.view_is in
     let markable = sym (c.if-marks.ensures ∙ ap (λ (f : Front). c.args.parameters.now.ecn && is_capable f.ecn) i.3.front) in
-    let ends = turn-marks _ _ _ i.0 _ i.1 _ _ _ _ i.3.way (ap (joined c.args.parameters.now) c.self.view_is) due c.saturating_add-self-inside.ensures _ c.requires.dropping markable length in
+    let ends = turn_marks _ _ _ i.0 _ i.1 _ _ _ _ i.3.way (ap (joined c.args.parameters.now) c.self.view_is) due c.saturating_add-self-inside.ensures _ c.requires.dropping markable length in
     record {
       chosen = chosen_at _ _ _ _ _ _ _ _ ends.chosen i.3.packets;
       some = let n = ap (λ (q : List Stamped). count q) i.3.packets in omega arith;
@@ -72,7 +72,7 @@ returns-then-not-should_drop g c =
     let n = next _ _ _ _ _ i.3.packets c.drop_head-front.ensures.rest c.drop_head-front.ensures.front in
     let behind = behind_is _ _ _ _ _ c.bytes.ensures n.here (ap (λ (f : Front). f.len) n.front_is) in
     let plain = sym (c.if-marks.ensures ∙ ap (λ (f : Front). c.args.parameters.now.ecn && is_capable f.ecn) i.3.front) in
-    let ends = turn-ends _ _ _ i.0 _ i.1 _ _ _ _ i.3.way (ap (joined c.args.parameters.now) c.self.view_is) due c.saturating_add-self-inside.ensures _ _ _ plain n.rest_is (c.self-in-loop-self.view_is ∙ c.if-not-should_drop.ensures.noted n.head n.behind n.front_is behind) c.requires.dropping (sym (c.if-not-should_drop.ensures.late n.head n.behind n.front_is behind)) in
+    let ends = turn_ends _ _ _ i.0 _ i.1 _ _ _ _ i.3.way (ap (joined c.args.parameters.now) c.self.view_is) due c.saturating_add-self-inside.ensures _ _ _ plain n.rest_is (c.self-in-loop-self.view_is ∙ c.if-not-should_drop.ensures.noted n.head n.behind n.front_is behind) c.requires.dropping (sym (c.if-not-should_drop.ensures.late n.head n.behind n.front_is behind)) in
     let lost = losses_more _ _ _ _ _ i.0 _ _ i.3.way.place i.3.lost (head_lost _ _ _ _ _ _ i.3.packets c.drop_head-front.ensures.lost) in
     record {
       chosen = chosen_at _ _ _ _ _ _ _ _ ends.chosen n.here;
@@ -92,7 +92,7 @@ loop-self-preserved g c =
     let behind = behind_is _ _ _ _ _ c.bytes.ensures n.here (ap (λ (f : Front). f.len) n.front_is) in
     let plain = sym (c.if-marks.ensures ∙ ap (λ (f : Front). c.args.parameters.now.ecn && is_capable f.ecn) i.3.front) in
     let length : c.gap-in-loop-self.result ≡ gap_of c.args.parameters.now.interval c.self-in-loop-self.inside.count = c.gap-in-loop-self.ensures.value ∙ ap (λ (p : CodelParams). gap_of p.interval c.self-in-loop-self.inside.count) c.parameters.view_is in
-    let way = turn-goes_on _ _ _ i.0 _ i.1 _ _ _ _ i.3.way (ap (joined c.args.parameters.now) c.self.view_is) due c.saturating_add-self-inside.ensures _ _ _ plain n.rest_is (c.self-in-loop-self.view_is ∙ c.if-not-should_drop.ensures.noted n.head n.behind n.front_is behind) _ length (sym (c.if-not-should_drop.ensures.late n.head n.behind n.front_is behind)) in (
+    let way = turn_goes_on _ _ _ i.0 _ i.1 _ _ _ _ i.3.way (ap (joined c.args.parameters.now) c.self.view_is) due c.saturating_add-self-inside.ensures _ _ _ plain n.rest_is (c.self-in-loop-self.view_is ∙ c.if-not-should_drop.ensures.noted n.head n.behind n.front_is behind) _ length (sym (c.if-not-should_drop.ensures.late n.head n.behind n.front_is behind)) in (
       suc i.0,
       n.head,
       n.behind,

@@ -1,4 +1,4 @@
-use Rattle.std.proofs.Common.{◌∙◌, List, ◌++◌, length, refl, sym, ap, subst, arith}
+use Rattle.std.proofs.Common.{◌∙◌, ◌-◌, ◌≤◌, List, ◌++◌, length, refl, sym, ap, subst, arith}
 use Rattle.q_codel.specs.Losses.{LossList}
 use Rattle.q_packet.specs.Descriptor.{Descriptor}
 use Rattle.q_model.specs.declared.event.Event.TheVariants as event
@@ -8,80 +8,71 @@ use Rattle.q_model.specs.Step.{DeviceState, fate_of, losses_in, step}
 use Rattle.q_model.specs.Tally.{Counts, totals, with_packet}
 use Rattle.q_model.specs.TreeState.{noted_by_put, own_loss}
 use Rattle.q_tree.specs.Places.{places_at}
+use Rattle.q_tree.specs.TreeSeen.{numbers}
 use Rattle.q_device.specs.Counters.{HasNotFallen}
 use Rattle.q_device.specs.DeviceSeen.{DeviceSeen, HasRoomFor, with_event}
-use Rattle.q_device.specs.Keeping.{device_seen, numbers_at}
-use Rattle.q_device.proofs.EventLemmas.{arrived, arrived-device, event-rises, event-seen, reply-step, waits-numbers}
-use Rattle.q_device.proofs.KeptLemmas.{event-kept, events-after, kept-arrived, only-places, room-kept, room-still}
+use Rattle.q_device.specs.Keeping.{device_seen}
+use Rattle.q_device.proofs.EventLemmas.{arrived, arrived-device, event-rises, event-seen, reply-step}
+use Rattle.q_device.proofs.KeptLemmas.{event-kept, events-after, kept-arrived, only-places, room-kept, room-still, spared-counts}
+use Rattle.q_device.proofs.RecorderLemmas.{full}
 use Rattle.q_device.proofs.device.Device.arrive_at.Goals as goal
 
--- memory was refused for the loss: the lost list alone may have more places
+-- a packet may arrive with nothing asked: it can be counted, and there is room for its loss
+pub arrive_counted-requires-clause-counted : goal.arrive_counted-requires-clause-counted
+arrive_counted-requires-clause-counted c = spared-counts c.self.inside c.self.invariant c.args.packet.now c.packet_ranges.ensures.fields (omega (arith, c.if-self-eq0.false))
+
+pub arrive_counted-requires-clause-sink : goal.arrive_counted-requires-clause-sink
+arrive_counted-requires-clause-sink c = omega (arith, c.self.invariant.room, c.if-self-eq0.false)
+
+-- memory was refused for the place: the tree may have more places, and a packet less may arrive with nothing asked
 pub invariant_of-self : goal.invariant_of-self
-invariant_of-self c = room-kept c.self.inside c.self.invariant c.self.inside.tree c.make_room.new.losses c.make_room.new.spare refl c.make_room.ensures.same (omega (arith, c.self.invariant.room, c.make_room.ensures.grows, c.in_default.ensures.less))
+invariant_of-self c =
+    let a = c.self.inside in
+    let l = c.arrive_counted.new.sink in
+    let refused = c.in_default.ensures in
+    room-kept a c.self.invariant c.arrive_counted.new.self l (a.spare - 1) refused.same (only-places a.losses a.losses l refl refused.not_lost.0) (omega arith)
+    (omega (arith, c.self.invariant.room, ap (λ (x : LossList). x.places) c.arrive_counted.ensures.kept))
 
 pub returns-in_default-clause-succeeds : goal.returns-in_default-clause-succeeds
-returns-in_default-clause-succeeds c there =
-    let a = c.self.inside in
-    let room = subst (HasRoomFor c.args.packet.now) (sym c.self.view_is) there in
-    c.in_default.ensures.succeeds (omega (arith, room.losses, ap (λ (ps : List Descriptor). length ps) (waits-numbers a.tree)))
+returns-in_default-clause-succeeds c there = c.in_default.ensures.succeeds (subst (HasRoomFor c.args.packet.now) (sym c.self.view_is) there).tree
 
 pub returns-in_default-clause-keeps : goal.returns-in_default-clause-keeps
 returns-in_default-clause-keeps c other there =
     let a = c.self.inside in
-    room-still a a.tree c.make_room.new.losses refl (λ p. refl) (λ r can. can) c.make_room.ensures.same c.make_room.ensures.grows other (subst (HasRoomFor other) (sym c.self.view_is) there)
+    let l = c.arrive_counted.new.sink in
+    let refused = c.in_default.ensures in
+    room-still a c.arrive_counted.new.self l refused.same refused.routes refused.keeps (only-places a.losses a.losses l refl refused.not_lost.0)
+    (omega (arith, ap (λ (x : LossList). x.places) c.arrive_counted.ensures.kept)) other (subst (HasRoomFor other) (sym c.self.view_is) there)
 
--- the arrival has room for its loss
-pub arrive-requires-clause-sink : goal.arrive-requires-clause-sink
-arrive-requires-clause-sink c = omega (arith, c.in-Ok.ensures.room, ap (λ (l : LossList). length l.waiting) c.make_room.ensures.same)
+pub returns-in_default-clause-queues : goal.returns-in_default-clause-queues
+returns-in_default-clause-queues c = λ path. omega (arith, c.arrive_counted.ensures.places path, ap (λ (d : DeviceSeen). places_at path d.memory.tree.tree.root) c.self.view_is)
 
--- memory was refused for the place: the tree and the lost list may have more places
-pub invariant_of-self-in_default-arrive : goal.invariant_of-self-in_default-arrive
-invariant_of-self-in_default-arrive c =
-    let a = c.self.inside in
-    let l = c.arrive.new.sink in
-    let made = c.make_room.ensures in
-    let refused = c.in_default-arrive.ensures in
-    room-kept a c.self.invariant c.arrive.new.self l c.make_room.new.spare refused.same (only-places a.losses c.make_room.new.losses l made.same refused.not_lost.0)
-    (omega (arith, c.in-Ok.ensures.room, ap (λ (x : LossList). x.places) c.arrive.ensures.kept))
-
-pub returns-in_default-arrive-clause-succeeds : goal.returns-in_default-arrive-clause-succeeds
-returns-in_default-arrive-clause-succeeds c there = c.in_default-arrive.ensures.succeeds (subst (HasRoomFor c.args.packet.now) (sym c.self.view_is) there).tree
-
-pub returns-in_default-arrive-clause-keeps : goal.returns-in_default-arrive-clause-keeps
-returns-in_default-arrive-clause-keeps c other there =
-    let a = c.self.inside in
-    let l = c.arrive.new.sink in
-    let made = c.make_room.ensures in
-    let refused = c.in_default-arrive.ensures in
-    room-still a c.arrive.new.self l refused.same refused.routes refused.keeps (only-places a.losses c.make_room.new.losses l made.same refused.not_lost.0)
-    (omega (arith, made.grows, ap (λ (x : LossList). x.places) c.arrive.ensures.kept)) other (subst (HasRoomFor other) (sym c.self.view_is) there)
-
-pub returns-in_default-arrive-clause-queues : goal.returns-in_default-arrive-clause-queues
-returns-in_default-arrive-clause-queues c = λ path. omega (arith, c.arrive.ensures.places path, ap (λ (d : DeviceSeen). places_at path d.memory.tree.tree.root) c.self.view_is)
-
--- the packet has arrived
+-- the packet has arrived, and the recorder was full
 pub invariant_of-self-2 : goal.invariant_of-self-2
 invariant_of-self-2 c =
     let a = c.self.inside in
-    let b = record a { clock = c.later-at.result; tree = c.arrive.new.self; losses = c.arrive.new.sink; recorded = c.record_arrival.new.recorded; spare = c.make_room.new.spare } in
+    let some : 1 ≤ a.spare = omega (arith, c.if-self-eq0.false) in
+    let b = record a { tree = c.arrive_counted.new.self; losses = c.arrive_counted.new.sink; spare = a.spare - 1 } in
     let p = c.args.packet.now in
     let e = event.Arrive p c.args.now in
-    let lost = c.in-Ok-arrive.ensures.lost ∙ ap (λ (l : LossList). l.waiting ++ losses_in (noted_by_put c.later-at.result p a.tree.tree)) c.make_room.ensures.same in
-    let counted = events-after a c.self.invariant e b (c.packet_ranges.ensures.fields, c.moment_range.ensures) (arrived-device a b p c.args.now c.later-at.result c.later-at.ensures refl c.in-Ok-arrive.ensures.after) refl in
-    let h = arrived a b p c.args.now c.later-at.result c.later-at.ensures refl refl c.in-Ok-arrive.ensures.after lost refl c.record_arrival.ensures.items c.record_arrival.ensures.capacity counted in
-    event-kept a c.self.invariant e b h (c.packet_ranges.ensures.fields, c.moment_range.ensures) (omega (arith, ap (λ (d : DeviceState Counts). d.clock) c.in-Ok-arrive.ensures.after))
-    (omega (arith, c.in-Ok-arrive.ensures.counted.packets))
-    (omega (arith, c.in-Ok.ensures.room, ap (λ (l : LossList). l.places) c.arrive.ensures.kept))
+    let counted = events-after a c.self.invariant e b (c.packet_ranges.ensures.fields, c.moment_range.ensures) (arrived-device a b p c.args.now c.later-at.result c.later-at.ensures c.in-Ok.ensures.after) refl in
+    let unrecorded = full a.settings.recorder (event.Arrive p c.later-at.result) a.recorded.items (c.self.invariant.full some) in
+    let h = arrived a b p c.args.now c.later-at.result c.later-at.ensures refl c.in-Ok.ensures.after c.in-Ok.ensures.lost refl unrecorded refl counted in
+    event-kept a c.self.invariant e b h (c.packet_ranges.ensures.fields, c.moment_range.ensures) (omega arith)
+    (omega (arith, c.self.invariant.packets, some))
+    (omega (arith, c.self.invariant.bytes, some, c.packet_ranges.ensures.fields.len.1))
+    (omega (arith, c.self.invariant.room, some, ap (λ (l : LossList). l.places) c.arrive_counted.ensures.kept))
 
 pub returns-clause-event : goal.returns-clause-event
 returns-clause-event c =
     let a = c.self.inside in
-    let b = record a { clock = c.later-at.result; tree = c.arrive.new.self; losses = c.arrive.new.sink; recorded = c.record_arrival.new.recorded; spare = c.make_room.new.spare } in
+    let some : 1 ≤ a.spare = omega (arith, c.if-self-eq0.false) in
+    let b = record a { tree = c.arrive_counted.new.self; losses = c.arrive_counted.new.sink; spare = a.spare - 1 } in
     let p = c.args.packet.now in
     let e = event.Arrive p c.args.now in
-    let lost = c.in-Ok-arrive.ensures.lost ∙ ap (λ (l : LossList). l.waiting ++ losses_in (noted_by_put c.later-at.result p a.tree.tree)) c.make_room.ensures.same in
-    let counted = events-after a c.self.invariant e b (c.packet_ranges.ensures.fields, c.moment_range.ensures) (arrived-device a b p c.args.now c.later-at.result c.later-at.ensures refl c.in-Ok-arrive.ensures.after) refl in
-    let h = arrived a b p c.args.now c.later-at.result c.later-at.ensures refl refl c.in-Ok-arrive.ensures.after lost refl c.record_arrival.ensures.items c.record_arrival.ensures.capacity counted in
+    let counted = events-after a c.self.invariant e b (c.packet_ranges.ensures.fields, c.moment_range.ensures) (arrived-device a b p c.args.now c.later-at.result c.later-at.ensures c.in-Ok.ensures.after) refl in
+    let unrecorded = full a.settings.recorder (event.Arrive p c.later-at.result) a.recorded.items (c.self.invariant.full some) in
+    let h = arrived a b p c.args.now c.later-at.result c.later-at.ensures refl c.in-Ok.ensures.after c.in-Ok.ensures.lost refl unrecorded refl counted in
     event-seen a e b h ∙ ap (λ (d : DeviceSeen). record (with_event e d) { memory = (device_seen b).memory }) c.self.view_is
 
 pub returns-clause-moment : goal.returns-clause-moment
@@ -92,20 +83,21 @@ returns-clause-fate c =
     let a = c.self.inside in
     let p = c.args.packet.now in
     let e = event.Arrive p c.args.now in
-    ap reply.Fate c.in-Ok-arrive.ensures.fate
+    ap reply.Fate c.in-Ok.ensures.fate
     ∙ ap (λ t. reply.Fate (fate_of (own_loss t p a.tree.tree.device (shape a.tree.tree.root)))) c.later-at.ensures
-    ∙ reply-step (numbers_at a.clock a.tree) (record a.tree { clock = a.clock }) refl e
+    ∙ reply-step (numbers a.tree) a.tree refl e
     ∙ ap (λ (d : DeviceSeen). (step totals d.device e).reply) c.self.view_is
 
 pub returns-clause-arrived : goal.returns-clause-arrived
 returns-clause-arrived c =
     let a = c.self.inside in
-    let b = record a { clock = c.later-at.result; tree = c.arrive.new.self; losses = c.arrive.new.sink; recorded = c.record_arrival.new.recorded; spare = c.make_room.new.spare } in
+    let some : 1 ≤ a.spare = omega (arith, c.if-self-eq0.false) in
+    let b = record a { tree = c.arrive_counted.new.self; losses = c.arrive_counted.new.sink; spare = a.spare - 1 } in
     let p = c.args.packet.now in
     let e = event.Arrive p c.args.now in
-    let lost = c.in-Ok-arrive.ensures.lost ∙ ap (λ (l : LossList). l.waiting ++ losses_in (noted_by_put c.later-at.result p a.tree.tree)) c.make_room.ensures.same in
-    let counted = events-after a c.self.invariant e b (c.packet_ranges.ensures.fields, c.moment_range.ensures) (arrived-device a b p c.args.now c.later-at.result c.later-at.ensures refl c.in-Ok-arrive.ensures.after) refl in
-    let h = arrived a b p c.args.now c.later-at.result c.later-at.ensures refl refl c.in-Ok-arrive.ensures.after lost refl c.record_arrival.ensures.items c.record_arrival.ensures.capacity counted in
+    let counted = events-after a c.self.invariant e b (c.packet_ranges.ensures.fields, c.moment_range.ensures) (arrived-device a b p c.args.now c.later-at.result c.later-at.ensures c.in-Ok.ensures.after) refl in
+    let unrecorded = full a.settings.recorder (event.Arrive p c.later-at.result) a.recorded.items (c.self.invariant.full some) in
+    let h = arrived a b p c.args.now c.later-at.result c.later-at.ensures refl c.in-Ok.ensures.after c.in-Ok.ensures.lost refl unrecorded refl counted in
     ap (λ (d : DeviceSeen). d.device.tree.top.arrived) (event-seen a e b h)
     ∙ kept-arrived a c.self.invariant e (c.packet_ranges.ensures.fields, c.moment_range.ensures)
     ∙ ap (λ (d : DeviceSeen). with_packet d.device.tree.top.arrived p) c.self.view_is
@@ -113,13 +105,14 @@ returns-clause-arrived c =
 pub returns-clause-counters : goal.returns-clause-counters
 returns-clause-counters c =
     let a = c.self.inside in
-    let b = record a { clock = c.later-at.result; tree = c.arrive.new.self; losses = c.arrive.new.sink; recorded = c.record_arrival.new.recorded; spare = c.make_room.new.spare } in
+    let some : 1 ≤ a.spare = omega (arith, c.if-self-eq0.false) in
+    let b = record a { tree = c.arrive_counted.new.self; losses = c.arrive_counted.new.sink; spare = a.spare - 1 } in
     let p = c.args.packet.now in
     let e = event.Arrive p c.args.now in
-    let lost = c.in-Ok-arrive.ensures.lost ∙ ap (λ (l : LossList). l.waiting ++ losses_in (noted_by_put c.later-at.result p a.tree.tree)) c.make_room.ensures.same in
-    let counted = events-after a c.self.invariant e b (c.packet_ranges.ensures.fields, c.moment_range.ensures) (arrived-device a b p c.args.now c.later-at.result c.later-at.ensures refl c.in-Ok-arrive.ensures.after) refl in
-    let h = arrived a b p c.args.now c.later-at.result c.later-at.ensures refl refl c.in-Ok-arrive.ensures.after lost refl c.record_arrival.ensures.items c.record_arrival.ensures.capacity counted in
-    subst (λ (d : DeviceSeen). HasNotFallen d.device.tree.top c.arrive.new.self.tree.top.counts) c.self.view_is (event-rises a e b h)
+    let counted = events-after a c.self.invariant e b (c.packet_ranges.ensures.fields, c.moment_range.ensures) (arrived-device a b p c.args.now c.later-at.result c.later-at.ensures c.in-Ok.ensures.after) refl in
+    let unrecorded = full a.settings.recorder (event.Arrive p c.later-at.result) a.recorded.items (c.self.invariant.full some) in
+    let h = arrived a b p c.args.now c.later-at.result c.later-at.ensures refl c.in-Ok.ensures.after c.in-Ok.ensures.lost refl unrecorded refl counted in
+    subst (λ (d : DeviceSeen). HasNotFallen d.device.tree.top c.arrive_counted.new.self.tree.top.counts) c.self.view_is (event-rises a e b h)
 
 pub returns-clause-queues : goal.returns-clause-queues
-returns-clause-queues c = λ path. omega (arith, c.arrive.ensures.places path, ap (λ (d : DeviceSeen). places_at path d.memory.tree.tree.root) c.self.view_is)
+returns-clause-queues c = λ path. omega (arith, c.arrive_counted.ensures.places path, ap (λ (d : DeviceSeen). places_at path d.memory.tree.tree.root) c.self.view_is)

@@ -10,10 +10,11 @@ use Rattle.q_model.specs.Step.{step}
 use Rattle.q_model.specs.Tally.{totals}
 use Rattle.q_tree.specs.Commands.{IsRefused, plan_of}
 use Rattle.q_tree.specs.Commanding.{MayTakeMemory, WantsMemory}
+use Rattle.q_tree.specs.TreeSeen.{numbers}
 use Rattle.q_device.specs.Counters.{HasNotFallen}
 use Rattle.q_device.specs.DeviceSeen.{DeviceSeen, IsRefusal, IsRefusedAt, with_event}
-use Rattle.q_device.specs.Keeping.{device_seen, numbers_at, IsKeptDevice}
-use Rattle.q_device.proofs.EventLemmas.{commanded, commanded-device, done-clock, done-reply, event-rises, may-be-refused, event-seen, refused-reply, told-nothing}
+use Rattle.q_device.specs.Keeping.{device_seen, IsKeptDevice}
+use Rattle.q_device.proofs.EventLemmas.{commanded, commanded-device, done-reply, event-rises, may-be-refused, event-seen, refused-reply, told-nothing}
 use Rattle.q_device.proofs.KeptLemmas.{event-kept, events-after, kept-arrived}
 use Rattle.q_device.proofs.device.Device.command.Goals as goal
 
@@ -33,10 +34,10 @@ pub returns-in_err-command-clause-refused : goal.returns-in_err-command-clause-r
 returns-in_err-command-clause-refused c =
     let a = c.self.inside in
     let e = event.Command c.args.command c.args.now in
-    let refused = refused-reply a.tree a.clock c.args.now c.later-at.result c.later-at.ensures c.args.command (MayTakeMemory c.args.command) c.in_err-command.field-0.0
+    let refused = refused-reply a.tree c.args.now c.later-at.result c.later-at.ensures c.args.command (MayTakeMemory c.args.command) c.in_err-command.field-0.0
     (may-be-refused c.args.command (plan_of c.args.command c.later-at.result a.tree) c.in_err-command.field-0.0 c.in_err-command.ensures.answer.0) in
     subst (λ (d : DeviceSeen). IfErr c.from_residual.result (λ (r : Refusal). IsRefusal (MayTakeMemory c.args.command) (step totals d.device e).reply r)) c.self.view_is
-    (passed_on c.from_residual.result c.in_err-command.field-0.0 (IsRefusal (MayTakeMemory c.args.command) (step totals (numbers_at a.clock a.tree) e).reply) c.from_residual.ensures.1 refused)
+    (passed_on c.from_residual.result c.in_err-command.field-0.0 (IsRefusal (MayTakeMemory c.args.command) (step totals (numbers a.tree) e).reply) c.from_residual.ensures.1 refused)
 
 pub returns-in_err-command-clause-memory : goal.returns-in_err-command-clause-memory
 returns-in_err-command-clause-memory c =
@@ -48,35 +49,34 @@ returns-in_err-command-clause-memory c =
 pub invariant_of-self-2 : goal.invariant_of-self-2
 invariant_of-self-2 c =
     let a = c.self.inside in
-    let b = record a { clock = c.later-at.result; tree = c.command.new.self; losses = c.command.new.sink; recorded = c.record_command.new.recorded; others = c.count_other.new.others } in
-    let counted = events-after a c.self.invariant (event.Command c.args.command c.args.now) b (c.ranges-2.ensures, c.moment_range.ensures) (commanded-device a b c.args.command c.args.now c.later-at.result c.later-at.ensures refl c.in_ok-command.ensures.answer) c.count_other.ensures in
-    let h = commanded a b c.args.command c.args.now c.later-at.result c.later-at.ensures refl refl c.in_ok-command.ensures.answer c.in_ok-command.ensures.lost refl c.record_command.ensures.items c.record_command.ensures.capacity counted in
+    let b = record a { tree = c.command.new.self; losses = c.command.new.sink; recorded = c.record_command.new.recorded; others = c.count_other.new.others } in
+    let counted = events-after a c.self.invariant (event.Command c.args.command c.args.now) b (c.ranges-2.ensures, c.moment_range.ensures) (commanded-device a b c.args.command c.args.now c.later-at.result c.later-at.ensures c.in_ok-command.ensures.answer) c.count_other.ensures in
+    let h = commanded a b c.args.command c.args.now c.later-at.result c.later-at.ensures refl c.in_ok-command.ensures.answer c.in_ok-command.ensures.lost refl c.record_command.ensures.items c.record_command.ensures.capacity counted in
     event-kept a c.self.invariant (event.Command c.args.command c.args.now) b h (c.ranges-2.ensures, c.moment_range.ensures)
-    (omega (arith, done-clock a.tree a.clock c.args.now c.later-at.result c.later-at.ensures c.args.command b.tree c.in_ok-command.ensures.answer))
-    c.self.invariant.arrivals
+    (omega arith) c.self.invariant.packets c.self.invariant.bytes
     (omega (arith, c.self.invariant.room, ap (λ (l : LossList). l.places) c.in_ok-command.ensures.kept))
 
 pub returns-clause-event : goal.returns-clause-event
 returns-clause-event c =
     let a = c.self.inside in
-    let b = record a { clock = c.later-at.result; tree = c.command.new.self; losses = c.command.new.sink; recorded = c.record_command.new.recorded; others = c.count_other.new.others } in
-    let counted = events-after a c.self.invariant (event.Command c.args.command c.args.now) b (c.ranges-2.ensures, c.moment_range.ensures) (commanded-device a b c.args.command c.args.now c.later-at.result c.later-at.ensures refl c.in_ok-command.ensures.answer) c.count_other.ensures in
-    let h = commanded a b c.args.command c.args.now c.later-at.result c.later-at.ensures refl refl c.in_ok-command.ensures.answer c.in_ok-command.ensures.lost refl c.record_command.ensures.items c.record_command.ensures.capacity counted in
+    let b = record a { tree = c.command.new.self; losses = c.command.new.sink; recorded = c.record_command.new.recorded; others = c.count_other.new.others } in
+    let counted = events-after a c.self.invariant (event.Command c.args.command c.args.now) b (c.ranges-2.ensures, c.moment_range.ensures) (commanded-device a b c.args.command c.args.now c.later-at.result c.later-at.ensures c.in_ok-command.ensures.answer) c.count_other.ensures in
+    let h = commanded a b c.args.command c.args.now c.later-at.result c.later-at.ensures refl c.in_ok-command.ensures.answer c.in_ok-command.ensures.lost refl c.record_command.ensures.items c.record_command.ensures.capacity counted in
     let e = event.Command c.args.command c.args.now in
     event-seen a e b h ∙ ap (λ (d : DeviceSeen). record (with_event e d) { memory = (device_seen b).memory }) c.self.view_is
 
 pub returns-clause-reply : goal.returns-clause-reply
 returns-clause-reply c =
     let a = c.self.inside in
-    done-reply a.tree a.clock c.args.now c.later-at.result c.later-at.ensures c.args.command c.command.new.self c.in_ok-command.ensures.answer
+    done-reply a.tree c.args.now c.later-at.result c.later-at.ensures c.args.command c.command.new.self c.in_ok-command.ensures.answer
     ∙ ap (λ (d : DeviceSeen). (step totals d.device (event.Command c.args.command c.args.now)).reply) c.self.view_is
 
 pub returns-clause-arrived : goal.returns-clause-arrived
 returns-clause-arrived c =
     let a = c.self.inside in
-    let b = record a { clock = c.later-at.result; tree = c.command.new.self; losses = c.command.new.sink; recorded = c.record_command.new.recorded; others = c.count_other.new.others } in
-    let counted = events-after a c.self.invariant (event.Command c.args.command c.args.now) b (c.ranges-2.ensures, c.moment_range.ensures) (commanded-device a b c.args.command c.args.now c.later-at.result c.later-at.ensures refl c.in_ok-command.ensures.answer) c.count_other.ensures in
-    let h = commanded a b c.args.command c.args.now c.later-at.result c.later-at.ensures refl refl c.in_ok-command.ensures.answer c.in_ok-command.ensures.lost refl c.record_command.ensures.items c.record_command.ensures.capacity counted in
+    let b = record a { tree = c.command.new.self; losses = c.command.new.sink; recorded = c.record_command.new.recorded; others = c.count_other.new.others } in
+    let counted = events-after a c.self.invariant (event.Command c.args.command c.args.now) b (c.ranges-2.ensures, c.moment_range.ensures) (commanded-device a b c.args.command c.args.now c.later-at.result c.later-at.ensures c.in_ok-command.ensures.answer) c.count_other.ensures in
+    let h = commanded a b c.args.command c.args.now c.later-at.result c.later-at.ensures refl c.in_ok-command.ensures.answer c.in_ok-command.ensures.lost refl c.record_command.ensures.items c.record_command.ensures.capacity counted in
     let e = event.Command c.args.command c.args.now in
     ap (λ (d : DeviceSeen). d.device.tree.top.arrived) (event-seen a e b h)
     ∙ kept-arrived a c.self.invariant e (c.ranges-2.ensures, c.moment_range.ensures)
@@ -85,8 +85,8 @@ returns-clause-arrived c =
 pub returns-clause-counters : goal.returns-clause-counters
 returns-clause-counters c =
     let a = c.self.inside in
-    let b = record a { clock = c.later-at.result; tree = c.command.new.self; losses = c.command.new.sink; recorded = c.record_command.new.recorded; others = c.count_other.new.others } in
-    let counted = events-after a c.self.invariant (event.Command c.args.command c.args.now) b (c.ranges-2.ensures, c.moment_range.ensures) (commanded-device a b c.args.command c.args.now c.later-at.result c.later-at.ensures refl c.in_ok-command.ensures.answer) c.count_other.ensures in
-    let h = commanded a b c.args.command c.args.now c.later-at.result c.later-at.ensures refl refl c.in_ok-command.ensures.answer c.in_ok-command.ensures.lost refl c.record_command.ensures.items c.record_command.ensures.capacity counted in
+    let b = record a { tree = c.command.new.self; losses = c.command.new.sink; recorded = c.record_command.new.recorded; others = c.count_other.new.others } in
+    let counted = events-after a c.self.invariant (event.Command c.args.command c.args.now) b (c.ranges-2.ensures, c.moment_range.ensures) (commanded-device a b c.args.command c.args.now c.later-at.result c.later-at.ensures c.in_ok-command.ensures.answer) c.count_other.ensures in
+    let h = commanded a b c.args.command c.args.now c.later-at.result c.later-at.ensures refl c.in_ok-command.ensures.answer c.in_ok-command.ensures.lost refl c.record_command.ensures.items c.record_command.ensures.capacity counted in
     let e = event.Command c.args.command c.args.now in
     subst (λ (d : DeviceSeen). HasNotFallen d.device.tree.top c.command.new.self.tree.top.counts) c.self.view_is (event-rises a e b h)

@@ -9,7 +9,6 @@ pub invariant_of-result : goal.invariant_of-result
 invariant_of-result c =
     let tree = c.new.ensures ∙ ap (λ (s : DeviceSettings). new_device totals s) c.settings.view_is in
     new-kept _ (subst IsInRange c.settings.view_is c.settings.invariant)
-    (λ i. record { clock = c.zero.ensures i; tree = (tree i).tree })
+    tree
     c.new-2.ensures refl c.in_ok-with_capacity.ensures.items refl refl
-    (omega (arith, ap (λ (d : DeviceState Counts). d.clock) c.new.ensures))
     (omega (arith, c.in_ok-with_capacity.ensures.capacity, ap (λ (s : DeviceSettings). s.recorder) c.settings.view_is))

@@ -10,10 +10,11 @@ use Rattle.q_model.specs.Step.{DeviceState, polled_of, step}
 use Rattle.q_model.specs.Tally.{totals}
 use Rattle.q_model.specs.TreeState.{given, take_packet}
 use Rattle.q_tree.specs.Kept.{Kept, kept}
+use Rattle.q_tree.specs.TreeSeen.{numbers}
 use Rattle.q_device.specs.Counters.{HasNotFallen}
 use Rattle.q_device.specs.DeviceSeen.{DeviceSeen, polled_memory, with_event}
 use Rattle.q_device.specs.Giving.{given_of, polled_in}
-use Rattle.q_device.specs.Keeping.{device_seen, numbers_at}
+use Rattle.q_device.specs.Keeping.{device_seen}
 use Rattle.q_device.proofs.EventLemmas.{event-rises, event-seen, polled, polled-device, polled-others, reply-step}
 use Rattle.q_device.proofs.KeptLemmas.{event-kept, events-after, kept-arrived}
 use Rattle.q_device.proofs.ReadyNumbers.{given-numbers}
@@ -28,20 +29,20 @@ told-poll None before false = refl
 pub invariant_of-self : goal.invariant_of-self
 invariant_of-self c =
     let a = c.self.inside in
-    let b = record a { clock = c.later-at.result; tree = c.send-sent.new.self; losses = c.send-sent.new.sink; recorded = c.record_poll.new.recorded; others = c.count_poll.new.others } in
+    let b = record a { tree = c.send-sent.new.self; losses = c.send-sent.new.sink; recorded = c.record_poll.new.recorded; others = c.count_poll.new.others } in
     let others = polled-others a c.args.now c.later-at.result c.count_poll.new.others c.send-sent.result c.later-at.ensures c.send-sent.ensures.sent c.count_poll.ensures in
-    let counted = events-after a c.self.invariant (event.Poll c.args.now) b c.moment_range.ensures (polled-device a b c.args.now c.later-at.result c.later-at.ensures refl c.send-sent.ensures.after) others in
-    let h = polled a b c.args.now c.later-at.result c.later-at.ensures refl refl c.send-sent.ensures.after c.send-sent.ensures.lost refl c.record_poll.ensures.items c.record_poll.ensures.capacity counted in
-    event-kept a c.self.invariant (event.Poll c.args.now) b h c.moment_range.ensures (omega (arith, ap (λ (d : DeviceState Kept). d.clock) c.send-sent.ensures.after)) c.self.invariant.arrivals
+    let counted = events-after a c.self.invariant (event.Poll c.args.now) b c.moment_range.ensures (polled-device a b c.args.now c.later-at.result c.later-at.ensures c.send-sent.ensures.after) others in
+    let h = polled a b c.args.now c.later-at.result c.later-at.ensures refl c.send-sent.ensures.after c.send-sent.ensures.lost refl c.record_poll.ensures.items c.record_poll.ensures.capacity counted in
+    event-kept a c.self.invariant (event.Poll c.args.now) b h c.moment_range.ensures (omega arith) c.self.invariant.packets c.self.invariant.bytes
     (omega (arith, c.self.invariant.room, ap (λ (l : LossList). l.places) c.send-sent.ensures.kept))
 
 pub returns-clause-event : goal.returns-clause-event
 returns-clause-event c =
     let a = c.self.inside in
-    let b = record a { clock = c.later-at.result; tree = c.send-sent.new.self; losses = c.send-sent.new.sink; recorded = c.record_poll.new.recorded; others = c.count_poll.new.others } in
+    let b = record a { tree = c.send-sent.new.self; losses = c.send-sent.new.sink; recorded = c.record_poll.new.recorded; others = c.count_poll.new.others } in
     let others = polled-others a c.args.now c.later-at.result c.count_poll.new.others c.send-sent.result c.later-at.ensures c.send-sent.ensures.sent c.count_poll.ensures in
-    let counted = events-after a c.self.invariant (event.Poll c.args.now) b c.moment_range.ensures (polled-device a b c.args.now c.later-at.result c.later-at.ensures refl c.send-sent.ensures.after) others in
-    let h = polled a b c.args.now c.later-at.result c.later-at.ensures refl refl c.send-sent.ensures.after c.send-sent.ensures.lost refl c.record_poll.ensures.items c.record_poll.ensures.capacity counted in
+    let counted = events-after a c.self.invariant (event.Poll c.args.now) b c.moment_range.ensures (polled-device a b c.args.now c.later-at.result c.later-at.ensures c.send-sent.ensures.after) others in
+    let h = polled a b c.args.now c.later-at.result c.later-at.ensures refl c.send-sent.ensures.after c.send-sent.ensures.lost refl c.record_poll.ensures.items c.record_poll.ensures.capacity counted in
     event-seen a (event.Poll c.args.now) b h ∙ ap (λ (d : DeviceSeen). record (with_event (event.Poll c.args.now) d) { memory = (device_seen b).memory }) c.self.view_is
 
 pub returns-clause-memory : goal.returns-clause-memory
@@ -50,6 +51,7 @@ returns-clause-memory c =
     let at = c.later-at.result in
     (λ i. record { tree = c.send-sent.ensures.after i; losses = ap (λ (l : LossList). l.places) c.send-sent.ensures.kept i; events = c.record_poll.ensures.capacity i })
     ∙ ap (λ (d : DeviceSeen). polled_memory at d.memory) c.self.view_is
+    ∙ ap (λ t. polled_memory t c.args.self.now.memory) (sym (ap (λ (d : DeviceState Kept). d.clock) c.send-sent.ensures.after))
 
 pub returns-clause-moment : goal.returns-clause-moment
 returns-clause-moment c = ap (λ (d : DeviceSeen). event.Poll d.device.clock) (sym (returns-clause-event c))
@@ -64,7 +66,7 @@ returns-clause-reply c =
     ∙ ap (λ (p : Descriptor). reply.Polled (polled_in p (given_of (is_some (given c.later-at.result tree)) (is_empty (shape (take_packet kept c.later-at.result tree).root))))) c.send-sent.ensures.packet
     ∙ ap reply.Polled (told-poll (given c.later-at.result tree) c.args.out.now (is_empty (shape (take_packet kept c.later-at.result tree).root)))
     ∙ ap (λ t. reply.Polled (polled_of (given t tree) (is_empty (shape (take_packet kept t tree).root)))) c.later-at.ensures
-    ∙ reply-step (numbers_at a.clock a.tree) (record a.tree { clock = a.clock }) refl e
+    ∙ reply-step (numbers a.tree) a.tree refl e
     ∙ ap (λ (d : DeviceSeen). (step totals d.device e).reply) c.self.view_is
 
 pub returns-clause-packet : goal.returns-clause-packet
@@ -73,14 +75,15 @@ returns-clause-packet c =
     let at = c.later-at.result in
     c.send-sent.ensures.packet
     ∙ ap (λ (g : Option Descriptor). unwrap_or g c.args.out.now) (sym (given-numbers at a.tree.tree) ∙ ap (λ (d : DeviceSeen). given at d.device.tree) c.self.view_is)
+    ∙ ap (λ t. unwrap_or (given t c.args.self.now.device.tree) c.args.out.now) (sym (ap (λ (d : DeviceState Kept). d.clock) c.send-sent.ensures.after))
 
 pub returns-clause-arrived : goal.returns-clause-arrived
 returns-clause-arrived c =
     let a = c.self.inside in
-    let b = record a { clock = c.later-at.result; tree = c.send-sent.new.self; losses = c.send-sent.new.sink; recorded = c.record_poll.new.recorded; others = c.count_poll.new.others } in
+    let b = record a { tree = c.send-sent.new.self; losses = c.send-sent.new.sink; recorded = c.record_poll.new.recorded; others = c.count_poll.new.others } in
     let others = polled-others a c.args.now c.later-at.result c.count_poll.new.others c.send-sent.result c.later-at.ensures c.send-sent.ensures.sent c.count_poll.ensures in
-    let counted = events-after a c.self.invariant (event.Poll c.args.now) b c.moment_range.ensures (polled-device a b c.args.now c.later-at.result c.later-at.ensures refl c.send-sent.ensures.after) others in
-    let h = polled a b c.args.now c.later-at.result c.later-at.ensures refl refl c.send-sent.ensures.after c.send-sent.ensures.lost refl c.record_poll.ensures.items c.record_poll.ensures.capacity counted in
+    let counted = events-after a c.self.invariant (event.Poll c.args.now) b c.moment_range.ensures (polled-device a b c.args.now c.later-at.result c.later-at.ensures c.send-sent.ensures.after) others in
+    let h = polled a b c.args.now c.later-at.result c.later-at.ensures refl c.send-sent.ensures.after c.send-sent.ensures.lost refl c.record_poll.ensures.items c.record_poll.ensures.capacity counted in
     ap (λ (d : DeviceSeen). d.device.tree.top.arrived) (event-seen a (event.Poll c.args.now) b h)
     ∙ kept-arrived a c.self.invariant (event.Poll c.args.now) c.moment_range.ensures
     ∙ ap (λ (d : DeviceSeen). d.device.tree.top.arrived) c.self.view_is
@@ -88,8 +91,8 @@ returns-clause-arrived c =
 pub returns-clause-counters : goal.returns-clause-counters
 returns-clause-counters c =
     let a = c.self.inside in
-    let b = record a { clock = c.later-at.result; tree = c.send-sent.new.self; losses = c.send-sent.new.sink; recorded = c.record_poll.new.recorded; others = c.count_poll.new.others } in
+    let b = record a { tree = c.send-sent.new.self; losses = c.send-sent.new.sink; recorded = c.record_poll.new.recorded; others = c.count_poll.new.others } in
     let others = polled-others a c.args.now c.later-at.result c.count_poll.new.others c.send-sent.result c.later-at.ensures c.send-sent.ensures.sent c.count_poll.ensures in
-    let counted = events-after a c.self.invariant (event.Poll c.args.now) b c.moment_range.ensures (polled-device a b c.args.now c.later-at.result c.later-at.ensures refl c.send-sent.ensures.after) others in
-    let h = polled a b c.args.now c.later-at.result c.later-at.ensures refl refl c.send-sent.ensures.after c.send-sent.ensures.lost refl c.record_poll.ensures.items c.record_poll.ensures.capacity counted in
+    let counted = events-after a c.self.invariant (event.Poll c.args.now) b c.moment_range.ensures (polled-device a b c.args.now c.later-at.result c.later-at.ensures c.send-sent.ensures.after) others in
+    let h = polled a b c.args.now c.later-at.result c.later-at.ensures refl c.send-sent.ensures.after c.send-sent.ensures.lost refl c.record_poll.ensures.items c.record_poll.ensures.capacity counted in
     subst (λ (d : DeviceSeen). HasNotFallen d.device.tree.top c.send-sent.new.self.tree.top.counts) c.self.view_is (event-rises a (event.Poll c.args.now) b h)

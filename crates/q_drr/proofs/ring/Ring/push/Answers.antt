@@ -5,7 +5,7 @@ use Rattle.std.proofs.lemmas.List.{with_items_is}
 use Rattle.q_drr.specs.declared.ring.Link.{Link}
 use Rattle.q_drr.specs.Links.{IsCircle, walk, next_of, before_of, is_among}
 use Rattle.q_drr.proofs.DifferLemmas.{numbers_apart}
-use Rattle.q_drr.proofs.NameLemmas.{length-le_from_differ}
+use Rattle.q_drr.proofs.NameLemmas.{length_le_from_differ}
 use Rattle.q_drr.proofs.RingLemmas.{circle_pushed, near, length-walk, same_circle}
 use Rattle.q_drr.proofs.ring.Ring.push.Goals as goal
 
@@ -20,7 +20,7 @@ append-requires-clause-last c =
 pub overflow_add-self : goal.overflow_add-self
 overflow_add-self c =
     let s = c.self.inside in
-    omega (arith, length-le_from_differ (walk (next_of s.links.items) s.count s.front) (length s.links.items) (numbers_apart (walk (next_of s.links.items) s.count s.front) c.self.invariant.differ) c.self.invariant.inside, length-walk (next_of s.links.items) s.count s.front, c.self.invariant.room)
+    omega (arith, length_le_from_differ (walk (next_of s.links.items) s.count s.front) (length s.links.items) (numbers_apart (walk (next_of s.links.items) s.count s.front) c.self.invariant.differ) c.self.invariant.inside, length-walk (next_of s.links.items) s.count s.front, c.self.invariant.room)
 
 fresh : (c : goal.After-self-3-1) → is_among c.args.place (walk (next_of c.self.inside.links.items) c.self.inside.count c.self.inside.front) ≡ false
 fresh c = ap (λ v. is_among c.args.place v.order) c.self.view_is ∙ c.requires.fresh

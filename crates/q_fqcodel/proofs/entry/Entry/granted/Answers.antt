@@ -2,7 +2,7 @@ use Rattle.std.proofs.Common.{◌≡◌, pos, ◌+ℤ◌, ap, ◌∙◌, arith, 
 use Rattle.std.proofs.lemmas.Int.{ints}
 use Rattle.q_fqcodel.specs.Entry.{Entry}
 use Rattle.q_fqcodel.specs.Quanta.{given}
-use Rattle.q_fqcodel.proofs.QuantaLemmas.{given-is}
+use Rattle.q_fqcodel.proofs.QuantaLemmas.{given_is}
 use Rattle.q_fqcodel.proofs.entry.Entry.granted.Goals as goal
 
 pub returns : goal.returns
@@ -11,4 +11,4 @@ returns c =
     let fits : SFits w64 e.credits = search rules in
     let z : to_z w64 (of_z w64 (to_z w64 (of_z w64 e.credits) +ℤ to_z w64 c.args.quantum)) ≡ e.credits +ℤ pos c.args.quantum =
     omega (arith, ints, fits, c.requires, ap (λ (x : Entry). x.credits) c.self.view_is, c.ranges.quantum) in
-    given-is c.args.quantum e _ z ∙ ap (given c.args.quantum 1) c.self.view_is
+    given_is c.args.quantum e _ z ∙ ap (given c.args.quantum 1) c.self.view_is

@@ -6,7 +6,7 @@ use Rattle.q_fqcodel.specs.Pool.{flows_from, codels_in, cleared}
 use Rattle.q_fqcodel.specs.FlowsState.{FlowsState}
 use Rattle.q_fqcodel.specs.FqState.{queue_of}
 use Rattle.q_fqcodel.specs.Put.{shortened}
-use Rattle.q_fqcodel.proofs.PooledLemmas.{length-flows, length-codels, codel_at, codels-set, codel_written}
+use Rattle.q_fqcodel.proofs.PooledLemmas.{length-flows_from, length-codels_in, codel_at, codels_in-set, codel_written}
 use Rattle.std.proofs.lemmas.List.{take_all, length-set}
 use Rattle.q_packet.specs.declared.cause.Cause.TheVariants.{Purged}
 use Rattle.q_codel.specs.Losses.{losses_of}
@@ -24,8 +24,8 @@ index_mut-requires g c =
       ap length same,
       ap length c.lose.ensures.flows,
       length-adjust (shortened n) c.args.flow c.args.self.now.flows,
-      length-flows c.self.inside.pool.queues (codels_in c.self.inside.parameters c.self.inside.states.items) c.self.invariant.0,
-      length-codels c.self.inside.parameters c.self.inside.states.items,
+      length-flows_from c.self.inside.pool.queues (codels_in c.self.inside.parameters c.self.inside.states.items) c.self.invariant.0,
+      length-codels_in c.self.inside.parameters c.self.inside.states.items,
       c.self.inside.states.ok.0,
     )
 
@@ -35,7 +35,7 @@ invariant_of-self g c =
     let vs = c.self.inside.states.items in
     let v = c.new.result in
     let n : ℕ = c.args.flow in (
-      c.self.invariant.0 ∙ length-codels p vs ∙ sym (length-set vs n v) ∙ sym (length-codels p (set vs n v)),
+      c.self.invariant.0 ∙ length-codels_in p vs ∙ sym (length-set vs n v) ∙ sym (length-codels_in p (set vs n v)),
       omega (arith, length-set vs n v, c.self.invariant.1),
       c.self.invariant.2,
       c.self.invariant.3,
@@ -54,7 +54,7 @@ returns-clause-flows g c =
     let here : forgotten (record { queue = get_or qs m []; codel = get_or (codels_in p vs) m (joined p was) }) ≡ record { queue = get_or qs m []; codel = joined p v } =
     ap (λ (s : CodelState). forgotten (record { queue = get_or qs m []; codel = s })) (codel_at p vs m was)
     ∙ ap (λ (x : CodelVars). record { queue = get_or qs m []; codel = joined p x }) (sym c.new.ensures) in
-    ap (flows_from qs) (codels-set p vs m v)
+    ap (flows_from qs) (codels_in-set p vs m v)
     ∙ codel_written m qs (codels_in p vs) (joined p v) (joined p was) forgotten here
     ∙ ap (adjust forgotten m) (ap (λ (f : FlowsState). f.flows) c.self.view_is ∙ c.lose.ensures.flows)
     ∙ adjust-adjust (shortened n) forgotten m c.args.self.now.flows

@@ -10,35 +10,35 @@ use Rattle.q_fqcodel.specs.FlowsState.{FlowsState}
 use Rattle.q_fqcodel.specs.FqState.{Flow, queue_of, packets_of}
 use Rattle.q_fqcodel.specs.Pool.{stamp, flows_from, codels_in, sizes}
 use Rattle.q_fqcodel.specs.Put.{joined, shortened}
-use Rattle.q_fqcodel.proofs.PooledLemmas.{length-flows, queue_there, queue_written, packets-pooled, length-sizes, sizes-set, sizes_renewed}
+use Rattle.q_fqcodel.proofs.PooledLemmas.{length-flows_from, queue_there, queue_written, packets_pooled, length-sizes, sizes-set, sizes_renewed}
 use Rattle.q_fqcodel.proofs.flows.Flows.exchange.Goals as goal
 use Rattle.q_fqcodel.proofs.flows.Flows.exchange.Goals.{After-push}
 
 pub push-requires-clause-place : goal.push-requires-clause-place
 push-requires-clause-place g c =
     let same = ap (λ (f : FlowsState). f.flows) c.self.view_is in
-    omega (arith, c.requires.place, ap packets_of same, ap (λ (f : FlowsState). f.places) c.self.view_is, packets-pooled c.self.inside.pool.queues (codels_in c.self.inside.parameters c.self.inside.states.items) c.self.invariant.0)
+    omega (arith, c.requires.place, ap packets_of same, ap (λ (f : FlowsState). f.places) c.self.view_is, packets_pooled c.self.inside.pool.queues (codels_in c.self.inside.parameters c.self.inside.states.items) c.self.invariant.0)
 
 pub push-requires-clause-few : goal.push-requires-clause-few
 push-requires-clause-few g c =
     let same = ap (λ (f : FlowsState). f.flows) c.self.view_is in
-    omega (arith, c.requires.few, ap packets_of same, packets-pooled c.self.inside.pool.queues (codels_in c.self.inside.parameters c.self.inside.states.items) c.self.invariant.0)
+    omega (arith, c.requires.few, ap packets_of same, packets_pooled c.self.inside.pool.queues (codels_in c.self.inside.parameters c.self.inside.states.items) c.self.invariant.0)
 
 pub push-requires-clause-in_range : goal.push-requires-clause-in_range
 push-requires-clause-in_range g c =
     let same = ap (λ (f : FlowsState). f.flows) c.self.view_is in
-    omega (arith, c.requires.in_range, ap length same, length-flows c.self.inside.pool.queues (codels_in c.self.inside.parameters c.self.inside.states.items) c.self.invariant.0, c.self.invariant.0)
+    omega (arith, c.requires.in_range, ap length same, length-flows_from c.self.inside.pool.queues (codels_in c.self.inside.parameters c.self.inside.states.items) c.self.invariant.0, c.self.invariant.0)
 
 pub push-requires-clause-own : goal.push-requires-clause-own
 push-requires-clause-own g c =
     let count : length c.self.inside.pool.queues ≡ length c.args.self.now.flows =
-    omega (arith, ap (λ (f : FlowsState). length f.flows) c.self.view_is, length-flows c.self.inside.pool.queues (codels_in c.self.inside.parameters c.self.inside.states.items) c.self.invariant.0, c.self.invariant.0) in
+    omega (arith, ap (λ (f : FlowsState). length f.flows) c.self.view_is, length-flows_from c.self.inside.pool.queues (codels_in c.self.inside.parameters c.self.inside.states.items) c.self.invariant.0, c.self.invariant.0) in
     ap (λ (n : ℕ). c.args.packet.now.hash % n) count ∙ c.requires.own
 
 within : (g : _) (c : After-push g) → c.args.flow < length c.self.inside.pool.queues
 within g c =
     let same = ap (λ (f : FlowsState). f.flows) c.self.view_is in
-    omega (arith, c.requires.in_range, ap length same, length-flows c.self.inside.pool.queues (codels_in c.self.inside.parameters c.self.inside.states.items) c.self.invariant.0, c.self.invariant.0)
+    omega (arith, c.requires.in_range, ap length same, length-flows_from c.self.inside.pool.queues (codels_in c.self.inside.parameters c.self.inside.states.items) c.self.invariant.0, c.self.invariant.0)
 
 abbrev codels : (g : _) → After-push g → List CodelState
 codels g c = codels_in c.self.inside.parameters c.self.inside.states.items

@@ -11,9 +11,9 @@ use Rattle.q_fqcodel.specs.Pool.{codels_in}
 use Rattle.q_fqcodel.specs.Put.{joined}
 use Rattle.q_fqcodel.specs.Winners.{bytes_at}
 use Rattle.q_fqcodel.proofs.FatLemmas.{fattest_is, fat_some}
-use Rattle.q_fqcodel.proofs.FlowLemmas.{length-adjust, packets-at}
-use Rattle.q_fqcodel.proofs.PooledLemmas.{length-flows, queue_there, sizes_at, length-sizes}
-use Rattle.q_fqcodel.proofs.PutLemmas.{other_queue, own_queue, packets-joined}
+use Rattle.q_fqcodel.proofs.FlowLemmas.{length-adjust, packets_at}
+use Rattle.q_fqcodel.proofs.PooledLemmas.{length-flows_from, queue_there, sizes_at, length-sizes}
+use Rattle.q_fqcodel.proofs.PutLemmas.{other_queue, own_queue, packets_of-joined}
 use Rattle.q_fqcodel.proofs.flows.Flows.fattest_with.Goals as goal
 use Rattle.q_fqcodel.proofs.flows.Flows.fattest_with.Goals.{After-each_has_bytes, After-bytes_of, After-top_with}
 
@@ -29,7 +29,7 @@ all : (c : After-each_has_bytes) → length c.args.self.now.flows ≡ length c.s
 all c =
     let qs = c.self.inside.pool.queues in
     sym (ap (λ (f : FlowsState). length f.flows) c.self.view_is)
-    ∙ length-flows qs (codels_in c.self.inside.parameters c.self.inside.states.items) c.self.invariant.0
+    ∙ length-flows_from qs (codels_in c.self.inside.parameters c.self.inside.states.items) c.self.invariant.0
     ∙ sym c.self.invariant.0
     ∙ sym (length-sizes qs)
     ∙ ap length (sym c.self.invariant.2)
@@ -42,7 +42,7 @@ overflow_add-held c =
       c.bytes_of.ensures.value,
       c.each_has_bytes.ensures.most c.args.flow,
       ap count (queue_is d c.args.flow),
-      packets-at c.args.flow c.args.self.now.flows,
+      packets_at c.args.flow c.args.self.now.flows,
       c.requires.few,
     )
 
@@ -62,7 +62,7 @@ top_with-requires-clause-few c =
       c.bytes_of.ensures.value,
       c.each_has_bytes.ensures.most c.args.flow,
       ap count (queue_is d c.args.flow),
-      packets-at c.args.flow c.args.self.now.flows,
+      packets_at c.args.flow c.args.self.now.flows,
       c.requires.few,
     )
 
@@ -128,4 +128,4 @@ returns-clause-some c s len =
     let flows : List Flow = fuller c s in
     let n : ℕ = c.top_with.result in
     fat_some flows n (size (queue_of flows n)) refl (most c s len) (λ k w. counted c s len k)
-    (omega (arith, packets-joined s c.args.flow c.args.self.now.flows c.requires.within))
+    (omega (arith, packets_of-joined s c.args.flow c.args.self.now.flows c.requires.within))

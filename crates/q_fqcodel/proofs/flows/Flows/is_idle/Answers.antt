@@ -3,13 +3,13 @@ use Rattle.q_packet.specs.Totals.{count}
 use Rattle.q_fqcodel.specs.Pool.{codels_in}
 use Rattle.q_fqcodel.specs.FlowsState.{FlowsState}
 use Rattle.q_fqcodel.specs.FqState.{Flow, queue_of}
-use Rattle.q_fqcodel.proofs.PooledLemmas.{length-flows, queue_there}
+use Rattle.q_fqcodel.proofs.PooledLemmas.{length-flows_from, queue_there}
 use Rattle.q_fqcodel.proofs.flows.Flows.is_idle.Goals as goal
 
 pub count_at-requires : goal.count_at-requires
 count_at-requires c =
     let cs = codels_in c.self.inside.parameters c.self.inside.states.items in
-    omega (arith, c.requires, ap (λ (f : FlowsState). length f.flows) c.self.view_is, length-flows c.self.inside.pool.queues cs c.self.invariant.0, c.self.invariant.0)
+    omega (arith, c.requires, ap (λ (f : FlowsState). length f.flows) c.self.view_is, length-flows_from c.self.inside.pool.queues cs c.self.invariant.0, c.self.invariant.0)
 
 pub returns : goal.returns
 returns c =

@@ -9,13 +9,13 @@ use Rattle.q_fqcodel.specs.FqState.{queue_of}
 use Rattle.q_fqcodel.specs.Pool.{flows_from, codels_in}
 use Rattle.q_fqcodel.specs.Put.{shortened}
 use Rattle.q_fqcodel.proofs.PooledLemmas.{queue_there, queue_written, flow_with, length-sizes, sizes_renewed}
-use Rattle.q_fqcodel.proofs.ShedLemmas.{shortened-none}
+use Rattle.q_fqcodel.proofs.ShedLemmas.{shortened_none}
 use Rattle.q_fqcodel.proofs.flows.Flows.lose.Goals as goal
 use Rattle.q_fqcodel.proofs.flows.Flows.lose.Goals.{Else-lost-eq0, After-lose_from}
 
 pub returns-then-lost-eq0-clause-flows : goal.returns-then-lost-eq0-clause-flows
 returns-then-lost-eq0-clause-flows g c =
-    sym (shortened-none c.args.flow c.args.self.now.flows) ∙ ap (λ (n : ℕ). adjust (shortened n) c.args.flow c.args.self.now.flows) (sym c.if-lost-eq0.true)
+    sym (shortened_none c.args.flow c.args.self.now.flows) ∙ ap (λ (n : ℕ). adjust (shortened n) c.args.flow c.args.self.now.flows) (sym c.if-lost-eq0.true)
 
 -- the flow's queue, as the pool has it
 own : (g : _) (c : After-lose_from g) → queue_of c.args.self.now.flows c.args.flow ≡ get_or c.self.inside.pool.queues c.args.flow []

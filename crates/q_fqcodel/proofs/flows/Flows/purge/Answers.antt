@@ -10,9 +10,9 @@ use Rattle.q_fqcodel.specs.Cleared.{adjust}
 use Rattle.q_fqcodel.specs.FlowsState.{FlowsState}
 use Rattle.q_fqcodel.specs.FqState.{FqSettings, Flow, queue_of, packets_of, all_packets}
 use Rattle.q_fqcodel.specs.Pool.{cleared}
-use Rattle.q_fqcodel.proofs.FlowLemmas.{packets-nil}
-use Rattle.q_fqcodel.proofs.PooledLemmas.{length-codels, cleared_retuned}
-use Rattle.q_fqcodel.proofs.ShedLemmas.{purged-next, purged-at, all_packets-more, packets_of-more, packets_of-part, all_packets-nil}
+use Rattle.q_fqcodel.proofs.FlowLemmas.{packets_of-nil}
+use Rattle.q_fqcodel.proofs.PooledLemmas.{length-codels_in, cleared_retuned}
+use Rattle.q_fqcodel.proofs.ShedLemmas.{purged_next, purged_at, all_packets_more, packets_of_more, packets_of_part, all_packets-nil}
 use Rattle.q_fqcodel.proofs.flows.Flows.purge.Goals as goal
 use Rattle.q_fqcodel.proofs.flows.Flows.purge.Goals.{After-empty, After-loop-flow}
 
@@ -21,7 +21,7 @@ loop-flow-init g c = record {
   flows = refl;
   places = refl;
   losses = sym (append-nil (g.S.Sink.losses c.args.sink.now)) ∙ ap (λ (l : List Stamped). g.S.Sink.losses c.args.sink.now ++ losses_of Purged l) (sym all_packets-nil);
-  room = omega (arith, packets-nil);
+  room = omega (arith, packets_of-nil);
   kept = g.met.S.Sink.keeps_same c.args.sink.now;
 }
 
@@ -29,15 +29,15 @@ loop-flow-init g c = record {
 next : (g : _) (c : After-empty g) → queue_of c.loop-flow.self.flows c.loop-flow.flow ≡ queue_of c.args.self.now.flows c.loop-flow.flow
 next g c =
     ap (λ (fs : List Flow). queue_of fs c.loop-flow.flow) c.loop-flow.invariant.flows
-    ∙ purged-at cleared c.loop-flow.flow c.args.self.now.flows (omega (arith, c.loop-flow-test.true, c.len-flow-end.ensures.value))
+    ∙ purged_at cleared c.loop-flow.flow c.args.self.now.flows (omega (arith, c.loop-flow-test.true, c.len-flow-end.ensures.value))
 
 pub empty-requires-clause-room : goal.empty-requires-clause-room
 empty-requires-clause-room g c =
     let flows : List Flow = c.args.self.now.flows in
     let n : ℕ = c.loop-flow.flow in
     let within : n < length flows = omega (arith, c.loop-flow-test.true, c.len-flow-end.ensures.value) in
-    let q : queue_of c.loop-flow.self.flows n ≡ queue_of flows n = ap (λ (fs : List Flow). queue_of fs n) c.loop-flow.invariant.flows ∙ purged-at cleared n flows within in
-    omega (arith, ap count q, packets_of-more n flows within, packets_of-part (suc n) flows, c.loop-flow.invariant.room, c.requires)
+    let q : queue_of c.loop-flow.self.flows n ≡ queue_of flows n = ap (λ (fs : List Flow). queue_of fs n) c.loop-flow.invariant.flows ∙ purged_at cleared n flows within in
+    omega (arith, ap count q, packets_of_more n flows within, packets_of_part (suc n) flows, c.loop-flow.invariant.room, c.requires)
 
 pub loop-flow-preserved : goal.loop-flow-preserved
 loop-flow-preserved g c =
@@ -51,7 +51,7 @@ loop-flow-preserved g c =
       flows =
           c.empty.ensures.flows
           ∙ ap (adjust cleared n) c.loop-flow.invariant.flows
-          ∙ purged-next cleared n flows within
+          ∙ purged_next cleared n flows within
           ∙ ap (λ (k : ℕ). map cleared (take k flows) ++ drop k flows) (sym (add-one n));
       places = c.empty.ensures.places ∙ c.loop-flow.invariant.places;
       losses =
@@ -59,10 +59,10 @@ loop-flow-preserved g c =
           ∙ ap₂ (λ (l : List Loss) (r : List Stamped). l ++ losses_of Purged r) c.loop-flow.invariant.losses q
           ∙ append_assoc old (losses_of Purged before) (losses_of Purged (queue_of flows n))
           ∙ ap (λ (l : List Loss). old ++ l) (sym (map-append (λ (s : Stamped). record { packet = s.packet; cause = Purged }) before (queue_of flows n)))
-          ∙ ap (λ (l : List Stamped). old ++ losses_of Purged l) (all_packets-more n flows within ∙ ap (λ (k : ℕ). all_packets (take k flows)) (sym (add-one n)));
+          ∙ ap (λ (l : List Stamped). old ++ losses_of Purged l) (all_packets_more n flows within ∙ ap (λ (k : ℕ). all_packets (take k flows)) (sym (add-one n)));
       room =
           let more : packets_of (take (n + 1) flows) ≡ packets_of (take n flows) + count (queue_of flows n) =
-          ap (λ (k : ℕ). packets_of (take k flows)) (add-one n) ∙ sym (packets_of-more n flows within) in
+          ap (λ (k : ℕ). packets_of (take k flows)) (add-one n) ∙ sym (packets_of_more n flows within) in
           omega (arith, more, ap count q, c.empty.ensures.room, c.loop-flow.invariant.room);
       kept = g.met.S.Sink.keeps_on c.args.sink.now c.loop-flow.sink c.empty.new.sink c.loop-flow.invariant.kept c.empty.ensures.kept;
     }
@@ -89,7 +89,7 @@ returns-clause-room g c = omega (arith, c.loop-flow.invariant.room, ap packets_o
 pub invariant_of-self : goal.invariant_of-self
 invariant_of-self g c =
     let vs = c.self-2.inside.states.items in (
-      c.self-2.invariant.0 ∙ length-codels c.self-2.inside.parameters vs ∙ sym (length-codels c.parameters_of-self-inside.result vs),
+      c.self-2.invariant.0 ∙ length-codels_in c.self-2.inside.parameters vs ∙ sym (length-codels_in c.parameters_of-self-inside.result vs),
       c.self-2.invariant.1,
       c.self-2.invariant.2,
       ap (λ (p : CodelParams). p.mtu) c.parameters_of-self-inside.ensures ∙ sym (ap (λ (s : FqSettings). s.mtu) c.settings.view_is),

@@ -5,7 +5,7 @@ use Rattle.q_fqcodel.specs.FlowsState.{FlowsState}
 use Rattle.q_fqcodel.specs.FqState.{packets_of}
 use Rattle.q_fqcodel.specs.Pool.{stamp, flows_from, codels_in}
 use Rattle.q_fqcodel.specs.Put.{joined}
-use Rattle.q_fqcodel.proofs.PooledLemmas.{length-flows, queue_written, packets-pooled, length-sizes, sizes_at, sizes_renewed}
+use Rattle.q_fqcodel.proofs.PooledLemmas.{length-flows_from, queue_written, packets_pooled, length-sizes, sizes_at, sizes_renewed}
 use Rattle.std.proofs.lemmas.List.{length-set, get_or-set_same}
 use Rattle.std.proofs.lemmas.List.Sums.{sum_by-append}
 use Rattle.q_packet.specs.Totals.{size}
@@ -15,28 +15,28 @@ use Rattle.q_fqcodel.proofs.flows.Flows.push.Goals.{After-push-held}
 pub push-held-requires-clause-place : goal.push-held-requires-clause-place
 push-held-requires-clause-place c =
     let same = ap (λ (f : FlowsState). f.flows) c.self.view_is in
-    omega (arith, c.requires.place, ap packets_of same, ap (λ (f : FlowsState). f.places) c.self.view_is, packets-pooled c.self.inside.pool.queues (codels_in c.self.inside.parameters c.self.inside.states.items) c.self.invariant.0)
+    omega (arith, c.requires.place, ap packets_of same, ap (λ (f : FlowsState). f.places) c.self.view_is, packets_pooled c.self.inside.pool.queues (codels_in c.self.inside.parameters c.self.inside.states.items) c.self.invariant.0)
 
 pub push-held-requires-clause-few : goal.push-held-requires-clause-few
 push-held-requires-clause-few c =
     let same = ap (λ (f : FlowsState). f.flows) c.self.view_is in
-    omega (arith, c.requires.few, ap packets_of same, packets-pooled c.self.inside.pool.queues (codels_in c.self.inside.parameters c.self.inside.states.items) c.self.invariant.0)
+    omega (arith, c.requires.few, ap packets_of same, packets_pooled c.self.inside.pool.queues (codels_in c.self.inside.parameters c.self.inside.states.items) c.self.invariant.0)
 
 pub push-held-requires-clause-in_range : goal.push-held-requires-clause-in_range
 push-held-requires-clause-in_range c =
     let same = ap (λ (f : FlowsState). f.flows) c.self.view_is in
-    omega (arith, c.requires.in_range, ap length same, length-flows c.self.inside.pool.queues (codels_in c.self.inside.parameters c.self.inside.states.items) c.self.invariant.0, c.self.invariant.0)
+    omega (arith, c.requires.in_range, ap length same, length-flows_from c.self.inside.pool.queues (codels_in c.self.inside.parameters c.self.inside.states.items) c.self.invariant.0, c.self.invariant.0)
 
 pub push-held-requires-clause-own : goal.push-held-requires-clause-own
 push-held-requires-clause-own c =
     let count : length c.self.inside.pool.queues ≡ length c.args.self.now.flows =
-    omega (arith, ap (λ (f : FlowsState). length f.flows) c.self.view_is, length-flows c.self.inside.pool.queues (codels_in c.self.inside.parameters c.self.inside.states.items) c.self.invariant.0, c.self.invariant.0) in
+    omega (arith, ap (λ (f : FlowsState). length f.flows) c.self.view_is, length-flows_from c.self.inside.pool.queues (codels_in c.self.inside.parameters c.self.inside.states.items) c.self.invariant.0, c.self.invariant.0) in
     ap (λ (n : ℕ). c.args.packet.now.hash % n) count ∙ c.requires.own
 
 within : (c : After-push-held) → c.args.flow < length c.self.inside.pool.queues
 within c =
     let same = ap (λ (f : FlowsState). f.flows) c.self.view_is in
-    omega (arith, c.requires.in_range, ap length same, length-flows c.self.inside.pool.queues (codels_in c.self.inside.parameters c.self.inside.states.items) c.self.invariant.0, c.self.invariant.0)
+    omega (arith, c.requires.in_range, ap length same, length-flows_from c.self.inside.pool.queues (codels_in c.self.inside.parameters c.self.inside.states.items) c.self.invariant.0, c.self.invariant.0)
 
 pub renew-requires-clause-in_range : goal.renew-requires-clause-in_range
 renew-requires-clause-in_range c =

@@ -9,8 +9,8 @@ use Rattle.q_fqcodel.specs.Cleared.{adjust}
 use Rattle.q_fqcodel.specs.FqState.{Flow, queue_of, packets_of}
 use Rattle.q_fqcodel.specs.Pool.{stamp}
 use Rattle.q_fqcodel.specs.Put.{joined, fattest, shed_count, shortened}
-use Rattle.q_fqcodel.proofs.FlowLemmas.{packets-at}
-use Rattle.q_fqcodel.proofs.PutLemmas.{own_queue, own_some, other_queue, packets-joined, shed-within}
+use Rattle.q_fqcodel.proofs.FlowLemmas.{packets_at}
+use Rattle.q_fqcodel.proofs.PutLemmas.{own_queue, own_some, other_queue, packets_of-joined, shed_within}
 use Rattle.q_fqcodel.proofs.flows.Flows.push_over.Goals as goal
 use Rattle.q_fqcodel.proofs.flows.Flows.push_over.Goals.{After-fattest_with-fat, After-sheds_one, After-min-lost}
 
@@ -22,7 +22,7 @@ fat_is : (g : _) (c : After-fattest_with-fat g) → c.fattest_with-fat.result �
 fat_is g c = c.fattest_with-fat.ensures.value (stamp c.args.packet.now c.args.now) (sym (ap (λ (p : Descriptor). p.len) c.packet.view_is))
 
 more : (g : _) (c : After-fattest_with-fat g) → packets_of (fuller g c) ≡ packets_of c.args.self.now.flows + 1
-more g c = packets-joined (stamp c.args.packet.now c.args.now) c.args.flow c.args.self.now.flows c.requires.in_range
+more g c = packets_of-joined (stamp c.args.packet.now c.args.now) c.args.flow c.args.self.now.flows c.requires.in_range
 
 -- ---- a batch of one, of a flow that had a packet
 
@@ -35,7 +35,7 @@ one_shed flows s n fat batch within is some one =
     (λ (e : fat ≡ n). omega (arith, ap (λ (m : ℕ). count (queue_of a m)) e, own_some s n flows within))
     (λ (ne : fat ≢ n). omega (arith, some, ap count (other_queue (joined s) n fat flows ne)))
     (cases_eq fat n) in
-    omega (arith, has, ap (λ (m : ℕ). count (queue_of a m)) is, packets-joined s n flows within, packets-at fat flows, some, one)
+    omega (arith, has, ap (λ (m : ℕ). count (queue_of a m)) is, packets_of-joined s n flows within, packets_at fat flows, some, one)
 
 one_is : (g : _) (c : After-sheds_one g) → c.sheds_one.result ≡ true → shed_count (adjust (joined (stamp c.args.packet.now c.args.now)) c.args.flow c.args.self.now.flows) c.args.batch ≡ 1
 one_is g c single =
@@ -92,12 +92,12 @@ pub lose-requires-clause-held : goal.lose-requires-clause-held
 lose-requires-clause-held g c =
     let d = (goal.at.lose-requires-clause-held g c).After-fattest_with-fat in
     let fat : c.fattest_with-fat.result ≡ fattest c.push.new.self.flows = fat_is g d ∙ ap fattest (sym c.push.ensures.flows) in
-    omega (arith, c.shed_count-lost.ensures, shed-within c.push.new.self.flows c.args.batch, ap (λ (n : ℕ). count (queue_of c.push.new.self.flows n)) fat)
+    omega (arith, c.shed_count-lost.ensures, shed_within c.push.new.self.flows c.args.batch, ap (λ (n : ℕ). count (queue_of c.push.new.self.flows n)) fat)
 
 -- ---- the packet's own flow is
 
 pub overflow_add-held : goal.overflow_add-held
-overflow_add-held g c = omega (arith, c.count_of-held.ensures, packets-at c.args.flow c.args.self.now.flows, c.requires.few)
+overflow_add-held g c = omega (arith, c.count_of-held.ensures, packets_at c.args.flow c.args.self.now.flows, c.requires.few)
 
 own_fat : (g : _) (c : After-min-lost g) → c.args.flow ≡ fattest (adjust (joined (stamp c.args.packet.now c.args.now)) c.args.flow c.args.self.now.flows)
 own_fat g c = sym c.if-fat-flow.false ∙ c.fattest_with-fat.ensures.value (stamp c.args.packet.now c.args.now) (sym (ap (λ (p : Descriptor). p.len) c.packet.view_is))
@@ -111,7 +111,7 @@ lost_is : (g : _) (c : After-min-lost g) → c.min-lost.result ≡ shed_count (a
 unfolding shed_count
 lost_is g c =
     let a : List Flow = adjust (joined (stamp c.args.packet.now c.args.now)) c.args.flow c.args.self.now.flows in
-    let packets : c.count.result ≡ packets_of a - 1 = omega (arith, c.count.ensures, packets-joined (stamp c.args.packet.now c.args.now) c.args.flow c.args.self.now.flows c.requires.in_range) in
+    let packets : c.count.result ≡ packets_of a - 1 = omega (arith, c.count.ensures, packets_of-joined (stamp c.args.packet.now c.args.now) c.args.flow c.args.self.now.flows c.requires.in_range) in
     c.min-lost.ensures
     ∙ ap (λ (n : ℕ). min n c.args.batch) (c.min-most.ensures ∙ ap₂ (λ (m n : ℕ). min m n) (held_is g c ∙ ap (λ (n : ℕ). count (queue_of a n)) (own_fat g c)) packets)
 

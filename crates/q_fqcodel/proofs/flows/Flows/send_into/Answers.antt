@@ -13,7 +13,7 @@ use Rattle.q_fqcodel.specs.FqState.{Flow, queue_of}
 use Rattle.q_fqcodel.specs.Pool.{flows_from, codels_in}
 use Rattle.q_fqcodel.specs.Take.{taken_as, packet_sent, packets_dropped, flow_after}
 use Rattle.q_fqcodel.proofs.PassedLemmas.{Passed, passed, front_within, behind_is, late}
-use Rattle.q_fqcodel.proofs.PooledLemmas.{length-flows, flow_read, queue_there, flow_written, length-sizes, sizes_at, sizes_renewed, length-codels, codel_at, codels-set}
+use Rattle.q_fqcodel.proofs.PooledLemmas.{length-flows_from, flow_read, queue_there, flow_written, length-sizes, sizes_at, sizes_renewed, length-codels_in, codel_at, codels_in-set}
 use Rattle.q_fqcodel.proofs.flows.Flows.send_into.Goals as goal
 use Rattle.q_fqcodel.proofs.flows.Flows.send_into.Goals.{After-index-codel, After-take_of_into, After-index_mut}
 
@@ -33,16 +33,16 @@ overflow_sub-behind g c = front_within _ c.peek-front.result.0 c.peek-front.resu
 pub index-codel-requires : goal.index-codel-requires
 index-codel-requires g c =
     let same = ap (λ (f : FlowsState). f.flows) c.self.view_is in
-    omega (arith, c.requires.in_range, ap length same, length-flows c.self.inside.pool.queues (codels_in c.self.inside.parameters c.self.inside.states.items) c.self.invariant.0, length-codels c.self.inside.parameters c.self.inside.states.items, c.self.inside.states.ok.0)
+    omega (arith, c.requires.in_range, ap length same, length-flows_from c.self.inside.pool.queues (codels_in c.self.inside.parameters c.self.inside.states.items) c.self.invariant.0, length-codels_in c.self.inside.parameters c.self.inside.states.items, c.self.inside.states.ok.0)
 
 within : (g : _) (c : After-index-codel g) → c.args.flow < length (codels_in c.self.inside.parameters c.self.inside.states.items)
 within g c =
     let same = ap (λ (f : FlowsState). f.flows) c.self.view_is in
-    omega (arith, c.requires.in_range, ap length same, length-flows c.self.inside.pool.queues (codels_in c.self.inside.parameters c.self.inside.states.items) c.self.invariant.0)
+    omega (arith, c.requires.in_range, ap length same, length-flows_from c.self.inside.pool.queues (codels_in c.self.inside.parameters c.self.inside.states.items) c.self.invariant.0)
 
 pub index_mut-requires : goal.index_mut-requires
 index_mut-requires g c =
-    omega (arith, within g (goal.at.index_mut-requires g c).After-index-codel, length-codels c.self.inside.parameters c.self.inside.states.items, c.self.inside.states.ok.0)
+    omega (arith, within g (goal.at.index_mut-requires g c).After-index-codel, length-codels_in c.self.inside.parameters c.self.inside.states.items, c.self.inside.states.ok.0)
 
 -- what CoDel knew of the flow
 abbrev was : (g : _) → After-index-codel g → CodelState
@@ -84,7 +84,7 @@ same : (g : _) (c : After-index_mut g) → c.index_mut.result.now ≡ c.index-co
 same g c =
     let vs = c.self.inside.states.items in
     let d = (goal.at.pass-requires g c).After-index-codel in
-    let inside : c.args.flow < length vs = omega (arith, within g d, length-codels c.self.inside.parameters vs, c.self.inside.states.ok.0) in
+    let inside : c.args.flow < length vs = omega (arith, within g d, length-codels_in c.self.inside.parameters vs, c.self.inside.states.ok.0) in
     c.index_mut.ensures.value ∙ get_or_default vs c.args.flow c.index_mut.result.now c.index-codel.result.now inside ∙ sym c.index-codel.ensures
 
 pub pass-requires : goal.pass-requires
@@ -110,7 +110,7 @@ invariant_of-self g c =
     let d = goal.at.invariant_of-self g c in
     let new : List (List Stamped) = c.take_of_into.new.self.queues in
     let inside : n < length qs = omega (arith, within g d.After-index-codel, c.self.invariant.0) in (
-      ap length c.take_of_into.ensures.queues ∙ length-set qs n q ∙ c.self.invariant.0 ∙ length-codels p vs ∙ sym (length-set vs n v) ∙ sym (length-codels p (set vs n v)),
+      ap length c.take_of_into.ensures.queues ∙ length-set qs n q ∙ c.self.invariant.0 ∙ length-codels_in p vs ∙ sym (length-set vs n v) ∙ sym (length-codels_in p (set vs n v)),
       omega (arith, c.self.invariant.1, length-set vs n v),
       sizes_renewed qs new n q c.renew.new.self (c.peek-front.result.1 - c.peek-front.result.0.len) c.take_of_into.ensures.queues inside
           (c.renew.ensures ∙ ap (λ (l : List ℕ). set l n (c.peek-front.result.1 - c.peek-front.result.0.len)) c.self.invariant.2)
@@ -153,7 +153,7 @@ returns-clause-flows g c =
     let here : flow_after c.args.now (record { queue = q; codel = get_or cs n before }) ≡ record { queue = drop 1 q; codel = now } =
     ap (λ (s : CodelState). flow_after c.args.now (record { queue = q; codel = s })) (sym (read g d.After-index-codel))
     ∙ ap₂ (λ (l : List Stamped) (s : CodelState). record { queue = l; codel = s }) (sym way.left_is) (sym way.after_is ∙ ap (joined p) (sym c.pass.ensures)) in
-    ap₂ (λ (l : List (List Stamped)) (k : List CodelState). flows_from l k) c.take_of_into.ensures.queues (codels-set p vs n c.pass.new.self)
+    ap₂ (λ (l : List (List Stamped)) (k : List CodelState). flows_from l k) c.take_of_into.ensures.queues (codels_in-set p vs n c.pass.new.self)
     ∙ flow_written n qs (drop 1 q) cs now before (flow_after c.args.now) here
     ∙ ap (λ (f : FlowsState). adjust (flow_after c.args.now) n f.flows) c.self.view_is
 

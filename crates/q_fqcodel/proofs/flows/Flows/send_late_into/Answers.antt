@@ -8,7 +8,7 @@ use Rattle.q_fqcodel.specs.Cleared.{adjust}
 use Rattle.q_fqcodel.specs.FlowsState.{FlowsState}
 use Rattle.q_fqcodel.specs.FqState.{Flow, queue_of}
 use Rattle.q_fqcodel.specs.Pool.{flows_from, codels_in}
-use Rattle.q_fqcodel.proofs.PooledLemmas.{length-flows, flow_read, queue_there, flow_written, length-sizes, sizes_renewed, length-codels, codel_at, codels-set}
+use Rattle.q_fqcodel.proofs.PooledLemmas.{length-flows_from, flow_read, queue_there, flow_written, length-sizes, sizes_renewed, length-codels_in, codel_at, codels_in-set}
 use Rattle.std.proofs.lemmas.List.{length-set}
 use Rattle.std.proofs.Common.{Option, Some, IfSome, IsSome, true}
 use Rattle.q_packet.specs.declared.cause.Cause.TheVariants.{CoDel}
@@ -22,12 +22,12 @@ use Rattle.q_fqcodel.proofs.flows.Flows.send_late_into.Goals.{After-index_mut-co
 pub index_mut-codel-requires : goal.index_mut-codel-requires
 index_mut-codel-requires g c =
     let same = ap (λ (f : FlowsState). f.flows) c.self.view_is in
-    omega (arith, c.requires.in_range, ap length same, length-flows c.self.inside.pool.queues (codels_in c.self.inside.parameters c.self.inside.states.items) c.self.invariant.0, length-codels c.self.inside.parameters c.self.inside.states.items, c.self.inside.states.ok.0)
+    omega (arith, c.requires.in_range, ap length same, length-flows_from c.self.inside.pool.queues (codels_in c.self.inside.parameters c.self.inside.states.items) c.self.invariant.0, length-codels_in c.self.inside.parameters c.self.inside.states.items, c.self.inside.states.ok.0)
 
 omega_within : (g : _) (c : After-index_mut-codel g) → c.args.flow < length (codels_in c.self.inside.parameters c.self.inside.states.items)
 omega_within g c =
     let same = ap (λ (f : FlowsState). f.flows) c.self.view_is in
-    omega (arith, c.requires.in_range, ap length same, length-flows c.self.inside.pool.queues (codels_in c.self.inside.parameters c.self.inside.states.items) c.self.invariant.0)
+    omega (arith, c.requires.in_range, ap length same, length-flows_from c.self.inside.pool.queues (codels_in c.self.inside.parameters c.self.inside.states.items) c.self.invariant.0)
 
 -- what CoDel knows of the flow
 read : (g : _) (c : After-index_mut-codel g) → joined c.self.inside.parameters c.index_mut-codel.result.now ≡ get_or (codels_in c.self.inside.parameters c.self.inside.states.items) c.args.flow (joined c.self.inside.parameters c.index_mut-codel.result.now)
@@ -118,7 +118,7 @@ returns-clause-flows g c =
     let here : flow_after c.args.now (record { queue = q; codel = get_or cs n was }) ≡ record { queue = left; codel = now } =
     ap (λ (s : CodelState). flow_after c.args.now (record { queue = q; codel = s })) (sym (read g (goal.at.returns-clause-flows g c).After-index_mut-codel))
     ∙ ap₂ (λ (l : List Stamped) (s : CodelState). record { queue = l; codel = s }) (sym c.send_late_from-marked.ensures.left) (sym c.send_late_from-marked.ensures.state) in
-    ap₂ (λ (l : List (List Stamped)) (k : List CodelState). flows_from l k) c.send_late_from-marked.ensures.others (codels-set p vs n c.send_late_from-marked.new.codel)
+    ap₂ (λ (l : List (List Stamped)) (k : List CodelState). flows_from l k) c.send_late_from-marked.ensures.others (codels_in-set p vs n c.send_late_from-marked.new.codel)
     ∙ flow_written n qs left cs now was (flow_after c.args.now) here
     ∙ ap (λ (f : FlowsState). adjust (flow_after c.args.now) n f.flows) c.self.view_is
 
@@ -156,7 +156,7 @@ invariant_of-self g c =
     let n : ℕ = c.args.flow in
     let d = (goal.at.invariant_of-self g c).After-index_mut-codel in
     let new : List (List Stamped) = c.send_late_from-marked.new.pool.queues in (
-      ap length c.send_late_from-marked.ensures.others ∙ length-set qs n (get_or new n []) ∙ c.self.invariant.0 ∙ length-codels p vs ∙ sym (length-set vs n v) ∙ sym (length-codels p (set vs n v)),
+      ap length c.send_late_from-marked.ensures.others ∙ length-set qs n (get_or new n []) ∙ c.self.invariant.0 ∙ length-codels_in p vs ∙ sym (length-set vs n v) ∙ sym (length-codels_in p (set vs n v)),
       omega (arith, c.self.invariant.1, length-set vs n v),
       sizes_renewed qs new n (get_or new n []) c.renew.new.self c.bytes_of-bytes.result c.send_late_from-marked.ensures.others (omega (arith, omega_within g d, c.self.invariant.0))
           (c.renew.ensures ∙ ap (λ (l : List ℕ). set l n c.bytes_of-bytes.result) c.self.invariant.2) c.bytes_of-bytes.ensures.value,

@@ -3,8 +3,8 @@ use Rattle.q_codel.specs.Codel.{CodelParams}
 use Rattle.q_fqcodel.specs.FlowsState.{FlowsState}
 use Rattle.q_fqcodel.specs.FqState.{retuned}
 use Rattle.q_fqcodel.specs.Pool.{flows_from, codels_in}
-use Rattle.q_fqcodel.proofs.PooledLemmas.{length-codels, codels_retuned}
-use Rattle.q_fqcodel.proofs.ShedLemmas.{flows-retuned}
+use Rattle.q_fqcodel.proofs.PooledLemmas.{length-codels_in, codels_retuned}
+use Rattle.q_fqcodel.proofs.ShedLemmas.{flows_from-retuned}
 use Rattle.q_fqcodel.proofs.flows.Flows.set_params.Goals as goal
 use Rattle.q_fqcodel.proofs.flows.Flows.set_params.Goals.{After-unwrap-self-inside}
 
@@ -16,7 +16,7 @@ tuned c =
 
 pub invariant_of-self : goal.invariant_of-self
 invariant_of-self c = (
-  c.self.invariant.0 ∙ length-codels c.self.inside.parameters c.self.inside.states.items ∙ sym (length-codels c.unwrap-self-inside.result c.self.inside.states.items),
+  c.self.invariant.0 ∙ length-codels_in c.self.inside.parameters c.self.inside.states.items ∙ sym (length-codels_in c.unwrap-self-inside.result c.self.inside.states.items),
   c.self.invariant.1,
   c.self.invariant.2,
   ap (λ (p : CodelParams). p.mtu) (tuned (goal.at.invariant_of-self c).After-unwrap-self-inside) ∙ c.self.invariant.3,
@@ -28,5 +28,5 @@ returns-clause-flows c =
     let p : CodelParams = c.self.inside.parameters in
     let vs = c.self.inside.states.items in
     ap (flows_from qs) (codels_retuned p c.unwrap-self-inside.result c.args.target c.args.interval c.args.ecn vs (tuned (goal.at.returns-clause-flows c).After-unwrap-self-inside))
-    ∙ flows-retuned c.args.target c.args.interval c.args.ecn qs (codels_in p vs)
+    ∙ flows_from-retuned c.args.target c.args.interval c.args.ecn qs (codels_in p vs)
     ∙ ap (λ (f : FlowsState). map (retuned c.args.target c.args.interval c.args.ecn) f.flows) c.self.view_is

@@ -11,30 +11,30 @@ use Rattle.q_fqcodel.specs.FqState.{Flow, queue_of, packets_of}
 use Rattle.q_fqcodel.specs.Pool.{stamp, flows_from, codels_in, sizes}
 use Rattle.q_fqcodel.specs.Put.{joined, shortened}
 use Rattle.q_fqcodel.proofs.MovedLemmas.{fuller, moved_is, first_kept, one_told, both_told}
-use Rattle.q_fqcodel.proofs.PooledLemmas.{length-flows, queue_there, queue_written, flow_with, length-sizes, packets-pooled}
+use Rattle.q_fqcodel.proofs.PooledLemmas.{length-flows_from, queue_there, queue_written, flow_with, length-sizes, packets_pooled}
 use Rattle.q_fqcodel.proofs.flows.Flows.swap.Goals as goal
 use Rattle.q_fqcodel.proofs.flows.Flows.swap.Goals.{After-replace-own, After-renew}
 
 pub replace-own-requires-clause-in_range : goal.replace-own-requires-clause-in_range
 replace-own-requires-clause-in_range g c =
     let same = ap (λ (f : FlowsState). f.flows) c.self.view_is in
-    omega (arith, c.requires.in_range, ap length same, length-flows c.self.inside.pool.queues (codels_in c.self.inside.parameters c.self.inside.states.items) c.self.invariant.0, c.self.invariant.0)
+    omega (arith, c.requires.in_range, ap length same, length-flows_from c.self.inside.pool.queues (codels_in c.self.inside.parameters c.self.inside.states.items) c.self.invariant.0, c.self.invariant.0)
 
 pub replace-own-requires-clause-own : goal.replace-own-requires-clause-own
 replace-own-requires-clause-own g c =
     let count : length c.self.inside.pool.queues ≡ length c.args.self.now.flows =
-    omega (arith, ap (λ (f : FlowsState). length f.flows) c.self.view_is, length-flows c.self.inside.pool.queues (codels_in c.self.inside.parameters c.self.inside.states.items) c.self.invariant.0, c.self.invariant.0) in
+    omega (arith, ap (λ (f : FlowsState). length f.flows) c.self.view_is, length-flows_from c.self.inside.pool.queues (codels_in c.self.inside.parameters c.self.inside.states.items) c.self.invariant.0, c.self.invariant.0) in
     ap (λ (n : ℕ). c.args.packet.now.hash % n) count ∙ c.requires.own
 
 pub replace-own-requires-clause-place : goal.replace-own-requires-clause-place
 replace-own-requires-clause-place g c =
     let same = ap (λ (f : FlowsState). f.flows) c.self.view_is in
-    omega (arith, c.requires.place, ap packets_of same, ap (λ (f : FlowsState). f.places) c.self.view_is, packets-pooled c.self.inside.pool.queues (codels_in c.self.inside.parameters c.self.inside.states.items) c.self.invariant.0)
+    omega (arith, c.requires.place, ap packets_of same, ap (λ (f : FlowsState). f.places) c.self.view_is, packets_pooled c.self.inside.pool.queues (codels_in c.self.inside.parameters c.self.inside.states.items) c.self.invariant.0)
 
 pub replace-own-requires-clause-few : goal.replace-own-requires-clause-few
 replace-own-requires-clause-few g c =
     let same = ap (λ (f : FlowsState). f.flows) c.self.view_is in
-    omega (arith, c.requires.few, ap packets_of same, packets-pooled c.self.inside.pool.queues (codels_in c.self.inside.parameters c.self.inside.states.items) c.self.invariant.0)
+    omega (arith, c.requires.few, ap packets_of same, packets_pooled c.self.inside.pool.queues (codels_in c.self.inside.parameters c.self.inside.states.items) c.self.invariant.0)
 
 pub replace-own-requires-clause-some : goal.replace-own-requires-clause-some
 replace-own-requires-clause-some g c =
@@ -61,7 +61,7 @@ some g c =
 within : (g : _) (c : After-replace-own g) → c.args.flow < length c.self.inside.pool.queues
 within g c =
     let same = ap (λ (f : FlowsState). f.flows) c.self.view_is in
-    omega (arith, c.requires.in_range, ap length same, length-flows c.self.inside.pool.queues (codels g c) c.self.invariant.0, c.self.invariant.0)
+    omega (arith, c.requires.in_range, ap length same, length-flows_from c.self.inside.pool.queues (codels g c) c.self.invariant.0, c.self.invariant.0)
 
 -- the queues once the packet has joined
 abbrev more : (g : _) → After-replace-own g → List (List Stamped)

@@ -1,5 +1,6 @@
 use Rattle.std.proofs.Common.{◌≡◌, ℕ, ◌+◌, ◌%◌, ◌<◌, ◌≤◌, List, [], ◌++◌, length, take, refl, sym, ap, ap₂, ◌∙◌, arith, append-nil, subst}
 use Rattle.std.proofs.lemmas.List.{length-take}
+use Rattle.std.proofs.lemmas.Bool.{ltb-true, ltb-false}
 use Rattle.q_packet.specs.Totals.{count, size}
 use Rattle.q_packet.specs.Descriptor.{Descriptor}
 use Rattle.q_packet.specs.declared.stamped.Stamped.{Stamped}
@@ -12,11 +13,11 @@ use Rattle.q_fqcodel.specs.Lawful.{IsLawful}
 use Rattle.q_fqcodel.specs.Links.{ListsState}
 use Rattle.q_fqcodel.specs.Put.{flow_of, joined, appended, fattest, shed_count, cut_back, shed, after_put, lost_by_put}
 use Rattle.q_fqcodel.specs.Ranges.{IsInRange}
-use Rattle.q_fqcodel.proofs.CountLemmas.{IsCountedPut, put-counted}
+use Rattle.q_fqcodel.proofs.CountLemmas.{IsCountedPut, put_is_counted}
 use Rattle.q_fqcodel.proofs.KeptLemmas.{lawful_after_put}
-use Rattle.q_fqcodel.proofs.PutLemmas.{place_for, listed-not, packets-joined, appended-is, cut-none, cut-some, shed-none, shed-some, lost-none, lost-some, shed-within, shed-batch}
+use Rattle.q_fqcodel.proofs.PutLemmas.{place_for, listed_not, packets_of-joined, appended_is, cut_none, cut_some, shed_none, shed_some, lost_none, lost_some, shed_within, shed_batch}
 use Rattle.q_fqcodel.proofs.fq_codel.FqCodel.put_counted.Goals as goal
-use Rattle.q_fqcodel.proofs.fq_codel.FqCodel.put_counted.Goals.{After-enlist, After-count, After-push, After-bytes-bytes_after}
+use Rattle.q_fqcodel.proofs.fq_codel.FqCodel.put_counted.Goals.{After-enlist, After-push, After-bytes-bytes_after}
 
 -- the state as it was opened
 abbrev opened : (g : _) → After-enlist g → FqState
@@ -51,14 +52,14 @@ fuller_is : (g : _) (c : After-enlist g) → fuller g c ≡ appended c.args.self
 fuller_is g c =
     let s = opened g c in
     ap (λ (v : ListsState). record s { flows = joins g c; new_flows = c.enlist.new.self.new_flows; old_flows = v.old_flows }) c.enlist.ensures
-    ∙ appended-is s c.args.packet.now c.args.now (own g c) c.settings.inside.quantum (joins g c) c.enlist.new.self.new_flows (own_is g c)
+    ∙ appended_is s c.args.packet.now c.args.now (own g c) c.settings.inside.quantum (joins g c) c.enlist.new.self.new_flows (own_is g c)
     (ap (λ (x : FqSettings). x.quantum) c.settings.view_is)
     refl (ap (λ (v : ListsState). v.new_flows) c.enlist.ensures)
     ∙ ap (λ (x : FqState). appended x c.args.packet.now c.args.now) (opened_is g c)
 
 -- one packet more than before
 more : (g : _) (c : After-enlist g) → packets_of (joins g c) ≡ packets_of c.self.inside.flows.flows + 1
-more g c = packets-joined (arrived g c) (own g c) c.self.inside.flows.flows (within g c)
+more g c = packets_of-joined (arrived g c) (own g c) c.self.inside.flows.flows (within g c)
 
 -- what is known of the state before
 lawful : (g : _) (c : After-enlist g) → IsLawful c.args.self.now.state
@@ -79,7 +80,7 @@ enlist-requires-clause-few g c =
     let count : c.settings.inside.flows ≡ s.settings.flows = ap (λ (x : FqSettings). x.flows) c.settings.view_is in
     let low : n < s.settings.flows = omega (arith, c.flow_by_hash-flow.ensures, count, c.settings.invariant.flows_low) in
     λ h.
-    let place = place_for s n c.self.invariant.0 low (listed-not n (s.new_flows ++ s.old_flows) h) in
+    let place = place_for s n c.self.invariant.0 low (listed_not n (s.new_flows ++ s.old_flows) h) in
     omega (arith, place, count, c.settings.invariant.flows_high)
 
 -- the packet's flow, by the number of flows that there are
@@ -98,17 +99,20 @@ before g c = (goal.at.invariant_of-self g c).After-enlist
 
 in_limit : (g : _) (c : After-push g) → packets_of (joins g (before g c)) ≤ c.self.inside.settings.limit
 unfolding before
-in_limit g c = omega (arith, c.if-count-settings.true, c.count.ensures, more g (before g c), ap (λ (x : FqSettings). x.limit) c.settings.view_is)
+in_limit g c =
+    let at = before g c in
+    let below = ltb-true _ _ (sym c.fits-fits.ensures.value ∙ c.if-fits.true) in
+    omega (arith, below, more g at, ap (λ (x : FqState). packets_of x.flows) (opened_is g at), ap (λ (x : FqState). x.settings.limit) (opened_is g at))
 
 stays : (g : _) (c : After-push g) → state_of c.self.inside.settings c.push.new.self c.enlist.new.self.new_flows c.enlist.new.self.old_flows ≡ after_put c.args.self.now.state c.args.packet.now c.args.now
 unfolding before
 stays g c =
     let a = fuller g (before g c) in
-    ap (λ (f : List Flow). record a { flows = f }) c.push.ensures.flows ∙ sym (cut-none a (in_limit g c)) ∙ ap cut_back (fuller_is g (before g c))
+    ap (λ (f : List Flow). record a { flows = f }) c.push.ensures.flows ∙ sym (cut_none a (in_limit g c)) ∙ ap cut_back (fuller_is g (before g c))
 
 none_lost : (g : _) (c : After-push g) → [] ≡ lost_by_put c.args.self.now.state c.args.packet.now c.args.now
 unfolding before
-none_lost g c = sym (shed-none (fuller g (before g c)) (in_limit g c)) ∙ ap shed (fuller_is g (before g c))
+none_lost g c = sym (shed_none (fuller g (before g c)) (in_limit g c)) ∙ ap shed (fuller_is g (before g c))
 
 pub invariant_of-self : goal.invariant_of-self
 unfolding before
@@ -120,30 +124,30 @@ invariant_of-self g c =
       ap (λ (v : ListsState). v.room) c.enlist.ensures ∙ c.self.invariant.1,
     )
 
-pub returns-then-count-settings-clause-itself : goal.returns-then-count-settings-clause-itself
+pub returns-then-fits-clause-itself : goal.returns-then-fits-clause-itself
 unfolding before
-returns-then-count-settings-clause-itself g c =
+returns-then-fits-clause-itself g c =
     let at = before g c in
-    sym (lost-none c.args.self.now.state (fuller g at) c.args.packet.now c.args.now (own g at) (arrived g at) (fuller_is g at)
+    sym (lost_none c.args.self.now.state (fuller g at) c.args.packet.now c.args.now (own g at) (arrived g at) (fuller_is g at)
     (own_is g at ∙ ap (λ (x : FqState). flow_of x c.args.packet.now) (opened_is g at)) (in_limit g c)
     (ap (λ (x : FqState). adjust (joined (arrived g at)) (own g at) x.flows) (opened_is g at))
     (omega (arith, within g at, ap (λ (x : FqState). length x.flows) (opened_is g at))))
 
-pub returns-then-count-settings-clause-packets : goal.returns-then-count-settings-clause-packets
-returns-then-count-settings-clause-packets g c = ap count (none_lost g c)
+pub returns-then-fits-clause-packets : goal.returns-then-fits-clause-packets
+returns-then-fits-clause-packets g c = ap count (none_lost g c)
 
-pub returns-then-count-settings-clause-bytes : goal.returns-then-count-settings-clause-bytes
-returns-then-count-settings-clause-bytes g c = ap size (none_lost g c)
+pub returns-then-fits-clause-bytes : goal.returns-then-fits-clause-bytes
+returns-then-fits-clause-bytes g c = ap size (none_lost g c)
 
-pub returns-then-count-settings-clause-after : goal.returns-then-count-settings-clause-after
-returns-then-count-settings-clause-after g c = stays g c
+pub returns-then-fits-clause-after : goal.returns-then-fits-clause-after
+returns-then-fits-clause-after g c = stays g c
 
-pub returns-then-count-settings-clause-lost : goal.returns-then-count-settings-clause-lost
-returns-then-count-settings-clause-lost g c =
+pub returns-then-fits-clause-lost : goal.returns-then-fits-clause-lost
+returns-then-fits-clause-lost g c =
     sym (append-nil (g.S.Sink.losses c.args.sink.now)) ∙ ap (λ (l : List Stamped). g.S.Sink.losses c.args.sink.now ++ losses_of FatFlow l) (none_lost g c)
 
-pub returns-then-count-settings-clause-room : goal.returns-then-count-settings-clause-room
-returns-then-count-settings-clause-room g c = omega (arith, ap count (none_lost g c))
+pub returns-then-fits-clause-room : goal.returns-then-fits-clause-room
+returns-then-fits-clause-room g c = omega (arith, ap count (none_lost g c))
 
 -- ---- past the limit
 
@@ -158,7 +162,7 @@ push_over-itself-requires-clause-room g c =
     let at = (goal.at.push_over-itself-requires-clause-room g c).After-enlist in
     omega (
       arith,
-      shed-batch (joins g at) c.settings.inside.drop_batch,
+      shed_batch (joins g at) c.settings.inside.drop_batch,
       more g at,
       c.requires.room,
       ap (λ (x : FqState). packets_of x.flows) (opened_is g at),
@@ -171,7 +175,10 @@ opening g c = (goal.at.invariant_of-self-2 g c).After-enlist
 
 past_limit : (g : _) (c : After-bytes-bytes_after g) → c.self.inside.settings.limit < packets_of (joins g (opening g c))
 unfolding opening
-past_limit g c = omega (arith, c.if-count-settings.false, c.count.ensures, more g (opening g c), ap (λ (x : FqSettings). x.limit) c.settings.view_is)
+past_limit g c =
+    let at = opening g c in
+    let most = ltb-false _ _ (sym c.fits-fits.ensures.value ∙ c.if-fits.false) in
+    omega (arith, most, more g at, ap (λ (x : FqState). packets_of x.flows) (opened_is g at), ap (λ (x : FqState). x.settings.limit) (opened_is g at))
 
 lost_is : (g : _) (c : After-bytes-bytes_after g) → shed_count (joins g (opening g c)) c.settings.inside.drop_batch ≡ shed_count (joins g (opening g c)) c.self.inside.settings.drop_batch
 unfolding opening
@@ -183,7 +190,7 @@ cut g c =
     let at = opening g c in
     let a = fuller g at in
     ap (λ (f : List Flow). record a { flows = f }) c.push_over-itself.ensures.flows
-    ∙ sym (cut-some a (fattest (joins g at)) (shed_count (joins g at) c.settings.inside.drop_batch) (past_limit g c) refl (lost_is g c))
+    ∙ sym (cut_some a (fattest (joins g at)) (shed_count (joins g at) c.settings.inside.drop_batch) (past_limit g c) refl (lost_is g c))
     ∙ ap cut_back (fuller_is g at)
 
 shed_is : (g : _) (c : After-bytes-bytes_after g)
@@ -191,7 +198,7 @@ shed_is : (g : _) (c : After-bytes-bytes_after g)
 unfolding opening
 shed_is g c =
     let at = opening g c in
-    sym (shed-some (fuller g at) (fattest (joins g at)) (shed_count (joins g at) c.settings.inside.drop_batch) (past_limit g c) refl (lost_is g c)) ∙ ap shed (fuller_is g at)
+    sym (shed_some (fuller g at) (fattest (joins g at)) (shed_count (joins g at) c.settings.inside.drop_batch) (past_limit g c) refl (lost_is g c)) ∙ ap shed (fuller_is g at)
 
 pub invariant_of-self-2 : goal.invariant_of-self-2
 unfolding opening
@@ -206,7 +213,7 @@ invariant_of-self-2 g c =
 -- what is counted before the put and after it
 counted : (g : _) (c : After-enlist g) → IsCountedPut c.args.self.now.state c.args.packet.now c.args.now
 counted g c =
-    put-counted c.args.self.now.state c.args.packet.now c.args.now
+    put_is_counted c.args.self.now.state c.args.packet.now c.args.now
     (omega (arith, within g c, own_is g c, ap (λ (x : FqState). flow_of x c.args.packet.now) (opened_is g c), ap (λ (x : FqState). length x.flows) (opened_is g c)))
 
 counted_after : (g : _) (c : After-bytes-bytes_after g)
@@ -245,7 +252,7 @@ unfolding opening
 returns-clause-itself g c =
     let at = opening g c in
     c.push_over-itself.ensures.answer
-    ∙ sym (lost-some c.args.self.now.state (fuller g at) c.args.packet.now c.args.now (own g at) (fattest (joins g at)) (shed_count (joins g at) c.settings.inside.drop_batch) (fuller_is g at)
+    ∙ sym (lost_some c.args.self.now.state (fuller g at) c.args.packet.now c.args.now (own g at) (fattest (joins g at)) (shed_count (joins g at) c.settings.inside.drop_batch) (fuller_is g at)
     (own_is g at ∙ ap (λ (x : FqState). flow_of x c.args.packet.now) (opened_is g at)) (past_limit g c) refl (lost_is g c))
 
 pub returns-clause-after : goal.returns-clause-after
@@ -260,4 +267,4 @@ pub returns-clause-room : goal.returns-clause-room
 unfolding opening
 returns-clause-room g c =
     let at = opening g c in
-    omega (arith, c.push_over-itself.ensures.room, ap count (shed_is g c), length-take (shed_count (joins g at) c.settings.inside.drop_batch) (queue_of (joins g at) (fattest (joins g at))), shed-within (joins g at) c.settings.inside.drop_batch)
+    omega (arith, c.push_over-itself.ensures.room, ap count (shed_is g c), length-take (shed_count (joins g at) c.settings.inside.drop_batch) (queue_of (joins g at) (fattest (joins g at))), shed_within (joins g at) c.settings.inside.drop_batch)

@@ -13,23 +13,23 @@ use Rattle.q_fqcodel.specs.FqState.{Flow, FqState, FqView, queue_of, is_idle, pa
 use Rattle.q_fqcodel.specs.Lawful.{IsLawful}
 use Rattle.q_fqcodel.specs.Links.{ListsState}
 use Rattle.q_fqcodel.specs.Take.{taken_as, front, packet_sent, packets_dropped, flow_after, paid, sent_from, dropped_from, after_sending}
-use Rattle.q_fqcodel.proofs.FlowLemmas.{packets-at}
+use Rattle.q_fqcodel.proofs.FlowLemmas.{packets_at}
 use Rattle.q_fqcodel.proofs.KeptLemmas.{lawful_after_sending}
 use Rattle.q_fqcodel.proofs.LawfulLemmas.{front_within, none_waits}
-use Rattle.q_fqcodel.proofs.SentLemmas.{front-is, front-none, sent-is, sent-none, dropped-is, dropped-none, after-none, after-written, written, paid-is}
+use Rattle.q_fqcodel.proofs.SentLemmas.{front_is, front_none, sent_is, sent_none, dropped_is, dropped_none, after_none, after_sending-written, written, paid_is}
 use Rattle.q_fqcodel.proofs.fq_codel.FqCodel.send_front_into.Goals as goal
 use Rattle.q_fqcodel.proofs.fq_codel.FqCodel.send_front_into.Goals.{After-queued, After-write_front}
 
 -- ---- no flow is listed
 
 none_in_front : (g : _) (c : After-queued g) → (c.args.self.now.state.new_flows ≡ []) × (c.args.self.now.state.old_flows ≡ [])
-none_in_front g c = front-none c.args.self.now.state (sym c.requires.first ∙ c.in_default.is)
+none_in_front g c = front_none c.args.self.now.state (sym c.requires.first ∙ c.in_default.is)
 
 nothing : (g : _) (c : After-queued g) → dropped_from c.args.now c.args.self.now.state ≡ []
-nothing g c = dropped-none c.args.self.now.state c.args.now (none_in_front g c).0 (none_in_front g c).1
+nothing g c = dropped_none c.args.self.now.state c.args.now (none_in_front g c).0 (none_in_front g c).1
 
 no_one : (g : _) (c : After-queued g) → None ≡ sent_from c.args.now c.args.self.now.state
-no_one g c = sym (sent-none c.args.self.now.state c.args.now (none_in_front g c).0 (none_in_front g c).1)
+no_one g c = sym (sent_none c.args.self.now.state c.args.now (none_in_front g c).0 (none_in_front g c).1)
 
 pub returns-in_default-clause-len : goal.returns-in_default-clause-len
 returns-in_default-clause-len g c = ap (λ (o : Option Taken). option_map_or (λ (t : Taken). t.packet.len) o 0) (no_one g c)
@@ -50,7 +50,7 @@ pub returns-in_default-clause-dropped : goal.returns-in_default-clause-dropped
 returns-in_default-clause-dropped g c = ap (λ (l : List Stamped). not (count l == 0)) (sym (nothing g c))
 
 pub returns-in_default-clause-after : goal.returns-in_default-clause-after
-returns-in_default-clause-after g c = sym (after-none c.args.self.now.state c.args.now (none_in_front g c).0 (none_in_front g c).1)
+returns-in_default-clause-after g c = sym (after_none c.args.self.now.state c.args.now (none_in_front g c).0 (none_in_front g c).1)
 
 pub returns-in_default-clause-lost : goal.returns-in_default-clause-lost
 returns-in_default-clause-lost g c =
@@ -64,7 +64,7 @@ returns-in_default-clause-room g c = omega (arith, ap count (nothing g c))
 
 pub send_into-sent-requires-clause-room : goal.send_into-sent-requires-clause-room
 send_into-sent-requires-clause-room g c =
-    omega (arith, c.requires.room, packets-at c.front.inside.flow c.self.inside.flows.flows, ap (λ (v : FqView). packets_of v.state.flows) c.self.view_is)
+    omega (arith, c.requires.room, packets_at c.front.inside.flow c.self.inside.flows.flows, ap (λ (v : FqView). packets_of v.state.flows) c.self.view_is)
 
 -- the state as it was opened, and the flow in front
 abbrev opened : (g : _) → After-write_front g → FqState
@@ -83,7 +83,7 @@ in_front : (g : _) (c : After-write_front g) → front (opened g c) ≡ Some (se
 in_front g c = ap front (opened_is g c) ∙ sym c.requires.first ∙ c.in-Some.is
 
 first : (g : _) (c : After-write_front g) → (opened g c).new_flows ++ (opened g c).old_flows ≡ sender g c ∷ behind g c
-first g c = front-is (opened g c) (sender g c) (in_front g c)
+first g c = front_is (opened g c) (sender g c) (in_front g c)
 
 within : (g : _) (c : After-write_front g) → (sender g c).flow < length (opened g c).flows
 within g c = omega (arith, front_within (opened g c) (sender g c) (behind g c) c.self.invariant.0 (first g c), c.self.invariant.0.each_flow)
@@ -99,18 +99,18 @@ gone g c = record { packet = c.send_into-sent.new.out; marked = c.send_into-sent
 
 sent : (g : _) (c : After-write_front g) → sent_from c.args.now (opened g c) ≡ Some (gone g c)
 sent g c =
-    sent-is (opened g c) (sender g c) (behind g c) c.args.now (Some (gone g c)) (first g c) (within g c)
+    sent_is (opened g c) (sender g c) (behind g c) c.args.now (Some (gone g c)) (first g c) (within g c)
     (of_sender g c (λ f. taken_as c.send_into-sent.new.out c.send_into-sent.result.marked ≡ packet_sent c.args.now f) c.send_into-sent.ensures.sent)
 
 dropped : (g : _) (c : After-write_front g) (P : List Stamped → Type 0)
     → IfSome (slice_get (opened g c).flows c.front.inside.flow) (λ f. P (packets_dropped c.args.now f)) → P (dropped_from c.args.now c.args.self.now.state)
 dropped g c P h =
     subst (λ (s : FqState). P (dropped_from c.args.now s)) (opened_is g c)
-    (dropped-is (opened g c) (sender g c) (behind g c) c.args.now P (first g c) (within g c) (of_sender g c (λ f. P (packets_dropped c.args.now f)) h))
+    (dropped_is (opened g c) (sender g c) (behind g c) c.args.now P (first g c) (within g c) (of_sender g c (λ f. P (packets_dropped c.args.now f)) h))
 
 paying : (g : _) (c : After-write_front g) → paid (sent_from c.args.now (opened g c)) (sender g c) ≡ c.charged.result
 paying g c =
-    paid-is (sent_from c.args.now (opened g c)) (gone g c) (sender g c) (sent g c)
+    paid_is (sent_from c.args.now (opened g c)) (gone g c) (sender g c) (sent g c)
     ∙ ap (λ (n : ℕ). record (sender g c) { credits = (sender g c).credits -ℤ pos n }) (sym c.send_into-sent.ensures.len)
     ∙ sym c.charged.ensures
 
@@ -119,7 +119,7 @@ flows_sent g c = c.send_into-sent.ensures.flows ∙ ap (λ (e : Entry). adjust (
 
 pub write_front-requires-clause-own : goal.write_front-requires-clause-own
 write_front-requires-clause-own g c =
-    let split = front-is c.args.self.now.state c.in-Some.front (sym c.requires.first ∙ c.in-Some.is) in
+    let split = front_is c.args.self.now.state c.in-Some.front (sym c.requires.first ∙ c.in-Some.is) in
     subst (λ (l : List Entry). IfSome (slice_get l 0) (λ e. e.flow ≡ c.charged.result.flow))
     (sym (ap (λ (v : FqView). v.state.new_flows ++ v.state.old_flows) c.self.view_is ∙ split))
     (sym (ap (λ (e : Entry). e.flow) c.charged.ensures))
@@ -132,7 +132,7 @@ after g c =
     ap (λ (f : List Flow). record s { flows = f; new_flows = c.write_front.new.self.new_flows; old_flows = c.write_front.new.self.old_flows }) (flows_sent g c)
     ∙ ap (λ (v : ListsState). record s { flows = flows; new_flows = v.new_flows; old_flows = v.old_flows }) c.write_front.ensures
     ∙ ap (λ (m : Entry). record s { flows = flows; new_flows = set s.new_flows 0 m; old_flows = written m s.new_flows s.old_flows }) (sym (paying g c))
-    ∙ sym (after-written s (sender g c) c.args.now (in_front g c))
+    ∙ sym (after_sending-written s (sender g c) c.args.now (in_front g c))
 
 pub invariant_of-self : goal.invariant_of-self
 invariant_of-self g c = (
@@ -152,7 +152,7 @@ returns-clause-some g c =
     let busy : is_idle flows c.in-Some.front.flow ≡ false =
     subst (λ (o : Option Entry). IfSome o (λ e. is_idle flows e.flow ≡ false)) (sym c.requires.first ∙ c.in-Some.is) c.requires.settled.busy in
     let some : 0 < count (queue_of flows c.in-Some.front.flow) = omega (arith, eqb-false (count (queue_of flows c.in-Some.front.flow)) 0 busy) in (
-      λ _. omega (arith, some, packets-at c.in-Some.front.flow flows),
+      λ _. omega (arith, some, packets_at c.in-Some.front.flow flows),
       λ _. c.send_into-sent.ensures.some,
     )
 

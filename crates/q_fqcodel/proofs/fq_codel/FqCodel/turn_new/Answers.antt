@@ -7,7 +7,7 @@ use Rattle.q_fqcodel.specs.FqState.{FqSettings, Flow, FqState, FqView, rested_fl
 use Rattle.q_fqcodel.specs.Links.{ListsState}
 use Rattle.q_fqcodel.specs.Quanta.{given}
 use Rattle.q_fqcodel.specs.Take.{front}
-use Rattle.q_fqcodel.proofs.QuantaLemmas.{given-flow}
+use Rattle.q_fqcodel.proofs.QuantaLemmas.{flow-given}
 use Rattle.q_fqcodel.proofs.TurnLemmas.{Looks, LeadsOn, front_at, front_some, in_flows, is_spent, has_credits, idle_is, rested_is, goes_from, settled_at, first_in_front, new_granted, new_moves, new_ready}
 use Rattle.q_fqcodel.proofs.fq_codel.FqCodel.turn_new.Goals as goal
 use Rattle.q_fqcodel.proofs.fq_codel.FqCodel.turn_new.Goals.{After-unwrap-entry, After-granted, After-move_to_old, After-move_to_old-then-is_idle}
@@ -49,7 +49,7 @@ pub move_to_old-requires-clause-own : goal.move_to_old-requires-clause-own
 move_to_old-requires-clause-own c =
     let d = (goal.at.move_to_old-requires-clause-own c).After-granted in
     subst (λ (o : Option Entry). IfSome o (λ e. e.flow ≡ c.granted.result.flow)) (sym c.unwrap-entry.ensures ∙ c.first_new.ensures)
-    (sym (ap (λ (e : Entry). e.flow) (granted d) ∙ given-flow c.self.inside.settings.quantum 1 c.unwrap-entry.result))
+    (sym (ap (λ (e : Entry). e.flow) (granted d) ∙ flow-given c.self.inside.settings.quantum 1 c.unwrap-entry.result))
 
 pub move_to_old-requires-clause-some : goal.move_to_old-requires-clause-some
 move_to_old-requires-clause-some c = omega (arith, c.requires, ap (λ (v : FqView). length v.state.new_flows) c.self.view_is)

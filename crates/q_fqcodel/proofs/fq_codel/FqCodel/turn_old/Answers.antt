@@ -7,7 +7,7 @@ use Rattle.q_fqcodel.specs.FqState.{FqSettings, Flow, FqState, FqView, rested_fl
 use Rattle.q_fqcodel.specs.Links.{ListsState}
 use Rattle.q_fqcodel.specs.Quanta.{given}
 use Rattle.q_fqcodel.specs.Take.{front}
-use Rattle.q_fqcodel.proofs.QuantaLemmas.{given-flow}
+use Rattle.q_fqcodel.proofs.QuantaLemmas.{flow-given}
 use Rattle.q_fqcodel.proofs.TurnLemmas.{Looks, LeadsOn, front_at, front_some, in_flows, is_spent, has_credits, idle_is, rested_is, goes_from, settled_at, first_in_front, old_granted, old_leaves, old_ready}
 use Rattle.q_fqcodel.proofs.fq_codel.FqCodel.turn_old.Goals as goal
 use Rattle.q_fqcodel.proofs.fq_codel.FqCodel.turn_old.Goals.{After-unwrap-entry, After-granted, After-rotate, After-remove_old}
@@ -52,7 +52,7 @@ pub rotate-requires-clause-own : goal.rotate-requires-clause-own
 rotate-requires-clause-own c =
     let d = (goal.at.rotate-requires-clause-own c).After-granted in
     subst (λ (o : Option Entry). IfSome o (λ e. e.flow ≡ c.granted.result.flow)) (sym c.unwrap-entry.ensures ∙ c.first_old.ensures)
-    (sym (ap (λ (e : Entry). e.flow) (granted d) ∙ given-flow c.self.inside.settings.quantum 1 c.unwrap-entry.result))
+    (sym (ap (λ (e : Entry). e.flow) (granted d) ∙ flow-given c.self.inside.settings.quantum 1 c.unwrap-entry.result))
 
 pub rotate-requires-clause-some : goal.rotate-requires-clause-some
 rotate-requires-clause-some c = omega (arith, c.requires.waiting, ap (λ (v : FqView). length v.state.old_flows) c.self.view_is)

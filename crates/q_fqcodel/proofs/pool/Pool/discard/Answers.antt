@@ -4,14 +4,14 @@ use Rattle.q_packet.specs.declared.stamped.Stamped.{Stamped}
 use Rattle.q_fqcodel.specs.Chain.{queue_in, IsList, KeepsOthers}
 use Rattle.q_fqcodel.specs.Pool.{PoolState, queues_in, packets_in, IsPool}
 use Rattle.q_fqcodel.specs.declared.flow_list.FlowList.{FlowList}
-use Rattle.q_fqcodel.proofs.PoolLemmas.{length-queues, list_read, count_read, some_read, queue_read, written, pool_after, bytes_le, packets_pooled, packets_read}
+use Rattle.q_fqcodel.proofs.PoolLemmas.{length-queues_in, list_read, count_read, some_read, queue_read, written, pool_after, bytes_le, packets_pooled, packets_read}
 use Rattle.q_fqcodel.proofs.PooledLemmas.{flow_with}
 use Rattle.q_fqcodel.proofs.pool.Pool.discard.Goals as goal
 use Rattle.q_fqcodel.proofs.pool.Pool.discard.Goals.{After-drop_head-rest}
 
 pub list_at-list-requires : goal.list_at-list-requires
 list_at-list-requires c =
-    omega (arith, flow_with c.args.self.now.queues c.args.flow c.requires, ap (λ (s : PoolState). length s.queues) c.self.view_is, length-queues (used c.self.inside.nodes) c.self.inside.lists.items)
+    omega (arith, flow_with c.args.self.now.queues c.args.flow c.requires, ap (λ (s : PoolState). length s.queues) c.self.view_is, length-queues_in (used c.self.inside.nodes) c.self.inside.lists.items)
 
 pub drop_head-rest-requires-clause-some : goal.drop_head-rest-requires-clause-some
 drop_head-rest-requires-clause-some c =

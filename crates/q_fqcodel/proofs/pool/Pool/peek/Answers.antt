@@ -9,14 +9,14 @@ use Rattle.q_fqcodel.specs.Pool.{PoolState, queues_in}
 use Rattle.q_fqcodel.specs.declared.flow_list.FlowList.{FlowList}
 use Rattle.q_fqcodel.specs.declared.node.Node.{Node}
 use Rattle.q_fqcodel.proofs.ChainLemmas.{head_there, first_packet}
-use Rattle.q_fqcodel.proofs.PoolLemmas.{length-queues, list_read, count_read, queue_read, bytes_read, bytes_few, count_le}
+use Rattle.q_fqcodel.proofs.PoolLemmas.{length-queues_in, list_read, count_read, queue_read, bytes_read, bytes_few, count_le}
 use Rattle.q_fqcodel.proofs.PooledLemmas.{flow_with}
 use Rattle.q_fqcodel.proofs.pool.Pool.peek.Goals as goal
 use Rattle.q_fqcodel.proofs.pool.Pool.peek.Goals.{After-list_at-list}
 
 pub list_at-list-requires : goal.list_at-list-requires
 list_at-list-requires c =
-    omega (arith, flow_with c.args.self.now.queues c.args.flow c.requires, ap (λ (s : PoolState). length s.queues) c.self.view_is, length-queues (used c.self.inside.nodes) c.self.inside.lists.items)
+    omega (arith, flow_with c.args.self.now.queues c.args.flow c.requires, ap (λ (s : PoolState). length s.queues) c.self.view_is, length-queues_in (used c.self.inside.nodes) c.self.inside.lists.items)
 
 same : (c : After-list_at-list) → queues_in (used c.self.inside.nodes) c.self.inside.lists.items ≡ c.args.self.now.queues
 same c = ap (λ (s : PoolState). s.queues) c.self.view_is

@@ -7,7 +7,7 @@ use Rattle.q_packet.specs.declared.stamped.Stamped.{Stamped}
 use Rattle.q_fqcodel.specs.Chain.{IsList, KeepsOthers}
 use Rattle.q_fqcodel.specs.Pool.{PoolState, stamp, no_list, queues_in, IsPool}
 use Rattle.q_fqcodel.specs.declared.flow_list.FlowList.{FlowList}
-use Rattle.q_fqcodel.proofs.PoolLemmas.{length-queues, list_read, few_read, packets_read, within_read, queue_read, written, pool_after, all_bytes_few, bytes_read, bytes_few, count_le}
+use Rattle.q_fqcodel.proofs.PoolLemmas.{length-queues_in, list_read, few_read, packets_read, within_read, queue_read, written, pool_after, all_bytes_few, bytes_read, bytes_few, count_le}
 use Rattle.q_fqcodel.proofs.pool.Pool.push.Goals as goal
 use Rattle.q_fqcodel.proofs.pool.Pool.push.Goals.{After-list_at-list, After-append-longer}
 
@@ -23,7 +23,7 @@ append-longer-requires-clause-room c =
 -- the flow that the packet's hash tells, of as many as there are lists
 flow_is : (c : After-list_at-list) → c.args.packet.now.hash % length c.self.inside.lists.items ≡ c.args.flow
 flow_is c =
-    let count : length c.self.inside.lists.items ≡ length c.args.self.now.queues = sym (length-queues (used c.self.inside.nodes) c.self.inside.lists.items) ∙ ap length (same c) in
+    let count : length c.self.inside.lists.items ≡ length c.args.self.now.queues = sym (length-queues_in (used c.self.inside.nodes) c.self.inside.lists.items) ∙ ap length (same c) in
     ap (λ (n : ℕ). c.args.packet.now.hash % n) count ∙ c.requires.own
 
 list_there : (c : After-list_at-list) → IsList (used c.self.inside.nodes) (length c.self.inside.lists.items) (c.args.packet.now.hash % length c.self.inside.lists.items) c.list_at-list.result
@@ -34,7 +34,7 @@ list_there c =
 
 pub list_at-list-requires : goal.list_at-list-requires
 list_at-list-requires c =
-    omega (arith, c.requires.in_range, ap (λ (s : PoolState). length s.queues) c.self.view_is, length-queues (used c.self.inside.nodes) c.self.inside.lists.items)
+    omega (arith, c.requires.in_range, ap (λ (s : PoolState). length s.queues) c.self.view_is, length-queues_in (used c.self.inside.nodes) c.self.inside.lists.items)
 
 pub append-longer-requires-clause-linked : goal.append-longer-requires-clause-linked
 append-longer-requires-clause-linked c =
@@ -75,7 +75,7 @@ same2 c = ap (λ (s : PoolState). s.queues) c.self.view_is
 
 flow_is2 : (c : After-append-longer) → c.args.packet.now.hash % length c.self.inside.lists.items ≡ c.args.flow
 flow_is2 c =
-    let count : length c.self.inside.lists.items ≡ length c.args.self.now.queues = sym (length-queues (used c.self.inside.nodes) c.self.inside.lists.items) ∙ ap length (same2 c) in
+    let count : length c.self.inside.lists.items ≡ length c.args.self.now.queues = sym (length-queues_in (used c.self.inside.nodes) c.self.inside.lists.items) ∙ ap length (same2 c) in
     ap (λ (n : ℕ). c.args.packet.now.hash % n) count ∙ c.requires.own
 
 there2 : (c : After-append-longer) → IsList (used c.self.inside.nodes) (length c.self.inside.lists.items) (c.args.packet.now.hash % length c.self.inside.lists.items) c.list_at-list.result

@@ -1,12 +1,12 @@
 use Rattle.std.proofs.Common.{◌≡◌, ℕ, ◌+◌, ◌/◌, ◌<◌, ◌≤◌, List, ◌++◌, length, take, drop, set, sym, ap, ◌∙◌, arith, subst}
 use Rattle.std.proofs.lemmas.List.{length-set, take-append-le, take_all}
 use Rattle.q_fqcodel.specs.Winners.{rank, rank_at, bytes_in, bytes_at, IsTournament}
-use Rattle.q_fqcodel.proofs.WinnerLemmas.{length-bytes, bytes_read, tree_written, bytes_renewed}
+use Rattle.q_fqcodel.proofs.WinnerLemmas.{length-bytes_in, bytes_read, tree_written, bytes_renewed}
 use Rattle.q_fqcodel.proofs.winners.Winners.renew.Goals as goal
 use Rattle.q_fqcodel.proofs.winners.Winners.renew.Goals.{After-self, After-climb}
 
 within : (c : After-self) → c.args.flow < length c.self.inside.ranks.items / 2
-within c = omega (arith, c.requires.in_range, ap length c.self.view_is, length-bytes c.self.inside.ranks.items, c.self.invariant.0.even)
+within c = omega (arith, c.requires.in_range, ap length c.self.view_is, length-bytes_in c.self.inside.ranks.items, c.self.invariant.0.even)
 
 place : (c : After-self) → c.self.inside.leaves + c.args.flow ≡ length c.self.inside.ranks.items / 2 + c.args.flow
 place c = ap (λ (m : ℕ). m + c.args.flow) c.self.invariant.2

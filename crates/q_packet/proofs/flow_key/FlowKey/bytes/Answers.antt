@@ -1,7 +1,7 @@
 -- The four numbers are written one after the other into a row of 38 bytes.
 use Rattle.std.proofs.Common.{refl, rules, ◌∙◌}
 use Rattle.q_packet.specs.Key.{key_bytes}
-use Rattle.q_packet.proofs.KeyLemmas.{FitsBytes-key, key_from_bytes}
+use Rattle.q_packet.proofs.KeyLemmas.{FitsBytes_key, key_from_bytes}
 use Rattle.q_packet.proofs.flow_key.FlowKey.bytes.Goals as goal
 
 pub returns-clause-value : goal.returns-clause-value
@@ -22,4 +22,4 @@ returns-clause-in_range c = rw (← c.self.view_is)
 
 pub returns-clause-distinct : goal.returns-clause-distinct
 returns-clause-distinct c =
-    λ other fits same. key_from_bytes other c.args.self fits (FitsBytes-key _ (returns-clause-in_range c)) (same ∙ returns-clause-value c)
+    λ other fits same. key_from_bytes other c.args.self fits (FitsBytes_key _ (returns-clause-in_range c)) (same ∙ returns-clause-value c)

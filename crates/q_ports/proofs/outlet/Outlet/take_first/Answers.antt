@@ -2,7 +2,7 @@ use Rattle.std.proofs.Common.{◌≡◌, ◌∙◌, ◌∷◌, ◌++◌, [], Lis
 use Rattle.std.proofs.lemmas.Bool.{false≢true}
 use Rattle.rtrb.specs.Ring as ends
 use Rattle.q_packet.specs.Descriptor.{Descriptor}
-use Rattle.q_ports.specs.Events.{after_event}
+use Rattle.q_device.specs.Events.{after_event}
 use Rattle.q_ports.specs.Rings.{RingSeen, popped}
 use Rattle.q_ports.proofs.RingLemmas.{seen-popped}
 use Rattle.q_ports.proofs.outlet.Outlet.take_first.Goals as goal

@@ -1,6 +1,0 @@
-use Rattle.std.proofs.Common.{◌∙◌, ap}
-use Rattle.q_tree.specs.Index.{path_among}
-use Rattle.q_tree.proofs.node.Node.path_to.Goals as goal
-
-pub returns : goal.returns
-returns c = c.path_to.ensures ∙ ap (path_among c.args.handle) c.requires

@@ -1,7 +1,0 @@
-use Rattle.std.proofs.Common.{◌∙◌, sym, ap}
-use Rattle.q_tree.specs.Finding.{reached}
-use Rattle.q_tree.proofs.TargetLemmas.{path-shape}
-use Rattle.q_tree.proofs.node.Node.qdisc.Goals as goal
-
-pub returns : goal.returns
-returns c = c.reached.ensures ∙ ap (reached c.args.self.now) (c.path_to.ensures ∙ sym (path-shape c.args.handle c.args.self.now))
