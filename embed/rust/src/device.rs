@@ -339,7 +339,7 @@ impl Device {
     ///
     /// # Errors
     ///
-    /// None but those of the line of a command, which a device always has.
+    /// `Memory`, for the line of a command.
     pub fn recorded(&self, index: usize) -> Result<Option<Event>, Error> {
         let (code, event) = self.0.recorded(index);
         if code != sys::QTREE_DONE {

@@ -20,8 +20,8 @@
 //!
 //! Many threads send through a [`Drain`]: each has a [`Port`] of its own, and a [`Gauge`] reads the counters on any thread.
 //!
-//! The crate is `no_std`. The library is linked statically: `build.rs` finds it where `make -C embed/c` leaves it, or in the folder that `QTREE_LIB`
-//! names.
+//! The crate is `no_std`. The library is linked statically: `build.rs` takes it from the folder that `QTREE_LIB` names, else from `lib`, where a
+//! package has it, else from where `make -C embed/c` leaves it.
 #![no_std]
 #![deny(missing_docs, unsafe_code, unsafe_op_in_unsafe_fn)]
 
